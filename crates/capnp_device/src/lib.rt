@@ -1,0 +1,4 @@
+//! Errors, and what gives and takes bytes.
+#![tactic(auto)]
+
+pub mod error;

@@ -1,0 +1,10 @@
+pub mod Spelled
+pub mod Cut
+pub mod Lists
+pub mod Levels
+pub mod ByteRuns
+pub mod SegmentBytes
+pub mod Inside
+pub mod WellFormedRows
+pub mod WellFormedPlaces
+pub mod WellFormedParts

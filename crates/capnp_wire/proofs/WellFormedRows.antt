@@ -1,0 +1,91 @@
+-- Pointers, elements and bits in a row, and the struct and lists that stand at a word.
+use Rattle.std.proofs.Common.{◌≡◌, ℕ, zero, suc, ◌+◌, ◌*◌, ◌/◌, ◌<◌, ◌≤◌, ◌^◌, List, length, refl, ap, arith}
+use Rattle.std.proofs.lemmas.Nat.{row_fits}
+use Rattle.capnp_wire.specs.Tree.{Tree, StructTree, tree_count, struct_count, trees_from, structs_from}
+use Rattle.capnp_wire.specs.Place.{bytes_at, bits_from, struct_at, struct_tree, composite_tree, list_tree}
+use Rattle.capnp_wire.specs.Locate.{list_words}
+use Rattle.capnp_wire.specs.WellFormed.{AreBytes, IsWellFormed, AreWellFormed, AreElements, IsWellFormedStruct}
+use Rattle.capnp_wire.proofs.ByteRuns.{AreBytes-bytes_at, length-bytes_at, length-part-le}
+
+-- ---- rows ----
+
+-- a row has as many trees as were asked for
+pub tree_count-trees_from : (f : ℕ → Tree) (first count : ℕ) → tree_count (trees_from f first count) ≡ count
+tree_count-trees_from f first zero = refl
+tree_count-trees_from f first (suc count) = ap suc (tree_count-trees_from f (suc first) count)
+
+-- the same of structs
+pub struct_count-structs_from : (f : ℕ → StructTree) (first count : ℕ) → struct_count (structs_from f first count) ≡ count
+struct_count-structs_from f first zero = refl
+struct_count-structs_from f first (suc count) = ap suc (struct_count-structs_from f (suc first) count)
+
+-- and of bits
+pub length-bits_from : (bytes : List ℕ) (first count : ℕ) → length (bits_from bytes first count) ≡ count
+length-bits_from bytes first zero = refl
+length-bits_from bytes first (suc count) = ap suc (length-bits_from bytes (suc first) count)
+
+-- a row of well-formed trees
+pub AreWellFormed-trees_from : (f : ℕ → Tree) (first count : ℕ) → ((w : ℕ) → IsWellFormed (f w)) → AreWellFormed (trees_from f first count)
+AreWellFormed-trees_from f first zero h = tt
+AreWellFormed-trees_from f first (suc count) h = (h first, AreWellFormed-trees_from f (suc first) count h)
+
+-- a struct of a composite list whose structs have these sizes
+abbrev pub IsElement : ℕ → ℕ → StructTree → Type 0
+IsElement d p s = AreBytes s.bytes × (length s.bytes ≡ 8 * d) × (tree_count s.pointers ≡ p) × AreWellFormed s.pointers
+
+-- a row of structs of one size
+pub AreElements-structs_from : (f : ℕ → StructTree) (d p first count : ℕ) → ((i : ℕ) → i < first + count → IsElement d p (f i)) → AreElements d p (structs_from f first count)
+AreElements-structs_from f d p first zero h = tt
+AreElements-structs_from f d p first (suc count) h =
+    let here : IsElement d p (f first) = h first (omega arith) in
+    (here.0, here.1, here.2, here.3, AreElements-structs_from f d p (suc first) count (λ i b. h i (omega (arith, b))))
+
+-- ---- what stands at a word ----
+
+-- a struct at any word, also where it ends past the segment
+pub IsWellFormedStruct-struct_at : (f : ℕ → Tree) (segment : List ℕ) (d p start : ℕ) → AreBytes segment → d < 2 ^ 16 → p < 2 ^ 16 → ((w : ℕ) → IsWellFormed (f w)) → IsWellFormedStruct (struct_at f segment d p start)
+IsWellFormedStruct-struct_at f segment d p start h b c each =
+    (AreBytes-bytes_at segment start (8 * d) h, omega (arith, length-part-le (8 * d) (8 * start) segment), omega (arith, tree_count-trees_from f (start + d) p), AreWellFormed-trees_from f (start + d) p each)
+
+-- a struct whose data lies in the segment has it in full
+pub IsElement-struct_at : (f : ℕ → Tree) (segment : List ℕ) (d p start : ℕ) → AreBytes segment → start + d ≤ length segment / 8 → ((w : ℕ) → IsWellFormed (f w)) → IsElement d p (struct_at f segment d p start)
+IsElement-struct_at f segment d p start h l each =
+    (AreBytes-bytes_at segment start (8 * d) h, length-bytes_at segment start (8 * d) (omega arith), tree_count-trees_from f (start + d) p, AreWellFormed-trees_from f (start + d) p each)
+
+-- the same as a tree
+pub IsWellFormed-struct_tree : (f : ℕ → Tree) (segment : List ℕ) (d p start : ℕ) → AreBytes segment → start + d ≤ length segment / 8 → d < 2 ^ 16 → p < 2 ^ 16 → ((w : ℕ) → IsWellFormed (f w)) → IsWellFormed (struct_tree (struct_at f segment d p start))
+IsWellFormed-struct_tree f segment d p start h l b c each =
+    let n : length (bytes_at segment start (8 * d)) ≡ 8 * d = length-bytes_at segment start (8 * d) (omega arith) in
+    (AreBytes-bytes_at segment start (8 * d) h, omega (arith, n), omega (arith, n), omega (arith, tree_count-trees_from f (start + d) p), AreWellFormed-trees_from f (start + d) p each)
+
+-- a composite list that lies in the segment, each element in its own words
+pub IsWellFormed-composite_tree : (f : ℕ → Tree) (segment : List ℕ) (start count d p : ℕ) → AreBytes segment → start + count * (d + p) ≤ length segment / 8 → d < 2 ^ 16 → p < 2 ^ 16 → count < 2 ^ 29 → count * (d + p) < 2 ^ 29 → ((w : ℕ) → IsWellFormed (f w)) → IsWellFormed (composite_tree f segment start count d p)
+IsWellFormed-composite_tree f segment start count d p h l b c n m each =
+    let element : ℕ → StructTree = λ i. struct_at f segment d p (start + i * (d + p)) in
+    let e : struct_count (structs_from element 0 count) ≡ count = struct_count-structs_from element 0 count in (
+      b,
+      c,
+      rw e n,
+      rw e m,
+      AreElements-structs_from element d p 0 count
+          (λ i k. IsElement-struct_at f segment d p (start + i * (d + p)) h (omega (arith, l, row_fits i (d + p) count (d + p) (omega (arith, k)) (omega arith))) each),
+    )
+
+-- a list of elements of this size, from 0 to 6
+pub IsWellFormed-list_tree : (f : ℕ → Tree) (segment : List ℕ) (start size count : ℕ) → AreBytes segment → start + list_words size count ≤ length segment / 8 → count < 2 ^ 29 → ((w : ℕ) → IsWellFormed (f w)) → IsWellFormed (list_tree f segment start size count)
+IsWellFormed-list_tree f segment start zero count h l b each = b
+IsWellFormed-list_tree f segment start (suc zero) count h l b each = omega (arith, length-bits_from (bytes_at segment start (8 * list_words 1 count)) 0 count)
+IsWellFormed-list_tree f segment start (suc (suc zero)) count h l b each =
+    let n : length (bytes_at segment start count) ≡ count = length-bytes_at segment start count (omega arith) in
+    (AreBytes-bytes_at segment start count h, refl, omega arith, omega (arith, n))
+IsWellFormed-list_tree f segment start (suc (suc (suc zero))) count h l b each =
+    let n : length (bytes_at segment start (2 * count)) ≡ 2 * count = length-bytes_at segment start (2 * count) (omega arith) in
+    (AreBytes-bytes_at segment start (2 * count) h, refl, omega (arith, n), omega (arith, n))
+IsWellFormed-list_tree f segment start (suc (suc (suc (suc zero)))) count h l b each =
+    let n : length (bytes_at segment start (4 * count)) ≡ 4 * count = length-bytes_at segment start (4 * count) (omega arith) in
+    (AreBytes-bytes_at segment start (4 * count) h, refl, omega (arith, n), omega (arith, n))
+IsWellFormed-list_tree f segment start (suc (suc (suc (suc (suc zero))))) count h l b each =
+    let n : length (bytes_at segment start (8 * count)) ≡ 8 * count = length-bytes_at segment start (8 * count) (omega arith) in
+    (AreBytes-bytes_at segment start (8 * count) h, refl, omega (arith, n), omega (arith, n))
+IsWellFormed-list_tree f segment start (suc (suc (suc (suc (suc (suc size)))))) count h l b each =
+    (omega (arith, tree_count-trees_from f start count), AreWellFormed-trees_from f start count each)

@@ -1,0 +1,5 @@
+use Rattle.capnp_wire.proofs.WellFormedPlaces.{IsWellFormed-tree_at, IsWellFormed-tree_below}
+use Rattle.capnp_wire.proofs.laws.trees_are_well_formed.Goals as goal
+
+pub returns : goal.returns
+returns c levels segments segment w h s = (IsWellFormed-tree_at levels segments segment w h s, IsWellFormed-tree_below levels segments segment w h s)

@@ -1,0 +1,18 @@
+use Rattle.std.proofs.Common.{sym, ap, ◌∙◌, arith, ◌≡◌, ◌+◌, ◌-◌, take, drop}
+use Rattle.capnp_wire.specs.Objects.{object_tree, object_trees}
+use Rattle.capnp_wire.proofs.Lists.{only_tree-from, only_tree-past, only_tree-of, only_tree-of_past}
+use Rattle.capnp_wire.proofs.look.get_only_pointer.Goals as goal
+
+pub returns-then-index-run : goal.returns-then-index-run
+returns-then-index-run c = rw c.in-Words.is (sym (only_tree-past _ _ _ _ c.if-index-run.true))
+
+pub returns-else-index-run : goal.returns-else-index-run
+returns-else-index-run c = rw c.in-Words.is (sym (only_tree-from _ _ _ _ c.if-index-run.false))
+
+pub returns-then-index-objects : goal.returns-then-index-objects
+returns-then-index-objects c =
+  let one : c.args.index + 1 - c.args.index ≡ 1 = omega arith in
+  rw c.in-Objects.is (ap (λ n. object_trees (take n (drop c.args.index c.in-Objects.objects.now))) one ∙ sym (only_tree-of object_tree c.in-Objects.objects.now c.args.index))
+
+pub returns-else-index-objects : goal.returns-else-index-objects
+returns-else-index-objects c = rw c.in-Objects.is (sym (only_tree-of_past object_tree c.in-Objects.objects.now c.args.index c.if-index-objects.false))

@@ -1,0 +1,20 @@
+use Rattle.std.proofs.Common.{sym, ap, ◌∙◌}
+use Rattle.capnp_wire.specs.Objects.{object_tree}
+use Rattle.capnp_wire.proofs.Lists.{nth_tree-from, nth_tree-past, nth_tree-of, nth_tree-of_past}
+use Rattle.capnp_wire.proofs.look.get_pointer.Goals as goal
+
+pub returns-then-index-run : goal.returns-then-index-run
+returns-then-index-run c = rw c.in-Words.is (sym (nth_tree-past _ _ _ _ c.if-index-run.true))
+
+pub returns-else-index-run : goal.returns-else-index-run
+returns-else-index-run c = rw c.in-Words.is (sym (nth_tree-from _ _ _ _ c.if-index-run.false))
+
+pub returns-in-Some : goal.returns-in-Some
+returns-in-Some c =
+  let h = c.in-Some.ensures.lookup in
+  rw c.in-Objects.is (ap object_tree h.1 ∙ sym (nth_tree-of object_tree c.in-Objects.objects.now c.args.index c.in-Some.object.now h.3.0))
+
+pub returns-in-None : goal.returns-in-None
+returns-in-None c =
+  let h = c.in-None.ensures.lookup in
+  rw c.in-Objects.is (sym (nth_tree-of_past object_tree c.in-Objects.objects.now c.args.index h.3))

@@ -1,0 +1,27 @@
+-- Segments and targets in code, as the definitions see them.
+use Rattle.std.specs.Prelude.{◌/◌, ◌^◌, ◌≤◌, ⊤, length, [], ◌∷◌}
+use Rattle.capnp_wire.specs.Locate as locate
+use Rattle.capnp_wire.specs.Stream.{cut}
+use Rattle.capnp_wire.specs.declared.segments.Segments.{Segments}
+use Rattle.capnp_wire.specs.declared.segments.Segments.TheVariants.{One, Many}
+use Rattle.capnp_wire.specs.declared.locate.Target.{Target}
+use Rattle.capnp_wire.specs.declared.locate.Target.TheVariants as target
+
+abbrev pub segment_list : Segments → locate.Segments
+segment_list (One bytes) = bytes.now ∷ []
+segment_list (Many table body) = cut (length table.now / 4) table.now body.now
+
+abbrev pub target_of : Target → locate.Target
+target_of target.Null = locate.NoTarget
+target_of (target.Bad fault) = locate.BadTarget fault
+target_of (target.Struct segment start data_words pointers) = locate.StructAt segment.now start data_words pointers
+target_of (target.List segment start element_size count) = locate.ListAt segment.now start element_size count
+target_of (target.Composite segment start count data_words pointers) = locate.CompositeAt segment.now start count data_words pointers
+
+-- the start is no larger than memory allows
+abbrev pub StartFits : Target → Type 0
+StartFits target.Null = ⊤
+StartFits (target.Bad fault) = ⊤
+StartFits (target.Struct segment start data_words pointers) = start ≤ 2 ^ 60
+StartFits (target.List segment start element_size count) = start ≤ 2 ^ 60
+StartFits (target.Composite segment start count data_words pointers) = start ≤ 2 ^ 60

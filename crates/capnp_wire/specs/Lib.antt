@@ -1,0 +1,15 @@
+pub mod Tree
+pub mod Slot
+pub mod Locate
+pub mod Place
+pub mod Step
+pub mod Reading
+pub mod WellFormed
+pub mod Stream
+pub mod Backing
+pub mod Objects
+pub mod Found
+pub mod Standing
+pub mod Message
+pub mod Laws
+pub mod Words

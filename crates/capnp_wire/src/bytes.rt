@@ -1,0 +1,155 @@
+//! Numbers, bits and parts of a run of bytes, which has zeros past its end.
+//!
+//! Offsets count bytes, words of eight bytes or bits, as each function says. Numbers stand lowest
+//! byte first (the encoding page, "Primitive Values"). No read refuses.
+ghost use Rattle.std.specs.Prelude.{◌≡◌, ◌≤◌, ◌<◌, ◌^◌, ◌*◌, length, take, drop};
+ghost use Rattle.capnp_wire.specs.Slot.{little_endian, word_at, bit_at};
+
+/// The bytes from byte `start` on, none past the end.
+pub fn rest(bytes: &[u8], start: usize) -> &[u8]
+    ensures { result.now ≡ drop start bytes.now }
+{
+    if start < bytes.len() {
+        &bytes[start..]
+    } else {
+        &bytes[..0]
+    }
+}
+
+/// At most `count` bytes from byte `start` on, none past the end.
+pub fn part(bytes: &[u8], start: usize, count: usize) -> &[u8]
+    ensures { result.now ≡ take count (drop start bytes.now) }
+{
+    let rest = rest(bytes, start);
+    if count < rest.len() {
+        &rest[..count]
+    } else {
+        rest
+    }
+}
+
+/// The number that at most eight bytes spell, lowest first.
+fn number(bytes: &[u8]) -> u64
+    requires { length bytes.now ≤ 8 }
+    ensures { result ≡ little_endian bytes.now }
+{
+    let mut number: u64 = 0;
+    let mut i = bytes.len();
+    while i > 0 {
+        i -= 1;
+        number = number * 256 + bytes[i] as u64;
+    }
+    number
+}
+
+/// The number that `width` bytes from byte `start` on spell, with zeros past the end.
+///
+/// It goes byte by byte: the reads below test for the end first, and call it only where bytes are
+/// missing.
+#[cold]
+#[inline(never)]
+pub fn number_from(bytes: &[u8], start: usize, width: usize) -> u64
+    requires { width ≤ 8 }
+    ensures value { result ≡ little_endian (take width (drop start bytes.now)) }
+    ensures fits { result < 256 ^ width }
+{
+    number(part(bytes, start, width))
+}
+
+/// The number of 32 bits from byte `start` on, with zeros past the end.
+#[inline]
+pub fn half_at(bytes: &[u8], start: usize) -> u32
+    ensures { result ≡ little_endian (take 4 (drop start bytes.now)) }
+{
+    if bytes.len() >= 4 && start <= bytes.len() - 4 {
+        u32::from_le_bytes([
+            bytes[start],
+            bytes[start + 1],
+            bytes[start + 2],
+            bytes[start + 3],
+        ])
+    } else {
+        number_from(bytes, start, 4) as u32
+    }
+}
+
+/// Word `w`, the eight bytes from byte `8 * w` on, with zeros past the end.
+#[inline]
+pub fn get_word(bytes: &[u8], w: usize) -> u64
+    requires { w < 2 ^ 61 }
+    ensures { result ≡ word_at bytes.now w }
+{
+    let start = 8 * w;
+    if w < bytes.len() / 8 {
+        u64::from_le_bytes([
+            bytes[start],
+            bytes[start + 1],
+            bytes[start + 2],
+            bytes[start + 3],
+            bytes[start + 4],
+            bytes[start + 5],
+            bytes[start + 6],
+            bytes[start + 7],
+        ])
+    } else {
+        number_from(bytes, start, 8)
+    }
+}
+
+/// Bit `i`, counted from the lowest of the first byte, and false past the end.
+#[inline]
+pub fn get_bit(bytes: &[u8], i: usize) -> bool
+    ensures { result ≡ bit_at bytes.now i }
+{
+    let at = i / 8;
+    if at < bytes.len() {
+        bytes[at] >> (i % 8) & 1 == 1
+    } else {
+        false
+    }
+}
+
+#[cfg(test)]
+mod tests {
+    use super::*;
+
+    #[test]
+    fn reads_up_to_the_end_and_past_it(rt: HostRuntime) {
+        let bytes = [1, 2, 3, 4, 5, 6, 7, 8, 9];
+        let halves = [
+            (0, 0x0403_0201),
+            (5, 0x0908_0706),
+            (6, 0x0009_0807),
+            (9, 0),
+            (usize::MAX, 0),
+        ];
+        for (start, want) in halves {
+            assert_eq!(rt; half_at(&bytes, start), want, "at {start}");
+        }
+        for (w, want) in [
+            (0, 0x0807_0605_0403_0201),
+            (1, 9),
+            (2, 0),
+            ((1 << 61) - 1, 0),
+        ] {
+            assert_eq!(rt; get_word(&bytes, w), want, "word {w}");
+        }
+        assert_eq!(rt; number_from(&bytes, 1, 3), 0x0004_0302);
+        assert_eq!(rt; rest(&bytes, 7), [8, 9].as_slice());
+        assert_eq!(rt; part(&bytes, 7, 1), [8].as_slice());
+    }
+
+    #[test]
+    fn counts_bits_from_the_lowest(rt: HostRuntime) {
+        for (i, want) in [
+            (0, true),
+            (1, false),
+            (2, true),
+            (8, false),
+            (15, true),
+            (16, false),
+        ] {
+            assert_eq!(rt; get_bit(&[5, 128], i), want, "bit {i}");
+        }
+    }
+}

@@ -1,0 +1,190 @@
+//! Readers of lists.
+ghost use Rattle.std.specs.Prelude.{◌≡◌};
+ghost use Rattle.capnp_wire.specs.Found.{found_tree};
+ghost use Rattle.capnp_wire.specs.Reading.{reads_numbers, reads_structs};
+ghost use Rattle.capnp_wire.specs.WellFormed.{IsWellFormed};
+
+use crate::bytes::{get_bit, part};
+use crate::fault::Fault;
+use crate::look::{Elements, Found, Place, Pointers, StructParts, get_element, get_only_pointer, get_pointer, look};
+use crate::pointer_reader::PointerReader;
+use crate::primitive::PrimitiveElement;
+use crate::size::{ElementSize, StructSize};
+use crate::struct_reader::StructReader;
+use capnp_device::error::{Error, ErrorKind, Result};
+
+/// A list, as it is read: its elements, and the levels that are left below it. Past its end elements read as zero, false,
+/// null and a struct of size zero, so each call answers for any index.
+#[derive(Clone, Copy)]
+pub struct ListReader<'a> {
+    found: Found<'a>,
+    levels: u32,
+}
+
+/// Whether structs of a size are read as elements of the size that is asked.
+fn reads_structs_as(asked: ElementSize, size: StructSize) -> bool
+    ensures { result ≡ reads_structs asked size.data_words size.pointers }
+{
+    match asked {
+        ElementSize::Void => true,
+        ElementSize::Bit => false,
+        ElementSize::Byte => 0 < size.data_words,
+        ElementSize::TwoBytes => 0 < size.data_words,
+        ElementSize::FourBytes => 0 < size.data_words,
+        ElementSize::EightBytes => 0 < size.data_words,
+        ElementSize::Pointer => 0 < size.pointers,
+        ElementSize::InlineComposite => true,
+    }
+}
+
+/// Whether numbers of so many bytes are.
+fn reads_numbers_as(asked: ElementSize, width: u8) -> bool
+    ensures { result ≡ reads_numbers asked width }
+{
+    match asked {
+        ElementSize::Void => true,
+        ElementSize::Bit => false,
+        ElementSize::Byte => width == 1,
+        ElementSize::TwoBytes => width == 2,
+        ElementSize::FourBytes => width == 4,
+        ElementSize::EightBytes => width == 8,
+        ElementSize::Pointer => false,
+        ElementSize::InlineComposite => true,
+    }
+}
+
+impl<'a> ListReader<'a> {
+    ghost use Rattle.std.specs.Prelude.{Ok, false, ◌≡◌, ◌+◌, IfOk};
+    ghost use Rattle.capnp_wire.specs.Reading.{as_list, empty_list, is_fault_leaf, element_bit, element_levels, element_number, element_pointer, element_struct, list_length, with_level};
+    ghost use Rattle.capnp_wire.specs.Standing.{levels_of, list_levels, list_of, list_read, struct_levels, struct_read, tree_of};
+
+    /// A reader of a list.
+    #[tactic(auto, unfolding(crate::specs::Standing::list_of, crate::specs::Standing::list_levels))]
+    fn new(found: Found<'a>, levels: u32) -> ListReader<'a>
+        ensures list { list_of result ≡ found_tree found.entry }
+        ensures levels { list_levels result ≡ levels }
+    {
+        ListReader { found, levels }
+    }
+
+    /// A list without elements.
+    fn empty(size: ElementSize, levels: u32) -> ListReader<'a>
+        ensures list { list_of result ≡ empty_list size }
+        ensures levels { list_levels result ≡ levels }
+    {
+        let none = Pointers::Objects(&[]);
+        let found = match size {
+            ElementSize::Void => Found::Voids(0),
+            ElementSize::Bit => Found::Bits(&[], 0),
+            ElementSize::Byte => Found::Numbers(1, &[]),
+            ElementSize::TwoBytes => Found::Numbers(2, &[]),
+            ElementSize::FourBytes => Found::Numbers(4, &[]),
+            ElementSize::EightBytes => Found::Numbers(8, &[]),
+            ElementSize::Pointer => Found::Pointers(none),
+            ElementSize::InlineComposite => {
+                let size = StructSize { data_words: 0, pointers: 0 };
+                Found::Composite(size, Elements::Objects(&[]))
+            }
+        };
+        ListReader::new(found, levels)
+    }
+
+    /// What stands at a place, where it is no fault leaf, as a list of elements of a size.
+    pub(crate) fn read_as(found: Found<'a>, size: ElementSize, levels: u32) -> Result<ListReader<'a>>
+        requires { is_fault_leaf (found_tree found) ≡ false }
+        ensures read { list_read result ≡ as_list size (found_tree found.entry) (levels + 1) }
+        ensures levels { IfOk result (λ l. list_levels l ≡ levels) }
+    {
+        let reads = match found {
+            Found::Null => return Ok(ListReader::empty(size, levels)),
+            Found::Bad(_) => unreachable!(),
+            Found::Struct(_) => return Err(Error::from(ErrorKind::WrongPointerKind)),
+            Found::Voids(_) => matches!(size, ElementSize::Void | ElementSize::InlineComposite),
+            Found::Bits(_, _) => matches!(size, ElementSize::Void | ElementSize::Bit),
+            Found::Numbers(width, _) => reads_numbers_as(size, width),
+            Found::Pointers(_) => matches!(size, ElementSize::Void | ElementSize::Pointer | ElementSize::InlineComposite),
+            Found::Composite(own, _) => reads_structs_as(size, own),
+        };
+        if reads {
+            Ok(ListReader::new(found, levels))
+        } else {
+            Err(Error::from(ErrorKind::WrongElementSize))
+        }
+    }
+
+    /// The bit at `index`; false where the elements are no bits.
+    #[tactic(auto, unfolding(crate::specs::Standing::list_of))]
+    pub fn get_bool_element(&self, index: u32) -> bool
+        ensures { result ≡ element_bit (list_of self.now) index }
+    {
+        match self.found {
+            Found::Bits(bytes, count) => index < count && get_bit(bytes, index as usize),
+            _ => false,
+        }
+    }
+
+    /// The number at `index`: of a struct, that at its start.
+    #[tactic(auto, unfolding(crate::specs::Standing::list_of))]
+    pub fn get_data_element<T: PrimitiveElement>(&self, index: u32) -> T
+        ensures { result ≡ T.of_number (element_number T.width (list_of self.now) index) }
+    {
+        match self.found {
+            Found::Numbers(_, bytes) => T::read(bytes, index),
+            Found::Composite(size, elements) => T::read(get_element(size, elements, index as usize).data, 0),
+            _ => T::read(&[], 0),
+        }
+    }
+
+    /// The struct at `index`. Needs a level and leaves one fewer. A number is a struct with its bytes as data, a pointer
+    /// one with that pointer, and what takes no room a struct of size zero.
+    ///
+    /// Refused with `TooDeep` where no level is left.
+    #[tactic(auto, unfolding(crate::specs::Standing::list_of, crate::specs::Standing::list_levels))]
+    pub fn get_struct_element(&self, index: u32) -> Result<StructReader<'a>>
+        ensures read { struct_read result ≡ with_level (list_levels self.now) (Ok (element_struct (list_of self.now) index)) }
+        ensures levels { IfOk result (λ s. struct_levels s + 1 ≡ list_levels self.now) }
+    {
+        if self.levels == 0 {
+            return Err(Error::from(ErrorKind::TooDeep));
+        }
+        let levels = self.levels - 1;
+        match self.found {
+            Found::Numbers(width, bytes) => {
+                let width = width as usize;
+                let data = part(bytes, index as usize * width, width);
+                let pointers = Pointers::Objects(&[]);
+                Ok(StructReader::new(StructParts { data, pointers }, levels))
+            }
+            Found::Pointers(pointers) => {
+                let pointers = get_only_pointer(pointers, index as usize);
+                Ok(StructReader::new(StructParts { data: &[], pointers }, levels))
+            }
+            Found::Composite(size, elements) => Ok(StructReader::new(get_element(size, elements, index as usize), levels)),
+            _ => Ok(StructReader::empty(levels)),
+        }
+    }
+
+    /// The pointer at `index`: of a struct, its first, which is entered through the struct and leaves one level fewer.
+    /// Where no level is left for that, one that is not null can't be followed (`TooDeep`). Null where the elements have
+    /// no pointers.
+    #[tactic(auto, unfolding(crate::specs::Standing::list_of, crate::specs::Standing::list_levels))]
+    pub fn get_pointer_element(&self, index: u32) -> PointerReader<'a>
+        ensures tree { tree_of result ≡ element_pointer (list_of self.now) index (list_levels self.now) }
+        ensures levels { levels_of result ≡ element_levels (list_of self.now) (list_levels self.now) }
+    {
+        match self.found {
+            Found::Pointers(pointers) => PointerReader::new(get_pointer(pointers, index as usize), self.levels),
+            Found::Composite(size, elements) => {
+                let place = get_pointer(get_element(size, elements, index as usize).pointers, 0);
+                if self.levels > 0 {
+                    return PointerReader::new(place, self.levels - 1);
+                }
+                match look(place) {
+                    Found::Null => PointerReader::new(Place::Null, 0),
+                    _ => PointerReader::new(Place::Bad(Fault::TooDeep), 0),
+                }
+            }
+            _ => PointerReader::new(Place::Null, self.levels),
+        }
+    }
+}

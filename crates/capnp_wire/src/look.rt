@@ -1,0 +1,331 @@
+//! One level of what stands at a place, wherever it lies: in the bytes of a message or in a builder's objects.
+ghost use Rattle.std.specs.Prelude.{◌≡◌, ◌-◌, ◌<◌, ◌≤◌, ◌^◌};
+ghost use Rattle.capnp_wire.specs.Tree.{empty_struct, nth_struct, nth_tree, only_tree};
+ghost use Rattle.capnp_wire.specs.Place.{bytes_at, root_tree, struct_at, tree_below};
+ghost use Rattle.capnp_wire.specs.Step.{list_step, step};
+ghost use Rattle.capnp_wire.specs.Backing.{StartFits, segment_list, target_of};
+ghost use Rattle.capnp_wire.specs.Objects.{list_object_tree, object_tree, struct_object_tree};
+ghost use Rattle.capnp_wire.specs.Found.{ArePointersBelow, IsBelow, element_structs, found_tree, parts_tree, place_tree, pointer_trees};
+
+use crate::bytes::part;
+use crate::fault::Fault;
+use crate::locate::{Target, locate};
+use crate::object::{ListObject, Object, StructObject};
+use crate::run::{Block, Run};
+use crate::segments::{Segments, get_first_segment};
+use crate::size::StructSize;
+
+/// Where a pointer stands.
+#[derive(Clone, Copy)]
+pub enum Place<'a> {
+    Null,
+    Bad(Fault),
+    /// A word of a segment, whose tree has one level less than `depth`.
+    Word {
+        segments: Segments<'a>,
+        segment: &'a [u8],
+        index: usize,
+        depth: u32,
+    },
+    Object(&'a Object),
+}
+
+/// The pointers of a struct or of a list.
+#[derive(Clone, Copy)]
+pub enum Pointers<'a> {
+    Words(Run<'a>),
+    Objects(&'a [Object]),
+}
+
+/// The elements of a composite list.
+#[derive(Clone, Copy)]
+pub enum Elements<'a> {
+    Words(Block<'a>),
+    Objects(&'a [StructObject]),
+}
+
+/// What a struct holds: its data section and its pointers.
+#[derive(Clone, Copy)]
+pub struct StructParts<'a> {
+    pub data: &'a [u8],
+    pub pointers: Pointers<'a>,
+}
+
+/// One level of what stands at a place.
+#[derive(Clone, Copy)]
+pub enum Found<'a> {
+    Null,
+    Bad(Fault),
+    Struct(StructParts<'a>),
+    Voids(u32),
+    /// The bytes that hold the bits, lowest first, and how many bits there are.
+    Bits(&'a [u8], u32),
+    /// The width of a number in bytes, and the numbers' bytes.
+    Numbers(u8, &'a [u8]),
+    Pointers(Pointers<'a>),
+    Composite(StructSize, Elements<'a>),
+}
+
+/// `count` bytes of a segment from the word `start` on.
+fn bytes_from(segment: &[u8], start: usize, count: usize) -> &[u8]
+    requires { start < 2 ^ 61 }
+    ensures { result.now ≡ bytes_at segment.now start count }
+{
+    part(segment, 8 * start, count)
+}
+
+/// A struct with a level left for it.
+fn look_at_struct<'a>(segments: Segments<'a>, segment: &'a [u8], start: usize, size: StructSize, depth: u32) -> StructParts<'a>
+    requires start { start ≤ 2 ^ 60 }
+    requires level { 0 < depth }
+    ensures value { parts_tree result ≡ struct_at (tree_below (depth - 1) (segment_list segments.entry) segment.now) segment.now size.data_words size.pointers start }
+    ensures below { ArePointersBelow depth result.pointers }
+{
+    let run = Run {
+        segments,
+        segment,
+        first: start + size.data_words as usize,
+        count: size.pointers as u32,
+        depth: depth - 1,
+    };
+    StructParts {
+        data: bytes_from(segment, start, 8 * size.data_words as usize),
+        pointers: Pointers::Words(run),
+    }
+}
+
+/// A list that is neither of bytes nor composite, with a level left for it.
+fn look_at_list<'a>(segments: Segments<'a>, segment: &'a [u8], start: usize, element_size: u8, count: u32, depth: u32) -> Found<'a>
+    requires start { start ≤ 2 ^ 60 }
+    requires level { 0 < depth }
+    ensures value { found_tree result ≡ list_step (tree_below (depth - 1) (segment_list segments.entry) segment.now) segment.now start element_size count }
+    ensures below { IsBelow depth result }
+{
+    if element_size == 0 {
+        Found::Voids(count)
+    } else if element_size == 1 {
+        Found::Bits(bytes_from(segment, start, 8 * ((count as usize + 63) / 64)), count)
+    } else if element_size == 3 {
+        Found::Numbers(2, bytes_from(segment, start, 2 * count as usize))
+    } else if element_size == 4 {
+        Found::Numbers(4, bytes_from(segment, start, 4 * count as usize))
+    } else if element_size == 5 {
+        Found::Numbers(8, bytes_from(segment, start, 8 * count as usize))
+    } else {
+        let run = Run {
+            segments,
+            segment,
+            first: start,
+            count,
+            depth: depth - 1,
+        };
+        Found::Pointers(Pointers::Words(run))
+    }
+}
+
+/// One level of a target, whose tree has one level less than `depth`.
+fn look_at_target<'a>(segments: Segments<'a>, target: Target<'a>, depth: u32) -> Found<'a>
+    requires { StartFits target }
+    ensures value { found_tree result ≡ step depth (tree_below (depth - 1) (segment_list segments.entry)) (tree_below (depth - 2) (segment_list segments.entry)) (target_of target.entry) }
+    ensures below { IsBelow depth result }
+{
+    match target {
+        Target::Null => Found::Null,
+        Target::Bad(fault) => {
+            if depth == 0 {
+                Found::Bad(Fault::TooDeep)
+            } else {
+                Found::Bad(fault)
+            }
+        }
+        Target::Struct { segment, start, data_words, pointers } => {
+            if depth < 2 {
+                return Found::Bad(Fault::TooDeep);
+            }
+            let size = StructSize { data_words, pointers };
+            Found::Struct(look_at_struct(segments, segment, start, size, depth))
+        }
+        Target::List { segment, start, element_size, count } => {
+            if depth == 0 {
+                return Found::Bad(Fault::TooDeep);
+            }
+            if element_size == 2 {
+                return Found::Numbers(1, bytes_from(segment, start, count as usize));
+            }
+            if depth == 1 {
+                return Found::Bad(Fault::TooDeep);
+            }
+            look_at_list(segments, segment, start, element_size, count, depth)
+        }
+        Target::Composite { segment, start, count, data_words, pointers } => {
+            if depth < 2 {
+                return Found::Bad(Fault::TooDeep);
+            }
+            let block = Block {
+                segments,
+                segment,
+                first: start,
+                count,
+                depth: depth - 2,
+            };
+            Found::Composite(StructSize { data_words, pointers }, Elements::Words(block))
+        }
+    }
+}
+
+/// What the pointer at a word stands for, where its tree has one level less than `depth`.
+pub fn look_at_word<'a>(segments: Segments<'a>, segment: &'a [u8], index: usize, depth: u32) -> Found<'a>
+    ensures value { found_tree result ≡ tree_below depth (segment_list segments.entry) segment.now index }
+    ensures below { IsBelow depth result }
+{
+    look_at_target(segments, locate(segments, segment, index), depth)
+}
+
+fn look_at_struct_object(object: &StructObject) -> StructParts<'_>
+    ensures { parts_tree result ≡ struct_object_tree object.now }
+{
+    StructParts {
+        data: object.data.as_slice(),
+        pointers: Pointers::Objects(object.pointers.as_slice()),
+    }
+}
+
+fn look_at_list_object(object: &ListObject) -> Found<'_>
+    ensures { found_tree result ≡ list_object_tree object.now }
+{
+    match object {
+        ListObject::Voids(count) => Found::Voids(*count),
+        ListObject::Bits(bytes, count) => Found::Bits(bytes.as_slice(), *count),
+        ListObject::Numbers(width, bytes) => Found::Numbers(*width, bytes.as_slice()),
+        ListObject::Pointers(pointers) => Found::Pointers(Pointers::Objects(pointers.as_slice())),
+        ListObject::Composite(size, elements) => Found::Composite(*size, Elements::Objects(elements.as_slice())),
+    }
+}
+
+fn look_at_object(object: &Object) -> Found<'_>
+    ensures { found_tree result ≡ object_tree object.now }
+{
+    match object {
+        Object::Null => Found::Null,
+        Object::Struct(object) => Found::Struct(look_at_struct_object(object)),
+        Object::List(object) => look_at_list_object(object),
+    }
+}
+
+/// What stands at a place.
+pub fn look(place: Place<'_>) -> Found<'_>
+    ensures { found_tree result ≡ place_tree place.entry }
+{
+    match place {
+        Place::Null => Found::Null,
+        Place::Bad(fault) => Found::Bad(fault),
+        Place::Word { segments, segment, index, depth } => look_at_word(segments, segment, index, depth),
+        Place::Object(object) => look_at_object(object),
+    }
+}
+
+/// The place of pointer `index`, null past the end.
+pub fn get_pointer(pointers: Pointers<'_>, index: usize) -> Place<'_>
+    ensures { place_tree result ≡ nth_tree (pointer_trees pointers.entry) index }
+{
+    match pointers {
+        Pointers::Words(run) => {
+            if index >= run.count as usize {
+                return Place::Null;
+            }
+            Place::Word {
+                segments: run.segments,
+                segment: run.segment,
+                index: run.first + index,
+                depth: run.depth,
+            }
+        }
+        Pointers::Objects(objects) => match objects.get(index) {
+            Some(object) => Place::Object(object),
+            None => Place::Null,
+        },
+    }
+}
+
+/// The pointer at `index` alone, none past the end.
+pub fn get_only_pointer(pointers: Pointers<'_>, index: usize) -> Pointers<'_>
+    ensures { pointer_trees result ≡ only_tree (pointer_trees pointers.entry) index }
+{
+    match pointers {
+        Pointers::Words(run) => {
+            if index >= run.count as usize {
+                return Pointers::Objects(&[]);
+            }
+            let only = Run {
+                segments: run.segments,
+                segment: run.segment,
+                first: run.first + index,
+                count: 1,
+                depth: run.depth,
+            };
+            Pointers::Words(only)
+        }
+        Pointers::Objects(objects) => {
+            if index < objects.len() {
+                Pointers::Objects(&objects[index..index + 1])
+            } else {
+                Pointers::Objects(&[])
+            }
+        }
+    }
+}
+
+/// A struct of size zero.
+pub fn empty_parts<'a>() -> StructParts<'a>
+    ensures { parts_tree result ≡ empty_struct }
+{
+    StructParts {
+        data: &[],
+        pointers: Pointers::Objects(&[]),
+    }
+}
+
+/// The struct at `index` of a composite list, of size zero past its end.
+pub fn get_element<'a>(size: StructSize, elements: Elements<'a>, index: usize) -> StructParts<'a>
+    ensures { parts_tree result ≡ nth_struct (element_structs size.data_words size.pointers elements.entry) index }
+{
+    match elements {
+        Elements::Words(block) => {
+            if index >= block.count as usize {
+                return empty_parts();
+            }
+            let start = block.first + index * (size.data_words as usize + size.pointers as usize);
+            let run = Run {
+                segments: block.segments,
+                segment: block.segment,
+                first: start + size.data_words as usize,
+                count: size.pointers as u32,
+                depth: block.depth,
+            };
+            StructParts {
+                data: bytes_from(block.segment, start, 8 * size.data_words as usize),
+                pointers: Pointers::Words(run),
+            }
+        }
+        Elements::Objects(objects) => match objects.get(index) {
+            Some(object) => look_at_struct_object(object),
+            None => empty_parts(),
+        },
+    }
+}
+
+/// The levels of a message's root pointer.
+pub const ROOT_LEVELS: u32 = 64;
+
+/// The place of a message's root pointer: the first word of its first segment.
+#[tactic(auto, unfolding(crate::specs::Place::tree_below))]
+pub fn get_root_place(segments: Segments<'_>) -> Place<'_>
+    ensures { place_tree result ≡ root_tree (segment_list segments.entry) }
+{
+    Place::Word {
+        segments,
+        segment: get_first_segment(segments),
+        index: 0,
+        depth: ROOT_LEVELS + 1,
+    }
+}

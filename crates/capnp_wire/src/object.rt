@@ -1,0 +1,34 @@
+//! The owned objects that a message in memory is made of.
+
+use crate::size::StructSize;
+
+/// What stands at a pointer of a message in memory.
+#[derive(Drop)]
+#[cycle(object)]
+pub enum Object {
+    Null,
+    Struct(StructObject),
+    List(ListObject),
+}
+
+/// A struct: the bytes of its data section, and its pointers.
+#[derive(Drop)]
+#[cycle(object)]
+pub struct StructObject {
+    pub(crate) data: Vec<u8>,
+    pub(crate) pointers: Vec<Object>,
+}
+
+/// A list, by what its elements are.
+#[derive(Drop)]
+#[cycle(object)]
+pub enum ListObject {
+    Voids(u32),
+    /// The bits, lowest first in each byte, and how many there are.
+    Bits(Vec<u8>, u32),
+    /// The width of each number in bytes, and the numbers' bytes one after another. Texts and data are such lists.
+    Numbers(u8, Vec<u8>),
+    Pointers(Vec<Object>),
+    /// The size of each struct, and the structs.
+    Composite(StructSize, Vec<StructObject>),
+}

@@ -1,0 +1,145 @@
+//! Readers of pointers.
+ghost use Rattle.capnp_wire.specs.Found.{place_tree};
+ghost use Rattle.capnp_wire.specs.WellFormed.{IsWellFormed};
+
+use crate::fault::{Fault, refuse};
+use crate::list_reader::ListReader;
+use crate::look::{Found, Place, look};
+use crate::segments::Segments;
+use crate::size::ElementSize;
+use crate::struct_reader::StructReader;
+use capnp_device::error::{Error, ErrorKind, Result};
+
+/// A pointer, as it is read: a place in a message or in a builder's objects, and the levels that are left below it.
+/// Every call answers for any message, takes no memory and leaves the reader as it was.
+#[derive(Clone, Copy)]
+pub struct PointerReader<'a> {
+    place: Place<'a>,
+    levels: u32,
+}
+
+impl<'a> PointerReader<'a> {
+    ghost use Rattle.std.specs.Prelude.{◌≡◌, ◌+◌, suc, IfOk};
+    ghost use Rattle.capnp_wire.specs.Found.{found_tree, parts_tree};
+    ghost use Rattle.capnp_wire.specs.Reading.{as_data, as_list, as_struct, as_text, is_null_tree};
+    ghost use Rattle.capnp_wire.specs.Standing.{bytes_read, levels_of, list_levels, list_read, struct_levels, struct_read, tree_of};
+
+    /// A reader of a place.
+    #[tactic(auto, unfolding(crate::specs::Standing::tree_of, crate::specs::Standing::levels_of))]
+    pub(crate) fn new(place: Place<'a>, levels: u32) -> PointerReader<'a>
+        ensures tree { tree_of result ≡ place_tree place.entry }
+        ensures levels { levels_of result ≡ levels }
+    {
+        PointerReader { place, levels }
+    }
+
+    /// Whether the pointer is null. A pointer that can't be followed is not.
+    #[tactic(auto, unfolding(crate::specs::Standing::tree_of))]
+    pub fn is_null(&self) -> bool
+        ensures { result ≡ is_null_tree (tree_of self.now) }
+    {
+        match look(self.place) {
+            Found::Null => true,
+            _ => false,
+        }
+    }
+
+    /// The struct that the pointer leads to; of size zero for a null. Needs a level and leaves one fewer.
+    ///
+    /// Refused with `BadPointer` or `CapabilityPointer` where the pointer can't be followed, with `TooDeep` where no
+    /// level is left for it, and then with `WrongPointerKind` for a list (encoding, "Structs").
+    #[tactic(auto, unfolding(crate::specs::Standing::tree_of, crate::specs::Standing::levels_of))]
+    pub fn get_struct(&self) -> Result<StructReader<'a>>
+        ensures read { struct_read result ≡ as_struct (tree_of self.now) (levels_of self.now) }
+        ensures levels { IfOk result (λ s. struct_levels s + 1 ≡ levels_of self.now) }
+    {
+        let found = look(self.place);
+        if let Found::Bad(fault) = found {
+            return Err(refuse(fault));
+        }
+        if self.levels == 0 {
+            return Err(Error::from(ErrorKind::TooDeep));
+        }
+        let levels = self.levels - 1;
+        match found {
+            Found::Null => Ok(StructReader::empty(levels)),
+            Found::Struct(parts) => Ok(StructReader::new(parts, levels)),
+            _ => Err(Error::from(ErrorKind::WrongPointerKind)),
+        }
+    }
+
+    /// The list that the pointer leads to, where it is read as elements of `size`; an empty one of that size for a null.
+    /// Needs a level and leaves one fewer.
+    ///
+    /// Every list is read as `Void`. A list of bits is read as `Bit`, one of numbers as their own size, one of pointers
+    /// as `Pointer`; a list of structs is read as numbers where each has a data word, by the number at its start, and as
+    /// pointers where each has a pointer, by its first. Every list but one of bits is read as `InlineComposite`.
+    ///
+    /// Refused with `BadPointer` or `CapabilityPointer` where the pointer can't be followed, with `TooDeep` where no
+    /// level is left for it, then with `WrongPointerKind` for a struct, and with `WrongElementSize` for a list that is
+    /// not read so (encoding, "Lists").
+    #[tactic(auto, unfolding(crate::specs::Standing::tree_of, crate::specs::Standing::levels_of))]
+    pub fn get_list(&self, size: ElementSize) -> Result<ListReader<'a>>
+        ensures read { list_read result ≡ as_list size (tree_of self.now) (levels_of self.now) }
+        ensures levels { IfOk result (λ l. list_levels l + 1 ≡ levels_of self.now) }
+    {
+        let found = look(self.place);
+        if let Found::Bad(fault) = found {
+            return Err(refuse(fault));
+        }
+        if self.levels == 0 {
+            return Err(Error::from(ErrorKind::TooDeep));
+        }
+        ListReader::read_as(found, size, self.levels - 1)
+    }
+
+    /// The bytes of the list of bytes that the pointer leads to, none for a null. They are those of the message, and
+    /// take no level.
+    ///
+    /// Refused with `BadPointer`, `TooDeep` or `CapabilityPointer` where the pointer can't be followed, with
+    /// `WrongPointerKind` for a struct, and with `WrongElementSize` for another list (encoding, "Blobs").
+    #[tactic(auto, unfolding(crate::specs::Standing::tree_of))]
+    pub fn get_data(&self) -> Result<&'a [u8]>
+        ensures { bytes_read result ≡ as_data (tree_of self.now) }
+    {
+        match look(self.place) {
+            Found::Null => Ok(&[]),
+            Found::Bad(fault) => Err(refuse(fault)),
+            Found::Struct(_) => Err(Error::from(ErrorKind::WrongPointerKind)),
+            Found::Numbers(width, bytes) => {
+                if width == 1 {
+                    Ok(bytes)
+                } else {
+                    Err(Error::from(ErrorKind::WrongElementSize))
+                }
+            }
+            _ => Err(Error::from(ErrorKind::WrongElementSize)),
+        }
+    }
+
+    /// The bytes of the text that the pointer leads to, without the zero that ends it; none for a null. They take no
+    /// level, and need not be UTF-8.
+    ///
+    /// Refused as `get_data`, and with `TextNotTerminated` where the list is empty or its last byte is not zero
+    /// (encoding, "Blobs").
+    #[tactic(auto, unfolding(crate::specs::Standing::tree_of))]
+    pub fn get_text(&self) -> Result<&'a [u8]>
+        ensures { bytes_read result ≡ as_text (tree_of self.now) }
+    {
+        match look(self.place) {
+            Found::Null => Ok(&[]),
+            Found::Bad(fault) => Err(refuse(fault)),
+            Found::Struct(_) => Err(Error::from(ErrorKind::WrongPointerKind)),
+            Found::Numbers(width, bytes) => {
+                if width != 1 {
+                    return Err(Error::from(ErrorKind::WrongElementSize));
+                }
+                if bytes.is_empty() || bytes[bytes.len() - 1] != 0 {
+                    return Err(Error::from(ErrorKind::TextNotTerminated));
+                }
+                Ok(&bytes[..bytes.len() - 1])
+            }
+            _ => Err(Error::from(ErrorKind::WrongElementSize)),
+        }
+    }
+}

@@ -1,0 +1,82 @@
+//! Readers of structs.
+ghost use Rattle.capnp_wire.specs.Found.{parts_tree};
+ghost use Rattle.capnp_wire.specs.WellFormed.{IsWellFormedStruct};
+
+use crate::bytes::get_bit;
+use crate::look::{StructParts, empty_parts, get_pointer};
+use crate::pointer_reader::PointerReader;
+use crate::primitive::PrimitiveElement;
+
+/// A struct, as it is read: its data section and its pointers, and the levels that are left below it. What lies past the
+/// end of a section reads as zero bits or as null, so each call answers for any offset.
+#[derive(Clone, Copy)]
+pub struct StructReader<'a> {
+    parts: StructParts<'a>,
+    levels: u32,
+}
+
+impl<'a> StructReader<'a> {
+    ghost use Rattle.std.specs.Prelude.{◌≡◌, bit_xor};
+    ghost use Rattle.capnp_wire.specs.Tree.{empty_struct, nth_tree};
+    ghost use Rattle.capnp_wire.specs.Slot.{bit_at, masked_bit, number_at};
+    ghost use Rattle.capnp_wire.specs.Standing.{levels_of, struct_levels, struct_of, tree_of};
+
+    /// A reader of a struct's parts.
+    #[tactic(auto, unfolding(crate::specs::Standing::struct_of, crate::specs::Standing::struct_levels))]
+    pub(crate) fn new(parts: StructParts<'a>, levels: u32) -> StructReader<'a>
+        ensures parts { struct_of result ≡ parts_tree parts.entry }
+        ensures levels { struct_levels result ≡ levels }
+    {
+        StructReader { parts, levels }
+    }
+
+    /// A reader of a struct of size zero.
+    pub(crate) fn empty(levels: u32) -> StructReader<'a>
+        ensures parts { struct_of result ≡ empty_struct }
+        ensures levels { struct_levels result ≡ levels }
+    {
+        StructReader::new(empty_parts(), levels)
+    }
+
+    /// The number at `offset`, in units of its own size, as it is stored (encoding, "Structs").
+    #[tactic(auto, unfolding(crate::specs::Standing::struct_of))]
+    pub fn get_data_field<T: PrimitiveElement>(&self, offset: u32) -> T
+        ensures { result ≡ T.of_number (number_at T.width offset (struct_of self.now).bytes) }
+    {
+        T::read(self.parts.data, offset)
+    }
+
+    /// The number at `offset`, in units of its own size, where it is stored XORed with its default `mask` (encoding,
+    /// "Default Values").
+    #[tactic(auto, unfolding(crate::specs::Standing::struct_of))]
+    pub fn get_data_field_mask<T: PrimitiveElement>(&self, offset: u32, mask: T) -> T
+        ensures { result ≡ T.of_number (bit_xor (number_at T.width offset (struct_of self.now).bytes) (T.to_number mask)) }
+    {
+        T::read_masked(self.parts.data, offset, mask)
+    }
+
+    /// The bit at `offset`, as it is stored.
+    #[tactic(auto, unfolding(crate::specs::Standing::struct_of))]
+    pub fn get_bool_field(&self, offset: u32) -> bool
+        ensures { result ≡ bit_at (struct_of self.now).bytes offset }
+    {
+        get_bit(self.parts.data, offset as usize)
+    }
+
+    /// The bit at `offset`, where it is stored XORed with its default `mask`.
+    #[tactic(auto, unfolding(crate::specs::Standing::struct_of))]
+    pub fn get_bool_field_mask(&self, offset: u32, mask: bool) -> bool
+        ensures { result ≡ masked_bit (bit_at (struct_of self.now).bytes offset) mask }
+    {
+        self.get_bool_field(offset) != mask
+    }
+
+    /// The pointer at `index`, with the levels of the struct.
+    #[tactic(auto, unfolding(crate::specs::Standing::struct_of, crate::specs::Standing::struct_levels))]
+    pub fn get_pointer_field(&self, index: u16) -> PointerReader<'a>
+        ensures tree { tree_of result ≡ nth_tree (struct_of self.now).pointers index }
+        ensures levels { levels_of result ≡ struct_levels self.now }
+    {
+        PointerReader::new(get_pointer(self.parts.pointers, index as usize), self.levels)
+    }
+}
