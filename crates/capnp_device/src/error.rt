@@ -1,19 +1,24 @@
 //! The refusals of every call.
 ghost use Rattle.std.specs.Prelude.{◌≡◌};
+ghost use Rattle.capnp_device.specs.ErrorNumber.{error_number};
 ghost use Rattle.capnp_device.specs.declared.error.ErrorKind.TheVariants.{OutOfMemory};
 
 use std::alloc::{AllocError, AllocFailed};
+use std::fmt;
 
-/// Where a rule of schemas is broken.
+/// The list of schema records in which a rule is broken.
 #[derive(Clone, Copy, Debug, PartialEq, Eq)]
 pub enum SchemaTable {
+    /// The nodes: structs and groups.
     Node,
+    /// The brands: the types that a node's fields have.
     Brand,
+    /// The enums.
     Enum,
 }
 
-impl std::fmt::Display for SchemaTable {
-    fn fmt<W: std::fmt::Write>(&self, f: &mut std::fmt::Formatter<W>) -> std::fmt::Result {
+impl fmt::Display for SchemaTable {
+    fn fmt<W: fmt::Write>(&self, f: &mut fmt::Formatter<W>) -> fmt::Result {
         f.write_str(match self {
             SchemaTable::Node => "node",
             SchemaTable::Brand => "brand",
@@ -22,71 +27,107 @@ impl std::fmt::Display for SchemaTable {
     }
 }
 
-/// Why a call was refused.
-#[derive(Debug, Drop, PartialEq, Eq, thiserror::Error)]
+/// Why a call was refused. The sections named in quotes are those of the public Cap'n Proto encoding
+/// page.
+#[derive(Clone, Copy, Debug, PartialEq, Eq, thiserror::Error)]
 pub enum ErrorKind {
+    /// A growth was refused.
     #[error("out of memory")]
     OutOfMemory,
+    /// The input ends inside the segment table, its padding or a segment ("Serialization Over a
+    /// Stream").
     #[error("the input is cut short")]
     Truncated,
+    /// The segment table says more than 512 segments ("Serialization Over a Stream").
     #[error("more than 512 segments")]
     TooManySegments,
-    #[error("a pointer leaves its segment")]
+    /// A pointer's target, landing pad or tag is malformed or outside its segment ("Inter-Segment
+    /// Pointers", "Pointer Validation").
+    #[error("a malformed pointer, or one that leaves its segment")]
     BadPointer,
-    #[error("another kind of pointer")]
+    /// A struct is read as a list, text or data, or a list as a struct ("Pointer Validation").
+    #[error("another kind of pointer stands there")]
     WrongPointerKind,
-    #[error("another element size")]
+    /// The list's elements cannot be read with the size that was asked for ("Lists").
+    #[error("the list has another element size")]
     WrongElementSize,
-    #[error("a text without its zero")]
+    /// A list of bytes that is read as text is empty, or its last byte is not 0 ("Blobs").
+    #[error("a text without its final zero byte")]
     TextNotTerminated,
-    #[error("too deep")]
+    /// No level of nesting is left ("Stack Overflow DoS Attack").
+    #[error("nested too deep")]
     TooDeep,
-    #[error("a capability")]
+    /// A capability pointer stands there ("Capabilities (Interfaces)").
+    #[error("a capability pointer")]
     CapabilityPointer,
-    #[error("past the format's limits")]
+    /// A list, text or data is larger than the format can say ("Lists").
+    #[error("larger than the format allows")]
     SizePastFormat,
-    #[error("too large")]
+    /// A total is past 2^64 - 1 words, or a message to encode past 2^29 - 1 words.
+    #[error("the message is too large")]
     TooLarge,
+    /// The source failed during this call.
     #[error("the source failed")]
     ReadFailed,
+    /// The sink failed during this call.
     #[error("the sink failed")]
     WriteFailed,
+    /// The struct has no field of that name or number.
     #[error("no such field")]
     FieldNotFound,
-    #[error("a value of another kind")]
+    /// The value's kind is not that of the field or element.
+    #[error("a value of another type")]
     TypeMismatch,
-    #[error("not a struct")]
+    /// A group is set to a value that is no struct.
+    #[error("the value is not a struct")]
     NotAStruct,
-    #[error("neither a list nor a blob")]
+    /// An element that is neither a list nor a text or data is given a length.
+    #[error("the element is neither a list nor a blob")]
     ExpectedAListOrBlob,
-    #[error("a list of untyped pointers")]
+    /// An element of a list of untyped pointers is set or initialized.
+    #[error("lists of untyped pointers are not supported")]
     ListAnyPointerNotSupported,
-    #[error("init is for structs and untyped pointers")]
+    /// A field that is neither a struct nor an untyped pointer is initialized without a length.
+    #[error("init is only valid for struct and untyped pointer fields")]
     InitIsOnlyValidForStructAndAnyPointerFields,
-    #[error("initn is for lists, texts and data")]
+    /// A field that is no list, text or data is initialized with a length.
+    #[error("initn is only valid for list, text or data fields")]
     InitnIsOnlyValidForListTextOrDataFields,
-    #[error("an untyped field takes no number")]
+    /// An untyped field is set to a value that no pointer stands for.
+    #[error("an untyped pointer field cannot be set to a primitive value")]
     CannotSetAnyPointerFieldToAPrimitiveValue,
-    #[error("an inactive member")]
+    /// A path goes through a union's member that is not the active one.
+    #[error("the union's active member is another one")]
     InactiveMember,
+    /// A path goes through an untyped pointer.
     #[error("a step through an untyped pointer")]
     UntypedStep,
+    /// A path names an element past the end of its list.
     #[error("no such element")]
     NoSuchElement,
-    #[error("not a container")]
+    /// A step or call of a path does not fit what stands there.
+    #[error("the step does not fit what stands there")]
     NotAContainer,
-    #[error("rule {rule} is broken in {table} {entry}, field {field}")]
+    /// A rule of schemas is broken at this place. Where several are, any of them may be named.
+    #[error("schema rule {rule} is broken in {table} {entry}, field {field}")]
     Schema {
+        /// The rule's number.
         rule: u32,
+        /// The list of records.
         table: SchemaTable,
+        /// The record, counted from 0 in its list.
         entry: usize,
+        /// The field, counted from 0 in its record; 65,535 where the whole record is meant.
         field: u16,
     },
 }
 
 impl ErrorKind {
-    /// The number that stands for this kind.
-    pub fn number(&self) -> u32 {
+    /// The number that stands for this kind: 1 to 13 for messages, 20 to 27 for values and fields,
+    /// 30 to 33 for paths, and 40 + k where rule k of schemas is broken, at most `u32::MAX`.
+    pub fn number(&self) -> u32
+        ensures { result ≡ error_number self.now }
+    {
         match self {
             ErrorKind::OutOfMemory => 1,
             ErrorKind::Truncated => 2,
@@ -119,12 +160,14 @@ impl ErrorKind {
 }
 
 /// A refusal.
-#[derive(Debug, Drop, PartialEq, Eq, thiserror::Error)]
+#[derive(Clone, Copy, Debug, PartialEq, Eq, thiserror::Error)]
 #[error("{kind}")]
 pub struct Error {
+    /// Why the call was refused.
     pub kind: ErrorKind,
 }
 
+/// What a call that may be refused answers.
 pub type Result<T> = std::result::Result<T, Error>;
 
 impl From<ErrorKind> for Error {
@@ -138,7 +181,7 @@ impl From<ErrorKind> for Error {
 impl From<AllocError> for Error {
     ghost from_gives = { λ _ e. e.kind ≡ OutOfMemory };
 
-    fn from(_e: AllocError) -> Error {
+    fn from(_error: AllocError) -> Error {
         Error {
             kind: ErrorKind::OutOfMemory,
         }
@@ -148,9 +191,74 @@ impl From<AllocError> for Error {
 impl<T: Drop> From<AllocFailed<T>> for Error {
     ghost from_gives = { λ _ e. e.kind ≡ OutOfMemory };
 
-    fn from(_e: AllocFailed<T>) -> Error {
+    fn from(_error: AllocFailed<T>) -> Error {
         Error {
             kind: ErrorKind::OutOfMemory,
         }
+    }
+}
+
+#[cfg(test)]
+mod tests {
+    use super::*;
+    use std::test::Fail;
+
+    #[test]
+    fn each_kind_has_its_number(rt: HostRuntime) {
+        let table = [
+            (ErrorKind::OutOfMemory, 1),
+            (ErrorKind::Truncated, 2),
+            (ErrorKind::TooManySegments, 3),
+            (ErrorKind::BadPointer, 4),
+            (ErrorKind::WrongPointerKind, 5),
+            (ErrorKind::WrongElementSize, 6),
+            (ErrorKind::TextNotTerminated, 7),
+            (ErrorKind::TooDeep, 8),
+            (ErrorKind::CapabilityPointer, 9),
+            (ErrorKind::SizePastFormat, 10),
+            (ErrorKind::TooLarge, 11),
+            (ErrorKind::ReadFailed, 12),
+            (ErrorKind::WriteFailed, 13),
+            (ErrorKind::FieldNotFound, 20),
+            (ErrorKind::TypeMismatch, 21),
+            (ErrorKind::NotAStruct, 22),
+            (ErrorKind::ExpectedAListOrBlob, 23),
+            (ErrorKind::ListAnyPointerNotSupported, 24),
+            (ErrorKind::InitIsOnlyValidForStructAndAnyPointerFields, 25),
+            (ErrorKind::InitnIsOnlyValidForListTextOrDataFields, 26),
+            (ErrorKind::CannotSetAnyPointerFieldToAPrimitiveValue, 27),
+            (ErrorKind::InactiveMember, 30),
+            (ErrorKind::UntypedStep, 31),
+            (ErrorKind::NoSuchElement, 32),
+            (ErrorKind::NotAContainer, 33),
+            (broken_rule(1), 41),
+            (broken_rule(12), 52),
+            (broken_rule(u32::MAX - 40), u32::MAX),
+            (broken_rule(u32::MAX), u32::MAX),
+        ];
+        for (kind, number) in &table {
+            assert_eq!(rt; kind.number(), *number, "{kind:?}");
+        }
+    }
+
+    fn broken_rule(rule: u32) -> ErrorKind {
+        ErrorKind::Schema {
+            rule,
+            table: SchemaTable::Brand,
+            entry: 7,
+            field: 3,
+        }
+    }
+
+    #[test]
+    fn shows_what_is_broken(rt: HostRuntime) -> std::result::Result<(), Fail> {
+        let shown = format!(in rt.alloc(); "{}", Error::from(broken_rule(12)))?;
+        assert_eq!(rt;
+            shown.as_str(),
+            "schema rule 12 is broken in brand 7, field 3"
+        );
+        let tables = format!(in rt.alloc(); "{} {}", SchemaTable::Node, SchemaTable::Enum)?;
+        assert_eq!(rt; tables.as_str(), "node enum");
+        Ok(())
     }
 }

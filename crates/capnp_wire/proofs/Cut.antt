@@ -1,7 +1,6 @@
 -- The segments that a table cuts out.
-use Rattle.std.proofs.Common.{◌≡◌, ℕ, zero, suc, ◌+◌, ◌-◌, ◌*◌, ◌/◌, ◌<◌, ◌≤◌, List, [], ◌∷◌, length, take, drop, refl, sym, ap, ◌∙◌, arith, subst, Some, None, slice_get}
+use Rattle.std.proofs.Common.{◌≡◌, ℕ, zero, suc, ◌+◌, ◌-◌, ◌*◌, ◌/◌, ◌<◌, ◌≤◌, List, length, take, drop, refl, ap, ◌∙◌, arith, Some, None, slice_get}
 use Rattle.std.proofs.lemmas.List.{length-drop}
-use Rattle.std.proofs.Math.Nat.{pow-suc}
 use Rattle.capnp_wire.specs.Slot.{little_endian}
 use Rattle.capnp_wire.specs.Stream.{cut}
 use Rattle.capnp_wire.specs.Stream.{total_words}
@@ -18,14 +17,14 @@ cut_past (suc k) t b (suc i) h = cut_past k (drop 4 t) (drop (8 * little_endian 
 cut_step : (n : ℕ) (t b : List ℕ) (i : ℕ) → suc i < n → slice_get (cut n t b) (suc i) ≡ slice_get (cut (n - 1) (drop 4 t) (drop (8 * little_endian (take 4 t)) b)) i
 cut_step zero t b i h = absurd (omega arith)
 cut_step (suc n) t b i h =
-  let e : n ≡ suc n - 1 = omega arith in
-  ap (λ m. slice_get (cut m (drop 4 t) (drop (8 * little_endian (take 4 t)) b)) i) e
+    let e : n ≡ suc n - 1 = omega arith in
+    ap (λ m. slice_get (cut m (drop 4 t) (drop (8 * little_endian (take 4 t)) b)) i) e
 
 pub cut_next : (t b : List ℕ) (i : ℕ) → i + 1 < length t / 4 → slice_get (cut (length t / 4) t b) (i + 1) ≡ slice_get (cut (length (drop 4 t) / 4) (drop 4 t) (drop (8 * little_endian (take 4 t)) b)) i
 cut_next t b i h =
-  let e : length t / 4 - 1 ≡ length (drop 4 t) / 4 = omega (arith, length-drop 4 t) in
-  let s : i + 1 ≡ suc i = omega arith in
-  ap (slice_get (cut (length t / 4) t b)) s ∙ cut_step (length t / 4) t b i (omega arith) ∙ ap (λ m. slice_get (cut m (drop 4 t) (drop (8 * little_endian (take 4 t)) b)) i) e
+    let e : length t / 4 - 1 ≡ length (drop 4 t) / 4 = omega (arith, length-drop 4 t) in
+    let s : i + 1 ≡ suc i = omega arith in
+    ap (slice_get (cut (length t / 4) t b)) s ∙ cut_step (length t / 4) t b i (omega arith) ∙ ap (λ m. slice_get (cut m (drop 4 t) (drop (8 * little_endian (take 4 t)) b)) i) e
 
 cut_head : (n : ℕ) (t b : List ℕ) → 0 < n → slice_get (cut n t b) 0 ≡ Some (take (8 * little_endian (take 4 t)) b)
 cut_head zero t b h = absurd (omega arith)

@@ -1,9 +1,9 @@
 -- One level of the tree at a place, with its number of levels tested as code does.
-use Rattle.std.proofs.Common.{◌≡◌, ℕ, zero, suc, ◌-◌, ◌<◌, List, refl, ap, ◌∙◌, arith, cond, ◌==◌, nat_lt, true, false, rules}
+use Rattle.std.proofs.Common.{◌≡◌, ℕ, zero, suc, ◌-◌, ◌<◌, List, refl, ap, ◌∙◌, arith, cond, ◌==◌, nat_lt, false, rules}
 use Rattle.std.proofs.lemmas.Bool.Decides.{nat_tests}
 use Rattle.capnp_wire.specs.Tree.{Tree, Numbers, Pointers, trees_from}
 use Rattle.capnp_wire.specs.Locate.{Segments, Target, NoTarget, BadTarget, StructAt, ListAt, CompositeAt, target_at}
-use Rattle.capnp_wire.specs.Place.{tree_at, tree_below, tree_below_levels, tree_without_level, tree_with_level, bytes_at, list_tree}
+use Rattle.capnp_wire.specs.Place.{tree_below, tree_below_levels, tree_without_level, tree_with_level, bytes_at, list_tree}
 use Rattle.capnp_wire.specs.Step.{list_step, step}
 
 past_zero : (l : ℕ) → (suc l == 0) ≡ false
@@ -53,8 +53,8 @@ unfolding tree_below
 below_step zero segments segment w = steps_zero (tree_below (0 - 1) segments) (tree_below (0 - 2) segments) (target_at segments segment w)
 below_step (suc zero) segments segment w = steps_one (tree_below (1 - 1) segments) (tree_below (1 - 2) segments) (target_at segments segment w)
 below_step (suc (suc l)) segments segment w =
-  let a : suc l ≡ suc (suc l) - 1 = omega arith in
-  let b : l ≡ suc (suc l) - 2 = omega arith in
-  steps_more l (tree_below (suc l) segments) (tree_below l segments) (target_at segments segment w)
+    let a : suc l ≡ suc (suc l) - 1 = omega arith in
+    let b : l ≡ suc (suc l) - 2 = omega arith in
+    steps_more l (tree_below (suc l) segments) (tree_below l segments) (target_at segments segment w)
     ∙ ap (λ i. step (suc (suc l)) (tree_below i segments) (tree_below l segments) (target_at segments segment w)) a
     ∙ ap (λ i. step (suc (suc l)) (tree_below (suc (suc l) - 1) segments) (tree_below i segments) (target_at segments segment w)) b

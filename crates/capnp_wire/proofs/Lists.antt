@@ -1,6 +1,6 @@
 -- Trees and structs in a row, by their index.
-use Rattle.std.proofs.Common.{◌≡◌, ℕ, zero, suc, ◌+◌, ◌-◌, ◌<◌, ◌≤◌, List, [], ◌∷◌, length, take, drop, refl, sym, ap, ◌∙◌, arith, map, get_or, false}
-use Rattle.capnp_wire.specs.Tree.{Tree, Trees, Null, StructTree, empty_struct, nth_tree, only_tree, nth_struct, trees_from, structs_from, tree_count, struct_count, MoreTrees, NoTrees, MoreStructs, NoStructs}
+use Rattle.std.proofs.Common.{◌≡◌, ℕ, zero, suc, ◌+◌, ◌<◌, ◌≤◌, List, [], ◌∷◌, length, take, drop, refl, ap, ◌∙◌, arith, map, get_or, false}
+use Rattle.capnp_wire.specs.Tree.{Tree, Null, StructTree, empty_struct, nth_tree, only_tree, nth_struct, trees_from, structs_from, tree_count, struct_count, MoreTrees, NoTrees}
 use Rattle.capnp_wire.specs.Slot.{bit_at}
 use Rattle.capnp_wire.specs.Place.{bits_from}
 use Rattle.capnp_wire.specs.Objects.{trees_of, structs_of}
@@ -19,8 +19,8 @@ pub only_tree-from : (f : ℕ → Tree) (a n i : ℕ) → i < n → only_tree (t
 only_tree-from f a zero i h = absurd (omega arith)
 only_tree-from f a (suc n) zero h = ap (λ j. MoreTrees (f j) NoTrees) (omega arith)
 only_tree-from f a (suc n) (suc i) h =
-  let e : suc a + i ≡ a + suc i = omega arith in
-  only_tree-from f (suc a) n i (omega arith) ∙ ap (λ j. trees_from f j 1) e
+    let e : suc a + i ≡ a + suc i = omega arith in
+    only_tree-from f (suc a) n i (omega arith) ∙ ap (λ j. trees_from f j 1) e
 
 pub only_tree-past : (f : ℕ → Tree) (a n i : ℕ) → n ≤ i → only_tree (trees_from f a n) i ≡ NoTrees
 only_tree-past f a zero i h = refl

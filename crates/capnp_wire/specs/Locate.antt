@@ -1,5 +1,5 @@
 -- Where a pointer word leads: its target, with far pointers followed and bounds tested, and no level counted.
-use Rattle.std.specs.Prelude.{ℕ, ◌+◌, ◌-◌, ◌*◌, ◌/◌, ◌%◌, ◌^◌, ◌≤◌, ⊤, List, length, slice_get, Bool, cond, ◌==◌, nat_lt, nat_le, Option, Some, None}
+use Rattle.std.specs.Prelude.{ℕ, ◌+◌, ◌-◌, ◌*◌, ◌/◌, ◌%◌, ◌^◌, List, length, slice_get, Bool, cond, ◌==◌, nat_lt, nat_le, Option, Some, None}
 use Rattle.capnp_wire.specs.Slot.{word_at}
 use Rattle.capnp_wire.specs.declared.fault.Fault.{Fault}
 use Rattle.capnp_wire.specs.declared.fault.Fault.TheVariants.{BadPointer, CapabilityPointer}
@@ -59,7 +59,7 @@ lies segment end = nat_le end (length segment / 8)
 -- where the target of a pointer at word w starts; none before the segment
 abbrev pub start_of : ℕ → ℕ → Option ℕ
 start_of w word =
-  cond (nat_lt (offset word) (2 ^ 29)) (Some (w + 1 + offset word))
+    cond (nat_lt (offset word) (2 ^ 29)) (Some (w + 1 + offset word))
     (cond (nat_lt (w + 1 + offset word) (2 ^ 30)) None (Some (w + 1 + offset word - 2 ^ 30)))
 
 -- the bits of an element of a size from 0 to 6, and the words of a list of these
@@ -71,33 +71,33 @@ list_words size n = (n * element_bits size + 63) / 64
 
 abbrev pub struct_target : List ℕ → ℕ → ℕ → Target
 struct_target segment start word =
-  cond (lies segment (start + data_words word + pointer_count word))
+    cond (lies segment (start + data_words word + pointer_count word))
     (StructAt segment start (data_words word) (pointer_count word))
     (BadTarget BadPointer)
 
 -- a composite list of so many words, with its tag at the start
 abbrev pub tagged_target : List ℕ → ℕ → ℕ → ℕ → Target
 tagged_target segment start words tag =
-  cond (kind tag == 0)
+    cond (kind tag == 0)
     (cond (nat_lt (offset tag) (2 ^ 29))
-      (cond (nat_le (offset tag * (data_words tag + pointer_count tag)) words)
-        (CompositeAt segment (start + 1) (offset tag) (data_words tag) (pointer_count tag))
-        (BadTarget BadPointer))
-      (BadTarget BadPointer))
+    (cond (nat_le (offset tag * (data_words tag + pointer_count tag)) words)
+    (CompositeAt segment (start + 1) (offset tag) (data_words tag) (pointer_count tag))
+    (BadTarget BadPointer))
+    (BadTarget BadPointer))
     (BadTarget BadPointer)
 
 abbrev pub list_target : List ℕ → ℕ → ℕ → Target
 list_target segment start word =
-  cond (element_size word == 7)
+    cond (element_size word == 7)
     (cond (lies segment (start + 1 + count word)) (tagged_target segment start (count word) (word_at segment start)) (BadTarget BadPointer))
     (cond (lies segment (start + list_words (element_size word) (count word))) (ListAt segment start (element_size word) (count word)) (BadTarget BadPointer))
 
 -- of a word that may be no far pointer, whose target starts there
 abbrev pub near_target : List ℕ → ℕ → ℕ → Target
 near_target segment start word =
-  cond (kind word == 0) (struct_target segment start word)
+    cond (kind word == 0) (struct_target segment start word)
     (cond (kind word == 1) (list_target segment start word)
-      (cond (kind word == 2) (BadTarget BadPointer) (BadTarget CapabilityPointer)))
+    (cond (kind word == 2) (BadTarget BadPointer) (BadTarget CapabilityPointer)))
 
 -- the same where the start may lie before the segment
 abbrev pub near_target_from : List ℕ → Option ℕ → ℕ → Target
@@ -111,28 +111,28 @@ tag_target (Some segment) first tag = near_target segment (pad_word first) tag
 
 abbrev pub double_target : Segments → ℕ → ℕ → Target
 double_target segments first tag =
-  cond (kind first == 2)
+    cond (kind first == 2)
     (cond (is_double first) (BadTarget BadPointer)
-      (cond (kind tag == 3) (BadTarget CapabilityPointer) (tag_target (slice_get segments (pad_segment first)) first tag)))
+    (cond (kind tag == 3) (BadTarget CapabilityPointer) (tag_target (slice_get segments (pad_segment first)) first tag)))
     (BadTarget BadPointer)
 
 -- of a far pointer, whose landing pad lies in the segment with these bytes
 abbrev pub pad_target : Segments → Option (List ℕ) → ℕ → Target
 pad_target segments None word = BadTarget BadPointer
 pad_target segments (Some segment) word =
-  cond (is_double word)
+    cond (is_double word)
     (cond (lies segment (pad_word word + 2)) (double_target segments (word_at segment (pad_word word)) (word_at segment (pad_word word + 1))) (BadTarget BadPointer))
     (cond (lies segment (pad_word word + 1)) (near_target_from segment (start_of (pad_word word) (word_at segment (pad_word word))) (word_at segment (pad_word word))) (BadTarget BadPointer))
 
 -- of a pointer word that stands at word w of the segment with these bytes
 abbrev pub word_target : Segments → List ℕ → ℕ → ℕ → Target
 word_target segments segment w word =
-  cond (word == 0) NoTarget
+    cond (word == 0) NoTarget
     (cond (kind word == 2)
-      (pad_target segments (slice_get segments (pad_segment word)) word)
-      (near_target_from segment (start_of w word) word))
+    (pad_target segments (slice_get segments (pad_segment word)) word)
+    (near_target_from segment (start_of w word) word))
 
 -- of the place: word w of the segment with these bytes
 abbrev pub target_at : Segments → List ℕ → ℕ → Target
 target_at segments segment w =
-  cond (lies segment (w + 1)) (word_target segments segment w (word_at segment w)) (BadTarget BadPointer)
+    cond (lies segment (w + 1)) (word_target segments segment w (word_at segment w)) (BadTarget BadPointer)

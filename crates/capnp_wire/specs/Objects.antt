@@ -1,6 +1,6 @@
 -- The tree of an owned object.
 use Rattle.std.specs.Prelude.{List, [], ◌∷◌, map}
-use Rattle.capnp_wire.specs.Tree.{Tree, Null, Struct, Voids, Bits, Numbers, Pointers, Composite, Trees, NoTrees, MoreTrees, Structs, NoStructs, MoreStructs, StructTree}
+use Rattle.capnp_wire.specs.Tree.{Tree, Null, Voids, Bits, Numbers, Pointers, Composite, Trees, NoTrees, MoreTrees, Structs, NoStructs, MoreStructs, StructTree}
 use Rattle.capnp_wire.specs.Place.{bits_from, struct_tree}
 use Rattle.capnp_wire.specs.declared.object.Object.{Object}
 use Rattle.capnp_wire.specs.declared.object.ListObject.{ListObject}

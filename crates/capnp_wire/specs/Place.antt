@@ -1,5 +1,5 @@
 -- The tree at a place: a place is a word of a segment, and far pointers lead to the message's other segments.
-use Rattle.std.specs.Prelude.{ℕ, zero, suc, ◌+◌, ◌-◌, ◌*◌, List, take, drop, slice_index_or, [], ◌∷◌, Bool, cond, ◌==◌, nat_lt}
+use Rattle.std.specs.Prelude.{ℕ, zero, suc, ◌+◌, ◌*◌, List, take, drop, slice_index_or, [], ◌∷◌, Bool, cond, ◌==◌}
 use Rattle.capnp_wire.specs.Slot.{bit_at}
 use Rattle.capnp_wire.specs.Tree.{Tree, Null, Struct, Voids, Bits, Numbers, Pointers, Composite, FaultLeaf, StructTree, trees_from, structs_from}
 use Rattle.capnp_wire.specs.Locate.{Segments, Target, NoTarget, BadTarget, StructAt, ListAt, CompositeAt, target_at, list_words}
@@ -23,7 +23,7 @@ struct_tree s = Struct s.bytes s.pointers
 
 abbrev pub composite_tree : (ℕ → Tree) → List ℕ → ℕ → ℕ → ℕ → ℕ → Tree
 composite_tree f segment start count data_words pointer_count =
-  Composite data_words pointer_count (structs_from (λ i. struct_at f segment data_words pointer_count (start + i * (data_words + pointer_count))) 0 count)
+    Composite data_words pointer_count (structs_from (λ i. struct_at f segment data_words pointer_count (start + i * (data_words + pointer_count))) 0 count)
 
 -- a list by the number of its element size, where f says what stands at each pointer
 abbrev pub list_tree : (ℕ → Tree) → List ℕ → ℕ → ℕ → ℕ → Tree

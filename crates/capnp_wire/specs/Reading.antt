@@ -1,6 +1,6 @@
 -- How a tree reads as a struct, a list, a text or data, with the levels that are left.
-use Rattle.std.specs.Prelude.{ℕ, zero, suc, ◌+◌, ◌-◌, ◌*◌, ◌/◌, List, [], ◌∷◌, take, drop, length, get_or, Bool, true, false, cond, ◌==◌, nat_lt, Result, Ok, Err}
-use Rattle.capnp_wire.specs.Tree.{Tree, Null, Struct, Voids, Bits, Numbers, Pointers, Composite, FaultLeaf, Trees, NoTrees, MoreTrees, NoStructs, StructTree, empty_struct, nth_tree, only_tree, nth_struct, tree_count, struct_count}
+use Rattle.std.specs.Prelude.{ℕ, ◌-◌, ◌*◌, ◌/◌, List, [], take, drop, length, get_or, Bool, true, false, cond, ◌==◌, nat_lt, Result, Ok, Err}
+use Rattle.capnp_wire.specs.Tree.{Tree, Null, Struct, Voids, Bits, Numbers, Pointers, Composite, FaultLeaf, NoTrees, NoStructs, StructTree, empty_struct, nth_tree, only_tree, nth_struct, tree_count, struct_count}
 use Rattle.capnp_wire.specs.Slot.{number_at}
 use Rattle.capnp_wire.specs.declared.size.ElementSize.{ElementSize}
 use Rattle.capnp_wire.specs.declared.size.ElementSize.TheVariants.{Void, Bit, Byte, TwoBytes, FourBytes, EightBytes, Pointer, InlineComposite}

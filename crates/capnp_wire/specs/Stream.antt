@@ -23,13 +23,13 @@ header_bytes count = (count / 2 + 1) * 8
 
 abbrev pub segments_after_table : ℕ → List ℕ → List ℕ → Result Segments ErrorKind
 segments_after_table count table bytes =
-  cond (nat_lt (length bytes) (header_bytes count + 8 * total_words (length table / 4) table))
+    cond (nat_lt (length bytes) (header_bytes count + 8 * total_words (length table / 4) table))
     (Err Truncated)
     (Ok (cut (length table / 4) table (drop (header_bytes count) bytes)))
 
 abbrev pub segments_after_count : ℕ → List ℕ → Result Segments ErrorKind
 segments_after_count count bytes =
-  cond (nat_lt 512 count) (Err TooManySegments)
+    cond (nat_lt 512 count) (Err TooManySegments)
     (cond (nat_lt (length bytes) (header_bytes count)) (Err Truncated) (segments_after_table count (take (4 * count) (drop 4 bytes)) bytes))
 
 -- the segments of the first message of a stream

@@ -1,5 +1,5 @@
 -- What stands at a pointer.
-use Rattle.std.specs.Prelude.{ℕ, zero, suc, List, [], ◌∷◌, Bool}
+use Rattle.std.specs.Prelude.{ℕ, zero, suc, List, [], Bool}
 use Rattle.capnp_wire.specs.declared.fault.Fault.{Fault}
 
 -- Null; a struct with its data section and its pointers; a list by the size of its elements: of nothing, of bits, of

@@ -1,9 +1,34 @@
 //! Laws of the format that every reader stands on.
 ghost use Rattle.capnp_wire.specs.Laws.{TreesAreWellFormed};
+ghost use Rattle.capnp_wire.specs.Standing.{list_of, struct_of, tree_of};
+ghost use Rattle.capnp_wire.specs.WellFormed.{IsWellFormed, IsWellFormedStruct};
+
+use crate::list_reader::ListReader;
+use crate::pointer_reader::PointerReader;
+use crate::struct_reader::StructReader;
 
 /// In a message of any bytes, what stands at any word is well-formed, with any number of levels
 /// left: data is whole words and lies in its segment in full, counts and sizes are within their
 /// fields, and each struct of a composite list has that list's one size.
 pub fn trees_are_well_formed()
     ensures { TreesAreWellFormed }
+{}
+
+/// What a pointer's reader stands on is well-formed.
+#[tactic(auto, unfolding(crate::specs::Standing::tree_of))]
+pub fn pointer_is_well_formed(reader: &PointerReader<'_>)
+    ensures { IsWellFormed (tree_of reader.now) }
+{}
+
+/// What a struct's reader stands on is well-formed; its data may end within a word, where the struct is an element of a
+/// list of numbers.
+#[tactic(auto, unfolding(crate::specs::Standing::struct_of))]
+pub fn struct_is_well_formed(reader: &StructReader<'_>)
+    ensures { IsWellFormedStruct (struct_of reader.now) }
+{}
+
+/// What a list's reader stands on is well-formed.
+#[tactic(auto, unfolding(crate::specs::Standing::list_of))]
+pub fn list_is_well_formed(reader: &ListReader<'_>)
+    ensures { IsWellFormed (list_of reader.now) }
 {}

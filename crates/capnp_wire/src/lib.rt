@@ -1,18 +1,25 @@
-//! Cap'n Proto messages as they lie: streams, pointers, structs, lists, text and data.
+//! Cap'n Proto messages: streams, pointers, structs, lists, text and data.
+//!
+//! A reader stands on a tree: what the encoding says of the bytes at its place, or what a message in memory holds. Each
+//! call's contract says what it answers in terms of that tree and of the levels that the reader has left.
 #![tactic(auto)]
 
-pub mod bytes;
+mod bytes;
 pub mod fault;
-pub mod locate;
-pub mod look;
+pub mod laws;
+mod list_reader;
+mod locate;
+mod look;
 pub mod message;
 pub mod object;
-pub mod size;
-
-pub mod laws;
-pub mod list_reader;
-pub mod pointer_reader;
+mod pointer_reader;
 pub mod primitive;
-pub mod run;
-pub mod struct_reader;
-pub mod segments;
+mod run;
+mod segments;
+pub mod size;
+mod struct_reader;
+
+pub use capnp_device::{call_plan, device, error, memory, transfer};
+pub use list_reader::ListReader;
+pub use pointer_reader::PointerReader;
+pub use struct_reader::StructReader;

@@ -2,11 +2,14 @@
 ghost use Rattle.std.specs.Prelude.{◌≡◌};
 ghost use Rattle.capnp_wire.specs.Found.{found_tree};
 ghost use Rattle.capnp_wire.specs.Reading.{reads_numbers, reads_structs};
-ghost use Rattle.capnp_wire.specs.WellFormed.{IsWellFormed};
+ghost use Rattle.capnp_wire.specs.WellFormed.{IsWellFormed, IsWellFormed-prop};
 
 use crate::bytes::{get_bit, part};
 use crate::fault::Fault;
-use crate::look::{Elements, Found, Place, Pointers, StructParts, get_element, get_only_pointer, get_pointer, look};
+use crate::look::{
+    Elements, Found, Place, Pointers, StructParts, count_list, get_element, get_only_pointer,
+    get_pointer, look,
+};
 use crate::pointer_reader::PointerReader;
 use crate::primitive::PrimitiveElement;
 use crate::size::{ElementSize, StructSize};
@@ -19,6 +22,7 @@ use capnp_device::error::{Error, ErrorKind, Result};
 pub struct ListReader<'a> {
     found: Found<'a>,
     levels: u32,
+    ghost well_formed: { IsWellFormed (found_tree found) } by { IsWellFormed-prop (found_tree found) },
 }
 
 /// Whether structs of a size are read as elements of the size that is asked.
@@ -54,13 +58,14 @@ fn reads_numbers_as(asked: ElementSize, width: u8) -> bool
 }
 
 impl<'a> ListReader<'a> {
-    ghost use Rattle.std.specs.Prelude.{Ok, false, ◌≡◌, ◌+◌, IfOk};
+    ghost use Rattle.std.specs.Prelude.{Ok, false, ◌≡◌, ◌==◌, ◌+◌, ◌<◌, ◌^◌, IfOk};
     ghost use Rattle.capnp_wire.specs.Reading.{as_list, empty_list, is_fault_leaf, element_bit, element_levels, element_number, element_pointer, element_struct, list_length, with_level};
     ghost use Rattle.capnp_wire.specs.Standing.{levels_of, list_levels, list_of, list_read, struct_levels, struct_read, tree_of};
 
     /// A reader of a list.
     #[tactic(auto, unfolding(crate::specs::Standing::list_of, crate::specs::Standing::list_levels))]
     fn new(found: Found<'a>, levels: u32) -> ListReader<'a>
+        requires { IsWellFormed (found_tree found) }
         ensures list { list_of result ≡ found_tree found.entry }
         ensures levels { list_levels result ≡ levels }
     {
@@ -82,7 +87,10 @@ impl<'a> ListReader<'a> {
             ElementSize::EightBytes => Found::Numbers(8, &[]),
             ElementSize::Pointer => Found::Pointers(none),
             ElementSize::InlineComposite => {
-                let size = StructSize { data_words: 0, pointers: 0 };
+                let size = StructSize {
+                    data_words: 0,
+                    pointers: 0,
+                };
                 Found::Composite(size, Elements::Objects(&[]))
             }
         };
@@ -90,8 +98,13 @@ impl<'a> ListReader<'a> {
     }
 
     /// What stands at a place, where it is no fault leaf, as a list of elements of a size.
-    pub(crate) fn read_as(found: Found<'a>, size: ElementSize, levels: u32) -> Result<ListReader<'a>>
-        requires { is_fault_leaf (found_tree found) ≡ false }
+    pub(crate) fn read_as(
+        found: Found<'a>,
+        size: ElementSize,
+        levels: u32,
+    ) -> Result<ListReader<'a>>
+        requires followed { is_fault_leaf (found_tree found) ≡ false }
+        requires well_formed { IsWellFormed (found_tree found) }
         ensures read { list_read result ≡ as_list size (found_tree found.entry) (levels + 1) }
         ensures levels { IfOk result (λ l. list_levels l ≡ levels) }
     {
@@ -102,7 +115,10 @@ impl<'a> ListReader<'a> {
             Found::Voids(_) => matches!(size, ElementSize::Void | ElementSize::InlineComposite),
             Found::Bits(_, _) => matches!(size, ElementSize::Void | ElementSize::Bit),
             Found::Numbers(width, _) => reads_numbers_as(size, width),
-            Found::Pointers(_) => matches!(size, ElementSize::Void | ElementSize::Pointer | ElementSize::InlineComposite),
+            Found::Pointers(_) => matches!(
+                size,
+                ElementSize::Void | ElementSize::Pointer | ElementSize::InlineComposite
+            ),
             Found::Composite(own, _) => reads_structs_as(size, own),
         };
         if reads {
@@ -110,6 +126,22 @@ impl<'a> ListReader<'a> {
         } else {
             Err(Error::from(ErrorKind::WrongElementSize))
         }
+    }
+
+    /// How many elements there are, below 2^29.
+    #[tactic(auto, unfolding(crate::specs::Standing::list_of))]
+    pub fn len(&self) -> u32
+        ensures length { result ≡ list_length (list_of self.now) }
+        ensures bound { result < 2 ^ 29 }
+    {
+        count_list(self.found) as u32
+    }
+
+    /// Whether there is no element.
+    pub fn is_empty(&self) -> bool
+        ensures { result ≡ (list_length (list_of self.now) == 0) }
+    {
+        self.len() == 0
     }
 
     /// The bit at `index`; false where the elements are no bits.
@@ -130,7 +162,10 @@ impl<'a> ListReader<'a> {
     {
         match self.found {
             Found::Numbers(_, bytes) => T::read(bytes, index),
-            Found::Composite(size, elements) => T::read(get_element(size, elements, index as usize).data, 0),
+            Found::Composite(size, elements) => T::read(
+                get_element(size, elements, index as usize).data,
+                0,
+            ),
             _ => T::read(&[], 0),
         }
     }
@@ -157,9 +192,18 @@ impl<'a> ListReader<'a> {
             }
             Found::Pointers(pointers) => {
                 let pointers = get_only_pointer(pointers, index as usize);
-                Ok(StructReader::new(StructParts { data: &[], pointers }, levels))
+                Ok(StructReader::new(
+                    StructParts {
+                        data: &[],
+                        pointers,
+                    },
+                    levels,
+                ))
             }
-            Found::Composite(size, elements) => Ok(StructReader::new(get_element(size, elements, index as usize), levels)),
+            Found::Composite(size, elements) => Ok(StructReader::new(
+                get_element(size, elements, index as usize),
+                levels,
+            )),
             _ => Ok(StructReader::empty(levels)),
         }
     }
@@ -173,7 +217,10 @@ impl<'a> ListReader<'a> {
         ensures levels { levels_of result ≡ element_levels (list_of self.now) (list_levels self.now) }
     {
         match self.found {
-            Found::Pointers(pointers) => PointerReader::new(get_pointer(pointers, index as usize), self.levels),
+            Found::Pointers(pointers) => PointerReader::new(
+                get_pointer(pointers, index as usize),
+                self.levels,
+            ),
             Found::Composite(size, elements) => {
                 let place = get_pointer(get_element(size, elements, index as usize).pointers, 0);
                 if self.levels > 0 {

@@ -13,11 +13,27 @@ use crate::segments::{Segments, get_segment};
 pub enum Target<'a> {
     Null,
     Bad(Fault),
-    Struct { segment: &'a [u8], start: usize, data_words: u16, pointers: u16 },
+    Struct {
+        segment: &'a [u8],
+        start: usize,
+        data_words: u16,
+        pointers: u16,
+    },
     /// A list that is not composite, by the encoding's number of its element size.
-    List { segment: &'a [u8], start: usize, element_size: u8, count: u32 },
+    List {
+        segment: &'a [u8],
+        start: usize,
+        element_size: u8,
+        count: u32,
+    },
     /// A composite list, from the word behind its tag on.
-    Composite { segment: &'a [u8], start: usize, count: u32, data_words: u16, pointers: u16 },
+    Composite {
+        segment: &'a [u8],
+        start: usize,
+        count: u32,
+        data_words: u16,
+        pointers: u16,
+    },
 }
 
 // The parts of a pointer word.

@@ -1,10 +1,12 @@
 //! One level of what stands at a place, wherever it lies: in the bytes of a message or in a builder's objects.
 ghost use Rattle.std.specs.Prelude.{◌≡◌, ◌-◌, ◌<◌, ◌≤◌, ◌^◌};
-ghost use Rattle.capnp_wire.specs.Tree.{empty_struct, nth_struct, nth_tree, only_tree};
+ghost use Rattle.capnp_wire.specs.Tree.{empty_struct, nth_struct, nth_tree, only_tree, struct_count, tree_count};
 ghost use Rattle.capnp_wire.specs.Place.{bytes_at, root_tree, struct_at, tree_below};
 ghost use Rattle.capnp_wire.specs.Step.{list_step, step};
 ghost use Rattle.capnp_wire.specs.Backing.{StartFits, segment_list, target_of};
 ghost use Rattle.capnp_wire.specs.Objects.{list_object_tree, object_tree, struct_object_tree};
+ghost use Rattle.capnp_wire.specs.Reading.{list_length};
+ghost use Rattle.capnp_wire.specs.WellFormed.{IsWellFormed};
 ghost use Rattle.capnp_wire.specs.Found.{ArePointersBelow, IsBelow, element_structs, found_tree, parts_tree, place_tree, pointer_trees};
 
 use crate::bytes::part;
@@ -75,7 +77,13 @@ fn bytes_from(segment: &[u8], start: usize, count: usize) -> &[u8]
 }
 
 /// A struct with a level left for it.
-fn look_at_struct<'a>(segments: Segments<'a>, segment: &'a [u8], start: usize, size: StructSize, depth: u32) -> StructParts<'a>
+fn look_at_struct<'a>(
+    segments: Segments<'a>,
+    segment: &'a [u8],
+    start: usize,
+    size: StructSize,
+    depth: u32,
+) -> StructParts<'a>
     requires start { start ≤ 2 ^ 60 }
     requires level { 0 < depth }
     ensures value { parts_tree result ≡ struct_at (tree_below (depth - 1) (segment_list segments.entry) segment.now) segment.now size.data_words size.pointers start }
@@ -95,7 +103,14 @@ fn look_at_struct<'a>(segments: Segments<'a>, segment: &'a [u8], start: usize, s
 }
 
 /// A list that is neither of bytes nor composite, with a level left for it.
-fn look_at_list<'a>(segments: Segments<'a>, segment: &'a [u8], start: usize, element_size: u8, count: u32, depth: u32) -> Found<'a>
+fn look_at_list<'a>(
+    segments: Segments<'a>,
+    segment: &'a [u8],
+    start: usize,
+    element_size: u8,
+    count: u32,
+    depth: u32,
+) -> Found<'a>
     requires start { start ≤ 2 ^ 60 }
     requires level { 0 < depth }
     ensures value { found_tree result ≡ list_step (tree_below (depth - 1) (segment_list segments.entry) segment.now) segment.now start element_size count }
@@ -104,7 +119,10 @@ fn look_at_list<'a>(segments: Segments<'a>, segment: &'a [u8], start: usize, ele
     if element_size == 0 {
         Found::Voids(count)
     } else if element_size == 1 {
-        Found::Bits(bytes_from(segment, start, 8 * ((count as usize + 63) / 64)), count)
+        Found::Bits(
+            bytes_from(segment, start, 8 * ((count as usize + 63) / 64)),
+            count,
+        )
     } else if element_size == 3 {
         Found::Numbers(2, bytes_from(segment, start, 2 * count as usize))
     } else if element_size == 4 {
@@ -138,14 +156,27 @@ fn look_at_target<'a>(segments: Segments<'a>, target: Target<'a>, depth: u32) ->
                 Found::Bad(fault)
             }
         }
-        Target::Struct { segment, start, data_words, pointers } => {
+        Target::Struct {
+            segment,
+            start,
+            data_words,
+            pointers,
+        } => {
             if depth < 2 {
                 return Found::Bad(Fault::TooDeep);
             }
-            let size = StructSize { data_words, pointers };
+            let size = StructSize {
+                data_words,
+                pointers,
+            };
             Found::Struct(look_at_struct(segments, segment, start, size, depth))
         }
-        Target::List { segment, start, element_size, count } => {
+        Target::List {
+            segment,
+            start,
+            element_size,
+            count,
+        } => {
             if depth == 0 {
                 return Found::Bad(Fault::TooDeep);
             }
@@ -157,7 +188,13 @@ fn look_at_target<'a>(segments: Segments<'a>, target: Target<'a>, depth: u32) ->
             }
             look_at_list(segments, segment, start, element_size, count, depth)
         }
-        Target::Composite { segment, start, count, data_words, pointers } => {
+        Target::Composite {
+            segment,
+            start,
+            count,
+            data_words,
+            pointers,
+        } => {
             if depth < 2 {
                 return Found::Bad(Fault::TooDeep);
             }
@@ -168,13 +205,24 @@ fn look_at_target<'a>(segments: Segments<'a>, target: Target<'a>, depth: u32) ->
                 count,
                 depth: depth - 2,
             };
-            Found::Composite(StructSize { data_words, pointers }, Elements::Words(block))
+            Found::Composite(
+                StructSize {
+                    data_words,
+                    pointers,
+                },
+                Elements::Words(block),
+            )
         }
     }
 }
 
 /// What the pointer at a word stands for, where its tree has one level less than `depth`.
-pub fn look_at_word<'a>(segments: Segments<'a>, segment: &'a [u8], index: usize, depth: u32) -> Found<'a>
+pub fn look_at_word<'a>(
+    segments: Segments<'a>,
+    segment: &'a [u8],
+    index: usize,
+    depth: u32,
+) -> Found<'a>
     ensures value { found_tree result ≡ tree_below depth (segment_list segments.entry) segment.now index }
     ensures below { IsBelow depth result }
 {
@@ -198,7 +246,10 @@ fn look_at_list_object(object: &ListObject) -> Found<'_>
         ListObject::Bits(bytes, count) => Found::Bits(bytes.as_slice(), *count),
         ListObject::Numbers(width, bytes) => Found::Numbers(*width, bytes.as_slice()),
         ListObject::Pointers(pointers) => Found::Pointers(Pointers::Objects(pointers.as_slice())),
-        ListObject::Composite(size, elements) => Found::Composite(*size, Elements::Objects(elements.as_slice())),
+        ListObject::Composite(size, elements) => Found::Composite(
+            *size,
+            Elements::Objects(elements.as_slice()),
+        ),
     }
 }
 
@@ -219,7 +270,12 @@ pub fn look(place: Place<'_>) -> Found<'_>
     match place {
         Place::Null => Found::Null,
         Place::Bad(fault) => Found::Bad(fault),
-        Place::Word { segments, segment, index, depth } => look_at_word(segments, segment, index, depth),
+        Place::Word {
+            segments,
+            segment,
+            index,
+            depth,
+        } => look_at_word(segments, segment, index, depth),
         Place::Object(object) => look_at_object(object),
     }
 }
@@ -311,6 +367,39 @@ pub fn get_element<'a>(size: StructSize, elements: Elements<'a>, index: usize) -
             Some(object) => look_at_struct_object(object),
             None => empty_parts(),
         },
+    }
+}
+
+fn count_pointers(pointers: Pointers<'_>) -> usize
+    ensures { result ≡ tree_count (pointer_trees pointers.entry) }
+{
+    match pointers {
+        Pointers::Words(run) => run.count as usize,
+        Pointers::Objects(objects) => objects.len(),
+    }
+}
+
+fn count_elements(size: StructSize, elements: Elements<'_>) -> usize
+    ensures { result ≡ struct_count (element_structs size.data_words size.pointers elements.entry) }
+{
+    match elements {
+        Elements::Words(block) => block.count as usize,
+        Elements::Objects(objects) => objects.len(),
+    }
+}
+
+/// How many elements a list has; what is no list has none.
+pub fn count_list(found: Found<'_>) -> usize
+    requires { IsWellFormed (found_tree found) }
+    ensures { result ≡ list_length (found_tree found.entry) }
+{
+    match found {
+        Found::Voids(count) => count as usize,
+        Found::Bits(_, count) => count as usize,
+        Found::Numbers(width, bytes) => bytes.len() / width as usize,
+        Found::Pointers(pointers) => count_pointers(pointers),
+        Found::Composite(size, elements) => count_elements(size, elements),
+        _ => 0,
     }
 }
 

@@ -1,13 +1,11 @@
 //! Whole messages.
-ghost use Rattle.std.specs.Prelude.{◌≡◌, ◌≤◌, ◌/◌, ◌^◌, length};
-ghost use Rattle.capnp_wire.specs.Stream.{header_bytes, message_tree_of, total_words};
-ghost use Rattle.capnp_wire.specs.Standing.{levels_of, tree_of};
-ghost use Rattle.capnp_wire.specs.Message.{message_read, message_tree};
+ghost use Rattle.capnp_wire.specs.Backing.{segment_list};
+ghost use Rattle.capnp_wire.specs.WellFormed.{AreSegments, AreSegments-prop};
 
 use crate::bytes::{half_at, part, rest};
 use crate::look::{ROOT_LEVELS, get_root_place};
 use crate::pointer_reader::PointerReader;
-use crate::segments::Segments;
+use crate::segments::{Segments, count_words, get_header_bytes};
 use capnp_device::error::{Error, ErrorKind, Result};
 use std::alloc::Global;
 
@@ -15,32 +13,15 @@ use std::alloc::Global;
 #[derive(Clone, Copy)]
 pub struct Reader<'a> {
     segments: Segments<'a>,
-}
-
-/// The words of the segments whose sizes stand in a table.
-fn count_words(table: &[u8]) -> usize
-    requires { length table.now ≤ 2048 }
-    ensures value { result ≡ total_words (length table.now / 4) table.now }
-    ensures fits { result ≤ 2 ^ 41 }
-{
-    let mut left = table;
-    let mut words: usize = 0;
-    while left.len() >= 4 {
-        words += half_at(left, 0) as usize;
-        left = rest(left, 4);
-    }
-    words
-}
-
-/// The bytes before the segments: their count, the table of their sizes and its padding.
-fn get_header_bytes(count: usize) -> usize
-    requires { count ≤ 2 ^ 32 }
-    ensures { result ≡ header_bytes count }
-{
-    (count / 2 + 1) * 8
+    ghost bytes_alone: { AreSegments (segment_list segments) } by { AreSegments-prop (segment_list segments) },
 }
 
 impl<'a> Reader<'a> {
+    ghost use Rattle.std.specs.Prelude.{◌≡◌};
+    ghost use Rattle.capnp_wire.specs.Stream.{message_tree_of};
+    ghost use Rattle.capnp_wire.specs.Standing.{levels_of, tree_of};
+    ghost use Rattle.capnp_wire.specs.Message.{message_read, message_tree};
+
     /// Reads the table of the first message in these bytes; what follows the message is not looked at. No memory is
     /// taken, and the messages's objects are looked at only when they are asked for.
     ///

@@ -1,5 +1,7 @@
 //! The owned objects that a message in memory is made of.
 
+use crate::look::{Place, ROOT_LEVELS};
+use crate::pointer_reader::PointerReader;
 use crate::size::StructSize;
 
 /// What stands at a pointer of a message in memory.
@@ -31,4 +33,20 @@ pub enum ListObject {
     Pointers(Vec<Object>),
     /// The size of each struct, and the structs.
     Composite(StructSize, Vec<StructObject>),
+}
+
+impl Object {
+    ghost use Rattle.std.specs.Prelude.{◌≡◌};
+    ghost use Rattle.capnp_wire.specs.Objects.{object_tree};
+    ghost use Rattle.capnp_wire.specs.Standing.{levels_of, tree_of};
+    ghost use Rattle.capnp_wire.specs.WellFormed.{IsWellFormed};
+
+    /// A reader of what stands at this pointer, with 64 levels.
+    pub fn as_reader(&self) -> PointerReader<'_>
+        requires { IsWellFormed (object_tree self.now) }
+        ensures tree { tree_of result ≡ object_tree self.now }
+        ensures levels { levels_of result ≡ 64 }
+    {
+        PointerReader::new(Place::Object(self), ROOT_LEVELS)
+    }
 }

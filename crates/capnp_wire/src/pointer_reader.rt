@@ -1,10 +1,10 @@
 //! Readers of pointers.
 ghost use Rattle.capnp_wire.specs.Found.{place_tree};
-ghost use Rattle.capnp_wire.specs.WellFormed.{IsWellFormed};
+ghost use Rattle.capnp_wire.specs.WellFormed.{IsWellFormed, IsWellFormed-prop};
 
-use crate::fault::{Fault, refuse};
+use crate::fault::refuse;
 use crate::list_reader::ListReader;
-use crate::look::{Found, Place, look};
+use crate::look::{Found, Place, ROOT_LEVELS, get_root_place, look};
 use crate::segments::Segments;
 use crate::size::ElementSize;
 use crate::struct_reader::StructReader;
@@ -16,21 +16,33 @@ use capnp_device::error::{Error, ErrorKind, Result};
 pub struct PointerReader<'a> {
     place: Place<'a>,
     levels: u32,
+    ghost well_formed: { IsWellFormed (place_tree place) } by { IsWellFormed-prop (place_tree place) },
 }
 
 impl<'a> PointerReader<'a> {
-    ghost use Rattle.std.specs.Prelude.{◌≡◌, ◌+◌, suc, IfOk};
-    ghost use Rattle.capnp_wire.specs.Found.{found_tree, parts_tree};
+    ghost use Rattle.std.specs.Prelude.{[], ◌∷◌, ◌≡◌, ◌+◌, IfOk};
+    ghost use Rattle.capnp_wire.specs.Place.{root_tree};
     ghost use Rattle.capnp_wire.specs.Reading.{as_data, as_list, as_struct, as_text, is_null_tree};
     ghost use Rattle.capnp_wire.specs.Standing.{bytes_read, levels_of, list_levels, list_read, struct_levels, struct_read, tree_of};
 
     /// A reader of a place.
     #[tactic(auto, unfolding(crate::specs::Standing::tree_of, crate::specs::Standing::levels_of))]
     pub(crate) fn new(place: Place<'a>, levels: u32) -> PointerReader<'a>
+        requires { IsWellFormed (place_tree place) }
         ensures tree { tree_of result ≡ place_tree place.entry }
         ensures levels { levels_of result ≡ levels }
     {
         PointerReader { place, levels }
+    }
+
+    /// A reader of the root pointer of one segment that stands alone, without a table before it, as a default or an
+    /// annotation's value does. It has 64 levels. Bytes past the last whole word are not looked at; where there is no
+    /// word the pointer can't be followed (`BadPointer`).
+    pub fn from_words(words: &'a [u8]) -> PointerReader<'a>
+        ensures tree { tree_of result ≡ root_tree (words.now ∷ []) }
+        ensures levels { levels_of result ≡ 64 }
+    {
+        PointerReader::new(get_root_place(Segments::One(words)), ROOT_LEVELS)
     }
 
     /// Whether the pointer is null. A pointer that can't be followed is not.

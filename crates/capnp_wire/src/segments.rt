@@ -1,6 +1,7 @@
 //! The segments of a message, as they lie.
-ghost use Rattle.std.specs.Prelude.{[], ◌≡◌, slice_get, slice_index_or, option_map};
+ghost use Rattle.std.specs.Prelude.{[], ◌≡◌, ◌≤◌, ◌/◌, ◌^◌, length, slice_get, slice_index_or, option_map};
 ghost use Rattle.capnp_wire.specs.Backing.{segment_list};
+ghost use Rattle.capnp_wire.specs.Stream.{header_bytes, total_words};
 
 use crate::bytes::{half_at, part, rest};
 
@@ -16,13 +17,7 @@ pub fn get_segment(segments: Segments<'_>, index: u32) -> Option<&[u8]>
     ensures { option_map (λ s. s.now) result ≡ slice_get (segment_list segments.entry) index }
 {
     match segments {
-        Segments::One(bytes) => {
-            if index == 0 {
-                Some(bytes)
-            } else {
-                None
-            }
-        }
+        Segments::One(bytes) => { if index == 0 { Some(bytes) } else { None } }
         Segments::Many { table, body } => {
             if index as usize >= table.len() / 4 {
                 return None;
@@ -48,4 +43,27 @@ pub fn get_first_segment(segments: Segments<'_>) -> &[u8]
         Some(segment) => segment,
         None => &[],
     }
+}
+
+/// The words of the segments whose sizes stand in a table.
+pub fn count_words(table: &[u8]) -> usize
+    requires { length table.now ≤ 2048 }
+    ensures value { result ≡ total_words (length table.now / 4) table.now }
+    ensures fits { result ≤ 2 ^ 41 }
+{
+    let mut left = table;
+    let mut words: usize = 0;
+    while left.len() >= 4 {
+        words += half_at(left, 0) as usize;
+        left = rest(left, 4);
+    }
+    words
+}
+
+/// The bytes before the segments: their count, the table of their sizes and its padding.
+pub fn get_header_bytes(count: usize) -> usize
+    requires { count ≤ 2 ^ 32 }
+    ensures { result ≡ header_bytes count }
+{
+    (count / 2 + 1) * 8
 }

@@ -1,6 +1,6 @@
 //! Readers of structs.
 ghost use Rattle.capnp_wire.specs.Found.{parts_tree};
-ghost use Rattle.capnp_wire.specs.WellFormed.{IsWellFormedStruct};
+ghost use Rattle.capnp_wire.specs.WellFormed.{IsWellFormedStruct, IsWellFormedStruct-prop};
 
 use crate::bytes::get_bit;
 use crate::look::{StructParts, empty_parts, get_pointer};
@@ -13,6 +13,7 @@ use crate::primitive::PrimitiveElement;
 pub struct StructReader<'a> {
     parts: StructParts<'a>,
     levels: u32,
+    ghost well_formed: { IsWellFormedStruct (parts_tree parts) } by { IsWellFormedStruct-prop (parts_tree parts) },
 }
 
 impl<'a> StructReader<'a> {
@@ -24,6 +25,7 @@ impl<'a> StructReader<'a> {
     /// A reader of a struct's parts.
     #[tactic(auto, unfolding(crate::specs::Standing::struct_of, crate::specs::Standing::struct_levels))]
     pub(crate) fn new(parts: StructParts<'a>, levels: u32) -> StructReader<'a>
+        requires { IsWellFormedStruct (parts_tree parts) }
         ensures parts { struct_of result ≡ parts_tree parts.entry }
         ensures levels { struct_levels result ≡ levels }
     {
@@ -77,6 +79,9 @@ impl<'a> StructReader<'a> {
         ensures tree { tree_of result ≡ nth_tree (struct_of self.now).pointers index }
         ensures levels { levels_of result ≡ struct_levels self.now }
     {
-        PointerReader::new(get_pointer(self.parts.pointers, index as usize), self.levels)
+        PointerReader::new(
+            get_pointer(self.parts.pointers, index as usize),
+            self.levels,
+        )
     }
 }

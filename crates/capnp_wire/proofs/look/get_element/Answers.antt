@@ -11,10 +11,10 @@ returns-else-index-block c = rw (c.in-Words.is, c.bytes_from.ensures) (sym (nth_
 
 pub returns-in-Some : goal.returns-in-Some
 returns-in-Some c =
-  let h = c.in-Some.ensures.lookup in
-  rw c.in-Objects.is (c.look_at_struct_object.ensures ∙ ap struct_object_tree h.1 ∙ sym (nth_struct-of struct_object_tree c.in-Objects.objects.now c.args.index c.in-Some.object.now h.3.0))
+    let h = c.in-Some.ensures.lookup in
+    rw c.in-Objects.is (c.look_at_struct_object.ensures ∙ ap struct_object_tree h.1 ∙ sym (nth_struct-of struct_object_tree c.in-Objects.objects.now c.args.index c.in-Some.object.now h.3.0))
 
 pub returns-in-None : goal.returns-in-None
 returns-in-None c =
-  let h = c.in-None.ensures.lookup in
-  rw c.in-Objects.is (c.empty_parts-in-None.ensures ∙ sym (nth_struct-of_past struct_object_tree c.in-Objects.objects.now c.args.index h.3))
+    let h = c.in-None.ensures.lookup in
+    rw c.in-Objects.is (c.empty_parts-in-None.ensures ∙ sym (nth_struct-of_past struct_object_tree c.in-Objects.objects.now c.args.index h.3))

@@ -11,8 +11,8 @@ returns-else-index-run c = rw c.in-Words.is (sym (only_tree-from _ _ _ _ c.if-in
 
 pub returns-then-index-objects : goal.returns-then-index-objects
 returns-then-index-objects c =
-  let one : c.args.index + 1 - c.args.index ≡ 1 = omega arith in
-  rw c.in-Objects.is (ap (λ n. object_trees (take n (drop c.args.index c.in-Objects.objects.now))) one ∙ sym (only_tree-of object_tree c.in-Objects.objects.now c.args.index))
+    let one : c.args.index + 1 - c.args.index ≡ 1 = omega arith in
+    rw c.in-Objects.is (ap (λ n. object_trees (take n (drop c.args.index c.in-Objects.objects.now))) one ∙ sym (only_tree-of object_tree c.in-Objects.objects.now c.args.index))
 
 pub returns-else-index-objects : goal.returns-else-index-objects
 returns-else-index-objects c = rw c.in-Objects.is (sym (only_tree-of_past object_tree c.in-Objects.objects.now c.args.index c.if-index-objects.false))

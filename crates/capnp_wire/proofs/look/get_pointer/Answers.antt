@@ -11,10 +11,10 @@ returns-else-index-run c = rw c.in-Words.is (sym (nth_tree-from _ _ _ _ c.if-ind
 
 pub returns-in-Some : goal.returns-in-Some
 returns-in-Some c =
-  let h = c.in-Some.ensures.lookup in
-  rw c.in-Objects.is (ap object_tree h.1 ∙ sym (nth_tree-of object_tree c.in-Objects.objects.now c.args.index c.in-Some.object.now h.3.0))
+    let h = c.in-Some.ensures.lookup in
+    rw c.in-Objects.is (ap object_tree h.1 ∙ sym (nth_tree-of object_tree c.in-Objects.objects.now c.args.index c.in-Some.object.now h.3.0))
 
 pub returns-in-None : goal.returns-in-None
 returns-in-None c =
-  let h = c.in-None.ensures.lookup in
-  rw c.in-Objects.is (sym (nth_tree-of_past object_tree c.in-Objects.objects.now c.args.index h.3))
+    let h = c.in-None.ensures.lookup in
+    rw c.in-Objects.is (sym (nth_tree-of_past object_tree c.in-Objects.objects.now c.args.index h.3))

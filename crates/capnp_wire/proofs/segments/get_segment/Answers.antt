@@ -1,8 +1,5 @@
-use Rattle.std.proofs.Common.{arith, ◌≡◌, ◌+◌, ◌-◌, ◌<◌, ◌/◌, ◌*◌, ◌∙◌, sym, ap, length, slice_get, take, drop, ℕ, suc}
+use Rattle.std.proofs.Common.{arith, ◌≡◌, ◌+◌, ◌-◌, ◌/◌, ◌∙◌, sym, length}
 use Rattle.std.proofs.lemmas.List.{length-drop}
-use Rattle.capnp_wire.specs.Slot.{little_endian}
-use Rattle.capnp_wire.specs.Backing.{segment_list}
-use Rattle.capnp_wire.specs.Stream.{cut}
 use Rattle.capnp_wire.proofs.Cut.{cut_past, cut_next}
 use Rattle.capnp_wire.proofs.segments.get_segment.Goals as goal
 
@@ -11,7 +8,8 @@ returns-then-index-table c = rw c.in-Many.is (cut_past (length c.in-Many.table.n
 
 pub loop-left-preserved : goal.loop-left-preserved
 loop-left-preserved c =
-  let e : c.loop-left.left - 1 + 1 ≡ c.loop-left.left = omega arith in
-  let n = cut_next c.loop-left.table.now c.loop-left.body.now (c.loop-left.left - 1) (omega arith) in
-  ( rw (c.rest-table.ensures, c.rest-body.ensures, c.half_at.ensures) (sym n ∙ rw e c.loop-left.invariant.0)
-  , rw c.rest-table.ensures (omega (arith, length-drop 4 c.loop-left.table.now)))
+    let e : c.loop-left.left - 1 + 1 ≡ c.loop-left.left = omega arith in
+    let n = cut_next c.loop-left.table.now c.loop-left.body.now (c.loop-left.left - 1) (omega arith) in (
+      rw (c.rest-table.ensures, c.rest-body.ensures, c.half_at.ensures) (sym n ∙ rw e c.loop-left.invariant.0),
+      rw c.rest-table.ensures (omega (arith, length-drop 4 c.loop-left.table.now)),
+    )

@@ -1,4 +1,4 @@
-use Rattle.std.proofs.Common.{◌≡◌, ◌<◌, ◌/◌, length, slice_get, ◌≤◌}
+use Rattle.std.proofs.Common.{◌≡◌, ◌<◌, ◌/◌, length, slice_get}
 use Rattle.capnp_wire.specs.Backing.{segment_list}
 use Rattle.capnp_wire.specs.Stream.{cut}
 use Rattle.capnp_wire.proofs.segments.get_segment.Given as goal

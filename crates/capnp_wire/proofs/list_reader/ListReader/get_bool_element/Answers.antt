@@ -10,5 +10,5 @@ returns-then-index-count c = rw c.in-Bits.is (c.get_bit.ensures ∙ sym (bit-sta
 pub returns-else-index-count : goal.returns-else-index-count
 unfolding list_of
 returns-else-index-count c =
-  let not_below : nat_lt c.args.index c.in-Bits.count ≡ false = search rules in
-  rw c.in-Bits.is (not_below ∙ sym (bit-past c.in-Bits.bytes.now 0 c.in-Bits.count c.args.index c.if-index-count.false))
+    let not_below : nat_lt c.args.index c.in-Bits.count ≡ false = search rules in
+    rw c.in-Bits.is (not_below ∙ sym (bit-past c.in-Bits.bytes.now 0 c.in-Bits.count c.args.index c.if-index-count.false))

@@ -1,0 +1,33 @@
+-- the number of each refusal
+use Rattle.std.specs.Prelude.{ℕ, ◌+◌, ◌-◌, ◌^◌, min}
+use Rattle.capnp_device.specs.declared.error.ErrorKind.{ErrorKind}
+use Rattle.capnp_device.specs.declared.error.ErrorKind.TheVariants.{OutOfMemory, Truncated, TooManySegments, BadPointer, WrongPointerKind, WrongElementSize, TextNotTerminated, TooDeep, CapabilityPointer, SizePastFormat, TooLarge, ReadFailed, WriteFailed, FieldNotFound, TypeMismatch, NotAStruct, ExpectedAListOrBlob, ListAnyPointerNotSupported, InitIsOnlyValidForStructAndAnyPointerFields, InitnIsOnlyValidForListTextOrDataFields, CannotSetAnyPointerFieldToAPrimitiveValue, InactiveMember, UntypedStep, NoSuchElement, NotAContainer, Schema}
+
+-- the number that stands for a kind; a broken rule k is 40 + k, as far as a u32 goes
+abbrev pub error_number : ErrorKind → ℕ
+error_number OutOfMemory = 1
+error_number Truncated = 2
+error_number TooManySegments = 3
+error_number BadPointer = 4
+error_number WrongPointerKind = 5
+error_number WrongElementSize = 6
+error_number TextNotTerminated = 7
+error_number TooDeep = 8
+error_number CapabilityPointer = 9
+error_number SizePastFormat = 10
+error_number TooLarge = 11
+error_number ReadFailed = 12
+error_number WriteFailed = 13
+error_number FieldNotFound = 20
+error_number TypeMismatch = 21
+error_number NotAStruct = 22
+error_number ExpectedAListOrBlob = 23
+error_number ListAnyPointerNotSupported = 24
+error_number InitIsOnlyValidForStructAndAnyPointerFields = 25
+error_number InitnIsOnlyValidForListTextOrDataFields = 26
+error_number CannotSetAnyPointerFieldToAPrimitiveValue = 27
+error_number InactiveMember = 30
+error_number UntypedStep = 31
+error_number NoSuchElement = 32
+error_number NotAContainer = 33
+error_number (Schema rule table entry field) = min (rule + 40) (2 ^ 32 - 1)

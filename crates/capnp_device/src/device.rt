@@ -1,0 +1,213 @@
+//! What gives and takes bytes, and counts its failures.
+ghost use Rattle.std.specs.Prelude.{◌≡◌, ℕ, List, Option, ◌<◌, length, IfOk};
+ghost use Rattle.std.specs.Io.{ReadsAtMost, WritesAtMost};
+ghost use Rattle.std.specs.Io.KnownBytes.{ReadConsumes, WriteAppends};
+ghost use Rattle.capnp_device.specs.Device.{Counts};
+ghost use Rattle.capnp_device.specs.Ends.{source_reader, source_failures, sink_writer, sink_failures};
+
+use std::io::{Read, Write};
+
+/// A call of a source or sink failed.
+#[derive(Clone, Copy, Debug, PartialEq, Eq)]
+pub struct DeviceFault;
+
+/// What gives bytes. It counts its failed calls in a u64; once the count stands at `u64::MAX`,
+/// every call fails and the count stays.
+pub trait Source {
+    // The bytes that are left to read, where they are known.
+    ghost left: { Self → Option (List ℕ) };
+
+    // How many calls have failed.
+    ghost failures: { Self → ℕ };
+
+    /// Reads into the front of the buffer, and answers how many bytes: 0 only at the end or where
+    /// the buffer is empty. A failed call leaves the bytes that are left as they were.
+    fn read_some(&mut self, buffer: &mut [u8]) -> Result<usize, DeviceFault>
+        ensures bound { ReadsAtMost result buffer.new }
+        ensures bytes { ReadConsumes (left self.old) (left self.new) result buffer.new }
+        ensures counted { Counts (failures self.old) (failures self.new) result };
+}
+
+/// What takes bytes. It counts its failed calls in a u64; once the count stands at `u64::MAX`,
+/// every call fails and the count stays.
+pub trait Sink {
+    // The bytes that were taken, where they are known.
+    ghost written: { Self → Option (List ℕ) };
+
+    // How many calls have failed.
+    ghost failures: { Self → ℕ };
+
+    /// Takes a beginning of the bytes, at least one byte where there is one, and answers how many.
+    /// A failed call takes none.
+    fn write_some(&mut self, bytes: &[u8]) -> Result<usize, DeviceFault>
+        ensures bound { WritesAtMost result bytes.now }
+        ensures some { 0 < length bytes.now → IfOk result (λ n. 0 < n) }
+        ensures bytes { WriteAppends (written self.old) (written self.new) result bytes.now }
+        ensures counted { Counts (failures self.old) (failures self.new) result };
+}
+
+/// A reader of std as a source. Each error of the reader is a failure, an interruption too.
+#[derive(Drop)]
+pub struct ReadSource<R> {
+    reader: R,
+    failures: u64,
+}
+
+impl<R: Read> ReadSource<R> {
+    /// The source that reads from this reader, with no failure yet.
+    #[tactic(auto, unfolding(crate::specs::Ends::source_reader, crate::specs::Ends::source_failures))]
+    pub fn new(reader: R) -> Self
+        ensures reader { source_reader result ≡ reader }
+        ensures failures { source_failures result ≡ 0 }
+    {
+        ReadSource {
+            reader,
+            failures: 0,
+        }
+    }
+
+    /// The reader, as the reads have left it.
+    #[tactic(auto, unfolding(crate::specs::Ends::source_reader))]
+    pub fn into_inner(self) -> R
+        ensures { result ≡ source_reader self }
+    {
+        self.reader
+    }
+}
+
+impl<R: Read> Source for ReadSource<R> {
+    ghost left = { λ s. R.remaining (source_reader s) };
+
+    ghost failures = { λ s. source_failures s };
+
+    #[tactic(auto, unfolding(crate::specs::Ends::source_reader, crate::specs::Ends::source_failures))]
+    fn read_some(&mut self, buffer: &mut [u8]) -> Result<usize, DeviceFault> {
+        if self.failures == u64::MAX {
+            return Err(DeviceFault);
+        }
+        match self.reader.read(buffer) {
+            Ok(count) => Ok(count),
+            Err(_) => {
+                self.failures += 1;
+                Err(DeviceFault)
+            }
+        }
+    }
+}
+
+/// A writer of std as a sink. Each error of the writer is a failure, an interruption too, and so is
+/// a write that takes none of some bytes.
+#[derive(Drop)]
+pub struct WriteSink<W> {
+    writer: W,
+    failures: u64,
+}
+
+impl<W: Write> WriteSink<W> {
+    /// The sink that writes to this writer, with no failure yet.
+    #[tactic(auto, unfolding(crate::specs::Ends::sink_writer, crate::specs::Ends::sink_failures))]
+    pub fn new(writer: W) -> Self
+        ensures writer { sink_writer result ≡ writer }
+        ensures failures { sink_failures result ≡ 0 }
+    {
+        WriteSink {
+            writer,
+            failures: 0,
+        }
+    }
+
+    /// The writer, as the writes have left it. What it has buffered is not flushed.
+    #[tactic(auto, unfolding(crate::specs::Ends::sink_writer))]
+    pub fn into_inner(self) -> W
+        ensures { result ≡ sink_writer self }
+    {
+        self.writer
+    }
+}
+
+impl<W: Write> Sink for WriteSink<W> {
+    ghost written = { λ s. W.contents (sink_writer s) };
+
+    ghost failures = { λ s. sink_failures s };
+
+    #[tactic(auto, unfolding(crate::specs::Ends::sink_writer, crate::specs::Ends::sink_failures))]
+    fn write_some(&mut self, bytes: &[u8]) -> Result<usize, DeviceFault> {
+        if self.failures == u64::MAX {
+            return Err(DeviceFault);
+        }
+        match self.writer.write(bytes) {
+            Ok(count) if count > 0 || bytes.is_empty() => Ok(count),
+            _ => {
+                self.failures += 1;
+                Err(DeviceFault)
+            }
+        }
+    }
+}
+
+#[cfg(test)]
+mod tests {
+    use super::*;
+    use crate::error::ErrorKind;
+    use crate::transfer::{read_all, write_all};
+    use std::io;
+    use std::test::Fail;
+
+    // A reader and writer that is always interrupted.
+    #[derive(Drop)]
+    struct Interrupted;
+
+    impl Read for Interrupted {
+        fn read(&mut self, _buf: &mut [u8]) -> io::Result<usize> {
+            Err(io::Error::from(io::ErrorKind::Interrupted))
+        }
+    }
+
+    impl Write for Interrupted {
+        fn write(&mut self, _buf: &[u8]) -> io::Result<usize> {
+            Err(io::Error::from(io::ErrorKind::Interrupted))
+        }
+
+        fn flush(&mut self) -> io::Result<()> {
+            Ok(())
+        }
+    }
+
+    #[test]
+    fn reads_a_slice_to_its_end(rt: HostRuntime) -> std::result::Result<(), Fail> {
+        let mut source = ReadSource::new([5, 6, 7].as_slice());
+        assert_eq!(rt;
+            read_all(rt.alloc(), &mut source)?.as_slice(),
+            [5, 6, 7].as_slice()
+        );
+        assert!(rt; source.into_inner().is_empty());
+        Ok(())
+    }
+
+    #[test]
+    fn writes_into_a_vec(rt: HostRuntime) -> std::result::Result<(), Fail> {
+        let mut sink = WriteSink::new(Vec::new(rt.alloc()));
+        write_all(&mut sink, &[5, 6])?;
+        write_all(&mut sink, &[7])?;
+        assert_eq!(rt; sink.into_inner().as_slice(), [5, 6, 7].as_slice());
+        Ok(())
+    }
+
+    #[test]
+    fn a_writer_that_takes_none_fails(rt: HostRuntime) {
+        let mut room = [0; 2];
+        let mut sink = WriteSink::new(room.as_mut_slice());
+        assert!(rt;
+            write_all(&mut sink, &[5, 6, 7]).is_err_and(|e| e.kind == ErrorKind::WriteFailed)
+        );
+        assert_eq!(rt; sink.write_some(&[]), Ok(0));
+    }
+
+    #[test]
+    fn an_interruption_is_a_failure(rt: HostRuntime) {
+        let mut source = ReadSource::new(Interrupted);
+        assert_eq!(rt; source.read_some(&mut [0; 4]), Err(DeviceFault));
+        let mut sink = WriteSink::new(Interrupted);
+        assert_eq!(rt; sink.write_some(&[5]), Err(DeviceFault));
+    }
+}

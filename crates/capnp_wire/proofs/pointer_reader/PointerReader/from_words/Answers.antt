@@ -1,0 +1,8 @@
+use Rattle.std.proofs.Common.{[], ◌∷◌}
+use Rattle.capnp_wire.proofs.ByteRuns.{AreBytes-fits}
+use Rattle.capnp_wire.proofs.SegmentBytes.{AreSegments-one}
+use Rattle.capnp_wire.proofs.WellFormedPlaces.{IsWellFormed-root_tree}
+use Rattle.capnp_wire.proofs.pointer_reader.PointerReader.from_words.Goals as goal
+
+pub new-requires : goal.new-requires
+new-requires c = rw c.get_root_place.ensures (IsWellFormed-root_tree (c.args.words.now ∷ []) (AreSegments-one _ (AreBytes-fits _ c.type_inv.words)))
