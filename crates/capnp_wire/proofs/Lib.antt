@@ -8,3 +8,4 @@ pub mod Inside
 pub mod WellFormedRows
 pub mod WellFormedPlaces
 pub mod WellFormedParts
+pub mod MoreBytes

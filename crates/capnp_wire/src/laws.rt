@@ -1,5 +1,5 @@
 //! Laws of the format that every reader stands on.
-ghost use Rattle.capnp_wire.specs.Laws.{TreesAreWellFormed};
+ghost use Rattle.capnp_wire.specs.Laws.{MoreBytesChangeNothing, TreesAreWellFormed};
 ghost use Rattle.capnp_wire.specs.Standing.{list_of, struct_of, tree_of};
 ghost use Rattle.capnp_wire.specs.WellFormed.{IsWellFormed, IsWellFormedStruct};
 
@@ -31,4 +31,10 @@ pub fn struct_is_well_formed(reader: &StructReader<'_>)
 #[tactic(auto, unfolding(crate::specs::Standing::list_of))]
 pub fn list_is_well_formed(reader: &ListReader<'_>)
     ensures { IsWellFormed (list_of reader.now) }
+{}
+
+/// Where a stream is not cut short, what follows its first message changes nothing: it is read as the same tree, or
+/// refused alike.
+pub fn more_bytes_change_nothing()
+    ensures { MoreBytesChangeNothing }
 {}
