@@ -9,3 +9,16 @@ pub mod WellFormedRows
 pub mod WellFormedPlaces
 pub mod WellFormedParts
 pub mod MoreBytes
+pub mod Sums
+pub mod ObjectTrees
+pub mod Rows
+pub mod RowsWords
+pub mod RowsFar
+pub mod RowsStructs
+pub mod RowsLists
+pub mod RowsComposite
+pub mod RowsLevels
+pub mod RowsReading
+pub mod RowsTable
+pub mod RowsSlots
+pub mod RowsWellFormed

@@ -6,6 +6,7 @@ use Rattle.capnp_wire.specs.Place.{tree_below, struct_at, struct_tree, bits_from
 use Rattle.capnp_wire.specs.Backing.{segment_list}
 use Rattle.capnp_wire.specs.Objects.{object_tree, object_trees, struct_object_trees}
 use Rattle.capnp_wire.specs.declared.run.Block.{Block}
+use Rattle.capnp_wire.specs.declared.run.Run.{Run}
 use Rattle.capnp_wire.specs.declared.look.Place.{Place}
 use Rattle.capnp_wire.specs.declared.look.Place.TheVariants as place
 use Rattle.capnp_wire.specs.declared.look.Pointers.{Pointers}
@@ -23,15 +24,21 @@ place_tree (place.Bad fault) = tree.FaultLeaf fault
 place_tree (place.Word segments segment index depth) = tree_below depth (segment_list segments) segment.now index
 place_tree (place.Object object) = object_tree object.now
 
+abbrev pub run_trees : Run → Trees
+run_trees run = trees_from (tree_below run.depth (segment_list run.segments) run.segment.now) run.first run.count
+
 abbrev pub pointer_trees : Pointers → Trees
-pointer_trees (pointers.Words run) = trees_from (tree_below run.depth (segment_list run.segments) run.segment.now) run.first run.count
+pointer_trees (pointers.Words run) = run_trees run
 pointer_trees (pointers.Objects objects) = object_trees objects.now
 
 abbrev pub block_struct : ℕ → ℕ → Block → ℕ → StructTree
 block_struct d p block i = struct_at (tree_below block.depth (segment_list block.segments) block.segment.now) block.segment.now d p (block.first + i * (d + p))
 
+abbrev pub block_structs : ℕ → ℕ → Block → Structs
+block_structs d p block = structs_from (block_struct d p block) 0 block.count
+
 abbrev pub element_structs : ℕ → ℕ → Elements → Structs
-element_structs d p (elements.Words block) = structs_from (block_struct d p block) 0 block.count
+element_structs d p (elements.Words block) = block_structs d p block
 element_structs d p (elements.Objects objects) = struct_object_trees objects.now
 
 abbrev pub parts_tree : StructParts → StructTree

@@ -2,7 +2,7 @@ pub mod Tree
 pub mod Slot
 pub mod Locate
 pub mod Place
-pub mod Step
+pub mod Level
 pub mod Reading
 pub mod WellFormed
 pub mod Stream
@@ -13,3 +13,4 @@ pub mod Standing
 pub mod Message
 pub mod Laws
 pub mod Words
+pub mod Total

@@ -26,6 +26,7 @@ kind word = word % 4
 abbrev pub offset : ℕ → ℕ
 offset word = (word / 4) % 2 ^ 30
 
+-- the words of a struct's data section, and how many pointers it has
 abbrev pub data_words : ℕ → ℕ
 data_words word = (word / 2 ^ 32) % 2 ^ 16
 
@@ -44,6 +45,7 @@ count word = word / 2 ^ 35
 abbrev pub is_double : ℕ → Bool
 is_double word = (word / 4) % 2 == 1
 
+-- where a far pointer's landing pad stands
 abbrev pub pad_word : ℕ → ℕ
 pad_word word = (word / 8) % 2 ^ 29
 
@@ -69,6 +71,7 @@ element_bits size = cond (size == 0) 0 (cond (size == 1) 1 (cond (size == 2) 8 (
 abbrev pub list_words : ℕ → ℕ → ℕ
 list_words size n = (n * element_bits size + 63) / 64
 
+-- a struct lies in its segment, one of size zero too
 abbrev pub struct_target : List ℕ → ℕ → ℕ → Target
 struct_target segment start word =
     cond (lies segment (start + data_words word + pointer_count word))
@@ -86,6 +89,7 @@ tagged_target segment start words tag =
     (BadTarget BadPointer))
     (BadTarget BadPointer)
 
+-- a list lies in its segment, a composite one with its tag
 abbrev pub list_target : List ℕ → ℕ → ℕ → Target
 list_target segment start word =
     cond (element_size word == 7)
@@ -109,6 +113,8 @@ abbrev pub tag_target : Option (List ℕ) → ℕ → ℕ → Target
 tag_target None first tag = BadTarget BadPointer
 tag_target (Some segment) first tag = near_target segment (pad_word first) tag
 
+-- the first word is a far pointer to a pad of one word, whatever the tag says; a tag that is a capability comes before
+-- the place that the first word names
 abbrev pub double_target : Segments → ℕ → ℕ → Target
 double_target segments first tag =
     cond (kind first == 2)

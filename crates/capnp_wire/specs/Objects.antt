@@ -19,12 +19,12 @@ structs_of (s ∷ ss) = MoreStructs s.bytes s.pointers (structs_of ss)
 
 -- one layer, where the objects inside are already seen as their trees
 abbrev pub object_layer : Object-F Tree Tree StructTree → Tree
-object_layer layer.Null = Null
+object_layer (layer.Null alloc) = Null
 object_layer (layer.Struct s) = struct_tree s
 object_layer (layer.List l) = l
 
 abbrev pub list_layer : ListObject-F Tree Tree StructTree → Tree
-list_layer (layer.Voids count) = Voids count
+list_layer (layer.Voids alloc count) = Voids count
 list_layer (layer.Bits bytes count) = Bits (bits_from bytes.items 0 count)
 list_layer (layer.Numbers width bytes) = Numbers width bytes.items
 list_layer (layer.Pointers ps) = Pointers (trees_of ps.items)

@@ -1,4 +1,4 @@
--- The tree at a place: a place is a word of a segment, and far pointers lead to the message's other segments.
+-- The tree at a place: a place is a word of a segment, from which far pointers may lead to any segment of the message.
 use Rattle.std.specs.Prelude.{ℕ, zero, suc, ◌+◌, ◌*◌, List, take, drop, slice_index_or, [], ◌∷◌, Bool, cond, ◌==◌}
 use Rattle.capnp_wire.specs.Slot.{bit_at}
 use Rattle.capnp_wire.specs.Tree.{Tree, Null, Struct, Voids, Bits, Numbers, Pointers, Composite, FaultLeaf, StructTree, trees_from, structs_from}
@@ -18,9 +18,11 @@ bits_from bytes first (suc count) = bit_at bytes first ∷ bits_from bytes (suc 
 abbrev pub struct_at : (ℕ → Tree) → List ℕ → ℕ → ℕ → ℕ → StructTree
 struct_at f segment data_words pointer_count start = record { bytes = bytes_at segment start (8 * data_words); pointers = trees_from f (start + data_words) pointer_count }
 
+-- a struct as a tree
 abbrev pub struct_tree : StructTree → Tree
 struct_tree s = Struct s.bytes s.pointers
 
+-- a composite list, whose elements lie one after another
 abbrev pub composite_tree : (ℕ → Tree) → List ℕ → ℕ → ℕ → ℕ → ℕ → Tree
 composite_tree f segment start count data_words pointer_count =
     Composite data_words pointer_count (structs_from (λ i. struct_at f segment data_words pointer_count (start + i * (data_words + pointer_count))) 0 count)

@@ -19,6 +19,7 @@ refusal fault.CapabilityPointer = kind.CapabilityPointer
 abbrev pub with_level : {A : Type 0} → ℕ → Result A ErrorKind → Result A ErrorKind
 with_level levels r = cond (levels == 0) (Err kind.TooDeep) r
 
+-- whether a pointer is null; one that can't be followed is not
 abbrev pub is_null_tree : Tree → Bool
 is_null_tree Null = true
 is_null_tree (Struct bytes ps) = false
@@ -29,6 +30,7 @@ is_null_tree (Pointers ps) = false
 is_null_tree (Composite d p es) = false
 is_null_tree (FaultLeaf k) = false
 
+-- whether a pointer can't be followed
 abbrev pub is_fault_leaf : Tree → Bool
 is_fault_leaf Null = false
 is_fault_leaf (Struct bytes ps) = false
@@ -41,6 +43,7 @@ is_fault_leaf (FaultLeaf k) = true
 
 -- ---- structs ----
 
+-- entering a struct, with the levels that are left; a null is one of size zero
 abbrev pub as_struct : Tree → ℕ → Result StructTree ErrorKind
 as_struct Null levels = with_level levels (Ok empty_struct)
 as_struct (Struct bytes ps) levels = with_level levels (Ok (record { bytes = bytes; pointers = ps }))
@@ -53,6 +56,7 @@ as_struct (FaultLeaf k) levels = Err (refusal k)
 
 -- ---- data and text, which take no level ----
 
+-- the bytes of a list of bytes, none for a null
 abbrev pub as_data : Tree → Result (List ℕ) ErrorKind
 as_data Null = Ok []
 as_data (Struct bytes ps) = Err kind.WrongPointerKind
@@ -63,22 +67,24 @@ as_data (Pointers ps) = Err kind.WrongElementSize
 as_data (Composite d p es) = Err kind.WrongElementSize
 as_data (FaultLeaf k) = Err (refusal k)
 
--- the bytes of a byte list without the last, which is there and is zero
-abbrev pub unterminated : List ℕ → Result (List ℕ) ErrorKind
-unterminated bytes = cond (get_or bytes (length bytes - 1) 1 == 0) (Ok (take (length bytes - 1) bytes)) (Err kind.TextNotTerminated)
+-- the bytes of a text: those of a byte list without the last, which is there and is zero
+abbrev pub terminated_text : List ℕ → Result (List ℕ) ErrorKind
+terminated_text bytes = cond (get_or bytes (length bytes - 1) 1 == 0) (Ok (take (length bytes - 1) bytes)) (Err kind.TextNotTerminated)
 
+-- the bytes of a text, none for a null
 abbrev pub as_text : Tree → Result (List ℕ) ErrorKind
 as_text Null = Ok []
 as_text (Struct bytes ps) = Err kind.WrongPointerKind
 as_text (Voids n) = Err kind.WrongElementSize
 as_text (Bits bs) = Err kind.WrongElementSize
-as_text (Numbers w bytes) = cond (w == 1) (unterminated bytes) (Err kind.WrongElementSize)
+as_text (Numbers w bytes) = cond (w == 1) (terminated_text bytes) (Err kind.WrongElementSize)
 as_text (Pointers ps) = Err kind.WrongElementSize
 as_text (Composite d p es) = Err kind.WrongElementSize
 as_text (FaultLeaf k) = Err (refusal k)
 
 -- ---- lists, by the element size that is asked ----
 
+-- what a null reads as
 abbrev pub empty_list : ElementSize → Tree
 empty_list Void = Voids 0
 empty_list Bit = Bits []
@@ -111,6 +117,7 @@ reads_structs EightBytes d p = nat_lt 0 d
 reads_structs Pointer d p = nat_lt 0 p
 reads_structs InlineComposite d p = true
 
+-- whether elements of nothing, bits and pointers are
 abbrev pub reads_voids : ElementSize → Bool
 reads_voids Void = true
 reads_voids InlineComposite = true
@@ -145,6 +152,7 @@ reads_pointers EightBytes = false
 abbrev pub list_if : Bool → Tree → ℕ → Result Tree ErrorKind
 list_if reads t levels = with_level levels (cond reads (Ok t) (Err kind.WrongElementSize))
 
+-- entering a list as one of elements of a size, with the levels that are left
 abbrev pub as_list : ElementSize → Tree → ℕ → Result Tree ErrorKind
 as_list size Null levels = with_level levels (Ok (empty_list size))
 as_list size (Struct bytes ps) levels = with_level levels (Err kind.WrongPointerKind)
@@ -157,6 +165,7 @@ as_list size (FaultLeaf k) levels = Err (refusal k)
 
 -- ---- elements of a list, whatever it was read as; past its end zero, null and a struct of size zero ----
 
+-- how many elements a list has; what is no list has none
 abbrev pub list_length : Tree → ℕ
 list_length Null = 0
 list_length (Struct bytes ps) = 0
@@ -167,6 +176,7 @@ list_length (Pointers ps) = tree_count ps
 list_length (Composite d p es) = struct_count es
 list_length (FaultLeaf k) = 0
 
+-- an element as a bit, false where the elements are none
 abbrev pub element_bit : Tree → ℕ → Bool
 element_bit Null i = false
 element_bit (Struct bytes ps) i = false
@@ -192,6 +202,7 @@ element_number width (FaultLeaf k) i = 0
 abbrev pub cut_pointer : ℕ → Tree → Tree
 cut_pointer levels t = cond (is_null_tree t) Null (cond (levels == 0) (FaultLeaf fault.TooDeep) t)
 
+-- an element as a pointer: of a struct, its first
 abbrev pub element_pointer : Tree → ℕ → ℕ → Tree
 element_pointer Null i levels = Null
 element_pointer (Struct bytes ps) i levels = Null

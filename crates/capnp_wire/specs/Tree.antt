@@ -51,6 +51,7 @@ nth_struct NoStructs i = empty_struct
 nth_struct (MoreStructs bytes ps es) zero = record { bytes = bytes; pointers = ps }
 nth_struct (MoreStructs bytes ps es) (suc i) = nth_struct es i
 
+-- how many there are
 abbrev pub tree_count : Trees → ℕ
 tree_count NoTrees = 0
 tree_count (MoreTrees t ts) = suc (tree_count ts)
@@ -64,6 +65,7 @@ abbrev pub trees_from : (ℕ → Tree) → ℕ → ℕ → Trees
 trees_from f first zero = NoTrees
 trees_from f first (suc count) = MoreTrees (f first) (trees_from f (suc first) count)
 
+-- the same of structs
 abbrev pub structs_from : (ℕ → StructTree) → ℕ → ℕ → Structs
 structs_from f first zero = NoStructs
 structs_from f first (suc count) = MoreStructs (f first).bytes (f first).pointers (structs_from f (suc first) count)

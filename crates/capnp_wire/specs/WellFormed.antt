@@ -4,6 +4,7 @@ use Rattle.std.specs.Coded.{×_prop, Π_prop, Unit-prop, le_prop, Coded-set, cod
 use Rattle.capnp_wire.specs.Tree.{Tree, Null, Struct, Voids, Bits, Numbers, Pointers, Composite, FaultLeaf, Trees, NoTrees, MoreTrees, Structs, NoStructs, MoreStructs, StructTree, tree_count, struct_count}
 use Rattle.capnp_wire.specs.Locate.{Segments, Target, NoTarget, BadTarget, StructAt, ListAt, CompositeAt, list_words}
 
+-- each number is a byte
 abbrev pub AreBytes : List ℕ → Type 0
 AreBytes bytes = (i : ℕ) → get_or bytes i 0 < 2 ^ 8
 
@@ -11,6 +12,9 @@ AreBytes bytes = (i : ℕ) → get_or bytes i 0 < 2 ^ 8
 abbrev pub is_width : ℕ → Bool
 is_width width = (width == 1) || (width == 2) || (width == 4) || (width == 8)
 
+-- Data is of bytes and of whole words, at most 65,535 of them, and there are as many pointers at most; a list has fewer
+-- than 2^29 elements and its numbers are whole; a composite list's elements take fewer than 2^29 words. A fault leaf is
+-- one of its three kinds by its type.
 abbrev mutual
   pub IsWellFormed : Tree → Type 0
   IsWellFormed Null = ⊤

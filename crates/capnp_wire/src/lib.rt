@@ -18,6 +18,7 @@ mod run;
 mod segments;
 pub mod size;
 mod struct_reader;
+mod total;
 
 pub use capnp_device::{call_plan, device, error, memory, transfer};
 pub use list_reader::ListReader;

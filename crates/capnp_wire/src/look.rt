@@ -2,7 +2,7 @@
 ghost use Rattle.std.specs.Prelude.{◌≡◌, ◌-◌, ◌<◌, ◌≤◌, ◌^◌};
 ghost use Rattle.capnp_wire.specs.Tree.{empty_struct, nth_struct, nth_tree, only_tree, struct_count, tree_count};
 ghost use Rattle.capnp_wire.specs.Place.{bytes_at, root_tree, struct_at, tree_below};
-ghost use Rattle.capnp_wire.specs.Step.{list_step, step};
+ghost use Rattle.capnp_wire.specs.Level.{list_at_depth, tree_at_depth};
 ghost use Rattle.capnp_wire.specs.Backing.{StartFits, segment_list, target_of};
 ghost use Rattle.capnp_wire.specs.Objects.{list_object_tree, object_tree, struct_object_tree};
 ghost use Rattle.capnp_wire.specs.Reading.{list_length};
@@ -113,7 +113,7 @@ fn look_at_list<'a>(
 ) -> Found<'a>
     requires start { start ≤ 2 ^ 60 }
     requires level { 0 < depth }
-    ensures value { found_tree result ≡ list_step (tree_below (depth - 1) (segment_list segments.entry) segment.now) segment.now start element_size count }
+    ensures value { found_tree result ≡ list_at_depth (tree_below (depth - 1) (segment_list segments.entry) segment.now) segment.now start element_size count }
     ensures below { IsBelow depth result }
 {
     if element_size == 0 {
@@ -144,7 +144,7 @@ fn look_at_list<'a>(
 /// One level of a target, whose tree has one level less than `depth`.
 fn look_at_target<'a>(segments: Segments<'a>, target: Target<'a>, depth: u32) -> Found<'a>
     requires { StartFits target }
-    ensures value { found_tree result ≡ step depth (tree_below (depth - 1) (segment_list segments.entry)) (tree_below (depth - 2) (segment_list segments.entry)) (target_of target.entry) }
+    ensures value { found_tree result ≡ tree_at_depth depth (tree_below (depth - 1) (segment_list segments.entry)) (tree_below (depth - 2) (segment_list segments.entry)) (target_of target.entry) }
     ensures below { IsBelow depth result }
 {
     match target {
@@ -242,7 +242,7 @@ fn look_at_list_object(object: &ListObject) -> Found<'_>
     ensures { found_tree result ≡ list_object_tree object.now }
 {
     match object {
-        ListObject::Voids(count) => Found::Voids(*count),
+        ListObject::Voids(_, count) => Found::Voids(*count),
         ListObject::Bits(bytes, count) => Found::Bits(bytes.as_slice(), *count),
         ListObject::Numbers(width, bytes) => Found::Numbers(*width, bytes.as_slice()),
         ListObject::Pointers(pointers) => Found::Pointers(Pointers::Objects(pointers.as_slice())),
@@ -257,7 +257,7 @@ fn look_at_object(object: &Object) -> Found<'_>
     ensures { found_tree result ≡ object_tree object.now }
 {
     match object {
-        Object::Null => Found::Null,
+        Object::Null(_) => Found::Null,
         Object::Struct(object) => Found::Struct(look_at_struct_object(object)),
         Object::List(object) => look_at_list_object(object),
     }

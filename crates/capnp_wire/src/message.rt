@@ -23,7 +23,7 @@ impl<'a> Reader<'a> {
     ghost use Rattle.capnp_wire.specs.Message.{message_read, message_tree};
 
     /// Reads the table of the first message in these bytes; what follows the message is not looked at. No memory is
-    /// taken, and the messages's objects are looked at only when they are asked for.
+    /// taken, and the message's objects are looked at only when they are asked for.
     ///
     /// Refused with `Truncated` where the bytes end within the table's first number, with `TooManySegments` where that
     /// says more than 512 segments, and then with `Truncated` where they end within the table, its padding or a segment

@@ -3,12 +3,14 @@
 use crate::look::{Place, ROOT_LEVELS};
 use crate::pointer_reader::PointerReader;
 use crate::size::StructSize;
+use std::alloc::Global;
 
 /// What stands at a pointer of a message in memory.
 #[derive(Drop)]
 #[cycle(object)]
 pub enum Object {
-    Null,
+    /// Nothing; the allocator serves what will stand here.
+    Null(Global),
     Struct(StructObject),
     List(ListObject),
 }
@@ -25,7 +27,8 @@ pub struct StructObject {
 #[derive(Drop)]
 #[cycle(object)]
 pub enum ListObject {
-    Voids(u32),
+    /// How many elements of nothing there are.
+    Voids(Global, u32),
     /// The bits, lowest first in each byte, and how many there are.
     Bits(Vec<u8>, u32),
     /// The width of each number in bytes, and the numbers' bytes one after another. Texts and data are such lists.

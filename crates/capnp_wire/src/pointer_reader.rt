@@ -6,8 +6,9 @@ use crate::fault::refuse;
 use crate::list_reader::ListReader;
 use crate::look::{Found, Place, ROOT_LEVELS, get_root_place, look};
 use crate::segments::Segments;
-use crate::size::ElementSize;
+use crate::size::{ElementSize, MessageSize};
 use crate::struct_reader::StructReader;
+use crate::total::size_of_place;
 use capnp_device::error::{Error, ErrorKind, Result};
 
 /// A pointer, as it is read: a place in a message or in a builder's objects, and the levels that are left below it.
@@ -20,10 +21,12 @@ pub struct PointerReader<'a> {
 }
 
 impl<'a> PointerReader<'a> {
-    ghost use Rattle.std.specs.Prelude.{[], ◌∷◌, ◌≡◌, ◌+◌, IfOk};
+    ghost use Rattle.std.specs.Prelude.{[], ◌∷◌, ◌≡◌, ◌+◌, IfErr, IfOk};
     ghost use Rattle.capnp_wire.specs.Place.{root_tree};
     ghost use Rattle.capnp_wire.specs.Reading.{as_data, as_list, as_struct, as_text, is_null_tree};
     ghost use Rattle.capnp_wire.specs.Standing.{bytes_read, levels_of, list_levels, list_read, struct_levels, struct_read, tree_of};
+    ghost use Rattle.capnp_wire.specs.Total.{IsSize, IsSizeRefusal};
+    ghost use Rattle.capnp_wire.specs.Words.{first_fault, words_of};
 
     /// A reader of a place.
     #[tactic(auto, unfolding(crate::specs::Standing::tree_of, crate::specs::Standing::levels_of))]
@@ -153,5 +156,20 @@ impl<'a> PointerReader<'a> {
             }
             _ => Err(Error::from(ErrorKind::WrongElementSize)),
         }
+    }
+
+    /// The size of all that the pointer leads to, without the pointer itself: 0 words for a null. A target that several
+    /// pointers share counts once for each of them, and the tag of a composite list counts with it. There are no
+    /// capabilities. Takes no memory.
+    ///
+    /// Refused with `BadPointer`, `TooDeep` or `CapabilityPointer` where a pointer in it can't be followed, by the first
+    /// of these in preorder, and with `TooLarge` past 2^64 - 1 words; with either where both hold (encoding, "Structs",
+    /// "Lists").
+    #[tactic(auto, unfolding(crate::specs::Standing::tree_of))]
+    pub fn total_size(&self) -> Result<MessageSize>
+        ensures size { IfOk result (λ size. IsSize size (first_fault (tree_of self.now)) (words_of (tree_of self.now))) }
+        ensures refused { IfErr result (λ error. IsSizeRefusal error (first_fault (tree_of self.now)) (words_of (tree_of self.now))) }
+    {
+        size_of_place(self.place)
     }
 }

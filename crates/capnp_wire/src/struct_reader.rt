@@ -6,6 +6,9 @@ use crate::bytes::get_bit;
 use crate::look::{StructParts, empty_parts, get_pointer};
 use crate::pointer_reader::PointerReader;
 use crate::primitive::PrimitiveElement;
+use crate::size::MessageSize;
+use crate::total::size_of_parts;
+use capnp_device::error::Result;
 
 /// A struct, as it is read: its data section and its pointers, and the levels that are left below it. What lies past the
 /// end of a section reads as zero bits or as null, so each call answers for any offset.
@@ -17,10 +20,12 @@ pub struct StructReader<'a> {
 }
 
 impl<'a> StructReader<'a> {
-    ghost use Rattle.std.specs.Prelude.{◌≡◌, bit_xor};
+    ghost use Rattle.std.specs.Prelude.{◌≡◌, bit_xor, IfErr, IfOk};
     ghost use Rattle.capnp_wire.specs.Tree.{empty_struct, nth_tree};
     ghost use Rattle.capnp_wire.specs.Slot.{bit_at, masked_bit, number_at};
     ghost use Rattle.capnp_wire.specs.Standing.{levels_of, struct_levels, struct_of, tree_of};
+    ghost use Rattle.capnp_wire.specs.Total.{IsSize, IsSizeRefusal};
+    ghost use Rattle.capnp_wire.specs.Words.{first_fault_of_all, words_of_struct};
 
     /// A reader of a struct's parts.
     #[tactic(auto, unfolding(crate::specs::Standing::struct_of, crate::specs::Standing::struct_levels))]
@@ -83,5 +88,20 @@ impl<'a> StructReader<'a> {
             get_pointer(self.parts.pointers, index as usize),
             self.levels,
         )
+    }
+
+    /// The size of the struct with all that its pointers lead to: its data section in whole words, its pointers, and the
+    /// targets. A target that several pointers share counts once for each of them, and the tag of a composite list
+    /// counts with it. There are no capabilities. Takes no memory.
+    ///
+    /// Refused with `BadPointer`, `TooDeep` or `CapabilityPointer` where a pointer in it can't be followed, by the first
+    /// of these in preorder, and with `TooLarge` past 2^64 - 1 words; with either where both hold (encoding, "Structs",
+    /// "Lists").
+    #[tactic(auto, unfolding(crate::specs::Standing::struct_of))]
+    pub fn total_size(&self) -> Result<MessageSize>
+        ensures size { IfOk result (λ size. IsSize size (first_fault_of_all (struct_of self.now).pointers) (words_of_struct (struct_of self.now))) }
+        ensures refused { IfErr result (λ error. IsSizeRefusal error (first_fault_of_all (struct_of self.now).pointers) (words_of_struct (struct_of self.now))) }
+    {
+        size_of_parts(self.parts)
     }
 }
