@@ -22,3 +22,12 @@ pub mod RowsReading
 pub mod RowsTable
 pub mod RowsSlots
 pub mod RowsWellFormed
+pub mod Stands
+pub mod EncodedSizes
+pub mod PointerWords
+pub mod PackedBits
+pub mod EncodedObjects
+pub mod ReadBack
+pub mod ReadMessage
+pub mod RowsEncoding
+pub mod RowsDepth

@@ -1,9 +1,13 @@
 -- What the format promises of every message.
-use Rattle.std.specs.Prelude.{ℕ, List, Err, ◌++◌, ◌≡◌, ◌≢◌}
+use Rattle.std.specs.Prelude.{ℕ, suc, ◌^◌, ◌<◌, List, Ok, Err, None, ◌++◌, ◌≡◌, ◌≢◌}
+use Rattle.capnp_wire.specs.Tree.{Tree}
 use Rattle.capnp_wire.specs.Locate.{Segments}
 use Rattle.capnp_wire.specs.Place.{tree_at, tree_below}
 use Rattle.capnp_wire.specs.Stream.{message_tree_of}
 use Rattle.capnp_wire.specs.WellFormed.{AreBytes, AreSegments, IsWellFormed}
+use Rattle.capnp_wire.specs.Words.{words_of, first_fault}
+use Rattle.capnp_wire.specs.Depth.{IsShallow}
+use Rattle.capnp_wire.specs.Encoding.{message_of}
 use Rattle.capnp_device.specs.declared.error.ErrorKind.TheVariants.{Truncated}
 
 -- where the segments are of bytes, whatever bytes, what stands at any word of a segment is well-formed, with any number of levels
@@ -17,3 +21,10 @@ abbrev pub MoreBytesChangeNothing : Type 0
 MoreBytesChangeNothing =
     (bytes more : List ℕ) → message_tree_of bytes ≢ Err Truncated →
     message_tree_of (bytes ++ more) ≡ message_tree_of bytes
+
+-- the message of a well-formed tree without faults, of depth at most 64 and of fewer than 2 ^ 29 words with its root
+-- pointer, is read as that tree, whatever follows it
+abbrev pub IsReadBack : Type 0
+IsReadBack =
+    (t : Tree) (rest : List ℕ) → IsWellFormed t → first_fault t ≡ None → IsShallow t → suc (words_of t) < 2 ^ 29 →
+    message_tree_of (message_of t ++ rest) ≡ Ok t

@@ -14,3 +14,5 @@ pub mod Message
 pub mod Laws
 pub mod Words
 pub mod Total
+pub mod Encoding
+pub mod Depth

@@ -1,5 +1,5 @@
 //! Laws of the format that every reader stands on.
-ghost use Rattle.capnp_wire.specs.Laws.{MoreBytesChangeNothing, TreesAreWellFormed};
+ghost use Rattle.capnp_wire.specs.Laws.{IsReadBack, MoreBytesChangeNothing, TreesAreWellFormed};
 ghost use Rattle.capnp_wire.specs.Standing.{list_of, struct_of, tree_of};
 ghost use Rattle.capnp_wire.specs.WellFormed.{IsWellFormed, IsWellFormedStruct};
 
@@ -37,4 +37,10 @@ pub fn list_is_well_formed(reader: &ListReader<'_>)
 /// refused alike.
 pub fn more_bytes_change_nothing()
     ensures { MoreBytesChangeNothing }
+{}
+
+/// The message of a well-formed tree without faults, of depth at most 64 and of fewer than 2^29 words with its root
+/// pointer, is read as that tree, whatever follows it.
+pub fn messages_are_read_back()
+    ensures { IsReadBack }
 {}
