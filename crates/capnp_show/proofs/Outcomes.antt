@@ -1,0 +1,17 @@
+-- What holds of a call's refusals.
+use Rattle.std.proofs.Common.{ℕ, ◌<◌, List, length, take, Option, Result, Ok, Err, OnOk, OnErr, IfErr, inl, inr}
+use Rattle.std.specs.Io.KnownBytes.{Appends}
+use Rattle.capnp_device.specs.Device.{HasFailed}
+use Rattle.capnp_show.specs.Command.{IsTold}
+
+-- where each refusal comes with a fact, and that gives another, each refusal of a kind comes with the other
+pub refusal_gives : {T E P Q : Type 0} (K : E → Type 0) (r : Result T E) → (P → Q) → OnErr r P → IfErr r (λ e. K e → Q)
+refusal_gives K (Ok x) f h = tt {0}
+refusal_gives K (Err e) f h = λ k. f h
+
+-- a line that a write of it was told of
+pub told_by_write : {T E : Type 0} (r : Result T E) (line : List ℕ) (written written' : Option (List ℕ)) (failures failures' : ℕ) →
+    OnOk r (Appends written written' line) → OnErr r (HasFailed failures failures') →
+    OnErr r ((n : ℕ) × (n < length line) × Appends written written' (take n line)) → IsTold line written written' failures failures'
+told_by_write (Ok x) line written written' failures failures' whole failed part = inl whole
+told_by_write (Err e) line written written' failures failures' whole failed part = inr (failed, part)

@@ -1,0 +1,4 @@
+pub mod Flat
+pub mod Text
+pub mod Show
+pub mod Command

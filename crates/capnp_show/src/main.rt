@@ -1,0 +1,26 @@
+//! Reads a message from standard input and prints its root on one line.
+#![tactic(auto)]
+
+mod command;
+mod engine;
+mod fields;
+mod printer;
+#[cfg(test)]
+mod tests;
+
+use capnp_wire::device::{ReadSource, WriteSink};
+use std::process::ExitCode;
+
+fn main(rt: HostRuntime) -> ExitCode {
+    let mut source = ReadSource::new(rt.stdin());
+    let mut sink = WriteSink::new(rt.stdout());
+    let mut faults = WriteSink::new(rt.stderr());
+    let status = match command::words(&rt) {
+        Ok(words) => command::command(rt.alloc(), &words, &mut source, &mut sink, &mut faults),
+        Err(error) => {
+            command::report(rt.alloc(), error.kind, &mut faults);
+            1
+        }
+    };
+    ExitCode::from(status)
+}

@@ -1,0 +1,65 @@
+//! What the tests share: messages as text, and what a refused read answers.
+
+use capnp_wire::error::{ErrorKind, Result};
+use capnp_wire::message::Reader;
+use capnp_wire::{PointerReader, StructReader};
+use std::alloc::Global;
+
+fn digit_of(c: u8) -> Option<u8> {
+    match c {
+        b'0'..=b'9' => Some(c - b'0'),
+        b'a'..=b'f' => Some(c - b'a' + 10),
+        _ => None,
+    }
+}
+
+/// The bytes that a text spells: two hexadecimal digits are a byte, and a `0` alone is a word of zeros. Bars may stand
+/// between words.
+pub fn bytes_of(alloc: Global, text: &str) -> Result<Vec<u8>> {
+    let mut bytes = Vec::new(alloc);
+    let mut first = None;
+    for c in text.as_bytes() {
+        match (first, digit_of(*c)) {
+            (None, digit) => first = digit,
+            (Some(high), Some(low)) => {
+                bytes.push(high.wrapping_mul(16).wrapping_add(low))?;
+                first = None;
+            }
+            (Some(_), None) => {
+                bytes.extend_from_slice(&[0u8; 8])?;
+                first = None;
+            }
+        }
+    }
+    if first.is_some() {
+        bytes.extend_from_slice(&[0u8; 8])?;
+    }
+    Ok(bytes)
+}
+
+/// The root of a message.
+pub fn root_of(alloc: Global, bytes: &[u8]) -> Result<PointerReader<'_>> {
+    Ok(Reader::new(alloc, bytes)?.get_root())
+}
+
+/// What a read answered, or the kind of its refusal.
+pub fn answer<T: Copy>(read: Result<T>) -> std::result::Result<T, ErrorKind> {
+    match read {
+        Ok(value) => Ok(value),
+        Err(error) => Err(error.kind),
+    }
+}
+
+/// The 16 bit number at the start of the struct at a pointer.
+pub fn first_number(pointer: PointerReader<'_>) -> Result<u16> {
+    Ok(pointer.get_struct()?.get_data_field::<u16>(0))
+}
+
+/// The struct that so many structs, each at pointer 0 of the one before, lead to.
+pub fn struct_after<'a>(root: PointerReader<'a>, structs: u32) -> Result<StructReader<'a>> {
+    let mut pointer = root;
+    for _ in 1..structs {
+        pointer = pointer.get_struct()?.get_pointer_field(0);
+    }
+    pointer.get_struct()
+}

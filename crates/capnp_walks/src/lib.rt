@@ -1,0 +1,30 @@
+//! Reads of whole messages, over nothing but the public calls and contracts of `capnp_wire`.
+//!
+//! Each function's contract is a function of the tree that its reader stands on and of the levels that are left: a
+//! caller of the readers needs to know nothing else of them.
+#![tactic(auto)]
+
+#[cfg(test)]
+mod blob_tests;
+#[cfg(test)]
+mod fixtures;
+#[cfg(test)]
+mod level_tests;
+#[cfg(test)]
+mod list_tests;
+pub mod path;
+#[cfg(test)]
+mod pointer_tests;
+#[cfg(test)]
+mod stream_tests;
+#[cfg(test)]
+mod struct_list_tests;
+#[cfg(test)]
+mod struct_tests;
+pub mod sum;
+#[cfg(test)]
+mod tool_tests;
+#[cfg(test)]
+mod total_tests;
+#[cfg(test)]
+mod walk_tests;

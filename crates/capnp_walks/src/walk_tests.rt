@@ -1,0 +1,98 @@
+//! The walks of this crate.
+
+use crate::fixtures::{answer, bytes_of, root_of};
+use crate::path::{get_by_path, get_text_by_path, read_by_path};
+use crate::sum::sum_of_list;
+use capnp_wire::PointerReader;
+use capnp_wire::error::ErrorKind::{
+    BadPointer, TooDeep, Truncated, WrongElementSize, WrongPointerKind,
+};
+use std::test::Fail;
+
+// A struct whose pointers are null, to a struct of one word, to the text hi, and to itself.
+const PARTS: &str =
+    "00 00 00 00 09 00 00 00 | 00 00 00 00 01 00 04 00 | 05 00 00 00 00 00 00 00 | 0 | \
+     08 00 00 00 01 00 00 00 | 09 00 00 00 1a 00 00 00 | ec ff ff ff 01 00 04 00 | \
+     09 00 00 00 00 00 00 00 | 68 69 00 00 00 00 00 00 | 0";
+
+#[test]
+fn a_path_leads_to_a_number(rt: HostRuntime) -> Result<(), Fail> {
+    let bytes = bytes_of(rt.alloc(), PARTS)?;
+    let root = root_of(rt.alloc(), bytes.as_slice())?;
+    let table = [
+        ([].as_slice(), 0, Ok(5)),
+        ([].as_slice(), 1, Ok(0)),
+        ([0].as_slice(), 0, Ok(0)),
+        ([0, 0, 7].as_slice(), 0, Ok(0)),
+        ([1].as_slice(), 0, Ok(9)),
+        ([3, 3, 1].as_slice(), 0, Ok(9)),
+        ([9].as_slice(), 0, Ok(0)),
+        ([2].as_slice(), 0, Err(WrongPointerKind)),
+        ([2, 0].as_slice(), 0, Err(WrongPointerKind)),
+        ([3u16; 63].as_slice(), 0, Ok(5)),
+        ([3u16; 64].as_slice(), 0, Err(TooDeep)),
+    ];
+    for (path, offset, expected) in table {
+        assert_eq!(rt;
+            answer(get_by_path(root, path, offset)),
+            expected,
+            "at {path:?}"
+        );
+        assert_eq!(rt;
+            answer(read_by_path(rt.alloc(), bytes.as_slice(), path, offset)),
+            expected,
+            "at {path:?}"
+        );
+    }
+    assert_eq!(rt;
+        answer(read_by_path(rt.alloc(), &[0, 0, 0, 0], &[], 0)),
+        Err(Truncated)
+    );
+    Ok(())
+}
+
+#[test]
+fn a_path_leads_to_a_text(rt: HostRuntime) -> Result<(), Fail> {
+    let bytes = bytes_of(rt.alloc(), PARTS)?;
+    let root = root_of(rt.alloc(), bytes.as_slice())?;
+    for (path, expected) in [
+        ([2].as_slice(), Ok(b"hi".as_slice())),
+        ([0, 4].as_slice(), Ok(b"".as_slice())),
+        ([].as_slice(), Err(WrongPointerKind)),
+        ([2, 2].as_slice(), Err(WrongPointerKind)),
+        ([3u16; 65].as_slice(), Err(TooDeep)),
+    ] {
+        assert_eq!(rt;
+            answer(get_text_by_path(root, path)),
+            expected,
+            "at {path:?}"
+        );
+    }
+    Ok(())
+}
+
+#[test]
+fn a_list_is_summed(rt: HostRuntime) -> Result<(), Fail> {
+    for (text, expected) in [
+        (
+            "01 00 00 00 1c 00 00 00 | ff ff ff ff ff ff ff ff | 02 00 00 00 09 00 00 00",
+            Ok(8589934592),
+        ),
+        (
+            "01 00 00 00 17 00 00 00 | 08 00 00 00 01 00 00 00 | 01 00 00 00 09 00 00 00 | \
+             02 00 00 00 00 00 00 00",
+            Ok(3),
+        ),
+        ("0", Ok(0)),
+        ("01 00 00 00 0b 00 00 00 | 0", Err(WrongElementSize)),
+        ("01 00 00 00 1c 00 00 00 | 0", Err(BadPointer)),
+    ] {
+        let words = bytes_of(rt.alloc(), text)?;
+        assert_eq!(rt;
+            answer(sum_of_list(PointerReader::from_words(words.as_slice()))),
+            expected,
+            "{text}"
+        );
+    }
+    Ok(())
+}

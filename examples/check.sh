@@ -1,0 +1,75 @@
+#!/bin/sh
+# Runs ./capnp_show on the messages of this folder and on what it refuses, and compares what it prints and answers.
+# Where the tool `capnp` is installed, the messages are also made again, and each has to come out the same.
+
+cd -- "$(dirname -- "$0")/.." || exit 1
+scratch=$(mktemp -d) || exit 1
+trap 'rm -rf -- "$scratch"' EXIT
+checks=0
+failures=0
+
+fail() {
+    echo "$1" >&2
+    failures=$((failures + 1))
+}
+
+# expect CASE STATUS WANTED_STATUS OUTPUT ERRORS: what a run wrote stands in the scratch folder
+expect() {
+    checks=$((checks + 1))
+    [ "$2" -eq "$3" ] || fail "$1: exit status $2, not $3"
+    [ "$(cat "$scratch/out")" = "$4" ] || fail "$1: printed $(cat "$scratch/out"), not $4"
+    [ "$(cat "$scratch/err")" = "$5" ] || fail "$1: standard error has $(cat "$scratch/err"), not $5"
+    : > "$scratch/out"
+}
+
+# message FILE NAME TEXT OPTIONS LINE: `capnp encode OPTIONS` makes FILE from TEXT, and under NAME it is printed as LINE
+message() {
+    ./capnp_show "$2" < "examples/$1" > "$scratch/out" 2> "$scratch/err"
+    expect "$1" $? 0 "$5" ""
+    if command -v capnp > "$scratch/which"; then
+        # shellcheck disable=SC2086 # no option is no word
+        echo "$3" | capnp encode $4 examples/flat.capnp "$2" > "$scratch/made"
+        cmp -- "$scratch/made" "examples/$1" || fail "$1: capnp makes other bytes"
+    fi
+}
+
+# builds the program where needed, so that the runs below write nothing else
+./capnp_show Flat < examples/flat.bin > "$scratch/out" || exit 1
+
+message flat.bin Flat '(a = 5)' '' '(a = 5)'
+message many.bin Many '(flag = false, s = 2, n = 300, w = -2, q = 18446744073709551615)' '' \
+    '(flag = false, s = 2, n = 300, w = -2, q = 18446744073709551615, z = ())'
+message many_defaults.bin Many '()' '' '(flag = true, s = -1, n = 7, w = 0, q = 0, z = ())'
+message flat_segments.bin Flat '(a = 5)' --segment-size=1 '(a = 5)'
+message many_segments.bin Many '(flag = false, s = -128, n = 65535, w = 2147483647, q = 1)' --segment-size=1 \
+    '(flag = false, s = -128, n = 65535, w = 2147483647, q = 1, z = ())'
+message two_messages.bin Flat '(a = 1) (a = 2)' '' '(a = 1)'
+
+usage='usage: capnp_show NAME [--indent]'
+for words in '' Mixed many --indent 'Many --indent' 'Flat Many'; do
+    # shellcheck disable=SC2086 # some are several words
+    ./capnp_show $words < examples/many.bin > "$scratch/out" 2> "$scratch/err"
+    expect "words '$words'" $? 2 "" "$usage"
+done
+./capnp_show "$(printf '\377')" < examples/many.bin > "$scratch/out" 2> "$scratch/err"
+expect 'a word that is not UTF-8' $? 2 "" "$usage"
+
+./capnp_show Many < /dev/null > "$scratch/out" 2> "$scratch/err"
+expect 'no bytes' $? 1 "" 'refused: 2'
+head -c 31 examples/many.bin | ./capnp_show Many > "$scratch/out" 2> "$scratch/err"
+expect 'one byte short' $? 1 "" 'refused: 2'
+./capnp_show Many < . > "$scratch/out" 2> "$scratch/err"
+expect 'a directory as input' $? 1 "" 'refused: 12'
+./capnp_show Many <&- > "$scratch/out" 2> "$scratch/err"
+expect 'a closed input' $? 1 "" 'refused: 12'
+./capnp_show Many < examples/many.bin >&- 2> "$scratch/err"
+expect 'a closed output' $? 1 "" 'refused: 13'
+./capnp_show Many < examples/many.bin > /dev/full 2> "$scratch/err"
+expect 'a full output' $? 1 "" 'refused: 13'
+./capnp_show Many < /dev/null > "$scratch/out" 2>&-
+status=$?
+: > "$scratch/err"
+expect 'closed standard error' $status 1 "" ""
+
+[ "$failures" -eq 0 ] || exit 1
+echo "$checks cases: all as expected"
