@@ -31,3 +31,7 @@ pub mod ReadBack
 pub mod ReadMessage
 pub mod RowsEncoding
 pub mod RowsDepth
+pub mod TreeSizes
+pub mod Copies
+pub mod RowsEdits
+pub mod NewTrees

@@ -7,6 +7,7 @@ use Rattle.capnp_wire.specs.Objects.{object_tree, list_object_tree, struct_objec
 use Rattle.capnp_wire.specs.declared.object.Object.{Object}
 use Rattle.capnp_wire.specs.declared.object.StructObject.{StructObject}
 use Rattle.capnp_wire.specs.declared.object.ListObject.TheVariants.{Bits, Pointers, Composite}
+use Rattle.capnp_wire.specs.declared.object.Object.TheVariants as object
 use Rattle.capnp_wire.specs.declared.object.ListObject.TheFolds.{the_lemmas}
 use Rattle.capnp_wire.specs.declared.size.StructSize.{StructSize}
 use Rattle.capnp_wire.proofs.Lists.{nth_tree-of, nth_struct-of}
@@ -34,3 +35,7 @@ object_tree-at objects i object h e = nth_tree-of object_tree objects i object h
 -- a struct of a row, by its index
 pub struct_object_tree-at : (objects : List StructObject) (i : ℕ) (object : StructObject) → i < length objects → object ≡ get_or objects i object → nth_struct (struct_object_trees objects) i ≡ record { bytes = object.«data».items; pointers = object_trees object.pointers.items }
 struct_object_tree-at objects i object h e = nth_struct-of struct_object_tree objects i object h ∙ ap struct_object_tree (sym e) ∙ tree-struct object
+
+-- the variants of a pointer's object
+pub tree-null : (alloc : Global) → object_tree (object.Null alloc) ≡ tree.Null
+tree-null alloc = search (rules, the_lemmas)

@@ -23,7 +23,7 @@ sum_stops (stop.Fault k) f m n l h = cc
 sum_stops stop.TooLarge f m n l h = omega arith
 
 -- past a part without a fault, the first fault is that of the rest
-first_none : (f g h : Option Fault) → f ≡ None → first_of f g ≡ h → g ≡ h
+pub first_none : (f g h : Option Fault) → f ≡ None → first_of f g ≡ h → g ≡ h
 first_none f g h e q = sym (ap (λ x. first_of x g) e) ∙ q
 
 -- ---- pointers ----
@@ -35,13 +35,13 @@ trees_after (suc i) NoTrees = NoTrees
 trees_after (suc i) (MoreTrees t ts) = trees_after i ts
 
 -- the next of them, and what is left after it
-trees_after-next : (i : ℕ) (ts : Trees) → i < tree_count ts → trees_after i ts ≡ MoreTrees (nth_tree ts i) (trees_after (suc i) ts)
+pub trees_after-next : (i : ℕ) (ts : Trees) → i < tree_count ts → trees_after i ts ≡ MoreTrees (nth_tree ts i) (trees_after (suc i) ts)
 trees_after-next i NoTrees h = absurd (omega arith)
 trees_after-next zero (MoreTrees t ts) h = refl
 trees_after-next (suc i) (MoreTrees t ts) h = trees_after-next i ts (omega arith)
 
 -- after the last of them nothing is left
-trees_after-end : (i : ℕ) (ts : Trees) → tree_count ts ≤ i → trees_after i ts ≡ NoTrees
+pub trees_after-end : (i : ℕ) (ts : Trees) → tree_count ts ≤ i → trees_after i ts ≡ NoTrees
 trees_after-end zero NoTrees h = refl
 trees_after-end (suc i) NoTrees h = refl
 trees_after-end zero (MoreTrees t ts) h = absurd (omega arith)
@@ -96,13 +96,13 @@ structs_after (suc i) NoStructs = NoStructs
 structs_after (suc i) (MoreStructs bytes ps es) = structs_after i es
 
 -- the next of them, and what is left after it
-structs_after-next : (i : ℕ) (es : Structs) → i < struct_count es → structs_after i es ≡ MoreStructs (nth_struct es i).bytes (nth_struct es i).pointers (structs_after (suc i) es)
+pub structs_after-next : (i : ℕ) (es : Structs) → i < struct_count es → structs_after i es ≡ MoreStructs (nth_struct es i).bytes (nth_struct es i).pointers (structs_after (suc i) es)
 structs_after-next i NoStructs h = absurd (omega arith)
 structs_after-next zero (MoreStructs bytes ps es) h = refl
 structs_after-next (suc i) (MoreStructs bytes ps es) h = structs_after-next i es (omega arith)
 
 -- after the last of them nothing is left
-structs_after-end : (i : ℕ) (es : Structs) → struct_count es ≤ i → structs_after i es ≡ NoStructs
+pub structs_after-end : (i : ℕ) (es : Structs) → struct_count es ≤ i → structs_after i es ≡ NoStructs
 structs_after-end zero NoStructs h = refl
 structs_after-end (suc i) NoStructs h = refl
 structs_after-end zero (MoreStructs bytes ps es) h = absurd (omega arith)

@@ -16,3 +16,5 @@ pub mod Words
 pub mod Total
 pub mod Encoding
 pub mod Depth
+pub mod Edits
+pub mod Lends

@@ -41,6 +41,17 @@ is_fault_leaf (Pointers ps) = false
 is_fault_leaf (Composite d p es) = false
 is_fault_leaf (FaultLeaf k) = true
 
+-- whether a pointer leads to a list
+abbrev pub is_list : Tree → Bool
+is_list Null = false
+is_list (Struct bytes ps) = false
+is_list (Voids n) = true
+is_list (Bits bs) = true
+is_list (Numbers w bytes) = true
+is_list (Pointers ps) = true
+is_list (Composite d p es) = true
+is_list (FaultLeaf k) = false
+
 -- ---- structs ----
 
 -- entering a struct, with the levels that are left; a null is one of size zero

@@ -3,6 +3,7 @@
 //! Offsets count bytes, words of eight bytes or bits, as each function says. Numbers stand lowest
 //! byte first (the encoding page, "Primitive Values"). No read refuses.
 ghost use Rattle.std.specs.Prelude.{◌≡◌, ◌≤◌, ◌<◌, ◌^◌, ◌*◌, length, take, drop};
+ghost use Rattle.capnp_wire.specs.Edits.{with_bit};
 ghost use Rattle.capnp_wire.specs.Slot.{little_endian, word_at, bit_at};
 
 /// The bytes from byte `start` on, none past the end.
@@ -106,6 +107,21 @@ pub fn get_bit(bytes: &[u8], i: usize) -> bool
         bytes[at] >> (i % 8) & 1 == 1
     } else {
         false
+    }
+}
+
+/// Writes bit `i`, counted from the lowest of the first byte.
+#[inline]
+pub fn set_bit(bytes: &mut [u8], i: usize, bit: bool)
+    requires { i < 8 * length bytes.old }
+    ensures { bytes.new ≡ with_bit i bit bytes.old }
+{
+    let at = i / 8;
+    let place = 1u8 << (i % 8);
+    if bit {
+        bytes[at] = bytes[at] | place;
+    } else {
+        bytes[at] = bytes[at] & !place;
     }
 }
 

@@ -4,23 +4,30 @@
 //! call's contract says what it answers in terms of that tree and of the levels that the reader has left.
 #![tactic(auto)]
 
+#[cfg(test)]
+mod builder_tests;
 mod bytes;
+mod copy;
 pub mod fault;
 pub mod laws;
 mod list_reader;
 mod locate;
 mod look;
+mod make;
 pub mod message;
 pub mod object;
+mod pointer_builder;
 mod pointer_reader;
 pub mod primitive;
 mod run;
 mod segments;
 pub mod size;
+mod struct_builder;
 mod struct_reader;
 mod total;
 
 pub use capnp_device::{call_plan, device, error, memory, transfer};
 pub use list_reader::ListReader;
+pub use pointer_builder::{ListBuilder, PointerBuilder, StructBuilder};
 pub use pointer_reader::PointerReader;
 pub use struct_reader::StructReader;

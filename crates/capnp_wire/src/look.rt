@@ -229,7 +229,7 @@ pub fn look_at_word<'a>(
     look_at_target(segments, locate(segments, segment, index), depth)
 }
 
-fn look_at_struct_object(object: &StructObject) -> StructParts<'_>
+pub fn look_at_struct_object(object: &StructObject) -> StructParts<'_>
     ensures { parts_tree result ≡ struct_object_tree object.now }
 {
     StructParts {
@@ -238,7 +238,7 @@ fn look_at_struct_object(object: &StructObject) -> StructParts<'_>
     }
 }
 
-fn look_at_list_object(object: &ListObject) -> Found<'_>
+pub fn look_at_list_object(object: &ListObject) -> Found<'_>
     ensures { found_tree result ≡ list_object_tree object.now }
 {
     match object {
@@ -370,7 +370,8 @@ pub fn get_element<'a>(size: StructSize, elements: Elements<'a>, index: usize) -
     }
 }
 
-fn count_pointers(pointers: Pointers<'_>) -> usize
+/// How many pointers there are.
+pub fn count_pointers(pointers: Pointers<'_>) -> usize
     ensures { result ≡ tree_count (pointer_trees pointers.entry) }
 {
     match pointers {
@@ -379,7 +380,8 @@ fn count_pointers(pointers: Pointers<'_>) -> usize
     }
 }
 
-fn count_elements(size: StructSize, elements: Elements<'_>) -> usize
+/// How many elements there are.
+pub fn count_elements(size: StructSize, elements: Elements<'_>) -> usize
     ensures { result ≡ struct_count (element_structs size.data_words size.pointers elements.entry) }
 {
     match elements {

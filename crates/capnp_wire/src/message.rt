@@ -4,6 +4,8 @@ ghost use Rattle.capnp_wire.specs.WellFormed.{AreSegments, AreSegments-prop};
 
 use crate::bytes::{half_at, part, rest};
 use crate::look::{ROOT_LEVELS, get_root_place};
+use crate::object::Object;
+use crate::pointer_builder::PointerBuilder;
 use crate::pointer_reader::PointerReader;
 use crate::segments::{Segments, count_words, get_header_bytes};
 use capnp_device::error::{Error, ErrorKind, Result};
@@ -60,5 +62,55 @@ impl<'a> Reader<'a> {
         ensures levels { levels_of result ≡ 64 }
     {
         PointerReader::new(get_root_place(self.segments), ROOT_LEVELS)
+    }
+}
+
+/// A message that is built.
+#[derive(Drop)]
+pub struct Builder {
+    root: Object,
+}
+
+impl Builder {
+    ghost use Rattle.std.specs.Prelude.{None, ◌≡◌, IfErr, OnErr, OnOk};
+    ghost use Rattle.std.specs.Borrow.{sem};
+    ghost use Rattle.capnp_wire.specs.Tree.{Null};
+    ghost use Rattle.capnp_wire.specs.Objects.{object_tree};
+    ghost use Rattle.capnp_wire.specs.Standing.{tree_of};
+    ghost use Rattle.capnp_wire.specs.Words.{first_fault};
+    ghost use Rattle.capnp_wire.specs.Edits.{IsCopyRefusal};
+    ghost use Rattle.capnp_wire.specs.Message.{LendsRoot, builder_tree};
+
+    /// A message whose root is null. No memory is taken yet.
+    #[tactic(auto, unfolding(crate::specs::Message::builder_tree))]
+    pub fn new(alloc: Global) -> Builder
+        ensures { builder_tree result ≡ Null }
+    {
+        Builder {
+            root: Object::Null(alloc),
+        }
+    }
+
+    /// The message's root pointer.
+    #[tactic(auto, unfolding(crate::specs::Message::builder_tree))]
+    pub fn root(&mut self) -> PointerBuilder<'_>
+        ensures* lends { sem 𝓛 (LendsRoot self.entry result) }
+        ensures now { object_tree result.now ≡ builder_tree self.old }
+    {
+        &mut self.root
+    }
+
+    /// Makes the root a copy of what a reader stands on, of each occurrence of a shared target.
+    ///
+    /// Refused with `BadPointer`, `TooDeep` or `CapabilityPointer` where a pointer in the source can't be followed, by
+    /// the first of these in preorder, and with `OutOfMemory`; then nothing has changed.
+    #[tactic(auto, unfolding(crate::specs::Message::builder_tree))]
+    pub fn set_root(&mut self, source: PointerReader<'_>) -> Result<()>
+        ensures ok { OnOk result (builder_tree self.new ≡ tree_of source.entry) }
+        ensures sound { OnOk result (first_fault (tree_of source.entry) ≡ None) }
+        ensures refused { OnErr result (self.new ≡ self.old) }
+        ensures cause { IfErr result (λ e. IsCopyRefusal e (first_fault (tree_of source.entry))) }
+    {
+        self.root.copy_from(source)
     }
 }

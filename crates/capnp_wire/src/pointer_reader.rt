@@ -38,6 +38,14 @@ impl<'a> PointerReader<'a> {
         PointerReader { place, levels }
     }
 
+    /// Where the pointer stands.
+    #[tactic(auto, unfolding(crate::specs::Standing::tree_of))]
+    pub(crate) fn place(&self) -> Place<'a>
+        ensures { place_tree result ≡ tree_of self.now }
+    {
+        self.place
+    }
+
     /// A reader of the root pointer of one segment that stands alone, without a table before it, as a default or an
     /// annotation's value does. It has 64 levels. Bytes past the last whole word are not looked at; where there is no
     /// word the pointer can't be followed (`BadPointer`).

@@ -2,11 +2,12 @@
 //!
 //! A number stands lowest byte first, a signed one in two's complement (the encoding page,
 //! "Primitive Values").
-ghost use Rattle.std.specs.Prelude.{◌≡◌, ◌<◌, ◌^◌, ℕ, bit_xor, refl, FitsSigned};
+ghost use Rattle.std.specs.Prelude.{◌≡◌, ◌<◌, ◌≤◌, ◌+◌, ◌*◌, ◌^◌, length, ℕ, bit_xor, refl, FitsSigned};
 ghost use Rattle.std.specs.Int.{w8, w16, w32, w64, cast_signed, cast_unsigned};
 ghost use Rattle.std.proofs.lemmas.Int.{of_z-to_z, to_z-of_z};
 ghost use Rattle.std.proofs.Math.Facts.{Fits-lt-pow, Fits-of_z};
 ghost use Rattle.capnp_wire.specs.Slot.{number_at};
+ghost use Rattle.capnp_wire.specs.Edits.{with_number};
 
 use crate::bytes::{get_word, number_from};
 
@@ -34,6 +35,16 @@ pub trait PrimitiveElement: Copy {
     /// page, "Default Values").
     fn read_masked(bytes: &[u8], offset: u32, mask: Self) -> Self
         ensures { result ≡ of_number (bit_xor (number_at width offset bytes.now) (to_number mask)) };
+
+    /// Writes a value at `offset`, in units of its own width, where its bytes are inside.
+    fn write(bytes: &mut [u8], offset: u32, value: Self)
+        requires { (offset + 1) * width ≤ length bytes.old }
+        ensures { bytes.new ≡ with_number width offset (to_number value) bytes.old };
+
+    /// Writes a value XORed with `mask` at `offset`, as a field whose default is `mask` is stored.
+    fn write_masked(bytes: &mut [u8], offset: u32, value: Self, mask: Self)
+        requires { (offset + 1) * width ≤ length bytes.old }
+        ensures { bytes.new ≡ with_number width offset (bit_xor (to_number value) (to_number mask)) bytes.old };
 
     /// The number of a value takes no more bytes than the width.
     ghost number_fits: { (x : Self) → in_range x → to_number x < 256 ^ width };
@@ -70,6 +81,16 @@ impl PrimitiveElement for u8 {
     fn read_masked(bytes: &[u8], offset: u32, mask: u8) -> u8 {
         u8::read(bytes, offset) ^ mask
     }
+
+    #[inline]
+    fn write(bytes: &mut [u8], offset: u32, value: u8) {
+        bytes[offset as usize] = value;
+    }
+
+    #[inline]
+    fn write_masked(bytes: &mut [u8], offset: u32, value: u8, mask: u8) {
+        u8::write(bytes, offset, value ^ mask);
+    }
 }
 
 impl PrimitiveElement for u16 {
@@ -100,6 +121,17 @@ impl PrimitiveElement for u16 {
     #[inline]
     fn read_masked(bytes: &[u8], offset: u32, mask: u16) -> u16 {
         u16::read(bytes, offset) ^ mask
+    }
+
+    #[inline]
+    fn write(bytes: &mut [u8], offset: u32, value: u16) {
+        let start = 2 * offset as usize;
+        bytes[start..start + 2].copy_from_slice(&value.to_le_bytes());
+    }
+
+    #[inline]
+    fn write_masked(bytes: &mut [u8], offset: u32, value: u16, mask: u16) {
+        u16::write(bytes, offset, value ^ mask);
     }
 }
 
@@ -132,6 +164,17 @@ impl PrimitiveElement for u32 {
     fn read_masked(bytes: &[u8], offset: u32, mask: u32) -> u32 {
         u32::read(bytes, offset) ^ mask
     }
+
+    #[inline]
+    fn write(bytes: &mut [u8], offset: u32, value: u32) {
+        let start = 4 * offset as usize;
+        bytes[start..start + 4].copy_from_slice(&value.to_le_bytes());
+    }
+
+    #[inline]
+    fn write_masked(bytes: &mut [u8], offset: u32, value: u32, mask: u32) {
+        u32::write(bytes, offset, value ^ mask);
+    }
 }
 
 impl PrimitiveElement for u64 {
@@ -157,6 +200,17 @@ impl PrimitiveElement for u64 {
     #[inline]
     fn read_masked(bytes: &[u8], offset: u32, mask: u64) -> u64 {
         u64::read(bytes, offset) ^ mask
+    }
+
+    #[inline]
+    fn write(bytes: &mut [u8], offset: u32, value: u64) {
+        let start = 8 * offset as usize;
+        bytes[start..start + 8].copy_from_slice(&value.to_le_bytes());
+    }
+
+    #[inline]
+    fn write_masked(bytes: &mut [u8], offset: u32, value: u64, mask: u64) {
+        u64::write(bytes, offset, value ^ mask);
     }
 }
 
@@ -184,6 +238,16 @@ impl PrimitiveElement for i8 {
     fn read_masked(bytes: &[u8], offset: u32, mask: i8) -> i8 {
         u8::read_masked(bytes, offset, mask.cast_unsigned()).cast_signed()
     }
+
+    #[inline]
+    fn write(bytes: &mut [u8], offset: u32, value: i8) {
+        u8::write(bytes, offset, value.cast_unsigned());
+    }
+
+    #[inline]
+    fn write_masked(bytes: &mut [u8], offset: u32, value: i8, mask: i8) {
+        u8::write_masked(bytes, offset, value.cast_unsigned(), mask.cast_unsigned());
+    }
 }
 
 impl PrimitiveElement for i16 {
@@ -209,6 +273,16 @@ impl PrimitiveElement for i16 {
     #[inline]
     fn read_masked(bytes: &[u8], offset: u32, mask: i16) -> i16 {
         u16::read_masked(bytes, offset, mask.cast_unsigned()).cast_signed()
+    }
+
+    #[inline]
+    fn write(bytes: &mut [u8], offset: u32, value: i16) {
+        u16::write(bytes, offset, value.cast_unsigned());
+    }
+
+    #[inline]
+    fn write_masked(bytes: &mut [u8], offset: u32, value: i16, mask: i16) {
+        u16::write_masked(bytes, offset, value.cast_unsigned(), mask.cast_unsigned());
     }
 }
 
@@ -236,6 +310,16 @@ impl PrimitiveElement for i32 {
     fn read_masked(bytes: &[u8], offset: u32, mask: i32) -> i32 {
         u32::read_masked(bytes, offset, mask.cast_unsigned()).cast_signed()
     }
+
+    #[inline]
+    fn write(bytes: &mut [u8], offset: u32, value: i32) {
+        u32::write(bytes, offset, value.cast_unsigned());
+    }
+
+    #[inline]
+    fn write_masked(bytes: &mut [u8], offset: u32, value: i32, mask: i32) {
+        u32::write_masked(bytes, offset, value.cast_unsigned(), mask.cast_unsigned());
+    }
 }
 
 impl PrimitiveElement for i64 {
@@ -261,6 +345,16 @@ impl PrimitiveElement for i64 {
     #[inline]
     fn read_masked(bytes: &[u8], offset: u32, mask: i64) -> i64 {
         u64::read_masked(bytes, offset, mask.cast_unsigned()).cast_signed()
+    }
+
+    #[inline]
+    fn write(bytes: &mut [u8], offset: u32, value: i64) {
+        u64::write(bytes, offset, value.cast_unsigned());
+    }
+
+    #[inline]
+    fn write_masked(bytes: &mut [u8], offset: u32, value: i64, mask: i64) {
+        u64::write_masked(bytes, offset, value.cast_unsigned(), mask.cast_unsigned());
     }
 }
 

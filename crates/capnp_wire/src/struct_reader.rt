@@ -45,6 +45,14 @@ impl<'a> StructReader<'a> {
         StructReader::new(empty_parts(), levels)
     }
 
+    /// What the struct holds.
+    #[tactic(auto, unfolding(crate::specs::Standing::struct_of))]
+    pub(crate) fn parts(&self) -> StructParts<'a>
+        ensures { parts_tree result ≡ struct_of self.now }
+    {
+        self.parts
+    }
+
     /// The number at `offset`, in units of its own size, as it is stored (encoding, "Structs").
     #[tactic(auto, unfolding(crate::specs::Standing::struct_of))]
     pub fn get_data_field<T: PrimitiveElement>(&self, offset: u32) -> T

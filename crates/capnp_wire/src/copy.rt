@@ -1,0 +1,201 @@
+//! Copies what stands at a place into owned objects. A message in memory holds no fault leaf, so what has one is refused.
+ghost use Rattle.std.specs.Prelude.{◌≡◌, None, IfErr, IfOk, IsTrue};
+ghost use Rattle.capnp_wire.specs.Edits.{IsCopyRefusal, rounded, whole_words};
+ghost use Rattle.capnp_wire.specs.Found.{element_structs, found_tree, parts_tree, place_tree, pointer_trees};
+ghost use Rattle.capnp_wire.specs.Objects.{list_object_tree, object_tree, object_trees, struct_object_tree, struct_object_trees};
+ghost use Rattle.capnp_wire.specs.Reading.{is_list};
+ghost use Rattle.capnp_wire.specs.WellFormed.{IsWellFormed};
+ghost use Rattle.capnp_wire.specs.Words.{first_fault, first_fault_of_all, first_fault_of_elements};
+ghost use Rattle.capnp_device.specs.declared.error.ErrorKind.TheVariants.{OutOfMemory};
+
+use crate::fault::refuse;
+use crate::look::{
+    Elements, Found, Place, Pointers, StructParts, count_elements, count_pointers, get_element,
+    get_pointer, look,
+};
+use crate::object::{ListObject, Object, StructObject};
+use crate::size::StructSize;
+use capnp_device::error::Result;
+use std::alloc::Global;
+
+/// The object of what stands at a place. Each section and each list takes its memory once.
+///
+/// Refused with `OutOfMemory` where memory is refused, and with `BadPointer`, `TooDeep` or `CapabilityPointer` where a
+/// pointer in it can't be followed, by the first of these in preorder; with either where both hold.
+#[cycle(copy)]
+pub fn copy_place(alloc: Global, place: Place<'_>) -> Result<Object>
+    ensures copy { IfOk result (λ object. object_tree object ≡ place_tree place.entry) }
+    ensures sound { IfOk result (λ _. first_fault (place_tree place.entry) ≡ None) }
+    ensures refused { IfErr result (λ error. IsCopyRefusal error (first_fault (place_tree place.entry))) }
+{
+    match look(place) {
+        Found::Null => Ok(Object::Null(alloc)),
+        Found::Bad(fault) => Err(refuse(fault)),
+        Found::Struct(parts) => {
+            let object = copy_struct(alloc, parts)?;
+            Ok(Object::Struct(object))
+        }
+        found => {
+            let object = copy_found(alloc, found)?;
+            Ok(Object::List(object))
+        }
+    }
+}
+
+/// The object of a struct, with its data as it is.
+#[cycle(copy)]
+fn copy_struct(alloc: Global, parts: StructParts<'_>) -> Result<StructObject>
+    ensures copy { IfOk result (λ object. struct_object_tree object ≡ parts_tree parts.entry) }
+    ensures sound { IfOk result (λ _. first_fault_of_all (parts_tree parts.entry).pointers ≡ None) }
+    ensures refused { IfErr result (λ error. IsCopyRefusal error (first_fault_of_all (parts_tree parts.entry).pointers)) }
+{
+    let data = Vec::from_slice(alloc, parts.data)?;
+    let pointers = copy_pointers(alloc, parts.pointers)?;
+    Ok(StructObject { data, pointers })
+}
+
+/// The object of a list. The bytes of a list of bits are kept whole, with what lies past its last bit.
+///
+/// Refused as `copy_place`.
+#[cycle(copy)]
+pub fn copy_found(alloc: Global, found: Found<'_>) -> Result<ListObject>
+    requires { IsTrue (is_list (found_tree found)) }
+    ensures copy { IfOk result (λ object. list_object_tree object ≡ found_tree found.entry) }
+    ensures sound { IfOk result (λ _. first_fault (found_tree found.entry) ≡ None) }
+    ensures refused { IfErr result (λ error. IsCopyRefusal error (first_fault (found_tree found.entry))) }
+{
+    match found {
+        Found::Voids(count) => Ok(ListObject::Voids(alloc, count)),
+        Found::Bits(bytes, count) => {
+            let bytes = Vec::from_slice(alloc, bytes)?;
+            Ok(ListObject::Bits(bytes, count))
+        }
+        Found::Numbers(width, bytes) => {
+            let bytes = Vec::from_slice(alloc, bytes)?;
+            Ok(ListObject::Numbers(width, bytes))
+        }
+        Found::Pointers(pointers) => {
+            let pointers = copy_pointers(alloc, pointers)?;
+            Ok(ListObject::Pointers(pointers))
+        }
+        Found::Composite(size, elements) => {
+            let elements = copy_elements(alloc, size, elements)?;
+            Ok(ListObject::Composite(size, elements))
+        }
+        _ => unreachable!(),
+    }
+}
+
+/// The objects of pointers in a row.
+#[cycle(copy)]
+fn copy_pointers(alloc: Global, pointers: Pointers<'_>) -> Result<Vec<Object>>
+    ensures copy { IfOk result (λ objects. object_trees objects.items ≡ pointer_trees pointers.entry) }
+    ensures sound { IfOk result (λ _. first_fault_of_all (pointer_trees pointers.entry) ≡ None) }
+    ensures refused { IfErr result (λ error. IsCopyRefusal error (first_fault_of_all (pointer_trees pointers.entry))) }
+{
+    let count = count_pointers(pointers);
+    let mut objects = Vec::with_capacity(alloc, count)?;
+    for i in 0..count {
+        let object = copy_place(alloc, get_pointer(pointers, i))?;
+        objects.push(object)?;
+    }
+    Ok(objects)
+}
+
+/// The objects of a composite list's elements.
+#[cycle(copy)]
+fn copy_elements(
+    alloc: Global,
+    size: StructSize,
+    elements: Elements<'_>,
+) -> Result<Vec<StructObject>>
+    ensures copy { IfOk result (λ objects. struct_object_trees objects.items ≡ element_structs size.data_words size.pointers elements.entry) }
+    ensures sound { IfOk result (λ _. first_fault_of_elements (element_structs size.data_words size.pointers elements.entry) ≡ None) }
+    ensures refused { IfErr result (λ error. IsCopyRefusal error (first_fault_of_elements (element_structs size.data_words size.pointers elements.entry))) }
+{
+    let count = count_elements(size, elements);
+    let mut objects = Vec::with_capacity(alloc, count)?;
+    for i in 0..count {
+        let object = copy_struct(alloc, get_element(size, elements, i))?;
+        objects.push(object)?;
+    }
+    Ok(objects)
+}
+
+/// Bytes, and zeros up to a whole word.
+fn copy_whole_words(alloc: Global, bytes: &[u8]) -> Result<Vec<u8>>
+    ensures copy { IfOk result (λ copied. copied.items ≡ whole_words bytes.now) }
+    ensures refused { IfErr result (λ error. error.kind ≡ OutOfMemory) }
+{
+    let size = 8 * bytes.len().div_ceil(8);
+    let mut copied = Vec::with_capacity(alloc, size)?;
+    copied.extend_from_slice(bytes)?;
+    copied.extend_from_slice(&[0; 7][..size - bytes.len()])?;
+    Ok(copied)
+}
+
+/// The object of a struct, with its data rounded up to whole words: what is read as a struct may be an element of a list
+/// of numbers, and its data ends within a word.
+///
+/// Refused as `copy_place`.
+pub fn copy_parts(alloc: Global, parts: StructParts<'_>) -> Result<StructObject>
+    ensures copy { IfOk result (λ object. struct_object_tree object ≡ rounded (parts_tree parts.entry)) }
+    ensures sound { IfOk result (λ _. first_fault_of_all (parts_tree parts.entry).pointers ≡ None) }
+    ensures refused { IfErr result (λ error. IsCopyRefusal error (first_fault_of_all (parts_tree parts.entry).pointers)) }
+{
+    let data = copy_whole_words(alloc, parts.data)?;
+    let pointers = copy_pointers(alloc, parts.pointers)?;
+    Ok(StructObject { data, pointers })
+}
+
+#[cfg(test)]
+mod tests {
+    use super::*;
+    use crate::look::get_root_place;
+    use crate::segments::Segments;
+    use crate::size::ElementSize;
+    use std::test::Fail;
+
+    /// The root of one segment.
+    fn copy_root(alloc: Global, words: &[u8]) -> Result<Object>
+        ensures { IfOk result (λ object. IsWellFormed (object_tree object)) }
+    {
+        copy_place(alloc, get_root_place(Segments::One(words)))
+    }
+
+    #[test]
+    fn reads_a_copy(rt: HostRuntime) -> std::result::Result<(), Fail> {
+        // a struct of a word and two pointers: the text "hi", and two structs of a word each
+        let words = [
+            0, 0, 0, 0, 1, 0, 2, 0, //
+            0x2a, 0, 0, 0, 0, 0, 0, 0, //
+            5, 0, 0, 0, 0x1a, 0, 0, 0, //
+            5, 0, 0, 0, 0x17, 0, 0, 0, //
+            b'h', b'i', 0, 0, 0, 0, 0, 0, //
+            8, 0, 0, 0, 1, 0, 0, 0, //
+            7, 0, 0, 0, 0, 0, 0, 0, //
+            9, 0, 0, 0, 0, 0, 0, 0,
+        ];
+        let object = copy_root(rt.alloc(), &words)?;
+        let root = object.as_reader().get_struct()?;
+        assert_eq!(rt; root.get_data_field::<u16>(0), 0x2a);
+        assert_eq!(rt; root.get_pointer_field(0).get_text()?, b"hi".as_slice());
+        let elements = root.get_pointer_field(1).get_list(ElementSize::Byte)?;
+        assert_eq!(rt; elements.len(), 2);
+        assert_eq!(rt; elements.get_data_element::<u8>(1), 9);
+        Ok(())
+    }
+
+    #[test]
+    fn rounds_data_up(rt: HostRuntime) -> std::result::Result<(), Fail> {
+        for (bytes, want) in [(0, 0), (3, 8), (8, 8), (9, 16)] {
+            let parts = StructParts {
+                data: &[255; 9][..bytes],
+                pointers: Pointers::Objects(&[]),
+            };
+            let object = copy_parts(rt.alloc(), parts)?;
+            assert_eq!(rt; object.data.len(), want, "of {bytes}");
+        }
+        Ok(())
+    }
+}

@@ -1,0 +1,67 @@
+//! New objects, all zero and null.
+ghost use Rattle.std.specs.Prelude.{◌≡◌, IfErr, IfOk, ℕ, replicate};
+ghost use Rattle.capnp_wire.specs.Edits.{nulls, zero_list, zero_struct, zero_structs};
+ghost use Rattle.capnp_wire.specs.Objects.{list_object_tree, object_trees, struct_object_tree};
+
+use crate::object::{ListObject, Object, StructObject};
+use crate::size::{ElementSize, StructSize};
+use std::alloc::{AllocError, Global};
+
+fn make_zeros(alloc: Global, count: usize) -> Result<Vec<u8>, AllocError>
+    ensures { IfOk result (λ bytes. bytes.items ≡ replicate count 0) }
+{
+    vec![in alloc; 0u8; count]
+}
+
+fn make_nulls(alloc: Global, count: usize) -> Result<Vec<Object>, AllocError>
+    ensures { IfOk result (λ objects. object_trees objects.items ≡ nulls count) }
+{
+    let mut objects = Vec::with_capacity(alloc, count)?;
+    for _ in 0..count {
+        objects.push(Object::Null(alloc))?;
+    }
+    Ok(objects)
+}
+
+/// A struct of a size.
+pub fn make_struct(alloc: Global, size: StructSize) -> Result<StructObject, AllocError>
+    ensures { IfOk result (λ object. struct_object_tree object ≡ zero_struct size) }
+{
+    let data = make_zeros(alloc, 8 * size.data_words as usize)?;
+    let pointers = make_nulls(alloc, size.pointers as usize)?;
+    Ok(StructObject { data, pointers })
+}
+
+/// A list of so many structs of a size.
+pub fn make_structs(alloc: Global, size: StructSize, count: u32) -> Result<ListObject, AllocError>
+    ensures { IfOk result (λ object. list_object_tree object ≡ zero_structs size count) }
+{
+    let mut elements = Vec::with_capacity(alloc, count as usize)?;
+    for _ in 0..count {
+        elements.push(make_struct(alloc, size)?)?;
+    }
+    Ok(ListObject::Composite(size, elements))
+}
+
+/// A list of so many elements of a size.
+pub fn make_list(alloc: Global, size: ElementSize, count: u32) -> Result<ListObject, AllocError>
+    ensures { IfOk result (λ object. list_object_tree object ≡ zero_list size count) }
+{
+    let elements = count as usize;
+    match size {
+        ElementSize::Void => Ok(ListObject::Voids(alloc, count)),
+        ElementSize::Bit => Ok(ListObject::Bits(make_zeros(alloc, elements.div_ceil(8))?, count)),
+        ElementSize::Byte => Ok(ListObject::Numbers(1, make_zeros(alloc, elements)?)),
+        ElementSize::TwoBytes => Ok(ListObject::Numbers(2, make_zeros(alloc, 2 * elements)?)),
+        ElementSize::FourBytes => Ok(ListObject::Numbers(4, make_zeros(alloc, 4 * elements)?)),
+        ElementSize::EightBytes => Ok(ListObject::Numbers(8, make_zeros(alloc, 8 * elements)?)),
+        ElementSize::Pointer => Ok(ListObject::Pointers(make_nulls(alloc, elements)?)),
+        ElementSize::InlineComposite => {
+            let size = StructSize {
+                data_words: 0,
+                pointers: 0,
+            };
+            make_structs(alloc, size, count)
+        }
+    }
+}

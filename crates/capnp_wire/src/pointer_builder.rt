@@ -1,0 +1,228 @@
+//! Builders of pointers.
+ghost use Rattle.std.specs.Prelude.{None, ◌⊎◌, ◌*◌, ◌≡◌, ◌≢◌, ◌+◌, IsTrue, ◌∷◌, ◌++◌, [], ◌<◌, ◌≤◌, ◌^◌, IfErr, IfOk, OnErr, OnOk, length};
+ghost use Rattle.std.specs.Borrow.{sem};
+ghost use Rattle.capnp_wire.specs.Tree.{Null, Numbers};
+ghost use Rattle.capnp_wire.specs.Objects.{list_object_tree, object_tree, struct_object_tree};
+ghost use Rattle.capnp_wire.specs.Place.{struct_tree};
+ghost use Rattle.capnp_wire.specs.Reading.{is_list, is_null_tree};
+ghost use Rattle.capnp_wire.specs.Edits.{IsCopyRefusal, IsRoomRefusal, rounded, is_struct, zero_list, zero_struct, zero_structs};
+ghost use Rattle.capnp_wire.specs.Words.{first_fault, first_fault_of_all};
+ghost use Rattle.capnp_wire.specs.Standing.{struct_of, tree_of};
+ghost use Rattle.capnp_wire.specs.Lends.{LendsList, LendsOwnList, LendsOwnStruct, LendsStruct};
+ghost use Rattle.capnp_device.specs.declared.error.ErrorKind.TheVariants.{OutOfMemory, SizePastFormat};
+
+use crate::copy::{copy_parts, copy_place};
+use crate::make::{make_list, make_struct, make_structs};
+use crate::object::{ListObject, Object, StructObject};
+use crate::pointer_reader::PointerReader;
+use crate::size::{ElementSize, StructSize};
+use crate::struct_reader::StructReader;
+use capnp_device::error::{Error, ErrorKind, Result};
+use std::alloc::Global;
+
+/// A pointer that is built.
+pub type PointerBuilder<'a> = &'a mut Object;
+
+/// A struct that is built.
+pub type StructBuilder<'a> = &'a mut StructObject;
+
+/// A list that is built.
+pub type ListBuilder<'a> = &'a mut ListObject;
+
+/// The most elements of a list.
+pub const MOST_ELEMENTS: u32 = (1 << 29) - 1;
+
+impl Object {
+    /// The allocator of the message.
+    fn allocator(&self) -> Global {
+        match self {
+            Object::Null(alloc) => *alloc,
+            Object::Struct(object) => *object.data.allocator(),
+            Object::List(object) => object.allocator(),
+        }
+    }
+
+    /// The same pointer for a shorter time.
+    pub fn reborrow(&mut self) -> PointerBuilder<'_>
+        ensures name { result.ghost_name ≡ self.entry.ghost_name }
+        ensures now { result.now ≡ self.old }
+    {
+        self
+    }
+
+    /// Whether the pointer is null.
+    pub fn is_null(&self) -> bool
+        ensures { result ≡ is_null_tree (object_tree self.now) }
+    {
+        match self {
+            Object::Null(_) => true,
+            Object::Struct(_) => false,
+            Object::List(_) => false,
+        }
+    }
+
+    /// Makes the pointer null.
+    pub fn clear(&mut self)
+        ensures { object_tree self.new ≡ Null }
+    {
+        let alloc = self.allocator();
+        *self = Object::Null(alloc);
+    }
+
+    /// The struct that stands here.
+    fn struct_here(&mut self) -> StructBuilder<'_>
+        requires { IsTrue (is_struct (object_tree self.old)) }
+        ensures* lends { sem 𝓛 (LendsOwnStruct self.entry result) }
+        ensures now { struct_tree (struct_object_tree result.now) ≡ object_tree self.old }
+    {
+        match self {
+            Object::Null(_) => unreachable!(),
+            Object::Struct(object) => object,
+            Object::List(_) => unreachable!(),
+        }
+    }
+
+    /// The list that stands here.
+    fn list_here(&mut self) -> ListBuilder<'_>
+        requires { IsTrue (is_list (object_tree self.old)) }
+        ensures* lends { sem 𝓛 (LendsOwnList self.entry result) }
+        ensures now { list_object_tree result.now ≡ object_tree self.old }
+    {
+        match self {
+            Object::Null(_) => unreachable!(),
+            Object::Struct(_) => unreachable!(),
+            Object::List(object) => object,
+        }
+    }
+
+    /// Replaces what stands here by a struct of a size, all zero and null.
+    ///
+    /// Refused with `OutOfMemory`, and then nothing has changed.
+    pub fn init_struct(&mut self, size: StructSize) -> Result<StructBuilder<'_>>
+        ensures* lends { sem 𝓛 (LendsStruct self.entry result) }
+        ensures now { IfOk result (λ s. struct_object_tree s.now ≡ zero_struct size) }
+        ensures refused { IfErr result (λ e. e.kind ≡ OutOfMemory) }
+    {
+        let made = make_struct(self.allocator(), size)?;
+        *self = Object::Struct(made);
+        Ok(self.struct_here())
+    }
+
+    /// Replaces what stands here by a list of so many elements of a size, all zero, false or null.
+    ///
+    /// Refused with `SizePastFormat` for 2^29 elements or more, and else with `OutOfMemory`; then nothing has changed.
+    pub fn init_list(&mut self, size: ElementSize, count: u32) -> Result<ListBuilder<'_>>
+        requires { size ≢ ElementSize.InlineComposite }
+        ensures* lends { sem 𝓛 (LendsList self.entry result) }
+        ensures now { IfOk result (λ l. list_object_tree l.now ≡ zero_list size count) }
+        ensures within { OnOk result (count < 2 ^ 29) }
+        ensures refused { IfErr result (λ e. IsRoomRefusal e (2 ^ 29 ≤ count)) }
+    {
+        if count > MOST_ELEMENTS {
+            return Err(Error::from(ErrorKind::SizePastFormat));
+        }
+        let made = make_list(self.allocator(), size, count)?;
+        *self = Object::List(made);
+        Ok(self.list_here())
+    }
+
+    /// Replaces what stands here by a list of so many structs of a size, all zero and null.
+    ///
+    /// Refused with `SizePastFormat` for 2^29 elements or more, or where they take 2^29 words or more, and else with
+    /// `OutOfMemory`; then nothing has changed.
+    pub fn init_struct_list(&mut self, count: u32, size: StructSize) -> Result<ListBuilder<'_>>
+        ensures* lends { sem 𝓛 (LendsList self.entry result) }
+        ensures now { IfOk result (λ l. list_object_tree l.now ≡ zero_structs size count) }
+        ensures within { OnOk result ((count < 2 ^ 29) × (count * (size.data_words + size.pointers) < 2 ^ 29)) }
+        ensures refused { IfErr result (λ e. IsRoomRefusal e ((2 ^ 29 ≤ count) ⊎ (2 ^ 29 ≤ count * (size.data_words + size.pointers)))) }
+    {
+        let words = count as u64 * (size.data_words as u64 + size.pointers as u64);
+        if count > MOST_ELEMENTS {
+            return Err(Error::from(ErrorKind::SizePastFormat));
+        }
+        if words >= 1 << 29 {
+            return Err(Error::from(ErrorKind::SizePastFormat));
+        }
+        let made = make_structs(self.allocator(), size, count)?;
+        *self = Object::List(made);
+        Ok(self.list_here())
+    }
+
+    /// Replaces what stands here by a text: these bytes, and the zero that ends it.
+    ///
+    /// Refused with `SizePastFormat` where these would be 2^29 bytes or more, and else with `OutOfMemory`; then nothing
+    /// has changed.
+    pub fn set_text(&mut self, text: &[u8]) -> Result<()>
+        ensures ok { OnOk result (object_tree self.new ≡ Numbers 1 (text.now ++ 0 ∷ [])) }
+        ensures refused { OnErr result (self.new ≡ self.old) }
+        ensures cause { IfErr result (λ e. IsRoomRefusal e (2 ^ 29 ≤ length text.now + 1)) }
+    {
+        if text.len() >= MOST_ELEMENTS as usize {
+            return Err(Error::from(ErrorKind::SizePastFormat));
+        }
+        let mut bytes = Vec::with_capacity(self.allocator(), text.len() + 1)?;
+        bytes.extend_from_slice(text)?;
+        bytes.push(0)?;
+        *self = Object::List(ListObject::Numbers(1, bytes));
+        Ok(())
+    }
+
+    /// Replaces what stands here by a list of these bytes.
+    ///
+    /// Refused with `SizePastFormat` for 2^29 bytes or more, and else with `OutOfMemory`; then nothing has changed.
+    pub fn set_data(&mut self, bytes: &[u8]) -> Result<()>
+        ensures ok { OnOk result (object_tree self.new ≡ Numbers 1 bytes.now) }
+        ensures refused { OnErr result (self.new ≡ self.old) }
+        ensures cause { IfErr result (λ e. IsRoomRefusal e (2 ^ 29 ≤ length bytes.now)) }
+    {
+        if bytes.len() > MOST_ELEMENTS as usize {
+            return Err(Error::from(ErrorKind::SizePastFormat));
+        }
+        let bytes = Vec::from_slice(self.allocator(), bytes)?;
+        *self = Object::List(ListObject::Numbers(1, bytes));
+        Ok(())
+    }
+
+    /// Replaces what stands here by a copy of what a reader stands on, of each occurrence of a shared target.
+    ///
+    /// Refused with `BadPointer`, `TooDeep` or `CapabilityPointer` where a pointer in the source can't be followed, by
+    /// the first of these in preorder, and with `OutOfMemory`; then nothing has changed.
+    #[tactic(auto, unfolding(crate::specs::Standing::tree_of))]
+    pub fn copy_from(&mut self, source: PointerReader<'_>) -> Result<()>
+        ensures ok { OnOk result (object_tree self.new ≡ tree_of source.entry) }
+        ensures sound { OnOk result (first_fault (tree_of source.entry) ≡ None) }
+        ensures refused { OnErr result (self.new ≡ self.old) }
+        ensures cause { IfErr result (λ e. IsCopyRefusal e (first_fault (tree_of source.entry))) }
+    {
+        let copied = copy_place(self.allocator(), source.place())?;
+        *self = copied;
+        Ok(())
+    }
+
+    /// Replaces what stands here by a copy of a struct, with its data rounded up to whole words.
+    ///
+    /// Refused as `copy_from`.
+    #[tactic(auto, unfolding(crate::specs::Standing::struct_of))]
+    pub fn set_struct(&mut self, source: &StructReader<'_>) -> Result<()>
+        ensures ok { OnOk result (object_tree self.new ≡ struct_tree (rounded (struct_of source.now))) }
+        ensures sound { OnOk result (first_fault_of_all (struct_of source.now).pointers ≡ None) }
+        ensures refused { OnErr result (self.new ≡ self.old) }
+        ensures cause { IfErr result (λ e. IsCopyRefusal e (first_fault_of_all (struct_of source.now).pointers)) }
+    {
+        let copied = copy_parts(self.allocator(), source.parts())?;
+        *self = Object::Struct(copied);
+        Ok(())
+    }
+}
+
+impl ListObject {
+    fn allocator(&self) -> Global {
+        match self {
+            ListObject::Voids(alloc, _) => *alloc,
+            ListObject::Bits(bytes, _) => *bytes.allocator(),
+            ListObject::Numbers(_, bytes) => *bytes.allocator(),
+            ListObject::Pointers(objects) => *objects.allocator(),
+            ListObject::Composite(_, objects) => *objects.allocator(),
+        }
+    }
+}
