@@ -35,3 +35,8 @@ pub mod TreeSizes
 pub mod Copies
 pub mod RowsEdits
 pub mod NewTrees
+pub mod Measuring
+pub mod Appending
+pub mod BitBytes
+pub mod PointerParts
+pub mod ObjectFaults

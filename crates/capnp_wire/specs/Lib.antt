@@ -18,3 +18,4 @@ pub mod Encoding
 pub mod Depth
 pub mod Edits
 pub mod Lends
+pub mod Measured

@@ -98,3 +98,67 @@ fn each_list_is_made(rt: HostRuntime) -> std::result::Result<(), Fail> {
     assert!(rt; !message.root().is_null());
     Ok(())
 }
+
+#[test]
+fn messages_are_written_to_the_byte(rt: HostRuntime) -> std::result::Result<(), Fail> {
+    let mut message = Builder::new(rt.alloc());
+    assert_eq!(rt;
+        message.write_message()?.as_slice(),
+        [0, 0, 0, 0, 1, 0, 0, 0, 0, 0, 0, 0, 0, 0, 0, 0].as_slice()
+    );
+    let empty = StructSize {
+        data_words: 0,
+        pointers: 0,
+    };
+    message.root().init_struct(empty)?;
+    assert_eq!(rt;
+        message.write_message()?.as_slice(),
+        [0, 0, 0, 0, 1, 0, 0, 0, 0xfc, 0xff, 0xff, 0xff, 0, 0, 0, 0].as_slice()
+    );
+    message.root().set_text(b"Hello, World!")?;
+    assert_eq!(rt;
+        message.write_message()?.as_slice(),
+        [
+            0, 0, 0, 0, 3, 0, 0, 0, 1, 0, 0, 0, 0x72, 0, 0, 0, 0x48, 0x65, 0x6c, 0x6c, 0x6f, 0x2c,
+            0x20, 0x57, 0x6f, 0x72, 0x6c, 0x64, 0x21, 0, 0, 0,
+        ]
+        .as_slice()
+    );
+    let fields = message.root().init_struct(ONE_EACH)?;
+    fields.set_data_field::<u64>(0, 0x0000_0009_0001_0005);
+    assert_eq!(rt;
+        message.write_message()?.as_slice(),
+        [
+            0, 0, 0, 0, 3, 0, 0, 0, 0, 0, 0, 0, 1, 0, 1, 0, 5, 0, 1, 0, 9, 0, 0, 0, 0, 0, 0, 0, 0,
+            0, 0, 0,
+        ]
+        .as_slice()
+    );
+    Ok(())
+}
+
+#[test]
+fn a_copy_is_written_as_it_was(rt: HostRuntime) -> std::result::Result<(), Fail> {
+    // a struct with a text
+    let whole = [
+        0, 0, 0, 0, 4, 0, 0, 0, 0, 0, 0, 0, 1, 0, 1, 0, 5, 0, 1, 0, 9, 0, 0, 0, 1, 0, 0, 0, 0x1a,
+        0, 0, 0, 0x68, 0x69, 0, 0, 0, 0, 0, 0,
+    ];
+    let mut message = Builder::new(rt.alloc());
+    message.set_root(Reader::new(rt.alloc(), &whole)?.get_root())?;
+    assert_eq!(rt; message.write_message()?.as_slice(), whole.as_slice());
+    // two segments and a far pointer, which become one segment
+    let far = [
+        1, 0, 0, 0, 1, 0, 0, 0, 2, 0, 0, 0, 0, 0, 0, 0, 2, 0, 0, 0, 1, 0, 0, 0, 0, 0, 0, 0, 1, 0,
+        0, 0, 5, 0, 0, 0, 0, 0, 0, 0,
+    ];
+    message.set_root(Reader::new(rt.alloc(), &far)?.get_root())?;
+    assert_eq!(rt;
+        message.write_message()?.as_slice(),
+        [
+            0, 0, 0, 0, 2, 0, 0, 0, 0, 0, 0, 0, 1, 0, 0, 0, 5, 0, 0, 0, 0, 0, 0, 0,
+        ]
+        .as_slice()
+    );
+    Ok(())
+}

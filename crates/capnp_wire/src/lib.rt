@@ -8,12 +8,14 @@
 mod builder_tests;
 mod bytes;
 mod copy;
+mod encode;
 pub mod fault;
 pub mod laws;
 mod list_reader;
 mod locate;
 mod look;
 mod make;
+mod measure;
 pub mod message;
 pub mod object;
 mod pointer_builder;

@@ -3,6 +3,7 @@ ghost use Rattle.capnp_wire.specs.Backing.{segment_list};
 ghost use Rattle.capnp_wire.specs.WellFormed.{AreSegments, AreSegments-prop};
 
 use crate::bytes::{half_at, part, rest};
+use crate::encode::write_object;
 use crate::look::{ROOT_LEVELS, get_root_place};
 use crate::object::Object;
 use crate::pointer_builder::PointerBuilder;
@@ -72,14 +73,19 @@ pub struct Builder {
 }
 
 impl Builder {
-    ghost use Rattle.std.specs.Prelude.{None, ◌≡◌, IfErr, OnErr, OnOk};
+    ghost use Rattle.std.specs.Prelude.{ℕ, suc, List, None, Ok, ◌++◌, ◌≡◌, ◌≢◌, ◌<◌, ◌≤◌, ◌^◌, IfErr, IfOk, OnErr, OnOk};
     ghost use Rattle.std.specs.Borrow.{sem};
     ghost use Rattle.capnp_wire.specs.Tree.{Null};
     ghost use Rattle.capnp_wire.specs.Objects.{object_tree};
     ghost use Rattle.capnp_wire.specs.Standing.{tree_of};
-    ghost use Rattle.capnp_wire.specs.Words.{first_fault};
+    ghost use Rattle.capnp_wire.specs.Words.{first_fault, words_of};
     ghost use Rattle.capnp_wire.specs.Edits.{IsCopyRefusal};
     ghost use Rattle.capnp_wire.specs.Message.{LendsRoot, builder_tree};
+    ghost use Rattle.capnp_wire.specs.Encoding.{message_of};
+    ghost use Rattle.capnp_wire.specs.Depth.{IsShallow};
+    ghost use Rattle.capnp_wire.specs.Stream.{message_tree_of};
+    ghost use Rattle.capnp_wire.specs.WellFormed.{IsWellFormed};
+    ghost use Rattle.capnp_device.specs.declared.error.ErrorKind.TheVariants.{OutOfMemory, TooLarge};
 
     /// A message whose root is null. No memory is taken yet.
     #[tactic(auto, unfolding(crate::specs::Message::builder_tree))]
@@ -112,5 +118,21 @@ impl Builder {
         ensures cause { IfErr result (λ e. IsCopyRefusal e (first_fault (tree_of source.entry))) }
     {
         self.root.copy_from(source)
+    }
+
+    /// The bytes of the message in a stream: one segment, with the objects that the root leads to. The message takes its
+    /// memory once.
+    ///
+    /// Refused with `TooLarge` where the segment would be 2^29 words or more, or where the format can't hold the tree, and
+    /// with `OutOfMemory`.
+    #[tactic(auto, unfolding(crate::specs::Message::builder_tree))]
+    pub fn write_message(&self) -> Result<Vec<u8>>
+        ensures bytes { IfOk result (λ v. v.items ≡ message_of (builder_tree self.now)) }
+        ensures held { IfOk result (λ _. IsWellFormed (builder_tree self.now) × (suc (words_of (builder_tree self.now)) < 2 ^ 29)) }
+        ensures read { IfOk result (λ v. IsShallow (builder_tree self.now) → (rest : List ℕ) → message_tree_of (v.items ++ rest) ≡ Ok (builder_tree self.now)) }
+        ensures kinds { IfErr result (λ e. e.kind ≢ TooLarge → e.kind ≡ OutOfMemory) }
+        ensures refused { IfErr result (λ e. e.kind ≡ TooLarge → IsWellFormed (builder_tree self.now) → 2 ^ 29 ≤ suc (words_of (builder_tree self.now))) }
+    {
+        write_object(self.root.allocator(), &self.root)
     }
 }

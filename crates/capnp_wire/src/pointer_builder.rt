@@ -34,7 +34,7 @@ pub const MOST_ELEMENTS: u32 = (1 << 29) - 1;
 
 impl Object {
     /// The allocator of the message.
-    fn allocator(&self) -> Global {
+    pub(crate) fn allocator(&self) -> Global {
         match self {
             Object::Null(alloc) => *alloc,
             Object::Struct(object) => *object.data.allocator(),
