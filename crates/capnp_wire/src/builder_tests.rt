@@ -162,3 +162,24 @@ fn a_copy_is_written_as_it_was(rt: HostRuntime) -> std::result::Result<(), Fail>
     );
     Ok(())
 }
+
+#[test]
+fn a_struct_is_copied_with_whole_words(rt: HostRuntime) -> std::result::Result<(), Fail> {
+    // a list of one byte, read as a struct of one byte of data
+    let short = [
+        0, 0, 0, 0, 2, 0, 0, 0, 1, 0, 0, 0, 0x0a, 0, 0, 0, 7, 0, 0, 0, 0, 0, 0, 0,
+    ];
+    let list = Reader::new(rt.alloc(), &short)?
+        .get_root()
+        .get_list(ElementSize::Byte)?;
+    let mut message = Builder::new(rt.alloc());
+    message.root().set_struct(&list.get_struct_element(0)?)?;
+    assert_eq!(rt;
+        message.write_message()?.as_slice(),
+        [
+            0, 0, 0, 0, 2, 0, 0, 0, 0, 0, 0, 0, 1, 0, 0, 0, 7, 0, 0, 0, 0, 0, 0, 0,
+        ]
+        .as_slice()
+    );
+    Ok(())
+}
