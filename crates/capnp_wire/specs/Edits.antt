@@ -23,9 +23,10 @@ rounded s = record { bytes = whole_words s.bytes; pointers = s.pointers }
 abbrev pub IsCopyRefusal : Error → Option Fault → Type 0
 IsCopyRefusal error fault = error.kind ≢ OutOfMemory → option_map refusal fault ≡ Some error.kind
 
--- why there is no room for what is new: the format has none, or memory was refused
+-- why there is no room for what is new: the format has none, which is said wherever it has none, and else memory was
+-- refused
 abbrev pub IsRoomRefusal : Error → Type 0 → Type 0
-IsRoomRefusal error past = (error.kind ≢ SizePastFormat → error.kind ≡ OutOfMemory) × (error.kind ≡ SizePastFormat → past)
+IsRoomRefusal error past = (error.kind ≢ SizePastFormat → error.kind ≡ OutOfMemory) × (error.kind ≡ SizePastFormat → past) × (past → error.kind ≡ SizePastFormat)
 
 -- ---- bytes ----
 

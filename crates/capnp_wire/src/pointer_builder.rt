@@ -154,6 +154,7 @@ impl Object {
     /// has changed.
     pub fn set_text(&mut self, text: &[u8]) -> Result<()>
         ensures ok { OnOk result (object_tree self.new ≡ Numbers 1 (text.now ++ 0 ∷ [])) }
+        ensures within { OnOk result (length text.now + 1 < 2 ^ 29) }
         ensures refused { OnErr result (self.new ≡ self.old) }
         ensures cause { IfErr result (λ e. IsRoomRefusal e (2 ^ 29 ≤ length text.now + 1)) }
     {
@@ -172,6 +173,7 @@ impl Object {
     /// Refused with `SizePastFormat` for 2^29 bytes or more, and else with `OutOfMemory`; then nothing has changed.
     pub fn set_data(&mut self, bytes: &[u8]) -> Result<()>
         ensures ok { OnOk result (object_tree self.new ≡ Numbers 1 bytes.now) }
+        ensures within { OnOk result (length bytes.now < 2 ^ 29) }
         ensures refused { OnErr result (self.new ≡ self.old) }
         ensures cause { IfErr result (λ e. IsRoomRefusal e (2 ^ 29 ≤ length bytes.now)) }
     {
