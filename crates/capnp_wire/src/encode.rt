@@ -70,6 +70,7 @@ fn get_list_pointer(gap: u64, object: &ListObject) -> u64
     ensures { result ≡ pointer_word gap (list_object_tree object.now) }
 {
     match object {
+        ListObject::Missing(_, _) => 0,
         ListObject::Voids(_, count) => make_list_word(gap, 0, *count as u64),
         ListObject::Bits(_, count) => make_list_word(gap, 1, *count as u64),
         ListObject::Numbers(width, bytes) => {
@@ -243,6 +244,7 @@ fn append_list(out: &mut Vec<u8>, object: &ListObject) -> Appended
     ensures { IfOk result (λ _. out.new.items ≡ out.old.items ++ own_bytes (list_object_tree object.now)) }
 {
     match object {
+        ListObject::Missing(_, _) => Ok(()),
         ListObject::Voids(_, _) => Ok(()),
         ListObject::Bits(bytes, count) => {
             append_bits(out, bytes.as_slice(), *count)?;
@@ -315,6 +317,7 @@ fn append_below_list(out: &mut Vec<u8>, object: &ListObject) -> Appended
     ensures { IfOk result (λ _. out.new.items ≡ out.old.items ++ bytes_below (list_object_tree object.now)) }
 {
     match object {
+        ListObject::Missing(_, _) => Ok(()),
         ListObject::Voids(_, _) => Ok(()),
         ListObject::Bits(_, _) => Ok(()),
         ListObject::Numbers(_, _) => Ok(()),

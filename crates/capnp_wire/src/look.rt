@@ -242,6 +242,7 @@ pub fn look_at_list_object(object: &ListObject) -> Found<'_>
     ensures { found_tree result ≡ list_object_tree object.now }
 {
     match object {
+        ListObject::Missing(_, _) => Found::Null,
         ListObject::Voids(_, count) => Found::Voids(*count),
         ListObject::Bits(bytes, count) => Found::Bits(bytes.as_slice(), *count),
         ListObject::Numbers(width, bytes) => Found::Numbers(*width, bytes.as_slice()),

@@ -90,6 +90,7 @@ fn measure_list(object: &ListObject) -> Option<u64>
     ensures { Measured result (IsWellFormed (list_object_tree object.now)) (words_of (list_object_tree object.now)) }
 {
     match object {
+        ListObject::Missing(_, _) => Some(0),
         ListObject::Voids(_, count) => { if *count < 1 << 29 { Some(0) } else { None } }
         ListObject::Bits(_, count) => {
             if *count < 1 << 29 {

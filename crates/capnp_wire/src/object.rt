@@ -2,7 +2,7 @@
 
 use crate::look::{Place, ROOT_LEVELS};
 use crate::pointer_reader::PointerReader;
-use crate::size::StructSize;
+use crate::size::{ElementSize, StructSize};
 use std::alloc::Global;
 
 /// What stands at a pointer of a message in memory.
@@ -27,6 +27,9 @@ pub struct StructObject {
 #[derive(Drop)]
 #[cycle(object)]
 pub enum ListObject {
+    /// The list of nothing that a null pointer is read as, and the size of elements that was asked. The pointer is still
+    /// null.
+    Missing(Global, ElementSize),
     /// How many elements of nothing there are.
     Voids(Global, u32),
     /// The bits, lowest first in each byte, and how many there are.

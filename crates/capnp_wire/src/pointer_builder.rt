@@ -57,7 +57,7 @@ impl Object {
         match self {
             Object::Null(_) => true,
             Object::Struct(_) => false,
-            Object::List(_) => false,
+            Object::List(object) => matches!(object, ListObject::Missing(_, _)),
         }
     }
 
@@ -220,6 +220,7 @@ impl Object {
 impl ListObject {
     fn allocator(&self) -> Global {
         match self {
+            ListObject::Missing(alloc, _) => *alloc,
             ListObject::Voids(alloc, _) => *alloc,
             ListObject::Bits(bytes, _) => *bytes.allocator(),
             ListObject::Numbers(_, bytes) => *bytes.allocator(),

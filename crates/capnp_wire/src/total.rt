@@ -130,6 +130,7 @@ fn total_list_object(object: &ListObject) -> Total
     ensures { Totals result (first_fault (list_object_tree object.now)) (words_of (list_object_tree object.now)) }
 {
     match object {
+        ListObject::Missing(_, _) => Ok(0),
         ListObject::Voids(_, _) => Ok(0),
         ListObject::Bits(_, count) => Ok((*count as u64 + 63) / 64),
         ListObject::Numbers(_, bytes) => Ok(bytes.len().div_ceil(8) as u64),
