@@ -1,6 +1,7 @@
 pub mod Spelled
 pub mod Cut
 pub mod Lists
+pub mod ListObjects
 pub mod Levels
 pub mod ByteRuns
 pub mod SegmentBytes

@@ -1,11 +1,19 @@
 -- How a part of an object is lent: the object ends as itself, with just that part as it was left.
-use Rattle.std.specs.Prelude.{ℕ, Result}
-use Rattle.std.specs.Borrow.{Lends, LendsIfOk, MutBor, Fml}
+use Rattle.std.specs.Prelude.{ℕ, ◌≡◌, Option, Some, None, Result, Vec, slice_get}
+use Rattle.std.specs.Borrow.{Lends, LendsIfOk, MutBor, Fml, RattleType}
 use Rattle.std.specs.Vec.{with_item}
+use Rattle.std.specs.declared.alloc.Global.{Global}
+use Rattle.std.specs.contracts.vec.Vec as vec
+use Rattle.std.specs.contracts.alloc.Global as global
+use Rattle.std.specs.contracts.impls.GlobalAllocator.TheImpl.{ghosts}
 use Rattle.capnp_wire.specs.declared.object.Object.{Object}
 use Rattle.capnp_wire.specs.declared.object.Object.TheVariants as object
 use Rattle.capnp_wire.specs.declared.object.StructObject.{StructObject}
-use Rattle.capnp_wire.specs.declared.object.ListObject.{ListObject}
+use Rattle.capnp_wire.specs.declared.object.ListObject.{ListObject, out-ListObject}
+use Rattle.capnp_wire.specs.declared.object.ListObject.TheVariants as list
+use Rattle.capnp_wire.specs.declared.object.ListObject.TheOpen as layer
+use Rattle.capnp_wire.specs.declared.object.ListObject.TheOpen.{ListObject-F}
+use Rattle.capnp_wire.specs.declared.size.StructSize.{StructSize}
 use Rattle.capnp_wire.specs.contracts.object.Object.{the_row as object_row}
 use Rattle.capnp_wire.specs.contracts.object.StructObject.{the_row as struct_row}
 use Rattle.capnp_wire.specs.contracts.object.ListObject.{the_row as list_row}
@@ -32,3 +40,89 @@ LendsOwnList o r = Lends object_row list_row o r object.List
 -- the same of the list
 abbrev pub LendsList : {E : Type 0} → MutBor Object → Result (MutBor ListObject) E → Fml
 LendsList o r = LendsIfOk object_row list_row o r object.List o.now
+
+-- ---- elements of a list ----
+
+abbrev pub objects_row : RattleType
+objects_row = vec.the_row object_row global.the_row ghosts
+
+abbrev pub structs_row : RattleType
+structs_row = vec.the_row struct_row global.the_row ghosts
+
+-- one layer of a list
+abbrev pub Layer : Type 0
+Layer = ListObject-F ListObject Object StructObject
+
+-- a list of pointers with other pointers, and one of structs with other structs
+abbrev pub with_objects_at : ListObject → Layer → Vec Object Global → ListObject
+with_objects_at l (layer.Missing alloc size) os = l
+with_objects_at l (layer.Voids alloc count) os = l
+with_objects_at l (layer.Bits bytes count) os = l
+with_objects_at l (layer.Numbers width bytes) os = l
+with_objects_at l (layer.Pointers ps) os = list.Pointers os
+with_objects_at l (layer.Composite size es) os = l
+
+abbrev pub with_structs_at : ListObject → Layer → Vec StructObject Global → ListObject
+with_structs_at l (layer.Missing alloc size) ss = l
+with_structs_at l (layer.Voids alloc count) ss = l
+with_structs_at l (layer.Bits bytes count) ss = l
+with_structs_at l (layer.Numbers width bytes) ss = l
+with_structs_at l (layer.Pointers ps) ss = l
+with_structs_at l (layer.Composite size es) ss = list.Composite size ss
+
+abbrev pub LendsObjects : MutBor ListObject → MutBor (Vec Object Global) → Fml
+LendsObjects l r = Lends list_row objects_row l r (with_objects_at l.now (out-ListObject l.now))
+
+abbrev pub LendsStructs : MutBor ListObject → MutBor (Vec StructObject Global) → Fml
+LendsStructs l r = Lends list_row structs_row l r (with_structs_at l.now (out-ListObject l.now))
+
+-- the pointers, and the structs, that a list has
+abbrev pub HasObjects : Layer → Vec Object Global → Type 0
+HasObjects (layer.Missing alloc size) os = ⊥
+HasObjects (layer.Voids alloc count) os = ⊥
+HasObjects (layer.Bits bytes count) os = ⊥
+HasObjects (layer.Numbers width bytes) os = ⊥
+HasObjects (layer.Pointers ps) os = os ≡ ps
+HasObjects (layer.Composite size es) os = ⊥
+
+abbrev pub HasStructs : Layer → Vec StructObject Global → Type 0
+HasStructs (layer.Missing alloc size) ss = ⊥
+HasStructs (layer.Voids alloc count) ss = ⊥
+HasStructs (layer.Bits bytes count) ss = ⊥
+HasStructs (layer.Numbers width bytes) ss = ⊥
+HasStructs (layer.Pointers ps) ss = ⊥
+HasStructs (layer.Composite size es) ss = ss ≡ es
+
+-- a list of structs with another one at an index
+abbrev pub with_element_at : ListObject → Layer → ℕ → StructObject → ListObject
+with_element_at l (layer.Missing alloc size) i s = l
+with_element_at l (layer.Voids alloc count) i s = l
+with_element_at l (layer.Bits bytes count) i s = l
+with_element_at l (layer.Numbers width bytes) i s = l
+with_element_at l (layer.Pointers ps) i s = l
+with_element_at l (layer.Composite size es) i s = list.Composite size (with_item es i s)
+
+abbrev pub with_element : ListObject → ℕ → StructObject → ListObject
+with_element l = with_element_at l (out-ListObject l)
+
+abbrev pub LendsElement : MutBor ListObject → ℕ → MutBor StructObject → Fml
+LendsElement l i r = Lends list_row struct_row l r (with_element l.now i)
+
+-- a list with another object at an index: of structs, as the first pointer of one
+abbrev pub with_first_pointer : StructSize → Vec StructObject Global → ℕ → Object → Option StructObject → ListObject
+with_first_pointer size es i o (Some s) = list.Composite size (with_item es i (with_pointer s 0 o))
+with_first_pointer size es i o None = list.Composite size es
+
+abbrev pub with_object_at : ListObject → Layer → ℕ → Object → ListObject
+with_object_at l (layer.Missing alloc size) i o = l
+with_object_at l (layer.Voids alloc count) i o = l
+with_object_at l (layer.Bits bytes count) i o = l
+with_object_at l (layer.Numbers width bytes) i o = l
+with_object_at l (layer.Pointers ps) i o = list.Pointers (with_item ps i o)
+with_object_at l (layer.Composite size es) i o = with_first_pointer size es i o (slice_get es.items i)
+
+abbrev pub with_object : ListObject → ℕ → Object → ListObject
+with_object l = with_object_at l (out-ListObject l)
+
+abbrev pub LendsObject : MutBor ListObject → ℕ → MutBor Object → Fml
+LendsObject l i r = Lends list_row object_row l r (with_object l.now i)

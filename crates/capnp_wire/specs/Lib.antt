@@ -17,5 +17,6 @@ pub mod Total
 pub mod Encoding
 pub mod Depth
 pub mod Edits
+pub mod Elements
 pub mod Lends
 pub mod Measured

@@ -12,6 +12,7 @@ mod encode;
 pub mod fault;
 pub mod laws;
 mod list_reader;
+mod list_builder;
 mod locate;
 mod look;
 mod make;

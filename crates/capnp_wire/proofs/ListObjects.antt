@@ -1,0 +1,116 @@
+-- The objects that a list holds, and what is lent of them.
+use Rattle.std.proofs.Common.{◌≡◌, ℕ, ◌<◌, List, length, get_or, map, refl, sym, ap, ◌∙◌, subst, arith, Vec, Global}
+use Rattle.std.proofs.lemmas.Option.{slice_get_read}
+use Rattle.std.specs.Vec.{with_item}
+use Rattle.capnp_wire.specs.Tree as tree
+use Rattle.capnp_wire.specs.Tree.{Tree, StructTree, nth_struct, nth_tree, struct_count, tree_count}
+use Rattle.capnp_wire.specs.Objects.{list_layer, object_layer, struct_layer, list_object_tree, object_tree, object_trees, struct_object_tree, struct_object_trees}
+use Rattle.capnp_wire.specs.Reading.{cut_pointer, element_pointer, element_struct}
+use Rattle.capnp_wire.specs.Elements.{HasPointer, HasStruct}
+use Rattle.capnp_wire.specs.Lends.{Layer, HasObjects, HasStructs, with_objects_at, with_structs_at, with_element, with_element_at, with_first_pointer, with_object, with_object_at, with_pointer}
+use Rattle.capnp_wire.specs.declared.object.Object.{Object}
+use Rattle.capnp_wire.specs.declared.object.ListObject.{ListObject, out-ListObject}
+use Rattle.capnp_wire.specs.declared.object.ListObject.TheVariants as list
+use Rattle.capnp_wire.specs.declared.object.ListObject.TheOpen as layer
+use Rattle.capnp_wire.specs.declared.object.ListObject.TheFolds.{fold_out-ListObject, map-ListObject}
+use Rattle.capnp_wire.specs.declared.object.StructObject.{StructObject}
+use Rattle.capnp_wire.specs.declared.size.StructSize.{StructSize}
+use Rattle.capnp_wire.proofs.Lists.{nth_struct-of, nth_tree-of, struct_count-of, tree_count-of}
+
+-- the tree of a list, by its layer
+abbrev pub layer_tree : Layer → Tree
+layer_tree y = list_layer (map-ListObject ListObject Object StructObject Tree Tree StructTree list_object_tree object_tree struct_object_tree y)
+
+pub tree-layer : (l : ListObject) → list_object_tree l ≡ layer_tree (out-ListObject l)
+tree-layer = fold_out-ListObject Tree Tree StructTree list_layer object_layer struct_layer
+
+-- ---- structs ----
+
+structs_layer : (y : Layer) (ss : Vec StructObject Global) → HasStructs y ss → (size : StructSize) × (y ≡ layer.Composite size ss)
+structs_layer (layer.Missing alloc size) ss e = elim e [ ]
+structs_layer (layer.Voids alloc count) ss e = elim e [ ]
+structs_layer (layer.Bits bytes count) ss e = elim e [ ]
+structs_layer (layer.Numbers width bytes) ss e = elim e [ ]
+structs_layer (layer.Pointers ps) ss e = elim e [ ]
+structs_layer (layer.Composite size es) ss e = (size, ap (layer.Composite size) (sym e))
+
+-- the list is one of these structs
+structs_tree : (l : ListObject) (ss : Vec StructObject Global) → HasStructs (out-ListObject l) ss → (size : StructSize) × (list_object_tree l ≡ tree.Composite size.data_words size.pointers (struct_object_trees ss.items))
+structs_tree l ss e =
+    let s = structs_layer (out-ListObject l) ss e in
+    (s.0, tree-layer l ∙ ap layer_tree s.1)
+
+pub struct_inside : (l : ListObject) (ss : Vec StructObject Global) (i : ℕ) → HasStructs (out-ListObject l) ss → HasStruct (list_object_tree l) i → i < length ss.items
+struct_inside l ss i e h =
+    let s = structs_tree l ss e in
+    let inside : i < struct_count (struct_object_trees ss.items) = subst (λ t. HasStruct t i) s.1 h in
+    omega (arith, inside, struct_count-of struct_object_tree ss.items)
+
+pub struct_seen : (l : ListObject) (ss : Vec StructObject Global) (i : ℕ) (d : StructObject) → HasStructs (out-ListObject l) ss → i < length ss.items → element_struct (list_object_tree l) i ≡ struct_object_tree (get_or ss.items i d)
+struct_seen l ss i d e h = ap (λ t. element_struct t i) (structs_tree l ss e).1 ∙ nth_struct-of struct_object_tree ss.items i d h
+
+pub element_lent : (l : ListObject) (ss : Vec StructObject Global) (i : ℕ) (s : StructObject) → HasStructs (out-ListObject l) ss → with_structs_at l (out-ListObject l) (with_item ss i s) ≡ with_element l i s
+element_lent l ss i s e =
+    let found = (structs_layer (out-ListObject l) ss e).1 in
+    ap (λ y. with_structs_at l y (with_item ss i s)) found ∙ sym (ap (λ y. with_element_at l y i s) found)
+
+-- ---- pointers ----
+
+objects_layer : (y : Layer) (os : Vec Object Global) → HasObjects y os → y ≡ layer.Pointers os
+objects_layer (layer.Missing alloc size) os e = elim e [ ]
+objects_layer (layer.Voids alloc count) os e = elim e [ ]
+objects_layer (layer.Bits bytes count) os e = elim e [ ]
+objects_layer (layer.Numbers width bytes) os e = elim e [ ]
+objects_layer (layer.Pointers ps) os e = ap layer.Pointers (sym e)
+objects_layer (layer.Composite size es) os e = elim e [ ]
+
+-- the list is one of these pointers
+objects_tree : (l : ListObject) (os : Vec Object Global) → HasObjects (out-ListObject l) os → list_object_tree l ≡ tree.Pointers (object_trees os.items)
+objects_tree l os e = tree-layer l ∙ ap layer_tree (objects_layer (out-ListObject l) os e)
+
+pub object_inside : (l : ListObject) (os : Vec Object Global) (i : ℕ) → HasObjects (out-ListObject l) os → HasPointer (list_object_tree l) i → i < length os.items
+object_inside l os i e h =
+    let inside : i < tree_count (object_trees os.items) = subst (λ t. HasPointer t i) (objects_tree l os e) h in
+    omega (arith, inside, tree_count-of object_tree os.items)
+
+pub object_seen : (l : ListObject) (os : Vec Object Global) (i levels : ℕ) (d : Object) → HasObjects (out-ListObject l) os → i < length os.items → element_pointer (list_object_tree l) i levels ≡ object_tree (get_or os.items i d)
+object_seen l os i levels d e h = ap (λ t. element_pointer t i levels) (objects_tree l os e) ∙ nth_tree-of object_tree os.items i d h
+
+pub object_lent : (l : ListObject) (os : Vec Object Global) (i : ℕ) (o : Object) → HasObjects (out-ListObject l) os → with_objects_at l (out-ListObject l) (with_item os i o) ≡ with_object l i o
+object_lent l os i o e =
+    let found = objects_layer (out-ListObject l) os e in
+    ap (λ y. with_objects_at l y (with_item os i o)) found ∙ sym (ap (λ y. with_object_at l y i o) found)
+
+-- ---- the first pointer of a struct ----
+
+-- with a level left no pointer is too deep
+cut-none : (t : Tree) → cut_pointer 1 t ≡ t
+cut-none tree.Null = refl
+cut-none (tree.Struct bytes ps) = refl
+cut-none (tree.Voids n) = refl
+cut-none (tree.Bits bs) = refl
+cut-none (tree.Numbers w bytes) = refl
+cut-none (tree.Pointers ps) = refl
+cut-none (tree.Composite d p es) = refl
+cut-none (tree.FaultLeaf k) = refl
+
+pub struct_of_pointer : (l : ListObject) (ss : Vec StructObject Global) (i : ℕ) → HasStructs (out-ListObject l) ss → HasPointer (list_object_tree l) i → HasStruct (list_object_tree l) i
+struct_of_pointer l ss i e h =
+    let s = structs_tree l ss e in
+    subst (λ t. HasStruct t i) (sym s.1) (subst (λ t. HasPointer t i) s.1 h).0
+
+pub first_there : (l : ListObject) (ss : Vec StructObject Global) (i : ℕ) (d : StructObject) → HasStructs (out-ListObject l) ss → HasPointer (list_object_tree l) i → i < length ss.items → 0 < tree_count (struct_object_tree (get_or ss.items i d)).pointers
+first_there l ss i d e h inside =
+    let s = structs_tree l ss e in
+    let has : 0 < tree_count (nth_struct (struct_object_trees ss.items) i).pointers = (subst (λ t. HasPointer t i) s.1 h).1 in
+    subst (λ (x : StructTree). 0 < tree_count x.pointers) (nth_struct-of struct_object_tree ss.items i d inside) has
+
+pub first_seen : (l : ListObject) (ss : Vec StructObject Global) (i : ℕ) (d : StructObject) → HasStructs (out-ListObject l) ss → i < length ss.items → element_pointer (list_object_tree l) i 1 ≡ nth_tree (struct_object_tree (get_or ss.items i d)).pointers 0
+first_seen l ss i d e h =
+    ap (λ t. element_pointer t i 1) (structs_tree l ss e).1 ∙ cut-none _ ∙ ap (λ (s : StructTree). nth_tree s.pointers 0) (nth_struct-of struct_object_tree ss.items i d h)
+
+pub first_lent : (l : ListObject) (ss : Vec StructObject Global) (i : ℕ) (s : StructObject) (o : Object) → HasStructs (out-ListObject l) ss → i < length ss.items → s ≡ get_or ss.items i s → with_structs_at l (out-ListObject l) (with_item ss i (with_pointer s 0 o)) ≡ with_object l i o
+first_lent l ss i s o e h is =
+    let found = structs_layer (out-ListObject l) ss e in
+    ap (λ y. with_structs_at l y (with_item ss i (with_pointer s 0 o))) found.1
+    ∙ sym (ap (λ y. with_object_at l y i o) found.1 ∙ ap (with_first_pointer found.0 ss i o) (slice_get_read ss.items (length ss.items) i s refl h is))
