@@ -12,6 +12,7 @@ pub mod WellFormedParts
 pub mod MoreBytes
 pub mod Sums
 pub mod ObjectTrees
+pub mod Written
 pub mod Rows
 pub mod RowsWords
 pub mod RowsFar
@@ -39,5 +40,6 @@ pub mod NewTrees
 pub mod Measuring
 pub mod Appending
 pub mod BitBytes
+pub mod BitRows
 pub mod PointerParts
 pub mod ObjectFaults

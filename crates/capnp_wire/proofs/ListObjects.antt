@@ -29,7 +29,7 @@ tree-layer = fold_out-ListObject Tree Tree StructTree list_layer object_layer st
 structs_layer : (y : Layer) (ss : Vec StructObject Global) → HasStructs y ss → (size : StructSize) × (y ≡ layer.Composite size ss)
 structs_layer (layer.Missing alloc size) ss e = elim e [ ]
 structs_layer (layer.Voids alloc count) ss e = elim e [ ]
-structs_layer (layer.Bits bytes count) ss e = elim e [ ]
+structs_layer (layer.Bits row) ss e = elim e [ ]
 structs_layer (layer.Numbers width bytes) ss e = elim e [ ]
 structs_layer (layer.Pointers ps) ss e = elim e [ ]
 structs_layer (layer.Composite size es) ss e = (size, ap (layer.Composite size) (sym e))
@@ -59,7 +59,7 @@ element_lent l ss i s e =
 objects_layer : (y : Layer) (os : Vec Object Global) → HasObjects y os → y ≡ layer.Pointers os
 objects_layer (layer.Missing alloc size) os e = elim e [ ]
 objects_layer (layer.Voids alloc count) os e = elim e [ ]
-objects_layer (layer.Bits bytes count) os e = elim e [ ]
+objects_layer (layer.Bits row) os e = elim e [ ]
 objects_layer (layer.Numbers width bytes) os e = elim e [ ]
 objects_layer (layer.Pointers ps) os e = ap layer.Pointers (sym e)
 objects_layer (layer.Composite size es) os e = elim e [ ]

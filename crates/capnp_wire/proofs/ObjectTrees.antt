@@ -2,7 +2,8 @@
 use Rattle.std.proofs.Common.{◌≡◌, ℕ, ◌<◌, List, Vec, Global, length, get_or, ap, sym, ◌∙◌, rules}
 use Rattle.capnp_wire.specs.Tree as tree
 use Rattle.capnp_wire.specs.Tree.{StructTree, nth_tree, nth_struct}
-use Rattle.capnp_wire.specs.Place.{bits_from}
+use Rattle.capnp_wire.specs.Bits.{row_bits}
+use Rattle.capnp_wire.specs.declared.bits.BitRow.{BitRow}
 use Rattle.capnp_wire.specs.Objects.{object_tree, list_object_tree, struct_object_tree, object_trees, struct_object_trees}
 use Rattle.capnp_wire.specs.declared.object.Object.{Object}
 use Rattle.capnp_wire.specs.declared.object.StructObject.{StructObject}
@@ -13,8 +14,8 @@ use Rattle.capnp_wire.specs.declared.size.StructSize.{StructSize}
 use Rattle.capnp_wire.proofs.Lists.{nth_tree-of, nth_struct-of}
 
 -- a list of bits
-pub tree-bits : (bytes : Vec ℕ Global) (count : ℕ) → list_object_tree (Bits bytes count) ≡ tree.Bits (bits_from bytes.items 0 count)
-tree-bits bytes count = search (rules, the_lemmas)
+pub tree-bits : (row : BitRow) → list_object_tree (Bits row) ≡ tree.Bits (row_bits row)
+tree-bits row = search (rules, the_lemmas)
 
 -- a list of pointers
 pub tree-pointers : (objects : Vec Object Global) → list_object_tree (Pointers objects) ≡ tree.Pointers (object_trees objects.items)

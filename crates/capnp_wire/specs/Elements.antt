@@ -1,7 +1,30 @@
 -- Elements of a list that is built: where they are, and the list with another one.
 use Rattle.std.specs.Prelude.{ℕ, zero, suc, ◌+◌, ◌*◌, ◌<◌, ◌≤◌, Bool, true, false, List, length, slice_set}
 use Rattle.capnp_wire.specs.Tree.{Tree, Null, Struct, Voids, Bits, Numbers, Pointers, Composite, FaultLeaf, Trees, NoTrees, MoreTrees, Structs, NoStructs, MoreStructs, StructTree, nth_struct, tree_count, struct_count}
+use Rattle.capnp_wire.specs.Objects.{list_object_tree}
+use Rattle.capnp_wire.specs.Reading.{empty_list}
+use Rattle.capnp_wire.specs.declared.object.Object.{Object}
+use Rattle.capnp_wire.specs.declared.object.StructObject.{StructObject}
+use Rattle.capnp_wire.specs.declared.object.ListObject.{ListObject, out-ListObject}
+use Rattle.capnp_wire.specs.declared.object.ListObject.TheOpen as layer
+use Rattle.capnp_wire.specs.declared.object.ListObject.TheOpen.{ListObject-F}
 use Rattle.capnp_wire.specs.Edits.{with_bytes, with_number, with_pointer_tree, with_tree}
+
+-- ---- what a list that is built reads as ----
+
+abbrev pub built_list_at : ListObject → ListObject-F ListObject Object StructObject → Tree
+built_list_at l (layer.Missing alloc size) = empty_list size
+built_list_at l (layer.Voids alloc count) = list_object_tree l
+built_list_at l (layer.Bits row) = list_object_tree l
+built_list_at l (layer.Numbers width bytes) = list_object_tree l
+built_list_at l (layer.Pointers ps) = list_object_tree l
+built_list_at l (layer.Composite size es) = list_object_tree l
+
+-- at a null, the empty list of the size that was asked
+abbrev pub built_list : ListObject → Tree
+built_list l = built_list_at l (out-ListObject l)
+
+-- ---- where elements are ----
 
 -- a bit stands at the index
 abbrev pub HasBit : Tree → ℕ → Type 0
@@ -57,6 +80,8 @@ is_composite (Numbers w bytes) = false
 is_composite (Pointers ps) = false
 is_composite (Composite d p es) = true
 is_composite (FaultLeaf k) = false
+
+-- ---- with another element ----
 
 -- structs in a row with another one at an index
 abbrev pub with_struct : Structs → ℕ → StructTree → Structs

@@ -57,7 +57,7 @@ Layer = ListObject-F ListObject Object StructObject
 abbrev pub with_objects_at : ListObject → Layer → Vec Object Global → ListObject
 with_objects_at l (layer.Missing alloc size) os = l
 with_objects_at l (layer.Voids alloc count) os = l
-with_objects_at l (layer.Bits bytes count) os = l
+with_objects_at l (layer.Bits row) os = l
 with_objects_at l (layer.Numbers width bytes) os = l
 with_objects_at l (layer.Pointers ps) os = list.Pointers os
 with_objects_at l (layer.Composite size es) os = l
@@ -65,7 +65,7 @@ with_objects_at l (layer.Composite size es) os = l
 abbrev pub with_structs_at : ListObject → Layer → Vec StructObject Global → ListObject
 with_structs_at l (layer.Missing alloc size) ss = l
 with_structs_at l (layer.Voids alloc count) ss = l
-with_structs_at l (layer.Bits bytes count) ss = l
+with_structs_at l (layer.Bits row) ss = l
 with_structs_at l (layer.Numbers width bytes) ss = l
 with_structs_at l (layer.Pointers ps) ss = l
 with_structs_at l (layer.Composite size es) ss = list.Composite size ss
@@ -80,7 +80,7 @@ LendsStructs l r = Lends list_row structs_row l r (with_structs_at l.now (out-Li
 abbrev pub HasObjects : Layer → Vec Object Global → Type 0
 HasObjects (layer.Missing alloc size) os = ⊥
 HasObjects (layer.Voids alloc count) os = ⊥
-HasObjects (layer.Bits bytes count) os = ⊥
+HasObjects (layer.Bits row) os = ⊥
 HasObjects (layer.Numbers width bytes) os = ⊥
 HasObjects (layer.Pointers ps) os = os ≡ ps
 HasObjects (layer.Composite size es) os = ⊥
@@ -88,7 +88,7 @@ HasObjects (layer.Composite size es) os = ⊥
 abbrev pub HasStructs : Layer → Vec StructObject Global → Type 0
 HasStructs (layer.Missing alloc size) ss = ⊥
 HasStructs (layer.Voids alloc count) ss = ⊥
-HasStructs (layer.Bits bytes count) ss = ⊥
+HasStructs (layer.Bits row) ss = ⊥
 HasStructs (layer.Numbers width bytes) ss = ⊥
 HasStructs (layer.Pointers ps) ss = ⊥
 HasStructs (layer.Composite size es) ss = ss ≡ es
@@ -97,7 +97,7 @@ HasStructs (layer.Composite size es) ss = ss ≡ es
 abbrev pub with_element_at : ListObject → Layer → ℕ → StructObject → ListObject
 with_element_at l (layer.Missing alloc size) i s = l
 with_element_at l (layer.Voids alloc count) i s = l
-with_element_at l (layer.Bits bytes count) i s = l
+with_element_at l (layer.Bits row) i s = l
 with_element_at l (layer.Numbers width bytes) i s = l
 with_element_at l (layer.Pointers ps) i s = l
 with_element_at l (layer.Composite size es) i s = list.Composite size (with_item es i s)
@@ -116,7 +116,7 @@ with_first_pointer size es i o None = list.Composite size es
 abbrev pub with_object_at : ListObject → Layer → ℕ → Object → ListObject
 with_object_at l (layer.Missing alloc size) i o = l
 with_object_at l (layer.Voids alloc count) i o = l
-with_object_at l (layer.Bits bytes count) i o = l
+with_object_at l (layer.Bits row) i o = l
 with_object_at l (layer.Numbers width bytes) i o = l
 with_object_at l (layer.Pointers ps) i o = list.Pointers (with_item ps i o)
 with_object_at l (layer.Composite size es) i o = with_first_pointer size es i o (slice_get es.items i)

@@ -7,6 +7,7 @@ pub mod Reading
 pub mod WellFormed
 pub mod Stream
 pub mod Backing
+pub mod Bits
 pub mod Objects
 pub mod Found
 pub mod Standing

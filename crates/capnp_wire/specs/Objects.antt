@@ -1,7 +1,8 @@
 -- The tree of an owned object.
 use Rattle.std.specs.Prelude.{List, [], ◌∷◌, map}
 use Rattle.capnp_wire.specs.Tree.{Tree, Null, Voids, Bits, Numbers, Pointers, Composite, Trees, NoTrees, MoreTrees, Structs, NoStructs, MoreStructs, StructTree}
-use Rattle.capnp_wire.specs.Place.{bits_from, struct_tree}
+use Rattle.capnp_wire.specs.Place.{struct_tree}
+use Rattle.capnp_wire.specs.Bits.{row_bits}
 use Rattle.capnp_wire.specs.declared.object.Object.{Object}
 use Rattle.capnp_wire.specs.declared.object.ListObject.{ListObject}
 use Rattle.capnp_wire.specs.declared.object.StructObject.{StructObject}
@@ -26,7 +27,7 @@ object_layer (layer.List l) = l
 abbrev pub list_layer : ListObject-F Tree Tree StructTree → Tree
 list_layer (layer.Missing alloc size) = Null
 list_layer (layer.Voids alloc count) = Voids count
-list_layer (layer.Bits bytes count) = Bits (bits_from bytes.items 0 count)
+list_layer (layer.Bits row) = Bits (row_bits row)
 list_layer (layer.Numbers width bytes) = Numbers width bytes.items
 list_layer (layer.Pointers ps) = Pointers (trees_of ps.items)
 list_layer (layer.Composite size es) = Composite size.data_words size.pointers (structs_of es.items)

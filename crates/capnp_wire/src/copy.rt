@@ -8,6 +8,7 @@ ghost use Rattle.capnp_wire.specs.WellFormed.{IsWellFormed};
 ghost use Rattle.capnp_wire.specs.Words.{first_fault, first_fault_of_all, first_fault_of_elements};
 ghost use Rattle.capnp_device.specs.declared.error.ErrorKind.TheVariants.{OutOfMemory};
 
+use crate::bits::BitRow;
 use crate::fault::refuse;
 use crate::look::{
     Elements, Found, Place, Pointers, StructParts, count_elements, count_pointers, get_element,
@@ -54,7 +55,7 @@ fn copy_struct(alloc: Global, parts: StructParts<'_>) -> Result<StructObject>
     Ok(StructObject { data, pointers })
 }
 
-/// The object of a list. The bytes of a list of bits are kept whole, with what lies past its last bit.
+/// The object of a list.
 ///
 /// Refused as `copy_place`.
 #[cycle(copy)]
@@ -67,8 +68,8 @@ pub fn copy_found(alloc: Global, found: Found<'_>) -> Result<ListObject>
     match found {
         Found::Voids(count) => Ok(ListObject::Voids(alloc, count)),
         Found::Bits(bytes, count) => {
-            let bytes = Vec::from_slice(alloc, bytes)?;
-            Ok(ListObject::Bits(bytes, count))
+            let row = BitRow::copy(alloc, bytes, count)?;
+            Ok(ListObject::Bits(row))
         }
         Found::Numbers(width, bytes) => {
             let bytes = Vec::from_slice(alloc, bytes)?;

@@ -72,7 +72,7 @@ fn get_list_pointer(gap: u64, object: &ListObject) -> u64
     match object {
         ListObject::Missing(_, _) => 0,
         ListObject::Voids(_, count) => make_list_word(gap, 0, *count as u64),
-        ListObject::Bits(_, count) => make_list_word(gap, 1, *count as u64),
+        ListObject::Bits(row) => make_list_word(gap, 1, row.count as u64),
         ListObject::Numbers(width, bytes) => {
             if *width == 0 {
                 unreachable!()
@@ -246,8 +246,8 @@ fn append_list(out: &mut Vec<u8>, object: &ListObject) -> Appended
     match object {
         ListObject::Missing(_, _) => Ok(()),
         ListObject::Voids(_, _) => Ok(()),
-        ListObject::Bits(bytes, count) => {
-            append_bits(out, bytes.as_slice(), *count)?;
+        ListObject::Bits(row) => {
+            append_bits(out, row.bytes.as_slice(), row.count)?;
             Ok(())
         }
         ListObject::Numbers(_, bytes) => append_padded(out, bytes.as_slice()),
@@ -319,7 +319,7 @@ fn append_below_list(out: &mut Vec<u8>, object: &ListObject) -> Appended
     match object {
         ListObject::Missing(_, _) => Ok(()),
         ListObject::Voids(_, _) => Ok(()),
-        ListObject::Bits(_, _) => Ok(()),
+        ListObject::Bits(_) => Ok(()),
         ListObject::Numbers(_, _) => Ok(()),
         ListObject::Pointers(pointers) => append_targets(out, pointers.as_slice()),
         ListObject::Composite(size, elements) => append_below_all(out, *size, elements.as_slice()),

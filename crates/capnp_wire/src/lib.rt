@@ -6,6 +6,7 @@
 
 #[cfg(test)]
 mod builder_tests;
+mod bits;
 mod bytes;
 mod copy;
 mod encode;

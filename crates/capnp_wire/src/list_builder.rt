@@ -1,15 +1,23 @@
 //! Builders of lists.
-ghost use Rattle.std.specs.Prelude.{◌≡◌, ◌<◌, true, false};
+ghost use Rattle.std.specs.Prelude.{◌≡◌, ◌<◌, ◌^◌, ◌==◌, true, false};
 ghost use Rattle.std.specs.Borrow.{sem};
 ghost use Rattle.capnp_wire.specs.declared.object.ListObject.{out-ListObject};
 ghost use Rattle.capnp_wire.specs.Tree.{nth_struct, struct_count};
 ghost use Rattle.capnp_wire.specs.Objects.{list_object_tree, object_tree, struct_object_tree};
-ghost use Rattle.capnp_wire.specs.Reading.{element_pointer, element_struct};
-ghost use Rattle.capnp_wire.specs.Elements.{HasPointer, HasStruct, is_composite};
+ghost use Rattle.capnp_wire.specs.Reading.{element_bit, element_number, element_pointer, element_struct, list_length};
+ghost use Rattle.capnp_wire.specs.Standing.{list_levels, list_of};
+ghost use Rattle.capnp_wire.specs.WellFormed.{IsWellFormed};
+ghost use Rattle.capnp_wire.specs.Elements.{HasBit, HasNumber, HasPointer, HasStruct, built_list, is_composite, with_bit_element, with_number_element};
 ghost use Rattle.capnp_wire.specs.Lends.{HasObjects, HasStructs, LendsElement, LendsObject, LendsObjects, LendsStructs};
 
+use crate::bytes::get_bit;
+use crate::list_reader::ListReader;
+use crate::look::{
+    Found, ROOT_LEVELS, count_list, get_element, look_at_built_list, look_at_list_object,
+};
 use crate::object::{ListObject, Object, StructObject};
 use crate::pointer_builder::{ListBuilder, PointerBuilder, StructBuilder};
+use crate::primitive::PrimitiveElement;
 
 impl ListObject {
     /// The same list for a shorter time.
@@ -18,6 +26,100 @@ impl ListObject {
         ensures now { result.now ≡ self.old }
     {
         self
+    }
+
+    /// A reader of the list, with 64 levels.
+    pub fn as_reader(&self) -> ListReader<'_>
+        requires { IsWellFormed (list_object_tree self.now) }
+        ensures list { list_of result ≡ built_list self.now }
+        ensures levels { list_levels result ≡ 64 }
+    {
+        ListReader::new(look_at_built_list(self), ROOT_LEVELS)
+    }
+
+    /// How many elements there are, below 2^29.
+    pub fn len(&self) -> u32
+        requires { IsWellFormed (list_object_tree self.now) }
+        ensures length { result ≡ list_length (list_object_tree self.now) }
+        ensures bound { result < 2 ^ 29 }
+    {
+        count_list(look_at_list_object(self)) as u32
+    }
+
+    /// Whether there is no element.
+    pub fn is_empty(&self) -> bool
+        requires { IsWellFormed (list_object_tree self.now) }
+        ensures { result ≡ (list_length (list_object_tree self.now) == 0) }
+    {
+        self.len() == 0
+    }
+
+    /// The bit at `index`; false where the elements are no bits.
+    pub fn get_bool_element(&self, index: u32) -> bool
+        ensures { result ≡ element_bit (list_object_tree self.now) index }
+    {
+        match look_at_list_object(self) {
+            Found::Bits(bytes, count) => index < count && get_bit(bytes, index as usize),
+            _ => false,
+        }
+    }
+
+    /// Stores the bit at `index`.
+    pub fn set_bool_element(&mut self, index: u32, value: bool)
+        requires { HasBit (list_object_tree self.old) index }
+        ensures { list_object_tree self.new ≡ with_bit_element index value (list_object_tree self.old) }
+    {
+        match self {
+            ListObject::Missing(_, _) => unreachable!(),
+            ListObject::Voids(_, _) => unreachable!(),
+            ListObject::Bits(row) => row.set(index, value),
+            ListObject::Numbers(_, _) => unreachable!(),
+            ListObject::Pointers(_) => unreachable!(),
+            ListObject::Composite(_, _) => unreachable!(),
+        }
+    }
+
+    /// The number at `index`: of a struct, that at its start. Zero past the end.
+    pub fn get_data_element<T: PrimitiveElement>(&self, index: u32) -> T
+        ensures { result ≡ T.of_number (element_number T.width (list_object_tree self.now) index) }
+    {
+        match look_at_list_object(self) {
+            Found::Numbers(_, bytes) => T::read(bytes, index),
+            Found::Composite(size, elements) => T::read(
+                get_element(size, elements, index as usize).data,
+                0,
+            ),
+            _ => T::read(&[], 0),
+        }
+    }
+
+    /// Stores the number at `index`: in a struct, at its start.
+    pub fn set_data_element<T: PrimitiveElement>(&mut self, index: u32, value: T)
+        requires { HasNumber T.width (list_object_tree self.old) index }
+        ensures { list_object_tree self.new ≡ with_number_element T.width index (T.to_number value) (list_object_tree self.old) }
+    {
+        if self.is_composite() {
+            let element = self.get_struct_element(index);
+            element.set_data_field(0, value);
+        } else {
+            self.set_number(index, value);
+        }
+    }
+
+    /// Stores the number at `index` of a list of numbers.
+    fn set_number<T: PrimitiveElement>(&mut self, index: u32, value: T)
+        requires number { HasNumber T.width (list_object_tree self.old) index }
+        requires simple { is_composite (list_object_tree self.old) ≡ false }
+        ensures { list_object_tree self.new ≡ with_number_element T.width index (T.to_number value) (list_object_tree self.old) }
+    {
+        match self {
+            ListObject::Missing(_, _) => unreachable!(),
+            ListObject::Voids(_, _) => unreachable!(),
+            ListObject::Bits(_) => unreachable!(),
+            ListObject::Numbers(_, bytes) => T::write(bytes.as_mut_slice(), index, value),
+            ListObject::Pointers(_) => unreachable!(),
+            ListObject::Composite(_, _) => unreachable!(),
+        }
     }
 
     /// The structs of a list of structs.
@@ -29,7 +131,7 @@ impl ListObject {
         match self {
             ListObject::Missing(_, _) => unreachable!(),
             ListObject::Voids(_, _) => unreachable!(),
-            ListObject::Bits(_, _) => unreachable!(),
+            ListObject::Bits(_) => unreachable!(),
             ListObject::Numbers(_, _) => unreachable!(),
             ListObject::Pointers(_) => unreachable!(),
             ListObject::Composite(_, structs) => structs,
@@ -63,7 +165,7 @@ impl ListObject {
         match self {
             ListObject::Missing(_, _) => unreachable!(),
             ListObject::Voids(_, _) => unreachable!(),
-            ListObject::Bits(_, _) => unreachable!(),
+            ListObject::Bits(_) => unreachable!(),
             ListObject::Numbers(_, _) => unreachable!(),
             ListObject::Pointers(objects) => objects,
             ListObject::Composite(_, _) => unreachable!(),

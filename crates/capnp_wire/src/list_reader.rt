@@ -7,8 +7,8 @@ ghost use Rattle.capnp_wire.specs.WellFormed.{IsWellFormed, IsWellFormed-prop};
 use crate::bytes::{get_bit, part};
 use crate::fault::Fault;
 use crate::look::{
-    Elements, Found, Place, Pointers, StructParts, count_list, get_element, get_only_pointer,
-    get_pointer, look,
+    Found, Place, Pointers, StructParts, count_list, get_element, get_only_pointer,
+    get_pointer, look, look_at_nothing,
 };
 use crate::pointer_reader::PointerReader;
 use crate::primitive::PrimitiveElement;
@@ -64,7 +64,7 @@ impl<'a> ListReader<'a> {
 
     /// A reader of a list.
     #[tactic(auto, unfolding(crate::specs::Standing::list_of, crate::specs::Standing::list_levels))]
-    fn new(found: Found<'a>, levels: u32) -> ListReader<'a>
+    pub(crate) fn new(found: Found<'a>, levels: u32) -> ListReader<'a>
         requires { IsWellFormed (found_tree found) }
         ensures list { list_of result ≡ found_tree found.entry }
         ensures levels { list_levels result ≡ levels }
@@ -77,24 +77,7 @@ impl<'a> ListReader<'a> {
         ensures list { list_of result ≡ empty_list size }
         ensures levels { list_levels result ≡ levels }
     {
-        let none = Pointers::Objects(&[]);
-        let found = match size {
-            ElementSize::Void => Found::Voids(0),
-            ElementSize::Bit => Found::Bits(&[], 0),
-            ElementSize::Byte => Found::Numbers(1, &[]),
-            ElementSize::TwoBytes => Found::Numbers(2, &[]),
-            ElementSize::FourBytes => Found::Numbers(4, &[]),
-            ElementSize::EightBytes => Found::Numbers(8, &[]),
-            ElementSize::Pointer => Found::Pointers(none),
-            ElementSize::InlineComposite => {
-                let size = StructSize {
-                    data_words: 0,
-                    pointers: 0,
-                };
-                Found::Composite(size, Elements::Objects(&[]))
-            }
-        };
-        ListReader::new(found, levels)
+        ListReader::new(look_at_nothing(size), levels)
     }
 
     /// What stands at a place, where it is no fault leaf, as a list of elements of a size.

@@ -5,7 +5,8 @@ ghost use Rattle.capnp_wire.specs.Place.{bytes_at, root_tree, struct_at, tree_be
 ghost use Rattle.capnp_wire.specs.Level.{list_at_depth, tree_at_depth};
 ghost use Rattle.capnp_wire.specs.Backing.{StartFits, segment_list, target_of};
 ghost use Rattle.capnp_wire.specs.Objects.{list_object_tree, object_tree, struct_object_tree};
-ghost use Rattle.capnp_wire.specs.Reading.{list_length};
+ghost use Rattle.capnp_wire.specs.Elements.{built_list};
+ghost use Rattle.capnp_wire.specs.Reading.{empty_list, list_length};
 ghost use Rattle.capnp_wire.specs.WellFormed.{IsWellFormed};
 ghost use Rattle.capnp_wire.specs.Found.{ArePointersBelow, IsBelow, element_structs, found_tree, parts_tree, place_tree, pointer_trees};
 
@@ -15,7 +16,7 @@ use crate::locate::{Target, locate};
 use crate::object::{ListObject, Object, StructObject};
 use crate::run::{Block, Run};
 use crate::segments::{Segments, get_first_segment};
-use crate::size::StructSize;
+use crate::size::{ElementSize, StructSize};
 
 /// Where a pointer stands.
 #[derive(Clone, Copy)]
@@ -238,13 +239,49 @@ pub fn look_at_struct_object(object: &StructObject) -> StructParts<'_>
     }
 }
 
+/// A list without elements.
+pub fn look_at_nothing<'a>(size: ElementSize) -> Found<'a>
+    ensures { found_tree result ≡ empty_list size }
+{
+    match size {
+        ElementSize::Void => Found::Voids(0),
+        ElementSize::Bit => Found::Bits(&[], 0),
+        ElementSize::Byte => Found::Numbers(1, &[]),
+        ElementSize::TwoBytes => Found::Numbers(2, &[]),
+        ElementSize::FourBytes => Found::Numbers(4, &[]),
+        ElementSize::EightBytes => Found::Numbers(8, &[]),
+        ElementSize::Pointer => Found::Pointers(Pointers::Objects(&[])),
+        ElementSize::InlineComposite => {
+            let size = StructSize {
+                data_words: 0,
+                pointers: 0,
+            };
+            Found::Composite(size, Elements::Objects(&[]))
+        }
+    }
+}
+
+/// A list that is built, where one that is missing is a list without elements.
+pub fn look_at_built_list(object: &ListObject) -> Found<'_>
+    ensures { found_tree result ≡ built_list object.now }
+{
+    match object {
+        ListObject::Missing(_, size) => look_at_nothing(*size),
+        ListObject::Voids(_, _) => look_at_list_object(object),
+        ListObject::Bits(_) => look_at_list_object(object),
+        ListObject::Numbers(_, _) => look_at_list_object(object),
+        ListObject::Pointers(_) => look_at_list_object(object),
+        ListObject::Composite(_, _) => look_at_list_object(object),
+    }
+}
+
 pub fn look_at_list_object(object: &ListObject) -> Found<'_>
     ensures { found_tree result ≡ list_object_tree object.now }
 {
     match object {
         ListObject::Missing(_, _) => Found::Null,
         ListObject::Voids(_, count) => Found::Voids(*count),
-        ListObject::Bits(bytes, count) => Found::Bits(bytes.as_slice(), *count),
+        ListObject::Bits(row) => Found::Bits(row.bytes.as_slice(), row.count),
         ListObject::Numbers(width, bytes) => Found::Numbers(*width, bytes.as_slice()),
         ListObject::Pointers(pointers) => Found::Pointers(Pointers::Objects(pointers.as_slice())),
         ListObject::Composite(size, elements) => Found::Composite(

@@ -3,11 +3,13 @@ ghost use Rattle.std.specs.Prelude.{◌≡◌, IfErr, IfOk, ℕ, replicate};
 ghost use Rattle.capnp_wire.specs.Edits.{nulls, zero_list, zero_struct, zero_structs};
 ghost use Rattle.capnp_wire.specs.Objects.{list_object_tree, object_trees, struct_object_tree};
 
+use crate::bits::BitRow;
 use crate::object::{ListObject, Object, StructObject};
 use crate::size::{ElementSize, StructSize};
 use std::alloc::{AllocError, Global};
 
-fn make_zeros(alloc: Global, count: usize) -> Result<Vec<u8>, AllocError>
+/// So many zero bytes.
+pub fn make_zeros(alloc: Global, count: usize) -> Result<Vec<u8>, AllocError>
     ensures { IfOk result (λ bytes. bytes.items ≡ replicate count 0) }
 {
     vec![in alloc; 0u8; count]
@@ -50,7 +52,7 @@ pub fn make_list(alloc: Global, size: ElementSize, count: u32) -> Result<ListObj
     let elements = count as usize;
     match size {
         ElementSize::Void => Ok(ListObject::Voids(alloc, count)),
-        ElementSize::Bit => Ok(ListObject::Bits(make_zeros(alloc, elements.div_ceil(8))?, count)),
+        ElementSize::Bit => Ok(ListObject::Bits(BitRow::zeros(alloc, count)?)),
         ElementSize::Byte => Ok(ListObject::Numbers(1, make_zeros(alloc, elements)?)),
         ElementSize::TwoBytes => Ok(ListObject::Numbers(2, make_zeros(alloc, 2 * elements)?)),
         ElementSize::FourBytes => Ok(ListObject::Numbers(4, make_zeros(alloc, 4 * elements)?)),

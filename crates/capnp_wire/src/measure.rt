@@ -92,9 +92,10 @@ fn measure_list(object: &ListObject) -> Option<u64>
     match object {
         ListObject::Missing(_, _) => Some(0),
         ListObject::Voids(_, count) => { if *count < 1 << 29 { Some(0) } else { None } }
-        ListObject::Bits(_, count) => {
-            if *count < 1 << 29 {
-                Some((*count as u64 + 63) / 64)
+        ListObject::Bits(row) => {
+            let count = row.count;
+            if count < 1 << 29 {
+                Some((count as u64 + 63) / 64)
             } else {
                 None
             }

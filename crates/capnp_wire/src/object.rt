@@ -1,5 +1,6 @@
 //! The owned objects that a message in memory is made of.
 
+use crate::bits::BitRow;
 use crate::look::{Place, ROOT_LEVELS};
 use crate::pointer_reader::PointerReader;
 use crate::size::{ElementSize, StructSize};
@@ -32,8 +33,7 @@ pub enum ListObject {
     Missing(Global, ElementSize),
     /// How many elements of nothing there are.
     Voids(Global, u32),
-    /// The bits, lowest first in each byte, and how many there are.
-    Bits(Vec<u8>, u32),
+    Bits(BitRow),
     /// The width of each number in bytes, and the numbers' bytes one after another. Texts and data are such lists.
     Numbers(u8, Vec<u8>),
     Pointers(Vec<Object>),

@@ -222,7 +222,7 @@ impl ListObject {
         match self {
             ListObject::Missing(alloc, _) => *alloc,
             ListObject::Voids(alloc, _) => *alloc,
-            ListObject::Bits(bytes, _) => *bytes.allocator(),
+            ListObject::Bits(row) => *row.bytes.allocator(),
             ListObject::Numbers(_, bytes) => *bytes.allocator(),
             ListObject::Pointers(objects) => *objects.allocator(),
             ListObject::Composite(_, objects) => *objects.allocator(),

@@ -132,7 +132,7 @@ fn total_list_object(object: &ListObject) -> Total
     match object {
         ListObject::Missing(_, _) => Ok(0),
         ListObject::Voids(_, _) => Ok(0),
-        ListObject::Bits(_, count) => Ok((*count as u64 + 63) / 64),
+        ListObject::Bits(row) => Ok((row.count as u64 + 63) / 64),
         ListObject::Numbers(_, bytes) => Ok(bytes.len().div_ceil(8) as u64),
         ListObject::Pointers(pointers) => add(
             pointers.len() as u64,

@@ -9,8 +9,8 @@ use Rattle.capnp_wire.proofs.encode.get_list_pointer.Goals as goal
 
 pub make_list_word-requires-in-Bits : goal.make_list_word-requires-in-Bits
 make_list_word-requires-in-Bits c =
-    let n = bits_held _ _ (ap list_object_tree c.in-Bits.is ∙ tree-bits c.in-Bits.field-0 c.in-Bits.count) c.requires.held in
-    (omega (arith, c.requires.near), omega arith, omega (arith, n, length-bits_from c.in-Bits.field-0.items 0 c.in-Bits.count))
+    let n = bits_held _ _ (ap list_object_tree c.in-Bits.is ∙ tree-bits c.in-Bits.row) c.requires.held in
+    (omega (arith, c.requires.near), omega arith, omega (arith, n, length-bits_from c.in-Bits.row.bytes.items 0 c.in-Bits.row.count))
 
 pub make_list_word-requires-in-Pointers : goal.make_list_word-requires-in-Pointers
 make_list_word-requires-in-Pointers c =
@@ -29,7 +29,7 @@ make_list_word-requires-in-Composite c =
     (omega (arith, c.requires.near), omega arith, omega (arith, f.3, c.get_composite_words-words.ensures.words))
 
 pub returns-in-Bits : goal.returns-in-Bits
-returns-in-Bits c = c.make_list_word-in-Bits.ensures ∙ word_of_bits _ _ _ _ (ap list_object_tree c.in-Bits.is ∙ tree-bits c.in-Bits.field-0 c.in-Bits.count) (length-bits_from _ _ _)
+returns-in-Bits c = c.make_list_word-in-Bits.ensures ∙ word_of_bits _ _ _ _ (ap list_object_tree c.in-Bits.is ∙ tree-bits c.in-Bits.row) (length-bits_from _ _ _)
 
 pub returns-in-Pointers : goal.returns-in-Pointers
 returns-in-Pointers c = c.make_list_word-in-Pointers.ensures ∙ word_of_pointers _ _ _ _ (ap list_object_tree c.in-Pointers.is ∙ tree-pointers c.in-Pointers.pointers) (omega (arith, tree_count-of object_tree c.in-Pointers.pointers.items, c.len-in-Pointers.ensures))

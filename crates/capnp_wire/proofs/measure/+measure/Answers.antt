@@ -28,12 +28,12 @@ measure_list-returns-then-count-4 t c = λ h.
     absurd (omega (arith, n, struct_count-of struct_object_tree c.in-Composite.elements.items, c.len-count-in-Composite.ensures, c.if-count-4.true))
 
 pub measure_list-returns-then-count-2 : goal.measure_list-returns-then-count-2
-measure_list-returns-then-count-2 t c = measured_bits _ _ _ (ap list_object_tree c.in-Bits.is ∙ tree-bits c.in-Bits.field-0 c.in-Bits.count) (length-bits_from _ _ _) c.if-count-2.true
+measure_list-returns-then-count-2 t c = measured_bits _ _ _ (ap list_object_tree c.in-Bits.is ∙ tree-bits c.in-Bits.row) (length-bits_from _ _ _) c.if-count-2.true
 
 pub measure_list-returns-else-count-2 : goal.measure_list-returns-else-count-2
 measure_list-returns-else-count-2 t c = λ h.
-    let n = bits_held _ _ (ap list_object_tree c.in-Bits.is ∙ tree-bits c.in-Bits.field-0 c.in-Bits.count) h in
-    absurd (omega (arith, n, length-bits_from c.in-Bits.field-0.items 0 c.in-Bits.count, c.if-count-2.false))
+    let n = bits_held _ _ (ap list_object_tree c.in-Bits.is ∙ tree-bits c.in-Bits.row) h in
+    absurd (omega (arith, n, length-bits_from c.in-Bits.row.bytes.items 0 c.in-Bits.row.count, c.if-count-2.false))
 
 pub measure_list-returns-in_ok-below-in-Pointers :
     goal.measure_list-returns-in_ok-below-in-Pointers
