@@ -13,6 +13,7 @@ pub mod MoreBytes
 pub mod Sums
 pub mod ObjectTrees
 pub mod Written
+pub mod Extended
 pub mod Rows
 pub mod RowsWords
 pub mod RowsFar

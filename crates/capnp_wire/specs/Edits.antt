@@ -1,15 +1,15 @@
 -- What writes make of trees.
-use Rattle.std.specs.Prelude.{ℕ, zero, suc, ◌+◌, ◌/◌, ◌%◌, ◌^◌, take, drop, slice_set, slice_index, bit_or, bit_and, Bool, true, false, ◌*◌, ◌-◌, ◌≡◌, ◌≢◌, List, ◌++◌, length, replicate, Option, Some, option_map}
+use Rattle.std.specs.Prelude.{ℕ, zero, suc, ◌+◌, ◌/◌, ◌%◌, ◌^◌, take, drop, slice_set, slice_index, bit_or, bit_and, Bool, true, false, ◌*◌, ◌-◌, ◌≡◌, ◌≢◌, List, ◌++◌, length, replicate, Option, Some, option_map, IsTrue}
 use Rattle.capnp_wire.specs.Tree.{Tree, Null, Struct, FaultLeaf, Voids, Bits, Numbers, Pointers, Composite, Trees, NoTrees, MoreTrees, StructTree, empty_struct, trees_from, structs_from, tree_count}
 use Rattle.capnp_wire.specs.Words.{byte_words}
 use Rattle.capnp_wire.specs.Encoding.{spelled}
-use Rattle.capnp_wire.specs.Reading.{refusal}
+use Rattle.capnp_wire.specs.Reading.{is_list, refusal}
 use Rattle.capnp_wire.specs.declared.size.StructSize.{StructSize}
 use Rattle.capnp_wire.specs.declared.size.ElementSize.{ElementSize}
 use Rattle.capnp_wire.specs.declared.size.ElementSize.TheVariants.{Void, Bit, Byte, TwoBytes, FourBytes, EightBytes, Pointer, InlineComposite}
 use Rattle.capnp_wire.specs.declared.fault.Fault.{Fault}
 use Rattle.capnp_device.specs.declared.error.Error.{Error}
-use Rattle.capnp_device.specs.declared.error.ErrorKind.TheVariants.{OutOfMemory, SizePastFormat}
+use Rattle.capnp_device.specs.declared.error.ErrorKind.TheVariants.{OutOfMemory, SizePastFormat, WrongPointerKind}
 
 -- bytes, and zeros up to a whole word
 abbrev pub whole_words : List ℕ → List ℕ
@@ -101,3 +101,18 @@ is_struct (Numbers w bytes) = false
 is_struct (Pointers ps) = false
 is_struct (Composite d p es) = false
 is_struct (FaultLeaf k) = false
+
+-- the struct that stands at a pointer, of size zero where there is none
+abbrev pub struct_in : Tree → StructTree
+struct_in Null = empty_struct
+struct_in (Struct bytes ps) = record { bytes = bytes; pointers = ps }
+struct_in (Voids n) = empty_struct
+struct_in (Bits bs) = empty_struct
+struct_in (Numbers w bytes) = empty_struct
+struct_in (Pointers ps) = empty_struct
+struct_in (Composite d p es) = empty_struct
+struct_in (FaultLeaf k) = empty_struct
+
+-- why there is no struct at a pointer: a list stands there, which is said wherever one does, or memory was refused
+abbrev pub IsStructRefusal : Error → Tree → Type 0
+IsStructRefusal error t = (error.kind ≢ WrongPointerKind → error.kind ≡ OutOfMemory) × (error.kind ≡ WrongPointerKind → IsTrue (is_list t)) × (IsTrue (is_list t) → error.kind ≡ WrongPointerKind)

@@ -1,13 +1,17 @@
 -- Elements of a list that is built: where they are, and the list with another one.
-use Rattle.std.specs.Prelude.{ℕ, zero, suc, ◌+◌, ◌*◌, ◌<◌, ◌≤◌, Bool, true, false, List, length, slice_set}
+use Rattle.std.specs.Prelude.{ℕ, zero, suc, ◌+◌, ◌*◌, ◌<◌, ◌≤◌, Bool, true, false, List, Result, Ok, Err, length, slice_set}
+use Rattle.std.specs.Borrow.{MutBor}
 use Rattle.capnp_wire.specs.Tree.{Tree, Null, Struct, Voids, Bits, Numbers, Pointers, Composite, FaultLeaf, Trees, NoTrees, MoreTrees, Structs, NoStructs, MoreStructs, StructTree, nth_struct, tree_count, struct_count}
 use Rattle.capnp_wire.specs.Objects.{list_object_tree}
-use Rattle.capnp_wire.specs.Reading.{empty_list}
+use Rattle.capnp_wire.specs.Reading.{empty_list, reads_bits, reads_numbers, reads_pointers, reads_structs, reads_voids}
 use Rattle.capnp_wire.specs.declared.object.Object.{Object}
 use Rattle.capnp_wire.specs.declared.object.StructObject.{StructObject}
 use Rattle.capnp_wire.specs.declared.object.ListObject.{ListObject, out-ListObject}
 use Rattle.capnp_wire.specs.declared.object.ListObject.TheOpen as layer
 use Rattle.capnp_wire.specs.declared.object.ListObject.TheOpen.{ListObject-F}
+use Rattle.capnp_wire.specs.declared.size.ElementSize.{ElementSize}
+use Rattle.capnp_device.specs.declared.error.Error.{Error}
+use Rattle.capnp_device.specs.declared.error.ErrorKind.{ErrorKind}
 use Rattle.capnp_wire.specs.Edits.{with_bytes, with_number, with_pointer_tree, with_tree}
 
 -- ---- what a list that is built reads as ----
@@ -23,6 +27,22 @@ built_list_at l (layer.Composite size es) = list_object_tree l
 -- at a null, the empty list of the size that was asked
 abbrev pub built_list : ListObject → Tree
 built_list l = built_list_at l (out-ListObject l)
+
+-- what a call answered, by what the list reads as
+abbrev pub built_read : Result (MutBor ListObject) Error → Result Tree ErrorKind
+built_read (Ok l) = Ok (built_list l.now)
+built_read (Err error) = Err error.kind
+
+-- whether a list is read as one of elements of a size
+abbrev pub reads_list : ElementSize → Tree → Bool
+reads_list size Null = false
+reads_list size (Struct bytes ps) = false
+reads_list size (Voids n) = reads_voids size
+reads_list size (Bits bs) = reads_bits size
+reads_list size (Numbers w bytes) = reads_numbers size w
+reads_list size (Pointers ps) = reads_pointers size
+reads_list size (Composite d p es) = reads_structs size d p
+reads_list size (FaultLeaf k) = false
 
 -- ---- where elements are ----
 

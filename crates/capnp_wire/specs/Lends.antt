@@ -1,18 +1,18 @@
 -- How a part of an object is lent: the object ends as itself, with just that part as it was left.
-use Rattle.std.specs.Prelude.{ℕ, ◌≡◌, Option, Some, None, Result, Vec, slice_get}
+use Rattle.std.specs.Prelude.{ℕ, Bool, true, false, ◌≡◌, Option, Some, None, Result, Vec, slice_get}
 use Rattle.std.specs.Borrow.{Lends, LendsIfOk, MutBor, Fml, RattleType}
 use Rattle.std.specs.Vec.{with_item}
 use Rattle.std.specs.declared.alloc.Global.{Global}
 use Rattle.std.specs.contracts.vec.Vec as vec
 use Rattle.std.specs.contracts.alloc.Global as global
 use Rattle.std.specs.contracts.impls.GlobalAllocator.TheImpl.{ghosts}
-use Rattle.capnp_wire.specs.declared.object.Object.{Object}
+use Rattle.capnp_wire.specs.declared.object.Object.{Object, out-Object}
 use Rattle.capnp_wire.specs.declared.object.Object.TheVariants as object
 use Rattle.capnp_wire.specs.declared.object.StructObject.{StructObject}
 use Rattle.capnp_wire.specs.declared.object.ListObject.{ListObject, out-ListObject}
 use Rattle.capnp_wire.specs.declared.object.ListObject.TheVariants as list
 use Rattle.capnp_wire.specs.declared.object.ListObject.TheOpen as layer
-use Rattle.capnp_wire.specs.declared.object.ListObject.TheOpen.{ListObject-F}
+use Rattle.capnp_wire.specs.declared.object.ListObject.TheOpen.{ListObject-F, Object-F}
 use Rattle.capnp_wire.specs.declared.size.StructSize.{StructSize}
 use Rattle.capnp_wire.specs.contracts.object.Object.{the_row as object_row}
 use Rattle.capnp_wire.specs.contracts.object.StructObject.{the_row as struct_row}
@@ -36,6 +36,15 @@ LendsOwnStruct o r = Lends object_row struct_row o r object.Struct
 
 abbrev pub LendsOwnList : MutBor Object → MutBor ListObject → Fml
 LendsOwnList o r = Lends object_row list_row o r object.List
+
+-- whether an object holds a list, be it one that is missing
+abbrev pub holds_list_at : Object-F ListObject Object StructObject → Bool
+holds_list_at (layer.Null alloc) = false
+holds_list_at (layer.Struct s) = false
+holds_list_at (layer.List l) = true
+
+abbrev pub holds_list : Object → Bool
+holds_list o = holds_list_at (out-Object o)
 
 -- the same of the list
 abbrev pub LendsList : {E : Type 0} → MutBor Object → Result (MutBor ListObject) E → Fml

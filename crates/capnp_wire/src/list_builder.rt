@@ -7,17 +7,18 @@ ghost use Rattle.capnp_wire.specs.Objects.{list_object_tree, object_tree, struct
 ghost use Rattle.capnp_wire.specs.Reading.{element_bit, element_number, element_pointer, element_struct, list_length};
 ghost use Rattle.capnp_wire.specs.Standing.{list_levels, list_of};
 ghost use Rattle.capnp_wire.specs.WellFormed.{IsWellFormed};
-ghost use Rattle.capnp_wire.specs.Elements.{HasBit, HasNumber, HasPointer, HasStruct, built_list, is_composite, with_bit_element, with_number_element};
+ghost use Rattle.capnp_wire.specs.Elements.{HasBit, HasNumber, HasPointer, HasStruct, built_list, is_composite, reads_list, with_bit_element, with_number_element};
 ghost use Rattle.capnp_wire.specs.Lends.{HasObjects, HasStructs, LendsElement, LendsObject, LendsObjects, LendsStructs};
 
 use crate::bytes::get_bit;
-use crate::list_reader::ListReader;
+use crate::list_reader::{ListReader, reads_numbers_as, reads_structs_as};
 use crate::look::{
     Found, ROOT_LEVELS, count_list, get_element, look_at_built_list, look_at_list_object,
 };
 use crate::object::{ListObject, Object, StructObject};
 use crate::pointer_builder::{ListBuilder, PointerBuilder, StructBuilder};
 use crate::primitive::PrimitiveElement;
+use crate::size::ElementSize;
 
 impl ListObject {
     /// The same list for a shorter time.
@@ -35,6 +36,23 @@ impl ListObject {
         ensures levels { list_levels result ≡ 64 }
     {
         ListReader::new(look_at_built_list(self), ROOT_LEVELS)
+    }
+
+    /// Whether the list is read as one of elements of a size.
+    pub(crate) fn reads_as(&self, size: ElementSize) -> bool
+        ensures { result ≡ reads_list size (list_object_tree self.now) }
+    {
+        match self {
+            ListObject::Missing(_, _) => false,
+            ListObject::Voids(_, _) => matches!(size, ElementSize::Void | ElementSize::InlineComposite),
+            ListObject::Bits(_) => matches!(size, ElementSize::Void | ElementSize::Bit),
+            ListObject::Numbers(width, _) => reads_numbers_as(size, *width),
+            ListObject::Pointers(_) => matches!(
+                size,
+                ElementSize::Void | ElementSize::Pointer | ElementSize::InlineComposite
+            ),
+            ListObject::Composite(own, _) => reads_structs_as(size, *own),
+        }
     }
 
     /// How many elements there are, below 2^29.

@@ -26,7 +26,7 @@ pub struct ListReader<'a> {
 }
 
 /// Whether structs of a size are read as elements of the size that is asked.
-fn reads_structs_as(asked: ElementSize, size: StructSize) -> bool
+pub(crate) fn reads_structs_as(asked: ElementSize, size: StructSize) -> bool
     ensures { result ≡ reads_structs asked size.data_words size.pointers }
 {
     match asked {
@@ -42,7 +42,7 @@ fn reads_structs_as(asked: ElementSize, size: StructSize) -> bool
 }
 
 /// Whether numbers of so many bytes are.
-fn reads_numbers_as(asked: ElementSize, width: u8) -> bool
+pub(crate) fn reads_numbers_as(asked: ElementSize, width: u8) -> bool
     ensures { result ≡ reads_numbers asked width }
 {
     match asked {

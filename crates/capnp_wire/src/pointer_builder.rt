@@ -1,14 +1,15 @@
 //! Builders of pointers.
-ghost use Rattle.std.specs.Prelude.{None, ◌⊎◌, ◌*◌, ◌≡◌, ◌≢◌, ◌+◌, IsTrue, ◌∷◌, ◌++◌, [], ◌<◌, ◌≤◌, ◌^◌, IfErr, IfOk, OnErr, OnOk, length};
+ghost use Rattle.std.specs.Prelude.{None, Ok, Err, false, ◌⊎◌, ◌*◌, ◌≡◌, ◌≢◌, ◌+◌, IsTrue, ◌∷◌, ◌++◌, [], ◌<◌, ◌≤◌, ◌^◌, IfErr, IfOk, OnErr, OnOk, length};
 ghost use Rattle.std.specs.Borrow.{sem};
 ghost use Rattle.capnp_wire.specs.Tree.{Null, Numbers};
 ghost use Rattle.capnp_wire.specs.Objects.{list_object_tree, object_tree, struct_object_tree};
 ghost use Rattle.capnp_wire.specs.Place.{struct_tree};
-ghost use Rattle.capnp_wire.specs.Reading.{is_list, is_null_tree};
-ghost use Rattle.capnp_wire.specs.Edits.{IsCopyRefusal, IsRoomRefusal, rounded, is_struct, zero_list, zero_struct, zero_structs};
+ghost use Rattle.capnp_wire.specs.Reading.{as_list, is_null_tree};
+ghost use Rattle.capnp_wire.specs.Edits.{IsCopyRefusal, IsRoomRefusal, rounded, extended, is_struct, struct_in, IsStructRefusal, zero_list, zero_struct, zero_structs};
 ghost use Rattle.capnp_wire.specs.Words.{first_fault, first_fault_of_all};
 ghost use Rattle.capnp_wire.specs.Standing.{struct_of, tree_of};
-ghost use Rattle.capnp_wire.specs.Lends.{LendsList, LendsOwnList, LendsOwnStruct, LendsStruct};
+ghost use Rattle.capnp_wire.specs.Elements.{built_read};
+ghost use Rattle.capnp_wire.specs.Lends.{holds_list, LendsList, LendsOwnList, LendsOwnStruct, LendsStruct};
 ghost use Rattle.capnp_device.specs.declared.error.ErrorKind.TheVariants.{OutOfMemory, SizePastFormat};
 
 use crate::copy::{copy_parts, copy_place};
@@ -84,15 +85,87 @@ impl Object {
 
     /// The list that stands here.
     fn list_here(&mut self) -> ListBuilder<'_>
-        requires { IsTrue (is_list (object_tree self.old)) }
+        requires { IsTrue (holds_list self.old) }
         ensures* lends { sem 𝓛 (LendsOwnList self.entry result) }
-        ensures now { list_object_tree result.now ≡ object_tree self.old }
+        ensures is { Object.List result.now ≡ self.old }
     {
         match self {
             Object::Null(_) => unreachable!(),
             Object::Struct(_) => unreachable!(),
             Object::List(object) => object,
         }
+    }
+
+    /// Makes a struct of at least a size of what stands here: of a null a new one, and a smaller one is extended.
+    fn fill_struct(&mut self, size: StructSize) -> Result<()>
+        ensures ok { OnOk result (object_tree self.new ≡ struct_tree (extended size (struct_in (object_tree self.old)))) }
+        ensures refused { OnErr result (self.new ≡ self.old) }
+        ensures cause { IfErr result (λ e. IsStructRefusal e (object_tree self.old)) }
+    {
+        if self.is_null() {
+            let made = make_struct(self.allocator(), size)?;
+            *self = Object::Struct(made);
+            return Ok(());
+        }
+        match self {
+            Object::Null(_) => unreachable!(),
+            Object::Struct(object) => object.extend(size),
+            Object::List(_) => Err(Error::from(ErrorKind::WrongPointerKind)),
+        }
+    }
+
+    /// The struct that stands here, with at least a size: a null becomes a struct of that size, all zero and null, and a
+    /// smaller struct gets zeros and nulls after what it has.
+    ///
+    /// Refused with `WrongPointerKind` for a list, and else with `OutOfMemory`; then nothing has changed. A struct that is
+    /// large enough takes no memory.
+    pub fn get_struct(&mut self, size: StructSize) -> Result<StructBuilder<'_>>
+        ensures* lends { sem 𝓛 (LendsStruct self.entry result) }
+        ensures now { IfOk result (λ s. struct_object_tree s.now ≡ extended size (struct_in (object_tree self.old))) }
+        ensures refused { IfErr result (λ e. IsStructRefusal e (object_tree self.old)) }
+    {
+        self.fill_struct(size)?;
+        Ok(self.struct_here())
+    }
+
+    /// Why what stands here, which is not null, is not read as a list of elements of a size.
+    ///
+    /// Refused with `WrongPointerKind` for a struct, and with `WrongElementSize` for a list that is not read so.
+    fn check_list(&self, size: ElementSize) -> Result<()>
+        requires { is_null_tree (object_tree self.now) ≡ false }
+        ensures ok { OnOk result (as_list size (object_tree self.now) 1 ≡ Ok (object_tree self.now)) }
+        ensures list { OnOk result (IsTrue (holds_list self.now)) }
+        ensures refused { IfErr result (λ e. as_list size (object_tree self.now) 1 ≡ Err e.kind) }
+    {
+        match self {
+            Object::Null(_) => unreachable!(),
+            Object::Struct(_) => Err(Error::from(ErrorKind::WrongPointerKind)),
+            Object::List(object) => {
+                if object.reads_as(size) {
+                    Ok(())
+                } else {
+                    Err(Error::from(ErrorKind::WrongElementSize))
+                }
+            }
+        }
+    }
+
+    /// The list that stands here, as one of elements of a size. A null is a list without elements, and stays null.
+    ///
+    /// Refused with `WrongPointerKind` for a struct, and with `WrongElementSize` for a list that is not read so; then
+    /// nothing has changed. No memory is taken.
+    pub fn get_list(&mut self, size: ElementSize) -> Result<ListBuilder<'_>>
+        requires { size ≢ ElementSize.InlineComposite }
+        ensures* lends { sem 𝓛 (LendsList self.entry result) }
+        ensures now { built_read result ≡ as_list size (object_tree self.old) 1 }
+    {
+        if self.is_null() {
+            let alloc = self.allocator();
+            *self = Object::List(ListObject::Missing(alloc, size));
+            return Ok(self.list_here());
+        }
+        self.check_list(size)?;
+        Ok(self.list_here())
     }
 
     /// Replaces what stands here by a struct of a size, all zero and null.

@@ -1,20 +1,24 @@
 //! Builders of structs.
-ghost use Rattle.std.specs.Prelude.{◌≡◌, ◌≤◌, ◌<◌, ◌+◌, ◌*◌, bit_xor, length};
+ghost use Rattle.std.specs.Prelude.{◌≡◌, ◌≤◌, ◌<◌, ◌+◌, ◌*◌, bit_xor, length, IfErr, OnErr, OnOk};
 ghost use Rattle.std.specs.Borrow.{sem};
 ghost use Rattle.capnp_wire.specs.Tree.{nth_tree, tree_count};
 ghost use Rattle.capnp_wire.specs.Slot.{bit_at, masked_bit, number_at};
 ghost use Rattle.capnp_wire.specs.Objects.{object_tree, struct_object_tree};
 ghost use Rattle.capnp_wire.specs.Standing.{struct_levels, struct_of};
 ghost use Rattle.capnp_wire.specs.WellFormed.{IsWellFormedStruct};
-ghost use Rattle.capnp_wire.specs.Edits.{with_bit, with_bytes, with_number};
+ghost use Rattle.capnp_wire.specs.Edits.{extended, with_bit, with_bytes, with_number};
+ghost use Rattle.capnp_device.specs.declared.error.ErrorKind.TheVariants.{OutOfMemory};
 ghost use Rattle.capnp_wire.specs.Lends.{LendsPointer};
 
 use crate::bytes::{get_bit, set_bit};
 use crate::look::{ROOT_LEVELS, look_at_struct_object};
+use crate::make::make_nulls;
 use crate::object::{Object, StructObject};
 use crate::pointer_builder::{PointerBuilder, StructBuilder};
 use crate::primitive::PrimitiveElement;
+use crate::size::StructSize;
 use crate::struct_reader::StructReader;
+use capnp_device::error::Result;
 
 impl StructObject {
     /// The same struct for a shorter time.
@@ -32,6 +36,37 @@ impl StructObject {
         ensures levels { struct_levels result ≡ 64 }
     {
         StructReader::new(look_at_struct_object(self), ROOT_LEVELS)
+    }
+
+    /// Gives the struct at least a size, with zeros and nulls after what it has. One that is large enough takes no memory.
+    ///
+    /// Refused with `OutOfMemory`, and then nothing has changed.
+    pub(crate) fn extend(&mut self, size: StructSize) -> Result<()>
+        ensures ok { OnOk result (struct_object_tree self.new ≡ extended size (struct_object_tree self.old)) }
+        ensures refused { OnErr result (self.new ≡ self.old) }
+        ensures cause { IfErr result (λ e. e.kind ≡ OutOfMemory) }
+    {
+        let bytes = self.data.len().max(8 * size.data_words as usize);
+        let missing = (size.pointers as usize).saturating_sub(self.pointers.len());
+        if bytes == self.data.len() && missing == 0 {
+            return Ok(());
+        }
+        let alloc = *self.data.allocator();
+        let mut data = Vec::with_capacity(alloc, bytes)?;
+        data.extend_from_slice(self.data.as_slice())?;
+        data.resize(bytes, 0)?;
+        let mut nulls = make_nulls(alloc, missing)?;
+        let mut pointers = Vec::with_capacity(alloc, self.pointers.len() + missing)?;
+        // there is room for both, so nothing is refused once a pointer has moved
+        if pointers.append(&mut self.pointers).is_err() {
+            unreachable!();
+        }
+        if pointers.append(&mut nulls).is_err() {
+            unreachable!();
+        }
+        self.data = data;
+        self.pointers = pointers;
+        Ok(())
     }
 
     /// The number at `offset`, in units of its own size, as it is stored; zero bits past the end.

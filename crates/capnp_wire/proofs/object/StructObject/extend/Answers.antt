@@ -1,0 +1,42 @@
+use mathlib.Core.Bool.{true≢false}
+use Rattle.std.specs.Result.{IsOk, is_ok}
+use Rattle.std.proofs.Common.{rules, true, false, arith, ◌≡◌, ◌≤◌, ◌*◌, ◌-◌, ◌∙◌, ◌++◌, length, replicate, sym, ap, take, take_all, vec_len}
+use Rattle.capnp_wire.specs.Tree.{StructTree, tree_count}
+use Rattle.capnp_wire.specs.Objects.{object_tree, object_trees, struct_object_tree}
+use Rattle.capnp_wire.specs.Edits.{extended}
+use Rattle.capnp_wire.proofs.Lists.{tree_count-of}
+use Rattle.capnp_wire.proofs.ObjectTrees.{tree-struct}
+use Rattle.capnp_wire.proofs.Extended.{count_nulls, extended_by, extended_same}
+use Rattle.capnp_wire.proofs.object.StructObject.extend.Goals as goal
+
+pub returns-then-missing-eq0-clause-ok : goal.returns-then-missing-eq0-clause-ok
+returns-then-missing-eq0-clause-ok c =
+    let self = c.args.self.now in
+    let count : tree_count (struct_object_tree self).pointers ≡ length self.pointers.items = ap (λ (s : StructTree). tree_count s.pointers) (tree-struct self) ∙ tree_count-of object_tree self.pointers.items in
+    let bytes : length (struct_object_tree self).bytes ≡ length self.«data».items = ap (λ (s : StructTree). length s.bytes) (tree-struct self) in
+    extended_same c.args.size (struct_object_tree self) (omega (arith, bytes, c.len.ensures, c.max-bytes.ensures, c.len-3.ensures, c.if-bytes-len.true)) (omega (arith, count, c.len-2.ensures, c.saturating_sub-missing.ensures, c.if-missing-eq0.true))
+
+pub unreachable-requires-then-is_err-2 : goal.unreachable-requires-then-is_err-2
+unreachable-requires-then-is_err-2 c =
+    let nulls = count_nulls c.in_ok-nulls.nulls.items _ c.in_ok-nulls.ensures in
+    let moved : is_ok c.append.result ≡ true = c.if-is_err.ensures.negation in
+    let length_moved = rw moved at c.append.ensures.len in
+    let done : IsOk c.append-2.result = c.append-2.ensures.succeeds (omega (arith, nulls, length_moved, c.append.ensures.capacity, c.in_ok-pointers.ensures.len, c.in_ok-pointers.ensures.capacity, c.len-4.ensures, c.in_ok-nulls.nulls.ok.0)) in
+    true≢false (sym done ∙ c.if-is_err-2.ensures.negation)
+
+pub returns-clause-ok : goal.returns-clause-ok
+returns-clause-ok c =
+    let self = c.args.self.now in
+    let moved : is_ok c.append.result ≡ true = c.if-is_err.ensures.negation in
+    let added : is_ok c.append-2.result ≡ true = c.if-is_err-2.ensures.negation in
+    let first = rw (moved, c.in_ok-pointers.ensures.items) at c.append.ensures.items in
+    let all = rw (added, first) at c.append-2.ensures.items in
+    let grown = rw (c.in_ok-extend_from_slice.ensures.items, c.in_ok-data.ensures.items, c.as_slice.ensures.value) at c.in_ok-resize.ensures.items in
+    let own : take c.max-bytes.result self.«data».items ≡ self.«data».items = take_all c.max-bytes.result self.«data».items (omega (arith, c.max-bytes.ensures, c.len.ensures, self.«data».ok.0)) in
+    let zeros : c.max-bytes.result - vec_len c.extend_from_slice.new.self ≡ 8 * c.args.size.data_words - length self.«data».items = omega (arith, c.max-bytes.ensures, c.len.ensures, self.«data».ok.0, c.in_ok-extend_from_slice.ensures.len, c.in_ok-data.ensures.len, c.as_slice.ensures.len) in
+    let missing : c.saturating_sub-missing.result ≡ c.args.size.pointers - length self.pointers.items = omega (arith, c.saturating_sub-missing.ensures, c.len-2.ensures, self.pointers.ok.0) in
+    tree-struct (record { «data» = c.resize.new.self; pointers = c.append-2.new.self })
+    ∙ ap (λ bytes. record { bytes = bytes; pointers = object_trees c.append-2.new.self.items }) (grown ∙ ap (λ bytes. bytes ++ replicate (c.max-bytes.result - vec_len c.extend_from_slice.new.self) 0) own)
+    ∙ ap (λ os. record { bytes = self.«data».items ++ replicate (c.max-bytes.result - vec_len c.extend_from_slice.new.self) 0; pointers = object_trees os }) all
+    ∙ extended_by c.args.size self.«data».items self.pointers.items c.in_ok-nulls.nulls.items _ _ zeros missing c.in_ok-nulls.ensures
+    ∙ ap (extended c.args.size) (sym (tree-struct self))
