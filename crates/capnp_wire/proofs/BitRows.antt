@@ -1,5 +1,5 @@
 -- Bits in a row: one of them written, and the first ones copied.
-use Rattle.std.proofs.Common.{◌≡◌, ◌≢◌, ℕ, zero, suc, ◌+◌, ◌-◌, ◌*◌, ◌/◌, ◌%◌, ◌<◌, ◌≤◌, ◌^◌, List, [], ◌∷◌, ◌++◌, length, take, refl, sym, ap, ◌∙◌, arith, ◌⊎◌, inl, inr, get_or-set_same, get_or-set_other, Bool, true, false, ◌==◌, get_or, slice_set, replicate, bit_and, bit_or, w8}
+use Rattle.std.proofs.Common.{◌≡◌, ◌≢◌, ℕ, zero, suc, ◌+◌, ◌-◌, ◌*◌, ◌/◌, ◌%◌, ◌<◌, ◌≤◌, ◌^◌, List, [], ◌∷◌, ◌++◌, length, take, refl, sym, ap, ◌∙◌, arith, ◌⊎◌, inl, inr, get_or-set_same, get_or-set_other, Bool, true, false, ◌==◌, get_or, slice_set, replicate, w8}
 use Rattle.std.proofs.lemmas.Nat.Bits as number
 use Rattle.std.proofs.lemmas.Nat.{pow_below}
 use Rattle.capnp_wire.specs.Slot.{bit_at}

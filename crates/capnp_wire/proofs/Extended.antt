@@ -1,7 +1,7 @@
 -- Structs that are given more data and pointers.
-use Rattle.std.proofs.Common.{◌≡◌, ℕ, zero, suc, ◌+◌, ◌-◌, ◌*◌, ◌≤◌, List, [], ◌∷◌, ◌++◌, length, replicate, refl, sym, ap, ◌∙◌, arith}
+use Rattle.std.proofs.Common.{◌≡◌, ℕ, ◌-◌, ◌*◌, ◌≤◌, List, [], ◌∷◌, ◌++◌, length, replicate, refl, sym, ap, ◌∙◌, arith}
 use Rattle.std.proofs.lemmas.List.{append-nil}
-use Rattle.capnp_wire.specs.Tree.{Tree, Trees, NoTrees, MoreTrees, StructTree, tree_count}
+use Rattle.capnp_wire.specs.Tree.{Trees, NoTrees, MoreTrees, StructTree, tree_count}
 use Rattle.capnp_wire.specs.Objects.{object_tree, object_trees}
 use Rattle.capnp_wire.specs.Edits.{append_trees, extended, nulls}
 use Rattle.capnp_wire.specs.declared.object.Object.{Object}

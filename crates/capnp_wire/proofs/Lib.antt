@@ -14,6 +14,7 @@ pub mod Sums
 pub mod ObjectTrees
 pub mod Written
 pub mod Extended
+pub mod StructLists
 pub mod Rows
 pub mod RowsWords
 pub mod RowsFar
@@ -37,6 +38,7 @@ pub mod RowsDepth
 pub mod TreeSizes
 pub mod Copies
 pub mod RowsEdits
+pub mod RowsElements
 pub mod NewTrees
 pub mod Measuring
 pub mod Appending

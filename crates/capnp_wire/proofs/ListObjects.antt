@@ -1,5 +1,5 @@
 -- The objects that a list holds, and what is lent of them.
-use Rattle.std.proofs.Common.{◌≡◌, ℕ, ◌<◌, List, length, get_or, map, refl, sym, ap, ◌∙◌, subst, arith, Vec, Global}
+use Rattle.std.proofs.Common.{◌≡◌, ℕ, ◌<◌, length, get_or, refl, sym, ap, ◌∙◌, subst, arith, Vec, Global}
 use Rattle.std.proofs.lemmas.Option.{slice_get_read}
 use Rattle.std.specs.Vec.{with_item}
 use Rattle.capnp_wire.specs.Tree as tree
@@ -10,7 +10,6 @@ use Rattle.capnp_wire.specs.Elements.{HasPointer, HasStruct}
 use Rattle.capnp_wire.specs.Lends.{Layer, HasObjects, HasStructs, with_objects_at, with_structs_at, with_element, with_element_at, with_first_pointer, with_object, with_object_at, with_pointer}
 use Rattle.capnp_wire.specs.declared.object.Object.{Object}
 use Rattle.capnp_wire.specs.declared.object.ListObject.{ListObject, out-ListObject}
-use Rattle.capnp_wire.specs.declared.object.ListObject.TheVariants as list
 use Rattle.capnp_wire.specs.declared.object.ListObject.TheOpen as layer
 use Rattle.capnp_wire.specs.declared.object.ListObject.TheFolds.{fold_out-ListObject, map-ListObject}
 use Rattle.capnp_wire.specs.declared.object.StructObject.{StructObject}

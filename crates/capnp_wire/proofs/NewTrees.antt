@@ -43,6 +43,13 @@ unfolding append_struct
 struct_objects_more [] o = refl
 struct_objects_more (v ∷ vs) o = ap (MoreStructs (struct_object_tree v).bytes (struct_object_tree v).pointers) (struct_objects_more vs o)
 
+pub one_more_by : (f : ℕ → StructTree) (vs : List StructObject) (o : StructObject) (n : ℕ) → struct_object_trees vs ≡ structs_from f 0 n → struct_object_tree o ≡ f n → struct_object_trees (vs ++ o ∷ []) ≡ structs_from f 0 (n + 1)
+one_more_by f vs o n h e =
+    let next : suc n ≡ n + 1 = omega arith in
+    let first : n ≡ 0 + n = omega arith in
+    struct_objects_more vs o ∙ ap (λ es. append_struct es (struct_object_tree o)) h ∙ ap (append_struct (structs_from f 0 n)) (e ∙ ap f first)
+    ∙ structs_from_more f 0 n ∙ ap (structs_from f 0) next
+
 pub one_more_struct : (vs : List StructObject) (o : StructObject) (s : StructTree) (n : ℕ) → struct_object_trees vs ≡ structs_from (λ _. s) 0 n → struct_object_tree o ≡ s → struct_object_trees (vs ++ o ∷ []) ≡ structs_from (λ _. s) 0 (n + 1)
 one_more_struct vs o s n h e =
     let next : suc n ≡ n + 1 = omega arith in

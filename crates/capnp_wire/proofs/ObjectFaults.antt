@@ -1,15 +1,19 @@
 -- Objects have no fault leaves.
-use Rattle.std.proofs.Common.{◌≡◌, List, [], ◌∷◌, map, refl, ap, ◌∙◌, subst}
-use Rattle.std.specs.Prelude.{None}
+use Rattle.std.proofs.Common.{◌≡◌, ℕ, zero, suc, List, [], ◌∷◌, map, refl, sym, ap, ◌∙◌, subst, rules}
+use Rattle.std.specs.Prelude.{Option, Some, None}
 use Rattle.capnp_wire.specs.Words.{first_of, first_fault, first_fault_of_all, first_fault_of_elements}
-use Rattle.capnp_wire.specs.Tree.{Tree, StructTree}
+use Rattle.capnp_wire.specs.Tree as tree
+use Rattle.capnp_wire.specs.Tree.{Tree, StructTree, Trees, NoTrees, MoreTrees, Structs, NoStructs, MoreStructs, nth_struct, only_tree}
+use Rattle.capnp_wire.specs.Reading.{element_struct}
+use Rattle.capnp_wire.specs.declared.fault.Fault.{Fault}
+use Rattle.capnp_wire.specs.declared.object.Object.TheVariants as object
 use Rattle.capnp_wire.specs.Objects.{object_tree, list_object_tree, struct_object_tree, trees_of, structs_of, list_layer, object_layer, struct_layer}
 use Rattle.capnp_wire.specs.declared.object.Object.{Object}
 use Rattle.capnp_wire.specs.declared.object.ListObject.{ListObject}
 use Rattle.capnp_wire.specs.declared.object.StructObject.{StructObject}
 use Rattle.capnp_wire.specs.declared.object.ListObject.TheOpen as layer
 use Rattle.capnp_wire.specs.declared.object.ListObject.TheOpen.{Object-F, ListObject-F, StructObject-F}
-use Rattle.capnp_wire.specs.declared.object.ListObject.TheFolds.{ind-Object, map-Object, map-ListObject, fold-roll-Object, fold-roll-ListObject, fold-roll-StructObject}
+use Rattle.capnp_wire.specs.declared.object.ListObject.TheFolds.{the_lemmas, ind-Object, map-Object, map-ListObject, fold-roll-Object, fold-roll-ListObject, fold-roll-StructObject}
 
 -- no part is a fault leaf
 abbrev IsWhole : Object → Type 0
@@ -64,3 +68,38 @@ object_whole = ind-Object IsWholeList IsWhole IsWholeStruct
     (λ x y is.
     let inner = subst (λ z. first_fault_of_all (trees_of (map object_tree z.pointers.items)) ≡ None) is (whole_row y.pointers.items) in
     ap (λ (s : StructTree). first_fault_of_all s.pointers) (fold-roll-StructObject Tree Tree StructTree list_layer object_layer struct_layer x) ∙ inner)
+
+-- nor has a list
+pub list_whole : (l : ListObject) → first_fault (list_object_tree l) ≡ None
+list_whole l =
+    let same : object_tree (object.List l) ≡ list_object_tree l = search (rules, the_lemmas) in
+    sym (ap first_fault same) ∙ object_whole (object.List l)
+
+-- where there is no fault, there is none in a part
+none_first : (a b : Option Fault) → first_of a b ≡ None → a ≡ None
+none_first None b h = refl
+none_first (Some fault) b h = h
+
+none_rest : (a b : Option Fault) → first_of a b ≡ None → b ≡ None
+none_rest a b h = ap (λ f. first_of f b) (sym (none_first a b h)) ∙ h
+
+only_whole : (ps : Trees) (i : ℕ) → first_fault_of_all ps ≡ None → first_fault_of_all (only_tree ps i) ≡ None
+only_whole NoTrees i h = refl
+only_whole (MoreTrees t ts) zero h = ap (λ f. first_of f None) (none_first (first_fault t) (first_fault_of_all ts) h)
+only_whole (MoreTrees t ts) (suc i) h = only_whole ts i (none_rest (first_fault t) (first_fault_of_all ts) h)
+
+struct_whole : (es : Structs) (i : ℕ) → first_fault_of_elements es ≡ None → first_fault_of_all (nth_struct es i).pointers ≡ None
+struct_whole NoStructs i h = refl
+struct_whole (MoreStructs bytes ps es) zero h = none_first (first_fault_of_all ps) (first_fault_of_elements es) h
+struct_whole (MoreStructs bytes ps es) (suc i) h = struct_whole es i (none_rest (first_fault_of_all ps) (first_fault_of_elements es) h)
+
+-- in an element
+pub element_whole : (t : Tree) (i : ℕ) → first_fault t ≡ None → first_fault_of_all (element_struct t i).pointers ≡ None
+element_whole tree.Null i h = refl
+element_whole (tree.Struct bytes ps) i h = refl
+element_whole (tree.Voids n) i h = refl
+element_whole (tree.Bits bs) i h = refl
+element_whole (tree.Numbers w bytes) i h = refl
+element_whole (tree.Pointers ps) i h = only_whole ps i h
+element_whole (tree.Composite d p es) i h = struct_whole es i h
+element_whole (tree.FaultLeaf k) i h = refl

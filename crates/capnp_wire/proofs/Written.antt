@@ -1,5 +1,5 @@
 -- The tree of an object with another part is its tree with another part.
-use Rattle.std.proofs.Common.{◌≡◌, ℕ, zero, suc, ◌<◌, List, [], ◌∷◌, length, get_or, map, refl, sym, ap, ◌∙◌, slice_set, Vec, Global, true}
+use Rattle.std.proofs.Common.{◌≡◌, ℕ, zero, suc, List, [], ◌∷◌, refl, sym, ap, ◌∙◌, slice_set, Vec, Global, true}
 use mathlib.Core.Bool.{true≢false}
 use Rattle.std.specs.Prelude.{Option, Some, None, slice_get}
 use Rattle.capnp_wire.specs.Tree as tree

@@ -1,7 +1,7 @@
 -- Elements of a list that is built: where they are, and the list with another one.
-use Rattle.std.specs.Prelude.{ℕ, zero, suc, ◌+◌, ◌*◌, ◌<◌, ◌≤◌, Bool, true, false, List, Result, Ok, Err, length, slice_set}
+use Rattle.std.specs.Prelude.{ℕ, zero, suc, ◌+◌, ◌*◌, ◌<◌, ◌≤◌, Bool, true, false, Result, Ok, Err, length, slice_set}
 use Rattle.std.specs.Borrow.{MutBor}
-use Rattle.capnp_wire.specs.Tree.{Tree, Null, Struct, Voids, Bits, Numbers, Pointers, Composite, FaultLeaf, Trees, NoTrees, MoreTrees, Structs, NoStructs, MoreStructs, StructTree, nth_struct, tree_count, struct_count}
+use Rattle.capnp_wire.specs.Tree.{Tree, Null, Struct, Voids, Bits, Numbers, Pointers, Composite, FaultLeaf, Structs, NoStructs, MoreStructs, StructTree, nth_struct, tree_count, struct_count}
 use Rattle.capnp_wire.specs.Objects.{list_object_tree}
 use Rattle.capnp_wire.specs.Reading.{empty_list, reads_bits, reads_numbers, reads_pointers, reads_structs, reads_voids}
 use Rattle.capnp_wire.specs.declared.object.Object.{Object}

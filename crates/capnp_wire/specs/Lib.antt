@@ -19,5 +19,6 @@ pub mod Encoding
 pub mod Depth
 pub mod Edits
 pub mod Elements
+pub mod StructLists
 pub mod Lends
 pub mod Measured

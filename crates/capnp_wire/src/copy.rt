@@ -45,7 +45,7 @@ pub fn copy_place(alloc: Global, place: Place<'_>) -> Result<Object>
 
 /// The object of a struct, with its data as it is.
 #[cycle(copy)]
-fn copy_struct(alloc: Global, parts: StructParts<'_>) -> Result<StructObject>
+pub fn copy_struct(alloc: Global, parts: StructParts<'_>) -> Result<StructObject>
     ensures copy { IfOk result (λ object. struct_object_tree object ≡ parts_tree parts.entry) }
     ensures sound { IfOk result (λ _. first_fault_of_all (parts_tree parts.entry).pointers ≡ None) }
     ensures refused { IfErr result (λ error. IsCopyRefusal error (first_fault_of_all (parts_tree parts.entry).pointers)) }

@@ -1,5 +1,5 @@
 //! Laws of the format that every reader stands on.
-ghost use Rattle.capnp_wire.specs.Laws.{IsReadBack, MoreBytesChangeNothing, TreesAreWellFormed};
+ghost use Rattle.capnp_wire.specs.Laws.{IsReadBack, MoreBytesChangeNothing, PointerElementsAreWritten, PointersAreWritten, StructElementsAreWritten, TreesAreWellFormed};
 ghost use Rattle.capnp_wire.specs.Standing.{list_of, struct_of, tree_of};
 ghost use Rattle.capnp_wire.specs.WellFormed.{IsWellFormed, IsWellFormedStruct};
 
@@ -43,4 +43,19 @@ pub fn more_bytes_change_nothing()
 /// pointer, is read as that tree, whatever follows it.
 pub fn messages_are_read_back()
     ensures { IsReadBack }
+{}
+
+/// A struct whose pointer was lent, and written through, is its tree with another one at that index.
+pub fn pointers_are_written()
+    ensures { PointersAreWritten }
+{}
+
+/// A list of which an element was lent as a struct is its tree with another one at that index.
+pub fn struct_elements_are_written()
+    ensures { StructElementsAreWritten }
+{}
+
+/// A list of which an element was lent as a pointer is its tree with another one at that index.
+pub fn pointer_elements_are_written()
+    ensures { PointerElementsAreWritten }
 {}

@@ -4,16 +4,16 @@
 //! call's contract says what it answers in terms of that tree and of the levels that the reader has left.
 #![tactic(auto)]
 
+mod bits;
 #[cfg(test)]
 mod builder_tests;
-mod bits;
 mod bytes;
 mod copy;
 mod encode;
 pub mod fault;
 pub mod laws;
-mod list_reader;
 mod list_builder;
+mod list_reader;
 mod locate;
 mod look;
 mod make;
@@ -27,6 +27,7 @@ mod run;
 mod segments;
 pub mod size;
 mod struct_builder;
+mod struct_lists;
 mod struct_reader;
 mod total;
 

@@ -44,7 +44,10 @@ impl ListObject {
     {
         match self {
             ListObject::Missing(_, _) => false,
-            ListObject::Voids(_, _) => matches!(size, ElementSize::Void | ElementSize::InlineComposite),
+            ListObject::Voids(_, _) => matches!(
+                size,
+                ElementSize::Void | ElementSize::InlineComposite
+            ),
             ListObject::Bits(_) => matches!(size, ElementSize::Void | ElementSize::Bit),
             ListObject::Numbers(width, _) => reads_numbers_as(size, *width),
             ListObject::Pointers(_) => matches!(

@@ -7,8 +7,8 @@ ghost use Rattle.capnp_wire.specs.WellFormed.{IsWellFormed, IsWellFormed-prop};
 use crate::bytes::{get_bit, part};
 use crate::fault::Fault;
 use crate::look::{
-    Found, Place, Pointers, StructParts, count_list, get_element, get_only_pointer,
-    get_pointer, look, look_at_nothing,
+    Found, Place, Pointers, StructParts, count_list, get_element, get_only_pointer, get_pointer,
+    look, look_at_nothing,
 };
 use crate::pointer_reader::PointerReader;
 use crate::primitive::PrimitiveElement;

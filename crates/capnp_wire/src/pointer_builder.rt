@@ -84,7 +84,7 @@ impl Object {
     }
 
     /// The list that stands here.
-    fn list_here(&mut self) -> ListBuilder<'_>
+    pub(crate) fn list_here(&mut self) -> ListBuilder<'_>
         requires { IsTrue (holds_list self.old) }
         ensures* lends { sem 𝓛 (LendsOwnList self.entry result) }
         ensures is { Object.List result.now ≡ self.old }
@@ -291,7 +291,7 @@ impl Object {
 }
 
 impl ListObject {
-    fn allocator(&self) -> Global {
+    pub(crate) fn allocator(&self) -> Global {
         match self {
             ListObject::Missing(alloc, _) => *alloc,
             ListObject::Voids(alloc, _) => *alloc,

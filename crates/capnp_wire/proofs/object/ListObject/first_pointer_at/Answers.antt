@@ -1,7 +1,6 @@
-use Rattle.std.proofs.Common.{◌≡◌, ◌<◌, arith, refl, sym, ap, ◌∙◌, length, subst}
-use Rattle.capnp_wire.specs.Tree.{StructTree, nth_tree, tree_count}
+use Rattle.std.proofs.Common.{◌<◌, arith, refl, sym, ap, ◌∙◌, subst}
+use Rattle.capnp_wire.specs.Tree.{nth_tree, tree_count}
 use Rattle.capnp_wire.specs.Objects.{struct_object_tree}
-use Rattle.capnp_wire.specs.Elements.{HasPointer, HasStruct}
 use Rattle.capnp_wire.proofs.ListObjects.{first_lent, first_seen, first_there, struct_of_pointer, struct_inside}
 use Rattle.capnp_wire.proofs.object.ListObject.first_pointer_at.Goals as goal
 

@@ -1,4 +1,4 @@
-use Rattle.std.proofs.Common.{◌≡◌, ◌<◌, arith, refl, sym, ap, ◌∙◌, length}
+use Rattle.std.proofs.Common.{arith, refl, sym, ap, ◌∙◌}
 use Rattle.capnp_wire.specs.Objects.{struct_object_tree}
 use Rattle.capnp_wire.proofs.ListObjects.{element_lent, struct_inside, struct_seen}
 use Rattle.capnp_wire.proofs.object.ListObject.get_struct_element.Goals as goal

@@ -1,4 +1,4 @@
-use Rattle.std.proofs.Common.{◌≡◌, ◌<◌, arith, refl, sym, ap, ◌∙◌, length}
+use Rattle.std.proofs.Common.{arith, refl, sym, ap, ◌∙◌}
 use Rattle.capnp_wire.specs.Objects.{object_tree}
 use Rattle.capnp_wire.proofs.ListObjects.{object_inside, object_lent, object_seen}
 use Rattle.capnp_wire.proofs.object.ListObject.object_at.Goals as goal

@@ -1,4 +1,4 @@
-use Rattle.std.proofs.Common.{sym, ap, ◌∙◌, ◌≡◌}
+use Rattle.std.proofs.Common.{sym, ap, ◌∙◌}
 use Rattle.capnp_wire.specs.Tree.{StructTree}
 use Rattle.capnp_wire.specs.Objects.{list_object_tree}
 use Rattle.capnp_wire.specs.Edits.{with_bytes, with_number}
@@ -12,5 +12,5 @@ returns-then-is_composite g c =
     let number = g.T.PrimitiveElement.to_number c.args.value in
     element_written c.args.self.now c.args.index c.set_data_field.new.self
     ∙ ap (λ s. with_struct_element c.args.index s (list_object_tree c.args.self.now))
-        (c.set_data_field.ensures ∙ ap (λ (s : StructTree). with_bytes s (with_number width 0 number s.bytes)) c.get_struct_element-element.ensures.now)
+    (c.set_data_field.ensures ∙ ap (λ (s : StructTree). with_bytes s (with_number width 0 number s.bytes)) c.get_struct_element-element.ensures.now)
     ∙ number_in_element (list_object_tree c.args.self.now) width c.args.index number (sym c.is_composite.ensures ∙ c.if-is_composite.true)

@@ -1,6 +1,6 @@
 use mathlib.Core.Bool.{true≢false}
 use Rattle.std.specs.Result.{IsOk, is_ok}
-use Rattle.std.proofs.Common.{rules, true, false, arith, ◌≡◌, ◌≤◌, ◌*◌, ◌-◌, ◌∙◌, ◌++◌, length, replicate, sym, ap, take, take_all, vec_len}
+use Rattle.std.proofs.Common.{true, arith, ◌≡◌, ◌*◌, ◌-◌, ◌∙◌, ◌++◌, length, replicate, sym, ap, take, take_all, vec_len}
 use Rattle.capnp_wire.specs.Tree.{StructTree, tree_count}
 use Rattle.capnp_wire.specs.Objects.{object_tree, object_trees, struct_object_tree}
 use Rattle.capnp_wire.specs.Edits.{extended}

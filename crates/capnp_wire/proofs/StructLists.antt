@@ -1,0 +1,98 @@
+-- Lists that become lists of structs.
+use mathlib.Core.Bool.{true≢false}
+use Rattle.std.proofs.Common.{◌≡◌, ℕ, zero, suc, ◌+◌, ◌*◌, ◌<◌, ◌≤◌, ◌^◌, length, refl, sym, ap, ◌∙◌, arith, true, false, nat_lt}
+use Rattle.std.specs.Prelude.{Option, Some, None, cond, is_some, unwrap_or}
+use Rattle.std.proofs.lemmas.Bool.Decides.{nat_tests}
+use Rattle.capnp_wire.specs.Tree.{Tree, Null, Struct, Voids, Bits, Numbers, Pointers, Composite, FaultLeaf, Structs, NoStructs, MoreStructs, StructTree, nth_struct, structs_from, struct_count, tree_count}
+use Rattle.capnp_wire.specs.Reading.{is_list, list_length}
+use Rattle.capnp_wire.specs.WellFormed.{AreElements, IsWellFormed}
+use Rattle.capnp_wire.specs.Edits.{IsCopyRefusal, extended}
+use Rattle.capnp_wire.specs.StructLists.{IsDueRefusal, as_structs, grown, has_size, is_bits, past_format, struct_list, struct_list_refusal}
+use Rattle.capnp_wire.specs.declared.size.StructSize.{StructSize}
+use Rattle.capnp_device.specs.declared.error.Error.{Error}
+use Rattle.capnp_device.specs.declared.error.ErrorKind.{ErrorKind}
+use Rattle.capnp_device.specs.declared.error.ErrorKind.TheVariants.{SizePastFormat}
+use Rattle.capnp_wire.proofs.Extended.{extended_same}
+
+-- ---- lists of other elements than bits ----
+
+pub struct_list_is : (size : StructSize) (t : Tree) → is_list t ≡ true → is_bits t ≡ false → struct_list size t ≡ as_structs (grown size t) t
+struct_list_is size Null l b = absurd (true≢false (sym l))
+struct_list_is size (Struct bytes ps) l b = absurd (true≢false (sym l))
+struct_list_is size (Voids n) l b = refl
+struct_list_is size (Bits bs) l b = absurd (true≢false b)
+struct_list_is size (Numbers w bytes) l b = refl
+struct_list_is size (Pointers ps) l b = refl
+struct_list_is size (Composite d p es) l b = refl
+struct_list_is size (FaultLeaf k) l b = absurd (true≢false (sym l))
+
+pub refusal_is : (size : StructSize) (t : Tree) → is_list t ≡ true → is_bits t ≡ false → struct_list_refusal size t ≡ past_format (list_length t) (grown size t)
+refusal_is size Null l b = absurd (true≢false (sym l))
+refusal_is size (Struct bytes ps) l b = absurd (true≢false (sym l))
+refusal_is size (Voids n) l b = refl
+refusal_is size (Bits bs) l b = absurd (true≢false b)
+refusal_is size (Numbers w bytes) l b = refl
+refusal_is size (Pointers ps) l b = refl
+refusal_is size (Composite d p es) l b = refl
+refusal_is size (FaultLeaf k) l b = absurd (true≢false (sym l))
+
+pub within_format : (count : ℕ) (size : StructSize) → count * (size.data_words + size.pointers) < 2 ^ 29 → past_format count size ≡ None
+within_format count size h =
+    let small : nat_lt (count * (size.data_words + size.pointers)) (2 ^ 29) ≡ true = grind (arith, nat_tests, h) in
+    ap (λ b. cond b None (Some SizePastFormat)) small
+
+pub outside_format : (count : ℕ) (size : StructSize) → 2 ^ 29 ≤ count * (size.data_words + size.pointers) → past_format count size ≡ Some SizePastFormat
+outside_format count size h =
+    let large : nat_lt (count * (size.data_words + size.pointers)) (2 ^ 29) ≡ false = grind (arith, nat_tests, h) in
+    ap (λ b. cond b None (Some SizePastFormat)) large
+
+-- ---- refusals ----
+
+pub due_refused : (e : Error) (due : Option ErrorKind) (kind : ErrorKind) → due ≡ Some kind → e.kind ≡ kind → IsDueRefusal e due
+due_refused e due kind d k = (λ n. d ∙ ap Some (sym k), λ other o. k ∙ ap (λ x. unwrap_or x kind) (sym d ∙ o))
+
+pub memory_refused : (e : Error) (due : Option ErrorKind) → due ≡ None → IsCopyRefusal e None → IsDueRefusal e due
+memory_refused e due d r = (λ n. d ∙ r n, λ other o. absurd (true≢false (sym (ap is_some (sym d ∙ o)))))
+
+-- ---- a list of structs of just this size stays ----
+
+next : (a i : ℕ) → suc a + i ≡ a + suc i
+next a i = omega arith
+
+-- structs by their index
+rebuilt : (f : ℕ → StructTree) (a : ℕ) (es : Structs) → ((i : ℕ) → i < struct_count es → f (a + i) ≡ nth_struct es i) → structs_from f a (struct_count es) ≡ es
+rebuilt f a NoStructs h = refl
+rebuilt f a (MoreStructs bytes ps es) h =
+    let first : a ≡ a + 0 = omega arith in
+    ap (λ (s : StructTree). MoreStructs s.bytes s.pointers (structs_from f (suc a) (struct_count es))) (ap f first ∙ h 0 (omega arith))
+    ∙ ap (MoreStructs bytes ps) (rebuilt f (suc a) es (λ i l. ap f (next a i) ∙ h (suc i) (omega arith)))
+
+element_size : (d p : ℕ) (es : Structs) (i : ℕ) → AreElements d p es → i < struct_count es → (length (nth_struct es i).bytes ≡ 8 * d) × (tree_count (nth_struct es i).pointers ≡ p)
+element_size d p NoStructs i h l = absurd (omega arith)
+element_size d p (MoreStructs bytes ps es) zero h l = (h.1, h.2)
+element_size d p (MoreStructs bytes ps es) (suc i) h l = element_size d p es i h.4 (omega arith)
+
+kept : (size : StructSize) (d p : ℕ) (es : Structs) → AreElements d p es → d ≡ size.data_words → p ≡ size.pointers → (i : ℕ) → i < struct_count es → extended size (nth_struct es (0 + i)) ≡ nth_struct es i
+kept size d p es h x y i l =
+    let sizes = element_size d p es i h l in
+    let at : 0 + i ≡ i = omega arith in
+    ap (λ j. extended size (nth_struct es j)) at ∙ sym (extended_same size (nth_struct es i) (omega (arith, sizes.0, x)) (omega (arith, sizes.1, y)))
+
+same_structs : (size : StructSize) (d p : ℕ) (es : Structs) → AreElements d p es → d ≡ size.data_words → p ≡ size.pointers → as_structs size (Composite d p es) ≡ Composite d p es
+same_structs size d p es h x y =
+    ap (λ n. Composite n size.pointers (structs_from (λ i. extended size (nth_struct es i)) 0 (struct_count es))) (sym x)
+    ∙ ap (λ n. Composite d n (structs_from (λ i. extended size (nth_struct es i)) 0 (struct_count es))) (sym y)
+    ∙ ap (Composite d p) (rebuilt (λ i. extended size (nth_struct es i)) 0 es (kept size d p es h x y))
+
+pub same_list : (size : StructSize) (t : Tree) → IsWellFormed t → has_size size t ≡ true → as_structs size t ≡ t
+same_list size Null h e = absurd (true≢false (sym e))
+same_list size (Struct bytes ps) h e = absurd (true≢false (sym e))
+same_list size (Voids n) h e = absurd (true≢false (sym e))
+same_list size (Bits bs) h e = absurd (true≢false (sym e))
+same_list size (Numbers w bytes) h e = absurd (true≢false (sym e))
+same_list size (Pointers ps) h e = absurd (true≢false (sym e))
+same_list size (Composite d p es) h e =
+    let words : d ≡ size.data_words = grind (arith, nat_tests, e) in
+    let pointers : p ≡ size.pointers = grind (arith, nat_tests, e) in
+    same_structs size d p es h.4 words pointers
+same_list size (FaultLeaf k) h e = absurd (true≢false (sym e))

@@ -1,0 +1,5 @@
+use Rattle.capnp_wire.proofs.Written.{element_written}
+use Rattle.capnp_wire.proofs.laws.struct_elements_are_written.Goals as goal
+
+pub returns : goal.returns
+returns c = element_written

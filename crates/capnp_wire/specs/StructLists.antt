@@ -1,0 +1,90 @@
+-- A list that becomes one of structs of at least a size.
+use Rattle.std.specs.Prelude.{ℕ, ◌+◌, ◌*◌, ◌^◌, ◌≡◌, ◌≢◌, Bool, true, false, cond, ◌==◌, ◌&&◌, nat_lt, max, Option, Some, None}
+use Rattle.capnp_wire.specs.Tree.{Tree, Null, Struct, Voids, Bits, Numbers, Pointers, Composite, FaultLeaf, structs_from}
+use Rattle.capnp_wire.specs.Reading.{element_struct, list_length}
+use Rattle.capnp_wire.specs.Edits.{extended}
+use Rattle.capnp_wire.specs.declared.size.StructSize.{StructSize}
+use Rattle.capnp_device.specs.declared.error.Error.{Error}
+use Rattle.capnp_device.specs.declared.error.ErrorKind.{ErrorKind}
+use Rattle.capnp_device.specs.declared.error.ErrorKind.TheVariants.{OutOfMemory, SizePastFormat, WrongElementSize, WrongPointerKind}
+
+-- the data words and the pointers that an element takes as a struct
+abbrev pub element_words : Tree → ℕ
+element_words Null = 0
+element_words (Struct bytes ps) = 0
+element_words (Voids n) = 0
+element_words (Bits bs) = 0
+element_words (Numbers w bytes) = 1
+element_words (Pointers ps) = 0
+element_words (Composite d p es) = d
+element_words (FaultLeaf k) = 0
+
+abbrev pub element_pointers : Tree → ℕ
+element_pointers Null = 0
+element_pointers (Struct bytes ps) = 0
+element_pointers (Voids n) = 0
+element_pointers (Bits bs) = 0
+element_pointers (Numbers w bytes) = 0
+element_pointers (Pointers ps) = 1
+element_pointers (Composite d p es) = p
+element_pointers (FaultLeaf k) = 0
+
+-- at least a size, and what an element takes
+abbrev pub grown : StructSize → Tree → StructSize
+grown size t = record { data_words = max size.data_words (element_words t); pointers = max size.pointers (element_pointers t) }
+
+-- each element as a struct that lost nothing, with zeros and nulls up to the size
+abbrev pub as_structs : StructSize → Tree → Tree
+as_structs size t = Composite size.data_words size.pointers (structs_from (λ i. extended size (element_struct t i)) 0 (list_length t))
+
+-- a null stays, and so does what can't be read as structs
+abbrev pub struct_list : StructSize → Tree → Tree
+struct_list size Null = Null
+struct_list size (Struct bytes ps) = Struct bytes ps
+struct_list size (Voids n) = as_structs (grown size (Voids n)) (Voids n)
+struct_list size (Bits bs) = Bits bs
+struct_list size (Numbers w bytes) = as_structs (grown size (Numbers w bytes)) (Numbers w bytes)
+struct_list size (Pointers ps) = as_structs (grown size (Pointers ps)) (Pointers ps)
+struct_list size (Composite d p es) = as_structs (grown size (Composite d p es)) (Composite d p es)
+struct_list size (FaultLeaf k) = FaultLeaf k
+
+-- whether so many structs of a size are past the format
+abbrev pub past_format : ℕ → StructSize → Option ErrorKind
+past_format count size = cond (nat_lt (count * (size.data_words + size.pointers)) (2 ^ 29)) None (Some SizePastFormat)
+
+-- what it is refused with, memory aside
+abbrev pub struct_list_refusal : StructSize → Tree → Option ErrorKind
+struct_list_refusal size Null = None
+struct_list_refusal size (Struct bytes ps) = Some WrongPointerKind
+struct_list_refusal size (Voids n) = past_format n (grown size (Voids n))
+struct_list_refusal size (Bits bs) = Some WrongElementSize
+struct_list_refusal size (Numbers w bytes) = past_format (list_length (Numbers w bytes)) (grown size (Numbers w bytes))
+struct_list_refusal size (Pointers ps) = past_format (list_length (Pointers ps)) (grown size (Pointers ps))
+struct_list_refusal size (Composite d p es) = past_format (list_length (Composite d p es)) (grown size (Composite d p es))
+struct_list_refusal size (FaultLeaf k) = None
+
+-- a call is refused by what is due wherever something is, and else for want of memory
+abbrev pub IsDueRefusal : Error → Option ErrorKind → Type 0
+IsDueRefusal error due = (error.kind ≢ OutOfMemory → due ≡ Some error.kind) × ((kind : ErrorKind) → due ≡ Some kind → error.kind ≡ kind)
+
+-- whether the elements are structs of just this size
+abbrev pub has_size : StructSize → Tree → Bool
+has_size size Null = false
+has_size size (Struct bytes ps) = false
+has_size size (Voids n) = false
+has_size size (Bits bs) = false
+has_size size (Numbers w bytes) = false
+has_size size (Pointers ps) = false
+has_size size (Composite d p es) = (d == size.data_words) && (p == size.pointers)
+has_size size (FaultLeaf k) = false
+
+-- whether the elements are bits
+abbrev pub is_bits : Tree → Bool
+is_bits Null = false
+is_bits (Struct bytes ps) = false
+is_bits (Voids n) = false
+is_bits (Bits bs) = true
+is_bits (Numbers w bytes) = false
+is_bits (Pointers ps) = false
+is_bits (Composite d p es) = false
+is_bits (FaultLeaf k) = false

@@ -1,0 +1,183 @@
+//! Lists that become lists of structs.
+ghost use Rattle.std.specs.Prelude.{None, Some, false, true, ◌≡◌, IfErr, IfOk, IsTrue, OnErr, OnOk};
+ghost use Rattle.std.specs.Borrow.{sem};
+ghost use Rattle.capnp_wire.specs.Tree.{structs_from};
+ghost use Rattle.capnp_wire.specs.Objects.{list_object_tree, object_tree, struct_object_trees};
+ghost use Rattle.capnp_wire.specs.Found.{found_tree, parts_tree};
+ghost use Rattle.capnp_wire.specs.Reading.{element_struct, is_list, is_null_tree};
+ghost use Rattle.capnp_wire.specs.WellFormed.{IsWellFormed};
+ghost use Rattle.capnp_wire.specs.Edits.{IsCopyRefusal, extended};
+ghost use Rattle.capnp_wire.specs.StructLists.{IsDueRefusal, element_pointers, element_words, grown, has_size, is_bits, struct_list, struct_list_refusal};
+ghost use Rattle.capnp_wire.specs.Lends.{LendsList, holds_list};
+
+use crate::bytes::part;
+use crate::copy::copy_struct;
+use crate::look::{
+    Found, Pointers, StructParts, get_element, get_only_pointer, look_at_list_object,
+};
+use crate::object::{ListObject, Object, StructObject};
+use crate::pointer_builder::ListBuilder;
+use crate::size::{ElementSize, StructSize};
+use capnp_device::error::{Error, ErrorKind, Result};
+use std::alloc::Global;
+
+/// What an element of a list holds as a struct.
+pub fn get_element_parts(found: Found<'_>, index: u32) -> StructParts<'_>
+    ensures { parts_tree result ≡ element_struct (found_tree found.entry) index }
+{
+    match found {
+        Found::Numbers(width, bytes) => {
+            let width = width as usize;
+            let data = part(bytes, index as usize * width, width);
+            let pointers = Pointers::Objects(&[]);
+            StructParts { data, pointers }
+        }
+        Found::Pointers(pointers) => {
+            let pointers = get_only_pointer(pointers, index as usize);
+            StructParts {
+                data: &[],
+                pointers,
+            }
+        }
+        Found::Composite(size, elements) => get_element(size, elements, index as usize),
+        _ => {
+            let pointers = Pointers::Objects(&[]);
+            StructParts {
+                data: &[],
+                pointers,
+            }
+        }
+    }
+}
+
+/// The elements of a list as structs of at least a size.
+///
+/// Refused with `OutOfMemory`.
+fn copy_as_structs(
+    alloc: Global,
+    size: StructSize,
+    list: &ListObject,
+    count: u32,
+) -> Result<Vec<StructObject>>
+    ensures copy { IfOk result (λ structs. struct_object_trees structs.items ≡ structs_from (λ i. extended size (element_struct (list_object_tree list.now) i)) 0 count) }
+    ensures refused { IfErr result (λ error. IsCopyRefusal error None) }
+{
+    let mut structs = Vec::with_capacity(alloc, count as usize)?;
+    for i in 0..count {
+        let mut element = copy_struct(alloc, get_element_parts(look_at_list_object(list), i))?;
+        element.extend(size)?;
+        structs.push(element)?;
+    }
+    Ok(structs)
+}
+
+impl ListObject {
+    /// Whether the elements are bits.
+    fn is_bits(&self) -> bool
+        ensures { result ≡ is_bits (list_object_tree self.now) }
+    {
+        matches!(self, ListObject::Bits(_))
+    }
+
+    /// Whether the elements are structs of just this size.
+    fn has_size(&self, size: StructSize) -> bool
+        ensures { result ≡ has_size size (list_object_tree self.now) }
+    {
+        match self {
+            ListObject::Composite(own, _) => own.data_words == size.data_words
+                && own.pointers == size.pointers,
+            _ => false,
+        }
+    }
+
+    /// At least a size, and what an element takes as a struct.
+    fn grow(&self, size: StructSize) -> StructSize
+        ensures { result ≡ grown size (list_object_tree self.now) }
+    {
+        let own = match self {
+            ListObject::Numbers(_, _) => StructSize {
+                data_words: 1,
+                pointers: 0,
+            },
+            ListObject::Pointers(_) => StructSize {
+                data_words: 0,
+                pointers: 1,
+            },
+            ListObject::Composite(own, _) => *own,
+            _ => StructSize {
+                data_words: 0,
+                pointers: 0,
+            },
+        };
+        StructSize {
+            data_words: size.data_words.max(own.data_words),
+            pointers: size.pointers.max(own.pointers),
+        }
+    }
+
+    /// Makes the list one of structs of at least a size.
+    fn become_structs(&mut self, size: StructSize) -> Result<()>
+        requires held { IsWellFormed (list_object_tree self.old) }
+        requires there { is_list (list_object_tree self.old) ≡ true }
+        ensures ok { OnOk result (list_object_tree self.new ≡ struct_list size (list_object_tree self.old)) }
+        ensures refused { OnErr result (self.new ≡ self.old) }
+        ensures within { OnOk result (struct_list_refusal size (list_object_tree self.old) ≡ None) }
+        ensures cause { IfErr result (λ e. IsDueRefusal e (struct_list_refusal size (list_object_tree self.old))) }
+    {
+        if self.is_bits() {
+            return Err(Error::from(ErrorKind::WrongElementSize));
+        }
+        let count = self.len();
+        let size = self.grow(size);
+        if count as u64 * (size.data_words as u64 + size.pointers as u64) >= 1 << 29 {
+            return Err(Error::from(ErrorKind::SizePastFormat));
+        }
+        if self.has_size(size) {
+            return Ok(());
+        }
+        let structs = copy_as_structs(self.allocator(), size, self, count)?;
+        *self = ListObject::Composite(size, structs);
+        Ok(())
+    }
+}
+
+impl Object {
+    /// Makes what stands here, which is not null, a list of structs of at least a size.
+    fn make_struct_list(&mut self, size: StructSize) -> Result<()>
+        requires held { IsWellFormed (object_tree self.old) }
+        requires there { is_null_tree (object_tree self.old) ≡ false }
+        ensures ok { OnOk result (object_tree self.new ≡ struct_list size (object_tree self.old)) }
+        ensures list { OnOk result (IsTrue (holds_list self.new)) }
+        ensures refused { OnErr result (self.new ≡ self.old) }
+        ensures within { OnOk result (struct_list_refusal size (object_tree self.old) ≡ None) }
+        ensures cause { IfErr result (λ e. IsDueRefusal e (struct_list_refusal size (object_tree self.old))) }
+    {
+        match self {
+            Object::Null(_) => unreachable!(),
+            Object::Struct(_) => Err(Error::from(ErrorKind::WrongPointerKind)),
+            Object::List(object) => object.become_structs(size),
+        }
+    }
+
+    /// The list that stands here, as one of structs of at least a size. A null is a list without elements, and stays
+    /// null. A list of other elements becomes one of structs, and structs that are smaller are extended: each element then
+    /// has at least the size, with zeros and nulls after what it had, and has lost nothing.
+    ///
+    /// Refused with `WrongPointerKind` for a struct, with `WrongElementSize` for a list of bits, with `SizePastFormat`
+    /// where the structs would take 2^29 words or more, and else with `OutOfMemory`; then nothing has changed.
+    pub fn get_struct_list(&mut self, size: StructSize) -> Result<ListBuilder<'_>>
+        requires { IsWellFormed (object_tree self.old) }
+        ensures* lends { sem 𝓛 (LendsList self.entry result) }
+        ensures now { IfOk result (λ l. list_object_tree l.now ≡ struct_list size (object_tree self.old)) }
+        ensures within { OnOk result (struct_list_refusal size (object_tree self.old) ≡ None) }
+        ensures refused { IfErr result (λ e. IsDueRefusal e (struct_list_refusal size (object_tree self.old))) }
+    {
+        if self.is_null() {
+            let alloc = self.allocator();
+            *self = Object::List(ListObject::Missing(alloc, ElementSize::InlineComposite));
+            return Ok(self.list_here());
+        }
+        self.make_struct_list(size)?;
+        Ok(self.list_here())
+    }
+}
