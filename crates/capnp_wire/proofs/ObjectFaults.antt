@@ -1,15 +1,22 @@
 -- Objects have no fault leaves.
-use Rattle.std.proofs.Common.{◌≡◌, List, [], ◌∷◌, map, refl, ap, ◌∙◌, subst}
-use Rattle.std.specs.Prelude.{None}
-use Rattle.capnp_wire.specs.Words.{first_of, first_fault, first_fault_of_all, first_fault_of_elements}
+use Rattle.std.proofs.Common.{◌≡◌, ◌≢◌, ◌≤◌, ◌^◌, ℕ, List, [], ◌∷◌, map, refl, ap, ◌∙◌, rules, subst}
+use Rattle.std.specs.Prelude.{Option, None, Result, Ok, Err, IfErr}
+use Rattle.capnp_wire.specs.Words.{first_of, first_fault, first_fault_of_all, first_fault_of_elements, words_of_struct}
+use Rattle.capnp_wire.specs.Total.{IsSizeRefusal}
 use Rattle.capnp_wire.specs.Tree.{Tree, StructTree}
+use Rattle.capnp_wire.specs.declared.fault.Fault.{Fault}
+use Rattle.capnp_wire.specs.Place.{struct_tree}
 use Rattle.capnp_wire.specs.Objects.{object_tree, list_object_tree, struct_object_tree, trees_of, structs_of, list_layer, object_layer, struct_layer}
 use Rattle.capnp_wire.specs.declared.object.Object.{Object}
 use Rattle.capnp_wire.specs.declared.object.ListObject.{ListObject}
 use Rattle.capnp_wire.specs.declared.object.StructObject.{StructObject}
+use Rattle.capnp_wire.specs.declared.object.Object.TheVariants as object
 use Rattle.capnp_wire.specs.declared.object.ListObject.TheOpen as layer
 use Rattle.capnp_wire.specs.declared.object.ListObject.TheOpen.{Object-F, ListObject-F, StructObject-F}
-use Rattle.capnp_wire.specs.declared.object.ListObject.TheFolds.{ind-Object, map-Object, map-ListObject, fold-roll-Object, fold-roll-ListObject, fold-roll-StructObject}
+use Rattle.capnp_wire.specs.declared.object.ListObject.TheFolds.{ind-Object, map-Object, map-ListObject, fold-roll-Object, fold-roll-ListObject, fold-roll-StructObject, the_lemmas}
+use Rattle.capnp_device.specs.declared.error.Error.{Error}
+use Rattle.capnp_device.specs.declared.error.ErrorKind.{ErrorKind}
+use Rattle.capnp_device.specs.declared.error.ErrorKind.TheVariants.{TooLarge}
 
 -- no part is a fault leaf
 abbrev IsWhole : Object → Type 0
@@ -63,3 +70,25 @@ object_whole = ind-Object IsWholeList IsWhole IsWholeStruct
     (λ x y is.
     let inner = subst (λ z. first_fault_of_all (trees_of (map object_tree z.pointers.items)) ≡ None) is (whole_row y.pointers.items) in
     ap (λ (s : StructTree). first_fault_of_all s.pointers) (fold-roll-StructObject Tree Tree StructTree list_layer object_layer struct_layer x) ∙ inner)
+
+-- and neither has a struct
+pub struct_whole : (s : StructObject) → first_fault_of_all (struct_object_tree s).pointers ≡ None
+struct_whole s =
+    let e : object_tree (object.Struct s) ≡ struct_tree (struct_object_tree s) = search (rules, the_lemmas) in
+    rw e at (object_whole (object.Struct s))
+
+-- a kind that can't be another one
+is_too_large : (k : ErrorKind) → (k ≢ TooLarge → ⊥) → k ≡ TooLarge
+is_too_large TooLarge h = refl
+is_too_large _ h = absurd (h (λ e. cc))
+
+-- so a size is refused only where it is too large
+pub only_too_large : (e : Error) (f : Option Fault) (words : ℕ) → f ≡ None → IsSizeRefusal e f words → (e.kind ≡ TooLarge) × (2 ^ 64 ≤ words)
+only_too_large e f words h r =
+    let k : e.kind ≡ TooLarge = is_too_large e.kind (λ ne. let q = r.1 ne in cc) in
+    (k, r.0 k)
+
+-- the same of what a call answered, for a struct
+pub struct_too_large : {A : Type 0} (r : Result A Error) (s : StructObject) (t : StructTree) → t ≡ struct_object_tree s → IfErr r (λ e. IsSizeRefusal e (first_fault_of_all t.pointers) (words_of_struct t)) → IfErr r (λ e. (e.kind ≡ TooLarge) × (2 ^ 64 ≤ words_of_struct (struct_object_tree s)))
+struct_too_large (Ok x) s t q h = tt {0}
+struct_too_large (Err e) s t q h = rw q at (only_too_large e (first_fault_of_all t.pointers) (words_of_struct t) (ap (λ (x : StructTree). first_fault_of_all x.pointers) q ∙ struct_whole s) h)

@@ -4,11 +4,12 @@ ghost use Rattle.capnp_wire.specs.WellFormed.{AreSegments, AreSegments-prop};
 
 use crate::bytes::{half_at, part, rest};
 use crate::encode::write_object;
-use crate::look::{ROOT_LEVELS, get_root_place};
+use crate::look::{Place, ROOT_LEVELS, get_root_place};
 use crate::object::Object;
 use crate::pointer_builder::PointerBuilder;
 use crate::pointer_reader::PointerReader;
 use crate::segments::{Segments, count_words, get_header_bytes};
+use crate::total::size_of_place;
 use capnp_device::error::{Error, ErrorKind, Result};
 use std::alloc::Global;
 
@@ -118,6 +119,21 @@ impl Builder {
         ensures cause { IfErr result (λ e. IsCopyRefusal e (first_fault (tree_of source.entry))) }
     {
         self.root.copy_from(source)
+    }
+
+    /// The words of the message's segment: one for the root pointer, and those of each object that it leads to, the tag
+    /// of a composite list with them. Takes no memory.
+    ///
+    /// Refused with `TooLarge` where they are 2^64 or more.
+    #[tactic(auto, unfolding(crate::specs::Message::builder_tree))]
+    pub fn size_in_words(&self) -> Result<u64>
+        ensures words { IfOk result (λ words. words ≡ suc (words_of (builder_tree self.now))) }
+        ensures refused { IfErr result (λ e. (e.kind ≡ TooLarge) × (2 ^ 64 ≤ suc (words_of (builder_tree self.now)))) }
+    {
+        let size = size_of_place(Place::Object(&self.root))?;
+        size.word_count
+            .checked_add(1)
+            .ok_or(Error::from(ErrorKind::TooLarge))
     }
 
     /// The bytes of the message in a stream: one segment, with the objects that the root leads to. The message takes its
