@@ -384,13 +384,14 @@ fn measure_message(object: &Object) -> Result<u32>
 /// memory is taken once.
 ///
 /// Refused with `TooLarge` where the message has more than 2^29 - 1 words or the format does not hold one of its
-/// objects, and with `OutOfMemory` where the memory is refused. The object stays as it is.
+/// objects, and else with `OutOfMemory` where the memory is refused. The object stays as it is.
 pub fn write_object(alloc: Global, object: &Object) -> Result<Vec<u8>>
     ensures bytes { IfOk result (λ v. v.items ≡ message_of (object_tree object.now)) }
     ensures held { IfOk result (λ _. IsWellFormed (object_tree object.now) × (suc (words_of (object_tree object.now)) < 2 ^ 29)) }
     ensures read { IfOk result (λ v. IsShallow (object_tree object.now) → (rest : List ℕ) → message_tree_of (v.items ++ rest) ≡ Ok (object_tree object.now)) }
     ensures kinds { IfErr result (λ e. e.kind ≢ TooLarge → e.kind ≡ OutOfMemory) }
     ensures refused { IfErr result (λ e. e.kind ≡ TooLarge → IsWellFormed (object_tree object.now) → 2 ^ 29 ≤ suc (words_of (object_tree object.now))) }
+    ensures memory { IfErr result (λ e. e.kind ≡ OutOfMemory → IsWellFormed (object_tree object.now) × (suc (words_of (object_tree object.now)) < 2 ^ 29)) }
 {
     let words = measure_message(object)?;
     let mut out = Vec::with_capacity(alloc, 8 * words as usize + 8)?;

@@ -140,7 +140,7 @@ impl Builder {
     /// memory once.
     ///
     /// Refused with `TooLarge` where the segment would be 2^29 words or more, or where the format can't hold the tree, and
-    /// with `OutOfMemory`.
+    /// else with `OutOfMemory` where the memory is refused.
     #[tactic(auto, unfolding(crate::specs::Message::builder_tree))]
     pub fn write_message(&self) -> Result<Vec<u8>>
         ensures bytes { IfOk result (λ v. v.items ≡ message_of (builder_tree self.now)) }
@@ -148,6 +148,7 @@ impl Builder {
         ensures read { IfOk result (λ v. IsShallow (builder_tree self.now) → (rest : List ℕ) → message_tree_of (v.items ++ rest) ≡ Ok (builder_tree self.now)) }
         ensures kinds { IfErr result (λ e. e.kind ≢ TooLarge → e.kind ≡ OutOfMemory) }
         ensures refused { IfErr result (λ e. e.kind ≡ TooLarge → IsWellFormed (builder_tree self.now) → 2 ^ 29 ≤ suc (words_of (builder_tree self.now))) }
+        ensures memory { IfErr result (λ e. e.kind ≡ OutOfMemory → IsWellFormed (builder_tree self.now) × (suc (words_of (builder_tree self.now)) < 2 ^ 29)) }
     {
         write_object(self.root.allocator(), &self.root)
     }
