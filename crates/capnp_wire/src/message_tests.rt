@@ -1,6 +1,6 @@
 //! Messages that are measured and written.
 
-use crate::message::Builder;
+use crate::message::{Builder, Reader};
 use crate::size::StructSize;
 use capnp_device::error::ErrorKind;
 use capnp_device::memory::MemorySink;
@@ -81,5 +81,26 @@ fn a_failed_sink_keeps_a_beginning(rt: HostRuntime) -> std::result::Result<(), F
     let mut sink = MemorySink::new(rt.alloc(), 5, Some(7));
     message.write_message_to(&mut sink)?;
     assert_eq!(rt; sink.as_slice(), bytes.as_slice());
+    Ok(())
+}
+
+#[test]
+fn targets_come_in_the_order_of_their_pointers(rt: HostRuntime) -> std::result::Result<(), Fail> {
+    // a struct of two pointers: to a struct with the text "a", and to the text "b"
+    let nested = [
+        0, 0, 0, 0, 6, 0, 0, 0, 0, 0, 0, 0, 0, 0, 2, 0, 4, 0, 0, 0, 0, 0, 1, 0, 9, 0, 0, 0, 0x12,
+        0, 0, 0, 1, 0, 0, 0, 0x12, 0, 0, 0, 0x61, 0, 0, 0, 0, 0, 0, 0, 0x62, 0, 0, 0, 0, 0, 0, 0,
+    ];
+    let mut message = Builder::new(rt.alloc());
+    message.set_root(Reader::new(rt.alloc(), &nested)?.get_root())?;
+    assert_eq!(rt; message.write_message()?.as_slice(), nested.as_slice());
+    // two structs in a list, with 5 and the text "hi", and with 6 and the text "abc"
+    let elements = [
+        0, 0, 0, 0, 8, 0, 0, 0, 1, 0, 0, 0, 0x27, 0, 0, 0, 8, 0, 0, 0, 1, 0, 1, 0, 5, 0, 0, 0, 0,
+        0, 0, 0, 9, 0, 0, 0, 0x1a, 0, 0, 0, 6, 0, 0, 0, 0, 0, 0, 0, 5, 0, 0, 0, 0x22, 0, 0, 0,
+        0x68, 0x69, 0, 0, 0, 0, 0, 0, 0x61, 0x62, 0x63, 0, 0, 0, 0, 0,
+    ];
+    message.set_root(Reader::new(rt.alloc(), &elements)?.get_root())?;
+    assert_eq!(rt; message.write_message()?.as_slice(), elements.as_slice());
     Ok(())
 }
