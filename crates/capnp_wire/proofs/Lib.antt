@@ -46,3 +46,4 @@ pub mod BitBytes
 pub mod BitRows
 pub mod PointerParts
 pub mod ObjectFaults
+pub mod Filling

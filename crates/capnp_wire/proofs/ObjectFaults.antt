@@ -1,19 +1,24 @@
 -- Objects have no fault leaves.
-use Rattle.std.proofs.Common.{◌≡◌, ℕ, zero, suc, List, [], ◌∷◌, map, refl, sym, ap, ◌∙◌, subst, rules}
-use Rattle.std.specs.Prelude.{Option, Some, None}
-use Rattle.capnp_wire.specs.Words.{first_of, first_fault, first_fault_of_all, first_fault_of_elements}
+use Rattle.std.proofs.Common.{◌≡◌, ◌≢◌, ◌≤◌, ◌^◌, ℕ, zero, suc, List, [], ◌∷◌, map, refl, sym, ap, ◌∙◌, rules, subst}
+use Rattle.std.specs.Prelude.{Option, Some, None, Result, Ok, Err, IfErr}
+use Rattle.capnp_wire.specs.Words.{first_of, first_fault, first_fault_of_all, first_fault_of_elements, words_of_struct}
+use Rattle.capnp_wire.specs.Total.{IsSizeRefusal}
 use Rattle.capnp_wire.specs.Tree as tree
 use Rattle.capnp_wire.specs.Tree.{Tree, StructTree, Trees, NoTrees, MoreTrees, Structs, NoStructs, MoreStructs, nth_struct, only_tree}
 use Rattle.capnp_wire.specs.Reading.{element_struct}
 use Rattle.capnp_wire.specs.declared.fault.Fault.{Fault}
-use Rattle.capnp_wire.specs.declared.object.Object.TheVariants as object
+use Rattle.capnp_wire.specs.Place.{struct_tree}
 use Rattle.capnp_wire.specs.Objects.{object_tree, list_object_tree, struct_object_tree, trees_of, structs_of, list_layer, object_layer, struct_layer}
 use Rattle.capnp_wire.specs.declared.object.Object.{Object}
 use Rattle.capnp_wire.specs.declared.object.ListObject.{ListObject}
 use Rattle.capnp_wire.specs.declared.object.StructObject.{StructObject}
+use Rattle.capnp_wire.specs.declared.object.Object.TheVariants as object
 use Rattle.capnp_wire.specs.declared.object.ListObject.TheOpen as layer
 use Rattle.capnp_wire.specs.declared.object.ListObject.TheOpen.{Object-F, ListObject-F, StructObject-F}
-use Rattle.capnp_wire.specs.declared.object.ListObject.TheFolds.{the_lemmas, ind-Object, map-Object, map-ListObject, fold-roll-Object, fold-roll-ListObject, fold-roll-StructObject}
+use Rattle.capnp_wire.specs.declared.object.ListObject.TheFolds.{ind-Object, map-Object, map-ListObject, fold-roll-Object, fold-roll-ListObject, fold-roll-StructObject, the_lemmas}
+use Rattle.capnp_device.specs.declared.error.Error.{Error}
+use Rattle.capnp_device.specs.declared.error.ErrorKind.{ErrorKind}
+use Rattle.capnp_device.specs.declared.error.ErrorKind.TheVariants.{TooLarge}
 
 -- no part is a fault leaf
 abbrev IsWhole : Object → Type 0
@@ -88,10 +93,10 @@ only_whole NoTrees i h = refl
 only_whole (MoreTrees t ts) zero h = ap (λ f. first_of f None) (none_first (first_fault t) (first_fault_of_all ts) h)
 only_whole (MoreTrees t ts) (suc i) h = only_whole ts i (none_rest (first_fault t) (first_fault_of_all ts) h)
 
-struct_whole : (es : Structs) (i : ℕ) → first_fault_of_elements es ≡ None → first_fault_of_all (nth_struct es i).pointers ≡ None
-struct_whole NoStructs i h = refl
-struct_whole (MoreStructs bytes ps es) zero h = none_first (first_fault_of_all ps) (first_fault_of_elements es) h
-struct_whole (MoreStructs bytes ps es) (suc i) h = struct_whole es i (none_rest (first_fault_of_all ps) (first_fault_of_elements es) h)
+whole_element : (es : Structs) (i : ℕ) → first_fault_of_elements es ≡ None → first_fault_of_all (nth_struct es i).pointers ≡ None
+whole_element NoStructs i h = refl
+whole_element (MoreStructs bytes ps es) zero h = none_first (first_fault_of_all ps) (first_fault_of_elements es) h
+whole_element (MoreStructs bytes ps es) (suc i) h = whole_element es i (none_rest (first_fault_of_all ps) (first_fault_of_elements es) h)
 
 -- in an element
 pub element_whole : (t : Tree) (i : ℕ) → first_fault t ≡ None → first_fault_of_all (element_struct t i).pointers ≡ None
@@ -101,5 +106,27 @@ element_whole (tree.Voids n) i h = refl
 element_whole (tree.Bits bs) i h = refl
 element_whole (tree.Numbers w bytes) i h = refl
 element_whole (tree.Pointers ps) i h = only_whole ps i h
-element_whole (tree.Composite d p es) i h = struct_whole es i h
+element_whole (tree.Composite d p es) i h = whole_element es i h
 element_whole (tree.FaultLeaf k) i h = refl
+
+-- and neither has a struct
+pub struct_whole : (s : StructObject) → first_fault_of_all (struct_object_tree s).pointers ≡ None
+struct_whole s =
+    let e : object_tree (object.Struct s) ≡ struct_tree (struct_object_tree s) = search (rules, the_lemmas) in
+    rw e at (object_whole (object.Struct s))
+
+-- a kind that can't be another one
+is_too_large : (k : ErrorKind) → (k ≢ TooLarge → ⊥) → k ≡ TooLarge
+is_too_large TooLarge h = refl
+is_too_large _ h = absurd (h (λ e. cc))
+
+-- so a size is refused only where it is too large
+pub only_too_large : (e : Error) (f : Option Fault) (words : ℕ) → f ≡ None → IsSizeRefusal e f words → (e.kind ≡ TooLarge) × (2 ^ 64 ≤ words)
+only_too_large e f words h r =
+    let k : e.kind ≡ TooLarge = is_too_large e.kind (λ ne. let q = r.1 ne in cc) in
+    (k, r.0 k)
+
+-- the same of what a call answered, for a struct
+pub struct_too_large : {A : Type 0} (r : Result A Error) (s : StructObject) (t : StructTree) → t ≡ struct_object_tree s → IfErr r (λ e. IsSizeRefusal e (first_fault_of_all t.pointers) (words_of_struct t)) → IfErr r (λ e. (e.kind ≡ TooLarge) × (2 ^ 64 ≤ words_of_struct (struct_object_tree s)))
+struct_too_large (Ok x) s t q h = tt {0}
+struct_too_large (Err e) s t q h = rw q at (only_too_large e (first_fault_of_all t.pointers) (words_of_struct t) (ap (λ (x : StructTree). first_fault_of_all x.pointers) q ∙ struct_whole s) h)

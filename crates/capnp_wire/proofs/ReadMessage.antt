@@ -1,6 +1,6 @@
 -- The message of a tree, read.
 use Rattle.std.proofs.Common.{◌≡◌, ℕ, suc, ◌+◌, ◌*◌, ◌<◌, ◌^◌, List, [], ◌∷◌, ◌++◌, length, take, refl, sym, ap, ◌∙◌, arith, nat_lt, false, None}
-use Rattle.std.specs.Prelude.{Ok}
+use Rattle.std.specs.Prelude.{Result, Ok, Err, OnOk}
 use Rattle.std.proofs.lemmas.List.{length-append, take_at, append-nil}
 use Rattle.capnp_wire.specs.Tree.{Tree}
 use Rattle.capnp_wire.specs.Slot.{little_endian}
@@ -35,3 +35,8 @@ message_reads t rest well none shallow bound =
     ∙ ap root_read (one_segment (suc (words_of t)) (encoding_of t) rest (omega arith) (length_encoding t well))
     ∙ ap (λ x. Ok (root_tree (x ∷ []))) (sym (append-nil (encoding_of t)))
     ∙ ap Ok (encoding_reads t ((encoding_of t ++ []) ∷ []) [] well none shallow bound)
+
+-- bytes that are a tree's message are read as the tree, so where they were written the message is
+pub written_reads : {A E : Type 0} (r : Result A E) (t : Tree) (bytes : List ℕ) → bytes ≡ message_of t → (IsShallow t → (rest : List ℕ) → message_tree_of (bytes ++ rest) ≡ Ok t) → OnOk r (IsShallow t → (rest : List ℕ) → message_tree_of (message_of t ++ rest) ≡ Ok t)
+written_reads (Ok x) t bytes e h = λ shallow rest. ap (λ x. message_tree_of (x ++ rest)) (sym e) ∙ h shallow rest
+written_reads (Err x) t bytes e h = tt {0}

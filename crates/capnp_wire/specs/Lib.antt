@@ -16,6 +16,7 @@ pub mod Laws
 pub mod Words
 pub mod Total
 pub mod Encoding
+pub mod Filling
 pub mod Depth
 pub mod Edits
 pub mod Elements

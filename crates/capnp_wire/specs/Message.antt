@@ -1,7 +1,9 @@
--- The tree of a message that is read.
-use Rattle.std.specs.Prelude.{Result, Ok, Err}
+-- The tree of a message that is read or built, and what is written of one.
+use Rattle.std.specs.Prelude.{ℕ, ◌<◌, List, length, take, Option, Result, Ok, Err}
 use Rattle.std.specs.Borrow.{Lends, MutBor, Fml}
+use Rattle.std.specs.Io.KnownBytes.{Appends}
 use Rattle.capnp_wire.specs.Tree.{Tree}
+use Rattle.capnp_wire.specs.Encoding.{message_of}
 use Rattle.capnp_wire.specs.Objects.{object_tree}
 use Rattle.capnp_wire.specs.declared.object.Object.{Object}
 use Rattle.capnp_wire.specs.declared.message.Builder.{Builder}
@@ -27,3 +29,13 @@ builder_tree builder = object_tree builder.root
 -- the root is lent: the message ends with what was left there
 abbrev pub LendsRoot : MutBor Builder → MutBor Object → Fml
 LendsRoot builder r = Lends builder_row object_row builder r (λ o. record { root = o })
+
+-- ---- what a sink has got of a tree's message, by what was written to it before and after ----
+
+-- the whole message, and nothing else
+abbrev pub IsWritten : Tree → Option (List ℕ) → Option (List ℕ) → Type 0
+IsWritten t written written' = Appends written written' (message_of t)
+
+-- a beginning of the message, not the whole, and nothing else
+abbrev pub IsCutShort : Tree → Option (List ℕ) → Option (List ℕ) → Type 0
+IsCutShort t written written' = (n : ℕ) × (n < length (message_of t)) × Appends written written' (take n (message_of t))

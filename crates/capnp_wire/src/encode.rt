@@ -1,4 +1,5 @@
-//! The bytes of owned objects: each object before what its pointers lead to, in their order.
+//! The bytes of owned objects: each object before what its pointers lead to, in their order. Room is left for a row of
+//! pointers, and each of them is put there when its target is due, so that nothing is measured for its offset.
 ghost use Rattle.std.specs.Prelude.{◌≡◌, ◌≢◌, ◌≤◌, ◌<◌, ◌^◌, ◌+◌, ◌*◌, ◌++◌, IfOk, IfErr, List, ℕ, Ok, suc, length, replicate, take, drop};
 ghost use Rattle.capnp_wire.specs.Tree.{Composite, struct_count, tree_count};
 ghost use Rattle.capnp_wire.specs.Place.{bits_from, struct_tree};
@@ -9,9 +10,10 @@ ghost use Rattle.capnp_wire.specs.WellFormed.{AreElements, AreWellFormed, IsWell
 ghost use Rattle.capnp_wire.specs.Depth.{IsShallow};
 ghost use Rattle.capnp_wire.specs.Stream.{message_tree_of};
 ghost use Rattle.capnp_device.specs.declared.error.ErrorKind.TheVariants.{OutOfMemory, TooLarge};
-ghost use Rattle.capnp_wire.specs.Encoding.{bits_number, bytes_below, bytes_below_all, bytes_of_all, element_row, list_word, message_of, number_size, own_bytes, packed, padded, pointer_row, pointer_word, spelled, struct_word};
+ghost use Rattle.capnp_wire.specs.Encoding.{bits_number, bytes_of, bytes_of_all, list_word, message_of, number_size, packed, padded, pointer_row, pointer_word, spelled, struct_word};
+ghost use Rattle.capnp_wire.specs.Filling.{HasRoom, HaveRoom, put, with_element, with_elements, with_pointers};
 
-use crate::measure::{get_composite_words, measure, measure_objects};
+use crate::measure::{get_composite_words, measure};
 use crate::object::{ListObject, Object, StructObject};
 use crate::size::StructSize;
 use capnp_device::error::{Error, ErrorKind, Result};
@@ -101,30 +103,6 @@ fn get_pointer(gap: u64, object: &Object) -> u64
     }
 }
 
-/// The words of an object and all below it.
-fn count_words(object: &Object) -> u64
-    requires held { IsWellFormed (object_tree object.now) }
-    requires small { words_of (object_tree object.now) < 2 ^ 29 }
-    ensures { result ≡ words_of (object_tree object.now) }
-{
-    match measure(object) {
-        Some(words) => words,
-        None => unreachable!(),
-    }
-}
-
-/// The words of all that pointers in a row lead to.
-fn count_all_words(objects: &[Object]) -> u64
-    requires held { AreWellFormed (object_trees objects.now) }
-    requires small { words_of_all (object_trees objects.now) < 2 ^ 29 }
-    ensures { result ≡ words_of_all (object_trees objects.now) }
-{
-    match measure_objects(objects) {
-        Some(words) => words,
-        None => unreachable!(),
-    }
-}
-
 fn append_word(out: &mut Vec<u8>, word: u64) -> Appended
     ensures { IfOk result (λ _. out.new.items ≡ out.old.items ++ spelled 8 word) }
 {
@@ -135,22 +113,6 @@ fn append_half(out: &mut Vec<u8>, half: u32) -> Appended
     ensures { IfOk result (λ _. out.new.items ≡ out.old.items ++ spelled 4 half) }
 {
     out.extend_from_slice(&half.to_le_bytes())
-}
-
-/// Pointers in a row; what the first of them leads to starts `gap` words after the row.
-fn append_pointers(out: &mut Vec<u8>, gap: u64, objects: &[Object]) -> Appended
-    requires held { AreWellFormed (object_trees objects.now) }
-    requires near { tree_count (object_trees objects.now) + gap + words_of_all (object_trees objects.now) < 2 ^ 29 }
-    ensures { IfOk result (λ _. out.new.items ≡ out.old.items ++ pointer_row gap (object_trees objects.now)) }
-{
-    let mut gap = gap;
-    let mut left = objects.len() as u64;
-    for object in objects {
-        left -= 1;
-        append_word(out, get_pointer(left + gap, object))?;
-        gap += count_words(object);
-    }
-    Ok(())
 }
 
 /// Fewer zeros than a word has.
@@ -200,48 +162,62 @@ fn append_bits(out: &mut Vec<u8>, bits: &[u8], count: u32) -> Appended
     Ok(())
 }
 
-/// An element of a composite list; what its pointers lead to starts `gap` words after it.
-fn append_element(out: &mut Vec<u8>, gap: u64, element: &StructObject) -> Appended
-    requires held { AreWellFormed (struct_object_tree element.now).pointers }
-    requires near { tree_count (struct_object_tree element.now).pointers + gap + words_of_all (struct_object_tree element.now).pointers < 2 ^ 29 }
-    ensures { IfOk result (λ _. out.new.items ≡ out.old.items ++ ((struct_object_tree element.now).bytes ++ pointer_row gap (struct_object_tree element.now).pointers)) }
+/// Bytes in the place of as many from an index on.
+fn put_bytes(out: &mut Vec<u8>, at: usize, bytes: &[u8])
+    requires { at + length bytes.now ≤ length out.old.items }
+    ensures { out.new.items ≡ put at bytes.now out.old.items }
 {
-    out.extend_from_slice(element.data.as_slice())?;
-    append_pointers(out, gap, element.pointers.as_slice())?;
-    Ok(())
+    out[at..at + bytes.len()].copy_from_slice(bytes);
 }
 
-/// The elements of a composite list, each of `size` words.
-fn append_elements(out: &mut Vec<u8>, size: StructSize, elements: &[StructObject]) -> Appended
-    requires held { AreElements size.data_words size.pointers (struct_object_trees elements.now) }
-    requires near { struct_count (struct_object_trees elements.now) * (size.data_words + size.pointers) + words_below_all (struct_object_trees elements.now) < 2 ^ 29 }
-    ensures { IfOk result (λ _. out.new.items ≡ out.old.items ++ element_row (size.data_words + size.pointers) 0 (struct_object_trees elements.now)) }
+/// A word in the place of another from an index on.
+fn put_word(out: &mut Vec<u8>, at: usize, word: u64)
+    requires { at + 8 ≤ length out.old.items }
+    ensures { out.new.items ≡ put at (spelled 8 word) out.old.items }
 {
-    let element_words = size.data_words as u64 + size.pointers as u64;
-    let mut gap: u64 = 0;
-    let mut left = elements.len() as u64;
-    for element in elements {
-        left -= 1;
-        append_element(out, left * element_words + gap, element)?;
-        gap += count_all_words(element.pointers.as_slice());
+    put_bytes(out, at, &word.to_le_bytes());
+}
+
+/// Room for so many words.
+fn append_room(out: &mut Vec<u8>, words: usize) -> Appended
+    requires { words < 2 ^ 32 }
+    ensures { IfOk result (λ _. out.new.items ≡ out.old.items ++ replicate (8 * words) 0) }
+{
+    out.resize(out.len() + 8 * words, 0)
+}
+
+/// An object, and then what its pointers lead to.
+#[cycle(append)]
+fn append_object(out: &mut Vec<u8>, object: &Object) -> Appended
+    requires held { IsWellFormed (object_tree object.now) }
+    requires small { words_of (object_tree object.now) < 2 ^ 29 }
+    ensures { IfOk result (λ _. out.new.items ≡ out.old.items ++ bytes_of (object_tree object.now)) }
+{
+    match object {
+        Object::Null(_) => Ok(()),
+        Object::Struct(object) => append_struct(out, object),
+        Object::List(object) => append_list(out, object),
     }
-    Ok(())
 }
 
-/// A struct itself.
+/// The same of a struct.
+#[cycle(append)]
 fn append_struct(out: &mut Vec<u8>, object: &StructObject) -> Appended
     requires held { IsWellFormed (struct_tree (struct_object_tree object.now)) }
     requires small { words_of (struct_tree (struct_object_tree object.now)) < 2 ^ 29 }
-    ensures { IfOk result (λ _. out.new.items ≡ out.old.items ++ own_bytes (struct_tree (struct_object_tree object.now))) }
+    ensures { IfOk result (λ _. out.new.items ≡ out.old.items ++ bytes_of (struct_tree (struct_object_tree object.now))) }
 {
-    append_element(out, 0, object)
+    out.extend_from_slice(object.data.as_slice())?;
+    append_pointers(out, object.pointers.as_slice())?;
+    Ok(())
 }
 
-/// A list itself.
+/// The same of a list.
+#[cycle(append)]
 fn append_list(out: &mut Vec<u8>, object: &ListObject) -> Appended
     requires held { IsWellFormed (list_object_tree object.now) }
     requires small { words_of (list_object_tree object.now) < 2 ^ 29 }
-    ensures { IfOk result (λ _. out.new.items ≡ out.old.items ++ own_bytes (list_object_tree object.now)) }
+    ensures { IfOk result (λ _. out.new.items ≡ out.old.items ++ bytes_of (list_object_tree object.now)) }
 {
     match object {
         ListObject::Missing(_, _) => Ok(()),
@@ -251,104 +227,88 @@ fn append_list(out: &mut Vec<u8>, object: &ListObject) -> Appended
             Ok(())
         }
         ListObject::Numbers(_, bytes) => append_padded(out, bytes.as_slice()),
-        ListObject::Pointers(pointers) => append_pointers(out, 0, pointers.as_slice()),
+        ListObject::Pointers(pointers) => append_pointers(out, pointers.as_slice()),
         ListObject::Composite(size, elements) => append_composite(out, *size, elements.as_slice()),
     }
 }
 
-/// A composite list itself: its tag and its elements.
+/// Pointers in a row, and then what they lead to.
+#[cycle(append)]
+fn append_pointers(out: &mut Vec<u8>, objects: &[Object]) -> Appended
+    requires held { AreWellFormed (object_trees objects.now) }
+    requires small { tree_count (object_trees objects.now) + words_of_all (object_trees objects.now) < 2 ^ 29 }
+    ensures { IfOk result (λ _. out.new.items ≡ out.old.items ++ (pointer_row 0 (object_trees objects.now) ++ bytes_of_all (object_trees objects.now))) }
+{
+    let at = out.len();
+    append_room(out, objects.len())?;
+    fill_pointers(out, at, objects)?;
+    Ok(())
+}
+
+/// A composite list: its tag and its elements, and then what their pointers lead to.
+#[cycle(append)]
 fn append_composite(out: &mut Vec<u8>, size: StructSize, elements: &[StructObject]) -> Appended
     requires held { IsWellFormed (Composite size.data_words size.pointers (struct_object_trees elements.now)) }
     requires small { words_of (Composite size.data_words size.pointers (struct_object_trees elements.now)) < 2 ^ 29 }
-    ensures { IfOk result (λ _. out.new.items ≡ out.old.items ++ own_bytes (Composite size.data_words size.pointers (struct_object_trees elements.now))) }
+    ensures { IfOk result (λ _. out.new.items ≡ out.old.items ++ bytes_of (Composite size.data_words size.pointers (struct_object_trees elements.now))) }
 {
-    let tag = make_struct_word(
-        elements.len() as u64,
-        size.data_words as u64,
-        size.pointers as u64,
-    );
+    let count = elements.len();
+    let tag = make_struct_word(count as u64, size.data_words as u64, size.pointers as u64);
     append_word(out, tag)?;
-    append_elements(out, size, elements)?;
+    let at = out.len();
+    append_room(
+        out,
+        count * (size.data_words as usize + size.pointers as usize),
+    )?;
+    fill_elements(out, at, size, elements)?;
     Ok(())
 }
 
-/// An object itself.
-fn append_own(out: &mut Vec<u8>, object: &Object) -> Appended
-    requires held { IsWellFormed (object_tree object.now) }
-    requires small { words_of (object_tree object.now) < 2 ^ 29 }
-    ensures { IfOk result (λ _. out.new.items ≡ out.old.items ++ own_bytes (object_tree object.now)) }
-{
-    match object {
-        Object::Null(_) => Ok(()),
-        Object::Struct(object) => append_struct(out, object),
-        Object::List(object) => append_list(out, object),
-    }
-}
-
-/// What an object's pointers lead to.
+/// Puts pointers in a row into the room that is left for them, from an index on, and appends what they lead to.
 #[cycle(append)]
-fn append_below(out: &mut Vec<u8>, object: &Object) -> Appended
-    requires held { IsWellFormed (object_tree object.now) }
-    requires small { words_below (object_tree object.now) < 2 ^ 29 }
-    ensures { IfOk result (λ _. out.new.items ≡ out.old.items ++ bytes_below (object_tree object.now)) }
+fn fill_pointers(out: &mut Vec<u8>, at: usize, objects: &[Object]) -> Appended
+    requires { HasRoom at (object_trees objects.now) out.old.items }
+    ensures { IfOk result (λ _. out.new.items ≡ with_pointers at (object_trees objects.now) out.old.items) }
 {
-    match object {
-        Object::Null(_) => Ok(()),
-        Object::Struct(object) => append_below_struct(out, object),
-        Object::List(object) => append_below_list(out, object),
-    }
-}
-
-/// What a struct's pointers lead to.
-#[cycle(append)]
-fn append_below_struct(out: &mut Vec<u8>, object: &StructObject) -> Appended
-    requires held { AreWellFormed (struct_object_tree object.now).pointers }
-    requires small { words_of_all (struct_object_tree object.now).pointers < 2 ^ 29 }
-    ensures { IfOk result (λ _. out.new.items ≡ out.old.items ++ bytes_of_all (struct_object_tree object.now).pointers) }
-{
-    append_targets(out, object.pointers.as_slice())
-}
-
-/// What a list's pointers lead to.
-#[cycle(append)]
-fn append_below_list(out: &mut Vec<u8>, object: &ListObject) -> Appended
-    requires held { IsWellFormed (list_object_tree object.now) }
-    requires small { words_below (list_object_tree object.now) < 2 ^ 29 }
-    ensures { IfOk result (λ _. out.new.items ≡ out.old.items ++ bytes_below (list_object_tree object.now)) }
-{
-    match object {
-        ListObject::Missing(_, _) => Ok(()),
-        ListObject::Voids(_, _) => Ok(()),
-        ListObject::Bits(_) => Ok(()),
-        ListObject::Numbers(_, _) => Ok(()),
-        ListObject::Pointers(pointers) => append_targets(out, pointers.as_slice()),
-        ListObject::Composite(size, elements) => append_below_all(out, *size, elements.as_slice()),
-    }
-}
-
-/// What pointers in a row lead to, each with all below it.
-#[cycle(append)]
-fn append_targets(out: &mut Vec<u8>, objects: &[Object]) -> Appended
-    requires held { AreWellFormed (object_trees objects.now) }
-    requires small { words_of_all (object_trees objects.now) < 2 ^ 29 }
-    ensures { IfOk result (λ _. out.new.items ≡ out.old.items ++ bytes_of_all (object_trees objects.now)) }
-{
-    for target in objects {
-        append_own(out, target)?;
-        append_below(out, target)?;
+    let mut at = at;
+    for object in objects {
+        // its target will start where the bytes end now
+        let gap = (out.len() - at) / 8 - 1;
+        put_word(out, at, get_pointer(gap as u64, object));
+        append_object(out, object)?;
+        at += 8;
     }
     Ok(())
 }
 
-/// What the pointers of a composite list's elements, each of this size, lead to.
+/// The same of an element of a composite list: its data and its pointers.
 #[cycle(append)]
-fn append_below_all(out: &mut Vec<u8>, size: StructSize, elements: &[StructObject]) -> Appended
-    requires held { AreElements size.data_words size.pointers (struct_object_trees elements.now) }
-    requires small { words_below_all (struct_object_trees elements.now) < 2 ^ 29 }
-    ensures { IfOk result (λ _. out.new.items ≡ out.old.items ++ bytes_below_all (struct_object_trees elements.now)) }
+fn fill_element(out: &mut Vec<u8>, at: usize, element: &StructObject) -> Appended
+    requires { HasRoom (at + length (struct_object_tree element.now).bytes) (struct_object_tree element.now).pointers out.old.items }
+    ensures { IfOk result (λ _. out.new.items ≡ with_element at (struct_object_tree element.now) out.old.items) }
 {
+    let data = element.data.as_slice();
+    put_bytes(out, at, data);
+    fill_pointers(out, at + data.len(), element.pointers.as_slice())?;
+    Ok(())
+}
+
+/// The same of all elements of a composite list, each of this size.
+#[cycle(append)]
+fn fill_elements(
+    out: &mut Vec<u8>,
+    at: usize,
+    size: StructSize,
+    elements: &[StructObject],
+) -> Appended
+    requires { HaveRoom size.data_words size.pointers at (struct_object_trees elements.now) out.old.items }
+    ensures { IfOk result (λ _. out.new.items ≡ with_elements (size.data_words + size.pointers) at (struct_object_trees elements.now) out.old.items) }
+{
+    let element_size = 8 * (size.data_words as usize + size.pointers as usize);
+    let mut at = at;
     for element in elements {
-        append_below_struct(out, element)?;
+        fill_element(out, at, element)?;
+        at += element_size;
     }
     Ok(())
 }
@@ -362,8 +322,7 @@ fn append_message(out: &mut Vec<u8>, words: u32, object: &Object) -> Appended
     append_half(out, 0)?;
     append_half(out, words)?;
     append_word(out, get_pointer(0, object))?;
-    append_own(out, object)?;
-    append_below(out, object)?;
+    append_object(out, object)?;
     Ok(())
 }
 
@@ -387,13 +346,14 @@ fn measure_message(object: &Object) -> Result<u32>
 /// memory is taken once.
 ///
 /// Refused with `TooLarge` where the message has more than 2^29 - 1 words or the format does not hold one of its
-/// objects, and with `OutOfMemory` where the memory is refused. The object stays as it is.
+/// objects, and else with `OutOfMemory` where the memory is refused. The object stays as it is.
 pub fn write_object(alloc: Global, object: &Object) -> Result<Vec<u8>>
     ensures bytes { IfOk result (λ v. v.items ≡ message_of (object_tree object.now)) }
     ensures held { IfOk result (λ _. IsWellFormed (object_tree object.now) × (suc (words_of (object_tree object.now)) < 2 ^ 29)) }
     ensures read { IfOk result (λ v. IsShallow (object_tree object.now) → (rest : List ℕ) → message_tree_of (v.items ++ rest) ≡ Ok (object_tree object.now)) }
     ensures kinds { IfErr result (λ e. e.kind ≢ TooLarge → e.kind ≡ OutOfMemory) }
     ensures refused { IfErr result (λ e. e.kind ≡ TooLarge → IsWellFormed (object_tree object.now) → 2 ^ 29 ≤ suc (words_of (object_tree object.now))) }
+    ensures memory { IfErr result (λ e. e.kind ≡ OutOfMemory → IsWellFormed (object_tree object.now) × (suc (words_of (object_tree object.now)) < 2 ^ 29)) }
 {
     let words = measure_message(object)?;
     let mut out = Vec::with_capacity(alloc, 8 * words as usize + 8)?;

@@ -19,6 +19,8 @@ mod look;
 mod make;
 mod measure;
 pub mod message;
+#[cfg(test)]
+mod message_tests;
 pub mod object;
 mod pointer_builder;
 mod pointer_reader;

@@ -131,7 +131,7 @@ pub(crate) fn get_composite_words(size: StructSize, count: u32) -> u64
 
 /// The words of all that pointers in a row lead to.
 #[cycle(measure)]
-pub(crate) fn measure_objects(objects: &[Object]) -> Option<u64>
+fn measure_objects(objects: &[Object]) -> Option<u64>
     ensures { Measured result (AreWellFormed (object_trees objects.now)) (words_of_all (object_trees objects.now)) }
 {
     let mut sum: u64 = 0;

@@ -4,12 +4,15 @@ ghost use Rattle.capnp_wire.specs.WellFormed.{AreSegments, AreSegments-prop};
 
 use crate::bytes::{half_at, part, rest};
 use crate::encode::write_object;
-use crate::look::{ROOT_LEVELS, get_root_place};
+use crate::look::{Place, ROOT_LEVELS, get_root_place};
 use crate::object::Object;
 use crate::pointer_builder::PointerBuilder;
 use crate::pointer_reader::PointerReader;
 use crate::segments::{Segments, count_words, get_header_bytes};
+use crate::total::size_of_place;
+use capnp_device::device::Sink;
 use capnp_device::error::{Error, ErrorKind, Result};
+use capnp_device::transfer::write_all;
 use std::alloc::Global;
 
 /// A message in the bytes of a stream. They are not copied.
@@ -80,12 +83,13 @@ impl Builder {
     ghost use Rattle.capnp_wire.specs.Standing.{tree_of};
     ghost use Rattle.capnp_wire.specs.Words.{first_fault, words_of};
     ghost use Rattle.capnp_wire.specs.Edits.{IsCopyRefusal};
-    ghost use Rattle.capnp_wire.specs.Message.{LendsRoot, builder_tree};
+    ghost use Rattle.capnp_device.specs.Device.{HasFailed, HasWorked};
+    ghost use Rattle.capnp_wire.specs.Message.{IsCutShort, IsWritten, LendsRoot, builder_tree};
     ghost use Rattle.capnp_wire.specs.Encoding.{message_of};
     ghost use Rattle.capnp_wire.specs.Depth.{IsShallow};
     ghost use Rattle.capnp_wire.specs.Stream.{message_tree_of};
     ghost use Rattle.capnp_wire.specs.WellFormed.{IsWellFormed};
-    ghost use Rattle.capnp_device.specs.declared.error.ErrorKind.TheVariants.{OutOfMemory, TooLarge};
+    ghost use Rattle.capnp_device.specs.declared.error.ErrorKind.TheVariants.{OutOfMemory, TooLarge, WriteFailed};
 
     /// A message whose root is null. No memory is taken yet.
     #[tactic(auto, unfolding(crate::specs::Message::builder_tree))]
@@ -120,11 +124,26 @@ impl Builder {
         self.root.copy_from(source)
     }
 
+    /// The words of the message's segment: one for the root pointer, and those of each object that it leads to, the tag
+    /// of a composite list with them. Takes no memory.
+    ///
+    /// Refused with `TooLarge` where they are 2^64 or more.
+    #[tactic(auto, unfolding(crate::specs::Message::builder_tree))]
+    pub fn size_in_words(&self) -> Result<u64>
+        ensures words { IfOk result (λ words. words ≡ suc (words_of (builder_tree self.now))) }
+        ensures refused { IfErr result (λ e. (e.kind ≡ TooLarge) × (2 ^ 64 ≤ suc (words_of (builder_tree self.now)))) }
+    {
+        let size = size_of_place(Place::Object(&self.root))?;
+        size.word_count
+            .checked_add(1)
+            .ok_or(Error::from(ErrorKind::TooLarge))
+    }
+
     /// The bytes of the message in a stream: one segment, with the objects that the root leads to. The message takes its
     /// memory once.
     ///
     /// Refused with `TooLarge` where the segment would be 2^29 words or more, or where the format can't hold the tree, and
-    /// with `OutOfMemory`.
+    /// else with `OutOfMemory` where the memory is refused.
     #[tactic(auto, unfolding(crate::specs::Message::builder_tree))]
     pub fn write_message(&self) -> Result<Vec<u8>>
         ensures bytes { IfOk result (λ v. v.items ≡ message_of (builder_tree self.now)) }
@@ -132,7 +151,30 @@ impl Builder {
         ensures read { IfOk result (λ v. IsShallow (builder_tree self.now) → (rest : List ℕ) → message_tree_of (v.items ++ rest) ≡ Ok (builder_tree self.now)) }
         ensures kinds { IfErr result (λ e. e.kind ≢ TooLarge → e.kind ≡ OutOfMemory) }
         ensures refused { IfErr result (λ e. e.kind ≡ TooLarge → IsWellFormed (builder_tree self.now) → 2 ^ 29 ≤ suc (words_of (builder_tree self.now))) }
+        ensures memory { IfErr result (λ e. e.kind ≡ OutOfMemory → IsWellFormed (builder_tree self.now) × (suc (words_of (builder_tree self.now)) < 2 ^ 29)) }
     {
         write_object(self.root.allocator(), &self.root)
+    }
+
+    /// Writes the message's bytes, those of `write_message`, to a sink. They are made whole before the first of them is
+    /// written.
+    ///
+    /// Refused as `write_message`, and then nothing was written; and with `WriteFailed` where a call of the sink failed,
+    /// and then a proper beginning of the bytes was written.
+    #[tactic(auto, unfolding(crate::specs::Message::builder_tree))]
+    pub fn write_message_to<W: Sink>(&self, sink: &mut W) -> Result<()>
+        ensures written { OnOk result (IsWritten (builder_tree self.now) (W.written sink.old) (W.written sink.new)) }
+        ensures worked { OnOk result (HasWorked (W.failures sink.old) (W.failures sink.new)) }
+        ensures held { OnOk result (IsWellFormed (builder_tree self.now) × (suc (words_of (builder_tree self.now)) < 2 ^ 29)) }
+        ensures read { OnOk result (IsShallow (builder_tree self.now) → (rest : List ℕ) → message_tree_of (message_of (builder_tree self.now) ++ rest) ≡ Ok (builder_tree self.now)) }
+        ensures kinds { IfErr result (λ e. e.kind ≢ TooLarge → e.kind ≢ OutOfMemory → e.kind ≡ WriteFailed) }
+        ensures refused { IfErr result (λ e. e.kind ≡ TooLarge → IsWellFormed (builder_tree self.now) → 2 ^ 29 ≤ suc (words_of (builder_tree self.now))) }
+        ensures fits { IfErr result (λ e. e.kind ≢ TooLarge → IsWellFormed (builder_tree self.now) × (suc (words_of (builder_tree self.now)) < 2 ^ 29)) }
+        ensures nothing { IfErr result (λ e. e.kind ≢ WriteFailed → sink.new ≡ sink.old) }
+        ensures failed { IfErr result (λ e. e.kind ≡ WriteFailed → HasFailed (W.failures sink.old) (W.failures sink.new)) }
+        ensures beginning { IfErr result (λ e. e.kind ≡ WriteFailed → IsCutShort (builder_tree self.now) (W.written sink.old) (W.written sink.new)) }
+    {
+        let bytes = self.write_message()?;
+        write_all(sink, &bytes)
     }
 }

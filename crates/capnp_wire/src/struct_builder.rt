@@ -1,13 +1,15 @@
 //! Builders of structs.
-ghost use Rattle.std.specs.Prelude.{◌≡◌, ◌≤◌, ◌<◌, ◌+◌, ◌*◌, bit_xor, length, IfErr, OnErr, OnOk};
+ghost use Rattle.std.specs.Prelude.{None, ◌≡◌, ◌≤◌, ◌<◌, ◌+◌, ◌*◌, ◌^◌, bit_xor, length, IfErr, IfOk, OnErr, OnOk};
 ghost use Rattle.std.specs.Borrow.{sem};
 ghost use Rattle.capnp_wire.specs.Tree.{nth_tree, tree_count};
 ghost use Rattle.capnp_wire.specs.Slot.{bit_at, masked_bit, number_at};
 ghost use Rattle.capnp_wire.specs.Objects.{object_tree, struct_object_tree};
 ghost use Rattle.capnp_wire.specs.Standing.{struct_levels, struct_of};
+ghost use Rattle.capnp_wire.specs.Total.{IsSize};
 ghost use Rattle.capnp_wire.specs.WellFormed.{IsWellFormedStruct};
+ghost use Rattle.capnp_wire.specs.Words.{words_of_struct};
 ghost use Rattle.capnp_wire.specs.Edits.{extended, with_bit, with_bytes, with_number};
-ghost use Rattle.capnp_device.specs.declared.error.ErrorKind.TheVariants.{OutOfMemory};
+ghost use Rattle.capnp_device.specs.declared.error.ErrorKind.TheVariants.{OutOfMemory, TooLarge};
 ghost use Rattle.capnp_wire.specs.Lends.{LendsPointer};
 
 use crate::bytes::{get_bit, set_bit};
@@ -16,8 +18,9 @@ use crate::make::make_nulls;
 use crate::object::{Object, StructObject};
 use crate::pointer_builder::{PointerBuilder, StructBuilder};
 use crate::primitive::PrimitiveElement;
-use crate::size::StructSize;
+use crate::size::{MessageSize, StructSize};
 use crate::struct_reader::StructReader;
+use crate::total::size_of_parts;
 use capnp_device::error::Result;
 
 impl StructObject {
@@ -127,6 +130,17 @@ impl StructObject {
         ensures { struct_object_tree self.new ≡ with_bytes (struct_object_tree self.old) (with_bit offset (masked_bit value mask) (struct_object_tree self.old).bytes) }
     {
         self.set_bool_field(offset, value != mask);
+    }
+
+    /// The size of the struct with all that its pointers lead to: its data section in whole words, its pointers, and the
+    /// targets, the tag of a composite list with them. There are no capabilities. Takes no memory.
+    ///
+    /// Refused with `TooLarge` past 2^64 - 1 words.
+    pub fn total_size(&self) -> Result<MessageSize>
+        ensures size { IfOk result (λ size. IsSize size None (words_of_struct (struct_object_tree self.now))) }
+        ensures refused { IfErr result (λ error. (error.kind ≡ TooLarge) × (2 ^ 64 ≤ words_of_struct (struct_object_tree self.now))) }
+    {
+        size_of_parts(look_at_struct_object(self))
     }
 
     /// A reader of the struct for as long as the builder would be there, with 64 levels.

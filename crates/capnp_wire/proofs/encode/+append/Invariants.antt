@@ -1,20 +1,16 @@
-use Rattle.std.proofs.Common.{◌≡◌, ◌<◌, ◌^◌, ◌++◌, drop}
+use Rattle.std.proofs.Common.{◌≡◌, ◌+◌, drop}
 use Rattle.capnp_wire.specs.Objects.{object_trees, struct_object_trees}
-use Rattle.capnp_wire.specs.Words.{words_of_all, words_below_all}
-use Rattle.capnp_wire.specs.WellFormed.{AreWellFormed, AreElements}
-use Rattle.capnp_wire.specs.Encoding.{bytes_of_all, bytes_below_all}
+use Rattle.capnp_wire.specs.Filling.{HasRoom, HaveRoom, with_elements, with_pointers}
 use Rattle.capnp_wire.proofs.encode.+append.Given as goal
 
-abbrev pub invariant-append_targets-loop-target : goal.invariant-append_targets-loop-target
-invariant-append_targets-loop-target l = record {
-  done : l.out.items ++ bytes_of_all (object_trees (drop l.target-index l.objects)) ≡ l.fn.out.items ++ bytes_of_all (object_trees l.fn.objects);
-  held : AreWellFormed (object_trees (drop l.target-index l.objects));
-  small : words_of_all (object_trees (drop l.target-index l.objects)) < 2 ^ 29;
+abbrev pub invariant-fill_pointers-loop-object : goal.invariant-fill_pointers-loop-object
+invariant-fill_pointers-loop-object l = record {
+  room : HasRoom l.at (object_trees (drop l.object-index l.objects)) l.out.items;
+  done : with_pointers l.at (object_trees (drop l.object-index l.objects)) l.out.items ≡ with_pointers l.fn.at (object_trees l.fn.objects) l.fn.out.items;
 }
 
-abbrev pub invariant-append_below_all-loop-element : goal.invariant-append_below_all-loop-element
-invariant-append_below_all-loop-element l = record {
-  done : l.out.items ++ bytes_below_all (struct_object_trees (drop l.element-index l.elements)) ≡ l.fn.out.items ++ bytes_below_all (struct_object_trees l.fn.elements);
-  held : AreElements l.fn.size.data_words l.fn.size.pointers (struct_object_trees (drop l.element-index l.elements));
-  small : words_below_all (struct_object_trees (drop l.element-index l.elements)) < 2 ^ 29;
+abbrev pub invariant-fill_elements-loop-element : goal.invariant-fill_elements-loop-element
+invariant-fill_elements-loop-element l = record {
+  room : HaveRoom l.fn.size.data_words l.fn.size.pointers l.at (struct_object_trees (drop l.element-index l.elements)) l.out.items;
+  done : with_elements (l.fn.size.data_words + l.fn.size.pointers) l.at (struct_object_trees (drop l.element-index l.elements)) l.out.items ≡ with_elements (l.fn.size.data_words + l.fn.size.pointers) l.fn.at (struct_object_trees l.fn.elements) l.fn.out.items;
 }
