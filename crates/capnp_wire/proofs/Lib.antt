@@ -35,6 +35,7 @@ pub mod TreeSizes
 pub mod Copies
 pub mod RowsEdits
 pub mod NewTrees
+pub mod Fitting
 pub mod Measuring
 pub mod Appending
 pub mod BitBytes

@@ -1,8 +1,9 @@
 //! Copies what stands at a place into owned objects. A message in memory holds no fault leaf, so what has one is refused.
-ghost use Rattle.std.specs.Prelude.{◌≡◌, None, IfErr, IfOk};
-ghost use Rattle.capnp_wire.specs.Edits.{IsCopyRefusal, rounded, whole_words};
+ghost use Rattle.std.specs.Prelude.{◌≡◌, ◌-◌, None, IfErr, IfOk, OnOk};
+ghost use Rattle.capnp_wire.specs.Edits.{IsCopyRefusal, append_trees, first_trees, fitted, nulls, rounded, whole_words};
 ghost use Rattle.capnp_wire.specs.Found.{element_structs, found_tree, parts_tree, place_tree, pointer_trees};
 ghost use Rattle.capnp_wire.specs.Objects.{object_tree, object_trees, struct_object_tree, struct_object_trees};
+ghost use Rattle.capnp_wire.specs.Tree.{tree_count};
 ghost use Rattle.capnp_wire.specs.WellFormed.{IsWellFormed};
 ghost use Rattle.capnp_wire.specs.Words.{first_fault, first_fault_of_all, first_fault_of_elements};
 ghost use Rattle.capnp_device.specs.declared.error.ErrorKind.TheVariants.{OutOfMemory};
@@ -12,6 +13,7 @@ use crate::look::{
     Elements, Found, Place, Pointers, StructParts, count_elements, count_pointers, get_element,
     get_pointer, look,
 };
+use crate::make::make_nulls;
 use crate::object::{ListObject, Object, StructObject};
 use crate::size::StructSize;
 use capnp_device::error::Result;
@@ -127,6 +129,38 @@ pub fn copy_parts(alloc: Global, parts: StructParts<'_>) -> Result<StructObject>
     let data = copy_whole_words(alloc, parts.data)?;
     let pointers = copy_pointers(alloc, parts.pointers)?;
     Ok(StructObject { data, pointers })
+}
+
+/// Cuts pointers in a row to so many, or fills them up with nulls.
+///
+/// Refused with `OutOfMemory`, and then some may be cut off already.
+fn fit_pointers(pointers: &mut Vec<Object>, count: usize) -> Result<()>
+    ensures fitted { OnOk result (object_trees pointers.new.items ≡ append_trees (first_trees count (object_trees pointers.old.items)) (nulls (count - tree_count (object_trees pointers.old.items)))) }
+    ensures refused { IfErr result (λ error. error.kind ≡ OutOfMemory) }
+{
+    let missing = count.saturating_sub(pointers.len());
+    pointers.truncate(count);
+    pointers.append(&mut make_nulls(*pointers.allocator(), missing)?)?;
+    Ok(())
+}
+
+/// The object of so many bytes and pointers of a struct: what fits of it, and zeros and nulls after that.
+///
+/// The whole struct is copied first, so it is refused as `copy_found`, also for what does not fit.
+pub fn copy_fitted(
+    alloc: Global,
+    parts: StructParts<'_>,
+    bytes: usize,
+    pointers: usize,
+) -> Result<StructObject>
+    ensures copy { IfOk result (λ object. struct_object_tree object ≡ fitted bytes pointers (parts_tree parts.entry)) }
+    ensures sound { IfOk result (λ _. first_fault_of_all (parts_tree parts.entry).pointers ≡ None) }
+    ensures refused { IfErr result (λ error. IsCopyRefusal error (first_fault_of_all (parts_tree parts.entry).pointers)) }
+{
+    let mut copied = copy_struct(alloc, parts)?;
+    copied.data.resize(bytes, 0)?;
+    fit_pointers(&mut copied.pointers, pointers)?;
+    Ok(copied)
 }
 
 #[cfg(test)]

@@ -13,7 +13,8 @@ fn make_zeros(alloc: Global, count: usize) -> Result<Vec<u8>, AllocError>
     vec![in alloc; 0u8; count]
 }
 
-fn make_nulls(alloc: Global, count: usize) -> Result<Vec<Object>, AllocError>
+/// So many null pointers.
+pub fn make_nulls(alloc: Global, count: usize) -> Result<Vec<Object>, AllocError>
     ensures { IfOk result (λ objects. object_trees objects.items ≡ nulls count) }
 {
     let mut objects = Vec::with_capacity(alloc, count)?;

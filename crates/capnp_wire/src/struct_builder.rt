@@ -1,20 +1,23 @@
 //! Builders of structs.
-ghost use Rattle.std.specs.Prelude.{◌≡◌, ◌≤◌, ◌<◌, ◌+◌, ◌*◌, bit_xor, length};
+ghost use Rattle.std.specs.Prelude.{◌≡◌, ◌≤◌, ◌<◌, ◌+◌, ◌*◌, bit_xor, length, IfErr, OnErr, OnOk, None};
 ghost use Rattle.std.specs.Borrow.{sem};
 ghost use Rattle.capnp_wire.specs.Tree.{nth_tree, tree_count};
 ghost use Rattle.capnp_wire.specs.Slot.{bit_at, masked_bit, number_at};
 ghost use Rattle.capnp_wire.specs.Objects.{object_tree, struct_object_tree};
 ghost use Rattle.capnp_wire.specs.Standing.{struct_levels, struct_of};
 ghost use Rattle.capnp_wire.specs.WellFormed.{IsWellFormedStruct};
-ghost use Rattle.capnp_wire.specs.Edits.{with_bit, with_bytes, with_number};
+ghost use Rattle.capnp_wire.specs.Edits.{IsCopyRefusal, fitted, with_bit, with_bytes, with_number};
 ghost use Rattle.capnp_wire.specs.Lends.{LendsPointer};
+ghost use Rattle.capnp_wire.specs.Words.{first_fault_of_all};
 
 use crate::bytes::{get_bit, set_bit};
+use crate::copy::copy_fitted;
 use crate::look::{ROOT_LEVELS, look_at_struct_object};
 use crate::object::{Object, StructObject};
 use crate::pointer_builder::{PointerBuilder, StructBuilder};
 use crate::primitive::PrimitiveElement;
 use crate::struct_reader::StructReader;
+use capnp_device::error::Result;
 
 impl StructObject {
     /// The same struct for a shorter time.
@@ -92,6 +95,25 @@ impl StructObject {
         ensures { struct_object_tree self.new ≡ with_bytes (struct_object_tree self.old) (with_bit offset (masked_bit value mask) (struct_object_tree self.old).bytes) }
     {
         self.set_bool_field(offset, value != mask);
+    }
+
+    /// Replaces what the struct holds by what fits of another one, with zeros and nulls after that: the struct keeps its
+    /// size.
+    ///
+    /// Refused with `BadPointer`, `TooDeep` or `CapabilityPointer` where a pointer in the source can't be followed, by
+    /// the first of these in preorder, also where it would not fit, and with `OutOfMemory`; then nothing has changed.
+    #[tactic(auto, unfolding(crate::specs::Standing::struct_of))]
+    pub fn copy_content_from(&mut self, source: &StructReader<'_>) -> Result<()>
+        ensures ok { OnOk result (struct_object_tree self.new ≡ fitted (length (struct_object_tree self.old).bytes) (tree_count (struct_object_tree self.old).pointers) (struct_of source.now)) }
+        ensures sound { OnOk result (first_fault_of_all (struct_of source.now).pointers ≡ None) }
+        ensures refused { OnErr result (self.new ≡ self.old) }
+        ensures cause { IfErr result (λ e. IsCopyRefusal e (first_fault_of_all (struct_of source.now).pointers)) }
+    {
+        let bytes = self.data.len();
+        let pointers = self.pointers.len();
+        let copied = copy_fitted(*self.data.allocator(), source.parts(), bytes, pointers)?;
+        *self = copied;
+        Ok(())
     }
 
     /// A reader of the struct for as long as the builder would be there, with 64 levels.
