@@ -8,6 +8,8 @@
 mod builder_tests;
 mod bytes;
 mod copy;
+#[cfg(test)]
+mod copy_tests;
 mod encode;
 pub mod fault;
 pub mod laws;
