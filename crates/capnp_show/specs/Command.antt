@@ -1,6 +1,8 @@
 -- What the program's words say.
-use Rattle.std.specs.Prelude.{ℕ, negsuc, pos, List, [], ◌∷◌, true, Option, Some, None, String, string_bytes, ◌++◌, ◌<◌, ◌⊎◌, length, take, codes, decimal, bytes_eq, if◌then◌else◌}
+use Rattle.std.specs.Prelude.{ℕ, negsuc, pos, List, [], ◌∷◌, true, Option, Some, None, Result, Ok, Err, String, string_bytes, ◌++◌, ◌<◌, ◌⊎◌, length, take, drop, codes, decimal, bytes_eq, if◌then◌else◌}
 use Rattle.std.specs.Io.KnownBytes.{Appends}
+use Rattle.std.specs.Vec.Iter.{into_iter_items}
+use Rattle.std.specs.declared.vec.IntoIter.{IntoIter}
 use Rattle.capnp_device.specs.Device.{HasFailed}
 use Rattle.capnp_device.specs.ErrorNumber.{error_number}
 use Rattle.capnp_device.specs.declared.error.ErrorKind.{ErrorKind}
@@ -21,6 +23,11 @@ many =
     ∷ record { name = codes "q"; offset = 1; default = UInt64 0 }
     ∷ record { name = codes "z"; offset = 0; default = Void }
     ∷ []
+
+-- the words after the program's name, none where the system answered no words
+abbrev pub words_after_name : {A Z E : Type 0} → Result (IntoIter A Z) E → List A
+words_after_name (Ok args) = drop 1 (into_iter_items args)
+words_after_name (Err error) = []
 
 -- the fields of a struct by its name
 abbrev pub struct_named : List ℕ → Option (List Field)

@@ -1,8 +1,10 @@
 //! What the program does with its words.
-ghost use Rattle.std.specs.Prelude.{◌≡◌, ◌≢◌, ◌≤◌, ◌⊎◌, List, IfErr, IfSome, IsNone};
+ghost use Rattle.std.specs.Prelude.{◌≡◌, ◌≢◌, ◌≤◌, ◌⊎◌, List, IfErr, IfOk, OnOk, IfSome, IsNone};
+ghost use Rattle.std.specs.IoError.{error_kind};
+ghost use Rattle.std.specs.declared.io.ErrorKind.TheVariants.{OutOfMemory as NoMemory};
 ghost use Rattle.capnp_device.specs.Device.{HasFailed};
 ghost use Rattle.capnp_device.specs.declared.error.ErrorKind.TheVariants.{OutOfMemory, ReadFailed, WriteFailed};
-ghost use Rattle.capnp_show.specs.Command.{IsTold, fields_named, refusal_line, usage_line};
+ghost use Rattle.capnp_show.specs.Command.{IsTold, fields_named, refusal_line, usage_line, words_after_name};
 ghost use Rattle.capnp_show.specs.Flat.{Field, fields_of};
 ghost use Rattle.capnp_show.specs.Show.{IsCutShort, IsOfMessage, IsRefused, IsShown};
 
@@ -12,28 +14,23 @@ use capnp_wire::device::{Sink, Source};
 use capnp_wire::error::{Error, ErrorKind, Result};
 use capnp_wire::transfer::write_all;
 use std::alloc::Global;
-use std::rt::Env;
 use std::{env, io};
 
 const USAGE: &str = "usage: capnp_show NAME [--indent]\n";
 
-/// The words after the program's name; none where one of them is not UTF-8, since no such list of words names a struct.
-/// Refused with `OutOfMemory` alone.
-pub fn words<R: Env + AllocGlobal>(rt: &R) -> Result<Vec<String>>
-    ensures { IfErr result (λ e. e.kind ≡ OutOfMemory) }
+/// The words after the program's name, of what the system answered; none where one of them is not UTF-8, since no such
+/// list of words names a struct. Refused with `OutOfMemory` alone.
+pub fn words(alloc: Global, args: io::Result<env::Args>) -> Result<Vec<String>>
+    ensures words { IfOk result (λ words. words.items ≡ words_after_name args) }
+    ensures memory { OnOk result (IfErr args (λ e. error_kind e ≢ NoMemory)) }
+    ensures refused { IfErr result (λ e. e.kind ≡ OutOfMemory) }
 {
-    let mut words = Vec::new(rt.alloc());
-    match env::args(rt) {
-        Ok(args) => {
-            for word in args.skip(1) {
-                words.push(word)?;
-            }
-            Ok(words)
-        }
+    match args {
+        Ok(args) => Ok(args.skip(1).collect(alloc)?),
         Err(error) if error.kind() == io::ErrorKind::OutOfMemory => {
             Err(Error::from(ErrorKind::OutOfMemory))
         }
-        Err(_) => Ok(words),
+        Err(_) => Ok(Vec::new(alloc)),
     }
 }
 

@@ -9,13 +9,14 @@ mod printer;
 mod tests;
 
 use capnp_wire::device::{ReadSource, WriteSink};
+use std::env;
 use std::process::ExitCode;
 
 fn main(rt: HostRuntime) -> ExitCode {
     let mut source = ReadSource::new(rt.stdin());
     let mut sink = WriteSink::new(rt.stdout());
     let mut faults = WriteSink::new(rt.stderr());
-    let status = match command::words(&rt) {
+    let status = match command::words(rt.alloc(), env::args(&rt)) {
         Ok(words) => command::command(rt.alloc(), &words, &mut source, &mut sink, &mut faults),
         Err(error) => {
             command::report(rt.alloc(), error.kind, &mut faults);

@@ -90,6 +90,18 @@ append_trees (MoreTrees t ts) us = MoreTrees t (append_trees ts us)
 abbrev pub extended : StructSize → StructTree → StructTree
 extended size s = record { bytes = s.bytes ++ replicate (8 * size.data_words - length s.bytes) 0; pointers = append_trees s.pointers (nulls (size.pointers - tree_count s.pointers)) }
 
+-- ---- a struct with just a size ----
+
+-- the first so many trees of a row, all where it has no more
+abbrev pub first_trees : ℕ → Trees → Trees
+first_trees zero ts = NoTrees
+first_trees (suc n) NoTrees = NoTrees
+first_trees (suc n) (MoreTrees t ts) = MoreTrees t (first_trees n ts)
+
+-- so many bytes and pointers of a struct: what fits of it, and zeros and nulls after that
+abbrev pub fitted : ℕ → ℕ → StructTree → StructTree
+fitted bytes pointers s = record { bytes = take bytes s.bytes ++ replicate (bytes - length s.bytes) 0; pointers = append_trees (first_trees pointers s.pointers) (nulls (pointers - tree_count s.pointers)) }
+
 -- ---- what stands at a pointer ----
 
 abbrev pub is_struct : Tree → Bool

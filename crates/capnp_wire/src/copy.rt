@@ -1,9 +1,9 @@
 //! Copies what stands at a place into owned objects. A message in memory holds no fault leaf, so what has one is refused.
-ghost use Rattle.std.specs.Prelude.{◌≡◌, None, IfErr, IfOk, IsTrue};
-ghost use Rattle.capnp_wire.specs.Edits.{IsCopyRefusal, rounded, whole_words};
+ghost use Rattle.std.specs.Prelude.{◌≡◌, ◌-◌, None, IfErr, IfOk, OnOk};
+ghost use Rattle.capnp_wire.specs.Edits.{IsCopyRefusal, append_trees, first_trees, fitted, nulls, rounded, whole_words};
 ghost use Rattle.capnp_wire.specs.Found.{element_structs, found_tree, parts_tree, place_tree, pointer_trees};
-ghost use Rattle.capnp_wire.specs.Objects.{list_object_tree, object_tree, object_trees, struct_object_tree, struct_object_trees};
-ghost use Rattle.capnp_wire.specs.Reading.{is_list};
+ghost use Rattle.capnp_wire.specs.Objects.{object_tree, object_trees, struct_object_tree, struct_object_trees};
+ghost use Rattle.capnp_wire.specs.Tree.{tree_count};
 ghost use Rattle.capnp_wire.specs.WellFormed.{IsWellFormed};
 ghost use Rattle.capnp_wire.specs.Words.{first_fault, first_fault_of_all, first_fault_of_elements};
 ghost use Rattle.capnp_device.specs.declared.error.ErrorKind.TheVariants.{OutOfMemory};
@@ -14,33 +14,47 @@ use crate::look::{
     Elements, Found, Place, Pointers, StructParts, count_elements, count_pointers, get_element,
     get_pointer, look,
 };
+use crate::make::make_nulls;
 use crate::object::{ListObject, Object, StructObject};
 use crate::size::StructSize;
 use capnp_device::error::Result;
 use std::alloc::Global;
 
-/// The object of what stands at a place. Each section and each list takes its memory once.
+/// The object of what stands at a place.
 ///
-/// Refused with `OutOfMemory` where memory is refused, and with `BadPointer`, `TooDeep` or `CapabilityPointer` where a
-/// pointer in it can't be followed, by the first of these in preorder; with either where both hold.
+/// Refused as `copy_found`.
 #[cycle(copy)]
 pub fn copy_place(alloc: Global, place: Place<'_>) -> Result<Object>
     ensures copy { IfOk result (λ object. object_tree object ≡ place_tree place.entry) }
     ensures sound { IfOk result (λ _. first_fault (place_tree place.entry) ≡ None) }
     ensures refused { IfErr result (λ error. IsCopyRefusal error (first_fault (place_tree place.entry))) }
 {
-    match look(place) {
-        Found::Null => Ok(Object::Null(alloc)),
-        Found::Bad(fault) => Err(refuse(fault)),
-        Found::Struct(parts) => {
-            let object = copy_struct(alloc, parts)?;
-            Ok(Object::Struct(object))
+    copy_found(alloc, look(place))
+}
+
+/// The object of what was found. Each section and each list takes its memory once.
+///
+/// Refused with `OutOfMemory` where memory is refused, and with `BadPointer`, `TooDeep` or `CapabilityPointer` where a
+/// pointer in it can't be followed, by the first of these in preorder; with either where both hold.
+#[cycle(copy)]
+pub fn copy_found(alloc: Global, found: Found<'_>) -> Result<Object>
+    ensures copy { IfOk result (λ object. object_tree object ≡ found_tree found.entry) }
+    ensures sound { IfOk result (λ _. first_fault (found_tree found.entry) ≡ None) }
+    ensures refused { IfErr result (λ error. IsCopyRefusal error (first_fault (found_tree found.entry))) }
+{
+    let list = match found {
+        Found::Null => return Ok(Object::Null(alloc)),
+        Found::Bad(fault) => return Err(refuse(fault)),
+        Found::Struct(parts) => return Ok(Object::Struct(copy_struct(alloc, parts)?)),
+        Found::Voids(count) => ListObject::Voids(alloc, count),
+        Found::Bits(bytes, count) => ListObject::Bits(BitRow::copy(alloc, bytes, count)?),
+        Found::Numbers(width, bytes) => ListObject::Numbers(width, Vec::from_slice(alloc, bytes)?),
+        Found::Pointers(pointers) => ListObject::Pointers(copy_pointers(alloc, pointers)?),
+        Found::Composite(size, elements) => {
+            ListObject::Composite(size, copy_elements(alloc, size, elements)?)
         }
-        found => {
-            let object = copy_found(alloc, found)?;
-            Ok(Object::List(object))
-        }
-    }
+    };
+    Ok(Object::List(list))
 }
 
 /// The object of a struct, with its data as it is.
@@ -53,38 +67,6 @@ pub fn copy_struct(alloc: Global, parts: StructParts<'_>) -> Result<StructObject
     let data = Vec::from_slice(alloc, parts.data)?;
     let pointers = copy_pointers(alloc, parts.pointers)?;
     Ok(StructObject { data, pointers })
-}
-
-/// The object of a list.
-///
-/// Refused as `copy_place`.
-#[cycle(copy)]
-pub fn copy_found(alloc: Global, found: Found<'_>) -> Result<ListObject>
-    requires { IsTrue (is_list (found_tree found)) }
-    ensures copy { IfOk result (λ object. list_object_tree object ≡ found_tree found.entry) }
-    ensures sound { IfOk result (λ _. first_fault (found_tree found.entry) ≡ None) }
-    ensures refused { IfErr result (λ error. IsCopyRefusal error (first_fault (found_tree found.entry))) }
-{
-    match found {
-        Found::Voids(count) => Ok(ListObject::Voids(alloc, count)),
-        Found::Bits(bytes, count) => {
-            let row = BitRow::copy(alloc, bytes, count)?;
-            Ok(ListObject::Bits(row))
-        }
-        Found::Numbers(width, bytes) => {
-            let bytes = Vec::from_slice(alloc, bytes)?;
-            Ok(ListObject::Numbers(width, bytes))
-        }
-        Found::Pointers(pointers) => {
-            let pointers = copy_pointers(alloc, pointers)?;
-            Ok(ListObject::Pointers(pointers))
-        }
-        Found::Composite(size, elements) => {
-            let elements = copy_elements(alloc, size, elements)?;
-            Ok(ListObject::Composite(size, elements))
-        }
-        _ => unreachable!(),
-    }
 }
 
 /// The objects of pointers in a row.
@@ -138,7 +120,7 @@ fn copy_whole_words(alloc: Global, bytes: &[u8]) -> Result<Vec<u8>>
 /// The object of a struct, with its data rounded up to whole words: what is read as a struct may be an element of a list
 /// of numbers, and its data ends within a word.
 ///
-/// Refused as `copy_place`.
+/// Refused as `copy_found`.
 pub fn copy_parts(alloc: Global, parts: StructParts<'_>) -> Result<StructObject>
     ensures copy { IfOk result (λ object. struct_object_tree object ≡ rounded (parts_tree parts.entry)) }
     ensures sound { IfOk result (λ _. first_fault_of_all (parts_tree parts.entry).pointers ≡ None) }
@@ -147,6 +129,38 @@ pub fn copy_parts(alloc: Global, parts: StructParts<'_>) -> Result<StructObject>
     let data = copy_whole_words(alloc, parts.data)?;
     let pointers = copy_pointers(alloc, parts.pointers)?;
     Ok(StructObject { data, pointers })
+}
+
+/// Cuts pointers in a row to so many, or fills them up with nulls.
+///
+/// Refused with `OutOfMemory`, and then some may be cut off already.
+fn fit_pointers(pointers: &mut Vec<Object>, count: usize) -> Result<()>
+    ensures fitted { OnOk result (object_trees pointers.new.items ≡ append_trees (first_trees count (object_trees pointers.old.items)) (nulls (count - tree_count (object_trees pointers.old.items)))) }
+    ensures refused { IfErr result (λ error. error.kind ≡ OutOfMemory) }
+{
+    let missing = count.saturating_sub(pointers.len());
+    pointers.truncate(count);
+    pointers.append(&mut make_nulls(*pointers.allocator(), missing)?)?;
+    Ok(())
+}
+
+/// The object of so many bytes and pointers of a struct: what fits of it, and zeros and nulls after that.
+///
+/// The whole struct is copied first, so it is refused as `copy_found`, also for what does not fit.
+pub fn copy_fitted(
+    alloc: Global,
+    parts: StructParts<'_>,
+    bytes: usize,
+    pointers: usize,
+) -> Result<StructObject>
+    ensures copy { IfOk result (λ object. struct_object_tree object ≡ fitted bytes pointers (parts_tree parts.entry)) }
+    ensures sound { IfOk result (λ _. first_fault_of_all (parts_tree parts.entry).pointers ≡ None) }
+    ensures refused { IfErr result (λ error. IsCopyRefusal error (first_fault_of_all (parts_tree parts.entry).pointers)) }
+{
+    let mut copied = copy_struct(alloc, parts)?;
+    copied.data.resize(bytes, 0)?;
+    fit_pointers(&mut copied.pointers, pointers)?;
+    Ok(copied)
 }
 
 #[cfg(test)]

@@ -9,6 +9,8 @@ mod bits;
 mod builder_tests;
 mod bytes;
 mod copy;
+#[cfg(test)]
+mod copy_tests;
 mod encode;
 pub mod fault;
 pub mod laws;

@@ -111,6 +111,14 @@ impl<'a> ListReader<'a> {
         }
     }
 
+    /// What the reader stands on.
+    #[tactic(auto, unfolding(crate::specs::Standing::list_of))]
+    pub(crate) fn found(&self) -> Found<'a>
+        ensures { found_tree result ≡ list_of self.now }
+    {
+        self.found
+    }
+
     /// How many elements there are, below 2^29.
     #[tactic(auto, unfolding(crate::specs::Standing::list_of))]
     pub fn len(&self) -> u32

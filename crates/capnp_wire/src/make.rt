@@ -15,7 +15,7 @@ pub fn make_zeros(alloc: Global, count: usize) -> Result<Vec<u8>, AllocError>
     vec![in alloc; 0u8; count]
 }
 
-/// So many nulls.
+/// So many null pointers.
 pub fn make_nulls(alloc: Global, count: usize) -> Result<Vec<Object>, AllocError>
     ensures { IfOk result (λ objects. object_trees objects.items ≡ nulls count) }
 {

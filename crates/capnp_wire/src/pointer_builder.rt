@@ -7,12 +7,13 @@ ghost use Rattle.capnp_wire.specs.Place.{struct_tree};
 ghost use Rattle.capnp_wire.specs.Reading.{as_list, is_null_tree};
 ghost use Rattle.capnp_wire.specs.Edits.{IsCopyRefusal, IsRoomRefusal, rounded, extended, is_struct, struct_in, IsStructRefusal, zero_list, zero_struct, zero_structs};
 ghost use Rattle.capnp_wire.specs.Words.{first_fault, first_fault_of_all};
-ghost use Rattle.capnp_wire.specs.Standing.{struct_of, tree_of};
+ghost use Rattle.capnp_wire.specs.Standing.{list_of, struct_of, tree_of};
 ghost use Rattle.capnp_wire.specs.Elements.{built_read};
 ghost use Rattle.capnp_wire.specs.Lends.{holds_list, LendsList, LendsOwnList, LendsOwnStruct, LendsStruct};
 ghost use Rattle.capnp_device.specs.declared.error.ErrorKind.TheVariants.{OutOfMemory, SizePastFormat};
 
-use crate::copy::{copy_parts, copy_place};
+use crate::copy::{copy_found, copy_parts, copy_place};
+use crate::list_reader::ListReader;
 use crate::make::{make_list, make_struct, make_structs};
 use crate::object::{ListObject, Object, StructObject};
 use crate::pointer_reader::PointerReader;
@@ -286,6 +287,21 @@ impl Object {
     {
         let copied = copy_parts(self.allocator(), source.parts())?;
         *self = Object::Struct(copied);
+        Ok(())
+    }
+
+    /// Replaces what stands here by a copy of a list, with the elements that it has, whatever they were read as. A reader
+    /// of a null stands on an empty list of the size that was asked, and that is what is copied.
+    ///
+    /// Refused as `copy_from`.
+    pub fn set_list(&mut self, source: &ListReader<'_>) -> Result<()>
+        ensures ok { OnOk result (object_tree self.new ≡ list_of source.now) }
+        ensures sound { OnOk result (first_fault (list_of source.now) ≡ None) }
+        ensures refused { OnErr result (self.new ≡ self.old) }
+        ensures cause { IfErr result (λ e. IsCopyRefusal e (first_fault (list_of source.now))) }
+    {
+        let copied = copy_found(self.allocator(), source.found())?;
+        *self = copied;
         Ok(())
     }
 }

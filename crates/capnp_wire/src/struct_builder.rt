@@ -7,12 +7,13 @@ ghost use Rattle.capnp_wire.specs.Objects.{object_tree, struct_object_tree};
 ghost use Rattle.capnp_wire.specs.Standing.{struct_levels, struct_of};
 ghost use Rattle.capnp_wire.specs.Total.{IsSize};
 ghost use Rattle.capnp_wire.specs.WellFormed.{IsWellFormedStruct};
-ghost use Rattle.capnp_wire.specs.Words.{words_of_struct};
-ghost use Rattle.capnp_wire.specs.Edits.{extended, with_bit, with_bytes, with_number};
+ghost use Rattle.capnp_wire.specs.Words.{first_fault_of_all, words_of_struct};
+ghost use Rattle.capnp_wire.specs.Edits.{IsCopyRefusal, extended, fitted, with_bit, with_bytes, with_number};
 ghost use Rattle.capnp_device.specs.declared.error.ErrorKind.TheVariants.{OutOfMemory, TooLarge};
 ghost use Rattle.capnp_wire.specs.Lends.{LendsPointer};
 
 use crate::bytes::{get_bit, set_bit};
+use crate::copy::copy_fitted;
 use crate::look::{ROOT_LEVELS, look_at_struct_object};
 use crate::make::make_nulls;
 use crate::object::{Object, StructObject};
@@ -141,6 +142,25 @@ impl StructObject {
         ensures refused { IfErr result (λ error. (error.kind ≡ TooLarge) × (2 ^ 64 ≤ words_of_struct (struct_object_tree self.now))) }
     {
         size_of_parts(look_at_struct_object(self))
+    }
+
+    /// Replaces what the struct holds by what fits of another one, with zeros and nulls after that: the struct keeps its
+    /// size.
+    ///
+    /// Refused with `BadPointer`, `TooDeep` or `CapabilityPointer` where a pointer in the source can't be followed, by
+    /// the first of these in preorder, also where it would not fit, and with `OutOfMemory`; then nothing has changed.
+    #[tactic(auto, unfolding(crate::specs::Standing::struct_of))]
+    pub fn copy_content_from(&mut self, source: &StructReader<'_>) -> Result<()>
+        ensures ok { OnOk result (struct_object_tree self.new ≡ fitted (length (struct_object_tree self.old).bytes) (tree_count (struct_object_tree self.old).pointers) (struct_of source.now)) }
+        ensures sound { OnOk result (first_fault_of_all (struct_of source.now).pointers ≡ None) }
+        ensures refused { OnErr result (self.new ≡ self.old) }
+        ensures cause { IfErr result (λ e. IsCopyRefusal e (first_fault_of_all (struct_of source.now).pointers)) }
+    {
+        let bytes = self.data.len();
+        let pointers = self.pointers.len();
+        let copied = copy_fitted(*self.data.allocator(), source.parts(), bytes, pointers)?;
+        *self = copied;
+        Ok(())
     }
 
     /// A reader of the struct for as long as the builder would be there, with 64 levels.
