@@ -19,3 +19,4 @@ pub mod Depth
 pub mod Edits
 pub mod Lends
 pub mod Measured
+pub mod Blobs

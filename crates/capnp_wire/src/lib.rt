@@ -4,6 +4,7 @@
 //! call's contract says what it answers in terms of that tree and of the levels that the reader has left.
 #![tactic(auto)]
 
+mod blob_builder;
 #[cfg(test)]
 mod builder_tests;
 mod bytes;

@@ -28,8 +28,8 @@ pub struct StructObject {
 #[cycle(object)]
 pub enum ListObject {
     /// The list of nothing that a null pointer is read as, and the size of elements that was asked. The pointer is still
-    /// null.
-    Missing(Global, ElementSize),
+    /// null. Of the bytes none are lent.
+    Missing(Vec<u8>, ElementSize),
     /// How many elements of nothing there are.
     Voids(Global, u32),
     /// The bits, lowest first in each byte, and how many there are.

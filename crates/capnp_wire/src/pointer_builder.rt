@@ -220,7 +220,7 @@ impl Object {
 impl ListObject {
     fn allocator(&self) -> Global {
         match self {
-            ListObject::Missing(alloc, _) => *alloc,
+            ListObject::Missing(bytes, _) => *bytes.allocator(),
             ListObject::Voids(alloc, _) => *alloc,
             ListObject::Bits(bytes, _) => *bytes.allocator(),
             ListObject::Numbers(_, bytes) => *bytes.allocator(),
