@@ -40,3 +40,4 @@ pub mod Appending
 pub mod BitBytes
 pub mod PointerParts
 pub mod ObjectFaults
+pub mod Blobs

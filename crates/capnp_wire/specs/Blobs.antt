@@ -1,5 +1,5 @@
 -- How the bytes of texts and data are lent: the list ends as itself, with just these bytes as they were left.
-use Rattle.std.specs.Prelude.{ℕ, List, [], ⊤, ◌≡◌, Result, Ok, Err}
+use Rattle.std.specs.Prelude.{ℕ, List, [], ◌∷◌, ◌++◌, length, ⊤, ◌≡◌, Result, Ok, Err}
 use Rattle.std.specs.Borrow.{Array, Fml, Lends, MutBor, RattleType, u8}
 use Rattle.std.specs.Vec.{with_items_from}
 use Rattle.std.specs.declared.vec.Vec.{Vec}
@@ -8,12 +8,15 @@ use Rattle.std.specs.contracts.vec.Vec as vec
 use Rattle.std.specs.contracts.alloc.Global as global
 use Rattle.std.specs.contracts.impls.GlobalAllocator.TheImpl.{ghosts}
 use Rattle.capnp_wire.specs.declared.object.Object.{Object, out-Object}
+use Rattle.capnp_wire.specs.declared.object.Object.TheVariants as object
 use Rattle.capnp_wire.specs.declared.object.ListObject.{ListObject, out-ListObject}
 use Rattle.capnp_wire.specs.declared.object.ListObject.TheVariants as list
 use Rattle.capnp_wire.specs.declared.object.ListObject.TheOpen as layer
 use Rattle.capnp_wire.specs.declared.object.ListObject.TheOpen.{ListObject-F, Object-F}
 use Rattle.capnp_wire.specs.declared.object.StructObject.{StructObject}
 use Rattle.capnp_wire.specs.contracts.object.ListObject.{the_row as list_row}
+use Rattle.capnp_wire.specs.Tree.{Null, Numbers}
+use Rattle.capnp_wire.specs.Objects.{list_object_tree, object_tree}
 use Rattle.capnp_device.specs.declared.error.Error.{Error}
 use Rattle.capnp_device.specs.declared.error.ErrorKind.{ErrorKind}
 
@@ -90,3 +93,19 @@ with_blob l = with_blob_at l (out-ListObject l)
 
 abbrev pub LendsBlob : MutBor ListObject → MutBor (List ℕ) → Fml
 LendsBlob l r = Lends list_row (Array u8 0) l r (with_blob l.now)
+
+-- ---- what stands there after the loan, where as many bytes are left as were lent ----
+
+abbrev pub DataAreLeft : Type 0
+DataAreLeft =
+    (l : ListObject) (old left : List ℕ) → list_object_tree l ≡ Numbers 1 old → length left ≡ length old →
+    object_tree (object.List (with_blob l left)) ≡ Numbers 1 left
+
+abbrev pub TextIsLeft : Type 0
+TextIsLeft =
+    (l : ListObject) (old left : List ℕ) → list_object_tree l ≡ Numbers 1 (old ++ 0 ∷ []) → length left ≡ length old →
+    object_tree (object.List (with_blob l left)) ≡ Numbers 1 (left ++ 0 ∷ [])
+
+-- a null stays null
+abbrev pub NullIsLeft : Type 0
+NullIsLeft = (l : ListObject) (left : List ℕ) → list_object_tree l ≡ Null → object_tree (object.List (with_blob l left)) ≡ Null

@@ -20,3 +20,4 @@ pub mod Edits
 pub mod Lends
 pub mod Measured
 pub mod Blobs
+pub mod Unchanged

@@ -1,9 +1,9 @@
 //! Builders of texts and data.
 //!
-//! The bytes are lent in two steps: a call that may be refused lends the list that stands at the pointer, and `data_mut` or
-//! `text_mut`, which can't fail, lend its bytes. The contracts of the two say what the pointer ends as, whatever is left in
-//! the bytes. `get_data`, `get_text`, `init_data` and `init_text` take both steps at once; their contracts say what is lent
-//! or refused.
+//! The bytes are lent in two steps: a call that may be refused lends the list that stands at the pointer, and `data_mut`
+//! or `text_mut`, which can't fail, lend its bytes. The contracts of the two say what the pointer ends as, whatever is
+//! left in the bytes. `get_data`, `get_text`, `init_data` and `init_text` take both steps at once; their contracts say
+//! what is lent or refused.
 ghost use Rattle.std.specs.Prelude.{false, IfErr, IfOk, IsOk, Ok, Err, OnOk, ◌≡◌, ◌≤◌, ◌+◌, ◌<◌, ◌^◌, ◌++◌, ◌∷◌, [], length, take, replicate};
 ghost use Rattle.std.specs.Borrow.{sem};
 ghost use Rattle.capnp_wire.specs.declared.object.ListObject.{out-ListObject};
@@ -215,8 +215,8 @@ impl Object {
         }
     }
 
-    /// The list whose bytes, but for the last, are the text that stands here; for a null one of nothing, and the pointer
-    /// stays null.
+    /// The list whose bytes, but for the last, are the text that stands here; for a null one of nothing, and the
+    /// pointer stays null.
     ///
     /// Refused as `get_data_list`, and with `TextNotTerminated` where the list is empty or its last byte is not zero;
     /// then nothing has changed.
@@ -282,10 +282,11 @@ impl Object {
         Ok(list.data_mut())
     }
 
-    /// Replaces what stands here by a text of so many zero bytes, and lends them; the zero that ends it is not among them.
+    /// Replaces what stands here by a text of so many zero bytes, and lends them; the zero that ends it is not among
+    /// them.
     ///
-    /// Refused with `SizePastFormat` where these would be 2^29 bytes or more with that zero, and else with `OutOfMemory`;
-    /// then nothing has changed.
+    /// Refused with `SizePastFormat` where these would be 2^29 bytes or more with that zero, and else with
+    /// `OutOfMemory`; then nothing has changed.
     pub fn init_text(&mut self, count: u32) -> Result<&mut [u8]>
         ensures now { IfOk result (λ bytes. bytes.now ≡ replicate count 0) }
         ensures within { OnOk result (count + 1 < 2 ^ 29) }

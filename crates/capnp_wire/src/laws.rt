@@ -1,4 +1,5 @@
 //! Laws of the format that every reader stands on.
+ghost use Rattle.capnp_wire.specs.Blobs.{DataAreLeft, NullIsLeft, TextIsLeft};
 ghost use Rattle.capnp_wire.specs.Laws.{IsReadBack, MoreBytesChangeNothing, TreesAreWellFormed};
 ghost use Rattle.capnp_wire.specs.Standing.{list_of, struct_of, tree_of};
 ghost use Rattle.capnp_wire.specs.WellFormed.{IsWellFormed, IsWellFormedStruct};
@@ -43,4 +44,11 @@ pub fn more_bytes_change_nothing()
 /// pointer, is read as that tree, whatever follows it.
 pub fn messages_are_read_back()
     ensures { IsReadBack }
+{}
+
+/// What was left in the bytes of data, of a text, or of a null, which were lent, is what stands there then.
+pub fn bytes_are_left()
+    ensures bytes { DataAreLeft }
+    ensures text { TextIsLeft }
+    ensures null { NullIsLeft }
 {}

@@ -8,6 +8,7 @@ ghost use Rattle.capnp_wire.specs.Standing.{struct_levels, struct_of};
 ghost use Rattle.capnp_wire.specs.WellFormed.{IsWellFormedStruct};
 ghost use Rattle.capnp_wire.specs.Edits.{with_bit, with_bytes, with_number};
 ghost use Rattle.capnp_wire.specs.Lends.{LendsPointer};
+ghost use Rattle.capnp_wire.specs.Unchanged.{StructEndsUnchanged};
 
 use crate::bytes::{get_bit, set_bit};
 use crate::look::{ROOT_LEVELS, look_at_struct_object};
@@ -94,9 +95,10 @@ impl StructObject {
         self.set_bool_field(offset, value != mask);
     }
 
-    /// A reader of the struct for as long as the builder would be there, with 64 levels.
+    /// A reader of the struct for as long as the builder would be there, with 64 levels. The struct stays as it is.
     pub fn into_reader(&mut self) -> StructReader<'_>
         requires { IsWellFormedStruct (struct_object_tree self.old) }
+        ensures* ends { sem 𝓛 (StructEndsUnchanged self.entry) }
         ensures parts { struct_of result ≡ struct_object_tree self.old }
         ensures levels { struct_levels result ≡ 64 }
     {
