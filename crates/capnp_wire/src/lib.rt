@@ -6,6 +6,8 @@
 
 mod blob_builder;
 #[cfg(test)]
+mod blob_tests;
+#[cfg(test)]
 mod builder_tests;
 mod bytes;
 mod copy;
