@@ -1,5 +1,5 @@
 -- What the bytes of texts and data leave where they were lent.
-use Rattle.std.proofs.Common.{◌≡◌, ℕ, ◌+◌, ◌≤◌, List, [], ◌∷◌, ◌++◌, length, drop, refl, sym, ap, ◌∙◌, arith, rules, Vec, Global}
+use Rattle.std.proofs.Common.{◌≡◌, ℕ, ◌≤◌, List, [], ◌∷◌, ◌++◌, length, drop, sym, ap, ◌∙◌, arith, rules, Vec, Global}
 use Rattle.std.proofs.lemmas.List.{take_at, drop_at, drop_all, length-append, length-drop, append-nil}
 use Rattle.std.proofs.lemmas.Bool.{false≢true}
 use Rattle.std.specs.Vec.{with_items_from}
@@ -7,7 +7,7 @@ use Rattle.capnp_wire.specs.Tree as tree
 use Rattle.capnp_wire.specs.Tree.{Tree, StructTree}
 use Rattle.capnp_wire.specs.Objects.{list_layer, object_layer, struct_layer, list_object_tree, object_tree, struct_object_tree}
 use Rattle.capnp_wire.specs.Reading.{is_null_tree}
-use Rattle.capnp_wire.specs.Blobs.{DataAreLeft, ListLayer, NullIsLeft, TextIsLeft, with_blob, with_blob_at}
+use Rattle.capnp_wire.specs.Blobs.{DataAreLeft, ListLayer, NullIsLeft, TextIsLeft, with_blob_at}
 use Rattle.capnp_wire.specs.declared.object.Object.{Object}
 use Rattle.capnp_wire.specs.declared.object.Object.TheVariants as object
 use Rattle.capnp_wire.specs.declared.object.ListObject.{ListObject, out-ListObject}
