@@ -1,11 +1,13 @@
 -- Structs that are given more data and pointers.
-use Rattle.std.proofs.Common.{◌≡◌, ℕ, ◌-◌, ◌*◌, ◌≤◌, List, [], ◌∷◌, ◌++◌, length, replicate, refl, sym, ap, ◌∙◌, arith}
+use Rattle.std.proofs.Common.{◌≡◌, ℕ, ◌-◌, ◌*◌, ◌≤◌, List, [], ◌∷◌, ◌++◌, length, replicate, refl, sym, ap, ◌∙◌, arith, Vec, Global}
 use Rattle.std.proofs.lemmas.List.{append-nil}
 use Rattle.capnp_wire.specs.Tree.{Trees, NoTrees, MoreTrees, StructTree, tree_count}
-use Rattle.capnp_wire.specs.Objects.{object_tree, object_trees}
+use Rattle.capnp_wire.specs.Objects.{object_tree, object_trees, struct_object_tree}
 use Rattle.capnp_wire.specs.Edits.{append_trees, extended, nulls}
 use Rattle.capnp_wire.specs.declared.object.Object.{Object}
+use Rattle.capnp_wire.specs.declared.object.StructObject.{StructObject}
 use Rattle.capnp_wire.specs.declared.size.StructSize.{StructSize}
+use Rattle.capnp_wire.proofs.ObjectTrees.{tree-struct}
 use Rattle.capnp_wire.proofs.Lists.{tree_count-from, tree_count-of}
 
 -- so many objects are null
@@ -36,3 +38,12 @@ extended_by size bytes os new zeros missing z m e =
     let count : missing ≡ size.pointers - tree_count (object_trees os) = omega (arith, m, tree_count-of object_tree os) in
     ap (λ ps. record { bytes = bytes ++ replicate zeros 0; pointers = ps }) (objects_append os new ∙ ap (append_trees (object_trees os)) (e ∙ ap nulls count))
     ∙ ap (λ n. record { bytes = bytes ++ replicate n 0; pointers = append_trees (object_trees os) (nulls (size.pointers - tree_count (object_trees os))) }) z
+
+-- the same of an object
+pub extended_object : (size : StructSize) (object : StructObject) (bytes : Vec ℕ Global) (pointers : Vec Object Global) (new : List Object) (zeros missing : ℕ) → bytes.items ≡ object.«data».items ++ replicate zeros 0 → pointers.items ≡ object.pointers.items ++ new → zeros ≡ 8 * size.data_words - length object.«data».items → missing ≡ size.pointers - length object.pointers.items → object_trees new ≡ nulls missing → struct_object_tree (record { «data» = bytes; pointers = pointers }) ≡ extended size (struct_object_tree object)
+extended_object size object bytes pointers new zeros missing d p z m e =
+    tree-struct (record { «data» = bytes; pointers = pointers })
+    ∙ ap (λ bs. record { bytes = bs; pointers = object_trees pointers.items }) d
+    ∙ ap (λ os. record { bytes = object.«data».items ++ replicate zeros 0; pointers = object_trees os }) p
+    ∙ extended_by size object.«data».items object.pointers.items new zeros missing z m e
+    ∙ ap (extended size) (sym (tree-struct object))

@@ -48,3 +48,4 @@ pub mod BitRows
 pub mod PointerParts
 pub mod ObjectFaults
 pub mod Filling
+pub mod Blobs

@@ -52,7 +52,7 @@ whole_structs (e ∷ os) = ap (λ f. first_of f (first_fault_of_elements (struct
 
 -- a list of whole parts
 whole_list : (y : ListObject-F WholeList WholeObject WholeStruct) → first_fault (list_layer (map-ListObject ListObject Object StructObject Tree Tree StructTree list_object_tree object_tree struct_object_tree (map-ListObject WholeList WholeObject WholeStruct ListObject Object StructObject (λ e. e.0) (λ e. e.0) (λ e. e.0) y))) ≡ None
-whole_list (layer.Missing alloc size) = refl
+whole_list (layer.Missing bytes size) = refl
 whole_list (layer.Voids alloc count) = refl
 whole_list (layer.Bits row) = refl
 whole_list (layer.Numbers width bytes) = refl

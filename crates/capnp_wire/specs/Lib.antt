@@ -23,3 +23,5 @@ pub mod Elements
 pub mod StructLists
 pub mod Lends
 pub mod Measured
+pub mod Blobs
+pub mod Unchanged

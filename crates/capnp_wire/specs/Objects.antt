@@ -25,7 +25,7 @@ object_layer (layer.Struct s) = struct_tree s
 object_layer (layer.List l) = l
 
 abbrev pub list_layer : ListObject-F Tree Tree StructTree → Tree
-list_layer (layer.Missing alloc size) = Null
+list_layer (layer.Missing bytes size) = Null
 list_layer (layer.Voids alloc count) = Voids count
 list_layer (layer.Bits row) = Bits (row_bits row)
 list_layer (layer.Numbers width bytes) = Numbers width bytes.items

@@ -1,4 +1,5 @@
 //! Laws of the format that every reader stands on.
+ghost use Rattle.capnp_wire.specs.Blobs.{DataAreLeft, NullIsLeft, TextIsLeft};
 ghost use Rattle.capnp_wire.specs.Laws.{IsReadBack, MoreBytesChangeNothing, PointerElementsAreWritten, PointersAreWritten, StructElementsAreWritten, TreesAreWellFormed};
 ghost use Rattle.capnp_wire.specs.Standing.{list_of, struct_of, tree_of};
 ghost use Rattle.capnp_wire.specs.WellFormed.{IsWellFormed, IsWellFormedStruct};
@@ -58,4 +59,11 @@ pub fn struct_elements_are_written()
 /// A list of which an element was lent as a pointer is its tree with another one at that index.
 pub fn pointer_elements_are_written()
     ensures { PointerElementsAreWritten }
+{}
+
+/// What was left in the bytes of data, of a text, or of a null, which were lent, is what stands there then.
+pub fn bytes_are_left()
+    ensures bytes { DataAreLeft }
+    ensures text { TextIsLeft }
+    ensures null { NullIsLeft }
 {}

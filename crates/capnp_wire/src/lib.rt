@@ -5,6 +5,9 @@
 #![tactic(auto)]
 
 mod bits;
+mod blob_builder;
+#[cfg(test)]
+mod blob_tests;
 #[cfg(test)]
 mod builder_tests;
 mod bytes;

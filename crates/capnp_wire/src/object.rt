@@ -29,8 +29,8 @@ pub struct StructObject {
 #[cycle(object)]
 pub enum ListObject {
     /// The list of nothing that a null pointer is read as, and the size of elements that was asked. The pointer is still
-    /// null.
-    Missing(Global, ElementSize),
+    /// null. Of the bytes none are lent.
+    Missing(Vec<u8>, ElementSize),
     /// How many elements of nothing there are.
     Voids(Global, u32),
     Bits(BitRow),
@@ -43,6 +43,8 @@ pub enum ListObject {
 
 impl Object {
     ghost use Rattle.std.specs.Prelude.{◌≡◌};
+    ghost use Rattle.std.specs.Borrow.{sem};
+    ghost use Rattle.capnp_wire.specs.Unchanged.{EndsUnchanged};
     ghost use Rattle.capnp_wire.specs.Objects.{object_tree};
     ghost use Rattle.capnp_wire.specs.Standing.{levels_of, tree_of};
     ghost use Rattle.capnp_wire.specs.WellFormed.{IsWellFormed};
@@ -54,5 +56,16 @@ impl Object {
         ensures levels { levels_of result ≡ 64 }
     {
         PointerReader::new(Place::Object(self), ROOT_LEVELS)
+    }
+
+    /// A reader of what stands at this pointer for as long as the builder would be there, with 64 levels. The pointer stays
+    /// as it is.
+    pub fn into_reader(&mut self) -> PointerReader<'_>
+        requires { IsWellFormed (object_tree self.old) }
+        ensures* ends { sem 𝓛 (EndsUnchanged self.entry) }
+        ensures tree { tree_of result ≡ object_tree self.old }
+        ensures levels { levels_of result ≡ 64 }
+    {
+        self.as_reader()
     }
 }

@@ -161,8 +161,8 @@ impl Object {
         ensures now { built_read result ≡ as_list size (object_tree self.old) 1 }
     {
         if self.is_null() {
-            let alloc = self.allocator();
-            *self = Object::List(ListObject::Missing(alloc, size));
+            let none = Vec::new(self.allocator());
+            *self = Object::List(ListObject::Missing(none, size));
             return Ok(self.list_here());
         }
         self.check_list(size)?;
@@ -309,7 +309,7 @@ impl Object {
 impl ListObject {
     pub(crate) fn allocator(&self) -> Global {
         match self {
-            ListObject::Missing(alloc, _) => *alloc,
+            ListObject::Missing(bytes, _) => *bytes.allocator(),
             ListObject::Voids(alloc, _) => *alloc,
             ListObject::Bits(row) => *row.bytes.allocator(),
             ListObject::Numbers(_, bytes) => *bytes.allocator(),

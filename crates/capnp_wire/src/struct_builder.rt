@@ -11,6 +11,7 @@ ghost use Rattle.capnp_wire.specs.Words.{first_fault_of_all, words_of_struct};
 ghost use Rattle.capnp_wire.specs.Edits.{IsCopyRefusal, extended, fitted, with_bit, with_bytes, with_number};
 ghost use Rattle.capnp_device.specs.declared.error.ErrorKind.TheVariants.{OutOfMemory, TooLarge};
 ghost use Rattle.capnp_wire.specs.Lends.{LendsPointer};
+ghost use Rattle.capnp_wire.specs.Unchanged.{StructEndsUnchanged};
 
 use crate::bytes::{get_bit, set_bit};
 use crate::copy::copy_fitted;
@@ -163,9 +164,10 @@ impl StructObject {
         Ok(())
     }
 
-    /// A reader of the struct for as long as the builder would be there, with 64 levels.
+    /// A reader of the struct for as long as the builder would be there, with 64 levels. The struct stays as it is.
     pub fn into_reader(&mut self) -> StructReader<'_>
         requires { IsWellFormedStruct (struct_object_tree self.old) }
+        ensures* ends { sem 𝓛 (StructEndsUnchanged self.entry) }
         ensures parts { struct_of result ≡ struct_object_tree self.old }
         ensures levels { struct_levels result ≡ 64 }
     {

@@ -173,8 +173,8 @@ impl Object {
         ensures refused { IfErr result (λ e. IsDueRefusal e (struct_list_refusal size (object_tree self.old))) }
     {
         if self.is_null() {
-            let alloc = self.allocator();
-            *self = Object::List(ListObject::Missing(alloc, ElementSize::InlineComposite));
+            let none = Vec::new(self.allocator());
+            *self = Object::List(ListObject::Missing(none, ElementSize::InlineComposite));
             return Ok(self.list_here());
         }
         self.make_struct_list(size)?;

@@ -6,7 +6,7 @@ use Rattle.capnp_wire.specs.Objects.{object_tree, object_trees, struct_object_tr
 use Rattle.capnp_wire.specs.Edits.{extended}
 use Rattle.capnp_wire.proofs.Lists.{tree_count-of}
 use Rattle.capnp_wire.proofs.ObjectTrees.{tree-struct}
-use Rattle.capnp_wire.proofs.Extended.{count_nulls, extended_by, extended_same}
+use Rattle.capnp_wire.proofs.Extended.{count_nulls, extended_object, extended_same}
 use Rattle.capnp_wire.proofs.object.StructObject.extend.Goals as goal
 
 pub returns-then-missing-eq0-clause-ok : goal.returns-then-missing-eq0-clause-ok
@@ -35,8 +35,5 @@ returns-clause-ok c =
     let own : take c.max-bytes.result self.«data».items ≡ self.«data».items = take_all c.max-bytes.result self.«data».items (omega (arith, c.max-bytes.ensures, c.len.ensures, self.«data».ok.0)) in
     let zeros : c.max-bytes.result - vec_len c.extend_from_slice.new.self ≡ 8 * c.args.size.data_words - length self.«data».items = omega (arith, c.max-bytes.ensures, c.len.ensures, self.«data».ok.0, c.in_ok-extend_from_slice.ensures.len, c.in_ok-data.ensures.len, c.as_slice.ensures.len) in
     let missing : c.saturating_sub-missing.result ≡ c.args.size.pointers - length self.pointers.items = omega (arith, c.saturating_sub-missing.ensures, c.len-2.ensures, self.pointers.ok.0) in
-    tree-struct (record { «data» = c.resize.new.self; pointers = c.append-2.new.self })
-    ∙ ap (λ bytes. record { bytes = bytes; pointers = object_trees c.append-2.new.self.items }) (grown ∙ ap (λ bytes. bytes ++ replicate (c.max-bytes.result - vec_len c.extend_from_slice.new.self) 0) own)
-    ∙ ap (λ os. record { bytes = self.«data».items ++ replicate (c.max-bytes.result - vec_len c.extend_from_slice.new.self) 0; pointers = object_trees os }) all
-    ∙ extended_by c.args.size self.«data».items self.pointers.items c.in_ok-nulls.nulls.items _ _ zeros missing c.in_ok-nulls.ensures
-    ∙ ap (extended c.args.size) (sym (tree-struct self))
+    let bytes : c.resize.new.self.items ≡ self.«data».items ++ replicate (c.max-bytes.result - vec_len c.extend_from_slice.new.self) 0 = grown ∙ ap (λ bytes. bytes ++ replicate (c.max-bytes.result - vec_len c.extend_from_slice.new.self) 0) own in
+    extended_object c.args.size self c.resize.new.self c.append-2.new.self c.in_ok-nulls.nulls.items _ _ bytes all zeros missing c.in_ok-nulls.ensures
