@@ -7,12 +7,10 @@ use Rattle.std.specs.declared.alloc.Global.{Global}
 use Rattle.std.specs.contracts.vec.Vec as vec
 use Rattle.std.specs.contracts.alloc.Global as global
 use Rattle.std.specs.contracts.impls.GlobalAllocator.TheImpl.{ghosts}
-use Rattle.capnp_wire.specs.declared.object.Object.{Object}
 use Rattle.capnp_wire.specs.declared.object.Object.TheVariants as object
 use Rattle.capnp_wire.specs.declared.object.ListObject.{ListObject, out-ListObject}
 use Rattle.capnp_wire.specs.declared.object.ListObject.TheVariants as list
 use Rattle.capnp_wire.specs.declared.object.ListObject.TheOpen as layer
-use Rattle.capnp_wire.specs.declared.object.StructObject.{StructObject}
 use Rattle.capnp_wire.specs.contracts.object.ListObject.{the_row as list_row}
 use Rattle.capnp_wire.specs.Tree.{Null, Numbers}
 use Rattle.capnp_wire.specs.Lends.{Layer}

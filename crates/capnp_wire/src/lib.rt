@@ -19,6 +19,8 @@ pub mod fault;
 pub mod laws;
 mod list_builder;
 mod list_reader;
+#[cfg(test)]
+mod list_tests;
 mod locate;
 mod look;
 mod make;

@@ -8,6 +8,7 @@ ghost use Rattle.capnp_wire.specs.Reading.{element_bit, element_number, element_
 ghost use Rattle.capnp_wire.specs.Standing.{list_levels, list_of};
 ghost use Rattle.capnp_wire.specs.WellFormed.{IsWellFormed};
 ghost use Rattle.capnp_wire.specs.Elements.{HasBit, HasNumber, HasPointer, HasStruct, built_list, is_composite, reads_list, with_bit_element, with_number_element};
+ghost use Rattle.capnp_wire.specs.Unchanged.{ListEndsUnchanged};
 ghost use Rattle.capnp_wire.specs.Lends.{HasObjects, HasStructs, LendsElement, LendsObject, LendsObjects, LendsStructs};
 
 use crate::bytes::get_bit;
@@ -36,6 +37,16 @@ impl ListObject {
         ensures levels { list_levels result ≡ 64 }
     {
         ListReader::new(look_at_built_list(self), ROOT_LEVELS)
+    }
+
+    /// A reader of the list for as long as the builder would be there, with 64 levels. The list stays as it is.
+    pub fn into_reader(&mut self) -> ListReader<'_>
+        requires { IsWellFormed (list_object_tree self.old) }
+        ensures* ends { sem 𝓛 (ListEndsUnchanged self.entry) }
+        ensures list { list_of result ≡ built_list self.old }
+        ensures levels { list_levels result ≡ 64 }
+    {
+        self.as_reader()
     }
 
     /// Whether the list is read as one of elements of a size.

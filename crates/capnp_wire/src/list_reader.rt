@@ -4,11 +4,10 @@ ghost use Rattle.capnp_wire.specs.Found.{found_tree};
 ghost use Rattle.capnp_wire.specs.Reading.{reads_numbers, reads_structs};
 ghost use Rattle.capnp_wire.specs.WellFormed.{IsWellFormed, IsWellFormed-prop};
 
-use crate::bytes::{get_bit, part};
+use crate::bytes::get_bit;
 use crate::fault::Fault;
 use crate::look::{
-    Found, Place, Pointers, StructParts, count_list, get_element, get_only_pointer, get_pointer,
-    look, look_at_nothing,
+    Found, Place, count_list, get_element, get_element_parts, get_pointer, look, look_at_nothing,
 };
 use crate::pointer_reader::PointerReader;
 use crate::primitive::PrimitiveElement;
@@ -174,29 +173,7 @@ impl<'a> ListReader<'a> {
             return Err(Error::from(ErrorKind::TooDeep));
         }
         let levels = self.levels - 1;
-        match self.found {
-            Found::Numbers(width, bytes) => {
-                let width = width as usize;
-                let data = part(bytes, index as usize * width, width);
-                let pointers = Pointers::Objects(&[]);
-                Ok(StructReader::new(StructParts { data, pointers }, levels))
-            }
-            Found::Pointers(pointers) => {
-                let pointers = get_only_pointer(pointers, index as usize);
-                Ok(StructReader::new(
-                    StructParts {
-                        data: &[],
-                        pointers,
-                    },
-                    levels,
-                ))
-            }
-            Found::Composite(size, elements) => Ok(StructReader::new(
-                get_element(size, elements, index as usize),
-                levels,
-            )),
-            _ => Ok(StructReader::empty(levels)),
-        }
+        Ok(StructReader::new(get_element_parts(self.found, index), levels))
     }
 
     /// The pointer at `index`: of a struct, its first, which is entered through the struct and leaves one level fewer.

@@ -6,7 +6,7 @@ ghost use Rattle.capnp_wire.specs.Level.{list_at_depth, tree_at_depth};
 ghost use Rattle.capnp_wire.specs.Backing.{StartFits, segment_list, target_of};
 ghost use Rattle.capnp_wire.specs.Objects.{list_object_tree, object_tree, struct_object_tree};
 ghost use Rattle.capnp_wire.specs.Elements.{built_list};
-ghost use Rattle.capnp_wire.specs.Reading.{empty_list, list_length};
+ghost use Rattle.capnp_wire.specs.Reading.{element_struct, empty_list, list_length};
 ghost use Rattle.capnp_wire.specs.WellFormed.{IsWellFormed};
 ghost use Rattle.capnp_wire.specs.Found.{ArePointersBelow, IsBelow, element_structs, found_tree, parts_tree, place_tree, pointer_trees};
 
@@ -440,6 +440,35 @@ pub fn count_list(found: Found<'_>) -> usize
         Found::Pointers(pointers) => count_pointers(pointers),
         Found::Composite(size, elements) => count_elements(size, elements),
         _ => 0,
+    }
+}
+
+/// What an element of a list holds as a struct.
+pub fn get_element_parts(found: Found<'_>, index: u32) -> StructParts<'_>
+    ensures { parts_tree result ≡ element_struct (found_tree found.entry) index }
+{
+    match found {
+        Found::Numbers(width, bytes) => {
+            let width = width as usize;
+            let data = part(bytes, index as usize * width, width);
+            let pointers = Pointers::Objects(&[]);
+            StructParts { data, pointers }
+        }
+        Found::Pointers(pointers) => {
+            let pointers = get_only_pointer(pointers, index as usize);
+            StructParts {
+                data: &[],
+                pointers,
+            }
+        }
+        Found::Composite(size, elements) => get_element(size, elements, index as usize),
+        _ => {
+            let pointers = Pointers::Objects(&[]);
+            StructParts {
+                data: &[],
+                pointers,
+            }
+        }
     }
 }
 

@@ -3,52 +3,19 @@ ghost use Rattle.std.specs.Prelude.{None, Some, false, true, ◌≡◌, IfErr, I
 ghost use Rattle.std.specs.Borrow.{sem};
 ghost use Rattle.capnp_wire.specs.Tree.{structs_from};
 ghost use Rattle.capnp_wire.specs.Objects.{list_object_tree, object_tree, struct_object_trees};
-ghost use Rattle.capnp_wire.specs.Found.{found_tree, parts_tree};
 ghost use Rattle.capnp_wire.specs.Reading.{element_struct, is_list, is_null_tree};
 ghost use Rattle.capnp_wire.specs.WellFormed.{IsWellFormed};
 ghost use Rattle.capnp_wire.specs.Edits.{IsCopyRefusal, extended};
 ghost use Rattle.capnp_wire.specs.StructLists.{IsDueRefusal, element_pointers, element_words, grown, has_size, is_bits, struct_list, struct_list_refusal};
 ghost use Rattle.capnp_wire.specs.Lends.{LendsList, holds_list};
 
-use crate::bytes::part;
 use crate::copy::copy_struct;
-use crate::look::{
-    Found, Pointers, StructParts, get_element, get_only_pointer, look_at_list_object,
-};
+use crate::look::{get_element_parts, look_at_list_object};
 use crate::object::{ListObject, Object, StructObject};
 use crate::pointer_builder::ListBuilder;
 use crate::size::{ElementSize, StructSize};
 use capnp_device::error::{Error, ErrorKind, Result};
 use std::alloc::Global;
-
-/// What an element of a list holds as a struct.
-pub fn get_element_parts(found: Found<'_>, index: u32) -> StructParts<'_>
-    ensures { parts_tree result ≡ element_struct (found_tree found.entry) index }
-{
-    match found {
-        Found::Numbers(width, bytes) => {
-            let width = width as usize;
-            let data = part(bytes, index as usize * width, width);
-            let pointers = Pointers::Objects(&[]);
-            StructParts { data, pointers }
-        }
-        Found::Pointers(pointers) => {
-            let pointers = get_only_pointer(pointers, index as usize);
-            StructParts {
-                data: &[],
-                pointers,
-            }
-        }
-        Found::Composite(size, elements) => get_element(size, elements, index as usize),
-        _ => {
-            let pointers = Pointers::Objects(&[]);
-            StructParts {
-                data: &[],
-                pointers,
-            }
-        }
-    }
-}
 
 /// The elements of a list as structs of at least a size.
 ///

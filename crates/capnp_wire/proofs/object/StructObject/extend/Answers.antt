@@ -2,8 +2,7 @@ use mathlib.Core.Bool.{true≢false}
 use Rattle.std.specs.Result.{IsOk, is_ok}
 use Rattle.std.proofs.Common.{true, arith, ◌≡◌, ◌*◌, ◌-◌, ◌∙◌, ◌++◌, length, replicate, sym, ap, take, take_all, vec_len}
 use Rattle.capnp_wire.specs.Tree.{StructTree, tree_count}
-use Rattle.capnp_wire.specs.Objects.{object_tree, object_trees, struct_object_tree}
-use Rattle.capnp_wire.specs.Edits.{extended}
+use Rattle.capnp_wire.specs.Objects.{object_tree, struct_object_tree}
 use Rattle.capnp_wire.proofs.Lists.{tree_count-of}
 use Rattle.capnp_wire.proofs.ObjectTrees.{tree-struct}
 use Rattle.capnp_wire.proofs.Extended.{count_nulls, extended_object, extended_same}
