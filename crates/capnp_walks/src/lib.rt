@@ -7,6 +7,8 @@
 #[cfg(test)]
 mod blob_tests;
 #[cfg(test)]
+mod built_tests;
+#[cfg(test)]
 mod fixtures;
 #[cfg(test)]
 mod level_tests;
