@@ -45,6 +45,23 @@ message many_segments.bin Many '(flag = false, s = -128, n = 65535, w = 21474836
     '(flag = false, s = -128, n = 65535, w = 2147483647, q = 1, z = ())'
 message two_messages.bin Flat '(a = 1) (a = 2)' '' '(a = 1)'
 
+# reading FILE TEXT: `capnp encode` makes FILE from TEXT, and `capnp decode` gives it back alike
+reading() {
+    if command -v capnp > "$scratch/which"; then
+        checks=$((checks + 1))
+        echo "$2" | capnp encode examples/reading.capnp Reading > "$scratch/made"
+        cmp -- "$scratch/made" "examples/$1" || fail "$1: capnp makes other bytes"
+        echo "$2" | capnp encode --segment-size=2 examples/reading.capnp Reading |
+            capnp decode examples/reading.capnp Reading > "$scratch/wanted"
+        capnp decode examples/reading.capnp Reading < "examples/$1" > "$scratch/read"
+        cmp -- "$scratch/read" "$scratch/wanted" || fail "$1: capnp reads another value"
+    fi
+}
+
+# what crates/capnp_walks/src/built_tests.rt builds, and what it copies out of several segments
+reading built.bin '(id = 7, level = -2, points = [(x = 1), (x = -3)])'
+reading copied.bin '(id = 7, name = "far away", scores = [4, 5], points = [(x = 6, y = 7)], next = (id = 8, name = "end"))'
+
 usage='usage: capnp_show NAME [--indent]'
 for words in '' Mixed many --indent 'Many --indent' 'Flat Many'; do
     # shellcheck disable=SC2086 # some are several words
