@@ -3,7 +3,7 @@
 
 use crate::fixtures::{bytes_of, root_of};
 use capnp_wire::message::Builder;
-use capnp_wire::size::StructSize;
+use capnp_wire::size::{ElementSize, StructSize};
 use std::test::Fail;
 
 // echo '(id = 7, level = -2, points = [(x = 1), (x = -3)])' | capnp encode examples/reading.capnp Reading
@@ -76,6 +76,40 @@ const ONE_EACH: StructSize = StructSize {
     data_words: 1,
     pointers: 1,
 };
+
+#[test]
+fn a_cleared_root_leaves_nothing(rt: HostRuntime) -> std::result::Result<(), Fail> {
+    let mut message = Builder::new(rt.alloc());
+    message.root().init_list(ElementSize::TwoBytes, 10)?;
+    assert_eq!(rt; message.size_in_words()?, 4);
+    message.root().clear();
+    let bytes = message.write_message()?;
+    assert_eq!(rt;
+        bytes.as_slice(),
+        [0, 0, 0, 0, 1, 0, 0, 0, 0, 0, 0, 0, 0, 0, 0, 0].as_slice()
+    );
+    Ok(())
+}
+
+#[test]
+fn a_pointer_takes_a_copy(rt: HostRuntime) -> std::result::Result<(), Fail> {
+    let text = bytes_of(
+        rt.alloc(),
+        "00 00 00 00 02 00 00 00 | 01 00 00 00 1a 00 00 00 | 68 69 00 00 00 00 00 00",
+    )?;
+    let want = bytes_of(
+        rt.alloc(),
+        "00 00 00 00 04 00 00 00 | 00 00 00 00 01 00 01 00 | 00 00 00 00 00 00 00 00 | \
+         01 00 00 00 1a 00 00 00 | 68 69 00 00 00 00 00 00",
+    )?;
+    let mut message = Builder::new(rt.alloc());
+    let fields = message.root().init_struct(ONE_EACH)?;
+    let source = root_of(rt.alloc(), text.as_slice())?;
+    fields.get_pointer_field(0).copy_from(source)?;
+    let bytes = message.write_message()?;
+    assert_eq!(rt; bytes.as_slice(), want.as_slice());
+    Ok(())
+}
 
 // Of each call that memory is refused to, the message stays as it was: its words are counted, which takes no memory.
 #[test]
