@@ -1,10 +1,10 @@
 -- Rows of elements that are written, and of lists that become lists of structs.
-use Rattle.std.proofs.Common.{◌≡◌, [], ◌∷◌, refl, true, false}
+use Rattle.std.proofs.Common.{◌≡◌, ◌≤◌, [], ◌∷◌, refl, true, false, arith}
 use Rattle.std.specs.Prelude.{Some, None}
 use Rattle.capnp_wire.specs.Tree.{Null, Struct, Voids, Bits, Numbers, Pointers, Composite, Trees, NoTrees, MoreTrees, NoStructs, MoreStructs}
-use Rattle.capnp_wire.specs.Edits.{extended}
+use Rattle.capnp_wire.specs.Edits.{HoldsStruct, extended}
 use Rattle.capnp_wire.specs.Elements.{with_bit_element, with_number_element, with_pointer_element, with_struct_element}
-use Rattle.capnp_wire.specs.StructLists.{struct_list, struct_list_refusal}
+use Rattle.capnp_wire.specs.StructLists.{HoldsStructs, struct_list, struct_list_refusal}
 use Rattle.capnp_device.specs.declared.error.ErrorKind.TheVariants.{SizePastFormat, WrongElementSize, WrongPointerKind}
 
 -- one pointer alone, and two
@@ -44,7 +44,25 @@ struct_extended = refl
 pub larger_struct_stays : extended (record { data_words = 0; pointers = 1 }) (record { bytes = 1 ∷ 2 ∷ 3 ∷ 4 ∷ 5 ∷ 6 ∷ 7 ∷ 8 ∷ []; pointers = two }) ≡ record { bytes = 1 ∷ 2 ∷ 3 ∷ 4 ∷ 5 ∷ 6 ∷ 7 ∷ 8 ∷ []; pointers = two }
 larger_struct_stays = refl
 
+pub same_size_is_enough : HoldsStruct (record { data_words = 1; pointers = 1 }) (Struct (1 ∷ 2 ∷ 3 ∷ 4 ∷ 5 ∷ 6 ∷ 7 ∷ 8 ∷ []) one)
+same_size_is_enough = (omega arith, omega arith)
+
+pub pointer_too_few : HoldsStruct (record { data_words = 1; pointers = 2 }) (Struct (1 ∷ 2 ∷ 3 ∷ 4 ∷ 5 ∷ 6 ∷ 7 ∷ 8 ∷ []) one) → ⊥
+pointer_too_few h = let enough : 2 ≤ 1 = h.1 in omega arith
+
+pub word_too_few : HoldsStruct (record { data_words = 2; pointers = 1 }) (Struct (1 ∷ 2 ∷ 3 ∷ 4 ∷ 5 ∷ 6 ∷ 7 ∷ 8 ∷ []) one) → ⊥
+word_too_few h = let enough : 16 ≤ 8 = h.0 in omega arith
+
 -- ---- lists of structs of at least a size ----
+
+pub same_sizes_are_enough : HoldsStructs (record { data_words = 1; pointers = 2 }) (Composite 1 2 NoStructs)
+same_sizes_are_enough = (omega arith, omega arith)
+
+pub words_too_few : HoldsStructs (record { data_words = 2; pointers = 0 }) (Composite 1 2 NoStructs) → ⊥
+words_too_few h = let enough : 2 ≤ 1 = h.0 in omega arith
+
+pub pointers_too_few : HoldsStructs (record { data_words = 0; pointers = 3 }) (Composite 1 2 NoStructs) → ⊥
+pointers_too_few h = let enough : 3 ≤ 2 = h.1 in omega arith
 
 pub null_stays : struct_list (record { data_words = 1; pointers = 1 }) Null ≡ Null
 null_stays = refl

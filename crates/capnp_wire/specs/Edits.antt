@@ -1,5 +1,5 @@
 -- What writes make of trees.
-use Rattle.std.specs.Prelude.{ℕ, zero, suc, ◌+◌, ◌/◌, ◌%◌, ◌^◌, take, drop, slice_set, slice_index, bit_or, bit_and, Bool, true, false, ◌*◌, ◌-◌, ◌≡◌, ◌≢◌, List, ◌++◌, length, replicate, Option, Some, option_map, IsTrue}
+use Rattle.std.specs.Prelude.{ℕ, zero, suc, ◌+◌, ◌/◌, ◌%◌, ◌^◌, take, drop, slice_set, slice_index, bit_or, bit_and, Bool, true, false, ◌*◌, ◌-◌, ◌≡◌, ◌≢◌, ◌≤◌, List, ◌++◌, length, replicate, Option, Some, option_map, IsTrue}
 use Rattle.capnp_wire.specs.Tree.{Tree, Null, Struct, FaultLeaf, Voids, Bits, Numbers, Pointers, Composite, Trees, NoTrees, MoreTrees, StructTree, empty_struct, trees_from, structs_from, tree_count}
 use Rattle.capnp_wire.specs.Words.{byte_words}
 use Rattle.capnp_wire.specs.Encoding.{spelled}
@@ -90,6 +90,10 @@ append_trees (MoreTrees t ts) us = MoreTrees t (append_trees ts us)
 abbrev pub extended : StructSize → StructTree → StructTree
 extended size s = record { bytes = s.bytes ++ replicate (8 * size.data_words - length s.bytes) 0; pointers = append_trees s.pointers (nulls (size.pointers - tree_count s.pointers)) }
 
+-- a struct has at least a size, so that nothing has to be filled up
+abbrev pub HasAtLeast : StructSize → StructTree → Type 0
+HasAtLeast size s = (8 * size.data_words ≤ length s.bytes) × (size.pointers ≤ tree_count s.pointers)
+
 -- ---- a struct with just a size ----
 
 -- the first so many trees of a row, all where it has no more
@@ -124,6 +128,17 @@ struct_in (Numbers w bytes) = empty_struct
 struct_in (Pointers ps) = empty_struct
 struct_in (Composite d p es) = empty_struct
 struct_in (FaultLeaf k) = empty_struct
+
+-- a struct of at least a size stands at a pointer
+abbrev pub HoldsStruct : StructSize → Tree → Type 0
+HoldsStruct size Null = ⊥
+HoldsStruct size (Struct bytes ps) = HasAtLeast size (record { bytes = bytes; pointers = ps })
+HoldsStruct size (Voids n) = ⊥
+HoldsStruct size (Bits bs) = ⊥
+HoldsStruct size (Numbers w bytes) = ⊥
+HoldsStruct size (Pointers ps) = ⊥
+HoldsStruct size (Composite d p es) = ⊥
+HoldsStruct size (FaultLeaf k) = ⊥
 
 -- why there is no struct at a pointer: a list stands there, which is said wherever one does, or memory was refused
 abbrev pub IsStructRefusal : Error → Tree → Type 0

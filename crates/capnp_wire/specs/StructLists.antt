@@ -1,5 +1,5 @@
 -- A list that becomes one of structs of at least a size.
-use Rattle.std.specs.Prelude.{ℕ, ◌+◌, ◌*◌, ◌^◌, ◌≡◌, ◌≢◌, Bool, true, false, cond, ◌==◌, ◌&&◌, nat_lt, max, Option, Some, None}
+use Rattle.std.specs.Prelude.{ℕ, ◌+◌, ◌*◌, ◌^◌, ◌≡◌, ◌≢◌, ◌≤◌, ⊤, Bool, true, false, cond, ◌==◌, ◌&&◌, nat_lt, max, Option, Some, None}
 use Rattle.capnp_wire.specs.Tree.{Tree, Null, Struct, Voids, Bits, Numbers, Pointers, Composite, FaultLeaf, structs_from}
 use Rattle.capnp_wire.specs.Reading.{element_struct, list_length}
 use Rattle.capnp_wire.specs.Edits.{extended}
@@ -77,6 +77,17 @@ has_size size (Numbers w bytes) = false
 has_size size (Pointers ps) = false
 has_size size (Composite d p es) = (d == size.data_words) && (p == size.pointers)
 has_size size (FaultLeaf k) = false
+
+-- a list of structs that have at least a size, or the list of nothing that a null is read as: no element has to grow
+abbrev pub HoldsStructs : StructSize → Tree → Type 0
+HoldsStructs size Null = ⊤
+HoldsStructs size (Struct bytes ps) = ⊥
+HoldsStructs size (Voids n) = ⊥
+HoldsStructs size (Bits bs) = ⊥
+HoldsStructs size (Numbers w bytes) = ⊥
+HoldsStructs size (Pointers ps) = ⊥
+HoldsStructs size (Composite d p es) = (size.data_words ≤ d) × (size.pointers ≤ p)
+HoldsStructs size (FaultLeaf k) = ⊥
 
 -- whether the elements are bits
 abbrev pub is_bits : Tree → Bool

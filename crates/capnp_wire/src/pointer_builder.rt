@@ -1,11 +1,11 @@
 //! Builders of pointers.
-ghost use Rattle.std.specs.Prelude.{None, Ok, Err, false, ◌⊎◌, ◌*◌, ◌≡◌, ◌≢◌, ◌+◌, IsTrue, ◌∷◌, ◌++◌, [], ◌<◌, ◌≤◌, ◌^◌, IfErr, IfOk, OnErr, OnOk, length};
+ghost use Rattle.std.specs.Prelude.{None, Ok, Err, false, ◌⊎◌, ◌*◌, ◌≡◌, ◌≢◌, ◌+◌, IsTrue, ◌∷◌, ◌++◌, [], ◌<◌, ◌≤◌, ◌^◌, IfErr, IfOk, IsOk, OnErr, OnOk, length};
 ghost use Rattle.std.specs.Borrow.{sem};
 ghost use Rattle.capnp_wire.specs.Tree.{Null, Numbers};
 ghost use Rattle.capnp_wire.specs.Objects.{list_object_tree, object_tree, struct_object_tree};
 ghost use Rattle.capnp_wire.specs.Place.{struct_tree};
 ghost use Rattle.capnp_wire.specs.Reading.{as_list, is_null_tree};
-ghost use Rattle.capnp_wire.specs.Edits.{IsCopyRefusal, IsRoomRefusal, rounded, extended, is_struct, struct_in, IsStructRefusal, zero_list, zero_struct, zero_structs};
+ghost use Rattle.capnp_wire.specs.Edits.{HoldsStruct, IsCopyRefusal, IsRoomRefusal, rounded, extended, is_struct, struct_in, IsStructRefusal, zero_list, zero_struct, zero_structs};
 ghost use Rattle.capnp_wire.specs.Words.{first_fault, first_fault_of_all};
 ghost use Rattle.capnp_wire.specs.Standing.{list_of, struct_of, tree_of};
 ghost use Rattle.capnp_wire.specs.Elements.{built_read};
@@ -102,6 +102,7 @@ impl Object {
         ensures ok { OnOk result (object_tree self.new ≡ struct_tree (extended size (struct_in (object_tree self.old)))) }
         ensures refused { OnErr result (self.new ≡ self.old) }
         ensures cause { IfErr result (λ e. IsStructRefusal e (object_tree self.old)) }
+        ensures succeeds { HoldsStruct size (object_tree self.old) → IsOk result }
     {
         if self.is_null() {
             let made = make_struct(self.allocator(), size)?;
@@ -119,11 +120,12 @@ impl Object {
     /// smaller struct gets zeros and nulls after what it has.
     ///
     /// Refused with `WrongPointerKind` for a list, and else with `OutOfMemory`; then nothing has changed. A struct that is
-    /// large enough takes no memory.
+    /// large enough takes no memory and is never refused.
     pub fn get_struct(&mut self, size: StructSize) -> Result<StructBuilder<'_>>
         ensures* lends { sem 𝓛 (LendsStruct self.entry result) }
         ensures now { IfOk result (λ s. struct_object_tree s.now ≡ extended size (struct_in (object_tree self.old))) }
         ensures refused { IfErr result (λ e. IsStructRefusal e (object_tree self.old)) }
+        ensures succeeds { HoldsStruct size (object_tree self.old) → IsOk result }
     {
         self.fill_struct(size)?;
         Ok(self.struct_here())

@@ -1,5 +1,5 @@
 //! Builders of structs.
-ghost use Rattle.std.specs.Prelude.{None, ◌≡◌, ◌≤◌, ◌<◌, ◌+◌, ◌*◌, ◌^◌, bit_xor, length, IfErr, IfOk, OnErr, OnOk};
+ghost use Rattle.std.specs.Prelude.{None, ◌≡◌, ◌≤◌, ◌<◌, ◌+◌, ◌*◌, ◌^◌, bit_xor, length, IfErr, IfOk, IsOk, IsTrue, OnErr, OnOk, ◌↔◌};
 ghost use Rattle.std.specs.Borrow.{sem};
 ghost use Rattle.capnp_wire.specs.Tree.{nth_tree, tree_count};
 ghost use Rattle.capnp_wire.specs.Slot.{bit_at, masked_bit, number_at};
@@ -8,7 +8,7 @@ ghost use Rattle.capnp_wire.specs.Standing.{struct_levels, struct_of};
 ghost use Rattle.capnp_wire.specs.Total.{IsSize};
 ghost use Rattle.capnp_wire.specs.WellFormed.{IsWellFormedStruct};
 ghost use Rattle.capnp_wire.specs.Words.{first_fault_of_all, words_of_struct};
-ghost use Rattle.capnp_wire.specs.Edits.{IsCopyRefusal, extended, fitted, with_bit, with_bytes, with_number};
+ghost use Rattle.capnp_wire.specs.Edits.{HasAtLeast, IsCopyRefusal, extended, fitted, with_bit, with_bytes, with_number};
 ghost use Rattle.capnp_device.specs.declared.error.ErrorKind.TheVariants.{OutOfMemory, TooLarge};
 ghost use Rattle.capnp_wire.specs.Lends.{LendsPointer};
 ghost use Rattle.capnp_wire.specs.Unchanged.{StructEndsUnchanged};
@@ -43,19 +43,29 @@ impl StructObject {
         StructReader::new(look_at_struct_object(self), ROOT_LEVELS)
     }
 
-    /// Gives the struct at least a size, with zeros and nulls after what it has. One that is large enough takes no memory.
+    /// Whether the struct has at least a size.
+    fn has_at_least(&self, size: StructSize) -> bool
+        ensures { IsTrue result ↔ HasAtLeast size (struct_object_tree self.now) }
+    {
+        8 * size.data_words as usize <= self.data.len()
+            && size.pointers as usize <= self.pointers.len()
+    }
+
+    /// Gives the struct at least a size, with zeros and nulls after what it has.
     ///
-    /// Refused with `OutOfMemory`, and then nothing has changed.
+    /// Refused with `OutOfMemory`, and then nothing has changed. One that is large enough takes no memory and is never
+    /// refused.
     pub(crate) fn extend(&mut self, size: StructSize) -> Result<()>
         ensures ok { OnOk result (struct_object_tree self.new ≡ extended size (struct_object_tree self.old)) }
         ensures refused { OnErr result (self.new ≡ self.old) }
         ensures cause { IfErr result (λ e. e.kind ≡ OutOfMemory) }
+        ensures succeeds { HasAtLeast size (struct_object_tree self.old) → IsOk result }
     {
-        let bytes = self.data.len().max(8 * size.data_words as usize);
-        let missing = (size.pointers as usize).saturating_sub(self.pointers.len());
-        if bytes == self.data.len() && missing == 0 {
+        if self.has_at_least(size) {
             return Ok(());
         }
+        let bytes = self.data.len().max(8 * size.data_words as usize);
+        let missing = (size.pointers as usize).saturating_sub(self.pointers.len());
         let alloc = *self.data.allocator();
         let mut data = Vec::with_capacity(alloc, bytes)?;
         data.extend_from_slice(self.data.as_slice())?;

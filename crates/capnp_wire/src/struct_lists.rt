@@ -1,12 +1,12 @@
 //! Lists that become lists of structs.
-ghost use Rattle.std.specs.Prelude.{None, Some, false, true, ◌≡◌, IfErr, IfOk, IsTrue, OnErr, OnOk};
+ghost use Rattle.std.specs.Prelude.{None, Some, false, true, ◌≡◌, IfErr, IfOk, IsOk, IsTrue, OnErr, OnOk};
 ghost use Rattle.std.specs.Borrow.{sem};
 ghost use Rattle.capnp_wire.specs.Tree.{structs_from};
 ghost use Rattle.capnp_wire.specs.Objects.{list_object_tree, object_tree, struct_object_trees};
 ghost use Rattle.capnp_wire.specs.Reading.{element_struct, is_list, is_null_tree};
 ghost use Rattle.capnp_wire.specs.WellFormed.{IsWellFormed};
 ghost use Rattle.capnp_wire.specs.Edits.{IsCopyRefusal, extended};
-ghost use Rattle.capnp_wire.specs.StructLists.{IsDueRefusal, element_pointers, element_words, grown, has_size, is_bits, struct_list, struct_list_refusal};
+ghost use Rattle.capnp_wire.specs.StructLists.{HoldsStructs, IsDueRefusal, element_pointers, element_words, grown, has_size, is_bits, struct_list, struct_list_refusal};
 ghost use Rattle.capnp_wire.specs.Lends.{LendsList, holds_list};
 
 use crate::copy::copy_struct;
@@ -90,6 +90,7 @@ impl ListObject {
         ensures refused { OnErr result (self.new ≡ self.old) }
         ensures within { OnOk result (struct_list_refusal size (list_object_tree self.old) ≡ None) }
         ensures cause { IfErr result (λ e. IsDueRefusal e (struct_list_refusal size (list_object_tree self.old))) }
+        ensures succeeds { HoldsStructs size (list_object_tree self.old) → IsOk result }
     {
         if self.is_bits() {
             return Err(Error::from(ErrorKind::WrongElementSize));
@@ -118,6 +119,7 @@ impl Object {
         ensures refused { OnErr result (self.new ≡ self.old) }
         ensures within { OnOk result (struct_list_refusal size (object_tree self.old) ≡ None) }
         ensures cause { IfErr result (λ e. IsDueRefusal e (struct_list_refusal size (object_tree self.old))) }
+        ensures succeeds { HoldsStructs size (object_tree self.old) → IsOk result }
     {
         match self {
             Object::Null(_) => unreachable!(),
@@ -131,13 +133,15 @@ impl Object {
     /// has at least the size, with zeros and nulls after what it had, and has lost nothing.
     ///
     /// Refused with `WrongPointerKind` for a struct, with `WrongElementSize` for a list of bits, with `SizePastFormat`
-    /// where the structs would take 2^29 words or more, and else with `OutOfMemory`; then nothing has changed.
+    /// where the structs would take 2^29 words or more, and else with `OutOfMemory`; then nothing has changed. A null, and
+    /// a list of structs that have at least the size, take no memory and are never refused.
     pub fn get_struct_list(&mut self, size: StructSize) -> Result<ListBuilder<'_>>
         requires { IsWellFormed (object_tree self.old) }
         ensures* lends { sem 𝓛 (LendsList self.entry result) }
         ensures now { IfOk result (λ l. list_object_tree l.now ≡ struct_list size (object_tree self.old)) }
         ensures within { OnOk result (struct_list_refusal size (object_tree self.old) ≡ None) }
         ensures refused { IfErr result (λ e. IsDueRefusal e (struct_list_refusal size (object_tree self.old))) }
+        ensures succeeds { HoldsStructs size (object_tree self.old) → IsOk result }
     {
         if self.is_null() {
             let none = Vec::new(self.allocator());

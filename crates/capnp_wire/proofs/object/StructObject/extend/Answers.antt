@@ -1,26 +1,21 @@
 use mathlib.Core.Bool.{true≢false}
 use Rattle.std.specs.Result.{IsOk, is_ok}
 use Rattle.std.proofs.Common.{true, arith, ◌≡◌, ◌*◌, ◌-◌, ◌∙◌, ◌++◌, length, replicate, sym, ap, take, take_all, vec_len}
-use Rattle.capnp_wire.specs.Tree.{StructTree, tree_count}
-use Rattle.capnp_wire.specs.Objects.{object_tree, struct_object_tree}
-use Rattle.capnp_wire.proofs.Lists.{tree_count-of}
-use Rattle.capnp_wire.proofs.ObjectTrees.{tree-struct}
+use Rattle.capnp_wire.specs.Objects.{struct_object_tree}
 use Rattle.capnp_wire.proofs.Extended.{count_nulls, extended_object, extended_same}
 use Rattle.capnp_wire.proofs.object.StructObject.extend.Goals as goal
 
-pub returns-then-missing-eq0-clause-ok : goal.returns-then-missing-eq0-clause-ok
-returns-then-missing-eq0-clause-ok c =
-    let self = c.args.self.now in
-    let count : tree_count (struct_object_tree self).pointers ≡ length self.pointers.items = ap (λ (s : StructTree). tree_count s.pointers) (tree-struct self) ∙ tree_count-of object_tree self.pointers.items in
-    let bytes : length (struct_object_tree self).bytes ≡ length self.«data».items = ap (λ (s : StructTree). length s.bytes) (tree-struct self) in
-    extended_same c.args.size (struct_object_tree self) (omega (arith, bytes, c.len.ensures, c.max-bytes.ensures, c.len-3.ensures, c.if-bytes-len.true)) (omega (arith, count, c.len-2.ensures, c.saturating_sub-missing.ensures, c.if-missing-eq0.true))
+pub returns-then-has_at_least-clause-ok : goal.returns-then-has_at_least-clause-ok
+returns-then-has_at_least-clause-ok c =
+    let large = c.has_at_least.ensures.0 c.if-has_at_least.true in
+    extended_same c.args.size (struct_object_tree c.args.self.now) large.0 large.1
 
 pub unreachable-requires-then-is_err-2 : goal.unreachable-requires-then-is_err-2
 unreachable-requires-then-is_err-2 c =
     let nulls = count_nulls c.in_ok-nulls.nulls.items _ c.in_ok-nulls.ensures in
     let moved : is_ok c.append.result ≡ true = c.if-is_err.ensures.negation in
     let length_moved = rw moved at c.append.ensures.len in
-    let done : IsOk c.append-2.result = c.append-2.ensures.succeeds (omega (arith, nulls, length_moved, c.append.ensures.capacity, c.in_ok-pointers.ensures.len, c.in_ok-pointers.ensures.capacity, c.len-4.ensures, c.in_ok-nulls.nulls.ok.0)) in
+    let done : IsOk c.append-2.result = c.append-2.ensures.succeeds (omega (arith, nulls, length_moved, c.append.ensures.capacity, c.in_ok-pointers.ensures.len, c.in_ok-pointers.ensures.capacity, c.len-3.ensures, c.in_ok-nulls.nulls.ok.0)) in
     true≢false (sym done ∙ c.if-is_err-2.ensures.negation)
 
 pub returns-clause-ok : goal.returns-clause-ok
