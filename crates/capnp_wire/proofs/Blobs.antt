@@ -4,19 +4,18 @@ use Rattle.std.proofs.lemmas.List.{take_at, drop_at, drop_all, length-append, le
 use Rattle.std.proofs.lemmas.Bool.{false≢true}
 use Rattle.std.specs.Vec.{with_items_from}
 use Rattle.capnp_wire.specs.Tree as tree
-use Rattle.capnp_wire.specs.Tree.{Tree, StructTree}
-use Rattle.capnp_wire.specs.Objects.{list_layer, object_layer, struct_layer, list_object_tree, object_tree, struct_object_tree}
+use Rattle.capnp_wire.specs.Tree.{Tree}
+use Rattle.capnp_wire.specs.Objects.{object_tree}
 use Rattle.capnp_wire.specs.Reading.{is_null_tree}
 use Rattle.capnp_wire.specs.Blobs.{DataAreLeft, NullIsLeft, TextIsLeft, with_blob_at}
 use Rattle.capnp_wire.specs.Lends.{Layer}
-use Rattle.capnp_wire.specs.declared.object.Object.{Object}
 use Rattle.capnp_wire.specs.declared.object.Object.TheVariants as object
 use Rattle.capnp_wire.specs.declared.object.ListObject.{ListObject, out-ListObject}
 use Rattle.capnp_wire.specs.declared.object.ListObject.TheVariants as list
 use Rattle.capnp_wire.specs.declared.object.ListObject.TheOpen as layer
-use Rattle.capnp_wire.specs.declared.object.ListObject.TheFolds.{fold_out-ListObject, map-ListObject, the_lemmas}
-use Rattle.capnp_wire.specs.declared.object.StructObject.{StructObject}
+use Rattle.capnp_wire.specs.declared.object.ListObject.TheFolds.{the_lemmas}
 use Rattle.capnp_wire.specs.declared.size.ElementSize.{ElementSize}
+use Rattle.capnp_wire.proofs.ListObjects.{layer_tree, tree-layer}
 
 -- bytes written over the first of a vector's
 front_items : (v : Vec ℕ Global) (left : List ℕ) → length left ≤ length v.items → (with_items_from v 0 left).items ≡ left ++ drop (length left) v.items
@@ -24,13 +23,6 @@ front_items v left h =
     let whole = length-append left (drop (length left) v.items) in
     let rest = length-drop (length left) v.items in
     take_at (left ++ drop (length left) v.items) _ v.len (omega (arith, v.ok.0))
-
--- the tree of a list, by its layer
-abbrev blob_tree : Layer → Tree
-blob_tree y = list_layer (map-ListObject ListObject Object StructObject Tree Tree StructTree list_object_tree object_tree struct_object_tree y)
-
-tree-blob : (l : ListObject) → list_object_tree l ≡ blob_tree (out-ListObject l)
-tree-blob = fold_out-ListObject Tree Tree StructTree list_layer object_layer struct_layer
 
 tree-numbers : (width : ℕ) (bytes : Vec ℕ Global) → object_tree (object.List (list.Numbers width bytes)) ≡ tree.Numbers width bytes.items
 tree-numbers width bytes = search (rules, the_lemmas)
@@ -60,7 +52,7 @@ bytes_of (tree.Composite d p es) = []
 bytes_of (tree.FaultLeaf k) = []
 
 -- the first bytes of a list of bytes are replaced
-left_at : (l : ListObject) (y : Layer) (old left : List ℕ) → blob_tree y ≡ tree.Numbers 1 old → length left ≤ length old → object_tree (object.List (with_blob_at l y left)) ≡ tree.Numbers 1 (left ++ drop (length left) old)
+left_at : (l : ListObject) (y : Layer) (old left : List ℕ) → layer_tree y ≡ tree.Numbers 1 old → length left ≤ length old → object_tree (object.List (with_blob_at l y left)) ≡ tree.Numbers 1 (left ++ drop (length left) old)
 left_at l (layer.Missing bytes size) old left e h = absurd (omega (arith, ap width_of e))
 left_at l (layer.Voids alloc count) old left e h = absurd (omega (arith, ap width_of e))
 left_at l (layer.Bits row) old left e h = absurd (omega (arith, ap width_of e))
@@ -73,7 +65,7 @@ left_at l (layer.Numbers width bytes) old left e h =
 left_at l (layer.Pointers os) old left e h = absurd (omega (arith, ap width_of e))
 left_at l (layer.Composite size es) old left e h = absurd (omega (arith, ap width_of e))
 
-null_at : (l : ListObject) (y : Layer) (left : List ℕ) → blob_tree y ≡ tree.Null → object_tree (object.List (with_blob_at l y left)) ≡ tree.Null
+null_at : (l : ListObject) (y : Layer) (left : List ℕ) → layer_tree y ≡ tree.Null → object_tree (object.List (with_blob_at l y left)) ≡ tree.Null
 null_at l (layer.Missing bytes size) left e = tree-missing (with_items_from bytes 0 left) size
 null_at l (layer.Voids alloc count) left e = absurd (false≢true (ap is_null_tree e))
 null_at l (layer.Bits row) left e = absurd (false≢true (ap is_null_tree e))
@@ -83,14 +75,14 @@ null_at l (layer.Composite size es) left e = absurd (false≢true (ap is_null_tr
 
 pub data_are_left : DataAreLeft
 data_are_left l old left e h =
-    left_at l (out-ListObject l) old left (sym (tree-blob l) ∙ e) (omega arith)
+    left_at l (out-ListObject l) old left (sym (tree-layer l) ∙ e) (omega arith)
     ∙ ap (λ bs. tree.Numbers 1 (left ++ bs)) (drop_all (length left) old (omega arith)) ∙ ap (tree.Numbers 1) (append-nil left)
 
 pub text_is_left : TextIsLeft
 text_is_left l old left e h =
     let longer = length-append old (0 ∷ []) in
-    left_at l (out-ListObject l) (old ++ 0 ∷ []) left (sym (tree-blob l) ∙ e) (omega arith)
+    left_at l (out-ListObject l) (old ++ 0 ∷ []) left (sym (tree-layer l) ∙ e) (omega arith)
     ∙ ap (λ bs. tree.Numbers 1 (left ++ bs)) (drop_at old (0 ∷ []) (length left) (sym h))
 
 pub null_is_left : NullIsLeft
-null_is_left l left e = null_at l (out-ListObject l) left (sym (tree-blob l) ∙ e)
+null_is_left l left e = null_at l (out-ListObject l) left (sym (tree-layer l) ∙ e)

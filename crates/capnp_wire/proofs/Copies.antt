@@ -4,11 +4,12 @@ use Rattle.std.specs.Prelude.{Option, Some, None, option_map}
 use Rattle.capnp_wire.specs.declared.fault.Fault.{Fault}
 use Rattle.capnp_wire.specs.declared.object.Object.{Object}
 use Rattle.capnp_wire.specs.declared.object.StructObject.{StructObject}
-use Rattle.capnp_wire.specs.Tree.{Tree, Trees, NoTrees, MoreTrees, Structs, NoStructs, MoreStructs, StructTree, nth_tree, nth_struct, tree_count, struct_count}
+use Rattle.capnp_wire.specs.Tree.{Tree, Trees, MoreTrees, Structs, NoStructs, MoreStructs, StructTree, nth_tree, nth_struct, tree_count, struct_count}
 use Rattle.capnp_wire.specs.Objects.{object_tree, object_trees, struct_object_tree, struct_object_trees}
 use Rattle.capnp_wire.specs.Words.{first_of, first_fault, first_fault_of_all, first_fault_of_elements}
 use Rattle.capnp_wire.specs.Reading.{refusal}
-use Rattle.capnp_wire.specs.Edits.{IsCopyRefusal}
+use Rattle.capnp_wire.specs.Edits.{IsCopyRefusal, append_trees}
+use Rattle.capnp_wire.proofs.Extended.{append_trees-none}
 use Rattle.capnp_wire.proofs.Sums.{trees_after, trees_after-next, trees_after-end, structs_after, structs_after-next, structs_after-end, first_none}
 use Rattle.capnp_device.specs.declared.error.Error.{Error}
 use Rattle.capnp_device.specs.declared.error.ErrorKind.{ErrorKind}
@@ -24,23 +25,14 @@ first_refused e f g h q r = subst (IsCopyRefusal e) q (λ n. refusal-first f g e
 
 -- ---- pointers ----
 
--- trees, and then further ones
-abbrev pub and_trees : Trees → Trees → Trees
-and_trees NoTrees us = us
-and_trees (MoreTrees t ts) us = MoreTrees t (and_trees ts us)
-
-and_trees-none : (ts : Trees) → and_trees ts NoTrees ≡ ts
-and_trees-none NoTrees = refl
-and_trees-none (MoreTrees t ts) = ap (MoreTrees t) (and_trees-none ts)
-
 -- one more object at the end
-and_trees-object : (objects : List Object) (object : Object) (us : Trees) → and_trees (object_trees (objects ++ object ∷ [])) us ≡ and_trees (object_trees objects) (MoreTrees (object_tree object) us)
-and_trees-object [] object us = refl
-and_trees-object (o ∷ os) object us = ap (MoreTrees (object_tree o)) (and_trees-object os object us)
+append_trees-object : (objects : List Object) (object : Object) (us : Trees) → append_trees (object_trees (objects ++ object ∷ [])) us ≡ append_trees (object_trees objects) (MoreTrees (object_tree object) us)
+append_trees-object [] object us = refl
+append_trees-object (o ∷ os) object us = ap (MoreTrees (object_tree o)) (append_trees-object os object us)
 
 -- a loop has copied the first ones, and met no fault
 pub record AreCopied (objects : List Object) (i : ℕ) (ts : Trees) : Type 0 where
-  pub trees : and_trees (object_trees objects) (trees_after i ts) ≡ ts
+  pub trees : append_trees (object_trees objects) (trees_after i ts) ≡ ts
   pub faults : first_fault_of_all (trees_after i ts) ≡ first_fault_of_all ts
 
 -- as the loop begins
@@ -50,7 +42,7 @@ none_copied objects ts e = subst (λ (x : List Object). AreCopied x 0 ts) (sym e
 -- as the loop ends
 module _ (objects : List Object) (i : ℕ) (ts : Trees) (so_far : AreCopied objects i ts) (all : tree_count ts ≤ i) where
   pub all_copied : object_trees objects ≡ ts
-  all_copied = sym (and_trees-none (object_trees objects)) ∙ ap (and_trees (object_trees objects)) (sym (trees_after-end i ts all)) ∙ so_far.trees
+  all_copied = sym (append_trees-none (object_trees objects)) ∙ ap (append_trees (object_trees objects)) (sym (trees_after-end i ts all)) ∙ so_far.trees
 
   pub all_sound : first_fault_of_all ts ≡ None
   all_sound = sym so_far.faults ∙ ap first_fault_of_all (trees_after-end i ts all)
@@ -71,8 +63,8 @@ module _ (objects : List Object) (i : ℕ) (ts : Trees) (t : Tree) (so_far : Are
   pub one_copied : (object : Object) (longer : List Object) → object_tree object ≡ t → first_fault t ≡ None → longer ≡ objects ++ object ∷ [] → AreCopied longer (i + 1) ts
   one_copied object longer e f q =
       let k : suc i ≡ i + 1 = omega arith in
-      let copied : and_trees (object_trees (objects ++ object ∷ [])) (trees_after (suc i) ts) ≡ ts =
-      and_trees-object objects object (trees_after (suc i) ts) ∙ ap (λ x. and_trees (object_trees objects) (MoreTrees x (trees_after (suc i) ts))) e ∙ (rw next at so_far.trees) in
+      let copied : append_trees (object_trees (objects ++ object ∷ [])) (trees_after (suc i) ts) ≡ ts =
+      append_trees-object objects object (trees_after (suc i) ts) ∙ ap (λ x. append_trees (object_trees objects) (MoreTrees x (trees_after (suc i) ts))) e ∙ (rw next at so_far.trees) in
       subst (λ (x : List Object). AreCopied x (i + 1) ts) (sym q) (subst (λ x. AreCopied (objects ++ object ∷ []) x ts) k (record { trees = copied; faults = first_none (first_fault t) (first_fault_of_all (trees_after (suc i) ts)) (first_fault_of_all ts) f next_faults }))
 
 -- ---- elements ----

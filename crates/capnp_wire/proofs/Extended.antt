@@ -14,9 +14,9 @@ use Rattle.capnp_wire.proofs.Lists.{tree_count-from, tree_count-of}
 pub count_nulls : (os : List Object) (n : ℕ) → object_trees os ≡ nulls n → length os ≡ n
 count_nulls os n e = sym (tree_count-of object_tree os) ∙ ap tree_count e ∙ tree_count-from _ 0 n
 
-no_more : (ts : Trees) → append_trees ts NoTrees ≡ ts
-no_more NoTrees = refl
-no_more (MoreTrees t ts) = ap (MoreTrees t) (no_more ts)
+pub append_trees-none : (ts : Trees) → append_trees ts NoTrees ≡ ts
+append_trees-none NoTrees = refl
+append_trees-none (MoreTrees t ts) = ap (MoreTrees t) (append_trees-none ts)
 
 objects_append : (os ps : List Object) → object_trees (os ++ ps) ≡ append_trees (object_trees os) (object_trees ps)
 objects_append [] ps = refl
@@ -28,7 +28,7 @@ extended_same size s d p =
     let no_bytes : 0 ≡ 8 * size.data_words - length s.bytes = omega arith in
     let no_pointers : 0 ≡ size.pointers - tree_count s.pointers = omega arith in
     sym (ap (λ bytes. record { bytes = bytes; pointers = s.pointers }) (append-nil s.bytes))
-    ∙ sym (ap (λ ps. record { bytes = s.bytes ++ []; pointers = ps }) (no_more s.pointers))
+    ∙ sym (ap (λ ps. record { bytes = s.bytes ++ []; pointers = ps }) (append_trees-none s.pointers))
     ∙ ap (λ n. record { bytes = s.bytes ++ replicate n 0; pointers = append_trees s.pointers NoTrees }) no_bytes
     ∙ ap (λ n. record { bytes = s.bytes ++ replicate (8 * size.data_words - length s.bytes) 0; pointers = append_trees s.pointers (nulls n) }) no_pointers
 

@@ -1,14 +1,15 @@
 -- What writes make of trees.
-use Rattle.std.specs.Prelude.{ℕ, zero, suc, ◌+◌, ◌/◌, ◌%◌, ◌^◌, take, drop, slice_set, slice_index, bit_or, bit_and, Bool, true, false, ◌*◌, ◌-◌, ◌≡◌, ◌≢◌, ◌≤◌, List, ◌++◌, length, replicate, Option, Some, option_map, IsTrue}
+use Rattle.std.specs.Prelude.{ℕ, zero, suc, ◌+◌, ◌/◌, ◌%◌, ◌^◌, take, drop, slice_set, slice_index, bit_or, bit_and, Bool, true, false, ◌*◌, ◌-◌, ◌≡◌, ◌≢◌, ◌≤◌, List, ◌++◌, length, replicate, Option, Some, None, option_map}
 use Rattle.capnp_wire.specs.Tree.{Tree, Null, Struct, FaultLeaf, Voids, Bits, Numbers, Pointers, Composite, Trees, NoTrees, MoreTrees, StructTree, empty_struct, trees_from, structs_from, tree_count}
 use Rattle.capnp_wire.specs.Words.{byte_words}
 use Rattle.capnp_wire.specs.Encoding.{spelled}
-use Rattle.capnp_wire.specs.Reading.{is_list, refusal}
+use Rattle.capnp_wire.specs.Reading.{refusal}
 use Rattle.capnp_wire.specs.declared.size.StructSize.{StructSize}
 use Rattle.capnp_wire.specs.declared.size.ElementSize.{ElementSize}
 use Rattle.capnp_wire.specs.declared.size.ElementSize.TheVariants.{Void, Bit, Byte, TwoBytes, FourBytes, EightBytes, Pointer, InlineComposite}
 use Rattle.capnp_wire.specs.declared.fault.Fault.{Fault}
 use Rattle.capnp_device.specs.declared.error.Error.{Error}
+use Rattle.capnp_device.specs.declared.error.ErrorKind.{ErrorKind}
 use Rattle.capnp_device.specs.declared.error.ErrorKind.TheVariants.{OutOfMemory, SizePastFormat, WrongPointerKind}
 
 -- bytes, and zeros up to a whole word
@@ -27,6 +28,10 @@ IsCopyRefusal error fault = error.kind ≢ OutOfMemory → option_map refusal fa
 -- refused
 abbrev pub IsRoomRefusal : Error → Type 0 → Type 0
 IsRoomRefusal error past = (error.kind ≢ SizePastFormat → error.kind ≡ OutOfMemory) × (error.kind ≡ SizePastFormat → past) × (past → error.kind ≡ SizePastFormat)
+
+-- a call is refused by what is due wherever something is, and else for want of memory
+abbrev pub IsDueRefusal : Error → Option ErrorKind → Type 0
+IsDueRefusal error due = (error.kind ≢ OutOfMemory → due ≡ Some error.kind) × ((kind : ErrorKind) → due ≡ Some kind → error.kind ≡ kind)
 
 -- ---- bytes ----
 
@@ -140,6 +145,17 @@ HoldsStruct size (Pointers ps) = ⊥
 HoldsStruct size (Composite d p es) = ⊥
 HoldsStruct size (FaultLeaf k) = ⊥
 
--- why there is no struct at a pointer: a list stands there, which is said wherever one does, or memory was refused
+-- what a struct at a pointer is refused with, memory aside: a list stands there
+abbrev pub struct_refusal : Tree → Option ErrorKind
+struct_refusal Null = None
+struct_refusal (Struct bytes ps) = None
+struct_refusal (Voids n) = Some WrongPointerKind
+struct_refusal (Bits bs) = Some WrongPointerKind
+struct_refusal (Numbers w bytes) = Some WrongPointerKind
+struct_refusal (Pointers ps) = Some WrongPointerKind
+struct_refusal (Composite d p es) = Some WrongPointerKind
+struct_refusal (FaultLeaf k) = None
+
+-- why there is no struct at a pointer
 abbrev pub IsStructRefusal : Error → Tree → Type 0
-IsStructRefusal error t = (error.kind ≢ WrongPointerKind → error.kind ≡ OutOfMemory) × (error.kind ≡ WrongPointerKind → IsTrue (is_list t)) × (IsTrue (is_list t) → error.kind ≡ WrongPointerKind)
+IsStructRefusal error t = IsDueRefusal error (struct_refusal t)

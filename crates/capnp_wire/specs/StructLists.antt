@@ -1,12 +1,12 @@
 -- A list that becomes one of structs of at least a size.
-use Rattle.std.specs.Prelude.{ℕ, ◌+◌, ◌*◌, ◌^◌, ◌≡◌, ◌≢◌, ◌≤◌, ⊤, Bool, true, false, cond, ◌==◌, ◌&&◌, nat_lt, max, Option, Some, None}
+use Rattle.std.specs.Prelude.{ℕ, ◌+◌, ◌*◌, ◌^◌, ◌≤◌, ⊤, Bool, true, false, cond, ◌==◌, ◌&&◌, nat_lt, max, Option, Some, None}
 use Rattle.capnp_wire.specs.Tree.{Tree, Null, Struct, Voids, Bits, Numbers, Pointers, Composite, FaultLeaf, structs_from}
 use Rattle.capnp_wire.specs.Reading.{element_struct, list_length}
+pub use Rattle.capnp_wire.specs.Edits.{IsDueRefusal}
 use Rattle.capnp_wire.specs.Edits.{extended}
 use Rattle.capnp_wire.specs.declared.size.StructSize.{StructSize}
-use Rattle.capnp_device.specs.declared.error.Error.{Error}
 use Rattle.capnp_device.specs.declared.error.ErrorKind.{ErrorKind}
-use Rattle.capnp_device.specs.declared.error.ErrorKind.TheVariants.{OutOfMemory, SizePastFormat, WrongElementSize, WrongPointerKind}
+use Rattle.capnp_device.specs.declared.error.ErrorKind.TheVariants.{SizePastFormat, WrongElementSize, WrongPointerKind}
 
 -- the data words and the pointers that an element takes as a struct
 abbrev pub element_words : Tree → ℕ
@@ -62,10 +62,6 @@ struct_list_refusal size (Numbers w bytes) = past_format (list_length (Numbers w
 struct_list_refusal size (Pointers ps) = past_format (list_length (Pointers ps)) (grown size (Pointers ps))
 struct_list_refusal size (Composite d p es) = past_format (list_length (Composite d p es)) (grown size (Composite d p es))
 struct_list_refusal size (FaultLeaf k) = None
-
--- a call is refused by what is due wherever something is, and else for want of memory
-abbrev pub IsDueRefusal : Error → Option ErrorKind → Type 0
-IsDueRefusal error due = (error.kind ≢ OutOfMemory → due ≡ Some error.kind) × ((kind : ErrorKind) → due ≡ Some kind → error.kind ≡ kind)
 
 -- whether the elements are structs of just this size
 abbrev pub has_size : StructSize → Tree → Bool

@@ -12,7 +12,7 @@ ghost use Rattle.capnp_wire.specs.Unchanged.{ListEndsUnchanged};
 ghost use Rattle.capnp_wire.specs.Lends.{HasObjects, HasStructs, LendsElement, LendsObject, LendsObjects, LendsStructs};
 
 use crate::bytes::get_bit;
-use crate::list_reader::{ListReader, reads_numbers_as, reads_structs_as};
+use crate::list_reader::{ListReader, reads_list_as};
 use crate::look::{
     Found, ROOT_LEVELS, count_list, get_element, look_at_built_list, look_at_list_object,
 };
@@ -53,20 +53,7 @@ impl ListObject {
     pub(crate) fn reads_as(&self, size: ElementSize) -> bool
         ensures { result ≡ reads_list size (list_object_tree self.now) }
     {
-        match self {
-            ListObject::Missing(_, _) => false,
-            ListObject::Voids(_, _) => matches!(
-                size,
-                ElementSize::Void | ElementSize::InlineComposite
-            ),
-            ListObject::Bits(_) => matches!(size, ElementSize::Void | ElementSize::Bit),
-            ListObject::Numbers(width, _) => reads_numbers_as(size, *width),
-            ListObject::Pointers(_) => matches!(
-                size,
-                ElementSize::Void | ElementSize::Pointer | ElementSize::InlineComposite
-            ),
-            ListObject::Composite(own, _) => reads_structs_as(size, *own),
-        }
+        reads_list_as(size, look_at_list_object(self))
     }
 
     /// How many elements there are, below 2^29.

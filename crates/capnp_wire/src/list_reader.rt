@@ -1,6 +1,7 @@
 //! Readers of lists.
 ghost use Rattle.std.specs.Prelude.{◌≡◌};
 ghost use Rattle.capnp_wire.specs.Found.{found_tree};
+ghost use Rattle.capnp_wire.specs.Elements.{reads_list};
 ghost use Rattle.capnp_wire.specs.Reading.{reads_numbers, reads_structs};
 ghost use Rattle.capnp_wire.specs.WellFormed.{IsWellFormed, IsWellFormed-prop};
 
@@ -25,7 +26,7 @@ pub struct ListReader<'a> {
 }
 
 /// Whether structs of a size are read as elements of the size that is asked.
-pub(crate) fn reads_structs_as(asked: ElementSize, size: StructSize) -> bool
+fn reads_structs_as(asked: ElementSize, size: StructSize) -> bool
     ensures { result ≡ reads_structs asked size.data_words size.pointers }
 {
     match asked {
@@ -41,7 +42,7 @@ pub(crate) fn reads_structs_as(asked: ElementSize, size: StructSize) -> bool
 }
 
 /// Whether numbers of so many bytes are.
-pub(crate) fn reads_numbers_as(asked: ElementSize, width: u8) -> bool
+fn reads_numbers_as(asked: ElementSize, width: u8) -> bool
     ensures { result ≡ reads_numbers asked width }
 {
     match asked {
@@ -53,6 +54,25 @@ pub(crate) fn reads_numbers_as(asked: ElementSize, width: u8) -> bool
         ElementSize::EightBytes => width == 8,
         ElementSize::Pointer => false,
         ElementSize::InlineComposite => true,
+    }
+}
+
+/// Whether a list is read as one of elements of the size that is asked.
+pub(crate) fn reads_list_as(asked: ElementSize, list: Found<'_>) -> bool
+    ensures { result ≡ reads_list asked (found_tree list.entry) }
+{
+    match list {
+        Found::Null => false,
+        Found::Bad(_) => false,
+        Found::Struct(_) => false,
+        Found::Voids(_) => matches!(asked, ElementSize::Void | ElementSize::InlineComposite),
+        Found::Bits(_, _) => matches!(asked, ElementSize::Void | ElementSize::Bit),
+        Found::Numbers(width, _) => reads_numbers_as(asked, width),
+        Found::Pointers(_) => matches!(
+            asked,
+            ElementSize::Void | ElementSize::Pointer | ElementSize::InlineComposite
+        ),
+        Found::Composite(size, _) => reads_structs_as(asked, size),
     }
 }
 
@@ -90,20 +110,12 @@ impl<'a> ListReader<'a> {
         ensures read { list_read result ≡ as_list size (found_tree found.entry) (levels + 1) }
         ensures levels { IfOk result (λ l. list_levels l ≡ levels) }
     {
-        let reads = match found {
+        match found {
             Found::Null => return Ok(ListReader::empty(size, levels)),
-            Found::Bad(_) => unreachable!(),
             Found::Struct(_) => return Err(Error::from(ErrorKind::WrongPointerKind)),
-            Found::Voids(_) => matches!(size, ElementSize::Void | ElementSize::InlineComposite),
-            Found::Bits(_, _) => matches!(size, ElementSize::Void | ElementSize::Bit),
-            Found::Numbers(width, _) => reads_numbers_as(size, width),
-            Found::Pointers(_) => matches!(
-                size,
-                ElementSize::Void | ElementSize::Pointer | ElementSize::InlineComposite
-            ),
-            Found::Composite(own, _) => reads_structs_as(size, own),
-        };
-        if reads {
+            _ => {}
+        }
+        if reads_list_as(size, found) {
             Ok(ListReader::new(found, levels))
         } else {
             Err(Error::from(ErrorKind::WrongElementSize))

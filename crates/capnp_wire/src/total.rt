@@ -159,7 +159,6 @@ fn total_objects(objects: &[Object]) -> Total
 }
 
 /// The words of what the pointers of a composite list's elements lead to.
-/// The words of a struct.
 #[cycle(total_objects)]
 fn total_struct_objects(objects: &[StructObject]) -> Total
     ensures { Totals result (first_fault_of_elements (struct_object_trees objects.now)) (words_below_all (struct_object_trees objects.now)) }
