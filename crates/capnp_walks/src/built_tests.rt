@@ -1,7 +1,7 @@
 //! Messages that are built or copied here, against the bytes that the public `capnp` tool, version 0.9.2, wrote of the
 //! same values; and builds that memory is refused to.
 
-use crate::fixtures::{bytes_of, root_of};
+use crate::fixtures::{ONE_EACH, SEVEN_SEGMENTS, bytes_of, root_of};
 use capnp_wire::message::Builder;
 use capnp_wire::size::{ElementSize, StructSize};
 use std::test::Fail;
@@ -13,20 +13,7 @@ const BUILT: &str = "00 00 00 00 0a 00 00 00 | 00 00 00 00 02 00 04 00 | 07 00 0
      01 00 00 00 00 00 00 00 | fd ff ff ff 00 00 00 00";
 
 // echo '(id = 7, name = "far away", scores = [4, 5], points = [(x = 6, y = 7)], next = (id = 8, name = "end"))' |
-//   capnp encode --segment-size=2 examples/reading.capnp Reading
-const SEVEN_SEGMENTS: &str =
-    "06 00 00 00 01 00 00 00 | 07 00 00 00 03 00 00 00 | 02 00 00 00 03 00 00 00 | \
-     07 00 00 00 02 00 00 00 | 02 00 00 00 01 00 00 00 | 00 00 00 00 02 00 04 00 | \
-     07 00 00 00 00 00 00 00 | 00 00 00 00 00 00 00 00 | 02 00 00 00 02 00 00 00 | \
-     02 00 00 00 03 00 00 00 | 02 00 00 00 04 00 00 00 | 02 00 00 00 05 00 00 00 | \
-     01 00 00 00 4a 00 00 00 | 66 61 72 20 61 77 61 79 | 00 00 00 00 00 00 00 00 | \
-     01 00 00 00 13 00 00 00 | 04 00 05 00 00 00 00 00 | 01 00 00 00 0f 00 00 00 | \
-     04 00 00 00 01 00 00 00 | 06 00 00 00 07 00 00 00 | 00 00 00 00 02 00 04 00 | \
-     08 00 00 00 00 00 00 00 | 00 00 00 00 00 00 00 00 | 02 00 00 00 06 00 00 00 | \
-     00 00 00 00 00 00 00 00 | 00 00 00 00 00 00 00 00 | 00 00 00 00 00 00 00 00 | \
-     01 00 00 00 22 00 00 00 | 65 6e 64 00 00 00 00 00";
-
-// the same without --segment-size
+//   capnp encode examples/reading.capnp Reading
 const COPIED: &str =
     "00 00 00 00 13 00 00 00 | 00 00 00 00 02 00 04 00 | 07 00 00 00 00 00 00 00 | \
      00 00 00 00 00 00 00 00 | 0d 00 00 00 4a 00 00 00 | 11 00 00 00 13 00 00 00 | \
@@ -71,11 +58,6 @@ fn a_copied_message_is_what_the_tool_writes(rt: HostRuntime) -> std::result::Res
     assert_eq!(rt; bytes.as_slice(), want.as_slice());
     Ok(())
 }
-
-const ONE_EACH: StructSize = StructSize {
-    data_words: 1,
-    pointers: 1,
-};
 
 #[test]
 fn a_cleared_root_leaves_nothing(rt: HostRuntime) -> std::result::Result<(), Fail> {

@@ -1,9 +1,31 @@
-//! What the tests share: messages as text, and what a refused read answers.
+//! What the tests share: messages as text, a size, and what a refused read answers.
 
 use capnp_wire::error::{ErrorKind, Result};
 use capnp_wire::message::Reader;
+use capnp_wire::size::StructSize;
 use capnp_wire::{PointerReader, StructReader};
 use std::alloc::Global;
+
+// A message that the public `capnp` tool, version 0.9.2, wrote:
+// echo '(id = 7, name = "far away", scores = [4, 5], points = [(x = 6, y = 7)], next = (id = 8, name = "end"))' |
+//   capnp encode --segment-size=2 examples/reading.capnp Reading | xxd -c 8 -g 1
+pub const SEVEN_SEGMENTS: &str =
+    "06 00 00 00 01 00 00 00 | 07 00 00 00 03 00 00 00 | 02 00 00 00 03 00 00 00 | \
+     07 00 00 00 02 00 00 00 | 02 00 00 00 01 00 00 00 | 00 00 00 00 02 00 04 00 | \
+     07 00 00 00 00 00 00 00 | 00 00 00 00 00 00 00 00 | 02 00 00 00 02 00 00 00 | \
+     02 00 00 00 03 00 00 00 | 02 00 00 00 04 00 00 00 | 02 00 00 00 05 00 00 00 | \
+     01 00 00 00 4a 00 00 00 | 66 61 72 20 61 77 61 79 | 00 00 00 00 00 00 00 00 | \
+     01 00 00 00 13 00 00 00 | 04 00 05 00 00 00 00 00 | 01 00 00 00 0f 00 00 00 | \
+     04 00 00 00 01 00 00 00 | 06 00 00 00 07 00 00 00 | 00 00 00 00 02 00 04 00 | \
+     08 00 00 00 00 00 00 00 | 00 00 00 00 00 00 00 00 | 02 00 00 00 06 00 00 00 | \
+     00 00 00 00 00 00 00 00 | 00 00 00 00 00 00 00 00 | 00 00 00 00 00 00 00 00 | \
+     01 00 00 00 22 00 00 00 | 65 6e 64 00 00 00 00 00";
+
+/// A data word and a pointer.
+pub const ONE_EACH: StructSize = StructSize {
+    data_words: 1,
+    pointers: 1,
+};
 
 fn digit_of(c: u8) -> Option<u8> {
     match c {
@@ -40,6 +62,14 @@ pub fn bytes_of(alloc: Global, text: &str) -> Result<Vec<u8>> {
 /// The root of a message.
 pub fn root_of(alloc: Global, bytes: &[u8]) -> Result<PointerReader<'_>> {
     Ok(Reader::new(alloc, bytes)?.get_root())
+}
+
+/// The words of a message of one segment, without the table before them.
+pub fn words_of_message(bytes: &[u8]) -> &[u8] {
+    if bytes.len() < 8 {
+        return &[];
+    }
+    &bytes[8..]
 }
 
 /// What a read answered, or the kind of its refusal.

@@ -7,13 +7,25 @@
 #[cfg(test)]
 mod blob_tests;
 #[cfg(test)]
+mod builder_tests;
+#[cfg(test)]
+mod built_blob_tests;
+#[cfg(test)]
+mod built_list_tests;
+#[cfg(test)]
 mod built_tests;
+#[cfg(test)]
+mod copy_tests;
 #[cfg(test)]
 mod fixtures;
 #[cfg(test)]
 mod level_tests;
 #[cfg(test)]
 mod list_tests;
+#[cfg(test)]
+mod message_tests;
+#[cfg(test)]
+mod number_tests;
 pub mod path;
 #[cfg(test)]
 mod pointer_tests;

@@ -1,6 +1,6 @@
 //! Messages that the public `capnp` tool, version 0.9.2, wrote from examples/reading.capnp.
 
-use crate::fixtures::{bytes_of, root_of};
+use crate::fixtures::{SEVEN_SEGMENTS, bytes_of, root_of};
 use capnp_wire::error::Result;
 use capnp_wire::size::ElementSize;
 use capnp_wire::{PointerReader, StructReader};
@@ -14,20 +14,6 @@ const ONE_SEGMENT: &str =
      0d 00 00 00 17 00 00 00 | 00 00 00 00 00 00 00 00 | 68 65 6c 6c 6f 00 00 00 | \
      01 00 02 00 2c 01 00 00 | 08 00 00 00 01 00 00 00 | 01 00 00 00 02 00 00 00 | \
      fd ff ff ff 04 00 00 00";
-
-// echo '(id = 7, name = "far away", scores = [4, 5], points = [(x = 6, y = 7)], next = (id = 8, name = "end"))' |
-//   capnp encode --segment-size=2 examples/reading.capnp Reading | xxd -c 8 -g 1
-const SEVEN_SEGMENTS: &str =
-    "06 00 00 00 01 00 00 00 | 07 00 00 00 03 00 00 00 | 02 00 00 00 03 00 00 00 | \
-     07 00 00 00 02 00 00 00 | 02 00 00 00 01 00 00 00 | 00 00 00 00 02 00 04 00 | \
-     07 00 00 00 00 00 00 00 | 00 00 00 00 00 00 00 00 | 02 00 00 00 02 00 00 00 | \
-     02 00 00 00 03 00 00 00 | 02 00 00 00 04 00 00 00 | 02 00 00 00 05 00 00 00 | \
-     01 00 00 00 4a 00 00 00 | 66 61 72 20 61 77 61 79 | 00 00 00 00 00 00 00 00 | \
-     01 00 00 00 13 00 00 00 | 04 00 05 00 00 00 00 00 | 01 00 00 00 0f 00 00 00 | \
-     04 00 00 00 01 00 00 00 | 06 00 00 00 07 00 00 00 | 00 00 00 00 02 00 04 00 | \
-     08 00 00 00 00 00 00 00 | 00 00 00 00 00 00 00 00 | 02 00 00 00 06 00 00 00 | \
-     00 00 00 00 00 00 00 00 | 00 00 00 00 00 00 00 00 | 00 00 00 00 00 00 00 00 | \
-     01 00 00 00 22 00 00 00 | 65 6e 64 00 00 00 00 00";
 
 /// The fields of a `Reading` that are no list.
 #[derive(Clone, Copy, Debug, PartialEq, Eq)]

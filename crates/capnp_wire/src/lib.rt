@@ -6,28 +6,18 @@
 
 mod bits;
 mod blob_builder;
-#[cfg(test)]
-mod blob_tests;
-#[cfg(test)]
-mod builder_tests;
 mod bytes;
 mod copy;
-#[cfg(test)]
-mod copy_tests;
 mod encode;
 pub mod fault;
 pub mod laws;
 mod list_builder;
 mod list_reader;
-#[cfg(test)]
-mod list_tests;
 mod locate;
 mod look;
 mod make;
 mod measure;
 pub mod message;
-#[cfg(test)]
-mod message_tests;
 pub mod object;
 mod pointer_builder;
 mod pointer_reader;

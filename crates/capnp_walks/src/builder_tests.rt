@@ -1,14 +1,10 @@
 //! Messages that are built.
 
-use crate::message::{Builder, Reader};
-use crate::size::{ElementSize, StructSize};
-use capnp_device::error::ErrorKind;
+use crate::fixtures::ONE_EACH;
+use capnp_wire::error::ErrorKind;
+use capnp_wire::message::{Builder, Reader};
+use capnp_wire::size::{ElementSize, StructSize};
 use std::test::Fail;
-
-const ONE_EACH: StructSize = StructSize {
-    data_words: 1,
-    pointers: 1,
-};
 
 #[test]
 fn a_number_is_stored_with_its_default(rt: HostRuntime) -> std::result::Result<(), Fail> {

@@ -1,15 +1,11 @@
 //! Lists and structs that are built, entered and extended.
 
-use crate::laws::pointer_is_well_formed;
-use crate::message::{Builder, Reader};
-use crate::size::{ElementSize, StructSize};
-use capnp_device::error::ErrorKind;
+use crate::fixtures::ONE_EACH;
+use capnp_wire::error::ErrorKind;
+use capnp_wire::laws::pointer_is_well_formed;
+use capnp_wire::message::{Builder, Reader};
+use capnp_wire::size::{ElementSize, StructSize};
 use std::test::Fail;
-
-const ONE_EACH: StructSize = StructSize {
-    data_words: 1,
-    pointers: 1,
-};
 
 const TWO_EACH: StructSize = StructSize {
     data_words: 2,

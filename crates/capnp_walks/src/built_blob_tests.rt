@@ -1,8 +1,8 @@
 //! Texts and data that are built.
 
-use crate::message::{Builder, Reader};
-use crate::size::{ElementSize, StructSize};
-use capnp_device::error::{ErrorKind, Result};
+use capnp_wire::error::{ErrorKind, Result};
+use capnp_wire::message::{Builder, Reader};
+use capnp_wire::size::{ElementSize, StructSize};
 use std::test::Fail;
 
 const ONE_WORD: StructSize = StructSize {

@@ -1,15 +1,13 @@
-//! Copies of lists, and what a struct takes over from another one.
+//! Copies of what a pointer leads to, of lists and of structs, and what a struct takes over from another one.
 
-use crate::bytes::rest;
-use crate::message::{Builder, Reader};
-use crate::pointer_reader::PointerReader;
-use crate::size::{ElementSize, StructSize};
-use capnp_device::error::{ErrorKind, Result};
+use crate::fixtures::{ONE_EACH, words_of_message};
+use capnp_wire::PointerReader;
+use capnp_wire::error::{ErrorKind, Result};
+use capnp_wire::laws::pointer_is_well_formed;
+use capnp_wire::message::{Builder, Reader};
+use capnp_wire::size::{ElementSize, StructSize};
 use std::alloc::Global;
 use std::test::Fail;
-
-/// The bytes of the table before the words of a message's only segment.
-const TABLE: usize = 8;
 
 const VOIDS: [u8; 8] = [1, 0, 0, 0, 0x18, 0, 0, 0];
 
@@ -93,7 +91,7 @@ fn structs_are_copied(rt: HostRuntime) -> std::result::Result<(), Fail> {
     // what was read as numbers or as pointers is copied as it is
     for size in [ElementSize::EightBytes, ElementSize::Pointer] {
         let copied = copy_list(rt.alloc(), &STRUCTS, size)?;
-        assert_eq!(rt; rest(copied.as_slice(), TABLE), STRUCTS.as_slice());
+        assert_eq!(rt; words_of_message(copied.as_slice()), STRUCTS.as_slice());
     }
     Ok(())
 }
@@ -112,18 +110,82 @@ fn a_null_is_copied_as_an_empty_list(rt: HostRuntime) -> std::result::Result<(),
     for (size, number) in sizes {
         let copied = copy_list(rt.alloc(), &[0; 8], size)?;
         let words = [1, 0, 0, 0, number, 0, 0, 0];
-        assert_eq!(rt; rest(copied.as_slice(), TABLE), words.as_slice());
+        assert_eq!(rt; words_of_message(copied.as_slice()), words.as_slice());
     }
     let copied = copy_list(rt.alloc(), &[0; 8], ElementSize::InlineComposite)?;
     let words = [1, 0, 0, 0, 7, 0, 0, 0, 0, 0, 0, 0, 0, 0, 0, 0];
-    assert_eq!(rt; rest(copied.as_slice(), TABLE), words.as_slice());
+    assert_eq!(rt; words_of_message(copied.as_slice()), words.as_slice());
     Ok(())
 }
 
-const ONE_EACH: StructSize = StructSize {
-    data_words: 1,
-    pointers: 1,
-};
+#[test]
+fn a_copy_is_read_as_it_stands(rt: HostRuntime) -> std::result::Result<(), Fail> {
+    // a struct of a word and two pointers: the text "hi", and two structs of a word each
+    let words = [
+        0, 0, 0, 0, 1, 0, 2, 0, //
+        0x2a, 0, 0, 0, 0, 0, 0, 0, //
+        5, 0, 0, 0, 0x1a, 0, 0, 0, //
+        5, 0, 0, 0, 0x17, 0, 0, 0, //
+        b'h', b'i', 0, 0, 0, 0, 0, 0, //
+        8, 0, 0, 0, 1, 0, 0, 0, //
+        7, 0, 0, 0, 0, 0, 0, 0, //
+        9, 0, 0, 0, 0, 0, 0, 0,
+    ];
+    let source = PointerReader::from_words(&words);
+    pointer_is_well_formed(&source);
+    let mut message = Builder::new(rt.alloc());
+    message.set_root(source)?;
+    let root = message.root().into_reader().get_struct()?;
+    assert_eq!(rt; root.get_data_field::<u16>(0), 0x2a);
+    assert_eq!(rt; root.get_pointer_field(0).get_text()?, b"hi".as_slice());
+    let elements = root.get_pointer_field(1).get_list(ElementSize::Byte)?;
+    assert_eq!(rt; elements.len(), 2);
+    assert_eq!(rt; elements.get_data_element::<u8>(1), 9);
+    Ok(())
+}
+
+/// A message whose root is a copy of the first element of the list at the root of these words, as a struct.
+fn copy_element(alloc: Global, words: &[u8], size: ElementSize) -> Result<Vec<u8>> {
+    let list = PointerReader::from_words(words).get_list(size)?;
+    let mut message = Builder::new(alloc);
+    message.root().set_struct(&list.get_struct_element(0)?)?;
+    message.write_message()
+}
+
+#[test]
+fn data_are_rounded_up_to_whole_words(rt: HostRuntime) -> std::result::Result<(), Fail> {
+    // an element of 1, 2, 4 and 8 bytes
+    let table = [
+        (
+            ElementSize::Byte,
+            [1, 0, 0, 0, 0x0a, 0, 0, 0, 9, 0, 0, 0, 0, 0, 0, 0],
+        ),
+        (
+            ElementSize::TwoBytes,
+            [1, 0, 0, 0, 0x0b, 0, 0, 0, 9, 8, 0, 0, 0, 0, 0, 0],
+        ),
+        (
+            ElementSize::FourBytes,
+            [1, 0, 0, 0, 0x0c, 0, 0, 0, 9, 8, 7, 6, 0, 0, 0, 0],
+        ),
+        (
+            ElementSize::EightBytes,
+            [1, 0, 0, 0, 0x0d, 0, 0, 0, 9, 8, 7, 6, 5, 4, 3, 2],
+        ),
+    ];
+    for (size, list) in table {
+        let copied = copy_element(rt.alloc(), &list, size)?;
+        // a struct of one word, with the bytes of the list
+        let mut words = list;
+        words[..8].copy_from_slice(&[0, 0, 0, 0, 1, 0, 0, 0]);
+        assert_eq!(rt; words_of_message(copied.as_slice()), words.as_slice());
+    }
+    // an element of nothing is a struct of size zero
+    let copied = copy_element(rt.alloc(), &VOIDS, ElementSize::Void)?;
+    let words = [0xfc, 0xff, 0xff, 0xff, 0, 0, 0, 0];
+    assert_eq!(rt; words_of_message(copied.as_slice()), words.as_slice());
+    Ok(())
+}
 
 /// Two words of data, and the text "hi" and a null.
 const SOURCE: [u8; 48] = [
@@ -142,7 +204,7 @@ fn a_smaller_struct_takes_what_fits(rt: HostRuntime) -> std::result::Result<(), 
         0, 0, 0, 0, 0,
     ];
     assert_eq!(rt;
-        rest(message.write_message()?.as_slice(), TABLE),
+        words_of_message(message.write_message()?.as_slice()),
         words.as_slice()
     );
     Ok(())
@@ -166,7 +228,7 @@ fn a_larger_struct_is_filled_up(rt: HostRuntime) -> std::result::Result<(), Fail
         b'h', b'i', 0, 0, 0, 0, 0, 0,
     ];
     assert_eq!(rt;
-        rest(message.write_message()?.as_slice(), TABLE),
+        words_of_message(message.write_message()?.as_slice()),
         words.as_slice()
     );
     Ok(())
@@ -185,7 +247,7 @@ fn a_struct_of_the_size_takes_all(rt: HostRuntime) -> std::result::Result<(), Fa
     fields.get_pointer_field(1).set_text(b"before")?;
     fields.copy_content_from(&source)?;
     assert_eq!(rt;
-        rest(message.write_message()?.as_slice(), TABLE),
+        words_of_message(message.write_message()?.as_slice()),
         SOURCE.as_slice()
     );
     Ok(())
@@ -203,7 +265,7 @@ fn data_within_a_word_is_filled_up(rt: HostRuntime) -> std::result::Result<(), F
         0, 0, 0, 0, 1, 0, 1, 0, 2, 0, 0, 0, 0, 0, 0, 0, 0, 0, 0, 0, 0, 0, 0, 0,
     ];
     assert_eq!(rt;
-        rest(message.write_message()?.as_slice(), TABLE),
+        words_of_message(message.write_message()?.as_slice()),
         words.as_slice()
     );
     Ok(())

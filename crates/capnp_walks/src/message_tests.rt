@@ -1,15 +1,10 @@
 //! Messages that are measured and written.
 
-use crate::message::{Builder, Reader};
-use crate::size::StructSize;
-use capnp_device::error::ErrorKind;
-use capnp_device::memory::MemorySink;
+use crate::fixtures::ONE_EACH;
+use capnp_wire::error::ErrorKind;
+use capnp_wire::memory::MemorySink;
+use capnp_wire::message::{Builder, Reader};
 use std::test::Fail;
-
-const ONE_EACH: StructSize = StructSize {
-    data_words: 1,
-    pointers: 1,
-};
 
 #[test]
 fn a_message_is_measured(rt: HostRuntime) -> std::result::Result<(), Fail> {
