@@ -1,0 +1,93 @@
+-- the indices from one on, below a size, and what takes them from either end
+use Rattle.std.proofs.Common.{◌≡◌, ℕ, zero, suc, ◌+◌, ◌-◌, ◌<◌, ◌≤◌, List, [], ◌∷◌, ◌++◌, length, get_or, drop, Option, Some, None, sym, ap, ◌∙◌, arith}
+use Rattle.std.specs.Prelude.{⊤, All}
+use Rattle.std.specs.List.{range_with_len}
+use Rattle.std.specs.Iterator.{MakesProgress, at_most}
+use Rattle.std.proofs.lemmas.List.{length-append}
+use Rattle.std.proofs.lemmas.List.FromFn.{length-range_with_len, get_or-range_with_len}
+use Rattle.std.proofs.Math.Seq.{drop-append_seam}
+use Rattle.capnp_base.specs.Taking.{indices, TakesFirst, TakesLast}
+
+pub count_of_indices : (i n : ℕ) → length (indices i n) ≡ n - i
+unfolding indices
+count_of_indices i n = length-range_with_len i (n - i)
+
+-- one index more at the end of a run of numbers
+range_with_len-last : (a n : ℕ) → range_with_len a (suc n) ≡ range_with_len a n ++ (a + n) ∷ []
+range_with_len-last a zero = ap (λ k. k ∷ []) (omega arith)
+range_with_len-last a (suc n) =
+    let e : a + 1 + n ≡ a + suc n = omega arith in
+    ap (λ l. a ∷ l) (range_with_len-last (a + 1) n ∙ ap (λ k. range_with_len (a + 1) n ++ k ∷ []) e)
+
+pub indices-none : (i n : ℕ) → n ≤ i → indices i n ≡ []
+unfolding indices
+indices-none i n h =
+    let e : n - i ≡ 0 = omega (arith, h) in
+    ap (range_with_len i) e
+
+pub indices-first : (i n : ℕ) → i < n → indices i n ≡ i ∷ indices (i + 1) n
+unfolding indices
+indices-first i n h =
+    let e : n - i ≡ suc (n - (i + 1)) = omega (arith, h) in
+    ap (range_with_len i) e
+
+pub indices-last : (i n m : ℕ) → i < n → m + 1 ≡ n → indices i n ≡ indices i m ++ m ∷ []
+unfolding indices
+indices-last i n m h e =
+    let d : n - i ≡ suc (m - i) = omega (arith, h, e) in
+    let f : i + (m - i) ≡ m = omega (arith, h, e) in
+    ap (range_with_len i) d ∙ range_with_len-last i (m - i) ∙ ap (λ k. range_with_len i (m - i) ++ k ∷ []) f
+
+module _ {S A L : Type 0} (source : S → L) (to_come : S → List ℕ) (answers : L → ℕ → A → Type 0) where
+  -- what takes the first index leaves one less
+  pub progress-first : (s : S) (r : Option A) (t : S) → TakesFirst source to_come answers s r t
+      → MakesProgress (λ _. ⊤) (λ u. at_most (length (to_come u))) s r t
+  progress-first s None t h = record { on = λ _. tt; keeps = tt; rests = λ _. tt }
+  progress-first s (Some x) t h =
+      let e : length (to_come s) ≡ suc (length (to_come t)) = ap length h.1 in
+      record { on = λ _. (tt, tt, omega (arith, e)); keeps = tt; rests = λ _. tt }
+
+  -- so does what takes the last one
+  pub progress-last : (s : S) (r : Option A) (t : S) → TakesLast source to_come answers s r t
+      → MakesProgress (λ _. ⊤) (λ u. at_most (length (to_come u))) s r t
+  progress-last s None t h = record { on = λ _. tt; keeps = tt; rests = λ _. tt }
+  progress-last s (Some x) t h =
+      let e = ap length h.1 ∙ length-append (to_come t) (h.0 ∷ []) in
+      record { on = λ _. (tt, tt, omega (arith, e)); keeps = tt; rests = λ _. tt }
+
+-- the indices are below any number that their size is not above
+pub indices_below : (i n m : ℕ) → n ≤ m → All (λ k. k < m) (indices i n)
+unfolding indices
+indices_below i n m h k d b =
+    let l : length (range_with_len i (n - i)) ≡ n - i = length-range_with_len i (n - i) in
+    let b' : k < n - i = omega (arith, b, l) in
+    let e : get_or (range_with_len i (n - i)) k d ≡ i + k = get_or-range_with_len i (n - i) k d b' in
+    omega (arith, e, b', h)
+
+-- ---- for callers: what an item at either end says of its index ----
+
+pub first_of_indices : (a n i : ℕ) (xs : List ℕ) → indices a n ≡ i ∷ xs → (a < n) × (i ≡ a)
+first_of_indices a n i xs h =
+    let l : n - a ≡ suc (length xs) = sym (count_of_indices a n) ∙ ap length h in
+    let b : a < n = omega (arith, l) in
+    let e : i ∷ xs ≡ a ∷ indices (a + 1) n = sym h ∙ indices-first a n b in
+    (b, ap (λ k. get_or k 0 0) e)
+
+pub last_of_indices : (a n i : ℕ) (xs : List ℕ) → indices a n ≡ xs ++ i ∷ [] → (a < n) × (i + 1 ≡ n)
+last_of_indices a n i xs h =
+    let c : length (xs ++ i ∷ []) ≡ length xs + 1 = length-append xs (i ∷ []) in
+    let l : n - a ≡ length xs + 1 = sym (count_of_indices a n) ∙ ap length h ∙ c in
+    let b : a < n = omega (arith, l) in
+    let f : n - 1 + 1 ≡ n = omega (arith, b) in
+    let ys = indices a (n - 1) in
+    let e : xs ++ i ∷ [] ≡ ys ++ (n - 1) ∷ [] = sym h ∙ indices-last a n (n - 1) b f in
+    let k : length ys ≡ n - 1 - a = count_of_indices a (n - 1) in
+    let same : length xs ≡ length ys = omega (arith, l, k, b) in
+    let d : i ∷ [] ≡ (n - 1) ∷ [] =
+    sym (drop-append_seam xs (i ∷ [])) ∙ ap (drop (length xs)) e ∙ ap (λ j. drop j (ys ++ (n - 1) ∷ [])) same ∙ drop-append_seam ys ((n - 1) ∷ []) in
+    (b, omega (arith, ap (λ j. get_or j 0 0) d, f))
+
+pub none_of_indices : (a n : ℕ) → indices a n ≡ [] → n ≤ a
+none_of_indices a n h =
+    let l : n - a ≡ 0 = sym (count_of_indices a n) ∙ ap length h in
+    omega (arith, l)

@@ -1,0 +1,4 @@
+pub mod RowsTypes
+pub mod RowsIterators
+pub mod Indices
+pub mod Runs

@@ -1,0 +1,18 @@
+use Rattle.std.proofs.Common.{refl}
+use Rattle.capnp_base.specs.ListIter.{source, to_come}
+use Rattle.capnp_base.proofs.Indices.{indices-first, indices-none, progress-first}
+use Rattle.capnp_base.proofs.traits.iterators.ListIterIterator.next.Goals as goal
+
+pub returns-then-self-clause-steps : goal.returns-then-self-clause-steps
+unfolding source to_come
+returns-then-self-clause-steps g c =
+    (c.args.self.now.index, indices-first c.args.self.now.index c.args.self.now.size c.if-self.true, c.index_move-item.ensures, refl)
+
+pub returns-then-self-clause-goes : goal.returns-then-self-clause-goes
+unfolding source to_come
+returns-then-self-clause-goes g c =
+    progress-first source to_come g.T.IndexMove.answers _ _ _ (returns-then-self-clause-steps g c)
+
+pub returns-else-self-clause-steps : goal.returns-else-self-clause-steps
+unfolding to_come
+returns-else-self-clause-steps g c = (indices-none c.args.self.now.index c.args.self.now.size c.if-self.false, refl)

@@ -1,0 +1,26 @@
+-- The pointers that untyped readers and builders stand on.
+use Rattle.std.specs.Prelude.{ℕ, ◌≡◌, IsOkAnd, Result}
+use Rattle.std.specs.Borrow.{MutBor}
+use Rattle.capnp_wire.specs.Tree.{Tree}
+use Rattle.capnp_wire.specs.Objects.{object_tree}
+use Rattle.capnp_wire.specs.Standing.{levels_of, tree_of}
+use Rattle.capnp_wire.specs.declared.object.Object.{Object}
+use Rattle.capnp_wire.specs.declared.pointer_reader.PointerReader.{PointerReader}
+use Rattle.capnp_base.specs.declared.any_pointer.Reader.{Reader}
+use Rattle.capnp_base.specs.declared.any_pointer.Builder.{Builder}
+use Rattle.capnp_device.specs.declared.error.Error.{Error}
+
+-- the reader that an untyped pointer is read by
+abbrev pub pointer_of : Reader → PointerReader
+pointer_of reader = reader.reader
+
+-- an untyped pointer is read wherever a pointer is: the answer stands on the same tree with the same levels
+abbrev pub IsUntypedRead : Tree → ℕ → Result Reader Error → Type 0
+IsUntypedRead tree levels r = IsOkAnd r (λ reader. (tree_of (pointer_of reader) ≡ tree) × (levels_of (pointer_of reader) ≡ levels))
+
+-- the reference to the pointer that is built, and its tree
+abbrev pub pointer_behind : Builder → MutBor Object
+pointer_behind builder = builder.builder
+
+abbrev pub pointer_tree : Builder → Tree
+pointer_tree builder = object_tree builder.builder.now

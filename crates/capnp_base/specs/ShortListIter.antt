@@ -1,0 +1,12 @@
+-- an iterator over a list whose indices are counted by a u16
+use Rattle.std.specs.Prelude.{ℕ, List}
+use Rattle.capnp_base.specs.Taking.{indices}
+use Rattle.capnp_base.specs.declared.traits.iterators.short.ShortListIter.{ShortListIter}
+
+-- what answers its items
+unfoldable pub source : {T U : Type 0} {g : _} → ShortListIter T U g → T
+source s = s.list
+
+-- the indices still to come
+unfoldable pub to_come : {T U : Type 0} {g : _} → ShortListIter T U g → List ℕ
+to_come s = indices s.index s.size

@@ -1,0 +1,31 @@
+-- What a pointer is read as, and what stands in its place where it is null and there is a default.
+use Rattle.std.specs.Prelude.{ℕ, Bool, true, false, cond, ◌==◌, ◌≡◌, ◌≢◌, Option, Some, None, Result, Err}
+use Rattle.capnp_wire.specs.Tree.{Tree}
+use Rattle.capnp_wire.specs.Reading.{is_null_tree}
+use Rattle.capnp_wire.specs.Standing.{tree_of, levels_of}
+use Rattle.capnp_wire.specs.declared.pointer_reader.PointerReader.{PointerReader}
+use Rattle.capnp_device.specs.declared.error.Error.{Error}
+use Rattle.capnp_device.specs.declared.error.ErrorKind.{ErrorKind}
+use Rattle.capnp_device.specs.declared.error.ErrorKind.TheVariants.{OutOfMemory}
+
+-- whether a default stands in for what is at a pointer: it is null, and there is one
+abbrev pub takes_default : Tree → Option PointerReader → Bool
+takes_default t None = false
+takes_default t (Some default) = is_null_tree t
+
+-- the default's tree there, and else the pointer's own
+abbrev pub tree_or : Tree → Option PointerReader → Tree
+tree_or t None = t
+tree_or t (Some default) = cond (is_null_tree t) (tree_of default) t
+
+-- the levels that are left for it: those of the default, unless the null itself has none
+abbrev pub levels_or : Tree → ℕ → Option PointerReader → ℕ
+levels_or t levels None = levels
+levels_or t levels (Some default) = cond (is_null_tree t) (cond (levels == 0) 0 (levels_of default)) levels
+
+-- why what is built at a pointer is not handed out: it is not read so; or the default is not, or could not be copied for
+-- want of memory
+abbrev pub IsReadRefusal : {A : Type 0} → (Tree → Result A ErrorKind) → Tree → Option PointerReader → Error → Type 0
+IsReadRefusal read t default error =
+    (takes_default t default ≡ false → read t ≡ Err error.kind) ×
+    (takes_default t default ≡ true → error.kind ≢ OutOfMemory → read (tree_or t default) ≡ Err error.kind)

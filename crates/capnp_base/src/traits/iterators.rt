@@ -1,0 +1,143 @@
+//! Lists that answer items by their indices, and iterators over them.
+ghost use Rattle.std.specs.Prelude.{◌≡◌, ℕ, ◌<◌, ◌≤◌, length, IfSome};
+ghost use Rattle.std.specs.Iterator.{at_most, UpTo};
+ghost use Rattle.std.specs.Iterator.SizeHint.{IsWithinCount};
+ghost use Rattle.capnp_base.specs.Taking.{indices, TakesFirst, TakesLast, TakesNth};
+
+pub mod laws;
+mod short;
+#[cfg(test)]
+mod tests;
+
+pub use short::ShortListIter;
+use std::marker::PhantomData;
+
+/// A number that counts indices.
+pub trait Index {
+    ghost number: { Self → ℕ };
+}
+
+impl Index for u16 {
+    ghost number = { λ i. i };
+}
+
+impl Index for u32 {
+    ghost number = { λ i. i };
+}
+
+/// A list that answers its items by their indices.
+pub trait IndexMove<I: Index, T> {
+    // How many indices it answers: those below this number.
+    ghost count: { Self → ℕ };
+
+    // The items that it may answer at an index.
+    ghost answers: { Self → ℕ → T → Type 0 };
+
+    /// The item at an index that the list answers.
+    fn index_move(&self, index: I) -> T
+        requires { I.number index < count self.now }
+        ensures { answers self.now (I.number index) result };
+}
+
+/// The items of a list at the indices still to come, which are taken from both ends. Indices are counted by a `u32`.
+///
+/// Each item is given at most once. At its end it stays there.
+#[derive(Drop)]
+pub struct ListIter<T: IndexMove<u32, U>, U> {
+    marker: PhantomData<U>,
+    list: T,
+    index: u32,
+    size: u32,
+    ghost in_order: { index ≤ size },
+    ghost answered: { size ≤ T.count list },
+}
+
+impl<U, T: IndexMove<u32, U>> ListIter<T, U> {
+    ghost use Rattle.capnp_base.specs.ListIter.{source, to_come};
+
+    /// The items at all indices below `size`, which the list has to answer.
+    #[tactic(auto, unfolding(crate::specs::ListIter::source, crate::specs::ListIter::to_come))]
+    pub fn new(list: T, size: u32) -> Self
+        requires { size ≤ T.count list }
+        ensures source { source result ≡ list }
+        ensures to_come { to_come result ≡ indices 0 size }
+    {
+        ListIter {
+            marker: PhantomData,
+            list,
+            index: 0,
+            size,
+        }
+    }
+
+    /// The number of items still to come.
+    #[tactic(auto, using(crate::proofs::Indices::count_of_indices), unfolding(crate::specs::ListIter::to_come))]
+    fn count_left(&self) -> usize
+        ensures { result ≡ length (to_come self.now) }
+    {
+        (self.size - self.index) as usize
+    }
+}
+
+impl<U: Drop, T: IndexMove<u32, U> + Drop> ListIter<T, U> {
+    ghost use Rattle.capnp_base.specs.ListIter.{source, to_come};
+
+    /// Passes over `skipped` items and gives the next one. Where at most `skipped` are left it gives none, and none are
+    /// left then, also where no index is that large. It is the `nth` of `Iterator`.
+    pub fn nth_item(&mut self, skipped: usize) -> Option<U>
+        ensures { TakesNth source to_come T.answers skipped self.old result self.new }
+    {
+        self.nth(skipped)
+    }
+}
+
+impl<U, T: IndexMove<u32, U> + Drop> Iterator for ListIter<T, U> {
+    ghost use Rattle.capnp_base.specs.ListIter.{source, to_come};
+
+    type Item = U;
+
+    ghost next_gives = { TakesFirst source to_come T.answers };
+
+    ghost remaining = { λ s. at_most (length (to_come s)) };
+
+    fn next(&mut self) -> Option<U> {
+        if self.index < self.size {
+            let item = self.list.index_move(self.index);
+            self.index += 1;
+            Some(item)
+        } else {
+            None
+        }
+    }
+
+    fn size_hint(&self) -> (usize, Option<usize>)
+        ensures lower { IsWithinCount result.0 (at_most (length (to_come self.now))) }
+        ensures upper { IfSome result.1 (UpTo (at_most (length (to_come self.now)))) }
+        ensures exact_lower { result.0 ≡ length (to_come self.now) }
+        ensures exact_upper { result.1 ≡ Some (length (to_come self.now)) }
+    {
+        let left = self.count_left();
+        (left, Some(left))
+    }
+}
+
+impl<U, T: IndexMove<u32, U> + Drop> ExactSizeIterator for ListIter<T, U> {
+    fn len(&self) -> usize {
+        self.count_left()
+    }
+}
+
+impl<U, T: IndexMove<u32, U> + Drop> DoubleEndedIterator for ListIter<T, U> {
+    ghost use Rattle.capnp_base.specs.ListIter.{source, to_come};
+
+    ghost next_back_gives = { TakesLast source to_come T.answers };
+
+    fn next_back(&mut self) -> Option<U> {
+        if self.index < self.size {
+            self.size -= 1;
+            Some(self.list.index_move(self.size))
+        } else {
+            None
+        }
+    }
+}
