@@ -40,6 +40,7 @@ pub mod Copies
 pub mod RowsEdits
 pub mod RowsElements
 pub mod NewTrees
+pub mod FirstFaults
 pub mod Fitting
 pub mod Measuring
 pub mod Appending

@@ -10,6 +10,7 @@ mod bytes;
 mod copy;
 mod encode;
 pub mod fault;
+mod faults;
 pub mod laws;
 mod list_builder;
 mod list_reader;

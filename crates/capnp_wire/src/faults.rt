@@ -1,0 +1,105 @@
+//! Looks for the first fault leaf of what stands at a place.
+ghost use Rattle.std.specs.Prelude.{◌≡◌};
+ghost use Rattle.capnp_wire.specs.Backing.{segment_list};
+ghost use Rattle.capnp_wire.specs.Found.{block_structs, place_tree, run_trees};
+ghost use Rattle.capnp_wire.specs.Place.{tree_below};
+ghost use Rattle.capnp_wire.specs.Standing.{tree_of};
+ghost use Rattle.capnp_wire.specs.Words.{first_fault, first_fault_of_all, first_fault_of_elements};
+
+use crate::fault::Fault;
+use crate::look::{Elements, Found, Place, Pointers, look_at_word};
+use crate::pointer_reader::PointerReader;
+use crate::run::{Block, Run};
+use crate::segments::Segments;
+use crate::size::StructSize;
+
+/// The first fault leaf of the tree of a word of a message.
+#[cycle(faults)]
+fn fault_of_word(segments: Segments<'_>, segment: &[u8], index: usize, depth: u32) -> Option<Fault>
+    ensures { result ≡ first_fault (tree_below depth (segment_list segments.entry) segment.now index) }
+{
+    match look_at_word(segments, segment, index, depth) {
+        Found::Bad(fault) => Some(fault),
+        Found::Struct(parts) => {
+            let Pointers::Words(run) = parts.pointers else {
+                unreachable!()
+            };
+            fault_of_run(run)
+        }
+        Found::Pointers(Pointers::Words(run)) => fault_of_run(run),
+        Found::Composite(size, Elements::Words(block)) => fault_of_block(size, block),
+        Found::Null => None,
+        Found::Voids(_) => None,
+        Found::Bits(_, _) => None,
+        Found::Numbers(_, _) => None,
+        _ => unreachable!(),
+    }
+}
+
+/// The first fault leaf of what pointers in a row lead to.
+#[cycle(faults)]
+fn fault_of_run(run: Run<'_>) -> Option<Fault>
+    ensures { result ≡ first_fault_of_all (run_trees run.entry) }
+{
+    for i in 0..run.count {
+        if let Some(fault) = fault_of_word(
+            run.segments,
+            run.segment,
+            run.first + i as usize,
+            run.depth,
+        ) {
+            return Some(fault);
+        }
+    }
+    None
+}
+
+/// The first fault leaf of what the pointers of a composite list's elements lead to.
+#[cycle(faults)]
+fn fault_of_block(size: StructSize, block: Block<'_>) -> Option<Fault>
+    ensures { result ≡ first_fault_of_elements (block_structs size.data_words size.pointers block.entry) }
+{
+    for i in 0..block.count {
+        let run = Run {
+            segments: block.segments,
+            segment: block.segment,
+            first: block.first
+                + i as usize * (size.data_words as usize + size.pointers as usize)
+                + size.data_words as usize,
+            count: size.pointers as u32,
+            depth: block.depth,
+        };
+        if let Some(fault) = fault_of_run(run) {
+            return Some(fault);
+        }
+    }
+    None
+}
+
+/// The first fault leaf of what stands at a place. Objects have none.
+#[tactic(auto, using(crate::proofs::ObjectFaults::object_whole))]
+fn fault_of_place(place: Place<'_>) -> Option<Fault>
+    ensures { result ≡ first_fault (place_tree place.entry) }
+{
+    match place {
+        Place::Null => None,
+        Place::Bad(fault) => Some(fault),
+        Place::Word {
+            segments,
+            segment,
+            index,
+            depth,
+        } => fault_of_word(segments, segment, index, depth),
+        Place::Object(_) => None,
+    }
+}
+
+impl<'a> PointerReader<'a> {
+    /// The first pointer in preorder, from this one on, that can't be followed, by why it can't; nothing where each can.
+    /// Takes no memory.
+    pub fn first_fault(&self) -> Option<Fault>
+        ensures { result ≡ first_fault (tree_of self.now) }
+    {
+        fault_of_place(self.place())
+    }
+}
