@@ -1,0 +1,137 @@
+-- The plan of each field of an accepted set stands for the field's footprint, slot value and discriminant.
+use Rattle.std.specs.Prelude.{ℕ, zero, suc, ◌*◌, ◌<◌, ◌≡◌, refl, List, [], ◌∷◌, Bool, true, false, ◌&&◌, ◌==◌, nat_lt, IsTrue, IsFalse, All, IfSome, IfNone, Some, length, slice_get, bit_xor}
+use Rattle.std.specs.Option.{unwrap_or}
+use Rattle.std.proofs.Common.{arith, ap, sym, subst, ◌∙◌}
+use Rattle.std.proofs.lemmas.Option.{get_or_from_slice_get, slice_get_within}
+use Rattle.capnp_schema.specs.Types.{SchemaType, VoidType, BoolType, IntType, UIntType, EnumType, TextType, DataType, StructType, ListType, AnyPointerType, is_pointer, width, struct_number}
+use Rattle.capnp_schema.specs.Schema.{Schemas, Node, Brand, Field, FieldKind, Slot, Group, Value, no_node, no_brand, no_field, typed, brand_at, node_of, fields_of, field_at, is_member}
+use Rattle.capnp_schema.specs.Footprint.{Place, DataBit, PointerAt, is_in, slot_names, kind_names, brand_names, discriminant_names, footprint}
+use Rattle.capnp_schema.specs.Accepted.{IsAccepted, HasEachMember, DiscriminantFits, IsGroupOf}
+use Rattle.capnp_schema.specs.SlotValue.{bits_at, default_bits}
+use Rattle.capnp_schema.specs.Laws.{struct_names}
+use Rattle.capnp_schema.specs.Plan.{LiesInNode, IsPlan, HasSlotNumber, data_place, slot_place, place_of, place_names, place_number, member_plan, plan_of, discriminant_bits}
+use Rattle.capnp_schema.proofs.Groups.{group_names_its_parts}
+
+-- ---- entries ----
+
+entry-some : {A : Type 0} (xs : List A) (i : ℕ) (none : A) → i < length xs → slice_get xs i ≡ Some (unwrap_or (slice_get xs i) none)
+entry-some [] i none a = absurd (omega arith)
+entry-some (x ∷ xs) zero none a = refl
+entry-some (x ∷ xs) (suc i) none a = entry-some xs i none (omega arith)
+
+All-entry : {A : Type 0} (P : A → Type 0) (xs : List A) (i : ℕ) (x : A) → All P xs → slice_get xs i ≡ Some x → P x
+All-entry P xs i x all e = subst P (get_or_from_slice_get xs i x x e) (all i x (slice_get_within xs i x e))
+
+-- what holds of all nodes holds of a brand's
+pub of_node : (set : Schemas) → IsAccepted set → (P : Node → Type 0) → All P set.nodes → (b : ℕ) → b < length set.brands → P (node_of set b)
+of_node set accepted P all b b_in =
+    All-entry P set.nodes (brand_at set b).node (node_of set b) all (entry-some set.nodes (brand_at set b).node no_node inside)
+  where
+    inside : (brand_at set b).node < length set.nodes
+    inside = All-entry (λ (x : Brand). x.node < length set.nodes) set.brands b (brand_at set b) accepted.rule2.node (entry-some set.brands b no_brand b_in)
+
+typed-field : (fs : List Field) (ts : List SchemaType) (i : ℕ) → i < length (typed fs ts) → slice_get fs i ≡ Some (unwrap_or (slice_get (typed fs ts) i) no_field).field
+typed-field [] ts i a = absurd (omega arith)
+typed-field (f ∷ fs) [] i a = absurd (omega arith)
+typed-field (f ∷ fs) (t ∷ ts) zero a = refl
+typed-field (f ∷ fs) (t ∷ ts) (suc i) a = typed-field fs ts i (omega arith)
+
+-- a struct with a member has a union
+pub member_counted : (set : Schemas) → IsAccepted set → (b i : ℕ) → b < length set.brands → i < length (fields_of set b) → IsTrue (is_member (field_at set b i).field) →
+    (field_at set b i).field.discriminant_value < (node_of set b).discriminant_count
+member_counted set accepted b i b_in i_in member =
+    All-entry (λ (f : Field). IsTrue (is_member f) → f.discriminant_value < (node_of set b).discriminant_count) (node_of set b).fields i (field_at set b i).field
+    (of_node set accepted HasEachMember accepted.rule9 b b_in).below (typed-field (node_of set b).fields (brand_at set b).field_types i i_in) member
+
+pub lies_in_node : (set : Schemas) → IsAccepted set → (b i : ℕ) → b < length set.brands → i < length (fields_of set b) → LiesInNode (node_of set b) (field_at set b i)
+lies_in_node set accepted b i b_in i_in = record {
+  slot = accepted.rule4 b i b_in i_in;
+  discriminant = λ member. of_node set accepted DiscriminantFits accepted.rule10 b b_in (omega (arith, member_counted set accepted b i b_in i_in member));
+}
+
+-- ---- slots ----
+
+-- a type that stands behind a pointer has no bits
+pointer_width : (t : SchemaType) → is_pointer t ≡ true → width t ≡ 0
+pointer_width VoidType e = refl
+pointer_width BoolType e = cc
+pointer_width (IntType bytes) e = cc
+pointer_width (UIntType bytes) e = cc
+pointer_width (EnumType number) e = cc
+pointer_width TextType e = refl
+pointer_width DataType e = refl
+pointer_width (StructType number generic) e = refl
+pointer_width (ListType element) e = refl
+pointer_width AnyPointerType e = refl
+
+no_bits : (first i : ℕ) → false ≡ is_in first 0 i
+no_bits first i = grind arith
+
+data_names : (set : Schemas) (bits offset : ℕ) (default : Value) (i : ℕ) → place_names set (data_place bits offset default) (DataBit i) ≡ is_in (offset * bits) bits i
+data_names set zero offset default i = no_bits (offset * 0) i
+data_names set (suc bits) offset default i = refl
+
+data_names-pointer : (set : Schemas) (bits offset : ℕ) (default : Value) (i : ℕ) → place_names set (data_place bits offset default) (PointerAt i) ≡ false
+data_names-pointer set zero offset default i = refl
+data_names-pointer set (suc bits) offset default i = refl
+
+slot_place-names : (set : Schemas) (t : SchemaType) (offset : ℕ) (default : Value) (q : Bool) → is_pointer t ≡ q → (p : Place) → place_names set (slot_place q (width t) offset default) p ≡ slot_names offset t p
+slot_place-names set t offset default true e (DataBit i) = no_bits (offset * 0) i ∙ ap (λ bits. is_in (offset * bits) bits i) (sym (pointer_width t e))
+slot_place-names set t offset default true e (PointerAt i) = ap (λ q. q && (i == offset)) (sym e)
+slot_place-names set t offset default false e (DataBit i) = data_names set (width t) offset default i
+slot_place-names set t offset default false e (PointerAt i) = data_names-pointer set (width t) offset default i ∙ ap (λ q. q && (i == offset)) (sym e)
+
+plan-names : (set : Schemas) → IsAccepted set → (b i : ℕ) → b < length set.brands → i < length (fields_of set b) → (p : Place) →
+    place_names set (plan_of set b (field_at set b i)).place p ≡ footprint set (field_at set b i) p
+plan-names set accepted b i b_in i_in p = go (field_at set b i).field.kind (field_at set b i).type (λ g h. group_names_its_parts set accepted b i g p b_in i_in h)
+  where
+    names : FieldKind → SchemaType → Bool
+    names k t = kind_names (brand_names (length set.brands) set) k t p
+
+    go : (k : FieldKind) (t : SchemaType) → ((g : ℕ) → IsGroupOf k t g → names k t ≡ struct_names set g p) → place_names set (place_of k t) p ≡ names k t
+    go (Slot offset default) t h = slot_place-names set t offset default (is_pointer t) refl p
+    go (Group node) t h = sym (h (struct_number t) refl)
+
+place-number : (k : FieldKind) (t : SchemaType) → HasSlotNumber k t (place_of k t)
+place-number (Group node) t = tt
+place-number (Slot offset default) t = λ bytes some. go bytes (is_pointer t) refl (width t) refl some
+  where
+    go : (bytes : List ℕ) (q : Bool) → is_pointer t ≡ q → (bits : ℕ) → width t ≡ bits → 0 < bits → place_number bytes (slot_place q bits offset default) ≡ bit_xor (bits_at bytes (offset * bits) bits) (default_bits default)
+    go bytes true e bits w some = absurd (omega (arith, pointer_width t e))
+    go bytes false e zero w some = absurd (omega arith)
+    go bytes false e (suc bits) w some = refl
+
+-- ---- members ----
+
+counted : (n d : ℕ) → d < n → nat_lt 0 n ≡ true
+counted n d a = grind arith
+
+discriminant-named : (n : Node) (d : ℕ) → d < n.discriminant_count → (p : Place) → discriminant_bits (16 * n.discriminant_offset) p ≡ discriminant_names n p
+discriminant-named n d a (DataBit i) = ap (λ q. q && is_in (16 * n.discriminant_offset) 16 i) (sym (counted n.discriminant_count d a))
+discriminant-named n d a (PointerAt i) = refl
+
+pub plans_stand : (set : Schemas) → IsAccepted set → (b i : ℕ) → b < length set.brands → i < length (fields_of set b) →
+    LiesInNode (node_of set b) (field_at set b i) × IsPlan set b (field_at set b i) (plan_of set b (field_at set b i))
+plans_stand set accepted b i b_in i_in = (
+  lies_in_node set accepted b i b_in i_in,
+  record {
+    names = plan-names set accepted b i b_in i_in;
+    number = place-number (field_at set b i).field.kind (field_at set b i).type;
+    member = some (is_member (field_at set b i).field) refl;
+    plain = none (is_member (field_at set b i).field) refl;
+  },
+)
+  where
+    n : Node
+    n = node_of set b
+
+    f : Field
+    f = (field_at set b i).field
+
+    some : (q : Bool) → is_member f ≡ q → IfSome (member_plan q n f) (λ m. IsTrue (is_member f) × (m.1 ≡ f.discriminant_value) × ((p : Place) → discriminant_bits m.0 p ≡ discriminant_names n p))
+    some true e = (e, refl, discriminant-named n f.discriminant_value (member_counted set accepted b i b_in i_in e))
+    some false e = tt
+
+    none : (q : Bool) → is_member f ≡ q → IfNone (member_plan q n f) (IsFalse (is_member f))
+    none true e = tt
+    none false e = e

@@ -1,0 +1,148 @@
+-- Spans: when two of them meet, and what is added to them.
+use Rattle.std.proofs.Common.{ℕ, zero, suc, ◌≡◌, ◌+◌, ◌-◌, ◌<◌, ◌≤◌, ⊎_elim, Bool, true, false, ◌||◌, List, [], ◌∷◌, ◌++◌, length, get_or, drop, arith, refl, sym, ap, ◌∙◌, Option, Some, None, slice_get, add-one}
+use Rattle.std.proofs.lemmas.Bool.{cases_lt}
+use Rattle.std.proofs.lemmas.Bool.Decides.{nat_tests}
+use Rattle.capnp_schema.specs.Schema.{Schemas, Node, TypedField, node_of, fields_of, seen_kind}
+use Rattle.capnp_schema.specs.declared.record.ValueRecord.{ValueRecord}
+use Rattle.capnp_schema.specs.declared.record.FieldKind.{FieldKind as KindRecord}
+use Rattle.capnp_schema.specs.declared.record.FieldKind.TheVariants as kind
+use Rattle.capnp_schema.specs.declared.lists.TypedField.{TypedField as TypedRecord}
+use Rattle.capnp_schema.specs.Types.{SchemaType, seen_type, struct_number}
+use Rattle.capnp_schema.specs.Entries.{brand_node, seen_typed}
+use Rattle.capnp_schema.specs.Footprint.{Place, DataBit, PointerAt, is_in, slot_names, kind_names, some_field, brand_names, discriminant_names}
+use Rattle.capnp_schema.specs.Parents.{TargetsAreGroups, entry_target, kind_target}
+use Rattle.capnp_schema.specs.declared.check.spans.Span.{Span}
+use Rattle.capnp_schema.specs.declared.check.spans.Span.TheVariants.{Data, Pointer}
+use Rattle.capnp_schema.specs.Spans.{span_names, some_span, field_names, entry_names}
+use Rattle.capnp_schema.proofs.GroupTargets.{node_there, node_missing}
+
+in_holds : (first n i : ℕ) → first ≤ i → i < first + n → is_in first n i ≡ true
+in_holds first n i h k = grind (arith, nat_tests)
+
+pub right_meets : (a b : Span) (first count other size : ℕ) → a ≡ Data first count → b ≡ Data other size → 0 < size → first ≤ other → other - first < count → (p : Place) × (span_names a p ≡ true) × (span_names b p ≡ true)
+right_meets a b first count other size e k some le lt = (DataBit other, rw e (in_holds first count other le (omega arith)), rw k (in_holds other size other (omega arith) (omega arith)))
+
+pub left_meets : (a b : Span) (first count other size : ℕ) → a ≡ Data first count → b ≡ Data other size → 0 < count → other < first → first - other < size → (p : Place) × (span_names a p ≡ true) × (span_names b p ≡ true)
+left_meets a b first count other size e k some le lt = (DataBit first, rw e (in_holds first count first (omega arith) (omega arith)), rw k (in_holds other size first (omega arith) (omega arith)))
+
+pub pointers_meet : (a b : Span) (x y : ℕ) → a ≡ Pointer x → b ≡ Pointer y → x ≡ y → (p : Place) × (span_names a p ≡ true) × (span_names b p ≡ true)
+pointers_meet a b x y e k same = (PointerAt x, rw e (grind (arith, nat_tests)), rw k (grind (arith, nat_tests)))
+
+pub some_span-append : (xs : List Span) (y : Span) (p : Place) → some_span (xs ++ y ∷ []) p ≡ (some_span xs p || span_names y p)
+some_span-append [] y p = at (span_names y p)
+  where
+    at : (b : Bool) → (b || false) ≡ b
+    at true = refl
+    at false = refl
+some_span-append (x ∷ xs) y p = at (span_names x p) (some_span-append xs y p)
+  where
+    at : (b : Bool) → some_span (xs ++ y ∷ []) p ≡ (some_span xs p || span_names y p) → (b || some_span (xs ++ y ∷ []) p) ≡ ((b || some_span xs p) || span_names y p)
+    at true e = refl
+    at false e = e
+
+-- one of the spans names the place
+pub span_at : (xs : List Span) (p : Place) → some_span xs p ≡ true → (k : ℕ) × (k < length xs) × ((d : Span) → span_names (get_or xs k d) p ≡ true)
+span_at [] p e = cc
+span_at (x ∷ xs) p e = at (span_names x p) refl (some_span xs p) (span_at xs p) e
+  where
+    at : (b : Bool) → span_names x p ≡ b → (c : Bool) → (c ≡ true → (k : ℕ) × (k < length xs) × ((d : Span) → span_names (get_or xs k d) p ≡ true)) → (b || c) ≡ true → (k : ℕ) × (k < suc (length xs)) × ((d : Span) → span_names (get_or (x ∷ xs) k d) p ≡ true)
+    at true is c rest h = (0, omega arith, λ d. is)
+    at false is c rest h = let r = rest h in (suc r.0, omega arith, r.2)
+
+pub some_from_at : (xs : List Span) (k : ℕ) (d : Span) (p : Place) → k < length xs → span_names (get_or xs k d) p ≡ true → some_span xs p ≡ true
+some_from_at [] k d p h e = absurd (omega arith)
+some_from_at (x ∷ xs) zero d p h e = rw e refl
+some_from_at (x ∷ xs) (suc k) d p h e = at (span_names x p) (some_from_at xs k d p (omega arith) e)
+  where
+    at : (b : Bool) → some_span xs p ≡ true → (b || some_span xs p) ≡ true
+    at true e = refl
+    at false e = e
+
+pub none_from_all : (xs : List Span) (p : Place) → ((k : ℕ) (d : Span) → k < length xs → span_names (get_or xs k d) p ≡ false) → some_span xs p ≡ false
+none_from_all [] p h = refl
+none_from_all (x ∷ xs) p h = rw (h 0 x (omega arith)) (none_from_all xs p (λ k d lt. h (suc k) d (omega arith)))
+
+-- one more span of a list meets nothing
+pub row_done : (a b : List Span) (i : ℕ) (e : Span) → i < length a
+    → ((k : ℕ) (d : Span) (p : Place) → k < i → span_names (get_or a k d) p ≡ true → some_span b p ≡ false)
+    → ((p : Place) → span_names (get_or a i e) p ≡ true → some_span b p ≡ false)
+    → (k : ℕ) (d : Span) (p : Place) → k < i + 1 → span_names (get_or a k d) p ≡ true → some_span b p ≡ false
+row_done a b i e inside before here k d p lt named =
+    ⊎_elim
+    (λ less. before k d p less named)
+    (λ le. let is : k ≡ i = omega arith in here p (sym (ap (λ (s : Span). span_names s p) (get_any a i d e inside)) ∙ sym (ap (λ (j : ℕ). span_names (get_or a j d) p) is) ∙ named))
+    (cases_lt k i)
+  where
+    get_any : (zs : List Span) (j : ℕ) (x y : Span) → j < length zs → get_or zs j x ≡ get_or zs j y
+    get_any [] j x y h = absurd (omega arith)
+    get_any (z ∷ zs) zero x y h = refl
+    get_any (z ∷ zs) (suc j) x y h = get_any zs j x y (omega arith)
+
+pub or_false : (x y : Bool) → y ≡ false → x ≡ (x || y)
+or_false true y e = refl
+or_false false y e = sym e
+
+pub or_assoc : (x y z : Bool) → ((x || y) || z) ≡ (x || (y || z))
+or_assoc true y z = refl
+or_assoc false y z = refl
+
+-- one field of the loop
+pub field_added : (groups : ℕ) (set : Schemas) (fs : List TypedField) (p : Place) (out more : List Span) (i : ℕ) (whole : Bool)
+    → some_span more p ≡ (some_span out p || entry_names groups set (slice_get fs i) p)
+    → (some_span out p || some_field (field_names groups set) (drop i fs) p) ≡ whole
+    → (some_span more p || some_field (field_names groups set) (drop (i + 1) fs) p) ≡ whole
+field_added groups set fs p out more i whole one kept =
+    rw (one, or_assoc, add-one) (ap (λ b. some_span out p || b) (sym (parts fs i)) ∙ kept)
+  where
+    parts : (fs : List TypedField) (i : ℕ) → some_field (field_names groups set) (drop i fs) p ≡ (entry_names groups set (slice_get fs i) p || some_field (field_names groups set) (drop (suc i) fs) p)
+    parts [] zero = refl
+    parts [] (suc i) = refl
+    parts (f ∷ fs) zero = refl
+    parts (f ∷ fs) (suc i) = parts fs i
+
+-- a struct's fields and its discriminant
+pub brand_added : (set : Schemas) (groups b : ℕ) (p : Place) (before out : List Span) (n : Node) (s : Span) → 0 < groups
+    → Some n ≡ brand_node set b
+    → some_span out p ≡ (some_span before p || some_field (field_names (groups - 1) set) (fields_of set b) p)
+    → span_names s p ≡ discriminant_names n p
+    → some_span (out ++ s ∷ []) p ≡ (some_span before p || brand_names groups set b p)
+brand_added set zero b p before out n s some there fields names = absurd (omega arith)
+brand_added set (suc groups) b p before out n s some there fields names =
+    some_span-append out s p ∙ ap (λ x. some_span out p || x) (names ∙ ap (λ m. discriminant_names m p) (sym (node_there set b n there)))
+    ∙ ap (λ x. x || discriminant_names (node_of set b) p) (fields ∙ ap (λ g. some_span before p || some_field (field_names g set) (fields_of set b) p) less)
+    ∙ or_assoc (some_span before p) (some_field (field_names groups set) (fields_of set b) p) (discriminant_names (node_of set b) p)
+  where
+    less : suc groups - 1 ≡ groups
+    less = omega arith
+
+-- a struct whose node isn't there has no discriminant
+pub fields_alone : (set : Schemas) (groups b : ℕ) (p : Place) (before out : List Span) → 0 < groups → b < length set.brands
+    → None ≡ brand_node set b
+    → some_span out p ≡ (some_span before p || some_field (field_names (groups - 1) set) (fields_of set b) p)
+    → some_span out p ≡ (some_span before p || brand_names groups set b p)
+fields_alone set zero b p before out some within missing fields = absurd (omega arith)
+fields_alone set (suc groups) b p before out some within missing fields =
+    fields ∙ ap (λ g. some_span before p || some_field (field_names g set) (fields_of set b) p) less
+    ∙ ap (λ x. some_span before p || x) (or_false (some_field (field_names groups set) (fields_of set b) p) (discriminant_names (node_of set b) p) (none p))
+  where
+    less : suc groups - 1 ≡ groups
+    less = omega arith
+
+    none : (p : Place) → discriminant_names (node_of set b) p ≡ false
+    none (DataBit i) = rw (node_missing set b within missing) refl
+    none (PointerAt i) = refl
+
+-- the group that a field names is there
+pub target_within : (set : Schemas) (b i g : ℕ) (f : TypedField) → TargetsAreGroups set → Some f ≡ slice_get (fields_of set b) i → entry_target (Some f) ≡ Some g → g < length set.brands
+target_within set b i g f targets there e = (targets b i g (ap entry_target (sym there) ∙ e)).0
+
+pub kind_is_group : (k : KindRecord) (node : ℕ) (t : SchemaType) (g : ℕ) → k ≡ kind.Group node → g ≡ struct_number t → kind_target (seen_kind k) t ≡ Some g
+kind_is_group k node t g is number = ap (λ x. kind_target (seen_kind x) t) is ∙ ap (λ (n : ℕ). Some n) (sym number)
+
+-- one more slot
+pub slot_added : (groups : ℕ) (set : Schemas) (entry : Option TypedField) (f : TypedRecord) (offset : ℕ) (default : ValueRecord) (out : List Span) (s : Span) (p : Place)
+    → Some (seen_typed f) ≡ entry → f.field.now.kind ≡ kind.Slot offset default → span_names s p ≡ slot_names offset (seen_type f.field_type.now) p
+    → some_span (out ++ s ∷ []) p ≡ (some_span out p || entry_names groups set entry p)
+slot_added groups set entry f offset default out s p there is names =
+    some_span-append out s p
+    ∙ ap (λ x. some_span out p || x) (names ∙ ap (λ k. kind_names (brand_names groups set) (seen_kind k) (seen_type f.field_type.now) p) (sym is) ∙ ap (λ e. entry_names groups set e p) there)

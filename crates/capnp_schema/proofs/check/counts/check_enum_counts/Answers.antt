@@ -1,0 +1,25 @@
+use Rattle.std.proofs.Common.{◌≡◌, List, ap, arith, length, map, sym}
+use Rattle.std.proofs.lemmas.List.{length-map}
+use Rattle.capnp_schema.specs.Accepted.{HasFewAnnotations}
+use Rattle.capnp_schema.specs.Schema.{Enumerant, seen_enum, seen_enumerant}
+use Rattle.capnp_schema.specs.declared.record.EnumerantRecord.{EnumerantRecord}
+use Rattle.capnp_schema.proofs.Passing.{breaks_within}
+use Rattle.capnp_schema.proofs.SmallCounts.{crowded_enum, annotated_enum, annotated_enumerant}
+use Rattle.capnp_schema.proofs.check.counts.check_enum_counts.Goals as goal
+
+pub returns-then-len-gt-MOST_ENTRIES : goal.returns-then-len-gt-MOST_ENTRIES
+returns-then-len-gt-MOST_ENTRIES c = crowded_enum _ _ (seen_enum c.in-Some.schema.now) (sym c.in-Some.ensures) (let n = length-map c.in-Some.schema.now.enumerants.items seen_enumerant in omega arith)
+
+pub returns-then-not-are_few : goal.returns-then-not-are_few
+returns-then-not-are_few c = annotated_enum _ _ (seen_enum c.in-Some.schema.now) (sym c.in-Some.ensures) (λ few. let t = c.are_few.ensures.1 (rw (← c.deref.ensures.value) at few) in cc)
+
+pub overflow_cast-result : goal.overflow_cast-result
+overflow_cast-result c =
+    let all : c.deref-2.result.now ≡ c.in-Some.schema.now.enumerants.items = c.deref-2.ensures.value in
+    let inside = breaks_within (λ (x : Enumerant). HasFewAnnotations x.annotations) (map seen_enumerant c.deref-2.result.now) c.in-Some-crowded_enumerant.field c.in-Some-crowded_enumerant.ensures in
+    let n = length-map c.deref-2.result.now seen_enumerant in
+    let m = ap (λ (l : List EnumerantRecord). length l) all in
+    omega arith
+
+pub returns-in-Some-crowded_enumerant : goal.returns-in-Some-crowded_enumerant
+returns-in-Some-crowded_enumerant c = annotated_enumerant _ _ (seen_enum c.in-Some.schema.now) (sym c.in-Some.ensures) _ (rw c.deref-2.ensures.value at c.in-Some-crowded_enumerant.ensures)

@@ -1,0 +1,7 @@
+use Rattle.std.proofs.Common.{ℕ, ◌<◌}
+use Rattle.capnp_schema.specs.Entries.{lists_seen}
+use Rattle.capnp_schema.specs.Accepted.{GroupStands}
+use Rattle.capnp_schema.proofs.check.groups.check_groups.Given as goal
+
+abbrev pub invariant-loop-group : goal.invariant-loop-group
+invariant-loop-group l = (g : ℕ) → g < l.group → GroupStands (lists_seen l.lists) g

@@ -1,0 +1,25 @@
+use Rattle.std.proofs.Common.{◌≡◌, List, ap, arith, length, map, sym}
+use Rattle.std.proofs.lemmas.List.{length-map}
+use Rattle.capnp_schema.specs.Accepted.{HaveWords}
+use Rattle.capnp_schema.specs.Schema.{Enumerant, seen_enum, seen_enumerant}
+use Rattle.capnp_schema.specs.Entries.{lists_seen}
+use Rattle.capnp_schema.specs.declared.record.EnumerantRecord.{EnumerantRecord}
+use Rattle.capnp_schema.proofs.Passing.{breaks_within}
+use Rattle.capnp_schema.proofs.WordPlaces.{few_enumerants_at, wordless_enum_at, wordless_enumerant_at}
+use Rattle.capnp_schema.proofs.check.values.check_enum_words.Goals as goal
+
+pub returns-then-not-have_words : goal.returns-then-not-have_words
+returns-then-not-have_words c = wordless_enum_at _ _ (seen_enum c.in-Some.schema.now) (sym c.in-Some.ensures) (λ words. let t = c.have_words.ensures.1 (rw (← c.deref.ensures.value) at words) in cc)
+
+pub overflow_cast-result : goal.overflow_cast-result
+overflow_cast-result c =
+    let all : c.deref-2.result.now ≡ c.in-Some.schema.now.enumerants.items = c.deref-2.ensures.value in
+    let inside = breaks_within (λ (x : Enumerant). HaveWords x.annotations) (map seen_enumerant c.deref-2.result.now) c.in-Some-wordless_enumerant.field c.in-Some-wordless_enumerant.ensures in
+    let few = few_enumerants_at (lists_seen c.args.lists.now) c.args.entry (seen_enum c.in-Some.schema.now) (sym c.in-Some.ensures) c.requires in
+    let n = length-map c.deref-2.result.now seen_enumerant in
+    let k = length-map c.in-Some.schema.now.enumerants.items seen_enumerant in
+    let m = ap (λ (l : List EnumerantRecord). length l) all in
+    omega arith
+
+pub returns-in-Some-wordless_enumerant : goal.returns-in-Some-wordless_enumerant
+returns-in-Some-wordless_enumerant c = wordless_enumerant_at _ _ (seen_enum c.in-Some.schema.now) (sym c.in-Some.ensures) _ (rw c.deref-2.ensures.value at c.in-Some-wordless_enumerant.ensures)

@@ -1,0 +1,39 @@
+use Rattle.std.proofs.Common.{◌≡◌, List, ap, arith, length, map, sym}
+use Rattle.std.proofs.lemmas.List.{length-map}
+use Rattle.capnp_schema.specs.Accepted.{HaveWords}
+use Rattle.capnp_schema.specs.Schema.{Field, seen_node, seen_field}
+use Rattle.capnp_schema.specs.Entries.{lists_seen}
+use Rattle.capnp_schema.specs.Values.{DefaultStands}
+use Rattle.capnp_schema.specs.declared.record.FieldRecord.{FieldRecord}
+use Rattle.capnp_schema.proofs.Passing.{breaks_within}
+use Rattle.capnp_schema.proofs.WordPlaces.{few_at, wordless_node_at, wordless_field_at, broken_default_at}
+use Rattle.capnp_schema.proofs.check.values.check_node_words.Goals as goal
+
+pub returns-then-not-have_words : goal.returns-then-not-have_words
+returns-then-not-have_words c = wordless_node_at _ _ (seen_node c.in-Some.node.now) (sym c.in-Some.ensures) (λ words. let t = c.have_words.ensures.1 (rw (← c.deref.ensures.value) at words) in cc)
+
+pub overflow_cast-result : goal.overflow_cast-result
+overflow_cast-result c =
+    let all : c.deref-2.result.now ≡ c.in-Some.node.now.body.fields.items = c.deref-2.ensures.value in
+    let inside = breaks_within (λ (x : Field). HaveWords x.annotations) (map seen_field c.deref-2.result.now) c.in-Some-wordless_field.field c.in-Some-wordless_field.ensures in
+    let few = few_at (lists_seen c.args.lists.now) c.args.entry (seen_node c.in-Some.node.now) (sym c.in-Some.ensures) c.requires in
+    let n = length-map c.deref-2.result.now seen_field in
+    let k = length-map c.in-Some.node.now.body.fields.items seen_field in
+    let m = ap (λ (l : List FieldRecord). length l) all in
+    omega arith
+
+pub returns-in-Some-wordless_field : goal.returns-in-Some-wordless_field
+returns-in-Some-wordless_field c = wordless_field_at _ _ (seen_node c.in-Some.node.now) (sym c.in-Some.ensures) _ (rw c.deref-2.ensures.value at c.in-Some-wordless_field.ensures)
+
+pub overflow_cast-result-in-Some-broken_default : goal.overflow_cast-result-in-Some-broken_default
+overflow_cast-result-in-Some-broken_default c =
+    let all : c.deref-3.result.now ≡ c.in-Some.node.now.body.fields.items = c.deref-3.ensures.value in
+    let inside = breaks_within (DefaultStands) (map seen_field c.deref-3.result.now) c.in-Some-broken_default.field c.in-Some-broken_default.ensures in
+    let few = few_at (lists_seen c.args.lists.now) c.args.entry (seen_node c.in-Some.node.now) (sym c.in-Some.ensures) c.requires in
+    let n = length-map c.deref-3.result.now seen_field in
+    let k = length-map c.in-Some.node.now.body.fields.items seen_field in
+    let m = ap (λ (l : List FieldRecord). length l) all in
+    omega arith
+
+pub returns-in-Some-broken_default : goal.returns-in-Some-broken_default
+returns-in-Some-broken_default c = broken_default_at _ _ (seen_node c.in-Some.node.now) (sym c.in-Some.ensures) _ (rw c.deref-3.ensures.value at c.in-Some-broken_default.ensures)

@@ -1,0 +1,143 @@
+-- The built-in set: what `builtin::records` gives, as specs see it.
+use Rattle.std.specs.Prelude.{ℕ, List, [], ◌∷◌, true, false, replicate, map, codes, negsuc, pos}
+use Rattle.capnp_schema.specs.Types.{SchemaType, VoidType, BoolType, IntType, UIntType, EnumType, TextType, DataType, StructType, ListType, AnyPointerType}
+use Rattle.capnp_schema.specs.Schema.{Schemas, Node, Brand, Enum, Enumerant, Field, Annotation, Slot, Group, Value, VoidValue, BoolValue, IntValue, UIntValue, EnumValue, TextValue, DataValue, StructValue, ListValue, AnyPointerValue}
+
+-- a plain field
+abbrev pub plain : List ℕ → ℕ → Value → Field
+plain name offset default = record { name = name; discriminant_value = 65535; annotations = []; kind = Slot offset default }
+
+-- a member of the union, by its discriminant value
+abbrev pub member : ℕ → List ℕ → ℕ → Value → Field
+member number name offset default = record { name = name; discriminant_value = number; annotations = []; kind = Slot offset default }
+
+-- a member that is a group
+abbrev pub group_member : ℕ → List ℕ → ℕ → Field
+group_member number name node = record { name = name; discriminant_value = number; annotations = []; kind = Group node }
+
+abbrev pub annotation : ℕ → Value → Annotation
+annotation id value = record { id = id; value = value }
+
+abbrev pub struct_node : ℕ → List ℕ → ℕ → ℕ → List Field → Node
+struct_node id name data_words pointers fields = record { id = id; display_name = name; annotations = []; data_word_count = data_words; pointer_count = pointers; is_group = false; discriminant_count = 0; discriminant_offset = 0; fields = fields }
+
+-- with a union: how many members it has, and where its discriminant stands
+abbrev pub union_node : ℕ → List ℕ → ℕ → ℕ → ℕ → ℕ → List Field → Node
+union_node id name data_words pointers count offset fields = record { id = id; display_name = name; annotations = []; data_word_count = data_words; pointer_count = pointers; is_group = false; discriminant_count = count; discriminant_offset = offset; fields = fields }
+
+abbrev pub zero_word : List ℕ
+zero_word = replicate 8 0
+
+-- a struct of one data word that is 1 and one null pointer
+abbrev pub loop_words : List ℕ
+loop_words = 0 ∷ 0 ∷ 0 ∷ 0 ∷ 1 ∷ 0 ∷ 1 ∷ 0 ∷ 1 ∷ 0 ∷ 0 ∷ 0 ∷ 0 ∷ 0 ∷ 0 ∷ 0 ∷ zero_word
+
+abbrev pub flat_node : Node
+flat_node = struct_node 100 (codes "Flat") 1 0 (plain (codes "a") 0 (UIntValue 2 0) ∷ [])
+
+abbrev pub mixed_node : Node
+mixed_node = union_node 101 (codes "Mixed") 1 1 2 1 (
+    plain (codes "a") 0 (UIntValue 2 0)
+    ∷ member 0 (codes "x") 0 VoidValue
+    ∷ member 1 (codes "y") 4 (UIntValue 1 0)
+    ∷ plain (codes "b") 0 (TextValue [])
+    ∷ [])
+
+abbrev pub many_node : Node
+many_node = struct_node 102 (codes "Many") 2 0 (
+    plain (codes "flag") 0 (BoolValue true)
+    ∷ plain (codes "s") 1 (IntValue 1 (negsuc 0))
+    ∷ plain (codes "n") 1 (UIntValue 2 7)
+    ∷ plain (codes "w") 1 (IntValue 4 (pos 0))
+    ∷ plain (codes "q") 1 (UIntValue 8 0)
+    ∷ plain (codes "z") 0 VoidValue
+    ∷ [])
+
+abbrev pub shapes_node : Node
+shapes_node = union_node 103 (codes "Shapes") 2 2 3 1 (
+    plain (codes "id") 0 (UIntValue 2 0)
+    ∷ group_member 0 (codes "circle") 4
+    ∷ group_member 1 (codes "tag") 5
+    ∷ member 2 (codes "word") 0 (TextValue [])
+    ∷ [])
+
+abbrev pub circle_node : Node
+circle_node = record { id = 104; display_name = codes "Shapes.circle"; annotations = []; data_word_count = 2; pointer_count = 2; is_group = true; discriminant_count = 0; discriminant_offset = 0; fields = plain (codes "r") 1 (UIntValue 4 0) ∷ [] }
+
+abbrev pub tag_fields : List Field
+tag_fields =
+    plain (codes "n") 2 (UIntValue 2 0)
+    ∷ member 0 (codes "u0") 0 VoidValue
+    ∷ member 1 (codes "u1") 8 (UIntValue 1 0)
+    ∷ plain (codes "any") 0 (AnyPointerValue zero_word)
+    ∷ plain (codes "q") 1 (TextValue [])
+    ∷ []
+
+abbrev pub tag_node : Node
+tag_node = record { id = 105; display_name = codes "Shapes.tag"; annotations = []; data_word_count = 2; pointer_count = 2; is_group = true; discriminant_count = 2; discriminant_offset = 3; fields = tag_fields }
+
+abbrev pub loop_node : Node
+loop_node = union_node 106 (codes "Loop") 1 1 2 0 (
+    member 0 (codes "end") 0 VoidValue
+    ∷ member 1 (codes "again") 0 (StructValue loop_words)
+    ∷ [])
+
+abbrev pub lists_node : Node
+lists_node = struct_node 107 (codes "Lists") 0 4 (
+    plain (codes "bytes") 0 (ListValue zero_word)
+    ∷ plain (codes "raw") 1 (DataValue [])
+    ∷ plain (codes "t") 2 (TextValue [])
+    ∷ plain (codes "items") 3 (ListValue zero_word)
+    ∷ [])
+
+abbrev pub node_fields : List Field
+node_fields =
+    record { name = codes "id"; discriminant_value = 65535; annotations = annotation 8 (UIntValue 2 5) ∷ annotation 9 (EnumValue 2) ∷ annotation 10 (EnumValue 2) ∷ []; kind = Slot 0 (UIntValue 8 0) }
+    ∷ plain (codes "displayName") 0 (TextValue [])
+    ∷ plain (codes "size") 4 (EnumValue 0)
+    ∷ []
+
+abbrev pub node_node : Node
+node_node = record { id = 108; display_name = codes "Node"; annotations = annotation 7 (TextValue (codes "note")) ∷ []; data_word_count = 2; pointer_count = 1; is_group = false; discriminant_count = 0; discriminant_offset = 0; fields = node_fields }
+
+-- a brand of the node of its own number, without annotations
+abbrev pub plain_brand : ℕ → List SchemaType → Brand
+plain_brand number types = record { node = number; field_types = types; annotation_types = record { own = []; children = map (λ (t : SchemaType). []) types } }
+
+abbrev pub node_brand : Brand
+node_brand = record { node = 8; field_types = UIntType 8 ∷ TextType ∷ EnumType 0 ∷ []; annotation_types = record { own = TextType ∷ []; children = (TextType ∷ EnumType 0 ∷ TextType ∷ []) ∷ [] ∷ [] ∷ [] } }
+
+abbrev pub enumerant : List ℕ → Enumerant
+enumerant name = record { name = name; annotations = [] }
+
+abbrev pub element_sizes : List Enumerant
+element_sizes =
+    enumerant (codes "empty")
+    ∷ enumerant (codes "bit")
+    ∷ enumerant (codes "byte")
+    ∷ enumerant (codes "twoBytes")
+    ∷ enumerant (codes "fourBytes")
+    ∷ enumerant (codes "eightBytes")
+    ∷ enumerant (codes "pointer")
+    ∷ enumerant (codes "inlineComposite")
+    ∷ []
+
+abbrev pub element_size_enum : Enum
+element_size_enum = record { id = 200; display_name = codes "ElementSize"; annotations = []; enumerants = element_sizes; annotation_types = record { own = []; children = replicate 8 [] } }
+
+abbrev pub builtin : Schemas
+builtin = record {
+  nodes = flat_node ∷ mixed_node ∷ many_node ∷ shapes_node ∷ circle_node ∷ tag_node ∷ loop_node ∷ lists_node ∷ node_node ∷ [];
+  brands =
+      plain_brand 0 (UIntType 2 ∷ [])
+      ∷ plain_brand 1 (UIntType 2 ∷ VoidType ∷ UIntType 1 ∷ TextType ∷ [])
+      ∷ plain_brand 2 (BoolType ∷ IntType 1 ∷ UIntType 2 ∷ IntType 4 ∷ UIntType 8 ∷ VoidType ∷ [])
+      ∷ plain_brand 3 (UIntType 2 ∷ StructType 4 4 ∷ StructType 5 5 ∷ TextType ∷ [])
+      ∷ plain_brand 4 (UIntType 4 ∷ [])
+      ∷ plain_brand 5 (UIntType 2 ∷ VoidType ∷ UIntType 1 ∷ AnyPointerType ∷ TextType ∷ [])
+      ∷ plain_brand 6 (VoidType ∷ StructType 6 6 ∷ [])
+      ∷ plain_brand 7 (ListType (UIntType 1) ∷ DataType ∷ TextType ∷ ListType (StructType 0 0) ∷ [])
+      ∷ node_brand
+      ∷ [];
+  enums = element_size_enum ∷ [];
+}

@@ -1,0 +1,42 @@
+-- The data bits and pointers that a field names.
+use Rattle.std.specs.Prelude.{ℕ, zero, suc, ◌+◌, ◌*◌, List, [], ◌∷◌, Bool, false, ◌&&◌, ◌||◌, ◌==◌, nat_le, nat_lt, length}
+use Rattle.capnp_schema.specs.Types.{SchemaType, is_pointer, struct_number, width}
+use Rattle.capnp_schema.specs.Schema.{Schemas, Node, FieldKind, Slot, Group, TypedField, node_of, fields_of}
+
+-- a place in a struct: a data bit or a pointer
+pub data Place : Type 0 where
+  DataBit : ℕ → Place
+  PointerAt : ℕ → Place
+
+abbrev pub is_in : ℕ → ℕ → ℕ → Bool
+is_in first count i = nat_le first i && nat_lt i (first + count)
+
+-- a slot names its bits or its pointer; a slot of nothing has no bits
+abbrev pub slot_names : ℕ → SchemaType → Place → Bool
+slot_names offset t (DataBit i) = is_in (offset * width t) (width t) i
+slot_names offset t (PointerAt i) = is_pointer t && (i == offset)
+
+-- the 16 bits that say which member of a union is active
+abbrev pub discriminant_names : Node → Place → Bool
+discriminant_names n (DataBit i) = nat_lt 0 n.discriminant_count && is_in (16 * n.discriminant_offset) 16 i
+discriminant_names n (PointerAt i) = false
+
+-- whether one of the fields names the place
+abbrev pub some_field : (TypedField → Place → Bool) → List TypedField → Place → Bool
+some_field names [] p = false
+some_field names (f ∷ fs) p = names f p || some_field names fs p
+
+-- a group field names what its group's fields and discriminant name
+abbrev pub kind_names : (ℕ → Place → Bool) → FieldKind → SchemaType → Place → Bool
+kind_names group (Slot offset default) t p = slot_names offset t p
+kind_names group (Group node) t p = group (struct_number t) p
+
+-- what a struct's fields and discriminant name, through at most so many groups
+abbrev pub brand_names : ℕ → Schemas → ℕ → Place → Bool
+brand_names zero set b p = false
+brand_names (suc groups) set b p =
+    some_field (λ f. kind_names (brand_names groups set) f.field.kind f.type) (fields_of set b) p || discriminant_names (node_of set b) p
+
+-- the footprint of a field, through at most as many groups as there are brands
+abbrev pub footprint : Schemas → TypedField → Place → Bool
+footprint set f = kind_names (brand_names (length set.brands) set) f.field.kind f.type

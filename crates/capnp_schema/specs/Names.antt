@@ -1,0 +1,43 @@
+-- Fields by their names: the tables that a set keeps for its look-ups.
+use Rattle.std.specs.Prelude.{ℕ, ◌≡◌, ◌≢◌, ◌+◌, ◌<◌, List, [], false, length, slice_get, slice_index, Option, Some, None, Vec}
+use Rattle.std.specs.Cmp.Lexicographic.{slice_cmp}
+use Rattle.std.specs.Ordering.{nat_cmp, is_lt}
+use Rattle.std.specs.declared.cmp.Ordering.TheVariants.{Less}
+use Rattle.std.specs.declared.alloc.Global.{Global}
+use Rattle.capnp_schema.specs.Schema.{Schemas, Field, node_at}
+
+abbrev pub name_in : Option Field → List ℕ
+name_in None = []
+name_in (Some f) = f.name
+
+-- the name of field i, nothing past the end
+abbrev pub name_at : List Field → ℕ → List ℕ
+name_at fields i = name_in (slice_get fields i)
+
+-- the indices of the fields in rising order of their names, by their bytes
+pub record IsNameTable (fields : List Field) (table : List ℕ) : Type 0 where
+  pub same_length : length table ≡ length fields
+  pub below : (k : ℕ) → k < length table → slice_index table k < length fields
+  pub each : (i : ℕ) → i < length fields → (k : ℕ) × (k < length table) × (slice_index table k ≡ i)
+  pub rises : (j k : ℕ) → j < k → k < length table → slice_cmp nat_cmp (name_at fields (slice_index table j)) (name_at fields (slice_index table k)) ≡ Less
+
+-- the indices of the fields in the order of their names, some of which may be equal
+pub record IsNameOrder (fields : List Field) (order : List ℕ) : Type 0 where
+  pub same_length : length order ≡ length fields
+  pub below : (k : ℕ) → k < length order → slice_index order k < length fields
+  pub each : (i : ℕ) → i < length fields → (k : ℕ) × (k < length order) × (slice_index order k ≡ i)
+  pub apart : (j k : ℕ) → j < k → k < length order → slice_index order j ≢ slice_index order k
+  pub sorted : (k : ℕ) → k + 1 < length order → is_lt (slice_cmp nat_cmp (name_at fields (slice_index order (k + 1))) (name_at fields (slice_index order k))) ≡ false
+
+-- another field has the name of field i
+pub record IsRepeated (fields : List Field) (i : ℕ) : Type 0 where
+  pub inside : i < length fields
+  pub other : ℕ
+  pub other_inside : other < length fields
+  pub differs : other ≢ i
+  pub same_name : name_at fields other ≡ name_at fields i
+
+-- a table for each node
+pub record AreNameTables (set : Schemas) (tables : List (Vec ℕ Global)) : Type 0 where
+  pub same_length : length tables ≡ length set.nodes
+  pub each : (n : ℕ) (table : Vec ℕ Global) → slice_get tables n ≡ Some table → IsNameTable (node_at set n).fields table.items

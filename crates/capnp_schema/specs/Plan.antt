@@ -1,0 +1,86 @@
+-- Where a field stands, in one entry.
+use Rattle.std.specs.Prelude.{ℕ, zero, suc, ◌+◌, ◌*◌, ◌<◌, ◌≤◌, ◌≡◌, List, Bool, true, false, ◌==◌, IsTrue, IsFalse, IfSome, IfNone, ⊤, Option, Some, None, length, bit_xor}
+use Rattle.capnp_schema.specs.Types.{SchemaType, is_pointer, struct_number, width}
+use Rattle.capnp_schema.specs.Schema.{Schemas, Node, Field, FieldKind, Slot, Group, Value, TypedField, node_of, fields_of, field_at, is_member}
+use Rattle.capnp_schema.specs.Footprint.{DataBit, PointerAt, is_in, discriminant_names, footprint}
+use Rattle.capnp_schema.specs.Footprint.{Place as NamedPlace}
+use Rattle.capnp_schema.specs.SlotValue.{bits_at, default_bits, slot_number}
+use Rattle.capnp_schema.specs.Laws.{struct_names}
+use Rattle.capnp_schema.specs.Accepted.{IsAccepted, LiesInside}
+use Rattle.capnp_schema.specs.declared.plan.Place.{Place}
+use Rattle.capnp_schema.specs.declared.plan.Place.TheVariants as place
+use Rattle.capnp_schema.specs.declared.plan.SlotPlan.{SlotPlan}
+
+-- so many bits at an offset in units of that width; no bits are nowhere
+abbrev pub data_place : ℕ → ℕ → Value → Place
+data_place zero offset default = place.Nothing
+data_place (suc bits) offset default = place.Bits (offset * suc bits) (suc bits) (default_bits default)
+
+-- a pointer, or a data slot of so many bits
+abbrev pub slot_place : (stands_behind_pointer : Bool) → (bits : ℕ) → (offset : ℕ) → Value → Place
+slot_place true bits offset default = place.Pointer offset
+slot_place false bits offset default = data_place bits offset default
+
+abbrev pub place_of : FieldKind → SchemaType → Place
+place_of (Slot offset default) t = slot_place (is_pointer t) (width t) offset default
+place_of (Group node) t = place.Group (struct_number t)
+
+-- a member's discriminant: its first bit in the data section, and the value there while the member is active
+abbrev pub member_plan : (member : Bool) → Node → Field → Option (ℕ × ℕ)
+member_plan true n f = Some (16 * n.discriminant_offset, f.discriminant_value)
+member_plan false n f = None
+
+-- the plan of a field of a node
+abbrev pub plan_in : Node → TypedField → SlotPlan
+plan_in n f = record { place = place_of f.field.kind f.type; member = member_plan (is_member f.field) n f.field }
+
+-- the plan of a field of a brand
+abbrev pub plan_of : Schemas → ℕ → TypedField → SlotPlan
+plan_of set b f = plan_in (node_of set b) f
+
+-- what an accepted set gives of a field, and what its plan's numbers fit by: the slot and a member's discriminant lie
+-- inside the sections
+pub record LiesInNode (n : Node) (f : TypedField) : Type 0 where
+  pub slot : LiesInside n f.field.kind f.type
+  pub discriminant : IsTrue (is_member f.field) → 16 * (n.discriminant_offset + 1) ≤ 64 * n.data_word_count
+
+-- ---- what plans promise ----
+
+-- the data bits and pointers that a plan's place names
+abbrev pub place_names : Schemas → Place → NamedPlace → Bool
+place_names set place.Nothing p = false
+place_names set (place.Bits start bits mask) (DataBit i) = is_in start bits i
+place_names set (place.Bits start bits mask) (PointerAt i) = false
+place_names set (place.Pointer number) (DataBit i) = false
+place_names set (place.Pointer number) (PointerAt i) = i == number
+place_names set (place.Group brand) p = struct_names set brand p
+
+-- the number that stands at a plan's place: its bits, each changed where the mask's is 1; 0 where the place has no bits
+abbrev pub place_number : List ℕ → Place → ℕ
+place_number bytes place.Nothing = 0
+place_number bytes (place.Bits start bits mask) = bit_xor (bits_at bytes start bits) mask
+place_number bytes (place.Pointer number) = 0
+place_number bytes (place.Group brand) = 0
+
+-- where a slot has bits in the data section, the number at its place is the slot's
+abbrev pub HasSlotNumber : FieldKind → SchemaType → Place → Type 0
+HasSlotNumber (Slot offset default) t p = (bytes : List ℕ) → 0 < width t → place_number bytes p ≡ slot_number bytes offset default t
+HasSlotNumber (Group node) t p = ⊤
+
+-- the 16 bits from the first on
+abbrev pub discriminant_bits : ℕ → NamedPlace → Bool
+discriminant_bits first (DataBit i) = is_in first 16 i
+discriminant_bits first (PointerAt i) = false
+
+-- a plan's place is the field's footprint and has the slot's number; its member is the discriminant with the field's
+-- value, and there is none for a plain field
+pub record IsPlan (set : Schemas) (b : ℕ) (f : TypedField) (plan : SlotPlan) : Type 0 where
+  pub names : (p : NamedPlace) → place_names set plan.place p ≡ footprint set f p
+  pub number : HasSlotNumber f.field.kind f.type plan.place
+  pub member : IfSome plan.member (λ m. IsTrue (is_member f.field) × (m.1 ≡ f.field.discriminant_value) × ((p : NamedPlace) → discriminant_bits m.0 p ≡ discriminant_names (node_of set b) p))
+  pub plain : IfNone plan.member (IsFalse (is_member f.field))
+
+-- the plan of each field of an accepted set is that, and its numbers fit
+abbrev pub PlansStand : Type 0
+PlansStand = (set : Schemas) → IsAccepted set → (b i : ℕ) → b < length set.brands → i < length (fields_of set b) →
+    LiesInNode (node_of set b) (field_at set b i) × IsPlan set b (field_at set b i) (plan_of set b (field_at set b i))

@@ -1,0 +1,37 @@
+-- What spans name, and the spans of the fields of a brand.
+use Rattle.std.specs.Prelude.{ℕ, ◌≡◌, ◌||◌, ◌==◌, Bool, true, false, List, [], ◌∷◌, length, slice_get, Option, Some, None, Vec}
+use Rattle.std.specs.declared.alloc.Global.{Global}
+use Rattle.capnp_schema.specs.Schema.{Schemas, TypedField, fields_of, field_at}
+use Rattle.capnp_schema.specs.Footprint.{Place, DataBit, PointerAt, is_in, kind_names, brand_names, footprint}
+use Rattle.capnp_schema.specs.declared.check.spans.Span.{Span}
+use Rattle.capnp_schema.specs.declared.check.spans.Span.TheVariants.{Data, Pointer}
+
+abbrev pub span_names : Span → Place → Bool
+span_names (Data first count) (DataBit i) = is_in first count i
+span_names (Data first count) (PointerAt i) = false
+span_names (Pointer number) (DataBit i) = false
+span_names (Pointer number) (PointerAt i) = i == number
+
+-- whether one of the spans names the place
+abbrev pub some_span : List Span → Place → Bool
+some_span [] p = false
+some_span (s ∷ ss) p = span_names s p || some_span ss p
+
+-- what a field names, through at most so many groups
+abbrev pub field_names : ℕ → Schemas → TypedField → Place → Bool
+field_names groups set f = kind_names (brand_names groups set) f.field.kind f.type
+
+-- the same of a field that may be missing
+abbrev pub entry_names : ℕ → Schemas → Option TypedField → Place → Bool
+entry_names groups set None p = false
+entry_names groups set (Some f) p = field_names groups set f p
+
+pub record SpansMeet (a b : List Span) : Type 0 where
+  pub place : Place
+  pub first : some_span a place ≡ true
+  pub second : some_span b place ≡ true
+
+-- at each field of a brand what it names
+pub record AreSpansOf (set : Schemas) (b : ℕ) (spans : List (Vec Span Global)) : Type 0 where
+  pub counted : length spans ≡ length (fields_of set b)
+  pub each : (i : ℕ) (v : Vec Span Global) (p : Place) → slice_get spans i ≡ Some v → some_span v.items p ≡ footprint set (field_at set b i) p

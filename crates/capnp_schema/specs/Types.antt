@@ -1,0 +1,108 @@
+-- Types as specs see them.
+use Rattle.std.specs.Prelude.{ℕ, zero, suc, ◌*◌, Bool, true, false}
+use Rattle.capnp_wire.specs.declared.size.ElementSize.{ElementSize}
+use Rattle.capnp_wire.specs.declared.size.ElementSize.TheVariants as size
+use Rattle.capnp_base.specs.declared.introspect.«Type».{«Type» as TypeHandle}
+use Rattle.capnp_base.specs.declared.introspect.BaseType.{BaseType}
+use Rattle.capnp_base.specs.declared.introspect.BaseType.TheVariants as base
+
+-- A type: the integers by their bytes, with a sign and without; an enum by its number; a struct by the numbers of its
+-- brand and of its node; a list by the type of its elements.
+pub data SchemaType : Type 0 where
+  VoidType : SchemaType
+  BoolType : SchemaType
+  IntType : (bytes : ℕ) → SchemaType
+  UIntType : (bytes : ℕ) → SchemaType
+  EnumType : (number : ℕ) → SchemaType
+  TextType : SchemaType
+  DataType : SchemaType
+  StructType : (number generic : ℕ) → SchemaType
+  ListType : (element : SchemaType) → SchemaType
+  AnyPointerType : SchemaType
+
+-- what a type that is no list stands for
+abbrev pub seen_base : BaseType → SchemaType
+seen_base base.Void = VoidType
+seen_base base.Bool = BoolType
+seen_base base.Int8 = IntType 1
+seen_base base.Int16 = IntType 2
+seen_base base.Int32 = IntType 4
+seen_base base.Int64 = IntType 8
+seen_base base.UInt8 = UIntType 1
+seen_base base.UInt16 = UIntType 2
+seen_base base.UInt32 = UIntType 4
+seen_base base.UInt64 = UIntType 8
+seen_base base.Text = TextType
+seen_base base.Data = DataType
+seen_base (base.Struct schema) = StructType schema.number schema.generic
+seen_base base.AnyPointer = AnyPointerType
+seen_base (base.Enum schema) = EnumType schema.number
+
+-- so many lists around a type
+abbrev pub lists_of : ℕ → SchemaType → SchemaType
+lists_of zero t = t
+lists_of (suc count) t = ListType (lists_of count t)
+
+-- the type that a value of the code stands for
+abbrev pub seen_type : TypeHandle → SchemaType
+seen_type t = lists_of t.list_count (seen_base t.base)
+
+-- whether values of the type stand behind a pointer
+abbrev pub is_pointer : SchemaType → Bool
+is_pointer VoidType = false
+is_pointer BoolType = false
+is_pointer (IntType bytes) = false
+is_pointer (UIntType bytes) = false
+is_pointer (EnumType number) = false
+is_pointer TextType = true
+is_pointer DataType = true
+is_pointer (StructType number generic) = true
+is_pointer (ListType element) = true
+is_pointer AnyPointerType = true
+
+-- the bits of a data slot of the type; every other type takes a pointer or nothing
+abbrev pub width : SchemaType → ℕ
+width VoidType = 0
+width BoolType = 1
+width (IntType bytes) = 8 * bytes
+width (UIntType bytes) = 8 * bytes
+width (EnumType number) = 16
+width TextType = 0
+width DataType = 0
+width (StructType number generic) = 0
+width (ListType element) = 0
+width AnyPointerType = 0
+
+-- the brand that a struct type names, 0 for every other type
+abbrev pub struct_number : SchemaType → ℕ
+struct_number VoidType = 0
+struct_number BoolType = 0
+struct_number (IntType bytes) = 0
+struct_number (UIntType bytes) = 0
+struct_number (EnumType number) = 0
+struct_number TextType = 0
+struct_number DataType = 0
+struct_number (StructType number generic) = number
+struct_number (ListType element) = 0
+struct_number AnyPointerType = 0
+
+-- the size of the elements of a list of such values
+abbrev pub integer_size : ℕ → ElementSize
+integer_size zero = size.Byte
+integer_size (suc zero) = size.Byte
+integer_size (suc (suc zero)) = size.TwoBytes
+integer_size (suc (suc (suc zero))) = size.FourBytes
+integer_size (suc (suc (suc (suc zero)))) = size.FourBytes
+integer_size (suc (suc (suc (suc (suc bytes))))) = size.EightBytes
+
+abbrev pub element_size : SchemaType → ElementSize
+element_size VoidType = size.Void
+element_size BoolType = size.Bit
+element_size (IntType bytes) = integer_size bytes
+element_size (UIntType bytes) = integer_size bytes
+element_size (EnumType number) = size.TwoBytes
+element_size TextType = size.Pointer
+element_size DataType = size.Pointer
+element_size (StructType number generic) = size.InlineComposite
+element_size (ListType element) = size.Pointer
+element_size AnyPointerType = size.Pointer

@@ -1,0 +1,15 @@
+//! The rules of a schema set, each with a function that decides it.
+
+pub(crate) mod annotations;
+pub(crate) mod counts;
+pub(crate) mod fields;
+pub(crate) mod footprints;
+pub(crate) mod groups;
+mod layers;
+mod list_defaults;
+pub(crate) mod names;
+mod refusal;
+mod spans;
+pub(crate) mod types;
+pub(crate) mod unions;
+pub(crate) mod values;

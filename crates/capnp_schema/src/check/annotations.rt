@@ -1,0 +1,115 @@
+//! The types of annotations name existing entries.
+ghost use Rattle.std.specs.Prelude.{◌≡◌, ◌≤◌, length, map, slice_get, All, MatchOption, MatchResult};
+ghost use Rattle.std.specs.Bool.{Decides};
+ghost use Rattle.std.specs.Option.{option_copied, option_map};
+ghost use Rattle.capnp_schema.specs.Types.{seen_type};
+ghost use Rattle.capnp_schema.specs.Schema.{Brand, Enum, seen_types};
+ghost use Rattle.capnp_schema.specs.Entries.{lists_seen};
+ghost use Rattle.capnp_schema.specs.Accepted.{NamesEntries, TypesName, Rule2};
+ghost use Rattle.capnp_schema.specs.Broken.{EntryBreaks, IsRefusalOf};
+ghost use Rattle.capnp_schema.specs.Tests.{HasFewFields};
+ghost use Rattle.capnp_schema.specs.Annotations.{seen_children, IsUnnamed, HasFewEnumerants, TypesStand};
+
+use crate::check::fields::{check_fields, names_entry};
+use crate::check::refusal::{WHOLE, refusal};
+use crate::check::types::{child_at, enum_at};
+use crate::lists::Lists;
+use crate::record::AnnotationTypes;
+use capnp_base::introspect::Type;
+use capnp_device::error::{Result, SchemaTable};
+
+/// The type of a number.
+fn type_in(types: &[Type], i: usize) -> Option<&Type>
+    ensures { option_map seen_type (option_copied result) ≡ slice_get (map seen_type types.now) i }
+{
+    types.get(i)
+}
+
+/// Whether all types name existing entries.
+fn all_named(lists: &Lists, types: &[Type]) -> bool
+    ensures { Decides result (All (NamesEntries (lists_seen lists.now)) (map seen_type types.now)) }
+{
+    for i in 0..types.len() {
+        let Some(of) = type_in(types, i) else {
+            return true;
+        };
+        if !names_entry(lists, of) {
+            return false;
+        }
+    }
+    true
+}
+
+/// The first field or enumerant with an annotation whose type names no entry.
+fn unnamed_child(lists: &Lists, children: &[Vec<Type>]) -> Option<u16>
+    requires { length children.now ≤ 65535 }
+    ensures { MatchOption result (All (All (NamesEntries (lists_seen lists.now))) (seen_children children.now)) (λ i. EntryBreaks (seen_children children.now) (All (NamesEntries (lists_seen lists.now))) i) }
+{
+    for i in 0..children.len() {
+        let Some(types) = child_at(children, i) else {
+            return None;
+        };
+        if !all_named(lists, types) {
+            return Some(i as u16);
+        }
+    }
+    None
+}
+
+/// Where an annotation's type names no entry: a field or enumerant, or the whole entry.
+fn unnamed(lists: &Lists, types: &AnnotationTypes) -> Option<u16>
+    requires { length types.now.children.items ≤ 65535 }
+    ensures { MatchOption result (TypesName (lists_seen lists.now) (seen_types types.now)) (IsUnnamed (lists_seen lists.now) (seen_types types.now)) }
+{
+    if !all_named(lists, &types.own) {
+        return Some(WHOLE);
+    }
+    unnamed_child(lists, &types.children)
+}
+
+/// The types of each brand's annotations.
+fn check_brand_types(lists: &Lists) -> Result<()>
+    requires few { HasFewFields (lists_seen lists.now) }
+    requires lengths { Rule2 (lists_seen lists.now) }
+    ensures { MatchResult result (λ _. All (λ (b : Brand). TypesName (lists_seen lists.now) b.annotation_types) (lists_seen lists.now).brands) (IsRefusalOf (lists_seen lists.now)) }
+{
+    for brand in 0..lists.brands.len() {
+        let Some(entry) = lists.brand_at(brand) else {
+            return Ok(());
+        };
+        if let Some(place) = unnamed(lists, &entry.annotation_types) {
+            return Err(refusal(1, SchemaTable::Brand, brand, place));
+        }
+    }
+    Ok(())
+}
+
+/// The types of each enum's annotations.
+fn check_enum_types(lists: &Lists) -> Result<()>
+    requires few { HasFewEnumerants (lists_seen lists.now) }
+    requires lengths { Rule2 (lists_seen lists.now) }
+    ensures { MatchResult result (λ _. All (λ (e : Enum). TypesName (lists_seen lists.now) e.annotation_types) (lists_seen lists.now).enums) (IsRefusalOf (lists_seen lists.now)) }
+{
+    for e in 0..lists.enums.len() {
+        let Some(entry) = enum_at(lists, e) else {
+            return Ok(());
+        };
+        if let Some(place) = unnamed(lists, &entry.annotation_types) {
+            return Err(refusal(1, SchemaTable::Enum, e, place));
+        }
+    }
+    Ok(())
+}
+
+/// Each type names an existing entry; and each field's slot, default and group fit its type.
+pub(crate) fn check_types(lists: &Lists) -> Result<()>
+    requires few { HasFewFields (lists_seen lists.now) }
+    requires few_enumerants { HasFewEnumerants (lists_seen lists.now) }
+    requires lengths { Rule2 (lists_seen lists.now) }
+    ensures { MatchResult result (λ _. TypesStand (lists_seen lists.now)) (IsRefusalOf (lists_seen lists.now)) }
+{
+    check_fields(lists)?;
+    check_brand_types(lists)?;
+    check_enum_types(lists)?;
+    Ok(())
+}

@@ -1,0 +1,145 @@
+//! Rule 3: how many fields, enumerants and annotations there are, and that the names of a node's fields are distinct.
+ghost use Rattle.std.specs.Prelude.{◌≡◌, ◌<◌, ◌≤◌, ◌^◌, ◌↔◌, IsTrue, All, length, map, MatchOption, MatchResult};
+ghost use Rattle.std.specs.Option.{option_copied, option_map};
+ghost use Rattle.capnp_schema.specs.Schema.{Enumerant, Field, seen_enum, seen_enumerant, seen_field, seen_annotations};
+ghost use Rattle.capnp_schema.specs.Entries.{enum_entry, lists_seen};
+ghost use Rattle.capnp_schema.specs.Accepted.{HasFewAnnotations};
+ghost use Rattle.capnp_schema.specs.Broken.{EntryBreaks, IsRefusalOf};
+ghost use Rattle.capnp_schema.specs.Counts.{HasFewEnumerants, HasFewFields, HasSmallCounts, IsSoAt};
+
+use crate::lists::Lists;
+use crate::record::{AnnotationRecord, EnumRecord, EnumerantRecord, FieldRecord};
+use capnp_device::error::{Error, ErrorKind, Result, SchemaTable};
+
+/// How many fields a node has at most, and an enum enumerants.
+const MOST_ENTRIES: usize = 65535;
+
+/// The enum of a number.
+pub(crate) fn enum_at(lists: &Lists, number: usize) -> Option<&EnumRecord>
+    ensures { option_map seen_enum (option_copied result) ≡ enum_entry (lists_seen lists.now) number }
+{
+    lists.enums.get(number)
+}
+
+/// Whether there are fewer annotations than a list can have elements.
+fn are_few(annotations: &[AnnotationRecord]) -> bool
+    ensures { IsTrue result ↔ HasFewAnnotations (seen_annotations annotations.now) }
+{
+    annotations.len() < 1 << 29
+}
+
+/// A field with too many annotations.
+fn crowded_field(fields: &[FieldRecord]) -> Option<usize>
+    ensures { MatchOption result (All (λ (f : Field). HasFewAnnotations f.annotations) (map seen_field fields.now)) (EntryBreaks (map seen_field fields.now) (λ (f : Field). HasFewAnnotations f.annotations)) }
+{
+    for i in 0..fields.len() {
+        if !are_few(&fields[i].annotations) {
+            return Some(i);
+        }
+    }
+    None
+}
+
+/// An enumerant with too many annotations.
+fn crowded_enumerant(enumerants: &[EnumerantRecord]) -> Option<usize>
+    ensures { MatchOption result (All (λ (x : Enumerant). HasFewAnnotations x.annotations) (map seen_enumerant enumerants.now)) (EntryBreaks (map seen_enumerant enumerants.now) (λ (x : Enumerant). HasFewAnnotations x.annotations)) }
+{
+    for i in 0..enumerants.len() {
+        if !are_few(&enumerants[i].annotations) {
+            return Some(i);
+        }
+    }
+    None
+}
+
+fn check_node_counts(lists: &Lists, entry: usize) -> Result<()>
+    ensures { MatchResult result (λ _. IsSoAt (lists_seen lists.now).nodes HasFewFields entry) (IsRefusalOf (lists_seen lists.now)) }
+{
+    let Some(node) = lists.node_at(entry) else {
+        return Ok(());
+    };
+    if node.body.fields.len() > MOST_ENTRIES {
+        return Err(Error {
+            kind: ErrorKind::Schema {
+                rule: 3,
+                table: SchemaTable::Node,
+                entry,
+                field: 65535,
+            },
+        });
+    }
+    if !are_few(&node.annotations) {
+        return Err(Error {
+            kind: ErrorKind::Schema {
+                rule: 3,
+                table: SchemaTable::Node,
+                entry,
+                field: 65535,
+            },
+        });
+    }
+    match crowded_field(&node.body.fields) {
+        Some(field) => Err(Error {
+            kind: ErrorKind::Schema {
+                rule: 3,
+                table: SchemaTable::Node,
+                entry,
+                field: field as u16,
+            },
+        }),
+        None => Ok(()),
+    }
+}
+
+fn check_enum_counts(lists: &Lists, entry: usize) -> Result<()>
+    ensures { MatchResult result (λ _. IsSoAt (lists_seen lists.now).enums HasFewEnumerants entry) (IsRefusalOf (lists_seen lists.now)) }
+{
+    let Some(schema) = enum_at(lists, entry) else {
+        return Ok(());
+    };
+    if schema.enumerants.len() > MOST_ENTRIES {
+        return Err(Error {
+            kind: ErrorKind::Schema {
+                rule: 3,
+                table: SchemaTable::Enum,
+                entry,
+                field: 65535,
+            },
+        });
+    }
+    if !are_few(&schema.annotations) {
+        return Err(Error {
+            kind: ErrorKind::Schema {
+                rule: 3,
+                table: SchemaTable::Enum,
+                entry,
+                field: 65535,
+            },
+        });
+    }
+    match crowded_enumerant(&schema.enumerants) {
+        Some(field) => Err(Error {
+            kind: ErrorKind::Schema {
+                rule: 3,
+                table: SchemaTable::Enum,
+                entry,
+                field: field as u16,
+            },
+        }),
+        None => Ok(()),
+    }
+}
+
+/// Refuses a node of more than 65,535 fields, an enum of more than 65,535 enumerants, and 2^29 annotations or more at one
+/// place, with rule 3.
+pub(crate) fn check_counts(lists: &Lists) -> Result<()>
+    ensures { MatchResult result (λ _. HasSmallCounts (lists_seen lists.now)) (IsRefusalOf (lists_seen lists.now)) }
+{
+    for n in 0..lists.nodes.len() {
+        check_node_counts(lists, n)?;
+    }
+    for e in 0..lists.enums.len() {
+        check_enum_counts(lists, e)?;
+    }
+    Ok(())
+}

@@ -1,0 +1,82 @@
+//! Footprints: a plain field's meets that of no other field of its struct, and the discriminant meets none.
+ghost use Rattle.std.specs.Prelude.{true, false, ◌≡◌, ◌<◌, ◌≤◌, ◌↔◌, ℕ, IsTrue, IsFalse, length, MatchOption, MatchResult};
+ghost use Rattle.capnp_schema.specs.Schema.{fields_of, field_at, is_member};
+ghost use Rattle.capnp_schema.specs.Entries.{lists_seen};
+ghost use Rattle.capnp_schema.specs.Accepted.{FieldsApart, DiscriminantApart, Rule1, Rule3, Rule7, Rule11, Rule12};
+ghost use Rattle.capnp_schema.specs.Broken.{FieldBreaks, IsRefusalOf};
+ghost use Rattle.capnp_schema.specs.Spans.{AreSpansOf};
+
+use crate::check::groups::{brand_count, broken};
+use crate::check::spans::{Span, brand_spans, discriminant_span, spans_meet};
+use crate::lists::Lists;
+use capnp_wire::error::Result;
+use std::alloc::Global;
+
+/// Whether a field is no member of its struct's union.
+fn is_plain(lists: &Lists, brand: usize, field: usize) -> bool
+    requires { field < length (fields_of (lists_seen lists.now) brand) }
+    ensures { IsTrue result ↔ IsFalse (is_member (field_at (lists_seen lists.now) brand field).field) }
+{
+    match lists.field_at(brand, field) {
+        Some(typed) => typed.field.discriminant_value == 65535,
+        None => false,
+    }
+}
+
+/// A plain field of a brand whose footprint meets that of another field.
+fn meeting_field(lists: &Lists, brand: usize, spans: &[Vec<Span>]) -> Option<usize>
+    requires within { brand < length (lists_seen lists.now).brands }
+    requires spans { AreSpansOf (lists_seen lists.now) brand spans.now }
+    ensures { MatchOption result ((i : ℕ) → i < length (fields_of (lists_seen lists.now) brand) → FieldsApart (lists_seen lists.now) brand i (field_at (lists_seen lists.now) brand i)) (λ i. FieldBreaks (lists_seen lists.now) (FieldsApart (lists_seen lists.now) brand i) brand i) }
+{
+    for i in 0..spans.len() {
+        if is_plain(lists, brand, i) {
+            for j in 0..spans.len() {
+                if i != j && spans_meet(&spans[i], &spans[j]) {
+                    return Some(i);
+                }
+            }
+        }
+    }
+    None
+}
+
+/// A field of a brand whose footprint meets the bits of the brand's discriminant.
+fn discriminant_field(lists: &Lists, brand: usize, spans: &[Vec<Span>]) -> Option<usize>
+    requires within { brand < length (lists_seen lists.now).brands }
+    requires spans { AreSpansOf (lists_seen lists.now) brand spans.now }
+    ensures { MatchOption result ((i : ℕ) → i < length (fields_of (lists_seen lists.now) brand) → DiscriminantApart (lists_seen lists.now) brand (field_at (lists_seen lists.now) brand i)) (λ i. FieldBreaks (lists_seen lists.now) (DiscriminantApart (lists_seen lists.now) brand) brand i) }
+{
+    let Some(node) = lists.node_of(brand) else {
+        return None;
+    };
+    let own = [discriminant_span(node)];
+    for i in 0..spans.len() {
+        if spans_meet(&own, &spans[i]) {
+            return Some(i);
+        }
+    }
+    None
+}
+
+/// Decides rules 11 and 12: a plain field's footprint meets that of no other field of its struct, and no field's meets
+/// the discriminant of its struct. Groups are followed, so that in sets where each group has one parent it takes at most
+/// quadratic time in the fields of one struct with its groups. It is refused where memory is short, or at a field for
+/// which one of the rules is broken.
+pub(crate) fn check_footprints(alloc: Global, lists: &Lists) -> Result<()>
+    requires rule1 { Rule1 (lists_seen lists.now) }
+    requires rule3 { Rule3 (lists_seen lists.now) }
+    requires rule7 { Rule7 (lists_seen lists.now) }
+    ensures { MatchResult result (λ _. Rule11 (lists_seen lists.now) × Rule12 (lists_seen lists.now)) (IsRefusalOf (lists_seen lists.now)) }
+{
+    for brand in 0..brand_count(lists) {
+        let spans = brand_spans(alloc, lists, brand)?;
+        if let Some(field) = meeting_field(lists, brand, &spans) {
+            return Err(broken(11, brand, field as u16));
+        }
+        if let Some(field) = discriminant_field(lists, brand, &spans) {
+            return Err(broken(12, brand, field as u16));
+        }
+    }
+    Ok(())
+}

@@ -1,0 +1,201 @@
+//! Groups: the field that each one stands under, and the struct that it stands in.
+ghost use Rattle.std.specs.Prelude.{true, false, ◌≡◌, ℕ, ◌<◌, ◌↔◌, IsTrue, IfOk, IfErr, length, slice_get, MatchResult};
+ghost use Rattle.capnp_device.specs.declared.error.ErrorKind.TheVariants.{OutOfMemory, Schema};
+ghost use Rattle.capnp_device.specs.declared.error.SchemaTable.TheVariants.{Brand as InBrands};
+ghost use Rattle.capnp_schema.specs.Types.{struct_number, seen_type};
+ghost use Rattle.capnp_schema.specs.Schema.{node_of};
+ghost use Rattle.capnp_schema.specs.Entries.{lists_seen};
+ghost use Rattle.capnp_schema.specs.Accepted.{Rule1, Rule7, Rule8, GroupStands};
+ghost use Rattle.capnp_schema.specs.Broken.{IsRefusalOf};
+ghost use Rattle.capnp_schema.specs.Parents.{group_target, TargetsAreGroups, HasNoParents, IsParentTable, entry_in, StandsInStruct};
+
+use crate::lists::Lists;
+use crate::record::FieldKind;
+use capnp_base::introspect::{Type, TypeVariant};
+use capnp_wire::error::{Error, ErrorKind, Result, SchemaTable};
+use std::alloc::Global;
+
+/// A rule that is broken at a whole brand, or at one of its fields.
+pub(crate) fn broken(rule: u32, brand: usize, field: u16) -> Error
+    ensures { result.kind ≡ Schema rule InBrands brand field }
+{
+    Error {
+        kind: ErrorKind::Schema {
+            rule,
+            table: SchemaTable::Brand,
+            entry: brand,
+            field,
+        },
+    }
+}
+
+/// How many brands there are.
+pub(crate) fn brand_count(lists: &Lists) -> usize
+    ensures { result ≡ length (lists_seen lists.now).brands }
+{
+    lists.brands.len()
+}
+
+/// The brand that a struct type names, 0 for every other type.
+#[tactic(auto, using(crate::proofs::Variants::number_of_variant))]
+pub(crate) fn struct_number(field_type: &Type) -> usize
+    ensures { result ≡ struct_number (seen_type field_type.now) }
+{
+    match field_type.which() {
+        TypeVariant::Struct(schema) => schema.number as usize,
+        _ => 0,
+    }
+}
+
+/// The brand that a group field names, nothing for a slot.
+pub(crate) fn group_target(lists: &Lists, brand: usize, field: usize) -> Option<usize>
+    ensures { result ≡ group_target (lists_seen lists.now) brand field }
+{
+    let Some(typed) = lists.field_at(brand, field) else {
+        return None;
+    };
+    match typed.field.kind {
+        FieldKind::Slot { .. } => None,
+        FieldKind::Group { .. } => Some(struct_number(typed.field_type)),
+    }
+}
+
+/// Whether a brand's node is marked as a group.
+fn is_group(lists: &Lists, brand: usize) -> bool
+    requires { brand < length (lists_seen lists.now).brands }
+    ensures { result ≡ (node_of (lists_seen lists.now) brand).is_group }
+{
+    match lists.node_of(brand) {
+        Some(node) => node.body.is_group,
+        None => false,
+    }
+}
+
+/// The words of a brand's data section.
+fn data_words(lists: &Lists, brand: usize) -> u16
+    requires { brand < length (lists_seen lists.now).brands }
+    ensures { result ≡ (node_of (lists_seen lists.now) brand).data_word_count }
+{
+    match lists.node_of(brand) {
+        Some(node) => node.body.data_word_count,
+        None => 0,
+    }
+}
+
+/// The pointers of a brand's pointer section.
+fn pointers(lists: &Lists, brand: usize) -> u16
+    requires { brand < length (lists_seen lists.now).brands }
+    ensures { result ≡ (node_of (lists_seen lists.now) brand).pointer_count }
+{
+    match lists.node_of(brand) {
+        Some(node) => node.body.pointer_count,
+        None => 0,
+    }
+}
+
+/// Whether two brands have sections of the same sizes.
+fn has_same_sizes(lists: &Lists, a: usize, b: usize) -> bool
+    requires a_in { a < length (lists_seen lists.now).brands }
+    requires b_in { b < length (lists_seen lists.now).brands }
+    ensures { IsTrue result ↔ ((node_of (lists_seen lists.now) a).data_word_count ≡ (node_of (lists_seen lists.now) b).data_word_count) × ((node_of (lists_seen lists.now) a).pointer_count ≡ (node_of (lists_seen lists.now) b).pointer_count) }
+{
+    data_words(lists, a) == data_words(lists, b) && pointers(lists, a) == pointers(lists, b)
+}
+
+/// A table that names no parent yet.
+fn no_parents(alloc: Global, count: usize) -> Result<Vec<Option<(usize, usize)>>>
+    ensures ok { IfOk result (λ table. HasNoParents table.items count) }
+    ensures refused { IfErr result (λ e. e.kind ≡ OutOfMemory) }
+{
+    let mut table: Vec<Option<(usize, usize)>> = Vec::new(alloc);
+    for _ in 0..count {
+        table.push(None)?;
+    }
+    Ok(table)
+}
+
+/// At each brand the brand and the index of the group field that names it. A group that two fields name is refused.
+fn parent_table(alloc: Global, lists: &Lists) -> Result<Vec<Option<(usize, usize)>>>
+    requires { TargetsAreGroups (lists_seen lists.now) }
+    ensures { MatchResult result (λ table. IsParentTable (lists_seen lists.now) table.items) (IsRefusalOf (lists_seen lists.now)) }
+{
+    let mut table = no_parents(alloc, brand_count(lists))?;
+    for brand in 0..brand_count(lists) {
+        for field in 0..lists.field_count(brand) {
+            if let Some(group) = group_target(lists, brand, field) {
+                if table[group].is_some() {
+                    return Err(broken(8, group, 65535));
+                }
+                table[group] = Some((brand, field));
+            }
+        }
+    }
+    Ok(table)
+}
+
+/// The group field that names a brand.
+fn parent_at(parents: &[Option<(usize, usize)>], group: usize) -> Option<(usize, usize)>
+    ensures { result ≡ entry_in (slice_get parents.now group) }
+{
+    match parents.get(group) {
+        Some(parent) => *parent,
+        None => None,
+    }
+}
+
+/// Whether the parents of a group lead to a struct. No more of them are followed than there are brands.
+fn stands_in_struct(lists: &Lists, parents: &[Option<(usize, usize)>], group: usize) -> bool
+    requires targets { TargetsAreGroups (lists_seen lists.now) }
+    requires table { IsParentTable (lists_seen lists.now) parents.now }
+    requires within { group < length (lists_seen lists.now).brands }
+    ensures { IsTrue result ↔ StandsInStruct (lists_seen lists.now) group }
+{
+    let mut at = group;
+    for _ in 0..lists.brands.len() + 1 {
+        if !is_group(lists, at) {
+            return true;
+        }
+        match parent_at(parents, at) {
+            Some((brand, _)) => at = brand,
+            None => return false,
+        }
+    }
+    false
+}
+
+/// Whether a group has one parent, with sections of its own sizes, and stands in a struct.
+fn group_stands(lists: &Lists, parents: &[Option<(usize, usize)>], group: usize) -> bool
+    requires targets { TargetsAreGroups (lists_seen lists.now) }
+    requires table { IsParentTable (lists_seen lists.now) parents.now }
+    requires within { group < length (lists_seen lists.now).brands }
+    ensures yes { result ≡ true → GroupStands (lists_seen lists.now) group }
+    ensures no { result ≡ false → GroupStands (lists_seen lists.now) group → ⊥ }
+{
+    if !is_group(lists, group) {
+        return true;
+    }
+    let Some((brand, _)) = parent_at(parents, group) else {
+        return false;
+    };
+    if !has_same_sizes(lists, group, brand) {
+        return false;
+    }
+    stands_in_struct(lists, parents, group)
+}
+
+/// Decides rule 8: a group brand is named by exactly one group field, has its parent's section sizes, and its chain of
+/// parents ends at a struct that is no group. It takes one pass over the fields and, for each group, a walk of at most
+/// as many steps as there are brands. It is refused where memory is short, or at a group for which the rule is broken.
+pub(crate) fn check_groups(alloc: Global, lists: &Lists) -> Result<()>
+    requires rule1 { Rule1 (lists_seen lists.now) }
+    requires rule7 { Rule7 (lists_seen lists.now) }
+    ensures { MatchResult result (λ _. Rule8 (lists_seen lists.now)) (IsRefusalOf (lists_seen lists.now)) }
+{
+    let parents = parent_table(alloc, lists)?;
+    for group in 0..brand_count(lists) {
+        if !group_stands(lists, &parents, group) {
+            return Err(broken(8, group, 65535));
+        }
+    }
+    Ok(())
+}

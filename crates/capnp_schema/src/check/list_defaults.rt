@@ -1,0 +1,131 @@
+//! Rule 6: a list default is read as the elements of its field's type.
+ghost use Rattle.std.specs.Prelude.{◌≡◌, ◌↔◌, All, IsOk, IsTrue, MatchResult};
+ghost use Rattle.capnp_wire.specs.Reading.{as_list};
+ghost use Rattle.capnp_schema.specs.Types.{element_size, seen_type};
+ghost use Rattle.capnp_schema.specs.Schema.{fields_of, seen_kind, seen_value};
+ghost use Rattle.capnp_schema.specs.Entries.{lists_seen};
+ghost use Rattle.capnp_schema.specs.Accepted.{EachField, KindDefault, ListReads, Rule3, root_of};
+ghost use Rattle.capnp_schema.specs.Broken.{IsRefusalOf};
+ghost use Rattle.capnp_schema.specs.Counts.{IsSoAt};
+ghost use Rattle.capnp_schema.specs.ListDefaults.{LayerReads, ReadsDefault, layer_size};
+
+use crate::lists::Lists;
+use crate::record::{FieldKind, ValueRecord};
+use capnp_base::introspect::{Type, TypeVariant};
+use capnp_device::error::{Error, ErrorKind, Result, SchemaTable};
+use capnp_wire::PointerReader;
+use capnp_wire::size::ElementSize;
+
+/// The size of the elements of a list of values of a layer.
+fn size_of_layer(layer: TypeVariant) -> ElementSize
+    ensures { result ≡ layer_size layer }
+{
+    match layer {
+        TypeVariant::Void => ElementSize::Void,
+        TypeVariant::Bool => ElementSize::Bit,
+        TypeVariant::Int8 => ElementSize::Byte,
+        TypeVariant::Int16 => ElementSize::TwoBytes,
+        TypeVariant::Int32 => ElementSize::FourBytes,
+        TypeVariant::Int64 => ElementSize::EightBytes,
+        TypeVariant::UInt8 => ElementSize::Byte,
+        TypeVariant::UInt16 => ElementSize::TwoBytes,
+        TypeVariant::UInt32 => ElementSize::FourBytes,
+        TypeVariant::UInt64 => ElementSize::EightBytes,
+        TypeVariant::Text => ElementSize::Pointer,
+        TypeVariant::Data => ElementSize::Pointer,
+        TypeVariant::Struct(_) => ElementSize::InlineComposite,
+        TypeVariant::AnyPointer => ElementSize::Pointer,
+        TypeVariant::Enum(_) => ElementSize::TwoBytes,
+        TypeVariant::List(_) => ElementSize::Pointer,
+    }
+}
+
+/// The size of the elements of a list of such values.
+fn size_of_elements(element: Type) -> ElementSize
+    ensures { result ≡ element_size (seen_type element) }
+{
+    size_of_layer(element.which())
+}
+
+/// Whether words hold null or a list that is read as such elements.
+#[tactic(auto, using(crate::proofs::ReadDefaults::one_level))]
+fn are_read_as(words: &[u8], element: Type) -> bool
+    ensures { IsTrue result ↔ IsOk (as_list (element_size (seen_type element)) (root_of words.now) 1) }
+{
+    let root = PointerReader::from_words(words);
+    match root.get_list(size_of_elements(element)) {
+        Ok(_) => true,
+        Err(_) => false,
+    }
+}
+
+/// Whether words are read as the elements of a layer, if it is a list.
+fn layer_reads(words: &[u8], layer: TypeVariant) -> bool
+    ensures { IsTrue result ↔ LayerReads words.now layer }
+{
+    match layer {
+        TypeVariant::List(element) => are_read_as(words, element),
+        _ => true,
+    }
+}
+
+/// Whether a default is read as its type's elements, if it is a list of one.
+fn value_reads(value: &ValueRecord, field_type: &Type) -> bool
+    ensures { IsTrue result ↔ ListReads (seen_value value.now) (seen_type field_type.now) }
+{
+    match value {
+        ValueRecord::List(words) => layer_reads(words.as_slice(), field_type.which()),
+        _ => true,
+    }
+}
+
+/// Whether a field's default is.
+fn kind_reads(kind: &FieldKind, field_type: &Type) -> bool
+    ensures { IsTrue result ↔ KindDefault ListReads (seen_kind kind.now) (seen_type field_type.now) }
+{
+    match kind {
+        FieldKind::Slot { default, .. } => value_reads(default, field_type),
+        FieldKind::Group { .. } => true,
+    }
+}
+
+fn check_list_default(lists: &Lists, brand: usize, field: usize) -> Result<()>
+    requires { Rule3 (lists_seen lists.now) }
+    ensures { MatchResult result (λ _. IsSoAt (fields_of (lists_seen lists.now) brand) ReadsDefault field) (IsRefusalOf (lists_seen lists.now)) }
+{
+    let Some(typed) = lists.field_at(brand, field) else {
+        return Ok(());
+    };
+    if !kind_reads(&typed.field.kind, typed.field_type) {
+        return Err(Error {
+            kind: ErrorKind::Schema {
+                rule: 6,
+                table: SchemaTable::Brand,
+                entry: brand,
+                field: field as u16,
+            },
+        });
+    }
+    Ok(())
+}
+
+fn check_brand_defaults(lists: &Lists, brand: usize) -> Result<()>
+    requires { Rule3 (lists_seen lists.now) }
+    ensures { MatchResult result (λ _. All ReadsDefault (fields_of (lists_seen lists.now) brand)) (IsRefusalOf (lists_seen lists.now)) }
+{
+    for i in 0..lists.field_count(brand) {
+        check_list_default(lists, brand, i)?;
+    }
+    Ok(())
+}
+
+/// Refuses the lists where a list default is not read as its type's elements, with rule 6.
+pub(crate) fn check_list_defaults(lists: &Lists) -> Result<()>
+    requires { Rule3 (lists_seen lists.now) }
+    ensures { MatchResult result (λ _. EachField (lists_seen lists.now) (λ b i f. KindDefault ListReads f.field.kind f.type)) (IsRefusalOf (lists_seen lists.now)) }
+{
+    for b in 0..lists.brands.len() {
+        check_brand_defaults(lists, b)?;
+    }
+    Ok(())
+}

@@ -1,0 +1,198 @@
+//! The data bits and pointers that fields name, as spans.
+ghost use Rattle.std.specs.Prelude.{true, false, ◌≡◌, ◌<◌, ◌≤◌, ◌||◌, length, slice_get, OnOk, IfOk, IfErr};
+ghost use Rattle.capnp_device.specs.declared.error.ErrorKind.TheVariants.{OutOfMemory};
+ghost use Rattle.capnp_schema.specs.Types.{struct_number, width, is_pointer, seen_type};
+ghost use Rattle.capnp_schema.specs.Schema.{seen_node, fields_of};
+ghost use Rattle.capnp_schema.specs.Footprint.{Place, slot_names, discriminant_names, some_field, brand_names};
+ghost use Rattle.capnp_schema.specs.Entries.{lists_seen};
+ghost use Rattle.capnp_schema.specs.Parents.{TargetsAreGroups};
+ghost use Rattle.capnp_schema.specs.Spans.{span_names, some_span, field_names, entry_names, SpansMeet, AreSpansOf};
+
+use crate::check::groups::{brand_count, struct_number};
+use crate::lists::Lists;
+use crate::record::{FieldKind, NodeRecord};
+use capnp_base::introspect::{Type, TypeVariant};
+use capnp_wire::error::Result;
+use std::alloc::Global;
+
+/// Data bits that stand one after another, or a pointer.
+#[derive(Clone, Copy)]
+pub(crate) enum Span {
+    /// The first bit and how many bits there are.
+    Data { first: u64, count: u64 },
+    /// The pointer of a number.
+    Pointer(u32),
+}
+
+/// The bits of a data slot, 0 for a type that takes a pointer or nothing.
+#[tactic(auto, using(crate::proofs::Variants::width_of_variant))]
+fn width(field_type: &Type) -> u64
+    ensures is { result ≡ width (seen_type field_type.now) }
+    ensures bound { result ≤ 64 }
+{
+    match field_type.which() {
+        TypeVariant::Bool => 1,
+        TypeVariant::Int8 | TypeVariant::UInt8 => 8,
+        TypeVariant::Int16 | TypeVariant::UInt16 | TypeVariant::Enum(_) => 16,
+        TypeVariant::Int32 | TypeVariant::UInt32 => 32,
+        TypeVariant::Int64 | TypeVariant::UInt64 => 64,
+        _ => 0,
+    }
+}
+
+/// Whether values of the type stand behind a pointer.
+#[tactic(auto, using(crate::proofs::Variants::pointer_of_variant))]
+fn is_pointer(field_type: &Type) -> bool
+    ensures { result ≡ is_pointer (seen_type field_type.now) }
+{
+    field_type.is_pointer_type()
+}
+
+/// What a slot names.
+fn slot_span(offset: u32, field_type: &Type) -> Span
+    ensures { (p : Place) → span_names result p ≡ slot_names offset (seen_type field_type.now) p }
+{
+    if is_pointer(field_type) {
+        return Span::Pointer(offset);
+    }
+    let count = width(field_type);
+    Span::Data {
+        first: offset as u64 * count,
+        count,
+    }
+}
+
+/// What the discriminant of a struct or group names: its 16 bits, none without a union.
+pub(crate) fn discriminant_span(node: &NodeRecord) -> Span
+    ensures { (p : Place) → span_names result p ≡ discriminant_names (seen_node node.now) p }
+{
+    Span::Data {
+        first: 16 * node.body.discriminant_offset as u64,
+        count: if node.body.discriminant_count > 0 {
+            16
+        } else {
+            0
+        },
+    }
+}
+
+/// Whether two spans have a place in common.
+fn span_meets(a: Span, b: Span) -> bool
+    ensures yes { result ≡ true → (p : Place) × (span_names a p ≡ true) × (span_names b p ≡ true) }
+    ensures not_met { result ≡ false → (p : Place) → span_names a p ≡ true → span_names b p ≡ false }
+{
+    match (a, b) {
+        (
+            Span::Data { first, count },
+            Span::Data {
+                first: other,
+                count: length,
+            },
+        ) => {
+            count > 0
+                && length > 0
+                && (if first <= other {
+                    other - first < count
+                } else {
+                    first - other < length
+                })
+        }
+        (Span::Pointer(x), Span::Pointer(y)) => x == y,
+        _ => false,
+    }
+}
+
+/// Whether two lists of spans have a place in common.
+pub(crate) fn spans_meet(a: &[Span], b: &[Span]) -> bool
+    ensures yes { result ≡ true → SpansMeet a.now b.now }
+    ensures not_met { result ≡ false → (p : Place) → some_span a.now p ≡ true → some_span b.now p ≡ false }
+{
+    for x in a {
+        for y in b {
+            if span_meets(*x, *y) {
+                return true;
+            }
+        }
+    }
+    false
+}
+
+/// Adds what a struct's fields and discriminant name, through at most so many groups.
+#[cycle(spans)]
+fn add_brand(lists: &Lists, brand: usize, groups: usize, out: &mut Vec<Span>) -> Result<()>
+    requires targets { TargetsAreGroups (lists_seen lists.now) }
+    requires within { brand < length (lists_seen lists.now).brands }
+    ensures added { OnOk result ((p : Place) → some_span out.new.items p ≡ (some_span out.old.items p || brand_names groups (lists_seen lists.now) brand p)) }
+    ensures refused { IfErr result (λ e. e.kind ≡ OutOfMemory) }
+{
+    if groups == 0 {
+        return Ok(());
+    }
+    add_fields(lists, brand, groups - 1, out)?;
+    if let Some(node) = lists.node_of(brand) {
+        out.push(discriminant_span(node))?;
+    }
+    Ok(())
+}
+
+/// Adds what the fields of a brand name.
+#[cycle(spans)]
+fn add_fields(lists: &Lists, brand: usize, groups: usize, out: &mut Vec<Span>) -> Result<()>
+    requires targets { TargetsAreGroups (lists_seen lists.now) }
+    ensures added { OnOk result ((p : Place) → some_span out.new.items p ≡ (some_span out.old.items p || some_field (field_names groups (lists_seen lists.now)) (fields_of (lists_seen lists.now) brand) p)) }
+    ensures refused { IfErr result (λ e. e.kind ≡ OutOfMemory) }
+{
+    for i in 0..lists.field_count(brand) {
+        add_field(lists, brand, i, groups, out)?;
+    }
+    Ok(())
+}
+
+/// Adds what a field names; nothing for a field that isn't there.
+#[cycle(spans)]
+fn add_field(
+    lists: &Lists,
+    brand: usize,
+    field: usize,
+    groups: usize,
+    out: &mut Vec<Span>,
+) -> Result<()>
+    requires targets { TargetsAreGroups (lists_seen lists.now) }
+    ensures added { OnOk result ((p : Place) → some_span out.new.items p ≡ (some_span out.old.items p || entry_names groups (lists_seen lists.now) (slice_get (fields_of (lists_seen lists.now) brand) field) p)) }
+    ensures refused { IfErr result (λ e. e.kind ≡ OutOfMemory) }
+{
+    let Some(typed) = lists.field_at(brand, field) else {
+        return Ok(());
+    };
+    match typed.field.kind {
+        FieldKind::Slot { offset, .. } => {
+            out.push(slot_span(offset, typed.field_type))?;
+            Ok(())
+        }
+        FieldKind::Group { .. } => add_brand(lists, struct_number(typed.field_type), groups, out),
+    }
+}
+
+/// What a field of a brand names, through its groups.
+fn field_spans(alloc: Global, lists: &Lists, brand: usize, field: usize) -> Result<Vec<Span>>
+    requires targets { TargetsAreGroups (lists_seen lists.now) }
+    ensures spans { IfOk result (λ spans. (p : Place) → some_span spans.items p ≡ entry_names (length (lists_seen lists.now).brands) (lists_seen lists.now) (slice_get (fields_of (lists_seen lists.now) brand) field) p) }
+    ensures refused { IfErr result (λ e. e.kind ≡ OutOfMemory) }
+{
+    let mut spans = Vec::new(alloc);
+    add_field(lists, brand, field, brand_count(lists), &mut spans)?;
+    Ok(spans)
+}
+
+/// What each field of a brand names, through its groups.
+pub(crate) fn brand_spans(alloc: Global, lists: &Lists, brand: usize) -> Result<Vec<Vec<Span>>>
+    requires targets { TargetsAreGroups (lists_seen lists.now) }
+    ensures spans { IfOk result (λ spans. AreSpansOf (lists_seen lists.now) brand spans.items) }
+    ensures refused { IfErr result (λ e. e.kind ≡ OutOfMemory) }
+{
+    let mut all = Vec::new(alloc);
+    for field in 0..lists.field_count(brand) {
+        all.push(field_spans(alloc, lists, brand, field)?)?;
+    }
+    Ok(all)
+}

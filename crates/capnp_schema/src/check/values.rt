@@ -1,0 +1,242 @@
+//! Rule 6: the words of defaults and of annotations' values.
+ghost use Rattle.std.specs.Prelude.{◌≡◌, ◌↔◌, All, IsTrue, MatchOption, MatchResult, None, map};
+ghost use Rattle.capnp_wire.specs.Tree.{Null};
+ghost use Rattle.capnp_wire.specs.Words.{first_fault};
+ghost use Rattle.capnp_schema.specs.Schema.{Enumerant, Field, seen_annotations, seen_enumerant, seen_field, seen_value};
+ghost use Rattle.capnp_schema.specs.Entries.{lists_seen};
+ghost use Rattle.capnp_schema.specs.Accepted.{AreWords, Decodes, HasWords, HaveWords, IsListOrNull, IsStructOrNull, Rule3, Rule6, root_of};
+ghost use Rattle.capnp_schema.specs.Broken.{EntryBreaks, IsRefusalOf};
+ghost use Rattle.capnp_schema.specs.Counts.{IsSoAt};
+ghost use Rattle.capnp_schema.specs.Values.{DefaultStands, EnumHasWords, HaveAllWords, NodeHasWords};
+
+use crate::check::counts::enum_at;
+use crate::check::list_defaults::check_list_defaults;
+use crate::lists::Lists;
+use crate::record::{AnnotationRecord, EnumerantRecord, FieldKind, FieldRecord, ValueRecord};
+use capnp_device::error::{Error, ErrorKind, Result, SchemaTable};
+use capnp_wire::PointerReader;
+use capnp_wire::size::ElementSize;
+
+/// Whether bytes are one or more whole words.
+fn are_words(bytes: &[u8]) -> bool
+    ensures { IsTrue result ↔ AreWords bytes.now }
+{
+    bytes.len() > 0 && bytes.len() % 8 == 0
+}
+
+/// Whether the words of a value are; a value that is no struct, list or untyped pointer has none.
+fn has_words(value: &ValueRecord) -> bool
+    ensures { IsTrue result ↔ HasWords (seen_value value.now) }
+{
+    match value {
+        ValueRecord::Struct(words) => are_words(words.as_slice()),
+        ValueRecord::List(words) => are_words(words.as_slice()),
+        ValueRecord::AnyPointer(words) => are_words(words.as_slice()),
+        _ => true,
+    }
+}
+
+/// Whether the words of each annotation's value are.
+fn have_words(annotations: &[AnnotationRecord]) -> bool
+    ensures { IsTrue result ↔ HaveWords (seen_annotations annotations.now) }
+{
+    for i in 0..annotations.len() {
+        if !has_words(&annotations[i].value) {
+            return false;
+        }
+    }
+    true
+}
+
+/// Whether words hold a struct or null, in which each pointer can be followed.
+fn is_struct(words: &[u8]) -> bool
+    ensures { IsTrue result ↔ (first_fault (root_of words.now) ≡ None) × IsStructOrNull (root_of words.now) }
+{
+    let root = PointerReader::from_words(words);
+    match root.first_fault() {
+        Some(_) => false,
+        None => match root.get_struct() {
+            Ok(_) => true,
+            Err(_) => false,
+        },
+    }
+}
+
+/// Whether words hold a list or null, in which each pointer can be followed.
+fn is_list(words: &[u8]) -> bool
+    ensures { IsTrue result ↔ (first_fault (root_of words.now) ≡ None) × IsListOrNull (root_of words.now) }
+{
+    let root = PointerReader::from_words(words);
+    match root.first_fault() {
+        Some(_) => false,
+        None => match root.get_list(ElementSize::Void) {
+            Ok(_) => true,
+            Err(_) => false,
+        },
+    }
+}
+
+/// Whether words hold null.
+fn is_null(words: &[u8]) -> bool
+    ensures { IsTrue result ↔ (root_of words.now ≡ Null) }
+{
+    let root = PointerReader::from_words(words);
+    root.is_null()
+}
+
+/// Whether a default is one of its own kind.
+fn decodes(value: &ValueRecord) -> bool
+    ensures { IsTrue result ↔ Decodes (seen_value value.now) }
+{
+    match value {
+        ValueRecord::Struct(words) => is_struct(words.as_slice()),
+        ValueRecord::List(words) => is_list(words.as_slice()),
+        ValueRecord::AnyPointer(words) => is_null(words.as_slice()),
+        ValueRecord::Text(bytes) => bytes.len() <= (1 << 29) - 2,
+        ValueRecord::Data(bytes) => bytes.len() <= (1 << 29) - 1,
+        _ => true,
+    }
+}
+
+/// Whether a field's default has whole words and decodes; that of a group is nothing.
+fn default_stands(field: &FieldRecord) -> bool
+    ensures { IsTrue result ↔ DefaultStands (seen_field field.now) }
+{
+    match &field.kind {
+        FieldKind::Slot { default, .. } => has_words(default) && decodes(default),
+        FieldKind::Group { .. } => true,
+    }
+}
+
+/// A field whose default does not stand.
+fn broken_default(fields: &[FieldRecord]) -> Option<usize>
+    ensures { MatchOption result (All DefaultStands (map seen_field fields.now)) (EntryBreaks (map seen_field fields.now) DefaultStands) }
+{
+    for i in 0..fields.len() {
+        if !default_stands(&fields[i]) {
+            return Some(i);
+        }
+    }
+    None
+}
+
+/// A field with an annotation whose words are not whole.
+fn wordless_field(fields: &[FieldRecord]) -> Option<usize>
+    ensures { MatchOption result (All (λ (f : Field). HaveWords f.annotations) (map seen_field fields.now)) (EntryBreaks (map seen_field fields.now) (λ (f : Field). HaveWords f.annotations)) }
+{
+    for i in 0..fields.len() {
+        if !have_words(&fields[i].annotations) {
+            return Some(i);
+        }
+    }
+    None
+}
+
+/// An enumerant with an annotation whose words are not whole.
+fn wordless_enumerant(enumerants: &[EnumerantRecord]) -> Option<usize>
+    ensures { MatchOption result (All (λ (x : Enumerant). HaveWords x.annotations) (map seen_enumerant enumerants.now)) (EntryBreaks (map seen_enumerant enumerants.now) (λ (x : Enumerant). HaveWords x.annotations)) }
+{
+    for i in 0..enumerants.len() {
+        if !have_words(&enumerants[i].annotations) {
+            return Some(i);
+        }
+    }
+    None
+}
+
+fn check_node_words(lists: &Lists, entry: usize) -> Result<()>
+    requires { Rule3 (lists_seen lists.now) }
+    ensures { MatchResult result (λ _. IsSoAt (lists_seen lists.now).nodes NodeHasWords entry) (IsRefusalOf (lists_seen lists.now)) }
+{
+    let Some(node) = lists.node_at(entry) else {
+        return Ok(());
+    };
+    if !have_words(&node.annotations) {
+        return Err(Error {
+            kind: ErrorKind::Schema {
+                rule: 6,
+                table: SchemaTable::Node,
+                entry,
+                field: 65535,
+            },
+        });
+    }
+    if let Some(field) = wordless_field(&node.body.fields) {
+        return Err(Error {
+            kind: ErrorKind::Schema {
+                rule: 6,
+                table: SchemaTable::Node,
+                entry,
+                field: field as u16,
+            },
+        });
+    }
+    match broken_default(&node.body.fields) {
+        Some(field) => Err(Error {
+            kind: ErrorKind::Schema {
+                rule: 6,
+                table: SchemaTable::Node,
+                entry,
+                field: field as u16,
+            },
+        }),
+        None => Ok(()),
+    }
+}
+
+fn check_enum_words(lists: &Lists, entry: usize) -> Result<()>
+    requires { Rule3 (lists_seen lists.now) }
+    ensures { MatchResult result (λ _. IsSoAt (lists_seen lists.now).enums EnumHasWords entry) (IsRefusalOf (lists_seen lists.now)) }
+{
+    let Some(schema) = enum_at(lists, entry) else {
+        return Ok(());
+    };
+    if !have_words(&schema.annotations) {
+        return Err(Error {
+            kind: ErrorKind::Schema {
+                rule: 6,
+                table: SchemaTable::Enum,
+                entry,
+                field: 65535,
+            },
+        });
+    }
+    match wordless_enumerant(&schema.enumerants) {
+        Some(field) => Err(Error {
+            kind: ErrorKind::Schema {
+                rule: 6,
+                table: SchemaTable::Enum,
+                entry,
+                field: field as u16,
+            },
+        }),
+        None => Ok(()),
+    }
+}
+
+/// Refuses the lists where words of a default or of an annotation's value are not whole, and where a default does not
+/// decode as its own kind, with rule 6.
+fn check_words(lists: &Lists) -> Result<()>
+    requires { Rule3 (lists_seen lists.now) }
+    ensures { MatchResult result (λ _. HaveAllWords (lists_seen lists.now)) (IsRefusalOf (lists_seen lists.now)) }
+{
+    for n in 0..lists.nodes.len() {
+        check_node_words(lists, n)?;
+    }
+    for e in 0..lists.enums.len() {
+        check_enum_words(lists, e)?;
+    }
+    Ok(())
+}
+
+/// Refuses the lists where rule 6 is broken: where the words of a value are not one or more whole words, where a default
+/// does not decode as its own kind, where a text default has more than 2^29 - 2 bytes or a data default more than
+/// 2^29 - 1, and where a list default is not read as its type's elements. Rule 3 has been checked before.
+pub(crate) fn check_values(lists: &Lists) -> Result<()>
+    requires { Rule3 (lists_seen lists.now) }
+    ensures { MatchResult result (λ _. Rule6 (lists_seen lists.now)) (IsRefusalOf (lists_seen lists.now)) }
+{
+    check_words(lists)?;
+    check_list_defaults(lists)?;
+    Ok(())
+}

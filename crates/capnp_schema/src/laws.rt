@@ -1,0 +1,28 @@
+//! What holds of every set of schemas that was accepted: laws that everything which reads or writes fields stands on.
+ghost use Rattle.capnp_schema.specs.Laws.{GroupNamesItsParts, HeightsFall, NoneNamesDiscriminant, OnlyMembersMeet};
+
+/// Two fields of a struct or group name the same data bit or pointer only where both are members
+/// of its union.
+#[tactic(auto, using(crate::proofs::Groups::only_members_meet))]
+pub fn only_members_meet()
+    ensures { OnlyMembersMeet }
+{}
+
+/// No field of a struct or group names a bit of its discriminant.
+#[tactic(auto, using(crate::proofs::Groups::none_names_discriminant))]
+pub fn none_names_discriminant()
+    ensures { NoneNamesDiscriminant }
+{}
+
+/// What a group field names is what the fields of its group and the group's discriminant name.
+#[tactic(auto, using(crate::proofs::Groups::group_names_its_parts))]
+pub fn group_names_its_parts()
+    ensures { GroupNamesItsParts }
+{}
+
+/// Each group field leads to a group of the set, of lesser height; a height is at most the number of brands. What goes
+/// down groups ends by it.
+#[tactic(auto, using(crate::proofs::Groups::heights_fall))]
+pub fn heights_fall()
+    ensures { HeightsFall }
+{}

@@ -1,0 +1,105 @@
+//! Sets of schemas that the check accepted.
+ghost use Rattle.std.specs.Prelude.{◌≡◌, IfErr, IfOk, MatchResult, OnOk, map};
+ghost use Rattle.capnp_schema.specs.Accepted.{IsAccepted};
+ghost use Rattle.capnp_schema.specs.Broken.{IsRefusalOf};
+ghost use Rattle.capnp_schema.specs.Entries.{lists_seen};
+ghost use Rattle.capnp_schema.specs.Names.{AreNameTables};
+ghost use Rattle.capnp_schema.specs.Schema.{seen_brand, seen_enum, seen_node, seen_schemas};
+
+use crate::check::annotations::check_types;
+use crate::check::footprints::check_footprints;
+use crate::check::groups::check_groups;
+use crate::check::names::check_names;
+use crate::check::types::check_lengths;
+use crate::check::unions::{check_discriminants, check_unions};
+use crate::check::values::check_values;
+use crate::lists::Lists;
+use crate::record::{BrandRecord, EnumRecord, NodeRecord};
+use capnp_wire::error::Result;
+use std::alloc::Global;
+use std::marker::Model;
+
+/// Nodes, brands and enums that meet the twelve rules of schemas. Whoever has a set knows that it meets them.
+#[derive(Drop)]
+pub struct SchemaSet {
+    lists: Lists,
+    by_name: Vec<Vec<u16>>,
+}
+
+impl Model for SchemaSet {
+    ghost use Rattle.capnp_schema.specs.declared.lists.Lists.{Lists};
+
+    ghost Value = { Lists };
+
+    ghost use Rattle.capnp_schema.specs.Accepted.{IsAccepted};
+    ghost use Rattle.capnp_schema.specs.Entries.{lists_seen};
+    ghost use Rattle.capnp_schema.specs.Names.{AreNameTables};
+
+    ghost view = { λ s. s.lists };
+
+    ghost invariant = { λ s. IsAccepted (lists_seen s.lists) × AreNameTables (lists_seen s.lists) s.by_name.items };
+}
+
+/// The tables of fields by name, of lists that meet the twelve rules. A refusal names a rule that is broken and where, or
+/// is for memory.
+fn check(alloc: Global, lists: &Lists) -> Result<Vec<Vec<u16>>>
+    ensures { MatchResult result (λ tables. IsAccepted (lists_seen lists.now) × AreNameTables (lists_seen lists.now) tables.items) (IsRefusalOf (lists_seen lists.now)) }
+{
+    let by_name = check_names(alloc, lists)?;
+    check_lengths(lists)?;
+    check_types(lists)?;
+    check_values(lists)?;
+    check_unions(alloc, lists)?;
+    check_discriminants(lists)?;
+    check_groups(alloc, lists)?;
+    check_footprints(alloc, lists)?;
+    Ok(by_name)
+}
+
+impl SchemaSet {
+    /// A set of these lists, where they meet the twelve rules.
+    ///
+    /// A refusal drops the lists. It is `OutOfMemory`, or `Schema` with the number of a rule that is broken and a place
+    /// where it is broken: the list, the entry there, and the field or enumerant, which is 65,535 where the whole entry
+    /// is meant. Where several rules are broken, any of them may be named.
+    pub fn new(
+        alloc: Global,
+        nodes: Vec<NodeRecord>,
+        brands: Vec<BrandRecord>,
+        enums: Vec<EnumRecord>,
+    ) -> Result<SchemaSet>
+        ensures set { IfOk result (λ set. lists_seen set ≡ seen_schemas nodes.items brands.items enums.items) }
+        ensures accepted { OnOk result (IsAccepted (seen_schemas nodes.items brands.items enums.items)) }
+        ensures refused { IfErr result (IsRefusalOf (seen_schemas nodes.items brands.items enums.items)) }
+    {
+        let lists = Lists {
+            nodes,
+            brands,
+            enums,
+        };
+        let by_name = check(alloc, &lists)?;
+        Ok(SchemaSet { lists, by_name })
+    }
+
+    /// The nodes: structs and groups.
+    pub fn nodes(&self) -> &[NodeRecord]
+        ensures is { map seen_node result.now ≡ (lists_seen self.now).nodes }
+        ensures accepted { IsAccepted (lists_seen self.now) }
+    {
+        self.lists.nodes.as_slice()
+    }
+
+    /// The brands: nodes with the types of their fields.
+    pub fn brands(&self) -> &[BrandRecord]
+        ensures { map seen_brand result.now ≡ (lists_seen self.now).brands }
+    {
+        self.lists.brands.as_slice()
+    }
+
+    /// The enums.
+    pub fn enums(&self) -> &[EnumRecord]
+        ensures { map seen_enum result.now ≡ (lists_seen self.now).enums }
+    {
+        self.lists.enums.as_slice()
+    }
+}
