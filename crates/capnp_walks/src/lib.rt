@@ -1,4 +1,5 @@
-//! Reads of whole messages, over nothing but the public calls and contracts of `capnp_wire`.
+//! Reads of whole messages, over nothing but the public calls and contracts of `capnp_wire`, and tests that
+//! cross crates.
 //!
 //! Each function's contract is a function of the tree that its reader stands on and of the levels that are left: a
 //! caller of the readers needs to know nothing else of them.
@@ -29,6 +30,8 @@ mod number_tests;
 pub mod path;
 #[cfg(test)]
 mod pointer_tests;
+#[cfg(test)]
+mod schema_tests;
 #[cfg(test)]
 mod stream_tests;
 #[cfg(test)]
