@@ -14,6 +14,8 @@ ghost use Rattle.capnp_wire.specs.Edits.{IsRoomRefusal, is_struct};
 ghost use Rattle.capnp_wire.specs.Lends.{LendsList, holds_list};
 ghost use Rattle.capnp_wire.specs.Blobs.{IsKept, KeepsBytes, LendsBlob, LendsVector, bytes_kept, bytes_lent};
 
+use crate::elements::{data_of, text_of};
+use crate::look::look_at_object;
 use crate::object::{ListObject, Object};
 use crate::pointer_builder::{ListBuilder, MOST_ELEMENTS};
 use crate::size::ElementSize;
@@ -64,27 +66,6 @@ impl ListObject {
         }
     }
 
-    /// Refuses what is not read as data, as `get_data` does.
-    fn test_data(&self) -> Result<()>
-        ensures ok { OnOk result (IsOk (as_data (list_object_tree self.now))) }
-        ensures refused { IfErr result (λ e. as_data (list_object_tree self.now) ≡ Err e.kind) }
-    {
-        match self {
-            ListObject::Missing(_, _) => Ok(()),
-            ListObject::Voids(_, _) => Err(Error::from(ErrorKind::WrongElementSize)),
-            ListObject::Bits(_) => Err(Error::from(ErrorKind::WrongElementSize)),
-            ListObject::Numbers(width, _) => {
-                if *width == 1 {
-                    Ok(())
-                } else {
-                    Err(Error::from(ErrorKind::WrongElementSize))
-                }
-            }
-            ListObject::Pointers(_) => Err(Error::from(ErrorKind::WrongElementSize)),
-            ListObject::Composite(_, _) => Err(Error::from(ErrorKind::WrongElementSize)),
-        }
-    }
-
     /// The bytes of a list that is read as data: those of a list of bytes, and none of the list that a null is read as.
     pub fn data_mut(&mut self) -> &mut [u8]
         requires { IsOk (as_data (list_object_tree self.old)) }
@@ -93,29 +74,6 @@ impl ListObject {
     {
         let count = self.count_data();
         self.first_bytes(count)
-    }
-
-    /// Refuses what is not read as a text, as `get_text` does.
-    fn test_text(&self) -> Result<()>
-        ensures ok { OnOk result (IsOk (as_text (list_object_tree self.now))) }
-        ensures refused { IfErr result (λ e. as_text (list_object_tree self.now) ≡ Err e.kind) }
-    {
-        match self {
-            ListObject::Missing(_, _) => Ok(()),
-            ListObject::Voids(_, _) => Err(Error::from(ErrorKind::WrongElementSize)),
-            ListObject::Bits(_) => Err(Error::from(ErrorKind::WrongElementSize)),
-            ListObject::Numbers(width, bytes) => {
-                if *width != 1 {
-                    return Err(Error::from(ErrorKind::WrongElementSize));
-                }
-                if bytes.is_empty() || bytes[bytes.len() - 1] != 0 {
-                    return Err(Error::from(ErrorKind::TextNotTerminated));
-                }
-                Ok(())
-            }
-            ListObject::Pointers(_) => Err(Error::from(ErrorKind::WrongElementSize)),
-            ListObject::Composite(_, _) => Err(Error::from(ErrorKind::WrongElementSize)),
-        }
     }
 
     /// How many of the bytes are those of a text, without the zero that ends it.
@@ -168,11 +126,8 @@ impl Object {
         ensures ok { OnOk result (IsOk (as_data (object_tree self.now))) }
         ensures refused { IfErr result (λ e. as_data (object_tree self.now) ≡ Err e.kind) }
     {
-        match self {
-            Object::Null(_) => Ok(()),
-            Object::Struct(_) => Err(Error::from(ErrorKind::WrongPointerKind)),
-            Object::List(object) => object.test_data(),
-        }
+        data_of(look_at_object(self))?;
+        Ok(())
     }
 
     /// The list whose bytes are the data that stands here; for a null one of nothing, and the pointer stays null.
@@ -195,11 +150,8 @@ impl Object {
         ensures ok { OnOk result (IsOk (as_text (object_tree self.now))) }
         ensures refused { IfErr result (λ e. as_text (object_tree self.now) ≡ Err e.kind) }
     {
-        match self {
-            Object::Null(_) => Ok(()),
-            Object::Struct(_) => Err(Error::from(ErrorKind::WrongPointerKind)),
-            Object::List(object) => object.test_text(),
-        }
+        text_of(look_at_object(self))?;
+        Ok(())
     }
 
     /// The list whose bytes, but for the last, are the text that stands here; for a null one of nothing, and the

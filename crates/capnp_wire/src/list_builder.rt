@@ -11,11 +11,9 @@ ghost use Rattle.capnp_wire.specs.Elements.{HasBit, HasNumber, HasPointer, HasSt
 ghost use Rattle.capnp_wire.specs.Unchanged.{ListEndsUnchanged};
 ghost use Rattle.capnp_wire.specs.Lends.{HasObjects, HasStructs, LendsElement, LendsObject, LendsObjects, LendsStructs};
 
-use crate::bytes::get_bit;
+use crate::elements::{bit_at, number_at};
 use crate::list_reader::{ListReader, reads_list_as};
-use crate::look::{
-    Found, ROOT_LEVELS, count_list, get_element, look_at_built_list, look_at_list_object,
-};
+use crate::look::{ROOT_LEVELS, count_list, look_at_built_list, look_at_list_object};
 use crate::object::{ListObject, Object, StructObject};
 use crate::pointer_builder::{ListBuilder, PointerBuilder, StructBuilder};
 use crate::primitive::PrimitiveElement;
@@ -77,10 +75,7 @@ impl ListObject {
     pub fn get_bool_element(&self, index: u32) -> bool
         ensures { result ≡ element_bit (list_object_tree self.now) index }
     {
-        match look_at_list_object(self) {
-            Found::Bits(bytes, count) => index < count && get_bit(bytes, index as usize),
-            _ => false,
-        }
+        bit_at(look_at_list_object(self), index)
     }
 
     /// Stores the bit at `index`.
@@ -102,14 +97,7 @@ impl ListObject {
     pub fn get_data_element<T: PrimitiveElement>(&self, index: u32) -> T
         ensures { result ≡ T.of_number (element_number T.width (list_object_tree self.now) index) }
     {
-        match look_at_list_object(self) {
-            Found::Numbers(_, bytes) => T::read(bytes, index),
-            Found::Composite(size, elements) => T::read(
-                get_element(size, elements, index as usize).data,
-                0,
-            ),
-            _ => T::read(&[], 0),
-        }
+        number_at(look_at_list_object(self), index)
     }
 
     /// Stores the number at `index`: in a struct, at its start.

@@ -5,7 +5,7 @@ ghost use Rattle.capnp_wire.specs.Elements.{reads_list};
 ghost use Rattle.capnp_wire.specs.Reading.{reads_numbers, reads_structs};
 ghost use Rattle.capnp_wire.specs.WellFormed.{IsWellFormed, IsWellFormed-prop};
 
-use crate::bytes::get_bit;
+use crate::elements::{bit_at, number_at};
 use crate::fault::Fault;
 use crate::look::{
     Found, Place, count_list, get_element, get_element_parts, get_pointer, look, look_at_nothing,
@@ -151,10 +151,7 @@ impl<'a> ListReader<'a> {
     pub fn get_bool_element(&self, index: u32) -> bool
         ensures { result ≡ element_bit (list_of self.now) index }
     {
-        match self.found {
-            Found::Bits(bytes, count) => index < count && get_bit(bytes, index as usize),
-            _ => false,
-        }
+        bit_at(self.found, index)
     }
 
     /// The number at `index`: of a struct, that at its start.
@@ -162,14 +159,7 @@ impl<'a> ListReader<'a> {
     pub fn get_data_element<T: PrimitiveElement>(&self, index: u32) -> T
         ensures { result ≡ T.of_number (element_number T.width (list_of self.now) index) }
     {
-        match self.found {
-            Found::Numbers(_, bytes) => T::read(bytes, index),
-            Found::Composite(size, elements) => T::read(
-                get_element(size, elements, index as usize).data,
-                0,
-            ),
-            _ => T::read(&[], 0),
-        }
+        number_at(self.found, index)
     }
 
     /// The struct at `index`. Needs a level and leaves one fewer. A number is a struct with its bytes as data, a pointer

@@ -291,7 +291,7 @@ pub fn look_at_list_object(object: &ListObject) -> Found<'_>
     }
 }
 
-fn look_at_object(object: &Object) -> Found<'_>
+pub fn look_at_object(object: &Object) -> Found<'_>
     ensures { found_tree result ≡ object_tree object.now }
 {
     match object {

@@ -2,6 +2,7 @@
 ghost use Rattle.capnp_wire.specs.Found.{place_tree};
 ghost use Rattle.capnp_wire.specs.WellFormed.{IsWellFormed, IsWellFormed-prop};
 
+use crate::elements::{data_of, text_of};
 use crate::fault::refuse;
 use crate::list_reader::ListReader;
 use crate::look::{Found, Place, ROOT_LEVELS, get_root_place, look};
@@ -125,19 +126,7 @@ impl<'a> PointerReader<'a> {
     pub fn get_data(&self) -> Result<&'a [u8]>
         ensures { bytes_read result ≡ as_data (tree_of self.now) }
     {
-        match look(self.place) {
-            Found::Null => Ok(&[]),
-            Found::Bad(fault) => Err(refuse(fault)),
-            Found::Struct(_) => Err(Error::from(ErrorKind::WrongPointerKind)),
-            Found::Numbers(width, bytes) => {
-                if width == 1 {
-                    Ok(bytes)
-                } else {
-                    Err(Error::from(ErrorKind::WrongElementSize))
-                }
-            }
-            _ => Err(Error::from(ErrorKind::WrongElementSize)),
-        }
+        data_of(look(self.place))
     }
 
     /// The bytes of the text that the pointer leads to, without the zero that ends it; none for a null. They take no
@@ -149,21 +138,7 @@ impl<'a> PointerReader<'a> {
     pub fn get_text(&self) -> Result<&'a [u8]>
         ensures { bytes_read result ≡ as_text (tree_of self.now) }
     {
-        match look(self.place) {
-            Found::Null => Ok(&[]),
-            Found::Bad(fault) => Err(refuse(fault)),
-            Found::Struct(_) => Err(Error::from(ErrorKind::WrongPointerKind)),
-            Found::Numbers(width, bytes) => {
-                if width != 1 {
-                    return Err(Error::from(ErrorKind::WrongElementSize));
-                }
-                if bytes.is_empty() || bytes[bytes.len() - 1] != 0 {
-                    return Err(Error::from(ErrorKind::TextNotTerminated));
-                }
-                Ok(&bytes[..bytes.len() - 1])
-            }
-            _ => Err(Error::from(ErrorKind::WrongElementSize)),
-        }
+        text_of(look(self.place))
     }
 
     /// The size of all that the pointer leads to, without the pointer itself: 0 words for a null. A target that several
