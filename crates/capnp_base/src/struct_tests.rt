@@ -1,8 +1,21 @@
 //! The traits of a struct type, as a caller meets them.
-use crate::traits::{HasStructSize, HasTypeId, IntoInternalListReader, IntoInternalStructReader};
+ghost use Rattle.capnp_wire.specs.Edits.{IsCopyRefusal, rounded};
+ghost use Rattle.capnp_wire.specs.Place.{struct_tree};
+ghost use Rattle.capnp_wire.specs.Standing.{struct_of};
+ghost use Rattle.capnp_wire.specs.Words.{first_fault_of_all};
+ghost use Rattle.capnp_base.specs.Types.{type_from};
+ghost use Rattle.capnp_base.specs.declared.introspect.TypeVariant.TheVariants as variant;
+
+use crate::introspect::{Introspect, RawBrandedStructSchema, Type, TypeVariant};
+use crate::traits::{
+    HasStructSize, HasTypeId, IntoInternalListReader, IntoInternalStructReader, OwnedStruct,
+    SetterInput,
+};
+use capnp_wire::error::Result;
+use capnp_wire::laws::{copied_structs_are_well_formed, struct_is_well_formed};
 use capnp_wire::message::Builder;
 use capnp_wire::size::{ElementSize, StructSize};
-use capnp_wire::{ListReader, PointerReader, StructBuilder, StructReader};
+use capnp_wire::{ListReader, PointerBuilder, PointerReader, StructBuilder, StructReader};
 use std::test::Fail;
 
 #[derive(Clone, Copy)]
@@ -53,6 +66,60 @@ impl<'a> IntoInternalListReader<'a> for Numbers<'a> {
     }
 }
 
+impl<'a> From<StructBuilder<'a>> for FlatBuilder<'a> {
+    fn from(builder: StructBuilder<'a>) -> FlatBuilder<'a> {
+        FlatBuilder { builder }
+    }
+}
+
+/// The struct type of these handles: brand 0 of node 0 in a set.
+const FLAT: RawBrandedStructSchema = RawBrandedStructSchema {
+    number: 0,
+    generic: 0,
+};
+
+#[derive(Clone, Copy)]
+struct FlatType;
+
+impl Introspect for FlatType {
+    ghost type_of = { type_from (variant.Struct (record { number = 0; generic = 0 })) };
+
+    fn introspect() -> Type {
+        Type::from(TypeVariant::Struct(FLAT))
+    }
+}
+
+impl<'a> SetterInput<FlatType> for Flat<'a> {
+    ghost set_tree = { λ flat. struct_tree (rounded (struct_of flat.reader)) };
+
+    ghost set_refusal = { λ flat error. IsCopyRefusal error (first_fault_of_all (struct_of flat.reader).pointers) };
+
+    fn set_pointer_builder(
+        builder: PointerBuilder<'_>,
+        input: Flat<'a>,
+        _canonicalize: bool,
+    ) -> Result<()> {
+        struct_is_well_formed(&input.reader);
+        copied_structs_are_well_formed();
+        builder.set_struct(&input.reader)
+    }
+}
+
+impl<'a> OwnedStruct<'a> for FlatType {
+    type Reader = Flat<'a>;
+
+    type Builder = FlatBuilder<'a>;
+}
+
+/// Sets the pointer to a struct of the type, and stands its builder on what is there then.
+fn set_and_build<'a, T: OwnedStruct<'a>>(
+    builder: PointerBuilder<'a>,
+    source: StructReader<'a>,
+) -> Result<T::Builder> {
+    T::Reader::set_pointer_builder(builder, T::Reader::from(source), false)?;
+    Ok(T::Builder::from(builder.get_struct(<T::Builder as HasStructSize>::STRUCT_SIZE)?))
+}
+
 fn size_of_builder<T: HasStructSize>(_builder: &T) -> StructSize {
     T::STRUCT_SIZE
 }
@@ -70,7 +137,18 @@ fn length_of<'a, T: IntoInternalListReader<'a>>(list: T) -> u32 {
 }
 
 #[test]
-fn struct_types_have_sizes_and_readers(rt: HostRuntime) -> Result<(), Fail> {
+fn a_struct_type_is_set_and_built(rt: HostRuntime) -> std::result::Result<(), Fail> {
+    let words = [0, 0, 0, 0, 1, 0, 0, 0, 5, 0, 0, 0, 0, 0, 0, 0];
+    let source = PointerReader::from_words(&words).get_struct()?;
+    let mut message = Builder::new(rt.alloc());
+    let flat = set_and_build::<FlatType>(message.root(), source)?;
+    assert_eq!(rt; flat.builder.get_data_field::<u16>(0), 5);
+    assert_eq!(rt; FlatType::introspect().which(), TypeVariant::Struct(FLAT));
+    Ok(())
+}
+
+#[test]
+fn struct_types_have_sizes_and_readers(rt: HostRuntime) -> std::result::Result<(), Fail> {
     assert_eq!(rt; Flat::TYPE_ID, 100);
     let mut message = Builder::new(rt.alloc());
     let builder = FlatBuilder {

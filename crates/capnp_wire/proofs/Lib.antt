@@ -26,6 +26,7 @@ pub mod RowsReading
 pub mod RowsTable
 pub mod RowsSlots
 pub mod RowsWellFormed
+pub mod Rounded
 pub mod Stands
 pub mod EncodedSizes
 pub mod PointerWords

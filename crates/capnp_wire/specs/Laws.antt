@@ -1,17 +1,17 @@
 -- What the format promises of every message.
 use Rattle.capnp_wire.specs.Objects.{list_object_tree, object_tree, struct_object_tree}
-use Rattle.capnp_wire.specs.Edits.{with_pointer_tree}
+use Rattle.capnp_wire.specs.Edits.{rounded, with_pointer_tree}
 use Rattle.capnp_wire.specs.Elements.{with_pointer_element, with_struct_element}
 use Rattle.capnp_wire.specs.Lends.{with_element, with_object, with_pointer}
 use Rattle.capnp_wire.specs.declared.object.Object.{Object}
 use Rattle.capnp_wire.specs.declared.object.StructObject.{StructObject}
 use Rattle.capnp_wire.specs.declared.object.ListObject.{ListObject}
 use Rattle.std.specs.Prelude.{ℕ, suc, ◌^◌, ◌<◌, List, Ok, Err, None, ◌++◌, ◌≡◌, ◌≢◌}
-use Rattle.capnp_wire.specs.Tree.{Tree}
+use Rattle.capnp_wire.specs.Tree.{StructTree, Tree}
 use Rattle.capnp_wire.specs.Locate.{Segments}
-use Rattle.capnp_wire.specs.Place.{tree_at, tree_below}
+use Rattle.capnp_wire.specs.Place.{struct_tree, tree_at, tree_below}
 use Rattle.capnp_wire.specs.Stream.{message_tree_of}
-use Rattle.capnp_wire.specs.WellFormed.{AreBytes, AreSegments, IsWellFormed}
+use Rattle.capnp_wire.specs.WellFormed.{AreBytes, AreSegments, IsWellFormed, IsWellFormedStruct}
 use Rattle.capnp_wire.specs.Words.{words_of, first_fault}
 use Rattle.capnp_wire.specs.Depth.{IsShallow}
 use Rattle.capnp_wire.specs.Encoding.{message_of}
@@ -22,6 +22,10 @@ abbrev pub TreesAreWellFormed : Type 0
 TreesAreWellFormed =
     (levels : ℕ) (segments : Segments) (segment : List ℕ) (w : ℕ) → AreSegments segments → AreBytes segment →
     IsWellFormed (tree_at levels segments segment w) × IsWellFormed (tree_below levels segments segment w)
+
+-- what a struct's reader stands on is well-formed with its data rounded up to whole words, as a copy of it has it
+abbrev pub CopiedStructsAreWellFormed : Type 0
+CopiedStructsAreWellFormed = (s : StructTree) → IsWellFormedStruct s → IsWellFormed (struct_tree (rounded s))
 
 -- where a stream is not cut short, what follows its first message changes nothing
 abbrev pub MoreBytesChangeNothing : Type 0

@@ -38,7 +38,7 @@ abbrev mutual
 -- what a struct's reader stands on: its data is no more than the format has, and may end within a word, where it is an
 -- element of a list of numbers
 abbrev pub IsWellFormedStruct : StructTree → Type 0
-IsWellFormedStruct s = AreBytes s.bytes × (length s.bytes < 2 ^ 19) × (tree_count s.pointers < 2 ^ 16) × AreWellFormed s.pointers
+IsWellFormedStruct s = AreBytes s.bytes × (length s.bytes ≤ 8 * 65535) × (tree_count s.pointers < 2 ^ 16) × AreWellFormed s.pointers
 
 -- each segment of a message is of bytes
 abbrev pub AreSegments : Segments → Type 0

@@ -1,6 +1,6 @@
 //! Laws of the format that every reader stands on.
 ghost use Rattle.capnp_wire.specs.Blobs.{DataAreLeft, NullIsLeft, TextIsLeft};
-ghost use Rattle.capnp_wire.specs.Laws.{IsReadBack, MoreBytesChangeNothing, PointerElementsAreWritten, PointersAreWritten, StructElementsAreWritten, TreesAreWellFormed};
+ghost use Rattle.capnp_wire.specs.Laws.{CopiedStructsAreWellFormed, IsReadBack, MoreBytesChangeNothing, PointerElementsAreWritten, PointersAreWritten, StructElementsAreWritten, TreesAreWellFormed};
 ghost use Rattle.capnp_wire.specs.Standing.{list_of, struct_of, tree_of};
 ghost use Rattle.capnp_wire.specs.WellFormed.{IsWellFormed, IsWellFormedStruct};
 
@@ -32,6 +32,12 @@ pub fn struct_is_well_formed(reader: &StructReader<'_>)
 #[tactic(auto, unfolding(crate::specs::Standing::list_of))]
 pub fn list_is_well_formed(reader: &ListReader<'_>)
     ensures { IsWellFormed (list_of reader.now) }
+{}
+
+/// A copy of what a struct's reader stands on, whose data is rounded up to whole words, is well-formed.
+#[tactic(auto, using(crate::proofs::Rounded::copied_struct_is_well_formed))]
+pub fn copied_structs_are_well_formed()
+    ensures { CopiedStructsAreWellFormed }
 {}
 
 /// Where a stream is not cut short, what follows its first message changes nothing: it is read as the same tree, or
