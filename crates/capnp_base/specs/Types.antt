@@ -33,6 +33,9 @@ abbrev pub list_depth : SchemaType → ℕ
 list_depth t = t.list_count
 
 -- what stands inside all its lists, which is no list
+abbrev pub base_of : SchemaType → BaseType
+base_of t = t.base
+
 abbrev pub innermost : SchemaType → TypeVariant
 innermost t = base_variant t.base
 

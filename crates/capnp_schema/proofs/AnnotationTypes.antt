@@ -1,21 +1,21 @@
 -- Types of annotations, one after another.
-use Rattle.std.proofs.Common.{ℕ, ◌≡◌, ◌≤◌, ⊎_elim, Bool, true, false, List, length, map, slice_get, Option, Some, None, Vec, refl, sym, ap, ◌∙◌, subst, arith}
+use Rattle.std.proofs.Common.{ℕ, ◌≡◌, ◌≤◌, Bool, true, false, List, length, map, slice_get, Option, Some, None, Vec, refl, sym, ap, ◌∙◌, subst, arith}
 use Rattle.std.specs.Prelude.{All, MatchOption}
 use Rattle.std.specs.Bool.{Decides}
 use Rattle.std.specs.Option.{option_map, unwrap_or}
-use Rattle.std.proofs.lemmas.Bool.{cases_lt}
 use Rattle.std.proofs.lemmas.Bool.Decides.{not_from_Decides}
 use Rattle.capnp_device.specs.declared.error.SchemaTable.TheVariants.{Brand as InBrands, Enum as InEnums}
 use Rattle.std.specs.declared.alloc.Global.{Global}
 use Rattle.std.proofs.lemmas.List.{length-map}
-use Rattle.std.proofs.lemmas.Option.{slice_get_within, slice_get_past, unwrap_or-slice_get, get_or_from_slice_get, slice_get-map}
+use Rattle.std.proofs.lemmas.Option.{slice_get_within, get_or_from_slice_get, slice_get-map}
 use Rattle.capnp_base.specs.declared.introspect.«Type».{«Type» as TypeHandle}
 use Rattle.capnp_schema.specs.Types.{seen_type}
-use Rattle.capnp_schema.specs.Schema.{Schemas, Brand, Enum, Field, Enumerant, AnnotationTypes, no_node, no_brand, node_at, node_of, brand_at}
-use Rattle.capnp_schema.specs.Accepted.{NamesEntries, TypesName, EnumHasTypes, Rule2}
+use Rattle.capnp_schema.specs.Schema.{Schemas, Brand, Enum, Field, Enumerant, AnnotationTypes, no_brand, node_of, brand_at}
+use Rattle.capnp_schema.specs.Accepted.{NamesEntries, TypesName, EnumHasTypes, Rule2, Rule3}
 use Rattle.capnp_schema.specs.Broken.{EntryBreaks, IsBroken, brand_types, brand_child_types, enum_types, enum_child_types}
-use Rattle.capnp_schema.specs.Annotations.{seen_children, IsUnnamed, own, child, HasFewEnumerants, TypesStand}
-use Rattle.capnp_schema.specs.Tests.{HasFewFields, FieldsStand}
+use Rattle.capnp_schema.specs.Annotations.{seen_children, IsUnnamed, own, child, TypesStand}
+use Rattle.capnp_schema.specs.Tests.{FieldsStand}
+use Rattle.capnp_schema.proofs.FieldCounts.{few_fields}
 
 pub not_all : {A : Type 0} (entries : List A) (P : A → Type 0) (n : ℕ) (x : A) → Some x ≡ slice_get entries n → (P x → ⊥) → Decides false (All P entries)
 not_all entries P n x is broken = (λ e. cc, λ all. absurd (broken (subst P (get_or_from_slice_get entries n x x (sym is)) (all n x (slice_get_within entries n x (sym is))))))
@@ -49,26 +49,23 @@ children_length children = length-map children (λ (ts : Vec TypeHandle Global).
 
 -- ---- brands and enums ----
 
-few_fields : (set : Schemas) → HasFewFields set → (n : ℕ) → length (node_at set n).fields ≤ 65535
-few_fields set few n = ⊎_elim (λ there. rw (unwrap_or-slice_get set.nodes n no_node) (few n no_node there)) (λ past. rw (slice_get_past set.nodes n past) (omega arith)) (cases_lt n (length set.nodes))
-
 same_lengths : {A B : Type 0} (xs : List (List A)) (ys : List (List B)) → map length xs ≡ map length ys → length xs ≡ length ys
 same_lengths xs ys e = sym (length-map xs length) ∙ ap length e ∙ length-map ys length
 
-pub few_brand_children : (set : Schemas) → HasFewFields set → Rule2 set → (b : ℕ) (x : Brand) → Some x ≡ slice_get set.brands b → length x.annotation_types.children ≤ 65535
-few_brand_children set few lengths b x is =
+pub few_brand_children : (set : Schemas) → Rule3 set → Rule2 set → (b : ℕ) (x : Brand) → Some x ≡ slice_get set.brands b → length x.annotation_types.children ≤ 65535
+few_brand_children set rule3 lengths b x is =
     let same : brand_at set b ≡ x = ap (λ o. unwrap_or o no_brand) (sym is) in
     let types = lengths.brands b (slice_get_within set.brands b x (sym is)) in
     let counted = same_lengths (brand_at set b).annotation_types.children (map (λ (f : Field). f.annotations) (node_of set b).fields) types.1.1 in
-    let h : length (brand_at set b).annotation_types.children ≤ 65535 = omega (arith, counted, length-map (node_of set b).fields (λ (f : Field). f.annotations), few_fields set few (brand_at set b).node) in
+    let h : length (brand_at set b).annotation_types.children ≤ 65535 = omega (arith, counted, length-map (node_of set b).fields (λ (f : Field). f.annotations), few_fields set rule3.fields (brand_at set b).node) in
     subst (λ (y : Brand). length y.annotation_types.children ≤ 65535) same h
 
-pub few_enum_children : (set : Schemas) → HasFewEnumerants set → Rule2 set → (e : ℕ) (x : Enum) → Some x ≡ slice_get set.enums e → length x.annotation_types.children ≤ 65535
-few_enum_children set few lengths e x is =
+pub few_enum_children : (set : Schemas) → Rule3 set → Rule2 set → (e : ℕ) (x : Enum) → Some x ≡ slice_get set.enums e → length x.annotation_types.children ≤ 65535
+few_enum_children set rule3 lengths e x is =
     let there = slice_get_within set.enums e x (sym is) in
     let at = get_or_from_slice_get set.enums e x x (sym is) in
     let types = subst EnumHasTypes at (lengths.enums e x there) in
-    let count = subst (λ (y : Enum). length y.enumerants ≤ 65535) at (few e x there) in
+    let count = subst (λ (y : Enum). length y.enumerants ≤ 65535) at (rule3.enumerants e x there) in
     let counted = same_lengths x.annotation_types.children (map (λ (y : Enumerant). y.annotations) x.enumerants) types.1 in
     omega (arith, counted, length-map x.enumerants (λ (y : Enumerant). y.annotations))
 

@@ -1,19 +1,18 @@
 -- What the tests of one field say of the rules, and all fields of all brands by one after another.
-use Rattle.std.proofs.Common.{ℕ, ◌≡◌, ◌<◌, ◌≤◌, ◌+◌, ⊎_elim, true, false, List, [], ◌∷◌, length, slice_get, Option, Some, None, refl, sym, ap, ◌∙◌, subst, arith}
+use Rattle.std.proofs.Common.{ℕ, ◌≡◌, ◌<◌, ◌+◌, ⊎_elim, true, false, length, slice_get, Option, Some, None, sym, ap, subst, arith}
 use Rattle.std.specs.Option.{unwrap_or}
 use Rattle.std.proofs.lemmas.Bool.{cases_lt}
 use Rattle.std.proofs.lemmas.Bool.Decides.{not_from_Decides}
-use Rattle.std.proofs.lemmas.Option.{slice_get_within, slice_get_past, slice_get-get_or, unwrap_or-slice_get}
+use Rattle.std.proofs.lemmas.Option.{slice_get_within}
 use Rattle.capnp_device.specs.declared.error.SchemaTable.{SchemaTable}
 use Rattle.capnp_device.specs.declared.error.SchemaTable.TheVariants.{Brand as InBrands}
 use Rattle.capnp_device.specs.declared.error.ErrorKind.{ErrorKind}
 use Rattle.capnp_device.specs.declared.error.ErrorKind.TheVariants as error
-use Rattle.capnp_schema.specs.Types.{SchemaType}
-use Rattle.capnp_schema.specs.Schema.{Schemas, Node, Brand, Field, TypedField, no_node, no_brand, no_field, node_of, node_at, brand_at, fields_of, field_at, typed}
+use Rattle.capnp_schema.specs.Schema.{Schemas, Node, Brand, TypedField, no_node, no_brand, no_field, node_of, node_at, fields_of, field_at}
 use Rattle.capnp_schema.specs.Entries.{brand_node, node_of_entry}
 use Rattle.capnp_schema.specs.Accepted.{EachField, NamesEntries, LiesInside, KindDefault, IsDefaultOf, GroupFits}
 use Rattle.capnp_schema.specs.Broken.{FieldBreaks, IsBroken, field_type, slot_outside, default_kind, group_type, IsKindOf}
-use Rattle.capnp_schema.specs.Tests.{is_named, is_inside, kind_is_default, group_fits, HasFewFields, FieldStands, FieldsStand}
+use Rattle.capnp_schema.specs.Tests.{is_named, is_inside, kind_is_default, group_fits, FieldStands, FieldsStand}
 use Rattle.capnp_schema.proofs.Decided.{named_decides, inside_decides, kind_default_decides, group_decides}
 
 -- a refusal that names a broken rule
@@ -31,33 +30,6 @@ found_node set b n e = by_brand (slice_get set.brands b) e
 -- a field, where it is found
 pub found_field : (set : Schemas) (b i : ℕ) (f : TypedField) → Some f ≡ slice_get (fields_of set b) i → field_at set b i ≡ f
 found_field set b i f e = ap (λ o. unwrap_or o no_field) (sym e)
-
--- a field that is there is found
-pub not_missing : (set : Schemas) (b i : ℕ) → i < length (fields_of set b) → None ≡ slice_get (fields_of set b) i → ⊥
-not_missing set b i h e = let there = slice_get-get_or (fields_of set b) i no_field h in cc
-
--- the node of a brand with fields is there
-pub node_not_missing : (set : Schemas) (b i : ℕ) → b < length set.brands → i < length (fields_of set b) → None ≡ brand_node set b → ⊥
-node_not_missing set b i h g e = by_brand (slice_get set.brands b) refl e
-  where
-    none_typed : (n : Node) → n ≡ no_node → i < length (typed n.fields (brand_at set b).field_types) → ⊥
-    none_typed n q k = let few = subst (λ (x : Node). i < length (typed x.fields (brand_at set b).field_types)) q k in omega arith
-
-    by_brand : (o : Option Brand) → slice_get set.brands b ≡ o → None ≡ node_of_entry set o → ⊥
-    by_brand None is q = let there = slice_get-get_or set.brands b no_brand h in cc
-    by_brand (Some x) is q = none_typed (node_of set b) (ap (λ o. node_at set (unwrap_or o no_brand).node) is ∙ ap (λ o. unwrap_or o no_node) (sym q)) g
-
-few_typed : (fs : List Field) (ts : List SchemaType) → length (typed fs ts) ≤ length fs
-few_typed [] ts = omega arith
-few_typed (f ∷ fs) [] = omega arith
-few_typed (f ∷ fs) (t ∷ ts) = omega (arith, few_typed fs ts)
-
--- a field's index fits the place in a refusal
-pub index_fits : (set : Schemas) (b i : ℕ) → HasFewFields set → i < length (fields_of set b) → i < 65536
-index_fits set b i few h = omega (arith, few_typed (node_of set b).fields (brand_at set b).field_types, few_there (brand_at set b).node)
-  where
-    few_there : (n : ℕ) → length (node_at set n).fields ≤ 65535
-    few_there n = ⊎_elim (λ there. rw (unwrap_or-slice_get set.nodes n no_node) (few n no_node there)) (λ past. rw (slice_get_past set.nodes n past) (omega arith)) (cases_lt n (length set.nodes))
 
 module _ (set : Schemas) (b i : ℕ) (f : TypedField) (in_brands : b < length set.brands) (found : Some f ≡ slice_get (fields_of set b) i) where
   breaks : (P : TypedField → Type 0) → (P f → ⊥) → FieldBreaks set P b i

@@ -1,9 +1,10 @@
 -- How the table of parents is filled, one field after another.
-use Rattle.std.proofs.Common.{ℕ, zero, suc, ◌≡◌, ◌≢◌, ◌+◌, ◌<◌, ◌≤◌, ◌⊎◌, inl, inr, ⊎_elim, true, false, List, [], ◌∷◌, ◌++◌, length, arith, refl, sym, ap, ◌∙◌, subst, Option, Some, None, slice_get, get_or, add-one}
+use Rattle.std.proofs.Common.{ℕ, zero, suc, ◌≡◌, ◌≢◌, ◌+◌, ◌<◌, ◌≤◌, ◌⊎◌, inl, inr, ⊎_elim, true, false, List, [], ◌∷◌, ◌++◌, length, arith, refl, sym, ap, ◌∙◌, subst, Option, Some, None, slice_get, get_or}
 use Rattle.std.proofs.Math.ListN.{set, set as set_at, length-set}
 use Rattle.std.proofs.lemmas.Option.{slice_get_within, slice_get_read, same_Some, some_pair_parts}
 use Rattle.std.specs.Option.{is_some}
 use Rattle.std.proofs.lemmas.Bool.{cases_lt}
+use Rattle.std.proofs.lemmas.List.{length_push}
 use Rattle.capnp_schema.specs.Schema.{Schemas, fields_of}
 use Rattle.capnp_schema.specs.Accepted.{HasOneParent}
 use Rattle.capnp_schema.specs.Parents.{group_target, HasNoParents, IsParentTable}
@@ -131,12 +132,8 @@ free_at table g (Some p) lt e none = cc
 
 -- one more entry of the table that names no parent
 pub no_parents_more : (table : Table) (count : ℕ) → HasNoParents table count → HasNoParents (table ++ None ∷ []) (count + 1)
-no_parents_more table count n = record { counted = pushed table ∙ ap suc n.counted ∙ sym (add-one count); none = λ g b i e. more table g b i (n.none g b i) e }
+no_parents_more table count n = record { counted = length_push table None ∙ ap (λ (k : ℕ). k + 1) n.counted; none = λ g b i e. more table g b i (n.none g b i) e }
   where
-    pushed : (xs : Table) → length (xs ++ None ∷ []) ≡ suc (length xs)
-    pushed [] = refl
-    pushed (x ∷ xs) = ap suc (pushed xs)
-
     more : (xs : Table) (g b i : ℕ) → (slice_get xs g ≡ Some (Some (b, i)) → ⊥) → slice_get (xs ++ None ∷ []) g ≡ Some (Some (b, i)) → ⊥
     more [] zero b i none e = cc
     more [] (suc g) b i none e = cc

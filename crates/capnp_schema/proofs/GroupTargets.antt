@@ -12,17 +12,6 @@ use Rattle.capnp_schema.proofs.Typed.{typed_nothing}
 
 -- ---- nodes ----
 
-pub node_there : (set : Schemas) (b : ℕ) (n : Node) → Some n ≡ brand_node set b → node_of set b ≡ n
-node_there set b n e = at (brand_entry set b) e
-  where
-    at_node : (o : Option Node) → Some n ≡ o → unwrap_or o no_node ≡ n
-    at_node None e = cc
-    at_node (Some m) e = cc
-
-    at : (o : Option Brand) → Some n ≡ node_of_entry set o → node_at set (unwrap_or o no_brand).node ≡ n
-    at None e = cc
-    at (Some r) e = at_node (slice_get set.nodes r.node) e
-
 pub node_missing : (set : Schemas) (b : ℕ) → b < length set.brands → None ≡ brand_node set b → node_of set b ≡ no_node
 node_missing set b within e = at (brand_entry set b) (slice_get-get_or set.brands b no_brand within) e
   where

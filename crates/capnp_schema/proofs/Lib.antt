@@ -1,9 +1,14 @@
+pub mod AnnotatedLemmas
+pub mod AnnotatedPlaces
 pub mod AnnotationTypes
 pub mod BrandRefusals
 pub mod BrokenSets
 pub mod BuiltinLemmas
 pub mod Decided
+pub mod EntryTables
 pub mod EntryWalk
+pub mod EnumLemmas
+pub mod FieldCounts
 pub mod FieldWalk
 pub mod GroupChains
 pub mod GroupRows
@@ -12,12 +17,12 @@ pub mod GroupTargets
 pub mod Groups
 pub mod Indices
 pub mod Lengths
+pub mod LookUps
+pub mod MemberTables
 pub mod Members
 pub mod NameOrder
 pub mod NameSearch
 pub mod NameTables
-pub mod Passing
-pub mod PlanLemmas
 pub mod PlanRows
 pub mod Plans
 pub mod ReadDefaults
@@ -26,6 +31,6 @@ pub mod SeenNames
 pub mod SmallCounts
 pub mod SpanLemmas
 pub mod SpanTables
+pub mod StructLookUps
 pub mod Typed
-pub mod Variants
 pub mod WordPlaces

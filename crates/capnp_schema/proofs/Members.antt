@@ -28,7 +28,7 @@ no_marks fields count = record {
 }
 
 -- a value in the range of a union is not that of a plain field
-member_by_value : (f : Field) → f.discriminant_value ≢ 65535 → IsTrue (is_member f)
+pub member_by_value : (f : Field) → f.discriminant_value ≢ 65535 → IsTrue (is_member f)
 member_by_value f h = by_test (f.discriminant_value == 65535) refl
   where
     by_test : (t : Bool) → (f.discriminant_value == 65535) ≡ t → not (f.discriminant_value == 65535) ≡ true

@@ -1,12 +1,12 @@
 -- List defaults: types by their layers, and the fields of brands.
-use Rattle.std.proofs.Common.{◌≡◌, ℕ, zero, suc, ◌+◌, ◌<◌, ◌≤◌, ⊎_elim, Bool, List, [], ◌∷◌, Option, Some, None, ap, arith, length, refl, slice_get, subst, sym, ◌∙◌}
+use Rattle.std.proofs.Common.{◌≡◌, ℕ, zero, suc, ◌<◌, ◌≤◌, ⊎_elim, Bool, List, [], Option, Some, ap, arith, length, refl, slice_get, subst, sym, ◌∙◌}
 use Rattle.std.specs.Prelude.{◌↔◌, IsTrue}
 use Rattle.std.specs.List.{All}
 use Rattle.std.specs.Option.{unwrap_or}
 use Rattle.std.proofs.lemmas.Bool.{cases_lt}
 use Rattle.std.proofs.lemmas.Option.{slice_get_past, slice_get_within, unwrap_or-slice_get}
 use Rattle.capnp_device.specs.declared.error.SchemaTable.TheVariants.{Brand as InBrands}
-use Rattle.capnp_base.specs.Types.{variant_by, variant_of}
+use Rattle.capnp_base.specs.Types.{variant_by, variant_of, element_size as size_of_variant}
 use Rattle.capnp_base.specs.declared.introspect.«Type».{«Type» as TypeHandle}
 use Rattle.capnp_base.specs.declared.introspect.BaseType.{BaseType}
 use Rattle.capnp_base.specs.declared.introspect.BaseType.TheVariants as base
@@ -15,16 +15,15 @@ use Rattle.capnp_wire.specs.Reading.{as_list}
 use Rattle.capnp_wire.specs.Tree as tree
 use Rattle.capnp_wire.specs.Tree.{Tree}
 use Rattle.capnp_wire.specs.declared.size.ElementSize.{ElementSize}
-use Rattle.capnp_schema.specs.Types.{SchemaType, element_size, lists_of, seen_base, seen_type}
-use Rattle.capnp_schema.specs.Schema.{Schemas, Brand, Field, ListValue, Node, TypedField, brand_at, fields_of, no_brand, no_field, no_node, node_at, node_of, typed}
-use Rattle.capnp_schema.specs.Accepted.{EachField, KindDefault, ListReads, Rule3, Rule6}
+use Rattle.capnp_schema.specs.Types.{element_size, lists_of, seen_base, seen_type}
+use Rattle.capnp_schema.specs.Schema.{Schemas, Brand, ListValue, TypedField, brand_at, fields_of, no_brand, no_field, node_of, typed}
+use Rattle.capnp_schema.specs.Accepted.{EachField, KindDefault, ListReads, Rule6}
 use Rattle.capnp_schema.specs.Broken.{IsBroken, default_list}
-use Rattle.capnp_schema.specs.ListDefaults.{LayerReads, ReadBelow, ReadsDefault, layer_size}
+use Rattle.capnp_schema.specs.ListDefaults.{LayerReads, ReadsDefault}
 use Rattle.capnp_schema.specs.Values.{HaveAllWords}
 use Rattle.capnp_schema.proofs.Typed.{typed_nothing}
-use Rattle.capnp_schema.proofs.WordPlaces.{so_of_entry}
 
-size_by : (b : BaseType) (n : ℕ) → layer_size (variant_by b n) ≡ element_size (lists_of n (seen_base b))
+size_by : (b : BaseType) (n : ℕ) → size_of_variant (variant_by b n) ≡ element_size (lists_of n (seen_base b))
 size_by b (suc n) = refl
 size_by base.Void zero = refl
 size_by base.Bool zero = refl
@@ -42,8 +41,9 @@ size_by (base.Struct x) zero = refl
 size_by base.AnyPointer zero = refl
 size_by (base.Enum x) zero = refl
 
-pub layer_sized : (t : TypeHandle) → layer_size (variant_of t) ≡ element_size (seen_type t)
-layer_sized t = size_by t.base t.list_count
+-- the size of elements, as the crate of types has it and as definitions do
+pub elements_sized : (t : TypeHandle) → size_of_variant (variant_of t) ≡ element_size (seen_type t)
+elements_sized t = size_by t.base t.list_count
 
 reads_by : (r : Bool) (words : List ℕ) (b : BaseType) (n : ℕ) → (IsTrue r ↔ LayerReads words (variant_by b n)) → IsTrue r ↔ ListReads (ListValue words) (lists_of n (seen_base b))
 reads_by r words b (suc n) h = h
@@ -88,21 +88,6 @@ brand_there set b i h = ⊎_elim (λ inside. inside) (λ past. absurd (none past
         let count = ap (λ (l : List TypedField). length l) empty in
         absurd (omega arith)
 
-typed_count : (fs : List Field) (ts : List SchemaType) → length (typed fs ts) ≤ length fs
-typed_count [] ts = omega arith
-typed_count (f ∷ fs) [] = omega arith
-typed_count (f ∷ fs) (t ∷ ts) = omega (arith, typed_count fs ts)
-
-few_of_node : (set : Schemas) → Rule3 set → (n : ℕ) → length (node_at set n).fields ≤ 65535
-few_of_node set rule n = at_entry (slice_get set.nodes n) refl
-  where
-    at_entry : (o : Option Node) → slice_get set.nodes n ≡ o → length (unwrap_or o no_node).fields ≤ 65535
-    at_entry None e = omega arith
-    at_entry (Some x) e = so_of_entry (λ (y : Node). length y.fields ≤ 65535) set.nodes n x rule.fields e
-
-pub few_typed : (set : Schemas) → Rule3 set → (b : ℕ) → length (fields_of set b) ≤ 65535
-few_typed set rule b = omega (arith, typed_count (node_of set b).fields (brand_at set b).field_types, few_of_node set rule (brand_at set b).node)
-
 module _ (set : Schemas) (b i : ℕ) (f : TypedField) (here : slice_get (fields_of set b) i ≡ Some f) where
   pub field_inside : i < length (fields_of set b)
   field_inside = slice_get_within (fields_of set b) i f here
@@ -116,14 +101,8 @@ module _ (set : Schemas) (b i : ℕ) (f : TypedField) (here : slice_get (fields_
 
 -- ---- brands, one after another ----
 
-pub read_none : (set : Schemas) → ReadBelow set 0
-read_none set = record { each = λ b h. absurd (omega arith) }
-
-pub read_more : (set : Schemas) (n : ℕ) → ReadBelow set n → All ReadsDefault (fields_of set n) → ReadBelow set (n + 1)
-read_more set n before here = record { each = λ b h. ⊎_elim (λ less. before.each b less) (λ le. let same : n ≡ b = omega arith in subst (λ (j : ℕ). All ReadsDefault (fields_of set j)) same here) (cases_lt b n) }
-
-pub read_all : (set : Schemas) (n : ℕ) → ReadBelow set n → length set.brands ≤ n → EachField set (λ b i f. KindDefault ListReads f.field.kind f.type)
-read_all set n before end = λ b i hb hi. subst (λ (f : TypedField). KindDefault ListReads f.field.kind f.type) (sym (unwrap_or-slice_get (fields_of set b) i no_field)) (before.each b (omega arith) i no_field hi)
+pub read_all : (set : Schemas) (n : ℕ) → ((b : ℕ) → b < n → All ReadsDefault (fields_of set b)) → length set.brands ≤ n → EachField set (λ b i f. KindDefault ListReads f.field.kind f.type)
+read_all set n before end = λ b i hb hi. subst (λ (f : TypedField). KindDefault ListReads f.field.kind f.type) (sym (unwrap_or-slice_get (fields_of set b) i no_field)) (before b (omega arith) i no_field hi)
 
 pub rule6_stands : (set : Schemas) → HaveAllWords set → EachField set (λ b i f. KindDefault ListReads f.field.kind f.type) → Rule6 set
 rule6_stands set words reads = record {

@@ -8,7 +8,7 @@ use Rattle.capnp_schema.specs.Schema.{fields_of, field_at, node_of}
 use Rattle.capnp_schema.specs.Footprint.{Place, DataBit, PointerAt, footprint, discriminant_names}
 use Rattle.capnp_schema.specs.Accepted.{root_of}
 use Rattle.capnp_schema.specs.Schema.{VoidValue, BoolValue}
-use Rattle.capnp_schema.specs.Query.{member_of, plain_fields, field_named, annotation_of}
+use Rattle.capnp_schema.specs.Query.{member_of, plain_fields, field_named, records_of, annotation_of}
 use Rattle.capnp_schema.specs.Laws.{height_within, group_height}
 use Rattle.capnp_schema.specs.Builtin.{annotation, builtin, loop_words, zero_word}
 
@@ -99,26 +99,32 @@ two_lists : lists_of 2 TextType ≡ ListType (ListType TextType)
 two_lists = refl
 
 -- queries of the built-in set
-shapes_members : member_of (node_of builtin 3) 1 ≡ Some 2
+shapes_members : member_of (records_of builtin 3) 1 ≡ Some 2
 shapes_members = refl
 
-shapes_past_members : member_of (node_of builtin 3) 3 ≡ None
+shapes_past_members : member_of (records_of builtin 3) 3 ≡ None
 shapes_past_members = refl
 
-plain_is_no_member : member_of (node_of builtin 3) 65535 ≡ None
+plain_is_no_member : member_of (records_of builtin 3) 65535 ≡ None
 plain_is_no_member = refl
 
-shapes_plain : plain_fields (node_of builtin 3) ≡ 0 ∷ []
+shapes_plain : plain_fields (records_of builtin 3) ≡ 0 ∷ []
 shapes_plain = refl
 
-tag_plain : plain_fields (node_of builtin 5) ≡ 0 ∷ 3 ∷ 4 ∷ []
+tag_plain : plain_fields (records_of builtin 5) ≡ 0 ∷ 3 ∷ 4 ∷ []
 tag_plain = refl
 
-tag_named : field_named (node_of builtin 5) (codes "any") ≡ Some 3
+tag_named : field_named (records_of builtin 5) (codes "any") ≡ Some 3
 tag_named = refl
 
-names_are_exact : field_named (node_of builtin 3) (codes "ID") ≡ None
+names_are_exact : field_named (records_of builtin 3) (codes "ID") ≡ None
 names_are_exact = refl
+
+flat_members : member_of (records_of builtin 0) 0 ≡ None
+flat_members = refl
+
+no_records_past_the_end : records_of builtin 9 ≡ []
+no_records_past_the_end = refl
 
 first_annotation : annotation_of (annotation 8 VoidValue ∷ annotation 9 VoidValue ∷ annotation 8 (BoolValue true) ∷ []) 8 ≡ Some 0
 first_annotation = refl

@@ -14,7 +14,8 @@ use Rattle.capnp_schema.specs.Parents.{TargetsAreGroups, entry_target, kind_targ
 use Rattle.capnp_schema.specs.declared.check.spans.Span.{Span}
 use Rattle.capnp_schema.specs.declared.check.spans.Span.TheVariants.{Data, Pointer}
 use Rattle.capnp_schema.specs.Spans.{span_names, some_span, field_names, entry_names}
-use Rattle.capnp_schema.proofs.GroupTargets.{node_there, node_missing}
+use Rattle.capnp_schema.proofs.FieldWalk.{found_node}
+use Rattle.capnp_schema.proofs.GroupTargets.{node_missing}
 
 in_holds : (first n i : ℕ) → first ≤ i → i < first + n → is_in first n i ≡ true
 in_holds first n i h k = grind (arith, nat_tests)
@@ -108,7 +109,7 @@ pub brand_added : (set : Schemas) (groups b : ℕ) (p : Place) (before out : Lis
     → some_span (out ++ s ∷ []) p ≡ (some_span before p || brand_names groups set b p)
 brand_added set zero b p before out n s some there fields names = absurd (omega arith)
 brand_added set (suc groups) b p before out n s some there fields names =
-    some_span-append out s p ∙ ap (λ x. some_span out p || x) (names ∙ ap (λ m. discriminant_names m p) (sym (node_there set b n there)))
+    some_span-append out s p ∙ ap (λ x. some_span out p || x) (names ∙ ap (λ m. discriminant_names m p) (sym (found_node set b n there)))
     ∙ ap (λ x. x || discriminant_names (node_of set b) p) (fields ∙ ap (λ g. some_span before p || some_field (field_names g set) (fields_of set b) p) less)
     ∙ or_assoc (some_span before p) (some_field (field_names groups set) (fields_of set b) p) (discriminant_names (node_of set b) p)
   where

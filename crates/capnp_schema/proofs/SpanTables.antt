@@ -1,52 +1,33 @@
 -- The spans of each field of a brand, and the footprints that they stand for.
-use Rattle.std.proofs.Common.{ℕ, zero, suc, ◌≡◌, ◌≢◌, ◌+◌, ◌<◌, ◌≤◌, ◌⊎◌, inl, inr, ⊎_elim, Bool, true, false, List, [], ◌∷◌, ◌++◌, length, get_or, arith, refl, sym, ap, ◌∙◌, subst, Option, Some, None, Vec, slice_get, add-one}
+use Rattle.std.proofs.Common.{ℕ, ◌≡◌, ◌≢◌, ◌+◌, ◌<◌, ◌≤◌, ⊎_elim, Bool, true, false, List, length, get_or, arith, refl, sym, ap, ◌∙◌, Vec, slice_get}
 use Rattle.std.proofs.lemmas.Bool.{cases_lt}
-use Rattle.std.proofs.lemmas.Option.{slice_get_past, slice_get_within, slice_get_read, unwrap_or-slice_get}
-use Rattle.std.specs.Option.{unwrap_or}
+use Rattle.std.proofs.lemmas.Option.{slice_get_within, slice_get_read}
 use Rattle.std.specs.declared.alloc.Global.{Global}
-use Rattle.capnp_schema.specs.Schema.{Schemas, Node, Field, typed, node_at, brand_at, node_of, no_node, fields_of, field_at, is_member}
-use Rattle.capnp_schema.specs.Types.{SchemaType}
+use Rattle.capnp_schema.specs.Schema.{Schemas, fields_of, field_at, is_member}
 use Rattle.capnp_schema.specs.Footprint.{Place, footprint}
-use Rattle.capnp_schema.specs.Accepted.{FieldsApart, Rule3}
+use Rattle.capnp_schema.specs.Accepted.{FieldsApart}
 use Rattle.capnp_schema.specs.Broken.{FieldBreaks}
 use Rattle.capnp_schema.specs.declared.check.spans.Span.{Span}
 use Rattle.capnp_schema.specs.Spans.{some_span, entry_names, SpansMeet, AreSpansOf}
+use Rattle.capnp_schema.specs.Tables.{items_of, table_at}
+use Rattle.capnp_schema.proofs.EntryTables.{EachTable}
+use Rattle.capnp_schema.proofs.FieldWalk.{one_more}
 use Rattle.capnp_schema.proofs.GroupTargets.{field_is}
 
 abbrev pub footprint_at : Schemas → ℕ → ℕ → Place → Bool
 footprint_at set b i p = footprint set (field_at set b i) p
 
--- the spans of the first n fields
-pub record Gathered (set : Schemas) (b : ℕ) (spans : List (Vec Span Global)) (n : ℕ) : Type 0 where
-  pub counted : length spans ≡ n
-  pub each : (i : ℕ) (v : Vec Span Global) (p : Place) → slice_get spans i ≡ Some v → some_span v.items p ≡ entry_names (length set.brands) set (slice_get (fields_of set b) i) p
+-- spans that name what a field of a brand names
+abbrev pub NameWhatField : Schemas → ℕ → ℕ → List Span → Type 0
+NameWhatField set b i spans = (p : Place) → some_span spans p ≡ entry_names (length set.brands) set (slice_get (fields_of set b) i) p
 
-slice_get-push : {A : Type 0} (xs : List A) (y v : A) (i : ℕ) → slice_get (xs ++ y ∷ []) i ≡ Some v → (slice_get xs i ≡ Some v) ⊎ ((i ≡ length xs) × (y ≡ v))
-slice_get-push [] y v zero e = inr (refl, cc)
-slice_get-push [] y v (suc i) e = cc
-slice_get-push (x ∷ xs) y v zero e = inl e
-slice_get-push (x ∷ xs) y v (suc i) e = ⊎_elim (λ h. inl h) (λ h. inr (ap suc h.0, h.1)) (slice_get-push xs y v i e)
-
-length-push : {A : Type 0} (xs : List A) (y : A) → length (xs ++ y ∷ []) ≡ suc (length xs)
-length-push [] y = refl
-length-push (x ∷ xs) y = ap suc (length-push xs y)
-
-pub gathered_more : (set : Schemas) (b : ℕ) (spans : List (Vec Span Global)) (n : ℕ) (v : Vec Span Global) → Gathered set b spans n
-    → ((p : Place) → some_span v.items p ≡ entry_names (length set.brands) set (slice_get (fields_of set b) n) p) → Gathered set b (spans ++ v ∷ []) (n + 1)
-gathered_more set b spans n v g new = record {
-  counted = length-push spans v ∙ ap suc g.counted ∙ sym (add-one n);
-  each = λ i w p e. ⊎_elim
-      (λ old. g.each i w p old)
-      (λ now. let at : i ≡ n = now.0 ∙ g.counted in sym (ap (λ (x : Vec Span Global). some_span x.items p) now.1) ∙ new p ∙ sym (ap (λ j. entry_names (length set.brands) set (slice_get (fields_of set b) j) p) at))
-      (slice_get-push spans v w i e);
-}
-
-pub spans_from_gathered : (set : Schemas) (b : ℕ) (spans : List (Vec Span Global)) (n : ℕ) → Gathered set b spans n → n ≡ length (fields_of set b) → AreSpansOf set b spans
-spans_from_gathered set b spans n g all = record {
-  counted = g.counted ∙ all;
+pub spans_of_all : (set : Schemas) (b : ℕ) (spans : List (Vec Span Global)) (n : ℕ) → EachTable (NameWhatField set b) spans n → n ≡ length (fields_of set b) → AreSpansOf set b spans
+spans_of_all set b spans n each all = record {
+  counted = each.counted ∙ all;
   each = λ i v p e.
-      let lt : i < length (fields_of set b) = (let l = slice_get_within spans i v e in let c = g.counted in omega arith) in
-      g.each i v p e ∙ ap (λ o. entry_names (length set.brands) set o p) (field_is set b i lt);
+      let lt : i < n = (let l = slice_get_within spans i v e in let c = each.counted in omega arith) in
+      let here : table_at spans i ≡ v.items = ap items_of e in
+      sym (ap (λ (xs : List Span). some_span xs p) here) ∙ each.each i lt p ∙ ap (λ o. entry_names (length set.brands) set o p) (field_is set b i (omega arith));
 }
 
 -- what is read at a place of the table
@@ -91,34 +72,10 @@ apart_from_all set b spans i n s end all j p within ne plain named = all j p (le
 
 -- one more field of the outer loop
 pub more_fields_apart : (set : Schemas) (b i : ℕ) → ((k : ℕ) → k < i → FieldsApart set b k (field_at set b k)) → FieldsApart set b i (field_at set b i) → (k : ℕ) → k < i + 1 → FieldsApart set b k (field_at set b k)
-more_fields_apart set b i before here k h = ⊎_elim (λ lt. before k lt) (λ le. let e : i ≡ k = omega arith in subst (λ x. FieldsApart set b x (field_at set b x)) e here) (cases_lt k i)
+more_fields_apart set b = one_more (λ (k : ℕ). FieldsApart set b k (field_at set b k))
 
 pub apart_from_same : (set : Schemas) (b i j : ℕ) → i ≡ j → (p : Place) → i ≢ j → footprint_at set b i p ≡ true → footprint_at set b j p ≡ false
 apart_from_same set b i j e p ne named = absurd (ne e)
 
 pub apart_from_member : (set : Schemas) (b i : ℕ) → (is_member (field_at set b i).field ≡ false → ⊥) → FieldsApart set b i (field_at set b i)
 apart_from_member set b i member j p within ne plain named = absurd (member plain)
-
--- ---- how many fields there are ----
-
-typed_few : (fs : List Field) (ts : List SchemaType) → length (typed fs ts) ≤ length fs
-typed_few [] ts = omega (arith)
-typed_few (f ∷ fs) [] = omega (arith)
-typed_few (f ∷ fs) (t ∷ ts) = omega (arith, typed_few fs ts)
-
-node_few : (set : Schemas) (k : ℕ) → Rule3 set → length (node_at set k).fields ≤ 65535
-node_few set k three = ⊎_elim
-    (λ lt. subst (λ (n : Node). length n.fields ≤ 65535) (sym (unwrap_or-slice_get set.nodes k no_node)) (three.fields k no_node lt))
-    (λ past. let none : slice_get set.nodes k ≡ None = slice_get_past set.nodes k past in let e : length (node_at set k).fields ≡ 0 = ap (λ (o : Option Node). length (unwrap_or o no_node).fields) none in omega arith)
-    (cases_lt k (length set.nodes))
-
--- a field's index fits where an error names it
-pub index_fits : (set : Schemas) (b i : ℕ) → Rule3 set → i < length (fields_of set b) → i < 65536
-index_fits set b i three h =
-    let few : length (fields_of set b) ≤ length (node_of set b).fields = typed_few (node_of set b).fields (brand_at set b).field_types in
-    let most : length (node_of set b).fields ≤ 65535 = node_few set (brand_at set b).node three in
-    omega arith
-
--- one more brand
-pub more_brands : (P : ℕ → ℕ → Type 0) (n : ℕ) → ((b i : ℕ) → b < n → P b i) → ((i : ℕ) → P n i) → (b i : ℕ) → b < n + 1 → P b i
-more_brands P n before here b i h = ⊎_elim (λ lt. before b i lt) (λ le. let e : n ≡ b = omega arith in subst (λ (x : ℕ). P x i) e (here i)) (cases_lt b n)

@@ -1,9 +1,9 @@
 -- Types of annotations that name no entry.
-use Rattle.std.specs.Prelude.{ℕ, ◌≤◌, List, All, length, map, Vec}
+use Rattle.std.specs.Prelude.{ℕ, List, All, map, Vec}
 use Rattle.std.specs.declared.alloc.Global.{Global}
 use Rattle.capnp_base.specs.declared.introspect.«Type».{«Type» as TypeHandle}
 use Rattle.capnp_schema.specs.Types.{SchemaType, seen_type}
-use Rattle.capnp_schema.specs.Schema.{Schemas, AnnotationTypes, Enum}
+use Rattle.capnp_schema.specs.Schema.{Schemas, AnnotationTypes}
 use Rattle.capnp_schema.specs.Accepted.{NamesEntries, Rule1, Rule4, Rule5, Rule7}
 use Rattle.capnp_schema.specs.Broken.{EntryBreaks}
 
@@ -14,10 +14,6 @@ seen_children children = map (λ (types : Vec TypeHandle Global). map seen_type 
 pub data IsUnnamed (set : Schemas) (types : AnnotationTypes) : ℕ → Type 0 where
   own : (All (NamesEntries set) types.own → ⊥) → IsUnnamed set types 65535
   child : (i : ℕ) → EntryBreaks types.children (All (NamesEntries set)) i → IsUnnamed set types i
-
--- what rule 3 says of enumerants
-abbrev pub HasFewEnumerants : Schemas → Type 0
-HasFewEnumerants set = All (λ (e : Enum). length e.enumerants ≤ 65535) set.enums
 
 -- the rules of types and of single fields
 pub record TypesStand (set : Schemas) : Type 0 where

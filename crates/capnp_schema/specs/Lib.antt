@@ -1,10 +1,14 @@
 pub mod Accepted
+pub mod Annotated
+pub mod AnnotationLists
 pub mod Annotations
 pub mod Broken
 pub mod BrokenLaw
 pub mod Builtin
 pub mod Counts
 pub mod Entries
+pub mod Enums
+pub mod FieldLists
 pub mod Footprint
 pub mod Laws
 pub mod Lengths
@@ -17,7 +21,9 @@ pub mod Query
 pub mod Schema
 pub mod SlotValue
 pub mod Spans
+pub mod StructHandles
 pub mod Tables
 pub mod Tests
 pub mod Types
 pub mod Values
+pub mod Views

@@ -1,10 +1,9 @@
 -- Fields by their names: the tables that a set keeps for its look-ups.
-use Rattle.std.specs.Prelude.{ℕ, ◌≡◌, ◌≢◌, ◌+◌, ◌<◌, List, [], false, length, slice_get, slice_index, Option, Some, None, Vec}
+use Rattle.std.specs.Prelude.{ℕ, ◌≡◌, ◌≢◌, ◌+◌, ◌<◌, List, [], false, length, slice_get, slice_index, Option, Some, None}
 use Rattle.std.specs.Cmp.Lexicographic.{slice_cmp}
 use Rattle.std.specs.Ordering.{nat_cmp, is_lt}
 use Rattle.std.specs.declared.cmp.Ordering.TheVariants.{Less}
-use Rattle.std.specs.declared.alloc.Global.{Global}
-use Rattle.capnp_schema.specs.Schema.{Schemas, Field, node_at}
+use Rattle.capnp_schema.specs.Schema.{Field}
 
 abbrev pub name_in : Option Field → List ℕ
 name_in None = []
@@ -36,8 +35,3 @@ pub record IsRepeated (fields : List Field) (i : ℕ) : Type 0 where
   pub other_inside : other < length fields
   pub differs : other ≢ i
   pub same_name : name_at fields other ≡ name_at fields i
-
--- a table for each node
-pub record AreNameTables (set : Schemas) (tables : List (Vec ℕ Global)) : Type 0 where
-  pub same_length : length tables ≡ length set.nodes
-  pub each : (n : ℕ) (table : Vec ℕ Global) → slice_get tables n ≡ Some table → IsNameTable (node_at set n).fields table.items

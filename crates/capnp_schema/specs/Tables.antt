@@ -1,9 +1,63 @@
 -- The tables that a set keeps for its queries.
-use Rattle.std.specs.Prelude.{ℕ, ◌≡◌, List, length, slice_get, Some}
-use Rattle.capnp_schema.specs.Schema.{Node}
-use Rattle.capnp_schema.specs.Query.{member_of}
+use Rattle.std.specs.Prelude.{ℕ, ◌≡◌, ◌<◌, Bool, true, false, IsTrue, List, [], get_or, length, map, slice_get, slice_set, Option, Some, None, Vec}
+use Rattle.std.specs.declared.alloc.Global.{Global}
+use Rattle.capnp_schema.specs.Schema.{Schemas, Node, Field, fields_of, is_member, node_at}
+use Rattle.capnp_schema.specs.Query.{member_of, plain_fields}
+use Rattle.capnp_schema.specs.Names.{IsNameTable}
+use Rattle.capnp_schema.specs.Plan.{plan_of}
+use Rattle.capnp_schema.specs.declared.plan.Place.TheVariants.{Nothing}
+use Rattle.capnp_schema.specs.declared.plan.SlotPlan.{SlotPlan}
+use Rattle.capnp_schema.specs.declared.tables.FieldTables.{FieldTables}
 
 -- at each discriminant value the index of its member
 pub record IsMemberTable (n : Node) (table : List ℕ) : Type 0 where
   pub same_length : length table ≡ n.discriminant_count
-  pub each : (d i : ℕ) → slice_get table d ≡ Some i → member_of n d ≡ Some i
+  pub each : (d i : ℕ) → slice_get table d ≡ Some i → member_of n.fields d ≡ Some i
+
+-- the members have discriminant values below a count, and no two have one
+pub record AreApartBelow (fields : List Field) (count : ℕ) : Type 0 where
+  pub below : (k : ℕ) (f : Field) → slice_get fields k ≡ Some f → IsTrue (is_member f) → f.discriminant_value < count
+  pub once : (i j : ℕ) (f g : Field) → slice_get fields i ≡ Some f → slice_get fields j ≡ Some g → IsTrue (is_member f) → f.discriminant_value ≡ g.discriminant_value → i ≡ j
+
+-- a table in which a member's index is set at its discriminant value
+abbrev pub placed : (plain : Bool) → List ℕ → (value index : ℕ) → List ℕ
+placed true table value index = table
+placed false table value index = slice_set table value index
+
+-- the members among the first i fields stand at their discriminant values in a table of that length
+pub record ArePlaced (fields : List Field) (i count : ℕ) (table : List ℕ) : Type 0 where
+  pub counted : length table ≡ count
+  pub each : (k : ℕ) (f : Field) → k < i → slice_get fields k ≡ Some f → IsTrue (is_member f) → get_or table f.discriminant_value 0 ≡ k
+
+abbrev pub items_of : {A : Type 0} → Option (Vec A Global) → List A
+items_of None = []
+items_of (Some table) = table.items
+
+-- what stands in table n, nothing past the last table
+abbrev pub table_at : {A : Type 0} → List (Vec A Global) → ℕ → List A
+table_at tables n = items_of (slice_get tables n)
+
+-- the plan of a slot that takes no room, where a field is missing
+abbrev pub no_plan : SlotPlan
+no_plan = record { place = Nothing; member = None }
+
+-- a table by name for each node, and nothing past the last
+pub record AreNameTables (set : Schemas) (tables : List (Vec ℕ Global)) : Type 0 where
+  pub same_length : length tables ≡ length set.nodes
+  pub each : (n : ℕ) → IsNameTable (node_at set n).fields (table_at tables n)
+
+abbrev pub AreMemberTables : Schemas → List (Vec ℕ Global) → Type 0
+AreMemberTables set tables = (n : ℕ) → IsMemberTable (node_at set n) (table_at tables n)
+
+abbrev pub ArePlainTables : Schemas → List (Vec ℕ Global) → Type 0
+ArePlainTables set tables = (n : ℕ) → table_at tables n ≡ plain_fields (node_at set n).fields
+
+abbrev pub ArePlanTables : Schemas → List (Vec SlotPlan Global) → Type 0
+ArePlanTables set tables = (b : ℕ) → table_at tables b ≡ map (plan_of set b) (fields_of set b)
+
+-- tables for each node, and plans for each brand; past the last of these stands an empty table
+pub record AreTables (set : Schemas) (tables : FieldTables) : Type 0 where
+  pub by_name : (n : ℕ) → IsNameTable (node_at set n).fields (table_at tables.by_name.items n)
+  pub members : AreMemberTables set tables.members.items
+  pub plain : ArePlainTables set tables.plain.items
+  pub plans : ArePlanTables set tables.plans.items

@@ -1,5 +1,5 @@
 -- The tests of the rules about single entries, as they compute.
-use Rattle.std.specs.Prelude.{ℕ, ◌+◌, ◌*◌, ◌≤◌, ◌==◌, ◌&&◌, ◌||◌, not, nat_lt, nat_le, Bool, true, false, All, length, Option, Some, None}
+use Rattle.std.specs.Prelude.{ℕ, ◌+◌, ◌*◌, ◌==◌, ◌&&◌, ◌||◌, not, nat_lt, nat_le, Bool, true, false, length, Option, Some, None}
 use Rattle.capnp_base.specs.declared.introspect.TypeVariant.{TypeVariant}
 use Rattle.capnp_base.specs.declared.introspect.TypeVariant.TheVariants as variant
 use Rattle.capnp_schema.specs.Types.{SchemaType, VoidType, BoolType, IntType, UIntType, EnumType, TextType, DataType, StructType, ListType, AnyPointerType, seen_type, is_pointer, width}
@@ -113,10 +113,6 @@ abbrev pub is_discriminant_inside : Node → Bool
 is_discriminant_inside n = (n.discriminant_count == 0) || nat_le (16 * (n.discriminant_offset + 1)) (64 * n.data_word_count)
 
 -- ---- what the walk over all fields shows ----
-
--- what rule 3 says of counts, where the place of a field is to fit a refusal
-abbrev pub HasFewFields : Schemas → Type 0
-HasFewFields set = All (λ (n : Node). length n.fields ≤ 65535) set.nodes
 
 -- rules 1, 4, 5 and 7 of one field of a node
 pub record FieldStands (set : Schemas) (n : Node) (f : TypedField) : Type 0 where

@@ -5,6 +5,7 @@ use Rattle.capnp_wire.specs.declared.size.ElementSize.TheVariants as size
 use Rattle.capnp_base.specs.declared.introspect.«Type».{«Type» as TypeHandle}
 use Rattle.capnp_base.specs.declared.introspect.BaseType.{BaseType}
 use Rattle.capnp_base.specs.declared.introspect.BaseType.TheVariants as base
+use Rattle.capnp_base.specs.Types.{base_of, list_depth}
 
 -- A type: the integers by their bytes, with a sign and without; an enum by its number; a struct by the numbers of its
 -- brand and of its node; a list by the type of its elements.
@@ -45,7 +46,7 @@ lists_of (suc count) t = ListType (lists_of count t)
 
 -- the type that a value of the code stands for
 abbrev pub seen_type : TypeHandle → SchemaType
-seen_type t = lists_of t.list_count (seen_base t.base)
+seen_type t = lists_of (list_depth t) (seen_base (base_of t))
 
 -- whether values of the type stand behind a pointer
 abbrev pub is_pointer : SchemaType → Bool

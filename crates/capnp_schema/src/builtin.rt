@@ -9,14 +9,11 @@ ghost use Rattle.capnp_schema.specs.Builtin as set;
 
 use crate::record::{
     AnnotationRecord, AnnotationTypes, BrandRecord, EnumRecord, EnumerantRecord, FieldKind,
-    FieldRecord, NodeRecord, StructRecord, ValueRecord,
+    FieldRecord, NO_DISCRIMINANT, NodeRecord, StructRecord, ValueRecord,
 };
 use capnp_base::introspect::{RawBrandedStructSchema, RawEnumSchema, Type, TypeVariant};
 use capnp_wire::error::Error;
 use std::alloc::{AllocError, Global};
-
-/// A plain field's discriminant value.
-const NO_DISCRIMINANT: u16 = 65535;
 
 fn plain(
     alloc: Global,

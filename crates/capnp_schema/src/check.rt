@@ -5,7 +5,6 @@ pub(crate) mod counts;
 pub(crate) mod fields;
 pub(crate) mod footprints;
 pub(crate) mod groups;
-mod layers;
 mod list_defaults;
 pub(crate) mod names;
 mod refusal;

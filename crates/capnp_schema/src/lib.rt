@@ -1,13 +1,17 @@
-//! Schemas that are known only at run time: records of structs, groups and enums, and the check that they fit together.
+//! Schemas that are known only at run time: records of structs, groups and enums, the check that they fit together, and
+//! queries of what was checked.
 #![tactic(auto)]
 
 pub mod builtin;
 mod check;
 pub mod exact;
 pub mod laws;
+mod layers;
 mod lists;
 mod names;
 pub mod plan;
 pub mod record;
+pub mod schema;
 pub mod set;
 mod tables;
+pub mod value;

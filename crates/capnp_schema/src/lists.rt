@@ -2,7 +2,7 @@
 ghost use Rattle.std.specs.Prelude.{◌≡◌, ◌<◌, length, map, slice_get};
 ghost use Rattle.std.specs.Option.{option_copied, option_map};
 ghost use Rattle.capnp_schema.specs.Types.{seen_type};
-ghost use Rattle.capnp_schema.specs.Schema.{seen_node, seen_brand, seen_field, typed, fields_of};
+ghost use Rattle.capnp_schema.specs.Schema.{seen_node, seen_brand, seen_enum, seen_field, typed, fields_of};
 ghost use Rattle.capnp_schema.specs.Entries.{lists_seen, node_entry, brand_entry, enum_entry, brand_node, seen_typed};
 
 use crate::record::{BrandRecord, EnumRecord, FieldRecord, NodeRecord};
@@ -36,6 +36,13 @@ impl Lists {
         ensures { option_map seen_brand (option_copied result) ≡ brand_entry (lists_seen self.now) brand }
     {
         self.brands.get(brand)
+    }
+
+    /// The enum of a number.
+    pub(crate) fn enum_at(&self, number: usize) -> Option<&EnumRecord>
+        ensures { option_map seen_enum (option_copied result) ≡ enum_entry (lists_seen self.now) number }
+    {
+        self.enums.get(number)
     }
 
     /// The node of a brand.

@@ -38,7 +38,7 @@ pub(crate) fn find_counted(
     fields: &[FieldRecord],
     by_name: &[u16],
     name: &str,
-) -> (Option<usize>, u32)
+) -> (Option<u16>, u32)
     requires table { IsNameTable (map seen_field fields.now) by_name.now }
     requires few { length fields.now ≤ 65535 }
     ensures found { result.0 ≡ position (λ (f : Field). bytes_eq f.name name.now) (map seen_field fields.now) }
@@ -53,7 +53,7 @@ pub(crate) fn find_counted(
         let middle = low + (high - low) / 2;
         let at = by_name[middle];
         match compare_counted(name_of(fields, at), name, &mut count) {
-            Ordering::Equal => return (Some(at as usize), count),
+            Ordering::Equal => return (Some(at), count),
             Ordering::Less => low = middle + 1,
             Ordering::Greater => high = middle,
         }

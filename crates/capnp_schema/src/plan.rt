@@ -1,13 +1,16 @@
 //! Slot plans: where a field stands in its struct, worked out once.
 ghost use Rattle.std.specs.Prelude.{◌≡◌, ◌+◌, ◌*◌, ◌≤◌, ◌<◌, true};
-ghost use Rattle.capnp_schema.specs.Types.{seen_type, is_pointer, struct_number, width};
+ghost use Rattle.capnp_schema.specs.Types.{seen_type, is_pointer, width};
 ghost use Rattle.capnp_schema.specs.Schema.{seen_field, seen_kind, seen_node, seen_value, is_member, Slot};
 ghost use Rattle.capnp_schema.specs.Accepted.{LiesInside};
 ghost use Rattle.capnp_schema.specs.SlotValue.{default_bits};
 ghost use Rattle.capnp_schema.specs.Plan.{LiesInNode, PlansStand, member_plan, place_of, plan_in};
 
+pub(crate) mod table;
+
+use crate::layers::{is_pointer, struct_number, width};
 use crate::record::{FieldKind, FieldRecord, NodeRecord, ValueRecord};
-use capnp_base::introspect::{Type, TypeVariant};
+use capnp_base::introspect::Type;
 
 /// Where a field stands: its place, and for a member of a union its discriminant.
 #[derive(Clone, Copy, Debug, PartialEq, Eq)]
@@ -44,6 +47,7 @@ pub(crate) fn plan_field(node: &NodeRecord, field: &FieldRecord, field_type: &Ty
 }
 
 /// Where a field of a kind and type stands in a node's sections.
+#[tactic(auto, using(crate::proofs::Decided::seen_which))]
 fn place_of(kind: &FieldKind, field_type: &Type, node: &NodeRecord) -> Place
     requires { LiesInside (seen_node node.now) (seen_kind kind.now) (seen_type field_type.now) }
     ensures { result ≡ place_of (seen_kind kind.now) (seen_type field_type.now) }
@@ -55,20 +59,22 @@ fn place_of(kind: &FieldKind, field_type: &Type, node: &NodeRecord) -> Place
             let _pointers = node.body.pointer_count;
             slot_place(*offset, default, field_type)
         }
-        FieldKind::Group { node: _ } => Place::Group(struct_number(field_type)),
+        FieldKind::Group { node: _ } => Place::Group(struct_number(field_type.which())),
     }
 }
 
 /// Where a slot stands, by its offset in units of its own width.
+#[tactic(auto, using(crate::proofs::Decided::seen_which))]
 fn slot_place(offset: u32, default: &ValueRecord, field_type: &Type) -> Place
     requires bits { (offset + 1) * width (seen_type field_type.now) ≤ 64 * 65535 }
     requires pointer { is_pointer (seen_type field_type.now) ≡ true → offset < 65535 }
     ensures { result ≡ place_of (Slot offset (seen_value default.now)) (seen_type field_type.now) }
 {
-    if field_type.is_pointer_type() {
+    let variant = field_type.which();
+    if is_pointer(variant) {
         return Place::Pointer(offset as u16);
     }
-    let bits = data_width(field_type);
+    let bits = width(variant);
     if bits == 0 {
         return Place::Nothing;
     }
@@ -76,31 +82,6 @@ fn slot_place(offset: u32, default: &ValueRecord, field_type: &Type) -> Place
         start: offset * bits as u32,
         width: bits,
         mask: default_bits(default),
-    }
-}
-
-/// How many bits a data slot of the type has, 0 for every other type.
-fn data_width(field_type: &Type) -> u8
-    ensures is { result ≡ width (seen_type field_type.now) }
-    ensures bound { result ≤ 64 }
-{
-    match field_type.which() {
-        TypeVariant::Bool => 1,
-        TypeVariant::Int8 | TypeVariant::UInt8 => 8,
-        TypeVariant::Int16 | TypeVariant::UInt16 | TypeVariant::Enum(_) => 16,
-        TypeVariant::Int32 | TypeVariant::UInt32 => 32,
-        TypeVariant::Int64 | TypeVariant::UInt64 => 64,
-        _ => 0,
-    }
-}
-
-/// The brand that a struct type names, 0 for every other type.
-fn struct_number(field_type: &Type) -> u32
-    ensures { result ≡ struct_number (seen_type field_type.now) }
-{
-    match field_type.which() {
-        TypeVariant::Struct(schema) => schema.number,
-        _ => 0,
     }
 }
 
@@ -128,7 +109,7 @@ fn member_of(node: &NodeRecord, field: &FieldRecord) -> Option<(u32, u16)>
     requires { is_member (seen_field field.now) ≡ true → 16 * (node.now.body.discriminant_offset + 1) ≤ 64 * node.now.body.data_word_count }
     ensures { result ≡ member_plan (is_member (seen_field field.now)) (seen_node node.now) (seen_field field.now) }
 {
-    if field.discriminant_value == 65535 {
+    if !field.is_member() {
         return None;
     }
     // A data section of at most 65,535 words: the number of a bit inside it fits.

@@ -3,8 +3,11 @@ ghost use Rattle.std.specs.Prelude.{◌≡◌, IfErr, IfOk, MatchResult, OnOk, m
 ghost use Rattle.capnp_schema.specs.Accepted.{IsAccepted};
 ghost use Rattle.capnp_schema.specs.Broken.{IsRefusalOf};
 ghost use Rattle.capnp_schema.specs.Entries.{lists_seen};
-ghost use Rattle.capnp_schema.specs.Names.{AreNameTables};
 ghost use Rattle.capnp_schema.specs.Schema.{seen_brand, seen_enum, seen_node, seen_schemas};
+ghost use Rattle.capnp_schema.specs.Tables.{AreNameTables};
+
+mod annotated;
+mod look_up;
 
 use crate::check::annotations::check_types;
 use crate::check::footprints::check_footprints;
@@ -15,6 +18,7 @@ use crate::check::unions::{check_discriminants, check_unions};
 use crate::check::values::check_values;
 use crate::lists::Lists;
 use crate::record::{BrandRecord, EnumRecord, NodeRecord};
+use crate::tables::{FieldTables, field_tables};
 use capnp_wire::error::Result;
 use std::alloc::Global;
 use std::marker::Model;
@@ -23,7 +27,7 @@ use std::marker::Model;
 #[derive(Drop)]
 pub struct SchemaSet {
     lists: Lists,
-    by_name: Vec<Vec<u16>>,
+    tables: FieldTables,
 }
 
 impl Model for SchemaSet {
@@ -33,11 +37,11 @@ impl Model for SchemaSet {
 
     ghost use Rattle.capnp_schema.specs.Accepted.{IsAccepted};
     ghost use Rattle.capnp_schema.specs.Entries.{lists_seen};
-    ghost use Rattle.capnp_schema.specs.Names.{AreNameTables};
+    ghost use Rattle.capnp_schema.specs.Tables.{AreTables};
 
     ghost view = { λ s. s.lists };
 
-    ghost invariant = { λ s. IsAccepted (lists_seen s.lists) × AreNameTables (lists_seen s.lists) s.by_name.items };
+    ghost invariant = { λ s. IsAccepted (lists_seen s.lists) × AreTables (lists_seen s.lists) s.tables };
 }
 
 /// The tables of fields by name, of lists that meet the twelve rules. A refusal names a rule that is broken and where, or
@@ -78,7 +82,8 @@ impl SchemaSet {
             enums,
         };
         let by_name = check(alloc, &lists)?;
-        Ok(SchemaSet { lists, by_name })
+        let tables = field_tables(alloc, &lists, by_name)?;
+        Ok(SchemaSet { lists, tables })
     }
 
     /// The nodes: structs and groups.

@@ -1,22 +1,30 @@
-//! The tables of a node's fields that queries look up.
-ghost use Rattle.std.specs.Prelude.{◌≡◌, ◌≤◌, ◌++◌, [], length, map, IfOk, IfErr, OnOk};
+//! The tables of fields that queries look up.
+ghost use Rattle.std.specs.Prelude.{◌≡◌, ◌≤◌, ◌<◌, ◌++◌, [], false, length, map, replicate, IfOk, IfErr, OnOk};
 ghost use Rattle.capnp_device.specs.declared.error.ErrorKind.TheVariants.{OutOfMemory};
-ghost use Rattle.capnp_schema.specs.Schema.{seen_field, seen_node};
-ghost use Rattle.capnp_schema.specs.Query.{indices_from, keep_index, is_plain, plain_fields};
-ghost use Rattle.capnp_schema.specs.Accepted.{HasEachMember};
-ghost use Rattle.capnp_schema.specs.Tables.{IsMemberTable};
+ghost use Rattle.capnp_schema.specs.Schema.{node_at, seen_field, seen_node};
+ghost use Rattle.capnp_schema.specs.Entries.{lists_seen};
+ghost use Rattle.capnp_schema.specs.Query.{indices_from, keep_index, is_plain};
+ghost use Rattle.capnp_schema.specs.Accepted.{HasEachMember, IsAccepted};
+ghost use Rattle.capnp_schema.specs.Tables.{AreApartBelow, AreMemberTables, AreNameTables, ArePlaced, ArePlainTables, AreTables, IsMemberTable, placed};
 
+use crate::check::names::fields_at;
+use crate::lists::Lists;
+use crate::plan::SlotPlan;
+use crate::plan::table::plan_tables;
 use crate::record::{FieldRecord, NodeRecord};
 use capnp_wire::error::Result;
 use std::alloc::Global;
 
-/// The discriminant value of a field that is no member of a union.
-const PLAIN: u16 = 65_535;
-
-fn is_plain(field: &FieldRecord) -> bool
-    ensures { result ≡ is_plain (seen_field field.now) }
-{
-    field.discriminant_value == PLAIN
+/// For each node tables of its fields, by their indices, and for each brand the plans of its fields.
+#[derive(Drop)]
+pub(crate) struct FieldTables {
+    /// The fields in the order of their names.
+    pub(crate) by_name: Vec<Vec<u16>>,
+    /// The members of the union, at their discriminant values.
+    pub(crate) members: Vec<Vec<u16>>,
+    /// The plain fields.
+    pub(crate) plain: Vec<Vec<u16>>,
+    pub(crate) plans: Vec<Vec<SlotPlan>>,
 }
 
 /// Adds an index where it is kept.
@@ -31,14 +39,118 @@ fn push_if(indices: &mut Vec<u16>, index: u16, kept: bool) -> Result<()>
 }
 
 /// The indices of the plain fields.
-pub(crate) fn plain_table(alloc: Global, fields: &[FieldRecord]) -> Result<Vec<u16>>
+fn plain_table(alloc: Global, fields: &[FieldRecord]) -> Result<Vec<u16>>
     requires { length fields.now ≤ 65535 }
     ensures table { IfOk result (λ v. v.items ≡ indices_from 0 is_plain (map seen_field fields.now)) }
     ensures refused { IfErr result (λ e. e.kind ≡ OutOfMemory) }
 {
     let mut plain = Vec::new(alloc);
     for i in 0..fields.len() {
-        push_if(&mut plain, i as u16, is_plain(&fields[i]))?;
+        push_if(&mut plain, i as u16, !fields[i].is_member())?;
     }
     Ok(plain)
+}
+
+/// So many indices, all 0.
+fn no_indices(alloc: Global, count: u16) -> Result<Vec<u16>>
+    ensures set { IfOk result (λ v. v.items ≡ replicate count 0) }
+    ensures few { count ≤ 65535 }
+    ensures refused { IfErr result (λ e. e.kind ≡ OutOfMemory) }
+{
+    Ok(vec![in alloc; 0; count as usize]?)
+}
+
+/// Sets a member's index at its discriminant value; a plain field has none.
+fn place_member(table: &mut [u16], field: &FieldRecord, index: u16)
+    requires { is_plain (seen_field field.now) ≡ false → field.now.discriminant_value < length table.old }
+    ensures { table.new ≡ placed (is_plain (seen_field field.now)) table.old field.now.discriminant_value index }
+{
+    if field.is_member() {
+        table[field.discriminant_value as usize] = index;
+    }
+}
+
+/// Sets at each member's discriminant value the member's index.
+fn place_members(table: &mut [u16], fields: &[FieldRecord])
+    requires few { length fields.now ≤ 65535 }
+    requires apart { AreApartBelow (map seen_field fields.now) (length table.old) }
+    ensures { ArePlaced (map seen_field fields.now) (length fields.now) (length table.old) table.new }
+{
+    for i in 0..fields.len() {
+        place_member(table, &fields[i], i as u16);
+    }
+}
+
+/// The index of each member, at its discriminant value.
+fn member_table(alloc: Global, node: &NodeRecord) -> Result<Vec<u16>>
+    requires few { length (seen_node node.now).fields ≤ 65535 }
+    requires each { HasEachMember (seen_node node.now) }
+    ensures table { IfOk result (λ v. IsMemberTable (seen_node node.now) v.items) }
+    ensures refused { IfErr result (λ e. e.kind ≡ OutOfMemory) }
+{
+    let mut table = no_indices(alloc, node.body.discriminant_count)?;
+    place_members(&mut table, &node.body.fields);
+    Ok(table)
+}
+
+/// The member table of a node, an empty one past the last node.
+fn member_table_of(alloc: Global, lists: &Lists, node: usize) -> Result<Vec<u16>>
+    requires { IsAccepted (lists_seen lists.now) }
+    ensures table { IfOk result (λ v. IsMemberTable (node_at (lists_seen lists.now) node) v.items) }
+    ensures refused { IfErr result (λ e. e.kind ≡ OutOfMemory) }
+{
+    match lists.node_at(node) {
+        Some(record) => member_table(alloc, record),
+        None => Ok(Vec::new(alloc)),
+    }
+}
+
+/// The member table of each node.
+fn member_tables(alloc: Global, lists: &Lists) -> Result<Vec<Vec<u16>>>
+    requires { IsAccepted (lists_seen lists.now) }
+    ensures tables { IfOk result (λ v. AreMemberTables (lists_seen lists.now) v.items) }
+    ensures refused { IfErr result (λ e. e.kind ≡ OutOfMemory) }
+{
+    let mut tables = Vec::new(alloc);
+    for n in 0..lists.nodes.len() {
+        let table = member_table_of(alloc, lists, n)?;
+        tables.push(table)?;
+    }
+    Ok(tables)
+}
+
+/// The plain fields of each node.
+fn plain_tables(alloc: Global, lists: &Lists) -> Result<Vec<Vec<u16>>>
+    requires { IsAccepted (lists_seen lists.now) }
+    ensures tables { IfOk result (λ v. ArePlainTables (lists_seen lists.now) v.items) }
+    ensures refused { IfErr result (λ e. e.kind ≡ OutOfMemory) }
+{
+    let mut tables = Vec::new(alloc);
+    for n in 0..lists.nodes.len() {
+        let table = plain_table(alloc, fields_at(lists, n))?;
+        tables.push(table)?;
+    }
+    Ok(tables)
+}
+
+/// The tables of lists that meet the twelve rules, by their tables of names.
+pub(crate) fn field_tables(
+    alloc: Global,
+    lists: &Lists,
+    by_name: Vec<Vec<u16>>,
+) -> Result<FieldTables>
+    requires accepted { IsAccepted (lists_seen lists.now) }
+    requires names { AreNameTables (lists_seen lists.now) by_name.items }
+    ensures tables { IfOk result (AreTables (lists_seen lists.now)) }
+    ensures refused { IfErr result (λ e. e.kind ≡ OutOfMemory) }
+{
+    let members = member_tables(alloc, lists)?;
+    let plain = plain_tables(alloc, lists)?;
+    let plans = plan_tables(alloc, lists)?;
+    Ok(FieldTables {
+        by_name,
+        members,
+        plain,
+        plans,
+    })
 }

@@ -5,14 +5,13 @@ ghost use Rattle.std.specs.Option.{option_copied, option_map};
 ghost use Rattle.capnp_schema.specs.Types.{seen_type};
 ghost use Rattle.capnp_schema.specs.Schema.{Brand, Enum, seen_types};
 ghost use Rattle.capnp_schema.specs.Entries.{lists_seen};
-ghost use Rattle.capnp_schema.specs.Accepted.{NamesEntries, TypesName, Rule2};
+ghost use Rattle.capnp_schema.specs.Accepted.{NamesEntries, TypesName, Rule2, Rule3};
 ghost use Rattle.capnp_schema.specs.Broken.{EntryBreaks, IsRefusalOf};
-ghost use Rattle.capnp_schema.specs.Tests.{HasFewFields};
-ghost use Rattle.capnp_schema.specs.Annotations.{seen_children, IsUnnamed, HasFewEnumerants, TypesStand};
+ghost use Rattle.capnp_schema.specs.Annotations.{seen_children, IsUnnamed, TypesStand};
 
 use crate::check::fields::{check_fields, names_entry};
 use crate::check::refusal::{WHOLE, refusal};
-use crate::check::types::{child_at, enum_at};
+use crate::check::types::child_at;
 use crate::lists::Lists;
 use crate::record::AnnotationTypes;
 use capnp_base::introspect::Type;
@@ -69,8 +68,8 @@ fn unnamed(lists: &Lists, types: &AnnotationTypes) -> Option<u16>
 
 /// The types of each brand's annotations.
 fn check_brand_types(lists: &Lists) -> Result<()>
-    requires few { HasFewFields (lists_seen lists.now) }
-    requires lengths { Rule2 (lists_seen lists.now) }
+    requires rule2 { Rule2 (lists_seen lists.now) }
+    requires rule3 { Rule3 (lists_seen lists.now) }
     ensures { MatchResult result (λ _. All (λ (b : Brand). TypesName (lists_seen lists.now) b.annotation_types) (lists_seen lists.now).brands) (IsRefusalOf (lists_seen lists.now)) }
 {
     for brand in 0..lists.brands.len() {
@@ -86,12 +85,12 @@ fn check_brand_types(lists: &Lists) -> Result<()>
 
 /// The types of each enum's annotations.
 fn check_enum_types(lists: &Lists) -> Result<()>
-    requires few { HasFewEnumerants (lists_seen lists.now) }
-    requires lengths { Rule2 (lists_seen lists.now) }
+    requires rule2 { Rule2 (lists_seen lists.now) }
+    requires rule3 { Rule3 (lists_seen lists.now) }
     ensures { MatchResult result (λ _. All (λ (e : Enum). TypesName (lists_seen lists.now) e.annotation_types) (lists_seen lists.now).enums) (IsRefusalOf (lists_seen lists.now)) }
 {
     for e in 0..lists.enums.len() {
-        let Some(entry) = enum_at(lists, e) else {
+        let Some(entry) = lists.enum_at(e) else {
             return Ok(());
         };
         if let Some(place) = unnamed(lists, &entry.annotation_types) {
@@ -103,9 +102,8 @@ fn check_enum_types(lists: &Lists) -> Result<()>
 
 /// Each type names an existing entry; and each field's slot, default and group fit its type.
 pub(crate) fn check_types(lists: &Lists) -> Result<()>
-    requires few { HasFewFields (lists_seen lists.now) }
-    requires few_enumerants { HasFewEnumerants (lists_seen lists.now) }
-    requires lengths { Rule2 (lists_seen lists.now) }
+    requires rule2 { Rule2 (lists_seen lists.now) }
+    requires rule3 { Rule3 (lists_seen lists.now) }
     ensures { MatchResult result (λ _. TypesStand (lists_seen lists.now)) (IsRefusalOf (lists_seen lists.now)) }
 {
     check_fields(lists)?;

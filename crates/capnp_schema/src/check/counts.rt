@@ -1,25 +1,18 @@
 //! Rule 3: how many fields, enumerants and annotations there are, and that the names of a node's fields are distinct.
 ghost use Rattle.std.specs.Prelude.{◌≡◌, ◌<◌, ◌≤◌, ◌^◌, ◌↔◌, IsTrue, All, length, map, MatchOption, MatchResult};
-ghost use Rattle.std.specs.Option.{option_copied, option_map};
-ghost use Rattle.capnp_schema.specs.Schema.{Enumerant, Field, seen_enum, seen_enumerant, seen_field, seen_annotations};
-ghost use Rattle.capnp_schema.specs.Entries.{enum_entry, lists_seen};
+ghost use Rattle.capnp_schema.specs.Schema.{Enumerant, Field, seen_enumerant, seen_field, seen_annotations};
+ghost use Rattle.capnp_schema.specs.Entries.{lists_seen};
 ghost use Rattle.capnp_schema.specs.Accepted.{HasFewAnnotations};
 ghost use Rattle.capnp_schema.specs.Broken.{EntryBreaks, IsRefusalOf};
 ghost use Rattle.capnp_schema.specs.Counts.{HasFewEnumerants, HasFewFields, HasSmallCounts, IsSoAt};
 
+use crate::check::refusal::{WHOLE, refusal};
 use crate::lists::Lists;
-use crate::record::{AnnotationRecord, EnumRecord, EnumerantRecord, FieldRecord};
-use capnp_device::error::{Error, ErrorKind, Result, SchemaTable};
+use crate::record::{AnnotationRecord, EnumerantRecord, FieldRecord};
+use capnp_device::error::{Result, SchemaTable};
 
 /// How many fields a node has at most, and an enum enumerants.
 const MOST_ENTRIES: usize = 65535;
-
-/// The enum of a number.
-pub(crate) fn enum_at(lists: &Lists, number: usize) -> Option<&EnumRecord>
-    ensures { option_map seen_enum (option_copied result) ≡ enum_entry (lists_seen lists.now) number }
-{
-    lists.enums.get(number)
-}
 
 /// Whether there are fewer annotations than a list can have elements.
 fn are_few(annotations: &[AnnotationRecord]) -> bool
@@ -59,34 +52,13 @@ fn check_node_counts(lists: &Lists, entry: usize) -> Result<()>
         return Ok(());
     };
     if node.body.fields.len() > MOST_ENTRIES {
-        return Err(Error {
-            kind: ErrorKind::Schema {
-                rule: 3,
-                table: SchemaTable::Node,
-                entry,
-                field: 65535,
-            },
-        });
+        return Err(refusal(3, SchemaTable::Node, entry, WHOLE));
     }
     if !are_few(&node.annotations) {
-        return Err(Error {
-            kind: ErrorKind::Schema {
-                rule: 3,
-                table: SchemaTable::Node,
-                entry,
-                field: 65535,
-            },
-        });
+        return Err(refusal(3, SchemaTable::Node, entry, WHOLE));
     }
     match crowded_field(&node.body.fields) {
-        Some(field) => Err(Error {
-            kind: ErrorKind::Schema {
-                rule: 3,
-                table: SchemaTable::Node,
-                entry,
-                field: field as u16,
-            },
-        }),
+        Some(field) => Err(refusal(3, SchemaTable::Node, entry, field as u16)),
         None => Ok(()),
     }
 }
@@ -94,38 +66,17 @@ fn check_node_counts(lists: &Lists, entry: usize) -> Result<()>
 fn check_enum_counts(lists: &Lists, entry: usize) -> Result<()>
     ensures { MatchResult result (λ _. IsSoAt (lists_seen lists.now).enums HasFewEnumerants entry) (IsRefusalOf (lists_seen lists.now)) }
 {
-    let Some(schema) = enum_at(lists, entry) else {
+    let Some(schema) = lists.enum_at(entry) else {
         return Ok(());
     };
     if schema.enumerants.len() > MOST_ENTRIES {
-        return Err(Error {
-            kind: ErrorKind::Schema {
-                rule: 3,
-                table: SchemaTable::Enum,
-                entry,
-                field: 65535,
-            },
-        });
+        return Err(refusal(3, SchemaTable::Enum, entry, WHOLE));
     }
     if !are_few(&schema.annotations) {
-        return Err(Error {
-            kind: ErrorKind::Schema {
-                rule: 3,
-                table: SchemaTable::Enum,
-                entry,
-                field: 65535,
-            },
-        });
+        return Err(refusal(3, SchemaTable::Enum, entry, WHOLE));
     }
     match crowded_enumerant(&schema.enumerants) {
-        Some(field) => Err(Error {
-            kind: ErrorKind::Schema {
-                rule: 3,
-                table: SchemaTable::Enum,
-                entry,
-                field: field as u16,
-            },
-        }),
+        Some(field) => Err(refusal(3, SchemaTable::Enum, entry, field as u16)),
         None => Ok(()),
     }
 }

@@ -3,12 +3,14 @@
 ghost use Rattle.std.specs.Prelude.{ℕ, ◌≡◌, ◌<◌, length, MatchResult};
 ghost use Rattle.capnp_schema.specs.Types.{seen_type};
 ghost use Rattle.capnp_schema.specs.Schema.{seen_node, seen_kind, seen_value, node_of, fields_of, field_at};
-ghost use Rattle.capnp_schema.specs.Entries.{lists_seen, brand_entry, brand_node};
+ghost use Rattle.capnp_schema.specs.Entries.{lists_seen, brand_entry};
+ghost use Rattle.capnp_schema.specs.Accepted.{Rule3};
 ghost use Rattle.capnp_schema.specs.Broken.{IsRefusalOf};
-ghost use Rattle.capnp_schema.specs.Tests.{seen_variant, variant_is_named, variant_is_no_group, slot_is_inside, brand_is, node_is_group, is_named, is_inside, is_default, kind_is_default, names_no_group, is_group_type, group_fits, HasFewFields, FieldStands, FieldsStand};
+ghost use Rattle.capnp_schema.specs.Tests.{seen_variant, variant_is_named, variant_is_no_group, slot_is_inside, brand_is, is_named, is_inside, is_default, kind_is_default, names_no_group, is_group_type, group_fits, FieldStands, FieldsStand};
 
-use crate::check::layers::{is_pointer, width};
+use crate::check::groups::is_group;
 use crate::check::refusal::refusal;
+use crate::layers::{is_pointer, width};
 use crate::lists::Lists;
 use crate::record::{FieldKind, NodeRecord, ValueRecord};
 use capnp_base::introspect::{Type, TypeVariant};
@@ -20,16 +22,6 @@ fn brand_is(lists: &Lists, brand: u32, node: u32) -> bool
 {
     match lists.brand_at(brand as usize) {
         Some(record) => record.node == node,
-        None => false,
-    }
-}
-
-/// Whether a brand's node is a group.
-fn is_group(lists: &Lists, brand: u32) -> bool
-    ensures { result ≡ node_is_group (brand_node (lists_seen lists.now) brand) }
-{
-    match lists.node_of(brand as usize) {
-        Some(node) => node.body.is_group,
         None => false,
     }
 }
@@ -66,7 +58,7 @@ fn is_inside(node: &NodeRecord, kind: &FieldKind, of: &Type) -> bool
 fn slot_is_inside(node: &NodeRecord, offset: u32, variant: TypeVariant) -> bool
     ensures { result ≡ slot_is_inside (seen_node node.now) offset (seen_variant variant) }
 {
-    let end = (offset as u64 + 1) * width(variant);
+    let end = (offset as u64 + 1) * width(variant) as u64;
     end <= 64 * node.body.data_word_count as u64
         && (!is_pointer(variant) || offset < node.body.pointer_count as u32)
 }
@@ -111,7 +103,7 @@ fn is_no_group(lists: &Lists, variant: TypeVariant) -> bool
     ensures { result ≡ variant_is_no_group (lists_seen lists.now) variant }
 {
     match variant {
-        TypeVariant::Struct(schema) => !is_group(lists, schema.number),
+        TypeVariant::Struct(schema) => !is_group(lists, schema.number as usize),
         _ => true,
     }
 }
@@ -130,7 +122,7 @@ fn is_group_type(lists: &Lists, node: u32, variant: TypeVariant) -> bool
 {
     match variant {
         TypeVariant::Struct(schema) => brand_is(lists, schema.number, node)
-            && is_group(lists, schema.number),
+            && is_group(lists, schema.number as usize),
         _ => false,
     }
 }
@@ -148,7 +140,7 @@ fn group_fits(lists: &Lists, kind: &FieldKind, of: &Type) -> bool
 
 /// One field: the first of rules 1, 4, 5 and 7 that it breaks is refused.
 fn check_field(lists: &Lists, brand: usize, i: usize) -> Result<()>
-    requires few { HasFewFields (lists_seen lists.now) }
+    requires rule3 { Rule3 (lists_seen lists.now) }
     requires brand_in { brand < length (lists_seen lists.now).brands }
     requires field_in { i < length (fields_of (lists_seen lists.now) brand) }
     ensures { MatchResult result (λ _. FieldStands (lists_seen lists.now) (node_of (lists_seen lists.now) brand) (field_at (lists_seen lists.now) brand i)) (IsRefusalOf (lists_seen lists.now)) }
@@ -177,7 +169,7 @@ fn check_field(lists: &Lists, brand: usize, i: usize) -> Result<()>
 
 /// The fields of one brand.
 fn check_fields_of(lists: &Lists, brand: usize) -> Result<()>
-    requires few { HasFewFields (lists_seen lists.now) }
+    requires rule3 { Rule3 (lists_seen lists.now) }
     requires brand_in { brand < length (lists_seen lists.now).brands }
     ensures { MatchResult result (λ _. (i : ℕ) → i < length (fields_of (lists_seen lists.now) brand) → FieldStands (lists_seen lists.now) (node_of (lists_seen lists.now) brand) (field_at (lists_seen lists.now) brand i)) (IsRefusalOf (lists_seen lists.now)) }
 {
@@ -190,7 +182,7 @@ fn check_fields_of(lists: &Lists, brand: usize) -> Result<()>
 /// Each field of each brand: its type names an existing entry, its slot lies inside its section,
 /// its default is of its type's kind, and groups are named by group fields alone.
 pub(crate) fn check_fields(lists: &Lists) -> Result<()>
-    requires few { HasFewFields (lists_seen lists.now) }
+    requires { Rule3 (lists_seen lists.now) }
     ensures { MatchResult result (λ _. FieldsStand (lists_seen lists.now)) (IsRefusalOf (lists_seen lists.now)) }
 {
     for brand in 0..lists.brands.len() {

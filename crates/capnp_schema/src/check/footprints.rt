@@ -6,10 +6,11 @@ ghost use Rattle.capnp_schema.specs.Accepted.{FieldsApart, DiscriminantApart, Ru
 ghost use Rattle.capnp_schema.specs.Broken.{FieldBreaks, IsRefusalOf};
 ghost use Rattle.capnp_schema.specs.Spans.{AreSpansOf};
 
-use crate::check::groups::{brand_count, broken};
+use crate::check::groups::brand_count;
+use crate::check::refusal::refusal;
 use crate::check::spans::{Span, brand_spans, discriminant_span, spans_meet};
 use crate::lists::Lists;
-use capnp_wire::error::Result;
+use capnp_wire::error::{Result, SchemaTable};
 use std::alloc::Global;
 
 /// Whether a field is no member of its struct's union.
@@ -18,7 +19,7 @@ fn is_plain(lists: &Lists, brand: usize, field: usize) -> bool
     ensures { IsTrue result ↔ IsFalse (is_member (field_at (lists_seen lists.now) brand field).field) }
 {
     match lists.field_at(brand, field) {
-        Some(typed) => typed.field.discriminant_value == 65535,
+        Some(typed) => !typed.field.is_member(),
         None => false,
     }
 }
@@ -72,10 +73,10 @@ pub(crate) fn check_footprints(alloc: Global, lists: &Lists) -> Result<()>
     for brand in 0..brand_count(lists) {
         let spans = brand_spans(alloc, lists, brand)?;
         if let Some(field) = meeting_field(lists, brand, &spans) {
-            return Err(broken(11, brand, field as u16));
+            return Err(refusal(11, SchemaTable::Brand, brand, field as u16));
         }
         if let Some(field) = discriminant_field(lists, brand, &spans) {
-            return Err(broken(12, brand, field as u16));
+            return Err(refusal(12, SchemaTable::Brand, brand, field as u16));
         }
     }
     Ok(())

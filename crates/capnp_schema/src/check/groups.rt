@@ -1,33 +1,19 @@
 //! Groups: the field that each one stands under, and the struct that it stands in.
 ghost use Rattle.std.specs.Prelude.{true, false, ◌≡◌, ℕ, ◌<◌, ◌↔◌, IsTrue, IfOk, IfErr, length, slice_get, MatchResult};
-ghost use Rattle.capnp_device.specs.declared.error.ErrorKind.TheVariants.{OutOfMemory, Schema};
-ghost use Rattle.capnp_device.specs.declared.error.SchemaTable.TheVariants.{Brand as InBrands};
-ghost use Rattle.capnp_schema.specs.Types.{struct_number, seen_type};
+ghost use Rattle.capnp_device.specs.declared.error.ErrorKind.TheVariants.{OutOfMemory};
 ghost use Rattle.capnp_schema.specs.Schema.{node_of};
-ghost use Rattle.capnp_schema.specs.Entries.{lists_seen};
+ghost use Rattle.capnp_schema.specs.Entries.{brand_node, lists_seen};
 ghost use Rattle.capnp_schema.specs.Accepted.{Rule1, Rule7, Rule8, GroupStands};
 ghost use Rattle.capnp_schema.specs.Broken.{IsRefusalOf};
 ghost use Rattle.capnp_schema.specs.Parents.{group_target, TargetsAreGroups, HasNoParents, IsParentTable, entry_in, StandsInStruct};
+ghost use Rattle.capnp_schema.specs.Tests.{node_is_group};
 
+use crate::check::refusal::{WHOLE, refusal};
+use crate::layers::struct_number;
 use crate::lists::Lists;
 use crate::record::FieldKind;
-use capnp_base::introspect::{Type, TypeVariant};
-use capnp_wire::error::{Error, ErrorKind, Result, SchemaTable};
+use capnp_wire::error::{Result, SchemaTable};
 use std::alloc::Global;
-
-/// A rule that is broken at a whole brand, or at one of its fields.
-pub(crate) fn broken(rule: u32, brand: usize, field: u16) -> Error
-    ensures { result.kind ≡ Schema rule InBrands brand field }
-{
-    Error {
-        kind: ErrorKind::Schema {
-            rule,
-            table: SchemaTable::Brand,
-            entry: brand,
-            field,
-        },
-    }
-}
 
 /// How many brands there are.
 pub(crate) fn brand_count(lists: &Lists) -> usize
@@ -36,18 +22,8 @@ pub(crate) fn brand_count(lists: &Lists) -> usize
     lists.brands.len()
 }
 
-/// The brand that a struct type names, 0 for every other type.
-#[tactic(auto, using(crate::proofs::Variants::number_of_variant))]
-pub(crate) fn struct_number(field_type: &Type) -> usize
-    ensures { result ≡ struct_number (seen_type field_type.now) }
-{
-    match field_type.which() {
-        TypeVariant::Struct(schema) => schema.number as usize,
-        _ => 0,
-    }
-}
-
 /// The brand that a group field names, nothing for a slot.
+#[tactic(auto, using(crate::proofs::Decided::seen_which))]
 pub(crate) fn group_target(lists: &Lists, brand: usize, field: usize) -> Option<usize>
     ensures { result ≡ group_target (lists_seen lists.now) brand field }
 {
@@ -56,14 +32,14 @@ pub(crate) fn group_target(lists: &Lists, brand: usize, field: usize) -> Option<
     };
     match typed.field.kind {
         FieldKind::Slot { .. } => None,
-        FieldKind::Group { .. } => Some(struct_number(typed.field_type)),
+        FieldKind::Group { .. } => Some(struct_number(typed.field_type.which()) as usize),
     }
 }
 
-/// Whether a brand's node is marked as a group.
-fn is_group(lists: &Lists, brand: usize) -> bool
-    requires { brand < length (lists_seen lists.now).brands }
-    ensures { result ≡ (node_of (lists_seen lists.now) brand).is_group }
+/// Whether there is a brand, of a node that is marked as a group.
+pub(crate) fn is_group(lists: &Lists, brand: usize) -> bool
+    ensures entry { result ≡ node_is_group (brand_node (lists_seen lists.now) brand) }
+    ensures within { brand < length (lists_seen lists.now).brands → result ≡ (node_of (lists_seen lists.now) brand).is_group }
 {
     match lists.node_of(brand) {
         Some(node) => node.body.is_group,
@@ -124,7 +100,7 @@ fn parent_table(alloc: Global, lists: &Lists) -> Result<Vec<Option<(usize, usize
         for field in 0..lists.field_count(brand) {
             if let Some(group) = group_target(lists, brand, field) {
                 if table[group].is_some() {
-                    return Err(broken(8, group, 65535));
+                    return Err(refusal(8, SchemaTable::Brand, group, WHOLE));
                 }
                 table[group] = Some((brand, field));
             }
@@ -194,7 +170,7 @@ pub(crate) fn check_groups(alloc: Global, lists: &Lists) -> Result<()>
     let parents = parent_table(alloc, lists)?;
     for group in 0..brand_count(lists) {
         if !group_stands(lists, &parents, group) {
-            return Err(broken(8, group, 65535));
+            return Err(refusal(8, SchemaTable::Brand, group, WHOLE));
         }
     }
     Ok(())

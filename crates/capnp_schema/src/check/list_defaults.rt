@@ -7,53 +7,22 @@ ghost use Rattle.capnp_schema.specs.Entries.{lists_seen};
 ghost use Rattle.capnp_schema.specs.Accepted.{EachField, KindDefault, ListReads, Rule3, root_of};
 ghost use Rattle.capnp_schema.specs.Broken.{IsRefusalOf};
 ghost use Rattle.capnp_schema.specs.Counts.{IsSoAt};
-ghost use Rattle.capnp_schema.specs.ListDefaults.{LayerReads, ReadsDefault, layer_size};
+ghost use Rattle.capnp_schema.specs.ListDefaults.{LayerReads, ReadsDefault};
 
+use crate::check::refusal::refusal;
 use crate::lists::Lists;
 use crate::record::{FieldKind, ValueRecord};
 use capnp_base::introspect::{Type, TypeVariant};
-use capnp_device::error::{Error, ErrorKind, Result, SchemaTable};
+use capnp_device::error::{Result, SchemaTable};
 use capnp_wire::PointerReader;
-use capnp_wire::size::ElementSize;
-
-/// The size of the elements of a list of values of a layer.
-fn size_of_layer(layer: TypeVariant) -> ElementSize
-    ensures { result ≡ layer_size layer }
-{
-    match layer {
-        TypeVariant::Void => ElementSize::Void,
-        TypeVariant::Bool => ElementSize::Bit,
-        TypeVariant::Int8 => ElementSize::Byte,
-        TypeVariant::Int16 => ElementSize::TwoBytes,
-        TypeVariant::Int32 => ElementSize::FourBytes,
-        TypeVariant::Int64 => ElementSize::EightBytes,
-        TypeVariant::UInt8 => ElementSize::Byte,
-        TypeVariant::UInt16 => ElementSize::TwoBytes,
-        TypeVariant::UInt32 => ElementSize::FourBytes,
-        TypeVariant::UInt64 => ElementSize::EightBytes,
-        TypeVariant::Text => ElementSize::Pointer,
-        TypeVariant::Data => ElementSize::Pointer,
-        TypeVariant::Struct(_) => ElementSize::InlineComposite,
-        TypeVariant::AnyPointer => ElementSize::Pointer,
-        TypeVariant::Enum(_) => ElementSize::TwoBytes,
-        TypeVariant::List(_) => ElementSize::Pointer,
-    }
-}
-
-/// The size of the elements of a list of such values.
-fn size_of_elements(element: Type) -> ElementSize
-    ensures { result ≡ element_size (seen_type element) }
-{
-    size_of_layer(element.which())
-}
 
 /// Whether words hold null or a list that is read as such elements.
-#[tactic(auto, using(crate::proofs::ReadDefaults::one_level))]
+#[tactic(auto, using(crate::proofs::ReadDefaults::one_level, crate::proofs::ReadDefaults::elements_sized))]
 fn are_read_as(words: &[u8], element: Type) -> bool
     ensures { IsTrue result ↔ IsOk (as_list (element_size (seen_type element)) (root_of words.now) 1) }
 {
     let root = PointerReader::from_words(words);
-    match root.get_list(size_of_elements(element)) {
+    match root.get_list(element.expected_element_size()) {
         Ok(_) => true,
         Err(_) => false,
     }
@@ -97,14 +66,7 @@ fn check_list_default(lists: &Lists, brand: usize, field: usize) -> Result<()>
         return Ok(());
     };
     if !kind_reads(&typed.field.kind, typed.field_type) {
-        return Err(Error {
-            kind: ErrorKind::Schema {
-                rule: 6,
-                table: SchemaTable::Brand,
-                entry: brand,
-                field: field as u16,
-            },
-        });
+        return Err(refusal(6, SchemaTable::Brand, brand, field as u16));
     }
     Ok(())
 }

@@ -5,17 +5,19 @@ ghost use Rattle.capnp_schema.specs.Entries.{lists_seen};
 ghost use Rattle.capnp_schema.specs.Accepted.{Rule3};
 ghost use Rattle.capnp_schema.specs.Broken.{IsRefusalOf};
 ghost use Rattle.capnp_schema.specs.Counts.{HasSmallCounts};
-ghost use Rattle.capnp_schema.specs.Names.{AreNameTables, IsNameTable};
+ghost use Rattle.capnp_schema.specs.Names.{IsNameTable};
+ghost use Rattle.capnp_schema.specs.Tables.{AreNameTables};
 
 use crate::check::counts::check_counts;
+use crate::check::refusal::refusal;
 use crate::lists::Lists;
 use crate::names::{name_order, repeated_name};
 use crate::record::FieldRecord;
-use capnp_device::error::{Error, ErrorKind, Result, SchemaTable};
+use capnp_device::error::{Result, SchemaTable};
 use std::alloc::Global;
 
 /// The fields of a node, none past the end.
-fn fields_at(lists: &Lists, node: usize) -> &[FieldRecord]
+pub(crate) fn fields_at(lists: &Lists, node: usize) -> &[FieldRecord]
     ensures { map seen_field result.now ≡ (node_at (lists_seen lists.now) node).fields }
 {
     match lists.node_at(node) {
@@ -32,14 +34,7 @@ fn name_table(alloc: Global, lists: &Lists, node: usize) -> Result<Vec<u16>>
     let fields = fields_at(lists, node);
     let order = name_order(alloc, fields)?;
     match repeated_name(fields, &order) {
-        Some(field) => Err(Error {
-            kind: ErrorKind::Schema {
-                rule: 3,
-                table: SchemaTable::Node,
-                entry: node,
-                field,
-            },
-        }),
+        Some(field) => Err(refusal(3, SchemaTable::Node, node, field)),
         None => Ok(order),
     }
 }

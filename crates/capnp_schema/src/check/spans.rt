@@ -1,17 +1,18 @@
 //! The data bits and pointers that fields name, as spans.
 ghost use Rattle.std.specs.Prelude.{true, false, ◌≡◌, ◌<◌, ◌≤◌, ◌||◌, length, slice_get, OnOk, IfOk, IfErr};
 ghost use Rattle.capnp_device.specs.declared.error.ErrorKind.TheVariants.{OutOfMemory};
-ghost use Rattle.capnp_schema.specs.Types.{struct_number, width, is_pointer, seen_type};
+ghost use Rattle.capnp_schema.specs.Types.{seen_type};
 ghost use Rattle.capnp_schema.specs.Schema.{seen_node, fields_of};
 ghost use Rattle.capnp_schema.specs.Footprint.{Place, slot_names, discriminant_names, some_field, brand_names};
 ghost use Rattle.capnp_schema.specs.Entries.{lists_seen};
 ghost use Rattle.capnp_schema.specs.Parents.{TargetsAreGroups};
 ghost use Rattle.capnp_schema.specs.Spans.{span_names, some_span, field_names, entry_names, SpansMeet, AreSpansOf};
 
-use crate::check::groups::{brand_count, struct_number};
+use crate::check::groups::brand_count;
+use crate::layers::{is_pointer, struct_number, width};
 use crate::lists::Lists;
 use crate::record::{FieldKind, NodeRecord};
-use capnp_base::introspect::{Type, TypeVariant};
+use capnp_base::introspect::Type;
 use capnp_wire::error::Result;
 use std::alloc::Global;
 
@@ -24,38 +25,16 @@ pub(crate) enum Span {
     Pointer(u32),
 }
 
-/// The bits of a data slot, 0 for a type that takes a pointer or nothing.
-#[tactic(auto, using(crate::proofs::Variants::width_of_variant))]
-fn width(field_type: &Type) -> u64
-    ensures is { result ≡ width (seen_type field_type.now) }
-    ensures bound { result ≤ 64 }
-{
-    match field_type.which() {
-        TypeVariant::Bool => 1,
-        TypeVariant::Int8 | TypeVariant::UInt8 => 8,
-        TypeVariant::Int16 | TypeVariant::UInt16 | TypeVariant::Enum(_) => 16,
-        TypeVariant::Int32 | TypeVariant::UInt32 => 32,
-        TypeVariant::Int64 | TypeVariant::UInt64 => 64,
-        _ => 0,
-    }
-}
-
-/// Whether values of the type stand behind a pointer.
-#[tactic(auto, using(crate::proofs::Variants::pointer_of_variant))]
-fn is_pointer(field_type: &Type) -> bool
-    ensures { result ≡ is_pointer (seen_type field_type.now) }
-{
-    field_type.is_pointer_type()
-}
-
 /// What a slot names.
+#[tactic(auto, using(crate::proofs::Decided::seen_which))]
 fn slot_span(offset: u32, field_type: &Type) -> Span
     ensures { (p : Place) → span_names result p ≡ slot_names offset (seen_type field_type.now) p }
 {
-    if is_pointer(field_type) {
+    let variant = field_type.which();
+    if is_pointer(variant) {
         return Span::Pointer(offset);
     }
-    let count = width(field_type);
+    let count = width(variant) as u64;
     Span::Data {
         first: offset as u64 * count,
         count,
@@ -149,6 +128,7 @@ fn add_fields(lists: &Lists, brand: usize, groups: usize, out: &mut Vec<Span>) -
 }
 
 /// Adds what a field names; nothing for a field that isn't there.
+#[tactic(auto, using(crate::proofs::Decided::seen_which))]
 #[cycle(spans)]
 fn add_field(
     lists: &Lists,
@@ -169,7 +149,10 @@ fn add_field(
             out.push(slot_span(offset, typed.field_type))?;
             Ok(())
         }
-        FieldKind::Group { .. } => add_brand(lists, struct_number(typed.field_type), groups, out),
+        FieldKind::Group { .. } => {
+            let group = struct_number(typed.field_type.which());
+            add_brand(lists, group as usize, groups, out)
+        }
     }
 }
 

@@ -1,9 +1,9 @@
 //! Each brand names a node; brands and enums have one type for each field and each annotation.
 ghost use Rattle.std.specs.Prelude.{ℕ, ◌≡◌, ◌<◌, length, get_or, slice_get, All, MatchResult};
 ghost use Rattle.std.specs.Bool.{Decides};
-ghost use Rattle.std.specs.Option.{option_copied, option_map};
+ghost use Rattle.std.specs.Option.{option_copied};
 ghost use Rattle.capnp_schema.specs.Schema.{seen_node, seen_brand, seen_enum};
-ghost use Rattle.capnp_schema.specs.Entries.{lists_seen, enum_entry};
+ghost use Rattle.capnp_schema.specs.Entries.{lists_seen};
 ghost use Rattle.capnp_schema.specs.Accepted.{BrandHasTypes, EnumHasTypes, Rule2};
 ghost use Rattle.capnp_schema.specs.Broken.{IsRefusalOf};
 ghost use Rattle.capnp_schema.specs.Lengths.{children_counts, field_counts, enumerant_counts, BrandStands};
@@ -27,7 +27,8 @@ fn field_in(fields: &[FieldRecord], i: usize) -> Option<&FieldRecord>
     fields.get(i)
 }
 
-fn enumerant_in(enumerants: &[EnumerantRecord], i: usize) -> Option<&EnumerantRecord>
+/// The enumerant of an ordinal.
+pub(crate) fn enumerant_in(enumerants: &[EnumerantRecord], i: usize) -> Option<&EnumerantRecord>
     ensures { option_copied result ≡ slice_get enumerants.now i }
 {
     enumerants.get(i)
@@ -142,18 +143,11 @@ fn check_brands(lists: &Lists) -> Result<()>
     Ok(())
 }
 
-/// The enum of a number.
-pub(crate) fn enum_at(lists: &Lists, number: usize) -> Option<&EnumRecord>
-    ensures { option_map seen_enum (option_copied result) ≡ enum_entry (lists_seen lists.now) number }
-{
-    lists.enums.get(number)
-}
-
 fn check_enums(lists: &Lists) -> Result<()>
     ensures { MatchResult result (λ _. All EnumHasTypes (lists_seen lists.now).enums) (IsRefusalOf (lists_seen lists.now)) }
 {
     for e in 0..lists.enums.len() {
-        let Some(record) = enum_at(lists, e) else {
+        let Some(record) = lists.enum_at(e) else {
             return Ok(());
         };
         if !enum_has_types(record) {

@@ -2,7 +2,7 @@
 //! each once, and its discriminant lies inside the data section.
 ghost use Rattle.std.specs.Prelude.{ℕ, true, false, ◌≡◌, ◌≤◌, ◌<◌, length, map, get_or, replicate, slice_set, IfOk, MatchResult};
 ghost use Rattle.std.specs.Bool.{Decides};
-ghost use Rattle.capnp_schema.specs.Schema.{Node, seen_node, seen_field, is_member};
+ghost use Rattle.capnp_schema.specs.Schema.{Node, seen_node, seen_field};
 ghost use Rattle.capnp_schema.specs.Entries.{lists_seen};
 ghost use Rattle.capnp_schema.specs.Accepted.{HasEachMember, Rule9, Rule10};
 ghost use Rattle.capnp_schema.specs.Broken.{IsRefusalOf};
@@ -45,18 +45,12 @@ fn no_marks(alloc: Global, count: usize) -> std::result::Result<Vec<bool>, Alloc
     vec![in alloc; false; count]
 }
 
-/// Whether a field is a member of its struct's unnamed union.
-fn is_member(field: &FieldRecord) -> bool
-    ensures { result ≡ is_member (seen_field field.now) }
-{
-    field.discriminant_value != 65535
-}
-
 /// Sets the mark of a discriminant value; false, and nothing is set, where there is none or it was
 /// set before.
 fn mark(marks: &mut [bool], value: usize) -> bool
     ensures free { result ≡ true → (value < length marks.old) × (get_or marks.old value false ≡ false) × (marks.new ≡ slice_set marks.old value true) }
     ensures taken { result ≡ false → get_or marks.old value false ≡ false → length marks.old ≤ value }
+    ensures unchanged { result ≡ false → marks.new ≡ marks.old }
 {
     if value >= marks.len() || marks[value] {
         return false;
@@ -86,7 +80,7 @@ fn mark_members(marks: &mut [bool], fields: &[FieldRecord]) -> bool
     ensures not_so { result ≡ false → (n : Node) → n.fields ≡ map seen_field fields.now → n.discriminant_count ≡ length marks.old → HasEachMember n → ⊥ }
 {
     for field in fields {
-        if is_member(field) && !mark(marks, field.discriminant_value as usize) {
+        if field.is_member() && !mark(marks, field.discriminant_value as usize) {
             return false;
         }
     }

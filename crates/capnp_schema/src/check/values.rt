@@ -9,11 +9,11 @@ ghost use Rattle.capnp_schema.specs.Broken.{EntryBreaks, IsRefusalOf};
 ghost use Rattle.capnp_schema.specs.Counts.{IsSoAt};
 ghost use Rattle.capnp_schema.specs.Values.{DefaultStands, EnumHasWords, HaveAllWords, NodeHasWords};
 
-use crate::check::counts::enum_at;
 use crate::check::list_defaults::check_list_defaults;
+use crate::check::refusal::{WHOLE, refusal};
 use crate::lists::Lists;
 use crate::record::{AnnotationRecord, EnumerantRecord, FieldKind, FieldRecord, ValueRecord};
-use capnp_device::error::{Error, ErrorKind, Result, SchemaTable};
+use capnp_device::error::{Result, SchemaTable};
 use capnp_wire::PointerReader;
 use capnp_wire::size::ElementSize;
 
@@ -152,34 +152,13 @@ fn check_node_words(lists: &Lists, entry: usize) -> Result<()>
         return Ok(());
     };
     if !have_words(&node.annotations) {
-        return Err(Error {
-            kind: ErrorKind::Schema {
-                rule: 6,
-                table: SchemaTable::Node,
-                entry,
-                field: 65535,
-            },
-        });
+        return Err(refusal(6, SchemaTable::Node, entry, WHOLE));
     }
     if let Some(field) = wordless_field(&node.body.fields) {
-        return Err(Error {
-            kind: ErrorKind::Schema {
-                rule: 6,
-                table: SchemaTable::Node,
-                entry,
-                field: field as u16,
-            },
-        });
+        return Err(refusal(6, SchemaTable::Node, entry, field as u16));
     }
     match broken_default(&node.body.fields) {
-        Some(field) => Err(Error {
-            kind: ErrorKind::Schema {
-                rule: 6,
-                table: SchemaTable::Node,
-                entry,
-                field: field as u16,
-            },
-        }),
+        Some(field) => Err(refusal(6, SchemaTable::Node, entry, field as u16)),
         None => Ok(()),
     }
 }
@@ -188,28 +167,14 @@ fn check_enum_words(lists: &Lists, entry: usize) -> Result<()>
     requires { Rule3 (lists_seen lists.now) }
     ensures { MatchResult result (λ _. IsSoAt (lists_seen lists.now).enums EnumHasWords entry) (IsRefusalOf (lists_seen lists.now)) }
 {
-    let Some(schema) = enum_at(lists, entry) else {
+    let Some(schema) = lists.enum_at(entry) else {
         return Ok(());
     };
     if !have_words(&schema.annotations) {
-        return Err(Error {
-            kind: ErrorKind::Schema {
-                rule: 6,
-                table: SchemaTable::Enum,
-                entry,
-                field: 65535,
-            },
-        });
+        return Err(refusal(6, SchemaTable::Enum, entry, WHOLE));
     }
     match wordless_enumerant(&schema.enumerants) {
-        Some(field) => Err(Error {
-            kind: ErrorKind::Schema {
-                rule: 6,
-                table: SchemaTable::Enum,
-                entry,
-                field: field as u16,
-            },
-        }),
+        Some(field) => Err(refusal(6, SchemaTable::Enum, entry, field as u16)),
         None => Ok(()),
     }
 }

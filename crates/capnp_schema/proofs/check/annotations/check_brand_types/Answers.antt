@@ -10,7 +10,7 @@ use Rattle.capnp_schema.proofs.AnnotationTypes.{brand_unnamed, few_brand_childre
 use Rattle.capnp_schema.proofs.check.annotations.check_brand_types.Goals as goal
 
 pub unnamed-requires : goal.unnamed-requires
-unnamed-requires c = omega (arith, children_length c.in-Some.entry.now.annotation_types.children.items, few_brand_children (lists_seen c.args.lists.now) c.requires.few c.requires.lengths c.loop-brand.brand (seen_brand c.in-Some.entry.now) c.in-Some.ensures)
+unnamed-requires c = omega (arith, children_length c.in-Some.entry.now.annotation_types.children.items, few_brand_children (lists_seen c.args.lists.now) c.requires.rule3 c.requires.rule2 c.loop-brand.brand (seen_brand c.in-Some.entry.now) c.in-Some.ensures)
 
 pub returns-in-Some-unnamed : goal.returns-in-Some-unnamed
 returns-in-Some-unnamed c = refused (lists_seen c.args.lists.now) c.refusal.result.kind 1 InBrands c.loop-brand.brand c.in-Some-unnamed.place c.refusal.ensures

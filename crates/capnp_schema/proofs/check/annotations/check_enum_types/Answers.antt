@@ -10,7 +10,7 @@ use Rattle.capnp_schema.proofs.AnnotationTypes.{enum_unnamed, few_enum_children,
 use Rattle.capnp_schema.proofs.check.annotations.check_enum_types.Goals as goal
 
 pub unnamed-requires : goal.unnamed-requires
-unnamed-requires c = omega (arith, children_length c.in-Some.entry.now.annotation_types.children.items, few_enum_children (lists_seen c.args.lists.now) c.requires.few c.requires.lengths c.loop-e.e (seen_enum c.in-Some.entry.now) c.in-Some.ensures)
+unnamed-requires c = omega (arith, children_length c.in-Some.entry.now.annotation_types.children.items, few_enum_children (lists_seen c.args.lists.now) c.requires.rule3 c.requires.rule2 c.loop-e.e (seen_enum c.in-Some.entry.now) c.in-Some.ensures)
 
 pub returns-in-Some-unnamed : goal.returns-in-Some-unnamed
 returns-in-Some-unnamed c = refused (lists_seen c.args.lists.now) c.refusal.result.kind 1 InEnums c.loop-e.e c.in-Some-unnamed.place c.refusal.ensures

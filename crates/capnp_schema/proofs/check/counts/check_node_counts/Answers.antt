@@ -3,23 +3,27 @@ use Rattle.std.proofs.lemmas.List.{length-map}
 use Rattle.capnp_schema.specs.Accepted.{HasFewAnnotations}
 use Rattle.capnp_schema.specs.Schema.{Field, seen_node, seen_field}
 use Rattle.capnp_schema.specs.declared.record.FieldRecord.{FieldRecord}
-use Rattle.capnp_schema.proofs.Passing.{breaks_within}
+use Rattle.capnp_schema.proofs.EntryWalk.{breaks_within}
 use Rattle.capnp_schema.proofs.SmallCounts.{crowded_node, annotated_node, annotated_field}
+use Rattle.capnp_schema.proofs.FieldWalk.{refused}
 use Rattle.capnp_schema.proofs.check.counts.check_node_counts.Goals as goal
 
 pub returns-then-len-gt-MOST_ENTRIES : goal.returns-then-len-gt-MOST_ENTRIES
-returns-then-len-gt-MOST_ENTRIES c = crowded_node _ _ (seen_node c.in-Some.node.now) (sym c.in-Some.ensures) (let n = length-map c.in-Some.node.now.body.fields.items seen_field in omega arith)
+returns-then-len-gt-MOST_ENTRIES c = refused _ _ _ _ _ _ c.refusal.ensures
+    (crowded_node _ _ (seen_node c.in-Some.node.now) (sym c.in-Some.ensures) (let n = length-map c.in-Some.node.now.body.fields.items seen_field in omega arith))
 
 pub returns-then-not-are_few : goal.returns-then-not-are_few
-returns-then-not-are_few c = annotated_node _ _ (seen_node c.in-Some.node.now) (sym c.in-Some.ensures) (λ few. let t = c.are_few.ensures.1 (rw (← c.deref.ensures.value) at few) in cc)
+returns-then-not-are_few c = refused _ _ _ _ _ _ c.refusal-then-not-are_few.ensures
+    (annotated_node _ _ (seen_node c.in-Some.node.now) (sym c.in-Some.ensures) (λ few. let t = c.are_few.ensures.1 (rw (← c.deref.ensures.value) at few) in cc))
 
-pub overflow_cast-result : goal.overflow_cast-result
-overflow_cast-result c =
+pub overflow_cast-field : goal.overflow_cast-field
+overflow_cast-field c =
     let all : c.deref-2.result.now ≡ c.in-Some.node.now.body.fields.items = c.deref-2.ensures.value in
-    let inside = breaks_within (λ (x : Field). HasFewAnnotations x.annotations) (map seen_field c.deref-2.result.now) c.in-Some-crowded_field.field c.in-Some-crowded_field.ensures in
+    let inside = breaks_within (map seen_field c.deref-2.result.now) (λ (x : Field). HasFewAnnotations x.annotations) c.in-Some-crowded_field.field c.in-Some-crowded_field.ensures in
     let n = length-map c.deref-2.result.now seen_field in
     let m = ap (λ (l : List FieldRecord). length l) all in
     omega arith
 
 pub returns-in-Some-crowded_field : goal.returns-in-Some-crowded_field
-returns-in-Some-crowded_field c = annotated_field _ _ (seen_node c.in-Some.node.now) (sym c.in-Some.ensures) _ (rw c.deref-2.ensures.value at c.in-Some-crowded_field.ensures)
+returns-in-Some-crowded_field c = refused _ _ _ _ _ _ c.refusal-in-Some-crowded_field.ensures
+    (annotated_field _ _ (seen_node c.in-Some.node.now) (sym c.in-Some.ensures) _ (rw c.deref-2.ensures.value at c.in-Some-crowded_field.ensures))

@@ -2,11 +2,12 @@ use Rattle.std.proofs.Common.{◌<◌, arith, sym}
 use Rattle.capnp_device.specs.declared.error.SchemaTable.TheVariants.{Brand as InBrands}
 use Rattle.capnp_schema.specs.Schema.{seen_node}
 use Rattle.capnp_schema.specs.Entries.{lists_seen, seen_typed}
-use Rattle.capnp_schema.proofs.FieldWalk.{refused, index_fits, breaks_names, breaks_inside, breaks_default, breaks_group, stands}
+use Rattle.capnp_schema.proofs.FieldCounts.{index_fits}
+use Rattle.capnp_schema.proofs.FieldWalk.{refused, breaks_names, breaks_inside, breaks_default, breaks_group, stands}
 use Rattle.capnp_schema.proofs.check.fields.check_field.Goals as goal
 
 pub overflow_cast-place : goal.overflow_cast-place
-overflow_cast-place c = let h : c.args.i < 65536 = index_fits (lists_seen c.args.lists.now) c.args.brand c.args.i c.requires.few c.requires.field_in in omega arith
+overflow_cast-place c = let h : c.args.i < 65536 = index_fits (lists_seen c.args.lists.now) c.args.brand c.args.i c.requires.rule3 c.requires.field_in in omega arith
 
 pub returns-then-not-names_entry : goal.returns-then-not-names_entry
 returns-then-not-names_entry c = refused (lists_seen c.args.lists.now) c.refusal.result.kind 1 InBrands c.args.brand c.args.i c.refusal.ensures

@@ -3,8 +3,9 @@ use Rattle.capnp_schema.specs.Schema.{fields_of, field_at}
 use Rattle.capnp_schema.specs.Accepted.{FieldsApart, DiscriminantApart}
 use Rattle.capnp_schema.specs.Entries.{lists_seen}
 use Rattle.capnp_schema.proofs.BrandRefusals.{refused_at_field, refused_at_discriminant}
+use Rattle.capnp_schema.proofs.FieldWalk.{one_more}
 use Rattle.capnp_schema.proofs.GroupTargets.{targets_are_groups}
-use Rattle.capnp_schema.proofs.SpanTables.{index_fits, more_brands}
+use Rattle.capnp_schema.proofs.FieldCounts.{index_fits}
 use Rattle.capnp_schema.proofs.check.footprints.check_footprints.Goals as goal
 
 pub brand_spans-requires : goal.brand_spans-requires
@@ -14,16 +15,16 @@ pub overflow_cast-field : goal.overflow_cast-field
 overflow_cast-field c = let lt = index_fits (lists_seen c.args.lists.now) c.loop-brand.brand c.in-Some.field c.requires.rule3 c.in-Some.ensures.field in omega arith
 
 pub returns-in-Some : goal.returns-in-Some
-returns-in-Some c = refused_at_field (lists_seen c.args.lists.now) c.broken.result c.loop-brand.brand c.in-Some.field c.broken.ensures c.in-Some.ensures
+returns-in-Some c = refused_at_field (lists_seen c.args.lists.now) c.refusal.result c.loop-brand.brand c.in-Some.field c.refusal.ensures c.in-Some.ensures
 
 pub overflow_cast-field-in-Some-discriminant_field : goal.overflow_cast-field-in-Some-discriminant_field
 overflow_cast-field-in-Some-discriminant_field c = let lt = index_fits (lists_seen c.args.lists.now) c.loop-brand.brand c.in-Some-discriminant_field.field c.requires.rule3 c.in-Some-discriminant_field.ensures.field in omega arith
 
 pub returns-in-Some-discriminant_field : goal.returns-in-Some-discriminant_field
-returns-in-Some-discriminant_field c = refused_at_discriminant (lists_seen c.args.lists.now) c.broken-in-Some-discriminant_field.result c.loop-brand.brand c.in-Some-discriminant_field.field c.broken-in-Some-discriminant_field.ensures c.in-Some-discriminant_field.ensures
+returns-in-Some-discriminant_field c = refused_at_discriminant (lists_seen c.args.lists.now) c.refusal-in-Some-discriminant_field.result c.loop-brand.brand c.in-Some-discriminant_field.field c.refusal-in-Some-discriminant_field.ensures c.in-Some-discriminant_field.ensures
 
 pub loop-brand-preserved : goal.loop-brand-preserved
 loop-brand-preserved c = record {
-  fields = more_brands (λ (b i : ℕ). i < length (fields_of (lists_seen c.args.lists.now) b) → FieldsApart (lists_seen c.args.lists.now) b i (field_at (lists_seen c.args.lists.now) b i)) c.loop-brand.brand (λ b i lt. c.loop-brand.invariant.fields b i lt) c.in_default.ensures;
-  discriminants = more_brands (λ (b i : ℕ). i < length (fields_of (lists_seen c.args.lists.now) b) → DiscriminantApart (lists_seen c.args.lists.now) b (field_at (lists_seen c.args.lists.now) b i)) c.loop-brand.brand (λ b i lt. c.loop-brand.invariant.discriminants b i lt) c.in_default-discriminant_field.ensures;
+  fields = λ b i lt. one_more (λ (b : ℕ). (i : ℕ) → i < length (fields_of (lists_seen c.args.lists.now) b) → FieldsApart (lists_seen c.args.lists.now) b i (field_at (lists_seen c.args.lists.now) b i)) c.loop-brand.brand (λ b less i. c.loop-brand.invariant.fields b i less) c.in_default.ensures b lt i;
+  discriminants = λ b i lt. one_more (λ (b : ℕ). (i : ℕ) → i < length (fields_of (lists_seen c.args.lists.now) b) → DiscriminantApart (lists_seen c.args.lists.now) b (field_at (lists_seen c.args.lists.now) b i)) c.loop-brand.brand (λ b less i. c.loop-brand.invariant.discriminants b i less) c.in_default-discriminant_field.ensures b lt i;
 }

@@ -11,7 +11,7 @@ index-requires c = let h = c.requires _ _ c.in-Some.group (sym c.in-Some.ensures
 pub returns-then-is_some : goal.returns-then-is_some
 returns-then-is_some c =
     let h = c.requires _ _ c.in-Some.group (sym c.in-Some.ensures) in
-    refused_at_group (lists_seen c.args.lists.now) c.broken.result c.in-Some.group c.broken.ensures h.0
+    refused_at_group (lists_seen c.args.lists.now) c.refusal.result c.in-Some.group c.refusal.ensures h.0
     (λ stands. twice_at _ _ _ _ _ _ c.loop-field.invariant (sym c.in-Some.ensures) (let l = c.loop-field.invariant.same_length in omega arith) c.index.ensures (sym c.if-is_some.ensures) (stands h.1).0)
 
 pub index_mut-requires : goal.index_mut-requires

@@ -2,18 +2,21 @@ use Rattle.std.proofs.Common.{arith, sym}
 use Rattle.capnp_schema.specs.Entries.{lists_seen, seen_typed}
 use Rattle.capnp_schema.specs.Schema.{fields_of}
 use Rattle.capnp_schema.specs.ListDefaults.{ReadsDefault}
-use Rattle.capnp_schema.proofs.Passing.{is_so_here}
-use Rattle.capnp_schema.proofs.ReadDefaults.{few_typed, field_inside, unread_at}
+use Rattle.capnp_schema.proofs.EntryWalk.{is_so_here}
+use Rattle.capnp_schema.proofs.FieldCounts.{index_fits}
+use Rattle.capnp_schema.proofs.ReadDefaults.{field_inside, unread_at}
+use Rattle.capnp_schema.proofs.FieldWalk.{refused}
 use Rattle.capnp_schema.proofs.check.list_defaults.check_list_default.Goals as goal
 
-pub overflow_cast-result : goal.overflow_cast-result
-overflow_cast-result c =
-    let few = few_typed (lists_seen c.args.lists.now) c.requires c.args.brand in
+pub overflow_cast-field : goal.overflow_cast-field
+overflow_cast-field c =
     let inside = field_inside (lists_seen c.args.lists.now) c.args.brand c.args.field (seen_typed c.in-Some.typed) (sym c.in-Some.ensures) in
+    let fits = index_fits (lists_seen c.args.lists.now) c.args.brand c.args.field c.requires inside in
     omega arith
 
 pub returns-then-not-kind_reads : goal.returns-then-not-kind_reads
-returns-then-not-kind_reads c = unread_at (lists_seen c.args.lists.now) c.args.brand c.args.field (seen_typed c.in-Some.typed) (sym c.in-Some.ensures) (λ reads. let t = c.kind_reads.ensures.1 reads in cc)
+returns-then-not-kind_reads c = refused _ _ _ _ _ _ c.refusal.ensures
+    (unread_at (lists_seen c.args.lists.now) c.args.brand c.args.field (seen_typed c.in-Some.typed) (sym c.in-Some.ensures) (λ reads. let t = c.kind_reads.ensures.1 reads in cc))
 
 pub returns : goal.returns
-returns c = is_so_here ReadsDefault (fields_of (lists_seen c.args.lists.now) c.args.brand) c.args.field (seen_typed c.in-Some.typed) (sym c.in-Some.ensures) (c.kind_reads.ensures.0 c.if-not-kind_reads.false)
+returns c = is_so_here (fields_of (lists_seen c.args.lists.now) c.args.brand) ReadsDefault c.args.field (seen_typed c.in-Some.typed) c.in-Some.ensures (c.kind_reads.ensures.0 c.if-not-kind_reads.false)

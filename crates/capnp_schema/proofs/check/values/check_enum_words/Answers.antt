@@ -4,17 +4,19 @@ use Rattle.capnp_schema.specs.Accepted.{HaveWords}
 use Rattle.capnp_schema.specs.Schema.{Enumerant, seen_enum, seen_enumerant}
 use Rattle.capnp_schema.specs.Entries.{lists_seen}
 use Rattle.capnp_schema.specs.declared.record.EnumerantRecord.{EnumerantRecord}
-use Rattle.capnp_schema.proofs.Passing.{breaks_within}
+use Rattle.capnp_schema.proofs.EntryWalk.{breaks_within}
 use Rattle.capnp_schema.proofs.WordPlaces.{few_enumerants_at, wordless_enum_at, wordless_enumerant_at}
+use Rattle.capnp_schema.proofs.FieldWalk.{refused}
 use Rattle.capnp_schema.proofs.check.values.check_enum_words.Goals as goal
 
 pub returns-then-not-have_words : goal.returns-then-not-have_words
-returns-then-not-have_words c = wordless_enum_at _ _ (seen_enum c.in-Some.schema.now) (sym c.in-Some.ensures) (λ words. let t = c.have_words.ensures.1 (rw (← c.deref.ensures.value) at words) in cc)
+returns-then-not-have_words c = refused _ _ _ _ _ _ c.refusal.ensures
+    (wordless_enum_at _ _ (seen_enum c.in-Some.schema.now) (sym c.in-Some.ensures) (λ words. let t = c.have_words.ensures.1 (rw (← c.deref.ensures.value) at words) in cc))
 
-pub overflow_cast-result : goal.overflow_cast-result
-overflow_cast-result c =
+pub overflow_cast-field : goal.overflow_cast-field
+overflow_cast-field c =
     let all : c.deref-2.result.now ≡ c.in-Some.schema.now.enumerants.items = c.deref-2.ensures.value in
-    let inside = breaks_within (λ (x : Enumerant). HaveWords x.annotations) (map seen_enumerant c.deref-2.result.now) c.in-Some-wordless_enumerant.field c.in-Some-wordless_enumerant.ensures in
+    let inside = breaks_within (map seen_enumerant c.deref-2.result.now) (λ (x : Enumerant). HaveWords x.annotations) c.in-Some-wordless_enumerant.field c.in-Some-wordless_enumerant.ensures in
     let few = few_enumerants_at (lists_seen c.args.lists.now) c.args.entry (seen_enum c.in-Some.schema.now) (sym c.in-Some.ensures) c.requires in
     let n = length-map c.deref-2.result.now seen_enumerant in
     let k = length-map c.in-Some.schema.now.enumerants.items seen_enumerant in
@@ -22,4 +24,5 @@ overflow_cast-result c =
     omega arith
 
 pub returns-in-Some-wordless_enumerant : goal.returns-in-Some-wordless_enumerant
-returns-in-Some-wordless_enumerant c = wordless_enumerant_at _ _ (seen_enum c.in-Some.schema.now) (sym c.in-Some.ensures) _ (rw c.deref-2.ensures.value at c.in-Some-wordless_enumerant.ensures)
+returns-in-Some-wordless_enumerant c = refused _ _ _ _ _ _ c.refusal-in-Some-wordless_enumerant.ensures
+    (wordless_enumerant_at _ _ (seen_enum c.in-Some.schema.now) (sym c.in-Some.ensures) _ (rw c.deref-2.ensures.value at c.in-Some-wordless_enumerant.ensures))

@@ -5,17 +5,19 @@ use Rattle.capnp_schema.specs.Schema.{Field, seen_node, seen_field}
 use Rattle.capnp_schema.specs.Entries.{lists_seen}
 use Rattle.capnp_schema.specs.Values.{DefaultStands}
 use Rattle.capnp_schema.specs.declared.record.FieldRecord.{FieldRecord}
-use Rattle.capnp_schema.proofs.Passing.{breaks_within}
+use Rattle.capnp_schema.proofs.EntryWalk.{breaks_within}
 use Rattle.capnp_schema.proofs.WordPlaces.{few_at, wordless_node_at, wordless_field_at, broken_default_at}
+use Rattle.capnp_schema.proofs.FieldWalk.{refused}
 use Rattle.capnp_schema.proofs.check.values.check_node_words.Goals as goal
 
 pub returns-then-not-have_words : goal.returns-then-not-have_words
-returns-then-not-have_words c = wordless_node_at _ _ (seen_node c.in-Some.node.now) (sym c.in-Some.ensures) (λ words. let t = c.have_words.ensures.1 (rw (← c.deref.ensures.value) at words) in cc)
+returns-then-not-have_words c = refused _ _ _ _ _ _ c.refusal.ensures
+    (wordless_node_at _ _ (seen_node c.in-Some.node.now) (sym c.in-Some.ensures) (λ words. let t = c.have_words.ensures.1 (rw (← c.deref.ensures.value) at words) in cc))
 
-pub overflow_cast-result : goal.overflow_cast-result
-overflow_cast-result c =
+pub overflow_cast-field : goal.overflow_cast-field
+overflow_cast-field c =
     let all : c.deref-2.result.now ≡ c.in-Some.node.now.body.fields.items = c.deref-2.ensures.value in
-    let inside = breaks_within (λ (x : Field). HaveWords x.annotations) (map seen_field c.deref-2.result.now) c.in-Some-wordless_field.field c.in-Some-wordless_field.ensures in
+    let inside = breaks_within (map seen_field c.deref-2.result.now) (λ (x : Field). HaveWords x.annotations) c.in-Some-wordless_field.field c.in-Some-wordless_field.ensures in
     let few = few_at (lists_seen c.args.lists.now) c.args.entry (seen_node c.in-Some.node.now) (sym c.in-Some.ensures) c.requires in
     let n = length-map c.deref-2.result.now seen_field in
     let k = length-map c.in-Some.node.now.body.fields.items seen_field in
@@ -23,12 +25,13 @@ overflow_cast-result c =
     omega arith
 
 pub returns-in-Some-wordless_field : goal.returns-in-Some-wordless_field
-returns-in-Some-wordless_field c = wordless_field_at _ _ (seen_node c.in-Some.node.now) (sym c.in-Some.ensures) _ (rw c.deref-2.ensures.value at c.in-Some-wordless_field.ensures)
+returns-in-Some-wordless_field c = refused _ _ _ _ _ _ c.refusal-in-Some-wordless_field.ensures
+    (wordless_field_at _ _ (seen_node c.in-Some.node.now) (sym c.in-Some.ensures) _ (rw c.deref-2.ensures.value at c.in-Some-wordless_field.ensures))
 
-pub overflow_cast-result-in-Some-broken_default : goal.overflow_cast-result-in-Some-broken_default
-overflow_cast-result-in-Some-broken_default c =
+pub overflow_cast-field-in-Some-broken_default : goal.overflow_cast-field-in-Some-broken_default
+overflow_cast-field-in-Some-broken_default c =
     let all : c.deref-3.result.now ≡ c.in-Some.node.now.body.fields.items = c.deref-3.ensures.value in
-    let inside = breaks_within (DefaultStands) (map seen_field c.deref-3.result.now) c.in-Some-broken_default.field c.in-Some-broken_default.ensures in
+    let inside = breaks_within (map seen_field c.deref-3.result.now) (DefaultStands) c.in-Some-broken_default.field c.in-Some-broken_default.ensures in
     let few = few_at (lists_seen c.args.lists.now) c.args.entry (seen_node c.in-Some.node.now) (sym c.in-Some.ensures) c.requires in
     let n = length-map c.deref-3.result.now seen_field in
     let k = length-map c.in-Some.node.now.body.fields.items seen_field in
@@ -36,4 +39,5 @@ overflow_cast-result-in-Some-broken_default c =
     omega arith
 
 pub returns-in-Some-broken_default : goal.returns-in-Some-broken_default
-returns-in-Some-broken_default c = broken_default_at _ _ (seen_node c.in-Some.node.now) (sym c.in-Some.ensures) _ (rw c.deref-3.ensures.value at c.in-Some-broken_default.ensures)
+returns-in-Some-broken_default c = refused _ _ _ _ _ _ c.refusal-in-Some-broken_default.ensures
+    (broken_default_at _ _ (seen_node c.in-Some.node.now) (sym c.in-Some.ensures) _ (rw c.deref-3.ensures.value at c.in-Some-broken_default.ensures))

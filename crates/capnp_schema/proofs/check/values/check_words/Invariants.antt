@@ -1,10 +1,10 @@
 use Rattle.capnp_schema.specs.Values.{EnumHasWords, NodeHasWords}
 use Rattle.capnp_schema.specs.Entries.{lists_seen}
-use Rattle.capnp_schema.proofs.Passing.{PassesBelow}
+use Rattle.capnp_schema.proofs.EntryWalk.{StandBelow}
 use Rattle.capnp_schema.proofs.check.values.check_words.Given as goal
 
 abbrev pub invariant-loop-n : goal.invariant-loop-n
-invariant-loop-n l = PassesBelow (lists_seen l.lists).nodes NodeHasWords l.n
+invariant-loop-n l = StandBelow (lists_seen l.lists).nodes NodeHasWords l.n
 
 abbrev pub invariant-loop-e : goal.invariant-loop-e
-invariant-loop-e l = PassesBelow (lists_seen l.lists).enums EnumHasWords l.e
+invariant-loop-e l = StandBelow (lists_seen l.lists).enums EnumHasWords l.e

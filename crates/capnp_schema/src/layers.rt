@@ -1,12 +1,12 @@
-//! What the rules ask of one layer of a type.
+//! What one layer of a type says of the field that has it.
 ghost use Rattle.std.specs.Prelude.{◌≡◌, ◌≤◌};
-ghost use Rattle.capnp_schema.specs.Types.{width, is_pointer};
+ghost use Rattle.capnp_schema.specs.Types.{width, is_pointer, struct_number};
 ghost use Rattle.capnp_schema.specs.Tests.{seen_variant};
 
 use capnp_base::introspect::TypeVariant;
 
 /// The bits of a data slot of such a type; 0 for what takes a pointer or nothing.
-pub(crate) fn width(variant: TypeVariant) -> u64
+pub(crate) fn width(variant: TypeVariant) -> u8
     ensures value { result ≡ width (seen_variant variant) }
     ensures small { result ≤ 64 }
 {
@@ -31,5 +31,15 @@ pub(crate) fn is_pointer(variant: TypeVariant) -> bool
         | TypeVariant::AnyPointer
         | TypeVariant::List(_) => true,
         _ => false,
+    }
+}
+
+/// The brand that a struct type names, 0 for every other type.
+pub(crate) fn struct_number(variant: TypeVariant) -> u32
+    ensures { result ≡ struct_number (seen_variant variant) }
+{
+    match variant {
+        TypeVariant::Struct(schema) => schema.number,
+        _ => 0,
     }
 }

@@ -1,0 +1,11 @@
+use Rattle.capnp_schema.proofs.AnnotatedLemmas.{find_inside, find_some, find_none}
+use Rattle.capnp_schema.proofs.schema.annotations.AnnotationList.find.Goals as goal
+
+pub get-requires : goal.get-requires
+get-requires c = find_inside c.args.self.stored.now c.args.self.types.now c.args.id c.args.self.have_types c.in-Some.index c.position_of.result c.position_of.ensures c.in-Some.is
+
+pub returns-in-Some : goal.returns-in-Some
+returns-in-Some c = find_some c.args.self.stored.now c.args.self.types.now c.args.id c.args.self.have_types c.in-Some.index c.position_of.result _ c.position_of.ensures c.in-Some.is c.get.ensures
+
+pub returns-in-None : goal.returns-in-None
+returns-in-None c = find_none c.args.self.stored.now c.args.self.types.now c.args.id c.args.self.have_types c.position_of.result c.position_of.ensures c.in-None.is

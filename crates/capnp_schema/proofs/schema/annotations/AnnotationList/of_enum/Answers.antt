@@ -1,0 +1,15 @@
+use Rattle.std.proofs.Common.{ap, sym, ◌∙◌, subst}
+use Rattle.capnp_schema.specs.declared.lists.Lists.{Lists}
+use Rattle.capnp_schema.specs.Entries.{lists_seen}
+use Rattle.capnp_schema.specs.Schema.{seen_enum}
+use Rattle.capnp_schema.specs.Accepted.{IsAccepted}
+use Rattle.capnp_schema.specs.Annotated.{annotations_of, enum_annotations, with_types}
+use Rattle.capnp_schema.proofs.AnnotatedLemmas.{same_parts}
+use Rattle.capnp_schema.proofs.AnnotatedPlaces.{enum_found, enum_whole}
+use Rattle.capnp_schema.proofs.schema.annotations.AnnotationList.of_enum.Goals as goal
+
+pub returns-clause-whole : goal.returns-clause-whole
+returns-clause-whole c = ap annotations_of (c.new.ensures ∙ same_parts c.deref.result.now c.in-Some.record.now.annotations.items c.deref-2.result.now c.in-Some.record.now.annotation_types.own.items c.deref.ensures.value c.deref-2.ensures.value
+    ∙ ap (λ x. with_types x.annotations x.annotation_types.own) (sym (enum_found (lists_seen c.accepted_lists.result.now) c.args.number (seen_enum c.in-Some.record.now) c.in-Some.ensures))
+    ∙ ap (λ (l : Lists). enum_annotations (lists_seen l) c.args.number) c.accepted_lists.ensures.is)
+    ∙ enum_whole (lists_seen c.args.set.now) (subst (λ (l : Lists). IsAccepted (lists_seen l)) c.accepted_lists.ensures.is c.accepted_lists.ensures.accepted) c.args.number

@@ -1,0 +1,8 @@
+use Rattle.capnp_schema.specs.Schema.{node_at}
+use Rattle.capnp_schema.specs.Entries.{lists_seen}
+use Rattle.capnp_schema.specs.Tables.{IsMemberTable}
+use Rattle.capnp_schema.proofs.EntryTables.{EachTable}
+use Rattle.capnp_schema.proofs.tables.member_tables.Given as goal
+
+abbrev pub invariant-loop-n : goal.invariant-loop-n
+invariant-loop-n l = EachTable (λ n table. IsMemberTable (node_at (lists_seen l.lists) n) table) l.tables.items l.n

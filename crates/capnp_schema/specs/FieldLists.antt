@@ -1,0 +1,46 @@
+-- Handles of fields, and lists of them, as clauses speak of them.
+use Rattle.std.specs.Prelude.{ℕ, ◌<◌, ◌≡◌, List, length, Option, Some, None}
+use Rattle.capnp_schema.specs.Schema.{TypedField, seen_field}
+use Rattle.capnp_schema.specs.Types.{seen_type}
+use Rattle.capnp_schema.specs.StructHandles.{struct_field, struct_fields}
+use Rattle.capnp_schema.specs.declared.schema.structs.StructSchema.{StructSchema}
+use Rattle.capnp_schema.specs.declared.schema.fields.Field.{Field}
+use Rattle.capnp_schema.specs.declared.schema.field_list.FieldList.{FieldList}
+use Rattle.capnp_schema.specs.declared.schema.field_subset.FieldSubset.{FieldSubset}
+
+-- the struct that a field is of
+abbrev pub schema_of : Field → StructSchema
+schema_of f = f.schema
+
+abbrev pub index_of : Field → ℕ
+index_of f = f.index
+
+-- the record and the type that it hands out
+abbrev pub typed_of : Field → TypedField
+typed_of f = record { field = seen_field f.proto.now; type = seen_type f.field_type }
+
+-- field i of a struct
+pub record IsFieldOf (s : StructSchema) (i : ℕ) (f : Field) : Type 0 where
+  pub inside : i < length (struct_fields s)
+  pub schema : schema_of f ≡ s
+  pub index : index_of f ≡ i
+  pub field : (typed_of f).field ≡ (struct_field s i).field
+  pub type : (typed_of f).type ≡ (struct_field s i).type
+
+-- the field of an index, where there is one
+abbrev pub IsFound : StructSchema → Option ℕ → Option Field → Type 0
+IsFound s None None = Unit {0}
+IsFound s None (Some f) = ⊥
+IsFound s (Some i) None = ⊥
+IsFound s (Some i) (Some f) = IsFieldOf s i f
+
+-- the struct whose fields a list has
+abbrev pub list_schema : FieldList → StructSchema
+list_schema l = l.schema
+
+-- the struct of which a list has some fields, and the indices of these
+abbrev pub subset_schema : FieldSubset → StructSchema
+subset_schema l = l.schema
+
+abbrev pub subset_indices : FieldSubset → List ℕ
+subset_indices l = l.indices.now

@@ -1,0 +1,221 @@
+//! Annotations: those of a struct, a field, an enum or an enumerant.
+ghost use Rattle.std.specs.Prelude.{◌≡◌, ◌<◌, ◌^◌, length};
+
+use crate::check::types::{child_at, enumerant_in};
+use crate::record::AnnotationRecord;
+use crate::schema::positions::position_of;
+use crate::set::SchemaSet;
+use crate::value::{Value, view};
+use capnp_base::introspect::Type;
+use capnp_base::traits::{IndexMove, ListIter};
+
+/// An annotation of a set.
+#[derive(Clone, Copy)]
+pub struct Annotation<'s> {
+    stored: &'s AnnotationRecord,
+    annotation_type: Type,
+}
+
+impl<'s> Annotation<'s> {
+    ghost use Rattle.capnp_schema.specs.Types.{seen_type};
+    ghost use Rattle.capnp_schema.specs.Views.{IsViewOf};
+    ghost use Rattle.capnp_schema.specs.AnnotationLists.{annotation_in};
+
+    /// The number that the annotation goes by.
+    pub fn get_id(&self) -> u64
+        ensures { result ≡ (annotation_in self.now).annotation.id }
+    {
+        self.stored.id
+    }
+
+    /// The type of its value.
+    pub fn get_type(&self) -> Type
+        ensures { seen_type result ≡ (annotation_in self.now).type }
+    {
+        self.annotation_type
+    }
+
+    /// Its value. The words of a struct, a list or an untyped pointer are read where they lie, with 64 levels.
+    pub fn get_value_view(self) -> Value<'s>
+        ensures { IsViewOf (annotation_in self.entry).annotation.value result }
+    {
+        view(&self.stored.value)
+    }
+}
+
+/// The annotations at one place, in the order of their records, each with its type. There are fewer than 2^29.
+#[derive(Clone, Copy)]
+pub struct AnnotationList<'s> {
+    stored: &'s [AnnotationRecord],
+    types: &'s [Type],
+    ghost have_types: { length types.now ≡ length stored.now },
+    ghost are_few: { length stored.now < 2 ^ 29 },
+}
+
+impl<'s> AnnotationList<'s> {
+    ghost use Rattle.std.specs.Prelude.{[], ◌↔◌, IsTrue, Some, map, slice_get};
+    ghost use Rattle.std.specs.Option.{option_map};
+    ghost use Rattle.capnp_base.specs.Taking.{indices};
+    ghost use Rattle.capnp_base.specs.ListIter as list_iter;
+    ghost use Rattle.capnp_schema.specs.Types.{seen_type};
+    ghost use Rattle.capnp_schema.specs.Schema.{enum_at, field_at, node_of, seen_annotations};
+    ghost use Rattle.capnp_schema.specs.Entries.{lists_seen};
+    ghost use Rattle.capnp_schema.specs.Annotated.{annotations_of, enum_annotations, enumerant_annotations, enumerant_at, field_annotations, first_of_id, struct_annotations, with_types};
+    ghost use Rattle.capnp_schema.specs.AnnotationLists.{annotation_in, annotations_in};
+
+    fn new(stored: &'s [AnnotationRecord], types: &'s [Type]) -> AnnotationList<'s>
+        requires have_types { length types.now ≡ length stored.now }
+        requires are_few { length stored.now < 2 ^ 29 }
+        ensures { annotations_in result ≡ with_types (seen_annotations stored.now) (map seen_type types.now) }
+    {
+        AnnotationList { stored, types }
+    }
+
+    fn empty() -> AnnotationList<'s>
+        ensures { annotations_in result ≡ [] }
+    {
+        AnnotationList::new(&[], &[])
+    }
+
+    /// The annotations of a struct, by the number of its brand: those of its node, with the brand's types. None past the
+    /// end of the brands.
+    pub(crate) fn of_struct(set: &'s SchemaSet, brand: u32) -> AnnotationList<'s>
+        ensures typed { annotations_in result ≡ struct_annotations (lists_seen set.now) brand }
+        ensures whole { brand < length (lists_seen set.now).brands → annotations_of (annotations_in result) ≡ (node_of (lists_seen set.now) brand).annotations }
+    {
+        let lists = set.accepted_lists();
+        let Some(record) = lists.brand_at(brand as usize) else {
+            return AnnotationList::empty();
+        };
+        let Some(node) = lists.node_at(record.node as usize) else {
+            return AnnotationList::empty();
+        };
+        AnnotationList::new(&node.annotations, &record.annotation_types.own)
+    }
+
+    /// The annotations of a field, by the number of its struct's brand and its index, with the brand's types. None past the
+    /// end of the brands or of the fields.
+    pub(crate) fn of_field(set: &'s SchemaSet, brand: u32, field: u16) -> AnnotationList<'s>
+        ensures typed { annotations_in result ≡ field_annotations (lists_seen set.now) brand field }
+        ensures whole { annotations_of (annotations_in result) ≡ (field_at (lists_seen set.now) brand field).field.annotations }
+    {
+        let lists = set.accepted_lists();
+        let Some(record) = lists.brand_at(brand as usize) else {
+            return AnnotationList::empty();
+        };
+        let Some(typed) = lists.field_at(brand as usize, field as usize) else {
+            return AnnotationList::empty();
+        };
+        let Some(types) = child_at(&record.annotation_types.children, field as usize) else {
+            return AnnotationList::empty();
+        };
+        AnnotationList::new(&typed.field.annotations, types)
+    }
+
+    /// The annotations of an enum, by its number. None past the end of the enums.
+    pub(crate) fn of_enum(set: &'s SchemaSet, number: u32) -> AnnotationList<'s>
+        ensures typed { annotations_in result ≡ enum_annotations (lists_seen set.now) number }
+        ensures whole { annotations_of (annotations_in result) ≡ (enum_at (lists_seen set.now) number).annotations }
+    {
+        let Some(record) = set.accepted_lists().enum_at(number as usize) else {
+            return AnnotationList::empty();
+        };
+        AnnotationList::new(&record.annotations, &record.annotation_types.own)
+    }
+
+    /// The annotations of an enumerant, by the number of its enum and its ordinal. None past the end of either.
+    pub(crate) fn of_enumerant(
+        set: &'s SchemaSet,
+        number: u32,
+        enumerant: u16,
+    ) -> AnnotationList<'s>
+        ensures typed { annotations_in result ≡ enumerant_annotations (lists_seen set.now) number enumerant }
+        ensures whole { annotations_of (annotations_in result) ≡ (enumerant_at (lists_seen set.now) number enumerant).annotations }
+    {
+        let Some(record) = set.accepted_lists().enum_at(number as usize) else {
+            return AnnotationList::empty();
+        };
+        let Some(stored) = enumerant_in(&record.enumerants, enumerant as usize) else {
+            return AnnotationList::empty();
+        };
+        let Some(types) = child_at(&record.annotation_types.children, enumerant as usize) else {
+            return AnnotationList::empty();
+        };
+        AnnotationList::new(&stored.annotations, types)
+    }
+
+    /// How many annotations there are.
+    #[tactic(auto, using(crate::proofs::AnnotatedLemmas::length_in))]
+    pub fn len(&self) -> u32
+        ensures length { result ≡ length (annotations_in self.now) }
+        ensures few { result < 2 ^ 29 }
+    {
+        self.stored.len() as u32
+    }
+
+    /// Whether there is none.
+    pub fn is_empty(&self) -> bool
+        ensures { IsTrue result ↔ (length (annotations_in self.now) ≡ 0) }
+    {
+        self.len() == 0
+    }
+
+    /// The annotation at an index, which has to be below `len`.
+    #[tactic(auto, using(crate::proofs::AnnotatedLemmas::length_in, crate::proofs::AnnotatedLemmas::entry_in))]
+    pub fn get(self, index: u32) -> Annotation<'s>
+        requires { index < length (annotations_in self) }
+        ensures { slice_get (annotations_in self.entry) index ≡ Some (annotation_in result) }
+    {
+        Annotation {
+            stored: &self.stored[index as usize],
+            annotation_type: self.types[index as usize],
+        }
+    }
+
+    /// The first annotation of an id, where there is one.
+    pub fn find(self, id: u64) -> Option<Annotation<'s>>
+        ensures { option_map annotation_in result ≡ first_of_id (annotations_in self.entry) id }
+    {
+        match position_of(self.stored, id) {
+            Some(index) => Some(self.get(index as u32)),
+            None => None,
+        }
+    }
+
+    /// The annotations from the first to the last, taken from both ends.
+    pub fn iter(self) -> ListIter<AnnotationList<'s>, Annotation<'s>>
+        ensures source { list_iter.source result ≡ self.entry }
+        ensures to_come { list_iter.to_come result ≡ indices 0 (length (annotations_in self.entry)) }
+    {
+        ListIter::new(self, self.len())
+    }
+}
+
+impl<'s> IndexMove<u32, Annotation<'s>> for AnnotationList<'s> {
+    ghost use Rattle.std.specs.Prelude.{Some, slice_get};
+    ghost use Rattle.capnp_schema.specs.AnnotationLists.{annotation_in, annotations_in};
+
+    ghost count = { λ s. length (annotations_in s) };
+
+    ghost answers = { λ s i x. slice_get (annotations_in s) i ≡ Some (annotation_in x) };
+
+    fn index_move(&self, index: u32) -> Annotation<'s> {
+        self.get(index)
+    }
+}
+
+impl<'s> IntoIterator for AnnotationList<'s> {
+    ghost use Rattle.capnp_base.specs.Taking.{indices};
+    ghost use Rattle.capnp_base.specs.ListIter as list_iter;
+    ghost use Rattle.capnp_schema.specs.AnnotationLists.{annotations_in};
+
+    type Item = Annotation<'s>;
+
+    type IntoIter = ListIter<AnnotationList<'s>, Annotation<'s>>;
+
+    ghost into_iter_gives = { λ list items. (list_iter.source items ≡ list) × (list_iter.to_come items ≡ indices 0 (length (annotations_in list))) };
+
+    fn into_iter(self) -> ListIter<AnnotationList<'s>, Annotation<'s>> {
+        self.iter()
+    }
+}

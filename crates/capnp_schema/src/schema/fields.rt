@@ -1,0 +1,84 @@
+//! Handles of fields.
+ghost use Rattle.std.specs.Prelude.{◌≡◌, ◌<◌, length, IsOkAnd};
+
+use crate::plan::SlotPlan;
+use crate::record::FieldRecord;
+use crate::schema::annotations::AnnotationList;
+use crate::schema::structs::StructSchema;
+use capnp_base::introspect::Type;
+use capnp_wire::error::Result;
+
+/// A field of a struct or group, with its type in the brand. Two of one set are equal where their schemas and indices are.
+#[derive(Clone, Copy)]
+#[derive_where(PartialEq, Eq, Hash, Debug)]
+pub struct Field<'s> {
+    schema: StructSchema<'s>,
+    index: u16,
+    #[derive_where(skip)]
+    proto: &'s FieldRecord,
+    #[derive_where(skip)]
+    field_type: Type,
+}
+
+impl<'s> Field<'s> {
+    ghost use Rattle.capnp_schema.specs.Plan.{IsPlan, plan_of};
+    ghost use Rattle.capnp_schema.specs.Schema.{seen_field};
+    ghost use Rattle.capnp_schema.specs.Types.{seen_type};
+    ghost use Rattle.capnp_schema.specs.StructHandles.{number_of, set_of, struct_field, struct_fields};
+    ghost use Rattle.capnp_schema.specs.Annotated.{annotations_of, field_annotations};
+    ghost use Rattle.capnp_schema.specs.AnnotationLists.{annotations_in};
+    ghost use Rattle.capnp_schema.specs.FieldLists.{IsFieldOf, index_of, schema_of, typed_of};
+
+    /// The field of an index, which is below their count.
+    pub(crate) fn new(schema: StructSchema<'s>, index: u16) -> Field<'s>
+        requires { index < length (struct_fields schema) }
+        ensures { IsFieldOf schema.entry index result }
+    {
+        let Some(typed) = schema.set.field_record(schema.number, index) else {
+            unreachable!()
+        };
+        Field {
+            schema,
+            index,
+            proto: typed.field,
+            field_type: *typed.field_type,
+        }
+    }
+
+    /// The field's record: its name, its annotations, and its place and default or its group.
+    pub fn get_proto(self) -> &'s FieldRecord
+        ensures { seen_field result.now ≡ (typed_of self.entry).field }
+    {
+        self.proto
+    }
+
+    /// The field's type.
+    pub fn get_type(&self) -> Type
+        ensures { seen_type result ≡ (typed_of self.now).type }
+    {
+        self.field_type
+    }
+
+    /// The field's index in its struct.
+    pub fn get_index(&self) -> u16
+        ensures { result ≡ index_of self.now }
+    {
+        self.index
+    }
+
+    /// Its annotations, each with its type in the brand. The answer is always Ok.
+    pub fn get_annotations(self) -> Result<AnnotationList<'s>>
+        ensures typed { IsOkAnd result (λ list. annotations_in list ≡ field_annotations (set_of (schema_of self.entry)) (number_of (schema_of self.entry)) (index_of self.entry)) }
+        ensures whole { IsOkAnd result (λ list. annotations_of (annotations_in list) ≡ (struct_field (schema_of self.entry) (index_of self.entry)).field.annotations) }
+    {
+        Ok(AnnotationList::of_field(self.schema.set, self.schema.number, self.index))
+    }
+
+    /// Where the field stands in its struct, worked out when the set was made.
+    pub fn plan(&self) -> SlotPlan
+        ensures is { result ≡ plan_of (set_of (schema_of self.now)) (number_of (schema_of self.now)) (struct_field (schema_of self.now) (index_of self.now)) }
+        ensures stands { index_of self.now < length (struct_fields (schema_of self.now)) → IsPlan (set_of (schema_of self.now)) (number_of (schema_of self.now)) (struct_field (schema_of self.now) (index_of self.now)) result }
+    {
+        self.schema.set.plan(self.schema.number, self.index)
+    }
+}

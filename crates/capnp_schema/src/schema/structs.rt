@@ -1,0 +1,159 @@
+//! Handles of struct schemas.
+ghost use Rattle.std.specs.Prelude.{◌≡◌, ◌<◌, ◌≤◌, ◌*◌, ◌^◌, length, IfErr, IfOk, IsOkAnd, Some, None};
+ghost use Rattle.capnp_device.specs.declared.error.ErrorKind.TheVariants.{FieldNotFound};
+
+use crate::record::NodeRecord;
+use crate::schema::annotations::AnnotationList;
+use crate::schema::field_list::FieldList;
+use crate::schema::field_subset::FieldSubset;
+use crate::schema::fields::Field;
+use crate::set::SchemaSet;
+use capnp_base::introspect::RawBrandedStructSchema;
+use capnp_wire::error::{Error, ErrorKind, Result};
+
+/// The schema of a struct or group: a brand of a set, by its number. Two of one set are equal where their numbers are.
+#[derive(Clone, Copy)]
+#[derive_where(PartialEq, Eq, Hash, Debug)]
+pub struct StructSchema<'s> {
+    #[derive_where(skip)]
+    pub(crate) set: &'s SchemaSet,
+    pub(crate) number: u32,
+    #[derive_where(skip)]
+    generic: u32,
+    #[derive_where(skip)]
+    proto: &'s NodeRecord,
+}
+
+impl<'s> StructSchema<'s> {
+    ghost use Rattle.capnp_schema.specs.Schema.{brand_at, seen_node};
+    ghost use Rattle.capnp_schema.specs.Entries.{lists_seen};
+    ghost use Rattle.capnp_schema.specs.Query.{AreMembers, field_named, member_of, plain_fields};
+    ghost use Rattle.capnp_schema.specs.StructHandles.{IsStruct, generic_of, number_of, proto_of, set_of, struct_node, struct_records};
+    ghost use Rattle.capnp_schema.specs.Annotated.{annotations_of, struct_annotations};
+    ghost use Rattle.capnp_schema.specs.AnnotationLists.{annotations_in};
+    ghost use Rattle.capnp_schema.specs.FieldLists.{IsFound, list_schema, subset_indices, subset_schema};
+
+    /// The schema of those numbers, which are a brand of the set and its node.
+    #[tactic(auto, using(crate::proofs::StructLookUps::node_inside))]
+    pub fn new(set: &'s SchemaSet, raw: RawBrandedStructSchema) -> StructSchema<'s>
+        requires number { raw.number < length (lists_seen set.now).brands }
+        requires generic { raw.generic ≡ (brand_at (lists_seen set.now) raw.number).node }
+        ensures set { set_of result ≡ lists_seen set.now }
+        ensures number { number_of result ≡ raw.number }
+        ensures generic { generic_of result ≡ raw.generic }
+        ensures stands { IsStruct result }
+    {
+        StructSchema {
+            set,
+            number: raw.number,
+            generic: raw.generic,
+            proto: &set.nodes()[raw.generic as usize],
+        }
+    }
+
+    /// The set that it is of.
+    pub fn get_set(&self) -> &'s SchemaSet
+        ensures { lists_seen result.now ≡ set_of self.now }
+    {
+        self.set
+    }
+
+    /// The node: the struct without the types of its fields.
+    pub fn get_proto(&self) -> &'s NodeRecord
+        ensures { seen_node result.now ≡ proto_of self.now }
+    {
+        self.proto
+    }
+
+    /// All fields, by index. The answer is always Ok.
+    pub fn get_fields(self) -> Result<FieldList<'s>>
+        ensures { IsOkAnd result (λ fields. list_schema fields ≡ self.entry) }
+    {
+        Ok(FieldList::new(self))
+    }
+
+    /// The member of the union with that discriminant value, where there is one. The answer is always Ok.
+    #[tactic(auto, using(crate::proofs::StructLookUps::member_is_typed))]
+    pub fn get_field_by_discriminant(self, discriminant: u16) -> Result<Option<Field<'s>>>
+        ensures { IsOkAnd result (IsFound self.entry (member_of (struct_records self.entry) discriminant)) }
+    {
+        match self.set.find_member(self.number, discriminant) {
+            Some(index) => Ok(Some(Field::new(self, index))),
+            None => Ok(None),
+        }
+    }
+
+    /// The field of that name, where there is one. The answer is always Ok.
+    pub fn find_field_by_name(&self, name: &str) -> Result<Option<Field<'s>>>
+        ensures { IsOkAnd result (IsFound self.now (field_named (struct_records self.now) name.now)) }
+    {
+        let (found, _) = self.find_field_by_name_counted(name);
+        Ok(found)
+    }
+
+    /// The field of that name, where there is one, and how many names were compared: none where there are no fields, and
+    /// otherwise at least one and at most as many as their count has binary digits.
+    #[tactic(auto, using(crate::proofs::StructLookUps::named_is_typed))]
+    pub fn find_field_by_name_counted(&self, name: &str) -> (Option<Field<'s>>, u32)
+        ensures found { IsFound self.now (field_named (struct_records self.now) name.now) result.0 }
+        ensures none { length (struct_records self.now) ≡ 0 → result.1 ≡ 0 }
+        ensures some { 0 < length (struct_records self.now) → 0 < result.1 }
+        ensures digits { 0 < length (struct_records self.now) → 2 ^ result.1 ≤ 2 * length (struct_records self.now) }
+    {
+        let (found, count) = self.set.find_field(self.number, name);
+        match found {
+            Some(index) => (Some(Field::new(*self, index)), count),
+            None => (None, count),
+        }
+    }
+
+    /// The field of that name. Where there is none it is refused as `FieldNotFound`.
+    pub fn get_field_by_name(&self, name: &str) -> Result<Field<'s>>
+        ensures field { IfOk result (λ field. IsFound self.now (field_named (struct_records self.now) name.now) (Some field)) }
+        ensures refused { IfErr result (λ e. (e.kind ≡ FieldNotFound) × (field_named (struct_records self.now) name.now ≡ None)) }
+    {
+        match self.find_field_by_name(name)? {
+            Some(field) => Ok(field),
+            None => Err(Error {
+                kind: ErrorKind::FieldNotFound,
+            }),
+        }
+    }
+
+    /// The members of the union, by discriminant value. The answer is always Ok.
+    #[tactic(auto, using(crate::proofs::StructLookUps::members_are_typed))]
+    pub fn get_union_fields(self) -> Result<FieldSubset<'s>>
+        ensures { IsOkAnd result (λ fields. (subset_schema fields ≡ self.entry) × AreMembers (struct_records self.entry) (subset_indices fields)) }
+    {
+        Ok(FieldSubset::new(self, self.set.members(self.number)))
+    }
+
+    /// The fields that are no members of the union, by index. The answer is always Ok.
+    #[tactic(auto, using(crate::proofs::StructLookUps::plain_are_typed))]
+    pub fn get_non_union_fields(self) -> Result<FieldSubset<'s>>
+        ensures { IsOkAnd result (λ fields. (subset_schema fields ≡ self.entry) × (subset_indices fields ≡ plain_fields (struct_records self.entry))) }
+    {
+        Ok(FieldSubset::new(self, self.set.plain(self.number)))
+    }
+
+    /// The annotations of its node, each with its type in the brand. The answer is always Ok.
+    pub fn get_annotations(self) -> Result<AnnotationList<'s>>
+        ensures typed { IsOkAnd result (λ list. annotations_in list ≡ struct_annotations (set_of self.entry) (number_of self.entry)) }
+        ensures whole { IsStruct self.entry → IsOkAnd result (λ list. annotations_of (annotations_in list) ≡ (struct_node self.entry).annotations) }
+    {
+        Ok(AnnotationList::of_struct(self.set, self.number))
+    }
+}
+
+impl<'s> From<StructSchema<'s>> for RawBrandedStructSchema {
+    ghost use Rattle.capnp_schema.specs.StructHandles.{generic_of, number_of};
+
+    ghost from_gives = { λ s raw. (raw.number ≡ number_of s) × (raw.generic ≡ generic_of s) };
+
+    fn from(schema: StructSchema<'s>) -> RawBrandedStructSchema {
+        RawBrandedStructSchema {
+            number: schema.number,
+            generic: schema.generic,
+        }
+    }
+}
