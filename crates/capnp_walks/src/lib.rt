@@ -31,8 +31,6 @@ pub mod path;
 #[cfg(test)]
 mod pointer_tests;
 #[cfg(test)]
-mod schema_tests;
-#[cfg(test)]
 mod stream_tests;
 #[cfg(test)]
 mod struct_list_tests;

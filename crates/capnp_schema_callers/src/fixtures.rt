@@ -1,0 +1,483 @@
+//! What the tests share: small sets of schemas, and what the check says of them.
+ghost use Rattle.std.specs.Prelude.{IfOk};
+ghost use Rattle.capnp_schema.specs.StructHandles.{IsStruct};
+
+use crate::lookup::struct_at;
+use capnp_base::introspect::{RawBrandedStructSchema, RawEnumSchema, Type, TypeVariant};
+use capnp_schema::record::{
+    AnnotationRecord, AnnotationTypes, BrandRecord, EnumRecord, EnumerantRecord, FieldKind,
+    FieldRecord, NodeRecord, StructRecord, ValueRecord,
+};
+use capnp_schema::schema::StructSchema;
+use capnp_schema::set::SchemaSet;
+use capnp_wire::error::{Error, ErrorKind, Result, SchemaTable};
+use std::alloc::Global;
+use std::hash::{DefaultHasher, Hash, Hasher};
+
+/// In a refusal: the whole entry.
+pub const WHOLE: u16 = 65_535;
+
+/// The discriminant value of a plain field.
+const PLAIN: u16 = 65_535;
+
+/// The words of a null pointer.
+pub static NULL: [u8; 8] = [0; 8];
+
+/// A value that can be copied.
+#[derive(Clone, Copy)]
+pub enum ValueOf {
+    Void,
+    Bool(bool),
+    Int16(i16),
+    UInt16(u16),
+    UInt32(u32),
+    Enum(u16),
+    Text(&'static [u8]),
+    Data(&'static [u8]),
+    Struct(&'static [u8]),
+    List(&'static [u8]),
+    AnyPointer(&'static [u8]),
+}
+
+#[derive(Clone, Copy)]
+pub enum KindOf {
+    Slot { offset: u32, default: ValueOf },
+    Group { node: u32 },
+}
+
+/// A field with its type.
+#[derive(Clone, Copy)]
+pub struct FieldOf {
+    pub name: &'static str,
+    pub discriminant_value: u16,
+    pub kind: KindOf,
+    pub field_type: Type,
+}
+
+impl FieldOf {
+    /// The same field as a member of its struct's union.
+    pub fn member(self, discriminant_value: u16) -> FieldOf {
+        FieldOf {
+            discriminant_value,
+            ..self
+        }
+    }
+
+    /// The same field with the name.
+    pub fn named(self, name: &'static str) -> FieldOf {
+        FieldOf { name, ..self }
+    }
+}
+
+/// A struct or group with its only brand.
+#[derive(Clone, Copy)]
+pub struct StructOf<'a> {
+    pub data_words: u16,
+    pub pointers: u16,
+    pub is_group: bool,
+    pub discriminant_count: u16,
+    pub discriminant_offset: u32,
+    pub fields: &'a [FieldOf],
+}
+
+impl<'a> StructOf<'a> {
+    /// The same struct as a group.
+    pub fn group(self) -> StructOf<'a> {
+        StructOf {
+            is_group: true,
+            ..self
+        }
+    }
+
+    /// The same struct with a union.
+    pub fn union(self, discriminant_count: u16, discriminant_offset: u32) -> StructOf<'a> {
+        StructOf {
+            discriminant_count,
+            discriminant_offset,
+            ..self
+        }
+    }
+}
+
+/// A struct of a data word and no pointer.
+pub fn one_word<'a>(fields: &'a [FieldOf]) -> StructOf<'a> {
+    StructOf {
+        data_words: 1,
+        pointers: 0,
+        is_group: false,
+        discriminant_count: 0,
+        discriminant_offset: 0,
+        fields,
+    }
+}
+
+/// A struct of a data word and a pointer.
+pub fn one_each<'a>(fields: &'a [FieldOf]) -> StructOf<'a> {
+    StructOf {
+        pointers: 1,
+        ..one_word(fields)
+    }
+}
+
+/// The type of the structs of a brand, which has the number of its node.
+pub fn struct_type(number: u32) -> Type {
+    Type::from(TypeVariant::Struct(RawBrandedStructSchema {
+        number,
+        generic: number,
+    }))
+}
+
+pub fn enum_type(number: u32) -> Type {
+    Type::from(TypeVariant::Enum(RawEnumSchema { number }))
+}
+
+pub fn list_type(element: Type) -> Type {
+    Type::from(TypeVariant::List(element))
+}
+
+/// The default of the type's own kind that is zero, empty or null.
+fn zero_of(field_type: Type) -> ValueOf {
+    match field_type.which() {
+        TypeVariant::Bool => ValueOf::Bool(false),
+        TypeVariant::UInt16 => ValueOf::UInt16(0),
+        TypeVariant::UInt32 => ValueOf::UInt32(0),
+        TypeVariant::Enum(_) => ValueOf::Enum(0),
+        TypeVariant::Text => ValueOf::Text(&[]),
+        TypeVariant::Data => ValueOf::Data(&[]),
+        TypeVariant::Struct(_) => ValueOf::Struct(&NULL),
+        TypeVariant::List(_) => ValueOf::List(&NULL),
+        TypeVariant::AnyPointer => ValueOf::AnyPointer(&NULL),
+        _ => ValueOf::Void,
+    }
+}
+
+/// A plain slot of a type, with a default.
+pub fn slot_with(name: &'static str, offset: u32, field_type: Type, default: ValueOf) -> FieldOf {
+    FieldOf {
+        name,
+        discriminant_value: PLAIN,
+        kind: KindOf::Slot { offset, default },
+        field_type,
+    }
+}
+
+/// A plain slot whose default is zero, empty or null.
+pub fn slot(name: &'static str, offset: u32, variant: TypeVariant) -> FieldOf {
+    let field_type = Type::from(variant);
+    slot_with(name, offset, field_type, zero_of(field_type))
+}
+
+/// The same of a type that is no variant alone.
+pub fn typed_slot(name: &'static str, offset: u32, field_type: Type) -> FieldOf {
+    slot_with(name, offset, field_type, zero_of(field_type))
+}
+
+/// A plain group field, of the group whose brand has the number of its node.
+pub fn group_field(name: &'static str, node: u32) -> FieldOf {
+    FieldOf {
+        name,
+        discriminant_value: PLAIN,
+        kind: KindOf::Group { node },
+        field_type: struct_type(node),
+    }
+}
+
+fn copied(alloc: Global, bytes: &[u8]) -> Result<Vec<u8>> {
+    let mut copy = Vec::new(alloc);
+    copy.extend_from_slice(bytes)?;
+    Ok(copy)
+}
+
+pub fn value_record(alloc: Global, value: ValueOf) -> Result<ValueRecord> {
+    Ok(match value {
+        ValueOf::Void => ValueRecord::Void,
+        ValueOf::Bool(x) => ValueRecord::Bool(x),
+        ValueOf::Int16(x) => ValueRecord::Int16(x),
+        ValueOf::UInt16(x) => ValueRecord::UInt16(x),
+        ValueOf::UInt32(x) => ValueRecord::UInt32(x),
+        ValueOf::Enum(x) => ValueRecord::Enum(x),
+        ValueOf::Text(bytes) => ValueRecord::Text(copied(alloc, bytes)?),
+        ValueOf::Data(bytes) => ValueRecord::Data(copied(alloc, bytes)?),
+        ValueOf::Struct(words) => ValueRecord::Struct(copied(alloc, words)?),
+        ValueOf::List(words) => ValueRecord::List(copied(alloc, words)?),
+        ValueOf::AnyPointer(words) => ValueRecord::AnyPointer(copied(alloc, words)?),
+    })
+}
+
+fn field_record(alloc: Global, field: &FieldOf) -> Result<FieldRecord> {
+    let kind = match field.kind {
+        KindOf::Slot { offset, default } => FieldKind::Slot {
+            offset,
+            default: value_record(alloc, default)?,
+        },
+        KindOf::Group { node } => FieldKind::Group { node },
+    };
+    Ok(FieldRecord {
+        name: String::from_str(alloc, field.name)?,
+        discriminant_value: field.discriminant_value,
+        annotations: Vec::new(alloc),
+        kind,
+    })
+}
+
+/// The node of a struct.
+pub fn node_record(alloc: Global, of: &StructOf<'_>) -> Result<NodeRecord> {
+    let mut fields = Vec::new(alloc);
+    for field in of.fields {
+        fields.push(field_record(alloc, field)?)?;
+    }
+    Ok(NodeRecord {
+        id: 1,
+        display_name: String::from_str(alloc, "Point")?,
+        annotations: Vec::new(alloc),
+        body: StructRecord {
+            data_word_count: of.data_words,
+            pointer_count: of.pointers,
+            is_group: of.is_group,
+            discriminant_count: of.discriminant_count,
+            discriminant_offset: of.discriminant_offset,
+            fields,
+        },
+    })
+}
+
+/// A brand of a node, with the types of a struct's fields.
+pub fn brand_record(alloc: Global, node: u32, of: &StructOf<'_>) -> Result<BrandRecord> {
+    let mut field_types = Vec::new(alloc);
+    for field in of.fields {
+        field_types.push(field.field_type)?;
+    }
+    let annotation_types = no_types(alloc, of.fields.len())?;
+    Ok(BrandRecord {
+        node,
+        field_types,
+        annotation_types,
+    })
+}
+
+/// No types of annotations, for something with so many fields or enumerants.
+pub fn no_types(alloc: Global, count: usize) -> Result<AnnotationTypes> {
+    let mut children = Vec::new(alloc);
+    for _ in 0..count {
+        children.push(Vec::new(alloc))?;
+    }
+    Ok(AnnotationTypes {
+        own: Vec::new(alloc),
+        children,
+    })
+}
+
+/// An enum of enumerants with these names.
+pub fn enum_record(alloc: Global, names: &[&str]) -> Result<EnumRecord> {
+    let mut enumerants = Vec::new(alloc);
+    for name in names {
+        enumerants.push(EnumerantRecord {
+            name: String::from_str(alloc, name)?,
+            annotations: Vec::new(alloc),
+        })?;
+    }
+    let annotation_types = no_types(alloc, names.len())?;
+    Ok(EnumRecord {
+        id: 2,
+        display_name: String::from_str(alloc, "Colour")?,
+        annotations: Vec::new(alloc),
+        enumerants,
+        annotation_types,
+    })
+}
+
+/// The lists of a set.
+#[derive(Drop)]
+pub struct Records {
+    pub nodes: Vec<NodeRecord>,
+    pub brands: Vec<BrandRecord>,
+    pub enums: Vec<EnumRecord>,
+}
+
+/// Adds a struct with a brand, whose node has the number.
+fn add_struct(alloc: Global, records: &mut Records, number: u32, of: &StructOf<'_>) -> Result<()> {
+    records.nodes.push(node_record(alloc, of)?)?;
+    records.brands.push(brand_record(alloc, number, of)?)?;
+    Ok(())
+}
+
+/// The lists of a set of one struct with one brand, and of no enums.
+pub fn records_of(alloc: Global, of: StructOf<'_>) -> Result<Records> {
+    let mut records = Records {
+        nodes: Vec::new(alloc),
+        brands: Vec::new(alloc),
+        enums: Vec::new(alloc),
+    };
+    add_struct(alloc, &mut records, 0, &of)?;
+    Ok(records)
+}
+
+/// A struct of two fields, and an enum of two enumerants.
+pub fn two_of_each(alloc: Global) -> Result<Records> {
+    let fields = [
+        slot("v", 0, TypeVariant::Void),
+        slot("w", 0, TypeVariant::Void),
+    ];
+    let mut records = records_of(alloc, one_word(&fields))?;
+    records.enums.push(enum_record(alloc, &["red", "blue"])?)?;
+    Ok(records)
+}
+
+/// What an annotation stands at: the first struct or enum, or a field or enumerant of it.
+#[derive(Clone, Copy)]
+pub enum Spot {
+    Struct,
+    Field(usize),
+    Enum,
+    Enumerant(usize),
+}
+
+/// The schema of a struct that the set has.
+pub fn schema_of(set: &SchemaSet, number: u32) -> Result<StructSchema<'_>>
+    ensures { IfOk result IsStruct }
+{
+    match struct_at(set, number) {
+        Some(schema) => Ok(schema),
+        None => Err(Error {
+            kind: ErrorKind::NoSuchElement,
+        }),
+    }
+}
+
+/// Adds an annotation with its type; none where there is no such spot.
+pub fn annotate(
+    records: &mut Records,
+    spot: Spot,
+    value: ValueRecord,
+    annotation_type: Type,
+) -> Result<()> {
+    annotate_record(records, spot, value)?;
+    annotate_type(records, spot, annotation_type)
+}
+
+/// Adds an annotation without a type for it; none where there is no such spot.
+pub fn annotate_record(records: &mut Records, spot: Spot, value: ValueRecord) -> Result<()> {
+    let annotation = AnnotationRecord { id: 3, value };
+    match spot {
+        Spot::Struct => {
+            if let Some(node) = records.nodes.get_mut(0) {
+                node.annotations.push(annotation)?;
+            }
+        }
+        Spot::Field(i) => {
+            if let Some(node) = records.nodes.get_mut(0) {
+                if let Some(field) = node.body.fields.get_mut(i) {
+                    field.annotations.push(annotation)?;
+                }
+            }
+        }
+        Spot::Enum => {
+            if let Some(entry) = records.enums.get_mut(0) {
+                entry.annotations.push(annotation)?;
+            }
+        }
+        Spot::Enumerant(i) => {
+            if let Some(entry) = records.enums.get_mut(0) {
+                if let Some(enumerant) = entry.enumerants.get_mut(i) {
+                    enumerant.annotations.push(annotation)?;
+                }
+            }
+        }
+    }
+    Ok(())
+}
+
+/// Adds a type for an annotation; none where there is no such spot.
+pub fn annotate_type(records: &mut Records, spot: Spot, annotation_type: Type) -> Result<()> {
+    match spot {
+        Spot::Struct | Spot::Field(_) => {
+            if let Some(brand) = records.brands.get_mut(0) {
+                push_type(&mut brand.annotation_types, spot, annotation_type)?;
+            }
+        }
+        Spot::Enum | Spot::Enumerant(_) => {
+            if let Some(entry) = records.enums.get_mut(0) {
+                push_type(&mut entry.annotation_types, spot, annotation_type)?;
+            }
+        }
+    }
+    Ok(())
+}
+
+fn push_type(types: &mut AnnotationTypes, spot: Spot, annotation_type: Type) -> Result<()> {
+    match spot {
+        Spot::Struct | Spot::Enum => types.own.push(annotation_type)?,
+        Spot::Field(i) | Spot::Enumerant(i) => {
+            if let Some(child) = types.children.get_mut(i) {
+                child.push(annotation_type)?;
+            }
+        }
+    }
+    Ok(())
+}
+
+/// What the check says of the lists: nothing, or the rule that is broken and where. Want of memory is passed on.
+pub fn refusal(alloc: Global, records: Records) -> Result<Option<ErrorKind>> {
+    let Records {
+        nodes,
+        brands,
+        enums,
+    } = records;
+    match SchemaSet::new(alloc, nodes, brands, enums) {
+        Ok(_) => Ok(None),
+        Err(
+            Error {
+                kind: ErrorKind::OutOfMemory,
+            },
+        ) => Err(Error {
+            kind: ErrorKind::OutOfMemory,
+        }),
+        Err(Error { kind }) => Ok(Some(kind)),
+    }
+}
+
+/// What the check says of a struct with one brand.
+pub fn refusal_of(alloc: Global, of: StructOf<'_>) -> Result<Option<ErrorKind>> {
+    refusal(alloc, records_of(alloc, of)?)
+}
+
+/// What the check says of two structs, each with one brand of its own number.
+pub fn refusal_of_two(
+    alloc: Global,
+    first: StructOf<'_>,
+    second: StructOf<'_>,
+) -> Result<Option<ErrorKind>> {
+    let mut records = records_of(alloc, first)?;
+    add_struct(alloc, &mut records, 1, &second)?;
+    refusal(alloc, records)
+}
+
+/// The same of three.
+pub fn refusal_of_three(
+    alloc: Global,
+    first: StructOf<'_>,
+    second: StructOf<'_>,
+    third: StructOf<'_>,
+) -> Result<Option<ErrorKind>> {
+    let mut records = records_of(alloc, first)?;
+    add_struct(alloc, &mut records, 1, &second)?;
+    add_struct(alloc, &mut records, 2, &third)?;
+    refusal(alloc, records)
+}
+
+/// That a rule is broken, at an entry of a list: in a field or enumerant of it, or in all of it.
+pub fn broken(rule: u32, table: SchemaTable, entry: usize, field: u16) -> Option<ErrorKind> {
+    Some(ErrorKind::Schema {
+        rule,
+        table,
+        entry,
+        field,
+    })
+}
+
+/// The hash of a value, by std's hasher.
+pub fn hash_of<T: Hash>(value: &T) -> u64 {
+    let mut state = DefaultHasher::new();
+    value.hash(&mut state);
+    state.finish()
+}

@@ -1,0 +1,37 @@
+//! Sets of schemas made by the public calls of `capnp_schema` alone, and its tests.
+#![tactic(auto)]
+
+#[cfg(test)]
+mod accepted_tests;
+#[cfg(test)]
+mod annotated_enum_tests;
+#[cfg(test)]
+mod annotation_tests;
+pub mod built_in;
+#[cfg(test)]
+mod enum_tests;
+#[cfg(test)]
+mod fixtures;
+#[cfg(test)]
+mod footprint_tests;
+#[cfg(test)]
+mod group_tests;
+#[cfg(test)]
+mod handle_tests;
+pub mod lookup;
+#[cfg(test)]
+mod name_tests;
+#[cfg(test)]
+mod plan_tests;
+#[cfg(test)]
+mod query_tests;
+#[cfg(test)]
+mod slot_tests;
+#[cfg(test)]
+mod type_tests;
+#[cfg(test)]
+mod union_tests;
+#[cfg(test)]
+mod value_tests;
+#[cfg(test)]
+mod view_tests;
