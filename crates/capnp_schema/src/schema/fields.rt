@@ -29,7 +29,7 @@ impl<'s> Field<'s> {
     ghost use Rattle.capnp_schema.specs.AnnotationLists.{annotations_in};
     ghost use Rattle.capnp_schema.specs.FieldLists.{IsFieldOf, index_of, schema_of, typed_of};
 
-    /// The field of an index, which is below their count.
+    /// The field of an index, which is below the count of fields.
     pub(crate) fn new(schema: StructSchema<'s>, index: u16) -> Field<'s>
         requires { index < length (struct_fields schema) }
         ensures { IsFieldOf schema.entry index result }
