@@ -5,6 +5,7 @@ ghost use Rattle.capnp_wire.specs.Tree.{structs_from};
 ghost use Rattle.capnp_wire.specs.Objects.{list_object_tree, object_tree, struct_object_trees};
 ghost use Rattle.capnp_wire.specs.Reading.{element_struct, is_list, is_null_tree};
 ghost use Rattle.capnp_wire.specs.WellFormed.{IsWellFormed};
+ghost use Rattle.capnp_wire.specs.Elements.{built_list, or_empty};
 ghost use Rattle.capnp_wire.specs.Edits.{IsCopyRefusal, extended};
 ghost use Rattle.capnp_wire.specs.StructLists.{HoldsStructs, IsDueRefusal, element_pointers, element_words, grown, has_size, is_bits, struct_list, struct_list_refusal};
 ghost use Rattle.capnp_wire.specs.Lends.{LendsList, holds_list};
@@ -136,19 +137,18 @@ impl Object {
     /// where the structs would take 2^29 words or more, and else with `OutOfMemory`; then nothing has changed. A null, and
     /// a list of structs that have at least the size, take no memory and are never refused.
     pub fn get_struct_list(&mut self, size: StructSize) -> Result<ListBuilder<'_>>
-        requires { IsWellFormed (object_tree self.old) }
+        requires { is_null_tree (object_tree self.old) ≡ false → IsWellFormed (object_tree self.old) }
         ensures* lends { sem 𝓛 (LendsList self.entry result) }
         ensures now { IfOk result (λ l. list_object_tree l.now ≡ struct_list size (object_tree self.old)) }
+        ensures reads { IfOk result (λ l. built_list l.now ≡ or_empty ElementSize.InlineComposite (struct_list size (object_tree self.old))) }
         ensures within { OnOk result (struct_list_refusal size (object_tree self.old) ≡ None) }
         ensures refused { IfErr result (λ e. IsDueRefusal e (struct_list_refusal size (object_tree self.old))) }
         ensures succeeds { HoldsStructs size (object_tree self.old) → IsOk result }
     {
         if self.is_null() {
-            let none = Vec::new(self.allocator());
-            *self = Object::List(ListObject::Missing(none, ElementSize::InlineComposite));
-            return Ok(self.list_here());
+            return Ok(self.list_of_nothing(ElementSize::InlineComposite));
         }
         self.make_struct_list(size)?;
-        Ok(self.list_here())
+        Ok(self.held_list())
     }
 }
