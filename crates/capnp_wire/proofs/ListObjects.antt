@@ -4,24 +4,17 @@ use Rattle.std.proofs.lemmas.Option.{slice_get_read}
 use Rattle.std.specs.Vec.{with_item}
 use Rattle.capnp_wire.specs.Tree as tree
 use Rattle.capnp_wire.specs.Tree.{Tree, StructTree, nth_struct, nth_tree, struct_count, tree_count}
-use Rattle.capnp_wire.specs.Objects.{list_layer, object_layer, struct_layer, list_object_tree, object_tree, object_trees, struct_object_tree, struct_object_trees}
+use Rattle.capnp_wire.specs.Objects.{list_object_tree, object_tree, object_trees, struct_object_tree, struct_object_trees}
 use Rattle.capnp_wire.specs.Reading.{cut_pointer, element_pointer, element_struct}
 use Rattle.capnp_wire.specs.Elements.{HasPointer, HasStruct}
 use Rattle.capnp_wire.specs.Lends.{Layer, HasObjects, HasStructs, with_objects_at, with_structs_at, with_element, with_element_at, with_first_pointer, with_object, with_object_at, with_pointer}
 use Rattle.capnp_wire.specs.declared.object.Object.{Object}
 use Rattle.capnp_wire.specs.declared.object.ListObject.{ListObject, out-ListObject}
 use Rattle.capnp_wire.specs.declared.object.ListObject.TheOpen as layer
-use Rattle.capnp_wire.specs.declared.object.ListObject.TheFolds.{fold_out-ListObject, map-ListObject}
 use Rattle.capnp_wire.specs.declared.object.StructObject.{StructObject}
 use Rattle.capnp_wire.specs.declared.size.StructSize.{StructSize}
 use Rattle.capnp_wire.proofs.Lists.{nth_struct-of, nth_tree-of, struct_count-of, tree_count-of}
-
--- the tree of a list, by its layer
-abbrev pub layer_tree : Layer → Tree
-layer_tree y = list_layer (map-ListObject ListObject Object StructObject Tree Tree StructTree list_object_tree object_tree struct_object_tree y)
-
-pub tree-layer : (l : ListObject) → list_object_tree l ≡ layer_tree (out-ListObject l)
-tree-layer = fold_out-ListObject Tree Tree StructTree list_layer object_layer struct_layer
+pub use Rattle.capnp_wire.specs.Facts.Objects.{layer_tree, tree-layer}
 
 -- ---- structs ----
 
