@@ -7,6 +7,7 @@ pub mod BrokenLaw
 pub mod Builtin
 pub mod Counts
 pub mod Entries
+pub mod Enumerants
 pub mod Enums
 pub mod FieldLists
 pub mod Footprint
@@ -14,6 +15,7 @@ pub mod Laws
 pub mod Lengths
 pub mod ListDefaults
 pub mod Marks
+pub mod Named
 pub mod Names
 pub mod Parents
 pub mod Plan
