@@ -2,11 +2,13 @@
 use Rattle.std.proofs.Common.{◌≡◌, ℕ, ◌<◌, List, Vec, Global, length, get_or, ap, sym, ◌∙◌, rules}
 use Rattle.capnp_wire.specs.Tree as tree
 use Rattle.capnp_wire.specs.Tree.{StructTree, nth_tree, nth_struct}
+use Rattle.capnp_wire.specs.Place.{struct_tree}
 use Rattle.capnp_wire.specs.Bits.{row_bits}
 use Rattle.capnp_wire.specs.declared.bits.BitRow.{BitRow}
 use Rattle.capnp_wire.specs.Objects.{object_tree, list_object_tree, struct_object_tree, object_trees, struct_object_trees}
 use Rattle.capnp_wire.specs.declared.object.Object.{Object}
 use Rattle.capnp_wire.specs.declared.object.StructObject.{StructObject}
+use Rattle.capnp_wire.specs.declared.object.ListObject.{ListObject}
 use Rattle.capnp_wire.specs.declared.object.ListObject.TheVariants.{Bits, Pointers, Composite}
 use Rattle.capnp_wire.specs.declared.object.Object.TheVariants as object
 use Rattle.capnp_wire.specs.declared.object.ListObject.TheFolds.{the_lemmas}
@@ -40,3 +42,9 @@ struct_object_tree-at objects i object h e = nth_struct-of struct_object_tree ob
 -- the variants of a pointer's object
 pub tree-null : (alloc : Global) → object_tree (object.Null alloc) ≡ tree.Null
 tree-null alloc = search (rules, the_lemmas)
+
+pub tree-of_struct : (s : StructObject) → object_tree (object.Struct s) ≡ struct_tree (struct_object_tree s)
+tree-of_struct s = search (rules, the_lemmas)
+
+pub tree-of_list : (l : ListObject) → object_tree (object.List l) ≡ list_object_tree l
+tree-of_list l = search (rules, the_lemmas)

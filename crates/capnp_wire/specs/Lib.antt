@@ -25,3 +25,5 @@ pub mod Lends
 pub mod Measured
 pub mod Blobs
 pub mod Unchanged
+pub mod Defaults
+pub mod ObjectLaws
