@@ -27,3 +27,5 @@ pub mod Blobs
 pub mod Unchanged
 pub mod Facts
 pub mod Kept
+pub mod Defaults
+pub mod ObjectLaws

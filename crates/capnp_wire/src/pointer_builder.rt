@@ -143,7 +143,7 @@ impl Object {
     }
 
     /// Makes a struct of at least a size of what stands here: of a null a new one, and a smaller one is extended.
-    fn fill_struct(&mut self, size: StructSize) -> Result<()>
+    pub(crate) fn fill_struct(&mut self, size: StructSize) -> Result<()>
         ensures ok { OnOk result (object_tree self.new ≡ struct_tree (extended size (struct_in (object_tree self.old)))) }
         ensures within { OnOk result (struct_refusal (object_tree self.old) ≡ None) }
         ensures refused { OnErr result (self.new ≡ self.old) }

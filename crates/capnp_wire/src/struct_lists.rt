@@ -1,6 +1,7 @@
 //! Lists that become lists of structs.
 ghost use Rattle.std.specs.Prelude.{None, Some, false, true, ◌≡◌, IfErr, IfOk, IsOk, IsTrue, OnErr, OnOk};
 ghost use Rattle.std.specs.Borrow.{sem};
+ghost use Rattle.capnp_wire.specs.Found.{found_tree};
 ghost use Rattle.capnp_wire.specs.Tree.{structs_from};
 ghost use Rattle.capnp_wire.specs.Objects.{list_object_tree, object_tree, struct_object_trees};
 ghost use Rattle.capnp_wire.specs.Reading.{element_struct, is_list, is_null_tree};
@@ -11,12 +12,37 @@ ghost use Rattle.capnp_wire.specs.StructLists.{HoldsStructs, IsDueRefusal, eleme
 ghost use Rattle.capnp_wire.specs.Lends.{LendsList, holds_list};
 
 use crate::copy::copy_struct;
-use crate::look::{get_element_parts, look_at_list_object};
+use crate::look::{Found, get_element_parts, look_at_list_object};
 use crate::object::{ListObject, Object, StructObject};
 use crate::pointer_builder::ListBuilder;
 use crate::size::{ElementSize, StructSize};
 use capnp_device::error::{Error, ErrorKind, Result};
 use std::alloc::Global;
+
+/// At least a size, and what an element of a list takes as a struct.
+pub(crate) fn grow(size: StructSize, list: Found<'_>) -> StructSize
+    ensures { result ≡ grown size (found_tree list.entry) }
+{
+    let own = match list {
+        Found::Numbers(_, _) => StructSize {
+            data_words: 1,
+            pointers: 0,
+        },
+        Found::Pointers(_) => StructSize {
+            data_words: 0,
+            pointers: 1,
+        },
+        Found::Composite(own, _) => own,
+        _ => StructSize {
+            data_words: 0,
+            pointers: 0,
+        },
+    };
+    StructSize {
+        data_words: size.data_words.max(own.data_words),
+        pointers: size.pointers.max(own.pointers),
+    }
+}
 
 /// The elements of a list as structs of at least a size.
 ///
@@ -62,25 +88,7 @@ impl ListObject {
     fn grow(&self, size: StructSize) -> StructSize
         ensures { result ≡ grown size (list_object_tree self.now) }
     {
-        let own = match self {
-            ListObject::Numbers(_, _) => StructSize {
-                data_words: 1,
-                pointers: 0,
-            },
-            ListObject::Pointers(_) => StructSize {
-                data_words: 0,
-                pointers: 1,
-            },
-            ListObject::Composite(own, _) => *own,
-            _ => StructSize {
-                data_words: 0,
-                pointers: 0,
-            },
-        };
-        StructSize {
-            data_words: size.data_words.max(own.data_words),
-            pointers: size.pointers.max(own.pointers),
-        }
+        grow(size, look_at_list_object(self))
     }
 
     /// Makes the list one of structs of at least a size.
@@ -112,7 +120,7 @@ impl ListObject {
 
 impl Object {
     /// Makes what stands here, which is not null, a list of structs of at least a size.
-    fn make_struct_list(&mut self, size: StructSize) -> Result<()>
+    pub(crate) fn make_struct_list(&mut self, size: StructSize) -> Result<()>
         requires held { IsWellFormed (object_tree self.old) }
         requires there { is_null_tree (object_tree self.old) ≡ false }
         ensures ok { OnOk result (object_tree self.new ≡ struct_list size (object_tree self.old)) }
