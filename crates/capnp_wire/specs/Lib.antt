@@ -26,4 +26,6 @@ pub mod Measured
 pub mod Blobs
 pub mod Unchanged
 pub mod Facts
+pub mod Sizes
 pub mod Kept
+pub mod KeptLists
