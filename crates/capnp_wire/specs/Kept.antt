@@ -44,21 +44,12 @@ ExtendedStructsAreWellFormed =
 pub extended_struct : ExtendedStructsAreWellFormed
 extended_struct size old new e a b h = by_clause (extended size old) new e (IsWellFormed-extended size old a b h)
 
--- the one that stands at a pointer, of size zero where there is none, and the same with at least a size, as it is
--- entered
+-- the one that stands at a pointer, of size zero where there is none
 abbrev pub StructsHereAreWellFormed : Type 0
 StructsHereAreWellFormed = (t : Tree) (s : StructTree) → s ≡ struct_in t → IsWellFormed t → IsWellFormed (struct_tree s)
 
 pub struct_here : StructsHereAreWellFormed
 struct_here t s e h = by_clause (struct_in t) s e (IsWellFormed-struct_in t h)
-
-abbrev pub EnteredStructsAreWellFormed : Type 0
-EnteredStructsAreWellFormed =
-    (size : StructSize) (t : Tree) (s : StructTree) → s ≡ extended size (struct_in t) → size.data_words < 2 ^ 16 → size.pointers < 2 ^ 16 →
-    IsWellFormed t → IsWellFormed (struct_tree s)
-
-pub entered_struct : EnteredStructsAreWellFormed
-entered_struct size t s e a b h = by_clause (extended size (struct_in t)) s e (IsWellFormed-extended size (struct_in t) a b (IsWellFormed-struct_in t h))
 
 -- one in which a number, a bit or a pointer was written
 abbrev pub NumbersKeepStructsWellFormed : Type 0

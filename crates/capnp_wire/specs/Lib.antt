@@ -26,6 +26,8 @@ pub mod Measured
 pub mod Blobs
 pub mod Unchanged
 pub mod Facts
+pub mod Sizes
 pub mod Kept
 pub mod Defaults
 pub mod ObjectLaws
+pub mod KeptLists

@@ -10,6 +10,7 @@ use crate::pointer_reader::PointerReader;
 use crate::struct_reader::StructReader;
 
 pub mod kept;
+pub mod kept_lists;
 
 /// In a message of any bytes, what stands at any word is well-formed, with any number of levels
 /// left: data is whole words and lies in its segment in full, counts and sizes are within their

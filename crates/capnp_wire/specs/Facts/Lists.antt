@@ -62,6 +62,9 @@ IsWellFormed-data bytes h a = (h, refl, omega arith, omega arith)
 pub IsWellFormed-text : (bytes : List ℕ) → AreBytes bytes → length bytes + 1 < 2 ^ 29 → IsWellFormed (Numbers 1 (bytes ++ 0 ∷ []))
 IsWellFormed-text bytes h a = IsWellFormed-data (bytes ++ 0 ∷ []) (AreBytes-append bytes (0 ∷ []) h (AreBytes-zeros 1)) (omega (arith, length-append bytes (0 ∷ [])))
 
+pub IsWellFormed-new_text : (count : ℕ) → count + 1 < 2 ^ 29 → IsWellFormed (Numbers 1 (replicate count 0 ++ 0 ∷ []))
+IsWellFormed-new_text count h = IsWellFormed-text (replicate count 0) (AreBytes-zeros count) (omega (arith, length-replicate {A = ℕ} count 0))
+
 -- ---- lists that become lists of structs ----
 
 few_words : (count : ℕ) (size : StructSize) → past_format count size ≡ None → count * (size.data_words + size.pointers) < 2 ^ 29
