@@ -9,6 +9,7 @@ pub mod Counts
 pub mod Entries
 pub mod EntryRanges
 pub mod Enums
+pub mod Facts
 pub mod FieldLists
 pub mod Footprint
 pub mod Laws
@@ -21,6 +22,7 @@ pub mod Plan
 pub mod Query
 pub mod Ranges
 pub mod Schema
+pub mod SlotBits
 pub mod SlotValue
 pub mod Spans
 pub mod StructHandles
