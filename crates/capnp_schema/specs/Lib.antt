@@ -10,6 +10,7 @@ pub mod Entries
 pub mod EntryRanges
 pub mod Enumerants
 pub mod Enums
+pub mod Facts
 pub mod FieldLists
 pub mod Footprint
 pub mod Laws
@@ -23,6 +24,7 @@ pub mod Plan
 pub mod Query
 pub mod Ranges
 pub mod Schema
+pub mod SlotBits
 pub mod SlotValue
 pub mod Spans
 pub mod StructHandles

@@ -3,6 +3,11 @@ ghost use Rattle.capnp_schema.specs.Entries.{lists_seen};
 ghost use Rattle.capnp_schema.specs.Laws.{GroupNamesItsParts, HeightsFall, NoneNamesDiscriminant, OnlyMembersMeet};
 ghost use Rattle.capnp_schema.specs.Ranges.{HasRanges};
 
+mod bits;
+
+pub use crate::laws::bits::{
+    bits_are_numbers, masks_undo, slots_are_numbers, written_bits_are_read,
+};
 use crate::set::SchemaSet;
 
 /// Two fields of a struct or group name the same data bit or pointer only where both are members
