@@ -4,6 +4,11 @@ pub mod AnnotationTypes
 pub mod BrandRefusals
 pub mod BrokenSets
 pub mod BuiltinLemmas
+pub mod Computed
+pub mod ComputedGroups
+pub mod ComputedRules
+pub mod ComputedSpans
+pub mod ComputedValues
 pub mod Decided
 pub mod EntryTables
 pub mod EntryWalk
@@ -23,6 +28,7 @@ pub mod Members
 pub mod NameOrder
 pub mod NameSearch
 pub mod NameTables
+pub mod OneRuleBroken
 pub mod PlanRows
 pub mod Plans
 pub mod ReadDefaults
