@@ -3,6 +3,7 @@ pub mod AnnotatedPlaces
 pub mod AnnotationTypes
 pub mod BrandRefusals
 pub mod BrokenSets
+pub mod BuiltinAccepted
 pub mod BuiltinLemmas
 pub mod Computed
 pub mod ComputedGroups
