@@ -3,7 +3,7 @@ use Rattle.std.specs.Prelude.{ℕ, zero, suc, ◌+◌, ◌<◌, ◌≤◌, ◌�
 use Rattle.std.specs.Option.{unwrap_or}
 use Rattle.std.proofs.Common.{arith, ap, ap₂, sym, subst, ◌∙◌}
 use Rattle.std.proofs.lemmas.Option.{same_Some}
-use Rattle.capnp_schema.specs.Types.{SchemaType, StructType, struct_brand}
+use Rattle.capnp_schema.specs.Types.{SchemaType, StructType, struct_brand, struct_number}
 use Rattle.capnp_schema.specs.Schema.{Schemas, FieldKind, Slot, Group, TypedField, no_field, node_of, fields_of, field_at, is_member}
 use Rattle.capnp_schema.specs.Footprint.{Place, some_field, group_names, kind_names, brand_names, discriminant_names, footprint}
 use Rattle.capnp_schema.specs.Accepted.{IsAccepted, IsGroupBrand, IsGroupOf, IsParent, HasOneParent, EndsAtStruct, GroupFits, NamesEntries}
@@ -102,6 +102,15 @@ brand_names-more (suc n) set b p h = go (brand_names-more n set)
             at : (o : Option ℕ) → ((g : ℕ) → o ≡ Some g → IsShallow n set g) → group_names (brand_names n set) o p ≡ group_names (brand_names (suc n) set) o p
             at None s = refl
             at (Some g) s = ih g p (s g refl)
+
+pub group_fields_name_brands : (set : Schemas) → IsAccepted set → (b i node : ℕ) → b < length set.brands → i < length (fields_of set b) → (field_at set b i).field.kind ≡ Group node →
+    IsGroupOf (field_at set b i).field.kind (field_at set b i).type (struct_number (field_at set b i).type)
+group_fields_name_brands set accepted b i node b_in i_in is = go (field_at set b i).field.kind (field_at set b i).type (accepted.rule7 b i b_in i_in) is
+  where
+    go : (k : FieldKind) (t : SchemaType) → GroupFits set k t → k ≡ Group node → IsGroupOf k t (struct_number t)
+    go (Slot o d) t f e = cc
+    go (Group m) (StructType number generic) f e = refl
+    go (Group m) t f e = absurd f
 
 pub group_names_its_parts : (set : Schemas) → IsAccepted set → (b i g : ℕ) (p : Place) → b < length set.brands → i < length (fields_of set b) →
     IsGroupOf (field_at set b i).field.kind (field_at set b i).type g → footprint set (field_at set b i) p ≡ struct_names set g p

@@ -1,6 +1,6 @@
 -- What footprints are in every accepted set.
 use Rattle.std.specs.Prelude.{ℕ, zero, suc, ◌<◌, ◌≤◌, ◌≡◌, ◌≢◌, List, [], ◌∷◌, Bool, IsTrue, IsFalse, ◌||◌, length, max, Option, Some, None}
-use Rattle.capnp_schema.specs.Types.{SchemaType, struct_brand}
+use Rattle.capnp_schema.specs.Types.{SchemaType, struct_brand, struct_number}
 use Rattle.capnp_schema.specs.Schema.{Schemas, FieldKind, Slot, Group, TypedField, node_of, fields_of, field_at, is_member}
 use Rattle.capnp_schema.specs.Footprint.{Place, some_field, discriminant_names, footprint}
 use Rattle.capnp_schema.specs.Accepted.{IsAccepted, IsGroupBrand, IsGroupOf}
@@ -27,6 +27,12 @@ abbrev pub GroupNamesItsParts : Type 0
 GroupNamesItsParts = (set : Schemas) → IsAccepted set → (b i g : ℕ) (p : Place) →
     b < length set.brands → i < length (fields_of set b) → IsGroupOf (field_at set b i).field.kind (field_at set b i).type g →
     footprint set (field_at set b i) p ≡ struct_names set g p
+
+-- a group field is the group field of the brand that its type names
+abbrev pub GroupFieldsNameBrands : Type 0
+GroupFieldsNameBrands = (set : Schemas) → IsAccepted set → (b i node : ℕ) →
+    b < length set.brands → i < length (fields_of set b) → (field_at set b i).field.kind ≡ Group node →
+    IsGroupOf (field_at set b i).field.kind (field_at set b i).type (struct_number (field_at set b i).type)
 
 -- one more than a group's height, 0 without a group
 abbrev pub height_above : (ℕ → ℕ) → Option ℕ → ℕ
