@@ -1,6 +1,6 @@
 //! What holds of every set of schemas that was accepted: laws that everything which reads or writes fields stands on.
 ghost use Rattle.capnp_schema.specs.Entries.{lists_seen};
-ghost use Rattle.capnp_schema.specs.Laws.{GroupNamesItsParts, HeightsFall, NoneNamesDiscriminant, OnlyMembersMeet};
+ghost use Rattle.capnp_schema.specs.Laws.{GroupFieldsNameBrands, GroupNamesItsParts, HeightsFall, NoneNamesDiscriminant, OnlyMembersMeet};
 ghost use Rattle.capnp_schema.specs.Ranges.{HasRanges};
 
 mod bits;
@@ -27,6 +27,12 @@ pub fn none_names_discriminant()
 #[tactic(auto, using(crate::proofs::Groups::group_names_its_parts))]
 pub fn group_names_its_parts()
     ensures { GroupNamesItsParts }
+{}
+
+/// A group field is the group field of the brand that its type names.
+#[tactic(auto, using(crate::proofs::Groups::group_fields_name_brands))]
+pub fn group_fields_name_brands()
+    ensures { GroupFieldsNameBrands }
 {}
 
 /// Each group field leads to a group of the set, of lesser height; a height is at most the number of brands. What goes
