@@ -18,11 +18,17 @@ mod built_tests;
 #[cfg(test)]
 mod copy_tests;
 #[cfg(test)]
+mod default_tests;
+#[cfg(test)]
 mod fixtures;
+#[cfg(test)]
+mod hop_tests;
 #[cfg(test)]
 mod level_tests;
 #[cfg(test)]
 mod list_tests;
+#[cfg(test)]
+mod made_list_tests;
 #[cfg(test)]
 mod message_tests;
 #[cfg(test)]
