@@ -29,3 +29,4 @@ pub mod Facts
 pub mod Sizes
 pub mod Kept
 pub mod KeptLists
+pub mod Room
