@@ -25,6 +25,8 @@ pub mod Lends
 pub mod Measured
 pub mod Blobs
 pub mod Unchanged
+pub mod Defaults
+pub mod ObjectLaws
 pub mod Facts
 pub mod Sizes
 pub mod Kept

@@ -1,6 +1,7 @@
 //! Laws of the format that every reader stands on.
 ghost use Rattle.capnp_wire.specs.Blobs.{DataAreLeft, NullIsLeft, TextIsLeft};
 ghost use Rattle.capnp_wire.specs.Laws.{CopiedStructsAreWellFormed, IsReadBack, MoreBytesChangeNothing, PointerElementsAreWritten, PointersAreWritten, StructElementsAreWritten, TreesAreWellFormed};
+ghost use Rattle.capnp_wire.specs.ObjectLaws.{ListsHoldNoFault, ListsReadAsTheyStand, ListsStandAsTheyAre, ObjectsHoldNoFault, SoundListsAreTaken, SoundStructListsAreTaken, SoundStructsAreTaken, StructsHoldNoFault, StructsStandAsTheyAre};
 ghost use Rattle.capnp_wire.specs.Standing.{list_of, struct_of, tree_of};
 ghost use Rattle.capnp_wire.specs.WellFormed.{IsWellFormed, IsWellFormedStruct};
 
@@ -77,4 +78,26 @@ pub fn bytes_are_left()
     ensures bytes { DataAreLeft }
     ensures text { TextIsLeft }
     ensures null { NullIsLeft }
+{}
+
+/// An object of a struct or a list is the tree of that struct or list, and a list reads as it stands, but for the list of
+/// nothing that a null is read as.
+pub fn objects_are_what_they_hold()
+    ensures structs { StructsStandAsTheyAre }
+    ensures lists { ListsStandAsTheyAre }
+    ensures reads { ListsReadAsTheyStand }
+{}
+
+/// Each pointer in a message in memory can be followed.
+pub fn objects_hold_no_fault()
+    ensures objects { ObjectsHoldNoFault }
+    ensures lists { ListsHoldNoFault }
+    ensures structs { StructsHoldNoFault }
+{}
+
+/// Where nothing in a default is to be refused, a null that is filled from it is refused as one without a default.
+pub fn sound_defaults_are_taken()
+    ensures structs { SoundStructsAreTaken }
+    ensures lists { SoundListsAreTaken }
+    ensures struct_lists { SoundStructListsAreTaken }
 {}
