@@ -9,3 +9,4 @@ pub mod Written
 pub mod Lent
 pub mod Lengths
 pub mod Room
+pub mod Filled

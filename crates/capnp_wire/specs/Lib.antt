@@ -32,3 +32,5 @@ pub mod Sizes
 pub mod Kept
 pub mod KeptLists
 pub mod Room
+pub mod KeptDefaults
+pub mod Runs
