@@ -7,3 +7,6 @@ pub mod Lists
 pub mod Objects
 pub mod Written
 pub mod Lent
+pub mod Lengths
+pub mod Room
+pub mod Filled

@@ -10,7 +10,11 @@ use crate::pointer_reader::PointerReader;
 use crate::struct_reader::StructReader;
 
 pub mod kept;
+pub mod kept_defaults;
 pub mod kept_lists;
+pub mod room;
+pub mod runs;
+pub mod sizes;
 
 /// In a message of any bytes, what stands at any word is well-formed, with any number of levels
 /// left: data is whole words and lies in its segment in full, counts and sizes are within their

@@ -21,16 +21,16 @@ use Rattle.capnp_device.specs.declared.error.ErrorKind.TheVariants as kind
 use Rattle.capnp_wire.specs.Facts.Bytes.{AreBytes-append, AreBytes-drop}
 use Rattle.capnp_wire.specs.Facts.Lists.{IsWellFormed-with_pointer_element, IsWellFormed-with_struct_element}
 use Rattle.capnp_wire.specs.Facts.Structs.{IsElement-with_pointer_tree, of_same_size, own_size}
-use Rattle.capnp_wire.specs.Facts.Objects.{layer_tree, tree-layer, tree-list_object, tree-missing, tree-numbers, tree-struct_object}
+use Rattle.capnp_wire.specs.Facts.Objects.{layer_tree, tree-layer, tree-of_list, tree-missing, tree-numbers, tree-of_struct}
 use Rattle.capnp_wire.specs.Facts.Written.{element_written, object_written, pointer_written}
 
 -- ---- what stands at a pointer ----
 
 pub IsWellFormed-struct_object : (s : StructObject) → IsWellFormed (struct_tree (struct_object_tree s)) → IsWellFormed (object_tree (object.Struct s))
-IsWellFormed-struct_object s h = subst IsWellFormed (sym (tree-struct_object s)) h
+IsWellFormed-struct_object s h = subst IsWellFormed (sym (tree-of_struct s)) h
 
 pub IsWellFormed-list_object : (l : ListObject) → IsWellFormed (list_object_tree l) → IsWellFormed (object_tree (object.List l))
-IsWellFormed-list_object l h = subst IsWellFormed (sym (tree-list_object l)) h
+IsWellFormed-list_object l h = subst IsWellFormed (sym (tree-of_list l)) h
 
 -- ---- pointers and elements ----
 

@@ -21,11 +21,11 @@ use Rattle.capnp_wire.specs.declared.size.StructSize.{StructSize}
 pub tree-null : (alloc : Global) → object_tree (object.Null alloc) ≡ tree.Null
 tree-null alloc = search (rules, the_lemmas)
 
-pub tree-struct_object : (s : StructObject) → object_tree (object.Struct s) ≡ struct_tree (struct_object_tree s)
-tree-struct_object s = search (rules, the_lemmas)
+pub tree-of_struct : (s : StructObject) → object_tree (object.Struct s) ≡ struct_tree (struct_object_tree s)
+tree-of_struct s = search (rules, the_lemmas)
 
-pub tree-list_object : (l : ListObject) → object_tree (object.List l) ≡ list_object_tree l
-tree-list_object l = search (rules, the_lemmas)
+pub tree-of_list : (l : ListObject) → object_tree (object.List l) ≡ list_object_tree l
+tree-of_list l = search (rules, the_lemmas)
 
 -- ---- structs and lists ----
 
