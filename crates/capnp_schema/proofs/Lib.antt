@@ -16,6 +16,7 @@ pub mod GroupRows
 pub mod GroupTable
 pub mod GroupTargets
 pub mod Groups
+pub mod GroupsDown
 pub mod Indices
 pub mod Lengths
 pub mod LookUps

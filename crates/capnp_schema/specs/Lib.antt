@@ -6,12 +6,15 @@ pub mod Broken
 pub mod BrokenLaw
 pub mod Builtin
 pub mod Counts
+pub mod Discriminant
 pub mod Entries
 pub mod Enumerants
 pub mod Enums
 pub mod FieldLists
 pub mod Footprint
+pub mod GroupsDown
 pub mod Laws
+pub mod Layers
 pub mod Lengths
 pub mod ListDefaults
 pub mod Marks

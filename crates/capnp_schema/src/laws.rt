@@ -1,4 +1,6 @@
 //! What holds of every set of schemas that was accepted: laws that everything which reads or writes fields stands on.
+ghost use Rattle.capnp_schema.specs.GroupsDown.{GroupsLeadDown};
+ghost use Rattle.capnp_schema.specs.Layers.{TypesGoByLayers};
 ghost use Rattle.capnp_schema.specs.Laws.{GroupNamesItsParts, HeightsFall, NoneNamesDiscriminant, OnlyMembersMeet};
 
 /// Two fields of a struct or group name the same data bit or pointer only where both are members
@@ -25,4 +27,17 @@ pub fn group_names_its_parts()
 #[tactic(auto, using(crate::proofs::Groups::heights_fall))]
 pub fn heights_fall()
     ensures { HeightsFall }
+{}
+
+/// Each group field leads to a group of the set that has the sections of its struct, and lesser height.
+#[tactic(auto, using(crate::proofs::GroupsDown::leads_to_group))]
+pub fn groups_lead_down()
+    ensures { GroupsLeadDown }
+{}
+
+/// What `which` answers of a type stands for the same as the type. So a type that names entries of a set names them by its
+/// layer: a struct its brand and node, an enum its entry, a list what its elements name.
+#[tactic(auto, using(crate::proofs::Decided::seen_which))]
+pub fn types_go_by_layers()
+    ensures { TypesGoByLayers }
 {}

@@ -6,8 +6,9 @@ ghost use Rattle.capnp_schema.specs.Schema.{seen_field};
 ghost use Rattle.capnp_schema.specs.StructHandles.{set_of, struct_field, struct_fields};
 ghost use Rattle.capnp_schema.specs.Types.{seen_type};
 
+use crate::layers::struct_number;
 use crate::plan::SlotPlan;
-use crate::record::FieldRecord;
+use crate::record::{FieldKind, FieldRecord};
 use crate::schema::annotations::AnnotationList;
 use crate::schema::structs::StructSchema;
 use capnp_base::introspect::Type;
@@ -30,6 +31,10 @@ pub struct Field<'s> {
 }
 
 impl<'s> Field<'s> {
+    ghost use Rattle.std.specs.Prelude.{IfSome};
+    ghost use Rattle.std.specs.Option.{option_map};
+    ghost use Rattle.capnp_schema.specs.GroupsDown.{IfGroup, IsGroupIn, LeadsToGroup};
+    ghost use Rattle.capnp_schema.specs.Parents.{kind_target};
     ghost use Rattle.capnp_schema.specs.Plan.{IsPlan, plan_of};
     ghost use Rattle.capnp_schema.specs.StructHandles.{IsStruct, number_of};
     ghost use Rattle.capnp_schema.specs.Annotated.{annotations_of, field_annotations};
@@ -86,6 +91,24 @@ impl<'s> Field<'s> {
         self.index
     }
 
+    /// The group, where the field is one; none for a slot. A group has the sections of the struct that it is in, and lesser
+    /// height.
+    pub fn get_group(&self) -> Option<StructSchema<'s>>
+        ensures number { option_map number_of result ≡ kind_target (typed_of self.now).field.kind (typed_of self.now).type }
+        ensures down { IfSome result (IsGroupIn (schema_of self.now)) }
+    {
+        match &self.proto.kind {
+            FieldKind::Slot {
+                offset: _,
+                default: _,
+            } => None,
+            FieldKind::Group { node: _ } => {
+                let number = struct_number(self.field_type.which());
+                Some(self.schema.set.struct_schema(number))
+            }
+        }
+    }
+
     /// Its annotations, each with its type in the brand. The answer is always Ok.
     pub fn get_annotations(self) -> Result<AnnotationList<'s>>
         ensures typed { IsOkAnd result (λ list. annotations_in list ≡ field_annotations (set_of (schema_of self.entry)) (number_of (schema_of self.entry)) (index_of self.entry)) }
@@ -98,6 +121,7 @@ impl<'s> Field<'s> {
     pub fn plan(&self) -> SlotPlan
         ensures is { result ≡ plan_of (set_of (schema_of self.now)) (number_of (schema_of self.now)) (struct_field (schema_of self.now) (index_of self.now)) }
         ensures stands { IsPlan (set_of (schema_of self.now)) (number_of (schema_of self.now)) (struct_field (schema_of self.now) (index_of self.now)) result }
+        ensures group { IfGroup result.place (LeadsToGroup (set_of (schema_of self.now)) (number_of (schema_of self.now))) }
     {
         self.schema.set.plan(self.schema.number, self.index)
     }
