@@ -6,6 +6,7 @@ pub mod BrokenSets
 pub mod BuiltinLemmas
 pub mod ByNumber
 pub mod Decided
+pub mod Defaults
 pub mod EntryTables
 pub mod EntryWalk
 pub mod EnumLemmas
@@ -17,6 +18,7 @@ pub mod GroupTable
 pub mod GroupTargets
 pub mod Groups
 pub mod GroupsDown
+pub mod HandleRows
 pub mod Indices
 pub mod Lengths
 pub mod LookUps

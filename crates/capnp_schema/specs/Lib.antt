@@ -6,6 +6,7 @@ pub mod Broken
 pub mod BrokenLaw
 pub mod Builtin
 pub mod Counts
+pub mod Defaults
 pub mod Discriminant
 pub mod Entries
 pub mod Enumerants

@@ -1,4 +1,5 @@
 //! What holds of every set of schemas that was accepted: laws that everything which reads or writes fields stands on.
+ghost use Rattle.capnp_schema.specs.Defaults.{DefaultsFit};
 ghost use Rattle.capnp_schema.specs.GroupsDown.{GroupsLeadDown};
 ghost use Rattle.capnp_schema.specs.Layers.{TypesGoByLayers};
 ghost use Rattle.capnp_schema.specs.Laws.{GroupNamesItsParts, HeightsFall, NoneNamesDiscriminant, OnlyMembersMeet};
@@ -33,6 +34,13 @@ pub fn heights_fall()
 #[tactic(auto, using(crate::proofs::GroupsDown::leads_to_group))]
 pub fn groups_lead_down()
     ensures { GroupsLeadDown }
+{}
+
+/// Each field's default is of its type or an untyped null, has whole words and decodes; and what stands behind its pointer
+/// has no fault leaf, and is what the field's type reads or null.
+#[tactic(auto, using(crate::proofs::Defaults::default_fits))]
+pub fn defaults_fit()
+    ensures { DefaultsFit }
 {}
 
 /// What `which` answers of a type stands for the same as the type. So a type that names entries of a set names them by its
