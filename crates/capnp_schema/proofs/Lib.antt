@@ -12,6 +12,7 @@ pub mod ComputedRules
 pub mod ComputedSpans
 pub mod ComputedValues
 pub mod Decided
+pub mod Defaults
 pub mod EntryTables
 pub mod EntryWalk
 pub mod EnumLemmas
@@ -22,6 +23,8 @@ pub mod GroupRows
 pub mod GroupTable
 pub mod GroupTargets
 pub mod Groups
+pub mod GroupsDown
+pub mod HandleRows
 pub mod Indices
 pub mod Lengths
 pub mod LookUps

@@ -38,6 +38,10 @@ typed-field (f ∷ fs) [] i a = absurd (omega arith)
 typed-field (f ∷ fs) (t ∷ ts) zero a = refl
 typed-field (f ∷ fs) (t ∷ ts) (suc i) a = typed-field fs ts i (omega arith)
 
+-- what holds of all fields of a node holds of a brand's
+pub of_field : (P : Field → Type 0) (set : Schemas) (b i : ℕ) → i < length (fields_of set b) → All P (node_of set b).fields → P (field_at set b i).field
+of_field P set b i i_in all = All-entry P (node_of set b).fields i (field_at set b i).field all (typed-field (node_of set b).fields (brand_at set b).field_types i i_in)
+
 -- a struct with a member has a union
 pub member_counted : (set : Schemas) → IsAccepted set → (b i : ℕ) → b < length set.brands → i < length (fields_of set b) → IsTrue (is_member (field_at set b i).field) →
     (field_at set b i).field.discriminant_value < (node_of set b).discriminant_count

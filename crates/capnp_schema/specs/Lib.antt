@@ -6,6 +6,8 @@ pub mod Broken
 pub mod BrokenLaw
 pub mod Builtin
 pub mod Counts
+pub mod Defaults
+pub mod Discriminant
 pub mod Entries
 pub mod EntryRanges
 pub mod Enumerants
@@ -13,7 +15,9 @@ pub mod Enums
 pub mod Facts
 pub mod FieldLists
 pub mod Footprint
+pub mod GroupsDown
 pub mod Laws
+pub mod Layers
 pub mod Lengths
 pub mod ListDefaults
 pub mod Marks

@@ -1,5 +1,5 @@
 //! Handles of struct schemas.
-ghost use Rattle.std.specs.Prelude.{◌≡◌, ◌<◌, ◌≤◌, ◌*◌, ◌^◌, length, IfErr, IfOk, IsOkAnd, Some, None};
+ghost use Rattle.std.specs.Prelude.{◌≡◌, ◌<◌, ◌≤◌, ◌+◌, ◌*◌, ◌^◌, length, IfErr, IfOk, IfSome, IsOkAnd, Some, None};
 ghost use Rattle.capnp_device.specs.declared.error.ErrorKind.TheVariants.{FieldNotFound};
 
 use crate::record::NodeRecord;
@@ -22,6 +22,7 @@ pub struct StructSchema<'s> {
 
 impl<'s> StructSchema<'s> {
     ghost use Rattle.capnp_schema.specs.Schema.{brand_at, seen_node};
+    ghost use Rattle.capnp_schema.specs.Discriminant.{discriminant_of};
     ghost use Rattle.capnp_schema.specs.Entries.{lists_seen};
     ghost use Rattle.capnp_schema.specs.Query.{AreMembers, field_named, member_of, plain_fields};
     ghost use Rattle.capnp_schema.specs.StructHandles.{IsStruct, generic_of, number_of, set_of, struct_node, struct_records};
@@ -54,6 +55,21 @@ impl<'s> StructSchema<'s> {
         ensures { seen_node result.now ≡ struct_node self.now }
     {
         self.set.node_record(self.number)
+    }
+
+    /// The first of the 16 bits in the data section that say which member of the union is active; none where there is no
+    /// union.
+    pub fn get_discriminant(&self) -> Option<u32>
+        ensures is { result ≡ discriminant_of (struct_node self.now) }
+        ensures inside { IfSome result (λ first. first + 16 ≤ 64 * (struct_node self.now).data_word_count) }
+    {
+        let node = self.set.node_record(self.number);
+        if node.body.discriminant_count == 0 {
+            return None;
+        }
+        // A data section of at most 65,535 words: the number of a bit inside it fits.
+        let _data_words = node.body.data_word_count;
+        Some(node.body.discriminant_offset * 16)
     }
 
     /// All fields, by index. The answer is always Ok.
