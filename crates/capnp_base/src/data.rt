@@ -75,8 +75,8 @@ impl<'a> SetterInput<Owned> for &'a [u8] {
 
 /// Copies a default that reads as data into a null; else nothing changes.
 ///
-/// Refused where the default does not read as data, as `PointerReader::get_data`, and with `OutOfMemory`; then nothing has
-/// changed.
+/// Refused only where a default would be copied: as `PointerReader::get_data` where it does not read as data, and else with
+/// `OutOfMemory`; then nothing has changed.
 pub fn copy_default(builder: PointerBuilder<'_>, default: Option<PointerReader<'_>>) -> Result<()>
     ensures ok { OnOk result (object_tree builder.new ≡ tree_or (object_tree builder.old) default.entry) }
     ensures reads { OnOk result (default_refusal as_data (object_tree builder.old) default.entry ≡ None) }

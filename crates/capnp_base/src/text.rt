@@ -395,8 +395,8 @@ impl fmt::Debug for Builder<'_> {
 
 /// Copies a default that reads as a text into a null; else nothing changes.
 ///
-/// Refused where the default does not read as a text, as `PointerReader::get_text`, and with `OutOfMemory`; then nothing
-/// has changed.
+/// Refused only where a default would be copied: as `PointerReader::get_text` where it does not read as a text, and else
+/// with `OutOfMemory`; then nothing has changed.
 pub fn copy_default(builder: PointerBuilder<'_>, default: Option<PointerReader<'_>>) -> Result<()>
     ensures ok { OnOk result (object_tree builder.new ≡ tree_or (object_tree builder.old) default.entry) }
     ensures reads { OnOk result (default_refusal as_text (object_tree builder.old) default.entry ≡ None) }

@@ -1,5 +1,5 @@
 -- The text that is refused is the one that the pointer or its default has.
-use Rattle.std.proofs.Common.{rules, ◌≡◌, Err}
+use Rattle.std.proofs.Common.{rules, Err}
 use Rattle.capnp_wire.specs.Objects.{object_tree}
 use Rattle.capnp_wire.specs.Reading.{as_text}
 use Rattle.capnp_base.proofs.ReadRefusals.{refused_as_lent}
