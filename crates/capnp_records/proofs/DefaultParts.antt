@@ -1,4 +1,5 @@
 -- The default record has each field at its default.
+use Rattle.capnp_schema.proofs.Groups.{group_fields_name_brands}
 use Rattle.std.specs.Prelude.{ℕ, ◌*◌, ◌<◌, ◌≡◌, refl, [], false, ◌==◌, length, bit_xor}
 use Rattle.std.proofs.Common.{arith, ap, sym, ◌∙◌}
 use Rattle.std.specs.Int.Bits.{xor_zero_l}
@@ -26,7 +27,7 @@ default-kind set accepted b i b_in i_in (Slot offset d) e = rw e (
   where
     t : SchemaType
     t = (field_at set b i).type
-default-kind set accepted b i b_in i_in (Group node) e = part_of-group set accepted Endless [] [] b i (struct_number (field_at set b i).type) b_in i_in (rw e refl)
+default-kind set accepted b i b_in i_in (Group node) e = part_of-group set accepted Endless [] [] b i (struct_number (field_at set b i).type) b_in i_in (group_fields_name_brands set accepted b i node b_in i_in e)
 
 pub default-parts : DefaultPartsStand
 default-parts set accepted b i b_in i_in active = (can-enter set empty_struct b i i_in active).part ∙ default-kind set accepted b i b_in i_in (field_at set b i).field.kind refl

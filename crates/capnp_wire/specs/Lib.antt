@@ -30,9 +30,6 @@ pub mod ObjectLaws
 pub mod Facts
 pub mod Sizes
 pub mod Kept
-pub mod Defaults
-pub mod ObjectLaws
-pub mod KeptLists
 pub mod KeptLists
 pub mod Room
 pub mod KeptDefaults
