@@ -1,5 +1,5 @@
 -- What a call that enters a list answers, by the refusal that is due.
-use Rattle.std.proofs.Common.{◌≡◌, refl, sym, ap, ◌∙◌, subst, Bool, true, false, cond, MutBor}
+use Rattle.std.proofs.Common.{◌≡◌, refl, sym, ap, ◌∙◌, Bool, true, false, MutBor}
 use Rattle.std.specs.Prelude.{Option, Some, None, Result, Ok, Err, IfErr, IfOk, IsOk, OnOk}
 use Rattle.capnp_wire.specs.Tree.{Tree, Null, Struct, Voids, Bits, Numbers, Pointers, Composite, FaultLeaf}
 use Rattle.capnp_wire.specs.Reading.{as_list, is_null_tree, list_if, reads_bits, reads_numbers, reads_pointers, reads_structs, reads_voids}
