@@ -88,14 +88,17 @@ fn what_is_no_text_or_data_is_refused(rt: HostRuntime) -> std::result::Result<()
     assert_eq!(rt; refused, Some(ErrorKind::WrongPointerKind));
     let refused = kind_of(message.root().get_text());
     assert_eq!(rt; refused, Some(ErrorKind::WrongPointerKind));
+    assert!(rt; message.root().is_struct());
     message.root().init_list(ElementSize::TwoBytes, 2)?;
     let refused = kind_of(message.root().get_data());
     assert_eq!(rt; refused, Some(ErrorKind::WrongElementSize));
     let refused = kind_of(message.root().get_text());
     assert_eq!(rt; refused, Some(ErrorKind::WrongElementSize));
+    assert!(rt; message.root().is_list());
     message.root().set_data(&[1, 2])?;
     let refused = kind_of(message.root().get_text());
     assert_eq!(rt; refused, Some(ErrorKind::TextNotTerminated));
+    assert_eq!(rt; &*message.root().get_data()?, [1, 2].as_slice());
     message.root().init_data(0)?;
     let refused = kind_of(message.root().get_text());
     assert_eq!(rt; refused, Some(ErrorKind::TextNotTerminated));
