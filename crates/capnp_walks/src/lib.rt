@@ -19,6 +19,7 @@ mod built_tests;
 mod copy_tests;
 #[cfg(test)]
 mod fixtures;
+pub mod kept;
 #[cfg(test)]
 mod level_tests;
 #[cfg(test)]
