@@ -21,6 +21,7 @@ mod copy_tests;
 mod default_tests;
 #[cfg(test)]
 mod fixtures;
+pub mod kept;
 #[cfg(test)]
 mod hop_tests;
 #[cfg(test)]

@@ -4,6 +4,7 @@
 use Rattle.std.specs.Prelude.{ℕ, suc, ◌+◌, ◌*◌, ◌^◌, ◌<◌, ◌≡◌, List, [], ◌∷◌, ◌++◌, length, replicate, get_or, take, drop}
 use Rattle.capnp_wire.specs.Tree.{StructTree, Tree, Trees, nth_struct, nth_tree, struct_count, structs_from, tree_count, trees_from}
 use Rattle.capnp_wire.specs.Slot.{little_endian}
+use Rattle.capnp_wire.specs.Edits.{with_tree}
 use Rattle.capnp_wire.specs.Encoding.{spelled}
 use Rattle.capnp_wire.specs.Reading.{empty_list, list_length}
 use Rattle.capnp_wire.specs.Measured.{IsElement}
@@ -11,7 +12,7 @@ use Rattle.capnp_wire.specs.WellFormed.{AreBytes, AreElements, AreSegments, AreW
 use Rattle.capnp_wire.specs.declared.size.ElementSize.{ElementSize}
 use Rattle.capnp_wire.specs.Facts.Bytes.{AreBytes-append, AreBytes-drop, AreBytes-spelled, AreBytes-take, AreBytes-zeros, AreSegments-one, length_spelled, little_endian_spelled, spelled_first}
 use Rattle.capnp_wire.specs.Facts.Parts.{IsWellFormed-empty_list, IsWellFormed-nth_tree, list_length-lt}
-use Rattle.capnp_wire.specs.Facts.Rows.{AreElements-structs_from, AreWellFormed-trees_from, nth_struct-start, struct_count-structs_from, tree_count-trees_from}
+use Rattle.capnp_wire.specs.Facts.Rows.{AreElements-structs_from, AreWellFormed-trees_from, AreWellFormed-with_tree, tree_count-with_tree, nth_struct-start, struct_count-structs_from, tree_count-trees_from}
 
 -- ---- bytes ----
 
@@ -86,6 +87,13 @@ RowsAreWellFormed = (f : ℕ → Tree) (first count : ℕ) → ((i : ℕ) → Is
 
 pub row_kept : RowsAreWellFormed
 row_kept = AreWellFormed-trees_from
+
+-- with another one at an index
+abbrev pub RowsStayWellFormed : Type 0
+RowsStayWellFormed = (ts : Trees) (i : ℕ) (t : Tree) → AreWellFormed ts → IsWellFormed t → AreWellFormed (with_tree ts i t) × (tree_count (with_tree ts i t) ≡ tree_count ts)
+
+pub row_with : RowsStayWellFormed
+row_with ts i t h k = (AreWellFormed-with_tree ts i t h k, tree_count-with_tree ts i t)
 
 abbrev pub RowsAreOfElements : Type 0
 RowsAreOfElements =

@@ -1,5 +1,5 @@
 //! Laws of runs of bytes, of the numbers that they spell, and of trees and structs in a row.
-ghost use Rattle.capnp_wire.specs.Runs.{EmptyListsAreWellFormed, JoinedAreBytes, ListsAreWithinFormat, NumbersAreReadByBytes, NumbersAreSpelled, OneSegmentIsOfBytes, PartsAreBytes, RowsAreOfElements, RowsAreWellFormed, RowsHaveCounts, RowsOfStructsHaveCounts, StructsAreByIndex, TreesOfRowsAreWellFormed, ZerosAreBytes};
+ghost use Rattle.capnp_wire.specs.Runs.{EmptyListsAreWellFormed, JoinedAreBytes, ListsAreWithinFormat, NumbersAreReadByBytes, NumbersAreSpelled, OneSegmentIsOfBytes, PartsAreBytes, RowsAreOfElements, RowsAreWellFormed, RowsHaveCounts, RowsOfStructsHaveCounts, RowsStayWellFormed, StructsAreByIndex, TreesOfRowsAreWellFormed, ZerosAreBytes};
 ghost use Rattle.capnp_wire.specs.WellFormed.{AreBytes};
 
 /// The first ones of bytes, and those after them, are bytes.
@@ -50,6 +50,11 @@ pub fn structs_are_by_index()
 /// A row of well-formed trees is well-formed.
 pub fn rows_are_well_formed()
     ensures { RowsAreWellFormed }
+{}
+
+/// A well-formed row stays well-formed, and as long as it was, with another tree that is.
+pub fn rows_stay_well_formed()
+    ensures { RowsStayWellFormed }
 {}
 
 /// Structs of one size in a row are the elements of a list.
