@@ -3,8 +3,14 @@ pub mod AnnotatedPlaces
 pub mod AnnotationTypes
 pub mod BrandRefusals
 pub mod BrokenSets
+pub mod BuiltinAccepted
 pub mod BuiltinLemmas
 pub mod ByNumber
+pub mod Computed
+pub mod ComputedGroups
+pub mod ComputedRules
+pub mod ComputedSpans
+pub mod ComputedValues
 pub mod Decided
 pub mod Defaults
 pub mod EntryTables
@@ -28,6 +34,7 @@ pub mod NameOrder
 pub mod NameSearch
 pub mod NameTables
 pub mod NamedTypes
+pub mod OneRuleBroken
 pub mod PlanRows
 pub mod Plans
 pub mod ReadDefaults

@@ -2,7 +2,7 @@
 ghost use Rattle.capnp_schema.specs.Defaults.{DefaultsFit};
 ghost use Rattle.capnp_schema.specs.GroupsDown.{GroupsLeadDown};
 ghost use Rattle.capnp_schema.specs.Layers.{TypesGoByLayers};
-ghost use Rattle.capnp_schema.specs.Laws.{GroupNamesItsParts, HeightsFall, NoneNamesDiscriminant, OnlyMembersMeet};
+ghost use Rattle.capnp_schema.specs.Laws.{GroupFieldsNameBrands, GroupNamesItsParts, HeightsFall, NoneNamesDiscriminant, OnlyMembersMeet};
 
 /// Two fields of a struct or group name the same data bit or pointer only where both are members
 /// of its union.
@@ -21,6 +21,12 @@ pub fn none_names_discriminant()
 #[tactic(auto, using(crate::proofs::Groups::group_names_its_parts))]
 pub fn group_names_its_parts()
     ensures { GroupNamesItsParts }
+{}
+
+/// A group field is the group field of the brand that its type names.
+#[tactic(auto, using(crate::proofs::Groups::group_fields_name_brands))]
+pub fn group_fields_name_brands()
+    ensures { GroupFieldsNameBrands }
 {}
 
 /// Each group field leads to a group of the set, of lesser height; a height is at most the number of brands. What goes

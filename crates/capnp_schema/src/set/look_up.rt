@@ -14,7 +14,7 @@ ghost use Rattle.capnp_schema.specs.Types.{seen_type};
 use crate::check::names::fields_at;
 use crate::lists::TypedField;
 use crate::names::find_counted;
-use crate::plan::{Place, SlotPlan};
+use crate::plan::{NO_PLAN, SlotPlan};
 use crate::record::FieldRecord;
 use crate::set::SchemaSet;
 
@@ -44,10 +44,7 @@ fn plan_at(plans: &[SlotPlan], i: usize) -> SlotPlan
 {
     match plans.get(i) {
         Some(plan) => *plan,
-        None => SlotPlan {
-            place: Place::Nothing,
-            member: None,
-        },
+        None => NO_PLAN,
     }
 }
 
