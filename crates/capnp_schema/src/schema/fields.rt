@@ -45,7 +45,7 @@ impl<'s> Field<'s> {
     ghost use Rattle.capnp_schema.specs.Views.{IsViewOf};
     ghost use Rattle.capnp_schema.specs.StructHandles.{IsStruct, number_of};
     ghost use Rattle.capnp_schema.specs.Annotated.{annotations_of, field_annotations};
-    ghost use Rattle.capnp_schema.specs.AnnotationLists.{annotations_in};
+    ghost use Rattle.capnp_schema.specs.AnnotationLists.{annotations_in, annotations_set};
     ghost use Rattle.capnp_schema.specs.FieldLists.{IsFieldOf, index_of, schema_of, typed_of};
 
     /// The field of an index, which is below the count of fields.
@@ -148,6 +148,7 @@ impl<'s> Field<'s> {
     pub fn get_annotations(self) -> Result<AnnotationList<'s>>
         ensures typed { IsOkAnd result (λ list. annotations_in list ≡ field_annotations (set_of (schema_of self.entry)) (number_of (schema_of self.entry)) (index_of self.entry)) }
         ensures whole { IsOkAnd result (λ list. annotations_of (annotations_in list) ≡ (struct_field (schema_of self.entry) (index_of self.entry)).field.annotations) }
+        ensures set { IsOkAnd result (λ list. annotations_set list ≡ set_of (schema_of self.entry)) }
     {
         Ok(AnnotationList::of_field(self.schema.set, self.schema.number, self.index))
     }

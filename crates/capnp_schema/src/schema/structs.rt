@@ -27,7 +27,7 @@ impl<'s> StructSchema<'s> {
     ghost use Rattle.capnp_schema.specs.Query.{AreMembers, field_named, member_of, plain_fields};
     ghost use Rattle.capnp_schema.specs.StructHandles.{IsStruct, generic_of, number_of, set_of, struct_node, struct_records};
     ghost use Rattle.capnp_schema.specs.Annotated.{annotations_of, struct_annotations};
-    ghost use Rattle.capnp_schema.specs.AnnotationLists.{annotations_in};
+    ghost use Rattle.capnp_schema.specs.AnnotationLists.{annotations_in, annotations_set};
     ghost use Rattle.capnp_schema.specs.FieldLists.{IsFound, list_schema, subset_indices, subset_schema};
 
     /// The schema of those numbers, which are a brand of the set and its node.
@@ -146,7 +146,8 @@ impl<'s> StructSchema<'s> {
     /// The annotations of its node, each with its type in the brand. The answer is always Ok.
     pub fn get_annotations(self) -> Result<AnnotationList<'s>>
         ensures typed { IsOkAnd result (λ list. annotations_in list ≡ struct_annotations (set_of self.entry) (number_of self.entry)) }
-        ensures whole { IsStruct self.entry → IsOkAnd result (λ list. annotations_of (annotations_in list) ≡ (struct_node self.entry).annotations) }
+        ensures whole { IsOkAnd result (λ list. annotations_of (annotations_in list) ≡ (struct_node self.entry).annotations) }
+        ensures set { IsOkAnd result (λ list. annotations_set list ≡ set_of self.entry) }
     {
         Ok(AnnotationList::of_struct(self.set, self.number))
     }
