@@ -4,7 +4,7 @@
 //! or `text_mut`, which can't fail, lend its bytes. The contracts of the two say what the pointer ends as, whatever is
 //! left in the bytes. `get_data`, `get_text`, `init_data` and `init_text` take both steps at once; their contracts say
 //! what is lent or refused.
-ghost use Rattle.std.specs.Prelude.{false, IfErr, IfOk, IsOk, IsTrue, Ok, Err, OnOk, ◌≡◌, ◌≤◌, ◌+◌, ◌<◌, ◌^◌, ◌++◌, ◌∷◌, [], length, take, replicate};
+ghost use Rattle.std.specs.Prelude.{false, IfErr, IfOk, IsOk, Ok, Err, OnOk, ◌≡◌, ◌≤◌, ◌+◌, ◌<◌, ◌^◌, ◌++◌, ◌∷◌, [], length, take, replicate};
 ghost use Rattle.std.specs.Borrow.{sem};
 ghost use Rattle.capnp_wire.specs.declared.object.ListObject.{out-ListObject};
 ghost use Rattle.capnp_wire.specs.Tree.{Numbers};

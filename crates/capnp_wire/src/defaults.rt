@@ -1,7 +1,7 @@
 //! Pointers of which a null is filled from a default.
 //!
 //! The default is tested and copied whole before anything is put in the place of the null, so a refusal changes nothing.
-ghost use Rattle.std.specs.Prelude.{None, false, true, ◌≡◌, ◌≢◌, IfErr, IfOk, IsOk, OnOk};
+ghost use Rattle.std.specs.Prelude.{None, false, ◌≡◌, ◌≢◌, IfErr, IfOk, IsOk, OnOk};
 ghost use Rattle.std.specs.Borrow.{sem};
 ghost use Rattle.capnp_wire.specs.Found.{found_tree};
 ghost use Rattle.capnp_wire.specs.Objects.{list_object_tree, object_tree, struct_object_tree};

@@ -1,5 +1,5 @@
 //! Lists that become lists of structs.
-ghost use Rattle.std.specs.Prelude.{None, Some, false, true, ◌≡◌, IfErr, IfOk, IsOk, IsTrue, OnErr, OnOk};
+ghost use Rattle.std.specs.Prelude.{None, false, true, ◌≡◌, IfErr, IfOk, IsOk, IsTrue, OnErr, OnOk};
 ghost use Rattle.std.specs.Borrow.{sem};
 ghost use Rattle.capnp_wire.specs.Found.{found_tree};
 ghost use Rattle.capnp_wire.specs.Tree.{structs_from};
@@ -8,7 +8,7 @@ ghost use Rattle.capnp_wire.specs.Reading.{element_struct, is_list, is_null_tree
 ghost use Rattle.capnp_wire.specs.WellFormed.{IsWellFormed};
 ghost use Rattle.capnp_wire.specs.Elements.{built_list, or_empty};
 ghost use Rattle.capnp_wire.specs.Edits.{IsCopyRefusal, extended};
-ghost use Rattle.capnp_wire.specs.StructLists.{HoldsStructs, IsDueRefusal, element_pointers, element_words, grown, has_size, is_bits, struct_list, struct_list_refusal};
+ghost use Rattle.capnp_wire.specs.StructLists.{HoldsStructs, IsDueRefusal, grown, has_size, is_bits, struct_list, struct_list_refusal};
 ghost use Rattle.capnp_wire.specs.Lends.{LendsList, holds_list};
 
 use crate::copy::copy_struct;
