@@ -2,12 +2,15 @@
 ghost use Rattle.std.specs.Prelude.{◌≡◌, IfErr, IfOk, IfSome, None, Some};
 ghost use Rattle.std.specs.Option.{option_map};
 ghost use Rattle.capnp_device.specs.declared.error.ErrorKind.TheVariants.{FieldNotFound};
+ghost use Rattle.capnp_schema.specs.FieldLists.{schema_of};
 ghost use Rattle.capnp_schema.specs.Plan.{plan_of};
 ghost use Rattle.capnp_schema.specs.Query.{field_named};
-ghost use Rattle.capnp_schema.specs.StructHandles.{number_of, set_of, struct_field, struct_records};
+ghost use Rattle.capnp_schema.specs.StructHandles.{IsStruct, number_of, set_of, struct_field, struct_records};
 
+use capnp_base::introspect::TypeVariant;
+use capnp_schema::laws::types_go_by_layers;
 use capnp_schema::plan::SlotPlan;
-use capnp_schema::schema::StructSchema;
+use capnp_schema::schema::{Field, StructSchema};
 use capnp_wire::error::Result;
 
 /// Where the field of a name stands in its struct. Refused with `FieldNotFound` where no field has the name.
@@ -16,4 +19,19 @@ pub fn plan_of_named(schema: StructSchema<'_>, name: &str) -> Result<SlotPlan>
     ensures refused { IfErr result (λ e. (e.kind ≡ FieldNotFound) × (field_named (struct_records schema.entry) name.now ≡ None)) }
 {
     Ok(schema.get_field_by_name(name)?.plan())
+}
+
+/// The schema of the structs that a field's lists hold, where its type is a list of structs.
+pub fn element_struct<'s>(field: &Field<'s>) -> Option<StructSchema<'s>>
+    ensures { IfSome result (λ s. IsStruct s × (set_of s ≡ set_of (schema_of field.now))) }
+{
+    types_go_by_layers();
+    let TypeVariant::List(element) = field.get_type().which() else {
+        return None;
+    };
+    let TypeVariant::Struct(raw) = element.which() else {
+        return None;
+    };
+    let set = field.get_containing_struct().get_set();
+    Some(set.struct_schema(raw.number))
 }
