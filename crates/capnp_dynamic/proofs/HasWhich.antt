@@ -22,7 +22,7 @@ use Rattle.capnp_records.specs.Laws.{part_of}
 use Rattle.capnp_records.specs.Reading.{Reading, active_among, discriminant, kind_value, plain_parts, record_within, slot_value, struct_record, union_of, value_of, values_of}
 use Rattle.capnp_records.specs.Record.{Active, Levels, NoUnion, Parts, Union, Value, Values, is_there}
 use Rattle.capnp_records.specs.Step.{active_value, has, is_active, nth, which}
-use Rattle.capnp_dynamic.specs.Dynamic.{member_there, place_there, planned_has}
+use Rattle.capnp_dynamic.specs.Planned.{member_there, place_there, planned_has}
 
 pub member_even : (q : Bool) (n : Node) (f : Field) → IfSome (member_plan q n f) (λ m. m.0 % 16 ≡ 0)
 member_even true n f = omega arith

@@ -23,7 +23,7 @@ use Rattle.capnp_records.specs.Default.{default_value, empty_value, read, unless
 use Rattle.capnp_records.specs.Reading.{elements_value, entered, of_read, struct_record, value_of}
 use Rattle.capnp_records.specs.Record.{Left, Levels, Value, one_less}
 use Rattle.capnp_records.specs.Record as value
-use Rattle.capnp_dynamic.specs.Dynamic.{data_of, list_answered, list_words, struct_answered, struct_words, text_of}
+use Rattle.capnp_dynamic.specs.Behind.{data_of, list_answered, list_words, struct_answered, struct_words, text_of}
 
 -- a value that is there, and a null
 pub there : (set : Schemas) (d : SchemaValue) (t : SchemaType) (x : Tree) (l : Levels) → is_null_tree x ≡ false → read set d t (value_of set x l t) ≡ value_of set x l t
@@ -344,3 +344,12 @@ list_plain set t s sized x n (Ok l) e levels = go (is_null_tree x) refl
     go true h = list_bare set t s sized VoidValue x n (list_of l) (list_levels l) h e levels refl
     go false h = list_there set t s sized VoidValue x n (list_of l) (list_levels l) h e levels
 list_plain set t s sized x n (Err f) e levels = list_refused set t s sized VoidValue x n f.kind e
+
+pub struct_plain : (set : Schemas) (b g : ℕ) (x : Tree) (n : ℕ) (r : Result StructReader Error) →
+    struct_read r ≡ as_struct x n → IfOk r (λ s. struct_levels s + 1 ≡ n) → struct_answered set b r ≡ read set VoidValue (StructType b g) (value_of set x (Left n) (StructType b g))
+struct_plain set b g x n (Ok s) e levels = go (is_null_tree x) refl
+  where
+    go : (q : Bool) → is_null_tree x ≡ q → struct_answered set b (Ok s) ≡ read set VoidValue (StructType b g) (value_of set x (Left n) (StructType b g))
+    go true h = struct_bare set b g VoidValue x n (struct_of s) (struct_levels s) h e levels refl
+    go false h = struct_there set b g VoidValue x n (struct_of s) (struct_levels s) h e levels
+struct_plain set b g x n (Err f) e levels = struct_refused set b g VoidValue x n f.kind e

@@ -1,14 +1,23 @@
 //! What stands behind a pointer, or in its default where it is null.
 ghost use Rattle.std.specs.Prelude.{ℕ, ◌≡◌};
 ghost use Rattle.std.specs.Option.{option_copied};
+ghost use Rattle.capnp_device.specs.declared.error.ErrorKind.TheVariants.{TypeMismatch};
 ghost use Rattle.capnp_schema.specs.Schema.{Schemas, VoidValue, kind_default, seen_kind};
 ghost use Rattle.capnp_schema.specs.Types.{DataType, ListType, SchemaType, StructType, TextType, element_size};
-ghost use Rattle.capnp_dynamic.specs.Dynamic.{data_answered, data_of, list_answered, list_words, pointer_read, struct_answered, struct_words, text_answered, text_of};
+ghost use Rattle.capnp_dynamic.specs.Reads.{pointer_read};
+ghost use Rattle.capnp_dynamic.specs.Behind.{data_answered, data_of, list_answered, list_words, struct_answered, struct_words, text_answered, text_of};
 
 use capnp_schema::record::{FieldKind, ValueRecord};
-use capnp_wire::error::Result;
+use capnp_wire::error::{Error, ErrorKind, Result};
 use capnp_wire::size::ElementSize;
 use capnp_wire::{ListReader, PointerReader, StructReader};
+
+/// What no set that was accepted leads to.
+pub(crate) fn mismatch() -> Error
+    ensures { result.kind ≡ TypeMismatch }
+{
+    Error::from(ErrorKind::TypeMismatch)
+}
 
 /// The bytes of a text's default.
 fn text_default(kind: &FieldKind) -> &[u8]
@@ -86,7 +95,10 @@ pub(crate) fn read_data<'a>(kind: &'a FieldKind, pointer: &PointerReader<'a>) ->
 
 /// The struct, or its default's. A null asks a level for itself before its default is entered.
 #[tactic(auto, using(crate::proofs::Pointed::struct_refused, crate::proofs::Pointed::struct_there, crate::proofs::Pointed::struct_bare, crate::proofs::Pointed::struct_null, crate::proofs::Pointed::struct_from_words))]
-pub(crate) fn read_struct<'a>(kind: &'a FieldKind, pointer: &PointerReader<'a>) -> Result<StructReader<'a>>
+pub(crate) fn read_struct<'a>(
+    kind: &'a FieldKind,
+    pointer: &PointerReader<'a>,
+) -> Result<StructReader<'a>>
     ensures { (set : Schemas) (b g : ℕ) → struct_answered set b result ≡ pointer_read set (kind_default (seen_kind kind.now)) (StructType b g) pointer.now }
 {
     let here = pointer.get_struct()?;
@@ -105,7 +117,11 @@ pub(crate) fn read_struct<'a>(kind: &'a FieldKind, pointer: &PointerReader<'a>) 
 
 /// The list, or its default's. A null asks a level for itself before its default is entered.
 #[tactic(auto, using(crate::proofs::Pointed::list_refused, crate::proofs::Pointed::list_there, crate::proofs::Pointed::list_bare, crate::proofs::Pointed::list_null, crate::proofs::Pointed::list_from_words))]
-pub(crate) fn read_list<'a>(kind: &'a FieldKind, size: ElementSize, pointer: &PointerReader<'a>) -> Result<ListReader<'a>>
+pub(crate) fn read_list<'a>(
+    kind: &'a FieldKind,
+    size: ElementSize,
+    pointer: &PointerReader<'a>,
+) -> Result<ListReader<'a>>
     ensures { (set : Schemas) (e : SchemaType) → element_size e ≡ size → list_answered set e result ≡ pointer_read set (kind_default (seen_kind kind.now)) (ListType e) pointer.now }
 {
     let here = pointer.get_list(size)?;
@@ -140,8 +156,19 @@ pub(crate) fn plain_data<'a>(pointer: &PointerReader<'a>) -> Result<&'a [u8]>
 
 /// The list, empty for a null.
 #[tactic(auto, using(crate::proofs::Pointed::list_plain))]
-pub(crate) fn plain_list<'a>(size: ElementSize, pointer: &PointerReader<'a>) -> Result<ListReader<'a>>
+pub(crate) fn plain_list<'a>(
+    size: ElementSize,
+    pointer: &PointerReader<'a>,
+) -> Result<ListReader<'a>>
     ensures { (set : Schemas) (e : SchemaType) → element_size e ≡ size → list_answered set e result ≡ pointer_read set VoidValue (ListType e) pointer.now }
 {
     pointer.get_list(size)
+}
+
+/// The struct, one of size zero for a null.
+#[tactic(auto, using(crate::proofs::Pointed::struct_plain))]
+pub(crate) fn plain_struct<'a>(pointer: &PointerReader<'a>) -> Result<StructReader<'a>>
+    ensures { (set : Schemas) (b g : ℕ) → struct_answered set b result ≡ pointer_read set VoidValue (StructType b g) pointer.now }
+{
+    pointer.get_struct()
 }

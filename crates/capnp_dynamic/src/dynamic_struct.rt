@@ -1,177 +1,53 @@
 //! Structs whose schemas are known only at run time.
-ghost use Rattle.std.specs.Prelude.{true, IfOk, IfSome, IsOkAnd, ◌≡◌, ◌<◌, ◌%◌, ◌^◌, bit_xor};
-ghost use Rattle.capnp_wire.specs.Standing.{struct_levels, struct_of};
-ghost use Rattle.capnp_schema.specs.Accepted.{NamesEntries};
-ghost use Rattle.capnp_schema.specs.Entries.{lists_seen};
-ghost use Rattle.capnp_schema.specs.FieldLists.{IsFieldOf, IsFound, index_of, typed_of};
-ghost use Rattle.capnp_schema.specs.Schema.{default_of, kind_default, seen_kind};
-ghost use Rattle.capnp_schema.specs.SlotValue.{bits_at, default_bits};
-ghost use Rattle.capnp_schema.specs.StructHandles.{IsStruct, set_of, struct_field};
-ghost use Rattle.capnp_schema.specs.Tests.{seen_variant};
-ghost use Rattle.capnp_schema.specs.Types.{is_pointer, width};
-ghost use Rattle.capnp_records.specs.Reading.{number_value};
-ghost use Rattle.capnp_records.specs.Record.{Left};
-ghost use Rattle.capnp_records.specs.Step.{has, which};
-ghost use Rattle.capnp_dynamic.specs.Dynamic.{IsOf, IsSound, answered, field_read, placed_read, planned_has, pointer_read, reader_of, record_seen, schema_of};
-
-use crate::behind::{read_data, read_list, read_struct, read_text};
-use crate::bits::{bit_at, byte_at, discriminant_at, plain_at, half_at, pair_at, word_at};
-use crate::dynamic_list;
-use crate::dynamic_value::{Enum, Reader as Value};
-use crate::lookup::{enum_at, struct_at};
-use capnp_base::introspect::TypeVariant;
-use capnp_base::{any_pointer, text};
-use capnp_schema::plan::{Place, SlotPlan};
-use capnp_schema::record::FieldKind;
+use crate::bits::discriminant_at;
+use crate::dynamic_value;
+use crate::placed::{has_planned, read_placed};
+use capnp_base::any_pointer;
+use capnp_base::traits::{OwnedStruct, SetterInput};
 use capnp_schema::schema::{Field, StructSchema};
-use capnp_schema::set::SchemaSet;
-use capnp_wire::error::{Error, ErrorKind, Result};
-use capnp_wire::{PointerReader, StructReader};
+use capnp_wire::error::Result;
+use capnp_wire::laws::{copied_structs_are_well_formed, struct_is_well_formed};
+use capnp_wire::size::MessageSize;
+use capnp_wire::{PointerBuilder, StructReader};
 
-/// A struct that is read.
+/// A struct that is read: its sections, and its schema.
 #[derive(Clone, Copy)]
 pub struct Reader<'a> {
-    pub(crate) reader: StructReader<'a>,
-    pub(crate) schema: StructSchema<'a>,
-}
-
-/// What no set that was accepted leads to.
-fn mismatch() -> Error {
-    Error::from(ErrorKind::TypeMismatch)
-}
-
-/// The number at a place of the data section.
-#[inline(always)]
-fn read_bits<'a>(
-    reader: &StructReader<'a>,
-    set: &'a SchemaSet,
-    variant: TypeVariant,
-    start: u32,
-    mask: u64,
-) -> Result<Value<'a>>
-    requires wide { 0 < width (seen_variant variant) }
-    requires start { start % width (seen_variant variant) ≡ 0 }
-    requires mask { mask < 2 ^ width (seen_variant variant) }
-    requires named { NamesEntries (lists_seen set.now) (seen_variant variant) }
-    ensures value { answered result ≡ number_value (seen_variant variant) (bit_xor (bits_at (struct_of reader.now).bytes start (width (seen_variant variant))) mask) }
-    ensures typed { IfOk result (IsOf (lists_seen set.now) (seen_variant variant)) }
-{
-    match variant {
-        TypeVariant::Bool => Ok(Value::Bool(bit_at(reader, start, mask))),
-        TypeVariant::Int8 => Ok(Value::Int8(byte_at(reader, start, mask).cast_signed())),
-        TypeVariant::Int16 => Ok(Value::Int16(pair_at(reader, start, mask).cast_signed())),
-        TypeVariant::Int32 => Ok(Value::Int32(half_at(reader, start, mask).cast_signed())),
-        TypeVariant::Int64 => Ok(Value::Int64(word_at(reader, start, mask).cast_signed())),
-        TypeVariant::UInt8 => Ok(Value::UInt8(byte_at(reader, start, mask))),
-        TypeVariant::UInt16 => Ok(Value::UInt16(pair_at(reader, start, mask))),
-        TypeVariant::UInt32 => Ok(Value::UInt32(half_at(reader, start, mask))),
-        TypeVariant::UInt64 => Ok(Value::UInt64(word_at(reader, start, mask))),
-        TypeVariant::Enum(raw) => match enum_at(set, raw.number) {
-            Some(schema) => {
-                let value = pair_at(reader, start, mask);
-                Ok(Value::Enum(Enum { value, schema }))
-            }
-            None => Err(mismatch()),
-        },
-        _ => Err(mismatch()),
-    }
-}
-
-/// What stands behind a pointer, or in the default of its slot.
-#[inline(never)]
-fn read_pointer<'a>(
-    set: &'a SchemaSet,
-    kind: &'a FieldKind,
-    variant: TypeVariant,
-    pointer: PointerReader<'a>,
-) -> Result<Value<'a>>
-    requires pointer { is_pointer (seen_variant variant) ≡ true }
-    requires named { NamesEntries (lists_seen set.now) (seen_variant variant) }
-    ensures value { answered result ≡ pointer_read (lists_seen set.now) (kind_default (seen_kind kind.now)) (seen_variant variant) pointer.entry }
-    ensures typed { IfOk result (IsOf (lists_seen set.now) (seen_variant variant)) }
-{
-    match variant {
-        TypeVariant::Text => Ok(Value::Text(text::Reader(read_text(kind, &pointer)?))),
-        TypeVariant::Data => Ok(Value::Data(read_data(kind, &pointer)?)),
-        TypeVariant::Struct(raw) => {
-            let Some(schema) = struct_at(set, raw.number) else {
-                return Err(mismatch());
-            };
-            let reader = read_struct(kind, &pointer)?;
-            Ok(Value::Struct(Reader { reader, schema }))
-        }
-        TypeVariant::List(element_type) => {
-            let size = element_type.expected_element_size();
-            let reader = read_list(kind, size, &pointer)?;
-            Ok(Value::List(dynamic_list::Reader { reader, element_type, set }))
-        }
-        TypeVariant::AnyPointer => Ok(Value::AnyPointer(any_pointer::Reader::new(pointer))),
-        _ => Err(mismatch()),
-    }
-}
-
-/// What stands at a place.
-#[inline(always)]
-fn read_placed<'a>(
-    reader: &StructReader<'a>,
-    set: &'a SchemaSet,
-    kind: &'a FieldKind,
-    variant: TypeVariant,
-    place: Place,
-) -> Result<Value<'a>>
-    requires sound { IsSound (lists_seen set.now) (seen_variant variant) place }
-    requires named { NamesEntries (lists_seen set.now) (seen_variant variant) }
-    ensures value { answered result ≡ placed_read (lists_seen set.now) (Left (struct_levels reader.now)) (struct_of reader.now) (kind_default (seen_kind kind.now)) (seen_variant variant) place }
-    ensures typed { IfOk result (IsOf (lists_seen set.now) (seen_variant variant)) }
-{
-    match place {
-        Place::Nothing => Ok(Value::Void),
-        Place::Bits {
-            start,
-            width: _,
-            mask,
-        } => read_bits(reader, set, variant, start, mask),
-        Place::Pointer(index) => read_pointer(set, kind, variant, reader.get_pointer_field(index)),
-        Place::Group(brand) => match struct_at(set, brand) {
-            Some(schema) => Ok(Value::Struct(Reader {
-                reader: *reader,
-                schema,
-            })),
-            None => Err(mismatch()),
-        },
-    }
-}
-
-/// Whether a member is active by its plan, and what stands at its place is no null.
-#[inline(always)]
-fn has_planned(reader: &StructReader<'_>, plan: SlotPlan) -> bool
-    requires { IfSome plan.member (λ m. m.0 % 16 ≡ 0) }
-    ensures { result ≡ planned_has (struct_of reader.now) plan }
-{
-    if let Some((start, value)) = plan.member {
-        if plain_at(reader, start) != value {
-            return false;
-        }
-    }
-    match plan.place {
-        Place::Nothing => true,
-        Place::Bits {
-            start: _,
-            width: _,
-            mask: _,
-        } => true,
-        Place::Pointer(index) => !reader.get_pointer_field(index).is_null(),
-        Place::Group(_) => true,
-    }
+    reader: StructReader<'a>,
+    schema: StructSchema<'a>,
 }
 
 impl<'a> Reader<'a> {
+    ghost use Rattle.std.specs.Prelude.{Ok, IfErr, IfOk, IsOkAnd, ◌≡◌, ◌<◌, ◌^◌};
+    ghost use Rattle.capnp_wire.specs.Standing.{struct_levels, struct_of};
+    ghost use Rattle.capnp_wire.specs.Total.{IsSize, IsSizeRefusal};
+    ghost use Rattle.capnp_wire.specs.Words.{first_fault_of_all, words_of_struct};
+    ghost use Rattle.capnp_schema.specs.FieldLists.{IsFieldOf, IsFound, index_of, typed_of};
+    ghost use Rattle.capnp_schema.specs.Query.{field_named};
+    ghost use Rattle.capnp_schema.specs.Schema.{default_of};
+    ghost use Rattle.capnp_schema.specs.SlotValue.{default_bits};
+    ghost use Rattle.capnp_schema.specs.StructHandles.{IsStruct, set_of, struct_field, struct_records};
+    ghost use Rattle.capnp_schema.specs.Types.{seen_type, width};
+    ghost use Rattle.capnp_records.specs.Step.{has, which};
+    ghost use Rattle.capnp_dynamic.specs.Handles.{reader_of, schema_of};
+    ghost use Rattle.capnp_dynamic.specs.Reads.{field_seen, found_has, found_seen, kind_read};
+    ghost use Rattle.capnp_dynamic.specs.Seen.{answered, record_seen};
+    ghost use Rattle.capnp_dynamic.specs.Typed.{IsOf, struct_type};
+
     /// A reader of a struct under a schema.
     pub fn new(reader: StructReader<'a>, schema: StructSchema<'a>) -> Reader<'a>
         ensures reader { reader_of result ≡ reader.entry }
         ensures schema { schema_of result ≡ schema.entry }
     {
         Reader { reader, schema }
+    }
+
+    /// The size of the struct with all that its pointers lead to, as `StructReader::total_size`, and refused as that is.
+    pub fn total_size(&self) -> Result<MessageSize>
+        ensures size { IfOk result (λ size. IsSize size (first_fault_of_all (struct_of (reader_of self.now)).pointers) (words_of_struct (struct_of (reader_of self.now)))) }
+        ensures refused { IfErr result (λ error. IsSizeRefusal error (first_fault_of_all (struct_of (reader_of self.now)).pointers) (words_of_struct (struct_of (reader_of self.now)))) }
+    {
+        self.reader.total_size()
     }
 
     /// The schema.
@@ -181,14 +57,21 @@ impl<'a> Reader<'a> {
         self.schema
     }
 
-    /// What the field has, or its default where that is missing. Whether a member is active is not asked.
+    /// What a field has, or its default where that is missing: a null text or data is its default or empty, a null struct
+    /// or list its default's or an empty one, a null untyped pointer null. A group is the same struct under the group's
+    /// schema, with the levels of this one. Whether a member is active is not asked: the slot is read as its bits stand.
+    ///
+    /// A struct or list needs a level and leaves one fewer; a null one whose default is read needs it for itself, and the
+    /// default is entered on levels of its own. Refused with `TooDeep` where none is left, with the number of a pointer
+    /// that can't be followed, and with `WrongPointerKind`, `WrongElementSize` or `TextNotTerminated` where what stands
+    /// there is not read as the field's type.
     #[inline(always)]
-    pub fn get(&self, field: &Field<'a>) -> Result<Value<'a>>
-        requires schema { IsStruct (schema_of self.now) }
-        requires field { IsFieldOf (schema_of self.now) (index_of field.now) field.now }
-        requires mask { default_bits (default_of (typed_of field.now).field) < 2 ^ width (typed_of field.now).type }
-        ensures value { answered result ≡ field_read (set_of (schema_of self.now)) (Left (struct_levels (reader_of self.now))) (struct_of (reader_of self.now)) (struct_field (schema_of self.now) (index_of field.now)) }
-        ensures typed { IfOk result (IsOf (set_of (schema_of self.now)) (struct_field (schema_of self.now) (index_of field.now)).type) }
+    pub fn get(self, field: Field<'a>) -> Result<dynamic_value::Reader<'a>>
+        requires schema { IsStruct (schema_of self) }
+        requires field { IsFieldOf (schema_of self) (index_of field) field }
+        requires mask { default_bits (default_of (typed_of field).field) < 2 ^ width (typed_of field).type }
+        ensures value { answered result ≡ field_seen self.entry (index_of field.entry) }
+        ensures typed { IfOk result (IsOf (set_of (schema_of self.entry)) (struct_field (schema_of self.entry) (index_of field.entry)).type) }
     {
         let place = field.plan().place;
         let variant = field.get_type().which();
@@ -196,19 +79,8 @@ impl<'a> Reader<'a> {
         read_placed(&self.reader, self.schema.get_set(), kind, variant, place)
     }
 
-    /// Whether the field is no inactive member and no null pointer.
-    #[inline(always)]
-    pub fn has(&self, field: &Field<'a>) -> bool
-        requires schema { IsStruct (schema_of self.now) }
-        requires field { IsFieldOf (schema_of self.now) (index_of field.now) field.now }
-        ensures { result ≡ has (record_seen self.now) (struct_field (schema_of self.now) (index_of field.now)).field (index_of field.now) }
-    {
-        let plan = field.plan();
-        let _variant = field.get_type().which();
-        has_planned(&self.reader, plan)
-    }
-
-    /// The member whose discriminant value stands in the struct; none without a union or for an unknown number.
+    /// The member whose discriminant value stands in the struct; none without a union or for an unknown number. The
+    /// answer is always Ok.
     pub fn which(&self) -> Result<Option<Field<'a>>>
         requires { IsStruct (schema_of self.now) }
         ensures { IsOkAnd result (IsFound (schema_of self.now) (which (record_seen self.now))) }
@@ -219,5 +91,56 @@ impl<'a> Reader<'a> {
         }
         let value = discriminant_at(&self.reader, body.discriminant_offset);
         self.schema.get_field_by_discriminant(value)
+    }
+
+    /// False for a member that is not active and for a null pointer, else true. The answer is always Ok.
+    #[inline(always)]
+    pub fn has(&self, field: Field<'a>) -> Result<bool>
+        requires schema { IsStruct (schema_of self.now) }
+        requires field { IsFieldOf (schema_of self.now) (index_of field) field }
+        ensures { result ≡ Ok (has (record_seen self.now) (struct_field (schema_of self.now) (index_of field.entry)).field (index_of field.entry)) }
+    {
+        let plan = field.plan();
+        let _variant = field.get_type().which();
+        Ok(has_planned(&self.reader, plan))
+    }
+
+    /// Whether the field of a name is there, as `has`. Refused with `FieldNotFound` where there is none of that name.
+    pub fn has_named(&self, field_name: &str) -> Result<bool>
+        requires { IsStruct (schema_of self.now) }
+        ensures { kind_read result ≡ found_has self.now (field_named (struct_records (schema_of self.now)) field_name.now) }
+    {
+        let field = self.schema.get_field_by_name(field_name)?;
+        self.has(field)
+    }
+
+    /// The same struct by the handle of a struct type, which has to be that of the schema.
+    pub fn downcast<T: OwnedStruct<'a>>(self) -> T::Reader
+        requires { seen_type T.type_of ≡ struct_type (schema_of self) }
+        ensures { T.Reader.from_gives (reader_of self.entry) result }
+    {
+        T::Reader::from(self.reader)
+    }
+}
+
+impl<'a> SetterInput<any_pointer::Owned> for Reader<'a> {
+    ghost use Rattle.capnp_wire.specs.Edits.{IsCopyRefusal, rounded};
+    ghost use Rattle.capnp_wire.specs.Place.{struct_tree};
+    ghost use Rattle.capnp_wire.specs.Standing.{struct_of};
+    ghost use Rattle.capnp_wire.specs.Words.{first_fault_of_all};
+    ghost use Rattle.capnp_dynamic.specs.Handles.{reader_of};
+
+    ghost set_tree = { λ input. struct_tree (rounded (struct_of (reader_of input))) };
+
+    ghost set_refusal = { λ input error. IsCopyRefusal error (first_fault_of_all (struct_of (reader_of input)).pointers) };
+
+    fn set_pointer_builder(
+        builder: PointerBuilder<'_>,
+        input: Reader<'a>,
+        _canonicalize: bool,
+    ) -> Result<()> {
+        struct_is_well_formed(&input.reader);
+        copied_structs_are_well_formed();
+        builder.set_struct(&input.reader)
     }
 }

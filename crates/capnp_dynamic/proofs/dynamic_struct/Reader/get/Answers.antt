@@ -13,8 +13,10 @@ use Rattle.capnp_schema.specs.declared.plan.SlotPlan.{SlotPlan}
 use Rattle.capnp_schema.specs.declared.schema.structs.StructSchema.{StructSchema}
 use Rattle.capnp_schema.proofs.Decided.{seen_which}
 use Rattle.capnp_records.specs.Record.{Left}
-use Rattle.capnp_dynamic.specs.Dynamic.{IsOf, IsSound, placed_read, reader_of, schema_of}
-use Rattle.capnp_dynamic.proofs.Placed.{field_placed, place_sound}
+use Rattle.capnp_dynamic.specs.Handles.{reader_of, schema_of}
+use Rattle.capnp_dynamic.specs.Planned.{IsSound, placed_read}
+use Rattle.capnp_dynamic.specs.Typed.{IsOf}
+use Rattle.capnp_dynamic.proofs.PlacedReads.{field_placed, place_sound}
 use Rattle.capnp_dynamic.proofs.dynamic_struct.Reader.get.Goals as goal
 
 sound-same : {set set' : Schemas} {t t' : SchemaType} {p p' : Place} → set' ≡ set → t' ≡ t → p' ≡ p → IsSound set t p → IsSound set' t' p'
@@ -26,29 +28,29 @@ mask-same {r' = r'} {t = t} e f h = subst (λ z. default_bits (default_of r') < 
 
 pub read_placed-requires-clause-sound : goal.read_placed-requires-clause-sound
 read_placed-requires-clause-sound c =
-    let s : StructSchema = schema_of c.args.self.now in
-    let type : seen_variant c.which-variant.result ≡ (struct_field s (index_of c.args.field.now)).type =
+    let s : StructSchema = schema_of c.args.self in
+    let type : seen_variant c.which-variant.result ≡ (struct_field s (index_of c.args.field)).type =
     ap seen_variant c.which-variant.ensures ∙ (seen_which c.get_type.result ∙ (c.get_type.ensures ∙ c.requires.field.type)) in
     sound-same c.get_set.ensures type
-    (ap (λ (p : SlotPlan). p.place) c.plan-place.ensures.is ∙ ap (λ (z : StructSchema). place_of (struct_field z (index_of c.args.field.now)).field.kind (struct_field z (index_of c.args.field.now)).type) c.requires.field.schema)
-    (place_sound (set_of s) c.requires.schema.accepted (number_of s) (index_of c.args.field.now) c.requires.schema.number c.requires.field.inside c.which-variant.result type
+    (ap (λ (p : SlotPlan). p.place) c.plan-place.ensures.is ∙ ap (λ (z : StructSchema). place_of (struct_field z (index_of c.args.field)).field.kind (struct_field z (index_of c.args.field)).type) c.requires.field.schema)
+    (place_sound (set_of s) c.requires.schema.accepted (number_of s) (index_of c.args.field) c.requires.schema.number c.requires.field.inside c.which-variant.result type
     (mask-same c.requires.field.field c.requires.field.type c.requires.mask))
 
 pub returns-clause-value : goal.returns-clause-value
 returns-clause-value c =
-    let s : StructSchema = schema_of c.args.self.now in
-    let type : seen_variant c.which-variant.result ≡ (struct_field s (index_of c.args.field.now)).type =
+    let s : StructSchema = schema_of c.args.self in
+    let type : seen_variant c.which-variant.result ≡ (struct_field s (index_of c.args.field)).type =
     ap seen_variant c.which-variant.ensures ∙ (seen_which c.get_type.result ∙ (c.get_type.ensures ∙ c.requires.field.type)) in
     c.read_placed.ensures.value
-    ∙ (ap (λ (z : Schemas). placed_read z (Left (struct_levels (reader_of c.args.self.now))) (struct_of (reader_of c.args.self.now)) (kind_default (seen_kind c.get_proto.result.now.kind)) (seen_variant c.which-variant.result) c.plan-place.result.place) c.get_set.ensures
-    ∙ (ap (λ (z : Field). placed_read (set_of s) (Left (struct_levels (reader_of c.args.self.now))) (struct_of (reader_of c.args.self.now)) (default_of z) (seen_variant c.which-variant.result) c.plan-place.result.place) (c.get_proto.ensures ∙ c.requires.field.field)
-    ∙ (ap (λ (z : SchemaType). placed_read (set_of s) (Left (struct_levels (reader_of c.args.self.now))) (struct_of (reader_of c.args.self.now)) (default_of (struct_field s (index_of c.args.field.now)).field) z c.plan-place.result.place) type
-    ∙ (ap (λ (z : Place). placed_read (set_of s) (Left (struct_levels (reader_of c.args.self.now))) (struct_of (reader_of c.args.self.now)) (default_of (struct_field s (index_of c.args.field.now)).field) (struct_field s (index_of c.args.field.now)).type z)
-    (ap (λ (p : SlotPlan). p.place) c.plan-place.ensures.is ∙ ap (λ (z : StructSchema). place_of (struct_field z (index_of c.args.field.now)).field.kind (struct_field z (index_of c.args.field.now)).type) c.requires.field.schema)
-    ∙ field_placed (set_of s) (Left (struct_levels (reader_of c.args.self.now))) (struct_of (reader_of c.args.self.now)) c.requires.schema.accepted (number_of s) (index_of c.args.field.now) c.requires.schema.number c.requires.field.inside c.which-variant.result type))))
+    ∙ (ap (λ (z : Schemas). placed_read z (Left (struct_levels (reader_of c.args.self))) (struct_of (reader_of c.args.self)) (kind_default (seen_kind c.get_proto.result.now.kind)) (seen_variant c.which-variant.result) c.plan-place.result.place) c.get_set.ensures
+    ∙ (ap (λ (z : Field). placed_read (set_of s) (Left (struct_levels (reader_of c.args.self))) (struct_of (reader_of c.args.self)) (default_of z) (seen_variant c.which-variant.result) c.plan-place.result.place) (c.get_proto.ensures ∙ c.requires.field.field)
+    ∙ (ap (λ (z : SchemaType). placed_read (set_of s) (Left (struct_levels (reader_of c.args.self))) (struct_of (reader_of c.args.self)) (default_of (struct_field s (index_of c.args.field)).field) z c.plan-place.result.place) type
+    ∙ (ap (λ (z : Place). placed_read (set_of s) (Left (struct_levels (reader_of c.args.self))) (struct_of (reader_of c.args.self)) (default_of (struct_field s (index_of c.args.field)).field) (struct_field s (index_of c.args.field)).type z)
+    (ap (λ (p : SlotPlan). p.place) c.plan-place.ensures.is ∙ ap (λ (z : StructSchema). place_of (struct_field z (index_of c.args.field)).field.kind (struct_field z (index_of c.args.field)).type) c.requires.field.schema)
+    ∙ field_placed (set_of s) (Left (struct_levels (reader_of c.args.self))) (struct_of (reader_of c.args.self)) c.requires.schema.accepted (number_of s) (index_of c.args.field) c.requires.schema.number c.requires.field.inside c.which-variant.result type))))
 
 pub returns-clause-typed : goal.returns-clause-typed
 returns-clause-typed c =
-    let s : StructSchema = schema_of c.args.self.now in
+    let s : StructSchema = schema_of c.args.self in
     subst (λ (t : SchemaType). IfOk c.read_placed.result (IsOf (set_of s) t)) (ap seen_variant c.which-variant.ensures ∙ (seen_which c.get_type.result ∙ (c.get_type.ensures ∙ c.requires.field.type)))
     (subst (λ (z : Schemas). IfOk c.read_placed.result (IsOf z (seen_variant c.which-variant.result))) c.get_set.ensures c.read_placed.ensures.typed)

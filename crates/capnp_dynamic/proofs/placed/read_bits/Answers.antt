@@ -9,7 +9,7 @@ use Rattle.capnp_schema.specs.Tests.{seen_variant}
 use Rattle.capnp_schema.specs.Types.{width}
 use Rattle.capnp_records.specs.Reading.{number_value}
 use Rattle.capnp_records.specs.Record as value
-use Rattle.capnp_dynamic.proofs.dynamic_struct.read_bits.Goals as goal
+use Rattle.capnp_dynamic.proofs.placed.read_bits.Goals as goal
 
 pub returns-in-Int16-clause-value : goal.returns-in-Int16-clause-value
 returns-in-Int16-clause-value c =

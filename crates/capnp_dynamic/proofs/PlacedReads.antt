@@ -10,14 +10,15 @@ use Rattle.capnp_schema.specs.Schema.{FieldKind, Group, Schemas, Slot, default_o
 use Rattle.capnp_schema.specs.Schema.{Value as SchemaValue}
 use Rattle.capnp_schema.specs.SlotValue.{default_bits}
 use Rattle.capnp_schema.specs.Tests.{seen_variant}
-use Rattle.capnp_schema.specs.Types.{SchemaType, struct_number, width}
+use Rattle.capnp_schema.specs.Types.{SchemaType, StructType, struct_number, width}
 use Rattle.capnp_records.proofs.Groups.{part_of-group}
 use Rattle.capnp_records.proofs.Pointers.{values_of-nth}
 use Rattle.capnp_records.specs.Default.{read}
 use Rattle.capnp_records.specs.Reading.{Reading, kind_value, record_of, record_within, slot_value, values_of}
 use Rattle.capnp_records.specs.Record.{Levels, Value}
 use Rattle.capnp_records.specs.Record as value
-use Rattle.capnp_dynamic.specs.Dynamic.{IsSound, field_read, handed_out, placed_read}
+use Rattle.capnp_dynamic.specs.Reads.{field_read, handed_out}
+use Rattle.capnp_dynamic.specs.Planned.{IsSound, placed_read}
 
 module _ (set : Schemas) (l : Levels) (s : StructTree) where
   slot-placed : (v : TypeVariant) (o : ℕ) (d : SchemaValue) →
@@ -70,8 +71,8 @@ slot-sound set (variant.Struct x) o d h = refl
 slot-sound set (variant.List x) o d h = refl
 slot-sound set variant.AnyPointer o d h = refl
 
-group-sound : (set : Schemas) (v : TypeVariant) (n : ℕ) → GroupFits set (Group n) (seen_variant v) → NamesEntries set (seen_variant v) → (struct_number (seen_variant v) < length set.brands) × (struct_number (seen_variant v) ≡ struct_number (seen_variant v))
-group-sound set (variant.Struct x) n fits named = (named.0, refl)
+group-sound : (set : Schemas) (v : TypeVariant) (n : ℕ) → GroupFits set (Group n) (seen_variant v) → NamesEntries set (seen_variant v) → IsSound set (seen_variant v) (place_of (Group n) (seen_variant v))
+group-sound set (variant.Struct x) n fits named = (named.0, ap (StructType x.number) named.1)
 group-sound set v n fits named = absurd fits
 
 pub place_sound : (set : Schemas) → IsAccepted set → (b i : ℕ) → b < length set.brands → i < length (fields_of set b) → (v : TypeVariant) → seen_variant v ≡ (field_at set b i).type →
@@ -81,4 +82,4 @@ place_sound set accepted b i b_in i_in v e =
   where
     go : (k : FieldKind) (t : SchemaType) → seen_variant v ≡ t → GroupFits set k t → NamesEntries set t → default_bits (kind_default k) < 2 ^ width t → IsSound set t (place_of k t)
     go (Slot o d) t e fits named h = subst (λ t. default_bits d < 2 ^ width t → IsSound set t (place_of (Slot o d) t)) e (slot-sound set v o d) h
-    go (Group n) t e fits named h = subst (λ t. GroupFits set (Group n) t → NamesEntries set t → (struct_number t < length set.brands) × (struct_number t ≡ struct_number t)) e (group-sound set v n) fits named
+    go (Group n) t e fits named h = subst (λ t. GroupFits set (Group n) t → NamesEntries set t → IsSound set t (place_of (Group n) t)) e (group-sound set v n) fits named
