@@ -23,8 +23,10 @@ pub mod Members
 pub mod NameOrder
 pub mod NameSearch
 pub mod NameTables
+pub mod PlanFits
 pub mod PlanRows
 pub mod Plans
+pub mod RangeLemmas
 pub mod ReadDefaults
 pub mod Rows
 pub mod SeenNames

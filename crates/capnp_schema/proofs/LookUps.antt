@@ -10,6 +10,7 @@ use Rattle.capnp_schema.specs.Schema.{Schemas, Brand, Field, Node, TypedField, n
 use Rattle.capnp_schema.specs.Entries.{brand_node, lists_seen}
 use Rattle.capnp_schema.specs.Accepted.{IsAccepted}
 use Rattle.capnp_schema.specs.Plan.{IsPlan, LiesInNode, plan_of}
+use Rattle.capnp_schema.specs.Ranges.{HasRanges}
 use Rattle.capnp_schema.specs.Query.{records_of}
 use Rattle.capnp_schema.specs.declared.lists.Lists.{Lists}
 use Rattle.capnp_schema.specs.declared.plan.SlotPlan.{SlotPlan}
@@ -27,6 +28,9 @@ accepted_seen same accepted = subst (λ (l : Lists). IsAccepted (lists_seen l)) 
 
 pub tables_seen : {kept seen : Lists} {tables : FieldTables} → kept ≡ seen → AreTables (lists_seen kept) tables → AreTables (lists_seen seen) tables
 tables_seen {kept} {seen} {tables} same are = subst (λ (l : Lists). AreTables (lists_seen l) tables) same are
+
+pub ranges_seen : {kept seen : Lists} → kept ≡ seen → HasRanges (lists_seen kept) → HasRanges (lists_seen seen)
+ranges_seen same ranges = subst (λ (l : Lists). HasRanges (lists_seen l)) same ranges
 
 -- ---- the fields of a brand ----
 
@@ -65,8 +69,8 @@ pub plan_here : (set : Schemas) (b i : ℕ) (plans : List SlotPlan) → plans �
 plan_here set b i plans are = ap (λ (ps : List SlotPlan). unwrap_or (slice_get ps i) no_plan) are ∙ plan_at set b (fields_of set b) i
 
 -- the plan of a field is one
-pub plan_stands : (set : Schemas) → IsAccepted set → (b i : ℕ) (plan : SlotPlan) → plan ≡ plan_of set b (field_at set b i) → i < length (fields_of set b) → IsPlan set b (field_at set b i) plan
-plan_stands set accepted b i plan is h = subst (IsPlan set b (field_at set b i)) (sym is) (plans_stand set accepted b i inside h).1
+pub plan_stands : (set : Schemas) → IsAccepted set → HasRanges set → (b i : ℕ) (plan : SlotPlan) → plan ≡ plan_of set b (field_at set b i) → i < length (fields_of set b) → IsPlan set b (field_at set b i) plan
+plan_stands set accepted ranges b i plan is h = subst (IsPlan set b (field_at set b i)) (sym is) (plans_stand set accepted ranges b i inside h).1
   where
     inside : b < length set.brands
     inside = ⊎_elim (λ less. less) (λ past. let none = ap (λ (fs : List TypedField). length fs) (no_fields set b past) in absurd (omega (arith, none, h))) (cases_lt b (length set.brands))

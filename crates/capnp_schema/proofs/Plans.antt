@@ -10,11 +10,13 @@ use Rattle.capnp_schema.specs.Accepted.{IsAccepted, HasEachMember, DiscriminantF
 use Rattle.capnp_schema.specs.SlotValue.{bits_at, default_bits}
 use Rattle.capnp_schema.specs.Laws.{struct_names}
 use Rattle.capnp_schema.specs.Plan.{LiesInNode, IsPlan, HasSlotNumber, data_place, slot_place, place_of, place_names, place_number, member_plan, plan_of, discriminant_bits}
+use Rattle.capnp_schema.specs.Ranges.{HasRanges}
 use Rattle.capnp_schema.proofs.Groups.{group_names_its_parts}
+use Rattle.capnp_schema.proofs.PlanFits.{is_discriminant, is_slot_place, plan_fits}
 
 -- ---- entries ----
 
-entry-some : {A : Type 0} (xs : List A) (i : ℕ) (none : A) → i < length xs → slice_get xs i ≡ Some (unwrap_or (slice_get xs i) none)
+pub entry-some : {A : Type 0} (xs : List A) (i : ℕ) (none : A) → i < length xs → slice_get xs i ≡ Some (unwrap_or (slice_get xs i) none)
 entry-some [] i none a = absurd (omega arith)
 entry-some (x ∷ xs) zero none a = refl
 entry-some (x ∷ xs) (suc i) none a = entry-some xs i none (omega arith)
@@ -30,7 +32,7 @@ of_node set accepted P all b b_in =
     inside : (brand_at set b).node < length set.nodes
     inside = All-entry (λ (x : Brand). x.node < length set.nodes) set.brands b (brand_at set b) accepted.rule2.node (entry-some set.brands b no_brand b_in)
 
-typed-field : (fs : List Field) (ts : List SchemaType) (i : ℕ) → i < length (typed fs ts) → slice_get fs i ≡ Some (unwrap_or (slice_get (typed fs ts) i) no_field).field
+pub typed-field : (fs : List Field) (ts : List SchemaType) (i : ℕ) → i < length (typed fs ts) → slice_get fs i ≡ Some (unwrap_or (slice_get (typed fs ts) i) no_field).field
 typed-field [] ts i a = absurd (omega arith)
 typed-field (f ∷ fs) [] i a = absurd (omega arith)
 typed-field (f ∷ fs) (t ∷ ts) zero a = refl
@@ -110,18 +112,24 @@ discriminant-named : (n : Node) (d : ℕ) → d < n.discriminant_count → (p : 
 discriminant-named n d a (DataBit i) = ap (λ q. q && is_in (16 * n.discriminant_offset) 16 i) (sym (counted n.discriminant_count d a))
 discriminant-named n d a (PointerAt i) = refl
 
-pub plans_stand : (set : Schemas) → IsAccepted set → (b i : ℕ) → b < length set.brands → i < length (fields_of set b) →
+pub plans_stand : (set : Schemas) → IsAccepted set → HasRanges set → (b i : ℕ) → b < length set.brands → i < length (fields_of set b) →
     LiesInNode (node_of set b) (field_at set b i) × IsPlan set b (field_at set b i) (plan_of set b (field_at set b i))
-plans_stand set accepted b i b_in i_in = (
-  lies_in_node set accepted b i b_in i_in,
+plans_stand set accepted ranges b i b_in i_in = (
+  lies,
   record {
     names = plan-names set accepted b i b_in i_in;
     number = place-number (field_at set b i).field.kind (field_at set b i).type;
     member = some (is_member (field_at set b i).field) refl;
     plain = none (is_member (field_at set b i).field) refl;
+    slot = is_slot_place f.kind (field_at set b i).type (ranges.types b i b_in i_in) (ranges.masks b i b_in i_in);
+    discriminant = is_discriminant (is_member f) n f (ranges.discriminant_values b i b_in i_in);
+    fits = λ s size. plan_fits n s size (field_at set b i) lies;
   },
 )
   where
+    lies : LiesInNode (node_of set b) (field_at set b i)
+    lies = lies_in_node set accepted b i b_in i_in
+
     n : Node
     n = node_of set b
 

@@ -7,6 +7,7 @@ pub mod BrokenLaw
 pub mod Builtin
 pub mod Counts
 pub mod Entries
+pub mod EntryRanges
 pub mod Enums
 pub mod FieldLists
 pub mod Footprint
@@ -18,6 +19,7 @@ pub mod Names
 pub mod Parents
 pub mod Plan
 pub mod Query
+pub mod Ranges
 pub mod Schema
 pub mod SlotValue
 pub mod Spans

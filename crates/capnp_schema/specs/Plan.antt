@@ -1,5 +1,8 @@
 -- Where a field stands, in one entry.
-use Rattle.std.specs.Prelude.{ℕ, zero, suc, ◌+◌, ◌*◌, ◌<◌, ◌≤◌, ◌≡◌, List, Bool, true, false, ◌==◌, IsTrue, IsFalse, IfSome, IfNone, ⊤, Option, Some, None, length, bit_xor}
+use Rattle.std.specs.Prelude.{ℕ, zero, suc, ◌+◌, ◌*◌, ◌%◌, ◌^◌, ◌<◌, ◌≤◌, ◌≡◌, List, Bool, true, false, ◌||◌, ◌==◌, IsTrue, IsFalse, IfSome, IfNone, ⊤, Option, Some, None, length, bit_xor}
+use Rattle.capnp_wire.specs.Edits.{HasAtLeast}
+use Rattle.capnp_wire.specs.Tree.{StructTree, tree_count}
+use Rattle.capnp_wire.specs.declared.size.StructSize.{StructSize}
 use Rattle.capnp_schema.specs.Types.{SchemaType, is_pointer, struct_number, width}
 use Rattle.capnp_schema.specs.Schema.{Schemas, Node, Field, FieldKind, Slot, Group, Value, TypedField, node_of, fields_of, field_at, is_member}
 use Rattle.capnp_schema.specs.Footprint.{DataBit, PointerAt, is_in, discriminant_names, footprint}
@@ -7,6 +10,7 @@ use Rattle.capnp_schema.specs.Footprint.{Place as NamedPlace}
 use Rattle.capnp_schema.specs.SlotValue.{bits_at, default_bits, slot_number}
 use Rattle.capnp_schema.specs.Laws.{struct_names}
 use Rattle.capnp_schema.specs.Accepted.{IsAccepted, LiesInside}
+use Rattle.capnp_schema.specs.Ranges.{HasRanges}
 use Rattle.capnp_schema.specs.declared.plan.Place.{Place}
 use Rattle.capnp_schema.specs.declared.plan.Place.TheVariants as place
 use Rattle.capnp_schema.specs.declared.plan.SlotPlan.{SlotPlan}
@@ -72,15 +76,53 @@ abbrev pub discriminant_bits : ℕ → NamedPlace → Bool
 discriminant_bits first (DataBit i) = is_in first 16 i
 discriminant_bits first (PointerAt i) = false
 
+-- a data slot has 1, 8, 16, 32 or 64 bits
+abbrev pub is_slot_width : ℕ → Bool
+is_slot_width bits = (bits == 1) || (bits == 8) || (bits == 16) || (bits == 32) || (bits == 64)
+
+-- a data slot starts at a multiple of its bits, and its mask has no more of them
+pub record IsDataSlot (start bits mask : ℕ) : Type 0 where
+  pub is_width : IsTrue (is_slot_width bits)
+  pub is_aligned : start % bits ≡ 0
+  pub mask_fits : mask < 2 ^ bits
+
+abbrev pub IsSlotPlace : Place → Type 0
+IsSlotPlace place.Nothing = ⊤
+IsSlotPlace (place.Bits start bits mask) = IsDataSlot start bits mask
+IsSlotPlace (place.Pointer number) = ⊤
+IsSlotPlace (place.Group brand) = ⊤
+
+-- a place's bits lie inside a struct's data section, and its pointer inside the pointer section
+abbrev pub PlaceFits : Place → StructTree → Type 0
+PlaceFits place.Nothing s = ⊤
+PlaceFits (place.Bits start bits mask) s = start + bits ≤ 8 * length s.bytes
+PlaceFits (place.Pointer number) s = number < tree_count s.pointers
+PlaceFits (place.Group brand) s = ⊤
+
+-- a plan's place lies inside a struct, and so do the 16 bits of a member's discriminant
+pub record PlanFits (plan : SlotPlan) (s : StructTree) : Type 0 where
+  pub place : PlaceFits plan.place s
+  pub member : IfSome plan.member (λ m. m.0 + 16 ≤ 8 * length s.bytes)
+
+-- the sections of a node's structs, and of a brand's
+abbrev pub node_size : Node → StructSize
+node_size n = record { data_words = n.data_word_count; pointers = n.pointer_count }
+
+abbrev pub brand_size : Schemas → ℕ → StructSize
+brand_size set b = node_size (node_of set b)
+
 -- a plan's place is the field's footprint and has the slot's number; its member is the discriminant with the field's
--- value, and there is none for a plain field
+-- value, and there is none for a plain field; both lie inside each struct that has the brand's sections
 pub record IsPlan (set : Schemas) (b : ℕ) (f : TypedField) (plan : SlotPlan) : Type 0 where
   pub names : (p : NamedPlace) → place_names set plan.place p ≡ footprint set f p
   pub number : HasSlotNumber f.field.kind f.type plan.place
   pub member : IfSome plan.member (λ m. IsTrue (is_member f.field) × (m.1 ≡ f.field.discriminant_value) × ((p : NamedPlace) → discriminant_bits m.0 p ≡ discriminant_names (node_of set b) p))
   pub plain : IfNone plan.member (IsFalse (is_member f.field))
+  pub slot : IsSlotPlace plan.place
+  pub discriminant : IfSome plan.member (λ m. (m.0 % 16 ≡ 0) × (m.1 < 2 ^ 16))
+  pub fits : (s : StructTree) → HasAtLeast (brand_size set b) s → PlanFits plan s
 
--- the plan of each field of an accepted set is that, and its numbers fit
+-- the plan of each field of an accepted set is that, where the set's numbers fit their integer types
 abbrev pub PlansStand : Type 0
-PlansStand = (set : Schemas) → IsAccepted set → (b i : ℕ) → b < length set.brands → i < length (fields_of set b) →
+PlansStand = (set : Schemas) → IsAccepted set → HasRanges set → (b i : ℕ) → b < length set.brands → i < length (fields_of set b) →
     LiesInNode (node_of set b) (field_at set b i) × IsPlan set b (field_at set b i) (plan_of set b (field_at set b i))

@@ -1,5 +1,9 @@
 //! What holds of every set of schemas that was accepted: laws that everything which reads or writes fields stands on.
+ghost use Rattle.capnp_schema.specs.Entries.{lists_seen};
 ghost use Rattle.capnp_schema.specs.Laws.{GroupNamesItsParts, HeightsFall, NoneNamesDiscriminant, OnlyMembersMeet};
+ghost use Rattle.capnp_schema.specs.Ranges.{HasRanges};
+
+use crate::set::SchemaSet;
 
 /// Two fields of a struct or group name the same data bit or pointer only where both are members
 /// of its union.
@@ -26,3 +30,11 @@ pub fn group_names_its_parts()
 pub fn heights_fall()
     ensures { HeightsFall }
 {}
+
+/// The numbers of a set fit the integer types of its records: discriminants, offsets and section sizes, the bytes of texts
+/// and words, and each default, which has no more bits than its type. The numbers of types take 1, 2, 4 or 8 bytes.
+pub fn numbers_fit(set: &SchemaSet)
+    ensures { HasRanges (lists_seen set.now) }
+{
+    let _ = set.accepted_lists();
+}

@@ -10,6 +10,7 @@ mod layers;
 mod lists;
 mod names;
 pub mod plan;
+mod ranges;
 pub mod record;
 pub mod schema;
 pub mod set;

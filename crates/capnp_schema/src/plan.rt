@@ -118,7 +118,8 @@ fn member_of(node: &NodeRecord, field: &FieldRecord) -> Option<(u32, u16)>
 }
 
 /// The plan of each field of an accepted set names what the field's footprint names and holds the number of the field's
-/// slot; of a member it names the discriminant. Its numbers fit.
+/// slot; of a member it names the discriminant. It lies inside each struct that has the sections of the field's brand, and
+/// a data slot has 1, 8, 16, 32 or 64 bits, starts at a multiple of these, and has a mask of no more. Its numbers fit.
 #[tactic(auto, using(crate::proofs::Plans::plans_stand))]
 pub fn plans_stand()
     ensures { PlansStand }

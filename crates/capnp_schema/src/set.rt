@@ -17,6 +17,7 @@ use crate::check::types::check_lengths;
 use crate::check::unions::{check_discriminants, check_unions};
 use crate::check::values::check_values;
 use crate::lists::Lists;
+use crate::ranges::numbers_fit;
 use crate::record::{BrandRecord, EnumRecord, NodeRecord};
 use crate::tables::{FieldTables, field_tables};
 use capnp_wire::error::Result;
@@ -37,11 +38,12 @@ impl Model for SchemaSet {
 
     ghost use Rattle.capnp_schema.specs.Accepted.{IsAccepted};
     ghost use Rattle.capnp_schema.specs.Entries.{lists_seen};
+    ghost use Rattle.capnp_schema.specs.Ranges.{HasRanges};
     ghost use Rattle.capnp_schema.specs.Tables.{AreTables};
 
     ghost view = { λ s. s.lists };
 
-    ghost invariant = { λ s. IsAccepted (lists_seen s.lists) × AreTables (lists_seen s.lists) s.tables };
+    ghost invariant = { λ s. IsAccepted (lists_seen s.lists) × AreTables (lists_seen s.lists) s.tables × HasRanges (lists_seen s.lists) };
 }
 
 /// The tables of fields by name, of lists that meet the twelve rules. A refusal names a rule that is broken and where, or
@@ -83,6 +85,7 @@ impl SchemaSet {
         };
         let by_name = check(alloc, &lists)?;
         let tables = field_tables(alloc, &lists, by_name)?;
+        numbers_fit(&lists);
         Ok(SchemaSet { lists, tables })
     }
 

@@ -74,7 +74,8 @@ impl<'s> Field<'s> {
         Ok(AnnotationList::of_field(self.schema.set, self.schema.number, self.index))
     }
 
-    /// Where the field stands in its struct, worked out when the set was made.
+    /// Where the field stands in its struct, worked out when the set was made. It lies inside each struct that has the
+    /// sections of the field's schema.
     pub fn plan(&self) -> SlotPlan
         ensures is { result ≡ plan_of (set_of (schema_of self.now)) (number_of (schema_of self.now)) (struct_field (schema_of self.now) (index_of self.now)) }
         ensures stands { index_of self.now < length (struct_fields (schema_of self.now)) → IsPlan (set_of (schema_of self.now)) (number_of (schema_of self.now)) (struct_field (schema_of self.now) (index_of self.now)) result }

@@ -3,6 +3,7 @@ ghost use Rattle.std.specs.Prelude.{◌≡◌, ◌<◌, length};
 ghost use Rattle.capnp_schema.specs.Accepted.{IsAccepted};
 ghost use Rattle.capnp_schema.specs.Entries.{lists_seen};
 ghost use Rattle.capnp_schema.specs.Annotated.{enumerant_at};
+ghost use Rattle.capnp_schema.specs.Ranges.{HasRanges};
 ghost use Rattle.capnp_schema.specs.Schema.{enum_at, seen_enum, seen_enumerant};
 
 use crate::lists::Lists;
@@ -10,10 +11,11 @@ use crate::record::{EnumRecord, EnumerantRecord};
 use crate::set::SchemaSet;
 
 impl SchemaSet {
-    /// The lists, which meet the twelve rules.
+    /// The lists, which meet the twelve rules, and whose numbers fit their integer types.
     pub(crate) fn accepted_lists(&self) -> &Lists
         ensures is { result.now ≡ self.now }
         ensures accepted { IsAccepted (lists_seen result.now) }
+        ensures ranges { HasRanges (lists_seen result.now) }
     {
         &self.lists
     }
