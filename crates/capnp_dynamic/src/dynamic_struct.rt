@@ -4,6 +4,7 @@ use crate::dynamic_value;
 use crate::placed::{has_planned, read_placed};
 use capnp_base::any_pointer;
 use capnp_base::traits::{OwnedStruct, SetterInput};
+use capnp_schema::laws::numbers_fit;
 use capnp_schema::schema::{Field, StructSchema};
 use capnp_wire::error::Result;
 use capnp_wire::laws::{copied_structs_are_well_formed, struct_is_well_formed};
@@ -18,16 +19,14 @@ pub struct Reader<'a> {
 }
 
 impl<'a> Reader<'a> {
-    ghost use Rattle.std.specs.Prelude.{Ok, IfErr, IfOk, IsOkAnd, ◌≡◌, ◌<◌, ◌^◌};
+    ghost use Rattle.std.specs.Prelude.{Ok, IfErr, IfOk, IsOkAnd, ◌≡◌};
     ghost use Rattle.capnp_wire.specs.Standing.{struct_levels, struct_of};
     ghost use Rattle.capnp_wire.specs.Total.{IsSize, IsSizeRefusal};
     ghost use Rattle.capnp_wire.specs.Words.{first_fault_of_all, words_of_struct};
-    ghost use Rattle.capnp_schema.specs.FieldLists.{IsFieldOf, IsFound, index_of, typed_of};
+    ghost use Rattle.capnp_schema.specs.FieldLists.{IsFieldOf, IsFound, index_of};
     ghost use Rattle.capnp_schema.specs.Query.{field_named};
-    ghost use Rattle.capnp_schema.specs.Schema.{default_of};
-    ghost use Rattle.capnp_schema.specs.SlotValue.{default_bits};
     ghost use Rattle.capnp_schema.specs.StructHandles.{IsStruct, set_of, struct_field, struct_records};
-    ghost use Rattle.capnp_schema.specs.Types.{seen_type, width};
+    ghost use Rattle.capnp_schema.specs.Types.{seen_type};
     ghost use Rattle.capnp_records.specs.Step.{has, which};
     ghost use Rattle.capnp_dynamic.specs.Handles.{reader_of, schema_of};
     ghost use Rattle.capnp_dynamic.specs.Reads.{field_seen, found_has, found_seen, kind_read};
@@ -69,14 +68,24 @@ impl<'a> Reader<'a> {
     pub fn get(self, field: Field<'a>) -> Result<dynamic_value::Reader<'a>>
         requires schema { IsStruct (schema_of self) }
         requires field { IsFieldOf (schema_of self) (index_of field) field }
-        requires mask { default_bits (default_of (typed_of field).field) < 2 ^ width (typed_of field).type }
         ensures value { answered result ≡ field_seen self.entry (index_of field.entry) }
         ensures typed { IfOk result (IsOf (set_of (schema_of self.entry)) (struct_field (schema_of self.entry) (index_of field.entry)).type) }
     {
+        let set = self.schema.get_set();
+        numbers_fit(set);
         let place = field.plan().place;
         let variant = field.get_type().which();
         let kind = &field.get_proto().kind;
-        read_placed(&self.reader, self.schema.get_set(), kind, variant, place)
+        read_placed(&self.reader, set, kind, variant, place)
+    }
+
+    /// What the field of a name has, as `get`. Refused with `FieldNotFound` where there is none of that name.
+    pub fn get_named(self, field_name: &str) -> Result<dynamic_value::Reader<'a>>
+        requires { IsStruct (schema_of self) }
+        ensures value { answered result ≡ found_seen self.entry (field_named (struct_records (schema_of self.entry)) field_name.now) }
+    {
+        let field = self.schema.get_field_by_name(field_name)?;
+        self.get(field)
     }
 
     /// The member whose discriminant value stands in the struct; none without a union or for an unknown number. The

@@ -4,7 +4,7 @@ use Rattle.capnp_wire.specs.Standing.{struct_levels, struct_of}
 use Rattle.capnp_schema.specs.FieldLists.{index_of}
 use Rattle.capnp_schema.specs.Plan.{place_of}
 use Rattle.capnp_schema.specs.Schema.{Field, Schemas, default_of, kind_default, seen_kind}
-use Rattle.capnp_schema.specs.SlotValue.{default_bits}
+use Rattle.capnp_schema.specs.Ranges.{HasRanges}
 use Rattle.capnp_schema.specs.StructHandles.{number_of, set_of, struct_field}
 use Rattle.capnp_schema.specs.Tests.{seen_variant}
 use Rattle.capnp_schema.specs.Types.{SchemaType, width}
@@ -23,18 +23,15 @@ sound-same : {set set' : Schemas} {t t' : SchemaType} {p p' : Place} → set' �
 sound-same {set = set} {t = t} {t' = t'} {p = p} {p' = p'} e f g h =
     subst (λ z. IsSound z t' p') (sym e) (subst (λ z. IsSound set z p') (sym f) (subst (λ z. IsSound set t z) (sym g) h))
 
-mask-same : {r r' : Field} {t t' : SchemaType} → r ≡ r' → t ≡ t' → default_bits (default_of r) < 2 ^ width t → default_bits (default_of r') < 2 ^ width t'
-mask-same {r' = r'} {t = t} e f h = subst (λ z. default_bits (default_of r') < 2 ^ width z) f (subst (λ z. default_bits (default_of z) < 2 ^ width t) e h)
-
 pub read_placed-requires-clause-sound : goal.read_placed-requires-clause-sound
 read_placed-requires-clause-sound c =
     let s : StructSchema = schema_of c.args.self in
     let type : seen_variant c.which-variant.result ≡ (struct_field s (index_of c.args.field)).type =
     ap seen_variant c.which-variant.ensures ∙ (seen_which c.get_type.result ∙ (c.get_type.ensures ∙ c.requires.field.type)) in
-    sound-same c.get_set.ensures type
+    sound-same c.get_set-set.ensures type
     (ap (λ (p : SlotPlan). p.place) c.plan-place.ensures.is ∙ ap (λ (z : StructSchema). place_of (struct_field z (index_of c.args.field)).field.kind (struct_field z (index_of c.args.field)).type) c.requires.field.schema)
     (place_sound (set_of s) c.requires.schema.accepted (number_of s) (index_of c.args.field) c.requires.schema.number c.requires.field.inside c.which-variant.result type
-    (mask-same c.requires.field.field c.requires.field.type c.requires.mask))
+    ((subst HasRanges c.get_set-set.ensures c.numbers_fit.ensures).masks (number_of s) (index_of c.args.field) c.requires.schema.number c.requires.field.inside))
 
 pub returns-clause-value : goal.returns-clause-value
 returns-clause-value c =
@@ -42,7 +39,7 @@ returns-clause-value c =
     let type : seen_variant c.which-variant.result ≡ (struct_field s (index_of c.args.field)).type =
     ap seen_variant c.which-variant.ensures ∙ (seen_which c.get_type.result ∙ (c.get_type.ensures ∙ c.requires.field.type)) in
     c.read_placed.ensures.value
-    ∙ (ap (λ (z : Schemas). placed_read z (Left (struct_levels (reader_of c.args.self))) (struct_of (reader_of c.args.self)) (kind_default (seen_kind c.get_proto.result.now.kind)) (seen_variant c.which-variant.result) c.plan-place.result.place) c.get_set.ensures
+    ∙ (ap (λ (z : Schemas). placed_read z (Left (struct_levels (reader_of c.args.self))) (struct_of (reader_of c.args.self)) (kind_default (seen_kind c.get_proto.result.now.kind)) (seen_variant c.which-variant.result) c.plan-place.result.place) c.get_set-set.ensures
     ∙ (ap (λ (z : Field). placed_read (set_of s) (Left (struct_levels (reader_of c.args.self))) (struct_of (reader_of c.args.self)) (default_of z) (seen_variant c.which-variant.result) c.plan-place.result.place) (c.get_proto.ensures ∙ c.requires.field.field)
     ∙ (ap (λ (z : SchemaType). placed_read (set_of s) (Left (struct_levels (reader_of c.args.self))) (struct_of (reader_of c.args.self)) (default_of (struct_field s (index_of c.args.field)).field) z c.plan-place.result.place) type
     ∙ (ap (λ (z : Place). placed_read (set_of s) (Left (struct_levels (reader_of c.args.self))) (struct_of (reader_of c.args.self)) (default_of (struct_field s (index_of c.args.field)).field) (struct_field s (index_of c.args.field)).type z)
@@ -53,4 +50,4 @@ pub returns-clause-typed : goal.returns-clause-typed
 returns-clause-typed c =
     let s : StructSchema = schema_of c.args.self in
     subst (λ (t : SchemaType). IfOk c.read_placed.result (IsOf (set_of s) t)) (ap seen_variant c.which-variant.ensures ∙ (seen_which c.get_type.result ∙ (c.get_type.ensures ∙ c.requires.field.type)))
-    (subst (λ (z : Schemas). IfOk c.read_placed.result (IsOf z (seen_variant c.which-variant.result))) c.get_set.ensures c.read_placed.ensures.typed)
+    (subst (λ (z : Schemas). IfOk c.read_placed.result (IsOf z (seen_variant c.which-variant.result))) c.get_set-set.ensures c.read_placed.ensures.typed)
