@@ -25,7 +25,7 @@ none_lengths xs ys i y e at_x at_y =
     let h : None ≡ Some (length y) = ap (option_map length) at_x ∙ sym (slice_get-map length xs i) ∙ ap (λ zs. slice_get zs i) e ∙ slice_get-map length ys i ∙ ap (option_map length) (sym at_y) in cc
 
 pub brand_found : (set : Schemas) (b : ℕ) (x : Brand) → Some x ≡ slice_get set.brands b → brand_at set b ≡ x
-brand_found set b x e = ap (λ o. unwrap_or o no_brand) (sym e)
+brand_found set b x e = ap (λ o. unwrap_or o (no_brand set)) (sym e)
 
 pub node_found : (set : Schemas) (b : ℕ) (x : Brand) (n : Node) → Some x ≡ slice_get set.brands b → Some n ≡ slice_get set.nodes x.node → node_of set b ≡ n
 node_found set b x n e is = ap (λ (y : Brand). node_at set y.node) (brand_found set b x e) ∙ ap (λ o. unwrap_or o no_node) (sym is)
@@ -65,7 +65,7 @@ module _ (set : Schemas) (accepted : IsAccepted set) where
   struct_is b x n e is = ap (λ (m : Node). with_types m.annotations x.annotation_types.own) (sym (node_found set b x n e is)) ∙ ap (λ (y : Brand). with_types (node_of set b).annotations y.annotation_types.own) (sym (brand_found set b x e))
 
   pub no_struct : (b : ℕ) → None ≡ slice_get set.brands b → [] ≡ struct_annotations set b
-  no_struct b e = no_types_for (node_of set b).annotations ∙ ap (λ o. with_types (node_of set b).annotations (unwrap_or o no_brand).annotation_types.own) e
+  no_struct b e = no_types_for (node_of set b).annotations ∙ ap (λ o. with_types (node_of set b).annotations (unwrap_or o (no_brand set)).annotation_types.own) e
 
   -- ---- fields ----
 
@@ -73,12 +73,12 @@ module _ (set : Schemas) (accepted : IsAccepted set) where
   in_brands b i f at = ⊎_elim (λ h. h) (λ past. absurd (gone (slice_get_past set.brands b past))) (cases_lt b (length set.brands))
     where
       gone : slice_get set.brands b ≡ None → ⊥
-      gone e = let none : fields_of set b ≡ [] = ap (λ o. typed (node_of set b).fields (unwrap_or o no_brand).field_types) e ∙ typed_nothing (node_of set b).fields in
+      gone e = let none : fields_of set b ≡ [] = ap (λ o. typed (node_of set b).fields (unwrap_or o (no_brand set)).field_types) e ∙ typed_nothing (node_of set b).fields in
           let there : Some f ≡ None = at ∙ ap (λ fs. slice_get fs i) none in cc
 
   node_there : (b : ℕ) → b < length set.brands → Some (node_of set b) ≡ slice_get set.nodes (brand_at set b).node
   node_there b h =
-      let lt : (brand_at set b).node < length set.nodes = subst (λ (y : Brand). y.node < length set.nodes) (sym (unwrap_or-slice_get set.brands b no_brand)) (accepted.rule2.node b no_brand h) in
+      let lt : (brand_at set b).node < length set.nodes = subst (λ (y : Brand). y.node < length set.nodes) (sym (unwrap_or-slice_get set.brands b (no_brand set))) (accepted.rule2.node b (no_brand set) h) in
       ap Some (unwrap_or-slice_get set.nodes (brand_at set b).node no_node) ∙ sym (slice_get-get_or set.nodes (brand_at set b).node no_node lt)
 
   pub few_at : (b i : ℕ) (f : TypedField) → Some f ≡ slice_get (fields_of set b) i → length f.field.annotations < 2 ^ 29
@@ -147,7 +147,7 @@ pub no_child_seen : (children : List (Vec TypeHandle Global)) (i : ℕ) → None
 no_child_seen children i e = ap (option_map (λ (ts : Vec TypeHandle Global). map seen_type ts.items)) e ∙ sym (slice_get-map (λ (ts : Vec TypeHandle Global). map seen_type ts.items) children i)
 
 pub no_brand_field : (set : Schemas) (b i : ℕ) → None ≡ slice_get set.brands b → [] ≡ field_annotations set b i
-no_brand_field set b i e = no_types_for (field_at set b i).field.annotations ∙ ap (λ o. with_types (field_at set b i).field.annotations (child_types (unwrap_or o no_brand).annotation_types i)) e
+no_brand_field set b i e = no_types_for (field_at set b i).field.annotations ∙ ap (λ o. with_types (field_at set b i).field.annotations (child_types (unwrap_or o (no_brand set)).annotation_types i)) e
 
 pub no_child_field : (set : Schemas) (b i : ℕ) (x : Brand) → Some x ≡ slice_get set.brands b → None ≡ slice_get x.annotation_types.children i → [] ≡ field_annotations set b i
 no_child_field set b i x e none = no_types_for (field_at set b i).field.annotations ∙ ap (λ o. with_types (field_at set b i).field.annotations (unwrap_or o [])) none

@@ -54,7 +54,7 @@ same_lengths xs ys e = sym (length-map xs length) ∙ ap length e ∙ length-map
 
 pub few_brand_children : (set : Schemas) → Rule3 set → Rule2 set → (b : ℕ) (x : Brand) → Some x ≡ slice_get set.brands b → length x.annotation_types.children ≤ 65535
 few_brand_children set rule3 lengths b x is =
-    let same : brand_at set b ≡ x = ap (λ o. unwrap_or o no_brand) (sym is) in
+    let same : brand_at set b ≡ x = ap (λ o. unwrap_or o (no_brand set)) (sym is) in
     let types = lengths.brands b (slice_get_within set.brands b x (sym is)) in
     let counted = same_lengths (brand_at set b).annotation_types.children (map (λ (f : Field). f.annotations) (node_of set b).fields) types.1.1 in
     let h : length (brand_at set b).annotation_types.children ≤ 65535 = omega (arith, counted, length-map (node_of set b).fields (λ (f : Field). f.annotations), few_fields set rule3.fields (brand_at set b).node) in

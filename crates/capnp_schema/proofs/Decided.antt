@@ -116,8 +116,8 @@ is_group_of set b h = by_brand (slice_get set.brands b) refl
     by_node None = refl
     by_node (Some n) = refl
 
-    by_brand : (o : Option Brand) → slice_get set.brands b ≡ o → node_is_group (node_of_entry set (slice_get set.brands b)) ≡ (node_at set (unwrap_or (slice_get set.brands b) no_brand).node).is_group
-    by_brand None e = let there = slice_get-get_or set.brands b no_brand h in cc
+    by_brand : (o : Option Brand) → slice_get set.brands b ≡ o → node_is_group (node_of_entry set (slice_get set.brands b)) ≡ (node_at set (unwrap_or (slice_get set.brands b) (no_brand set)).node).is_group
+    by_brand None e = let there = slice_get-get_or set.brands b (no_brand set) h in cc
     by_brand (Some x) e = rw e (by_node (slice_get set.nodes x.node))
 
 -- ---- rule 1 ----

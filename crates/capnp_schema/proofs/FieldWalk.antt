@@ -23,7 +23,7 @@ refused set kind rule table entry field is broken = subst (IsKindOf set) (sym is
 pub found_node : (set : Schemas) (b : ℕ) (n : Node) → Some n ≡ brand_node set b → node_of set b ≡ n
 found_node set b n e = by_brand (slice_get set.brands b) e
   where
-    by_brand : (o : Option Brand) → Some n ≡ node_of_entry set o → node_at set (unwrap_or o no_brand).node ≡ n
+    by_brand : (o : Option Brand) → Some n ≡ node_of_entry set o → node_at set (unwrap_or o (no_brand set)).node ≡ n
     by_brand None q = cc
     by_brand (Some x) q = ap (λ o. unwrap_or o no_node) (sym q)
 

@@ -1,5 +1,5 @@
 -- What the code looks up about groups is what the rules speak of.
-use Rattle.std.proofs.Common.{ℕ, ◌≡◌, ◌<◌, ◌≤◌, ⊎_elim, List, [], length, refl, sym, ap, ◌∙◌, subst, Option, Some, None, slice_get, get_or}
+use Rattle.std.proofs.Common.{ℕ, ◌≡◌, ◌<◌, ◌≤◌, ⊎_elim, List, [], length, arith, refl, sym, ap, ◌∙◌, subst, Option, Some, None, slice_get, get_or}
 use Rattle.std.proofs.lemmas.Option.{slice_get_past, same_Some, slice_get-get_or}
 use Rattle.std.proofs.lemmas.Bool.{cases_lt}
 use Rattle.std.specs.Option.{unwrap_or}
@@ -12,23 +12,26 @@ use Rattle.capnp_schema.proofs.Typed.{typed_nothing}
 
 -- ---- nodes ----
 
-pub node_missing : (set : Schemas) (b : ℕ) → b < length set.brands → None ≡ brand_node set b → node_of set b ≡ no_node
-node_missing set b within e = at (brand_entry set b) (slice_get-get_or set.brands b no_brand within) e
+pub node_missing : (set : Schemas) (b : ℕ) → None ≡ brand_node set b → node_of set b ≡ no_node
+node_missing set b e = at (brand_entry set b) e
   where
     at_node : (o : Option Node) → None ≡ o → unwrap_or o no_node ≡ no_node
-    at_node None e = refl
-    at_node (Some m) e = cc
+    at_node o e = ap (λ (m : Option Node). unwrap_or m no_node) (sym e)
 
-    at : (o : Option Brand) → o ≡ Some (get_or set.brands b no_brand) → None ≡ node_of_entry set o → node_at set (unwrap_or o no_brand).node ≡ no_node
-    at None there e = cc
-    at (Some r) there e = at_node (slice_get set.nodes r.node) e
+    at : (o : Option Brand) → None ≡ node_of_entry set o → node_at set (unwrap_or o (no_brand set)).node ≡ no_node
+    at None e = at_node (slice_get set.nodes (length set.nodes)) (sym (slice_get_past set.nodes (length set.nodes) (omega arith)))
+    at (Some r) e = at_node (slice_get set.nodes r.node) e
+
+-- past the brands stands a node with nothing in it
+pub node_past : (set : Schemas) (b : ℕ) → length set.brands ≤ b → node_of set b ≡ no_node
+node_past set b past = node_missing set b (sym (ap (node_of_entry set) (slice_get_past set.brands b past)))
 
 -- ---- targets ----
 
 -- past the brands there are no fields
 pub no_fields : (set : Schemas) (b : ℕ) → length set.brands ≤ b → fields_of set b ≡ []
 no_fields set b past = let none : slice_get set.brands b ≡ None = slice_get_past set.brands b past in
-    ap (λ (o : Option Brand). typed (node_of set b).fields (unwrap_or o no_brand).field_types) none ∙ typed_nothing (node_of set b).fields
+    ap (λ (o : Option Brand). typed (node_of set b).fields (unwrap_or o (no_brand set)).field_types) none ∙ typed_nothing (node_of set b).fields
 
 pub past_fields : (set : Schemas) (b i : ℕ) → length (fields_of set b) ≤ i → group_target set b i ≡ None
 past_fields set b i h = ap entry_target (slice_get_past (fields_of set b) i h)

@@ -70,17 +70,17 @@ brand_stands set b x n is there types = record {
 }
   where
     same : x ≡ brand_at set b
-    same = ap (λ o. unwrap_or o no_brand) is
+    same = ap (λ o. unwrap_or o (no_brand set)) is
 
 pub lacks_types : (set : Schemas) (b : ℕ) (x : Brand) (n : Node) → Some x ≡ slice_get set.brands b → Some n ≡ brand_node set b → (BrandHasTypes n x → ⊥) → IsBroken set 2 InBrands b 65535
 lacks_types set b x n is there broken = brand_lengths b (slice_get_within set.brands b x (sym is)) (λ h. broken (subst (BrandHasTypes n) (sym same) (subst (λ m. BrandHasTypes m (brand_at set b)) (found_node set b n there) h)))
   where
     same : x ≡ brand_at set b
-    same = ap (λ o. unwrap_or o no_brand) is
+    same = ap (λ o. unwrap_or o (no_brand set)) is
 
 pub all_brands : (set : Schemas) → ((b : ℕ) → b < length set.brands → BrandStands set b) → All EnumHasTypes set.enums → Rule2 set
 all_brands set each enums = record {
-  node = λ k d h. subst (λ (y : Brand). y.node < length set.nodes) (unwrap_or-slice_get set.brands k no_brand ∙ get_or_other set.brands k no_brand d h) (each k h).node;
+  node = λ k d h. subst (λ (y : Brand). y.node < length set.nodes) (unwrap_or-slice_get set.brands k (no_brand set) ∙ get_or_other set.brands k (no_brand set) d h) (each k h).node;
   brands = λ b h. (each b h).types;
   enums = enums;
 }

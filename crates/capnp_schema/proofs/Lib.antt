@@ -4,6 +4,7 @@ pub mod AnnotationTypes
 pub mod BrandRefusals
 pub mod BrokenSets
 pub mod BuiltinLemmas
+pub mod ByNumber
 pub mod Decided
 pub mod EntryTables
 pub mod EntryWalk
@@ -24,6 +25,7 @@ pub mod NameOrder
 pub mod NameSearch
 pub mod NameTables
 pub mod PlanFits
+pub mod NamedTypes
 pub mod PlanRows
 pub mod Plans
 pub mod RangeLemmas

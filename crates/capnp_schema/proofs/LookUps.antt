@@ -49,11 +49,11 @@ counted_fields set accepted b h = sym (length-map (fields_of set b) (λ (f : Typ
 pub records_here : (set : Schemas) → IsAccepted set → (b : ℕ) (x : Brand) → Some x ≡ slice_get set.brands b → records_of set b ≡ (node_at set x.node).fields
 records_here set accepted b x is =
     records_inside set accepted b (slice_get_within set.brands b x (sym is))
-    ∙ ap (λ (o : Option Brand). (node_at set (unwrap_or o no_brand).node).fields) (sym is)
+    ∙ ap (λ (o : Option Brand). (node_at set (unwrap_or o (no_brand set)).node).fields) (sym is)
 
 -- and one past the last has none
 pub no_records : (set : Schemas) (b : ℕ) → None ≡ slice_get set.brands b → records_of set b ≡ []
-no_records set b is = ap (λ (o : Option Brand). map (λ (f : TypedField). f.field) (typed (node_at set (unwrap_or o no_brand).node).fields (unwrap_or o no_brand).field_types)) (sym is) ∙ ap (λ (fs : List TypedField). map (λ (f : TypedField). f.field) fs) (typed_nothing (node_at set 0).fields)
+no_records set b is = ap (λ (o : Option Brand). map (λ (f : TypedField). f.field) (typed (node_at set (unwrap_or o (no_brand set)).node).fields (unwrap_or o (no_brand set)).field_types)) (sym is) ∙ ap (λ (fs : List TypedField). map (λ (f : TypedField). f.field) fs) (typed_nothing (node_at set (length set.nodes)).fields)
 
 -- ---- plans ----
 

@@ -30,7 +30,7 @@ of_node set accepted P all b b_in =
     All-entry P set.nodes (brand_at set b).node (node_of set b) all (entry-some set.nodes (brand_at set b).node no_node inside)
   where
     inside : (brand_at set b).node < length set.nodes
-    inside = All-entry (λ (x : Brand). x.node < length set.nodes) set.brands b (brand_at set b) accepted.rule2.node (entry-some set.brands b no_brand b_in)
+    inside = All-entry (λ (x : Brand). x.node < length set.nodes) set.brands b (brand_at set b) accepted.rule2.node (entry-some set.brands b (no_brand set) b_in)
 
 pub typed-field : (fs : List Field) (ts : List SchemaType) (i : ℕ) → i < length (typed fs ts) → slice_get fs i ≡ Some (unwrap_or (slice_get (typed fs ts) i) no_field).field
 typed-field [] ts i a = absurd (omega arith)

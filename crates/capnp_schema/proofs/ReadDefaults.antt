@@ -83,7 +83,7 @@ brand_there set b i h = ⊎_elim (λ inside. inside) (λ past. absurd (none past
   where
     none : length set.brands ≤ b → ⊥
     none past =
-        let gone : brand_at set b ≡ no_brand = ap (λ (o : Option Brand). unwrap_or o no_brand) (slice_get_past set.brands b past) in
+        let gone : brand_at set b ≡ (no_brand set) = ap (λ (o : Option Brand). unwrap_or o (no_brand set)) (slice_get_past set.brands b past) in
         let empty : fields_of set b ≡ [] = ap (λ (x : Brand). typed (node_of set b).fields x.field_types) gone ∙ typed_nothing (node_of set b).fields in
         let count = ap (λ (l : List TypedField). length l) empty in
         absurd (omega arith)

@@ -130,7 +130,7 @@ fields_alone set (suc groups) b p before out some within missing fields =
     less = omega arith
 
     none : (p : Place) → discriminant_names (node_of set b) p ≡ false
-    none (DataBit i) = rw (node_missing set b within missing) refl
+    none (DataBit i) = rw (node_missing set b missing) refl
     none (PointerAt i) = refl
 
 -- the group that a field names is there

@@ -19,7 +19,7 @@ use Rattle.capnp_schema.proofs.MemberTables.{found_none, is_of, no_member}
 module _ (set : Schemas) (accepted : IsAccepted set) (nodes : List NodeRecord) (are : map seen_node nodes ≡ set.nodes) (b g : ℕ) (inside : b < length set.brands) (is : g ≡ (brand_at set b).node) where
   pub node_inside : g < length nodes
   node_inside =
-      let there = subst (λ (x : Brand). x.node < length set.nodes) (sym (unwrap_or-slice_get set.brands b no_brand)) (accepted.rule2.node b no_brand inside) in
+      let there = subst (λ (x : Brand). x.node < length set.nodes) (sym (unwrap_or-slice_get set.brands b (no_brand set))) (accepted.rule2.node b (no_brand set) inside) in
       let count = sym (length-map nodes seen_node) ∙ ap (λ (l : List Node). length l) are in
       omega (arith, there, count, is)
 

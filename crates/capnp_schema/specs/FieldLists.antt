@@ -1,7 +1,6 @@
 -- Handles of fields, and lists of them, as clauses speak of them.
 use Rattle.std.specs.Prelude.{ℕ, ◌<◌, ◌≡◌, List, length, Option, Some, None}
-use Rattle.capnp_schema.specs.Schema.{TypedField, seen_field}
-use Rattle.capnp_schema.specs.Types.{seen_type}
+use Rattle.capnp_schema.specs.Schema.{TypedField}
 use Rattle.capnp_schema.specs.StructHandles.{struct_field, struct_fields}
 use Rattle.capnp_schema.specs.declared.schema.structs.StructSchema.{StructSchema}
 use Rattle.capnp_schema.specs.declared.schema.fields.Field.{Field}
@@ -15,17 +14,15 @@ schema_of f = f.schema
 abbrev pub index_of : Field → ℕ
 index_of f = f.index
 
--- the record and the type that it hands out
+-- its record, with its type in the brand
 abbrev pub typed_of : Field → TypedField
-typed_of f = record { field = seen_field f.proto.now; type = seen_type f.field_type }
+typed_of f = struct_field (schema_of f) (index_of f)
 
 -- field i of a struct
 pub record IsFieldOf (s : StructSchema) (i : ℕ) (f : Field) : Type 0 where
   pub inside : i < length (struct_fields s)
   pub schema : schema_of f ≡ s
   pub index : index_of f ≡ i
-  pub field : (typed_of f).field ≡ (struct_field s i).field
-  pub type : (typed_of f).type ≡ (struct_field s i).type
 
 -- the field of an index, where there is one
 abbrev pub IsFound : StructSchema → Option ℕ → Option Field → Type 0

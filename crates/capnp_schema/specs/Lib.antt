@@ -8,6 +8,7 @@ pub mod Builtin
 pub mod Counts
 pub mod Entries
 pub mod EntryRanges
+pub mod Enumerants
 pub mod Enums
 pub mod FieldLists
 pub mod Footprint
@@ -15,6 +16,7 @@ pub mod Laws
 pub mod Lengths
 pub mod ListDefaults
 pub mod Marks
+pub mod Named
 pub mod Names
 pub mod Parents
 pub mod Plan

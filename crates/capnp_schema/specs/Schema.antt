@@ -1,5 +1,5 @@
 -- The three lists of a schema set, as specs see them.
-use Rattle.std.specs.Prelude.{ℕ, ℤ, List, [], ◌∷◌, Bool, false, not, ◌==◌, map, slice_get, string_bytes}
+use Rattle.std.specs.Prelude.{ℕ, ℤ, List, [], ◌∷◌, Bool, false, not, ◌==◌, length, map, slice_get, string_bytes}
 use Rattle.std.specs.Option.{unwrap_or}
 use Rattle.capnp_schema.specs.Types.{SchemaType, VoidType, seen_type}
 use Rattle.capnp_schema.specs.declared.record.ValueRecord.{ValueRecord}
@@ -142,8 +142,9 @@ no_types = record { own = []; children = [] }
 abbrev pub no_node : Node
 no_node = record { id = 0; display_name = []; annotations = []; data_word_count = 0; pointer_count = 0; is_group = false; discriminant_count = 0; discriminant_offset = 0; fields = [] }
 
-abbrev pub no_brand : Brand
-no_brand = record { node = 0; field_types = []; annotation_types = no_types }
+-- a brand of no node: its node's number is one past the last
+abbrev pub no_brand : Schemas → Brand
+no_brand set = record { node = length set.nodes; field_types = []; annotation_types = no_types }
 
 abbrev pub no_enum : Enum
 no_enum = record { id = 0; display_name = []; annotations = []; enumerants = []; annotation_types = no_types }
@@ -152,7 +153,7 @@ abbrev pub node_at : Schemas → ℕ → Node
 node_at set n = unwrap_or (slice_get set.nodes n) no_node
 
 abbrev pub brand_at : Schemas → ℕ → Brand
-brand_at set b = unwrap_or (slice_get set.brands b) no_brand
+brand_at set b = unwrap_or (slice_get set.brands b) (no_brand set)
 
 abbrev pub enum_at : Schemas → ℕ → Enum
 enum_at set e = unwrap_or (slice_get set.enums e) no_enum

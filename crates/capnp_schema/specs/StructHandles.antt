@@ -1,7 +1,8 @@
 -- Handles of struct schemas, as clauses speak of them.
 use Rattle.std.specs.Prelude.{ℕ, ◌<◌, ◌≡◌, List, length}
-use Rattle.capnp_schema.specs.Schema.{Schemas, Node, Field, TypedField, brand_at, node_of, fields_of, field_at, seen_node}
-use Rattle.capnp_schema.specs.Entries.{lists_seen}
+use Rattle.std.specs.Option.{option_map, unwrap_or}
+use Rattle.capnp_schema.specs.Schema.{Schemas, Node, Brand, Field, TypedField, brand_at, node_of, fields_of, field_at}
+use Rattle.capnp_schema.specs.Entries.{brand_entry, lists_seen}
 use Rattle.capnp_schema.specs.Query.{records_of}
 use Rattle.capnp_schema.specs.Accepted.{IsAccepted}
 use Rattle.capnp_schema.specs.declared.schema.structs.StructSchema.{StructSchema}
@@ -14,15 +15,15 @@ set_of s = lists_seen s.set.now
 abbrev pub number_of : StructSchema → ℕ
 number_of s = s.number
 
+-- the number of a brand's node, 0 past the end
+abbrev pub generic_at : Schemas → ℕ → ℕ
+generic_at set b = unwrap_or (option_map (λ (x : Brand). x.node) (brand_entry set b)) 0
+
 -- the number of its node
 abbrev pub generic_of : StructSchema → ℕ
-generic_of s = s.generic
+generic_of s = generic_at (set_of s) (number_of s)
 
--- the node that it hands out
-abbrev pub proto_of : StructSchema → Node
-proto_of s = seen_node s.proto.now
-
--- the node of its brand in the set
+-- the node of its brand; one with nothing in it past the end of the brands
 abbrev pub struct_node : StructSchema → Node
 struct_node s = node_of (set_of s) (number_of s)
 
@@ -42,5 +43,4 @@ pub record IsStruct (s : StructSchema) : Type 0 where
   pub accepted : IsAccepted (set_of s)
   pub number : number_of s < length (set_of s).brands
   pub generic : generic_of s ≡ (brand_at (set_of s) (number_of s)).node
-  pub proto : proto_of s ≡ struct_node s
   pub records : struct_records s ≡ (struct_node s).fields

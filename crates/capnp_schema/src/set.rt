@@ -8,6 +8,7 @@ ghost use Rattle.capnp_schema.specs.Tables.{AreNameTables};
 
 mod annotated;
 mod look_up;
+mod records;
 
 use crate::check::annotations::check_types;
 use crate::check::footprints::check_footprints;

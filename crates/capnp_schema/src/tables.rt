@@ -7,15 +7,19 @@ ghost use Rattle.capnp_schema.specs.Query.{indices_from, keep_index, is_plain};
 ghost use Rattle.capnp_schema.specs.Accepted.{HasEachMember, IsAccepted};
 ghost use Rattle.capnp_schema.specs.Tables.{AreApartBelow, AreMemberTables, AreNameTables, ArePlaced, ArePlainTables, AreTables, IsMemberTable, placed};
 
+mod empty;
+
 use crate::check::names::fields_at;
 use crate::lists::Lists;
 use crate::plan::SlotPlan;
 use crate::plan::table::plan_tables;
 use crate::record::{FieldRecord, NodeRecord};
+use crate::tables::empty::EmptyRecords;
 use capnp_wire::error::Result;
 use std::alloc::Global;
 
-/// For each node tables of its fields, by their indices, and for each brand the plans of its fields.
+/// For each node tables of its fields, by their indices, and for each brand the plans of its fields; and what stands past
+/// the ends of the lists.
 #[derive(Drop)]
 pub(crate) struct FieldTables {
     /// The fields in the order of their names.
@@ -25,6 +29,7 @@ pub(crate) struct FieldTables {
     /// The plain fields.
     pub(crate) plain: Vec<Vec<u16>>,
     pub(crate) plans: Vec<Vec<SlotPlan>>,
+    pub(crate) empty: EmptyRecords,
 }
 
 /// Adds an index where it is kept.
@@ -152,5 +157,6 @@ pub(crate) fn field_tables(
         members,
         plain,
         plans,
+        empty: EmptyRecords::new(alloc),
     })
 }

@@ -1,7 +1,7 @@
 //! Sets that are accepted, and want of memory.
 
 use crate::built_in::new_set;
-use crate::lookup::{find_node, has_enum};
+use capnp_base::introspect::RawBrandedStructSchema;
 use capnp_schema::builtin;
 use capnp_schema::set::SchemaSet;
 use capnp_wire::error::ErrorKind;
@@ -42,10 +42,26 @@ fn a_good_set_is_refused_for_memory_alone(rt: HostRuntime) -> std::result::Resul
 #[test]
 fn entries_are_found_by_number(rt: HostRuntime) -> std::result::Result<(), Fail> {
     let set = new_set(rt.alloc())?;
-    assert_eq!(rt; find_node(&set, 0), Some(0));
-    assert_eq!(rt; find_node(&set, 8), Some(8));
-    assert_eq!(rt; find_node(&set, 9), None);
-    assert!(rt; has_enum(&set, 0));
-    assert!(rt; !has_enum(&set, 1));
+    for number in [0, 8] {
+        let found = set.get_struct(number).expect(&rt, "it is there");
+        assert_eq!(rt; RawBrandedStructSchema::from(found).generic, number);
+        assert!(rt; found == set.struct_schema(number));
+    }
+    assert!(rt; set.get_struct(9).is_none());
+    assert!(rt; set.get_enum(0).is_some());
+    assert!(rt; set.get_enum(1).is_none());
+    Ok(())
+}
+
+#[test]
+fn nothing_stands_past_the_end(rt: HostRuntime) -> std::result::Result<(), Fail> {
+    let alloc = rt.alloc();
+    let set = SchemaSet::new(alloc, Vec::new(alloc), Vec::new(alloc), Vec::new(alloc))?;
+    let none = set.struct_schema(0);
+    assert!(rt; none.get_fields()?.is_empty());
+    assert!(rt; none.get_proto().display_name.is_empty());
+    let none = set.enum_schema(0);
+    assert!(rt; none.get_enumerants()?.is_empty());
+    assert!(rt; none.get_proto().display_name.is_empty());
     Ok(())
 }

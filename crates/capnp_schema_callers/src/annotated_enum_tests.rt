@@ -1,6 +1,5 @@
 //! An enum whose enumerants have annotations, and its own.
 
-use crate::lookup::enum_at;
 use capnp_base::introspect::{RawEnumSchema, Type, TypeVariant};
 use capnp_schema::record::{
     AnnotationRecord, AnnotationTypes, EnumRecord, EnumerantRecord, ValueRecord,
@@ -75,7 +74,7 @@ fn tints(alloc: Global) -> Result<SchemaSet> {
 }
 
 fn enumerant_of(set: &SchemaSet, number: u32, ordinal: u16) -> Result<Option<Enumerant<'_>>> {
-    let Some(schema) = enum_at(set, number) else {
+    let Some(schema) = set.get_enum(number) else {
         return Ok(None);
     };
     let enumerants = schema.get_enumerants()?;
@@ -100,8 +99,8 @@ fn mark(annotation: Annotation<'_>) -> Result<u64> {
 #[test]
 fn enumerants_come_by_their_ordinals(rt: HostRuntime) -> std::result::Result<(), Fail> {
     let set = tints(rt.alloc())?;
-    assert!(rt; enum_at(&set, 1).is_none());
-    let schema = enum_at(&set, 0).expect(&rt, "it is there");
+    assert!(rt; set.get_enum(1).is_none());
+    let schema = set.get_enum(0).expect(&rt, "it is there");
     assert_eq!(rt; schema.get_proto().display_name.as_str(), "Tint");
     assert_eq!(rt; RawEnumSchema::from(schema).number, 0);
     let enumerants = schema.get_enumerants()?;
@@ -124,7 +123,7 @@ fn enumerants_come_by_their_ordinals(rt: HostRuntime) -> std::result::Result<(),
 #[test]
 fn annotations_have_their_types(rt: HostRuntime) -> std::result::Result<(), Fail> {
     let set = tints(rt.alloc())?;
-    let schema = enum_at(&set, 0).expect(&rt, "it is there");
+    let schema = set.get_enum(0).expect(&rt, "it is there");
     let annotations = schema.get_annotations()?;
     assert_eq!(rt; annotations.len(), 3);
     let mut marks = Vec::new(rt.alloc());

@@ -2,14 +2,13 @@
 
 use crate::built_in::new_set;
 use crate::fixtures::hash_of;
-use crate::lookup::enum_at;
 use capnp_schema::schema::EnumSchema;
 use capnp_schema::set::SchemaSet;
 use capnp_wire::error::{Error, ErrorKind, Result};
 use std::test::Fail;
 
 fn element_size(set: &SchemaSet) -> Result<EnumSchema<'_>> {
-    match enum_at(set, 0) {
+    match set.get_enum(0) {
         Some(schema) => Ok(schema),
         None => Err(Error {
             kind: ErrorKind::NoSuchElement,
@@ -28,7 +27,7 @@ fn an_enumerant_is_its_enum_and_ordinal(rt: HostRuntime) -> std::result::Result<
     assert!(rt; first == enumerants.get(0));
     assert_eq!(rt; hash_of(&first), hash_of(&enumerants.get(0)));
     assert!(rt; second.get_containing_enum() == element_size(&set)?);
-    assert!(rt; enum_at(&set, 1).is_none());
+    assert!(rt; set.get_enum(1).is_none());
     Ok(())
 }
 

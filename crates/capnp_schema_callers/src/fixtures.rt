@@ -2,7 +2,6 @@
 ghost use Rattle.std.specs.Prelude.{IfOk};
 ghost use Rattle.capnp_schema.specs.StructHandles.{IsStruct};
 
-use crate::lookup::struct_at;
 use capnp_base::introspect::{RawBrandedStructSchema, RawEnumSchema, Type, TypeVariant};
 use capnp_schema::record::{
     AnnotationRecord, AnnotationTypes, BrandRecord, EnumRecord, EnumerantRecord, FieldKind,
@@ -336,7 +335,7 @@ pub enum Spot {
 pub fn schema_of(set: &SchemaSet, number: u32) -> Result<StructSchema<'_>>
     ensures { IfOk result IsStruct }
 {
-    match struct_at(set, number) {
+    match set.get_struct(number) {
         Some(schema) => Ok(schema),
         None => Err(Error {
             kind: ErrorKind::NoSuchElement,

@@ -2,7 +2,6 @@
 
 use crate::built_in::new_set;
 use crate::fixtures::{enum_type, hash_of, list_type, schema_of, struct_type};
-use crate::lookup::enum_at;
 use capnp_base::introspect::{RawBrandedStructSchema, Type, TypeVariant};
 use capnp_base::traits::IndexMove;
 use std::test::Fail;
@@ -76,10 +75,10 @@ fn what_is_printed_tells_handles_apart(rt: HostRuntime) -> std::result::Result<(
     let one = format!(in alloc; "{:?}", shapes.get_field_by_name("id")?)?;
     let another = format!(in alloc; "{:?}", shapes.get_field_by_name("tag")?)?;
     assert!(rt; one != another);
-    let sizes = enum_at(&set, 0).expect(&rt, "it is there");
+    let sizes = set.get_enum(0).expect(&rt, "it is there");
     assert_eq!(rt;
         hash_of(&sizes),
-        hash_of(&enum_at(&set, 0).expect(&rt, "it is there"))
+        hash_of(&set.get_enum(0).expect(&rt, "it is there"))
     );
     let enumerants = sizes.get_enumerants()?;
     assert!(rt; enumerants.len() == 8);

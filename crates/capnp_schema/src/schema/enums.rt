@@ -1,7 +1,9 @@
 //! Enums of a set, and their enumerants.
 ghost use Rattle.std.specs.Prelude.{◌≡◌, ◌<◌, ◌≤◌, length};
 ghost use Rattle.capnp_schema.specs.Entries.{lists_seen};
-ghost use Rattle.capnp_schema.specs.Schema.{enum_at};
+ghost use Rattle.capnp_schema.specs.Annotated.{enumerant_at};
+ghost use Rattle.capnp_schema.specs.Enums.{enum_in, enum_number, enum_set};
+ghost use Rattle.capnp_schema.specs.Schema.{enum_at, seen_enumerant};
 
 use crate::record::{EnumRecord, EnumerantRecord};
 use crate::schema::annotations::AnnotationList;
@@ -16,10 +18,8 @@ use capnp_wire::error::Result;
 #[derive_where(PartialEq, Eq, Hash, Debug)]
 pub struct EnumSchema<'s> {
     #[derive_where(skip)]
-    set: &'s SchemaSet,
-    number: u32,
-    #[derive_where(skip)]
-    proto: &'s EnumRecord,
+    pub(crate) set: &'s SchemaSet,
+    pub(crate) number: u32,
 }
 
 impl<'s> EnumSchema<'s> {
@@ -27,7 +27,8 @@ impl<'s> EnumSchema<'s> {
     ghost use Rattle.capnp_schema.specs.Schema.{seen_enum};
     ghost use Rattle.capnp_schema.specs.Annotated.{annotations_of, enum_annotations};
     ghost use Rattle.capnp_schema.specs.AnnotationLists.{annotations_in};
-    ghost use Rattle.capnp_schema.specs.Enums.{IsEnum, enum_in, enum_number, enum_of_list, enum_proto, enum_set};
+    ghost use Rattle.capnp_schema.specs.Enumerants.{enum_of_list};
+    ghost use Rattle.capnp_schema.specs.Enums.{IsEnum, enum_in, enum_number, enum_set};
 
     /// The enum of a set that a type of the set names. Its number has to be that of an enum there.
     pub fn new(set: &'s SchemaSet, raw: RawEnumSchema) -> EnumSchema<'s>
@@ -36,18 +37,21 @@ impl<'s> EnumSchema<'s> {
         ensures number { enum_number result ≡ raw.number }
         ensures stands { IsEnum result }
     {
-        EnumSchema {
-            set,
-            number: raw.number,
-            proto: set.enum_in_range(raw.number),
-        }
+        set.enum_schema(raw.number)
     }
 
-    /// The record of the enum.
-    pub fn get_proto(self) -> &'s EnumRecord
-        ensures { seen_enum result.now ≡ enum_proto self.entry }
+    /// The set that it is of.
+    pub fn get_set(&self) -> &'s SchemaSet
+        ensures { lists_seen result.now ≡ enum_set self.now }
     {
-        self.proto
+        self.set
+    }
+
+    /// The record of the enum. One with nothing in it where the schema's number is past the set's last enum.
+    pub fn get_proto(self) -> &'s EnumRecord
+        ensures { seen_enum result.now ≡ enum_in self.entry }
+    {
+        self.set.enum_record(self.number)
     }
 
     /// Its enumerants, by their ordinals. The answer is always Ok.
@@ -86,14 +90,16 @@ pub struct Enumerant<'s> {
     ordinal: u16,
     #[derive_where(skip)]
     proto: &'s EnumerantRecord,
+    ghost inside: { ordinal < length (enum_in schema).enumerants },
+    ghost record: { seen_enumerant proto.now ≡ enumerant_at (enum_set schema) (enum_number schema) ordinal },
 }
 
 impl<'s> Enumerant<'s> {
     ghost use Rattle.std.specs.Prelude.{IsOkAnd};
-    ghost use Rattle.capnp_schema.specs.Schema.{seen_enumerant};
     ghost use Rattle.capnp_schema.specs.Annotated.{annotations_of, enumerant_annotations};
     ghost use Rattle.capnp_schema.specs.AnnotationLists.{annotations_in};
-    ghost use Rattle.capnp_schema.specs.Enums.{containing_enum, enum_number, enum_set, enumerant_in, enumerant_proto, ordinal_of};
+    ghost use Rattle.capnp_schema.specs.Enumerants.{containing_enum, enumerant_in, ordinal_of};
+    ghost use Rattle.capnp_schema.specs.Enums.{enum_number, enum_set};
 
     /// The enum that it is an enumerant of.
     pub fn get_containing_enum(self) -> EnumSchema<'s>
@@ -111,7 +117,7 @@ impl<'s> Enumerant<'s> {
 
     /// The record of the enumerant.
     pub fn get_proto(self) -> &'s EnumerantRecord
-        ensures { seen_enumerant result.now ≡ enumerant_proto self.entry }
+        ensures { seen_enumerant result.now ≡ enumerant_in self.entry }
     {
         self.proto
     }
@@ -135,7 +141,7 @@ impl<'s> EnumerantList<'s> {
     ghost use Rattle.std.specs.Prelude.{◌↔◌, IsTrue};
     ghost use Rattle.capnp_base.specs.Taking.{indices};
     ghost use Rattle.capnp_base.specs.ShortListIter as short_list_iter;
-    ghost use Rattle.capnp_schema.specs.Enums.{IsEnumerantOf, enum_of_list, enumerants_in};
+    ghost use Rattle.capnp_schema.specs.Enumerants.{IsEnumerantOf, enum_of_list, enumerants_in};
 
     /// How many enumerants there are.
     pub fn len(&self) -> u16
@@ -176,7 +182,7 @@ impl<'s> EnumerantList<'s> {
 }
 
 impl<'s> IndexMove<u16, Enumerant<'s>> for EnumerantList<'s> {
-    ghost use Rattle.capnp_schema.specs.Enums.{IsEnumerantOf, enum_of_list, enumerants_in};
+    ghost use Rattle.capnp_schema.specs.Enumerants.{IsEnumerantOf, enum_of_list, enumerants_in};
 
     ghost count = { λ s. length (enumerants_in s) };
 
@@ -190,7 +196,7 @@ impl<'s> IndexMove<u16, Enumerant<'s>> for EnumerantList<'s> {
 impl<'s> IntoIterator for EnumerantList<'s> {
     ghost use Rattle.capnp_base.specs.Taking.{indices};
     ghost use Rattle.capnp_base.specs.ShortListIter as short_list_iter;
-    ghost use Rattle.capnp_schema.specs.Enums.{enumerants_in};
+    ghost use Rattle.capnp_schema.specs.Enumerants.{enumerants_in};
 
     type Item = Enumerant<'s>;
 

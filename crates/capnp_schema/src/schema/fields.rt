@@ -1,5 +1,10 @@
 //! Handles of fields.
 ghost use Rattle.std.specs.Prelude.{◌≡◌, ◌<◌, length, IsOkAnd};
+ghost use Rattle.capnp_schema.specs.Accepted.{NamesEntries};
+ghost use Rattle.capnp_schema.specs.Named.{NamesEntries-prop, same_type-prop};
+ghost use Rattle.capnp_schema.specs.Schema.{seen_field};
+ghost use Rattle.capnp_schema.specs.StructHandles.{set_of, struct_field, struct_fields};
+ghost use Rattle.capnp_schema.specs.Types.{seen_type};
 
 use crate::plan::SlotPlan;
 use crate::record::FieldRecord;
@@ -18,13 +23,15 @@ pub struct Field<'s> {
     proto: &'s FieldRecord,
     #[derive_where(skip)]
     field_type: Type,
+    ghost inside: { index < length (struct_fields schema) },
+    ghost record: { seen_field proto.now ≡ (struct_field schema index).field },
+    ghost typed: { seen_type field_type ≡ (struct_field schema index).type } by { same_type-prop _ _ },
+    ghost named: { NamesEntries (set_of schema) (seen_type field_type) } by { NamesEntries-prop (set_of schema) (seen_type field_type) },
 }
 
 impl<'s> Field<'s> {
     ghost use Rattle.capnp_schema.specs.Plan.{IsPlan, plan_of};
-    ghost use Rattle.capnp_schema.specs.Schema.{seen_field};
-    ghost use Rattle.capnp_schema.specs.Types.{seen_type};
-    ghost use Rattle.capnp_schema.specs.StructHandles.{number_of, set_of, struct_field, struct_fields};
+    ghost use Rattle.capnp_schema.specs.StructHandles.{IsStruct, number_of};
     ghost use Rattle.capnp_schema.specs.Annotated.{annotations_of, field_annotations};
     ghost use Rattle.capnp_schema.specs.AnnotationLists.{annotations_in};
     ghost use Rattle.capnp_schema.specs.FieldLists.{IsFieldOf, index_of, schema_of, typed_of};
@@ -52,9 +59,22 @@ impl<'s> Field<'s> {
         self.proto
     }
 
-    /// The field's type.
+    /// The struct or group that the field is of. A field's schema always is that of a brand of the set, and the field is
+    /// one of it.
+    pub fn get_containing_struct(&self) -> StructSchema<'s>
+        ensures is { result ≡ schema_of self.now }
+        ensures stands { IsStruct result }
+        ensures field { IsFieldOf result (index_of self.now) self.now }
+    {
+        // What every set is known to meet is known of it here.
+        let _lists = self.schema.set.accepted_lists();
+        self.schema
+    }
+
+    /// The field's type. The struct or enum that it names, or that its lists hold, is there in the set.
     pub fn get_type(&self) -> Type
-        ensures { seen_type result ≡ (typed_of self.now).type }
+        ensures is { seen_type result ≡ (typed_of self.now).type }
+        ensures named { NamesEntries (set_of (schema_of self.now)) (seen_type result) }
     {
         self.field_type
     }
@@ -78,7 +98,7 @@ impl<'s> Field<'s> {
     /// sections of the field's schema.
     pub fn plan(&self) -> SlotPlan
         ensures is { result ≡ plan_of (set_of (schema_of self.now)) (number_of (schema_of self.now)) (struct_field (schema_of self.now) (index_of self.now)) }
-        ensures stands { index_of self.now < length (struct_fields (schema_of self.now)) → IsPlan (set_of (schema_of self.now)) (number_of (schema_of self.now)) (struct_field (schema_of self.now) (index_of self.now)) result }
+        ensures stands { IsPlan (set_of (schema_of self.now)) (number_of (schema_of self.now)) (struct_field (schema_of self.now) (index_of self.now)) result }
     {
         self.schema.set.plan(self.schema.number, self.index)
     }

@@ -1,6 +1,7 @@
 //! Equality of handles, and their hashes.
 ghost use Rattle.std.specs.Prelude.{◌≡◌, ◌↔◌, IsTrue};
-ghost use Rattle.capnp_schema.specs.Enums.{containing_enum, enum_number, ordinal_of};
+ghost use Rattle.capnp_schema.specs.Enumerants.{containing_enum, ordinal_of};
+ghost use Rattle.capnp_schema.specs.Enums.{enum_number};
 ghost use Rattle.capnp_schema.specs.StructHandles.{number_of};
 ghost use Rattle.capnp_schema.specs.FieldLists.{index_of, schema_of};
 

@@ -18,23 +18,18 @@ pub struct StructSchema<'s> {
     #[derive_where(skip)]
     pub(crate) set: &'s SchemaSet,
     pub(crate) number: u32,
-    #[derive_where(skip)]
-    generic: u32,
-    #[derive_where(skip)]
-    proto: &'s NodeRecord,
 }
 
 impl<'s> StructSchema<'s> {
     ghost use Rattle.capnp_schema.specs.Schema.{brand_at, seen_node};
     ghost use Rattle.capnp_schema.specs.Entries.{lists_seen};
     ghost use Rattle.capnp_schema.specs.Query.{AreMembers, field_named, member_of, plain_fields};
-    ghost use Rattle.capnp_schema.specs.StructHandles.{IsStruct, generic_of, number_of, proto_of, set_of, struct_node, struct_records};
+    ghost use Rattle.capnp_schema.specs.StructHandles.{IsStruct, generic_of, number_of, set_of, struct_node, struct_records};
     ghost use Rattle.capnp_schema.specs.Annotated.{annotations_of, struct_annotations};
     ghost use Rattle.capnp_schema.specs.AnnotationLists.{annotations_in};
     ghost use Rattle.capnp_schema.specs.FieldLists.{IsFound, list_schema, subset_indices, subset_schema};
 
     /// The schema of those numbers, which are a brand of the set and its node.
-    #[tactic(auto, using(crate::proofs::StructLookUps::node_inside))]
     pub fn new(set: &'s SchemaSet, raw: RawBrandedStructSchema) -> StructSchema<'s>
         requires number { raw.number < length (lists_seen set.now).brands }
         requires generic { raw.generic ≡ (brand_at (lists_seen set.now) raw.number).node }
@@ -43,12 +38,7 @@ impl<'s> StructSchema<'s> {
         ensures generic { generic_of result ≡ raw.generic }
         ensures stands { IsStruct result }
     {
-        StructSchema {
-            set,
-            number: raw.number,
-            generic: raw.generic,
-            proto: &set.nodes()[raw.generic as usize],
-        }
+        set.struct_schema(raw.number)
     }
 
     /// The set that it is of.
@@ -58,11 +48,12 @@ impl<'s> StructSchema<'s> {
         self.set
     }
 
-    /// The node: the struct without the types of its fields.
+    /// The node: the struct without the types of its fields. One with nothing in it where the schema's number is past the
+    /// set's last brand.
     pub fn get_proto(&self) -> &'s NodeRecord
-        ensures { seen_node result.now ≡ proto_of self.now }
+        ensures { seen_node result.now ≡ struct_node self.now }
     {
-        self.proto
+        self.set.node_record(self.number)
     }
 
     /// All fields, by index. The answer is always Ok.
@@ -153,7 +144,7 @@ impl<'s> From<StructSchema<'s>> for RawBrandedStructSchema {
     fn from(schema: StructSchema<'s>) -> RawBrandedStructSchema {
         RawBrandedStructSchema {
             number: schema.number,
-            generic: schema.generic,
+            generic: schema.set.generic_number(schema.number),
         }
     }
 }

@@ -1,13 +1,13 @@
-//! The lists of a set with what is known of them, and enums by numbers that are known to be theirs.
+//! The lists of a set with what is known of them, and enumerants by numbers that are known to be theirs.
 ghost use Rattle.std.specs.Prelude.{◌≡◌, ◌<◌, length};
 ghost use Rattle.capnp_schema.specs.Accepted.{IsAccepted};
 ghost use Rattle.capnp_schema.specs.Entries.{lists_seen};
 ghost use Rattle.capnp_schema.specs.Annotated.{enumerant_at};
 ghost use Rattle.capnp_schema.specs.Ranges.{HasRanges};
-ghost use Rattle.capnp_schema.specs.Schema.{enum_at, seen_enum, seen_enumerant};
+ghost use Rattle.capnp_schema.specs.Schema.{enum_at, seen_enumerant};
 
 use crate::lists::Lists;
-use crate::record::{EnumRecord, EnumerantRecord};
+use crate::record::EnumerantRecord;
 use crate::set::SchemaSet;
 
 impl SchemaSet {
@@ -18,16 +18,6 @@ impl SchemaSet {
         ensures ranges { HasRanges (lists_seen result.now) }
     {
         &self.lists
-    }
-
-    /// The enum of a number, which has to be that of an enum.
-    #[tactic(auto, using(crate::proofs::EnumLemmas::enum_read))]
-    pub(crate) fn enum_in_range(&self, number: u32) -> &EnumRecord
-        requires { number < length (lists_seen self.now).enums }
-        ensures is { seen_enum result.now ≡ enum_at (lists_seen self.now) number }
-        ensures accepted { IsAccepted (lists_seen self.now) }
-    {
-        &self.lists.enums[number as usize]
     }
 
     /// The enumerant of an ordinal in an enum, which has to be there.

@@ -1,12 +1,14 @@
 //! What queries look up in a set. None takes memory, and each answers for every number.
-ghost use Rattle.std.specs.Prelude.{◌≡◌, ◌<◌, ◌≤◌, ◌*◌, ◌^◌, [], length, map, slice_get, MatchOption};
+ghost use Rattle.std.specs.Prelude.{◌≡◌, ◌<◌, ◌≤◌, ◌*◌, ◌^◌, [], length, map, slice_get, IfSome, MatchOption};
 ghost use Rattle.std.specs.Option.{option_map, unwrap_or};
+ghost use Rattle.capnp_schema.specs.Accepted.{NamesEntries};
 ghost use Rattle.capnp_schema.specs.Schema.{seen_field, field_at, fields_of, node_at, node_of};
 ghost use Rattle.capnp_schema.specs.Entries.{lists_seen, seen_typed};
 ghost use Rattle.capnp_schema.specs.Names.{IsNameTable};
 ghost use Rattle.capnp_schema.specs.Plan.{IsPlan, plan_of};
 ghost use Rattle.capnp_schema.specs.Query.{AreMembers, field_named, member_of, plain_fields, records_of};
 ghost use Rattle.capnp_schema.specs.Tables.{no_plan, table_at};
+ghost use Rattle.capnp_schema.specs.Types.{seen_type};
 
 use crate::check::names::fields_at;
 use crate::lists::TypedField;
@@ -77,7 +79,8 @@ impl SchemaSet {
 
     /// A field of a brand.
     pub(crate) fn field_record(&self, brand: u32, field: u16) -> Option<TypedField<'_>>
-        ensures { option_map seen_typed result ≡ slice_get (fields_of (lists_seen self.now) brand) field }
+        ensures is { option_map seen_typed result ≡ slice_get (fields_of (lists_seen self.now) brand) field }
+        ensures named { IfSome result (λ f. NamesEntries (lists_seen self.now) (seen_type f.field_type.now)) }
     {
         self.lists.field_at(brand as usize, field as usize)
     }

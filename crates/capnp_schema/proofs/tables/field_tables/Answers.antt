@@ -6,4 +6,6 @@ returns-clause-tables c = record {
   members = c.in_ok-members.ensures.tables;
   plain = c.in_ok-plain.ensures.tables;
   plans = c.in_ok-plans.ensures.plans;
+  empty_node = c.new.ensures.node;
+  empty_enum = c.new.ensures.enumeration;
 }

@@ -1,0 +1,23 @@
+-- Facts about types that handles keep: each has at most one proof.
+use Rattle.std.specs.Prelude.{ℕ, ◌≡◌}
+use Rattle.std.specs.Coded.{×_prop, Unit-prop, le_prop, Coded-set, coded_ℕ}
+use Rattle.capnp_schema.specs.Types.{SchemaType, SchemaType-is_set, VoidType, BoolType, IntType, UIntType, EnumType, TextType, DataType, StructType, ListType, AnyPointerType}
+use Rattle.capnp_schema.specs.Schema.{Schemas}
+use Rattle.capnp_schema.specs.Accepted.{NamesEntries}
+
+-- that two types are equal
+pub same_type-prop : (s t : SchemaType) → IsProp (s ≡ t)
+same_type-prop s t = SchemaType-is_set (Coded-set coded_ℕ) s t
+
+-- that a type names entries of a set
+pub NamesEntries-prop : (set : Schemas) (t : SchemaType) → IsProp (NamesEntries set t)
+NamesEntries-prop set VoidType = Unit-prop
+NamesEntries-prop set BoolType = Unit-prop
+NamesEntries-prop set (IntType bytes) = Unit-prop
+NamesEntries-prop set (UIntType bytes) = Unit-prop
+NamesEntries-prop set (EnumType number) = le_prop
+NamesEntries-prop set TextType = Unit-prop
+NamesEntries-prop set DataType = Unit-prop
+NamesEntries-prop set (StructType number generic) = ×_prop le_prop (Coded-set coded_ℕ _ _)
+NamesEntries-prop set (ListType element) = NamesEntries-prop set element
+NamesEntries-prop set AnyPointerType = Unit-prop
