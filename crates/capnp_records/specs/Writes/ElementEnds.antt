@@ -1,0 +1,86 @@
+-- What the last step of a call writes into an element of a list.
+use Rattle.std.specs.Prelude.{ℕ, ◌-◌, ◌^◌, ◌≡◌, ⊤, false, ◌==◌, nat_lt, None, length}
+use Rattle.capnp_wire.specs.Tree.{Tree, tree_count}
+use Rattle.capnp_wire.specs.Place.{struct_tree}
+use Rattle.capnp_wire.specs.Reading.{element_struct}
+use Rattle.capnp_wire.specs.Edits.{fitted, struct_in}
+use Rattle.capnp_wire.specs.Elements.{with_bit_element, with_number_element, with_pointer_element, with_struct_element, HasBit, HasNumber, HasPointer, HasStruct}
+use Rattle.capnp_schema.specs.Types.{SchemaType, VoidType, BoolType, IntType, UIntType, EnumType, TextType, DataType, StructType, ListType, AnyPointerType}
+use Rattle.capnp_schema.specs.Schema.{Schemas}
+use Rattle.capnp_records.specs.Record.{Endless, Value}
+use Rattle.capnp_records.specs.Reading.{number_value, value_of}
+use Rattle.capnp_records.specs.Call.{PathStep, Source, StructSource, Op, Set, Initn}
+use Rattle.capnp_records.specs.Step.{Target}
+use Rattle.capnp_records.specs.Given.{copy_refusal, Given, Gives, Copies, given}
+use Rattle.capnp_records.specs.Operation.{elements_past}
+use Rattle.capnp_records.specs.Writes.Slots.{Content, Bits, At}
+use Rattle.capnp_records.specs.Writes.Overlay.{stored}
+use Rattle.capnp_records.specs.Writes.Contents.{source_tree, SourceFits, initn_tree}
+use Rattle.capnp_records.specs.Writes.Stand.{Stand, OnList, step_index}
+
+-- a list with another number at an element
+abbrev pub with_element_number : SchemaType → Tree → ℕ → ℕ → Tree
+with_element_number BoolType x j n = with_bit_element j (n == 1) x
+with_element_number (IntType width) x j n = with_number_element width j n x
+with_element_number (UIntType width) x j n = with_number_element width j n x
+with_element_number (EnumType number) x j n = with_number_element 2 j n x
+with_element_number t x j n = x
+
+-- with another pointer; a struct element keeps its size, and of the struct that is set what fits
+abbrev pub with_element_tree : SchemaType → Tree → ℕ → Tree → Tree
+with_element_tree (StructType b g) x j y =
+    with_struct_element j (fitted (length (element_struct x j).bytes) (tree_count (element_struct x j).pointers) (struct_in y)) x
+with_element_tree t x j y = with_pointer_element j y x
+
+abbrev pub element_written : SchemaType → Tree → ℕ → Content → Tree
+element_written t x j (Bits n) = with_element_number t x j n
+element_written t x j (At y) = with_element_tree t x j y
+
+abbrev pub element_content_value : Schemas → SchemaType → Content → Value
+element_content_value set t (Bits n) = number_value t n
+element_content_value set t (At y) = value_of set y Endless t
+
+-- an element of its type is there
+abbrev pub HasRoom : SchemaType → Tree → ℕ → Type 0
+HasRoom VoidType x j = ⊤
+HasRoom BoolType x j = HasBit x j
+HasRoom (IntType width) x j = HasNumber width x j
+HasRoom (UIntType width) x j = HasNumber width x j
+HasRoom (EnumType number) x j = HasNumber 2 x j
+HasRoom TextType x j = HasPointer x j
+HasRoom DataType x j = HasPointer x j
+HasRoom (StructType b g) x j = HasStruct x j
+HasRoom (ListType element) x j = HasPointer x j
+HasRoom AnyPointerType x j = HasPointer x j
+
+-- what initn writes
+abbrev pub InitnContent : Schemas → ℕ → SchemaType → Content → Type 0
+InitnContent set n TextType c = (nat_lt (2 ^ 29 - 2) n ≡ false) × (c ≡ At (initn_tree set TextType n))
+InitnContent set n DataType c = (nat_lt (2 ^ 29 - 1) n ≡ false) × (c ≡ At (initn_tree set DataType n))
+InitnContent set n (ListType e) c = (elements_past set e n ≡ false) × (c ≡ At (initn_tree set (ListType e) n))
+InitnContent set n t c = ⊥
+
+-- the tree that is set at an element: a struct as its reader has it, of which what fits is kept
+abbrev pub element_source_tree : Source → Tree
+element_source_tree (StructSource l s from) = struct_tree s
+element_source_tree s = source_tree s
+
+abbrev pub ElementSetContent : Target → Source → Given → Content → Type 0
+ElementSetContent x s (Gives v) c = c ≡ Bits (stored x.type v)
+ElementSetContent x s (Copies source past v) c = (copy_refusal source ≡ None) × (past ≡ false) × (c ≡ At (element_source_tree s))
+ElementSetContent x s g c = ⊥
+
+abbrev pub ElementContent : Schemas → Op → Target → Content → Type 0
+ElementContent set (Set s) x c = SourceFits s × ElementSetContent x s (given set x s) c
+ElementContent set (Initn n) x c = InitnContent set n x.type c
+ElementContent set op x c = ⊥
+
+-- ---- at a list ----
+
+abbrev pub element_written_at : Schemas → SchemaType → Stand → PathStep → Content → Stand
+element_written_at set (ListType e) (OnList y) step c = OnList (element_written e y (step_index set 0 step) c)
+element_written_at set t old step c = old
+
+abbrev pub HasRoomAt : Schemas → SchemaType → Stand → PathStep → Type 0
+HasRoomAt set (ListType e) (OnList y) step = HasRoom e y (step_index set 0 step)
+HasRoomAt set t old step = ⊥

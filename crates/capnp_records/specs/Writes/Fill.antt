@@ -1,0 +1,33 @@
+-- What a builder's get of a struct or list slot leaves there.
+use Rattle.std.specs.Prelude.{ℕ, true, false}
+use Rattle.capnp_wire.specs.Tree.{Tree, Null, StructTree, empty_struct}
+use Rattle.capnp_wire.specs.Reading.{is_null_tree}
+use Rattle.capnp_wire.specs.Edits.{extended, struct_in}
+use Rattle.capnp_wire.specs.StructLists.{struct_list}
+use Rattle.capnp_schema.specs.Types.{SchemaType, StructType}
+use Rattle.capnp_schema.specs.Schema.{Schemas, StructValue, ListValue}
+use Rattle.capnp_schema.specs.Schema.{Value as SchemaValue}
+use Rattle.capnp_schema.specs.Accepted.{root_of}
+use Rattle.capnp_records.specs.Writes.Slots.{brand_size}
+
+-- the struct of a default, of size zero where there is none
+abbrev pub default_struct : SchemaValue → StructTree
+default_struct (StructValue words) = struct_in (root_of words)
+default_struct d = empty_struct
+
+-- the struct at a slot, or its default's, with at least its schema's sections
+abbrev pub filled_struct : Schemas → ℕ → SchemaValue → Tree → StructTree
+filled_struct set b d x = extended (brand_size set b) (elim (is_null_tree x) [ true ↦ default_struct d | false ↦ struct_in x ])
+
+-- a list of structs whose elements have at least their schema's sections; every other list as it is
+abbrev pub entered_list : Schemas → SchemaType → Tree → Tree
+entered_list set (StructType b g) x = struct_list (brand_size set b) x
+entered_list set t x = x
+
+-- a null becomes the default where that is a list
+abbrev pub or_default : SchemaValue → Tree → Tree
+or_default (ListValue words) Null = root_of words
+or_default d x = x
+
+abbrev pub filled_list : Schemas → SchemaType → SchemaValue → Tree → Tree
+filled_list set element d x = entered_list set element (or_default d x)
