@@ -141,7 +141,7 @@ has_ranges set accepted entries types = record {
   kinds = λ b i b_in i_in. (field b i b_in i_in).kind;
   defaults = λ b i b_in i_in. (field b i b_in i_in).default;
   masks = λ b i b_in i_in. kind_below (field_at set b i).field.kind (field_at set b i).type (accepted.rule5 b i b_in i_in) (field b i b_in i_in).default;
-  types = λ b i b_in i_in. entry_has HasWidths (brand_at set b).field_types i (field_at set b i).type (entry_has (λ (x : Brand). All HasWidths x.field_types) set.brands b (brand_at set b) types.fields (sym (entry-some set.brands b no_brand b_in)))
+  types = λ b i b_in i_in. entry_has HasWidths (brand_at set b).field_types i (field_at set b i).type (entry_has (λ (x : Brand). All HasWidths x.field_types) set.brands b (brand_at set b) types.fields (sym (entry-some set.brands b (no_brand set) b_in)))
       (sym (typed-type (node_of set b).fields (brand_at set b).field_types i i_in));
   annotations = λ k d h. ((entries.nodes k d h).annotations, λ j e l. ((entries.nodes k d h).fields j e l).annotations);
   annotation_types = types.annotations;
