@@ -18,10 +18,10 @@ use Rattle.capnp_records.proofs.Members.{counted-from_member, counted-not_zero, 
 use Rattle.capnp_records.proofs.PartRead.{found-active, nth-plain_parts}
 use Rattle.capnp_records.proofs.Pointers.{values_of-nth}
 use Rattle.capnp_records.proofs.Readers.{null-is, value-there}
-use Rattle.capnp_records.specs.Laws.{part_of}
+use Rattle.capnp_records.specs.Reading.{part_of}
 use Rattle.capnp_records.specs.Reading.{Reading, active_among, discriminant, kind_value, plain_parts, record_within, slot_value, struct_record, union_of, value_of, values_of}
 use Rattle.capnp_records.specs.Record.{Active, Levels, NoUnion, Parts, Union, Value, Values, is_there}
-use Rattle.capnp_records.specs.Step.{active_value, has, is_active, nth, which}
+use Rattle.capnp_records.specs.Part.{active_value, has_of, is_active, nth_value, which_of}
 use Rattle.capnp_dynamic.specs.Planned.{member_there, place_there, planned_has}
 
 pub member_even : (q : Bool) (n : Node) (f : Field) → IfSome (member_plan q n f) (λ m. m.0 % 16 ≡ 0)
@@ -66,7 +66,7 @@ module _ (set : Schemas) (l : Levels) (s : StructTree) where
       go (Group n) t e = refl
 
   pub has_by_plan : IsAccepted set → (b i : ℕ) → b < length set.brands → i < length (fields_of set b) → (v : TypeVariant) → seen_variant v ≡ (field_at set b i).type →
-      planned_has s (plan_of set b (field_at set b i)) ≡ has (struct_record set l s b) (field_at set b i).field i
+      planned_has s (plan_of set b (field_at set b i)) ≡ has_of (struct_record set l s b) (field_at set b i).field i
   has_by_plan accepted b i b_in i_in v e = go (is_member f.field) refl
     where
       f : TypedField
@@ -93,12 +93,12 @@ module _ (set : Schemas) (l : Levels) (s : StructTree) where
       both : Bool → Bool → Value → Value → Bool
       both q active x y = not (q && not active) && is_there (elim q as (λ _. Value) [ true ↦ x | false ↦ y ])
 
-      go : (q : Bool) → is_member f.field ≡ q → planned_has s (plan_of set b (field_at set b i)) ≡ has (struct_record set l s b) (field_at set b i).field i
+      go : (q : Bool) → is_member f.field ≡ q → planned_has s (plan_of set b (field_at set b i)) ≡ has_of (struct_record set l s b) (field_at set b i).field i
       go false plain =
           ap (λ q. member_there s.bytes (member_plan q (node_of set b) f.field) && place_there s (place_of f.field.kind f.type)) plain
           ∙ (sym there
           ∙ (sym (ap is_there (nth-plain_parts part (fields_of set b) i i_in plain))
-          ∙ sym (ap (λ q. both q (is_active union i) (active_value union) (nth vs i)) plain)))
+          ∙ sym (ap (λ q. both q (is_active union i) (active_value union) (nth_value vs i)) plain)))
       go true member = at (number == f.field.discriminant_value) refl
         where
           counted : ((node_of set b).discriminant_count == 0) ≡ false
@@ -107,20 +107,20 @@ module _ (set : Schemas) (l : Levels) (s : StructTree) where
           same : union ≡ active_among part (fields_of set b) 0 number
           same = second-of ((node_of set b).discriminant_count == 0) _ _ counted
 
-          at : (q : Bool) → (number == f.field.discriminant_value) ≡ q → planned_has s (plan_of set b (field_at set b i)) ≡ has (struct_record set l s b) (field_at set b i).field i
+          at : (q : Bool) → (number == f.field.discriminant_value) ≡ q → planned_has s (plan_of set b (field_at set b i)) ≡ has_of (struct_record set l s b) (field_at set b i).field i
           at true is =
               let active : union ≡ Active i (part f) = same ∙ (active_among-found part (fields_of set b) 0 i number i_in member (sym (to-eq _ _ is)) (λ j a m n. once-from_members set accepted b i j b_in i_in a m (n ∙ to-eq _ _ is)) ∙ ap (λ n. Active n (part f)) (omega arith)) in
               ap (λ q. member_there s.bytes (member_plan q (node_of set b) f.field) && place_there s (place_of f.field.kind f.type)) member
               ∙ (ap (λ q. q && place_there s (place_of f.field.kind f.type)) is
               ∙ (sym there
               ∙ (sym (ap (λ q. not (true && not q) && is_there (part f)) (eq-from i i refl))
-              ∙ (sym (ap (λ u. both true (is_active u i) (active_value u) (nth vs i)) active)
-              ∙ sym (ap (λ q. both q (is_active union i) (active_value union) (nth vs i)) member)))))
+              ∙ (sym (ap (λ u. both true (is_active u i) (active_value u) (nth_value vs i)) active)
+              ∙ sym (ap (λ q. both q (is_active union i) (active_value union) (nth_value vs i)) member)))))
           at false is =
               ap (λ q. member_there s.bytes (member_plan q (node_of set b) f.field) && place_there s (place_of f.field.kind f.type)) member
               ∙ (ap (λ q. q && place_there s (place_of f.field.kind f.type)) is
-              ∙ (sym (ap (λ q. both true q (active_value union) (nth vs i)) (inactive (is_active union i) refl))
-              ∙ sym (ap (λ q. both q (is_active union i) (active_value union) (nth vs i)) member)))
+              ∙ (sym (ap (λ q. both true q (active_value union) (nth_value vs i)) (inactive (is_active union i) refl))
+              ∙ sym (ap (λ q. both q (is_active union i) (active_value union) (nth_value vs i)) member)))
             where
               inactive : (q : Bool) → is_active union i ≡ q → is_active union i ≡ false
               inactive false h = h
@@ -140,7 +140,7 @@ lt-zero : (m : ℕ) → nat_lt 0 (suc m) ≡ true
 lt-zero m = grind arith
 
 pub which_among : (vs : Values) (v : TypedField → Value) (fs : List TypedField) (k d : ℕ) →
-    which (Parts vs (active_among v fs k d)) ≡ option_map (λ i. k + i) (position (is_member_of d) (map (λ (f : TypedField). f.field) fs))
+    which_of (Parts vs (active_among v fs k d)) ≡ option_map (λ i. k + i) (position (is_member_of d) (map (λ (f : TypedField). f.field) fs))
 which_among vs v [] k d = refl
 which_among vs v (f ∷ fs) k d = go (is_member_of d f.field) (which_among vs v fs (suc k) d)
   where
@@ -154,8 +154,8 @@ which_among vs v (f ∷ fs) k d = go (is_member_of d f.field) (which_among vs v 
     shift true = ap Some (omega arith)
     shift false = refl
 
-    go : (q : Bool) → which (Parts vs (active_among v fs (suc k) d)) ≡ option_map (λ i. suc k + i) (cond (nat_lt n m) (Some n) None) →
-        which (Parts vs (elim q as (λ _. Union) [ true ↦ Active k (v f) | false ↦ active_among v fs (suc k) d ])) ≡ option_map (λ i. k + i) (cond (nat_lt (cond (not q) (1 + n) 0) (suc m)) (Some (cond (not q) (1 + n) 0)) None)
+    go : (q : Bool) → which_of (Parts vs (active_among v fs (suc k) d)) ≡ option_map (λ i. suc k + i) (cond (nat_lt n m) (Some n) None) →
+        which_of (Parts vs (elim q as (λ _. Union) [ true ↦ Active k (v f) | false ↦ active_among v fs (suc k) d ])) ≡ option_map (λ i. k + i) (cond (nat_lt (cond (not q) (1 + n) 0) (suc m)) (Some (cond (not q) (1 + n) 0)) None)
     go true ih = ap Some (omega arith) ∙ sym (ap (λ q. option_map (λ i. k + i) (cond q (Some 0) None)) (lt-zero m))
     go false ih = ih ∙ (shift (nat_lt n m) ∙ sym (ap (λ q. option_map (λ i. k + i) (cond q (Some (1 + n)) None)) (lt-suc n m)))
 
@@ -164,12 +164,12 @@ from-zero None = refl
 from-zero (Some i) = ap Some (omega arith)
 
 pub which_counted : (set : Schemas) (l : Levels) (s : StructTree) (b d : ℕ) → ((node_of set b).discriminant_count == 0) ≡ false → d ≡ discriminant (node_of set b) s.bytes →
-    member_of (records_of set b) d ≡ which (struct_record set l s b)
+    member_of (records_of set b) d ≡ which_of (struct_record set l s b)
 which_counted set l s b d counted is =
     ap (member_of (records_of set b)) is
     ∙ (sym (from-zero (member_of (records_of set b) (discriminant (node_of set b) s.bytes)))
     ∙ (sym (which_among (plain_parts part (fields_of set b)) part (fields_of set b) 0 (discriminant (node_of set b) s.bytes))
-    ∙ ap (λ u. which (Parts (plain_parts part (fields_of set b)) u)) (sym (second-of ((node_of set b).discriminant_count == 0) NoUnion (active_among part (fields_of set b) 0 (discriminant (node_of set b) s.bytes)) counted))))
+    ∙ ap (λ u. which_of (Parts (plain_parts part (fields_of set b)) u)) (sym (second-of ((node_of set b).discriminant_count == 0) NoUnion (active_among part (fields_of set b) 0 (discriminant (node_of set b) s.bytes)) counted))))
   where
     part : TypedField → Value
     part = part_of set l s.bytes (values_of set s.pointers)

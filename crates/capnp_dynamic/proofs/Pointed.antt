@@ -19,18 +19,18 @@ use Rattle.capnp_schema.specs.Types.{AnyPointerType, DataType, ListType, SchemaT
 use Rattle.capnp_records.proofs.DefaultTree.{read-there}
 use Rattle.capnp_records.proofs.ListValues.{below_of}
 use Rattle.capnp_records.proofs.Readers.{data-read, list-value, null-is, struct-read, text-read, untyped-read, value-there}
-use Rattle.capnp_records.specs.Default.{default_value, empty_value, read, unless_null}
+use Rattle.capnp_records.specs.Default.{default_value, empty_value, read_of, unless_null}
 use Rattle.capnp_records.specs.Reading.{elements_value, entered, of_read, struct_record, value_of}
 use Rattle.capnp_records.specs.Record.{Left, Levels, Value, one_less}
 use Rattle.capnp_records.specs.Record as value
 use Rattle.capnp_dynamic.specs.Behind.{data_of, list_answered, list_words, struct_answered, struct_words, text_of}
 
 -- a value that is there, and a null
-pub there : (set : Schemas) (d : SchemaValue) (t : SchemaType) (x : Tree) (l : Levels) → is_null_tree x ≡ false → read set d t (value_of set x l t) ≡ value_of set x l t
+pub there : (set : Schemas) (d : SchemaValue) (t : SchemaType) (x : Tree) (l : Levels) → is_null_tree x ≡ false → read_of set d t (value_of set x l t) ≡ value_of set x l t
 there set d t x l h = read-there set d t (value_of set x l t) (value-there set x l t h)
 
-pub missing : (set : Schemas) (d : SchemaValue) (t : SchemaType) (x : Tree) (l : Levels) → is_null_tree x ≡ true → read set d t (value_of set x l t) ≡ default_value set l d t
-missing set d t x l h = ap (λ y. read set d t (value_of set y l t)) (null-is x h)
+pub missing : (set : Schemas) (d : SchemaValue) (t : SchemaType) (x : Tree) (l : Levels) → is_null_tree x ≡ true → read_of set d t (value_of set x l t) ≡ default_value set l d t
+missing set d t x l h = ap (λ y. read_of set d t (value_of set y l t)) (null-is x h)
 
 -- ---- levels and answers ----
 
@@ -98,22 +98,22 @@ untyped-default set l (StructValue x) = refl
 untyped-default set l (ListValue x) = refl
 untyped-default set l (AnyPointerValue x) = refl
 
-pub text_null : (set : Schemas) (d : SchemaValue) (x : Tree) (l : Levels) (bytes : List ℕ) → is_null_tree x ≡ true → bytes ≡ text_of d → value.Text bytes ≡ read set d TextType (value_of set x l TextType)
+pub text_null : (set : Schemas) (d : SchemaValue) (x : Tree) (l : Levels) (bytes : List ℕ) → is_null_tree x ≡ true → bytes ≡ text_of d → value.Text bytes ≡ read_of set d TextType (value_of set x l TextType)
 text_null set d x l bytes h e = ap value.Text e ∙ (text-default set l d ∙ sym (missing set d TextType x l h))
 
-pub text_there : (set : Schemas) (d : SchemaValue) (x : Tree) (l : Levels) (r : Result (List ℕ) ErrorKind) → is_null_tree x ≡ false → r ≡ as_text x → of_read value.Text r ≡ read set d TextType (value_of set x l TextType)
+pub text_there : (set : Schemas) (d : SchemaValue) (x : Tree) (l : Levels) (r : Result (List ℕ) ErrorKind) → is_null_tree x ≡ false → r ≡ as_text x → of_read value.Text r ≡ read_of set d TextType (value_of set x l TextType)
 text_there set d x l r h e = ap (of_read value.Text) e ∙ (sym (text-read set x l h) ∙ sym (there set d TextType x l h))
 
-pub data_null : (set : Schemas) (d : SchemaValue) (x : Tree) (l : Levels) (bytes : List ℕ) → is_null_tree x ≡ true → bytes ≡ data_of d → value.Data bytes ≡ read set d DataType (value_of set x l DataType)
+pub data_null : (set : Schemas) (d : SchemaValue) (x : Tree) (l : Levels) (bytes : List ℕ) → is_null_tree x ≡ true → bytes ≡ data_of d → value.Data bytes ≡ read_of set d DataType (value_of set x l DataType)
 data_null set d x l bytes h e = ap value.Data e ∙ (data-default set l d ∙ sym (missing set d DataType x l h))
 
-pub data_there : (set : Schemas) (d : SchemaValue) (x : Tree) (l : Levels) (r : Result (List ℕ) ErrorKind) → is_null_tree x ≡ false → r ≡ as_data x → of_read value.Data r ≡ read set d DataType (value_of set x l DataType)
+pub data_there : (set : Schemas) (d : SchemaValue) (x : Tree) (l : Levels) (r : Result (List ℕ) ErrorKind) → is_null_tree x ≡ false → r ≡ as_data x → of_read value.Data r ≡ read_of set d DataType (value_of set x l DataType)
 data_there set d x l r h e = ap (of_read value.Data) e ∙ (sym (data-read set x l h) ∙ sym (there set d DataType x l h))
 
-pub untyped_seen : (set : Schemas) (d : SchemaValue) (x : Tree) (l : Levels) → value.Untyped x ≡ read set d AnyPointerType (value_of set x l AnyPointerType)
+pub untyped_seen : (set : Schemas) (d : SchemaValue) (x : Tree) (l : Levels) → value.Untyped x ≡ read_of set d AnyPointerType (value_of set x l AnyPointerType)
 untyped_seen set d x l = go (is_null_tree x) refl
   where
-    go : (q : Bool) → is_null_tree x ≡ q → value.Untyped x ≡ read set d AnyPointerType (value_of set x l AnyPointerType)
+    go : (q : Bool) → is_null_tree x ≡ q → value.Untyped x ≡ read_of set d AnyPointerType (value_of set x l AnyPointerType)
     go true h = ap value.Untyped (null-is x h) ∙ (untyped-default set l d ∙ sym (missing set d AnyPointerType x l h))
     go false h = sym (untyped-read set x l h) ∙ sym (there set d AnyPointerType x l h)
 
@@ -121,7 +121,7 @@ untyped_seen set d x l = go (is_null_tree x) refl
 
 module _ (set : Schemas) (b g : ℕ) (d : SchemaValue) (x : Tree) (n : ℕ) where
   abbrev pub struct_seen : Value
-  struct_seen = read set d (StructType b g) (value_of set x (Left n) (StructType b g))
+  struct_seen = read_of set d (StructType b g) (value_of set x (Left n) (StructType b g))
 
   -- what is there, by its read
   struct-as : is_null_tree x ≡ false → struct_seen ≡ of_read (λ (s : StructTree). value.Struct (struct_record set (Left (n - 1)) s b)) (as_struct x n)
@@ -222,7 +222,7 @@ list-same size (tree.Pointers ps) y n h e = ok-if (n == 0) _ _ _ _ _ e
 list-same size (tree.Composite m p es) y n h e = ok-if (n == 0) _ _ _ _ _ e
 list-same size (tree.FaultLeaf k) y n h e = cc
 
-no-elements : (set : Schemas) (l : Levels) (e : SchemaType) (s : ElementSize) → elements_value set (empty_list s) (below_of set (empty_list s)) l e ≡ value.Elements value.NoMore
+no-elements : (set : Schemas) (l : Levels) (e : SchemaType) (s : ElementSize) → elements_value set (empty_list s) (below_of set (empty_list s)) l e ≡ value.Elements value.NoValues
 no-elements set l e size.Void = refl
 no-elements set l e size.Bit = refl
 no-elements set l e size.Byte = refl
@@ -234,7 +234,7 @@ no-elements set l e size.InlineComposite = refl
 
 module _ (set : Schemas) (t : SchemaType) (s : ElementSize) (sized : element_size t ≡ s) (d : SchemaValue) (x : Tree) (n : ℕ) where
   abbrev pub list_seen : Value
-  list_seen = read set d (ListType t) (value_of set x (Left n) (ListType t))
+  list_seen = read_of set d (ListType t) (value_of set x (Left n) (ListType t))
 
   list-as : (y : Tree) (l : ℕ) → is_null_tree y ≡ false → value_of set y (Left l) (ListType t) ≡ of_read (λ (_ : Tree). elements_value set y (below_of set y) (Left (l - 1)) t) (as_list s y l)
   list-as y l h = list-value set y (Left l) t h ∙ ap (λ z. of_read (λ (_ : Tree). elements_value set y (below_of set y) (Left (l - 1)) t) (as_list z y l)) sized
@@ -263,7 +263,7 @@ module _ (set : Schemas) (t : SchemaType) (s : ElementSize) (sized : element_siz
   list-default (ListValue x) = refl
   list-default (AnyPointerValue x) = refl
 
-  list-bare : (d : SchemaValue) → None ≡ list_words d → list-inner d ≡ value.Elements value.NoMore
+  list-bare : (d : SchemaValue) → None ≡ list_words d → list-inner d ≡ value.Elements value.NoValues
   list-bare VoidValue e = refl
   list-bare (BoolValue x) e = refl
   list-bare (IntValue k x) e = refl
@@ -290,7 +290,7 @@ module _ (set : Schemas) (t : SchemaType) (s : ElementSize) (sized : element_siz
   list-null : is_null_tree x ≡ true → list_seen ≡ entered (Left n) (list-inner d)
   list-null h = missing set d (ListType t) x (Left n) h ∙ list-default d
 
-  list-empty : (y : Tree) (m : ℕ) → is_null_tree x ≡ true → Ok y ≡ as_list s x n → elements_value set y (below_of set y) (Left m) t ≡ value.Elements value.NoMore
+  list-empty : (y : Tree) (m : ℕ) → is_null_tree x ≡ true → Ok y ≡ as_list s x n → elements_value set y (below_of set y) (Left m) t ≡ value.Elements value.NoValues
   list-empty y m h e = ap (λ v. elements_value set v (below_of set v) (Left m) t) (entered-ok (n == 0) _ _ _ (e ∙ ap (λ y. as_list s y n) (null-is x h))) ∙ no-elements set (Left m) t s
 
   pub list_bare : (y : Tree) (m : ℕ) → is_null_tree x ≡ true → Ok y ≡ as_list s x n → m + 1 ≡ n → None ≡ list_words d → elements_value set y (below_of set y) (Left m) t ≡ list_seen
@@ -322,34 +322,34 @@ module _ (set : Schemas) (t : SchemaType) (s : ElementSize) (sized : element_siz
 
 -- ---- without a default ----
 
-pub text_plain : (set : Schemas) (x : Tree) (l : Levels) (r : Result (List ℕ) ErrorKind) → r ≡ as_text x → of_read value.Text r ≡ read set VoidValue TextType (value_of set x l TextType)
+pub text_plain : (set : Schemas) (x : Tree) (l : Levels) (r : Result (List ℕ) ErrorKind) → r ≡ as_text x → of_read value.Text r ≡ read_of set VoidValue TextType (value_of set x l TextType)
 text_plain set x l r e = go (is_null_tree x) refl
   where
-    go : (q : Bool) → is_null_tree x ≡ q → of_read value.Text r ≡ read set VoidValue TextType (value_of set x l TextType)
-    go true h = ap (of_read value.Text) e ∙ ap (λ y. of_read value.Text (as_text y)) (null-is x h) ∙ ap (λ y. read set VoidValue TextType (value_of set y l TextType)) (sym (null-is x h))
+    go : (q : Bool) → is_null_tree x ≡ q → of_read value.Text r ≡ read_of set VoidValue TextType (value_of set x l TextType)
+    go true h = ap (of_read value.Text) e ∙ ap (λ y. of_read value.Text (as_text y)) (null-is x h) ∙ ap (λ y. read_of set VoidValue TextType (value_of set y l TextType)) (sym (null-is x h))
     go false h = text_there set VoidValue x l r h e
 
-pub data_plain : (set : Schemas) (x : Tree) (l : Levels) (r : Result (List ℕ) ErrorKind) → r ≡ as_data x → of_read value.Data r ≡ read set VoidValue DataType (value_of set x l DataType)
+pub data_plain : (set : Schemas) (x : Tree) (l : Levels) (r : Result (List ℕ) ErrorKind) → r ≡ as_data x → of_read value.Data r ≡ read_of set VoidValue DataType (value_of set x l DataType)
 data_plain set x l r e = go (is_null_tree x) refl
   where
-    go : (q : Bool) → is_null_tree x ≡ q → of_read value.Data r ≡ read set VoidValue DataType (value_of set x l DataType)
-    go true h = ap (of_read value.Data) e ∙ ap (λ y. of_read value.Data (as_data y)) (null-is x h) ∙ ap (λ y. read set VoidValue DataType (value_of set y l DataType)) (sym (null-is x h))
+    go : (q : Bool) → is_null_tree x ≡ q → of_read value.Data r ≡ read_of set VoidValue DataType (value_of set x l DataType)
+    go true h = ap (of_read value.Data) e ∙ ap (λ y. of_read value.Data (as_data y)) (null-is x h) ∙ ap (λ y. read_of set VoidValue DataType (value_of set y l DataType)) (sym (null-is x h))
     go false h = data_there set VoidValue x l r h e
 
 pub list_plain : (set : Schemas) (t : SchemaType) (s : ElementSize) (sized : element_size t ≡ s) (x : Tree) (n : ℕ) (r : Result ListReader Error) →
-    list_read r ≡ as_list s x n → IfOk r (λ l. list_levels l + 1 ≡ n) → list_answered set t r ≡ read set VoidValue (ListType t) (value_of set x (Left n) (ListType t))
+    list_read r ≡ as_list s x n → IfOk r (λ l. list_levels l + 1 ≡ n) → list_answered set t r ≡ read_of set VoidValue (ListType t) (value_of set x (Left n) (ListType t))
 list_plain set t s sized x n (Ok l) e levels = go (is_null_tree x) refl
   where
-    go : (q : Bool) → is_null_tree x ≡ q → list_answered set t (Ok l) ≡ read set VoidValue (ListType t) (value_of set x (Left n) (ListType t))
+    go : (q : Bool) → is_null_tree x ≡ q → list_answered set t (Ok l) ≡ read_of set VoidValue (ListType t) (value_of set x (Left n) (ListType t))
     go true h = list_bare set t s sized VoidValue x n (list_of l) (list_levels l) h e levels refl
     go false h = list_there set t s sized VoidValue x n (list_of l) (list_levels l) h e levels
 list_plain set t s sized x n (Err f) e levels = list_refused set t s sized VoidValue x n f.kind e
 
 pub struct_plain : (set : Schemas) (b g : ℕ) (x : Tree) (n : ℕ) (r : Result StructReader Error) →
-    struct_read r ≡ as_struct x n → IfOk r (λ s. struct_levels s + 1 ≡ n) → struct_answered set b r ≡ read set VoidValue (StructType b g) (value_of set x (Left n) (StructType b g))
+    struct_read r ≡ as_struct x n → IfOk r (λ s. struct_levels s + 1 ≡ n) → struct_answered set b r ≡ read_of set VoidValue (StructType b g) (value_of set x (Left n) (StructType b g))
 struct_plain set b g x n (Ok s) e levels = go (is_null_tree x) refl
   where
-    go : (q : Bool) → is_null_tree x ≡ q → struct_answered set b (Ok s) ≡ read set VoidValue (StructType b g) (value_of set x (Left n) (StructType b g))
+    go : (q : Bool) → is_null_tree x ≡ q → struct_answered set b (Ok s) ≡ read_of set VoidValue (StructType b g) (value_of set x (Left n) (StructType b g))
     go true h = struct_bare set b g VoidValue x n (struct_of s) (struct_levels s) h e levels refl
     go false h = struct_there set b g VoidValue x n (struct_of s) (struct_levels s) h e levels
 struct_plain set b g x n (Err f) e levels = struct_refused set b g VoidValue x n f.kind e

@@ -9,7 +9,7 @@ use Rattle.capnp_schema.specs.Types.{SchemaType, VoidType, StructType, is_pointe
 use Rattle.capnp_schema.specs.declared.plan.Place.{Place}
 use Rattle.capnp_schema.specs.declared.plan.Place.TheVariants as place
 use Rattle.capnp_schema.specs.declared.plan.SlotPlan.{SlotPlan}
-use Rattle.capnp_records.specs.Default.{read}
+use Rattle.capnp_records.specs.Default.{read_of}
 use Rattle.capnp_records.specs.Reading.{number_value, struct_record, value_of}
 use Rattle.capnp_records.specs.Record as value
 use Rattle.capnp_records.specs.Record.{Levels, Value}
@@ -18,7 +18,7 @@ use Rattle.capnp_records.specs.Record.{Levels, Value}
 abbrev pub placed_read : Schemas → Levels → StructTree → SchemaValue → SchemaType → Place → Value
 placed_read set l s d t place.Nothing = value.Void
 placed_read set l s d t (place.Bits start bits mask) = number_value t (bit_xor (bits_at s.bytes start (width t)) mask)
-placed_read set l s d t (place.Pointer i) = read set d t (value_of set (nth_tree s.pointers i) l t)
+placed_read set l s d t (place.Pointer i) = read_of set d t (value_of set (nth_tree s.pointers i) l t)
 placed_read set l s d t (place.Group b) = value.Struct (struct_record set l s b)
 
 -- what a place of a type is in an accepted set

@@ -1,7 +1,7 @@
 //! Lists whose element types are known only at run time.
-ghost use Rattle.std.specs.Prelude.{IsTrue};
+ghost use Rattle.capnp_schema.specs.Accepted.{NamesEntries};
 ghost use Rattle.capnp_schema.specs.Entries.{lists_seen};
-ghost use Rattle.capnp_schema.specs.Tests.{is_named};
+ghost use Rattle.capnp_schema.specs.Named.{NamesEntries-prop};
 ghost use Rattle.capnp_schema.specs.Types.{seen_type};
 
 use crate::dynamic_value;
@@ -20,23 +20,21 @@ pub struct Reader<'a> {
     reader: ListReader<'a>,
     element_type: Type,
     set: &'a SchemaSet,
-    ghost named: { IsTrue (is_named (lists_seen set.now) (seen_type element_type)) },
+    ghost named: { NamesEntries (lists_seen set.now) (seen_type element_type) } by { NamesEntries-prop (lists_seen set.now) (seen_type element_type) },
 }
 
 impl<'a> Reader<'a> {
-    ghost use Rattle.std.specs.Prelude.{IfOk, ◌≡◌, ◌↔◌};
+    ghost use Rattle.std.specs.Prelude.{IfOk, IsTrue, ◌≡◌, ◌↔◌};
     ghost use Rattle.capnp_wire.specs.Standing.{list_of};
     ghost use Rattle.capnp_wire.specs.Reading.{list_length};
     ghost use Rattle.capnp_base.specs.ListIter.{source, to_come};
     ghost use Rattle.capnp_base.specs.Taking.{indices};
-    ghost use Rattle.capnp_schema.specs.Accepted.{NamesEntries};
     ghost use Rattle.capnp_dynamic.specs.Handles.{element_of, list_reader_of, list_set, type_of};
     ghost use Rattle.capnp_dynamic.specs.Reads.{element_seen};
     ghost use Rattle.capnp_dynamic.specs.Seen.{answered};
     ghost use Rattle.capnp_dynamic.specs.Typed.{IsOf};
 
     /// A reader of a list whose elements are of a type of the set.
-    #[tactic(auto, using(crate::proofs::NamedTypes::named_test))]
     pub(crate) fn new(reader: ListReader<'a>, element_type: Type, set: &'a SchemaSet) -> Reader<'a>
         requires { NamesEntries (lists_seen set.now) (seen_type element_type) }
         ensures reader { list_reader_of result ≡ reader.entry }

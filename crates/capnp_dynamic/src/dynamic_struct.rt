@@ -4,7 +4,6 @@ use crate::dynamic_value;
 use crate::placed::{has_planned, read_placed};
 use capnp_base::any_pointer;
 use capnp_base::traits::{OwnedStruct, SetterInput};
-use capnp_schema::laws::numbers_fit;
 use capnp_schema::schema::{Field, StructSchema};
 use capnp_wire::error::Result;
 use capnp_wire::laws::{copied_structs_are_well_formed, struct_is_well_formed};
@@ -23,13 +22,13 @@ impl<'a> Reader<'a> {
     ghost use Rattle.capnp_wire.specs.Standing.{struct_levels, struct_of};
     ghost use Rattle.capnp_wire.specs.Total.{IsSize, IsSizeRefusal};
     ghost use Rattle.capnp_wire.specs.Words.{first_fault_of_all, words_of_struct};
-    ghost use Rattle.capnp_schema.specs.FieldLists.{IsFieldOf, IsFound, index_of};
+    ghost use Rattle.capnp_schema.specs.FieldLists.{IsFound, index_of};
     ghost use Rattle.capnp_schema.specs.Query.{field_named};
-    ghost use Rattle.capnp_schema.specs.StructHandles.{IsStruct, set_of, struct_field, struct_records};
+    ghost use Rattle.capnp_schema.specs.StructHandles.{set_of, struct_field, struct_records};
     ghost use Rattle.capnp_schema.specs.Types.{seen_type};
-    ghost use Rattle.capnp_records.specs.Step.{has, which};
+    ghost use Rattle.capnp_records.specs.Part.{has_of, which_of};
     ghost use Rattle.capnp_dynamic.specs.Handles.{reader_of, schema_of};
-    ghost use Rattle.capnp_dynamic.specs.Reads.{field_seen, found_has, found_seen, kind_read};
+    ghost use Rattle.capnp_dynamic.specs.Reads.{BelongsTo, field_seen, found_has, found_seen, kind_read};
     ghost use Rattle.capnp_dynamic.specs.Seen.{answered, record_seen};
     ghost use Rattle.capnp_dynamic.specs.Typed.{IsOf, struct_type};
 
@@ -66,13 +65,12 @@ impl<'a> Reader<'a> {
     /// there is not read as the field's type.
     #[inline(always)]
     pub fn get(self, field: Field<'a>) -> Result<dynamic_value::Reader<'a>>
-        requires schema { IsStruct (schema_of self) }
-        requires field { IsFieldOf (schema_of self) (index_of field) field }
+        requires { BelongsTo field (schema_of self) }
         ensures value { answered result ≡ field_seen self.entry (index_of field.entry) }
         ensures typed { IfOk result (IsOf (set_of (schema_of self.entry)) (struct_field (schema_of self.entry) (index_of field.entry)).type) }
     {
-        let set = self.schema.get_set();
-        numbers_fit(set);
+        let schema = field.get_containing_struct();
+        let set = schema.get_set();
         let place = field.plan().place;
         let variant = field.get_type().which();
         let kind = &field.get_proto().kind;
@@ -81,7 +79,6 @@ impl<'a> Reader<'a> {
 
     /// What the field of a name has, as `get`. Refused with `FieldNotFound` where there is none of that name.
     pub fn get_named(self, field_name: &str) -> Result<dynamic_value::Reader<'a>>
-        requires { IsStruct (schema_of self) }
         ensures value { answered result ≡ found_seen self.entry (field_named (struct_records (schema_of self.entry)) field_name.now) }
     {
         let field = self.schema.get_field_by_name(field_name)?;
@@ -91,8 +88,7 @@ impl<'a> Reader<'a> {
     /// The member whose discriminant value stands in the struct; none without a union or for an unknown number. The
     /// answer is always Ok.
     pub fn which(&self) -> Result<Option<Field<'a>>>
-        requires { IsStruct (schema_of self.now) }
-        ensures { IsOkAnd result (IsFound (schema_of self.now) (which (record_seen self.now))) }
+        ensures { IsOkAnd result (IsFound (schema_of self.now) (which_of (record_seen self.now))) }
     {
         let body = &self.schema.get_proto().body;
         if body.discriminant_count == 0 {
@@ -105,18 +101,18 @@ impl<'a> Reader<'a> {
     /// False for a member that is not active and for a null pointer, else true. The answer is always Ok.
     #[inline(always)]
     pub fn has(&self, field: Field<'a>) -> Result<bool>
-        requires schema { IsStruct (schema_of self.now) }
-        requires field { IsFieldOf (schema_of self.now) (index_of field) field }
-        ensures { result ≡ Ok (has (record_seen self.now) (struct_field (schema_of self.now) (index_of field.entry)).field (index_of field.entry)) }
+        requires { BelongsTo field (schema_of self.now) }
+        ensures { result ≡ Ok (has_of (record_seen self.now) (struct_field (schema_of self.now) (index_of field.entry)).field (index_of field.entry)) }
     {
-        let plan = field.plan();
+        // What every set is known to meet is known of it here.
+        let _schema = field.get_containing_struct();
         let _variant = field.get_type().which();
+        let plan = field.plan();
         Ok(has_planned(&self.reader, plan))
     }
 
     /// Whether the field of a name is there, as `has`. Refused with `FieldNotFound` where there is none of that name.
     pub fn has_named(&self, field_name: &str) -> Result<bool>
-        requires { IsStruct (schema_of self.now) }
         ensures { kind_read result ≡ found_has self.now (field_named (struct_records (schema_of self.now)) field_name.now) }
     {
         let field = self.schema.get_field_by_name(field_name)?;

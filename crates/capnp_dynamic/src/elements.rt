@@ -6,13 +6,12 @@ ghost use Rattle.capnp_schema.specs.Entries.{lists_seen};
 ghost use Rattle.capnp_schema.specs.Schema.{VoidValue};
 ghost use Rattle.capnp_schema.specs.Tests.{seen_variant};
 ghost use Rattle.capnp_records.proofs.Readers.{element_read};
-ghost use Rattle.capnp_records.specs.Default.{read};
+ghost use Rattle.capnp_records.specs.Default.{read_of};
 ghost use Rattle.capnp_dynamic.specs.Seen.{answered};
 ghost use Rattle.capnp_dynamic.specs.Typed.{IsOf};
 
-use crate::behind::{mismatch, plain_data, plain_list, plain_text};
+use crate::behind::{plain_data, plain_list, plain_text};
 use crate::dynamic_value::{Enum, Reader as Value};
-use crate::lookup::{enum_at, struct_at};
 use crate::{dynamic_list, dynamic_struct};
 use capnp_base::introspect::TypeVariant;
 use capnp_base::{any_pointer, text};
@@ -28,7 +27,7 @@ pub(crate) fn read_element<'a>(
     index: u32,
 ) -> Result<Value<'a>>
     requires { NamesEntries (lists_seen set.now) (seen_variant variant) }
-    ensures value { answered result ≡ read (lists_seen set.now) VoidValue (seen_variant variant) (element_read (lists_seen set.now) (list_of list.now) (list_levels list.now) (seen_variant variant) index) }
+    ensures value { answered result ≡ read_of (lists_seen set.now) VoidValue (seen_variant variant) (element_read (lists_seen set.now) (list_of list.now) (list_levels list.now) (seen_variant variant) index) }
     ensures typed { IfOk result (IsOf (lists_seen set.now) (seen_variant variant)) }
 {
     match variant {
@@ -42,25 +41,20 @@ pub(crate) fn read_element<'a>(
         TypeVariant::UInt16 => Ok(Value::UInt16(list.get_data_element::<u16>(index))),
         TypeVariant::UInt32 => Ok(Value::UInt32(list.get_data_element::<u32>(index))),
         TypeVariant::UInt64 => Ok(Value::UInt64(list.get_data_element::<u64>(index))),
-        TypeVariant::Enum(raw) => match enum_at(set, raw.number) {
-            Some(schema) => {
-                let value = list.get_data_element::<u16>(index);
-                Ok(Value::Enum(Enum::new(value, schema)))
-            }
-            None => Err(mismatch()),
-        },
+        TypeVariant::Enum(raw) => {
+            let value = list.get_data_element::<u16>(index);
+            Ok(Value::Enum(Enum::new(value, set.enum_schema(raw.number))))
+        }
         TypeVariant::Text => {
             let bytes = plain_text(&list.get_pointer_element(index))?;
             Ok(Value::Text(text::Reader(bytes)))
         }
         TypeVariant::Data => Ok(Value::Data(plain_data(&list.get_pointer_element(index))?)),
-        TypeVariant::Struct(raw) => match struct_at(set, raw.number) {
-            Some(schema) => {
-                let reader = list.get_struct_element(index)?;
-                Ok(Value::Struct(dynamic_struct::Reader::new(reader, schema)))
-            }
-            None => Err(mismatch()),
-        },
+        TypeVariant::Struct(raw) => {
+            let reader = list.get_struct_element(index)?;
+            let schema = set.struct_schema(raw.number);
+            Ok(Value::Struct(dynamic_struct::Reader::new(reader, schema)))
+        }
         TypeVariant::AnyPointer => {
             let reader = list.get_pointer_element(index);
             Ok(Value::AnyPointer(any_pointer::Reader::new(reader)))

@@ -17,7 +17,6 @@ ghost use Rattle.capnp_dynamic.specs.Typed.{IsOf};
 use crate::behind::{mismatch, read_data, read_list, read_struct, read_text};
 use crate::bits::{bit_at, byte_at, half_at, pair_at, plain_at, word_at};
 use crate::dynamic_value::{Enum, Reader as Value};
-use crate::lookup::{enum_at, struct_at};
 use crate::{dynamic_list, dynamic_struct};
 use capnp_base::introspect::TypeVariant;
 use capnp_base::{any_pointer, text};
@@ -53,13 +52,10 @@ fn read_bits<'a>(
         TypeVariant::UInt16 => Ok(Value::UInt16(pair_at(reader, start, mask))),
         TypeVariant::UInt32 => Ok(Value::UInt32(half_at(reader, start, mask))),
         TypeVariant::UInt64 => Ok(Value::UInt64(word_at(reader, start, mask))),
-        TypeVariant::Enum(raw) => match enum_at(set, raw.number) {
-            Some(schema) => {
-                let value = pair_at(reader, start, mask);
-                Ok(Value::Enum(Enum::new(value, schema)))
-            }
-            None => Err(mismatch()),
-        },
+        TypeVariant::Enum(raw) => {
+            let value = pair_at(reader, start, mask);
+            Ok(Value::Enum(Enum::new(value, set.enum_schema(raw.number))))
+        }
         _ => Err(mismatch()),
     }
 }
@@ -81,10 +77,8 @@ fn read_pointer<'a>(
         TypeVariant::Text => Ok(Value::Text(text::Reader(read_text(kind, &pointer)?))),
         TypeVariant::Data => Ok(Value::Data(read_data(kind, &pointer)?)),
         TypeVariant::Struct(raw) => {
-            let Some(schema) = struct_at(set, raw.number) else {
-                return Err(mismatch());
-            };
             let reader = read_struct(kind, &pointer)?;
+            let schema = set.struct_schema(raw.number);
             Ok(Value::Struct(dynamic_struct::Reader::new(reader, schema)))
         }
         TypeVariant::List(element_type) => {
@@ -119,10 +113,10 @@ pub(crate) fn read_placed<'a>(
             mask,
         } => read_bits(reader, set, variant, start, mask),
         Place::Pointer(index) => read_pointer(set, kind, variant, reader.get_pointer_field(index)),
-        Place::Group(brand) => match struct_at(set, brand) {
-            Some(schema) => Ok(Value::Struct(dynamic_struct::Reader::new(*reader, schema))),
-            None => Err(mismatch()),
-        },
+        Place::Group(brand) => {
+            let schema = set.struct_schema(brand);
+            Ok(Value::Struct(dynamic_struct::Reader::new(*reader, schema)))
+        }
     }
 }
 

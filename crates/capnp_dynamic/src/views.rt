@@ -10,7 +10,6 @@ ghost use Rattle.capnp_dynamic.specs.Viewed.{view_read, view_type};
 
 use crate::behind::{mismatch, plain_list, plain_struct};
 use crate::dynamic_value::{Enum, Reader};
-use crate::lookup::{enum_at, struct_at};
 use crate::{dynamic_list, dynamic_struct};
 use capnp_base::any_pointer;
 use capnp_base::introspect::TypeVariant;
@@ -58,10 +57,7 @@ fn view_enum<'a>(set: &'a SchemaSet, value: u16, variant: TypeVariant) -> Result
     let TypeVariant::Enum(raw) = variant else {
         return Err(mismatch());
     };
-    let Some(schema) = enum_at(set, raw.number) else {
-        return Err(mismatch());
-    };
-    Ok(Reader::Enum(Enum::new(value, schema)))
+    Ok(Reader::Enum(Enum::new(value, set.enum_schema(raw.number))))
 }
 
 /// A struct under a struct's type.
@@ -77,10 +73,8 @@ fn view_struct<'a>(
     let TypeVariant::Struct(raw) = variant else {
         return Err(mismatch());
     };
-    let Some(schema) = struct_at(set, raw.number) else {
-        return Err(mismatch());
-    };
     let reader = plain_struct(&pointer)?;
+    let schema = set.struct_schema(raw.number);
     Ok(Reader::Struct(dynamic_struct::Reader::new(reader, schema)))
 }
 
