@@ -12,7 +12,7 @@ use Rattle.capnp_base.specs.declared.introspect.BaseType.{BaseType}
 use Rattle.capnp_base.specs.declared.introspect.BaseType.TheVariants as base
 use Rattle.capnp_base.specs.Types.{base_of, list_depth}
 use Rattle.capnp_schema.specs.Types.{SchemaType, BoolType, IntType, UIntType, EnumType, width, seen_base, seen_type, lists_of}
-use Rattle.capnp_schema.specs.Schema.{Schemas, Node, Brand, Enum, Field, FieldKind, Slot, Group, Value, VoidValue, BoolValue, IntValue, UIntValue, EnumValue, TextValue, DataValue, StructValue, ListValue, AnyPointerValue, no_node, no_brand, no_field, typed, node_of, brand_at, fields_of, field_at, kind_default, seen_brand, seen_enum, seen_types}
+use Rattle.capnp_schema.specs.Schema.{Schemas, Node, Brand, Enum, Field, FieldKind, Slot, Group, Value, VoidValue, BoolValue, IntValue, UIntValue, EnumValue, TextValue, DataValue, StructValue, ListValue, AnyPointerValue, no_node, no_field, typed, node_of, brand_at, fields_of, field_at, kind_default, seen_brand, seen_enum, seen_types}
 use Rattle.capnp_schema.specs.SlotValue.{bit_number, default_bits, unsigned}
 use Rattle.capnp_schema.specs.Accepted.{IsAccepted, IsDefaultOf, KindDefault}
 use Rattle.capnp_schema.specs.Entries.{lists_seen}
@@ -141,7 +141,7 @@ has_ranges set accepted entries types = record {
   kinds = λ b i b_in i_in. (field b i b_in i_in).kind;
   defaults = λ b i b_in i_in. (field b i b_in i_in).default;
   masks = λ b i b_in i_in. kind_below (field_at set b i).field.kind (field_at set b i).type (accepted.rule5 b i b_in i_in) (field b i b_in i_in).default;
-  types = λ b i b_in i_in. entry_has HasWidths (brand_at set b).field_types i (field_at set b i).type (entry_has (λ (x : Brand). All HasWidths x.field_types) set.brands b (brand_at set b) types.fields (sym (entry-some set.brands b (no_brand set) b_in)))
+  types = λ b i b_in i_in. entry_has HasWidths (brand_at set b).field_types i (field_at set b i).type (entry_has (λ (x : Brand). All HasWidths x.field_types) set.brands b (brand_at set b) types.fields (sym (entry-some set.brands b _ b_in)))
       (sym (typed-type (node_of set b).fields (brand_at set b).field_types i i_in));
   annotations = λ k d h. ((entries.nodes k d h).annotations, λ j e l. ((entries.nodes k d h).fields j e l).annotations);
   annotation_types = types.annotations;

@@ -19,6 +19,6 @@ returns c =
     let stands : IsStruct s = subst IsStruct c.get_containing_struct-schema.ensures.is c.get_containing_struct-schema.ensures.stands in
     ap Ok (c.has_planned.ensures
     ∙ (ap (planned_has (struct_of (reader_of c.args.self.now))) c.plan-plan.ensures.is
-    ∙ (has_by_plan (set_of s) (Left (struct_levels (reader_of c.args.self.now))) (struct_of (reader_of c.args.self.now)) stands.accepted (number_of s) (index_of c.args.field) stands.number c.args.field.inside c.which.result
-    (ap seen_variant c.which.ensures ∙ (seen_which c.get_type.result ∙ c.get_type.ensures.is))
+    ∙ (has_by_plan (set_of s) (Left (struct_levels (reader_of c.args.self.now))) (struct_of (reader_of c.args.self.now)) stands.accepted (number_of s) (index_of c.args.field) stands.number c.args.field.inside c.which-variant.result
+    (ap seen_variant c.which-variant.ensures ∙ (seen_which c.get_type.result ∙ c.get_type.ensures.is))
     ∙ same_has c.args.field c.args.self.now c.requires)))
