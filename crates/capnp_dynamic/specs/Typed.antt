@@ -1,5 +1,6 @@
 -- Values of a type of a set: which variant a read hands out, and that its handles are of that set.
 use Rattle.std.specs.Prelude.{◌≡◌}
+use Rattle.capnp_schema.specs.Accepted.{NamesEntries}
 use Rattle.capnp_schema.specs.Enums.{IsEnum, enum_number, enum_set}
 use Rattle.capnp_schema.specs.Schema.{Schemas}
 use Rattle.capnp_schema.specs.StructHandles.{IsStruct, generic_of, number_of, set_of}
@@ -28,5 +29,5 @@ IsOf set t (dynamic.Enum e) = IsEnum (enum_of e) × (enum_set (enum_of e) ≡ se
 IsOf set t (dynamic.Text text) = TextType ≡ t
 IsOf set t (dynamic.«Data» bytes) = DataType ≡ t
 IsOf set t (dynamic.Struct s) = IsStruct (schema_of s) × (set_of (schema_of s) ≡ set) × (struct_type (schema_of s) ≡ t)
-IsOf set t (dynamic.List l) = (list_set l ≡ set) × (ListType (element_of l) ≡ t)
+IsOf set t (dynamic.List l) = (list_set l ≡ set) × (ListType (element_of l) ≡ t) × NamesEntries set t
 IsOf set t (dynamic.AnyPointer p) = AnyPointerType ≡ t

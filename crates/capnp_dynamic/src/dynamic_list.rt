@@ -1,8 +1,5 @@
 //! Lists whose element types are known only at run time.
-ghost use Rattle.capnp_schema.specs.Accepted.{NamesEntries};
 ghost use Rattle.capnp_schema.specs.Entries.{lists_seen};
-ghost use Rattle.capnp_schema.specs.Named.{NamesEntries-prop};
-ghost use Rattle.capnp_schema.specs.Types.{seen_type};
 
 use crate::dynamic_value;
 use crate::elements::read_element;
@@ -20,7 +17,6 @@ pub struct Reader<'a> {
     reader: ListReader<'a>,
     element_type: Type,
     set: &'a SchemaSet,
-    ghost named: { NamesEntries (lists_seen set.now) (seen_type element_type) } by { NamesEntries-prop (lists_seen set.now) (seen_type element_type) },
 }
 
 impl<'a> Reader<'a> {
@@ -29,6 +25,7 @@ impl<'a> Reader<'a> {
     ghost use Rattle.capnp_wire.specs.Reading.{list_length};
     ghost use Rattle.capnp_base.specs.ListIter.{source, to_come};
     ghost use Rattle.capnp_base.specs.Taking.{indices};
+    ghost use Rattle.capnp_schema.specs.Accepted.{NamesEntries};
     ghost use Rattle.capnp_dynamic.specs.Handles.{element_of, list_reader_of, list_set, type_of};
     ghost use Rattle.capnp_dynamic.specs.Reads.{element_seen};
     ghost use Rattle.capnp_dynamic.specs.Seen.{answered};
@@ -36,7 +33,6 @@ impl<'a> Reader<'a> {
 
     /// A reader of a list whose elements are of a type of the set.
     pub(crate) fn new(reader: ListReader<'a>, element_type: Type, set: &'a SchemaSet) -> Reader<'a>
-        requires { NamesEntries (lists_seen set.now) (seen_type element_type) }
         ensures reader { list_reader_of result ≡ reader.entry }
         ensures element { type_of result ≡ element_type }
         ensures set { list_set result ≡ lists_seen set.now }
@@ -78,7 +74,7 @@ impl<'a> Reader<'a> {
     /// `TextNotTerminated`.
     pub fn get(self, index: u32) -> Result<dynamic_value::Reader<'a>>
         ensures value { answered result ≡ element_seen self.entry index }
-        ensures typed { IfOk result (IsOf (list_set self.entry) (element_of self.entry)) }
+        ensures typed { NamesEntries (list_set self.entry) (element_of self.entry) → IfOk result (IsOf (list_set self.entry) (element_of self.entry)) }
     {
         read_element(&self.reader, self.set, self.element_type.which(), index)
     }
@@ -96,6 +92,7 @@ impl<'a> IndexMove<u32, Result<dynamic_value::Reader<'a>>> for Reader<'a> {
     ghost use Rattle.std.specs.Prelude.{IfOk, ◌≡◌};
     ghost use Rattle.capnp_wire.specs.Standing.{list_of};
     ghost use Rattle.capnp_wire.specs.Reading.{list_length};
+    ghost use Rattle.capnp_schema.specs.Accepted.{NamesEntries};
     ghost use Rattle.capnp_dynamic.specs.Handles.{element_of, list_reader_of, list_set};
     ghost use Rattle.capnp_dynamic.specs.Reads.{element_seen};
     ghost use Rattle.capnp_dynamic.specs.Seen.{answered};
@@ -103,7 +100,7 @@ impl<'a> IndexMove<u32, Result<dynamic_value::Reader<'a>>> for Reader<'a> {
 
     ghost count = { λ l. list_length (list_of (list_reader_of l)) };
 
-    ghost answers = { λ l i x. (answered x ≡ element_seen l i) × IfOk x (IsOf (list_set l) (element_of l)) };
+    ghost answers = { λ l i x. (answered x ≡ element_seen l i) × (NamesEntries (list_set l) (element_of l) → IfOk x (IsOf (list_set l) (element_of l))) };
 
     fn index_move(&self, index: u32) -> Result<dynamic_value::Reader<'a>> {
         self.get(index)

@@ -38,9 +38,8 @@ fn read_bits<'a>(
     requires wide { 0 < width (seen_variant variant) }
     requires start { start % width (seen_variant variant) ≡ 0 }
     requires mask { mask < 2 ^ width (seen_variant variant) }
-    requires named { NamesEntries (lists_seen set.now) (seen_variant variant) }
     ensures value { answered result ≡ number_value (seen_variant variant) (bit_xor (bits_at (struct_of reader.now).bytes start (width (seen_variant variant))) mask) }
-    ensures typed { IfOk result (IsOf (lists_seen set.now) (seen_variant variant)) }
+    ensures typed { NamesEntries (lists_seen set.now) (seen_variant variant) → IfOk result (IsOf (lists_seen set.now) (seen_variant variant)) }
 {
     match variant {
         TypeVariant::Bool => Ok(Value::Bool(bit_at(reader, start, mask))),
@@ -68,10 +67,9 @@ fn read_pointer<'a>(
     variant: TypeVariant,
     pointer: PointerReader<'a>,
 ) -> Result<Value<'a>>
-    requires pointer { is_pointer (seen_variant variant) ≡ true }
-    requires named { NamesEntries (lists_seen set.now) (seen_variant variant) }
+    requires { is_pointer (seen_variant variant) ≡ true }
     ensures value { answered result ≡ pointer_read (lists_seen set.now) (kind_default (seen_kind kind.now)) (seen_variant variant) pointer.entry }
-    ensures typed { IfOk result (IsOf (lists_seen set.now) (seen_variant variant)) }
+    ensures typed { NamesEntries (lists_seen set.now) (seen_variant variant) → IfOk result (IsOf (lists_seen set.now) (seen_variant variant)) }
 {
     match variant {
         TypeVariant::Text => Ok(Value::Text(text::Reader(read_text(kind, &pointer)?))),
@@ -100,10 +98,9 @@ pub(crate) fn read_placed<'a>(
     variant: TypeVariant,
     place: Place,
 ) -> Result<Value<'a>>
-    requires sound { IsSound (lists_seen set.now) (seen_variant variant) place }
-    requires named { NamesEntries (lists_seen set.now) (seen_variant variant) }
+    requires { IsSound (lists_seen set.now) (seen_variant variant) place }
     ensures value { answered result ≡ placed_read (lists_seen set.now) (Left (struct_levels reader.now)) (struct_of reader.now) (kind_default (seen_kind kind.now)) (seen_variant variant) place }
-    ensures typed { IfOk result (IsOf (lists_seen set.now) (seen_variant variant)) }
+    ensures typed { NamesEntries (lists_seen set.now) (seen_variant variant) → IfOk result (IsOf (lists_seen set.now) (seen_variant variant)) }
 {
     match place {
         Place::Nothing => Ok(Value::Void),

@@ -24,9 +24,8 @@ pub(crate) fn read_view<'a>(
     value: Value<'a>,
     variant: TypeVariant,
 ) -> Result<Reader<'a>>
-    requires { NamesEntries (lists_seen set.now) (seen_variant variant) }
     ensures value { answered result ≡ view_read (lists_seen set.now) value.entry (seen_variant variant) }
-    ensures typed { IfOk result (IsOf (lists_seen set.now) (view_type value.entry (seen_variant variant))) }
+    ensures typed { NamesEntries (lists_seen set.now) (seen_variant variant) → IfOk result (IsOf (lists_seen set.now) (view_type value.entry (seen_variant variant))) }
 {
     match value {
         Value::Void => Ok(Reader::Void),
@@ -50,9 +49,8 @@ pub(crate) fn read_view<'a>(
 
 /// A number under an enum's type.
 fn view_enum<'a>(set: &'a SchemaSet, value: u16, variant: TypeVariant) -> Result<Reader<'a>>
-    requires { NamesEntries (lists_seen set.now) (seen_variant variant) }
     ensures value { answered result ≡ view_read (lists_seen set.now) (view.Enum value) (seen_variant variant) }
-    ensures typed { IfOk result (IsOf (lists_seen set.now) (seen_variant variant)) }
+    ensures typed { NamesEntries (lists_seen set.now) (seen_variant variant) → IfOk result (IsOf (lists_seen set.now) (seen_variant variant)) }
 {
     let TypeVariant::Enum(raw) = variant else {
         return Err(mismatch());
@@ -66,9 +64,8 @@ fn view_struct<'a>(
     pointer: PointerReader<'a>,
     variant: TypeVariant,
 ) -> Result<Reader<'a>>
-    requires { NamesEntries (lists_seen set.now) (seen_variant variant) }
     ensures value { answered result ≡ view_read (lists_seen set.now) (view.Struct pointer.entry) (seen_variant variant) }
-    ensures typed { IfOk result (IsOf (lists_seen set.now) (seen_variant variant)) }
+    ensures typed { NamesEntries (lists_seen set.now) (seen_variant variant) → IfOk result (IsOf (lists_seen set.now) (seen_variant variant)) }
 {
     let TypeVariant::Struct(raw) = variant else {
         return Err(mismatch());
@@ -84,9 +81,8 @@ fn view_list<'a>(
     pointer: PointerReader<'a>,
     variant: TypeVariant,
 ) -> Result<Reader<'a>>
-    requires { NamesEntries (lists_seen set.now) (seen_variant variant) }
     ensures value { answered result ≡ view_read (lists_seen set.now) (view.List pointer.entry) (seen_variant variant) }
-    ensures typed { IfOk result (IsOf (lists_seen set.now) (seen_variant variant)) }
+    ensures typed { NamesEntries (lists_seen set.now) (seen_variant variant) → IfOk result (IsOf (lists_seen set.now) (seen_variant variant)) }
 {
     let TypeVariant::List(element_type) = variant else {
         return Err(mismatch());
@@ -103,7 +99,7 @@ fn view_untyped<'a>(
     variant: TypeVariant,
 ) -> Result<Reader<'a>>
     ensures value { answered result ≡ view_read (lists_seen set.now) (view.AnyPointer pointer.entry) (seen_variant variant) }
-    ensures typed { IfOk result (IsOf (lists_seen set.now) (seen_variant variant)) }
+    ensures typed { NamesEntries (lists_seen set.now) (seen_variant variant) → IfOk result (IsOf (lists_seen set.now) (seen_variant variant)) }
 {
     match variant {
         TypeVariant::AnyPointer => Ok(Reader::AnyPointer(any_pointer::Reader::new(pointer))),

@@ -12,6 +12,7 @@ use capnp_base::traits::{IndexMove, ListIter};
 /// An annotation of a set.
 #[derive(Clone, Copy)]
 pub struct Annotation<'s> {
+    set: &'s SchemaSet,
     stored: &'s AnnotationRecord,
     annotation_type: Type,
 }
@@ -19,7 +20,15 @@ pub struct Annotation<'s> {
 impl<'s> Annotation<'s> {
     ghost use Rattle.capnp_schema.specs.Types.{seen_type};
     ghost use Rattle.capnp_schema.specs.Views.{IsViewOf};
-    ghost use Rattle.capnp_schema.specs.AnnotationLists.{annotation_in};
+    ghost use Rattle.capnp_schema.specs.Entries.{lists_seen};
+    ghost use Rattle.capnp_schema.specs.AnnotationLists.{annotation_in, annotation_set};
+
+    /// The set that it is of.
+    pub fn get_set(&self) -> &'s SchemaSet
+        ensures { lists_seen result.now ≡ annotation_set self.now }
+    {
+        self.set
+    }
 
     /// The number that the annotation goes by.
     pub fn get_id(&self) -> u64
@@ -46,6 +55,7 @@ impl<'s> Annotation<'s> {
 /// The annotations at one place, in the order of their records, each with its type. There are fewer than 2^29.
 #[derive(Clone, Copy)]
 pub struct AnnotationList<'s> {
+    set: &'s SchemaSet,
     stored: &'s [AnnotationRecord],
     types: &'s [Type],
     ghost have_types: { length types.now ≡ length stored.now },
@@ -63,18 +73,22 @@ impl<'s> AnnotationList<'s> {
     ghost use Rattle.capnp_schema.specs.Annotated.{annotations_of, enum_annotations, enumerant_annotations, enumerant_at, field_annotations, first_of_id, struct_annotations, with_types};
     ghost use Rattle.capnp_schema.specs.AnnotationLists.{annotation_in, annotations_in};
 
-    fn new(stored: &'s [AnnotationRecord], types: &'s [Type]) -> AnnotationList<'s>
+    fn new(
+        set: &'s SchemaSet,
+        stored: &'s [AnnotationRecord],
+        types: &'s [Type],
+    ) -> AnnotationList<'s>
         requires have_types { length types.now ≡ length stored.now }
         requires are_few { length stored.now < 2 ^ 29 }
         ensures { annotations_in result ≡ with_types (seen_annotations stored.now) (map seen_type types.now) }
     {
-        AnnotationList { stored, types }
+        AnnotationList { set, stored, types }
     }
 
-    fn empty() -> AnnotationList<'s>
+    fn empty(set: &'s SchemaSet) -> AnnotationList<'s>
         ensures { annotations_in result ≡ [] }
     {
-        AnnotationList::new(&[], &[])
+        AnnotationList::new(set, &[], &[])
     }
 
     /// The annotations of a struct, by the number of its brand: those of its node, with the brand's types. None past the
@@ -85,12 +99,12 @@ impl<'s> AnnotationList<'s> {
     {
         let lists = set.accepted_lists();
         let Some(record) = lists.brand_at(brand as usize) else {
-            return AnnotationList::empty();
+            return AnnotationList::empty(set);
         };
         let Some(node) = lists.node_at(record.node as usize) else {
-            return AnnotationList::empty();
+            return AnnotationList::empty(set);
         };
-        AnnotationList::new(&node.annotations, &record.annotation_types.own)
+        AnnotationList::new(set, &node.annotations, &record.annotation_types.own)
     }
 
     /// The annotations of a field, by the number of its struct's brand and its index, with the brand's types. None past the
@@ -101,15 +115,15 @@ impl<'s> AnnotationList<'s> {
     {
         let lists = set.accepted_lists();
         let Some(record) = lists.brand_at(brand as usize) else {
-            return AnnotationList::empty();
+            return AnnotationList::empty(set);
         };
         let Some(typed) = lists.field_at(brand as usize, field as usize) else {
-            return AnnotationList::empty();
+            return AnnotationList::empty(set);
         };
         let Some(types) = child_at(&record.annotation_types.children, field as usize) else {
-            return AnnotationList::empty();
+            return AnnotationList::empty(set);
         };
-        AnnotationList::new(&typed.field.annotations, types)
+        AnnotationList::new(set, &typed.field.annotations, types)
     }
 
     /// The annotations of an enum, by its number. None past the end of the enums.
@@ -118,9 +132,9 @@ impl<'s> AnnotationList<'s> {
         ensures whole { annotations_of (annotations_in result) ≡ (enum_at (lists_seen set.now) number).annotations }
     {
         let Some(record) = set.accepted_lists().enum_at(number as usize) else {
-            return AnnotationList::empty();
+            return AnnotationList::empty(set);
         };
-        AnnotationList::new(&record.annotations, &record.annotation_types.own)
+        AnnotationList::new(set, &record.annotations, &record.annotation_types.own)
     }
 
     /// The annotations of an enumerant, by the number of its enum and its ordinal. None past the end of either.
@@ -133,15 +147,15 @@ impl<'s> AnnotationList<'s> {
         ensures whole { annotations_of (annotations_in result) ≡ (enumerant_at (lists_seen set.now) number enumerant).annotations }
     {
         let Some(record) = set.accepted_lists().enum_at(number as usize) else {
-            return AnnotationList::empty();
+            return AnnotationList::empty(set);
         };
         let Some(stored) = enumerant_in(&record.enumerants, enumerant as usize) else {
-            return AnnotationList::empty();
+            return AnnotationList::empty(set);
         };
         let Some(types) = child_at(&record.annotation_types.children, enumerant as usize) else {
-            return AnnotationList::empty();
+            return AnnotationList::empty(set);
         };
-        AnnotationList::new(&stored.annotations, types)
+        AnnotationList::new(set, &stored.annotations, types)
     }
 
     /// How many annotations there are.
@@ -167,6 +181,7 @@ impl<'s> AnnotationList<'s> {
         ensures { slice_get (annotations_in self.entry) index ≡ Some (annotation_in result) }
     {
         Annotation {
+            set: self.set,
             stored: &self.stored[index as usize],
             annotation_type: self.types[index as usize],
         }

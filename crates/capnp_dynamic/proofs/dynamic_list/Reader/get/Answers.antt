@@ -19,9 +19,5 @@ returns-clause-value c =
     ∙ ap (read_of (lists_seen c.args.self.set.now) VoidValue (seen_type c.args.self.element_type)) (sym (element-is-read (lists_seen c.args.self.set.now) (list_of c.args.self.reader) (list_levels c.args.self.reader) (seen_type c.args.self.element_type) c.args.index)))
 
 pub returns-clause-typed : goal.returns-clause-typed
-returns-clause-typed c =
-    subst (λ (t : SchemaType). IfOk c.read_element.result (IsOf (lists_seen c.args.self.set.now) t)) (ap seen_variant c.which.ensures ∙ seen_which c.args.self.element_type) c.read_element.ensures.typed
-
-pub read_element-requires : goal.read_element-requires
-read_element-requires c =
-    subst (NamesEntries (lists_seen c.args.self.set.now)) (sym (ap seen_variant c.which.ensures ∙ seen_which c.args.self.element_type)) c.args.self.named
+returns-clause-typed c named =
+    subst (λ (t : SchemaType). IfOk c.read_element.result (IsOf (lists_seen c.args.self.set.now) t)) (ap seen_variant c.which.ensures ∙ seen_which c.args.self.element_type) (c.read_element.ensures.typed (subst (NamesEntries (lists_seen c.args.self.set.now)) (sym (ap seen_variant c.which.ensures ∙ seen_which c.args.self.element_type)) named))

@@ -29,8 +29,8 @@ sound-same {set = set} {t = t} {t' = t'} {p = p} {p' = p'} e f g h =
 named-same : {set set' : Schemas} {t t' : SchemaType} → set' ≡ set → t' ≡ t → NamesEntries set t → NamesEntries set' t'
 named-same {set = set} {t' = t'} e f h = subst (λ z. NamesEntries z t') (sym e) (subst (NamesEntries set) (sym f) h)
 
-pub read_placed-requires-clause-sound : goal.read_placed-requires-clause-sound
-read_placed-requires-clause-sound c =
+pub read_placed-requires : goal.read_placed-requires
+read_placed-requires c =
     let s : StructSchema = field_schema c.args.field in
     let stands : IsStruct s = subst IsStruct c.get_containing_struct-schema.ensures.is c.get_containing_struct-schema.ensures.stands in
     let type : seen_variant c.which-variant.result ≡ (typed_of c.args.field).type =
@@ -39,10 +39,6 @@ read_placed-requires-clause-sound c =
     (ap (λ (p : SlotPlan). p.place) c.plan-place.ensures.is)
     (place_sound (set_of s) stands.accepted (number_of s) (index_of c.args.field) stands.number c.args.field.inside c.which-variant.result type
     (subst (λ (p : SlotPlan). IsSlotPlace p.place) c.plan-place.ensures.is c.plan-place.ensures.stands.slot))
-
-pub read_placed-requires-clause-named : goal.read_placed-requires-clause-named
-read_placed-requires-clause-named c =
-    named-same (c.get_set-set.ensures ∙ ap set_of c.get_containing_struct-schema.ensures.is) (ap seen_variant c.which-variant.ensures ∙ seen_which c.get_type.result) c.get_type.ensures.named
 
 pub returns-clause-value : goal.returns-clause-value
 returns-clause-value c =
@@ -63,4 +59,4 @@ returns-clause-typed c =
     let s : StructSchema = schema_of c.args.self in
     subst (λ (t : SchemaType). IfOk c.read_placed.result (IsOf (set_of s) t))
     (ap seen_variant c.which-variant.ensures ∙ (seen_which c.get_type.result ∙ (c.get_type.ensures.is ∙ ap (λ (f : TypedField). f.type) (same_field c.args.field s c.requires))))
-    (subst (λ (z : Schemas). IfOk c.read_placed.result (IsOf z (seen_variant c.which-variant.result))) (c.get_set-set.ensures ∙ (ap set_of c.get_containing_struct-schema.ensures.is ∙ c.requires.set)) c.read_placed.ensures.typed)
+    (subst (λ (z : Schemas). IfOk c.read_placed.result (IsOf z (seen_variant c.which-variant.result))) (c.get_set-set.ensures ∙ (ap set_of c.get_containing_struct-schema.ensures.is ∙ c.requires.set)) (c.read_placed.ensures.typed (named-same (c.get_set-set.ensures ∙ ap set_of c.get_containing_struct-schema.ensures.is) (ap seen_variant c.which-variant.ensures ∙ seen_which c.get_type.result) c.get_type.ensures.named)))

@@ -15,5 +15,5 @@ returns-clause-value c =
     ∙ ap (view_read (lists_seen c.args.set.now) c.args.value) (ap seen_variant c.which.ensures ∙ seen_which c.args.value_type)
 
 pub returns-clause-typed : goal.returns-clause-typed
-returns-clause-typed c =
-    subst (λ (t : SchemaType). IfOk c.read_view.result (IsOf (lists_seen c.args.set.now) (view_type c.args.value t))) (ap seen_variant c.which.ensures ∙ seen_which c.args.value_type) c.read_view.ensures.typed
+returns-clause-typed c named =
+    subst (λ (t : SchemaType). IfOk c.read_view.result (IsOf (lists_seen c.args.set.now) (view_type c.args.value t))) (ap seen_variant c.which.ensures ∙ seen_which c.args.value_type) (c.read_view.ensures.typed (subst (NamesEntries (lists_seen c.args.set.now)) (sym (ap seen_variant c.which.ensures ∙ seen_which c.args.value_type)) named))
