@@ -1,10 +1,11 @@
 -- What the trees are that set, init and initn write.
-use Rattle.std.specs.Prelude.{ℕ, ◌-◌, ◌*◌, ◌^◌, ◌<◌, ◌≡◌, ⊤, ℤ, pos, negsuc, false, replicate}
+use Rattle.std.specs.Prelude.{ℕ, ◌*◌, ◌^◌, ◌<◌, ◌≡◌, ⊤, false, replicate}
 use Rattle.capnp_wire.specs.Tree.{Tree, Null}
 use Rattle.capnp_wire.specs.Place.{struct_tree}
 use Rattle.capnp_wire.specs.Reading.{is_null_tree}
 use Rattle.capnp_wire.specs.Edits.{zero_struct, zero_structs, zero_list}
 use Rattle.capnp_schema.specs.Types.{SchemaType, TextType, DataType, StructType, ListType, element_size}
+use Rattle.capnp_schema.specs.Ranges.{IsSigned}
 use Rattle.capnp_schema.specs.Schema.{Schemas}
 use Rattle.capnp_records.specs.Call.{Source, IntSource, UIntSource, EnumSource, TextSource, DataSource, StructSource, ListSource}
 use Rattle.capnp_records.specs.Given.{text_tree, data_tree, copied_struct}
@@ -19,10 +20,6 @@ source_tree (ListSource l t from) = t
 source_tree s = Null
 
 -- what the Rust types of sources give by themselves; a null list's reader is an empty list
-abbrev pub IsSigned : ℕ → ℤ → Type 0
-IsSigned bytes (pos n) = n < 2 ^ (8 * bytes - 1)
-IsSigned bytes (negsuc n) = n < 2 ^ (8 * bytes - 1)
-
 abbrev pub SourceFits : Source → Type 0
 SourceFits (IntSource bytes x) = (0 < bytes) × IsSigned bytes x
 SourceFits (UIntSource bytes n) = n < 2 ^ (8 * bytes)

@@ -1,0 +1,56 @@
+-- In an accepted set whose numbers fit their types the sections' sizes have 16 bits and the defaults are well-formed.
+use Rattle.std.specs.Prelude.{ℕ, zero, suc, ◌^◌, ◌<◌, ⊤, List, [], ◌∷◌, slice_index_or}
+use Rattle.std.proofs.Common.{arith}
+use Rattle.capnp_wire.specs.WellFormed.{AreBytes, AreSegments, IsWellFormed}
+use Rattle.capnp_wire.proofs.WellFormedPlaces.{IsWellFormed-tree_at}
+use Rattle.capnp_schema.specs.Schema.{AnyPointerValue, BoolValue, DataValue, EnumValue, FieldKind, Group, IntValue, ListValue, Schemas, Slot, StructValue, TextValue, UIntValue, VoidValue, brand_at, field_at, kind_default, node_of}
+use Rattle.capnp_schema.specs.Schema.{Value as SchemaValue}
+use Rattle.capnp_schema.specs.Types.{SchemaType}
+use Rattle.capnp_schema.specs.Accepted.{Decodes, EachField, IsAccepted, KindDefault, root_of}
+use Rattle.capnp_schema.specs.Ranges.{HasRanges, ValueFits}
+use Rattle.capnp_records.proofs.Formed.{formed-data, formed-text}
+use Rattle.capnp_records.proofs.Members.{default-decodes}
+use Rattle.capnp_records.specs.Given.{data_tree, text_tree}
+
+-- the tree of a default is well-formed
+abbrev pub DefaultFormed : SchemaValue → Type 0
+DefaultFormed (TextValue bytes) = IsWellFormed (text_tree bytes)
+DefaultFormed (DataValue bytes) = IsWellFormed (data_tree bytes)
+DefaultFormed (StructValue words) = IsWellFormed (root_of words)
+DefaultFormed (ListValue words) = IsWellFormed (root_of words)
+DefaultFormed d = ⊤
+
+pub record HasFormedParts (set : Schemas) : Type 0 where
+  pub words : (b : ℕ) → (node_of set b).data_word_count < 2 ^ 16
+  pub pointers : (b : ℕ) → (node_of set b).pointer_count < 2 ^ 16
+  pub defaults : EachField set (λ b i f. KindDefault (λ d t. DefaultFormed d) f.field.kind f.type)
+
+formed-words : (words : List ℕ) → AreBytes words → IsWellFormed (root_of words)
+formed-words words h = IsWellFormed-tree_at 64 (words ∷ []) (slice_index_or (words ∷ []) 0 []) 0 segments h
+  where
+    segments : AreSegments (words ∷ [])
+    segments zero = h
+    segments (suc i) = λ j. omega arith
+
+formed-default : (d : SchemaValue) → ValueFits d → Decodes d → DefaultFormed d
+formed-default VoidValue fits h = tt
+formed-default (BoolValue x) fits h = tt
+formed-default (IntValue bytes x) fits h = tt
+formed-default (UIntValue bytes x) fits h = tt
+formed-default (EnumValue x) fits h = tt
+formed-default (TextValue bytes) fits few = formed-text bytes fits (omega (arith, few))
+formed-default (DataValue bytes) fits few = formed-data bytes fits (omega (arith, few))
+formed-default (StructValue words) fits h = formed-words words fits
+formed-default (ListValue words) fits h = formed-words words fits
+formed-default (AnyPointerValue words) fits h = tt
+
+formed-kind : (k : FieldKind) (t : SchemaType) → ValueFits (kind_default k) → Decodes (kind_default k) → KindDefault (λ d t. DefaultFormed d) k t
+formed-kind (Slot offset d) t fits h = formed-default d fits h
+formed-kind (Group node) t fits h = tt
+
+pub formed-set : (set : Schemas) → IsAccepted set → HasRanges set → HasFormedParts set
+formed-set set accepted ranges = record {
+  words = λ b. (ranges.nodes (brand_at set b).node).data_words;
+  pointers = λ b. (ranges.nodes (brand_at set b).node).pointers;
+  defaults = λ b i b_in i_in. formed-kind (field_at set b i).field.kind (field_at set b i).type (ranges.defaults b i b_in i_in) (default-decodes set accepted b i b_in i_in);
+}
