@@ -1,9 +1,9 @@
 -- Bits of a data section: the numbers that they are, and what they are once a number or a bit was written.
-use Rattle.std.specs.Prelude.{ℕ, zero, suc, ◌+◌, ◌-◌, ◌*◌, ◌/◌, ◌%◌, ◌^◌, ◌<◌, ◌≤◌, ◌≡◌, ◌≢◌, ◌⊎◌, refl, List, [], ◌∷◌, ◌++◌, Bool, true, false, ◌==◌, length, get_or, take, drop, bit_xor}
+use Rattle.std.specs.Prelude.{ℕ, zero, suc, ◌+◌, ◌-◌, ◌*◌, ◌/◌, ◌%◌, ◌^◌, ◌<◌, ◌≤◌, ◌≡◌, ◌≢◌, ◌⊎◌, refl, List, ◌∷◌, ◌++◌, Bool, true, false, ◌==◌, length, get_or, take, drop, bit_xor}
 use Rattle.std.specs.Int.{w8}
 use Rattle.std.specs.Int.Bits.{xor_assoc, xor_self, xor_zero_r}
-use Rattle.std.proofs.Common.{arith, inl, inr, ap, ap₂, sym, ◌∙◌, get_or-set_other, get_or-set_same, length-append}
-use Rattle.std.proofs.lemmas.List.{get_or_append_left, get_or-append_right, get_or-take, get_or-drop, length-drop, length-take-le}
+use Rattle.std.proofs.Common.{arith, inl, inr, ap, ap₂, sym, ◌∙◌, get_or-set_other, get_or-set_same}
+use Rattle.std.proofs.lemmas.List.{get_or_append_left, get_or-append_right, get_or-take, get_or-drop, length-take-le}
 use Rattle.std.proofs.lemmas.Nat.Bits as number
 use Rattle.std.proofs.lemmas.Nat.{pow_below, xor_lt}
 use Rattle.std.proofs.Math.Nat.{pow-suc}
@@ -11,6 +11,7 @@ use Rattle.capnp_wire.specs.Slot.{bit_at, little_endian, masked_bit, number_at}
 use Rattle.capnp_wire.specs.Edits.{byte_with_bit, with_bit, with_number}
 use Rattle.capnp_wire.specs.Encoding.{spelled}
 use Rattle.capnp_wire.specs.WellFormed.{AreBytes}
+use Rattle.capnp_wire.specs.Facts.Bytes.{AreBytes-spelled, length_spelled, little_endian_spelled, spelled_first}
 use Rattle.capnp_schema.specs.Footprint.{is_in}
 use Rattle.capnp_schema.specs.SlotValue.{bit_number, bits_at}
 
@@ -111,18 +112,6 @@ bits_at-byte_more bytes first n =
     let next : first + 1 + 1 + 1 + 1 + 1 + 1 + 1 + 1 ≡ first + 8 = omega arith in
     ap (bits_at bytes first) eight ∙ (more ∙ ap (λ f. bits_at bytes first 8 + 256 * bits_at bytes f n) next)
 
--- no bytes spell 0
-spelled-none : (n : ℕ) → little_endian (take n []) ≡ 0
-spelled-none zero = refl
-spelled-none (suc n) = refl
-
--- n + 1 bytes are the first of them and the n after it
-spelled-first : (bytes : List ℕ) (i n : ℕ) → little_endian (take (suc n) (drop i bytes)) ≡ get_or bytes i 0 + 256 * little_endian (take n (drop (suc i) bytes))
-spelled-first [] zero n = omega (arith, spelled-none n)
-spelled-first [] (suc i) n = omega (arith, spelled-none n)
-spelled-first (b ∷ bs) zero n = refl
-spelled-first (b ∷ bs) (suc i) n = spelled-first bs i n
-
 -- the bits of bytes in a row are the number that they spell
 pub bits_at-bytes : (bytes : List ℕ) (m k : ℕ) → ((r : ℕ) → r < k → get_or bytes (m + r) 0 < 256) → bits_at bytes (8 * m) (8 * k) ≡ little_endian (take k (drop m bytes))
 bits_at-bytes bytes m zero h = refl
@@ -133,7 +122,7 @@ bits_at-bytes bytes m (suc k) h =
     let after : 8 * m + 8 ≡ 8 * suc m = omega arith in
     let high : bits_at bytes (8 * m + 8) (8 * k) ≡ little_endian (take k (drop (suc m) bytes)) =
     ap (λ f. bits_at bytes f (8 * k)) after ∙ bits_at-bytes bytes (suc m) k (λ r a. omega (arith, h (suc r) (omega (arith, a)), ap (λ i. get_or bytes i 0) (next m r))) in
-    ap (bits_at bytes (8 * m)) wide ∙ (bits_at-byte_more bytes (8 * m) (8 * k) ∙ omega (arith, low, high, spelled-first bytes m k))
+    ap (bits_at bytes (8 * m)) wide ∙ (bits_at-byte_more bytes (8 * m) (8 * k) ∙ omega (arith, low, high, spelled_first bytes m k))
   where
     at-zero : (m : ℕ) → m + 0 ≡ m
     at-zero m = omega arith
@@ -163,21 +152,13 @@ bits_at-bounded bytes first (suc count) = omega (arith, bit_number-lt (bit_at by
 
 -- ---- a number that is written ----
 
-length-spelled : (k n : ℕ) → length (spelled k n) ≡ k
-length-spelled zero n = refl
-length-spelled (suc k) n = ap suc (length-spelled k (n / 256))
-
-spelled-byte : (k n r : ℕ) → r < k → get_or (spelled k n) r 0 < 256
-spelled-byte zero n r a = absurd (omega arith)
-spelled-byte (suc k) n zero a = omega arith
-spelled-byte (suc k) n (suc r) a = spelled-byte k (n / 256) r (omega arith)
-
+-- the bytes of a number spell it
 spelled-whole : (k n : ℕ) → n < 256 ^ k → little_endian (take k (spelled k n)) ≡ n
-spelled-whole zero n h = omega arith
-spelled-whole (suc k) n h =
-    let p : 256 ^ suc k ≡ 256 * 256 ^ k = omega (arith, pow-suc 256 k) in
-    let q : n / 256 < 256 ^ k = omega arith in
-    ap (λ m. n % 256 + 256 * m) (spelled-whole k (n / 256) q) ∙ omega arith
+spelled-whole k n h = ap little_endian (all-spelled k n) ∙ little_endian_spelled k n h
+  where
+    all-spelled : (k n : ℕ) → take k (spelled k n) ≡ spelled k n
+    all-spelled zero n = refl
+    all-spelled (suc k) n = ap (λ bs. n % 256 ∷ bs) (all-spelled k (n / 256))
 
 module _ (k offset n : ℕ) (bytes : List ℕ) (inside : offset * k + k ≤ length bytes) where
   before-length : length (take (offset * k) bytes) ≡ offset * k
@@ -190,26 +171,13 @@ module _ (k offset n : ℕ) (bytes : List ℕ) (inside : offset * k + k ≤ leng
   byte-inside r a =
       get_or-append_right (take (offset * k) bytes) _ (offset * k) (offset * k + r) 0 before-length (omega arith)
       ∙ (ap (λ i. get_or (spelled k n ++ drop (offset * k + k) bytes) i 0) (omega arith)
-      ∙ get_or_append_left (spelled k n) (drop (offset * k + k) bytes) 0 r (omega (arith, length-spelled k n, a)))
+      ∙ get_or_append_left (spelled k n) (drop (offset * k + k) bytes) 0 r (omega (arith, length_spelled k n, a)))
 
   pub byte-after : (i : ℕ) → offset * k + k ≤ i → get_or (with_number k offset n bytes) i 0 ≡ get_or bytes i 0
   byte-after i a =
       get_or-append_right (take (offset * k) bytes) _ (offset * k) i 0 before-length (omega (arith, a))
-      ∙ (get_or-append_right (spelled k n) (drop (offset * k + k) bytes) k (i - offset * k) 0 (length-spelled k n) (omega (arith, a))
+      ∙ (get_or-append_right (spelled k n) (drop (offset * k + k) bytes) k (i - offset * k) 0 (length_spelled k n) (omega (arith, a))
       ∙ (get_or-drop (offset * k + k) bytes (i - offset * k - k) 0 ∙ ap (λ j. get_or bytes j 0) (omega (arith, a))))
-
-pub length-with_number : (k offset n : ℕ) (bytes : List ℕ) → (offset + 1) * k ≤ length bytes → length (with_number k offset n bytes) ≡ length bytes
-length-with_number k offset n bytes a =
-    let inside : offset * k + k ≤ length bytes = omega arith in
-    omega (
-      arith,
-      length-append (take (offset * k) bytes) (spelled k n ++ drop (offset * k + k) bytes),
-      length-append (spelled k n) (drop (offset * k + k) bytes),
-      length-take-le (offset * k) bytes (omega (arith, inside)),
-      length-spelled k n,
-      length-drop (offset * k + k) bytes,
-      inside,
-    )
 
 -- a number depends on its own bytes alone
 little_endian-same : (k m m' : ℕ) (xs ys : List ℕ) → ((r : ℕ) → r < k → get_or xs (m + r) 0 ≡ get_or ys (m' + r) 0) → little_endian (take k (drop m xs)) ≡ little_endian (take k (drop m' ys))
@@ -218,7 +186,7 @@ little_endian-same (suc k) m m' xs ys h =
     let here : get_or xs m 0 ≡ get_or ys m' 0 = ap (λ i. get_or xs i 0) (omega arith) ∙ (h 0 (omega arith) ∙ ap (λ i. get_or ys i 0) (omega arith)) in
     let rest : little_endian (take k (drop (suc m) xs)) ≡ little_endian (take k (drop (suc m') ys)) =
     little_endian-same k (suc m) (suc m') xs ys (λ r a. ap (λ i. get_or xs i 0) (omega arith) ∙ (h (suc r) (omega (arith, a)) ∙ ap (λ i. get_or ys i 0) (omega arith))) in
-    omega (arith, spelled-first xs m k, spelled-first ys m' k, here, rest)
+    omega (arith, spelled_first xs m k, spelled_first ys m' k, here, rest)
 
 inside-bytes : (bytes : List ℕ) (k offset : ℕ) → (offset + 1) * k ≤ length bytes → offset * k + k ≤ length bytes
 inside-bytes bytes k offset a = omega arith
@@ -232,7 +200,7 @@ number_at-with_number bytes k offset n a small =
 pub bits_at-with_number : (bytes : List ℕ) (k offset n : ℕ) → (offset + 1) * k ≤ length bytes → n < 2 ^ (8 * k) → bits_at (with_number k offset n bytes) (offset * (8 * k)) (8 * k) ≡ n
 bits_at-with_number bytes k offset n a small =
     ap (λ f. bits_at z f (8 * k)) (first-bit offset k)
-    ∙ (bits_at-bytes z (offset * k) k (λ r b. omega (arith, byte-inside k offset n bytes (inside-bytes bytes k offset a) r b, spelled-byte k n r b))
+    ∙ (bits_at-bytes z (offset * k) k (λ r b. omega (arith, byte-inside k offset n bytes (inside-bytes bytes k offset a) r b, AreBytes-spelled k n r))
     ∙ number_at-with_number bytes k offset n a small)
   where
     z : List ℕ

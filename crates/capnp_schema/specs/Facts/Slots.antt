@@ -1,16 +1,17 @@
 -- Data slots: the number that is stored there, and what it is once another one was.
 use Rattle.std.specs.Prelude.{ℕ, ◌+◌, ◌*◌, ◌/◌, ◌%◌, ◌^◌, ◌<◌, ◌≤◌, ◌≡◌, ◌≢◌, ◌⊎◌, List, true, false, ◌==◌, length, bit_xor}
-use Rattle.std.proofs.Common.{arith, inl, inr, ⊎_elim, ap, sym, subst, ◌∙◌, length-set}
+use Rattle.std.proofs.Common.{arith, inl, inr, ⊎_elim, ap, sym, subst, ◌∙◌}
 use Rattle.std.proofs.lemmas.Bool.Decides.{nat_tests}
 use Rattle.capnp_wire.specs.Slot.{bit_at, number_at}
 use Rattle.capnp_wire.specs.Edits.{with_bit, with_number}
 use Rattle.capnp_wire.specs.WellFormed.{AreBytes}
+use Rattle.capnp_wire.specs.Facts.Bytes.{length-with_bit, length-with_number}
 use Rattle.capnp_schema.specs.Footprint.{is_in}
 use Rattle.capnp_schema.specs.SlotValue.{bit_number, bits_at}
 use Rattle.capnp_schema.specs.Plan.{IsDataSlot, is_slot_width, place_number}
 use Rattle.capnp_schema.specs.SlotBits.{stored_bits, with_bits}
 use Rattle.capnp_schema.specs.declared.plan.Place.TheVariants as place
-use Rattle.capnp_schema.specs.Facts.Bits.{bit_at-with_bit, bit_at-with_number, bit_at-with_other, bit_number-of, bits_at-bit, bits_at-number, bits_at-with_number, is_in-false, length-with_number, xor-bounded, xor-undone}
+use Rattle.capnp_schema.specs.Facts.Bits.{bit_at-with_bit, bit_at-with_number, bit_at-with_other, bit_number-of, bits_at-bit, bits_at-number, bits_at-with_number, is_in-false, xor-bounded, xor-undone}
 
 -- ---- the widths of slots ----
 
@@ -51,7 +52,7 @@ bit_is_stored : (bytes : List ℕ) (start n : ℕ) → start + 1 ≤ 8 * length 
 bit_is_stored bytes start n inside small = record {
   stored = bits_at-bit (with_bit start (n == 1) bytes) start ∙ (ap bit_number (bit_at-with_bit bytes start (n == 1) (omega arith)) ∙ bit_number-of n small);
   others = λ i out. bit_at-with_other bytes start (n == 1) (omega arith) i (apart i (is_in-false start 1 i out));
-  same_length = length-set bytes (start / 8) _;
+  same_length = length-with_bit start (n == 1) bytes;
 }
   where
     apart : (i : ℕ) → i < start ⊎ start + 1 ≤ i → i ≢ start
