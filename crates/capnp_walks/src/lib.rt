@@ -21,9 +21,9 @@ mod copy_tests;
 mod default_tests;
 #[cfg(test)]
 mod fixtures;
-pub mod kept;
 #[cfg(test)]
 mod hop_tests;
+pub mod kept;
 #[cfg(test)]
 mod level_tests;
 #[cfg(test)]
