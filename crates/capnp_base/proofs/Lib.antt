@@ -2,3 +2,4 @@ pub mod RowsTypes
 pub mod RowsIterators
 pub mod Indices
 pub mod Runs
+pub mod ReadRefusals

@@ -1,5 +1,6 @@
 //! Untyped pointers: what is read and built there is asked with a type.
-ghost use Rattle.std.specs.Prelude.{◌≡◌, IfErr, IfOk, None, OnErr, OnOk};
+ghost use Rattle.std.specs.Prelude.{◌≡◌, IfErr, IfOk, IsSome, None, OnErr, OnOk};
+ghost use Rattle.std.specs.Borrow.{sem};
 ghost use Rattle.capnp_wire.specs.Edits.{IsCopyRefusal};
 ghost use Rattle.capnp_wire.specs.Objects.{object_tree};
 ghost use Rattle.capnp_wire.specs.Reading.{is_null_tree};
@@ -8,8 +9,9 @@ ghost use Rattle.capnp_wire.specs.Total.{IsSize, IsSizeRefusal};
 ghost use Rattle.capnp_wire.specs.Tree.{Null};
 ghost use Rattle.capnp_wire.specs.WellFormed.{IsWellFormed};
 ghost use Rattle.capnp_wire.specs.Words.{first_fault, words_of};
-ghost use Rattle.capnp_base.specs.AnyPointer.{IsUntypedRead, pointer_behind, pointer_of, pointer_tree};
+ghost use Rattle.capnp_base.specs.AnyPointer.{IsUntypedRead, LendsPointer, pointer_behind, pointer_of, pointer_tree};
 ghost use Rattle.capnp_base.specs.ReadBack.{pointer_read_back};
+ghost use Rattle.capnp_base.specs.Traits.{tree_or};
 ghost use Rattle.capnp_base.specs.Types.{base_type};
 ghost use Rattle.capnp_base.specs.declared.introspect.BaseType.TheVariants as base;
 
@@ -123,13 +125,13 @@ impl<'a> Builder<'a> {
         Builder { builder }
     }
 
-    /// The same pointer for a shorter time.
+    /// The same pointer for a shorter time. What is left there is what this builder has then.
     pub fn reborrow(&mut self) -> Builder<'_>
-        ensures { (pointer_behind result).now ≡ (pointer_behind self.old).now }
+        ensures* lends { sem 𝓛 (LendsPointer self.entry result) }
+        ensures now { (pointer_behind result).now ≡ (pointer_behind self.old).now }
     {
-        Builder {
-            builder: self.builder.reborrow(),
-        }
+        let builder = &mut *self.builder;
+        Builder { builder }
     }
 
     /// Whether the pointer is null.
@@ -215,7 +217,12 @@ impl<'a> FromPointerBuilder<'a> for Builder<'a> {
 
     ghost has_defaults = { ⊥ };
 
-    fn init_pointer(builder: PointerBuilder<'a>, _length: u32) -> Result<Builder<'a>> {
+    // The builder stands on the same pointer.
+    fn init_pointer(builder: PointerBuilder<'a>, _length: u32) -> Result<Builder<'a>>
+        ensures same { IfOk result (λ b. (pointer_behind b).ghost_name ≡ builder.entry.ghost_name) }
+        ensures now { IfOk result (λ b. pointer_tree b ≡ Null) }
+        ensures refused { IfErr result (λ _. ⊥) }
+    {
         builder.clear();
         Ok(Builder { builder })
     }
@@ -223,7 +230,12 @@ impl<'a> FromPointerBuilder<'a> for Builder<'a> {
     fn get_from_pointer(
         builder: PointerBuilder<'a>,
         _default: Option<PointerReader<'a>>,
-    ) -> Result<Builder<'a>> {
+    ) -> Result<Builder<'a>>
+        requires { IsSome _default → ⊥ }
+        ensures same { IfOk result (λ b. (pointer_behind b).ghost_name ≡ builder.entry.ghost_name) }
+        ensures now { IfOk result (λ b. pointer_tree b ≡ tree_or (object_tree builder.old) _default.entry) }
+        ensures refused { IfErr result (λ _. ⊥) }
+    {
         Ok(Builder { builder })
     }
 }

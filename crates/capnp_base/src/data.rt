@@ -1,12 +1,12 @@
 //! Data: bytes as they are read, and as they are built.
-ghost use Rattle.std.specs.Prelude.{◌≡◌, ◌≤◌, ◌^◌, IfErr, length, Ok, OnErr, OnOk, replicate};
+ghost use Rattle.std.specs.Prelude.{◌≡◌, ◌≤◌, ◌^◌, IfErr, length, None, Ok, OnErr, OnOk, replicate};
 ghost use Rattle.capnp_wire.specs.Edits.{IsRoomRefusal};
 ghost use Rattle.capnp_wire.specs.Objects.{object_tree};
 ghost use Rattle.capnp_wire.specs.Reading.{as_data};
 ghost use Rattle.capnp_wire.specs.Standing.{bytes_read};
 ghost use Rattle.capnp_wire.specs.Tree.{Numbers};
 ghost use Rattle.capnp_base.specs.ReadBack.{data_read_back};
-ghost use Rattle.capnp_base.specs.Traits.{IsReadRefusal, tree_or};
+ghost use Rattle.capnp_base.specs.Traits.{IsDefaultRefusal, IsReadRefusal, default_refusal, tree_or};
 ghost use Rattle.capnp_base.specs.Types.{base_type};
 ghost use Rattle.capnp_base.specs.declared.introspect.BaseType.TheVariants as base;
 
@@ -75,12 +75,13 @@ impl<'a> SetterInput<Owned> for &'a [u8] {
 
 /// Copies a default that reads as data into a null; else nothing changes.
 ///
-/// Refused where the default does not read as data, as `PointerReader::get_data`, and with `OutOfMemory`; then nothing has
-/// changed.
+/// Refused only where a default would be copied: as `PointerReader::get_data` where it does not read as data, and else with
+/// `OutOfMemory`; then nothing has changed.
 pub fn copy_default(builder: PointerBuilder<'_>, default: Option<PointerReader<'_>>) -> Result<()>
     ensures ok { OnOk result (object_tree builder.new ≡ tree_or (object_tree builder.old) default.entry) }
+    ensures reads { OnOk result (default_refusal as_data (object_tree builder.old) default.entry ≡ None) }
     ensures refused { OnErr result (builder.new ≡ builder.old) }
-    ensures cause { IfErr result (IsReadRefusal as_data (object_tree builder.old) default.entry) }
+    ensures cause { IfErr result (IsDefaultRefusal as_data (object_tree builder.old) default.entry) }
 {
     let Some(other) = default else {
         return Ok(());

@@ -7,6 +7,8 @@ pub mod introspect;
 #[cfg(test)]
 mod pointer_tests;
 #[cfg(test)]
+mod refusal_tests;
+#[cfg(test)]
 mod struct_tests;
 pub mod text;
 #[cfg(test)]

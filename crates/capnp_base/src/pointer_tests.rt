@@ -24,12 +24,12 @@ const LETTERS: [u8; 24] = [
 // a null, and the text `hi`, each as the words of one segment
 const NULL: [u8; 8] = [0; 8];
 
-const HI: [u8; 16] = [
+pub(crate) const HI: [u8; 16] = [
     1, 0, 0, 0, 0x1a, 0, 0, 0, //
     0x68, 0x69, 0, 0, 0, 0, 0, 0,
 ];
 
-fn kind_of<T: Drop>(answer: Result<T>) -> Option<ErrorKind> {
+pub(crate) fn kind_of<T: Drop>(answer: Result<T>) -> Option<ErrorKind> {
     match answer {
         Ok(_) => None,
         Err(error) => Some(error.kind),

@@ -1,5 +1,5 @@
 //! Text: its bytes as they are read, and as they are built.
-ghost use Rattle.std.specs.Prelude.{[], ◌∷◌, ◌++◌, Ok, Some, ◌↔◌, ◌≡◌, ◌+◌, ◌-◌, ◌<◌, ◌≤◌, ◌^◌, false, IfErr, IfOk, IsTrue, IsUtf8, length, nat_eq, OnErr, OnOk, replicate, slice_set, take, drop};
+ghost use Rattle.std.specs.Prelude.{[], ◌∷◌, ◌++◌, Ok, Some, ◌↔◌, ◌≡◌, ◌+◌, ◌-◌, ◌<◌, ◌≤◌, ◌^◌, false, None, IfErr, IfOk, IsTrue, IsUtf8, length, nat_eq, OnErr, OnOk, replicate, slice_set, take, drop};
 ghost use Rattle.std.proofs.Common.{rules};
 ghost use Rattle.std.specs.Cmp.{on_po};
 ghost use Rattle.std.specs.Cmp.Lexicographic.{pointwise, slice_cmp, texts_po};
@@ -11,7 +11,7 @@ ghost use Rattle.capnp_wire.specs.Reading.{as_text};
 ghost use Rattle.capnp_wire.specs.WellFormed.{IsWellFormed};
 ghost use Rattle.capnp_base.specs.Text.{IsStringOf, IsStrOf, position, text_behind, text_bytes, text_read, text_tree};
 ghost use Rattle.capnp_base.specs.ReadBack.{text_read_back};
-ghost use Rattle.capnp_base.specs.Traits.{IsReadRefusal, tree_or};
+ghost use Rattle.capnp_base.specs.Traits.{IsDefaultRefusal, IsReadRefusal, default_refusal, tree_or};
 ghost use Rattle.capnp_base.specs.Types.{base_type};
 ghost use Rattle.capnp_base.specs.declared.introspect.BaseType.TheVariants as base;
 ghost use Rattle.capnp_device.specs.declared.error.ErrorKind.TheVariants.{OutOfMemory};
@@ -395,12 +395,13 @@ impl fmt::Debug for Builder<'_> {
 
 /// Copies a default that reads as a text into a null; else nothing changes.
 ///
-/// Refused where the default does not read as a text, as `PointerReader::get_text`, and with `OutOfMemory`; then nothing
-/// has changed.
+/// Refused only where a default would be copied: as `PointerReader::get_text` where it does not read as a text, and else
+/// with `OutOfMemory`; then nothing has changed.
 pub fn copy_default(builder: PointerBuilder<'_>, default: Option<PointerReader<'_>>) -> Result<()>
     ensures ok { OnOk result (object_tree builder.new ≡ tree_or (object_tree builder.old) default.entry) }
+    ensures reads { OnOk result (default_refusal as_text (object_tree builder.old) default.entry ≡ None) }
     ensures refused { OnErr result (builder.new ≡ builder.old) }
-    ensures cause { IfErr result (IsReadRefusal as_text (object_tree builder.old) default.entry) }
+    ensures cause { IfErr result (IsDefaultRefusal as_text (object_tree builder.old) default.entry) }
 {
     let Some(other) = default else {
         return Ok(());

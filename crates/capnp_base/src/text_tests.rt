@@ -56,6 +56,22 @@ fn pushes_write_at_the_position(rt: HostRuntime) {
 }
 
 #[test]
+fn a_reborrow_leaves_the_position(rt: HostRuntime) {
+    for pos in 0..4 {
+        let mut bytes = [0; 3];
+        let mut first = Builder::with_pos(&mut bytes, pos);
+        assert_eq!(rt; first.reborrow().room(), 3 - pos);
+        assert_eq!(rt; first.room(), 3 - pos);
+        if pos < 3 {
+            first.reborrow().push_ascii(b'x');
+            assert_eq!(rt; first.room(), 3 - pos);
+            first.reborrow().clear();
+            assert_eq!(rt; first.room(), 3 - pos);
+        }
+    }
+}
+
+#[test]
 fn builders_compare_by_their_bytes_alone(rt: HostRuntime) -> Result<(), Fail> {
     let mut one = [97, 98];
     let mut other = [97, 98];

@@ -83,13 +83,14 @@ pub trait FromPointerBuilder<'a>: Sized {
     // Whether a default can be copied into a null.
     ghost has_defaults: { Type 0 } = { Unit {0} };
 
-    /// Starts the pointer anew with so many elements, all zero or null. A refusal changes nothing.
+    /// Starts the pointer anew with so many elements, all zero or null. A refusal is to change nothing: no clause says so
+    /// where a part is handed out by value, and tests show it of the types here.
     fn init_pointer(builder: PointerBuilder<'a>, length: u32) -> Result<Self>
         ensures now { IfOk result (starts length) }
         ensures refused { IfErr result (new_refusal length) };
 
     /// Hands out what stands at the pointer. Where the pointer is null and a default is given, the default is copied
-    /// there first. A refusal changes nothing.
+    /// there first; a null without one is to stay null, and a refusal is to change nothing, as with `init_pointer`.
     fn get_from_pointer(
         builder: PointerBuilder<'a>,
         default: Option<PointerReader<'a>>,
@@ -115,7 +116,8 @@ pub trait Owned<'a>: Introspect {
 /// Sets a pointer, and reads it again: what is set is what is read. Where the pointer's tree is the one that a reader would
 /// be set as, as it is for that reader itself, the answer is the same as that reader.
 ///
-/// Refused as the set is, and then nothing has changed.
+/// Refused as the set is. The pointer is then as it was, which the set's clause says and tests show of this call: it has no
+/// such clause of its own, since its answer borrows from the pointer.
 pub fn set_and_get<'a, O: Owned<'a>, S: SetterInput<O>>(
     builder: PointerBuilder<'a>,
     input: S,

@@ -1,4 +1,5 @@
 -- The laws, each by the lemma that shows it.
+use Rattle.capnp_records.proofs.DefaultParts.{default-parts, first-active}
 use Rattle.capnp_records.proofs.Extension.{reads-extended, reads-rounded}
 use Rattle.capnp_records.proofs.FieldFrame.{frame-cleared, frame-copied, frame-slot}
 use Rattle.capnp_records.proofs.FieldWrite.{field_write}
@@ -10,10 +11,16 @@ use Rattle.capnp_records.proofs.Printed.{group-print-law, print-law, value-print
 use Rattle.capnp_records.proofs.Projects.{projection-law}
 use Rattle.capnp_records.proofs.SlotWrite.{turns-with_slot}
 use Rattle.capnp_records.proofs.TreeRunLaw.{tree_run-law}
-use Rattle.capnp_records.specs.Laws.{ExtensionChangesNothing, FormedLaw, GroupClearStaysInside, GroupCopyStaysInside, GroupIsCleared, GroupIsCopied, GroupPrintLaw, OverlayLaw, PartDependsOnFootprint, PrintLaw, ProjectionLaw, RoundingChangesNothing, SlotIsWritten, SlotWriteStaysInside, ValuePrintLaw, WriteReplacesOnePart}
+use Rattle.capnp_records.specs.Laws.{DefaultPartsStand, ExtensionChangesNothing, FirstMemberIsActive, FormedLaw, GroupClearStaysInside, GroupCopyStaysInside, GroupIsCleared, GroupIsCopied, GroupPrintLaw, OverlayLaw, PartDependsOnFootprint, PrintLaw, ProjectionLaw, RoundingChangesNothing, SlotIsWritten, SlotWriteStaysInside, ValuePrintLaw, WriteReplacesOnePart}
 
 pub part_depends : PartDependsOnFootprint
 part_depends = part_of-same
+
+pub default_parts : DefaultPartsStand
+default_parts = default-parts
+
+pub first_active : FirstMemberIsActive
+first_active = first-active
 
 pub extension_same : ExtensionChangesNothing
 extension_same = reads-extended

@@ -12,7 +12,8 @@ pub data PathStep : Type 0 where
   ElementAt : ℕ → PathStep
 
 -- What is given to a set. The integers by their bytes, with a sign and without; a struct, list or untyped pointer as its
--- reader: the levels left, what it stands on, and the brand of its schema or the type of its elements.
+-- reader: the levels left, what it stands on (of a null list an empty one), and the brand of its schema or the type of its
+-- elements.
 pub data Source : Type 0 where
   VoidSource : Source
   BoolSource : Bool → Source

@@ -1,11 +1,18 @@
 //! What holds of records, of the machine of records, and of writes on trees.
-ghost use Rattle.capnp_records.specs.Laws.{ExtensionChangesNothing, FormedLaw, GroupClearStaysInside, GroupCopyStaysInside, GroupIsCleared, GroupIsCopied, GroupPrintLaw, OverlayLaw, PartDependsOnFootprint, PrintLaw, ProjectionLaw, RoundingChangesNothing, SlotIsWritten, SlotWriteStaysInside, ValuePrintLaw, WriteReplacesOnePart};
+ghost use Rattle.capnp_records.specs.Laws.{DefaultPartsStand, ExtensionChangesNothing, FirstMemberIsActive, FormedLaw, GroupClearStaysInside, GroupCopyStaysInside, GroupIsCleared, GroupIsCopied, GroupPrintLaw, OverlayLaw, PartDependsOnFootprint, PrintLaw, ProjectionLaw, RoundingChangesNothing, SlotIsWritten, SlotWriteStaysInside, ValuePrintLaw, WriteReplacesOnePart};
 
 /// What a field has of a struct depends on its footprint alone: structs that have the same data
 /// bits and pointers there give it the same part of their records.
 #[tactic(auto, using(crate::proofs::AllLaws::part_depends))]
 pub fn part_depends_on_footprint()
     ensures { PartDependsOnFootprint }
+{}
+
+/// In an accepted set the default record has each number at its default, nothing behind each pointer,
+/// each group at its default record, and the member of discriminant value 0 active.
+pub fn default_record_is_of_defaults()
+    ensures parts { DefaultPartsStand }
+    ensures member { FirstMemberIsActive }
 {}
 
 /// The record of a struct stays the same when the struct is extended with zeros and nulls, and when

@@ -12,6 +12,7 @@ use Rattle.capnp_schema.specs.Accepted.{IsAccepted, EachOfEnum, EachOfNode, Enum
 use Rattle.capnp_schema.specs.Annotated.{with_types, annotations_of, child_types, no_enumerant, enumerant_at, struct_annotations, field_annotations, enum_annotations, enumerant_annotations}
 use Rattle.capnp_schema.proofs.AnnotatedLemmas.{annotations_are}
 use Rattle.capnp_schema.proofs.EntryWalk.{entry_has}
+use Rattle.capnp_schema.proofs.GroupTargets.{node_past}
 use Rattle.capnp_schema.proofs.Typed.{typed_nothing}
 
 -- two lists that go by one list of lengths
@@ -60,6 +61,11 @@ module _ (set : Schemas) (accepted : IsAccepted set) where
 
   pub struct_whole : (b : ℕ) → b < length set.brands → annotations_of (struct_annotations set b) ≡ (node_of set b).annotations
   struct_whole b h = annotations_are (node_of set b).annotations (brand_at set b).annotation_types.own (accepted.rule2.brands b h).1.0
+
+  pub struct_whole_everywhere : (b : ℕ) → annotations_of (struct_annotations set b) ≡ (node_of set b).annotations
+  struct_whole_everywhere b = ⊎_elim (struct_whole b)
+      (λ past. subst (λ (n : Node). annotations_of (with_types n.annotations (brand_at set b).annotation_types.own) ≡ n.annotations) (sym (node_past set b past)) refl)
+      (cases_lt b (length set.brands))
 
   pub struct_is : (b : ℕ) (x : Brand) (n : Node) → Some x ≡ slice_get set.brands b → Some n ≡ slice_get set.nodes x.node → with_types n.annotations x.annotation_types.own ≡ struct_annotations set b
   struct_is b x n e is = ap (λ (m : Node). with_types m.annotations x.annotation_types.own) (sym (node_found set b x n e is)) ∙ ap (λ (y : Brand). with_types (node_of set b).annotations y.annotation_types.own) (sym (brand_found set b x e))

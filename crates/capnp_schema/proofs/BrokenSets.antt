@@ -1,14 +1,17 @@
--- A set in which a rule is broken at a place isn't accepted.
-use Rattle.std.proofs.Common.{◌≡◌, ℕ, ◌<◌, ◌≤◌, List, length, subst}
+-- Where a rule is broken at a place the rule doesn't hold, and the set isn't accepted.
+use Rattle.std.proofs.Common.{◌≡◌, refl, ℕ, ◌<◌, ◌≤◌, List, length, subst}
 use Rattle.std.specs.Prelude.{All, slice_get, Some}
 use Rattle.std.proofs.lemmas.Option.{slice_get_within, get_or_from_slice_get}
 use Rattle.std.proofs.lemmas.List.Elements.{All-get_or}
 use Rattle.capnp_device.specs.declared.error.SchemaTable.{SchemaTable}
+use Rattle.capnp_device.specs.declared.error.Error.{Error}
+use Rattle.capnp_device.specs.declared.error.ErrorKind.{ErrorKind}
+use Rattle.capnp_device.specs.declared.error.ErrorKind.TheVariants as error
 use Rattle.capnp_schema.specs.Schema.{Schemas, Node, Brand, Enum, Field, default_of}
 use Rattle.capnp_schema.specs.Accepted.{IsAccepted, TypesName, EnumHasTypes, HasOwnName, HasFewAnnotations, EachOfNode, EachOfEnum, HasWords, HaveWords, Decodes, HasEachMember, DiscriminantFits}
 use Rattle.capnp_schema.specs.Broken as broken
-use Rattle.capnp_schema.specs.Broken.{IsBroken, EntryBreaks, ChildBreaks}
-use Rattle.capnp_schema.specs.BrokenLaw.{BrokenIsRefused}
+use Rattle.capnp_schema.specs.Broken.{IsBroken, EntryBreaks, ChildBreaks, IsKindOf, IsRefusalOf}
+use Rattle.capnp_schema.specs.BrokenLaw.{RuleHolds, BrokenRuleFails, BrokenIsRefused}
 
 all_at : {A : Type 0} (P : A → Type 0) (xs : List A) (i : ℕ) (x : A) → slice_get xs i ≡ Some x → All P xs → P x
 all_at P xs i x found all = subst P (get_or_from_slice_get xs i x x found) (All-get_or P xs i x (slice_get_within xs i x found) all)
@@ -22,36 +25,64 @@ child_stands : {A B : Type 0} (Q : A → Type 0) (children : A → List B) (P : 
 child_stands Q children P xs e i gives w all =
     entry_stands P P (children w.entry) i (λ y so. so) w.child (gives w.entry (all_at Q xs e w.entry w.is all))
 
-not_accepted : (set : Schemas) (rule : ℕ) (table : SchemaTable) (entry field : ℕ) → IsBroken set rule table entry field → IsAccepted set → ⊥
-not_accepted set _ _ _ _ (broken.field_type b i w) a = w.broken (a.rule1.fields b i w.brand w.field)
-not_accepted set _ _ _ _ (broken.brand_types b w) a = entry_stands (λ (x : Brand). TypesName set x.annotation_types) _ set.brands b (λ x so. so.0) w a.rule1.brands
-not_accepted set _ _ _ _ (broken.brand_child_types b i w) a = child_stands (λ (x : Brand). TypesName set x.annotation_types) _ _ set.brands b i (λ x so. so.1) w a.rule1.brands
-not_accepted set _ _ _ _ (broken.enum_types e w) a = entry_stands (λ (x : Enum). TypesName set x.annotation_types) _ set.enums e (λ x so. so.0) w a.rule1.enums
-not_accepted set _ _ _ _ (broken.enum_child_types e i w) a = child_stands (λ (x : Enum). TypesName set x.annotation_types) _ _ set.enums e i (λ x so. so.1) w a.rule1.enums
-not_accepted set _ _ _ _ (broken.brand_node b w) a = entry_stands (λ (x : Brand). x.node < length set.nodes) _ set.brands b (λ x so. so) w a.rule2.node
-not_accepted set _ _ _ _ (broken.brand_lengths b inside w) a = w (a.rule2.brands b inside)
-not_accepted set _ _ _ _ (broken.enum_lengths e w) a = entry_stands EnumHasTypes _ set.enums e (λ x so. so) w a.rule2.enums
-not_accepted set _ _ _ _ (broken.name n i w) a = entry_stands (λ (x : Node). (i : ℕ) → HasOwnName x.fields i) _ set.nodes n (λ x so. so i) w a.rule3.names
-not_accepted set _ _ _ _ (broken.field_count n w) a = entry_stands (λ (x : Node). length x.fields ≤ 65535) _ set.nodes n (λ x so. so) w a.rule3.fields
-not_accepted set _ _ _ _ (broken.enumerant_count e w) a = entry_stands (λ (x : Enum). length x.enumerants ≤ 65535) _ set.enums e (λ x so. so) w a.rule3.enumerants
-not_accepted set _ _ _ _ (broken.node_annotation_count n w) a = entry_stands (EachOfNode HasFewAnnotations) _ set.nodes n (λ x so. so.0) w a.rule3.annotations
-not_accepted set _ _ _ _ (broken.field_annotation_count n i w) a = child_stands (EachOfNode HasFewAnnotations) _ _ set.nodes n i (λ x so. so.1) w a.rule3.annotations
-not_accepted set _ _ _ _ (broken.enum_annotation_count e w) a = entry_stands (EachOfEnum HasFewAnnotations) _ set.enums e (λ x so. so.0) w a.rule3.enum_annotations
-not_accepted set _ _ _ _ (broken.enumerant_annotation_count e i w) a = child_stands (EachOfEnum HasFewAnnotations) _ _ set.enums e i (λ x so. so.1) w a.rule3.enum_annotations
-not_accepted set _ _ _ _ (broken.slot_outside b i w) a = w.broken (a.rule4 b i w.brand w.field)
-not_accepted set _ _ _ _ (broken.default_kind b i w) a = w.broken (a.rule5 b i w.brand w.field)
-not_accepted set _ _ _ _ (broken.default_words n i w) a = child_stands (λ (x : Node). All (λ (f : Field). HasWords (default_of f) × Decodes (default_of f)) x.fields) _ _ set.nodes n i (λ x so. so) w a.rule6.defaults
-not_accepted set _ _ _ _ (broken.default_list b i w) a = w.broken (a.rule6.lists b i w.brand w.field)
-not_accepted set _ _ _ _ (broken.node_annotation_words n w) a = entry_stands (EachOfNode HaveWords) _ set.nodes n (λ x so. so.0) w a.rule6.annotations
-not_accepted set _ _ _ _ (broken.field_annotation_words n i w) a = child_stands (EachOfNode HaveWords) _ _ set.nodes n i (λ x so. so.1) w a.rule6.annotations
-not_accepted set _ _ _ _ (broken.enum_annotation_words e w) a = entry_stands (EachOfEnum HaveWords) _ set.enums e (λ x so. so.0) w a.rule6.enum_annotations
-not_accepted set _ _ _ _ (broken.enumerant_annotation_words e i w) a = child_stands (EachOfEnum HaveWords) _ _ set.enums e i (λ x so. so.1) w a.rule6.enum_annotations
-not_accepted set _ _ _ _ (broken.group_type b i w) a = w.broken (a.rule7 b i w.brand w.field)
-not_accepted set _ _ _ _ (broken.group_parent g inside w) a = w (a.rule8 g inside)
-not_accepted set _ _ _ _ (broken.members n w) a = entry_stands HasEachMember _ set.nodes n (λ x so. so) w a.rule9
-not_accepted set _ _ _ _ (broken.discriminant_outside n w) a = entry_stands DiscriminantFits _ set.nodes n (λ x so. so) w a.rule10
-not_accepted set _ _ _ _ (broken.fields_meet b i w) a = w.broken (a.rule11 b i w.brand w.field)
-not_accepted set _ _ _ _ (broken.discriminant_met b i w) a = w.broken (a.rule12 b i w.brand w.field)
+fails : (set : Schemas) (rule : ℕ) (table : SchemaTable) (entry field : ℕ) → IsBroken set rule table entry field → RuleHolds set rule → ⊥
+fails set _ _ _ _ (broken.field_type b i w) h = w.broken ((h.rule1 refl).fields b i w.brand w.field)
+fails set _ _ _ _ (broken.brand_types b w) h = entry_stands (λ (x : Brand). TypesName set x.annotation_types) _ set.brands b (λ x so. so.0) w (h.rule1 refl).brands
+fails set _ _ _ _ (broken.brand_child_types b i w) h = child_stands (λ (x : Brand). TypesName set x.annotation_types) _ _ set.brands b i (λ x so. so.1) w (h.rule1 refl).brands
+fails set _ _ _ _ (broken.enum_types e w) h = entry_stands (λ (x : Enum). TypesName set x.annotation_types) _ set.enums e (λ x so. so.0) w (h.rule1 refl).enums
+fails set _ _ _ _ (broken.enum_child_types e i w) h = child_stands (λ (x : Enum). TypesName set x.annotation_types) _ _ set.enums e i (λ x so. so.1) w (h.rule1 refl).enums
+fails set _ _ _ _ (broken.brand_node b w) h = entry_stands (λ (x : Brand). x.node < length set.nodes) _ set.brands b (λ x so. so) w (h.rule2 refl).node
+fails set _ _ _ _ (broken.brand_lengths b inside w) h = w ((h.rule2 refl).brands b inside)
+fails set _ _ _ _ (broken.enum_lengths e w) h = entry_stands EnumHasTypes _ set.enums e (λ x so. so) w (h.rule2 refl).enums
+fails set _ _ _ _ (broken.name n i w) h = entry_stands (λ (x : Node). (i : ℕ) → HasOwnName x.fields i) _ set.nodes n (λ x so. so i) w (h.rule3 refl).names
+fails set _ _ _ _ (broken.field_count n w) h = entry_stands (λ (x : Node). length x.fields ≤ 65535) _ set.nodes n (λ x so. so) w (h.rule3 refl).fields
+fails set _ _ _ _ (broken.enumerant_count e w) h = entry_stands (λ (x : Enum). length x.enumerants ≤ 65535) _ set.enums e (λ x so. so) w (h.rule3 refl).enumerants
+fails set _ _ _ _ (broken.node_annotation_count n w) h = entry_stands (EachOfNode HasFewAnnotations) _ set.nodes n (λ x so. so.0) w (h.rule3 refl).annotations
+fails set _ _ _ _ (broken.field_annotation_count n i w) h = child_stands (EachOfNode HasFewAnnotations) _ _ set.nodes n i (λ x so. so.1) w (h.rule3 refl).annotations
+fails set _ _ _ _ (broken.enum_annotation_count e w) h = entry_stands (EachOfEnum HasFewAnnotations) _ set.enums e (λ x so. so.0) w (h.rule3 refl).enum_annotations
+fails set _ _ _ _ (broken.enumerant_annotation_count e i w) h = child_stands (EachOfEnum HasFewAnnotations) _ _ set.enums e i (λ x so. so.1) w (h.rule3 refl).enum_annotations
+fails set _ _ _ _ (broken.slot_outside b i w) h = w.broken ((h.rule4 refl) b i w.brand w.field)
+fails set _ _ _ _ (broken.default_kind b i w) h = w.broken ((h.rule5 refl) b i w.brand w.field)
+fails set _ _ _ _ (broken.default_words n i w) h = child_stands (λ (x : Node). All (λ (f : Field). HasWords (default_of f) × Decodes (default_of f)) x.fields) _ _ set.nodes n i (λ x so. so) w (h.rule6 refl).defaults
+fails set _ _ _ _ (broken.default_list b i w) h = w.broken ((h.rule6 refl).lists b i w.brand w.field)
+fails set _ _ _ _ (broken.node_annotation_words n w) h = entry_stands (EachOfNode HaveWords) _ set.nodes n (λ x so. so.0) w (h.rule6 refl).annotations
+fails set _ _ _ _ (broken.field_annotation_words n i w) h = child_stands (EachOfNode HaveWords) _ _ set.nodes n i (λ x so. so.1) w (h.rule6 refl).annotations
+fails set _ _ _ _ (broken.enum_annotation_words e w) h = entry_stands (EachOfEnum HaveWords) _ set.enums e (λ x so. so.0) w (h.rule6 refl).enum_annotations
+fails set _ _ _ _ (broken.enumerant_annotation_words e i w) h = child_stands (EachOfEnum HaveWords) _ _ set.enums e i (λ x so. so.1) w (h.rule6 refl).enum_annotations
+fails set _ _ _ _ (broken.group_type b i w) h = w.broken ((h.rule7 refl) b i w.brand w.field)
+fails set _ _ _ _ (broken.group_parent g inside w) h = w ((h.rule8 refl) g inside)
+fails set _ _ _ _ (broken.members n w) h = entry_stands HasEachMember _ set.nodes n (λ x so. so) w (h.rule9 refl)
+fails set _ _ _ _ (broken.discriminant_outside n w) h = entry_stands DiscriminantFits _ set.nodes n (λ x so. so) w (h.rule10 refl)
+fails set _ _ _ _ (broken.fields_meet b i w) h = w.broken ((h.rule11 refl) b i w.brand w.field)
+fails set _ _ _ _ (broken.discriminant_met b i w) h = w.broken ((h.rule12 refl) b i w.brand w.field)
+
+pub broken_rule_fails : BrokenRuleFails
+broken_rule_fails set rule entry field table w h = fails set rule table entry field w h
+
+all_hold : (set : Schemas) (rule : ℕ) → IsAccepted set → RuleHolds set rule
+all_hold set rule a = record {
+  rule1 = λ _. a.rule1;
+  rule2 = λ _. a.rule2;
+  rule3 = λ _. a.rule3;
+  rule4 = λ _. a.rule4;
+  rule5 = λ _. a.rule5;
+  rule6 = λ _. a.rule6;
+  rule7 = λ _. a.rule7;
+  rule8 = λ _. a.rule8;
+  rule9 = λ _. a.rule9;
+  rule10 = λ _. a.rule10;
+  rule11 = λ _. a.rule11;
+  rule12 = λ _. a.rule12;
+}
 
 pub broken_is_refused : BrokenIsRefused
-broken_is_refused set rule entry field table w a = not_accepted set rule table entry field w a
+broken_is_refused set rule entry field table w a = fails set rule table entry field w (all_hold set rule a)
+
+-- a refusal of a set that is accepted is for memory
+pub refused_for_memory : (set : Schemas) (e : Error) → IsRefusalOf set e → IsAccepted set → e.kind ≡ error.OutOfMemory
+refused_for_memory set e refused accepted = at e.kind refused
+  where
+    at : (kind : ErrorKind) → IsKindOf set kind → kind ≡ error.OutOfMemory
+    at error.OutOfMemory h = refl
+    at (error.Schema rule table entry field) h = absurd (broken_is_refused set rule entry field table h accepted)
+    at kind h = absurd h

@@ -1,13 +1,14 @@
 -- Brands and their nodes by numbers.
-use Rattle.std.proofs.Common.{ℕ, ◌≡◌, ◌<◌, length, slice_get, Option, Some, None, refl, sym, ap, ◌∙◌, subst}
+use Rattle.std.proofs.Common.{ℕ, ◌≡◌, ◌<◌, length, slice_get, Option, Some, None, refl, sym, ap, ◌∙◌, subst, arith}
 use Rattle.std.specs.Option.{option_map, unwrap_or}
 use Rattle.std.proofs.lemmas.Option.{slice_get-get_or}
 use Rattle.capnp_schema.specs.Schema.{Schemas, Brand, Node, brand_at, no_brand, no_node, node_of}
 use Rattle.capnp_schema.specs.Entries.{brand_node, lists_seen}
-use Rattle.capnp_schema.specs.Accepted.{IsAccepted}
+use Rattle.capnp_schema.specs.Accepted.{IsAccepted, DiscriminantFits}
 use Rattle.capnp_schema.specs.StructHandles.{IsStruct, generic_at, number_of, set_of}
 use Rattle.capnp_schema.specs.declared.schema.structs.StructSchema.{StructSchema}
 use Rattle.capnp_schema.specs.declared.lists.Lists.{Lists}
+use Rattle.capnp_schema.proofs.EntryWalk.{at_node}
 use Rattle.capnp_schema.proofs.FieldWalk.{found_node}
 use Rattle.capnp_schema.proofs.GroupTargets.{node_missing}
 use Rattle.capnp_schema.proofs.LookUps.{records_inside}
@@ -44,3 +45,7 @@ is_struct lists set s same accepted of inside = record {
 
     within : number_of s < length (set_of s).brands
     within = subst (λ (l : Schemas). number_of s < length l.brands) (sym of) inside
+
+-- a node that is looked up has its discriminant inside its data section
+pub discriminant_fits : (set : Schemas) → IsAccepted set → (b : ℕ) → DiscriminantFits (node_of set b)
+discriminant_fits set accepted b = at_node set DiscriminantFits accepted.rule10 (λ some. absurd (omega arith)) (brand_at set b).node

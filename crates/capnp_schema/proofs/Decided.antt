@@ -1,11 +1,11 @@
 -- The tests decide the rules of single entries.
-use Rattle.std.proofs.Common.{ℕ, zero, suc, ◌≡◌, ◌<◌, ◌+◌, ◌*◌, ◌==◌, ◌||◌, not, nat_lt, nat_le, ◌≤◌, ⊎_elim, Bool, true, false, length, slice_get, Option, Some, None, refl, sym, ◌∙◌, arith}
-use Rattle.std.specs.Prelude.{⊤, IsTrue, IsFalse}
+use Rattle.std.proofs.Common.{ℕ, zero, suc, ◌≡◌, ◌<◌, ◌+◌, ◌*◌, ◌==◌, ◌&&◌, ◌||◌, not, nat_lt, nat_le, ◌≤◌, ⊎_elim, Bool, true, false, length, slice_get, Option, Some, None, refl, sym, ap, ◌∙◌, arith}
+use Rattle.std.specs.Prelude.{⊤, IsFalse}
 use Rattle.std.specs.Option.{unwrap_or}
 use Rattle.std.specs.Bool.{Decides}
 use Rattle.std.proofs.lemmas.Bool.{leb-true, le-leb, cases_lt}
-use Rattle.std.proofs.lemmas.Bool.Decides.{Decides-eqb, Decides-ltb, Decides-and, Decides-like}
-use Rattle.std.proofs.lemmas.Option.{slice_get_within, slice_get-get_or}
+use Rattle.std.proofs.lemmas.Bool.Decides.{Decides-eqb, Decides-ltb, Decides-and}
+use Rattle.std.proofs.lemmas.Option.{slice_get_past, slice_get_within, slice_get-get_or}
 use Rattle.capnp_base.specs.declared.introspect.«Type».{«Type» as TypeHandle}
 use Rattle.capnp_base.specs.declared.introspect.BaseType.{BaseType}
 use Rattle.capnp_base.specs.declared.introspect.BaseType.TheVariants as base
@@ -13,7 +13,7 @@ use Rattle.capnp_base.specs.Types.{variant_of, variant_by, innermost, base_varia
 use Rattle.capnp_schema.specs.Types.{SchemaType, VoidType, BoolType, IntType, UIntType, EnumType, TextType, DataType, StructType, ListType, AnyPointerType, seen_type, seen_base, lists_of, is_pointer, width}
 use Rattle.capnp_schema.specs.Schema.{Schemas, Node, Brand, no_node, no_brand, node_at, FieldKind, Slot, Group, Value, VoidValue, BoolValue, IntValue, UIntValue, EnumValue, TextValue, DataValue, StructValue, ListValue, AnyPointerValue, node_of, brand_at}
 use Rattle.capnp_schema.specs.Entries.{brand_entry, brand_node, node_of_entry}
-use Rattle.capnp_schema.specs.Accepted.{NamesEntries, LiesInside, KindDefault, IsDefaultOf, NamesNoGroup, GroupFits, DiscriminantFits}
+use Rattle.capnp_schema.specs.Accepted.{NamesEntries, LiesInside, KindDefault, IsDefaultOf, NamesNoGroup, IsGroupBrand, GroupFits, DiscriminantFits}
 use Rattle.capnp_schema.specs.Tests.{seen_variant, variant_is_named, variant_is_no_group, brand_is, node_is_group, is_named, is_inside, is_default, kind_is_default, names_no_group, group_fits, is_discriminant_inside}
 
 -- ---- types by their layers ----
@@ -108,17 +108,25 @@ brand_decides set b node = by_entry (slice_get set.brands b) refl
     by_entry None e = rw e (λ q. cc, λ h. let there = slice_get-get_or set.brands b (brand_at set b) h.0 in cc)
     by_entry (Some x) e = rw e (λ q. (slice_get_within set.brands b x e, (Decides-eqb x.node node).0 q), λ h. (Decides-eqb x.node node).1 h.1)
 
--- the node of a brand that is there is a group, or isn't
-pub is_group_of : (set : Schemas) (b : ℕ) → b < length set.brands → node_is_group (brand_node set b) ≡ (node_of set b).is_group
-is_group_of set b h = by_brand (slice_get set.brands b) refl
+-- the node of a brand is a group, or isn't; past the end of the brands there is no group
+pub is_group_of : (set : Schemas) (b : ℕ) → node_is_group (brand_node set b) ≡ (node_of set b).is_group
+is_group_of set b = by_brand (slice_get set.brands b)
   where
     by_node : (o : Option Node) → node_is_group o ≡ (unwrap_or o no_node).is_group
     by_node None = refl
     by_node (Some n) = refl
 
-    by_brand : (o : Option Brand) → slice_get set.brands b ≡ o → node_is_group (node_of_entry set (slice_get set.brands b)) ≡ (node_at set (unwrap_or (slice_get set.brands b) (no_brand set)).node).is_group
-    by_brand None e = let there = slice_get-get_or set.brands b (no_brand set) h in cc
-    by_brand (Some x) e = rw e (by_node (slice_get set.nodes x.node))
+    by_brand : (o : Option Brand) → node_is_group (node_of_entry set o) ≡ (node_at set (unwrap_or o (no_brand set)).node).is_group
+    by_brand None = ap (λ (o : Option Node). (unwrap_or o no_node).is_group) (sym (slice_get_past set.nodes (length set.nodes) (omega arith)))
+    by_brand (Some x) = by_node (slice_get set.nodes x.node)
+
+-- so a group's brand is there
+pub group_is_there : (set : Schemas) (b : ℕ) → IsGroupBrand set b → b < length set.brands
+group_is_there set b group = by_brand (slice_get set.brands b) refl
+  where
+    by_brand : (o : Option Brand) → slice_get set.brands b ≡ o → b < length set.brands
+    by_brand None e = let none : node_is_group (brand_node set b) ≡ false = ap (λ (o : Option Brand). node_is_group (node_of_entry set o)) e in absurd (cc (is_group_of set b))
+    by_brand (Some x) e = slice_get_within set.brands b x e
 
 -- ---- rule 1 ----
 
@@ -259,41 +267,44 @@ pub kind_default_decides : (kind : FieldKind) (t : SchemaType) → Decides (kind
 kind_default_decides (Slot offset default) t = default_decides default t
 kind_default_decides (Group node) t = holds
 
--- ---- rule 7, where rule 1 holds ----
+-- ---- rule 7 ----
 
 -- not marked
 unmarked : (b c : Bool) → b ≡ c → Decides (not b) (IsFalse c)
 unmarked true c e = (λ q. cc, λ h. cc)
 unmarked false c e = (λ q. cc, λ h. cc)
 
-marked : (b c : Bool) → b ≡ c → Decides b (IsTrue c)
-marked true c e = (λ q. cc, λ h. cc)
-marked false c e = (λ q. cc, λ h. cc)
+both : (a b : Bool) → (a && b) ≡ true → (a ≡ true) × (b ≡ true)
+both true b e = (refl, e)
+both false b e = cc
 
-no_group_decides : (set : Schemas) (t : SchemaType) → NamesEntries set t → Decides (names_no_group set t) (NamesNoGroup set t)
-no_group_decides set VoidType h = holds
-no_group_decides set BoolType h = holds
-no_group_decides set (IntType bytes) h = holds
-no_group_decides set (UIntType bytes) h = holds
-no_group_decides set (EnumType number) h = holds
-no_group_decides set TextType h = holds
-no_group_decides set DataType h = holds
-no_group_decides set (StructType number generic) h = unmarked _ _ (is_group_of set number h.0)
-no_group_decides set (ListType element) h = no_group_decides set element h
-no_group_decides set AnyPointerType h = holds
+no_group_decides : (set : Schemas) (t : SchemaType) → Decides (names_no_group set t) (NamesNoGroup set t)
+no_group_decides set VoidType = holds
+no_group_decides set BoolType = holds
+no_group_decides set (IntType bytes) = holds
+no_group_decides set (UIntType bytes) = holds
+no_group_decides set (EnumType number) = holds
+no_group_decides set TextType = holds
+no_group_decides set DataType = holds
+no_group_decides set (StructType number generic) = unmarked _ _ (is_group_of set number)
+no_group_decides set (ListType element) = no_group_decides set element
+no_group_decides set AnyPointerType = holds
 
-pub group_decides : (set : Schemas) (kind : FieldKind) (t : SchemaType) → NamesEntries set t → Decides (group_fits set kind t) (GroupFits set kind t)
-group_decides set (Slot offset default) t h = no_group_decides set t h
-group_decides set (Group node) VoidType h = fails
-group_decides set (Group node) BoolType h = fails
-group_decides set (Group node) (IntType bytes) h = fails
-group_decides set (Group node) (UIntType bytes) h = fails
-group_decides set (Group node) (EnumType number) h = fails
-group_decides set (Group node) TextType h = fails
-group_decides set (Group node) DataType h = fails
-group_decides set (Group node) (StructType number generic) h = Decides-and _ _ (Decides-like _ (λ p. p.1) (λ q. (h.0, q)) (brand_decides set number node)) (marked _ _ (is_group_of set number h.0))
-group_decides set (Group node) (ListType element) h = fails
-group_decides set (Group node) AnyPointerType h = fails
+pub group_decides : (set : Schemas) (kind : FieldKind) (t : SchemaType) → Decides (group_fits set kind t) (GroupFits set kind t)
+group_decides set (Slot offset default) t = no_group_decides set t
+group_decides set (Group node) VoidType = fails
+group_decides set (Group node) BoolType = fails
+group_decides set (Group node) (IntType bytes) = fails
+group_decides set (Group node) (UIntType bytes) = fails
+group_decides set (Group node) (EnumType number) = fails
+group_decides set (Group node) TextType = fails
+group_decides set (Group node) DataType = fails
+group_decides set (Group node) (StructType number generic) = (
+  λ e. let parts = both (brand_is (brand_entry set number) node) (node_is_group (brand_node set number)) e in (((brand_decides set number node).0 parts.0).1, sym (is_group_of set number) ∙ parts.1),
+  λ fits. let named = (brand_decides set number node).1 (group_is_there set number fits.1, fits.0) in let group = is_group_of set number ∙ fits.1 in rw (named, group) refl,
+)
+group_decides set (Group node) (ListType element) = fails
+group_decides set (Group node) AnyPointerType = fails
 
 -- ---- rule 10 ----
 

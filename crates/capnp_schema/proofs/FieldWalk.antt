@@ -44,15 +44,15 @@ module _ (set : Schemas) (b i : ℕ) (f : TypedField) (in_brands : b < length se
   pub breaks_default : kind_is_default f.field.kind f.type ≡ false → IsBroken set 5 InBrands b i
   breaks_default e = default_kind b i (breaks (λ x. KindDefault IsDefaultOf x.field.kind x.type) (not_from_Decides _ (kind_default_decides f.field.kind f.type) e))
 
-  pub breaks_group : is_named set f.type ≡ true → group_fits set f.field.kind f.type ≡ false → IsBroken set 7 InBrands b i
-  breaks_group named e = group_type b i (breaks (λ x. GroupFits set x.field.kind x.type) (not_from_Decides _ (group_decides set f.field.kind f.type ((named_decides set f.type).0 named)) e))
+  pub breaks_group : group_fits set f.field.kind f.type ≡ false → IsBroken set 7 InBrands b i
+  breaks_group e = group_type b i (breaks (λ x. GroupFits set x.field.kind x.type) (not_from_Decides _ (group_decides set f.field.kind f.type) e))
 
   pub stands : (n : Node) → Some n ≡ brand_node set b → is_named set f.type ≡ true → is_inside n f.field.kind f.type ≡ true → kind_is_default f.field.kind f.type ≡ true → group_fits set f.field.kind f.type ≡ true → FieldStands set (node_of set b) (field_at set b i)
   stands n is named inside default group = subst (λ m. FieldStands set m (field_at set b i)) (sym (found_node set b n is)) (subst (FieldStands set n) (sym (found_field set b i f found)) (record {
     names = (named_decides set f.type).0 named;
     inside = (inside_decides n f.field.kind f.type).0 inside;
     default = (kind_default_decides f.field.kind f.type).0 default;
-    group = (group_decides set f.field.kind f.type ((named_decides set f.type).0 named)).0 group;
+    group = (group_decides set f.field.kind f.type).0 group;
   }))
 
 -- one more

@@ -3,7 +3,7 @@ use Rattle.std.proofs.Common.{ℕ, ◌≡◌, ◌<◌, ◌≤◌, ⊎_elim, List
 use Rattle.std.proofs.lemmas.Option.{slice_get_past, same_Some, slice_get-get_or}
 use Rattle.std.proofs.lemmas.Bool.{cases_lt}
 use Rattle.std.specs.Option.{unwrap_or}
-use Rattle.capnp_schema.specs.Types.{SchemaType, VoidType, BoolType, IntType, UIntType, EnumType, TextType, DataType, StructType, ListType, AnyPointerType, struct_number}
+use Rattle.capnp_schema.specs.Types.{SchemaType, VoidType, BoolType, IntType, UIntType, EnumType, TextType, DataType, StructType, ListType, AnyPointerType, struct_brand}
 use Rattle.capnp_schema.specs.Schema.{Schemas, Node, Brand, FieldKind, Slot, Group, TypedField, node_of, node_at, no_node, no_brand, no_field, fields_of, field_at, typed}
 use Rattle.capnp_schema.specs.Entries.{brand_entry, brand_node, node_of_entry}
 use Rattle.capnp_schema.specs.Accepted.{Rule1, Rule7, NamesEntries, GroupFits, IsGroupBrand, IsParent, IsGroupOf}
@@ -65,21 +65,21 @@ is_parent set g b i e = record {
   where
     names : (k : FieldKind) (t : SchemaType) → kind_target k t ≡ Some g → IsGroupOf k t g
     names (Slot offset default) t e = cc
-    names (Group node) t e = same_Some (struct_number t) g e
+    names (Group node) t e = e
 
 pub from_parent : (set : Schemas) (g b i : ℕ) → IsParent set g b i → group_target set b i ≡ Some g
 from_parent set g b i p = target_is set b i p.field ∙ target (field_at set b i).field.kind (field_at set b i).type p.names
   where
     target : (k : FieldKind) (t : SchemaType) → IsGroupOf k t g → kind_target k t ≡ Some g
     target (Slot offset default) t e = absurd e
-    target (Group node) t e = ap (λ (n : ℕ). Some n) e
+    target (Group node) t e = e
 
 pub targets_are_groups : (set : Schemas) → Rule1 set → Rule7 set → TargetsAreGroups set
 targets_are_groups set one seven b i g e =
     let p : IsParent set g b i = is_parent set g b i e in
     at (field_at set b i).field.kind (field_at set b i).type p.names (one.fields b i p.brand p.field) (seven b i p.brand p.field)
   where
-    at_group : (node : ℕ) (t : SchemaType) → struct_number t ≡ g → NamesEntries set t → GroupFits set (Group node) t → (g < length set.brands) × IsGroupBrand set g
+    at_group : (node : ℕ) (t : SchemaType) → struct_brand t ≡ Some g → NamesEntries set t → GroupFits set (Group node) t → (g < length set.brands) × IsGroupBrand set g
     at_group node VoidType n there fits = absurd fits
     at_group node BoolType n there fits = absurd fits
     at_group node (IntType bytes) n there fits = absurd fits
@@ -87,7 +87,7 @@ targets_are_groups set one seven b i g e =
     at_group node (EnumType number) n there fits = absurd fits
     at_group node TextType n there fits = absurd fits
     at_group node DataType n there fits = absurd fits
-    at_group node (StructType number generic) n there fits = (subst (λ (x : ℕ). x < length set.brands) n there.0, subst (IsGroupBrand set) n fits.1)
+    at_group node (StructType number generic) n there fits = let same : number ≡ g = same_Some number g n in (subst (λ (x : ℕ). x < length set.brands) same there.0, subst (IsGroupBrand set) same fits.1)
     at_group node (ListType element) n there fits = absurd fits
     at_group node AnyPointerType n there fits = absurd fits
 

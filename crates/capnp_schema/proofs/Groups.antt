@@ -1,12 +1,13 @@
 -- In an accepted set a number falls at each step into a group, so as many groups as there are brands are enough.
-use Rattle.std.specs.Prelude.{ℕ, zero, suc, ◌+◌, ◌<◌, ◌≤◌, ◌≡◌, ◌≢◌, refl, List, [], ◌∷◌, Bool, true, false, ◌||◌, IsTrue, IsFalse, length, slice_get, max}
+use Rattle.std.specs.Prelude.{ℕ, zero, suc, ◌+◌, ◌<◌, ◌≤◌, ◌≡◌, ◌≢◌, refl, List, [], ◌∷◌, Bool, true, false, ◌||◌, IsTrue, IsFalse, length, slice_get, max, Option, Some, None}
 use Rattle.std.specs.Option.{unwrap_or}
 use Rattle.std.proofs.Common.{arith, ap, ap₂, sym, subst, ◌∙◌}
-use Rattle.capnp_schema.specs.Types.{SchemaType, StructType, struct_number}
+use Rattle.std.proofs.lemmas.Option.{same_Some}
+use Rattle.capnp_schema.specs.Types.{SchemaType, StructType, struct_brand, struct_number}
 use Rattle.capnp_schema.specs.Schema.{Schemas, FieldKind, Slot, Group, TypedField, no_field, node_of, fields_of, field_at, is_member}
-use Rattle.capnp_schema.specs.Footprint.{Place, some_field, kind_names, brand_names, discriminant_names, footprint}
+use Rattle.capnp_schema.specs.Footprint.{Place, some_field, group_names, kind_names, brand_names, discriminant_names, footprint}
 use Rattle.capnp_schema.specs.Accepted.{IsAccepted, IsGroupBrand, IsGroupOf, IsParent, HasOneParent, EndsAtStruct, GroupFits, NamesEntries}
-use Rattle.capnp_schema.specs.Laws.{struct_names, kind_height, highest, height_within, group_height, LeadsDown}
+use Rattle.capnp_schema.specs.Laws.{struct_names, height_above, kind_height, highest, height_within, group_height, LeadsDown}
 
 true≢false : true ≡ false → ⊥
 true≢false e = cc
@@ -36,7 +37,7 @@ group_of_field set accepted b i g b_in i_in h = go (field_at set b i).field.kind
   where
     go : (k : FieldKind) (t : SchemaType) → GroupFits set k t → IsGroupOf k t g → IsGroupBrand set g
     go (Slot o d) t f h = absurd h
-    go (Group m) (StructType number generic) f h = subst (λ x. IsGroupBrand set x) h f.1
+    go (Group m) (StructType number generic) f h = subst (λ x. IsGroupBrand set x) (same_Some number g h) f.1
     go (Group m) t f h = absurd f
 
 pub group_in_set : (set : Schemas) → IsAccepted set → (b i g : ℕ) → b < length set.brands → i < length (fields_of set b) →
@@ -45,7 +46,7 @@ group_in_set set accepted b i g b_in i_in h = go (field_at set b i).field.kind (
   where
     go : (k : FieldKind) (t : SchemaType) → GroupFits set k t → NamesEntries set t → IsGroupOf k t g → g < length set.brands
     go (Slot o d) t f n h = absurd h
-    go (Group m) (StructType number generic) f n h = subst (λ x. x < length set.brands) h n.0
+    go (Group m) (StructType number generic) f n h = subst (λ x. x < length set.brands) (same_Some number g h) n.0
     go (Group m) t f n h = absurd f
 
 have_one_parent : (set : Schemas) → IsAccepted set → HaveOneParent set
@@ -96,7 +97,20 @@ brand_names-more (suc n) set b p h = go (brand_names-more n set)
       where
         more : (k : FieldKind) (t : SchemaType) → ((g : ℕ) → IsGroupOf k t g → IsShallow n set g) → kind_names (brand_names n set) k t p ≡ kind_names (brand_names (suc n) set) k t p
         more (Slot o d) t s = refl
-        more (Group m) t s = ih (struct_number t) p (s (struct_number t) refl)
+        more (Group m) t s = at (struct_brand t) s
+          where
+            at : (o : Option ℕ) → ((g : ℕ) → o ≡ Some g → IsShallow n set g) → group_names (brand_names n set) o p ≡ group_names (brand_names (suc n) set) o p
+            at None s = refl
+            at (Some g) s = ih g p (s g refl)
+
+pub group_fields_name_brands : (set : Schemas) → IsAccepted set → (b i node : ℕ) → b < length set.brands → i < length (fields_of set b) → (field_at set b i).field.kind ≡ Group node →
+    IsGroupOf (field_at set b i).field.kind (field_at set b i).type (struct_number (field_at set b i).type)
+group_fields_name_brands set accepted b i node b_in i_in is = go (field_at set b i).field.kind (field_at set b i).type (accepted.rule7 b i b_in i_in) is
+  where
+    go : (k : FieldKind) (t : SchemaType) → GroupFits set k t → k ≡ Group node → IsGroupOf k t (struct_number t)
+    go (Slot o d) t f e = cc
+    go (Group m) (StructType number generic) f e = refl
+    go (Group m) t f e = absurd f
 
 pub group_names_its_parts : (set : Schemas) → IsAccepted set → (b i g : ℕ) (p : Place) → b < length set.brands → i < length (fields_of set b) →
     IsGroupOf (field_at set b i).field.kind (field_at set b i).type g → footprint set (field_at set b i) p ≡ struct_names set g p
@@ -104,7 +118,7 @@ group_names_its_parts set accepted b i g p b_in i_in h = go (field_at set b i).f
   where
     go : (k : FieldKind) (t : SchemaType) → IsGroupOf k t g → IsShallow (length set.brands) set g → kind_names (brand_names (length set.brands) set) k t p ≡ struct_names set g p
     go (Slot o d) t h s = absurd h
-    go (Group m) t h s = ap (λ x. brand_names (length set.brands) set x p) h ∙ brand_names-more (length set.brands) set g p s
+    go (Group m) t h s = ap (λ o. group_names (brand_names (length set.brands) set) o p) h ∙ brand_names-more (length set.brands) set g p s
 
 -- a plain field's footprint meets no other, so where two meet both are members
 pub only_members_meet : (set : Schemas) → IsAccepted set → (b i j : ℕ) (p : Place) → b < length set.brands → i < length (fields_of set b) → j < length (fields_of set b) → i ≢ j →
@@ -154,7 +168,11 @@ height_within-more (suc n) set b h = go (height_within-more n set)
       where
         more : (k : FieldKind) (t : SchemaType) → ((g : ℕ) → IsGroupOf k t g → IsShallow n set g) → kind_height (height_within n set) k t ≡ kind_height (height_within (suc n) set) k t
         more (Slot o d) t s = refl
-        more (Group m) t s = ap suc (ih (struct_number t) (s (struct_number t) refl))
+        more (Group m) t s = at (struct_brand t) s
+          where
+            at : (o : Option ℕ) → ((g : ℕ) → o ≡ Some g → IsShallow n set g) → height_above (height_within n set) o ≡ height_above (height_within (suc n) set) o
+            at None s = refl
+            at (Some g) s = ap suc (ih g (s g refl))
 
 height_within-most : (m n : ℕ) (set : Schemas) (b : ℕ) → IsShallow (suc n) set b → height_within m set b ≤ n
 unfolding height_within
@@ -164,8 +182,12 @@ height_within-most (suc m) n set b h = highest-most _ n (fields_of set b) (λ j 
     most : ((k g : ℕ) → IsShallow (suc k) set g → height_within m set g ≤ k) → (n : ℕ) (k : FieldKind) (t : SchemaType) →
         ((g : ℕ) → IsGroupOf k t g → IsShallow n set g) → kind_height (height_within m set) k t ≤ n
     most ih n (Slot o d) t s = omega arith
-    most ih zero (Group x) t s = absurd (s (struct_number t) refl)
-    most ih (suc n) (Group x) t s = omega (arith, ih n (struct_number t) (s (struct_number t) refl))
+    most ih n (Group x) t s = at n (struct_brand t) s
+      where
+        at : (n : ℕ) (o : Option ℕ) → ((g : ℕ) → o ≡ Some g → IsShallow n set g) → height_above (height_within m set) o ≤ n
+        at n None s = omega arith
+        at zero (Some g) s = absurd (s g refl)
+        at (suc n) (Some g) s = omega (arith, ih n g (s g refl))
 
 group_height-falls : (set : Schemas) → IsAccepted set → (b i g : ℕ) → b < length set.brands → i < length (fields_of set b) →
     IsGroupOf (field_at set b i).field.kind (field_at set b i).type g → group_height set g < group_height set b
@@ -180,7 +202,7 @@ group_height-falls set accepted b i g b_in i_in h =
   where
     go : (k : FieldKind) (t : SchemaType) → IsGroupOf k t g → kind_height (height_within (length set.brands) set) k t ≡ suc (height_within (length set.brands) set g)
     go (Slot o d) t h = absurd h
-    go (Group m) t h = ap (λ x. suc (height_within (length set.brands) set x)) h
+    go (Group m) t h = ap (height_above (height_within (length set.brands) set)) h
 
 pub heights_fall : (set : Schemas) → IsAccepted set → (b : ℕ) → b < length set.brands →
     (group_height set b ≤ length set.brands)

@@ -3,9 +3,16 @@ pub mod AnnotatedPlaces
 pub mod AnnotationTypes
 pub mod BrandRefusals
 pub mod BrokenSets
+pub mod BuiltinAccepted
 pub mod BuiltinLemmas
 pub mod ByNumber
+pub mod Computed
+pub mod ComputedGroups
+pub mod ComputedRules
+pub mod ComputedSpans
+pub mod ComputedValues
 pub mod Decided
+pub mod Defaults
 pub mod EntryTables
 pub mod EntryWalk
 pub mod EnumLemmas
@@ -16,6 +23,8 @@ pub mod GroupRows
 pub mod GroupTable
 pub mod GroupTargets
 pub mod Groups
+pub mod GroupsDown
+pub mod HandleRows
 pub mod Indices
 pub mod Lengths
 pub mod LookUps
@@ -26,6 +35,7 @@ pub mod NameSearch
 pub mod NameTables
 pub mod PlanFits
 pub mod NamedTypes
+pub mod OneRuleBroken
 pub mod PlanRows
 pub mod Plans
 pub mod RangeLemmas

@@ -3,6 +3,7 @@ use Rattle.std.specs.Prelude.{ℕ, negsuc, pos, ◌≡◌, refl, [], ◌∷◌, 
 use Rattle.capnp_schema.specs.Types.{BoolType, IntType, UIntType}
 use Rattle.capnp_schema.specs.Schema.{field_at, BoolValue, IntValue, UIntValue}
 use Rattle.capnp_schema.specs.SlotValue.{bits_at, slot_number, unsigned}
+use Rattle.capnp_schema.specs.SlotBits.{stored_bits, with_bits}
 use Rattle.capnp_schema.specs.Plan.{plan_of}
 use Rattle.capnp_schema.specs.Builtin.{builtin}
 use Rattle.capnp_schema.specs.declared.plan.SlotPlan.{SlotPlan}
@@ -77,3 +78,19 @@ stored_default = refl
 
 true_by_default : slot_number (1 ∷ []) 0 (BoolValue true) BoolType ≡ 0
 true_by_default = refl
+
+-- what the wire reads in a slot, and what it writes there
+stored_truth : stored_bits 9 1 (1 ∷ 2 ∷ []) ≡ 1
+stored_truth = refl
+
+stored_byte : stored_bits 8 8 (1 ∷ 2 ∷ []) ≡ 2
+stored_byte = refl
+
+stored_past_the_end : stored_bits 16 16 (1 ∷ 2 ∷ 3 ∷ []) ≡ 3
+stored_past_the_end = refl
+
+truth_cleared : with_bits 9 1 0 (1 ∷ 3 ∷ []) ≡ 1 ∷ 1 ∷ []
+truth_cleared = refl
+
+number_written : with_bits 16 16 515 (1 ∷ 2 ∷ 0 ∷ 0 ∷ 5 ∷ []) ≡ 1 ∷ 2 ∷ 3 ∷ 2 ∷ 5 ∷ []
+number_written = refl

@@ -3,10 +3,10 @@ use Rattle.std.specs.Prelude.{ℕ, zero, suc, ◌*◌, ◌<◌, ◌≡◌, refl,
 use Rattle.std.specs.Option.{unwrap_or}
 use Rattle.std.proofs.Common.{arith, ap, sym, subst, ◌∙◌}
 use Rattle.std.proofs.lemmas.Option.{get_or_from_slice_get, slice_get_within}
-use Rattle.capnp_schema.specs.Types.{SchemaType, VoidType, BoolType, IntType, UIntType, EnumType, TextType, DataType, StructType, ListType, AnyPointerType, is_pointer, width, struct_number}
+use Rattle.capnp_schema.specs.Types.{SchemaType, VoidType, BoolType, IntType, UIntType, EnumType, TextType, DataType, StructType, ListType, AnyPointerType, is_pointer, width}
 use Rattle.capnp_schema.specs.Schema.{Schemas, Node, Brand, Field, FieldKind, Slot, Group, Value, no_node, no_brand, no_field, typed, brand_at, node_of, fields_of, field_at, is_member}
 use Rattle.capnp_schema.specs.Footprint.{Place, DataBit, PointerAt, is_in, slot_names, kind_names, brand_names, discriminant_names, footprint}
-use Rattle.capnp_schema.specs.Accepted.{IsAccepted, HasEachMember, DiscriminantFits, IsGroupOf}
+use Rattle.capnp_schema.specs.Accepted.{IsAccepted, HasEachMember, DiscriminantFits, GroupFits, IsGroupOf}
 use Rattle.capnp_schema.specs.SlotValue.{bits_at, default_bits}
 use Rattle.capnp_schema.specs.Laws.{struct_names}
 use Rattle.capnp_schema.specs.Plan.{LiesInNode, IsPlan, HasSlotNumber, data_place, slot_place, place_of, place_names, place_number, member_plan, plan_of, discriminant_bits}
@@ -37,6 +37,10 @@ typed-field [] ts i a = absurd (omega arith)
 typed-field (f ∷ fs) [] i a = absurd (omega arith)
 typed-field (f ∷ fs) (t ∷ ts) zero a = refl
 typed-field (f ∷ fs) (t ∷ ts) (suc i) a = typed-field fs ts i (omega arith)
+
+-- what holds of all fields of a node holds of a brand's
+pub of_field : (P : Field → Type 0) (set : Schemas) (b i : ℕ) → i < length (fields_of set b) → All P (node_of set b).fields → P (field_at set b i).field
+of_field P set b i i_in all = All-entry P (node_of set b).fields i (field_at set b i).field all (typed-field (node_of set b).fields (brand_at set b).field_types i i_in)
 
 -- a struct with a member has a union
 pub member_counted : (set : Schemas) → IsAccepted set → (b i : ℕ) → b < length set.brands → i < length (fields_of set b) → IsTrue (is_member (field_at set b i).field) →
@@ -85,14 +89,15 @@ slot_place-names set t offset default false e (PointerAt i) = data_names-pointer
 
 plan-names : (set : Schemas) → IsAccepted set → (b i : ℕ) → b < length set.brands → i < length (fields_of set b) → (p : Place) →
     place_names set (plan_of set b (field_at set b i)).place p ≡ footprint set (field_at set b i) p
-plan-names set accepted b i b_in i_in p = go (field_at set b i).field.kind (field_at set b i).type (λ g h. group_names_its_parts set accepted b i g p b_in i_in h)
+plan-names set accepted b i b_in i_in p = go (field_at set b i).field.kind (field_at set b i).type (accepted.rule7 b i b_in i_in) (λ g h. group_names_its_parts set accepted b i g p b_in i_in h)
   where
     names : FieldKind → SchemaType → Bool
     names k t = kind_names (brand_names (length set.brands) set) k t p
 
-    go : (k : FieldKind) (t : SchemaType) → ((g : ℕ) → IsGroupOf k t g → names k t ≡ struct_names set g p) → place_names set (place_of k t) p ≡ names k t
-    go (Slot offset default) t h = slot_place-names set t offset default (is_pointer t) refl p
-    go (Group node) t h = sym (h (struct_number t) refl)
+    go : (k : FieldKind) (t : SchemaType) → GroupFits set k t → ((g : ℕ) → IsGroupOf k t g → names k t ≡ struct_names set g p) → place_names set (place_of k t) p ≡ names k t
+    go (Slot offset default) t fits h = slot_place-names set t offset default (is_pointer t) refl p
+    go (Group node) (StructType number generic) fits h = sym (h number refl)
+    go (Group node) t fits h = absurd fits
 
 place-number : (k : FieldKind) (t : SchemaType) → HasSlotNumber k t (place_of k t)
 place-number (Group node) t = tt

@@ -4,13 +4,11 @@ use Rattle.std.proofs.lemmas.Bool.{cases_lt}
 use Rattle.std.proofs.lemmas.Bool.Decides.{nat_tests}
 use Rattle.capnp_schema.specs.Schema.{Schemas, Node, TypedField, node_of, fields_of, seen_kind}
 use Rattle.capnp_schema.specs.declared.record.ValueRecord.{ValueRecord}
-use Rattle.capnp_schema.specs.declared.record.FieldKind.{FieldKind as KindRecord}
 use Rattle.capnp_schema.specs.declared.record.FieldKind.TheVariants as kind
 use Rattle.capnp_schema.specs.declared.lists.TypedField.{TypedField as TypedRecord}
-use Rattle.capnp_schema.specs.Types.{SchemaType, seen_type, struct_number}
+use Rattle.capnp_schema.specs.Types.{seen_type}
 use Rattle.capnp_schema.specs.Entries.{brand_node, seen_typed}
 use Rattle.capnp_schema.specs.Footprint.{Place, DataBit, PointerAt, is_in, slot_names, kind_names, some_field, brand_names, discriminant_names}
-use Rattle.capnp_schema.specs.Parents.{TargetsAreGroups, entry_target, kind_target}
 use Rattle.capnp_schema.specs.declared.check.spans.Span.{Span}
 use Rattle.capnp_schema.specs.declared.check.spans.Span.TheVariants.{Data, Pointer}
 use Rattle.capnp_schema.specs.Spans.{span_names, some_span, field_names, entry_names}
@@ -117,12 +115,12 @@ brand_added set (suc groups) b p before out n s some there fields names =
     less = omega arith
 
 -- a struct whose node isn't there has no discriminant
-pub fields_alone : (set : Schemas) (groups b : ℕ) (p : Place) (before out : List Span) → 0 < groups → b < length set.brands
+pub fields_alone : (set : Schemas) (groups b : ℕ) (p : Place) (before out : List Span) → 0 < groups
     → None ≡ brand_node set b
     → some_span out p ≡ (some_span before p || some_field (field_names (groups - 1) set) (fields_of set b) p)
     → some_span out p ≡ (some_span before p || brand_names groups set b p)
-fields_alone set zero b p before out some within missing fields = absurd (omega arith)
-fields_alone set (suc groups) b p before out some within missing fields =
+fields_alone set zero b p before out some missing fields = absurd (omega arith)
+fields_alone set (suc groups) b p before out some missing fields =
     fields ∙ ap (λ g. some_span before p || some_field (field_names g set) (fields_of set b) p) less
     ∙ ap (λ x. some_span before p || x) (or_false (some_field (field_names groups set) (fields_of set b) p) (discriminant_names (node_of set b) p) (none p))
   where
@@ -132,13 +130,6 @@ fields_alone set (suc groups) b p before out some within missing fields =
     none : (p : Place) → discriminant_names (node_of set b) p ≡ false
     none (DataBit i) = rw (node_missing set b missing) refl
     none (PointerAt i) = refl
-
--- the group that a field names is there
-pub target_within : (set : Schemas) (b i g : ℕ) (f : TypedField) → TargetsAreGroups set → Some f ≡ slice_get (fields_of set b) i → entry_target (Some f) ≡ Some g → g < length set.brands
-target_within set b i g f targets there e = (targets b i g (ap entry_target (sym there) ∙ e)).0
-
-pub kind_is_group : (k : KindRecord) (node : ℕ) (t : SchemaType) (g : ℕ) → k ≡ kind.Group node → g ≡ struct_number t → kind_target (seen_kind k) t ≡ Some g
-kind_is_group k node t g is number = ap (λ x. kind_target (seen_kind x) t) is ∙ ap (λ (n : ℕ). Some n) (sym number)
 
 -- one more slot
 pub slot_added : (groups : ℕ) (set : Schemas) (entry : Option TypedField) (f : TypedRecord) (offset : ℕ) (default : ValueRecord) (out : List Span) (s : Span) (p : Place)

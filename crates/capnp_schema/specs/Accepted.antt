@@ -5,7 +5,7 @@ use Rattle.capnp_wire.specs.Tree.{Tree}
 use Rattle.capnp_wire.specs.Place.{root_tree}
 use Rattle.capnp_wire.specs.Reading.{as_list}
 use Rattle.capnp_wire.specs.Words.{first_fault}
-use Rattle.capnp_schema.specs.Types.{SchemaType, VoidType, BoolType, IntType, UIntType, EnumType, TextType, DataType, StructType, ListType, AnyPointerType, is_pointer, struct_number, width, element_size}
+use Rattle.capnp_schema.specs.Types.{SchemaType, VoidType, BoolType, IntType, UIntType, EnumType, TextType, DataType, StructType, ListType, AnyPointerType, is_pointer, struct_brand, width, element_size}
 use Rattle.capnp_schema.specs.Schema.{Schemas, Node, Brand, Enum, Enumerant, Field, Annotation, AnnotationTypes, FieldKind, Slot, Group, Value, VoidValue, BoolValue, IntValue, UIntValue, EnumValue, TextValue, DataValue, StructValue, ListValue, AnyPointerValue, TypedField, brand_at, node_of, fields_of, field_at, is_member, default_of}
 use Rattle.capnp_schema.specs.Footprint.{Place, footprint, discriminant_names}
 
@@ -191,10 +191,10 @@ Rule7 set = EachField set (λ b i f. GroupFits set f.field.kind f.type)
 -- ---- rule 8: a group brand is named by exactly one group field, has its parent's section sizes, and its chain of parents
 -- ends at a struct that is no group ----
 
--- a field of this kind and type is the group field of group brand g
+-- a field of this kind and type is the group field of group brand g: its type is that brand's struct type
 abbrev pub IsGroupOf : FieldKind → SchemaType → ℕ → Type 0
 IsGroupOf (Slot offset default) t g = ⊥
-IsGroupOf (Group node) t g = struct_number t ≡ g
+IsGroupOf (Group node) t g = struct_brand t ≡ Some g
 
 -- field i of brand b is
 pub record IsParent (set : Schemas) (g b i : ℕ) : Type 0 where

@@ -1,6 +1,6 @@
 -- The data bits and pointers that a field names.
-use Rattle.std.specs.Prelude.{ℕ, zero, suc, ◌+◌, ◌*◌, List, [], ◌∷◌, Bool, false, ◌&&◌, ◌||◌, ◌==◌, nat_le, nat_lt, length}
-use Rattle.capnp_schema.specs.Types.{SchemaType, is_pointer, struct_number, width}
+use Rattle.std.specs.Prelude.{ℕ, zero, suc, ◌+◌, ◌*◌, List, [], ◌∷◌, Bool, false, ◌&&◌, ◌||◌, ◌==◌, nat_le, nat_lt, length, Option, Some, None}
+use Rattle.capnp_schema.specs.Types.{SchemaType, is_pointer, struct_brand, width}
 use Rattle.capnp_schema.specs.Schema.{Schemas, Node, FieldKind, Slot, Group, TypedField, node_of, fields_of}
 
 -- a place in a struct: a data bit or a pointer
@@ -26,10 +26,15 @@ abbrev pub some_field : (TypedField → Place → Bool) → List TypedField → 
 some_field names [] p = false
 some_field names (f ∷ fs) p = names f p || some_field names fs p
 
--- a group field names what its group's fields and discriminant name
+-- what a group names; without a group nothing is named
+abbrev pub group_names : (ℕ → Place → Bool) → Option ℕ → Place → Bool
+group_names group None p = false
+group_names group (Some g) p = group g p
+
+-- a group field names what its group's fields and discriminant name, and nothing where its type is no struct type
 abbrev pub kind_names : (ℕ → Place → Bool) → FieldKind → SchemaType → Place → Bool
 kind_names group (Slot offset default) t p = slot_names offset t p
-kind_names group (Group node) t p = group (struct_number t) p
+kind_names group (Group node) t p = group_names group (struct_brand t) p
 
 -- what a struct's fields and discriminant name, through at most so many groups
 abbrev pub brand_names : ℕ → Schemas → ℕ → Place → Bool

@@ -1,6 +1,6 @@
 -- What footprints are in every accepted set.
-use Rattle.std.specs.Prelude.{ℕ, zero, suc, ◌<◌, ◌≤◌, ◌≡◌, ◌≢◌, List, [], ◌∷◌, Bool, IsTrue, IsFalse, ◌||◌, length, max}
-use Rattle.capnp_schema.specs.Types.{SchemaType, struct_number}
+use Rattle.std.specs.Prelude.{ℕ, zero, suc, ◌<◌, ◌≤◌, ◌≡◌, ◌≢◌, List, [], ◌∷◌, Bool, IsTrue, IsFalse, ◌||◌, length, max, Option, Some, None}
+use Rattle.capnp_schema.specs.Types.{SchemaType, struct_brand, struct_number}
 use Rattle.capnp_schema.specs.Schema.{Schemas, FieldKind, Slot, Group, TypedField, node_of, fields_of, field_at, is_member}
 use Rattle.capnp_schema.specs.Footprint.{Place, some_field, discriminant_names, footprint}
 use Rattle.capnp_schema.specs.Accepted.{IsAccepted, IsGroupBrand, IsGroupOf}
@@ -28,10 +28,20 @@ GroupNamesItsParts = (set : Schemas) → IsAccepted set → (b i g : ℕ) (p : P
     b < length set.brands → i < length (fields_of set b) → IsGroupOf (field_at set b i).field.kind (field_at set b i).type g →
     footprint set (field_at set b i) p ≡ struct_names set g p
 
--- one more than a group's height, 0 for a slot
+-- a group field is the group field of the brand that its type names
+abbrev pub GroupFieldsNameBrands : Type 0
+GroupFieldsNameBrands = (set : Schemas) → IsAccepted set → (b i node : ℕ) →
+    b < length set.brands → i < length (fields_of set b) → (field_at set b i).field.kind ≡ Group node →
+    IsGroupOf (field_at set b i).field.kind (field_at set b i).type (struct_number (field_at set b i).type)
+
+-- one more than a group's height, 0 without a group
+abbrev pub height_above : (ℕ → ℕ) → Option ℕ → ℕ
+height_above group None = 0
+height_above group (Some g) = suc (group g)
+
 abbrev pub kind_height : (ℕ → ℕ) → FieldKind → SchemaType → ℕ
 kind_height group (Slot offset default) t = 0
-kind_height group (Group node) t = suc (group (struct_number t))
+kind_height group (Group node) t = height_above group (struct_brand t)
 
 abbrev pub highest : (TypedField → ℕ) → List TypedField → ℕ
 highest height [] = 0

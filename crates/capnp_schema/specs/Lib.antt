@@ -6,13 +6,18 @@ pub mod Broken
 pub mod BrokenLaw
 pub mod Builtin
 pub mod Counts
+pub mod Defaults
+pub mod Discriminant
 pub mod Entries
 pub mod EntryRanges
 pub mod Enumerants
 pub mod Enums
+pub mod Facts
 pub mod FieldLists
 pub mod Footprint
+pub mod GroupsDown
 pub mod Laws
+pub mod Layers
 pub mod Lengths
 pub mod ListDefaults
 pub mod Marks
@@ -23,6 +28,7 @@ pub mod Plan
 pub mod Query
 pub mod Ranges
 pub mod Schema
+pub mod SlotBits
 pub mod SlotValue
 pub mod Spans
 pub mod StructHandles

@@ -1,18 +1,18 @@
 -- Which brand each group field names, and which field names each group brand.
 use Rattle.std.specs.Prelude.{ℕ, ◌<◌, ◌≤◌, ◌≡◌, List, length, slice_get, Option, Some, None}
-use Rattle.capnp_schema.specs.Types.{SchemaType, struct_number}
+use Rattle.capnp_schema.specs.Types.{SchemaType, struct_brand}
 use Rattle.capnp_schema.specs.Schema.{Schemas, FieldKind, Slot, Group, TypedField, fields_of}
 use Rattle.capnp_schema.specs.Accepted.{EndsAtStruct, IsGroupBrand}
 
 abbrev pub kind_target : FieldKind → SchemaType → Option ℕ
 kind_target (Slot offset default) t = None
-kind_target (Group node) t = Some (struct_number t)
+kind_target (Group node) t = struct_brand t
 
 abbrev pub entry_target : Option TypedField → Option ℕ
 entry_target None = None
 entry_target (Some f) = kind_target f.field.kind f.type
 
--- the brand that field i of brand b names, if it is a group field
+-- the brand that field i of brand b names, if it is a group field of a struct type
 abbrev pub group_target : Schemas → ℕ → ℕ → Option ℕ
 group_target set b i = entry_target (slice_get (fields_of set b) i)
 

@@ -158,7 +158,7 @@ brand_at set b = unwrap_or (slice_get set.brands b) (no_brand set)
 abbrev pub enum_at : Schemas → ℕ → Enum
 enum_at set e = unwrap_or (slice_get set.enums e) no_enum
 
--- the node of a brand
+-- the node of a brand; past the end of the brands, that with nothing in it
 abbrev pub node_of : Schemas → ℕ → Node
 node_of set b = node_at set (brand_at set b).node
 

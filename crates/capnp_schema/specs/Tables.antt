@@ -58,7 +58,7 @@ ArePlanTables set tables = (b : ℕ) → table_at tables b ≡ map (plan_of set 
 -- tables for each node, and plans for each brand; past the last of these stands an empty table, and past the ends of the
 -- lists a node and an enum with nothing in them
 pub record AreTables (set : Schemas) (tables : FieldTables) : Type 0 where
-  pub by_name : (n : ℕ) → IsNameTable (node_at set n).fields (table_at tables.by_name.items n)
+  pub by_name : AreNameTables set tables.by_name.items
   pub members : AreMemberTables set tables.members.items
   pub plain : ArePlainTables set tables.plain.items
   pub plans : ArePlanTables set tables.plans.items

@@ -1,5 +1,6 @@
 -- Types as specs see them.
-use Rattle.std.specs.Prelude.{ℕ, zero, suc, ◌*◌, Bool, true, false}
+use Rattle.std.specs.Prelude.{ℕ, zero, suc, ◌*◌, Bool, true, false, Option, Some, None}
+use Rattle.std.specs.Option.{unwrap_or}
 use Rattle.capnp_wire.specs.declared.size.ElementSize.{ElementSize}
 use Rattle.capnp_wire.specs.declared.size.ElementSize.TheVariants as size
 use Rattle.capnp_base.specs.declared.introspect.«Type».{«Type» as TypeHandle}
@@ -75,18 +76,22 @@ width (StructType number generic) = 0
 width (ListType element) = 0
 width AnyPointerType = 0
 
--- the brand that a struct type names, 0 for every other type
+-- the brand that a struct type names, nothing for every other type
+abbrev pub struct_brand : SchemaType → Option ℕ
+struct_brand VoidType = None
+struct_brand BoolType = None
+struct_brand (IntType bytes) = None
+struct_brand (UIntType bytes) = None
+struct_brand (EnumType number) = None
+struct_brand TextType = None
+struct_brand DataType = None
+struct_brand (StructType number generic) = Some number
+struct_brand (ListType element) = None
+struct_brand AnyPointerType = None
+
+-- the same with 0 for every other type
 abbrev pub struct_number : SchemaType → ℕ
-struct_number VoidType = 0
-struct_number BoolType = 0
-struct_number (IntType bytes) = 0
-struct_number (UIntType bytes) = 0
-struct_number (EnumType number) = 0
-struct_number TextType = 0
-struct_number DataType = 0
-struct_number (StructType number generic) = number
-struct_number (ListType element) = 0
-struct_number AnyPointerType = 0
+struct_number t = unwrap_or (struct_brand t) 0
 
 -- the size of the elements of a list of such values
 abbrev pub integer_size : ℕ → ElementSize

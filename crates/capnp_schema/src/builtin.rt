@@ -5,6 +5,7 @@ ghost use Rattle.capnp_device.specs.declared.error.ErrorKind.TheVariants.{OutOfM
 ghost use Rattle.capnp_base.specs.Types.{type_from};
 ghost use Rattle.capnp_schema.specs.Types.{seen_type, AnyPointerType, BoolType, DataType, IntType, ListType, StructType, TextType, UIntType, VoidType};
 ghost use Rattle.capnp_schema.specs.Schema.{seen_brand, seen_enum, seen_enumerant, seen_field, seen_node, seen_schemas, seen_value};
+ghost use Rattle.capnp_schema.specs.Accepted.{IsAccepted};
 ghost use Rattle.capnp_schema.specs.Builtin as set;
 
 use crate::record::{
@@ -484,9 +485,12 @@ fn enums(alloc: Global) -> Result<Vec<EnumRecord>, AllocError>
 /// `Shapes.tag`, which has a union of its own, and a text; 6 `Loop`, a union that may hold a `Loop`; 7 `Lists`; 8 `Node`,
 /// with annotations. Enum 0 is `ElementSize`, of id 200.
 ///
+/// The lists meet the twelve rules, so that a set of them is refused for memory alone.
+///
 /// Refused with `OutOfMemory` alone.
 pub fn records(alloc: Global) -> Result<(Vec<NodeRecord>, Vec<BrandRecord>, Vec<EnumRecord>), Error>
     ensures ok { IfOk result (λ r. seen_schemas r.0.items r.1.items r.2.items ≡ set.builtin) }
+    ensures accepted { IfOk result (λ r. IsAccepted (seen_schemas r.0.items r.1.items r.2.items)) }
     ensures err { IfErr result (λ e. e.kind ≡ OutOfMemory) }
 {
     let nodes = nodes(alloc)?;

@@ -1,6 +1,6 @@
 //! What one layer of a type says of the field that has it.
 ghost use Rattle.std.specs.Prelude.{◌≡◌, ◌≤◌};
-ghost use Rattle.capnp_schema.specs.Types.{width, is_pointer, struct_number};
+ghost use Rattle.capnp_schema.specs.Types.{width, is_pointer, struct_brand, struct_number};
 ghost use Rattle.capnp_schema.specs.Tests.{seen_variant};
 
 use capnp_base::introspect::TypeVariant;
@@ -34,12 +34,22 @@ pub(crate) fn is_pointer(variant: TypeVariant) -> bool
     }
 }
 
-/// The brand that a struct type names, 0 for every other type.
+/// The brand that a struct type names, nothing for every other type.
+pub(crate) fn struct_brand(variant: TypeVariant) -> Option<u32>
+    ensures { result ≡ struct_brand (seen_variant variant) }
+{
+    match variant {
+        TypeVariant::Struct(schema) => Some(schema.number),
+        _ => None,
+    }
+}
+
+/// The same with 0 for every other type.
 pub(crate) fn struct_number(variant: TypeVariant) -> u32
     ensures { result ≡ struct_number (seen_variant variant) }
 {
-    match variant {
-        TypeVariant::Struct(schema) => schema.number,
-        _ => 0,
+    match struct_brand(variant) {
+        Some(number) => number,
+        None => 0,
     }
 }

@@ -35,6 +35,12 @@ pub enum Place {
     Group(u32),
 }
 
+/// The plan of a field that isn't there: that of a slot without room.
+pub(crate) const NO_PLAN: SlotPlan = SlotPlan {
+    place: Place::Nothing,
+    member: None,
+};
+
 /// The plan of a field, by its node's record, its own, and its type in a brand.
 pub(crate) fn plan_field(node: &NodeRecord, field: &FieldRecord, field_type: &Type) -> SlotPlan
     requires { LiesInNode (seen_node node.now) (record { field = seen_field field.now; type = seen_type field_type.now }) }

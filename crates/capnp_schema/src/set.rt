@@ -1,5 +1,6 @@
 //! Sets of schemas that the check accepted.
 ghost use Rattle.std.specs.Prelude.{◌≡◌, IfErr, IfOk, MatchResult, OnOk, map};
+ghost use Rattle.capnp_device.specs.declared.error.ErrorKind.TheVariants.{OutOfMemory};
 ghost use Rattle.capnp_schema.specs.Accepted.{IsAccepted};
 ghost use Rattle.capnp_schema.specs.Broken.{IsRefusalOf};
 ghost use Rattle.capnp_schema.specs.Entries.{lists_seen};
@@ -68,7 +69,9 @@ impl SchemaSet {
     ///
     /// A refusal drops the lists. It is `OutOfMemory`, or `Schema` with the number of a rule that is broken and a place
     /// where it is broken: the list, the entry there, and the field or enumerant, which is 65,535 where the whole entry
-    /// is meant. Where several rules are broken, any of them may be named.
+    /// is meant. Where several rules are broken, any of them may be named; lists that meet the twelve rules are refused
+    /// for memory alone.
+    #[tactic(auto, using(crate::proofs::BrokenSets::refused_for_memory))]
     pub fn new(
         alloc: Global,
         nodes: Vec<NodeRecord>,
@@ -78,6 +81,7 @@ impl SchemaSet {
         ensures set { IfOk result (λ set. lists_seen set ≡ seen_schemas nodes.items brands.items enums.items) }
         ensures accepted { OnOk result (IsAccepted (seen_schemas nodes.items brands.items enums.items)) }
         ensures refused { IfErr result (IsRefusalOf (seen_schemas nodes.items brands.items enums.items)) }
+        ensures memory { IsAccepted (seen_schemas nodes.items brands.items enums.items) → IfErr result (λ e. e.kind ≡ OutOfMemory) }
     {
         let lists = Lists {
             nodes,

@@ -28,8 +28,9 @@ pub enum Value<'s> {
     AnyPointer(PointerReader<'s>),
 }
 
-/// The view of a record's value.
-pub(crate) fn view(stored: &ValueRecord) -> Value<'_>
+/// The view of a record's value, as of a default or an annotation. The words of a struct, a list or an untyped pointer are
+/// read where they lie, with 64 levels.
+pub fn view(stored: &ValueRecord) -> Value<'_>
     ensures { IsViewOf (seen_value stored.now) result }
 {
     match stored {

@@ -1,11 +1,13 @@
 //! Rules 7 and 8: groups are named by group fields alone, each by one, and stand in a struct of their sizes.
 
 use crate::fixtures::{
-    FieldOf, KindOf, ValueOf, WHOLE, broken, group_field, list_type, one_each, one_word,
-    refusal_of, refusal_of_three, refusal_of_two, slot, slot_with, struct_type, typed_slot,
+    FieldOf, KindOf, StructOf, ValueOf, WHOLE, brand_record, broken, group_field, list_type,
+    node_record, one_each, one_word, records_of, refusal, refusal_of, refusal_of_three,
+    refusal_of_two, slot, slot_with, struct_type, typed_slot,
 };
-use capnp_base::introspect::{Type, TypeVariant};
-use capnp_wire::error::SchemaTable;
+use capnp_base::introspect::{RawBrandedStructSchema, Type, TypeVariant};
+use capnp_wire::error::{ErrorKind, Result, SchemaTable};
+use std::alloc::Global;
 use std::test::Fail;
 
 #[test]
@@ -66,6 +68,66 @@ fn group_fields_are_of_their_group(rt: HostRuntime) -> std::result::Result<(), F
     assert_eq!(rt;
         refusal_of_three(alloc, one_word(&fields), plain, group)?,
         None
+    );
+    Ok(())
+}
+
+/// What the check says of a struct of one brand, whose node 0 is before it without a brand.
+fn refusal_beside(
+    alloc: Global,
+    unused: StructOf<'_>,
+    of: StructOf<'_>,
+) -> Result<Option<ErrorKind>> {
+    let mut records = records_of(alloc, unused)?;
+    records.brands.clear();
+    records.nodes.push(node_record(alloc, &of)?)?;
+    records.brands.push(brand_record(alloc, 1, &of)?)?;
+    refusal(alloc, records)
+}
+
+// Each of these breaks rule 1 or rule 7 and no other: what no brand stands behind is no group, and takes no room.
+#[test]
+fn one_rule_is_broken_without_a_brand(rt: HostRuntime) -> std::result::Result<(), Fail> {
+    let alloc = rt.alloc();
+    let group = one_each(&[]).group();
+    // a slot of no brand, beside a group without a brand
+    let fields = [typed_slot("p", 0, struct_type(9))];
+    assert_eq!(rt;
+        refusal_beside(alloc, group, one_each(&fields))?,
+        broken(1, SchemaTable::Brand, 0, 0)
+    );
+    // a group field of no struct type, beside a plain one
+    let fields = [
+        typed_group(0, Type::from(TypeVariant::Void)),
+        slot("n", 0, TypeVariant::UInt16),
+    ];
+    assert_eq!(rt;
+        refusal_of(alloc, one_each(&fields))?,
+        broken(7, SchemaTable::Brand, 0, 0)
+    );
+    // a group field of no brand, in a struct with a union
+    let no_brand = Type::from(TypeVariant::Struct(RawBrandedStructSchema {
+        number: 9,
+        generic: 0,
+    }));
+    let fields = [
+        typed_group(0, no_brand),
+        slot("x", 0, TypeVariant::Void).member(0),
+    ];
+    let places = [
+        broken(1, SchemaTable::Brand, 0, 0),
+        broken(7, SchemaTable::Brand, 0, 0),
+    ];
+    let answer = refusal_of(alloc, one_each(&fields).union(1, 0))?;
+    assert!(rt; places.contains(&answer));
+    // a group field of no struct type, beside the group field of brand 0
+    let fields = [
+        group_field("g", 0),
+        typed_group(0, Type::from(TypeVariant::Void)).named("h"),
+    ];
+    assert_eq!(rt;
+        refusal_of_two(alloc, group, one_each(&fields))?,
+        broken(7, SchemaTable::Brand, 1, 1)
     );
     Ok(())
 }

@@ -1,7 +1,13 @@
 //! Texts and data that are built.
 
+ghost use Rattle.std.specs.Prelude.{◌≡◌};
+ghost use Rattle.capnp_wire.specs.Objects.{object_tree};
+ghost use Rattle.capnp_wire.specs.Tree.{Null};
+
 use capnp_wire::error::{ErrorKind, Result};
+use capnp_wire::laws::objects_are_what_they_hold;
 use capnp_wire::message::{Builder, Reader};
+use capnp_wire::object::Object;
 use capnp_wire::size::{ElementSize, StructSize};
 use std::test::Fail;
 
@@ -82,17 +88,57 @@ fn what_is_no_text_or_data_is_refused(rt: HostRuntime) -> std::result::Result<()
     assert_eq!(rt; refused, Some(ErrorKind::WrongPointerKind));
     let refused = kind_of(message.root().get_text());
     assert_eq!(rt; refused, Some(ErrorKind::WrongPointerKind));
+    assert!(rt; message.root().is_struct());
     message.root().init_list(ElementSize::TwoBytes, 2)?;
     let refused = kind_of(message.root().get_data());
     assert_eq!(rt; refused, Some(ErrorKind::WrongElementSize));
     let refused = kind_of(message.root().get_text());
     assert_eq!(rt; refused, Some(ErrorKind::WrongElementSize));
+    assert!(rt; message.root().is_list());
     message.root().set_data(&[1, 2])?;
     let refused = kind_of(message.root().get_text());
     assert_eq!(rt; refused, Some(ErrorKind::TextNotTerminated));
+    assert_eq!(rt; &*message.root().get_data()?, [1, 2].as_slice());
     message.root().init_data(0)?;
     let refused = kind_of(message.root().get_text());
     assert_eq!(rt; refused, Some(ErrorKind::TextNotTerminated));
     assert!(rt; message.root().get_data()?.is_empty());
+    Ok(())
+}
+
+/// Copies the list of bytes that a null is lent as, where it was got as a list of pointers before.
+fn copy_data_of(pointer: &mut Object, target: &mut Object) -> Result<()>
+    requires { object_tree pointer.old ≡ Null }
+{
+    objects_are_what_they_hold();
+    pointer.get_list(ElementSize::Pointer)?;
+    let list = pointer.get_data_list()?;
+    target.set_list(&list.as_reader())
+}
+
+/// The same of a text.
+fn copy_text_of(pointer: &mut Object, target: &mut Object) -> Result<()>
+    requires { object_tree pointer.old ≡ Null }
+{
+    objects_are_what_they_hold();
+    pointer.get_list(ElementSize::Pointer)?;
+    let list = pointer.get_text_list()?;
+    target.set_list(&list.as_reader())
+}
+
+#[test]
+fn a_null_is_lent_as_bytes_whatever_it_was_got_as(
+    rt: HostRuntime,
+) -> std::result::Result<(), Fail> {
+    // a pointer to a list of no bytes
+    let want = [0, 0, 0, 0, 1, 0, 0, 0, 1, 0, 0, 0, 2, 0, 0, 0];
+    let mut source = Builder::new(rt.alloc());
+    let mut target = Builder::new(rt.alloc());
+    copy_data_of(source.root(), target.root())?;
+    assert_eq!(rt; target.write_message()?.as_slice(), want.as_slice());
+    let mut source = Builder::new(rt.alloc());
+    let mut target = Builder::new(rt.alloc());
+    copy_text_of(source.root(), target.root())?;
+    assert_eq!(rt; target.write_message()?.as_slice(), want.as_slice());
     Ok(())
 }

@@ -18,11 +18,18 @@ mod built_tests;
 #[cfg(test)]
 mod copy_tests;
 #[cfg(test)]
+mod default_tests;
+#[cfg(test)]
 mod fixtures;
+pub mod kept;
+#[cfg(test)]
+mod hop_tests;
 #[cfg(test)]
 mod level_tests;
 #[cfg(test)]
 mod list_tests;
+#[cfg(test)]
+mod made_list_tests;
 #[cfg(test)]
 mod message_tests;
 #[cfg(test)]

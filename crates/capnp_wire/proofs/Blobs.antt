@@ -1,6 +1,6 @@
 -- What the bytes of texts and data leave where they were lent.
 use Rattle.std.proofs.Common.{◌≡◌, ℕ, ◌≤◌, List, [], ◌∷◌, ◌++◌, length, drop, sym, ap, ◌∙◌, arith, rules, Vec, Global}
-use Rattle.std.proofs.lemmas.List.{take_at, drop_at, drop_all, length-append, length-drop, append-nil}
+use Rattle.std.proofs.lemmas.List.{drop_at, drop_all, length-append, append-nil}
 use Rattle.std.proofs.lemmas.Bool.{false≢true}
 use Rattle.std.specs.Vec.{with_items_from}
 use Rattle.capnp_wire.specs.Tree as tree
@@ -16,13 +16,7 @@ use Rattle.capnp_wire.specs.declared.object.ListObject.TheOpen as layer
 use Rattle.capnp_wire.specs.declared.object.ListObject.TheFolds.{the_lemmas}
 use Rattle.capnp_wire.specs.declared.size.ElementSize.{ElementSize}
 use Rattle.capnp_wire.proofs.ListObjects.{layer_tree, tree-layer}
-
--- bytes written over the first of a vector's
-front_items : (v : Vec ℕ Global) (left : List ℕ) → length left ≤ length v.items → (with_items_from v 0 left).items ≡ left ++ drop (length left) v.items
-front_items v left h =
-    let whole = length-append left (drop (length left) v.items) in
-    let rest = length-drop (length left) v.items in
-    take_at (left ++ drop (length left) v.items) _ v.len (omega (arith, v.ok.0))
+use Rattle.capnp_wire.specs.Facts.Lent.{front_items}
 
 tree-numbers : (width : ℕ) (bytes : Vec ℕ Global) → object_tree (object.List (list.Numbers width bytes)) ≡ tree.Numbers width bytes.items
 tree-numbers width bytes = search (rules, the_lemmas)

@@ -1,41 +1,15 @@
 -- Parts of a run of bytes, and its words.
-use Rattle.std.proofs.Common.{◌≡◌, ℕ, zero, suc, ◌+◌, ◌*◌, ◌<◌, ◌≤◌, ◌^◌, List, [], ◌∷◌, length, get_or, take, drop, arith, Fits, w8}
+use Rattle.std.proofs.Common.{◌≡◌, ℕ, zero, suc, ◌+◌, ◌*◌, ◌<◌, ◌≤◌, ◌^◌, List, [], ◌∷◌, length, take, drop, arith}
 use Rattle.std.proofs.Math.Nat.{pow-suc, one-le-pow}
-use Rattle.std.proofs.lemmas.List.{get_or-drop, length-drop, length-take, length-take-le}
+use Rattle.std.proofs.lemmas.List.{length-drop, length-take-le}
 use Rattle.capnp_wire.specs.Slot.{little_endian, word_at}
 use Rattle.capnp_wire.specs.Place.{bytes_at}
 use Rattle.capnp_wire.specs.WellFormed.{AreBytes}
-
--- what the type of a slice of bytes says
-pub AreBytes-fits : (bytes : List ℕ) → ((i : ℕ) → Fits w8 (get_or bytes i 0)) → AreBytes bytes
-AreBytes-fits bytes h i = omega (arith, h i)
-
--- no bytes at all
-pub AreBytes-none : AreBytes []
-AreBytes-none i = omega arith
-
--- the first bytes of a run
-pub AreBytes-take : (n : ℕ) (bytes : List ℕ) → AreBytes bytes → AreBytes (take n bytes)
-AreBytes-take zero bytes h i = omega arith
-AreBytes-take (suc n) [] h i = omega arith
-AreBytes-take (suc n) (b ∷ bs) h zero = h 0
-AreBytes-take (suc n) (b ∷ bs) h (suc i) = AreBytes-take n bs (λ k. h (suc k)) i
-
--- the bytes of a run after its first ones
-pub AreBytes-drop : (n : ℕ) (bytes : List ℕ) → AreBytes bytes → AreBytes (drop n bytes)
-AreBytes-drop n bytes h i = rw (get_or-drop n bytes i 0) (h (n + i))
-
--- a part of a run
-pub AreBytes-part : (n i : ℕ) (bytes : List ℕ) → AreBytes bytes → AreBytes (take n (drop i bytes))
-AreBytes-part n i bytes h = AreBytes-take n (drop i bytes) (AreBytes-drop i bytes h)
+pub use Rattle.capnp_wire.specs.Facts.Bytes.{AreBytes-drop, AreBytes-fits, AreBytes-none, AreBytes-part, AreBytes-take, length-part-le}
 
 -- so many bytes from a word on
 pub AreBytes-bytes_at : (segment : List ℕ) (start count : ℕ) → AreBytes segment → AreBytes (bytes_at segment start count)
 AreBytes-bytes_at segment start count h = AreBytes-part count (8 * start) segment h
-
--- a part is no longer than what was asked
-pub length-part-le : (n i : ℕ) (bytes : List ℕ) → length (take n (drop i bytes)) ≤ n
-length-part-le n i bytes = omega (arith, length-take n (drop i bytes))
 
 -- what lies in the segment is there in full
 pub length-bytes_at : (segment : List ℕ) (start count : ℕ) → 8 * start + count ≤ length segment → length (bytes_at segment start count) ≡ count

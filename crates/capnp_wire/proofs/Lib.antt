@@ -15,6 +15,7 @@ pub mod ObjectTrees
 pub mod Written
 pub mod Extended
 pub mod StructLists
+pub mod ReadLists
 pub mod Rows
 pub mod RowsWords
 pub mod RowsFar
@@ -41,6 +42,7 @@ pub mod Copies
 pub mod RowsEdits
 pub mod RowsElements
 pub mod NewTrees
+pub mod FilledDefaults
 pub mod FirstFaults
 pub mod Fitting
 pub mod Measuring

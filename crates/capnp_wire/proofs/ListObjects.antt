@@ -1,27 +1,21 @@
 -- The objects that a list holds, and what is lent of them.
-use Rattle.std.proofs.Common.{◌≡◌, ℕ, ◌<◌, length, get_or, refl, sym, ap, ◌∙◌, subst, arith, Vec, Global}
+use mathlib.Core.Bool.{true≢false}
+use Rattle.std.proofs.Common.{◌≡◌, ℕ, ◌<◌, length, get_or, refl, sym, ap, ◌∙◌, subst, arith, Vec, Global, true, false}
 use Rattle.std.proofs.lemmas.Option.{slice_get_read}
 use Rattle.std.specs.Vec.{with_item}
 use Rattle.capnp_wire.specs.Tree as tree
 use Rattle.capnp_wire.specs.Tree.{Tree, StructTree, nth_struct, nth_tree, struct_count, tree_count}
-use Rattle.capnp_wire.specs.Objects.{list_layer, object_layer, struct_layer, list_object_tree, object_tree, object_trees, struct_object_tree, struct_object_trees}
-use Rattle.capnp_wire.specs.Reading.{cut_pointer, element_pointer, element_struct}
-use Rattle.capnp_wire.specs.Elements.{HasPointer, HasStruct}
+use Rattle.capnp_wire.specs.Objects.{list_object_tree, object_tree, object_trees, struct_object_tree, struct_object_trees}
+use Rattle.capnp_wire.specs.Reading.{cut_pointer, element_pointer, element_struct, is_null_tree}
+use Rattle.capnp_wire.specs.Elements.{HasPointer, HasStruct, built_list, built_list_at}
 use Rattle.capnp_wire.specs.Lends.{Layer, HasObjects, HasStructs, with_objects_at, with_structs_at, with_element, with_element_at, with_first_pointer, with_object, with_object_at, with_pointer}
 use Rattle.capnp_wire.specs.declared.object.Object.{Object}
 use Rattle.capnp_wire.specs.declared.object.ListObject.{ListObject, out-ListObject}
 use Rattle.capnp_wire.specs.declared.object.ListObject.TheOpen as layer
-use Rattle.capnp_wire.specs.declared.object.ListObject.TheFolds.{fold_out-ListObject, map-ListObject}
 use Rattle.capnp_wire.specs.declared.object.StructObject.{StructObject}
 use Rattle.capnp_wire.specs.declared.size.StructSize.{StructSize}
 use Rattle.capnp_wire.proofs.Lists.{nth_struct-of, nth_tree-of, struct_count-of, tree_count-of}
-
--- the tree of a list, by its layer
-abbrev pub layer_tree : Layer → Tree
-layer_tree y = list_layer (map-ListObject ListObject Object StructObject Tree Tree StructTree list_object_tree object_tree struct_object_tree y)
-
-pub tree-layer : (l : ListObject) → list_object_tree l ≡ layer_tree (out-ListObject l)
-tree-layer = fold_out-ListObject Tree Tree StructTree list_layer object_layer struct_layer
+pub use Rattle.capnp_wire.specs.Facts.Objects.{layer_tree, tree-layer}
 
 -- ---- structs ----
 
@@ -113,3 +107,18 @@ first_lent l ss i s o e h is =
     let found = structs_layer (out-ListObject l) ss e in
     ap (λ y. with_structs_at l y (with_item ss i (with_pointer s 0 o))) found.1
     ∙ sym (ap (λ y. with_object_at l y i o) found.1 ∙ ap (with_first_pointer found.0 ss i o) (slice_get_read ss.items (length ss.items) i s refl h is))
+
+-- ---- a list that is there reads as it stands ----
+
+read_layer : (l : ListObject) (y : Layer) → list_object_tree l ≡ layer_tree y → is_null_tree (list_object_tree l) ≡ false → built_list_at l y ≡ list_object_tree l
+read_layer l (layer.Missing bytes size) e h =
+    let null : is_null_tree (list_object_tree l) ≡ true = ap is_null_tree e in
+    absurd (true≢false (sym null ∙ h))
+read_layer l (layer.Voids alloc count) e h = refl
+read_layer l (layer.Bits row) e h = refl
+read_layer l (layer.Numbers width bytes) e h = refl
+read_layer l (layer.Pointers ps) e h = refl
+read_layer l (layer.Composite size es) e h = refl
+
+pub reads_as_it_stands : (l : ListObject) → is_null_tree (list_object_tree l) ≡ false → built_list l ≡ list_object_tree l
+reads_as_it_stands l h = read_layer l (out-ListObject l) (tree-layer l) h

@@ -4,6 +4,7 @@ use Rattle.capnp_wire.specs.Tree.{Tree, Null, StructTree, empty_struct, nth_tree
 use Rattle.capnp_wire.specs.Slot.{bit_at}
 use Rattle.capnp_wire.specs.Place.{bits_from}
 use Rattle.capnp_wire.specs.Objects.{trees_of, structs_of}
+pub use Rattle.capnp_wire.specs.Facts.Rows.{nth_struct-from, nth_struct-start}
 
 pub nth_tree-from : (f : ℕ → Tree) (a n i : ℕ) → i < n → nth_tree (trees_from f a n) i ≡ f (a + i)
 nth_tree-from f a zero i h = absurd (omega arith)
@@ -49,18 +50,10 @@ only_tree-of f [] (suc i) = refl
 only_tree-of f (x ∷ xs) zero = refl
 only_tree-of f (x ∷ xs) (suc i) = only_tree-of f xs i
 
-pub nth_struct-from : (f : ℕ → StructTree) (a n i : ℕ) → i < n → nth_struct (structs_from f a n) i ≡ f (a + i)
-nth_struct-from f a zero i h = absurd (omega arith)
-nth_struct-from f a (suc n) zero h = ap f (omega arith)
-nth_struct-from f a (suc n) (suc i) h = nth_struct-from f (suc a) n i (omega arith) ∙ ap f (omega arith)
-
 pub nth_struct-past : (f : ℕ → StructTree) (a n i : ℕ) → n ≤ i → nth_struct (structs_from f a n) i ≡ empty_struct
 nth_struct-past f a zero i h = refl
 nth_struct-past f a (suc n) zero h = absurd (omega arith)
 nth_struct-past f a (suc n) (suc i) h = nth_struct-past f (suc a) n i (omega arith)
-
-pub nth_struct-start : (f : ℕ → StructTree) (n i : ℕ) → i < n → nth_struct (structs_from f 0 n) i ≡ f i
-nth_struct-start f n i h = nth_struct-from f 0 n i h ∙ ap f (omega arith)
 
 pub nth_struct-of : {A : Type 0} (f : A → StructTree) (xs : List A) (i : ℕ) (d : A) → i < length xs → nth_struct (structs_of (map f xs)) i ≡ f (get_or xs i d)
 nth_struct-of f [] i d h = absurd (omega arith)

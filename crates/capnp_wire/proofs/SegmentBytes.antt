@@ -1,14 +1,10 @@
 -- The segments of a message are of bytes, as the stream is that they are cut from.
-use Rattle.std.proofs.Common.{ℕ, zero, suc, ◌*◌, List, [], ◌∷◌, take, drop}
+use Rattle.std.proofs.Common.{ℕ, zero, suc, ◌*◌, List, take, drop}
 use Rattle.capnp_wire.specs.Slot.{little_endian}
 use Rattle.capnp_wire.specs.Stream.{cut}
 use Rattle.capnp_wire.specs.WellFormed.{AreBytes, AreSegments}
 use Rattle.capnp_wire.proofs.ByteRuns.{AreBytes-none, AreBytes-take, AreBytes-drop}
-
--- a message of one segment
-pub AreSegments-one : (bytes : List ℕ) → AreBytes bytes → AreSegments (bytes ∷ [])
-AreSegments-one bytes h zero = h
-AreSegments-one bytes h (suc i) = AreBytes-none
+pub use Rattle.capnp_wire.specs.Facts.Bytes.{AreSegments-one}
 
 -- segments that a table cuts from a body
 pub AreSegments-cut : (count : ℕ) (table body : List ℕ) → AreBytes body → AreSegments (cut count table body)

@@ -1,10 +1,11 @@
 -- The number that bytes spell.
-use Rattle.std.proofs.Common.{◌≡◌, ℕ, zero, suc, ◌+◌, ◌*◌, ◌<◌, ◌≤◌, ◌^◌, List, [], ◌∷◌, length, get_or, take, drop, refl, sym, ap, ◌∙◌, arith, Fits, w8, w16, w32, w64}
+use Rattle.std.proofs.Common.{◌≡◌, ℕ, zero, suc, ◌+◌, ◌*◌, ◌<◌, ◌≤◌, ◌^◌, List, [], ◌∷◌, length, get_or, take, drop, sym, ap, ◌∙◌, arith, Fits, w8, w16, w32, w64}
 use Rattle.std.specs.Int.{from_le_bytes}
 use Rattle.std.proofs.Math.Seq.{drop-cons}
 use Rattle.std.proofs.Math.Nat.{pow-le-pow_right, pow-suc, one-le-pow}
 use Rattle.std.proofs.lemmas.List.{get_or-drop, length-drop}
 use Rattle.capnp_wire.specs.Slot.{little_endian}
+pub use Rattle.capnp_wire.specs.Facts.Bytes.{spelled_first}
 
 -- bytes spell a number below 256 to the power of their count
 pub spelled_bound : (bs : List ℕ) → ((k : ℕ) → Fits w8 (get_or bs k 0)) → little_endian bs < 256 ^ length bs
@@ -48,18 +49,6 @@ spelled_part_below (b ∷ bs) (suc n) h =
 -- n bytes from index i on spell a number below 256 ^ n
 pub spelled_at_below : (bs : List ℕ) (i n : ℕ) → ((k : ℕ) → Fits w8 (get_or bs k 0)) → little_endian (take n (drop i bs)) < 256 ^ n
 spelled_at_below bs i n h = spelled_part_below (drop i bs) n (λ k. rw (get_or-drop i bs k 0) (h (i + k)))
-
--- no bytes spell 0
-spelled_none : (n : ℕ) → little_endian (take n []) ≡ 0
-spelled_none zero = refl
-spelled_none (suc n) = refl
-
--- n + 1 bytes are the first of them and the n after it
-pub spelled_first : (bs : List ℕ) (i n : ℕ) → little_endian (take (suc n) (drop i bs)) ≡ get_or bs i 0 + 256 * little_endian (take n (drop (suc i) bs))
-spelled_first [] zero n = omega (arith, spelled_none n)
-spelled_first [] (suc i) n = omega (arith, spelled_none n)
-spelled_first (b ∷ bs) zero n = refl
-spelled_first (b ∷ bs) (suc i) n = spelled_first bs i n
 
 -- the same with the next index as a variable
 pub spelled_next : (bs : List ℕ) (i j n : ℕ) → j ≡ suc i → little_endian (take (suc n) (drop i bs)) ≡ get_or bs i 0 + 256 * little_endian (take n (drop j bs))

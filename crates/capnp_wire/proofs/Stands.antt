@@ -1,12 +1,12 @@
 -- Bytes that stand at a word of a segment.
-use Rattle.std.proofs.Common.{◌≡◌, ℕ, zero, suc, ◌+◌, ◌*◌, ◌/◌, ◌%◌, ◌<◌, ◌≤◌, ◌^◌, List, ◌++◌, length, take, drop, refl, sym, ap, ◌∙◌, arith, subst, true}
+use Rattle.std.proofs.Common.{◌≡◌, ℕ, ◌+◌, ◌*◌, ◌/◌, ◌<◌, ◌≤◌, ◌^◌, List, ◌++◌, length, take, drop, refl, sym, ap, ◌∙◌, arith, subst, true}
 use Rattle.std.proofs.lemmas.List.{append_assoc, drop-drop, take_at, drop_at, length-append}
 use Rattle.std.proofs.lemmas.Bool.Decides.{nat_tests}
-use Rattle.std.proofs.Math.Nat.{pow-suc}
 use Rattle.capnp_wire.specs.Slot.{little_endian, word_at}
 use Rattle.capnp_wire.specs.Locate.{lies}
 use Rattle.capnp_wire.specs.Place.{bytes_at}
 use Rattle.capnp_wire.specs.Encoding.{spelled}
+pub use Rattle.capnp_wire.specs.Facts.Bytes.{length_spelled, little_endian_spelled}
 
 -- these bytes stand at that word, and others follow them
 pub record Stands (segment : List ℕ) (w : ℕ) (xs : List ℕ) : Type 0 where
@@ -51,19 +51,6 @@ module _ (segment : List ℕ) where
   -- the same word, told otherwise
   pub stands_at : (xs : List ℕ) (v w : ℕ) → v ≡ w → Stands segment v xs → Stands segment w xs
   stands_at xs v w e s = subst (λ x. Stands segment x xs) e s
-
--- a number is spelled in as many bytes as were asked for
-pub length_spelled : (k n : ℕ) → length (spelled k n) ≡ k
-length_spelled zero n = refl
-length_spelled (suc k) n = ap suc (length_spelled k (n / 256))
-
--- and these bytes are that number
-pub little_endian_spelled : (k n : ℕ) → n < 256 ^ k → little_endian (spelled k n) ≡ n
-little_endian_spelled zero n h = omega arith
-little_endian_spelled (suc k) n h =
-    let p : 256 ^ suc k ≡ 256 * 256 ^ k = grind (arith, pow-suc) in
-    let q : n / 256 < 256 ^ k = omega arith in
-    ap (λ m. n % 256 + 256 * m) (little_endian_spelled k (n / 256) q) ∙ omega arith
 
 -- a word that is spelled there
 pub stands_word : (segment : List ℕ) (w n : ℕ) → n < 2 ^ 64 → Stands segment w (spelled 8 n) → word_at segment w ≡ n

@@ -1,44 +1,20 @@
 -- Pointers, elements and bits in a row, and the struct and lists that stand at a word.
 use Rattle.std.proofs.Common.{◌≡◌, ℕ, zero, suc, ◌+◌, ◌*◌, ◌/◌, ◌<◌, ◌≤◌, ◌^◌, List, length, refl, ap, arith}
 use Rattle.std.proofs.lemmas.Nat.{row_fits}
-use Rattle.capnp_wire.specs.Tree.{Tree, StructTree, tree_count, struct_count, trees_from, structs_from}
+use Rattle.capnp_wire.specs.Tree.{Tree, StructTree, struct_count, structs_from}
 use Rattle.capnp_wire.specs.Place.{bytes_at, bits_from, struct_at, struct_tree, composite_tree, list_tree}
 use Rattle.capnp_wire.specs.Locate.{list_words}
-use Rattle.capnp_wire.specs.WellFormed.{AreBytes, IsWellFormed, AreWellFormed, AreElements, IsWellFormedStruct}
+use Rattle.capnp_wire.specs.WellFormed.{AreBytes, IsWellFormed, IsWellFormedStruct}
 use Rattle.capnp_wire.proofs.ByteRuns.{AreBytes-bytes_at, length-bytes_at, length-part-le}
+pub use Rattle.capnp_wire.specs.Measured.{IsElement}
+pub use Rattle.capnp_wire.specs.Facts.Rows.{AreElements-structs_from, AreWellFormed-trees_from, struct_count-structs_from, tree_count-trees_from}
 
 -- ---- rows ----
-
--- a row has as many trees as were asked for
-pub tree_count-trees_from : (f : ℕ → Tree) (first count : ℕ) → tree_count (trees_from f first count) ≡ count
-tree_count-trees_from f first zero = refl
-tree_count-trees_from f first (suc count) = ap suc (tree_count-trees_from f (suc first) count)
-
--- the same of structs
-pub struct_count-structs_from : (f : ℕ → StructTree) (first count : ℕ) → struct_count (structs_from f first count) ≡ count
-struct_count-structs_from f first zero = refl
-struct_count-structs_from f first (suc count) = ap suc (struct_count-structs_from f (suc first) count)
 
 -- and of bits
 pub length-bits_from : (bytes : List ℕ) (first count : ℕ) → length (bits_from bytes first count) ≡ count
 length-bits_from bytes first zero = refl
 length-bits_from bytes first (suc count) = ap suc (length-bits_from bytes (suc first) count)
-
--- a row of well-formed trees
-pub AreWellFormed-trees_from : (f : ℕ → Tree) (first count : ℕ) → ((w : ℕ) → IsWellFormed (f w)) → AreWellFormed (trees_from f first count)
-AreWellFormed-trees_from f first zero h = tt
-AreWellFormed-trees_from f first (suc count) h = (h first, AreWellFormed-trees_from f (suc first) count h)
-
--- a struct of a composite list whose structs have these sizes
-abbrev pub IsElement : ℕ → ℕ → StructTree → Type 0
-IsElement d p s = AreBytes s.bytes × (length s.bytes ≡ 8 * d) × (tree_count s.pointers ≡ p) × AreWellFormed s.pointers
-
--- a row of structs of one size
-pub AreElements-structs_from : (f : ℕ → StructTree) (d p first count : ℕ) → ((i : ℕ) → i < first + count → IsElement d p (f i)) → AreElements d p (structs_from f first count)
-AreElements-structs_from f d p first zero h = tt
-AreElements-structs_from f d p first (suc count) h =
-    let here : IsElement d p (f first) = h first (omega arith) in
-    (here.0, here.1, here.2, here.3, AreElements-structs_from f d p (suc first) count (λ i b. h i (omega (arith, b))))
 
 -- ---- what stands at a word ----
 

@@ -1,9 +1,9 @@
 -- Elements of a list that is built: where they are, and the list with another one.
-use Rattle.std.specs.Prelude.{ℕ, zero, suc, ◌+◌, ◌*◌, ◌<◌, ◌≤◌, Bool, true, false, Result, Ok, Err, length, slice_set}
+use Rattle.std.specs.Prelude.{ℕ, zero, suc, ◌+◌, ◌*◌, ◌<◌, ◌≤◌, Bool, true, false, cond, Result, Ok, Err, length, slice_set}
 use Rattle.std.specs.Borrow.{MutBor}
 use Rattle.capnp_wire.specs.Tree.{Tree, Null, Struct, Voids, Bits, Numbers, Pointers, Composite, FaultLeaf, Structs, NoStructs, MoreStructs, StructTree, nth_struct, tree_count, struct_count}
 use Rattle.capnp_wire.specs.Objects.{list_object_tree}
-use Rattle.capnp_wire.specs.Reading.{empty_list, reads_bits, reads_numbers, reads_pointers, reads_structs, reads_voids}
+use Rattle.capnp_wire.specs.Reading.{empty_list, is_null_tree, reads_bits, reads_numbers, reads_pointers, reads_structs, reads_voids}
 use Rattle.capnp_wire.specs.declared.object.Object.{Object}
 use Rattle.capnp_wire.specs.declared.object.StructObject.{StructObject}
 use Rattle.capnp_wire.specs.declared.object.ListObject.{ListObject, out-ListObject}
@@ -27,6 +27,10 @@ built_list_at l (layer.Composite size es) = list_object_tree l
 -- at a null, the empty list of the size that was asked
 abbrev pub built_list : ListObject → Tree
 built_list l = built_list_at l (out-ListObject l)
+
+-- a null as the list of nothing that it is read as, by the size of elements that is asked
+abbrev pub or_empty : ElementSize → Tree → Tree
+or_empty size t = cond (is_null_tree t) (empty_list size) t
 
 -- what a call answered, by what the list reads as
 abbrev pub built_read : Result (MutBor ListObject) Error → Result Tree ErrorKind

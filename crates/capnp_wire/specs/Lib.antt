@@ -25,3 +25,12 @@ pub mod Lends
 pub mod Measured
 pub mod Blobs
 pub mod Unchanged
+pub mod Defaults
+pub mod ObjectLaws
+pub mod Facts
+pub mod Sizes
+pub mod Kept
+pub mod KeptLists
+pub mod Room
+pub mod KeptDefaults
+pub mod Runs

@@ -4,14 +4,15 @@
 //! or `text_mut`, which can't fail, lend its bytes. The contracts of the two say what the pointer ends as, whatever is
 //! left in the bytes. `get_data`, `get_text`, `init_data` and `init_text` take both steps at once; their contracts say
 //! what is lent or refused.
-ghost use Rattle.std.specs.Prelude.{false, IfErr, IfOk, IsOk, IsTrue, Ok, Err, OnOk, ◌≡◌, ◌≤◌, ◌+◌, ◌<◌, ◌^◌, ◌++◌, ◌∷◌, [], length, take, replicate};
+ghost use Rattle.std.specs.Prelude.{false, IfErr, IfOk, IsOk, Ok, Err, OnOk, ◌≡◌, ◌≤◌, ◌+◌, ◌<◌, ◌^◌, ◌++◌, ◌∷◌, [], length, take, replicate};
 ghost use Rattle.std.specs.Borrow.{sem};
 ghost use Rattle.capnp_wire.specs.declared.object.ListObject.{out-ListObject};
 ghost use Rattle.capnp_wire.specs.Tree.{Numbers};
 ghost use Rattle.capnp_wire.specs.Objects.{list_object_tree, object_tree};
 ghost use Rattle.capnp_wire.specs.Reading.{as_data, as_text};
 ghost use Rattle.capnp_wire.specs.Edits.{IsRoomRefusal, is_struct};
-ghost use Rattle.capnp_wire.specs.Lends.{LendsList, holds_list};
+ghost use Rattle.capnp_wire.specs.Elements.{built_list, or_empty};
+ghost use Rattle.capnp_wire.specs.Lends.{LendsList, LendsOwnList};
 ghost use Rattle.capnp_wire.specs.Blobs.{IsKept, KeepsBytes, LendsBlob, LendsVector, bytes_kept, bytes_lent};
 
 use crate::elements::{data_of, text_of};
@@ -106,19 +107,17 @@ impl ListObject {
 }
 
 impl Object {
-    /// Puts the list that a null is read as in its place; nothing else changes.
-    fn hold_list(&mut self)
-        ensures tree { object_tree self.new ≡ object_tree self.old }
-        ensures list { is_struct (object_tree self.old) ≡ false → IsTrue (holds_list self.new) }
+    /// The list that stands here; of a null one of no bytes, and the pointer stays null.
+    fn bytes_here(&mut self) -> ListBuilder<'_>
+        requires { is_struct (object_tree self.old) ≡ false }
+        ensures* lends { sem 𝓛 (LendsOwnList self.entry result) }
+        ensures now { list_object_tree result.now ≡ object_tree self.old }
+        ensures reads { built_list result.now ≡ or_empty ElementSize.Byte (object_tree self.old) }
     {
-        match self {
-            Object::Null(alloc) => {
-                let bytes = Vec::new(*alloc);
-                *self = Object::List(ListObject::Missing(bytes, ElementSize::Byte));
-            }
-            Object::Struct(_) => {}
-            Object::List(_) => {}
+        if self.is_null() {
+            return self.list_of_nothing(ElementSize::Byte);
         }
+        self.held_list()
     }
 
     /// Refuses what is not read as data, as `get_data` does.
@@ -130,19 +129,20 @@ impl Object {
         Ok(())
     }
 
-    /// The list whose bytes are the data that stands here; for a null one of nothing, and the pointer stays null.
+    /// The list whose bytes are the data that stands here; for a null one of no bytes, whatever it was got as before, and the
+    /// pointer stays null.
     ///
     /// Refused with `WrongPointerKind` for a struct, and with `WrongElementSize` for another list; then nothing has
     /// changed.
     pub fn get_data_list(&mut self) -> Result<ListBuilder<'_>>
         ensures* lends { sem 𝓛 (LendsList self.entry result) }
         ensures now { IfOk result (λ l. list_object_tree l.now ≡ object_tree self.old) }
+        ensures reads { IfOk result (λ l. built_list l.now ≡ or_empty ElementSize.Byte (object_tree self.old)) }
         ensures ok { OnOk result (IsOk (as_data (object_tree self.old))) }
         ensures refused { IfErr result (λ e. as_data (object_tree self.old) ≡ Err e.kind) }
     {
         self.test_data()?;
-        self.hold_list();
-        Ok(self.list_here())
+        Ok(self.bytes_here())
     }
 
     /// Refuses what is not read as a text, as `get_text` does.
@@ -154,20 +154,20 @@ impl Object {
         Ok(())
     }
 
-    /// The list whose bytes, but for the last, are the text that stands here; for a null one of nothing, and the
-    /// pointer stays null.
+    /// The list whose bytes, but for the last, are the text that stands here; for a null one of no bytes, whatever it was
+    /// got as before, and the pointer stays null.
     ///
     /// Refused as `get_data_list`, and with `TextNotTerminated` where the list is empty or its last byte is not zero;
     /// then nothing has changed.
     pub fn get_text_list(&mut self) -> Result<ListBuilder<'_>>
         ensures* lends { sem 𝓛 (LendsList self.entry result) }
         ensures now { IfOk result (λ l. list_object_tree l.now ≡ object_tree self.old) }
+        ensures reads { IfOk result (λ l. built_list l.now ≡ or_empty ElementSize.Byte (object_tree self.old)) }
         ensures ok { OnOk result (IsOk (as_text (object_tree self.old))) }
         ensures refused { IfErr result (λ e. as_text (object_tree self.old) ≡ Err e.kind) }
     {
         self.test_text()?;
-        self.hold_list();
-        Ok(self.list_here())
+        Ok(self.bytes_here())
     }
 
     /// Replaces what stands here by a text of so many zero bytes, and gives its list, which has one more: the zero that

@@ -1,12 +1,20 @@
 //! Laws of the format that every reader stands on.
 ghost use Rattle.capnp_wire.specs.Blobs.{DataAreLeft, NullIsLeft, TextIsLeft};
 ghost use Rattle.capnp_wire.specs.Laws.{CopiedStructsAreWellFormed, IsReadBack, MoreBytesChangeNothing, PointerElementsAreWritten, PointersAreWritten, StructElementsAreWritten, TreesAreWellFormed};
+ghost use Rattle.capnp_wire.specs.ObjectLaws.{ListsHoldNoFault, ListsReadAsTheyStand, ListsStandAsTheyAre, ObjectsHoldNoFault, SoundListsAreTaken, SoundStructListsAreTaken, SoundStructsAreTaken, StructsHoldNoFault, StructsStandAsTheyAre};
 ghost use Rattle.capnp_wire.specs.Standing.{list_of, struct_of, tree_of};
 ghost use Rattle.capnp_wire.specs.WellFormed.{IsWellFormed, IsWellFormedStruct};
 
 use crate::list_reader::ListReader;
 use crate::pointer_reader::PointerReader;
 use crate::struct_reader::StructReader;
+
+pub mod kept;
+pub mod kept_defaults;
+pub mod kept_lists;
+pub mod room;
+pub mod runs;
+pub mod sizes;
 
 /// In a message of any bytes, what stands at any word is well-formed, with any number of levels
 /// left: data is whole words and lies in its segment in full, counts and sizes are within their
@@ -72,4 +80,26 @@ pub fn bytes_are_left()
     ensures bytes { DataAreLeft }
     ensures text { TextIsLeft }
     ensures null { NullIsLeft }
+{}
+
+/// An object of a struct or a list is the tree of that struct or list, and a list reads as it stands, but for the list of
+/// nothing that a null is read as.
+pub fn objects_are_what_they_hold()
+    ensures structs { StructsStandAsTheyAre }
+    ensures lists { ListsStandAsTheyAre }
+    ensures reads { ListsReadAsTheyStand }
+{}
+
+/// Each pointer in a message in memory can be followed.
+pub fn objects_hold_no_fault()
+    ensures objects { ObjectsHoldNoFault }
+    ensures lists { ListsHoldNoFault }
+    ensures structs { StructsHoldNoFault }
+{}
+
+/// Where nothing in a default is to be refused, a null that is filled from it is refused as one without a default.
+pub fn sound_defaults_are_taken()
+    ensures structs { SoundStructsAreTaken }
+    ensures lists { SoundListsAreTaken }
+    ensures struct_lists { SoundStructListsAreTaken }
 {}

@@ -8,6 +8,7 @@ mod bits;
 mod blob_builder;
 mod bytes;
 mod copy;
+mod defaults;
 mod elements;
 mod encode;
 pub mod fault;

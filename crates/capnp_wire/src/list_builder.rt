@@ -65,10 +65,16 @@ impl ListObject {
 
     /// Whether there is no element.
     pub fn is_empty(&self) -> bool
-        requires { IsWellFormed (list_object_tree self.now) }
         ensures { result ≡ (list_length (list_object_tree self.now) == 0) }
     {
-        self.len() == 0
+        match self {
+            ListObject::Missing(_, _) => true,
+            ListObject::Voids(_, count) => *count == 0,
+            ListObject::Bits(row) => row.count == 0,
+            ListObject::Numbers(width, bytes) => *width == 0 || bytes.len() / *width as usize == 0,
+            ListObject::Pointers(objects) => objects.is_empty(),
+            ListObject::Composite(_, structs) => structs.is_empty(),
+        }
     }
 
     /// The bit at `index`; false where the elements are no bits.

@@ -1,14 +1,14 @@
 //! Builders of pointers.
-ghost use Rattle.std.specs.Prelude.{None, Ok, Err, false, ◌⊎◌, ◌*◌, ◌≡◌, ◌≢◌, ◌+◌, IsTrue, ◌∷◌, ◌++◌, [], ◌<◌, ◌≤◌, ◌^◌, IfErr, IfOk, IsOk, OnErr, OnOk, length};
+ghost use Rattle.std.specs.Prelude.{None, Ok, Err, false, true, ◌⊎◌, ◌*◌, ◌≡◌, ◌≢◌, ◌+◌, IsTrue, ◌∷◌, ◌++◌, [], ◌<◌, ◌≤◌, ◌^◌, IfErr, IfOk, IsOk, OnErr, OnOk, length};
 ghost use Rattle.std.specs.Borrow.{sem};
 ghost use Rattle.capnp_wire.specs.Tree.{Null, Numbers};
 ghost use Rattle.capnp_wire.specs.Objects.{list_object_tree, object_tree, struct_object_tree};
 ghost use Rattle.capnp_wire.specs.Place.{struct_tree};
-ghost use Rattle.capnp_wire.specs.Reading.{as_list, is_null_tree};
-ghost use Rattle.capnp_wire.specs.Edits.{HoldsStruct, IsCopyRefusal, IsRoomRefusal, rounded, extended, is_struct, struct_in, IsStructRefusal, zero_list, zero_struct, zero_structs};
+ghost use Rattle.capnp_wire.specs.Reading.{as_list, empty_list, is_list, is_null_tree};
+ghost use Rattle.capnp_wire.specs.Edits.{HoldsStruct, IsCopyRefusal, IsRoomRefusal, rounded, extended, is_struct, struct_in, struct_refusal, IsStructRefusal, zero_list, zero_struct, zero_structs};
 ghost use Rattle.capnp_wire.specs.Words.{first_fault, first_fault_of_all};
 ghost use Rattle.capnp_wire.specs.Standing.{list_of, struct_of, tree_of};
-ghost use Rattle.capnp_wire.specs.Elements.{built_read};
+ghost use Rattle.capnp_wire.specs.Elements.{built_list, built_read};
 ghost use Rattle.capnp_wire.specs.Lends.{holds_list, LendsList, LendsOwnList, LendsOwnStruct, LendsStruct};
 ghost use Rattle.capnp_device.specs.declared.error.ErrorKind.TheVariants.{OutOfMemory, SizePastFormat};
 
@@ -35,8 +35,8 @@ pub type ListBuilder<'a> = &'a mut ListObject;
 pub const MOST_ELEMENTS: u32 = (1 << 29) - 1;
 
 impl Object {
-    /// The allocator of the message.
-    pub(crate) fn allocator(&self) -> Global {
+    /// The allocator of the message, also at a null.
+    pub fn allocator(&self) -> Global {
         match self {
             Object::Null(alloc) => *alloc,
             Object::Struct(object) => *object.data.allocator(),
@@ -63,6 +63,28 @@ impl Object {
         }
     }
 
+    /// Whether the pointer leads to a struct.
+    pub fn is_struct(&self) -> bool
+        ensures { result ≡ is_struct (object_tree self.now) }
+    {
+        match self {
+            Object::Null(_) => false,
+            Object::Struct(_) => true,
+            Object::List(_) => false,
+        }
+    }
+
+    /// Whether the pointer leads to a list. That a null was got as one changes nothing.
+    pub fn is_list(&self) -> bool
+        ensures { result ≡ is_list (object_tree self.now) }
+    {
+        match self {
+            Object::Null(_) => false,
+            Object::Struct(_) => false,
+            Object::List(object) => !matches!(object, ListObject::Missing(_, _)),
+        }
+    }
+
     /// Makes the pointer null.
     pub fn clear(&mut self)
         ensures { object_tree self.new ≡ Null }
@@ -71,11 +93,12 @@ impl Object {
         *self = Object::Null(alloc);
     }
 
-    /// The struct that stands here.
-    fn struct_here(&mut self) -> StructBuilder<'_>
+    /// The struct that stands here, as it is.
+    pub fn struct_here(&mut self) -> StructBuilder<'_>
         requires { IsTrue (is_struct (object_tree self.old)) }
         ensures* lends { sem 𝓛 (LendsOwnStruct self.entry result) }
-        ensures now { struct_tree (struct_object_tree result.now) ≡ object_tree self.old }
+        ensures now { struct_object_tree result.now ≡ struct_in (object_tree self.old) }
+        ensures tree { struct_tree (struct_object_tree result.now) ≡ object_tree self.old }
     {
         match self {
             Object::Null(_) => unreachable!(),
@@ -84,8 +107,18 @@ impl Object {
         }
     }
 
-    /// The list that stands here.
-    pub(crate) fn list_here(&mut self) -> ListBuilder<'_>
+    /// The list that stands here, as it is.
+    pub fn list_here(&mut self) -> ListBuilder<'_>
+        requires { IsTrue (is_list (object_tree self.old)) }
+        ensures* lends { sem 𝓛 (LendsOwnList self.entry result) }
+        ensures now { list_object_tree result.now ≡ object_tree self.old }
+        ensures reads { built_list result.now ≡ object_tree self.old }
+    {
+        self.held_list()
+    }
+
+    /// The list that is held here, be it the one of nothing that a null is read as.
+    pub(crate) fn held_list(&mut self) -> ListBuilder<'_>
         requires { IsTrue (holds_list self.old) }
         ensures* lends { sem 𝓛 (LendsOwnList self.entry result) }
         ensures is { Object.List result.now ≡ self.old }
@@ -97,9 +130,22 @@ impl Object {
         }
     }
 
+    /// The list of nothing that a null is read as, by the size of elements that is asked. The pointer stays null.
+    pub(crate) fn list_of_nothing(&mut self, size: ElementSize) -> ListBuilder<'_>
+        requires { is_null_tree (object_tree self.old) ≡ true }
+        ensures* lends { sem 𝓛 (LendsOwnList self.entry result) }
+        ensures now { list_object_tree result.now ≡ Null }
+        ensures reads { built_list result.now ≡ empty_list size }
+    {
+        let none = Vec::new(self.allocator());
+        *self = Object::List(ListObject::Missing(none, size));
+        self.held_list()
+    }
+
     /// Makes a struct of at least a size of what stands here: of a null a new one, and a smaller one is extended.
-    fn fill_struct(&mut self, size: StructSize) -> Result<()>
+    pub(crate) fn fill_struct(&mut self, size: StructSize) -> Result<()>
         ensures ok { OnOk result (object_tree self.new ≡ struct_tree (extended size (struct_in (object_tree self.old)))) }
+        ensures within { OnOk result (struct_refusal (object_tree self.old) ≡ None) }
         ensures refused { OnErr result (self.new ≡ self.old) }
         ensures cause { IfErr result (λ e. IsStructRefusal e (object_tree self.old)) }
         ensures succeeds { HoldsStruct size (object_tree self.old) → IsOk result }
@@ -124,6 +170,7 @@ impl Object {
     pub fn get_struct(&mut self, size: StructSize) -> Result<StructBuilder<'_>>
         ensures* lends { sem 𝓛 (LendsStruct self.entry result) }
         ensures now { IfOk result (λ s. struct_object_tree s.now ≡ extended size (struct_in (object_tree self.old))) }
+        ensures within { OnOk result (struct_refusal (object_tree self.old) ≡ None) }
         ensures refused { IfErr result (λ e. IsStructRefusal e (object_tree self.old)) }
         ensures succeeds { HoldsStruct size (object_tree self.old) → IsOk result }
     {
@@ -161,14 +208,13 @@ impl Object {
         requires { size ≢ ElementSize.InlineComposite }
         ensures* lends { sem 𝓛 (LendsList self.entry result) }
         ensures now { built_read result ≡ as_list size (object_tree self.old) 1 }
+        ensures stays { IfOk result (λ l. list_object_tree l.now ≡ object_tree self.old) }
     {
         if self.is_null() {
-            let none = Vec::new(self.allocator());
-            *self = Object::List(ListObject::Missing(none, size));
-            return Ok(self.list_here());
+            return Ok(self.list_of_nothing(size));
         }
         self.check_list(size)?;
-        Ok(self.list_here())
+        Ok(self.held_list())
     }
 
     /// Replaces what stands here by a struct of a size, all zero and null.
@@ -199,7 +245,7 @@ impl Object {
         }
         let made = make_list(self.allocator(), size, count)?;
         *self = Object::List(made);
-        Ok(self.list_here())
+        Ok(self.held_list())
     }
 
     /// Replaces what stands here by a list of so many structs of a size, all zero and null.
@@ -221,7 +267,7 @@ impl Object {
         }
         let made = make_structs(self.allocator(), size, count)?;
         *self = Object::List(made);
-        Ok(self.list_here())
+        Ok(self.held_list())
     }
 
     /// Replaces what stands here by a text: these bytes, and the zero that ends it.

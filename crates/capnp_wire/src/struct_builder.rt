@@ -184,6 +184,14 @@ impl StructObject {
         StructReader::new(look_at_struct_object(self), ROOT_LEVELS)
     }
 
+    /// The pointer at `index`, to look at: whether it is null, a struct or a list, and a reader of it.
+    pub fn pointer_field(&self, index: u16) -> &Object
+        requires { index < tree_count (struct_object_tree self.now).pointers }
+        ensures { object_tree result.now ≡ nth_tree (struct_object_tree self.now).pointers index }
+    {
+        &self.pointers[index as usize]
+    }
+
     /// The pointer at `index`.
     pub fn get_pointer_field(&mut self, index: u16) -> PointerBuilder<'_>
         requires { index < tree_count (struct_object_tree self.old).pointers }

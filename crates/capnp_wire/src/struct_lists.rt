@@ -1,21 +1,48 @@
 //! Lists that become lists of structs.
-ghost use Rattle.std.specs.Prelude.{None, Some, false, true, ◌≡◌, IfErr, IfOk, IsOk, IsTrue, OnErr, OnOk};
+ghost use Rattle.std.specs.Prelude.{None, false, true, ◌≡◌, IfErr, IfOk, IsOk, IsTrue, OnErr, OnOk};
 ghost use Rattle.std.specs.Borrow.{sem};
+ghost use Rattle.capnp_wire.specs.Found.{found_tree};
 ghost use Rattle.capnp_wire.specs.Tree.{structs_from};
 ghost use Rattle.capnp_wire.specs.Objects.{list_object_tree, object_tree, struct_object_trees};
 ghost use Rattle.capnp_wire.specs.Reading.{element_struct, is_list, is_null_tree};
 ghost use Rattle.capnp_wire.specs.WellFormed.{IsWellFormed};
+ghost use Rattle.capnp_wire.specs.Elements.{built_list, or_empty};
 ghost use Rattle.capnp_wire.specs.Edits.{IsCopyRefusal, extended};
-ghost use Rattle.capnp_wire.specs.StructLists.{HoldsStructs, IsDueRefusal, element_pointers, element_words, grown, has_size, is_bits, struct_list, struct_list_refusal};
+ghost use Rattle.capnp_wire.specs.StructLists.{HoldsStructs, IsDueRefusal, grown, has_size, is_bits, struct_list, struct_list_refusal};
 ghost use Rattle.capnp_wire.specs.Lends.{LendsList, holds_list};
 
 use crate::copy::copy_struct;
-use crate::look::{get_element_parts, look_at_list_object};
+use crate::look::{Found, get_element_parts, look_at_list_object};
 use crate::object::{ListObject, Object, StructObject};
 use crate::pointer_builder::ListBuilder;
 use crate::size::{ElementSize, StructSize};
 use capnp_device::error::{Error, ErrorKind, Result};
 use std::alloc::Global;
+
+/// At least a size, and what an element of a list takes as a struct.
+pub(crate) fn grow(size: StructSize, list: Found<'_>) -> StructSize
+    ensures { result ≡ grown size (found_tree list.entry) }
+{
+    let own = match list {
+        Found::Numbers(_, _) => StructSize {
+            data_words: 1,
+            pointers: 0,
+        },
+        Found::Pointers(_) => StructSize {
+            data_words: 0,
+            pointers: 1,
+        },
+        Found::Composite(own, _) => own,
+        _ => StructSize {
+            data_words: 0,
+            pointers: 0,
+        },
+    };
+    StructSize {
+        data_words: size.data_words.max(own.data_words),
+        pointers: size.pointers.max(own.pointers),
+    }
+}
 
 /// The elements of a list as structs of at least a size.
 ///
@@ -61,25 +88,7 @@ impl ListObject {
     fn grow(&self, size: StructSize) -> StructSize
         ensures { result ≡ grown size (list_object_tree self.now) }
     {
-        let own = match self {
-            ListObject::Numbers(_, _) => StructSize {
-                data_words: 1,
-                pointers: 0,
-            },
-            ListObject::Pointers(_) => StructSize {
-                data_words: 0,
-                pointers: 1,
-            },
-            ListObject::Composite(own, _) => *own,
-            _ => StructSize {
-                data_words: 0,
-                pointers: 0,
-            },
-        };
-        StructSize {
-            data_words: size.data_words.max(own.data_words),
-            pointers: size.pointers.max(own.pointers),
-        }
+        grow(size, look_at_list_object(self))
     }
 
     /// Makes the list one of structs of at least a size.
@@ -111,7 +120,7 @@ impl ListObject {
 
 impl Object {
     /// Makes what stands here, which is not null, a list of structs of at least a size.
-    fn make_struct_list(&mut self, size: StructSize) -> Result<()>
+    pub(crate) fn make_struct_list(&mut self, size: StructSize) -> Result<()>
         requires held { IsWellFormed (object_tree self.old) }
         requires there { is_null_tree (object_tree self.old) ≡ false }
         ensures ok { OnOk result (object_tree self.new ≡ struct_list size (object_tree self.old)) }
@@ -136,19 +145,18 @@ impl Object {
     /// where the structs would take 2^29 words or more, and else with `OutOfMemory`; then nothing has changed. A null, and
     /// a list of structs that have at least the size, take no memory and are never refused.
     pub fn get_struct_list(&mut self, size: StructSize) -> Result<ListBuilder<'_>>
-        requires { IsWellFormed (object_tree self.old) }
+        requires { is_null_tree (object_tree self.old) ≡ false → IsWellFormed (object_tree self.old) }
         ensures* lends { sem 𝓛 (LendsList self.entry result) }
         ensures now { IfOk result (λ l. list_object_tree l.now ≡ struct_list size (object_tree self.old)) }
+        ensures reads { IfOk result (λ l. built_list l.now ≡ or_empty ElementSize.InlineComposite (struct_list size (object_tree self.old))) }
         ensures within { OnOk result (struct_list_refusal size (object_tree self.old) ≡ None) }
         ensures refused { IfErr result (λ e. IsDueRefusal e (struct_list_refusal size (object_tree self.old))) }
         ensures succeeds { HoldsStructs size (object_tree self.old) → IsOk result }
     {
         if self.is_null() {
-            let none = Vec::new(self.allocator());
-            *self = Object::List(ListObject::Missing(none, ElementSize::InlineComposite));
-            return Ok(self.list_here());
+            return Ok(self.list_of_nothing(ElementSize::InlineComposite));
         }
         self.make_struct_list(size)?;
-        Ok(self.list_here())
+        Ok(self.held_list())
     }
 }

@@ -2,7 +2,7 @@
 ghost use Rattle.std.specs.Prelude.{true, false, ◌≡◌, ◌<◌, ◌≤◌, ◌↔◌, ℕ, IsTrue, IsFalse, length, MatchOption, MatchResult};
 ghost use Rattle.capnp_schema.specs.Schema.{fields_of, field_at, is_member};
 ghost use Rattle.capnp_schema.specs.Entries.{lists_seen};
-ghost use Rattle.capnp_schema.specs.Accepted.{FieldsApart, DiscriminantApart, Rule1, Rule3, Rule7, Rule11, Rule12};
+ghost use Rattle.capnp_schema.specs.Accepted.{FieldsApart, DiscriminantApart, Rule3, Rule11, Rule12};
 ghost use Rattle.capnp_schema.specs.Broken.{FieldBreaks, IsRefusalOf};
 ghost use Rattle.capnp_schema.specs.Spans.{AreSpansOf};
 
@@ -65,9 +65,7 @@ fn discriminant_field(lists: &Lists, brand: usize, spans: &[Vec<Span>]) -> Optio
 /// quadratic time in the fields of one struct with its groups. It is refused where memory is short, or at a field for
 /// which one of the rules is broken.
 pub(crate) fn check_footprints(alloc: Global, lists: &Lists) -> Result<()>
-    requires rule1 { Rule1 (lists_seen lists.now) }
-    requires rule3 { Rule3 (lists_seen lists.now) }
-    requires rule7 { Rule7 (lists_seen lists.now) }
+    requires { Rule3 (lists_seen lists.now) }
     ensures { MatchResult result (λ _. Rule11 (lists_seen lists.now) × Rule12 (lists_seen lists.now)) (IsRefusalOf (lists_seen lists.now)) }
 {
     for brand in 0..brand_count(lists) {

@@ -9,7 +9,7 @@ ghost use Rattle.capnp_schema.specs.Parents.{group_target, TargetsAreGroups, Has
 ghost use Rattle.capnp_schema.specs.Tests.{node_is_group};
 
 use crate::check::refusal::{WHOLE, refusal};
-use crate::layers::struct_number;
+use crate::layers::struct_brand;
 use crate::lists::Lists;
 use crate::record::FieldKind;
 use capnp_wire::error::{Result, SchemaTable};
@@ -22,7 +22,7 @@ pub(crate) fn brand_count(lists: &Lists) -> usize
     lists.brands.len()
 }
 
-/// The brand that a group field names, nothing for a slot.
+/// The brand that a group field names, nothing for a slot or where the type is no struct type.
 #[tactic(auto, using(crate::proofs::Decided::seen_which))]
 pub(crate) fn group_target(lists: &Lists, brand: usize, field: usize) -> Option<usize>
     ensures { result ≡ group_target (lists_seen lists.now) brand field }
@@ -32,7 +32,10 @@ pub(crate) fn group_target(lists: &Lists, brand: usize, field: usize) -> Option<
     };
     match typed.field.kind {
         FieldKind::Slot { .. } => None,
-        FieldKind::Group { .. } => Some(struct_number(typed.field_type.which()) as usize),
+        FieldKind::Group { .. } => match struct_brand(typed.field_type.which()) {
+            Some(group) => Some(group as usize),
+            None => None,
+        },
     }
 }
 

@@ -5,11 +5,10 @@ ghost use Rattle.capnp_schema.specs.Types.{seen_type};
 ghost use Rattle.capnp_schema.specs.Schema.{seen_node, fields_of};
 ghost use Rattle.capnp_schema.specs.Footprint.{Place, slot_names, discriminant_names, some_field, brand_names};
 ghost use Rattle.capnp_schema.specs.Entries.{lists_seen};
-ghost use Rattle.capnp_schema.specs.Parents.{TargetsAreGroups};
 ghost use Rattle.capnp_schema.specs.Spans.{span_names, some_span, field_names, entry_names, SpansMeet, AreSpansOf};
 
 use crate::check::groups::brand_count;
-use crate::layers::{is_pointer, struct_number, width};
+use crate::layers::{is_pointer, struct_brand, width};
 use crate::lists::Lists;
 use crate::record::{FieldKind, NodeRecord};
 use capnp_base::introspect::Type;
@@ -99,8 +98,6 @@ pub(crate) fn spans_meet(a: &[Span], b: &[Span]) -> bool
 /// Adds what a struct's fields and discriminant name, through at most so many groups.
 #[cycle(spans)]
 fn add_brand(lists: &Lists, brand: usize, groups: usize, out: &mut Vec<Span>) -> Result<()>
-    requires targets { TargetsAreGroups (lists_seen lists.now) }
-    requires within { brand < length (lists_seen lists.now).brands }
     ensures added { OnOk result ((p : Place) → some_span out.new.items p ≡ (some_span out.old.items p || brand_names groups (lists_seen lists.now) brand p)) }
     ensures refused { IfErr result (λ e. e.kind ≡ OutOfMemory) }
 {
@@ -117,7 +114,6 @@ fn add_brand(lists: &Lists, brand: usize, groups: usize, out: &mut Vec<Span>) ->
 /// Adds what the fields of a brand name.
 #[cycle(spans)]
 fn add_fields(lists: &Lists, brand: usize, groups: usize, out: &mut Vec<Span>) -> Result<()>
-    requires targets { TargetsAreGroups (lists_seen lists.now) }
     ensures added { OnOk result ((p : Place) → some_span out.new.items p ≡ (some_span out.old.items p || some_field (field_names groups (lists_seen lists.now)) (fields_of (lists_seen lists.now) brand) p)) }
     ensures refused { IfErr result (λ e. e.kind ≡ OutOfMemory) }
 {
@@ -127,7 +123,7 @@ fn add_fields(lists: &Lists, brand: usize, groups: usize, out: &mut Vec<Span>) -
     Ok(())
 }
 
-/// Adds what a field names; nothing for a field that isn't there.
+/// Adds what a field names; nothing for a field that isn't there, or a group field of a type that is no struct type.
 #[tactic(auto, using(crate::proofs::Decided::seen_which))]
 #[cycle(spans)]
 fn add_field(
@@ -137,7 +133,6 @@ fn add_field(
     groups: usize,
     out: &mut Vec<Span>,
 ) -> Result<()>
-    requires targets { TargetsAreGroups (lists_seen lists.now) }
     ensures added { OnOk result ((p : Place) → some_span out.new.items p ≡ (some_span out.old.items p || entry_names groups (lists_seen lists.now) (slice_get (fields_of (lists_seen lists.now) brand) field) p)) }
     ensures refused { IfErr result (λ e. e.kind ≡ OutOfMemory) }
 {
@@ -149,16 +144,15 @@ fn add_field(
             out.push(slot_span(offset, typed.field_type))?;
             Ok(())
         }
-        FieldKind::Group { .. } => {
-            let group = struct_number(typed.field_type.which());
-            add_brand(lists, group as usize, groups, out)
-        }
+        FieldKind::Group { .. } => match struct_brand(typed.field_type.which()) {
+            Some(group) => add_brand(lists, group as usize, groups, out),
+            None => Ok(()),
+        },
     }
 }
 
 /// What a field of a brand names, through its groups.
 fn field_spans(alloc: Global, lists: &Lists, brand: usize, field: usize) -> Result<Vec<Span>>
-    requires targets { TargetsAreGroups (lists_seen lists.now) }
     ensures spans { IfOk result (λ spans. (p : Place) → some_span spans.items p ≡ entry_names (length (lists_seen lists.now).brands) (lists_seen lists.now) (slice_get (fields_of (lists_seen lists.now) brand) field) p) }
     ensures refused { IfErr result (λ e. e.kind ≡ OutOfMemory) }
 {
@@ -169,7 +163,6 @@ fn field_spans(alloc: Global, lists: &Lists, brand: usize, field: usize) -> Resu
 
 /// What each field of a brand names, through its groups.
 pub(crate) fn brand_spans(alloc: Global, lists: &Lists, brand: usize) -> Result<Vec<Vec<Span>>>
-    requires targets { TargetsAreGroups (lists_seen lists.now) }
     ensures spans { IfOk result (λ spans. AreSpansOf (lists_seen lists.now) brand spans.items) }
     ensures refused { IfErr result (λ e. e.kind ≡ OutOfMemory) }
 {

@@ -8,7 +8,7 @@ ghost use Rattle.capnp_schema.specs.Plan.{plan_of};
 ghost use Rattle.capnp_schema.specs.Tables.{ArePlanTables};
 
 use crate::lists::Lists;
-use crate::plan::{Place, SlotPlan, plan_field};
+use crate::plan::{NO_PLAN, SlotPlan, plan_field};
 use capnp_wire::error::Result;
 use std::alloc::Global;
 
@@ -19,15 +19,11 @@ fn plan_at(lists: &Lists, brand: usize, field: usize) -> SlotPlan
     requires field_in { field < length (fields_of (lists_seen lists.now) brand) }
     ensures { result ≡ plan_of (lists_seen lists.now) brand (field_at (lists_seen lists.now) brand field) }
 {
-    let none = SlotPlan {
-        place: Place::Nothing,
-        member: None,
-    };
     let Some(node) = lists.node_of(brand) else {
-        return none;
+        return NO_PLAN;
     };
     let Some(typed) = lists.field_at(brand, field) else {
-        return none;
+        return NO_PLAN;
     };
     plan_field(node, typed.field, typed.field_type)
 }

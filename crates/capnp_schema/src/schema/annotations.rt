@@ -1,5 +1,9 @@
 //! Annotations: those of a struct, a field, an enum or an enumerant.
-ghost use Rattle.std.specs.Prelude.{◌≡◌, ◌<◌, ◌^◌, length};
+ghost use Rattle.std.specs.Prelude.{◌≡◌, ◌<◌, ◌^◌, All, length, map};
+ghost use Rattle.capnp_schema.specs.Accepted.{NamesEntries};
+ghost use Rattle.capnp_schema.specs.Entries.{lists_seen};
+ghost use Rattle.capnp_schema.specs.Named.{NamesEntries-prop, name_entries-prop};
+ghost use Rattle.capnp_schema.specs.Types.{seen_type};
 
 use crate::check::types::{child_at, enumerant_in};
 use crate::record::AnnotationRecord;
@@ -15,12 +19,11 @@ pub struct Annotation<'s> {
     set: &'s SchemaSet,
     stored: &'s AnnotationRecord,
     annotation_type: Type,
+    ghost named: { NamesEntries (lists_seen set.now) (seen_type annotation_type) } by { NamesEntries-prop (lists_seen set.now) (seen_type annotation_type) },
 }
 
 impl<'s> Annotation<'s> {
-    ghost use Rattle.capnp_schema.specs.Types.{seen_type};
     ghost use Rattle.capnp_schema.specs.Views.{IsViewOf};
-    ghost use Rattle.capnp_schema.specs.Entries.{lists_seen};
     ghost use Rattle.capnp_schema.specs.AnnotationLists.{annotation_in, annotation_set};
 
     /// The set that it is of.
@@ -37,9 +40,10 @@ impl<'s> Annotation<'s> {
         self.stored.id
     }
 
-    /// The type of its value.
+    /// The type of its value. The struct or enum that it names, or that its lists hold, is there in the set.
     pub fn get_type(&self) -> Type
-        ensures { seen_type result ≡ (annotation_in self.now).type }
+        ensures is { seen_type result ≡ (annotation_in self.now).type }
+        ensures named { NamesEntries (annotation_set self.now) (seen_type result) }
     {
         self.annotation_type
     }
@@ -60,18 +64,17 @@ pub struct AnnotationList<'s> {
     types: &'s [Type],
     ghost have_types: { length types.now ≡ length stored.now },
     ghost are_few: { length stored.now < 2 ^ 29 },
+    ghost are_named: { All (NamesEntries (lists_seen set.now)) (map seen_type types.now) } by { name_entries-prop (lists_seen set.now) (map seen_type types.now) },
 }
 
 impl<'s> AnnotationList<'s> {
-    ghost use Rattle.std.specs.Prelude.{[], ◌↔◌, IsTrue, Some, map, slice_get};
+    ghost use Rattle.std.specs.Prelude.{[], ◌↔◌, IfSome, IsTrue, Some, slice_get};
     ghost use Rattle.std.specs.Option.{option_map};
     ghost use Rattle.capnp_base.specs.Taking.{indices};
     ghost use Rattle.capnp_base.specs.ListIter as list_iter;
-    ghost use Rattle.capnp_schema.specs.Types.{seen_type};
     ghost use Rattle.capnp_schema.specs.Schema.{enum_at, field_at, node_of, seen_annotations};
-    ghost use Rattle.capnp_schema.specs.Entries.{lists_seen};
     ghost use Rattle.capnp_schema.specs.Annotated.{annotations_of, enum_annotations, enumerant_annotations, enumerant_at, field_annotations, first_of_id, struct_annotations, with_types};
-    ghost use Rattle.capnp_schema.specs.AnnotationLists.{annotation_in, annotations_in};
+    ghost use Rattle.capnp_schema.specs.AnnotationLists.{annotation_in, annotation_set, annotations_in, annotations_set};
 
     fn new(
         set: &'s SchemaSet,
@@ -80,13 +83,16 @@ impl<'s> AnnotationList<'s> {
     ) -> AnnotationList<'s>
         requires have_types { length types.now ≡ length stored.now }
         requires are_few { length stored.now < 2 ^ 29 }
-        ensures { annotations_in result ≡ with_types (seen_annotations stored.now) (map seen_type types.now) }
+        requires are_named { All (NamesEntries (lists_seen set.now)) (map seen_type types.now) }
+        ensures entries { annotations_in result ≡ with_types (seen_annotations stored.now) (map seen_type types.now) }
+        ensures set { annotations_set result ≡ lists_seen set.now }
     {
         AnnotationList { set, stored, types }
     }
 
     fn empty(set: &'s SchemaSet) -> AnnotationList<'s>
-        ensures { annotations_in result ≡ [] }
+        ensures entries { annotations_in result ≡ [] }
+        ensures set { annotations_set result ≡ lists_seen set.now }
     {
         AnnotationList::new(set, &[], &[])
     }
@@ -95,7 +101,8 @@ impl<'s> AnnotationList<'s> {
     /// end of the brands.
     pub(crate) fn of_struct(set: &'s SchemaSet, brand: u32) -> AnnotationList<'s>
         ensures typed { annotations_in result ≡ struct_annotations (lists_seen set.now) brand }
-        ensures whole { brand < length (lists_seen set.now).brands → annotations_of (annotations_in result) ≡ (node_of (lists_seen set.now) brand).annotations }
+        ensures whole { annotations_of (annotations_in result) ≡ (node_of (lists_seen set.now) brand).annotations }
+        ensures set { annotations_set result ≡ lists_seen set.now }
     {
         let lists = set.accepted_lists();
         let Some(record) = lists.brand_at(brand as usize) else {
@@ -112,6 +119,7 @@ impl<'s> AnnotationList<'s> {
     pub(crate) fn of_field(set: &'s SchemaSet, brand: u32, field: u16) -> AnnotationList<'s>
         ensures typed { annotations_in result ≡ field_annotations (lists_seen set.now) brand field }
         ensures whole { annotations_of (annotations_in result) ≡ (field_at (lists_seen set.now) brand field).field.annotations }
+        ensures set { annotations_set result ≡ lists_seen set.now }
     {
         let lists = set.accepted_lists();
         let Some(record) = lists.brand_at(brand as usize) else {
@@ -130,6 +138,7 @@ impl<'s> AnnotationList<'s> {
     pub(crate) fn of_enum(set: &'s SchemaSet, number: u32) -> AnnotationList<'s>
         ensures typed { annotations_in result ≡ enum_annotations (lists_seen set.now) number }
         ensures whole { annotations_of (annotations_in result) ≡ (enum_at (lists_seen set.now) number).annotations }
+        ensures set { annotations_set result ≡ lists_seen set.now }
     {
         let Some(record) = set.accepted_lists().enum_at(number as usize) else {
             return AnnotationList::empty(set);
@@ -145,6 +154,7 @@ impl<'s> AnnotationList<'s> {
     ) -> AnnotationList<'s>
         ensures typed { annotations_in result ≡ enumerant_annotations (lists_seen set.now) number enumerant }
         ensures whole { annotations_of (annotations_in result) ≡ (enumerant_at (lists_seen set.now) number enumerant).annotations }
+        ensures set { annotations_set result ≡ lists_seen set.now }
     {
         let Some(record) = set.accepted_lists().enum_at(number as usize) else {
             return AnnotationList::empty(set);
@@ -156,6 +166,13 @@ impl<'s> AnnotationList<'s> {
             return AnnotationList::empty(set);
         };
         AnnotationList::new(set, &stored.annotations, types)
+    }
+
+    /// The set that they are of.
+    pub fn get_set(&self) -> &'s SchemaSet
+        ensures { lists_seen result.now ≡ annotations_set self.now }
+    {
+        self.set
     }
 
     /// How many annotations there are.
@@ -178,7 +195,8 @@ impl<'s> AnnotationList<'s> {
     #[tactic(auto, using(crate::proofs::AnnotatedLemmas::length_in, crate::proofs::AnnotatedLemmas::entry_in))]
     pub fn get(self, index: u32) -> Annotation<'s>
         requires { index < length (annotations_in self) }
-        ensures { slice_get (annotations_in self.entry) index ≡ Some (annotation_in result) }
+        ensures entry { slice_get (annotations_in self.entry) index ≡ Some (annotation_in result) }
+        ensures set { annotation_set result ≡ annotations_set self.entry }
     {
         Annotation {
             set: self.set,
@@ -189,7 +207,8 @@ impl<'s> AnnotationList<'s> {
 
     /// The first annotation of an id, where there is one.
     pub fn find(self, id: u64) -> Option<Annotation<'s>>
-        ensures { option_map annotation_in result ≡ first_of_id (annotations_in self.entry) id }
+        ensures found { option_map annotation_in result ≡ first_of_id (annotations_in self.entry) id }
+        ensures set { IfSome result (λ x. annotation_set x ≡ annotations_set self.entry) }
     {
         match position_of(self.stored, id) {
             Some(index) => Some(self.get(index as u32)),
@@ -208,11 +227,11 @@ impl<'s> AnnotationList<'s> {
 
 impl<'s> IndexMove<u32, Annotation<'s>> for AnnotationList<'s> {
     ghost use Rattle.std.specs.Prelude.{Some, slice_get};
-    ghost use Rattle.capnp_schema.specs.AnnotationLists.{annotation_in, annotations_in};
+    ghost use Rattle.capnp_schema.specs.AnnotationLists.{annotation_in, annotation_set, annotations_in, annotations_set};
 
     ghost count = { λ s. length (annotations_in s) };
 
-    ghost answers = { λ s i x. slice_get (annotations_in s) i ≡ Some (annotation_in x) };
+    ghost answers = { λ s i x. (slice_get (annotations_in s) i ≡ Some (annotation_in x)) × (annotation_set x ≡ annotations_set s) };
 
     fn index_move(&self, index: u32) -> Annotation<'s> {
         self.get(index)

@@ -1,5 +1,6 @@
 //! Schemas by their numbers in a set, and by the types that name them.
 ghost use Rattle.std.specs.Prelude.{◌≡◌, ◌<◌, ◌≤◌, length, MatchOption};
+ghost use Rattle.capnp_schema.specs.Accepted.{IsAccepted};
 ghost use Rattle.capnp_schema.specs.Entries.{lists_seen};
 ghost use Rattle.capnp_schema.specs.Enums.{IsEnum, enum_number, enum_set};
 ghost use Rattle.capnp_schema.specs.StructHandles.{IsStruct, number_of, set_of};
@@ -15,6 +16,7 @@ impl SchemaSet {
         ensures set { set_of result ≡ lists_seen self.now }
         ensures number { number_of result ≡ number }
         ensures stands { number < length (lists_seen self.now).brands → IsStruct result }
+        ensures accepted { IsAccepted (lists_seen self.now) }
     {
         // What every set is known to meet is known of it here.
         let _lists = self.accepted_lists();
@@ -38,6 +40,7 @@ impl SchemaSet {
         ensures set { enum_set result ≡ lists_seen self.now }
         ensures number { enum_number result ≡ number }
         ensures stands { number < length (lists_seen self.now).enums → IsEnum result }
+        ensures accepted { IsAccepted (lists_seen self.now) }
     {
         // What every set is known to meet is known of it here.
         let _lists = self.accepted_lists();

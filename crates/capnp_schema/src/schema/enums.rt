@@ -26,7 +26,7 @@ impl<'s> EnumSchema<'s> {
     ghost use Rattle.std.specs.Prelude.{IsOkAnd};
     ghost use Rattle.capnp_schema.specs.Schema.{seen_enum};
     ghost use Rattle.capnp_schema.specs.Annotated.{annotations_of, enum_annotations};
-    ghost use Rattle.capnp_schema.specs.AnnotationLists.{annotations_in};
+    ghost use Rattle.capnp_schema.specs.AnnotationLists.{annotations_in, annotations_set};
     ghost use Rattle.capnp_schema.specs.Enumerants.{enum_of_list};
     ghost use Rattle.capnp_schema.specs.Enums.{IsEnum, enum_in, enum_number, enum_set};
 
@@ -65,6 +65,7 @@ impl<'s> EnumSchema<'s> {
     pub fn get_annotations(self) -> Result<AnnotationList<'s>>
         ensures typed { IsOkAnd result (λ list. annotations_in list ≡ enum_annotations (enum_set self.entry) (enum_number self.entry)) }
         ensures whole { IsOkAnd result (λ list. annotations_of (annotations_in list) ≡ (enum_in self.entry).annotations) }
+        ensures set { IsOkAnd result (λ list. annotations_set list ≡ enum_set self.entry) }
     {
         Ok(AnnotationList::of_enum(self.set, self.number))
     }
@@ -97,7 +98,7 @@ pub struct Enumerant<'s> {
 impl<'s> Enumerant<'s> {
     ghost use Rattle.std.specs.Prelude.{IsOkAnd};
     ghost use Rattle.capnp_schema.specs.Annotated.{annotations_of, enumerant_annotations};
-    ghost use Rattle.capnp_schema.specs.AnnotationLists.{annotations_in};
+    ghost use Rattle.capnp_schema.specs.AnnotationLists.{annotations_in, annotations_set};
     ghost use Rattle.capnp_schema.specs.Enumerants.{containing_enum, enumerant_in, ordinal_of};
     ghost use Rattle.capnp_schema.specs.Enums.{enum_number, enum_set};
 
@@ -126,6 +127,7 @@ impl<'s> Enumerant<'s> {
     pub fn get_annotations(self) -> Result<AnnotationList<'s>>
         ensures typed { IsOkAnd result (λ list. annotations_in list ≡ enumerant_annotations (enum_set (containing_enum self.entry)) (enum_number (containing_enum self.entry)) (ordinal_of self.entry)) }
         ensures whole { IsOkAnd result (λ list. annotations_of (annotations_in list) ≡ (enumerant_in self.entry).annotations) }
+        ensures set { IsOkAnd result (λ list. annotations_set list ≡ enum_set (containing_enum self.entry)) }
     {
         Ok(AnnotationList::of_enumerant(self.schema.set, self.schema.number, self.ordinal))
     }

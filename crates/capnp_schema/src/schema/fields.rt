@@ -6,11 +6,14 @@ ghost use Rattle.capnp_schema.specs.Schema.{seen_field};
 ghost use Rattle.capnp_schema.specs.StructHandles.{set_of, struct_field, struct_fields};
 ghost use Rattle.capnp_schema.specs.Types.{seen_type};
 
+use crate::layers::struct_number;
 use crate::plan::SlotPlan;
-use crate::record::FieldRecord;
+use crate::record::{FieldKind, FieldRecord};
 use crate::schema::annotations::AnnotationList;
 use crate::schema::structs::StructSchema;
+use crate::value::{Value, view};
 use capnp_base::introspect::Type;
+use capnp_wire::PointerReader;
 use capnp_wire::error::Result;
 
 /// A field of a struct or group, with its type in the brand. Two of one set are equal where their schemas and indices are.
@@ -30,10 +33,19 @@ pub struct Field<'s> {
 }
 
 impl<'s> Field<'s> {
+    ghost use Rattle.std.specs.Prelude.{IfSome, MatchOption};
+    ghost use Rattle.capnp_wire.specs.Standing.{levels_of, tree_of};
+    ghost use Rattle.capnp_wire.specs.Tree.{Null};
+    ghost use Rattle.std.specs.Option.{option_map};
+    ghost use Rattle.capnp_schema.specs.Defaults.{DefaultFits, default_tree};
+    ghost use Rattle.capnp_schema.specs.GroupsDown.{IfGroup, IsGroupIn, LeadsToGroup};
+    ghost use Rattle.capnp_schema.specs.Parents.{kind_target};
     ghost use Rattle.capnp_schema.specs.Plan.{IsPlan, plan_of};
+    ghost use Rattle.capnp_schema.specs.Schema.{default_of};
+    ghost use Rattle.capnp_schema.specs.Views.{IsViewOf};
     ghost use Rattle.capnp_schema.specs.StructHandles.{IsStruct, number_of};
     ghost use Rattle.capnp_schema.specs.Annotated.{annotations_of, field_annotations};
-    ghost use Rattle.capnp_schema.specs.AnnotationLists.{annotations_in};
+    ghost use Rattle.capnp_schema.specs.AnnotationLists.{annotations_in, annotations_set};
     ghost use Rattle.capnp_schema.specs.FieldLists.{IsFieldOf, index_of, schema_of, typed_of};
 
     /// The field of an index, which is below the count of fields.
@@ -86,10 +98,57 @@ impl<'s> Field<'s> {
         self.index
     }
 
+    /// The default of the field's slot, whose words are read where they lie, with 64 levels; void for a group. It is of the
+    /// field's type, or an untyped null. What stands behind a pointer decodes, and is null or what the type reads.
+    pub fn get_default(&self) -> Value<'s>
+        ensures view { IsViewOf (default_of (typed_of self.now).field) result }
+        ensures fits { DefaultFits (typed_of self.now) }
+    {
+        // What every set is known to meet is known of it here.
+        let _lists = self.schema.set.accepted_lists();
+        match &self.proto.kind {
+            FieldKind::Slot { offset: _, default } => view(default),
+            FieldKind::Group { node: _ } => Value::Void,
+        }
+    }
+
+    /// The root pointer of the words of the field's default, with 64 levels; none for a default that has no words.
+    #[tactic(auto, using(crate::proofs::Defaults::struct_view, crate::proofs::Defaults::list_view, crate::proofs::Defaults::untyped_view))]
+    pub fn get_default_pointer(&self) -> Option<PointerReader<'s>>
+        ensures pointer { MatchOption result (default_tree (default_of (typed_of self.now).field) ≡ Null) (λ reader. (tree_of reader ≡ default_tree (default_of (typed_of self.now).field)) × (levels_of reader ≡ 64)) }
+        ensures fits { DefaultFits (typed_of self.now) }
+    {
+        match self.get_default() {
+            Value::Struct(reader) => Some(reader),
+            Value::List(reader) => Some(reader),
+            Value::AnyPointer(reader) => Some(reader),
+            _ => None,
+        }
+    }
+
+    /// The group, where the field is one; none for a slot. A group has the sections of the struct that it is in, and lesser
+    /// height.
+    pub fn get_group(&self) -> Option<StructSchema<'s>>
+        ensures number { option_map number_of result ≡ kind_target (typed_of self.now).field.kind (typed_of self.now).type }
+        ensures down { IfSome result (IsGroupIn (schema_of self.now)) }
+    {
+        match &self.proto.kind {
+            FieldKind::Slot {
+                offset: _,
+                default: _,
+            } => None,
+            FieldKind::Group { node: _ } => {
+                let number = struct_number(self.field_type.which());
+                Some(self.schema.set.struct_schema(number))
+            }
+        }
+    }
+
     /// Its annotations, each with its type in the brand. The answer is always Ok.
     pub fn get_annotations(self) -> Result<AnnotationList<'s>>
         ensures typed { IsOkAnd result (λ list. annotations_in list ≡ field_annotations (set_of (schema_of self.entry)) (number_of (schema_of self.entry)) (index_of self.entry)) }
         ensures whole { IsOkAnd result (λ list. annotations_of (annotations_in list) ≡ (struct_field (schema_of self.entry) (index_of self.entry)).field.annotations) }
+        ensures set { IsOkAnd result (λ list. annotations_set list ≡ set_of (schema_of self.entry)) }
     {
         Ok(AnnotationList::of_field(self.schema.set, self.schema.number, self.index))
     }
@@ -99,6 +158,7 @@ impl<'s> Field<'s> {
     pub fn plan(&self) -> SlotPlan
         ensures is { result ≡ plan_of (set_of (schema_of self.now)) (number_of (schema_of self.now)) (struct_field (schema_of self.now) (index_of self.now)) }
         ensures stands { IsPlan (set_of (schema_of self.now)) (number_of (schema_of self.now)) (struct_field (schema_of self.now) (index_of self.now)) result }
+        ensures group { IfGroup result.place (LeadsToGroup (set_of (schema_of self.now)) (number_of (schema_of self.now))) }
     {
         self.schema.set.plan(self.schema.number, self.index)
     }

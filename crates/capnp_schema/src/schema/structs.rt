@@ -1,5 +1,5 @@
 //! Handles of struct schemas.
-ghost use Rattle.std.specs.Prelude.{◌≡◌, ◌<◌, ◌≤◌, ◌*◌, ◌^◌, length, IfErr, IfOk, IsOkAnd, Some, None};
+ghost use Rattle.std.specs.Prelude.{◌≡◌, ◌<◌, ◌≤◌, ◌+◌, ◌*◌, ◌^◌, length, IfErr, IfOk, IfSome, IsOkAnd, Some, None};
 ghost use Rattle.capnp_device.specs.declared.error.ErrorKind.TheVariants.{FieldNotFound};
 
 use crate::record::NodeRecord;
@@ -22,11 +22,12 @@ pub struct StructSchema<'s> {
 
 impl<'s> StructSchema<'s> {
     ghost use Rattle.capnp_schema.specs.Schema.{brand_at, seen_node};
+    ghost use Rattle.capnp_schema.specs.Discriminant.{discriminant_of};
     ghost use Rattle.capnp_schema.specs.Entries.{lists_seen};
     ghost use Rattle.capnp_schema.specs.Query.{AreMembers, field_named, member_of, plain_fields};
     ghost use Rattle.capnp_schema.specs.StructHandles.{IsStruct, generic_of, number_of, set_of, struct_node, struct_records};
     ghost use Rattle.capnp_schema.specs.Annotated.{annotations_of, struct_annotations};
-    ghost use Rattle.capnp_schema.specs.AnnotationLists.{annotations_in};
+    ghost use Rattle.capnp_schema.specs.AnnotationLists.{annotations_in, annotations_set};
     ghost use Rattle.capnp_schema.specs.FieldLists.{IsFound, list_schema, subset_indices, subset_schema};
 
     /// The schema of those numbers, which are a brand of the set and its node.
@@ -54,6 +55,21 @@ impl<'s> StructSchema<'s> {
         ensures { seen_node result.now ≡ struct_node self.now }
     {
         self.set.node_record(self.number)
+    }
+
+    /// The first of the 16 bits in the data section that say which member of the union is active; none where there is no
+    /// union.
+    pub fn get_discriminant(&self) -> Option<u32>
+        ensures is { result ≡ discriminant_of (struct_node self.now) }
+        ensures inside { IfSome result (λ first. first + 16 ≤ 64 * (struct_node self.now).data_word_count) }
+    {
+        let node = self.set.node_record(self.number);
+        if node.body.discriminant_count == 0 {
+            return None;
+        }
+        // A data section of at most 65,535 words: the number of a bit inside it fits.
+        let _data_words = node.body.data_word_count;
+        Some(node.body.discriminant_offset * 16)
     }
 
     /// All fields, by index. The answer is always Ok.
@@ -130,7 +146,8 @@ impl<'s> StructSchema<'s> {
     /// The annotations of its node, each with its type in the brand. The answer is always Ok.
     pub fn get_annotations(self) -> Result<AnnotationList<'s>>
         ensures typed { IsOkAnd result (λ list. annotations_in list ≡ struct_annotations (set_of self.entry) (number_of self.entry)) }
-        ensures whole { IsStruct self.entry → IsOkAnd result (λ list. annotations_of (annotations_in list) ≡ (struct_node self.entry).annotations) }
+        ensures whole { IsOkAnd result (λ list. annotations_of (annotations_in list) ≡ (struct_node self.entry).annotations) }
+        ensures set { IsOkAnd result (λ list. annotations_set list ≡ set_of self.entry) }
     {
         Ok(AnnotationList::of_struct(self.set, self.number))
     }

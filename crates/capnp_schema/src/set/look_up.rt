@@ -4,6 +4,7 @@ ghost use Rattle.std.specs.Option.{option_map, unwrap_or};
 ghost use Rattle.capnp_schema.specs.Accepted.{NamesEntries};
 ghost use Rattle.capnp_schema.specs.Schema.{seen_field, field_at, fields_of, node_at, node_of};
 ghost use Rattle.capnp_schema.specs.Entries.{lists_seen, seen_typed};
+ghost use Rattle.capnp_schema.specs.GroupsDown.{IfGroup, LeadsToGroup};
 ghost use Rattle.capnp_schema.specs.Names.{IsNameTable};
 ghost use Rattle.capnp_schema.specs.Plan.{IsPlan, plan_of};
 ghost use Rattle.capnp_schema.specs.Query.{AreMembers, field_named, member_of, plain_fields, records_of};
@@ -13,7 +14,7 @@ ghost use Rattle.capnp_schema.specs.Types.{seen_type};
 use crate::check::names::fields_at;
 use crate::lists::TypedField;
 use crate::names::find_counted;
-use crate::plan::{Place, SlotPlan};
+use crate::plan::{NO_PLAN, SlotPlan};
 use crate::record::FieldRecord;
 use crate::set::SchemaSet;
 
@@ -43,10 +44,7 @@ fn plan_at(plans: &[SlotPlan], i: usize) -> SlotPlan
 {
     match plans.get(i) {
         Some(plan) => *plan,
-        None => SlotPlan {
-            place: Place::Nothing,
-            member: None,
-        },
+        None => NO_PLAN,
     }
 }
 
@@ -162,6 +160,7 @@ impl SchemaSet {
     pub(crate) fn plan(&self, brand: u32, field: u16) -> SlotPlan
         ensures is { result ≡ plan_of (lists_seen self.now) brand (field_at (lists_seen self.now) brand field) }
         ensures stands { field < length (fields_of (lists_seen self.now) brand) → IsPlan (lists_seen self.now) brand (field_at (lists_seen self.now) brand field) result }
+        ensures group { field < length (fields_of (lists_seen self.now) brand) → IfGroup result.place (LeadsToGroup (lists_seen self.now) brand) }
     {
         plan_at(plans_at(&self.tables.plans, brand as usize), field as usize)
     }

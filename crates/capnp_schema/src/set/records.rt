@@ -1,5 +1,6 @@
 //! Records by numbers, for every number: past the end of a list stands a record with nothing in it.
 ghost use Rattle.std.specs.Prelude.{◌≡◌};
+ghost use Rattle.capnp_schema.specs.Accepted.{DiscriminantFits};
 ghost use Rattle.capnp_schema.specs.Entries.{lists_seen};
 ghost use Rattle.capnp_schema.specs.Schema.{enum_at, node_of, seen_enum, seen_node};
 ghost use Rattle.capnp_schema.specs.StructHandles.{generic_at};
@@ -11,7 +12,8 @@ impl SchemaSet {
     /// The node of a brand.
     #[tactic(auto, using(crate::proofs::ByNumber::node_missing_seen, crate::proofs::ByNumber::node_found_seen))]
     pub(crate) fn node_record(&self, brand: u32) -> &NodeRecord
-        ensures { seen_node result.now ≡ node_of (lists_seen self.now) brand }
+        ensures is { seen_node result.now ≡ node_of (lists_seen self.now) brand }
+        ensures discriminant { DiscriminantFits (node_of (lists_seen self.now) brand) }
     {
         match self.lists.node_of(brand as usize) {
             Some(node) => node,

@@ -2,7 +2,7 @@ use Rattle.capnp_schema.proofs.tables.field_tables.Goals as goal
 
 pub returns-clause-tables : goal.returns-clause-tables
 returns-clause-tables c = record {
-  by_name = c.requires.names.each;
+  by_name = c.requires.names;
   members = c.in_ok-members.ensures.tables;
   plain = c.in_ok-plain.ensures.tables;
   plans = c.in_ok-plans.ensures.plans;

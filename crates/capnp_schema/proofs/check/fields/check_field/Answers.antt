@@ -23,7 +23,7 @@ returns-then-not-has_default c = refused (lists_seen c.args.lists.now) c.refusal
 
 pub returns-then-not-group_fits : goal.returns-then-not-group_fits
 returns-then-not-group_fits c = refused (lists_seen c.args.lists.now) c.refusal-then-not-group_fits.result.kind 7 InBrands c.args.brand c.args.i c.refusal-then-not-group_fits.ensures
-    (breaks_group (lists_seen c.args.lists.now) c.args.brand c.args.i (seen_typed c.in-Some-field_at.typed) c.requires.brand_in c.in-Some-field_at.ensures (sym c.if-not-names_entry.ensures) (sym c.if-not-group_fits.ensures))
+    (breaks_group (lists_seen c.args.lists.now) c.args.brand c.args.i (seen_typed c.in-Some-field_at.typed) c.requires.brand_in c.in-Some-field_at.ensures (sym c.if-not-group_fits.ensures))
 
 pub returns : goal.returns
 returns c = stands (lists_seen c.args.lists.now) c.args.brand c.args.i (seen_typed c.in-Some-field_at.typed) c.requires.brand_in c.in-Some-field_at.ensures (seen_node c.in-Some.node.now) c.in-Some.ensures (sym c.if-not-names_entry.ensures) (sym c.if-not-is_inside.ensures) (sym c.if-not-has_default.ensures) (sym c.if-not-group_fits.ensures)

@@ -4,21 +4,17 @@ use Rattle.capnp_schema.specs.Accepted.{FieldsApart, DiscriminantApart}
 use Rattle.capnp_schema.specs.Entries.{lists_seen}
 use Rattle.capnp_schema.proofs.BrandRefusals.{refused_at_field, refused_at_discriminant}
 use Rattle.capnp_schema.proofs.FieldWalk.{one_more}
-use Rattle.capnp_schema.proofs.GroupTargets.{targets_are_groups}
 use Rattle.capnp_schema.proofs.FieldCounts.{index_fits}
 use Rattle.capnp_schema.proofs.check.footprints.check_footprints.Goals as goal
 
-pub brand_spans-requires : goal.brand_spans-requires
-brand_spans-requires c = record { targets = targets_are_groups (lists_seen c.args.lists.now) c.requires.rule1 c.requires.rule7 }
-
 pub overflow_cast-field : goal.overflow_cast-field
-overflow_cast-field c = let lt = index_fits (lists_seen c.args.lists.now) c.loop-brand.brand c.in-Some.field c.requires.rule3 c.in-Some.ensures.field in omega arith
+overflow_cast-field c = let lt = index_fits (lists_seen c.args.lists.now) c.loop-brand.brand c.in-Some.field c.requires c.in-Some.ensures.field in omega arith
 
 pub returns-in-Some : goal.returns-in-Some
 returns-in-Some c = refused_at_field (lists_seen c.args.lists.now) c.refusal.result c.loop-brand.brand c.in-Some.field c.refusal.ensures c.in-Some.ensures
 
 pub overflow_cast-field-in-Some-discriminant_field : goal.overflow_cast-field-in-Some-discriminant_field
-overflow_cast-field-in-Some-discriminant_field c = let lt = index_fits (lists_seen c.args.lists.now) c.loop-brand.brand c.in-Some-discriminant_field.field c.requires.rule3 c.in-Some-discriminant_field.ensures.field in omega arith
+overflow_cast-field-in-Some-discriminant_field c = let lt = index_fits (lists_seen c.args.lists.now) c.loop-brand.brand c.in-Some-discriminant_field.field c.requires c.in-Some-discriminant_field.ensures.field in omega arith
 
 pub returns-in-Some-discriminant_field : goal.returns-in-Some-discriminant_field
 returns-in-Some-discriminant_field c = refused_at_discriminant (lists_seen c.args.lists.now) c.refusal-in-Some-discriminant_field.result c.loop-brand.brand c.in-Some-discriminant_field.field c.refusal-in-Some-discriminant_field.ensures c.in-Some-discriminant_field.ensures

@@ -4,8 +4,8 @@ use Rattle.capnp_schema.proofs.schema.annotations.AnnotationList.find.Goals as g
 pub get-requires : goal.get-requires
 get-requires c = find_inside c.args.self.stored.now c.args.self.types.now c.args.id c.args.self.have_types c.in-Some.index c.position_of.result c.position_of.ensures c.in-Some.is
 
-pub returns-in-Some : goal.returns-in-Some
-returns-in-Some c = find_some c.args.self.stored.now c.args.self.types.now c.args.id c.args.self.have_types c.in-Some.index c.position_of.result _ c.position_of.ensures c.in-Some.is c.get.ensures
+pub returns-in-Some-clause-found : goal.returns-in-Some-clause-found
+returns-in-Some-clause-found c = find_some c.args.self.stored.now c.args.self.types.now c.args.id c.args.self.have_types c.in-Some.index c.position_of.result _ c.position_of.ensures c.in-Some.is c.get.ensures.entry
 
-pub returns-in-None : goal.returns-in-None
-returns-in-None c = find_none c.args.self.stored.now c.args.self.types.now c.args.id c.args.self.have_types c.position_of.result c.position_of.ensures c.in-None.is
+pub returns-in-None-clause-found : goal.returns-in-None-clause-found
+returns-in-None-clause-found c = find_none c.args.self.stored.now c.args.self.types.now c.args.id c.args.self.have_types c.position_of.result c.position_of.ensures c.in-None.is

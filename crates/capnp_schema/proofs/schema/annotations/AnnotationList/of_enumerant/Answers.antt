@@ -11,6 +11,7 @@ use Rattle.capnp_schema.specs.Accepted.{IsAccepted}
 use Rattle.capnp_schema.specs.Annotated.{annotations_of, enumerant_annotations}
 use Rattle.capnp_schema.proofs.AnnotatedLemmas.{same_parts}
 use Rattle.capnp_schema.proofs.AnnotatedPlaces.{child_seen, enumerant_has_types, enumerant_is, enumerant_seen, enumerant_whole, few_of_enumerant}
+use Rattle.capnp_schema.proofs.NamedTypes.{enum_child_named}
 use Rattle.capnp_schema.proofs.schema.annotations.AnnotationList.of_enumerant.Goals as goal
 
 -- what is found of the enumerant, and of its types
@@ -36,7 +37,7 @@ new-requires-clause-are_few c =
     subst (λ n. n < 2 ^ 29) (sym e) few
 
 pub returns-clause-typed : goal.returns-clause-typed
-returns-clause-typed c = c.new.ensures ∙ same_parts c.deref-3.result.now c.in-Some-enumerant_in.stored.now.annotations.items c.deref-4.result.now c.in-Some-child_at.types.now.items c.deref-3.ensures.value c.deref-4.ensures.value
+returns-clause-typed c = c.new.ensures.entries ∙ same_parts c.deref-3.result.now c.in-Some-enumerant_in.stored.now.annotations.items c.deref-4.result.now c.in-Some-child_at.types.now.items c.deref-3.ensures.value c.deref-4.ensures.value
     ∙ enumerant_is (lists_seen c.accepted_lists.result.now) c.args.number c.args.enumerant (seen_enum c.in-Some.record.now) (seen_enumerant c.in-Some-enumerant_in.stored.now) (map seen_type c.in-Some-child_at.types.now.items)
     c.in-Some.ensures
     (named c.deref.result.now c.in-Some.record.now.enumerants.items c.in-Some-enumerant_in.stored.now c.args.enumerant c.deref.ensures.value c.in-Some-enumerant_in.ensures)
@@ -46,3 +47,6 @@ returns-clause-typed c = c.new.ensures ∙ same_parts c.deref-3.result.now c.in-
 pub returns-clause-whole : goal.returns-clause-whole
 returns-clause-whole c = ap annotations_of (returns-clause-typed c)
     ∙ enumerant_whole (lists_seen c.args.set.now) (subst (λ (l : Lists). IsAccepted (lists_seen l)) c.accepted_lists.ensures.is c.accepted_lists.ensures.accepted) c.args.number c.args.enumerant
+
+pub new-requires-clause-are_named : goal.new-requires-clause-are_named
+new-requires-clause-are_named c = enum_child_named c.accepted_lists.result.now c.args.set.now c.accepted_lists.ensures.is c.accepted_lists.ensures.accepted c.args.number c.in-Some.record.now c.in-Some.ensures c.deref-2.result.now c.in-Some-child_at.types.now c.args.enumerant c.deref-4.result.now c.deref-2.ensures.value c.in-Some-child_at.ensures c.deref-4.ensures.value

@@ -11,6 +11,7 @@ use Rattle.capnp_schema.specs.Annotated.{TypedAnnotation, annotations_of, field_
 use Rattle.capnp_schema.specs.AnnotationLists.{annotations_in}
 use Rattle.capnp_schema.proofs.AnnotatedLemmas.{same_parts}
 use Rattle.capnp_schema.proofs.AnnotatedPlaces.{child_seen, few_at, field_has_types, field_is, field_whole, no_brand_field, no_child_field, no_child_seen}
+use Rattle.capnp_schema.proofs.NamedTypes.{brand_child_named}
 use Rattle.capnp_schema.proofs.schema.annotations.AnnotationList.of_field.Goals as goal
 
 -- what is so of the lists is so of the set
@@ -18,14 +19,14 @@ whole_of : (lists set : Lists) → lists ≡ set → IsAccepted (lists_seen list
 whole_of lists set is accepted b i xs e = ap annotations_of e ∙ field_whole (lists_seen set) (subst (λ (l : Lists). IsAccepted (lists_seen l)) is accepted) b i
 
 pub returns-in_default-clause-typed : goal.returns-in_default-clause-typed
-returns-in_default-clause-typed c = c.empty.ensures ∙ no_brand_field (lists_seen c.accepted_lists-lists.result.now) c.args.brand c.args.field c.in_default.ensures
+returns-in_default-clause-typed c = c.empty.ensures.entries ∙ no_brand_field (lists_seen c.accepted_lists-lists.result.now) c.args.brand c.args.field c.in_default.ensures
     ∙ ap (λ (l : Lists). field_annotations (lists_seen l) c.args.brand c.args.field) c.accepted_lists-lists.ensures.is
 
 pub returns-in_default-clause-whole : goal.returns-in_default-clause-whole
 returns-in_default-clause-whole c = whole_of c.accepted_lists-lists.result.now c.args.set.now c.accepted_lists-lists.ensures.is c.accepted_lists-lists.ensures.accepted c.args.brand c.args.field (annotations_in c.empty.result) (returns-in_default-clause-typed c)
 
 pub returns-in_default-child_at-clause-typed : goal.returns-in_default-child_at-clause-typed
-returns-in_default-child_at-clause-typed c = c.empty-in_default-child_at.ensures ∙ no_child_field (lists_seen c.accepted_lists-lists.result.now) c.args.brand c.args.field (seen_brand c.in-Some.record.now) c.in-Some.ensures
+returns-in_default-child_at-clause-typed c = c.empty-in_default-child_at.ensures.entries ∙ no_child_field (lists_seen c.accepted_lists-lists.result.now) c.args.brand c.args.field (seen_brand c.in-Some.record.now) c.in-Some.ensures
     (no_child_seen c.in-Some.record.now.annotation_types.children.items c.args.field (subst (λ xs. None ≡ slice_get xs c.args.field) c.deref.ensures.value c.in_default-child_at.ensures))
     ∙ ap (λ (l : Lists). field_annotations (lists_seen l) c.args.brand c.args.field) c.accepted_lists-lists.ensures.is
 
@@ -49,10 +50,13 @@ new-requires-clause-are_few c =
     subst (λ n. n < 2 ^ 29) (sym e) few
 
 pub returns-clause-typed : goal.returns-clause-typed
-returns-clause-typed c = c.new.ensures ∙ same_parts c.deref-2.result.now c.in-Some-field_at.typed.field.now.annotations.items c.deref-3.result.now c.in-Some-child_at.types.now.items c.deref-2.ensures.value c.deref-3.ensures.value
+returns-clause-typed c = c.new.ensures.entries ∙ same_parts c.deref-2.result.now c.in-Some-field_at.typed.field.now.annotations.items c.deref-3.result.now c.in-Some-child_at.types.now.items c.deref-2.ensures.value c.deref-3.ensures.value
     ∙ field_is (lists_seen c.accepted_lists-lists.result.now) c.args.brand c.args.field (seen_brand c.in-Some.record.now) (seen_typed c.in-Some-field_at.typed) (map seen_type c.in-Some-child_at.types.now.items)
     c.in-Some.ensures c.in-Some-field_at.ensures (children c.deref.result.now c.in-Some.record.now.annotation_types.children.items c.in-Some-child_at.types.now c.args.field c.deref.ensures.value c.in-Some-child_at.ensures)
     ∙ ap (λ (l : Lists). field_annotations (lists_seen l) c.args.brand c.args.field) c.accepted_lists-lists.ensures.is
 
 pub returns-clause-whole : goal.returns-clause-whole
 returns-clause-whole c = whole_of c.accepted_lists-lists.result.now c.args.set.now c.accepted_lists-lists.ensures.is c.accepted_lists-lists.ensures.accepted c.args.brand c.args.field (annotations_in c.new.result) (returns-clause-typed c)
+
+pub new-requires-clause-are_named : goal.new-requires-clause-are_named
+new-requires-clause-are_named c = brand_child_named c.accepted_lists-lists.result.now c.args.set.now c.accepted_lists-lists.ensures.is c.accepted_lists-lists.ensures.accepted c.args.brand c.in-Some.record.now c.in-Some.ensures c.deref.result.now c.in-Some-child_at.types.now c.args.field c.deref-3.result.now c.deref.ensures.value c.in-Some-child_at.ensures c.deref-3.ensures.value

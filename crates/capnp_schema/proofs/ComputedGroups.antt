@@ -1,0 +1,113 @@
+-- Groups that stand right below a struct, as a test that computes.
+use Rattle.std.proofs.Common.{ℕ, ◌≡◌, ◌<◌, ◌≤◌, ◌&&◌, ◌==◌, nat_lt, Bool, true, false, not, length, arith, refl, Option, Some, None}
+use Rattle.std.proofs.lemmas.Bool.{ltb-true}
+use Rattle.std.proofs.lemmas.Bool.Decides.{Decides-eqb}
+use Rattle.std.proofs.lemmas.Option.{same_Some}
+use Rattle.capnp_schema.specs.Types.{SchemaType}
+use Rattle.capnp_schema.specs.Schema.{Schemas, FieldKind, Slot, Group, TypedField, node_of, fields_of, field_at}
+use Rattle.capnp_schema.specs.Accepted.{IsGroupBrand, IsGroupOf, IsParent, EndsAtStruct, HasOneParent, Rule8}
+use Rattle.capnp_schema.specs.Parents.{kind_target}
+use Rattle.capnp_schema.proofs.Computed.{both, all_below, passes_below, all_fields, each_field}
+
+abbrev pub is_target : Option ℕ → ℕ → Bool
+is_target None g = false
+is_target (Some x) g = x == g
+
+-- whether a field is the group field of brand g
+abbrev pub names_group : ℕ → TypedField → Bool
+names_group g f = is_target (kind_target f.field.kind f.type) g
+
+names_it : (g : ℕ) (f : TypedField) → names_group g f ≡ true → IsGroupOf f.field.kind f.type g
+names_it g f = go f.field.kind f.type
+  where
+    target : (o : Option ℕ) → is_target o g ≡ true → o ≡ Some g
+    target None e = cc
+    target (Some x) e = let same = (Decides-eqb x g).0 e in cc
+
+    go : (k : FieldKind) (t : SchemaType) → is_target (kind_target k t) g ≡ true → IsGroupOf k t g
+    go (Slot offset default) t e = cc
+    go (Group node) t e = target (kind_target (Group node) t) e
+
+is_named_by : (g : ℕ) (f : TypedField) → IsGroupOf f.field.kind f.type g → names_group g f ≡ true
+is_named_by g f = go f.field.kind f.type
+  where
+    target : (o : Option ℕ) → o ≡ Some g → is_target o g ≡ true
+    target None e = cc
+    target (Some x) e = (Decides-eqb x g).1 (same_Some x g e)
+
+    go : (k : FieldKind) (t : SchemaType) → IsGroupOf k t g → is_target (kind_target k t) g ≡ true
+    go (Slot offset default) t e = absurd e
+    go (Group node) t e = target (kind_target (Group node) t) e
+
+abbrev pub has_sizes_of : Schemas → ℕ → ℕ → Bool
+has_sizes_of set g p = ((node_of set g).data_word_count == (node_of set p).data_word_count) && ((node_of set g).pointer_count == (node_of set p).pointer_count)
+
+-- field i of struct p, and no other, names the group
+abbrev pub names_once : Schemas → ℕ → ℕ → ℕ → Bool
+names_once set g p i = (nat_lt p (length set.brands) && nat_lt i (length (fields_of set p))) && (names_group g (field_at set p i) && all_fields set (λ b j f. not (names_group g f && not ((b == p) && (j == i)))))
+
+abbrev pub stands_below : Schemas → ℕ → ℕ × ℕ → Bool
+stands_below set g (p, i) = names_once set g p i && (has_sizes_of set g p && not (node_of set p).is_group)
+
+-- each group stands below the struct, by the field, that a table gives for it
+abbrev pub meets_rule8 : Schemas → (ℕ → ℕ × ℕ) → Bool
+meets_rule8 set parent = all_below (length set.brands) (λ g. not ((node_of set g).is_group && not (stands_below set g (parent g))))
+
+module _ (set : Schemas) (g p i : ℕ) (group : IsGroupBrand set g) (some : 0 < length set.brands) where
+  one_parent : names_once set g p i ≡ true → has_sizes_of set g p ≡ true → HasOneParent set g
+  one_parent e sizes =
+      let parts = both (nat_lt p (length set.brands) && nat_lt i (length (fields_of set p))) _ e in
+      let inside = both (nat_lt p (length set.brands)) (nat_lt i (length (fields_of set p))) parts.0 in
+      let names = both (names_group g (field_at set p i)) _ parts.1 in
+      let same = both ((node_of set g).data_word_count == (node_of set p).data_word_count) ((node_of set g).pointer_count == (node_of set p).pointer_count) sizes in
+      record {
+        parent = p;
+        index = i;
+        is_parent = record { brand = ltb-true p (length set.brands) inside.0; field = ltb-true i (length (fields_of set p)) inside.1; names = names_it g (field_at set p i) names.0 };
+        only = λ b j parent. each_field set (λ b j f. not (names_group g f && not ((b == p) && (j == i)))) (λ b j f. IsGroupOf f.field.kind f.type g → (b ≡ p) × (j ≡ i)) at_once names.1 b j parent.brand parent.field parent.names;
+        data_words = (Decides-eqb (node_of set g).data_word_count (node_of set p).data_word_count).0 same.0;
+        pointers = (Decides-eqb (node_of set g).pointer_count (node_of set p).pointer_count).0 same.1;
+      }
+    where
+      here : (b j : ℕ) (q : Bool) → not (q && not ((b == p) && (j == i))) ≡ true → q ≡ true → ((b == p) && (j == i)) ≡ true
+      here b j true e h = at ((b == p) && (j == i)) e
+        where
+          at : (r : Bool) → not (not r) ≡ true → r ≡ true
+          at true e = refl
+          at false e = cc
+      here b j false e h = cc
+
+      at_once : (b j : ℕ) (f : TypedField) → not (names_group g f && not ((b == p) && (j == i))) ≡ true → IsGroupOf f.field.kind f.type g → (b ≡ p) × (j ≡ i)
+      at_once b j f e named =
+          let same = both (b == p) (j == i) (here b j (names_group g f) e (is_named_by g f named)) in
+          ((Decides-eqb b p).0 same.0, (Decides-eqb j i).0 same.1)
+
+  stands : stands_below set g (p, i) ≡ true → HasOneParent set g × ((steps : ℕ) × (steps ≤ length set.brands) × EndsAtStruct steps set g)
+  stands e =
+      let parts = both (names_once set g p i) (has_sizes_of set g p && not (node_of set p).is_group) e in
+      let rest = both (has_sizes_of set g p) (not (node_of set p).is_group) parts.1 in
+      let one : HasOneParent set g = one_parent parts.0 rest.0 in
+      (one, (1, some, (group, (p, i, parent parts.0, plain (node_of set p).is_group rest.1))))
+    where
+      plain : (q : Bool) → not q ≡ true → q ≡ false
+      plain true e = cc
+      plain false e = refl
+
+      parent : names_once set g p i ≡ true → IsParent set g p i
+      parent e =
+          let parts = both (nat_lt p (length set.brands) && nat_lt i (length (fields_of set p))) _ e in
+          let inside = both (nat_lt p (length set.brands)) (nat_lt i (length (fields_of set p))) parts.0 in
+          let names = both (names_group g (field_at set p i)) _ parts.1 in
+          record { brand = ltb-true p (length set.brands) inside.0; field = ltb-true i (length (fields_of set p)) inside.1; names = names_it g (field_at set p i) names.0 }
+
+pub rule8 : (set : Schemas) (parent : ℕ → ℕ × ℕ) → meets_rule8 set parent ≡ true → Rule8 set
+rule8 set parent e g g_in group =
+    at (parent g) (passes_below (length set.brands) (λ g. not ((node_of set g).is_group && not (stands_below set g (parent g)))) e g g_in)
+  where
+    holds : (q r : Bool) → not (q && not r) ≡ true → q ≡ true → r ≡ true
+    holds true true e h = refl
+    holds true false e h = cc
+    holds false r e h = cc
+
+    at : (up : ℕ × ℕ) → not ((node_of set g).is_group && not (stands_below set g up)) ≡ true → HasOneParent set g × ((steps : ℕ) × (steps ≤ length set.brands) × EndsAtStruct steps set g)
+    at (p, i) pass = stands set g p i group (omega arith) (holds (node_of set g).is_group (stands_below set g (p, i)) pass group)

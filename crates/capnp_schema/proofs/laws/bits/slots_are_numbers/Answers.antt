@@ -1,0 +1,12 @@
+use Rattle.std.proofs.Common.{bit_xor}
+use Rattle.capnp_schema.specs.SlotBits.{with_bits}
+use Rattle.capnp_schema.specs.Facts.Slots.{IsStored, masked_is_stored, place_number-read, place_number-written}
+use Rattle.capnp_schema.proofs.laws.bits.slots_are_numbers.Goals as goal
+
+pub returns : goal.returns
+returns c = record {
+  read = place_number-read;
+  written = λ bytes start bits mask n slot inside small.
+      let is : IsStored start bits (bit_xor n mask) bytes (with_bits start bits (bit_xor n mask) bytes) = masked_is_stored bytes start bits mask n slot inside small in
+      (place_number-written bytes start bits mask n slot inside small, is.others, is.same_length);
+}

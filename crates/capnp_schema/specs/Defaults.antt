@@ -1,0 +1,34 @@
+-- The defaults of fields: the tree behind a pointer, and what a default is in an accepted set.
+use Rattle.std.specs.Prelude.{ℕ, ◌<◌, ◌≡◌, None, IsOk}
+use Rattle.capnp_wire.specs.Tree as tree
+use Rattle.capnp_wire.specs.Tree.{Tree}
+use Rattle.capnp_wire.specs.Reading.{as_list}
+use Rattle.capnp_wire.specs.Words.{first_fault}
+use Rattle.capnp_schema.specs.Types.{SchemaType, StructType, ListType, element_size}
+use Rattle.capnp_schema.specs.Schema.{Schemas, Value, StructValue, ListValue, AnyPointerValue, TypedField, default_of}
+use Rattle.capnp_schema.specs.Accepted.{IsAccepted, EachField, KindDefault, IsDefaultOf, HasWords, Decodes, IsStructOrNull, IsListOrNull, root_of}
+
+-- the tree of a default's words; null for every other default, a text's or data's bytes too
+abbrev pub default_tree : Value → Tree
+default_tree (StructValue words) = root_of words
+default_tree (ListValue words) = root_of words
+default_tree (AnyPointerValue words) = root_of words
+default_tree value = tree.Null
+
+-- null, or what the type reads: a struct, or a list of an element size that is read as the type's elements. Every other
+-- type has null
+abbrev pub IsReadAs : SchemaType → Tree → Type 0
+IsReadAs (StructType number generic) d = IsStructOrNull d
+IsReadAs (ListType element) d = IsListOrNull d × IsOk (as_list (element_size element) d 1)
+IsReadAs t d = d ≡ tree.Null
+
+-- a field's default is of its type or an untyped null, has whole words, decodes, and is what the type reads or null
+pub record DefaultFits (f : TypedField) : Type 0 where
+  pub kind : KindDefault IsDefaultOf f.field.kind f.type
+  pub words : HasWords (default_of f.field)
+  pub decodes : Decodes (default_of f.field)
+  pub sound : first_fault (default_tree (default_of f.field)) ≡ None
+  pub read : IsReadAs f.type (default_tree (default_of f.field))
+
+abbrev pub DefaultsFit : Type 0
+DefaultsFit = (set : Schemas) → IsAccepted set → EachField set (λ b i f. DefaultFits f)

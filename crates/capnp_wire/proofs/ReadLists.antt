@@ -1,0 +1,72 @@
+-- What a call that enters a list answers, by the refusal that is due.
+use Rattle.std.proofs.Common.{◌≡◌, refl, sym, ap, ◌∙◌, Bool, true, false, MutBor}
+use Rattle.std.specs.Prelude.{Option, Some, None, Result, Ok, Err, IfErr, IfOk, IsOk, OnOk}
+use Rattle.capnp_wire.specs.Tree.{Tree, Null, Struct, Voids, Bits, Numbers, Pointers, Composite, FaultLeaf}
+use Rattle.capnp_wire.specs.Reading.{as_list, is_null_tree, list_if, reads_bits, reads_numbers, reads_pointers, reads_structs, reads_voids}
+use Rattle.capnp_wire.specs.Edits.{IsDueRefusal}
+use Rattle.capnp_wire.specs.Elements.{built_list, built_read, or_empty}
+use Rattle.capnp_wire.specs.StructLists.{struct_list}
+use Rattle.capnp_wire.specs.Defaults.{error_of, list_refusal}
+use Rattle.capnp_wire.specs.declared.object.ListObject.{ListObject}
+use Rattle.capnp_wire.specs.declared.size.ElementSize.{ElementSize}
+use Rattle.capnp_wire.specs.declared.size.StructSize.{StructSize}
+use Rattle.capnp_device.specs.declared.error.Error.{Error}
+use Rattle.capnp_device.specs.declared.error.ErrorKind.{ErrorKind}
+
+list_read : (reads : Bool) (t x : Tree) → Ok x ≡ list_if reads t 1 → x ≡ t
+list_read true t x e = cc
+list_read false t x e = cc
+
+-- a list that is entered is as it stands, or the one of nothing
+entered : (size : ElementSize) (t x : Tree) → Ok x ≡ as_list size t 1 → x ≡ or_empty size t
+entered size Null x e = cc
+entered size (Struct bytes ps) x e = cc
+entered size (Voids n) x e = list_read (reads_voids size) (Voids n) x e
+entered size (Bits bs) x e = list_read (reads_bits size) (Bits bs) x e
+entered size (Numbers w bytes) x e = list_read (reads_numbers size w) (Numbers w bytes) x e
+entered size (Pointers ps) x e = list_read (reads_pointers size) (Pointers ps) x e
+entered size (Composite d p es) x e = list_read (reads_structs size d p) (Composite d p es) x e
+entered size (FaultLeaf k) x e = cc
+
+pub entered_reads : (size : ElementSize) (t : Tree) (r : Result (MutBor ListObject) Error) → built_read r ≡ as_list size t 1 → IfOk r (λ l. built_list l.now ≡ or_empty size t)
+entered_reads size t (Ok l) e = entered size t (built_list l.now) e
+entered_reads size t (Err error) e = tt {0}
+
+pub entered_within : (size : ElementSize) (t : Tree) (r : Result (MutBor ListObject) Error) → built_read r ≡ as_list size t 1 → OnOk r (list_refusal size t ≡ None)
+entered_within size t (Ok l) e = sym (ap error_of e)
+entered_within size t (Err error) e = tt {0}
+
+due_is : (error : Error) (due : Option ErrorKind) → Some error.kind ≡ due → IsDueRefusal error due
+due_is error due e = (λ _. sym e, λ kind h. let same : Some error.kind ≡ Some kind = e ∙ h in cc)
+
+pub entered_refused : (size : ElementSize) (t : Tree) (r : Result (MutBor ListObject) Error) → built_read r ≡ as_list size t 1 → IfErr r (λ error. IsDueRefusal error (list_refusal size t))
+entered_refused size t (Ok l) e = tt {0}
+entered_refused size t (Err error) e = due_is error (list_refusal size t) (ap error_of e)
+
+pub entered_succeeds : (size : ElementSize) (t : Tree) (r : Result (MutBor ListObject) Error) → built_read r ≡ as_list size t 1 → list_refusal size t ≡ None → IsOk r
+entered_succeeds size t (Ok l) e h = refl
+entered_succeeds size t (Err error) e h =
+    let refused : Some error.kind ≡ None = ap error_of e ∙ h in
+    cc
+
+-- ---- what is not null ----
+
+pub some_list : (size : ElementSize) (t : Tree) → is_null_tree t ≡ false → t ≡ or_empty size t
+some_list size Null e = cc
+some_list size (Struct bytes ps) e = refl
+some_list size (Voids n) e = refl
+some_list size (Bits bs) e = refl
+some_list size (Numbers w bytes) e = refl
+some_list size (Pointers ps) e = refl
+some_list size (Composite d p es) e = refl
+some_list size (FaultLeaf k) e = refl
+
+pub some_structs : (size : StructSize) (t : Tree) → is_null_tree t ≡ false → is_null_tree (struct_list size t) ≡ false
+some_structs size Null e = e
+some_structs size (Struct bytes ps) e = refl
+some_structs size (Voids n) e = refl
+some_structs size (Bits bs) e = refl
+some_structs size (Numbers w bytes) e = refl
+some_structs size (Pointers ps) e = refl
+some_structs size (Composite d p es) e = refl
+some_structs size (FaultLeaf k) e = refl

@@ -1,0 +1,130 @@
+-- Bytes: runs of them, the numbers that they spell, and what is written into them.
+use Rattle.std.proofs.Common.{◌≡◌, ℕ, zero, suc, ◌+◌, ◌-◌, ◌*◌, ◌/◌, ◌%◌, ◌^◌, ◌<◌, ◌≤◌, refl, ap, ◌∙◌, arith, Bool, true, false, Fits, w8, List, [], ◌∷◌, ◌++◌, length, get_or, take, drop, replicate, length-set}
+use Rattle.std.specs.Prelude.{slice_set}
+use Rattle.std.proofs.Math.Nat.{mod-lt, pow-suc}
+use Rattle.std.proofs.lemmas.List.{get_or-drop, length-append, length-drop, length-take, length-take-le}
+use Rattle.std.proofs.lemmas.Nat.{and_le_l, or_lt, pow_below}
+use Rattle.capnp_wire.specs.Slot.{little_endian}
+use Rattle.capnp_wire.specs.WellFormed.{AreBytes, AreSegments}
+use Rattle.capnp_wire.specs.Edits.{byte_with_bit, with_bit, with_number}
+use Rattle.capnp_wire.specs.Encoding.{spelled}
+
+-- ---- runs ----
+
+-- what the type of a slice of bytes says
+pub AreBytes-fits : (bytes : List ℕ) → ((i : ℕ) → Fits w8 (get_or bytes i 0)) → AreBytes bytes
+AreBytes-fits bytes h i = omega (arith, h i)
+
+-- no bytes at all
+pub AreBytes-none : AreBytes []
+AreBytes-none i = omega arith
+
+-- the first bytes of a run
+pub AreBytes-take : (n : ℕ) (bytes : List ℕ) → AreBytes bytes → AreBytes (take n bytes)
+AreBytes-take zero bytes h i = omega arith
+AreBytes-take (suc n) [] h i = omega arith
+AreBytes-take (suc n) (b ∷ bs) h zero = h 0
+AreBytes-take (suc n) (b ∷ bs) h (suc i) = AreBytes-take n bs (λ k. h (suc k)) i
+
+-- the bytes of a run after its first ones
+pub AreBytes-drop : (n : ℕ) (bytes : List ℕ) → AreBytes bytes → AreBytes (drop n bytes)
+AreBytes-drop n bytes h i = rw (get_or-drop n bytes i 0) (h (n + i))
+
+-- a part of a run
+pub AreBytes-part : (n i : ℕ) (bytes : List ℕ) → AreBytes bytes → AreBytes (take n (drop i bytes))
+AreBytes-part n i bytes h = AreBytes-take n (drop i bytes) (AreBytes-drop i bytes h)
+
+-- a part is no longer than what was asked
+pub length-part-le : (n i : ℕ) (bytes : List ℕ) → length (take n (drop i bytes)) ≤ n
+length-part-le n i bytes = omega (arith, length-take n (drop i bytes))
+
+-- a message of one segment
+pub AreSegments-one : (bytes : List ℕ) → AreBytes bytes → AreSegments (bytes ∷ [])
+AreSegments-one bytes h zero = h
+AreSegments-one bytes h (suc i) = AreBytes-none
+
+-- ---- numbers that are spelled ----
+
+-- a number is spelled in as many bytes as were asked for
+pub length_spelled : (k n : ℕ) → length (spelled k n) ≡ k
+length_spelled zero n = refl
+length_spelled (suc k) n = ap suc (length_spelled k (n / 256))
+
+-- and these bytes are that number
+pub little_endian_spelled : (k n : ℕ) → n < 256 ^ k → little_endian (spelled k n) ≡ n
+little_endian_spelled zero n h = omega arith
+little_endian_spelled (suc k) n h =
+    let p : 256 ^ suc k ≡ 256 * 256 ^ k = grind (arith, pow-suc) in
+    let q : n / 256 < 256 ^ k = omega arith in
+    ap (λ m. n % 256 + 256 * m) (little_endian_spelled k (n / 256) q) ∙ omega arith
+
+-- no bytes spell 0
+spelled_none : (n : ℕ) → little_endian (take n []) ≡ 0
+spelled_none zero = refl
+spelled_none (suc n) = refl
+
+-- n + 1 bytes are the first of them and the n after it
+pub spelled_first : (bs : List ℕ) (i n : ℕ) → little_endian (take (suc n) (drop i bs)) ≡ get_or bs i 0 + 256 * little_endian (take n (drop (suc i) bs))
+spelled_first [] zero n = omega (arith, spelled_none n)
+spelled_first [] (suc i) n = omega (arith, spelled_none n)
+spelled_first (b ∷ bs) zero n = refl
+spelled_first (b ∷ bs) (suc i) n = spelled_first bs i n
+
+-- ---- what is written ----
+
+-- bytes, and then others
+pub AreBytes-append : (a b : List ℕ) → AreBytes a → AreBytes b → AreBytes (a ++ b)
+AreBytes-append [] b h g i = g i
+AreBytes-append (x ∷ a) b h g zero = h 0
+AreBytes-append (x ∷ a) b h g (suc i) = AreBytes-append a b (λ k. h (suc k)) g i
+
+-- the bytes of a number
+pub AreBytes-spelled : (k n : ℕ) → AreBytes (spelled k n)
+AreBytes-spelled zero n i = omega arith
+AreBytes-spelled (suc k) n zero = mod-lt n (omega arith)
+AreBytes-spelled (suc k) n (suc i) = AreBytes-spelled k (n / 256) i
+
+pub AreBytes-zeros : (n : ℕ) → AreBytes (replicate n 0)
+AreBytes-zeros zero i = omega arith
+AreBytes-zeros (suc n) zero = omega arith
+AreBytes-zeros (suc n) (suc i) = AreBytes-zeros n i
+
+-- with another byte
+AreBytes-set : (bytes : List ℕ) (i x : ℕ) → AreBytes bytes → x < 2 ^ 8 → AreBytes (slice_set bytes i x)
+AreBytes-set [] i x h b k = h k
+AreBytes-set (y ∷ bytes) zero x h b zero = b
+AreBytes-set (y ∷ bytes) zero x h b (suc k) = h (suc k)
+AreBytes-set (y ∷ bytes) (suc i) x h b zero = h 0
+AreBytes-set (y ∷ bytes) (suc i) x h b (suc k) = AreBytes-set bytes i x (λ j. h (suc j)) b k
+
+-- with a number
+pub AreBytes-with_number : (width offset n : ℕ) (bytes : List ℕ) → AreBytes bytes → AreBytes (with_number width offset n bytes)
+AreBytes-with_number width offset n bytes h =
+    AreBytes-append (take (offset * width) bytes) (spelled width n ++ drop (offset * width + width) bytes) (AreBytes-take (offset * width) bytes h)
+    (AreBytes-append (spelled width n) (drop (offset * width + width) bytes) (AreBytes-spelled width n) (AreBytes-drop (offset * width + width) bytes h))
+
+pub length-with_number : (width offset n : ℕ) (bytes : List ℕ) → (offset + 1) * width ≤ length bytes → length (with_number width offset n bytes) ≡ length bytes
+length-with_number width offset n bytes h = omega (
+  arith,
+  inside,
+  length-append (take (offset * width) bytes) (spelled width n ++ drop (offset * width + width) bytes),
+  length-append (spelled width n) (drop (offset * width + width) bytes),
+  length_spelled width n,
+  length-take-le (offset * width) bytes (omega (arith, inside)),
+  length-drop (offset * width + width) bytes,
+)
+  where
+    inside : offset * width + width ≤ length bytes
+    inside = grind (arith, h)
+
+-- with a bit
+byte_with_bit-lt : (j : ℕ) (bit : Bool) (byte : ℕ) → j < 8 → byte < 2 ^ 8 → byte_with_bit j bit byte < 2 ^ 8
+byte_with_bit-lt j true byte h g = or_lt 8 byte (2 ^ j) g (pow_below j 8 h)
+byte_with_bit-lt j false byte h g = omega (arith, and_le_l byte (255 - 2 ^ j), g)
+
+pub AreBytes-with_bit : (i : ℕ) (bit : Bool) (bytes : List ℕ) → AreBytes bytes → AreBytes (with_bit i bit bytes)
+AreBytes-with_bit i bit bytes h =
+    AreBytes-set bytes (i / 8) _ h (byte_with_bit-lt (i % 8) bit (get_or bytes (i / 8) 0) (mod-lt i (omega arith)) (h (i / 8)))
+
+pub length-with_bit : (i : ℕ) (bit : Bool) (bytes : List ℕ) → length (with_bit i bit bytes) ≡ length bytes
+length-with_bit i bit bytes = length-set bytes (i / 8) _

@@ -1,0 +1,163 @@
+-- Parts of well-formed trees are well-formed.
+use Rattle.std.proofs.Common.{◌≡◌, ℕ, zero, suc, ◌*◌, ◌<◌, ◌≤◌, ◌^◌, refl, subst, arith, Bool, true, false, cond}
+use Rattle.std.specs.Prelude.{◌==◌, IsTrue, Result, Ok, Err, IfOk}
+use Rattle.std.proofs.lemmas.Bool.Decides.{nat_tests}
+use Rattle.capnp_wire.specs.Tree.{Tree, Null, Struct, Voids, Bits, Numbers, Pointers, Composite, FaultLeaf, Trees, NoTrees, MoreTrees, Structs, NoStructs, MoreStructs, StructTree, empty_struct, nth_tree, only_tree, nth_struct, tree_count}
+use Rattle.capnp_wire.specs.Reading.{with_level, is_null_tree, as_struct, empty_list, list_if, as_list, reads_voids, reads_bits, reads_numbers, reads_pointers, reads_structs, list_length, cut_pointer, element_pointer, element_struct}
+use Rattle.capnp_wire.specs.WellFormed.{is_width, IsWellFormed, AreWellFormed, AreElements, IsWellFormedStruct}
+use Rattle.capnp_wire.specs.declared.size.ElementSize.{ElementSize}
+use Rattle.capnp_wire.specs.declared.size.ElementSize.TheVariants.{Void, Bit, Byte, TwoBytes, FourBytes, EightBytes, Pointer, InlineComposite}
+use Rattle.capnp_wire.specs.declared.fault.Fault.TheVariants as fault
+use Rattle.capnp_device.specs.declared.error.ErrorKind.{ErrorKind}
+use Rattle.capnp_device.specs.declared.error.ErrorKind.TheVariants as kind
+use Rattle.capnp_wire.specs.Facts.Bytes.{AreBytes-none, AreBytes-part, length-part-le}
+
+-- ---- what is empty ----
+
+-- a struct of size zero
+pub IsWellFormedStruct-empty_struct : IsWellFormedStruct empty_struct
+IsWellFormedStruct-empty_struct = (AreBytes-none, omega arith, omega arith, tt)
+
+-- an empty list of any element size
+pub IsWellFormed-empty_list : (size : ElementSize) → IsWellFormed (empty_list size)
+IsWellFormed-empty_list Void = omega arith
+IsWellFormed-empty_list Bit = omega arith
+IsWellFormed-empty_list Byte = (AreBytes-none, refl, refl, omega arith)
+IsWellFormed-empty_list TwoBytes = (AreBytes-none, refl, refl, omega arith)
+IsWellFormed-empty_list FourBytes = (AreBytes-none, refl, refl, omega arith)
+IsWellFormed-empty_list EightBytes = (AreBytes-none, refl, refl, omega arith)
+IsWellFormed-empty_list Pointer = (omega arith, tt)
+IsWellFormed-empty_list InlineComposite = (omega arith, omega arith, omega arith, omega arith, tt)
+
+-- ---- one of a row ----
+
+-- a tree of a row, null past the end
+pub IsWellFormed-nth_tree : (ps : Trees) (i : ℕ) → AreWellFormed ps → IsWellFormed (nth_tree ps i)
+IsWellFormed-nth_tree NoTrees i h = tt
+IsWellFormed-nth_tree (MoreTrees t ts) zero h = h.0
+IsWellFormed-nth_tree (MoreTrees t ts) (suc i) h = IsWellFormed-nth_tree ts i h.1
+
+-- a tree of a row alone
+pub AreWellFormed-only_tree : (ps : Trees) (i : ℕ) → AreWellFormed ps → AreWellFormed (only_tree ps i)
+AreWellFormed-only_tree NoTrees i h = tt
+AreWellFormed-only_tree (MoreTrees t ts) zero h = (h.0, tt)
+AreWellFormed-only_tree (MoreTrees t ts) (suc i) h = AreWellFormed-only_tree ts i h.1
+
+-- it is one tree at most
+pub tree_count-only_tree-le : (ps : Trees) (i : ℕ) → tree_count (only_tree ps i) ≤ 1
+tree_count-only_tree-le NoTrees i = omega arith
+tree_count-only_tree-le (MoreTrees t ts) zero = omega arith
+tree_count-only_tree-le (MoreTrees t ts) (suc i) = tree_count-only_tree-le ts i
+
+-- an element of a composite list, of size zero past the end
+pub IsWellFormedStruct-nth_struct : (d p : ℕ) (es : Structs) (i : ℕ) → AreElements d p es → d < 2 ^ 16 → p < 2 ^ 16 → IsWellFormedStruct (nth_struct es i)
+IsWellFormedStruct-nth_struct d p NoStructs i h b c = IsWellFormedStruct-empty_struct
+IsWellFormedStruct-nth_struct d p (MoreStructs bytes ps es) zero h b c = (h.0, omega (arith, h.1), omega (arith, h.2), h.3)
+IsWellFormedStruct-nth_struct d p (MoreStructs bytes ps es) (suc i) h b c = IsWellFormedStruct-nth_struct d p es i h.4 b c
+
+-- ---- elements of a list ----
+
+-- a number takes at most 8 bytes
+pub width_bound : (width : ℕ) → IsTrue (is_width width) → width ≤ 8
+width_bound width h = grind (arith, nat_tests)
+
+-- an element of any list, read as a struct
+pub IsWellFormedStruct-element_struct : (t : Tree) (i : ℕ) → IsWellFormed t → IsWellFormedStruct (element_struct t i)
+IsWellFormedStruct-element_struct Null i h = IsWellFormedStruct-empty_struct
+IsWellFormedStruct-element_struct (Struct bytes ps) i h = IsWellFormedStruct-empty_struct
+IsWellFormedStruct-element_struct (Voids n) i h = IsWellFormedStruct-empty_struct
+IsWellFormedStruct-element_struct (Bits bs) i h = IsWellFormedStruct-empty_struct
+IsWellFormedStruct-element_struct (Numbers width bytes) i h =
+    (AreBytes-part width (i * width) bytes h.0, omega (arith, width_bound width h.1, length-part-le width (i * width) bytes), omega arith, tt)
+IsWellFormedStruct-element_struct (Pointers ps) i h = (AreBytes-none, omega arith, omega (arith, tree_count-only_tree-le ps i), AreWellFormed-only_tree ps i h.1)
+IsWellFormedStruct-element_struct (Composite d p es) i h = IsWellFormedStruct-nth_struct d p es i h.4 h.0 h.1
+IsWellFormedStruct-element_struct (FaultLeaf k) i h = IsWellFormedStruct-empty_struct
+
+-- a pointer that may be cut off
+cut_by : (null deep : Bool) (t : Tree) → IsWellFormed t → IsWellFormed (cond null Null (cond deep (FaultLeaf fault.TooDeep) t))
+cut_by true deep t h = tt
+cut_by false true t h = tt
+cut_by false false t h = h
+
+-- a pointer out of a composite list
+pub IsWellFormed-cut_pointer : (levels : ℕ) (t : Tree) → IsWellFormed t → IsWellFormed (cut_pointer levels t)
+IsWellFormed-cut_pointer levels t h = cut_by (is_null_tree t) (levels == 0) t h
+
+-- an element of any list, read as a pointer
+pub IsWellFormed-element_pointer : (t : Tree) (i levels : ℕ) → IsWellFormed t → IsWellFormed (element_pointer t i levels)
+IsWellFormed-element_pointer Null i levels h = tt
+IsWellFormed-element_pointer (Struct bytes ps) i levels h = tt
+IsWellFormed-element_pointer (Voids n) i levels h = tt
+IsWellFormed-element_pointer (Bits bs) i levels h = tt
+IsWellFormed-element_pointer (Numbers width bytes) i levels h = tt
+IsWellFormed-element_pointer (Pointers ps) i levels h = IsWellFormed-nth_tree ps i h.1
+IsWellFormed-element_pointer (Composite d p es) i levels h =
+    let s : IsWellFormedStruct (nth_struct es i) = IsWellFormedStruct-nth_struct d p es i h.4 h.0 h.1 in
+    IsWellFormed-cut_pointer levels (nth_tree (nth_struct es i).pointers 0) (IsWellFormed-nth_tree (nth_struct es i).pointers 0 s.3)
+IsWellFormed-element_pointer (FaultLeaf k) i levels h = tt
+
+-- a list has fewer than 2 ^ 29 elements
+pub list_length-lt : (t : Tree) → IsWellFormed t → list_length t < 2 ^ 29
+list_length-lt Null h = omega arith
+list_length-lt (Struct bytes ps) h = omega arith
+list_length-lt (Voids n) h = h
+list_length-lt (Bits bs) h = h
+list_length-lt (Numbers width bytes) h = h.3
+list_length-lt (Pointers ps) h = h.0
+list_length-lt (Composite d p es) h = h.2
+list_length-lt (FaultLeaf k) h = omega arith
+
+-- ---- reads ----
+
+-- a read that may be too deep
+IfOk-cond : {A : Type 0} (deep : Bool) (r : Result A ErrorKind) (P : A → Type 0) → IfOk r P → IfOk (cond deep (Err kind.TooDeep) r) P
+IfOk-cond true r P h = tt
+IfOk-cond false r P h = h
+
+-- a read that takes a level
+pub IfOk-with_level : {A : Type 0} (levels : ℕ) (r : Result A ErrorKind) (P : A → Type 0) → IfOk r P → IfOk (with_level levels r) P
+IfOk-with_level levels r P h = IfOk-cond (levels == 0) r P h
+
+-- a list that is read as it is, or not at all
+reads_if : (reads : Bool) (t : Tree) → IsWellFormed t → IfOk {E = ErrorKind} (cond reads (Ok t) (Err kind.WrongElementSize)) IsWellFormed
+reads_if true t h = h
+reads_if false t h = tt
+
+-- the same with a level
+IfOk-list_if : (reads : Bool) (t : Tree) (levels : ℕ) → IsWellFormed t → IfOk (list_if reads t levels) IsWellFormed
+IfOk-list_if reads t levels h = IfOk-with_level levels (cond reads (Ok t) (Err kind.WrongElementSize)) IsWellFormed (reads_if reads t h)
+
+-- what is read as a struct
+pub IfOk-as_struct : (t : Tree) (levels : ℕ) → IsWellFormed t → IfOk (as_struct t levels) IsWellFormedStruct
+IfOk-as_struct Null levels h = IfOk-with_level levels (Ok empty_struct) IsWellFormedStruct IsWellFormedStruct-empty_struct
+IfOk-as_struct (Struct bytes ps) levels h =
+    IfOk-with_level levels (Ok (record { bytes = bytes; pointers = ps })) IsWellFormedStruct (h.0, omega (arith, h.1, h.2), h.3, h.4)
+IfOk-as_struct (Voids n) levels h = IfOk-with_level levels (Err kind.WrongPointerKind) IsWellFormedStruct tt
+IfOk-as_struct (Bits bs) levels h = IfOk-with_level levels (Err kind.WrongPointerKind) IsWellFormedStruct tt
+IfOk-as_struct (Numbers width bytes) levels h = IfOk-with_level levels (Err kind.WrongPointerKind) IsWellFormedStruct tt
+IfOk-as_struct (Pointers ps) levels h = IfOk-with_level levels (Err kind.WrongPointerKind) IsWellFormedStruct tt
+IfOk-as_struct (Composite d p es) levels h = IfOk-with_level levels (Err kind.WrongPointerKind) IsWellFormedStruct tt
+IfOk-as_struct (FaultLeaf k) levels h = tt
+
+-- what is read as a list
+pub IfOk-as_list : (size : ElementSize) (t : Tree) (levels : ℕ) → IsWellFormed t → IfOk (as_list size t levels) IsWellFormed
+IfOk-as_list size Null levels h = IfOk-with_level levels (Ok (empty_list size)) IsWellFormed (IsWellFormed-empty_list size)
+IfOk-as_list size (Struct bytes ps) levels h = IfOk-with_level levels (Err kind.WrongPointerKind) IsWellFormed tt
+IfOk-as_list size (Voids n) levels h = IfOk-list_if (reads_voids size) (Voids n) levels h
+IfOk-as_list size (Bits bs) levels h = IfOk-list_if (reads_bits size) (Bits bs) levels h
+IfOk-as_list size (Numbers width bytes) levels h = IfOk-list_if (reads_numbers size width) (Numbers width bytes) levels h
+IfOk-as_list size (Pointers ps) levels h = IfOk-list_if (reads_pointers size) (Pointers ps) levels h
+IfOk-as_list size (Composite d p es) levels h = IfOk-list_if (reads_structs size d p) (Composite d p es) levels h
+IfOk-as_list size (FaultLeaf k) levels h = tt
+
+-- the same of a read that is known
+pub IsWellFormedStruct-as_struct : (t : Tree) (levels : ℕ) (s : StructTree) → IsWellFormed t → as_struct t levels ≡ Ok s → IsWellFormedStruct s
+IsWellFormedStruct-as_struct t levels s h e =
+    let P : Result StructTree ErrorKind → Type 0 = λ r. IfOk r IsWellFormedStruct in
+    subst P e (IfOk-as_struct t levels h)
+
+-- and of a list
+pub IsWellFormed-as_list : (size : ElementSize) (t : Tree) (levels : ℕ) (u : Tree) → IsWellFormed t → as_list size t levels ≡ Ok u → IsWellFormed u
+IsWellFormed-as_list size t levels u h e =
+    let P : Result Tree ErrorKind → Type 0 = λ r. IfOk r IsWellFormed in
+    subst P e (IfOk-as_list size t levels h)
