@@ -1,7 +1,7 @@
 //! Annotations under their types, and enumerants.
 
 use crate::built_in::new_set;
-use crate::fixtures::{Seen, seen};
+use crate::fixtures::{Seen, answer_of};
 use capnp_dynamic::dynamic_value::{AnnotationValue, Enum, Reader};
 use std::test::Fail;
 
@@ -18,7 +18,7 @@ fn annotations_are_read_under_their_types(rt: HostRuntime) -> std::result::Resul
         assert!(rt; false, "the struct has annotation 7");
         return Ok(());
     };
-    assert_eq!(rt; seen(note.get_value()), Seen::Text(4, b'n'));
+    assert_eq!(rt; answer_of(note.get_value()), Seen::Text(4, b'n'));
     let annotations = schema.get_field_by_name("id")?.get_annotations()?;
     // a number is answered whatever the type, an enum under its type alone
     let table = [
@@ -28,7 +28,7 @@ fn annotations_are_read_under_their_types(rt: HostRuntime) -> std::result::Resul
     ];
     for (id, value) in table {
         match annotations.find(id) {
-            Some(found) => assert_eq!(rt; seen(found.get_value()), value, "{id}"),
+            Some(found) => assert_eq!(rt; answer_of(found.get_value()), value, "{id}"),
             None => assert!(rt; false, "the field has annotation {id}"),
         }
     }
@@ -46,6 +46,6 @@ fn numbers_of_enums(rt: HostRuntime) -> std::result::Result<(), Fail> {
     }
     let past = Enum::new(9, schema);
     assert!(rt; past.get_enumerant()?.is_none());
-    assert_eq!(rt; seen(Ok(Reader::from(past))), Seen::Enum(9));
+    assert_eq!(rt; answer_of(Ok(Reader::from(past))), Seen::Enum(9));
     Ok(())
 }

@@ -31,7 +31,7 @@ fn first(bytes: &[u8]) -> u8 {
     }
 }
 
-pub fn seen(answer: Result<Reader<'_>>) -> Seen {
+pub fn answer_of(answer: Result<Reader<'_>>) -> Seen {
     match answer {
         Ok(Reader::Void) => Seen::Void,
         Ok(Reader::Bool(x)) => Seen::Truth(x),

@@ -1,7 +1,7 @@
 //! Lists: elements of one size read as another's, and lists that are not read so.
 
 use crate::built_in::new_set;
-use crate::fixtures::{Seen, root, seen};
+use crate::fixtures::{Seen, answer_of, root};
 use crate::parts::{list_named, struct_at};
 use std::test::Fail;
 
@@ -45,17 +45,17 @@ fn elements_are_read_as_structs(rt: HostRuntime) -> std::result::Result<(), Fail
         let items = list_named(root(rt.alloc(), &set, LISTS, bytes)?, "items")?;
         assert_eq!(rt; items.len(), 2);
         assert_eq!(rt;
-            seen(struct_at(items, 0)?.get_named("a")),
+            answer_of(struct_at(items, 0)?.get_named("a")),
             Seen::Unsigned(first)
         );
         assert_eq!(rt;
-            seen(struct_at(items, 1)?.get_named("a")),
+            answer_of(struct_at(items, 1)?.get_named("a")),
             Seen::Unsigned(second)
         );
         let mut left = items.iter();
         assert_eq!(rt; left.len(), 2);
         match left.next_back() {
-            Some(item) => assert_eq!(rt; seen(item), Seen::Struct),
+            Some(item) => assert_eq!(rt; answer_of(item), Seen::Struct),
             None => assert!(rt; false, "two items are to come"),
         }
         assert_eq!(rt; left.len(), 1);
@@ -67,11 +67,11 @@ fn elements_are_read_as_structs(rt: HostRuntime) -> std::result::Result<(), Fail
 fn a_fault_beside_fields_that_read(rt: HostRuntime) -> std::result::Result<(), Fail> {
     let set = new_set(rt.alloc())?;
     let reader = root(rt.alloc(), &set, LISTS, &BITS)?;
-    assert_eq!(rt; seen(reader.get_named("items")), Seen::Refused(6));
+    assert_eq!(rt; answer_of(reader.get_named("items")), Seen::Refused(6));
     assert!(rt; reader.has_named("items")?);
-    assert_eq!(rt; seen(reader.get_named("bytes")), Seen::List(0));
-    assert_eq!(rt; seen(reader.get_named("raw")), Seen::Data(0, 0));
-    assert_eq!(rt; seen(reader.get_named("t")), Seen::Text(0, 0));
+    assert_eq!(rt; answer_of(reader.get_named("bytes")), Seen::List(0));
+    assert_eq!(rt; answer_of(reader.get_named("raw")), Seen::Data(0, 0));
+    assert_eq!(rt; answer_of(reader.get_named("t")), Seen::Text(0, 0));
     assert!(rt; !reader.has_named("t")?);
     Ok(())
 }

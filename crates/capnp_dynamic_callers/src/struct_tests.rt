@@ -1,7 +1,7 @@
 //! Fields of structs: numbers, defaults, unions, and messages that are short.
 
 use crate::built_in::new_set;
-use crate::fixtures::{Seen, root, seen};
+use crate::fixtures::{Seen, answer_of, root};
 use capnp_wire::error::ErrorKind;
 use std::test::Fail;
 
@@ -52,7 +52,7 @@ fn a_struct_with_a_union(rt: HostRuntime) -> std::result::Result<(), Fail> {
     ];
     for (name, there, value) in table {
         assert_eq!(rt; reader.has_named(name)?, there, "{name}");
-        assert_eq!(rt; seen(reader.get_named(name)), value, "{name}");
+        assert_eq!(rt; answer_of(reader.get_named(name)), value, "{name}");
     }
     let size = reader.total_size()?;
     assert_eq!(rt; size.word_count, 2);
@@ -72,7 +72,7 @@ fn a_discriminant_names_a_member_or_none(rt: HostRuntime) -> std::result::Result
     assert!(rt; unknown.which()?.is_none());
     assert!(rt; !unknown.has_named("x")?);
     assert!(rt; !unknown.has_named("y")?);
-    assert_eq!(rt; seen(unknown.get_named("a")), Seen::Unsigned(5));
+    assert_eq!(rt; answer_of(unknown.get_named("a")), Seen::Unsigned(5));
     Ok(())
 }
 
@@ -95,8 +95,8 @@ fn numbers_and_their_defaults(rt: HostRuntime) -> std::result::Result<(), Fail> 
         ("z", Seen::Void, Seen::Void),
     ];
     for (name, default, value) in table {
-        assert_eq!(rt; seen(short.get_named(name)), default, "{name}");
-        assert_eq!(rt; seen(full.get_named(name)), value, "{name}");
+        assert_eq!(rt; answer_of(short.get_named(name)), default, "{name}");
+        assert_eq!(rt; answer_of(full.get_named(name)), value, "{name}");
         assert!(rt; short.has_named(name)?, "{name}");
     }
     assert!(rt; short.which()?.is_none());
@@ -107,7 +107,7 @@ fn numbers_and_their_defaults(rt: HostRuntime) -> std::result::Result<(), Fail> 
 fn a_name_that_no_field_has(rt: HostRuntime) -> std::result::Result<(), Fail> {
     let set = new_set(rt.alloc())?;
     let reader = root(rt.alloc(), &set, MANY, &FULL)?;
-    assert_eq!(rt; seen(reader.get_named("nothing")), Seen::Refused(20));
+    assert_eq!(rt; answer_of(reader.get_named("nothing")), Seen::Refused(20));
     match reader.has_named("nothing") {
         Ok(_) => assert!(rt; false, "no field has the name"),
         Err(error) => assert_eq!(rt; error.kind, ErrorKind::FieldNotFound),
