@@ -1,5 +1,5 @@
 -- The read at a field's place is the read of its part of the record.
-use Rattle.std.specs.Prelude.{ℕ, ◌^◌, ◌<◌, ◌≡◌, refl, length}
+use Rattle.std.specs.Prelude.{ℕ, ◌<◌, ◌≡◌, refl, length, Some}
 use Rattle.std.proofs.Common.{arith, ap, sym, subst}
 use Rattle.capnp_wire.specs.Tree.{StructTree}
 use Rattle.capnp_base.specs.declared.introspect.TypeVariant.{TypeVariant}
@@ -8,9 +8,8 @@ use Rattle.capnp_schema.specs.Accepted.{IsAccepted, IsGroupOf, GroupFits, NamesE
 use Rattle.capnp_schema.specs.Plan.{IsSlotPlace, place_of}
 use Rattle.capnp_schema.specs.Schema.{FieldKind, Group, Schemas, Slot, default_of, field_at, fields_of, kind_default}
 use Rattle.capnp_schema.specs.Schema.{Value as SchemaValue}
-use Rattle.capnp_schema.specs.SlotValue.{default_bits}
 use Rattle.capnp_schema.specs.Tests.{seen_variant}
-use Rattle.capnp_schema.specs.Types.{SchemaType, StructType, struct_number, width}
+use Rattle.capnp_schema.specs.Types.{SchemaType, StructType, struct_brand, struct_number}
 use Rattle.capnp_records.proofs.Groups.{part_of-group}
 use Rattle.capnp_records.proofs.Pointers.{values_of-nth}
 use Rattle.capnp_records.specs.Default.{read_of}
@@ -19,6 +18,11 @@ use Rattle.capnp_records.specs.Record.{Levels, Value}
 use Rattle.capnp_records.specs.Record as value
 use Rattle.capnp_dynamic.specs.Reads.{field_read, handed_out}
 use Rattle.capnp_dynamic.specs.Planned.{IsSound, placed_read}
+
+-- a group's type is that of a struct
+group-brand : (set : Schemas) (v : TypeVariant) (n : ℕ) → GroupFits set (Group n) (seen_variant v) → struct_brand (seen_variant v) ≡ Some (struct_number (seen_variant v))
+group-brand set (variant.Struct x) n fits = refl
+group-brand set v n fits = absurd fits
 
 module _ (set : Schemas) (l : Levels) (s : StructTree) where
   slot-placed : (v : TypeVariant) (o : ℕ) (d : SchemaValue) →
@@ -43,13 +47,13 @@ module _ (set : Schemas) (l : Levels) (s : StructTree) where
   pub field_placed : IsAccepted set → (b i : ℕ) → b < length set.brands → i < length (fields_of set b) → (v : TypeVariant) → seen_variant v ≡ (field_at set b i).type →
       placed_read set l s (default_of (field_at set b i).field) (field_at set b i).type (place_of (field_at set b i).field.kind (field_at set b i).type) ≡ field_read set l s (field_at set b i)
   field_placed accepted b i b_in i_in v e =
-      go (field_at set b i).field.kind (field_at set b i).type e (λ h. part_of-group set accepted l s.bytes (values_of set s.pointers) b i (struct_number (field_at set b i).type) b_in i_in h)
+      go (field_at set b i).field.kind (field_at set b i).type e (accepted.rule7 b i b_in i_in) (λ h. part_of-group set accepted l s.bytes (values_of set s.pointers) b i (struct_number (field_at set b i).type) b_in i_in h)
     where
-      go : (k : FieldKind) (t : SchemaType) → seen_variant v ≡ t →
+      go : (k : FieldKind) (t : SchemaType) → seen_variant v ≡ t → GroupFits set k t →
           (IsGroupOf k t (struct_number t) → kind_value (record_within (length set.brands) set l s.bytes (values_of set s.pointers)) l s.bytes (values_of set s.pointers) k t ≡ value.Group (record_of set l s.bytes (values_of set s.pointers) (struct_number t))) →
           placed_read set l s (kind_default k) t (place_of k t) ≡ handed_out k (read_of set (kind_default k) t (kind_value (record_within (length set.brands) set l s.bytes (values_of set s.pointers)) l s.bytes (values_of set s.pointers) k t))
-      go (Slot o d) t e group = subst (λ t. placed_read set l s d t (place_of (Slot o d) t) ≡ read_of set d t (slot_value l s.bytes (values_of set s.pointers) o d t)) e (slot-placed v o d)
-      go (Group n) t e group = ap (λ w. handed_out (Group n) (read_of set (kind_default (Group n)) t w)) (sym (group refl))
+      go (Slot o d) t e fits group = subst (λ t. placed_read set l s d t (place_of (Slot o d) t) ≡ read_of set d t (slot_value l s.bytes (values_of set s.pointers) o d t)) e (slot-placed v o d)
+      go (Group n) t e fits group = ap (λ w. handed_out (Group n) (read_of set (kind_default (Group n)) t w)) (sym (group (subst (λ t. GroupFits set (Group n) t → struct_brand t ≡ Some (struct_number t)) e (group-brand set v n) fits)))
 
 -- ---- the place is sound ----
 

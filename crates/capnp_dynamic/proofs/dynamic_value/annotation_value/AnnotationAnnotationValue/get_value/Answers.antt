@@ -11,5 +11,5 @@ pub returns : goal.returns
 returns c =
     c.new.ensures.value
     ∙ (ap (λ (z : Schemas). view_read z c.get_value_view.result (seen_type c.get_type.result)) c.get_set.ensures
-    ∙ (ap (view_read (annotation_set c.args.self) c.get_value_view.result) c.get_type.ensures
+    ∙ (ap (view_read (annotation_set c.args.self) c.get_value_view.result) c.get_type.ensures.is
     ∙ view_is_stored (annotation_set c.args.self) (annotation_in c.args.self).annotation.value c.get_value_view.result (annotation_in c.args.self).type c.get_value_view.ensures))

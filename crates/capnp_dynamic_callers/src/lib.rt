@@ -1,0 +1,14 @@
+//! Readings of structs, lists and values by the public calls of `capnp_dynamic` alone, and its tests.
+#![tactic(auto)]
+
+#[cfg(test)]
+mod annotation_tests;
+pub mod built_in;
+#[cfg(test)]
+mod fixtures;
+#[cfg(test)]
+mod list_tests;
+pub mod parts;
+pub mod round_trips;
+#[cfg(test)]
+mod struct_tests;
