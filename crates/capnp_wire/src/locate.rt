@@ -115,6 +115,7 @@ fn get_start(w: usize, word: u64) -> Option<usize>
     }
 }
 
+#[inline(always)]
 fn locate_struct(segment: &[u8], start: usize, word: u64) -> Target<'_>
     requires { start < 2 ^ 61 + 2 ^ 31 }
     ensures value { target_of result ≡ struct_target segment.now start word }
@@ -208,6 +209,7 @@ fn locate_list(segment: &[u8], start: usize, word: u64) -> Target<'_>
 }
 
 /// The target of a word that may be no far pointer, where it starts at `start`.
+#[inline(always)]
 fn locate_near(segment: &[u8], start: usize, word: u64) -> Target<'_>
     requires { start < 2 ^ 61 + 2 ^ 31 }
     ensures value { target_of result ≡ near_target segment.now start word }
@@ -226,6 +228,7 @@ fn locate_near(segment: &[u8], start: usize, word: u64) -> Target<'_>
 }
 
 /// The same for a word that stands at word `w`.
+#[inline(always)]
 fn locate_near_from(segment: &[u8], w: usize, word: u64) -> Target<'_>
     requires { w < 2 ^ 61 }
     ensures value { target_of result ≡ near_target_from segment.now (start_of w word) word }
@@ -264,6 +267,7 @@ fn locate_double(segments: Segments<'_>, first: u64, tag: u64) -> Target<'_>
 }
 
 /// The target of a far pointer, by its landing pad.
+#[inline(never)]
 fn locate_far(segments: Segments<'_>, word: u64) -> Target<'_>
     ensures value { target_of result ≡ pad_target (segment_list segments.entry) (slice_get (segment_list segments.entry) (pad_segment word)) word }
     ensures start { StartFits result }
@@ -288,6 +292,7 @@ fn locate_far(segments: Segments<'_>, word: u64) -> Target<'_>
 }
 
 /// The target of the pointer at word `w` of a segment of the message.
+#[inline(always)]
 pub fn locate<'a>(segments: Segments<'a>, segment: &'a [u8], w: usize) -> Target<'a>
     ensures value { target_of result ≡ target_at (segment_list segments.entry) segment.now w }
     ensures start { StartFits result }

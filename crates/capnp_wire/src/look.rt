@@ -78,6 +78,7 @@ fn bytes_from(segment: &[u8], start: usize, count: usize) -> &[u8]
 }
 
 /// A struct with a level left for it.
+#[inline(always)]
 fn look_at_struct<'a>(
     segments: Segments<'a>,
     segment: &'a [u8],
@@ -143,6 +144,7 @@ fn look_at_list<'a>(
 }
 
 /// One level of a target, whose tree has one level less than `depth`.
+#[inline(always)]
 fn look_at_target<'a>(segments: Segments<'a>, target: Target<'a>, depth: u32) -> Found<'a>
     requires { StartFits target }
     ensures value { found_tree result ≡ tree_at_depth depth (tree_below (depth - 1) (segment_list segments.entry)) (tree_below (depth - 2) (segment_list segments.entry)) (target_of target.entry) }
@@ -218,6 +220,7 @@ fn look_at_target<'a>(segments: Segments<'a>, target: Target<'a>, depth: u32) ->
 }
 
 /// What the pointer at a word stands for, where its tree has one level less than `depth`.
+#[inline(always)]
 pub fn look_at_word<'a>(
     segments: Segments<'a>,
     segment: &'a [u8],
@@ -302,6 +305,7 @@ pub fn look_at_object(object: &Object) -> Found<'_>
 }
 
 /// What stands at a place.
+#[inline(always)]
 pub fn look(place: Place<'_>) -> Found<'_>
     ensures { found_tree result ≡ place_tree place.entry }
 {
@@ -319,6 +323,7 @@ pub fn look(place: Place<'_>) -> Found<'_>
 }
 
 /// The place of pointer `index`, null past the end.
+#[inline(always)]
 pub fn get_pointer(pointers: Pointers<'_>, index: usize) -> Place<'_>
     ensures { place_tree result ≡ nth_tree (pointer_trees pointers.entry) index }
 {

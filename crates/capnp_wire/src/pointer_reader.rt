@@ -31,6 +31,7 @@ impl<'a> PointerReader<'a> {
 
     /// A reader of a place.
     #[tactic(auto, unfolding(crate::specs::Standing::tree_of, crate::specs::Standing::levels_of))]
+    #[inline(always)]
     pub(crate) fn new(place: Place<'a>, levels: u32) -> PointerReader<'a>
         requires { IsWellFormed (place_tree place) }
         ensures tree { tree_of result ≡ place_tree place.entry }
@@ -73,6 +74,7 @@ impl<'a> PointerReader<'a> {
     /// Refused with `BadPointer` or `CapabilityPointer` where the pointer can't be followed, with `TooDeep` where no
     /// level is left for it, and then with `WrongPointerKind` for a list (encoding, "Structs").
     #[tactic(auto, unfolding(crate::specs::Standing::tree_of, crate::specs::Standing::levels_of))]
+    #[inline(always)]
     pub fn get_struct(&self) -> Result<StructReader<'a>>
         ensures read { struct_read result ≡ as_struct (tree_of self.now) (levels_of self.now) }
         ensures levels { IfOk result (λ s. struct_levels s + 1 ≡ levels_of self.now) }

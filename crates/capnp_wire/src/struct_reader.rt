@@ -29,6 +29,7 @@ impl<'a> StructReader<'a> {
 
     /// A reader of a struct's parts.
     #[tactic(auto, unfolding(crate::specs::Standing::struct_of, crate::specs::Standing::struct_levels))]
+    #[inline(always)]
     pub(crate) fn new(parts: StructParts<'a>, levels: u32) -> StructReader<'a>
         requires { IsWellFormedStruct (parts_tree parts) }
         ensures parts { struct_of result ≡ parts_tree parts.entry }
@@ -88,6 +89,7 @@ impl<'a> StructReader<'a> {
 
     /// The pointer at `index`, with the levels of the struct.
     #[tactic(auto, unfolding(crate::specs::Standing::struct_of, crate::specs::Standing::struct_levels))]
+    #[inline(always)]
     pub fn get_pointer_field(&self, index: u16) -> PointerReader<'a>
         ensures tree { tree_of result ≡ nth_tree (struct_of self.now).pointers index }
         ensures levels { levels_of result ≡ struct_levels self.now }
