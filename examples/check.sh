@@ -45,6 +45,21 @@ message many_segments.bin Many '(flag = false, s = -128, n = 65535, w = 21474836
     '(flag = false, s = -128, n = 65535, w = 2147483647, q = 1, z = ())'
 message two_messages.bin Flat '(a = 1) (a = 2)' '' '(a = 1)'
 
+# kinds FILE VALUES OPTIONS: `capnp encode OPTIONS` makes FILE from the values in another file
+kinds() {
+    if command -v capnp > "$scratch/which"; then
+        checks=$((checks + 1))
+        # shellcheck disable=SC2086 # no option is no word
+        capnp encode $3 examples/kinds.capnp Kinds < "$2" > "$scratch/made"
+        cmp -- "$scratch/made" "examples/$1" || fail "$1: capnp makes other bytes"
+    fi
+}
+
+echo '()' > "$scratch/nothing"
+kinds kinds.bin examples/kinds.txt ''
+kinds kinds_segments.bin examples/kinds.txt --segment-size=8
+kinds kinds_empty.bin "$scratch/nothing" ''
+
 # reading FILE TEXT: `capnp encode` makes FILE from TEXT, and `capnp decode` gives it back alike
 reading() {
     if command -v capnp > "$scratch/which"; then

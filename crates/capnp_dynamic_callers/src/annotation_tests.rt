@@ -1,8 +1,8 @@
 //! Annotations under their types, and enumerants.
 
-use crate::built_in::new_set;
 use crate::fixtures::{Seen, answer_of};
 use capnp_dynamic::dynamic_value::{AnnotationValue, Enum, Reader};
+use capnp_schema_callers::built_in::new_set;
 use std::test::Fail;
 
 /// The struct with annotations, and the enum, by their numbers.

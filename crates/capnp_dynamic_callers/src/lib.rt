@@ -3,9 +3,10 @@
 
 #[cfg(test)]
 mod annotation_tests;
-pub mod built_in;
 #[cfg(test)]
 mod fixtures;
+#[cfg(test)]
+mod kind_tests;
 #[cfg(test)]
 mod list_tests;
 pub mod parts;

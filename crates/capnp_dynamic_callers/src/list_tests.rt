@@ -1,8 +1,8 @@
 //! Lists: elements of one size read as another's, and lists that are not read so.
 
-use crate::built_in::new_set;
 use crate::fixtures::{Seen, answer_of, root};
 use crate::parts::{list_named, struct_at};
+use capnp_schema_callers::built_in::new_set;
 use std::test::Fail;
 
 /// The struct of lists, by number.

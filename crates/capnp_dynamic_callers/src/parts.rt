@@ -27,6 +27,20 @@ pub fn struct_in<'a>(
     }
 }
 
+/// The struct that the field of a name has. Refused as the read of the field, and as `TypeMismatch` where the field has
+/// another kind.
+pub fn struct_named<'a>(
+    reader: dynamic_struct::Reader<'a>,
+    name: &str,
+) -> Result<dynamic_struct::Reader<'a>>
+    ensures { IfOk result (λ s. value.Struct (record_seen s) ≡ found_seen reader.entry (field_named (struct_records (schema_of reader.entry)) name.now)) }
+{
+    match reader.get_named(name)? {
+        Value::Struct(inner) => Ok(inner),
+        _ => Err(Error::from(ErrorKind::TypeMismatch)),
+    }
+}
+
 /// The list that the field of a name has. Refused as the read of the field, and as `TypeMismatch` where the field has
 /// another kind.
 pub fn list_named<'a>(

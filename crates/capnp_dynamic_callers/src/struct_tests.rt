@@ -1,7 +1,7 @@
 //! Fields of structs: numbers, defaults, unions, and messages that are short.
 
-use crate::built_in::new_set;
 use crate::fixtures::{Seen, answer_of, root};
+use capnp_schema_callers::built_in::new_set;
 use capnp_wire::error::ErrorKind;
 use std::test::Fail;
 

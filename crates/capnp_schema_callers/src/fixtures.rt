@@ -1,4 +1,4 @@
-//! What the tests share: small sets of schemas, and what the check says of them.
+//! What tests share, those of crates above too: small sets of schemas, and what the check says of them.
 ghost use Rattle.std.specs.Prelude.{IfOk};
 ghost use Rattle.capnp_schema.specs.StructHandles.{IsStruct};
 
@@ -27,9 +27,14 @@ pub static NULL: [u8; 8] = [0; 8];
 pub enum ValueOf {
     Void,
     Bool(bool),
+    Int8(i8),
     Int16(i16),
+    Int32(i32),
+    Int64(i64),
+    UInt8(u8),
     UInt16(u16),
     UInt32(u32),
+    UInt64(u64),
     Enum(u16),
     Text(&'static [u8]),
     Data(&'static [u8]),
@@ -138,8 +143,14 @@ pub fn list_type(element: Type) -> Type {
 fn zero_of(field_type: Type) -> ValueOf {
     match field_type.which() {
         TypeVariant::Bool => ValueOf::Bool(false),
+        TypeVariant::Int8 => ValueOf::Int8(0),
+        TypeVariant::Int16 => ValueOf::Int16(0),
+        TypeVariant::Int32 => ValueOf::Int32(0),
+        TypeVariant::Int64 => ValueOf::Int64(0),
+        TypeVariant::UInt8 => ValueOf::UInt8(0),
         TypeVariant::UInt16 => ValueOf::UInt16(0),
         TypeVariant::UInt32 => ValueOf::UInt32(0),
+        TypeVariant::UInt64 => ValueOf::UInt64(0),
         TypeVariant::Enum(_) => ValueOf::Enum(0),
         TypeVariant::Text => ValueOf::Text(&[]),
         TypeVariant::Data => ValueOf::Data(&[]),
@@ -191,9 +202,14 @@ pub fn value_record(alloc: Global, value: ValueOf) -> Result<ValueRecord> {
     Ok(match value {
         ValueOf::Void => ValueRecord::Void,
         ValueOf::Bool(x) => ValueRecord::Bool(x),
+        ValueOf::Int8(x) => ValueRecord::Int8(x),
         ValueOf::Int16(x) => ValueRecord::Int16(x),
+        ValueOf::Int32(x) => ValueRecord::Int32(x),
+        ValueOf::Int64(x) => ValueRecord::Int64(x),
+        ValueOf::UInt8(x) => ValueRecord::UInt8(x),
         ValueOf::UInt16(x) => ValueRecord::UInt16(x),
         ValueOf::UInt32(x) => ValueRecord::UInt32(x),
+        ValueOf::UInt64(x) => ValueRecord::UInt64(x),
         ValueOf::Enum(x) => ValueRecord::Enum(x),
         ValueOf::Text(bytes) => ValueRecord::Text(copied(alloc, bytes)?),
         ValueOf::Data(bytes) => ValueRecord::Data(copied(alloc, bytes)?),
@@ -294,7 +310,12 @@ pub struct Records {
 }
 
 /// Adds a struct with a brand, whose node has the number.
-fn add_struct(alloc: Global, records: &mut Records, number: u32, of: &StructOf<'_>) -> Result<()> {
+pub fn add_struct(
+    alloc: Global,
+    records: &mut Records,
+    number: u32,
+    of: &StructOf<'_>,
+) -> Result<()> {
     records.nodes.push(node_record(alloc, of)?)?;
     records.brands.push(brand_record(alloc, number, of)?)?;
     Ok(())

@@ -10,8 +10,7 @@ mod annotation_tests;
 pub mod built_in;
 #[cfg(test)]
 mod enum_tests;
-#[cfg(test)]
-mod fixtures;
+pub mod fixtures;
 #[cfg(test)]
 mod footprint_tests;
 #[cfg(test)]
