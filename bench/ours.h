@@ -1,0 +1,13 @@
+// The calls of our static library that are timed, each a whole row's work. A call does its work `rounds` times over the
+// same message and answers a checksum, which has to be that of the C++ library's work.
+#pragma once
+#include <cstddef>
+#include <cstdint>
+
+extern "C" {
+uint64_t bench_read_by_name_opened(const uint8_t *message, size_t length, uint64_t rounds);
+uint64_t bench_read_by_name(const uint8_t *message, size_t length, uint64_t rounds);
+uint64_t bench_read_by_field_opened(const uint8_t *message, size_t length, uint64_t rounds);
+uint64_t bench_read_by_field(const uint8_t *message, size_t length, uint64_t rounds);
+uint64_t bench_find_by_name(const uint8_t *message, size_t length, uint64_t rounds);
+}

@@ -1,0 +1,11 @@
+# The structs of the built-in set that the rows read, in the schema language.
+@0xbf5147cbbecf40c1;
+
+struct Many {
+  flag @0 :Bool = true;
+  s @1 :Int8 = -1;
+  n @2 :UInt16 = 7;
+  w @3 :Int32;
+  q @4 :UInt64;
+  z @5 :Void;
+}

@@ -1,0 +1,5 @@
+//! The calls that `bench/run` times beside the C++ library. Each does a whole row's work so many times and answers a
+//! checksum; one that is refused answers 0.
+#![tactic(auto)]
+
+mod reads;
