@@ -13,11 +13,11 @@ use Rattle.capnp_schema.specs.Schema.{Field, FieldKind, Group, Node, Schemas, Sl
 use Rattle.capnp_schema.specs.Tests.{seen_variant}
 use Rattle.capnp_schema.specs.Types.{SchemaType}
 use Rattle.capnp_schema.specs.Schema.{Value as SchemaValue}
-use Rattle.capnp_records.proofs.Frame.{active_among-found, eq-from, second-of, to-eq, true≢false}
-use Rattle.capnp_records.proofs.Members.{counted-from_member, counted-not_zero, once-from_members}
-use Rattle.capnp_records.proofs.PartRead.{found-active, nth-plain_parts}
-use Rattle.capnp_records.proofs.Pointers.{values_of-nth}
-use Rattle.capnp_records.proofs.Readers.{null-is, value-there}
+use Rattle.capnp_records.specs.Facts.Frame.{active_among-found, eq-from, second-of, to-eq, true≢false}
+use Rattle.capnp_records.specs.Facts.Members.{counted-from_member, counted-not_zero, once-from_members}
+use Rattle.capnp_records.specs.Facts.PartRead.{found-active, nth-plain_parts}
+use Rattle.capnp_records.specs.Facts.Pointers.{values_of-nth}
+use Rattle.capnp_records.specs.Facts.Readers.{null-is, value-there}
 use Rattle.capnp_records.specs.Reading.{part_of}
 use Rattle.capnp_records.specs.Reading.{Reading, active_among, discriminant, kind_value, plain_parts, record_within, slot_value, struct_record, union_of, value_of, values_of}
 use Rattle.capnp_records.specs.Record.{Active, Levels, NoUnion, Parts, Union, Value, Values, is_there}

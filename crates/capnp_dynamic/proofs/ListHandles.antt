@@ -6,7 +6,7 @@ use Rattle.capnp_wire.specs.declared.list_reader.ListReader.{ListReader}
 use Rattle.capnp_base.specs.declared.introspect.«Type».{«Type» as TypeHandle}
 use Rattle.capnp_schema.specs.Schema.{Schemas}
 use Rattle.capnp_schema.specs.Types.{seen_type}
-use Rattle.capnp_records.proofs.ListValues.{below_of}
+use Rattle.capnp_records.specs.Facts.ListValues.{below_of}
 use Rattle.capnp_records.specs.Reading.{elements_value}
 use Rattle.capnp_records.specs.Record.{Left, Value}
 use Rattle.capnp_dynamic.specs.Behind.{list_answered}

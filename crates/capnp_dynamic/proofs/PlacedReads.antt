@@ -10,8 +10,8 @@ use Rattle.capnp_schema.specs.Schema.{FieldKind, Group, Schemas, Slot, default_o
 use Rattle.capnp_schema.specs.Schema.{Value as SchemaValue}
 use Rattle.capnp_schema.specs.Tests.{seen_variant}
 use Rattle.capnp_schema.specs.Types.{SchemaType, StructType, struct_brand, struct_number}
-use Rattle.capnp_records.proofs.Groups.{part_of-group}
-use Rattle.capnp_records.proofs.Pointers.{values_of-nth}
+use Rattle.capnp_records.specs.Facts.Groups.{part_of-group}
+use Rattle.capnp_records.specs.Facts.Pointers.{values_of-nth}
 use Rattle.capnp_records.specs.Default.{read_of}
 use Rattle.capnp_records.specs.Reading.{Reading, kind_value, record_of, record_within, slot_value, values_of}
 use Rattle.capnp_records.specs.Record.{Levels, Value}

@@ -16,9 +16,9 @@ use Rattle.capnp_schema.specs.Accepted.{root_of}
 use Rattle.capnp_schema.specs.Schema.{Schemas, VoidValue, BoolValue, IntValue, UIntValue, EnumValue, TextValue, DataValue, StructValue, ListValue, AnyPointerValue}
 use Rattle.capnp_schema.specs.Schema.{Value as SchemaValue}
 use Rattle.capnp_schema.specs.Types.{AnyPointerType, DataType, ListType, SchemaType, StructType, TextType, element_size}
-use Rattle.capnp_records.proofs.DefaultTree.{read-there}
-use Rattle.capnp_records.proofs.ListValues.{below_of}
-use Rattle.capnp_records.proofs.Readers.{data-read, list-value, null-is, struct-read, text-read, untyped-read, value-there}
+use Rattle.capnp_records.specs.Facts.DefaultTree.{read-there}
+use Rattle.capnp_records.specs.Facts.ListValues.{below_of}
+use Rattle.capnp_records.specs.Facts.Readers.{data-read, list-value, null-is, struct-read, text-read, untyped-read, value-there}
 use Rattle.capnp_records.specs.Default.{default_value, empty_value, read_of, unless_null}
 use Rattle.capnp_records.specs.Reading.{elements_value, entered, of_read, struct_record, value_of}
 use Rattle.capnp_records.specs.Record.{Left, Levels, Value, one_less}

@@ -8,7 +8,7 @@ use Rattle.capnp_wire.specs.declared.struct_reader.StructReader.{StructReader}
 use Rattle.capnp_schema.specs.Schema.{Schemas, TextValue, DataValue, StructValue, ListValue}
 use Rattle.capnp_schema.specs.Schema.{Value as SchemaValue}
 use Rattle.capnp_schema.specs.Types.{SchemaType}
-use Rattle.capnp_records.proofs.ListValues.{below_of}
+use Rattle.capnp_records.specs.Facts.ListValues.{below_of}
 use Rattle.capnp_records.specs.Reading.{elements_value, of_read, struct_record}
 use Rattle.capnp_records.specs.Record as value
 use Rattle.capnp_records.specs.Record.{Left, Value}

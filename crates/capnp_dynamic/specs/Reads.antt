@@ -13,7 +13,7 @@ use Rattle.capnp_schema.specs.FieldLists.{schema_of as field_schema}
 use Rattle.capnp_schema.specs.Types.{SchemaType}
 use Rattle.capnp_schema.specs.declared.schema.fields.Field.{Field}
 use Rattle.capnp_schema.specs.declared.schema.structs.StructSchema.{StructSchema}
-use Rattle.capnp_records.proofs.ListValues.{below_of}
+use Rattle.capnp_records.specs.Facts.ListValues.{below_of}
 use Rattle.capnp_records.specs.Default.{read_of, read_field}
 use Rattle.capnp_records.specs.Reading.{part_of}
 use Rattle.capnp_records.specs.Reading.{element_value, value_of, values_of}

@@ -4,7 +4,7 @@ use Rattle.capnp_device.specs.declared.error.Error.{Error}
 use Rattle.capnp_wire.specs.Standing.{list_levels, list_of, struct_levels, struct_of, tree_of}
 use Rattle.capnp_base.specs.AnyPointer.{pointer_of}
 use Rattle.capnp_schema.specs.StructHandles.{number_of, set_of}
-use Rattle.capnp_records.proofs.ListValues.{below_of}
+use Rattle.capnp_records.specs.Facts.ListValues.{below_of}
 use Rattle.capnp_records.specs.Reading.{elements_value, struct_record}
 use Rattle.capnp_records.specs.Record as value
 use Rattle.capnp_records.specs.Record.{Left, Record, Value}

@@ -5,7 +5,7 @@ ghost use Rattle.capnp_schema.specs.Accepted.{NamesEntries};
 ghost use Rattle.capnp_schema.specs.Entries.{lists_seen};
 ghost use Rattle.capnp_schema.specs.Schema.{VoidValue};
 ghost use Rattle.capnp_schema.specs.Tests.{seen_variant};
-ghost use Rattle.capnp_records.proofs.Readers.{element_read};
+ghost use Rattle.capnp_records.specs.Facts.Readers.{element_read};
 ghost use Rattle.capnp_records.specs.Default.{read_of};
 ghost use Rattle.capnp_dynamic.specs.Seen.{answered};
 ghost use Rattle.capnp_dynamic.specs.Typed.{IsOf};

@@ -1,10 +1,10 @@
 -- The laws, each by the lemma that shows it.
 use Rattle.capnp_records.proofs.DefaultParts.{default-parts, first-active}
-use Rattle.capnp_records.proofs.Extension.{reads-extended, reads-rounded}
+use Rattle.capnp_records.specs.Facts.Extension.{reads-extended, reads-rounded}
 use Rattle.capnp_records.proofs.FieldFrame.{frame-cleared, frame-copied, frame-slot}
-use Rattle.capnp_records.proofs.FieldWrite.{field_write}
+use Rattle.capnp_records.specs.Facts.FieldWrite.{field_write}
 use Rattle.capnp_records.proofs.FormedEnds.{formed-law}
-use Rattle.capnp_records.proofs.Frame.{part_of-same}
+use Rattle.capnp_records.specs.Facts.Frame.{part_of-same}
 use Rattle.capnp_records.proofs.GroupClear.{turns-cleared_group}
 use Rattle.capnp_records.proofs.GroupCopy.{within-copied}
 use Rattle.capnp_records.proofs.Printed.{group-print-law, print-law, value-print-law}

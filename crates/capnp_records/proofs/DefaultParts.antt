@@ -1,5 +1,5 @@
 -- The default record has each field at its default.
-use Rattle.capnp_schema.proofs.Groups.{group_fields_name_brands}
+use Rattle.capnp_schema.specs.Facts.Groups.{group_fields_name_brands}
 use Rattle.std.specs.Prelude.{ℕ, ◌*◌, ◌<◌, ◌≡◌, refl, [], false, ◌==◌, length, bit_xor}
 use Rattle.std.proofs.Common.{arith, ap, sym, ◌∙◌}
 use Rattle.std.specs.Int.Bits.{xor_zero_l}
@@ -8,11 +8,11 @@ use Rattle.capnp_schema.specs.Schema.{FieldKind, Group, Schemas, Slot, TypedFiel
 use Rattle.capnp_schema.specs.SlotValue.{default_bits}
 use Rattle.capnp_schema.specs.Accepted.{IsAccepted}
 use Rattle.capnp_schema.specs.Types.{SchemaType, is_pointer, struct_number, width}
-use Rattle.capnp_records.proofs.Frame.{active_among-found, either-same, second-of}
-use Rattle.capnp_records.proofs.GroupWrite.{bits_at-empty}
-use Rattle.capnp_records.proofs.Groups.{part_of-group}
-use Rattle.capnp_records.proofs.Members.{counted-from_member, counted-not_zero, once-from_members}
-use Rattle.capnp_records.proofs.PartRead.{can-enter}
+use Rattle.capnp_records.specs.Facts.Frame.{active_among-found, either-same, second-of}
+use Rattle.capnp_records.specs.Facts.GroupWrite.{bits_at-empty}
+use Rattle.capnp_records.specs.Facts.Groups.{part_of-group}
+use Rattle.capnp_records.specs.Facts.Members.{counted-from_member, counted-not_zero, once-from_members}
+use Rattle.capnp_records.specs.Facts.PartRead.{can-enter}
 use Rattle.capnp_records.specs.Laws.{DefaultPartsStand, FirstMemberIsActive, default_part}
 use Rattle.capnp_records.specs.Part.{which_of}
 use Rattle.capnp_records.specs.Reading.{active_among, number_value, part_of, plain_parts, union_of}

@@ -2,14 +2,14 @@
 use Rattle.std.specs.Prelude.{ℕ, zero, suc, ◌^◌, ◌<◌, ⊤, List, [], ◌∷◌, slice_index_or}
 use Rattle.std.proofs.Common.{arith}
 use Rattle.capnp_wire.specs.WellFormed.{AreBytes, AreSegments, IsWellFormed}
-use Rattle.capnp_wire.proofs.WellFormedPlaces.{IsWellFormed-tree_at}
+use Rattle.capnp_wire.specs.Facts.Places.{IsWellFormed-tree_at}
 use Rattle.capnp_schema.specs.Schema.{AnyPointerValue, BoolValue, DataValue, EnumValue, FieldKind, Group, IntValue, ListValue, Schemas, Slot, StructValue, TextValue, UIntValue, VoidValue, brand_at, field_at, kind_default, node_of}
 use Rattle.capnp_schema.specs.Schema.{Value as SchemaValue}
 use Rattle.capnp_schema.specs.Types.{SchemaType}
 use Rattle.capnp_schema.specs.Accepted.{Decodes, EachField, IsAccepted, KindDefault, root_of}
 use Rattle.capnp_schema.specs.Ranges.{HasRanges, ValueFits}
 use Rattle.capnp_records.proofs.Formed.{formed-data, formed-text}
-use Rattle.capnp_records.proofs.Members.{default-decodes}
+use Rattle.capnp_records.specs.Facts.Members.{default-decodes}
 use Rattle.capnp_records.specs.Given.{data_tree, text_tree}
 
 -- the tree of a default is well-formed

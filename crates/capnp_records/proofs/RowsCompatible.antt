@@ -10,7 +10,7 @@ use Rattle.capnp_schema.specs.Types.{SchemaType, StructType, UIntType, TextType,
 use Rattle.capnp_schema.specs.Schema.{Schemas, Field, VoidValue, UIntValue, TextValue, DataValue, field_at}
 use Rattle.capnp_schema.specs.SlotValue.{default_bits}
 use Rattle.capnp_schema.specs.Builtin.{builtin, plain, member, union_node, plain_brand}
-use Rattle.capnp_records.proofs.Frame.{and-left, and-right, to-eq}
+use Rattle.capnp_records.specs.Facts.Frame.{and-left, and-right, to-eq}
 use Rattle.capnp_records.specs.Record.{Left, Value}
 use Rattle.capnp_records.specs.Part.{which_of}
 use Rattle.capnp_records.specs.Reading.{struct_record, value_of}

@@ -13,7 +13,7 @@ use Rattle.capnp_schema.specs.Annotated.{with_types, annotations_of, child_types
 use Rattle.capnp_schema.proofs.AnnotatedLemmas.{annotations_are}
 use Rattle.capnp_schema.proofs.EntryWalk.{entry_has}
 use Rattle.capnp_schema.proofs.GroupTargets.{node_past}
-use Rattle.capnp_schema.proofs.Typed.{typed_nothing}
+use Rattle.capnp_schema.specs.Facts.Fields.{typed_nothing}
 
 -- two lists that go by one list of lengths
 pub same_lengths : {A B : Type 0} (xs : List (List A)) (ys : List (List B)) (i : ℕ) (x : List A) (y : List B) → map length xs ≡ map length ys → Some x ≡ slice_get xs i → Some y ≡ slice_get ys i → length x ≡ length y

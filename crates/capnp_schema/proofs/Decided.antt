@@ -15,33 +15,9 @@ use Rattle.capnp_schema.specs.Schema.{Schemas, Node, Brand, no_node, no_brand, n
 use Rattle.capnp_schema.specs.Entries.{brand_entry, brand_node, node_of_entry}
 use Rattle.capnp_schema.specs.Accepted.{NamesEntries, LiesInside, KindDefault, IsDefaultOf, NamesNoGroup, IsGroupBrand, GroupFits, DiscriminantFits}
 use Rattle.capnp_schema.specs.Tests.{seen_variant, variant_is_named, variant_is_no_group, brand_is, node_is_group, is_named, is_inside, is_default, kind_is_default, names_no_group, group_fits, is_discriminant_inside}
+use Rattle.capnp_schema.specs.Facts.Layers.{seen_at_base, seen_by, seen_which}
 
 -- ---- types by their layers ----
-
-pub seen_at_base : (b : BaseType) → seen_variant (base_variant b) ≡ seen_base b
-seen_at_base base.Void = refl
-seen_at_base base.Bool = refl
-seen_at_base base.Int8 = refl
-seen_at_base base.Int16 = refl
-seen_at_base base.Int32 = refl
-seen_at_base base.Int64 = refl
-seen_at_base base.UInt8 = refl
-seen_at_base base.UInt16 = refl
-seen_at_base base.UInt32 = refl
-seen_at_base base.UInt64 = refl
-seen_at_base base.Text = refl
-seen_at_base base.«Data» = refl
-seen_at_base (base.Struct schema) = refl
-seen_at_base base.AnyPointer = refl
-seen_at_base (base.Enum schema) = refl
-
-seen_by : (b : BaseType) (count : ℕ) → seen_variant (variant_by b count) ≡ lists_of count (seen_base b)
-seen_by b zero = seen_at_base b
-seen_by b (suc count) = refl
-
--- one layer of a type stands for what the type stands for
-pub seen_which : (t : TypeHandle) → seen_variant (variant_of t) ≡ seen_type t
-seen_which t = seen_by t.base t.list_count
 
 named_in_lists : (set : Schemas) (t : SchemaType) (count : ℕ) → is_named set (lists_of count t) ≡ is_named set t
 named_in_lists set t zero = refl

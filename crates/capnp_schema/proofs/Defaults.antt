@@ -19,7 +19,7 @@ use Rattle.capnp_schema.specs.declared.value.Value.TheVariants as view
 use Rattle.capnp_schema.specs.Values.{DefaultStands}
 use Rattle.capnp_schema.proofs.LookUps.{accepted_seen}
 use Rattle.capnp_schema.proofs.NamedTypes.{brand_of_field}
-use Rattle.capnp_schema.proofs.Plans.{of_field, of_node}
+use Rattle.capnp_schema.specs.Facts.Fields.{of_field, of_node}
 
 null_reads : (t : SchemaType) → IsReadAs t tree.Null
 null_reads VoidType = refl

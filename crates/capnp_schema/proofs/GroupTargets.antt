@@ -8,7 +8,7 @@ use Rattle.capnp_schema.specs.Schema.{Schemas, Node, Brand, FieldKind, Slot, Gro
 use Rattle.capnp_schema.specs.Entries.{brand_entry, brand_node, node_of_entry}
 use Rattle.capnp_schema.specs.Accepted.{Rule1, Rule7, NamesEntries, GroupFits, IsGroupBrand, IsParent, IsGroupOf}
 use Rattle.capnp_schema.specs.Parents.{group_target, entry_target, kind_target, TargetsAreGroups}
-use Rattle.capnp_schema.proofs.Typed.{typed_nothing}
+use Rattle.capnp_schema.specs.Facts.Fields.{typed_nothing}
 
 -- ---- nodes ----
 

@@ -16,8 +16,8 @@ use Rattle.capnp_schema.specs.Tests.{seen_variant}
 use Rattle.capnp_schema.specs.declared.schema.fields.Field.{Field as FieldHandle}
 use Rattle.capnp_schema.specs.declared.schema.structs.StructSchema.{StructSchema}
 use Rattle.capnp_schema.specs.declared.plan.SlotPlan.{SlotPlan}
-use Rattle.capnp_schema.proofs.Decided.{seen_which}
-use Rattle.capnp_schema.proofs.Groups.{heights_fall}
+use Rattle.capnp_schema.specs.Facts.Layers.{seen_which}
+use Rattle.capnp_schema.specs.Facts.Groups.{heights_fall}
 use Rattle.capnp_schema.proofs.NamedTypes.{brand_of_field}
 
 pub leads_to_group : (set : Schemas) → IsAccepted set → (b i g : ℕ) → b < length set.brands → i < length (fields_of set b) →

@@ -22,7 +22,6 @@ pub mod GroupChains
 pub mod GroupRows
 pub mod GroupTable
 pub mod GroupTargets
-pub mod Groups
 pub mod GroupsDown
 pub mod HandleRows
 pub mod Indices

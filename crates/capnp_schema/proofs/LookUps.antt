@@ -19,7 +19,7 @@ use Rattle.capnp_schema.specs.Tables.{AreTables, no_plan}
 use Rattle.capnp_schema.proofs.FieldWalk.{found_field, found_node}
 use Rattle.capnp_schema.proofs.GroupTargets.{no_fields}
 use Rattle.capnp_schema.proofs.Plans.{lies_in_node, plans_stand}
-use Rattle.capnp_schema.proofs.Typed.{typed_nothing}
+use Rattle.capnp_schema.specs.Facts.Fields.{typed_nothing}
 
 -- ---- a set and what is kept in it ----
 

@@ -11,43 +11,9 @@ use Rattle.capnp_schema.specs.SlotValue.{bits_at, default_bits}
 use Rattle.capnp_schema.specs.Laws.{struct_names}
 use Rattle.capnp_schema.specs.Plan.{LiesInNode, IsPlan, HasSlotNumber, data_place, slot_place, place_of, place_names, place_number, member_plan, plan_of, discriminant_bits}
 use Rattle.capnp_schema.specs.Ranges.{HasRanges}
-use Rattle.capnp_schema.proofs.Groups.{group_names_its_parts}
+use Rattle.capnp_schema.specs.Facts.Groups.{group_names_its_parts}
+use Rattle.capnp_schema.specs.Facts.Fields.{entry-some, of_node, typed-field, of_field, member_counted}
 use Rattle.capnp_schema.proofs.PlanFits.{is_discriminant, is_slot_place, plan_fits}
-
--- ---- entries ----
-
-pub entry-some : {A : Type 0} (xs : List A) (i : ℕ) (none : A) → i < length xs → slice_get xs i ≡ Some (unwrap_or (slice_get xs i) none)
-entry-some [] i none a = absurd (omega arith)
-entry-some (x ∷ xs) zero none a = refl
-entry-some (x ∷ xs) (suc i) none a = entry-some xs i none (omega arith)
-
-All-entry : {A : Type 0} (P : A → Type 0) (xs : List A) (i : ℕ) (x : A) → All P xs → slice_get xs i ≡ Some x → P x
-All-entry P xs i x all e = subst P (get_or_from_slice_get xs i x x e) (all i x (slice_get_within xs i x e))
-
--- what holds of all nodes holds of a brand's
-pub of_node : (set : Schemas) → IsAccepted set → (P : Node → Type 0) → All P set.nodes → (b : ℕ) → b < length set.brands → P (node_of set b)
-of_node set accepted P all b b_in =
-    All-entry P set.nodes (brand_at set b).node (node_of set b) all (entry-some set.nodes (brand_at set b).node no_node inside)
-  where
-    inside : (brand_at set b).node < length set.nodes
-    inside = All-entry (λ (x : Brand). x.node < length set.nodes) set.brands b (brand_at set b) accepted.rule2.node (entry-some set.brands b (no_brand set) b_in)
-
-pub typed-field : (fs : List Field) (ts : List SchemaType) (i : ℕ) → i < length (typed fs ts) → slice_get fs i ≡ Some (unwrap_or (slice_get (typed fs ts) i) no_field).field
-typed-field [] ts i a = absurd (omega arith)
-typed-field (f ∷ fs) [] i a = absurd (omega arith)
-typed-field (f ∷ fs) (t ∷ ts) zero a = refl
-typed-field (f ∷ fs) (t ∷ ts) (suc i) a = typed-field fs ts i (omega arith)
-
--- what holds of all fields of a node holds of a brand's
-pub of_field : (P : Field → Type 0) (set : Schemas) (b i : ℕ) → i < length (fields_of set b) → All P (node_of set b).fields → P (field_at set b i).field
-of_field P set b i i_in all = All-entry P (node_of set b).fields i (field_at set b i).field all (typed-field (node_of set b).fields (brand_at set b).field_types i i_in)
-
--- a struct with a member has a union
-pub member_counted : (set : Schemas) → IsAccepted set → (b i : ℕ) → b < length set.brands → i < length (fields_of set b) → IsTrue (is_member (field_at set b i).field) →
-    (field_at set b i).field.discriminant_value < (node_of set b).discriminant_count
-member_counted set accepted b i b_in i_in member =
-    All-entry (λ (f : Field). IsTrue (is_member f) → f.discriminant_value < (node_of set b).discriminant_count) (node_of set b).fields i (field_at set b i).field
-    (of_node set accepted HasEachMember accepted.rule9 b b_in).below (typed-field (node_of set b).fields (brand_at set b).field_types i i_in) member
 
 pub lies_in_node : (set : Schemas) → IsAccepted set → (b i : ℕ) → b < length set.brands → i < length (fields_of set b) → LiesInNode (node_of set b) (field_at set b i)
 lies_in_node set accepted b i b_in i_in = record {

@@ -21,7 +21,7 @@ use Rattle.capnp_schema.specs.EntryRanges.{EntriesFit, FieldFits}
 use Rattle.capnp_schema.specs.declared.lists.Lists.{Lists}
 use Rattle.capnp_schema.specs.declared.record.AnnotationTypes.{AnnotationTypes as TypesRecord}
 use Rattle.capnp_schema.proofs.EntryWalk.{at_node, entry_has}
-use Rattle.capnp_schema.proofs.Plans.{entry-some, of_node, typed-field}
+use Rattle.capnp_schema.specs.Facts.Fields.{entry-some, of_node, typed-field}
 
 -- ---- types ----
 

@@ -21,29 +21,8 @@ use Rattle.capnp_schema.specs.Accepted.{EachField, KindDefault, ListReads, Rule6
 use Rattle.capnp_schema.specs.Broken.{IsBroken, default_list}
 use Rattle.capnp_schema.specs.ListDefaults.{LayerReads, ReadsDefault}
 use Rattle.capnp_schema.specs.Values.{HaveAllWords}
-use Rattle.capnp_schema.proofs.Typed.{typed_nothing}
-
-size_by : (b : BaseType) (n : ℕ) → size_of_variant (variant_by b n) ≡ element_size (lists_of n (seen_base b))
-size_by b (suc n) = refl
-size_by base.Void zero = refl
-size_by base.Bool zero = refl
-size_by base.Int8 zero = refl
-size_by base.Int16 zero = refl
-size_by base.Int32 zero = refl
-size_by base.Int64 zero = refl
-size_by base.UInt8 zero = refl
-size_by base.UInt16 zero = refl
-size_by base.UInt32 zero = refl
-size_by base.UInt64 zero = refl
-size_by base.Text zero = refl
-size_by base.«Data» zero = refl
-size_by (base.Struct x) zero = refl
-size_by base.AnyPointer zero = refl
-size_by (base.Enum x) zero = refl
-
--- the size of elements, as the crate of types has it and as definitions do
-pub elements_sized : (t : TypeHandle) → size_of_variant (variant_of t) ≡ element_size (seen_type t)
-elements_sized t = size_by t.base t.list_count
+use Rattle.capnp_schema.specs.Facts.Fields.{brand_there}
+use Rattle.capnp_schema.specs.Facts.Layers.{elements_sized}
 
 reads_by : (r : Bool) (words : List ℕ) (b : BaseType) (n : ℕ) → (IsTrue r ↔ LayerReads words (variant_by b n)) → IsTrue r ↔ ListReads (ListValue words) (lists_of n (seen_base b))
 reads_by r words b (suc n) h = h
@@ -76,17 +55,6 @@ one_level size (tree.Numbers w bytes) = refl
 one_level size (tree.Pointers ps) = refl
 one_level size (tree.Composite d p es) = refl
 one_level size (tree.FaultLeaf k) = refl
-
--- a field of a brand shows that the brand is there
-pub brand_there : (set : Schemas) (b i : ℕ) → i < length (fields_of set b) → b < length set.brands
-brand_there set b i h = ⊎_elim (λ inside. inside) (λ past. absurd (none past)) (cases_lt b (length set.brands))
-  where
-    none : length set.brands ≤ b → ⊥
-    none past =
-        let gone : brand_at set b ≡ (no_brand set) = ap (λ (o : Option Brand). unwrap_or o (no_brand set)) (slice_get_past set.brands b past) in
-        let empty : fields_of set b ≡ [] = ap (λ (x : Brand). typed (node_of set b).fields x.field_types) gone ∙ typed_nothing (node_of set b).fields in
-        let count = ap (λ (l : List TypedField). length l) empty in
-        absurd (omega arith)
 
 module _ (set : Schemas) (b i : ℕ) (f : TypedField) (here : slice_get (fields_of set b) i ≡ Some f) where
   pub field_inside : i < length (fields_of set b)

@@ -6,10 +6,6 @@ use Rattle.capnp_schema.specs.Types.{seen_type}
 use Rattle.capnp_schema.specs.Schema.{Field, TypedField, typed, seen_field}
 use Rattle.capnp_schema.specs.declared.record.FieldRecord.{FieldRecord}
 
-pub typed_nothing : (fs : List Field) → typed fs [] ≡ []
-typed_nothing [] = refl
-typed_nothing (f ∷ fs) = refl
-
 -- a field and its type, where both are there
 abbrev pub typed_entry : Option FieldRecord → Option TypeHandle → Option TypedField
 typed_entry None t = None

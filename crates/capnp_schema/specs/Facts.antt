@@ -1,3 +1,6 @@
 -- Facts of the definitions, with their proofs: what lemmas of crates above cite.
 pub mod Bits
+pub mod Fields
+pub mod Groups
+pub mod Layers
 pub mod Slots

@@ -15,32 +15,32 @@ use crate::set::SchemaSet;
 
 /// Two fields of a struct or group name the same data bit or pointer only where both are members
 /// of its union.
-#[tactic(auto, using(crate::proofs::Groups::only_members_meet))]
+#[tactic(auto, using(crate::specs::Facts::Groups::only_members_meet))]
 pub fn only_members_meet()
     ensures { OnlyMembersMeet }
 {}
 
 /// No field of a struct or group names a bit of its discriminant.
-#[tactic(auto, using(crate::proofs::Groups::none_names_discriminant))]
+#[tactic(auto, using(crate::specs::Facts::Groups::none_names_discriminant))]
 pub fn none_names_discriminant()
     ensures { NoneNamesDiscriminant }
 {}
 
 /// What a group field names is what the fields of its group and the group's discriminant name.
-#[tactic(auto, using(crate::proofs::Groups::group_names_its_parts))]
+#[tactic(auto, using(crate::specs::Facts::Groups::group_names_its_parts))]
 pub fn group_names_its_parts()
     ensures { GroupNamesItsParts }
 {}
 
 /// A group field is the group field of the brand that its type names.
-#[tactic(auto, using(crate::proofs::Groups::group_fields_name_brands))]
+#[tactic(auto, using(crate::specs::Facts::Groups::group_fields_name_brands))]
 pub fn group_fields_name_brands()
     ensures { GroupFieldsNameBrands }
 {}
 
 /// Each group field leads to a group of the set, of lesser height; a height is at most the number of brands. What goes
 /// down groups ends by it.
-#[tactic(auto, using(crate::proofs::Groups::heights_fall))]
+#[tactic(auto, using(crate::specs::Facts::Groups::heights_fall))]
 pub fn heights_fall()
     ensures { HeightsFall }
 {}
@@ -68,7 +68,7 @@ pub fn defaults_fit()
 
 /// What `which` answers of a type stands for the same as the type. So a type that names entries of a set names them by its
 /// layer: a struct its brand and node, an enum its entry, a list what its elements name.
-#[tactic(auto, using(crate::proofs::Decided::seen_which))]
+#[tactic(auto, using(crate::specs::Facts::Layers::seen_which))]
 pub fn types_go_by_layers()
     ensures { TypesGoByLayers }
 {}

@@ -56,7 +56,7 @@ impl Lists {
     }
 
     /// How many fields a brand has: as many as there are both in its node and among its types.
-    #[tactic(auto, using(crate::proofs::Typed::typed_nothing))]
+    #[tactic(auto, using(crate::specs::Facts::Fields::typed_nothing))]
     pub(crate) fn field_count(&self, brand: usize) -> usize
         ensures { result ≡ length (fields_of (lists_seen self.now) brand) }
     {
@@ -70,7 +70,7 @@ impl Lists {
     }
 
     /// A field of a brand.
-    #[tactic(auto, using(crate::proofs::Typed::typed_nothing))]
+    #[tactic(auto, using(crate::specs::Facts::Fields::typed_nothing))]
     pub(crate) fn field_at(&self, brand: usize, field: usize) -> Option<TypedField<'_>>
         ensures { option_map seen_typed result ≡ slice_get (fields_of (lists_seen self.now) brand) field }
     {

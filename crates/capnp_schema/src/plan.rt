@@ -53,7 +53,7 @@ pub(crate) fn plan_field(node: &NodeRecord, field: &FieldRecord, field_type: &Ty
 }
 
 /// Where a field of a kind and type stands in a node's sections.
-#[tactic(auto, using(crate::proofs::Decided::seen_which))]
+#[tactic(auto, using(crate::specs::Facts::Layers::seen_which))]
 fn place_of(kind: &FieldKind, field_type: &Type, node: &NodeRecord) -> Place
     requires { LiesInside (seen_node node.now) (seen_kind kind.now) (seen_type field_type.now) }
     ensures { result ≡ place_of (seen_kind kind.now) (seen_type field_type.now) }
@@ -70,7 +70,7 @@ fn place_of(kind: &FieldKind, field_type: &Type, node: &NodeRecord) -> Place
 }
 
 /// Where a slot stands, by its offset in units of its own width.
-#[tactic(auto, using(crate::proofs::Decided::seen_which))]
+#[tactic(auto, using(crate::specs::Facts::Layers::seen_which))]
 fn slot_place(offset: u32, default: &ValueRecord, field_type: &Type) -> Place
     requires bits { (offset + 1) * width (seen_type field_type.now) ≤ 64 * 65535 }
     requires pointer { is_pointer (seen_type field_type.now) ≡ true → offset < 65535 }

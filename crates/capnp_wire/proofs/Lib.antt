@@ -3,11 +3,7 @@ pub mod Cut
 pub mod Lists
 pub mod ListObjects
 pub mod Levels
-pub mod ByteRuns
 pub mod SegmentBytes
-pub mod Inside
-pub mod WellFormedRows
-pub mod WellFormedPlaces
 pub mod WellFormedParts
 pub mod MoreBytes
 pub mod Sums

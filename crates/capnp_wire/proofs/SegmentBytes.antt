@@ -3,7 +3,7 @@ use Rattle.std.proofs.Common.{ℕ, zero, suc, ◌*◌, List, take, drop}
 use Rattle.capnp_wire.specs.Slot.{little_endian}
 use Rattle.capnp_wire.specs.Stream.{cut}
 use Rattle.capnp_wire.specs.WellFormed.{AreBytes, AreSegments}
-use Rattle.capnp_wire.proofs.ByteRuns.{AreBytes-none, AreBytes-take, AreBytes-drop}
+use Rattle.capnp_wire.specs.Facts.ByteRuns.{AreBytes-none, AreBytes-take, AreBytes-drop}
 pub use Rattle.capnp_wire.specs.Facts.Bytes.{AreSegments-one}
 
 -- segments that a table cuts from a body

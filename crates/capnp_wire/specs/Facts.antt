@@ -10,3 +10,7 @@ pub mod Lent
 pub mod Lengths
 pub mod Room
 pub mod Filled
+pub mod Inside
+pub mod Places
+pub mod WellFormedRows
+pub mod ByteRuns

@@ -45,7 +45,7 @@ pub(crate) fn names_entry(lists: &Lists, of: &Type) -> bool
 }
 
 /// Whether a slot lies inside its section.
-#[tactic(auto, using(crate::proofs::Decided::seen_which))]
+#[tactic(auto, using(crate::specs::Facts::Layers::seen_which))]
 fn is_inside(node: &NodeRecord, kind: &FieldKind, of: &Type) -> bool
     ensures { result ≡ is_inside (seen_node node.now) (seen_kind kind.now) (seen_type of.now) }
 {
@@ -89,7 +89,7 @@ fn is_default(value: &ValueRecord, variant: TypeVariant) -> bool
 }
 
 /// Whether a field's default is of its type's kind; a group has none.
-#[tactic(auto, using(crate::proofs::Decided::seen_which))]
+#[tactic(auto, using(crate::specs::Facts::Layers::seen_which))]
 fn has_default(kind: &FieldKind, of: &Type) -> bool
     ensures { result ≡ kind_is_default (seen_kind kind.now) (seen_type of.now) }
 {
@@ -128,7 +128,7 @@ fn is_group_type(lists: &Lists, node: u32, variant: TypeVariant) -> bool
 }
 
 /// Whether groups are named by group fields alone, and each by the type of its node.
-#[tactic(auto, using(crate::proofs::Decided::seen_which))]
+#[tactic(auto, using(crate::specs::Facts::Layers::seen_which))]
 fn group_fits(lists: &Lists, kind: &FieldKind, of: &Type) -> bool
     ensures { result ≡ group_fits (lists_seen lists.now) (seen_kind kind.now) (seen_type of.now) }
 {

@@ -23,7 +23,7 @@ pub(crate) fn brand_count(lists: &Lists) -> usize
 }
 
 /// The brand that a group field names, nothing for a slot or where the type is no struct type.
-#[tactic(auto, using(crate::proofs::Decided::seen_which))]
+#[tactic(auto, using(crate::specs::Facts::Layers::seen_which))]
 pub(crate) fn group_target(lists: &Lists, brand: usize, field: usize) -> Option<usize>
     ensures { result ≡ group_target (lists_seen lists.now) brand field }
 {

@@ -25,7 +25,7 @@ pub(crate) enum Span {
 }
 
 /// What a slot names.
-#[tactic(auto, using(crate::proofs::Decided::seen_which))]
+#[tactic(auto, using(crate::specs::Facts::Layers::seen_which))]
 fn slot_span(offset: u32, field_type: &Type) -> Span
     ensures { (p : Place) → span_names result p ≡ slot_names offset (seen_type field_type.now) p }
 {
@@ -124,7 +124,7 @@ fn add_fields(lists: &Lists, brand: usize, groups: usize, out: &mut Vec<Span>) -
 }
 
 /// Adds what a field names; nothing for a field that isn't there, or a group field of a type that is no struct type.
-#[tactic(auto, using(crate::proofs::Decided::seen_which))]
+#[tactic(auto, using(crate::specs::Facts::Layers::seen_which))]
 #[cycle(spans)]
 fn add_field(
     lists: &Lists,

@@ -9,8 +9,8 @@ use Rattle.capnp_schema.specs.Entries.{lists_seen}
 use Rattle.capnp_schema.specs.Schema.{VoidValue}
 use Rattle.capnp_schema.specs.Tests.{seen_variant}
 use Rattle.capnp_schema.specs.Types.{ListType, seen_type}
-use Rattle.capnp_schema.proofs.ReadDefaults.{elements_sized}
-use Rattle.capnp_records.proofs.Readers.{element_read}
+use Rattle.capnp_schema.specs.Facts.Layers.{elements_sized}
+use Rattle.capnp_records.specs.Facts.Readers.{element_read}
 use Rattle.capnp_records.specs.Default.{read_of}
 use Rattle.capnp_records.specs.Record as value
 use Rattle.capnp_records.specs.Record.{Left}

@@ -6,7 +6,7 @@ use Rattle.capnp_schema.specs.Entries.{lists_seen}
 use Rattle.capnp_schema.specs.Schema.{kind_default, seen_kind}
 use Rattle.capnp_schema.specs.Tests.{seen_variant}
 use Rattle.capnp_schema.specs.Types.{seen_type}
-use Rattle.capnp_schema.proofs.ReadDefaults.{elements_sized}
+use Rattle.capnp_schema.specs.Facts.Layers.{elements_sized}
 use Rattle.capnp_records.specs.Record as value
 use Rattle.capnp_records.specs.Record.{Left}
 use Rattle.capnp_dynamic.specs.Reads.{pointer_read}

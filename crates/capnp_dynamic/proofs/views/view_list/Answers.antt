@@ -5,7 +5,7 @@ use Rattle.capnp_schema.specs.Entries.{lists_seen}
 use Rattle.capnp_schema.specs.Tests.{seen_variant}
 use Rattle.capnp_schema.specs.Types.{seen_type}
 use Rattle.capnp_schema.specs.declared.value.Value.TheVariants as view
-use Rattle.capnp_schema.proofs.ReadDefaults.{elements_sized}
+use Rattle.capnp_schema.specs.Facts.Layers.{elements_sized}
 use Rattle.capnp_dynamic.specs.Viewed.{view_read}
 use Rattle.capnp_dynamic.proofs.ListHandles.{handle_seen}
 use Rattle.capnp_dynamic.proofs.views.view_list.Goals as goal

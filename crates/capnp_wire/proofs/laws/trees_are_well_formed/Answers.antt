@@ -1,4 +1,4 @@
-use Rattle.capnp_wire.proofs.WellFormedPlaces.{IsWellFormed-tree_at, IsWellFormed-tree_below}
+use Rattle.capnp_wire.specs.Facts.Places.{IsWellFormed-tree_at, IsWellFormed-tree_below}
 use Rattle.capnp_wire.proofs.laws.trees_are_well_formed.Goals as goal
 
 pub returns : goal.returns

@@ -6,8 +6,8 @@ use Rattle.capnp_schema.specs.Entries.{lists_seen}
 use Rattle.capnp_schema.specs.Schema.{VoidValue}
 use Rattle.capnp_schema.specs.Tests.{seen_variant}
 use Rattle.capnp_schema.specs.Types.{SchemaType, seen_type}
-use Rattle.capnp_schema.proofs.Decided.{seen_which}
-use Rattle.capnp_records.proofs.Readers.{element-is-read, element_read}
+use Rattle.capnp_schema.specs.Facts.Layers.{seen_which}
+use Rattle.capnp_records.specs.Facts.Readers.{element-is-read, element_read}
 use Rattle.capnp_records.specs.Default.{read_of}
 use Rattle.capnp_dynamic.specs.Typed.{IsOf}
 use Rattle.capnp_dynamic.proofs.dynamic_list.Reader.get.Goals as goal

@@ -13,7 +13,7 @@ use Rattle.capnp_schema.specs.declared.plan.Place.{Place}
 use Rattle.capnp_schema.specs.declared.plan.SlotPlan.{SlotPlan}
 use Rattle.capnp_schema.specs.declared.schema.fields.Field.{Field as FieldHandle}
 use Rattle.capnp_schema.specs.declared.schema.structs.StructSchema.{StructSchema}
-use Rattle.capnp_schema.proofs.Decided.{seen_which}
+use Rattle.capnp_schema.specs.Facts.Layers.{seen_which}
 use Rattle.capnp_records.specs.Record.{Left}
 use Rattle.capnp_dynamic.specs.Handles.{reader_of, schema_of}
 use Rattle.capnp_dynamic.specs.Planned.{IsSound, placed_read}

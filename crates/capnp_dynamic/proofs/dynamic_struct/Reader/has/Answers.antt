@@ -5,7 +5,7 @@ use Rattle.capnp_schema.specs.FieldLists.{index_of, schema_of as field_schema}
 use Rattle.capnp_schema.specs.StructHandles.{IsStruct, number_of, set_of}
 use Rattle.capnp_schema.specs.Tests.{seen_variant}
 use Rattle.capnp_schema.specs.declared.schema.structs.StructSchema.{StructSchema}
-use Rattle.capnp_schema.proofs.Decided.{seen_which}
+use Rattle.capnp_schema.specs.Facts.Layers.{seen_which}
 use Rattle.capnp_records.specs.Record.{Left}
 use Rattle.capnp_dynamic.specs.Handles.{reader_of}
 use Rattle.capnp_dynamic.specs.Planned.{planned_has}

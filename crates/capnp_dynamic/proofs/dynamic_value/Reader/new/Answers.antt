@@ -4,7 +4,7 @@ use Rattle.capnp_schema.specs.Accepted.{NamesEntries}
 use Rattle.capnp_schema.specs.Entries.{lists_seen}
 use Rattle.capnp_schema.specs.Tests.{seen_variant}
 use Rattle.capnp_schema.specs.Types.{SchemaType}
-use Rattle.capnp_schema.proofs.Decided.{seen_which}
+use Rattle.capnp_schema.specs.Facts.Layers.{seen_which}
 use Rattle.capnp_dynamic.specs.Typed.{IsOf}
 use Rattle.capnp_dynamic.specs.Viewed.{view_read, view_type}
 use Rattle.capnp_dynamic.proofs.dynamic_value.Reader.new.Goals as goal

@@ -1,6 +1,6 @@
 use Rattle.std.proofs.Common.{◌/◌, length}
 use Rattle.capnp_wire.specs.WellFormed.{AreBytes}
-use Rattle.capnp_wire.proofs.ByteRuns.{AreBytes-drop, AreBytes-fits}
+use Rattle.capnp_wire.specs.Facts.ByteRuns.{AreBytes-drop, AreBytes-fits}
 use Rattle.capnp_wire.proofs.SegmentBytes.{AreSegments-cut}
 use Rattle.capnp_wire.proofs.message.Reader.new.Goals as goal
 

@@ -1,7 +1,7 @@
 use Rattle.std.proofs.Common.{[], ◌∷◌}
-use Rattle.capnp_wire.proofs.ByteRuns.{AreBytes-fits}
+use Rattle.capnp_wire.specs.Facts.ByteRuns.{AreBytes-fits}
 use Rattle.capnp_wire.proofs.SegmentBytes.{AreSegments-one}
-use Rattle.capnp_wire.proofs.WellFormedPlaces.{IsWellFormed-root_tree}
+use Rattle.capnp_wire.specs.Facts.Places.{IsWellFormed-root_tree}
 use Rattle.capnp_wire.proofs.pointer_reader.PointerReader.from_words.Goals as goal
 
 pub new-requires : goal.new-requires

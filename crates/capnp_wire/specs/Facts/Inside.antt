@@ -6,7 +6,7 @@ use Rattle.capnp_wire.specs.Slot.{word_at}
 use Rattle.capnp_wire.specs.Locate.{Segments, Target, NoTarget, BadTarget, StructAt, ListAt, CompositeAt, kind, offset, data_words, pointer_count, element_size, count, is_double, pad_word, pad_segment, lies, start_of, list_words, struct_target, tagged_target, list_target, near_target, near_target_from, tag_target, double_target, pad_target, word_target, target_at}
 use Rattle.capnp_wire.specs.WellFormed.{AreBytes, AreSegments, IsInside}
 use Rattle.capnp_wire.specs.declared.fault.Fault.TheVariants.{BadPointer, CapabilityPointer}
-use Rattle.capnp_wire.proofs.ByteRuns.{word_at-lt}
+use Rattle.capnp_wire.specs.Facts.ByteRuns.{word_at-lt}
 
 -- ---- tests ----
 

@@ -6,9 +6,9 @@ use Rattle.capnp_wire.specs.Locate.{Segments, Target, NoTarget, BadTarget, Struc
 use Rattle.capnp_wire.specs.Place.{bytes_at, tree_at, tree_below, tree_below_levels, tree_without_level, tree_with_level, root_tree}
 use Rattle.capnp_wire.specs.WellFormed.{AreBytes, AreSegments, IsWellFormed, IsInside}
 use Rattle.capnp_wire.specs.declared.fault.Fault.TheVariants.{TooDeep}
-use Rattle.capnp_wire.proofs.ByteRuns.{AreBytes-bytes_at, length-bytes_at}
-use Rattle.capnp_wire.proofs.Inside.{IsInside-target_at}
-use Rattle.capnp_wire.proofs.WellFormedRows.{IsWellFormed-struct_tree, IsWellFormed-composite_tree, IsWellFormed-list_tree}
+use Rattle.capnp_wire.specs.Facts.ByteRuns.{AreBytes-bytes_at, length-bytes_at}
+use Rattle.capnp_wire.specs.Facts.Inside.{IsInside-target_at}
+use Rattle.capnp_wire.specs.Facts.WellFormedRows.{IsWellFormed-struct_tree, IsWellFormed-composite_tree, IsWellFormed-list_tree}
 
 -- ---- one level ----
 

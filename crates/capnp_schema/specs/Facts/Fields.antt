@@ -1,0 +1,59 @@
+-- Fields of brands: what holds of all entries of a list holds of one, and a field shows that its brand is there.
+use Rattle.std.specs.Prelude.{ℕ, zero, suc, ◌<◌, ◌≤◌, ◌≡◌, refl, List, [], ◌∷◌, IsTrue, All, Option, Some, length, slice_get}
+use Rattle.std.specs.Option.{unwrap_or}
+use Rattle.std.proofs.Common.{arith, ap, sym, subst, ◌∙◌, ⊎_elim}
+use Rattle.std.proofs.lemmas.Bool.{cases_lt}
+use Rattle.std.proofs.lemmas.Option.{get_or_from_slice_get, slice_get_past, slice_get_within}
+use Rattle.capnp_schema.specs.Types.{SchemaType}
+use Rattle.capnp_schema.specs.Schema.{Schemas, Node, Brand, Field, TypedField, no_node, no_brand, no_field, typed, brand_at, node_of, fields_of, field_at, is_member}
+use Rattle.capnp_schema.specs.Accepted.{IsAccepted, HasEachMember}
+
+pub typed_nothing : (fs : List Field) → typed fs [] ≡ []
+typed_nothing [] = refl
+typed_nothing (f ∷ fs) = refl
+
+-- ---- entries ----
+
+pub entry-some : {A : Type 0} (xs : List A) (i : ℕ) (none : A) → i < length xs → slice_get xs i ≡ Some (unwrap_or (slice_get xs i) none)
+entry-some [] i none a = absurd (omega arith)
+entry-some (x ∷ xs) zero none a = refl
+entry-some (x ∷ xs) (suc i) none a = entry-some xs i none (omega arith)
+
+pub All-entry : {A : Type 0} (P : A → Type 0) (xs : List A) (i : ℕ) (x : A) → All P xs → slice_get xs i ≡ Some x → P x
+All-entry P xs i x all e = subst P (get_or_from_slice_get xs i x x e) (all i x (slice_get_within xs i x e))
+
+-- what holds of all nodes holds of a brand's
+pub of_node : (set : Schemas) → IsAccepted set → (P : Node → Type 0) → All P set.nodes → (b : ℕ) → b < length set.brands → P (node_of set b)
+of_node set accepted P all b b_in =
+    All-entry P set.nodes (brand_at set b).node (node_of set b) all (entry-some set.nodes (brand_at set b).node no_node inside)
+  where
+    inside : (brand_at set b).node < length set.nodes
+    inside = All-entry (λ (x : Brand). x.node < length set.nodes) set.brands b (brand_at set b) accepted.rule2.node (entry-some set.brands b (no_brand set) b_in)
+
+pub typed-field : (fs : List Field) (ts : List SchemaType) (i : ℕ) → i < length (typed fs ts) → slice_get fs i ≡ Some (unwrap_or (slice_get (typed fs ts) i) no_field).field
+typed-field [] ts i a = absurd (omega arith)
+typed-field (f ∷ fs) [] i a = absurd (omega arith)
+typed-field (f ∷ fs) (t ∷ ts) zero a = refl
+typed-field (f ∷ fs) (t ∷ ts) (suc i) a = typed-field fs ts i (omega arith)
+
+-- what holds of all fields of a node holds of a brand's
+pub of_field : (P : Field → Type 0) (set : Schemas) (b i : ℕ) → i < length (fields_of set b) → All P (node_of set b).fields → P (field_at set b i).field
+of_field P set b i i_in all = All-entry P (node_of set b).fields i (field_at set b i).field all (typed-field (node_of set b).fields (brand_at set b).field_types i i_in)
+
+-- a struct with a member has a union
+pub member_counted : (set : Schemas) → IsAccepted set → (b i : ℕ) → b < length set.brands → i < length (fields_of set b) → IsTrue (is_member (field_at set b i).field) →
+    (field_at set b i).field.discriminant_value < (node_of set b).discriminant_count
+member_counted set accepted b i b_in i_in member =
+    All-entry (λ (f : Field). IsTrue (is_member f) → f.discriminant_value < (node_of set b).discriminant_count) (node_of set b).fields i (field_at set b i).field
+    (of_node set accepted HasEachMember accepted.rule9 b b_in).below (typed-field (node_of set b).fields (brand_at set b).field_types i i_in) member
+
+-- a field of a brand shows that the brand is there
+pub brand_there : (set : Schemas) (b i : ℕ) → i < length (fields_of set b) → b < length set.brands
+brand_there set b i h = ⊎_elim (λ inside. inside) (λ past. absurd (none past)) (cases_lt b (length set.brands))
+  where
+    none : length set.brands ≤ b → ⊥
+    none past =
+        let gone : brand_at set b ≡ (no_brand set) = ap (λ (o : Option Brand). unwrap_or o (no_brand set)) (slice_get_past set.brands b past) in
+        let empty : fields_of set b ≡ [] = ap (λ (x : Brand). typed (node_of set b).fields x.field_types) gone ∙ typed_nothing (node_of set b).fields in
+        let count = ap (λ (l : List TypedField). length l) empty in
+        absurd (omega arith)
