@@ -4,6 +4,8 @@
 #[cfg(test)]
 mod annotation_tests;
 #[cfg(test)]
+mod fault_tests;
+#[cfg(test)]
 mod fixtures;
 #[cfg(test)]
 mod kind_tests;
