@@ -1,12 +1,13 @@
 -- Values of a type of a set: which variant a read hands out, and that its handles are of that set.
-use Rattle.std.specs.Prelude.{◌≡◌}
+use Rattle.std.specs.Prelude.{ℕ, ◌≡◌, Option, Some, None}
 use Rattle.capnp_schema.specs.Accepted.{NamesEntries}
 use Rattle.capnp_schema.specs.Enums.{IsEnum, enum_number, enum_set}
 use Rattle.capnp_schema.specs.Schema.{Schemas}
-use Rattle.capnp_schema.specs.StructHandles.{IsStruct, generic_of, number_of, set_of}
+use Rattle.capnp_schema.specs.StructHandles.{IsStruct, generic_of, number_of, set_of, struct_field}
 use Rattle.capnp_schema.specs.Types.{SchemaType, VoidType, BoolType, IntType, UIntType, EnumType, TextType, DataType, StructType, ListType, AnyPointerType}
 use Rattle.capnp_schema.specs.declared.schema.structs.StructSchema.{StructSchema}
 use Rattle.capnp_dynamic.specs.Handles.{element_of, enum_of, list_set, schema_of}
+use Rattle.capnp_dynamic.specs.declared.dynamic_struct.Reader.{Reader as StructHandle}
 use Rattle.capnp_dynamic.specs.declared.dynamic_value.Reader.{Reader as DynamicValue}
 use Rattle.capnp_dynamic.specs.declared.dynamic_value.Reader.TheVariants as dynamic
 
@@ -31,3 +32,8 @@ IsOf set t (dynamic.«Data» bytes) = DataType ≡ t
 IsOf set t (dynamic.Struct s) = IsStruct (schema_of s) × (set_of (schema_of s) ≡ set) × (struct_type (schema_of s) ≡ t)
 IsOf set t (dynamic.List l) = (list_set l ≡ set) × (ListType (element_of l) ≡ t) × NamesEntries set t
 IsOf set t (dynamic.AnyPointer p) = AnyPointerType ≡ t
+
+-- a value is of the type of a struct's field that was looked up
+abbrev pub IsOfFound : StructHandle → Option ℕ → DynamicValue → Type 0
+IsOfFound s None v = ⊥
+IsOfFound s (Some i) v = IsOf (set_of (schema_of s)) (struct_field (schema_of s) i).type v

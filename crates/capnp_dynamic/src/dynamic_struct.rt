@@ -30,7 +30,7 @@ impl<'a> Reader<'a> {
     ghost use Rattle.capnp_dynamic.specs.Handles.{reader_of, schema_of};
     ghost use Rattle.capnp_dynamic.specs.Reads.{BelongsTo, field_seen, found_has, found_seen, kind_read};
     ghost use Rattle.capnp_dynamic.specs.Seen.{answered, record_seen};
-    ghost use Rattle.capnp_dynamic.specs.Typed.{IsOf, struct_type};
+    ghost use Rattle.capnp_dynamic.specs.Typed.{IsOf, IsOfFound, struct_type};
 
     /// A reader of a struct under a schema.
     pub fn new(reader: StructReader<'a>, schema: StructSchema<'a>) -> Reader<'a>
@@ -80,6 +80,7 @@ impl<'a> Reader<'a> {
     /// What the field of a name has, as `get`. Refused with `FieldNotFound` where there is none of that name.
     pub fn get_named(self, field_name: &str) -> Result<dynamic_value::Reader<'a>>
         ensures value { answered result ≡ found_seen self.entry (field_named (struct_records (schema_of self.entry)) field_name.now) }
+        ensures typed { IfOk result (IsOfFound self.entry (field_named (struct_records (schema_of self.entry)) field_name.now)) }
     {
         let field = self.schema.get_field_by_name(field_name)?;
         self.get(field)
