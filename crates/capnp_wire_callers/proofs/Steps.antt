@@ -5,7 +5,7 @@ use Rattle.std.proofs.Math.Seq.{drop-cons}
 use Rattle.capnp_wire.specs.Tree.{Tree, StructTree, nth_tree}
 use Rattle.capnp_wire.specs.Reading.{as_struct}
 use Rattle.capnp_device.specs.declared.error.ErrorKind.{ErrorKind}
-use Rattle.capnp_walks.specs.Path.{path_number, path_text, on_read}
+use Rattle.capnp_wire_callers.specs.Path.{path_number, path_text, on_read}
 
 -- a refused step refuses the number at the end of the path
 pub number_refused : (p : List ℕ) (i o : ℕ) (t : Tree) (l : ℕ) (k : ErrorKind) → i < length p → Err k ≡ as_struct t l → Err k ≡ path_number (drop i p) o t l

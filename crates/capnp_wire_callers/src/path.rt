@@ -2,7 +2,7 @@
 ghost use Rattle.std.specs.Prelude.{◌≡◌};
 ghost use Rattle.capnp_wire.specs.Standing.{bytes_read, levels_of, tree_of};
 ghost use Rattle.capnp_wire.specs.Stream.{message_tree_of};
-ghost use Rattle.capnp_walks.specs.Path.{message_number, number_read, path_number, path_text};
+ghost use Rattle.capnp_wire_callers.specs.Path.{message_number, number_read, path_number, path_text};
 
 use capnp_wire::PointerReader;
 use capnp_wire::error::Result;

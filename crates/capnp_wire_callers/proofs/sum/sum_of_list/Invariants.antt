@@ -1,7 +1,7 @@
 use Rattle.std.proofs.Common.{◌≡◌, ◌≤◌, ◌*◌, ◌^◌}
 use Rattle.capnp_wire.specs.Standing.{list_of}
-use Rattle.capnp_walks.specs.Sum.{sum_of_first}
-use Rattle.capnp_walks.proofs.sum.sum_of_list.Given as goal
+use Rattle.capnp_wire_callers.specs.Sum.{sum_of_first}
+use Rattle.capnp_wire_callers.proofs.sum.sum_of_list.Given as goal
 
 -- the elements so far are summed, and each is below 2^32
 abbrev pub invariant-loop-index : goal.invariant-loop-index

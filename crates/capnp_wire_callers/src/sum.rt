@@ -1,8 +1,8 @@
 //! The sum of a list's elements.
 ghost use Rattle.std.specs.Prelude.{◌≡◌};
 ghost use Rattle.capnp_wire.specs.Standing.{levels_of, tree_of};
-ghost use Rattle.capnp_walks.specs.Path.{number_read};
-ghost use Rattle.capnp_walks.specs.Sum.{list_sum};
+ghost use Rattle.capnp_wire_callers.specs.Path.{number_read};
+ghost use Rattle.capnp_wire_callers.specs.Sum.{list_sum};
 
 use capnp_wire::PointerReader;
 use capnp_wire::error::Result;

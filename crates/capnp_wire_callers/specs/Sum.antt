@@ -4,7 +4,7 @@ use Rattle.capnp_wire.specs.Tree.{Tree}
 use Rattle.capnp_wire.specs.Reading.{as_list, element_number, list_length}
 use Rattle.capnp_wire.specs.declared.size.ElementSize.TheVariants.{FourBytes}
 use Rattle.capnp_device.specs.declared.error.ErrorKind.{ErrorKind}
-use Rattle.capnp_walks.specs.Path.{on_read}
+use Rattle.capnp_wire_callers.specs.Path.{on_read}
 
 -- the sum of so many 32 bit numbers from the start of a list
 abbrev pub sum_of_first : Tree → ℕ → ℕ

@@ -1,7 +1,7 @@
 use Rattle.std.proofs.Common.{◌∙◌}
 use Rattle.std.proofs.lemmas.Result.{err_from_is_err_and}
-use Rattle.capnp_walks.proofs.Steps.{text_refused}
-use Rattle.capnp_walks.proofs.path.get_text_by_path.Goals as goal
+use Rattle.capnp_wire_callers.proofs.Steps.{text_refused}
+use Rattle.capnp_wire_callers.proofs.path.get_text_by_path.Goals as goal
 
 pub returns-in_err-get_struct : goal.returns-in_err-get_struct
 returns-in_err-get_struct c =
