@@ -1,0 +1,52 @@
+//! Prints the fields of a struct of the built-in set, and where each one stands in a message.
+#![tactic(auto)]
+
+use capnp_schema::builtin;
+use capnp_schema::plan::Place;
+use capnp_schema::schema::{Field, StructSchema};
+use capnp_schema::set::SchemaSet;
+use capnp_wire::error::Result;
+use std::alloc::Global;
+use std::process::ExitCode;
+
+/// The number of `Mixed` in the built-in set: two numbers, a text, and a union.
+const MIXED: u32 = 1;
+
+/// Appends a field's name, and the bits or the pointer that it occupies.
+fn describe(field: Field<'_>, out: &mut String) -> Result<()> {
+    out.push_str(field.get_proto().name.as_str())?;
+    match field.plan().place {
+        Place::Nothing => out.push_str(": no room\n")?,
+        Place::Bits { start, width, mask } => write!(out, ": {width} bits from bit {start}\n")?,
+        Place::Pointer(index) => write!(out, ": pointer {index}\n")?,
+        Place::Group(brand) => write!(out, ": the group of brand {brand}\n")?,
+    }
+    Ok(())
+}
+
+/// The same of all fields of a struct, a line each.
+fn describe_all(alloc: Global, schema: StructSchema<'_>) -> Result<String> {
+    let mut out = String::new(alloc);
+    let fields = schema.get_fields()?;
+    for i in 0..fields.len() {
+        describe(fields.get(i), &mut out)?;
+    }
+    Ok(out)
+}
+
+/// The lines of `Mixed`.
+fn mixed(alloc: Global) -> Result<String> {
+    let (nodes, brands, enums) = builtin::records(alloc)?;
+    let set = SchemaSet::new(alloc, nodes, brands, enums)?;
+    describe_all(alloc, set.struct_schema(MIXED))
+}
+
+fn main(rt: HostRuntime) -> ExitCode {
+    match mixed(rt.alloc()) {
+        Ok(lines) => {
+            let _ = print!(rt; "{lines}");
+            ExitCode::SUCCESS
+        }
+        Err(_) => ExitCode::from(1),
+    }
+}

@@ -1,0 +1,65 @@
+//! Reads a field of the message on standard input by its name, under a schema that is known only at run time, and prints
+//! it. The message is a `Many` of the built-in set; `examples/many.bin` is one.
+#![tactic(auto)]
+
+ghost use Rattle.std.specs.Prelude.{◌≡◌, IfOk, pos};
+ghost use Rattle.capnp_schema.specs.Query.{field_named};
+ghost use Rattle.capnp_schema.specs.StructHandles.{struct_records};
+ghost use Rattle.capnp_records.specs.Record.{Number};
+ghost use Rattle.capnp_dynamic.specs.Handles.{schema_of};
+ghost use Rattle.capnp_dynamic.specs.Reads.{found_seen};
+
+use capnp_dynamic::{dynamic_struct, dynamic_value};
+use capnp_schema::builtin;
+use capnp_schema::set::SchemaSet;
+use capnp_wire::device::ReadSource;
+use capnp_wire::error::{Error, ErrorKind, Result};
+use capnp_wire::message::Reader;
+use capnp_wire::transfer::read_all;
+use std::alloc::Global;
+use std::process::ExitCode;
+
+/// The number of `Many` in the built-in set.
+const MANY: u32 = 2;
+
+/// The UInt16 that the field of a name has. Refused as the read of the field, and as `TypeMismatch` where the field has
+/// another type. The contract says that it is the field's number in the record that the struct stands for.
+fn get_number(reader: dynamic_struct::Reader<'_>, name: &str) -> Result<u16>
+    ensures { IfOk result (λ n. Number (pos n) ≡ found_seen reader.entry (field_named (struct_records (schema_of reader.entry)) name.now)) }
+{
+    match reader.get_named(name)? {
+        dynamic_value::Reader::UInt16(number) => Ok(number),
+        _ => Err(Error::from(ErrorKind::TypeMismatch)),
+    }
+}
+
+/// The field `n` of the message's root.
+fn read(alloc: Global, bytes: &[u8]) -> Result<u16> {
+    let (nodes, brands, enums) = builtin::records(alloc)?;
+    let set = SchemaSet::new(alloc, nodes, brands, enums)?;
+    let message = Reader::new(alloc, bytes)?;
+    let root = message.get_root().get_struct()?;
+    get_number(
+        dynamic_struct::Reader::new(root, set.struct_schema(MANY)),
+        "n",
+    )
+}
+
+/// The same of the message that a source gives.
+fn run(rt: &HostRuntime) -> Result<u16> {
+    let bytes = read_all(rt.alloc(), &mut ReadSource::new(rt.stdin()))?;
+    read(rt.alloc(), &bytes)
+}
+
+fn main(rt: HostRuntime) -> ExitCode {
+    match run(&rt) {
+        Ok(number) => {
+            let _ = println!(rt; "n = {number}");
+            ExitCode::SUCCESS
+        }
+        Err(error) => {
+            let _ = println!(rt; "refused: {}", error.kind.number());
+            ExitCode::from(1)
+        }
+    }
+}
