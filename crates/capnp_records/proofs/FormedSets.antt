@@ -33,16 +33,11 @@ formed-words words h = IsWellFormed-tree_at 64 (words ∷ []) (slice_index_or (w
     segments (suc i) = λ j. omega arith
 
 formed-default : (d : SchemaValue) → ValueFits d → Decodes d → DefaultFormed d
-formed-default VoidValue fits h = tt
-formed-default (BoolValue x) fits h = tt
-formed-default (IntValue bytes x) fits h = tt
-formed-default (UIntValue bytes x) fits h = tt
-formed-default (EnumValue x) fits h = tt
 formed-default (TextValue bytes) fits few = IsWellFormed-text bytes fits (omega (arith, few))
 formed-default (DataValue bytes) fits few = IsWellFormed-data bytes fits (omega (arith, few))
 formed-default (StructValue words) fits h = formed-words words fits
 formed-default (ListValue words) fits h = formed-words words fits
-formed-default (AnyPointerValue words) fits h = tt
+formed-default d fits h = tt
 
 formed-kind : (k : FieldKind) (t : SchemaType) → ValueFits (kind_default k) → Decodes (kind_default k) → KindDefault (λ d t. DefaultFormed d) k t
 formed-kind (Slot offset d) t fits h = formed-default d fits h
