@@ -2,6 +2,7 @@
 use Rattle.std.specs.Prelude.{ℕ, suc, ◌+◌, ◌%◌, ◌<◌, ◌≡◌, refl, List, [], ◌∷◌, Bool, true, false, not, ◌&&◌, ◌==◌, nat_lt, cond, length, map, position, Option, Some, None, option_map, IfSome}
 use Rattle.std.specs.List.{position_or_len}
 use Rattle.std.proofs.Common.{arith, ap, sym, subst, ◌∙◌}
+use Rattle.std.proofs.lemmas.Bool.{eq-eqb, eqb-true, true≢false}
 use Rattle.capnp_wire.specs.Tree.{StructTree, Tree, nth_tree}
 use Rattle.capnp_wire.specs.Reading.{is_null_tree}
 use Rattle.capnp_base.specs.declared.introspect.TypeVariant.{TypeVariant}
@@ -13,7 +14,7 @@ use Rattle.capnp_schema.specs.Schema.{Field, FieldKind, Group, Node, Schemas, Sl
 use Rattle.capnp_schema.specs.Tests.{seen_variant}
 use Rattle.capnp_schema.specs.Types.{SchemaType}
 use Rattle.capnp_schema.specs.Schema.{Value as SchemaValue}
-use Rattle.capnp_records.specs.Facts.Frame.{active_among-found, eq-from, second-of, to-eq, true≢false}
+use Rattle.capnp_records.specs.Facts.Frame.{active_among-found, second-of}
 use Rattle.capnp_records.specs.Facts.Members.{counted-from_member, counted-not_zero, once-from_members}
 use Rattle.capnp_records.specs.Facts.PartRead.{found-active, nth-plain_parts}
 use Rattle.capnp_records.specs.Facts.Pointers.{values_of-nth}
@@ -109,11 +110,11 @@ module _ (set : Schemas) (l : Levels) (s : StructTree) where
 
           at : (q : Bool) → (number == f.field.discriminant_value) ≡ q → planned_has s (plan_of set b (field_at set b i)) ≡ has_of (struct_record set l s b) (field_at set b i).field i
           at true is =
-              let active : union ≡ Active i (part f) = same ∙ (active_among-found part (fields_of set b) 0 i number i_in member (sym (to-eq _ _ is)) (λ j a m n. once-from_members set accepted b i j b_in i_in a m (n ∙ to-eq _ _ is)) ∙ ap (λ n. Active n (part f)) (omega arith)) in
+              let active : union ≡ Active i (part f) = same ∙ (active_among-found part (fields_of set b) 0 i number i_in member (sym (eqb-true _ _ is)) (λ j a m n. once-from_members set accepted b i j b_in i_in a m (n ∙ eqb-true _ _ is)) ∙ ap (λ n. Active n (part f)) (omega arith)) in
               ap (λ q. member_there s.bytes (member_plan q (node_of set b) f.field) && place_there s (place_of f.field.kind f.type)) member
               ∙ (ap (λ q. q && place_there s (place_of f.field.kind f.type)) is
               ∙ (sym there
-              ∙ (sym (ap (λ q. not (true && not q) && is_there (part f)) (eq-from i i refl))
+              ∙ (sym (ap (λ q. not (true && not q) && is_there (part f)) (eq-eqb i i refl))
               ∙ (sym (ap (λ u. both true (is_active u i) (active_value u) (nth_value vs i)) active)
               ∙ sym (ap (λ q. both q (is_active union i) (active_value union) (nth_value vs i)) member)))))
           at false is =
@@ -126,7 +127,7 @@ module _ (set : Schemas) (l : Levels) (s : StructTree) where
               inactive false h = h
               inactive true h =
                   let found = found-active part (fields_of set b) 0 i number (subst (λ n. is_active (active_among part (fields_of set b) 0 number) n ≡ true) (omega arith) (sym (ap (λ u. is_active u i) same) ∙ h)) in
-                  absurd (true≢false (sym (eq-from _ _ (sym found.value_is)) ∙ is))
+                  absurd (true≢false (sym (eq-eqb _ _ (sym found.value_is)) ∙ is))
 
 -- ---- which ----
 

@@ -63,40 +63,13 @@ entered-some n m v e = ap (λ q. elim q as (λ _. Value) [ true ↦ value.Fault 
 -- ---- texts, data and untyped pointers ----
 
 text-default : (set : Schemas) (l : Levels) (d : SchemaValue) → value.Text (text_of d) ≡ default_value set l d TextType
-text-default set l VoidValue = refl
-text-default set l (BoolValue x) = refl
-text-default set l (IntValue k x) = refl
-text-default set l (UIntValue k x) = refl
-text-default set l (EnumValue x) = refl
-text-default set l (TextValue x) = refl
-text-default set l (DataValue x) = refl
-text-default set l (StructValue x) = refl
-text-default set l (ListValue x) = refl
-text-default set l (AnyPointerValue x) = refl
+text-default set l d = refl
 
 data-default : (set : Schemas) (l : Levels) (d : SchemaValue) → value.Data (data_of d) ≡ default_value set l d DataType
-data-default set l VoidValue = refl
-data-default set l (BoolValue x) = refl
-data-default set l (IntValue k x) = refl
-data-default set l (UIntValue k x) = refl
-data-default set l (EnumValue x) = refl
-data-default set l (TextValue x) = refl
-data-default set l (DataValue x) = refl
-data-default set l (StructValue x) = refl
-data-default set l (ListValue x) = refl
-data-default set l (AnyPointerValue x) = refl
+data-default set l d = refl
 
 untyped-default : (set : Schemas) (l : Levels) (d : SchemaValue) → value.Untyped tree.Null ≡ default_value set l d AnyPointerType
-untyped-default set l VoidValue = refl
-untyped-default set l (BoolValue x) = refl
-untyped-default set l (IntValue k x) = refl
-untyped-default set l (UIntValue k x) = refl
-untyped-default set l (EnumValue x) = refl
-untyped-default set l (TextValue x) = refl
-untyped-default set l (DataValue x) = refl
-untyped-default set l (StructValue x) = refl
-untyped-default set l (ListValue x) = refl
-untyped-default set l (AnyPointerValue x) = refl
+untyped-default set l d = refl
 
 pub text_null : (set : Schemas) (d : SchemaValue) (x : Tree) (l : Levels) (bytes : List ℕ) → is_null_tree x ≡ true → bytes ≡ text_of d → value.Text bytes ≡ read_of set d TextType (value_of set x l TextType)
 text_null set d x l bytes h e = ap value.Text e ∙ (text-default set l d ∙ sym (missing set d TextType x l h))
@@ -138,40 +111,15 @@ module _ (set : Schemas) (b g : ℕ) (d : SchemaValue) (x : Tree) (n : ℕ) wher
   struct-inner d = empty_value set (Left n) (StructType b g)
 
   struct-default : (d : SchemaValue) → default_value set (Left n) d (StructType b g) ≡ entered (Left n) (struct-inner d)
-  struct-default VoidValue = refl
-  struct-default (BoolValue x) = refl
-  struct-default (IntValue k x) = refl
-  struct-default (UIntValue k x) = refl
-  struct-default (EnumValue x) = refl
-  struct-default (TextValue x) = refl
-  struct-default (DataValue x) = refl
-  struct-default (StructValue x) = refl
-  struct-default (ListValue x) = refl
-  struct-default (AnyPointerValue x) = refl
+  struct-default d = refl
 
   struct-bare : (d : SchemaValue) → None ≡ struct_words d → struct-inner d ≡ empty_value set (Left n) (StructType b g)
-  struct-bare VoidValue e = refl
-  struct-bare (BoolValue x) e = refl
-  struct-bare (IntValue k x) e = refl
-  struct-bare (UIntValue k x) e = refl
-  struct-bare (EnumValue x) e = refl
-  struct-bare (TextValue x) e = refl
-  struct-bare (DataValue x) e = refl
   struct-bare (StructValue x) e = cc
-  struct-bare (ListValue x) e = refl
-  struct-bare (AnyPointerValue x) e = refl
+  struct-bare d e = refl
 
   struct-words : (d : SchemaValue) (words : List ℕ) → Some words ≡ struct_words d → struct-inner d ≡ unless_null set (Left n) (StructType b g) (root_of words)
   struct-words (StructValue x) words e = ap (λ w. unless_null set (Left n) (StructType b g) (root_of w)) (some-same (sym e))
-  struct-words VoidValue words e = cc
-  struct-words (BoolValue x) words e = cc
-  struct-words (IntValue k x) words e = cc
-  struct-words (UIntValue k x) words e = cc
-  struct-words (EnumValue x) words e = cc
-  struct-words (TextValue x) words e = cc
-  struct-words (DataValue x) words e = cc
-  struct-words (ListValue x) words e = cc
-  struct-words (AnyPointerValue x) words e = cc
+  struct-words d words e = cc
 
   struct-null : is_null_tree x ≡ true → struct_seen ≡ entered (Left n) (struct-inner d)
   struct-null h = missing set d (StructType b g) x (Left n) h ∙ struct-default d
@@ -223,14 +171,7 @@ list-same size (tree.Composite m p es) y n h e = ok-if (n == 0) _ _ _ _ _ e
 list-same size (tree.FaultLeaf k) y n h e = cc
 
 no-elements : (set : Schemas) (l : Levels) (e : SchemaType) (s : ElementSize) → elements_value set (empty_list s) (below_of set (empty_list s)) l e ≡ value.Elements value.NoValues
-no-elements set l e size.Void = refl
-no-elements set l e size.Bit = refl
-no-elements set l e size.Byte = refl
-no-elements set l e size.TwoBytes = refl
-no-elements set l e size.FourBytes = refl
-no-elements set l e size.EightBytes = refl
-no-elements set l e size.Pointer = refl
-no-elements set l e size.InlineComposite = refl
+no-elements set l e s = refl
 
 module _ (set : Schemas) (t : SchemaType) (s : ElementSize) (sized : element_size t ≡ s) (d : SchemaValue) (x : Tree) (n : ℕ) where
   abbrev pub list_seen : Value
@@ -252,40 +193,15 @@ module _ (set : Schemas) (t : SchemaType) (s : ElementSize) (sized : element_siz
   list-inner d = empty_value set (Left n) (ListType t)
 
   list-default : (d : SchemaValue) → default_value set (Left n) d (ListType t) ≡ entered (Left n) (list-inner d)
-  list-default VoidValue = refl
-  list-default (BoolValue x) = refl
-  list-default (IntValue k x) = refl
-  list-default (UIntValue k x) = refl
-  list-default (EnumValue x) = refl
-  list-default (TextValue x) = refl
-  list-default (DataValue x) = refl
-  list-default (StructValue x) = refl
-  list-default (ListValue x) = refl
-  list-default (AnyPointerValue x) = refl
+  list-default d = refl
 
   list-bare : (d : SchemaValue) → None ≡ list_words d → list-inner d ≡ value.Elements value.NoValues
-  list-bare VoidValue e = refl
-  list-bare (BoolValue x) e = refl
-  list-bare (IntValue k x) e = refl
-  list-bare (UIntValue k x) e = refl
-  list-bare (EnumValue x) e = refl
-  list-bare (TextValue x) e = refl
-  list-bare (DataValue x) e = refl
-  list-bare (StructValue x) e = refl
   list-bare (ListValue x) e = cc
-  list-bare (AnyPointerValue x) e = refl
+  list-bare d e = refl
 
   list-words : (d : SchemaValue) (words : List ℕ) → Some words ≡ list_words d → list-inner d ≡ unless_null set (Left n) (ListType t) (root_of words)
   list-words (ListValue x) words e = ap (λ w. unless_null set (Left n) (ListType t) (root_of w)) (some-same (sym e))
-  list-words VoidValue words e = cc
-  list-words (BoolValue x) words e = cc
-  list-words (IntValue k x) words e = cc
-  list-words (UIntValue k x) words e = cc
-  list-words (EnumValue x) words e = cc
-  list-words (TextValue x) words e = cc
-  list-words (DataValue x) words e = cc
-  list-words (StructValue x) words e = cc
-  list-words (AnyPointerValue x) words e = cc
+  list-words d words e = cc
 
   list-null : is_null_tree x ≡ true → list_seen ≡ entered (Left n) (list-inner d)
   list-null h = missing set d (ListType t) x (Left n) h ∙ list-default d

@@ -3,12 +3,12 @@ use Rattle.std.specs.Prelude.{ℕ, zero, suc, ◌^◌, ◌<◌, ⊤, List, [], �
 use Rattle.std.proofs.Common.{arith}
 use Rattle.capnp_wire.specs.WellFormed.{AreBytes, AreSegments, IsWellFormed}
 use Rattle.capnp_wire.specs.Facts.Places.{IsWellFormed-tree_at}
+use Rattle.capnp_wire.specs.Facts.Lists.{IsWellFormed-data, IsWellFormed-text}
 use Rattle.capnp_schema.specs.Schema.{AnyPointerValue, BoolValue, DataValue, EnumValue, FieldKind, Group, IntValue, ListValue, Schemas, Slot, StructValue, TextValue, UIntValue, VoidValue, brand_at, field_at, kind_default, node_of}
 use Rattle.capnp_schema.specs.Schema.{Value as SchemaValue}
 use Rattle.capnp_schema.specs.Types.{SchemaType}
 use Rattle.capnp_schema.specs.Accepted.{Decodes, EachField, IsAccepted, KindDefault, root_of}
 use Rattle.capnp_schema.specs.Ranges.{HasRanges, ValueFits}
-use Rattle.capnp_records.proofs.Formed.{formed-data, formed-text}
 use Rattle.capnp_records.specs.Facts.Members.{default-decodes}
 use Rattle.capnp_records.specs.Given.{data_tree, text_tree}
 
@@ -33,16 +33,11 @@ formed-words words h = IsWellFormed-tree_at 64 (words ∷ []) (slice_index_or (w
     segments (suc i) = λ j. omega arith
 
 formed-default : (d : SchemaValue) → ValueFits d → Decodes d → DefaultFormed d
-formed-default VoidValue fits h = tt
-formed-default (BoolValue x) fits h = tt
-formed-default (IntValue bytes x) fits h = tt
-formed-default (UIntValue bytes x) fits h = tt
-formed-default (EnumValue x) fits h = tt
-formed-default (TextValue bytes) fits few = formed-text bytes fits (omega (arith, few))
-formed-default (DataValue bytes) fits few = formed-data bytes fits (omega (arith, few))
+formed-default (TextValue bytes) fits few = IsWellFormed-text bytes fits (omega (arith, few))
+formed-default (DataValue bytes) fits few = IsWellFormed-data bytes fits (omega (arith, few))
 formed-default (StructValue words) fits h = formed-words words fits
 formed-default (ListValue words) fits h = formed-words words fits
-formed-default (AnyPointerValue words) fits h = tt
+formed-default d fits h = tt
 
 formed-kind : (k : FieldKind) (t : SchemaType) → ValueFits (kind_default k) → Decodes (kind_default k) → KindDefault (λ d t. DefaultFormed d) k t
 formed-kind (Slot offset d) t fits h = formed-default d fits h

@@ -3,6 +3,7 @@ use Rattle.std.specs.Prelude.{ℕ, zero, suc, ◌<◌, ◌≡◌, refl, List, []
 use Rattle.std.specs.Fmt.{debug_escape, digits}
 use Rattle.std.specs.Str.{is_utf8, chars}
 use Rattle.std.proofs.Common.{arith, ap, sym, subst}
+use Rattle.std.proofs.lemmas.Bool.{eqb-true}
 use lib.Utf8.{encode}
 use Rattle.capnp_wire.specs.Tree.{Tree, Null, Struct, Numbers, NoTrees, MoreTrees}
 use Rattle.capnp_wire.specs.Place.{tree_at}
@@ -10,7 +11,7 @@ use Rattle.capnp_schema.specs.Types.{SchemaType, StructType, UIntType, TextType,
 use Rattle.capnp_schema.specs.Schema.{Schemas, Field, VoidValue, UIntValue, TextValue, DataValue, field_at}
 use Rattle.capnp_schema.specs.SlotValue.{default_bits}
 use Rattle.capnp_schema.specs.Builtin.{builtin, plain, member, union_node, plain_brand}
-use Rattle.capnp_records.specs.Facts.Frame.{and-left, and-right, to-eq}
+use Rattle.capnp_records.specs.Facts.Frame.{and-left, and-right}
 use Rattle.capnp_records.specs.Record.{Left, Value}
 use Rattle.capnp_records.specs.Part.{which_of}
 use Rattle.capnp_records.specs.Reading.{struct_record, value_of}
@@ -97,8 +98,8 @@ only older newer a b = (a == older) && (b == newer)
 -- a pair that leads to no other
 closed_pair : (set : Schemas) (older newer : ℕ) → SharedStruct set (only older newer) older newer → (a b : ℕ) → IsTrue (only older newer a b) → SharedStruct set (only older newer) a b
 closed_pair set older newer h a b e =
-    subst (λ a. SharedStruct set (only older newer) a b) (sym (to-eq a older (and-left _ _ e)))
-    (subst (λ b. SharedStruct set (only older newer) older b) (sym (to-eq b newer (and-right (a == older) _ e))) h)
+    subst (λ a. SharedStruct set (only older newer) a b) (sym (eqb-true a older (and-left _ _ e)))
+    (subst (λ b. SharedStruct set (only older newer) older b) (sym (eqb-true b newer (and-right (a == older) _ e))) h)
 
 mixed_grew_into_mixed2 : (name : List ℕ) → IsCompatible (named_so name) 1 9
 mixed_grew_into_mixed2 name = record { pairs = only 1 9; given = refl; closed = closed_pair (named_so name) 1 9 shared }

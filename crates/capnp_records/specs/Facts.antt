@@ -12,4 +12,3 @@ pub mod Numbers
 pub mod PartRead
 pub mod Pointers
 pub mod Readers
-pub mod SlotBits

@@ -9,13 +9,12 @@ use Rattle.std.proofs.lemmas.Option.{slice_get_past, slice_get_within, slice_get
 use Rattle.capnp_base.specs.declared.introspect.«Type».{«Type» as TypeHandle}
 use Rattle.capnp_base.specs.declared.introspect.BaseType.{BaseType}
 use Rattle.capnp_base.specs.declared.introspect.BaseType.TheVariants as base
-use Rattle.capnp_base.specs.Types.{variant_of, variant_by, innermost, base_variant}
+use Rattle.capnp_base.specs.Types.{innermost, base_variant}
 use Rattle.capnp_schema.specs.Types.{SchemaType, VoidType, BoolType, IntType, UIntType, EnumType, TextType, DataType, StructType, ListType, AnyPointerType, seen_type, seen_base, lists_of, is_pointer, width}
 use Rattle.capnp_schema.specs.Schema.{Schemas, Node, Brand, no_node, no_brand, node_at, FieldKind, Slot, Group, Value, VoidValue, BoolValue, IntValue, UIntValue, EnumValue, TextValue, DataValue, StructValue, ListValue, AnyPointerValue, node_of, brand_at}
 use Rattle.capnp_schema.specs.Entries.{brand_entry, brand_node, node_of_entry}
 use Rattle.capnp_schema.specs.Accepted.{NamesEntries, LiesInside, KindDefault, IsDefaultOf, NamesNoGroup, IsGroupBrand, GroupFits, DiscriminantFits}
-use Rattle.capnp_schema.specs.Tests.{seen_variant, variant_is_named, variant_is_no_group, brand_is, node_is_group, is_named, is_inside, is_default, kind_is_default, names_no_group, group_fits, is_discriminant_inside}
-use Rattle.capnp_schema.specs.Facts.Layers.{seen_at_base, seen_by, seen_which}
+use Rattle.capnp_schema.specs.Tests.{variant_is_named, variant_is_no_group, brand_is, node_is_group, is_named, is_inside, is_default, kind_is_default, names_no_group, group_fits, is_discriminant_inside}
 
 -- ---- types by their layers ----
 

@@ -6,8 +6,8 @@ use Rattle.capnp_wire.specs.Standing.{levels_of, tree_of}
 use Rattle.capnp_wire.specs.Words.{first_fault}
 use Rattle.capnp_wire.specs.declared.pointer_reader.PointerReader.{PointerReader}
 use Rattle.capnp_schema.specs.Types.{SchemaType, VoidType, BoolType, IntType, UIntType, EnumType, TextType, DataType, StructType, ListType, AnyPointerType}
-use Rattle.capnp_schema.specs.Schema.{Schemas, Node, Field, FieldKind, Slot, Group, Value, VoidValue, BoolValue, IntValue, UIntValue, EnumValue, TextValue, DataValue, StructValue, ListValue, AnyPointerValue, node_of, fields_of, field_at, default_of, kind_default}
-use Rattle.capnp_schema.specs.Accepted.{IsAccepted, EachField, KindDefault, IsDefaultOf, HasWords, Decodes, ListReads}
+use Rattle.capnp_schema.specs.Schema.{Schemas, Node, FieldKind, Slot, Group, Value, VoidValue, BoolValue, IntValue, UIntValue, EnumValue, TextValue, DataValue, StructValue, ListValue, AnyPointerValue, fields_of, field_at, default_of, kind_default}
+use Rattle.capnp_schema.specs.Accepted.{IsAccepted, KindDefault, IsDefaultOf, Decodes, ListReads}
 use Rattle.capnp_schema.specs.Defaults.{DefaultFits, IsReadAs, default_tree}
 use Rattle.capnp_schema.specs.Entries.{lists_seen}
 use Rattle.capnp_schema.specs.FieldLists.{index_of, schema_of, typed_of}

@@ -1,6 +1,6 @@
 -- Group fields lead to groups of lesser height, in the sections of the struct that they are in.
-use Rattle.std.proofs.Common.{ℕ, zero, suc, ◌≡◌, ◌<◌, Bool, true, false, length, Option, Some, None, refl, sym, ap, ◌∙◌, subst}
-use Rattle.capnp_schema.specs.Types.{SchemaType, VoidType, BoolType, IntType, UIntType, EnumType, TextType, DataType, StructType, ListType, AnyPointerType, is_pointer, struct_number, width}
+use Rattle.std.proofs.Common.{ℕ, zero, suc, ◌≡◌, ◌<◌, Bool, true, false, length, Some, refl, sym, ap, ◌∙◌, subst}
+use Rattle.capnp_schema.specs.Types.{SchemaType, StructType, is_pointer, struct_number, width}
 use Rattle.capnp_base.specs.declared.introspect.TypeVariant.{TypeVariant}
 use Rattle.capnp_base.specs.Types.{variant_of}
 use Rattle.capnp_schema.specs.declared.record.FieldKind.TheVariants.{Group as KindOfGroup}

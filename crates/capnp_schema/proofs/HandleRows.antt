@@ -4,8 +4,8 @@ use Rattle.capnp_wire.specs.Tree as tree
 use Rattle.capnp_wire.specs.Tree.{Tree, NoTrees, MoreTrees}
 use Rattle.capnp_wire.specs.Place.{tree_at, tree_below}
 use Rattle.capnp_schema.specs.Types.{ListType, StructType, TextType, UIntType}
-use Rattle.capnp_schema.specs.Schema.{ListValue, TextValue, VoidValue, default_of, field_at, no_node, node_of}
-use Rattle.capnp_schema.specs.Builtin.{builtin, zero_word}
+use Rattle.capnp_schema.specs.Schema.{TextValue, default_of, field_at, no_node, node_of}
+use Rattle.capnp_schema.specs.Builtin.{builtin}
 use Rattle.capnp_schema.specs.Defaults.{IsReadAs, default_tree}
 use Rattle.capnp_schema.specs.Discriminant.{discriminant_of}
 use Rattle.capnp_schema.specs.StructHandles.{generic_at}

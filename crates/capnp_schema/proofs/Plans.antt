@@ -1,18 +1,16 @@
 -- The plan of each field of an accepted set stands for the field's footprint, slot value and discriminant.
-use Rattle.std.specs.Prelude.{ℕ, zero, suc, ◌*◌, ◌<◌, ◌≡◌, refl, List, [], ◌∷◌, Bool, true, false, ◌&&◌, ◌==◌, nat_lt, IsTrue, IsFalse, All, IfSome, IfNone, Some, length, slice_get, bit_xor}
-use Rattle.std.specs.Option.{unwrap_or}
-use Rattle.std.proofs.Common.{arith, ap, sym, subst, ◌∙◌}
-use Rattle.std.proofs.lemmas.Option.{get_or_from_slice_get, slice_get_within}
+use Rattle.std.specs.Prelude.{ℕ, zero, suc, ◌*◌, ◌<◌, ◌≡◌, refl, List, Bool, true, false, ◌&&◌, ◌==◌, nat_lt, IsTrue, IsFalse, IfSome, IfNone, length, bit_xor}
+use Rattle.std.proofs.Common.{arith, ap, sym, ◌∙◌}
 use Rattle.capnp_schema.specs.Types.{SchemaType, VoidType, BoolType, IntType, UIntType, EnumType, TextType, DataType, StructType, ListType, AnyPointerType, is_pointer, width}
-use Rattle.capnp_schema.specs.Schema.{Schemas, Node, Brand, Field, FieldKind, Slot, Group, Value, no_node, no_brand, no_field, typed, brand_at, node_of, fields_of, field_at, is_member}
+use Rattle.capnp_schema.specs.Schema.{Schemas, Node, Field, FieldKind, Slot, Group, Value, node_of, fields_of, field_at, is_member}
 use Rattle.capnp_schema.specs.Footprint.{Place, DataBit, PointerAt, is_in, slot_names, kind_names, brand_names, discriminant_names, footprint}
-use Rattle.capnp_schema.specs.Accepted.{IsAccepted, HasEachMember, DiscriminantFits, GroupFits, IsGroupOf}
+use Rattle.capnp_schema.specs.Accepted.{IsAccepted, DiscriminantFits, GroupFits, IsGroupOf}
 use Rattle.capnp_schema.specs.SlotValue.{bits_at, default_bits}
 use Rattle.capnp_schema.specs.Laws.{struct_names}
 use Rattle.capnp_schema.specs.Plan.{LiesInNode, IsPlan, HasSlotNumber, data_place, slot_place, place_of, place_names, place_number, member_plan, plan_of, discriminant_bits}
 use Rattle.capnp_schema.specs.Ranges.{HasRanges}
 use Rattle.capnp_schema.specs.Facts.Groups.{group_names_its_parts}
-use Rattle.capnp_schema.specs.Facts.Fields.{entry-some, of_node, typed-field, of_field, member_counted}
+use Rattle.capnp_schema.specs.Facts.Fields.{of_node, member_counted}
 use Rattle.capnp_schema.proofs.PlanFits.{is_discriminant, is_slot_place, plan_fits}
 
 pub lies_in_node : (set : Schemas) → IsAccepted set → (b i : ℕ) → b < length set.brands → i < length (fields_of set b) → LiesInNode (node_of set b) (field_at set b i)

@@ -1,12 +1,11 @@
 -- List defaults: types by their layers, and the fields of brands.
-use Rattle.std.proofs.Common.{◌≡◌, ℕ, zero, suc, ◌<◌, ◌≤◌, ⊎_elim, Bool, List, [], Option, Some, ap, arith, length, refl, slice_get, subst, sym, ◌∙◌}
+use Rattle.std.proofs.Common.{◌≡◌, ℕ, zero, suc, ◌<◌, ◌≤◌, Bool, List, Option, Some, ap, arith, length, refl, slice_get, subst, sym}
 use Rattle.std.specs.Prelude.{◌↔◌, IsTrue}
 use Rattle.std.specs.List.{All}
 use Rattle.std.specs.Option.{unwrap_or}
-use Rattle.std.proofs.lemmas.Bool.{cases_lt}
-use Rattle.std.proofs.lemmas.Option.{slice_get_past, slice_get_within, unwrap_or-slice_get}
+use Rattle.std.proofs.lemmas.Option.{slice_get_within, unwrap_or-slice_get}
 use Rattle.capnp_device.specs.declared.error.SchemaTable.TheVariants.{Brand as InBrands}
-use Rattle.capnp_base.specs.Types.{variant_by, variant_of, element_size as size_of_variant}
+use Rattle.capnp_base.specs.Types.{variant_by, variant_of}
 use Rattle.capnp_base.specs.declared.introspect.«Type».{«Type» as TypeHandle}
 use Rattle.capnp_base.specs.declared.introspect.BaseType.{BaseType}
 use Rattle.capnp_base.specs.declared.introspect.BaseType.TheVariants as base
@@ -15,14 +14,13 @@ use Rattle.capnp_wire.specs.Reading.{as_list}
 use Rattle.capnp_wire.specs.Tree as tree
 use Rattle.capnp_wire.specs.Tree.{Tree}
 use Rattle.capnp_wire.specs.declared.size.ElementSize.{ElementSize}
-use Rattle.capnp_schema.specs.Types.{element_size, lists_of, seen_base, seen_type}
-use Rattle.capnp_schema.specs.Schema.{Schemas, Brand, ListValue, TypedField, brand_at, fields_of, no_brand, no_field, node_of, typed}
+use Rattle.capnp_schema.specs.Types.{lists_of, seen_base, seen_type}
+use Rattle.capnp_schema.specs.Schema.{Schemas, ListValue, TypedField, fields_of, no_field}
 use Rattle.capnp_schema.specs.Accepted.{EachField, KindDefault, ListReads, Rule6}
 use Rattle.capnp_schema.specs.Broken.{IsBroken, default_list}
 use Rattle.capnp_schema.specs.ListDefaults.{LayerReads, ReadsDefault}
 use Rattle.capnp_schema.specs.Values.{HaveAllWords}
 use Rattle.capnp_schema.specs.Facts.Fields.{brand_there}
-use Rattle.capnp_schema.specs.Facts.Layers.{elements_sized}
 
 reads_by : (r : Bool) (words : List ℕ) (b : BaseType) (n : ℕ) → (IsTrue r ↔ LayerReads words (variant_by b n)) → IsTrue r ↔ ListReads (ListValue words) (lists_of n (seen_base b))
 reads_by r words b (suc n) h = h

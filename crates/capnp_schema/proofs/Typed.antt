@@ -3,7 +3,7 @@ use Rattle.std.proofs.Common.{◌≡◌, refl, arith}
 use Rattle.std.specs.Prelude.{ℕ, zero, suc, List, [], ◌∷◌, length, map, min, slice_get, Option, Some, None}
 use Rattle.capnp_base.specs.declared.introspect.«Type».{«Type» as TypeHandle}
 use Rattle.capnp_schema.specs.Types.{seen_type}
-use Rattle.capnp_schema.specs.Schema.{Field, TypedField, typed, seen_field}
+use Rattle.capnp_schema.specs.Schema.{TypedField, typed, seen_field}
 use Rattle.capnp_schema.specs.declared.record.FieldRecord.{FieldRecord}
 
 -- a field and its type, where both are there

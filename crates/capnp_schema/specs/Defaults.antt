@@ -1,5 +1,5 @@
 -- The defaults of fields: the tree behind a pointer, and what a default is in an accepted set.
-use Rattle.std.specs.Prelude.{ℕ, ◌<◌, ◌≡◌, None, IsOk}
+use Rattle.std.specs.Prelude.{◌≡◌, None, IsOk}
 use Rattle.capnp_wire.specs.Tree as tree
 use Rattle.capnp_wire.specs.Tree.{Tree}
 use Rattle.capnp_wire.specs.Reading.{as_list}

@@ -1,5 +1,5 @@
 -- Facts about types that handles keep: each has at most one proof.
-use Rattle.std.specs.Prelude.{ℕ, ◌≡◌, All, List, get_or}
+use Rattle.std.specs.Prelude.{◌≡◌, All, List, get_or}
 use Rattle.std.specs.Coded.{×_prop, Π_prop, →_prop, Unit-prop, le_prop, Coded-set, coded_ℕ}
 use Rattle.capnp_schema.specs.Types.{SchemaType, SchemaType-is_set, VoidType, BoolType, IntType, UIntType, EnumType, TextType, DataType, StructType, ListType, AnyPointerType}
 use Rattle.capnp_schema.specs.Schema.{Schemas}

@@ -58,13 +58,7 @@ taken_structs d size t e = sym (ap (λ b. cond b (structs_default_refusal size d
 
 null_is : (t : Tree) → is_null_tree t ≡ true → t ≡ Null
 null_is Null e = refl
-null_is (Struct bytes ps) e = cc
-null_is (Voids n) e = cc
-null_is (Bits bs) e = cc
-null_is (Numbers w bytes) e = cc
-null_is (Pointers ps) e = cc
-null_is (Composite d p es) e = cc
-null_is (FaultLeaf k) e = cc
+null_is t e = cc
 
 left_of : (x : PointerReader) (b : Bool) → is_null_tree (tree_of x) ≡ b → None ≡ cond (not b) (Some x) None → tree_of x ≡ Null
 left_of x true p e = null_is (tree_of x) p
@@ -85,44 +79,20 @@ left_tree d (FaultLeaf k) e = refl
 -- and is what is asked
 pub left_struct : (d t : Tree) → t ≡ or_default d t → struct_refusal t ≡ filled_struct_refusal d t
 left_struct d Null e = ap struct_default_refusal e
-left_struct d (Struct bytes ps) e = refl
-left_struct d (Voids n) e = refl
-left_struct d (Bits bs) e = refl
-left_struct d (Numbers w bytes) e = refl
-left_struct d (Pointers ps) e = refl
-left_struct d (Composite n p es) e = refl
-left_struct d (FaultLeaf k) e = refl
+left_struct d t e = refl
 
 pub left_list : (d : Tree) (size : ElementSize) (t : Tree) → t ≡ or_default d t → list_refusal size t ≡ filled_list_refusal d size t
 left_list d size Null e = ap (list_default_refusal size) e
-left_list d size (Struct bytes ps) e = refl
-left_list d size (Voids n) e = refl
-left_list d size (Bits bs) e = refl
-left_list d size (Numbers w bytes) e = refl
-left_list d size (Pointers ps) e = refl
-left_list d size (Composite n p es) e = refl
-left_list d size (FaultLeaf k) e = refl
+left_list d size t e = refl
 
 pub left_structs : (d : Tree) (size : StructSize) (t : Tree) → t ≡ or_default d t → struct_list_refusal size t ≡ filled_structs_refusal d size t
 left_structs d size Null e = ap (structs_default_refusal size) e
-left_structs d size (Struct bytes ps) e = refl
-left_structs d size (Voids n) e = refl
-left_structs d size (Bits bs) e = refl
-left_structs d size (Numbers w bytes) e = refl
-left_structs d size (Pointers ps) e = refl
-left_structs d size (Composite n p es) e = refl
-left_structs d size (FaultLeaf k) e = refl
+left_structs d size t e = refl
 
 -- no struct stands at a null
 pub no_struct : {A : Type 0} (size : StructSize) (t : Tree) → is_null_tree t ≡ true → HoldsStruct size t → A
-no_struct size Null e h = absurd h
 no_struct size (Struct bytes ps) e h = cc
-no_struct size (Voids n) e h = absurd h
-no_struct size (Bits bs) e h = absurd h
-no_struct size (Numbers w bytes) e h = absurd h
-no_struct size (Pointers ps) e h = absurd h
-no_struct size (Composite d p es) e h = absurd h
-no_struct size (FaultLeaf k) e h = absurd h
+no_struct size t e h = absurd h
 
 -- a default that is copied is taken
 pub not_taken : {A : Type 0} (d : Option PointerReader) (t : Tree) (r : PointerReader) → IsTaken d t r → takes_default (default_tree d) t ≡ false → A
@@ -135,30 +105,12 @@ not_taken d t r h e =
 
 pub struct_taken : (d t : Tree) → struct_default_refusal d ≡ None → filled_struct_refusal d t ≡ struct_refusal t
 struct_taken d Null e = e
-struct_taken d (Struct bytes ps) e = refl
-struct_taken d (Voids n) e = refl
-struct_taken d (Bits bs) e = refl
-struct_taken d (Numbers w bytes) e = refl
-struct_taken d (Pointers ps) e = refl
-struct_taken d (Composite n p es) e = refl
-struct_taken d (FaultLeaf k) e = refl
+struct_taken d t e = refl
 
 pub list_taken : (d : Tree) (size : ElementSize) (t : Tree) → list_default_refusal size d ≡ None → filled_list_refusal d size t ≡ list_refusal size t
 list_taken d size Null e = e
-list_taken d size (Struct bytes ps) e = refl
-list_taken d size (Voids n) e = refl
-list_taken d size (Bits bs) e = refl
-list_taken d size (Numbers w bytes) e = refl
-list_taken d size (Pointers ps) e = refl
-list_taken d size (Composite n p es) e = refl
-list_taken d size (FaultLeaf k) e = refl
+list_taken d size t e = refl
 
 pub structs_taken : (d : Tree) (size : StructSize) (t : Tree) → structs_default_refusal size d ≡ None → filled_structs_refusal d size t ≡ struct_list_refusal size t
 structs_taken d size Null e = e
-structs_taken d size (Struct bytes ps) e = refl
-structs_taken d size (Voids n) e = refl
-structs_taken d size (Bits bs) e = refl
-structs_taken d size (Numbers w bytes) e = refl
-structs_taken d size (Pointers ps) e = refl
-structs_taken d size (Composite n p es) e = refl
-structs_taken d size (FaultLeaf k) e = refl
+structs_taken d size t e = refl

@@ -19,14 +19,12 @@ list_read false t x e = cc
 
 -- a list that is entered is as it stands, or the one of nothing
 entered : (size : ElementSize) (t x : Tree) → Ok x ≡ as_list size t 1 → x ≡ or_empty size t
-entered size Null x e = cc
-entered size (Struct bytes ps) x e = cc
 entered size (Voids n) x e = list_read (reads_voids size) (Voids n) x e
 entered size (Bits bs) x e = list_read (reads_bits size) (Bits bs) x e
 entered size (Numbers w bytes) x e = list_read (reads_numbers size w) (Numbers w bytes) x e
 entered size (Pointers ps) x e = list_read (reads_pointers size) (Pointers ps) x e
 entered size (Composite d p es) x e = list_read (reads_structs size d p) (Composite d p es) x e
-entered size (FaultLeaf k) x e = cc
+entered size t x e = cc
 
 pub entered_reads : (size : ElementSize) (t : Tree) (r : Result (MutBor ListObject) Error) → built_read r ≡ as_list size t 1 → IfOk r (λ l. built_list l.now ≡ or_empty size t)
 entered_reads size t (Ok l) e = entered size t (built_list l.now) e
@@ -53,20 +51,8 @@ entered_succeeds size t (Err error) e h =
 
 pub some_list : (size : ElementSize) (t : Tree) → is_null_tree t ≡ false → t ≡ or_empty size t
 some_list size Null e = cc
-some_list size (Struct bytes ps) e = refl
-some_list size (Voids n) e = refl
-some_list size (Bits bs) e = refl
-some_list size (Numbers w bytes) e = refl
-some_list size (Pointers ps) e = refl
-some_list size (Composite d p es) e = refl
-some_list size (FaultLeaf k) e = refl
+some_list size t e = refl
 
 pub some_structs : (size : StructSize) (t : Tree) → is_null_tree t ≡ false → is_null_tree (struct_list size t) ≡ false
 some_structs size Null e = e
-some_structs size (Struct bytes ps) e = refl
-some_structs size (Voids n) e = refl
-some_structs size (Bits bs) e = refl
-some_structs size (Numbers w bytes) e = refl
-some_structs size (Pointers ps) e = refl
-some_structs size (Composite d p es) e = refl
-some_structs size (FaultLeaf k) e = refl
+some_structs size t e = refl

@@ -14,3 +14,4 @@ pub mod Inside
 pub mod Places
 pub mod WellFormedRows
 pub mod ByteRuns
+pub mod Bits

@@ -1,17 +1,14 @@
--- Bits of a data section: the numbers that they are, and what they are once a number or a bit was written.
-use Rattle.std.specs.Prelude.{ℕ, zero, suc, ◌+◌, ◌-◌, ◌*◌, ◌/◌, ◌%◌, ◌^◌, ◌<◌, ◌≤◌, ◌≡◌, ◌≢◌, ◌⊎◌, refl, List, ◌∷◌, ◌++◌, Bool, true, false, ◌==◌, length, get_or, take, drop, bit_xor}
-use Rattle.std.specs.Int.{w8}
+-- Bits of a data section: the numbers that they are, and what they are once a number was written.
+use Rattle.std.specs.Prelude.{ℕ, zero, suc, ◌+◌, ◌*◌, ◌/◌, ◌%◌, ◌^◌, ◌<◌, ◌≤◌, ◌≡◌, ◌⊎◌, refl, List, Bool, true, false, ◌==◌, length, get_or, take, drop, bit_xor}
 use Rattle.std.specs.Int.Bits.{xor_assoc, xor_self, xor_zero_r}
-use Rattle.std.proofs.Common.{arith, inl, inr, ap, ap₂, sym, ◌∙◌, get_or-set_other, get_or-set_same}
-use Rattle.std.proofs.lemmas.List.{get_or_append_left, get_or-append_right, get_or-take, get_or-drop, length-take-le}
-use Rattle.std.proofs.lemmas.Nat.Bits as number
-use Rattle.std.proofs.lemmas.Nat.{pow_below, xor_lt}
+use Rattle.std.proofs.Common.{arith, inl, inr, ap, ap₂, sym, ◌∙◌}
+use Rattle.std.proofs.lemmas.Nat.{xor_lt}
 use Rattle.std.proofs.Math.Nat.{pow-suc}
 use Rattle.capnp_wire.specs.Slot.{bit_at, little_endian, masked_bit, number_at}
-use Rattle.capnp_wire.specs.Edits.{byte_with_bit, with_bit, with_number}
-use Rattle.capnp_wire.specs.Encoding.{spelled}
+use Rattle.capnp_wire.specs.Edits.{with_number}
 use Rattle.capnp_wire.specs.WellFormed.{AreBytes}
-use Rattle.capnp_wire.specs.Facts.Bytes.{AreBytes-spelled, length_spelled, little_endian_spelled, spelled_first}
+use Rattle.capnp_wire.specs.Facts.Bits.{byte-after, byte-before, byte-inside, number_at-with_number}
+use Rattle.capnp_wire.specs.Facts.Bytes.{AreBytes-spelled, spelled_first}
 use Rattle.capnp_schema.specs.Footprint.{is_in}
 use Rattle.capnp_schema.specs.SlotValue.{bit_number, bits_at}
 
@@ -60,7 +57,8 @@ bit-masked stored (suc (suc mask)) h = absurd (omega arith)
 
 -- ---- bits of bytes ----
 
-bit_number-is : (x : ℕ) → bit_number (x % 2 == 1) ≡ x % 2
+-- a bit as it is read is its number
+pub bit_number-is : (x : ℕ) → bit_number (x % 2 == 1) ≡ x % 2
 bit_number-is x = go (x % 2) (omega arith)
   where
     go : (y : ℕ) → y < 2 → bit_number (y == 1) ≡ y
@@ -152,56 +150,12 @@ bits_at-bounded bytes first (suc count) = omega (arith, bit_number-lt (bit_at by
 
 -- ---- a number that is written ----
 
--- the bytes of a number spell it
-spelled-whole : (k n : ℕ) → n < 256 ^ k → little_endian (take k (spelled k n)) ≡ n
-spelled-whole k n h = ap little_endian (all-spelled k n) ∙ little_endian_spelled k n h
-  where
-    all-spelled : (k n : ℕ) → take k (spelled k n) ≡ spelled k n
-    all-spelled zero n = refl
-    all-spelled (suc k) n = ap (λ bs. n % 256 ∷ bs) (all-spelled k (n / 256))
-
-module _ (k offset n : ℕ) (bytes : List ℕ) (inside : offset * k + k ≤ length bytes) where
-  before-length : length (take (offset * k) bytes) ≡ offset * k
-  before-length = length-take-le (offset * k) bytes (omega (arith, inside))
-
-  pub byte-before : (i : ℕ) → i < offset * k → get_or (with_number k offset n bytes) i 0 ≡ get_or bytes i 0
-  byte-before i a = get_or_append_left (take (offset * k) bytes) _ 0 i (omega (arith, before-length, a)) ∙ get_or-take (offset * k) bytes i 0 a
-
-  pub byte-inside : (r : ℕ) → r < k → get_or (with_number k offset n bytes) (offset * k + r) 0 ≡ get_or (spelled k n) r 0
-  byte-inside r a =
-      get_or-append_right (take (offset * k) bytes) _ (offset * k) (offset * k + r) 0 before-length (omega arith)
-      ∙ (ap (λ i. get_or (spelled k n ++ drop (offset * k + k) bytes) i 0) (omega arith)
-      ∙ get_or_append_left (spelled k n) (drop (offset * k + k) bytes) 0 r (omega (arith, length_spelled k n, a)))
-
-  pub byte-after : (i : ℕ) → offset * k + k ≤ i → get_or (with_number k offset n bytes) i 0 ≡ get_or bytes i 0
-  byte-after i a =
-      get_or-append_right (take (offset * k) bytes) _ (offset * k) i 0 before-length (omega (arith, a))
-      ∙ (get_or-append_right (spelled k n) (drop (offset * k + k) bytes) k (i - offset * k) 0 (length_spelled k n) (omega (arith, a))
-      ∙ (get_or-drop (offset * k + k) bytes (i - offset * k - k) 0 ∙ ap (λ j. get_or bytes j 0) (omega (arith, a))))
-
--- a number depends on its own bytes alone
-little_endian-same : (k m m' : ℕ) (xs ys : List ℕ) → ((r : ℕ) → r < k → get_or xs (m + r) 0 ≡ get_or ys (m' + r) 0) → little_endian (take k (drop m xs)) ≡ little_endian (take k (drop m' ys))
-little_endian-same zero m m' xs ys h = refl
-little_endian-same (suc k) m m' xs ys h =
-    let here : get_or xs m 0 ≡ get_or ys m' 0 = ap (λ i. get_or xs i 0) (omega arith) ∙ (h 0 (omega arith) ∙ ap (λ i. get_or ys i 0) (omega arith)) in
-    let rest : little_endian (take k (drop (suc m) xs)) ≡ little_endian (take k (drop (suc m') ys)) =
-    little_endian-same k (suc m) (suc m') xs ys (λ r a. ap (λ i. get_or xs i 0) (omega arith) ∙ (h (suc r) (omega (arith, a)) ∙ ap (λ i. get_or ys i 0) (omega arith))) in
-    omega (arith, spelled_first xs m k, spelled_first ys m' k, here, rest)
-
-inside-bytes : (bytes : List ℕ) (k offset : ℕ) → (offset + 1) * k ≤ length bytes → offset * k + k ≤ length bytes
-inside-bytes bytes k offset a = omega arith
-
--- the number that was written is there
-pub number_at-with_number : (bytes : List ℕ) (k offset n : ℕ) → (offset + 1) * k ≤ length bytes → n < 2 ^ (8 * k) → number_at k offset (with_number k offset n bytes) ≡ n
-number_at-with_number bytes k offset n a small =
-    little_endian-same k (offset * k) 0 (with_number k offset n bytes) (spelled k n) (λ r b. byte-inside k offset n bytes (inside-bytes bytes k offset a) r b ∙ ap (λ i. get_or (spelled k n) i 0) (omega arith))
-    ∙ spelled-whole k n (omega (arith, small, pow-bytes k))
-
+-- the number that was written is what its slot holds
 pub bits_at-with_number : (bytes : List ℕ) (k offset n : ℕ) → (offset + 1) * k ≤ length bytes → n < 2 ^ (8 * k) → bits_at (with_number k offset n bytes) (offset * (8 * k)) (8 * k) ≡ n
 bits_at-with_number bytes k offset n a small =
     ap (λ f. bits_at z f (8 * k)) (first-bit offset k)
-    ∙ (bits_at-bytes z (offset * k) k (λ r b. omega (arith, byte-inside k offset n bytes (inside-bytes bytes k offset a) r b, AreBytes-spelled k n r))
-    ∙ number_at-with_number bytes k offset n a small)
+    ∙ (bits_at-bytes z (offset * k) k (λ r b. omega (arith, byte-inside bytes k offset n a r b, AreBytes-spelled k n r))
+    ∙ number_at-with_number bytes k offset n a (omega (arith, small, pow-bytes k)))
   where
     z : List ℕ
     z = with_number k offset n bytes
@@ -213,53 +167,6 @@ is_in-false first n i e = grind arith
 pub bit_at-with_number : (bytes : List ℕ) (k offset n i : ℕ) → (offset + 1) * k ≤ length bytes → is_in (offset * (8 * k)) (8 * k) i ≡ false → bit_at (with_number k offset n bytes) i ≡ bit_at bytes i
 bit_at-with_number bytes k offset n i a out = ap (λ b. (b / 2 ^ (i % 8)) % 2 == 1) (side (is_in-false (offset * (8 * k)) (8 * k) i out))
   where
-    inside : offset * k + k ≤ length bytes
-    inside = inside-bytes bytes k offset a
-
     side : i < offset * (8 * k) ⊎ offset * (8 * k) + 8 * k ≤ i → get_or (with_number k offset n bytes) (i / 8) 0 ≡ get_or bytes (i / 8) 0
-    side (inl b) = byte-before k offset n bytes inside (i / 8) (omega (arith, b))
-    side (inr b) = byte-after k offset n bytes inside (i / 8) (omega (arith, b))
-
--- ---- a bit that is written ----
-
-byte-same : (j : ℕ) (bit : Bool) (byte : ℕ) → j < 8 → (((byte_with_bit j bit byte / 2 ^ j) % 2) == 1) ≡ bit
-byte-same j true byte h =
-    let one : (byte_with_bit j true byte / 2 ^ j) % 2 ≡ 1 = omega (arith, number.bit_at_or byte (2 ^ j) j, number.bit_at-pow_same j, number.bit_at-lt byte j) in
-    ap (λ n. n == 1) one
-byte-same j false byte h =
-    let cleared = number.bit_at_not w8 (2 ^ j) j (pow_below j 8 h) h in
-    let none : (byte_with_bit j false byte / 2 ^ j) % 2 ≡ 0 = omega (arith, number.bit_at_and byte (255 - 2 ^ j) j, cleared, number.bit_at-pow_same j) in
-    ap (λ n. n == 1) none
-
-byte-other : (j k : ℕ) (bit : Bool) (byte : ℕ) → j < 8 → k < 8 → k ≢ j → (((byte_with_bit j bit byte / 2 ^ k) % 2) == 1) ≡ (((byte / 2 ^ k) % 2) == 1)
-byte-other j k true byte h l apart =
-    let same : (byte_with_bit j true byte / 2 ^ k) % 2 ≡ (byte / 2 ^ k) % 2 = omega (arith, number.bit_at_or byte (2 ^ j) k, number.bit_at-pow_other j k apart, number.bit_at-lt byte k) in
-    ap (λ n. n == 1) same
-byte-other j k false byte h l apart =
-    let kept = number.bit_at_not w8 (2 ^ j) k (pow_below j 8 h) l in
-    let same : (byte_with_bit j false byte / 2 ^ k) % 2 ≡ (byte / 2 ^ k) % 2 = omega (arith, number.bit_at_and byte (255 - 2 ^ j) k, kept, number.bit_at-pow_other j k apart, number.bit_at-lt byte k) in
-    ap (λ n. n == 1) same
-
--- the bit that was written is there
-pub bit_at-with_bit : (bytes : List ℕ) (i : ℕ) (bit : Bool) → i < 8 * length bytes → bit_at (with_bit i bit bytes) i ≡ bit
-bit_at-with_bit bytes i bit h =
-    ap (λ b. ((b / 2 ^ (i % 8)) % 2) == 1) (get_or-set_same bytes (i / 8) _ 0 (omega (arith, h))) ∙ byte-same (i % 8) bit (get_or bytes (i / 8) 0) (omega arith)
-
-not-equal : (m n : ℕ) → (m == n) ≡ false → m ≢ n
-not-equal m n e = grind arith
-
-equal : (m n : ℕ) → (m == n) ≡ true → m ≡ n
-equal m n e = grind arith
-
--- and every other bit is as it was
-pub bit_at-with_other : (bytes : List ℕ) (i : ℕ) (bit : Bool) → i < 8 * length bytes → (j : ℕ) → j ≢ i → bit_at (with_bit i bit bytes) j ≡ bit_at bytes j
-bit_at-with_other bytes i bit h j apart = go (j / 8 == i / 8) refl
-  where
-    go : (same : Bool) → (j / 8 == i / 8) ≡ same → bit_at (with_bit i bit bytes) j ≡ bit_at bytes j
-    go false n = ap (λ b. ((b / 2 ^ (j % 8)) % 2) == 1) (get_or-set_other bytes (i / 8) (j / 8) _ 0 (not-equal (j / 8) (i / 8) n))
-    go true q =
-        let e : j / 8 ≡ i / 8 = equal (j / 8) (i / 8) q in
-        ap (λ k. ((get_or (with_bit i bit bytes) k 0 / 2 ^ (j % 8)) % 2) == 1) e
-        ∙ (ap (λ b. ((b / 2 ^ (j % 8)) % 2) == 1) (get_or-set_same bytes (i / 8) _ 0 (omega (arith, h)))
-        ∙ (byte-other (i % 8) (j % 8) bit (get_or bytes (i / 8) 0) (omega arith) (omega arith) (λ f. apart (omega (arith, e, f)))
-        ∙ ap (λ k. ((get_or bytes k 0 / 2 ^ (j % 8)) % 2) == 1) (sym e)))
+    side (inl b) = byte-before bytes k offset n a (i / 8) (omega (arith, b))
+    side (inr b) = byte-after bytes k offset n a (i / 8) (omega (arith, b))

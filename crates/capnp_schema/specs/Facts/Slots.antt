@@ -5,13 +5,14 @@ use Rattle.std.proofs.lemmas.Bool.Decides.{nat_tests}
 use Rattle.capnp_wire.specs.Slot.{bit_at, number_at}
 use Rattle.capnp_wire.specs.Edits.{with_bit, with_number}
 use Rattle.capnp_wire.specs.WellFormed.{AreBytes}
+use Rattle.capnp_wire.specs.Facts.Bits.{bit_at-with_bit, bit_at-with_other}
 use Rattle.capnp_wire.specs.Facts.Bytes.{length-with_bit, length-with_number}
 use Rattle.capnp_schema.specs.Footprint.{is_in}
 use Rattle.capnp_schema.specs.SlotValue.{bit_number, bits_at}
 use Rattle.capnp_schema.specs.Plan.{IsDataSlot, is_slot_width, place_number}
 use Rattle.capnp_schema.specs.SlotBits.{stored_bits, with_bits}
 use Rattle.capnp_schema.specs.declared.plan.Place.TheVariants as place
-use Rattle.capnp_schema.specs.Facts.Bits.{bit_at-with_bit, bit_at-with_number, bit_at-with_other, bit_number-of, bits_at-bit, bits_at-number, bits_at-with_number, is_in-false, xor-bounded, xor-undone}
+use Rattle.capnp_schema.specs.Facts.Bits.{bit_at-with_number, bit_number-of, bits_at-bit, bits_at-number, bits_at-with_number, is_in-false, xor-bounded, xor-undone}
 
 -- ---- the widths of slots ----
 

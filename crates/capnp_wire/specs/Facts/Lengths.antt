@@ -48,14 +48,8 @@ list_length-zero_structs size count = struct_count-structs_from (λ _. zero_stru
 -- ---- lists in which an element was written ----
 
 pub list_length-with_bit_element : (i : ℕ) (bit : Bool) (t : Tree) → list_length (with_bit_element i bit t) ≡ list_length t
-list_length-with_bit_element i bit Null = refl
-list_length-with_bit_element i bit (Struct bytes ps) = refl
-list_length-with_bit_element i bit (Voids n) = refl
 list_length-with_bit_element i bit (Bits bs) = length-set bs i bit
-list_length-with_bit_element i bit (Numbers w bytes) = refl
-list_length-with_bit_element i bit (Pointers ps) = refl
-list_length-with_bit_element i bit (Composite d p es) = refl
-list_length-with_bit_element i bit (FaultLeaf k) = refl
+list_length-with_bit_element i bit t = refl
 
 pub list_length-with_number_element : (width i n : ℕ) (t : Tree) → HasNumber width t i → list_length (with_number_element width i n t) ≡ list_length t
 list_length-with_number_element width i n (Numbers w bytes) there = ap (λ k. k / w) (length-with_number width i n bytes there)
@@ -63,24 +57,13 @@ list_length-with_number_element width i n (Composite d p es) there = struct_coun
 list_length-with_number_element width i n t there = absurd there
 
 pub list_length-with_pointer_element : (i : ℕ) (x t : Tree) → list_length (with_pointer_element i x t) ≡ list_length t
-list_length-with_pointer_element i x Null = refl
-list_length-with_pointer_element i x (Struct bytes ps) = refl
-list_length-with_pointer_element i x (Voids n) = refl
-list_length-with_pointer_element i x (Bits bs) = refl
-list_length-with_pointer_element i x (Numbers w bytes) = refl
 list_length-with_pointer_element i x (Pointers ps) = tree_count-with_tree ps i x
 list_length-with_pointer_element i x (Composite d p es) = struct_count-with_struct es i _
-list_length-with_pointer_element i x (FaultLeaf k) = refl
+list_length-with_pointer_element i x t = refl
 
 pub list_length-with_struct_element : (i : ℕ) (s : StructTree) (t : Tree) → list_length (with_struct_element i s t) ≡ list_length t
-list_length-with_struct_element i s Null = refl
-list_length-with_struct_element i s (Struct bytes ps) = refl
-list_length-with_struct_element i s (Voids n) = refl
-list_length-with_struct_element i s (Bits bs) = refl
-list_length-with_struct_element i s (Numbers w bytes) = refl
-list_length-with_struct_element i s (Pointers ps) = refl
 list_length-with_struct_element i s (Composite d p es) = struct_count-with_struct es i s
-list_length-with_struct_element i s (FaultLeaf k) = refl
+list_length-with_struct_element i s t = refl
 
 -- ---- lists that become lists of structs ----
 
@@ -88,25 +71,20 @@ length-as_structs : (size : StructSize) (t : Tree) → list_length (as_structs s
 length-as_structs size t = struct_count-structs_from (λ i. extended size (element_struct t i)) 0 (list_length t)
 
 pub list_length-struct_list : (size : StructSize) (t : Tree) → list_length (struct_list size t) ≡ list_length t
-list_length-struct_list size Null = refl
-list_length-struct_list size (Struct bytes ps) = refl
 list_length-struct_list size (Voids n) = length-as_structs (grown size (Voids n)) (Voids n)
-list_length-struct_list size (Bits bs) = refl
 list_length-struct_list size (Numbers w bytes) = length-as_structs (grown size (Numbers w bytes)) (Numbers w bytes)
 list_length-struct_list size (Pointers ps) = length-as_structs (grown size (Pointers ps)) (Pointers ps)
 list_length-struct_list size (Composite d p es) = length-as_structs (grown size (Composite d p es)) (Composite d p es)
-list_length-struct_list size (FaultLeaf k) = refl
+list_length-struct_list size t = refl
 
 -- each struct has at least the size then
 pub HoldsStructs-struct_list : (size : StructSize) (t : Tree) → struct_list_refusal size t ≡ None → first_fault t ≡ None → HoldsStructs size (struct_list size t)
 HoldsStructs-struct_list size Null r f = tt
-HoldsStructs-struct_list size (Struct bytes ps) r f = cc
 HoldsStructs-struct_list size (Voids n) r f = (omega arith, omega arith)
-HoldsStructs-struct_list size (Bits bs) r f = cc
 HoldsStructs-struct_list size (Numbers w bytes) r f = (omega arith, omega arith)
 HoldsStructs-struct_list size (Pointers ps) r f = (omega arith, omega arith)
 HoldsStructs-struct_list size (Composite d p es) r f = (omega arith, omega arith)
-HoldsStructs-struct_list size (FaultLeaf k) r f = cc
+HoldsStructs-struct_list size t r f = cc
 
 pub HasStruct-there : (size : StructSize) (t : Tree) (i : ℕ) → HoldsStructs size t → i < list_length t → HasStruct t i
 HasStruct-there size Null i h a = absurd (omega arith)

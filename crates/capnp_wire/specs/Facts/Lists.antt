@@ -99,7 +99,7 @@ IsWellFormed-struct_list size (FaultLeaf k) a b r h = h
 
 -- ---- lists with another element ----
 
-IsWellFormed-with_struct : (d p : ℕ) (es : Structs) (i : ℕ) (s : StructTree) → IsWellFormed (Composite d p es) → (i < struct_count es → IsElement d p s) → IsWellFormed (Composite d p (with_struct es i s))
+pub IsWellFormed-with_struct : (d p : ℕ) (es : Structs) (i : ℕ) (s : StructTree) → IsWellFormed (Composite d p es) → (i < struct_count es → IsElement d p s) → IsWellFormed (Composite d p (with_struct es i s))
 IsWellFormed-with_struct d p es i s h k =
     let n : struct_count (with_struct es i s) ≡ struct_count es = struct_count-with_struct es i s in
     (h.0, h.1, omega (arith, n, h.2), subst (λ m. m * (d + p) < 2 ^ 29) (sym n) h.3, AreElements-with_struct d p es i s h.4 k)

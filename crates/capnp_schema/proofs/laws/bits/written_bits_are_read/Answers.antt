@@ -1,4 +1,5 @@
-use Rattle.capnp_schema.specs.Facts.Bits.{bit_at-with_bit, bit_at-with_number, bit_at-with_other, bits_at-with_number}
+use Rattle.capnp_wire.specs.Facts.Bits.{bit_at-with_bit, bit_at-with_other}
+use Rattle.capnp_schema.specs.Facts.Bits.{bit_at-with_number, bits_at-with_number}
 use Rattle.capnp_schema.proofs.laws.bits.written_bits_are_read.Goals as goal
 
 pub returns : goal.returns

@@ -1,6 +1,5 @@
-use Rattle.std.proofs.Common.{arith, map}
+use Rattle.std.proofs.Common.{arith}
 use Rattle.capnp_schema.specs.Entries.{lists_seen}
-use Rattle.capnp_schema.specs.Types.{seen_type}
 use Rattle.capnp_schema.proofs.AnnotatedLemmas.{length_in}
 use Rattle.capnp_schema.proofs.NamedTypes.{entry_named}
 use Rattle.capnp_schema.proofs.schema.annotations.AnnotationList.get.Goals as goal
