@@ -1,0 +1,2 @@
+//! The text of a value.
+mod out;
