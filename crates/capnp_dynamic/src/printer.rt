@@ -1,0 +1,3 @@
+//! The text of a value.
+mod leaves;
+mod out;
