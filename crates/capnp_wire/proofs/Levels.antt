@@ -1,8 +1,12 @@
 -- One level of the tree at a place, with its number of levels tested as code does.
-use Rattle.std.proofs.Common.{◌≡◌, ℕ, zero, suc, ◌-◌, ◌<◌, List, refl, ap, ◌∙◌, arith, cond, ◌==◌, nat_lt, false, rules}
+use Rattle.std.proofs.Common.{◌≡◌, ℕ, zero, suc, ◌+◌, ◌-◌, ◌/◌, ◌<◌, ◌≤◌, List, length, refl, sym, ap, ◌∙◌, arith, cond, ◌==◌, nat_lt, Bool, true, false, rules}
+use Rattle.std.specs.Prelude.{min}
+use Rattle.std.proofs.Math.Nat.{min-eq_left, min-eq_right}
 use Rattle.std.proofs.lemmas.Bool.Decides.{nat_tests}
-use Rattle.capnp_wire.specs.Tree.{Tree, Numbers, Pointers, trees_from}
-use Rattle.capnp_wire.specs.Locate.{Segments, Target, NoTarget, BadTarget, StructAt, ListAt, CompositeAt, target_at}
+use Rattle.capnp_wire.specs.Tree.{Tree, Numbers, Pointers, MoreTrees, NoTrees, trees_from}
+use Rattle.capnp_wire.specs.Slot.{word_at}
+use Rattle.capnp_wire.specs.declared.fault.Fault.TheVariants.{BadPointer}
+use Rattle.capnp_wire.specs.Locate.{Segments, Target, NoTarget, BadTarget, StructAt, ListAt, CompositeAt, lies, target_at, word_target}
 use Rattle.capnp_wire.specs.Place.{tree_below, tree_below_levels, tree_without_level, tree_with_level, bytes_at, list_tree}
 use Rattle.capnp_wire.specs.Level.{list_at_depth, tree_at_depth}
 
@@ -58,3 +62,26 @@ below_step (suc (suc l)) segments segment w =
     steps_more l (tree_below (suc l) segments) (tree_below l segments) (target_at segments segment w)
     ∙ ap (λ i. tree_at_depth (suc (suc l)) (tree_below i segments) (tree_below l segments) (target_at segments segment w)) a
     ∙ ap (λ i. tree_at_depth (suc (suc l)) (tree_below (suc (suc l) - 1) segments) (tree_below i segments) (target_at segments segment w)) b
+
+-- past the end of a segment no word is there, so all words are alike
+target_past : (segments : Segments) (segment : List ℕ) (w : ℕ) → length segment / 8 ≤ w → target_at segments segment w ≡ BadTarget BadPointer
+target_past segments segment w h =
+    let e : lies segment (w + 1) ≡ false = grind (arith, nat_tests) in
+    ap (λ b. cond b (word_target segments segment w (word_at segment w)) (BadTarget BadPointer)) e
+
+below_past : (depth : ℕ) (segments : Segments) (segment : List ℕ) (v w : ℕ) → length segment / 8 ≤ v → length segment / 8 ≤ w → tree_below depth segments segment v ≡ tree_below depth segments segment w
+below_past depth segments segment v w h k =
+    below_step depth segments segment v
+    ∙ ap (tree_at_depth depth (tree_below (depth - 1) segments) (tree_below (depth - 2) segments)) (target_past segments segment v h ∙ sym (target_past segments segment w k))
+    ∙ sym (below_step depth segments segment w)
+
+capped_by : (past : Bool) (depth : ℕ) (segments : Segments) (segment : List ℕ) (w : ℕ) → nat_lt (length segment / 8) w ≡ past → tree_below depth segments segment (min w (length segment / 8)) ≡ tree_below depth segments segment w
+capped_by true depth segments segment w e =
+    let h : length segment / 8 ≤ w = grind (arith, nat_tests) in
+    ap (tree_below depth segments segment) (min-eq_right h) ∙ below_past depth segments segment (length segment / 8) w (omega arith) h
+capped_by false depth segments segment w e =
+    let h : w ≤ length segment / 8 = grind (arith, nat_tests) in
+    ap (tree_below depth segments segment) (min-eq_left h)
+
+pub alone_capped : (depth : ℕ) (segments : Segments) (segment : List ℕ) (w : ℕ) → trees_from (tree_below depth segments segment) (min w (length segment / 8)) 1 ≡ trees_from (tree_below depth segments segment) w 1
+alone_capped depth segments segment w = ap (λ t. MoreTrees t NoTrees) (capped_by (nat_lt (length segment / 8) w) depth segments segment w refl)

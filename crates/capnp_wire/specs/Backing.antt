@@ -1,15 +1,18 @@
 -- Segments and targets in code, as the definitions see them.
-use Rattle.std.specs.Prelude.{◌/◌, ◌^◌, ◌≤◌, ⊤, length, [], ◌∷◌}
+use Rattle.std.specs.Prelude.{ℕ, ◌^◌, ◌≤◌, ⊤, List, [], ◌∷◌, Bool, true, false}
 use Rattle.capnp_wire.specs.Locate as locate
-use Rattle.capnp_wire.specs.Stream.{cut}
+use Rattle.capnp_wire.specs.Stream.{stream_segments}
 use Rattle.capnp_wire.specs.declared.segments.Segments.{Segments}
-use Rattle.capnp_wire.specs.declared.segments.Segments.TheVariants.{One, Many}
 use Rattle.capnp_wire.specs.declared.locate.Target.{Target}
 use Rattle.capnp_wire.specs.declared.locate.Target.TheVariants as target
 
+-- the segments of a stream, or the bytes as one segment
+abbrev pub segments_in : Bool → List ℕ → locate.Segments
+segments_in true bytes = stream_segments bytes
+segments_in false bytes = bytes ∷ []
+
 abbrev pub segment_list : Segments → locate.Segments
-segment_list (One bytes) = bytes.now ∷ []
-segment_list (Many table body) = cut (length table.now / 4) table.now body.now
+segment_list segments = segments_in segments.is_stream segments.bytes.now
 
 abbrev pub target_of : Target → locate.Target
 target_of target.Null = locate.NoTarget

@@ -1,9 +1,9 @@
 -- What code found at a place, one level of it, as a tree.
-use Rattle.std.specs.Prelude.{ℕ, ◌+◌, ◌*◌, ◌<◌, ⊤}
+use Rattle.std.specs.Prelude.{ℕ, Bool, ◌+◌, ◌*◌, ◌<◌, ⊤}
 use Rattle.capnp_wire.specs.Tree as tree
 use Rattle.capnp_wire.specs.Tree.{Tree, Trees, Structs, StructTree, trees_from, structs_from}
 use Rattle.capnp_wire.specs.Place.{tree_below, struct_at, struct_tree, bits_from}
-use Rattle.capnp_wire.specs.Backing.{segment_list}
+use Rattle.capnp_wire.specs.Backing.{segments_in}
 use Rattle.capnp_wire.specs.Objects.{object_tree, object_trees, struct_object_trees}
 use Rattle.capnp_wire.specs.declared.run.Block.{Block}
 use Rattle.capnp_wire.specs.declared.run.Run.{Run}
@@ -21,24 +21,25 @@ use Rattle.capnp_wire.specs.declared.look.Found.TheVariants as found
 abbrev pub place_tree : Place → Tree
 place_tree place.Null = tree.Null
 place_tree (place.Bad fault) = tree.FaultLeaf fault
-place_tree (place.Word segments segment index depth) = tree_below depth (segment_list segments) segment.now index
+place_tree (place.Word depth is_stream bytes segment index) = tree_below depth (segments_in is_stream bytes.now) segment.now index
 place_tree (place.Object object) = object_tree object.now
 
-abbrev pub run_trees : Run → Trees
-run_trees run = trees_from (tree_below run.depth (segment_list run.segments) run.segment.now) run.first run.count
+abbrev pub run_trees : ℕ → Bool → ℕ → Run → Trees
+run_trees depth is_stream count run = trees_from (tree_below depth (segments_in is_stream run.bytes.now) run.segment.now) run.first count
 
 abbrev pub pointer_trees : Pointers → Trees
-pointer_trees (pointers.Words run) = run_trees run
+pointer_trees (pointers.Words depth is_stream count run) = run_trees depth is_stream count run
 pointer_trees (pointers.Objects objects) = object_trees objects.now
 
-abbrev pub block_struct : ℕ → ℕ → Block → ℕ → StructTree
-block_struct d p block i = struct_at (tree_below block.depth (segment_list block.segments) block.segment.now) block.segment.now d p (block.first + i * (d + p))
+abbrev pub block_struct : ℕ → ℕ → ℕ → Bool → Block → ℕ → StructTree
+block_struct d p depth is_stream block i =
+    struct_at (tree_below depth (segments_in is_stream block.bytes.now) block.segment.now) block.segment.now d p (block.first + i * (d + p))
 
-abbrev pub block_structs : ℕ → ℕ → Block → Structs
-block_structs d p block = structs_from (block_struct d p block) 0 block.count
+abbrev pub block_structs : ℕ → ℕ → ℕ → Bool → ℕ → Block → Structs
+block_structs d p depth is_stream count block = structs_from (block_struct d p depth is_stream block) 0 count
 
 abbrev pub element_structs : ℕ → ℕ → Elements → Structs
-element_structs d p (elements.Words block) = block_structs d p block
+element_structs d p (elements.Words depth is_stream count block) = block_structs d p depth is_stream count block
 element_structs d p (elements.Objects objects) = struct_object_trees objects.now
 
 abbrev pub parts_tree : StructParts → StructTree
@@ -58,11 +59,11 @@ found_tree (found.Composite size es) = tree.Composite size.data_words size.point
 
 -- these are words, with fewer levels than a depth says
 abbrev pub ArePointersBelow : ℕ → Pointers → Type 0
-ArePointersBelow depth (pointers.Words run) = run.depth < depth
+ArePointersBelow depth (pointers.Words levels is_stream count run) = levels < depth
 ArePointersBelow depth (pointers.Objects objects) = ⊥
 
 abbrev pub AreElementsBelow : ℕ → Elements → Type 0
-AreElementsBelow depth (elements.Words block) = block.depth < depth
+AreElementsBelow depth (elements.Words levels is_stream count block) = levels < depth
 AreElementsBelow depth (elements.Objects objects) = ⊥
 
 abbrev pub IsBelow : ℕ → Found → Type 0

@@ -21,6 +21,16 @@ total_words (suc k) table = little_endian (take 4 table) + total_words k (drop 4
 abbrev pub header_bytes : ℕ → ℕ
 header_bytes count = (count / 2 + 1) * 8
 
+-- the number of segments that a stream begins with, the table of their sizes, and the segments behind it
+abbrev pub segment_count : List ℕ → ℕ
+segment_count bytes = little_endian (take 4 bytes) + 1
+
+abbrev pub table_of : List ℕ → List ℕ
+table_of bytes = take (4 * segment_count bytes) (drop 4 bytes)
+
+abbrev pub stream_segments : List ℕ → Segments
+stream_segments bytes = cut (length (table_of bytes) / 4) (table_of bytes) (drop (header_bytes (segment_count bytes)) bytes)
+
 abbrev pub segments_after_table : ℕ → List ℕ → List ℕ → Result Segments ErrorKind
 segments_after_table count table bytes =
     cond (nat_lt (length bytes) (header_bytes count + 8 * total_words (length table / 4) table))

@@ -15,19 +15,40 @@ use crate::size::StructSize;
 
 /// The first fault leaf of the tree of a word of a message.
 #[cycle(faults)]
-fn fault_of_word(segments: Segments<'_>, segment: &[u8], index: usize, depth: u32) -> Option<Fault>
+fn fault_of_word(segments: Segments<'_>, segment: &[u8], index: usize, depth: u8) -> Option<Fault>
     ensures { result ≡ first_fault (tree_below depth (segment_list segments.entry) segment.now index) }
 {
     match look_at_word(segments, segment, index, depth) {
         Found::Bad(fault) => Some(fault),
         Found::Struct(parts) => {
-            let Pointers::Words(run) = parts.pointers else {
+            let Pointers::Words {
+                depth,
+                is_stream,
+                count,
+                run,
+            } = parts.pointers
+            else {
                 unreachable!()
             };
-            fault_of_run(run)
+            fault_of_run(depth, is_stream, count, run)
         }
-        Found::Pointers(Pointers::Words(run)) => fault_of_run(run),
-        Found::Composite(size, Elements::Words(block)) => fault_of_block(size, block),
+        Found::Pointers(
+            Pointers::Words {
+                depth,
+                is_stream,
+                count,
+                run,
+            },
+        ) => fault_of_run(depth, is_stream, count, run),
+        Found::Composite(
+            size,
+            Elements::Words {
+                depth,
+                is_stream,
+                count,
+                block,
+            },
+        ) => fault_of_block(size, depth, is_stream, count, block),
         Found::Null => None,
         Found::Voids(_) => None,
         Found::Bits(_, _) => None,
@@ -38,16 +59,16 @@ fn fault_of_word(segments: Segments<'_>, segment: &[u8], index: usize, depth: u3
 
 /// The first fault leaf of what pointers in a row lead to.
 #[cycle(faults)]
-fn fault_of_run(run: Run<'_>) -> Option<Fault>
-    ensures { result ≡ first_fault_of_all (run_trees run.entry) }
+fn fault_of_run(depth: u8, is_stream: bool, count: u32, run: Run<'_>) -> Option<Fault>
+    ensures { result ≡ first_fault_of_all (run_trees depth is_stream count run.entry) }
 {
-    for i in 0..run.count {
-        if let Some(fault) = fault_of_word(
-            run.segments,
-            run.segment,
-            run.first + i as usize,
-            run.depth,
-        ) {
+    let segments = Segments {
+        bytes: run.bytes,
+        is_stream,
+    };
+    for i in 0..count {
+        let index = run.first + i as usize;
+        if let Some(fault) = fault_of_word(segments, run.segment, index, depth) {
             return Some(fault);
         }
     }
@@ -56,20 +77,24 @@ fn fault_of_run(run: Run<'_>) -> Option<Fault>
 
 /// The first fault leaf of what the pointers of a composite list's elements lead to.
 #[cycle(faults)]
-fn fault_of_block(size: StructSize, block: Block<'_>) -> Option<Fault>
-    ensures { result ≡ first_fault_of_elements (block_structs size.data_words size.pointers block.entry) }
+fn fault_of_block(
+    size: StructSize,
+    depth: u8,
+    is_stream: bool,
+    count: u32,
+    block: Block<'_>,
+) -> Option<Fault>
+    ensures { result ≡ first_fault_of_elements (block_structs size.data_words size.pointers depth is_stream count block.entry) }
 {
-    for i in 0..block.count {
+    for i in 0..count {
         let run = Run {
-            segments: block.segments,
+            bytes: block.bytes,
             segment: block.segment,
             first: block.first
                 + i as usize * (size.data_words as usize + size.pointers as usize)
                 + size.data_words as usize,
-            count: size.pointers as u32,
-            depth: block.depth,
         };
-        if let Some(fault) = fault_of_run(run) {
+        if let Some(fault) = fault_of_run(depth, is_stream, size.pointers as u32, run) {
             return Some(fault);
         }
     }
@@ -85,11 +110,12 @@ fn fault_of_place(place: Place<'_>) -> Option<Fault>
         Place::Null => None,
         Place::Bad(fault) => Some(fault),
         Place::Word {
-            segments,
+            depth,
+            is_stream,
+            bytes,
             segment,
             index,
-            depth,
-        } => fault_of_word(segments, segment, index, depth),
+        } => fault_of_word(Segments { bytes, is_stream }, segment, index, depth),
         Place::Object(_) => None,
     }
 }

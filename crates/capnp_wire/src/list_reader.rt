@@ -15,15 +15,19 @@ use crate::primitive::PrimitiveElement;
 use crate::size::{ElementSize, StructSize};
 use crate::struct_reader::StructReader;
 use capnp_device::error::{Error, ErrorKind, Result};
+use std::mem::size_of;
 
 /// A list, as it is read: its elements, and the levels that are left below it. Past its end elements read as zero, false,
 /// null and a struct of size zero, so each call answers for any index.
 #[derive(Clone, Copy)]
 pub struct ListReader<'a> {
     found: Found<'a>,
-    levels: u32,
+    levels: u8,
     ghost well_formed: { IsWellFormed (found_tree found) } by { IsWellFormed-prop (found_tree found) },
 }
+
+// A reader is copied at each step, so it is kept small.
+const _: () = prove!(size_of::<ListReader<'static>>() <= 80);
 
 /// Whether structs of a size are read as elements of the size that is asked.
 fn reads_structs_as(asked: ElementSize, size: StructSize) -> bool
@@ -83,7 +87,7 @@ impl<'a> ListReader<'a> {
 
     /// A reader of a list.
     #[tactic(auto, unfolding(crate::specs::Standing::list_of, crate::specs::Standing::list_levels))]
-    pub(crate) fn new(found: Found<'a>, levels: u32) -> ListReader<'a>
+    pub(crate) fn new(found: Found<'a>, levels: u8) -> ListReader<'a>
         requires { IsWellFormed (found_tree found) }
         ensures list { list_of result ≡ found_tree found.entry }
         ensures levels { list_levels result ≡ levels }
@@ -92,7 +96,7 @@ impl<'a> ListReader<'a> {
     }
 
     /// A list without elements.
-    fn empty(size: ElementSize, levels: u32) -> ListReader<'a>
+    fn empty(size: ElementSize, levels: u8) -> ListReader<'a>
         ensures list { list_of result ≡ empty_list size }
         ensures levels { list_levels result ≡ levels }
     {
@@ -100,11 +104,7 @@ impl<'a> ListReader<'a> {
     }
 
     /// What stands at a place, where it is no fault leaf, as a list of elements of a size.
-    pub(crate) fn read_as(
-        found: Found<'a>,
-        size: ElementSize,
-        levels: u32,
-    ) -> Result<ListReader<'a>>
+    pub(crate) fn read_as(found: Found<'a>, size: ElementSize, levels: u8) -> Result<ListReader<'a>>
         requires followed { is_fault_leaf (found_tree found) ≡ false }
         requires well_formed { IsWellFormed (found_tree found) }
         ensures read { list_read result ≡ as_list size (found_tree found.entry) (levels + 1) }

@@ -1,5 +1,5 @@
 //! One level of what stands at a place, wherever it lies: in the bytes of a message or in a builder's objects.
-ghost use Rattle.std.specs.Prelude.{◌≡◌, ◌-◌, ◌<◌, ◌≤◌, ◌^◌};
+ghost use Rattle.std.specs.Prelude.{◌≡◌, ◌-◌, ◌/◌, ◌<◌, ◌≤◌, ◌^◌, length, min};
 ghost use Rattle.capnp_wire.specs.Tree.{empty_struct, nth_struct, nth_tree, only_tree, struct_count, tree_count};
 ghost use Rattle.capnp_wire.specs.Place.{bytes_at, root_tree, struct_at, tree_below};
 ghost use Rattle.capnp_wire.specs.Level.{list_at_depth, tree_at_depth};
@@ -18,6 +18,9 @@ use crate::run::{Block, Run};
 use crate::segments::{Segments, get_first_segment};
 use crate::size::{ElementSize, StructSize};
 
+// A reader is copied by each step of a read. So the parts of `Segments` stand one by one below, and the small ones first,
+// where they take no room beside the number of the variant.
+
 /// Where a pointer stands.
 #[derive(Clone, Copy)]
 pub enum Place<'a> {
@@ -25,10 +28,11 @@ pub enum Place<'a> {
     Bad(Fault),
     /// A word of a segment, whose tree has one level less than `depth`.
     Word {
-        segments: Segments<'a>,
+        depth: u8,
+        is_stream: bool,
+        bytes: &'a [u8],
         segment: &'a [u8],
         index: usize,
-        depth: u32,
     },
     Object(&'a Object),
 }
@@ -36,14 +40,26 @@ pub enum Place<'a> {
 /// The pointers of a struct or of a list.
 #[derive(Clone, Copy)]
 pub enum Pointers<'a> {
-    Words(Run<'a>),
+    /// So many words, whose trees have one level less than `depth`.
+    Words {
+        depth: u8,
+        is_stream: bool,
+        count: u32,
+        run: Run<'a>,
+    },
     Objects(&'a [Object]),
 }
 
 /// The elements of a composite list.
 #[derive(Clone, Copy)]
 pub enum Elements<'a> {
-    Words(Block<'a>),
+    /// So many elements, whose pointers' trees have one level less than `depth`.
+    Words {
+        depth: u8,
+        is_stream: bool,
+        count: u32,
+        block: Block<'a>,
+    },
     Objects(&'a [StructObject]),
 }
 
@@ -84,7 +100,7 @@ fn look_at_struct<'a>(
     segment: &'a [u8],
     start: usize,
     size: StructSize,
-    depth: u32,
+    depth: u8,
 ) -> StructParts<'a>
     requires start { start ≤ 2 ^ 60 }
     requires level { 0 < depth }
@@ -92,15 +108,18 @@ fn look_at_struct<'a>(
     ensures below { ArePointersBelow depth result.pointers }
 {
     let run = Run {
-        segments,
+        bytes: segments.bytes,
         segment,
         first: start + size.data_words as usize,
-        count: size.pointers as u32,
-        depth: depth - 1,
     };
     StructParts {
         data: bytes_from(segment, start, 8 * size.data_words as usize),
-        pointers: Pointers::Words(run),
+        pointers: Pointers::Words {
+            depth: depth - 1,
+            is_stream: segments.is_stream,
+            count: size.pointers as u32,
+            run,
+        },
     }
 }
 
@@ -111,7 +130,7 @@ fn look_at_list<'a>(
     start: usize,
     element_size: u8,
     count: u32,
-    depth: u32,
+    depth: u8,
 ) -> Found<'a>
     requires start { start ≤ 2 ^ 60 }
     requires level { 0 < depth }
@@ -133,19 +152,22 @@ fn look_at_list<'a>(
         Found::Numbers(8, bytes_from(segment, start, 8 * count as usize))
     } else {
         let run = Run {
-            segments,
+            bytes: segments.bytes,
             segment,
             first: start,
-            count,
-            depth: depth - 1,
         };
-        Found::Pointers(Pointers::Words(run))
+        Found::Pointers(Pointers::Words {
+            depth: depth - 1,
+            is_stream: segments.is_stream,
+            count,
+            run,
+        })
     }
 }
 
 /// One level of a target, whose tree has one level less than `depth`.
 #[inline(always)]
-fn look_at_target<'a>(segments: Segments<'a>, target: Target<'a>, depth: u32) -> Found<'a>
+fn look_at_target<'a>(segments: Segments<'a>, target: Target<'a>, depth: u8) -> Found<'a>
     requires { StartFits target }
     ensures value { found_tree result ≡ tree_at_depth depth (tree_below (depth - 1) (segment_list segments.entry)) (tree_below (depth - 2) (segment_list segments.entry)) (target_of target.entry) }
     ensures below { IsBelow depth result }
@@ -201,19 +223,23 @@ fn look_at_target<'a>(segments: Segments<'a>, target: Target<'a>, depth: u32) ->
             if depth < 2 {
                 return Found::Bad(Fault::TooDeep);
             }
+            let size = StructSize {
+                data_words,
+                pointers,
+            };
             let block = Block {
-                segments,
+                bytes: segments.bytes,
                 segment,
                 first: start,
-                count,
-                depth: depth - 2,
             };
             Found::Composite(
-                StructSize {
-                    data_words,
-                    pointers,
+                size,
+                Elements::Words {
+                    depth: depth - 2,
+                    is_stream: segments.is_stream,
+                    count,
+                    block,
                 },
-                Elements::Words(block),
             )
         }
     }
@@ -225,7 +251,7 @@ pub fn look_at_word<'a>(
     segments: Segments<'a>,
     segment: &'a [u8],
     index: usize,
-    depth: u32,
+    depth: u8,
 ) -> Found<'a>
     ensures value { found_tree result ≡ tree_below depth (segment_list segments.entry) segment.now index }
     ensures below { IsBelow depth result }
@@ -313,11 +339,12 @@ pub fn look(place: Place<'_>) -> Found<'_>
         Place::Null => Found::Null,
         Place::Bad(fault) => Found::Bad(fault),
         Place::Word {
-            segments,
+            depth,
+            is_stream,
+            bytes,
             segment,
             index,
-            depth,
-        } => look_at_word(segments, segment, index, depth),
+        } => look_at_word(Segments { bytes, is_stream }, segment, index, depth),
         Place::Object(object) => look_at_object(object),
     }
 }
@@ -328,15 +355,21 @@ pub fn get_pointer(pointers: Pointers<'_>, index: usize) -> Place<'_>
     ensures { place_tree result ≡ nth_tree (pointer_trees pointers.entry) index }
 {
     match pointers {
-        Pointers::Words(run) => {
-            if index >= run.count as usize {
+        Pointers::Words {
+            depth,
+            is_stream,
+            count,
+            run,
+        } => {
+            if index >= count as usize {
                 return Place::Null;
             }
             Place::Word {
-                segments: run.segments,
+                depth,
+                is_stream,
+                bytes: run.bytes,
                 segment: run.segment,
                 index: run.first + index,
-                depth: run.depth,
             }
         }
         Pointers::Objects(objects) => match objects.get(index) {
@@ -346,23 +379,39 @@ pub fn get_pointer(pointers: Pointers<'_>, index: usize) -> Place<'_>
     }
 }
 
+/// A word of a segment, or the first past its end: from there on all are alike.
+fn get_capped(segment: &[u8], index: usize) -> usize
+    ensures value { result ≡ min index (length segment.now / 8) }
+    ensures fits { result ≤ 2 ^ 60 }
+{
+    index.min(segment.len() / 8)
+}
+
 /// The pointer at `index` alone, none past the end.
 pub fn get_only_pointer(pointers: Pointers<'_>, index: usize) -> Pointers<'_>
     ensures { pointer_trees result ≡ only_tree (pointer_trees pointers.entry) index }
 {
     match pointers {
-        Pointers::Words(run) => {
-            if index >= run.count as usize {
+        Pointers::Words {
+            depth,
+            is_stream,
+            count,
+            run,
+        } => {
+            if index >= count as usize {
                 return Pointers::Objects(&[]);
             }
             let only = Run {
-                segments: run.segments,
+                bytes: run.bytes,
                 segment: run.segment,
-                first: run.first + index,
-                count: 1,
-                depth: run.depth,
+                first: get_capped(run.segment, run.first + index),
             };
-            Pointers::Words(only)
+            Pointers::Words {
+                depth,
+                is_stream,
+                count: 1,
+                run: only,
+            }
         }
         Pointers::Objects(objects) => {
             if index < objects.len() {
@@ -389,21 +438,29 @@ pub fn get_element<'a>(size: StructSize, elements: Elements<'a>, index: usize) -
     ensures { parts_tree result ≡ nth_struct (element_structs size.data_words size.pointers elements.entry) index }
 {
     match elements {
-        Elements::Words(block) => {
-            if index >= block.count as usize {
+        Elements::Words {
+            depth,
+            is_stream,
+            count,
+            block,
+        } => {
+            if index >= count as usize {
                 return empty_parts();
             }
             let start = block.first + index * (size.data_words as usize + size.pointers as usize);
             let run = Run {
-                segments: block.segments,
+                bytes: block.bytes,
                 segment: block.segment,
                 first: start + size.data_words as usize,
-                count: size.pointers as u32,
-                depth: block.depth,
             };
             StructParts {
                 data: bytes_from(block.segment, start, 8 * size.data_words as usize),
-                pointers: Pointers::Words(run),
+                pointers: Pointers::Words {
+                    depth,
+                    is_stream,
+                    count: size.pointers as u32,
+                    run,
+                },
             }
         }
         Elements::Objects(objects) => match objects.get(index) {
@@ -418,7 +475,7 @@ pub fn count_pointers(pointers: Pointers<'_>) -> usize
     ensures { result ≡ tree_count (pointer_trees pointers.entry) }
 {
     match pointers {
-        Pointers::Words(run) => run.count as usize,
+        Pointers::Words { count, .. } => count as usize,
         Pointers::Objects(objects) => objects.len(),
     }
 }
@@ -428,7 +485,7 @@ pub fn count_elements(size: StructSize, elements: Elements<'_>) -> usize
     ensures { result ≡ struct_count (element_structs size.data_words size.pointers elements.entry) }
 {
     match elements {
-        Elements::Words(block) => block.count as usize,
+        Elements::Words { count, .. } => count as usize,
         Elements::Objects(objects) => objects.len(),
     }
 }
@@ -478,7 +535,7 @@ pub fn get_element_parts(found: Found<'_>, index: u32) -> StructParts<'_>
 }
 
 /// The levels of a message's root pointer.
-pub const ROOT_LEVELS: u32 = 64;
+pub const ROOT_LEVELS: u8 = 64;
 
 /// The place of a message's root pointer: the first word of its first segment.
 #[tactic(auto, unfolding(crate::specs::Place::tree_below))]
@@ -486,9 +543,10 @@ pub fn get_root_place(segments: Segments<'_>) -> Place<'_>
     ensures { place_tree result ≡ root_tree (segment_list segments.entry) }
 {
     Place::Word {
-        segments,
+        depth: ROOT_LEVELS + 1,
+        is_stream: segments.is_stream,
+        bytes: segments.bytes,
         segment: get_first_segment(segments),
         index: 0,
-        depth: ROOT_LEVELS + 1,
     }
 }

@@ -2,7 +2,7 @@
 ghost use Rattle.capnp_wire.specs.Backing.{segment_list};
 ghost use Rattle.capnp_wire.specs.WellFormed.{AreSegments, AreSegments-prop};
 
-use crate::bytes::{half_at, part, rest};
+use crate::bytes::{half_at, part};
 use crate::encode::write_object;
 use crate::look::{Place, ROOT_LEVELS, get_root_place};
 use crate::object::Object;
@@ -50,12 +50,14 @@ impl<'a> Reader<'a> {
             return Err(Error::from(ErrorKind::Truncated));
         }
         let table = part(bytes, 4, 4 * count);
-        if bytes.len() < header + 8 * count_words(table) {
+        if bytes.len() < header + 8 * count_words(table, table.len() / 4) {
             return Err(Error::from(ErrorKind::Truncated));
         }
-        let body = rest(bytes, header);
         Ok(Reader {
-            segments: Segments::Many { table, body },
+            segments: Segments {
+                bytes,
+                is_stream: true,
+            },
         })
     }
 

@@ -11,15 +11,19 @@ use crate::size::{ElementSize, MessageSize};
 use crate::struct_reader::StructReader;
 use crate::total::size_of_place;
 use capnp_device::error::{Error, ErrorKind, Result};
+use std::mem::size_of;
 
 /// A pointer, as it is read: a place in a message or in a builder's objects, and the levels that are left below it.
 /// Every call answers for any message, takes no memory and leaves the reader as it was.
 #[derive(Clone, Copy)]
 pub struct PointerReader<'a> {
     place: Place<'a>,
-    levels: u32,
+    levels: u8,
     ghost well_formed: { IsWellFormed (place_tree place) } by { IsWellFormed-prop (place_tree place) },
 }
+
+// A reader is copied at each step, so it is kept small.
+const _: () = prove!(size_of::<PointerReader<'static>>() <= 56);
 
 impl<'a> PointerReader<'a> {
     ghost use Rattle.std.specs.Prelude.{[], ◌∷◌, ◌≡◌, ◌+◌, IfErr, IfOk};
@@ -32,7 +36,7 @@ impl<'a> PointerReader<'a> {
     /// A reader of a place.
     #[tactic(auto, unfolding(crate::specs::Standing::tree_of, crate::specs::Standing::levels_of))]
     #[inline(always)]
-    pub(crate) fn new(place: Place<'a>, levels: u32) -> PointerReader<'a>
+    pub(crate) fn new(place: Place<'a>, levels: u8) -> PointerReader<'a>
         requires { IsWellFormed (place_tree place) }
         ensures tree { tree_of result ≡ place_tree place.entry }
         ensures levels { levels_of result ≡ levels }
@@ -55,7 +59,11 @@ impl<'a> PointerReader<'a> {
         ensures tree { tree_of result ≡ root_tree (words.now ∷ []) }
         ensures levels { levels_of result ≡ 64 }
     {
-        PointerReader::new(get_root_place(Segments::One(words)), ROOT_LEVELS)
+        let segments = Segments {
+            bytes: words,
+            is_stream: false,
+        };
+        PointerReader::new(get_root_place(segments), ROOT_LEVELS)
     }
 
     /// Whether the pointer is null. A pointer that can't be followed is not.

@@ -1,37 +1,87 @@
 //! The segments of a message, as they lie.
-ghost use Rattle.std.specs.Prelude.{[], ◌≡◌, ◌≤◌, ◌/◌, ◌^◌, length, slice_get, slice_index_or, option_map};
+ghost use Rattle.std.specs.Prelude.{[], ◌≡◌, ◌≤◌, ◌<◌, ◌*◌, ◌+◌, ◌^◌, drop, length, option_map, slice_get, slice_index_or, take};
 ghost use Rattle.capnp_wire.specs.Backing.{segment_list};
-ghost use Rattle.capnp_wire.specs.Stream.{header_bytes, total_words};
+ghost use Rattle.capnp_wire.specs.Slot.{little_endian};
+ghost use Rattle.capnp_wire.specs.Stream.{header_bytes, segment_count, stream_segments, table_of, total_words};
 
-use crate::bytes::{half_at, part, rest};
+use crate::bytes::{half_at, part};
 
-/// One segment, or those that a table of sizes cuts out of a body: 4 bytes for the words of each.
+/// The segments of a stream, which begins with the table of their sizes, or one segment that stands alone. A table is
+/// looked up where a pointer leads to another segment, so readers need not carry it.
 #[derive(Clone, Copy)]
-pub enum Segments<'a> {
-    One(&'a [u8]),
-    Many { table: &'a [u8], body: &'a [u8] },
+pub struct Segments<'a> {
+    pub bytes: &'a [u8],
+    /// Whether the bytes are a stream; else they are the one segment.
+    pub is_stream: bool,
+}
+
+/// The words of the segment that stands at `index` in a table of sizes: 4 bytes for each.
+#[inline(always)]
+fn get_size(table: &[u8], index: usize) -> usize
+    requires { 4 * index + 4 ≤ length table.now }
+    ensures value { result ≡ little_endian (take 4 (drop (4 * index) table.now)) }
+    ensures fits { result < 2 ^ 32 }
+{
+    let start = 4 * index;
+    u32::from_le_bytes([
+        table[start],
+        table[start + 1],
+        table[start + 2],
+        table[start + 3],
+    ]) as usize
+}
+
+/// The words of the first segments of a table.
+pub fn count_words(table: &[u8], count: usize) -> usize
+    requires there { 4 * count ≤ length table.now }
+    requires few { count < 2 ^ 32 }
+    ensures value { result ≡ total_words count table.now }
+    ensures fits { result ≤ 2 ^ 32 * count }
+{
+    let mut words: usize = 0;
+    for i in 0..count {
+        words += get_size(table, i);
+    }
+    words
+}
+
+/// The table of a stream, as much of it as is there.
+fn get_table(stream: &[u8]) -> &[u8]
+    ensures { result.now ≡ table_of stream.now }
+{
+    part(stream, 4, 4 * (half_at(stream, 0) as usize + 1))
+}
+
+/// The bytes of segment `index` of a stream, where it is there.
+fn get_stream_segment(stream: &[u8], index: u32) -> Option<&[u8]>
+    ensures { option_map (λ s. s.now) result ≡ slice_get (stream_segments stream.now) index }
+{
+    let table = get_table(stream);
+    let index = index as usize;
+    if index >= table.len() / 4 {
+        return None;
+    }
+    let words = count_words(table, index);
+    if words > stream.len() / 8 {
+        // It begins past the end of the stream.
+        return Some(&[]);
+    }
+    let header = get_header_bytes(half_at(stream, 0) as usize + 1);
+    let start = header + 8 * words;
+    Some(part(stream, start, 8 * get_size(table, index)))
 }
 
 /// The bytes of segment `index`, where it is there.
 pub fn get_segment(segments: Segments<'_>, index: u32) -> Option<&[u8]>
     ensures { option_map (λ s. s.now) result ≡ slice_get (segment_list segments.entry) index }
 {
-    match segments {
-        Segments::One(bytes) => { if index == 0 { Some(bytes) } else { None } }
-        Segments::Many { table, body } => {
-            if index as usize >= table.len() / 4 {
-                return None;
-            }
-            let mut table = table;
-            let mut body = body;
-            let mut left = index;
-            while left > 0 {
-                left -= 1;
-                body = rest(body, 8 * half_at(table, 0) as usize);
-                table = rest(table, 4);
-            }
-            Some(part(body, 0, 8 * half_at(table, 0) as usize))
-        }
+    if segments.is_stream {
+        return get_stream_segment(segments.bytes, index);
+    }
+    if index == 0 {
+        Some(segments.bytes)
+    } else {
+        None
     }
 }
 
@@ -43,21 +93,6 @@ pub fn get_first_segment(segments: Segments<'_>) -> &[u8]
         Some(segment) => segment,
         None => &[],
     }
-}
-
-/// The words of the segments whose sizes stand in a table.
-pub fn count_words(table: &[u8]) -> usize
-    requires { length table.now ≤ 2048 }
-    ensures value { result ≡ total_words (length table.now / 4) table.now }
-    ensures fits { result ≤ 2 ^ 41 }
-{
-    let mut left = table;
-    let mut words: usize = 0;
-    while left.len() >= 4 {
-        words += half_at(left, 0) as usize;
-        left = rest(left, 4);
-    }
-    words
 }
 
 /// The bytes before the segments: their count, the table of their sizes and its padding.

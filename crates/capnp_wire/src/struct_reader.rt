@@ -9,15 +9,19 @@ use crate::primitive::PrimitiveElement;
 use crate::size::MessageSize;
 use crate::total::size_of_parts;
 use capnp_device::error::Result;
+use std::mem::size_of;
 
 /// A struct, as it is read: its data section and its pointers, and the levels that are left below it. What lies past the
 /// end of a section reads as zero bits or as null, so each call answers for any offset.
 #[derive(Clone, Copy)]
 pub struct StructReader<'a> {
     parts: StructParts<'a>,
-    levels: u32,
+    levels: u8,
     ghost well_formed: { IsWellFormedStruct (parts_tree parts) } by { IsWellFormedStruct-prop (parts_tree parts) },
 }
+
+// A reader is copied at each step, so it is kept small.
+const _: () = prove!(size_of::<StructReader<'static>>() <= 72);
 
 impl<'a> StructReader<'a> {
     ghost use Rattle.std.specs.Prelude.{◌≡◌, bit_xor, IfErr, IfOk};
@@ -30,7 +34,7 @@ impl<'a> StructReader<'a> {
     /// A reader of a struct's parts.
     #[tactic(auto, unfolding(crate::specs::Standing::struct_of, crate::specs::Standing::struct_levels))]
     #[inline(always)]
-    pub(crate) fn new(parts: StructParts<'a>, levels: u32) -> StructReader<'a>
+    pub(crate) fn new(parts: StructParts<'a>, levels: u8) -> StructReader<'a>
         requires { IsWellFormedStruct (parts_tree parts) }
         ensures parts { struct_of result ≡ parts_tree parts.entry }
         ensures levels { struct_levels result ≡ levels }
@@ -39,7 +43,7 @@ impl<'a> StructReader<'a> {
     }
 
     /// A reader of a struct of size zero.
-    pub(crate) fn empty(levels: u32) -> StructReader<'a>
+    pub(crate) fn empty(levels: u8) -> StructReader<'a>
         ensures parts { struct_of result ≡ empty_struct }
         ensures levels { struct_levels result ≡ levels }
     {

@@ -5,7 +5,7 @@ ghost use Rattle.capnp_wire.specs.Backing.{segment_list};
 ghost use Rattle.capnp_wire.specs.Objects.{object_tree, object_trees, list_object_tree, struct_object_tree, struct_object_trees};
 ghost use Rattle.capnp_wire.specs.Found.{block_structs, parts_tree, place_tree, pointer_trees, run_trees};
 ghost use Rattle.capnp_wire.specs.Words.{first_fault, first_fault_of_all, first_fault_of_elements, words_below_all, words_of, words_of_all, words_of_struct};
-ghost use Rattle.capnp_wire.specs.Total.{IsSize, IsSizeRefusal, Totals, size_of_total, size_read};
+ghost use Rattle.capnp_wire.specs.Total.{IsSize, IsSizeRefusal, Totals, TotalsBelow, TotalsOfAll, size_of_total, size_read};
 
 use crate::fault::{Fault, refuse};
 use crate::look::{Elements, Found, Place, Pointers, StructParts, look_at_word};
@@ -32,26 +32,47 @@ fn add(a: u64, b: u64) -> Total
 
 /// The words of the tree of a word of a message.
 #[cycle(total)]
-fn total_word(segments: Segments<'_>, segment: &[u8], index: usize, depth: u32) -> Total
+fn total_word(segments: Segments<'_>, segment: &[u8], index: usize, depth: u8) -> Total
     ensures { Totals result (first_fault (tree_below depth (segment_list segments.entry) segment.now index)) (words_of (tree_below depth (segment_list segments.entry) segment.now index)) }
 {
     match look_at_word(segments, segment, index, depth) {
         Found::Null => Ok(0),
         Found::Bad(fault) => Err(Stop::Fault(fault)),
         Found::Struct(parts) => {
-            let Pointers::Words(run) = parts.pointers else {
+            let Pointers::Words {
+                depth,
+                is_stream,
+                count,
+                run,
+            } = parts.pointers
+            else {
                 unreachable!()
             };
-            let own = parts.data.len().div_ceil(8) as u64 + run.count as u64;
-            add(own, total_run(run)?)
+            let own = parts.data.len().div_ceil(8) as u64 + count as u64;
+            add(own, total_run(depth, is_stream, count, run)?)
         }
         Found::Voids(_) => Ok(0),
         Found::Bits(_, count) => Ok((count as u64 + 63) / 64),
         Found::Numbers(_, bytes) => Ok(bytes.len().div_ceil(8) as u64),
-        Found::Pointers(Pointers::Words(run)) => add(run.count as u64, total_run(run)?),
-        Found::Composite(size, Elements::Words(block)) => {
-            let own = block.count as u64 * (size.data_words as u64 + size.pointers as u64) + 1;
-            add(own, total_block(size, block)?)
+        Found::Pointers(
+            Pointers::Words {
+                depth,
+                is_stream,
+                count,
+                run,
+            },
+        ) => add(count as u64, total_run(depth, is_stream, count, run)?),
+        Found::Composite(
+            size,
+            Elements::Words {
+                depth,
+                is_stream,
+                count,
+                block,
+            },
+        ) => {
+            let own = count as u64 * (size.data_words as u64 + size.pointers as u64) + 1;
+            add(own, total_block(size, depth, is_stream, count, block)?)
         }
         _ => unreachable!(),
     }
@@ -59,12 +80,16 @@ fn total_word(segments: Segments<'_>, segment: &[u8], index: usize, depth: u32) 
 
 /// The words of what pointers in a row lead to.
 #[cycle(total)]
-fn total_run(run: Run<'_>) -> Total
-    ensures { Totals result (first_fault_of_all (run_trees run.entry)) (words_of_all (run_trees run.entry)) }
+fn total_run(depth: u8, is_stream: bool, count: u32, run: Run<'_>) -> Total
+    ensures { TotalsOfAll result (run_trees depth is_stream count run.entry) }
 {
+    let segments = Segments {
+        bytes: run.bytes,
+        is_stream,
+    };
     let mut sum: u64 = 0;
-    for i in 0..run.count {
-        let words = total_word(run.segments, run.segment, run.first + i as usize, run.depth)?;
+    for i in 0..count {
+        let words = total_word(segments, run.segment, run.first + i as usize, depth)?;
         sum = add(sum, words)?;
     }
     Ok(sum)
@@ -72,21 +97,19 @@ fn total_run(run: Run<'_>) -> Total
 
 /// The words of what the pointers of a composite list's elements lead to.
 #[cycle(total)]
-fn total_block(size: StructSize, block: Block<'_>) -> Total
-    ensures { Totals result (first_fault_of_elements (block_structs size.data_words size.pointers block.entry)) (words_below_all (block_structs size.data_words size.pointers block.entry)) }
+fn total_block(size: StructSize, depth: u8, is_stream: bool, count: u32, block: Block<'_>) -> Total
+    ensures { TotalsBelow result (block_structs size.data_words size.pointers depth is_stream count block.entry) }
 {
     let mut sum: u64 = 0;
-    for i in 0..block.count {
+    for i in 0..count {
         let run = Run {
-            segments: block.segments,
+            bytes: block.bytes,
             segment: block.segment,
             first: block.first
                 + i as usize * (size.data_words as usize + size.pointers as usize)
                 + size.data_words as usize,
-            count: size.pointers as u32,
-            depth: block.depth,
         };
-        let words = total_run(run)?;
+        let words = total_run(depth, is_stream, size.pointers as u32, run)?;
         sum = add(sum, words)?;
     }
     Ok(sum)
@@ -176,7 +199,12 @@ fn total_pointers(pointers: Pointers<'_>) -> Total
     ensures { Totals result (first_fault_of_all (pointer_trees pointers.entry)) (words_of_all (pointer_trees pointers.entry)) }
 {
     match pointers {
-        Pointers::Words(run) => total_run(run),
+        Pointers::Words {
+            depth,
+            is_stream,
+            count,
+            run,
+        } => total_run(depth, is_stream, count, run),
         Pointers::Objects(objects) => total_objects(objects),
     }
 }
@@ -204,11 +232,12 @@ pub fn size_of_place(place: Place<'_>) -> Result<MessageSize>
         Place::Null => Ok(0),
         Place::Bad(fault) => Err(Stop::Fault(fault)),
         Place::Word {
-            segments,
+            depth,
+            is_stream,
+            bytes,
             segment,
             index,
-            depth,
-        } => total_word(segments, segment, index, depth),
+        } => total_word(Segments { bytes, is_stream }, segment, index, depth),
         Place::Object(object) => total_object(object),
     };
     make_size(total)
@@ -220,7 +249,7 @@ fn total_parts(parts: StructParts<'_>) -> Total
 {
     let own = parts.data.len().div_ceil(8) as u64;
     let own = match parts.pointers {
-        Pointers::Words(run) => own + run.count as u64,
+        Pointers::Words { count, .. } => own + count as u64,
         Pointers::Objects(objects) => own + objects.len() as u64,
     };
     add(own, total_pointers(parts.pointers)?)

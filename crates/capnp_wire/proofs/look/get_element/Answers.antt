@@ -3,11 +3,11 @@ use Rattle.capnp_wire.specs.Objects.{struct_object_tree}
 use Rattle.capnp_wire.proofs.Lists.{nth_struct-start, nth_struct-past, nth_struct-of, nth_struct-of_past}
 use Rattle.capnp_wire.proofs.look.get_element.Goals as goal
 
-pub returns-then-index-block : goal.returns-then-index-block
-returns-then-index-block c = rw c.in-Words.is (c.empty_parts.ensures ∙ sym (nth_struct-past _ _ _ _ c.if-index-block.true))
+pub returns-then-index-count : goal.returns-then-index-count
+returns-then-index-count c = rw c.in-Words.is (c.empty_parts.ensures ∙ sym (nth_struct-past _ _ _ _ c.if-index-count.true))
 
-pub returns-else-index-block : goal.returns-else-index-block
-returns-else-index-block c = rw (c.in-Words.is, c.bytes_from.ensures) (sym (nth_struct-start _ _ _ c.if-index-block.false))
+pub returns-else-index-count : goal.returns-else-index-count
+returns-else-index-count c = rw (c.in-Words.is, c.bytes_from.ensures) (sym (nth_struct-start _ _ _ c.if-index-count.false))
 
 pub returns-in-Some : goal.returns-in-Some
 returns-in-Some c =

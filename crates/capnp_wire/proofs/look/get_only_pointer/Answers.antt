@@ -1,13 +1,16 @@
 use Rattle.std.proofs.Common.{sym, ap, ◌∙◌, arith, ◌≡◌, ◌+◌, ◌-◌, take, drop}
 use Rattle.capnp_wire.specs.Objects.{object_tree, object_trees}
+use Rattle.capnp_wire.specs.Backing.{segments_in}
+use Rattle.capnp_wire.proofs.Levels.{alone_capped}
 use Rattle.capnp_wire.proofs.Lists.{only_tree-from, only_tree-past, only_tree-of, only_tree-of_past}
 use Rattle.capnp_wire.proofs.look.get_only_pointer.Goals as goal
 
-pub returns-then-index-run : goal.returns-then-index-run
-returns-then-index-run c = rw c.in-Words.is (sym (only_tree-past _ _ _ _ c.if-index-run.true))
+pub returns-then-index-count : goal.returns-then-index-count
+returns-then-index-count c = rw c.in-Words.is (sym (only_tree-past _ _ _ _ c.if-index-count.true))
 
-pub returns-else-index-run : goal.returns-else-index-run
-returns-else-index-run c = rw c.in-Words.is (sym (only_tree-from _ _ _ _ c.if-index-run.false))
+pub returns-else-index-count : goal.returns-else-index-count
+returns-else-index-count c =
+    rw (c.in-Words.is, c.get_capped.ensures.value) (alone_capped c.in-Words.depth (segments_in c.in-Words.is_stream c.in-Words.run'.bytes.now) c.in-Words.run'.segment.now (c.in-Words.run'.first + c.args.index) ∙ sym (only_tree-from _ _ _ _ c.if-index-count.false))
 
 pub returns-then-index-objects : goal.returns-then-index-objects
 returns-then-index-objects c =

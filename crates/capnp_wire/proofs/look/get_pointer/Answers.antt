@@ -3,11 +3,11 @@ use Rattle.capnp_wire.specs.Objects.{object_tree}
 use Rattle.capnp_wire.proofs.Lists.{nth_tree-from, nth_tree-past, nth_tree-of, nth_tree-of_past}
 use Rattle.capnp_wire.proofs.look.get_pointer.Goals as goal
 
-pub returns-then-index-run : goal.returns-then-index-run
-returns-then-index-run c = rw c.in-Words.is (sym (nth_tree-past _ _ _ _ c.if-index-run.true))
+pub returns-then-index-count : goal.returns-then-index-count
+returns-then-index-count c = rw c.in-Words.is (sym (nth_tree-past _ _ _ _ c.if-index-count.true))
 
-pub returns-else-index-run : goal.returns-else-index-run
-returns-else-index-run c = rw c.in-Words.is (sym (nth_tree-from _ _ _ _ c.if-index-run.false))
+pub returns-else-index-count : goal.returns-else-index-count
+returns-else-index-count c = rw c.in-Words.is (sym (nth_tree-from _ _ _ _ c.if-index-count.false))
 
 pub returns-in-Some : goal.returns-in-Some
 returns-in-Some c =

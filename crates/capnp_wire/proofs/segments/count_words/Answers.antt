@@ -1,11 +1,10 @@
 use Rattle.std.proofs.Common.{arith}
-use Rattle.std.proofs.lemmas.List.{length-drop}
-use Rattle.capnp_wire.proofs.Cut.{size_next}
+use Rattle.capnp_wire.proofs.Cut.{total_next}
 use Rattle.capnp_wire.proofs.segments.count_words.Goals as goal
 
-pub loop-left-preserved : goal.loop-left-preserved
-loop-left-preserved c =
-    let n = size_next c.loop-left.left.now (omega arith) in (
-      rw (c.rest-left.ensures, c.half_at.ensures) (omega (arith, n, c.loop-left.invariant.0)),
-      rw c.rest-left.ensures (omega (arith, length-drop 4 c.loop-left.left.now)),
+pub loop-i-preserved : goal.loop-i-preserved
+loop-i-preserved c =
+    let next = total_next c.loop-i.i c.args.table.now in (
+      omega (arith, next, c.loop-i.invariant.0, c.get_size-words.ensures.value),
+      omega (arith, c.loop-i.invariant.1, c.get_size-words.ensures.fits),
     )

@@ -83,5 +83,5 @@ total_word-returns-in_ok-total_block-in-Composite-default-Words t c =
 pub total_word-returns-in_ok-total_run-in-Struct : goal.total_word-returns-in_ok-total_run-in-Struct
 total_word-returns-in_ok-total_run-in-Struct t c =
     let h = c.in_ok-total_run-in-Struct.ensures in
-    let e : pointer_trees c.in-Struct.parts.pointers ≡ run_trees c.in-Words.run' = ap pointer_trees c.in-Words.is in
+    let e : pointer_trees c.in-Struct.parts.pointers ≡ run_trees c.in-Words.depth c.in-Words.is_stream c.in-Words.count c.in-Words.run' = ap pointer_trees c.in-Words.is in
     rw (← c.in-Struct.ensures.value, e) (totals_at _ _ _ _ h.0 (rw tree_count-from (omega (arith, h.1))) c.add.ensures)
