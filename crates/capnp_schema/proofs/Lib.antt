@@ -26,6 +26,7 @@ pub mod GroupsDown
 pub mod HandleRows
 pub mod Indices
 pub mod Lengths
+pub mod LevelTimes
 pub mod LookUps
 pub mod MemberTables
 pub mod Members
@@ -45,5 +46,7 @@ pub mod SmallCounts
 pub mod SpanLemmas
 pub mod SpanTables
 pub mod StructLookUps
+pub mod TourGroups
+pub mod Tours
 pub mod Typed
 pub mod WordPlaces

@@ -19,6 +19,7 @@ pub mod GroupsDown
 pub mod Laws
 pub mod Layers
 pub mod Lengths
+pub mod Levels
 pub mod ListDefaults
 pub mod Marks
 pub mod Named

@@ -1,6 +1,7 @@
 //! The rules of a schema set, each with a function that decides it.
 
 pub(crate) mod annotations;
+mod claims;
 pub(crate) mod counts;
 pub(crate) mod fields;
 pub(crate) mod footprints;
@@ -9,6 +10,7 @@ mod list_defaults;
 pub(crate) mod names;
 mod refusal;
 mod spans;
+mod tour;
 pub(crate) mod types;
 pub(crate) mod unions;
 pub(crate) mod values;

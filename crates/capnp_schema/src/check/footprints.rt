@@ -9,6 +9,7 @@ ghost use Rattle.capnp_schema.specs.Spans.{AreSpansOf};
 use crate::check::groups::brand_count;
 use crate::check::refusal::refusal;
 use crate::check::spans::{Span, brand_spans, discriminant_span, spans_meet};
+use crate::check::tour::are_apart;
 use crate::lists::Lists;
 use capnp_wire::error::{Result, SchemaTable};
 use std::alloc::Global;
@@ -60,11 +61,8 @@ fn discriminant_field(lists: &Lists, brand: usize, spans: &[Vec<Span>]) -> Optio
     None
 }
 
-/// Decides rules 11 and 12: a plain field's footprint meets that of no other field of its struct, and no field's meets
-/// the discriminant of its struct. Groups are followed, so that in sets where each group has one parent it takes at most
-/// quadratic time in the fields of one struct with its groups. It is refused where memory is short, or at a field for
-/// which one of the rules is broken.
-pub(crate) fn check_footprints(alloc: Global, lists: &Lists) -> Result<()>
+/// Decides the same by the spans of each field of each brand: a refusal names a field that meets another.
+fn find_meeting(alloc: Global, lists: &Lists) -> Result<()>
     requires { Rule3 (lists_seen lists.now) }
     ensures { MatchResult result (λ _. Rule11 (lists_seen lists.now) × Rule12 (lists_seen lists.now)) (IsRefusalOf (lists_seen lists.now)) }
 {
@@ -78,4 +76,17 @@ pub(crate) fn check_footprints(alloc: Global, lists: &Lists) -> Result<()>
         }
     }
     Ok(())
+}
+
+/// Decides rules 11 and 12: a plain field's footprint meets that of no other field of its struct, and no field's meets
+/// the discriminant of its struct. One tour through each struct and its groups accepts; where fields meet, they are
+/// looked for pair by pair. It is refused where memory is short, or at a field for which one of the rules is broken.
+pub(crate) fn check_footprints(alloc: Global, lists: &Lists) -> Result<()>
+    requires { Rule3 (lists_seen lists.now) }
+    ensures { MatchResult result (λ _. Rule11 (lists_seen lists.now) × Rule12 (lists_seen lists.now)) (IsRefusalOf (lists_seen lists.now)) }
+{
+    if are_apart(alloc, lists)? {
+        return Ok(());
+    }
+    find_meeting(alloc, lists)
 }

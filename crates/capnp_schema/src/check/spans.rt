@@ -26,7 +26,7 @@ pub(crate) enum Span {
 
 /// What a slot names.
 #[tactic(auto, using(crate::specs::Facts::Layers::seen_which))]
-fn slot_span(offset: u32, field_type: &Type) -> Span
+pub(crate) fn slot_span(offset: u32, field_type: &Type) -> Span
     ensures { (p : Place) → span_names result p ≡ slot_names offset (seen_type field_type.now) p }
 {
     let variant = field_type.which();

@@ -39,7 +39,7 @@ pub(crate) fn check_discriminants(lists: &Lists) -> Result<()>
 }
 
 /// So many marks, none of them set.
-fn no_marks(alloc: Global, count: usize) -> std::result::Result<Vec<bool>, AllocError>
+pub(crate) fn no_marks(alloc: Global, count: usize) -> std::result::Result<Vec<bool>, AllocError>
     ensures { IfOk result (λ marks. marks.items ≡ replicate count false) }
 {
     vec![in alloc; false; count]
@@ -60,7 +60,7 @@ fn mark(marks: &mut [bool], value: usize) -> bool
 }
 
 /// Whether all marks are set.
-fn all_set(marks: &[bool]) -> bool
+pub(crate) fn all_set(marks: &[bool]) -> bool
     ensures yes { result ≡ true → (d : ℕ) → d < length marks.now → get_or marks.now d false ≡ true }
     ensures not_so { result ≡ false → (d : ℕ) × (d < length marks.now) × (get_or marks.now d false ≡ false) }
 {

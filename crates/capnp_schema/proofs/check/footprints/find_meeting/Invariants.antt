@@ -2,7 +2,7 @@ use Rattle.std.proofs.Common.{ℕ, ◌<◌, length}
 use Rattle.capnp_schema.specs.Schema.{fields_of, field_at}
 use Rattle.capnp_schema.specs.Entries.{lists_seen}
 use Rattle.capnp_schema.specs.Accepted.{FieldsApart, DiscriminantApart}
-use Rattle.capnp_schema.proofs.check.footprints.check_footprints.Given as goal
+use Rattle.capnp_schema.proofs.check.footprints.find_meeting.Given as goal
 
 abbrev pub invariant-loop-brand : goal.invariant-loop-brand
 invariant-loop-brand l = record {

@@ -5,7 +5,7 @@ use Rattle.capnp_schema.specs.Entries.{lists_seen}
 use Rattle.capnp_schema.proofs.BrandRefusals.{refused_at_field, refused_at_discriminant}
 use Rattle.capnp_schema.proofs.FieldWalk.{one_more}
 use Rattle.capnp_schema.proofs.FieldCounts.{index_fits}
-use Rattle.capnp_schema.proofs.check.footprints.check_footprints.Goals as goal
+use Rattle.capnp_schema.proofs.check.footprints.find_meeting.Goals as goal
 
 pub overflow_cast-field : goal.overflow_cast-field
 overflow_cast-field c = let lt = index_fits (lists_seen c.args.lists.now) c.loop-brand.brand c.in-Some.field c.requires c.in-Some.ensures.field in omega arith

@@ -1,0 +1,6 @@
+use Rattle.std.proofs.Common.{◌++◌, ◌∷◌, [], length, ◌≡◌}
+use Rattle.capnp_schema.proofs.LevelTimes.{ClaimedTo}
+use Rattle.capnp_schema.proofs.check.claims.claim_marks.Given as goal
+
+abbrev pub invariant-loop-i : goal.invariant-loop-i
+invariant-loop-i l = ClaimedTo (l.below ++ l.top ∷ []) l.now l.first l.i l.initial.marks l.marks

@@ -1,0 +1,146 @@
+//! Marks of the places that a tour of a struct's fields has named, and the times that are closed to what comes.
+ghost use Rattle.std.specs.Prelude.{true, false, ◌≡◌, ◌++◌, ◌∷◌, [], ℕ, ◌≤◌, ◌+◌, ◌^◌, length, get_or, IfOk, OnOk, IfErr};
+ghost use Rattle.capnp_device.specs.declared.error.ErrorKind.TheVariants.{OutOfMemory};
+ghost use Rattle.capnp_schema.specs.Levels.{AreOpen, AreInOrder, AreClaimed, IsClaimed};
+
+use crate::check::spans::Span;
+use capnp_wire::error::Result;
+
+/// When each data bit and each pointer was named last; 0 for never.
+#[derive(Drop)]
+pub(crate) struct Claims {
+    pub(crate) bits: Vec<u32>,
+    pub(crate) pointers: Vec<u32>,
+}
+
+/// A struct or group whose fields are gone through.
+#[derive(Clone, Copy)]
+pub(crate) struct Level {
+    /// Its brand.
+    pub(crate) brand: usize,
+    /// How many steps are past: one for each field that takes the plain ones, then one for each that takes the members.
+    pub(crate) steps: usize,
+    /// The time of its first claim.
+    pub(crate) start: u32,
+    /// The time after its last plain claim.
+    pub(crate) plain_end: u32,
+}
+
+/// Whether a time lies in the plain part of none of the levels.
+fn is_open_below(below: &[Level], time: u32) -> bool
+    requires { AreInOrder below.now }
+    ensures { result ≡ true → AreOpen below.now time }
+{
+    let mut low = 0;
+    let mut high = below.len();
+    while low < high {
+        let middle = low + (high - low) / 2;
+        let level = below[middle];
+        if time < level.start {
+            high = middle;
+        } else if time < level.plain_end {
+            return false;
+        } else {
+            low = middle + 1;
+        }
+    }
+    true
+}
+
+/// The same with a level above them.
+fn is_open(below: &[Level], top: Level, time: u32) -> bool
+    requires { AreInOrder (below.now ++ top ∷ []) }
+    ensures { result ≡ true → AreOpen (below.now ++ top ∷ []) time }
+{
+    if time >= top.start {
+        return time >= top.plain_end;
+    }
+    is_open_below(below, time)
+}
+
+/// Adds marks that were never set, up to an end.
+#[tactic(auto, using(crate::proofs::LevelTimes::push_zero))]
+fn lengthen(marks: &mut Vec<u32>, end: usize) -> Result<()>
+    ensures same { OnOk result ((i : ℕ) → get_or marks.new.items i 0 ≡ get_or marks.old.items i 0) }
+    ensures long { OnOk result (end ≤ length marks.new.items) }
+    ensures refused { IfErr result (λ e. e.kind ≡ OutOfMemory) }
+{
+    for _ in marks.len()..end {
+        marks.push(0)?;
+    }
+    Ok(())
+}
+
+/// Sets so many marks to the time; false where one of them lies in the plain part of a level.
+fn claim_marks(
+    marks: &mut [u32],
+    first: usize,
+    count: usize,
+    now: u32,
+    below: &[Level],
+    top: Level,
+) -> bool
+    requires order { AreInOrder (below.now ++ top ∷ []) }
+    requires within { first + count ≤ length marks.old }
+    ensures { result ≡ true → AreClaimed (below.now ++ top ∷ []) now first count marks.old marks.new }
+{
+    for i in first..first + count {
+        if !is_open(below, top, marks[i]) {
+            return false;
+        }
+        marks[i] = now;
+    }
+    true
+}
+
+/// The same where the marks may have to be lengthened first.
+fn claim_range(
+    marks: &mut Vec<u32>,
+    first: usize,
+    count: usize,
+    now: u32,
+    below: &[Level],
+    top: Level,
+) -> Result<bool>
+    requires order { AreInOrder (below.now ++ top ∷ []) }
+    requires small { first + count ≤ 2 ^ 62 }
+    ensures claimed { IfOk result (λ yes. yes ≡ true → AreClaimed (below.now ++ top ∷ []) now first count marks.old.items marks.new.items) }
+    ensures refused { IfErr result (λ e. e.kind ≡ OutOfMemory) }
+{
+    lengthen(marks, first + count)?;
+    Ok(claim_marks(marks, first, count, now, below, top))
+}
+
+impl Claims {
+    /// Claims the places of a span; false where one of them was claimed in the plain part of a level.
+    pub(crate) fn claim(
+        &mut self,
+        span: Span,
+        now: u32,
+        below: &[Level],
+        top: Level,
+    ) -> Result<bool>
+        requires { AreInOrder (below.now ++ top ∷ []) }
+        ensures claimed { IfOk result (λ yes. yes ≡ true → IsClaimed (below.now ++ top ∷ []) now span self.old self.new) }
+        ensures refused { IfErr result (λ e. e.kind ≡ OutOfMemory) }
+    {
+        match span {
+            Span::Data { first, count } => {
+                if first >= 1 << 61 || count > 64 {
+                    return Ok(false);
+                }
+                claim_range(
+                    &mut self.bits,
+                    first as usize,
+                    count as usize,
+                    now,
+                    below,
+                    top,
+                )
+            }
+            Span::Pointer(number) => {
+                claim_range(&mut self.pointers, number as usize, 1, now, below, top)
+            }
+        }
+    }
+}
