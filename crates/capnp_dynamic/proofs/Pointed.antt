@@ -63,12 +63,15 @@ entered-some n m v e = ap (λ q. elim q as (λ _. Value) [ true ↦ value.Fault 
 -- ---- texts, data and untyped pointers ----
 
 text-default : (set : Schemas) (l : Levels) (d : SchemaValue) → value.Text (text_of d) ≡ default_value set l d TextType
+text-default set l VoidValue = refl
 text-default set l d = refl
 
 data-default : (set : Schemas) (l : Levels) (d : SchemaValue) → value.Data (data_of d) ≡ default_value set l d DataType
+data-default set l VoidValue = refl
 data-default set l d = refl
 
 untyped-default : (set : Schemas) (l : Levels) (d : SchemaValue) → value.Untyped tree.Null ≡ default_value set l d AnyPointerType
+untyped-default set l VoidValue = refl
 untyped-default set l d = refl
 
 pub text_null : (set : Schemas) (d : SchemaValue) (x : Tree) (l : Levels) (bytes : List ℕ) → is_null_tree x ≡ true → bytes ≡ text_of d → value.Text bytes ≡ read_of set d TextType (value_of set x l TextType)
@@ -111,6 +114,7 @@ module _ (set : Schemas) (b g : ℕ) (d : SchemaValue) (x : Tree) (n : ℕ) wher
   struct-inner d = empty_value set (Left n) (StructType b g)
 
   struct-default : (d : SchemaValue) → default_value set (Left n) d (StructType b g) ≡ entered (Left n) (struct-inner d)
+  struct-default VoidValue = refl
   struct-default d = refl
 
   struct-bare : (d : SchemaValue) → None ≡ struct_words d → struct-inner d ≡ empty_value set (Left n) (StructType b g)
@@ -171,6 +175,7 @@ list-same size (tree.Composite m p es) y n h e = ok-if (n == 0) _ _ _ _ _ e
 list-same size (tree.FaultLeaf k) y n h e = cc
 
 no-elements : (set : Schemas) (l : Levels) (e : SchemaType) (s : ElementSize) → elements_value set (empty_list s) (below_of set (empty_list s)) l e ≡ value.Elements value.NoValues
+no-elements set l e size.Void = refl
 no-elements set l e s = refl
 
 module _ (set : Schemas) (t : SchemaType) (s : ElementSize) (sized : element_size t ≡ s) (d : SchemaValue) (x : Tree) (n : ℕ) where
@@ -193,6 +198,7 @@ module _ (set : Schemas) (t : SchemaType) (s : ElementSize) (sized : element_siz
   list-inner d = empty_value set (Left n) (ListType t)
 
   list-default : (d : SchemaValue) → default_value set (Left n) d (ListType t) ≡ entered (Left n) (list-inner d)
+  list-default VoidValue = refl
   list-default d = refl
 
   list-bare : (d : SchemaValue) → None ≡ list_words d → list-inner d ≡ value.Elements value.NoValues
