@@ -1,12 +1,15 @@
 -- Ways up from a group to its parents.
-use Rattle.std.proofs.Common.{ℕ, zero, suc, ◌≡◌, ◌+◌, ◌<◌, ◌≤◌, Bool, true, false, List, [], ◌∷◌, length, arith, refl, sym, ap, ◌∙◌, subst, Option, Some, None, slice_get, eqb, add-one, ◌||◌}
+use Rattle.std.proofs.Common.{ℕ, zero, suc, ◌≡◌, ◌+◌, ◌<◌, ◌≤◌, Bool, true, false, List, [], ◌∷◌, length, arith, refl, sym, ap, ◌∙◌, subst, Option, Some, None, slice_get, eqb, add-one, ◌||◌, get_or, replicate, ⊎_elim}
+use Rattle.std.proofs.Math.ListN.{set as set_at, length-set}
+use Rattle.std.proofs.lemmas.Bool.{cases_lt}
+use Rattle.std.proofs.lemmas.List.{get_or-set_other}
 use Rattle.std.proofs.lemmas.Option.{same_Some, some_pair_parts}
 use Rattle.std.proofs.lemmas.Map.Steps.{length-le_from_distinct_below}
 use Rattle.std.proofs.lemmas.Map.Keys.{IsDistinct-cons}
 use Rattle.std.specs.List.{IsDistinct, AllByRecursion, list_any}
 use Rattle.capnp_schema.specs.Schema.{Schemas, node_of}
 use Rattle.capnp_schema.specs.Accepted.{EndsAtStruct, HasOneParent}
-use Rattle.capnp_schema.specs.Parents.{group_target, TargetsAreGroups, IsParentTable, entry_in, StandsInStruct}
+use Rattle.capnp_schema.specs.Parents.{group_target, TargetsAreGroups, IsParentTable, entry_in, StandsInStruct, AreKnown}
 use Rattle.capnp_schema.proofs.GroupTargets.{is_parent, from_parent, within_brands}
 
 abbrev pub is_group : Schemas → ℕ → Bool
@@ -185,3 +188,48 @@ module _ (set : Schemas) (targets : TargetsAreGroups set) (table : List (Option 
 
   pub walk_endless : (n b c : ℕ) → StepsUp n set b c → length set.brands + 1 ≤ n → StandsInStruct set b → ⊥
   walk_endless n b c s far stands = walk_far n b c s far stands.0 (depth_from_ends stands.0 set b stands.2)
+
+  -- a way up that comes to a brand that stands in a struct
+  pub walk_joins : (n b c : ℕ) → StepsUp n set b c → StandsInStruct set c → StandsInStruct set b
+  walk_joins n b c s (k, le, ends) =
+      let d : Depth (n + k) set b = join n b s (depth_from_ends k set c ends) in
+      (n + k, depth_within set targets (same_parent set targets table ok) (n + k) b d, ends_from_depth (n + k) set b d)
+    where
+      join : (n b : ℕ) → StepsUp n set b c → Depth k set c → Depth (n + k) set b
+      join zero b e d = subst (λ (x : ℕ). Depth x set b) (let z : k ≡ 0 + k = omega arith in z) (subst (Depth k set) (sym e) d)
+      join (suc n) b (h, (p, i, t, rest)) d = subst (λ (x : ℕ). Depth x set b) (let e : suc (n + k) ≡ suc n + k = omega arith in e) (h, (p, i, t, join n p rest d))
+
+  -- the parent of a group that stands in a struct does too
+  pub parent_stands : (g b i : ℕ) → is_group set g ≡ true → Some (b, i) ≡ entry_in (slice_get table g) → StandsInStruct set g → StandsInStruct set b
+  parent_stands g b i h e (zero, le, ends) = absurd (let no : is_group set g ≡ false = ends in cc)
+  parent_stands g b i h e (suc n, le, (g_is, (p, j, parent, rest))) =
+      let same : p ≡ b = same_parent set targets table ok g p j b i h (from_parent set g p j parent) (parent_is g b i e) in
+      (n, omega arith, subst (EndsAtStruct n set) same rest)
+
+-- one more mark
+pub mark_known : (set : Schemas) (known : List Bool) (g : ℕ) → AreKnown set known → StandsInStruct set g → AreKnown set (set_at known g true)
+mark_known set known g k stands = record {
+  counted = length-set known g true ∙ k.counted;
+  stands = λ h e. ⊎_elim
+      (λ lt. k.stands h (sym (get_or-set_other known g h true false (λ q. absurd (omega arith))) ∙ e))
+      (λ le. ⊎_elim
+      (λ lt. k.stands h (sym (get_or-set_other known g h true false (λ q. absurd (omega arith))) ∙ e))
+      (λ ge. let same : g ≡ h = omega arith in subst (StandsInStruct set) same stands)
+      (cases_lt g h))
+      (cases_lt h g);
+}
+
+pub none_known : (set : Schemas) (known : List Bool) (count : ℕ) → known ≡ replicate count false → count ≡ length set.brands → AreKnown set known
+none_known set known count is n = record {
+  counted = ap (λ (xs : List Bool). length xs) is ∙ length_replicate count ∙ n;
+  stands = λ g e. absurd (let no : get_or (replicate count false) g false ≡ false = unset count g in let yes : get_or (replicate count false) g false ≡ true = ap (λ (xs : List Bool). get_or xs g false) (sym is) ∙ e in cc);
+}
+  where
+    length_replicate : (n : ℕ) → length (replicate n false) ≡ n
+    length_replicate zero = refl
+    length_replicate (suc n) = ap suc (length_replicate n)
+
+    unset : (n g : ℕ) → get_or (replicate n false) g false ≡ false
+    unset zero g = refl
+    unset (suc n) zero = refl
+    unset (suc n) (suc g) = unset n g

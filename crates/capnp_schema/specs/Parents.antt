@@ -1,5 +1,5 @@
 -- Which brand each group field names, and which field names each group brand.
-use Rattle.std.specs.Prelude.{ℕ, ◌<◌, ◌≤◌, ◌≡◌, List, length, slice_get, Option, Some, None}
+use Rattle.std.specs.Prelude.{ℕ, ◌<◌, ◌≤◌, ◌≡◌, Bool, true, false, List, length, get_or, slice_get, Option, Some, None}
 use Rattle.capnp_schema.specs.Types.{SchemaType, struct_brand}
 use Rattle.capnp_schema.specs.Schema.{Schemas, FieldKind, Slot, Group, TypedField, fields_of}
 use Rattle.capnp_schema.specs.Accepted.{EndsAtStruct, IsGroupBrand}
@@ -39,3 +39,8 @@ entry_in (Some p) = p
 -- no more steps than there are brands lead to a struct that is no group
 abbrev pub StandsInStruct : Schemas → ℕ → Type 0
 StandsInStruct set g = (steps : ℕ) × (steps ≤ length set.brands) × EndsAtStruct steps set g
+
+-- marks of brands, each of which stands in a struct
+pub record AreKnown (set : Schemas) (known : List Bool) : Type 0 where
+  pub counted : length known ≡ length set.brands
+  pub stands : (g : ℕ) → get_or known g false ≡ true → StandsInStruct set g

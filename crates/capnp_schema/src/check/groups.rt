@@ -1,14 +1,15 @@
 //! Groups: the field that each one stands under, and the struct that it stands in.
-ghost use Rattle.std.specs.Prelude.{true, false, ◌≡◌, ℕ, ◌<◌, ◌↔◌, IsTrue, IfOk, IfErr, length, slice_get, MatchResult};
+ghost use Rattle.std.specs.Prelude.{true, false, ◌≡◌, ℕ, ◌<◌, ◌↔◌, IsTrue, IfOk, IfErr, length, get_or, slice_get, MatchResult};
 ghost use Rattle.capnp_device.specs.declared.error.ErrorKind.TheVariants.{OutOfMemory};
 ghost use Rattle.capnp_schema.specs.Schema.{node_of};
 ghost use Rattle.capnp_schema.specs.Entries.{brand_node, lists_seen};
-ghost use Rattle.capnp_schema.specs.Accepted.{Rule1, Rule7, Rule8, GroupStands};
+ghost use Rattle.capnp_schema.specs.Accepted.{Rule1, Rule7, Rule8, GroupStands, IsGroupBrand};
 ghost use Rattle.capnp_schema.specs.Broken.{IsRefusalOf};
-ghost use Rattle.capnp_schema.specs.Parents.{group_target, TargetsAreGroups, HasNoParents, IsParentTable, entry_in, StandsInStruct};
+ghost use Rattle.capnp_schema.specs.Parents.{group_target, TargetsAreGroups, HasNoParents, IsParentTable, entry_in, StandsInStruct, AreKnown};
 ghost use Rattle.capnp_schema.specs.Tests.{node_is_group};
 
 use crate::check::refusal::{WHOLE, refusal};
+use crate::check::unions::no_marks;
 use crate::layers::struct_brand;
 use crate::lists::Lists;
 use crate::record::FieldKind;
@@ -122,16 +123,33 @@ fn parent_at(parents: &[Option<(usize, usize)>], group: usize) -> Option<(usize,
     }
 }
 
-/// Whether the parents of a group lead to a struct. No more of them are followed than there are brands.
-fn stands_in_struct(lists: &Lists, parents: &[Option<(usize, usize)>], group: usize) -> bool
+/// Whether a brand is marked.
+fn is_known(known: &[bool], brand: usize) -> bool
+    ensures { result ≡ get_or known.now brand false }
+{
+    brand < known.len() && known[brand]
+}
+
+/// Whether the parents of a group lead to a struct. They are followed to the first that is known to stand in one, and no
+/// more of them than there are brands.
+fn stands_in_struct(
+    lists: &Lists,
+    parents: &[Option<(usize, usize)>],
+    known: &[bool],
+    group: usize,
+) -> bool
     requires targets { TargetsAreGroups (lists_seen lists.now) }
     requires table { IsParentTable (lists_seen lists.now) parents.now }
+    requires known { AreKnown (lists_seen lists.now) known.now }
     requires within { group < length (lists_seen lists.now).brands }
     ensures { IsTrue result ↔ StandsInStruct (lists_seen lists.now) group }
 {
     let mut at = group;
     for _ in 0..lists.brands.len() + 1 {
         if !is_group(lists, at) {
+            return true;
+        }
+        if is_known(known, at) {
             return true;
         }
         match parent_at(parents, at) {
@@ -142,10 +160,41 @@ fn stands_in_struct(lists: &Lists, parents: &[Option<(usize, usize)>], group: us
     false
 }
 
-/// Whether a group has one parent, with sections of its own sizes, and stands in a struct.
-fn group_stands(lists: &Lists, parents: &[Option<(usize, usize)>], group: usize) -> bool
+/// Marks a group that stands in a struct, and its parents up to one that is marked, or is no group.
+fn mark_way(lists: &Lists, parents: &[Option<(usize, usize)>], known: &mut Vec<bool>, group: usize)
     requires targets { TargetsAreGroups (lists_seen lists.now) }
     requires table { IsParentTable (lists_seen lists.now) parents.now }
+    requires known { AreKnown (lists_seen lists.now) known.old.items }
+    requires stands { IsGroupBrand (lists_seen lists.now) group → StandsInStruct (lists_seen lists.now) group }
+    requires within { group < length (lists_seen lists.now).brands }
+    ensures { AreKnown (lists_seen lists.now) known.new.items }
+{
+    let mut at = group;
+    for _ in 0..lists.brands.len() {
+        if !is_group(lists, at) {
+            return;
+        }
+        if is_known(known, at) {
+            return;
+        }
+        known[at] = true;
+        match parent_at(parents, at) {
+            Some((parent, _)) => at = parent,
+            None => return,
+        }
+    }
+}
+
+/// Whether a group has one parent, with sections of its own sizes, and stands in a struct.
+fn group_stands(
+    lists: &Lists,
+    parents: &[Option<(usize, usize)>],
+    known: &[bool],
+    group: usize,
+) -> bool
+    requires targets { TargetsAreGroups (lists_seen lists.now) }
+    requires table { IsParentTable (lists_seen lists.now) parents.now }
+    requires known { AreKnown (lists_seen lists.now) known.now }
     requires within { group < length (lists_seen lists.now).brands }
     ensures yes { result ≡ true → GroupStands (lists_seen lists.now) group }
     ensures no { result ≡ false → GroupStands (lists_seen lists.now) group → ⊥ }
@@ -159,22 +208,24 @@ fn group_stands(lists: &Lists, parents: &[Option<(usize, usize)>], group: usize)
     if !has_same_sizes(lists, group, brand) {
         return false;
     }
-    stands_in_struct(lists, parents, group)
+    stands_in_struct(lists, parents, known, group)
 }
 
 /// Decides rule 8: a group brand is named by exactly one group field, has its parent's section sizes, and its chain of
-/// parents ends at a struct that is no group. It takes one pass over the fields and, for each group, a walk of at most
-/// as many steps as there are brands. It is refused where memory is short, or at a group for which the rule is broken.
+/// parents ends at a struct that is no group. It takes one pass over the fields, and each group is walked past once by
+/// what it leads to. It is refused where memory is short, or at a group for which the rule is broken.
 pub(crate) fn check_groups(alloc: Global, lists: &Lists) -> Result<()>
     requires rule1 { Rule1 (lists_seen lists.now) }
     requires rule7 { Rule7 (lists_seen lists.now) }
     ensures { MatchResult result (λ _. Rule8 (lists_seen lists.now)) (IsRefusalOf (lists_seen lists.now)) }
 {
     let parents = parent_table(alloc, lists)?;
+    let mut known = no_marks(alloc, brand_count(lists))?;
     for group in 0..brand_count(lists) {
-        if !group_stands(lists, &parents, group) {
+        if !group_stands(lists, &parents, &known, group) {
             return Err(refusal(8, SchemaTable::Brand, group, WHOLE));
         }
+        mark_way(lists, &parents, &mut known, group);
     }
     Ok(())
 }

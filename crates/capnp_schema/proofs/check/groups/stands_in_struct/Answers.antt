@@ -2,7 +2,7 @@ use Rattle.std.proofs.Common.{sym, refl, arith}
 use Rattle.std.proofs.lemmas.List.{length-map}
 use Rattle.capnp_schema.specs.Entries.{lists_seen}
 use Rattle.capnp_schema.specs.Schema.{seen_brand}
-use Rattle.capnp_schema.proofs.GroupChains.{walk_ends, walk_broken, walk_more, walk_endless, parent_within}
+use Rattle.capnp_schema.proofs.GroupChains.{walk_ends, walk_joins, walk_broken, walk_more, walk_endless, parent_within}
 use Rattle.capnp_schema.proofs.check.groups.stands_in_struct.Goals as goal
 
 pub returns-then-not-is_group : goal.returns-then-not-is_group
@@ -21,3 +21,6 @@ loop-preserved c = record {
 pub returns : goal.returns
 returns c = let l = length-map c.args.lists.now.brands.items seen_brand in
     (λ e. cc, λ stands. absurd (walk_endless (lists_seen c.args.lists.now) c.requires.targets c.args.parents.now c.requires.table c.loop.counter c.args.group c.loop.at c.loop.invariant.steps (omega arith) stands))
+
+pub returns-then-is_known : goal.returns-then-is_known
+returns-then-is_known c = (λ _. walk_joins (lists_seen c.args.lists.now) c.requires.targets c.args.parents.now c.requires.table c.loop.counter c.args.group c.loop.at c.loop.invariant.steps (c.requires.known.stands c.loop.at (sym c.if-is_known.ensures)), λ _. refl)
