@@ -4,6 +4,8 @@
 #[cfg(test)]
 mod annotation_tests;
 #[cfg(test)]
+mod default_tests;
+#[cfg(test)]
 mod fault_tests;
 #[cfg(test)]
 mod fixtures;
