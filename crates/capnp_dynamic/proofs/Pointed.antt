@@ -13,7 +13,7 @@ use Rattle.capnp_wire.specs.Reading.{as_data, as_list, as_struct, as_text, empty
 use Rattle.capnp_wire.specs.declared.size.ElementSize.{ElementSize}
 use Rattle.capnp_wire.specs.declared.size.ElementSize.TheVariants as size
 use Rattle.capnp_schema.specs.Accepted.{root_of}
-use Rattle.capnp_schema.specs.Schema.{Schemas, VoidValue, BoolValue, IntValue, UIntValue, EnumValue, TextValue, DataValue, StructValue, ListValue, AnyPointerValue}
+use Rattle.capnp_schema.specs.Schema.{Schemas, VoidValue, StructValue, ListValue}
 use Rattle.capnp_schema.specs.Schema.{Value as SchemaValue}
 use Rattle.capnp_schema.specs.Types.{AnyPointerType, DataType, ListType, SchemaType, StructType, TextType, element_size}
 use Rattle.capnp_records.specs.Facts.DefaultTree.{read-there}
