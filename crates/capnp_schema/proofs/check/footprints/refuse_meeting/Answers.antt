@@ -22,4 +22,4 @@ overflow_cast-field-in-Some-named_at-2 c = let lt = index_fits (lists_seen c.arg
 pub returns-in-Some-named_at-2 : goal.returns-in-Some-named_at-2
 returns-in-Some-named_at-2 c = refused_at_discriminant (lists_seen c.args.lists.now) c.refusal-in-Some-named_at-2.result c.args.brand c.in-Some-named_at-2.field c.refusal-in-Some-named_at-2.ensures
     (discriminant_named (lists_seen c.args.lists.now) c.args.brand c.in-Some-named_at-2.field _ _ (seen_spot c.args.spot) c.requires.within c.in-Some-named_at-2.ensures
-        (ap (λ (m : Node). discriminant_names m (seen_spot c.args.spot)) (found_node (lists_seen c.args.lists.now) c.args.brand (seen_node c.in-Some-node_of.node.now) c.in-Some-node_of.ensures) ∙ sym (c.discriminant_span.ensures (seen_spot c.args.spot)) ∙ c.if-holds_spot.ensures refl))
+    (ap (λ (m : Node). discriminant_names m (seen_spot c.args.spot)) (found_node (lists_seen c.args.lists.now) c.args.brand (seen_node c.in-Some-node_of.node.now) c.in-Some-node_of.ensures) ∙ sym (c.discriminant_span.ensures (seen_spot c.args.spot)) ∙ c.if-holds_spot.ensures refl))
