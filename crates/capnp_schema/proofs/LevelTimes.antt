@@ -1,15 +1,15 @@
 -- The times of levels: bisection, and marks one after another.
-use Rattle.std.proofs.Common.{ℕ, zero, suc, ◌≡◌, ◌≢◌, ◌+◌, ◌<◌, ◌≤◌, ⊎_elim, Bool, true, false, List, [], ◌∷◌, ◌++◌, length, get_or, arith, refl, sym, ap, ◌∙◌, subst, Some, None, slice_get, ◌==◌, Result, Ok, Err, IfOk, Vec}
+use Rattle.std.proofs.Common.{ℕ, zero, suc, ◌≡◌, ◌+◌, ◌<◌, ◌≤◌, ⊎_elim, Bool, true, false, List, [], ◌∷◌, ◌++◌, length, get_or, arith, refl, sym, ap, ◌∙◌, subst, Some, slice_get, ◌==◌, Result, Ok, Err, IfOk, Vec}
 use Rattle.std.proofs.Math.ListN.{set}
 use Rattle.std.proofs.lemmas.Bool.{cases_lt}
 use Rattle.std.proofs.lemmas.Bool.Decides.{nat_tests}
 use Rattle.std.proofs.lemmas.List.{get_or-set_same, get_or-set_other}
-use Rattle.std.proofs.lemmas.Option.{slice_get_within, slice_get_read, slice_get_past, same_Some}
+use Rattle.std.proofs.lemmas.Option.{slice_get_within, slice_get_read, same_Some}
 use Rattle.std.specs.declared.alloc.Global.{Global}
 use Rattle.capnp_device.specs.declared.error.Error.{Error}
 use Rattle.capnp_schema.specs.Footprint.{Place, DataBit, PointerAt, is_in}
 use Rattle.capnp_schema.specs.Spans.{span_names}
-use Rattle.capnp_schema.specs.Levels.{IsOpen, AreOpen, AreInOrder, AreClaimed, IsClaimed, mark_at}
+use Rattle.capnp_schema.specs.Levels.{AreOpen, AreInOrder, AreClaimed, IsClaimed, mark_at}
 use Rattle.capnp_schema.specs.declared.check.claims.Claims.{Claims}
 use Rattle.capnp_schema.specs.declared.check.spans.Span.{Span}
 use Rattle.capnp_schema.specs.declared.check.spans.Span.TheVariants.{Data, Pointer}

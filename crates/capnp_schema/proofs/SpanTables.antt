@@ -3,12 +3,12 @@ use Rattle.std.proofs.Common.{ℕ, ◌≡◌, ◌≢◌, ◌+◌, ◌<◌, ◌�
 use Rattle.std.proofs.lemmas.Bool.{cases_lt}
 use Rattle.std.proofs.lemmas.Option.{slice_get_within, slice_get_read}
 use Rattle.std.specs.declared.alloc.Global.{Global}
-use Rattle.capnp_schema.specs.Schema.{Schemas, fields_of, field_at, is_member}
-use Rattle.capnp_schema.specs.Footprint.{Place, footprint}
-use Rattle.capnp_schema.specs.Accepted.{FieldsApart}
+use Rattle.capnp_schema.specs.Schema.{Schemas, node_of, fields_of, field_at, is_member}
+use Rattle.capnp_schema.specs.Footprint.{Place, footprint, discriminant_names}
+use Rattle.capnp_schema.specs.Accepted.{FieldsApart, DiscriminantApart}
 use Rattle.capnp_schema.specs.Broken.{FieldBreaks}
 use Rattle.capnp_schema.specs.declared.check.spans.Span.{Span}
-use Rattle.capnp_schema.specs.Spans.{some_span, entry_names, SpansMeet, AreSpansOf}
+use Rattle.capnp_schema.specs.Spans.{some_span, entry_names, SpansMeet, AreSpansOf, IsNamedBy}
 use Rattle.capnp_schema.specs.Tables.{items_of, table_at}
 use Rattle.capnp_schema.proofs.EntryTables.{EachTable}
 use Rattle.capnp_schema.proofs.FieldWalk.{one_more}
@@ -79,3 +79,19 @@ apart_from_same set b i j e p ne named = absurd (ne e)
 
 pub apart_from_member : (set : Schemas) (b i : ℕ) → (is_member (field_at set b i).field ≡ false → ⊥) → FieldsApart set b i (field_at set b i)
 apart_from_member set b i member j p within ne plain named = absurd (member plain)
+
+-- two fields, of which one is plain, that name a place
+pub named_twice : (set : Schemas) (b i j other : ℕ) (p : Place) → b < length set.brands → IsNamedBy set b p other true i → IsNamedBy set b p i false j → FieldBreaks set (FieldsApart set b i) b i
+named_twice set b i j other p within n m = record {
+  brand = within;
+  field = n.field;
+  broken = λ apart. let none : footprint set (field_at set b j) p ≡ false = apart j p m.field (λ e. m.differs (sym e)) (n.is_plain refl) n.names in let named = m.names in (cc);
+}
+
+-- a field that names a place of the discriminant
+pub discriminant_named : (set : Schemas) (b i other : ℕ) (plain : Bool) (p : Place) → b < length set.brands → IsNamedBy set b p other plain i → discriminant_names (node_of set b) p ≡ true → FieldBreaks set (DiscriminantApart set b) b i
+discriminant_named set b i other plain p within n d = record {
+  brand = within;
+  field = n.field;
+  broken = λ apart. let none : footprint set (field_at set b i) p ≡ false = apart p d in let named = n.names in (cc);
+}

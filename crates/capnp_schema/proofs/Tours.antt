@@ -1,24 +1,17 @@
 -- What one step of a tour keeps.
-use Rattle.std.proofs.Common.{ℕ, zero, suc, ◌≡◌, ◌≢◌, ◌+◌, ◌-◌, ◌<◌, ◌≤◌, ◌⊎◌, inl, inr, ⊎_elim, Bool, true, false, ◌||◌, List, [], ◌∷◌, ◌++◌, length, get_or, arith, refl, sym, ap, ◌∙◌, subst, Option, Some, None, slice_get, cond, Vec, add-one}
-use Rattle.std.specs.declared.alloc.Global.{Global}
+use Rattle.std.proofs.Common.{ℕ, zero, suc, ◌≡◌, ◌+◌, ◌-◌, ◌<◌, ◌≤◌, ◌⊎◌, inl, inr, ⊎_elim, Bool, true, false, List, [], ◌∷◌, ◌++◌, length, arith, refl, sym, ap, ◌∙◌, subst, Some, None, slice_get, cond}
 use Rattle.std.proofs.Math.ListN.{set}
 use Rattle.std.proofs.lemmas.Bool.{cases_lt}
-use Rattle.std.proofs.lemmas.Bool.Decides.{nat_tests}
-use Rattle.std.proofs.lemmas.List.{get_or-set_same, get_or-set_other, length_push}
-use Rattle.std.proofs.lemmas.Option.{slice_get_within, same_Some, slice_get_past, slice_get-get_or}
-use Rattle.capnp_schema.specs.Types.{SchemaType}
-use Rattle.capnp_schema.specs.Schema.{Schemas, Node, FieldKind, Slot, Group, TypedField, node_of, fields_of, field_at, is_member, no_field}
-use Rattle.capnp_schema.specs.Footprint.{Place, DataBit, PointerAt, is_in, kind_names, group_names, brand_names, some_field, discriminant_names, footprint, slot_names}
-use Rattle.capnp_schema.specs.Accepted.{Rule11, Rule12, FieldsApart, DiscriminantApart}
-use Rattle.capnp_schema.specs.Parents.{group_target, entry_target, kind_target}
-use Rattle.capnp_schema.specs.Spans.{span_names, entry_names, field_names}
-use Rattle.capnp_schema.specs.Levels.{IsOpen, AreOpen, AreInOrder, AreClaimed, mark_at, IsClaimed, member_at, Names, PlainDone, by_discriminant, by_plain, Done, among_plain, by_member, IsCurrent, plain, member, IsClear, LevelStands, IsAbove, IsCurrentGroup, LevelsStand, AreClear, DoneStand, TourStands, TourRests}
+use Rattle.std.proofs.lemmas.List.{length_push}
+use Rattle.std.proofs.lemmas.Option.{slice_get_within, same_Some, slice_get_past}
+use Rattle.capnp_schema.specs.Schema.{Schemas, fields_of}
+use Rattle.capnp_schema.specs.Footprint.{Place}
+use Rattle.capnp_schema.specs.Spans.{span_names, entry_names}
+use Rattle.capnp_schema.specs.Levels.{IsOpen, AreOpen, AreInOrder, mark_at, IsClaimed, member_at, Names, PlainDone, by_discriminant, by_plain, Done, among_plain, by_member, IsCurrent, plain, member, IsClear, LevelStands, IsAbove, IsCurrentGroup, LevelsStand, TourStands}
 use Rattle.capnp_schema.specs.declared.check.claims.Claims.{Claims}
 use Rattle.capnp_schema.specs.declared.check.claims.Level.{Level}
 use Rattle.capnp_schema.specs.declared.check.spans.Span.{Span}
-use Rattle.capnp_schema.specs.declared.check.spans.Span.TheVariants.{Data, Pointer}
 use Rattle.capnp_schema.specs.declared.check.tour.Tour.{Tour}
-use Rattle.capnp_schema.proofs.GroupTargets.{field_is, within_fields, past_fields}
 use Rattle.capnp_schema.proofs.LevelTimes.{slice_get-push, slice_get-last, slice_get-end, pushed}
 
 -- ---- times ----

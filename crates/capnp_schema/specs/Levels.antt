@@ -122,4 +122,4 @@ pub record TourRests (set : Schemas) (tour : Tour) : Type 0 where
 abbrev pub StepStands : Schemas → Tour → Step → Type 0
 StepStands set tour (step.At top) = TourStands set tour top
 StepStands set tour step.Ended = TourRests set tour
-StepStands set tour step.Met = ⊤
+StepStands set tour (step.Met meeting) = ⊤

@@ -1,9 +1,11 @@
 -- What spans name, and the spans of the fields of a brand.
-use Rattle.std.specs.Prelude.{ℕ, ◌≡◌, ◌||◌, ◌==◌, Bool, true, false, List, [], ◌∷◌, length, slice_get, Option, Some, None, Vec}
+use Rattle.std.specs.Prelude.{ℕ, ◌≡◌, ◌≢◌, ◌<◌, ◌||◌, ◌==◌, Bool, true, false, List, [], ◌∷◌, length, slice_get, Option, Some, None, Vec}
 use Rattle.std.specs.declared.alloc.Global.{Global}
-use Rattle.capnp_schema.specs.Schema.{Schemas, TypedField, fields_of, field_at}
+use Rattle.capnp_schema.specs.Schema.{Schemas, TypedField, fields_of, field_at, is_member}
 use Rattle.capnp_schema.specs.Footprint.{Place, DataBit, PointerAt, is_in, kind_names, brand_names, footprint}
 use Rattle.capnp_schema.specs.declared.check.spans.Span.{Span}
+use Rattle.capnp_schema.specs.declared.check.spans.Spot.{Spot}
+use Rattle.capnp_schema.specs.declared.check.spans.Spot.TheVariants as spot
 use Rattle.capnp_schema.specs.declared.check.spans.Span.TheVariants.{Data, Pointer}
 
 abbrev pub span_names : Span → Place → Bool
@@ -11,6 +13,10 @@ span_names (Data first count) (DataBit i) = is_in first count i
 span_names (Data first count) (PointerAt i) = false
 span_names (Pointer number) (DataBit i) = false
 span_names (Pointer number) (PointerAt i) = i == number
+
+abbrev pub seen_spot : Spot → Place
+seen_spot (spot.Bit i) = DataBit i
+seen_spot (spot.Pointer i) = PointerAt i
 
 -- whether one of the spans names the place
 abbrev pub some_span : List Span → Place → Bool
@@ -35,3 +41,10 @@ pub record SpansMeet (a b : List Span) : Type 0 where
 pub record AreSpansOf (set : Schemas) (b : ℕ) (spans : List (Vec Span Global)) : Type 0 where
   pub counted : length spans ≡ length (fields_of set b)
   pub each : (i : ℕ) (v : Vec Span Global) (p : Place) → slice_get spans i ≡ Some v → some_span v.items p ≡ footprint set (field_at set b i) p
+
+-- another field than that one, plain where a plain one is asked for, names the place
+pub record IsNamedBy (set : Schemas) (b : ℕ) (p : Place) (other : ℕ) (plain : Bool) (i : ℕ) : Type 0 where
+  pub field : i < length (fields_of set b)
+  pub differs : i ≢ other
+  pub is_plain : plain ≡ true → is_member (field_at set b i).field ≡ false
+  pub names : footprint set (field_at set b i) p ≡ true

@@ -3,7 +3,7 @@ ghost use Rattle.std.specs.Prelude.{true, false, ◌≡◌, ◌++◌, ◌∷◌,
 ghost use Rattle.capnp_device.specs.declared.error.ErrorKind.TheVariants.{OutOfMemory};
 ghost use Rattle.capnp_schema.specs.Levels.{AreOpen, AreInOrder, AreClaimed, IsClaimed};
 
-use crate::check::spans::Span;
+use crate::check::spans::{Span, Spot};
 use capnp_wire::error::Result;
 
 /// When each data bit and each pointer was named last; 0 for never.
@@ -24,6 +24,26 @@ pub(crate) struct Level {
     pub(crate) start: u32,
     /// The time after its last plain claim.
     pub(crate) plain_end: u32,
+}
+
+/// A place of a brand's struct where two of its fields may meet, or one its discriminant.
+#[derive(Clone, Copy)]
+pub(crate) struct Meeting {
+    pub(crate) brand: usize,
+    pub(crate) spot: Spot,
+}
+
+/// The brand of a level in whose plain part a time lies.
+fn closing_brand(below: &[Level], top: Level, time: u32) -> Option<usize> {
+    if top.start <= time && time < top.plain_end {
+        return Some(top.brand);
+    }
+    for level in below {
+        if level.start <= time && time < level.plain_end {
+            return Some(level.brand);
+        }
+    }
+    None
 }
 
 /// Whether a time lies in the plain part of none of the levels.
@@ -140,6 +160,29 @@ impl Claims {
             }
             Span::Pointer(number) => {
                 claim_range(&mut self.pointers, number as usize, 1, now, below, top)
+            }
+        }
+    }
+
+    /// A meeting in a span that could not be claimed. It is a hint: who takes it looks at what stands there.
+    pub(crate) fn find_meeting(&self, span: Span, below: &[Level], top: Level) -> Option<Meeting> {
+        match span {
+            Span::Data { first, count } => {
+                for i in 0..count.min(64) {
+                    let bit = first.wrapping_add(i);
+                    let time = *self.bits.get(bit as usize)?;
+                    if let Some(brand) = closing_brand(below, top, time) {
+                        let spot = Spot::Bit(bit);
+                        return Some(Meeting { brand, spot });
+                    }
+                }
+                None
+            }
+            Span::Pointer(number) => {
+                let time = *self.pointers.get(number as usize)?;
+                let brand = closing_brand(below, top, time)?;
+                let spot = Spot::Pointer(number);
+                Some(Meeting { brand, spot })
             }
         }
     }

@@ -1,15 +1,17 @@
 //! Footprints: a plain field's meets that of no other field of its struct, and the discriminant meets none.
-ghost use Rattle.std.specs.Prelude.{true, false, ◌≡◌, ◌<◌, ◌≤◌, ◌↔◌, ℕ, IsTrue, IsFalse, length, MatchOption, MatchResult};
+ghost use Rattle.std.specs.Prelude.{true, false, ◌≡◌, ◌<◌, ◌≤◌, ◌↔◌, ℕ, IsTrue, IsFalse, length, MatchOption, MatchResult, IfSome, IfErr};
 ghost use Rattle.capnp_schema.specs.Schema.{fields_of, field_at, is_member};
 ghost use Rattle.capnp_schema.specs.Entries.{lists_seen};
 ghost use Rattle.capnp_schema.specs.Accepted.{FieldsApart, DiscriminantApart, Rule3, Rule11, Rule12};
 ghost use Rattle.capnp_schema.specs.Broken.{FieldBreaks, IsRefusalOf};
-ghost use Rattle.capnp_schema.specs.Spans.{AreSpansOf};
+ghost use Rattle.capnp_schema.specs.Spans.{AreSpansOf, IsNamedBy, seen_spot};
 
 use crate::check::groups::brand_count;
 use crate::check::refusal::refusal;
-use crate::check::spans::{Span, brand_spans, discriminant_span, spans_meet};
-use crate::check::tour::are_apart;
+use crate::check::spans::{
+    Span, Spot, brand_spans, discriminant_span, holds_spot, some_holds, spans_meet,
+};
+use crate::check::tour::{Step, tour_all};
 use crate::lists::Lists;
 use capnp_wire::error::{Result, SchemaTable};
 use std::alloc::Global;
@@ -61,6 +63,51 @@ fn discriminant_field(lists: &Lists, brand: usize, spans: &[Vec<Span>]) -> Optio
     None
 }
 
+/// A field of a brand other than one that names a place, and is plain where a plain one is asked for.
+fn named_at(
+    lists: &Lists,
+    brand: usize,
+    spans: &[Vec<Span>],
+    spot: Spot,
+    other: usize,
+    plain: bool,
+) -> Option<usize>
+    requires { AreSpansOf (lists_seen lists.now) brand spans.now }
+    ensures { IfSome result (IsNamedBy (lists_seen lists.now) brand (seen_spot spot) other plain) }
+{
+    for i in 0..spans.len() {
+        if i != other && some_holds(&spans[i], spot) {
+            if !plain || is_plain(lists, brand, i) {
+                return Some(i);
+            }
+        }
+    }
+    None
+}
+
+/// Refuses where two fields of a brand, of which one is plain, meet at a place, or one the brand's discriminant.
+fn refuse_meeting(alloc: Global, lists: &Lists, brand: usize, spot: Spot) -> Result<()>
+    requires rule3 { Rule3 (lists_seen lists.now) }
+    requires within { brand < length (lists_seen lists.now).brands }
+    ensures { IfErr result (IsRefusalOf (lists_seen lists.now)) }
+{
+    let spans = brand_spans(alloc, lists, brand)?;
+    if let Some(field) = named_at(lists, brand, &spans, spot, usize::MAX, true) {
+        if let Some(_second) = named_at(lists, brand, &spans, spot, field, false) {
+            return Err(refusal(11, SchemaTable::Brand, brand, field as u16));
+        }
+    }
+    let Some(node) = lists.node_of(brand) else {
+        return Ok(());
+    };
+    if holds_spot(discriminant_span(node), spot) {
+        if let Some(field) = named_at(lists, brand, &spans, spot, usize::MAX, false) {
+            return Err(refusal(12, SchemaTable::Brand, brand, field as u16));
+        }
+    }
+    Ok(())
+}
+
 /// Decides the same by the spans of each field of each brand: a refusal names a field that meets another.
 fn find_meeting(alloc: Global, lists: &Lists) -> Result<()>
     requires { Rule3 (lists_seen lists.now) }
@@ -79,14 +126,20 @@ fn find_meeting(alloc: Global, lists: &Lists) -> Result<()>
 }
 
 /// Decides rules 11 and 12: a plain field's footprint meets that of no other field of its struct, and no field's meets
-/// the discriminant of its struct. One tour through each struct and its groups accepts; where fields meet, they are
-/// looked for pair by pair. It is refused where memory is short, or at a field for which one of the rules is broken.
+/// the discriminant of its struct. One tour through each struct and its groups accepts, or finds where fields meet; where
+/// it can say neither, all are compared. It is refused where memory is short, or at a field for which one of the rules is broken.
 pub(crate) fn check_footprints(alloc: Global, lists: &Lists) -> Result<()>
     requires { Rule3 (lists_seen lists.now) }
     ensures { MatchResult result (λ _. Rule11 (lists_seen lists.now) × Rule12 (lists_seen lists.now)) (IsRefusalOf (lists_seen lists.now)) }
 {
-    if are_apart(alloc, lists)? {
-        return Ok(());
+    match tour_all(alloc, lists)? {
+        Step::Ended => return Ok(()),
+        Step::Met(Some(meeting)) => {
+            if meeting.brand < brand_count(lists) {
+                refuse_meeting(alloc, lists, meeting.brand, meeting.spot)?;
+            }
+        }
+        _ => {}
     }
     find_meeting(alloc, lists)
 }

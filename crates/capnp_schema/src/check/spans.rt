@@ -5,7 +5,7 @@ ghost use Rattle.capnp_schema.specs.Types.{seen_type};
 ghost use Rattle.capnp_schema.specs.Schema.{seen_node, fields_of};
 ghost use Rattle.capnp_schema.specs.Footprint.{Place, slot_names, discriminant_names, some_field, brand_names};
 ghost use Rattle.capnp_schema.specs.Entries.{lists_seen};
-ghost use Rattle.capnp_schema.specs.Spans.{span_names, some_span, field_names, entry_names, SpansMeet, AreSpansOf};
+ghost use Rattle.capnp_schema.specs.Spans.{span_names, some_span, field_names, entry_names, SpansMeet, AreSpansOf, seen_spot};
 
 use crate::check::groups::brand_count;
 use crate::layers::{is_pointer, struct_brand, width};
@@ -21,6 +21,13 @@ pub(crate) enum Span {
     /// The first bit and how many bits there are.
     Data { first: u64, count: u64 },
     /// The pointer of a number.
+    Pointer(u32),
+}
+
+/// A data bit or a pointer.
+#[derive(Clone, Copy)]
+pub(crate) enum Spot {
+    Bit(u64),
     Pointer(u32),
 }
 
@@ -52,6 +59,29 @@ pub(crate) fn discriminant_span(node: &NodeRecord) -> Span
             0
         },
     }
+}
+
+/// Whether a span holds a place.
+pub(crate) fn holds_spot(span: Span, spot: Spot) -> bool
+    ensures { result ≡ true → span_names span (seen_spot spot) ≡ true }
+{
+    match (span, spot) {
+        (Span::Data { first, count }, Spot::Bit(bit)) => first <= bit && bit - first < count,
+        (Span::Pointer(number), Spot::Pointer(other)) => other == number,
+        _ => false,
+    }
+}
+
+/// Whether one of the spans holds a place.
+pub(crate) fn some_holds(spans: &[Span], spot: Spot) -> bool
+    ensures { result ≡ true → some_span spans.now (seen_spot spot) ≡ true }
+{
+    for span in spans {
+        if holds_spot(*span, spot) {
+            return true;
+        }
+    }
+    false
 }
 
 /// Whether two spans have a place in common.

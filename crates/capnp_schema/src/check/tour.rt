@@ -8,8 +8,9 @@ ghost use Rattle.capnp_schema.specs.Accepted.{Rule11, Rule12};
 ghost use Rattle.capnp_schema.specs.Parents.{group_target};
 ghost use Rattle.capnp_schema.specs.Spans.{span_names};
 ghost use Rattle.capnp_schema.specs.Levels.{member_at, Names, IsCurrent, IsCurrentGroup, TourStands, TourRests, StepStands, DoneStand};
+ghost use Rattle.capnp_schema.specs.declared.check.tour.Step.TheVariants.{Ended};
 
-use crate::check::claims::{Claims, Level};
+use crate::check::claims::{Claims, Level, Meeting};
 use crate::check::groups::{brand_count, group_target, is_group};
 use crate::check::spans::{Span, discriminant_span, slot_span};
 use crate::check::unions::{all_set, no_marks};
@@ -38,8 +39,8 @@ pub(crate) enum Step {
     At(Level),
     /// All of the struct is past.
     Ended,
-    /// Two fields meet, or a number is too large for the tour.
-    Met,
+    /// Two fields meet, maybe there, or a number is too large for the tour.
+    Met(Option<Meeting>),
 }
 
 /// Whether a field is a member of its struct's union.
@@ -86,17 +87,17 @@ fn enter(lists: &Lists, tour: &mut Tour, top: Level, group: usize) -> Result<Ste
     ensures refused { IfErr result (λ e. e.kind ≡ OutOfMemory) }
 {
     let Some(node) = lists.node_of(group) else {
-        return Ok(Step::Met);
+        return Ok(Step::Met(None));
     };
     if tour.now >= u32::MAX - 1 {
-        return Ok(Step::Met);
+        return Ok(Step::Met(None));
     }
     let now = tour.now;
     if !tour
         .claims
         .claim(discriminant_span(node), now, &tour.below, top)?
     {
-        return Ok(Step::Met);
+        return Ok(Step::Met(None));
     }
     tour.below.push(top)?;
     tour.now = now + 1;
@@ -113,11 +114,11 @@ fn take_slot(lists: &Lists, tour: &mut Tour, top: Level, field: usize, span: Spa
     ensures refused { IfErr result (λ e. e.kind ≡ OutOfMemory) }
 {
     if tour.now >= u32::MAX - 1 {
-        return Ok(Step::Met);
+        return Ok(Step::Met(None));
     }
     let now = tour.now;
     if !tour.claims.claim(span, now, &tour.below, top)? {
-        return Ok(Step::Met);
+        return Ok(Step::Met(tour.claims.find_meeting(span, &tour.below, top)));
     }
     tour.now = now + 1;
     Ok(Step::At(advanced(top, is_member_at(lists, top.brand, field), now + 1)))
@@ -135,13 +136,13 @@ fn take_field(lists: &Lists, tour: &mut Tour, top: Level, field: usize) -> Resul
         return enter(lists, tour, top, group);
     }
     let Some(typed) = lists.field_at(top.brand, field) else {
-        return Ok(Step::Met);
+        return Ok(Step::Met(None));
     };
     match typed.field.kind {
         FieldKind::Slot { offset, .. } => {
             take_slot(lists, tour, top, field, slot_span(offset, typed.field_type))
         }
-        FieldKind::Group { .. } => Ok(Step::Met),
+        FieldKind::Group { .. } => Ok(Step::Met(None)),
     }
 }
 
@@ -157,7 +158,7 @@ fn leave(lists: &Lists, tour: &mut Tour, top: Level) -> Step
     match tour.below.pop() {
         Some(level) => {
             if level.steps >= 1 << 61 {
-                return Step::Met;
+                return Step::Met(None);
             }
             let is_member = level.steps >= lists.field_count(level.brand);
             Step::At(advanced(level, is_member, tour.now))
@@ -173,10 +174,10 @@ fn start(lists: &Lists, tour: &mut Tour, brand: usize) -> Result<Step>
     ensures refused { IfErr result (λ e. e.kind ≡ OutOfMemory) }
 {
     let Some(node) = lists.node_of(brand) else {
-        return Ok(Step::Met);
+        return Ok(Step::Met(None));
     };
     if tour.now >= u32::MAX - 1 {
-        return Ok(Step::Met);
+        return Ok(Step::Met(None));
     }
     let now = tour.now;
     let nowhere = Level {
@@ -190,7 +191,7 @@ fn start(lists: &Lists, tour: &mut Tour, brand: usize) -> Result<Step>
         .claims
         .claim(discriminant_span(node), now, &below, nowhere)?
     {
-        return Ok(Step::Met);
+        return Ok(Step::Met(None));
     }
     tour.now = now + 1;
     Ok(Step::At(entered(brand, now)))
@@ -203,7 +204,7 @@ fn take_step(lists: &Lists, tour: &mut Tour, top: Level) -> Result<Step>
     ensures refused { IfErr result (λ e. e.kind ≡ OutOfMemory) }
 {
     if top.steps >= 1 << 61 {
-        return Ok(Step::Met);
+        return Ok(Step::Met(None));
     }
     let count = lists.field_count(top.brand);
     if top.steps < count {
@@ -222,24 +223,24 @@ fn take_step(lists: &Lists, tour: &mut Tour, top: Level) -> Result<Step>
     Ok(Step::At(advanced(top, true, tour.now)))
 }
 
-/// Goes through a struct and its groups; false where two fields meet, or a number is too large for the tour.
-fn tour_struct(lists: &Lists, tour: &mut Tour, brand: usize) -> Result<bool>
+/// Goes through a struct and its groups to their end, or to where two fields meet.
+fn tour_struct(lists: &Lists, tour: &mut Tour, brand: usize) -> Result<Step>
     requires { TourRests (lists_seen lists.now) tour.old }
-    ensures stands { IfOk result (λ yes. yes ≡ true → TourRests (lists_seen lists.now) tour.new) }
+    ensures stands { IfOk result (λ step. step ≡ Ended → TourRests (lists_seen lists.now) tour.new) }
     ensures refused { IfErr result (λ e. e.kind ≡ OutOfMemory) }
 {
     let mut top = match start(lists, tour, brand)? {
         Step::At(level) => level,
-        _ => return Ok(false),
+        _ => return Ok(Step::Met(None)),
     };
     for _ in 0..u32::MAX {
         match take_step(lists, tour, top)? {
             Step::At(level) => top = level,
-            Step::Ended => return Ok(true),
-            Step::Met => return Ok(false),
+            Step::Ended => return Ok(Step::Ended),
+            Step::Met(meeting) => return Ok(Step::Met(meeting)),
         }
     }
-    Ok(false)
+    Ok(Step::Met(None))
 }
 
 /// A tour that has gone through nothing.
@@ -258,17 +259,24 @@ fn no_tour(alloc: Global, lists: &Lists) -> Result<Tour>
     })
 }
 
-/// Whether no plain field meets another field of its struct, and no discriminant a field, found by going once through each
-/// struct and its groups. False says nothing of sets where a group stands in no struct.
-pub(crate) fn are_apart(alloc: Global, lists: &Lists) -> Result<bool>
-    ensures apart { IfOk result (λ yes. yes ≡ true → Rule11 (lists_seen lists.now) × Rule12 (lists_seen lists.now)) }
+/// Goes once through each struct and its groups. Where it ends, no plain field meets another field of its struct, and no
+/// discriminant a field; otherwise it may say where two meet, and says nothing of sets where a group stands in no struct.
+pub(crate) fn tour_all(alloc: Global, lists: &Lists) -> Result<Step>
+    ensures apart { IfOk result (λ step. step ≡ Ended → Rule11 (lists_seen lists.now) × Rule12 (lists_seen lists.now)) }
     ensures refused { IfErr result (λ e. e.kind ≡ OutOfMemory) }
 {
     let mut tour = no_tour(alloc, lists)?;
     for brand in 0..brand_count(lists) {
-        if !is_group(lists, brand) && !tour_struct(lists, &mut tour, brand)? {
-            return Ok(false);
+        if !is_group(lists, brand) {
+            match tour_struct(lists, &mut tour, brand)? {
+                Step::Ended => {}
+                Step::Met(meeting) => return Ok(Step::Met(meeting)),
+                Step::At(_) => return Ok(Step::Met(None)),
+            }
         }
     }
-    Ok(all_set(&tour.done))
+    if all_set(&tour.done) {
+        return Ok(Step::Ended);
+    }
+    Ok(Step::Met(None))
 }

@@ -1,4 +1,4 @@
-use Rattle.std.proofs.Common.{◌++◌, ◌∷◌, [], length, ◌≡◌}
+use Rattle.std.proofs.Common.{◌++◌, ◌∷◌, []}
 use Rattle.capnp_schema.proofs.LevelTimes.{ClaimedTo}
 use Rattle.capnp_schema.proofs.check.claims.claim_marks.Given as goal
 

@@ -1,4 +1,4 @@
-use Rattle.std.proofs.Common.{arith, rules, sym, subst, List, ◌++◌, ◌∷◌, []}
+use Rattle.std.proofs.Common.{rules, subst, List, ◌++◌, ◌∷◌, []}
 use Rattle.capnp_schema.specs.Entries.{lists_seen}
 use Rattle.capnp_schema.specs.Levels.{IsClaimed}
 use Rattle.capnp_schema.specs.declared.check.claims.Level.{Level}
