@@ -29,7 +29,7 @@ impl<'a> Reader<'a> {
     ghost use Rattle.capnp_dynamic.specs.Handles.{element_of, list_reader_of, list_set, type_of};
     ghost use Rattle.capnp_dynamic.specs.Reads.{element_seen};
     ghost use Rattle.capnp_dynamic.specs.Seen.{answered};
-    ghost use Rattle.capnp_dynamic.specs.Typed.{IsOf};
+    ghost use Rattle.capnp_dynamic.specs.Typed.{IsOf, IsUnder};
 
     /// A reader of a list whose elements are of a type of the set.
     pub(crate) fn new(reader: ListReader<'a>, element_type: Type, set: &'a SchemaSet) -> Reader<'a>
@@ -74,6 +74,7 @@ impl<'a> Reader<'a> {
     /// `TextNotTerminated`.
     pub fn get(self, index: u32) -> Result<dynamic_value::Reader<'a>>
         ensures value { answered result ≡ element_seen self.entry index }
+        ensures under { IfOk result (IsUnder (list_set self.entry) (element_of self.entry)) }
         ensures typed { NamesEntries (list_set self.entry) (element_of self.entry) → IfOk result (IsOf (list_set self.entry) (element_of self.entry)) }
     {
         read_element(&self.reader, self.set, self.element_type.which(), index)
