@@ -9,9 +9,10 @@ use Rattle.capnp_schema.specs.Types.{SchemaType}
 use Rattle.capnp_records.specs.Record.{Value}
 use Rattle.capnp_records.specs.Text.{Inner, Layout, Member, Out, after, before, bracketed, deeper, item, item_if, later, line, list_text, more_text, record_text, said, separator, struct_text, text_within, value_text}
 use Rattle.capnp_dynamic.specs.Handles.{list_set, schema_of}
+use Rattle.capnp_dynamic.specs.Leaf.{IsLeaf, leaf_text}
 use Rattle.capnp_dynamic.specs.Pieces.{IsFull, IsStopped}
 use Rattle.capnp_dynamic.specs.Reads.{element_seen}
-use Rattle.capnp_dynamic.specs.Shown.{ArePut, AreStopped, IsLeaf, IsPut, count_of, element_items, element_shown, field_item, field_shown, leaf_shown, list_shown, record_items, record_shown, set_seen, type_seen, value_shown}
+use Rattle.capnp_dynamic.specs.Shown.{ArePut, AreStopped, IsPut, count_of, element_items, element_shown, field_item, field_shown, list_shown, record_items, record_shown, set_seen, type_seen, value_shown}
 use Rattle.capnp_dynamic.specs.Seen.{value_seen}
 use Rattle.capnp_dynamic.specs.declared.dynamic_list.Reader.{Reader as ListHandle}
 use Rattle.capnp_dynamic.specs.declared.dynamic_struct.Reader.{Reader as StructHandle}
@@ -51,7 +52,7 @@ by_levels : (set : Schemas) (left : ℕ) (at : Layout) (t : SchemaType) (v : Val
 by_levels set zero at t v o h = h None
 by_levels set (suc n) at t v o h = h (Some (text_within set n))
 
-pub leaf_deep : (left : ℕ) (at : Layout) (v : DynamicValue) → IsLeaf v → value_shown left at v ≡ leaf_shown v
+pub leaf_deep : (left : ℕ) (at : Layout) (v : DynamicValue) → IsLeaf v → value_shown left at v ≡ leaf_text v
 leaf_deep left at dynamic.Void h = by_levels _ left at _ _ _ (λ inner. refl)
 leaf_deep left at (dynamic.Bool b) h = by_levels _ left at _ _ _ (λ inner. refl)
 leaf_deep left at (dynamic.Int8 x) h = by_levels _ left at _ _ _ (λ inner. refl)
@@ -70,7 +71,7 @@ leaf_deep left at (dynamic.List l) h = absurd h
 leaf_deep left at (dynamic.AnyPointer p) h = by_levels _ left at _ _ _ (λ inner. refl)
 
 -- a leaf that was put
-pub leaf_put : (left : ℕ) (at : Layout) (v : DynamicValue) (old new : Option (List ℕ)) → IsLeaf v → IsPut old (leaf_shown v) new → IsPut old (value_shown left at v) new
+pub leaf_put : (left : ℕ) (at : Layout) (v : DynamicValue) (old new : Option (List ℕ)) → IsLeaf v → IsPut old (leaf_text v) new → IsPut old (value_shown left at v) new
 leaf_put left at v old new h p = ap (after (Ok old)) (leaf_deep left at v h) ∙ p
 
 -- ---- brackets ----

@@ -14,7 +14,7 @@ use Rattle.capnp_records.specs.Part.{which_of}
 use Rattle.capnp_records.specs.Reading.{element_value, part_of, plain_parts, union_of, values_of}
 use Rattle.capnp_records.specs.Record as value
 use Rattle.capnp_records.specs.Record.{Left, Union, Value, Values, is_there, values_from}
-use Rattle.capnp_records.specs.Text.{Inner, Layout, Member, Out, after, before, deeper, element_texts, item, item_if, later, list_text, member, more_text, part_text, record_text, shown, text_of, text_within, value_text}
+use Rattle.capnp_records.specs.Text.{Inner, Layout, Member, Out, after, before, deeper, element_texts, item, item_if, later, list_text, member, more_text, part_text, record_text, shown, text_of, text_within}
 use Rattle.capnp_dynamic.specs.Handles.{element_of, enum_of, list_reader_of, list_set, reader_of, schema_of}
 use Rattle.capnp_dynamic.specs.Pieces.{IsStopped}
 use Rattle.capnp_dynamic.specs.Seen.{record_seen, value_seen}
@@ -73,15 +73,6 @@ printed_text indented v = text_of (set_seen v) indented (type_seen v) (value_pri
 
 abbrev pub value_shown : ℕ → Layout → DynamicValue → Out
 value_shown left at v = text_within (set_seen v) left at (type_seen v) (value_seen v)
-
--- a value that is no struct and no list takes no level, and its text is the same on one line and on lines
-abbrev pub IsLeaf : DynamicValue → Type 0
-IsLeaf (dynamic.Struct s) = ⊥
-IsLeaf (dynamic.List l) = ⊥
-IsLeaf v = ⊤
-
-abbrev pub leaf_shown : DynamicValue → Out
-leaf_shown v = value_text (set_seen v) None None (type_seen v) (value_seen v)
 
 -- ---- lists ----
 

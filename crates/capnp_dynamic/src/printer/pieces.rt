@@ -1,9 +1,12 @@
 //! Pieces of text: lines, and what stands before an item.
 ghost use Rattle.std.specs.Prelude.{◌≡◌, IfErr, IfOk, OnOk};
 ghost use Rattle.capnp_records.specs.Text.{deeper, line, said, separator};
+ghost use Rattle.capnp_dynamic.specs.Leaf.{IsLeaf, leaf_text};
 ghost use Rattle.capnp_dynamic.specs.Pieces.{IsFull};
 ghost use Rattle.capnp_dynamic.specs.Shown.{IsPut};
 
+use crate::dynamic_value::Reader as Value;
+use crate::printer::leaves::put_leaf;
 use crate::printer::out::{Out, Stop};
 use capnp_wire::error::{Error, ErrorKind};
 
@@ -13,6 +16,18 @@ pub(crate) fn put<O: Out>(piece: &str, out: &mut O) -> Result<(), Stop<O::Fault>
     ensures full { IfErr result IsFull }
 {
     match out.put(piece) {
+        Ok(()) => Ok(()),
+        Err(fault) => Err(Stop::Full(fault)),
+    }
+}
+
+/// Appends the text of a value that is no struct and no list.
+pub(crate) fn print_leaf<O: Out>(value: Value<'_>, out: &mut O) -> Result<(), Stop<O::Fault>>
+    requires { IsLeaf value }
+    ensures put { OnOk result (IsPut (O.text out.old) (leaf_text value.entry) (O.text out.new)) }
+    ensures full { IfErr result IsFull }
+{
+    match put_leaf(value, out) {
         Ok(()) => Ok(()),
         Err(fault) => Err(Stop::Full(fault)),
     }

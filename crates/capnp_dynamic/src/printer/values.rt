@@ -8,12 +8,11 @@ ghost use Rattle.capnp_dynamic.specs.Pieces.{IsStopped};
 ghost use Rattle.capnp_dynamic.specs.Shown.{ArePut, AreStopped, IsPending, IsPut, count_of, element_items, field_item, field_items, field_shown, list_shown, member_items, pending_member, record_items, record_shown, value_shown};
 
 use crate::dynamic_value::Reader as Value;
-use crate::printer::leaves::put_leaf;
 use crate::printer::out::{Out, Stop};
 use crate::printer::parts::{
     Part, Progress, active_member, is_field_there, is_shown, read_element, read_part, refusal,
 };
-use crate::printer::pieces::{one_deeper, put, put_line, put_separator};
+use crate::printer::pieces::{one_deeper, print_leaf, put, put_line, put_separator};
 use crate::{dynamic_list, dynamic_struct};
 use capnp_schema::schema::Field;
 use capnp_wire::error::{Error, ErrorKind};
@@ -42,7 +41,7 @@ pub(crate) fn print_value<O: Out>(
             }
             print_list(list, left - 1, at, out)
         }
-        _ => put_leaf(value, out),
+        _ => print_leaf(value, out),
     }
 }
 
