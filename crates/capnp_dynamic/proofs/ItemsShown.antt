@@ -1,8 +1,10 @@
 -- The items of a struct, from a field on.
-use Rattle.std.specs.Prelude.{ℕ, zero, suc, ◌+◌, ◌-◌, ◌<◌, ◌≤◌, ◌≡◌, ◌==◌, refl, List, [], ◌∷◌, ◌++◌, Bool, true, false, not, ◌&&◌, ◌||◌, nat_lt, cond, length, drop, slice_get, Option, Some, None}
+use Rattle.std.specs.Prelude.{ℕ, zero, suc, ◌+◌, ◌-◌, ◌<◌, ◌≤◌, ◌≡◌, ◌==◌, refl, List, [], ◌∷◌, ◌++◌, Bool, true, false, not, ◌&&◌, ◌||◌, nat_lt, cond, length, drop, slice_get, Option, Some, None, Result, Ok}
 use Rattle.std.proofs.Common.{ap, sym, subst, ◌∙◌, arith, append-nil}
 use Rattle.std.specs.Option.{unwrap_or}
-use Rattle.capnp_schema.specs.FieldLists.{IsFieldOf, IsFound, index_of}
+use Rattle.capnp_schema.specs.FieldLists.{IsFieldOf, IsFound, index_of, typed_of}
+use Rattle.capnp_device.specs.declared.error.Error.{Error}
+use Rattle.capnp_schema.specs.Schema.{Field as FieldRecord}
 use Rattle.capnp_schema.specs.Schema.{Schemas, TypedField, default_of, field_at, is_member, no_field, node_of}
 use Rattle.capnp_schema.specs.StructHandles.{number_of, set_of, struct_field, struct_fields}
 use Rattle.capnp_schema.specs.declared.schema.fields.Field.{Field}
@@ -15,6 +17,7 @@ use Rattle.capnp_records.specs.Record as value
 use Rattle.capnp_records.specs.Record.{Active, MoreValues, NoUnion, Parts, Union, Unknown, Value, Values, is_there}
 use Rattle.capnp_records.specs.Text.{Inner, Layout, Member, Out, before, item, item_if, later, member, more_text, part_text, rest_of, shown}
 use Rattle.capnp_wire.specs.Standing.{struct_of}
+use Rattle.capnp_dynamic.proofs.HasWhich.{not_zero}
 use Rattle.capnp_dynamic.specs.Handles.{reader_of, schema_of}
 use Rattle.capnp_dynamic.specs.PartsRead.{field_in}
 use Rattle.capnp_dynamic.specs.Reads.{BelongsTo}
@@ -141,7 +144,9 @@ member_has r i h w = go (union_seen r) (active-part r) w (is_member (struct_fiel
 drop-next : (fs : List TypedField) (i : ℕ) → i < length fs → drop i fs ≡ unwrap_or (slice_get fs i) no_field ∷ drop (i + 1) fs
 drop-next [] i h = absurd (omega (arith, h))
 drop-next (f ∷ fs) zero h = refl
-drop-next (f ∷ fs) (suc i) h = drop-next fs i (omega (arith, h))
+drop-next (f ∷ fs) (suc i) h =
+    let e : suc i + 1 ≡ suc (i + 1) = omega arith in
+    drop-next fs i (omega (arith, h)) ∙ ap (λ n. unwrap_or (slice_get fs i) no_field ∷ drop n (f ∷ fs)) (sym e)
 
 drop-end : (fs : List TypedField) (i : ℕ) → length fs ≤ i → drop i fs ≡ []
 drop-end [] zero h = refl
@@ -181,10 +186,13 @@ module _ (left : ℕ) (at : Layout) (r : StructHandle) where
       ∙ (ap (λ (m : Member). field_items left at r (struct_field (schema_of r) i) i (pending_member left at r o) ++ shown (set_of (schema_of r)) (within_struct left r) at (drop (i + 1) (struct_fields (schema_of r))) (suc i) (plain_parts (part_seen r) (drop (i + 1) (struct_fields (schema_of r)))) m) (sym e)
       ∙ ap (λ j. field_items left at r (struct_field (schema_of r) i) i (pending_member left at r o) ++ shown (set_of (schema_of r)) (within_struct left r) at (drop (i + 1) (struct_fields (schema_of r))) j (plain_parts (part_seen r) (drop (i + 1) (struct_fields (schema_of r)))) (pending_member left at r p)) (suc-is i)))
 
+  -- the items of the fields after one
+  abbrev pub tail_items : Option Field → ℕ → List Out
+  tail_items o i = shown (set_of (schema_of r)) (within_struct left r) at (drop (i + 1) (struct_fields (schema_of r))) (suc i) (plain_parts (part_seen r) (drop (i + 1) (struct_fields (schema_of r)))) (still_pending (is_member (struct_field (schema_of r) i).field) (pending_member left at r o) i)
+
   -- the items that a field begins with, whatever the member after it
   pub items_begin : (o : Option Field) (i : ℕ) → i < length (struct_fields (schema_of r)) →
-      rest_items left at r o i ≡ field_items left at r (struct_field (schema_of r) i) i (pending_member left at r o)
-      ++ shown (set_of (schema_of r)) (within_struct left r) at (drop (i + 1) (struct_fields (schema_of r))) (suc i) (plain_parts (part_seen r) (drop (i + 1) (struct_fields (schema_of r)))) (still_pending (is_member (struct_field (schema_of r) i).field) (pending_member left at r o) i)
+      rest_items left at r o i ≡ field_items left at r (struct_field (schema_of r) i) i (pending_member left at r o) ++ tail_items o i
   items_begin o i h =
       ap (λ (fs : List TypedField). shown (set_of (schema_of r)) (within_struct left r) at fs i (plain_parts (part_seen r) fs) (pending_member left at r o)) (drop-next (struct_fields (schema_of r)) i h)
       ∙ shown-next (struct_field (schema_of r) i) (drop (i + 1) (struct_fields (schema_of r))) i (pending_member left at r o)
@@ -217,3 +225,33 @@ later_none i j xs h = ap (λ q. cond q None (Some (i, xs))) (lt-false i j h)
   where
     lt-false : (i j : ℕ) → j ≤ i → nat_lt i j ≡ false
     lt-false i j h = grind (arith, h)
+
+-- ---- what a printer asks of a field ----
+
+pub plain_from : (r : StructHandle) (f : Field) (d : ℕ) → d ≡ (field_in r f).field.discriminant_value → d ≡ 65535 → is_member (field_in r f).field ≡ false
+plain_from r f d e h = ap (λ n. not (n == 65535)) (sym e) ∙ ap (λ n. not (n == 65535)) h
+
+-- the name of a field's record
+pub name_in : (r : StructHandle) (f : Field) → IsFieldOf (schema_of r) (index_of f) f → (p : FieldRecord) → p ≡ (typed_of f).field → p.name ≡ (field_in r f).field.name
+name_in r f field p e = ap (λ (x : FieldRecord). x.name) (e ∙ ap (λ (s : StructSchema). (struct_field s (index_of f)).field) field.schema)
+
+pub ok_same : (answer : Result Bool Error) (x y : Bool) → answer ≡ Ok x → answer ≡ Ok y → x ≡ y
+ok_same answer x y e h = cc
+
+-- the discriminant value of a field's record
+pub discriminant_in : (r : StructHandle) (f : Field) → IsFieldOf (schema_of r) (index_of f) f → (p : FieldRecord) → p ≡ (typed_of f).field → p.discriminant_value ≡ (field_in r f).field.discriminant_value
+discriminant_in r f field p e = ap (λ (x : FieldRecord). x.discriminant_value) (e ∙ ap (λ (s : StructSchema). (struct_field s (index_of f)).field) field.schema)
+
+or-true : (b q : Bool) → q ≡ true → true ≡ (b || q)
+or-true true q e = refl
+or-true false q e = sym e
+
+or-false : (b q : Bool) → q ≡ false → b ≡ (b || q)
+or-false true q e = refl
+or-false false q e = sym e
+
+pub shown_of_another : (r : StructHandle) (f : Field) (d : ℕ) → d ≡ (field_in r f).field.discriminant_value → (d ≡ 0 → ⊥) → true ≡ is_member_shown r (field_in r f)
+shown_of_another r f d e h = or-true (is_there (part_seen r (field_in r f))) _ (ap not (ap (λ n. n == 0) (sym e) ∙ not_zero d h))
+
+pub shown_of_first : (r : StructHandle) (f : Field) (d : ℕ) (b : Bool) → d ≡ (field_in r f).field.discriminant_value → d ≡ 0 → b ≡ is_there (part_seen r (field_in r f)) → b ≡ is_member_shown r (field_in r f)
+shown_of_first r f d b e h is = is ∙ or-false (is_there (part_seen r (field_in r f))) _ (ap not (ap (λ n. n == 0) (sym e) ∙ ap (λ n. n == 0) h))

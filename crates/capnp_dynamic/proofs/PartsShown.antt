@@ -1,43 +1,50 @@
 -- What is read under a field or at an index is printed as the definition has it.
-use Rattle.std.specs.Prelude.{ℕ, zero, suc, ◌+◌, ◌-◌, ◌*◌, ◌<◌, ◌≤◌, ◌≡◌, refl, List, [], Bool, true, false, length, min, Option, Some, None, Result, Ok, Err, ⊤}
+use Rattle.std.specs.Prelude.{ℕ, zero, suc, ◌+◌, ◌-◌, ◌*◌, ◌<◌, ◌≤◌, ◌≡◌, refl, List, [], Bool, true, false, length, min, Option, Some, None, Result, Ok, Err, ⊤, IfOk, IfErr}
 use Rattle.std.proofs.Common.{ap, sym, subst, ◌∙◌, arith}
 use Rattle.std.proofs.lemmas.Option.{same_Some}
 use Rattle.std.specs.Option.{unwrap_or}
 use Rattle.capnp_device.specs.declared.error.ErrorKind.{ErrorKind}
+use Rattle.capnp_device.specs.declared.error.Error.{Error}
+use Rattle.capnp_wire.specs.Standing.{struct_levels, struct_of}
 use Rattle.capnp_wire.specs.Tree as tree
 use Rattle.capnp_wire.specs.Tree.{StructTree, Tree, nth_tree}
 use Rattle.capnp_wire.specs.Reading.{as_data, as_list, as_struct, as_text}
 use Rattle.capnp_schema.specs.Accepted.{GroupFits, IsAccepted}
-use Rattle.capnp_schema.specs.FieldLists.{index_of}
-use Rattle.capnp_schema.specs.Laws.{group_height}
+use Rattle.capnp_schema.specs.FieldLists.{IsFieldOf, index_of, typed_of}
+use Rattle.capnp_schema.specs.GroupsDown.{IsGroupIn}
+use Rattle.capnp_schema.specs.Laws.{HeightsFall, group_height}
 use Rattle.capnp_schema.specs.Parents.{kind_target}
 use Rattle.capnp_schema.specs.Schema.{FieldKind, Group, Schemas, Slot, TypedField, kind_default}
 use Rattle.capnp_schema.specs.Schema.{Value as SchemaValue}
-use Rattle.capnp_schema.specs.StructHandles.{number_of, set_of, struct_field}
+use Rattle.capnp_schema.specs.StructHandles.{IsStruct, number_of, set_of, struct_field}
+use Rattle.capnp_schema.specs.declared.schema.fields.Field.{Field}
+use Rattle.capnp_schema.specs.declared.schema.structs.StructSchema.{StructSchema}
 use Rattle.capnp_schema.specs.Types.{SchemaType, VoidType, BoolType, IntType, UIntType, EnumType, TextType, DataType, StructType, ListType, AnyPointerType, element_size, is_pointer, struct_brand, struct_number}
 use Rattle.capnp_records.specs.Facts.Pointers.{values_of-nth}
 use Rattle.capnp_records.specs.Default.{read_of}
 use Rattle.capnp_schema.specs.SlotValue.{slot_number}
-use Rattle.capnp_records.specs.Reading.{Below, Reading, kind_value, nth_reading, number_value, of_read, slot_value, tree_value, value_of, values_of}
+use Rattle.capnp_records.specs.Reading.{Below, Reading, bodies_of, bytes_below, kind_value, nth_reading, number_value, of_read, pointers_below, record_within, slot_value, struct_below, structs_below, tree_value, value_of, values_of}
 use Rattle.capnp_records.specs.Record as value
-use Rattle.capnp_records.specs.Record.{Levels, Record, Value, asked}
+use Rattle.capnp_records.specs.Record.{Left, Levels, Record, Value, asked}
 use Rattle.capnp_records.specs.Text.{Inner, Layout, Out, part_text, record_text, text_within, value_text}
-use Rattle.capnp_dynamic.specs.Handles.{element_of, list_set, schema_of}
-use Rattle.capnp_dynamic.specs.PartsRead.{fault_at}
-use Rattle.capnp_dynamic.specs.Reads.{handed_out}
-use Rattle.capnp_dynamic.specs.Seen.{record_seen, value_seen}
-use Rattle.capnp_dynamic.specs.Shown.{groups_below, no_schemas, set_seen, steps_within, type_seen, value_shown}
+use Rattle.capnp_dynamic.specs.Handles.{element_of, list_set, reader_of, schema_of}
+use Rattle.capnp_dynamic.specs.PartsRead.{IsElement, IsElementRefused, IsPart, IsPartRefused, fault_at, field_in}
+use Rattle.capnp_dynamic.specs.Reads.{element_seen, field_seen, handed_out}
+use Rattle.capnp_dynamic.specs.Seen.{answered, record_seen, value_seen}
+use Rattle.capnp_dynamic.specs.Shown.{groups_below, no_schemas, set_seen, steps_of, steps_within, type_seen, value_shown}
 use Rattle.capnp_dynamic.specs.Typed.{IsOf, IsUnder, struct_type}
+use Rattle.capnp_dynamic.specs.declared.dynamic_list.Reader.{Reader as ListHandle}
 use Rattle.capnp_dynamic.specs.declared.dynamic_struct.Reader.{Reader as StructHandle}
 use Rattle.capnp_dynamic.specs.declared.dynamic_value.Reader.{Reader as DynamicValue}
 use Rattle.capnp_dynamic.specs.declared.dynamic_value.Reader.TheVariants as dynamic
+use Rattle.capnp_dynamic.specs.declared.printer.parts.Part.TheVariants as part
 
 -- ---- values under types ----
 
 pub under_of : (set : Schemas) (t : SchemaType) (v : DynamicValue) → IsOf set t v → IsUnder set t v
-under_of set t (dynamic.Enum e) h = h.1
-under_of set t (dynamic.Struct s) h = (h.1.0, ap struct_brand (sym h.1.1))
-under_of set t (dynamic.List l) h = (h.0, h.1.0)
+under_of set t (dynamic.Enum e) h = (h.1, h.2)
+under_of set t (dynamic.Struct s) h = (h.1, ap struct_brand (sym h.2))
+under_of set t (dynamic.List l) h = (h.0, h.1)
 under_of set t dynamic.Void h = h
 under_of set t (dynamic.Bool b) h = h
 under_of set t (dynamic.Int8 x) h = h
@@ -97,6 +104,7 @@ fault_text set (suc n) at t kind = refl
 -- ---- steps ----
 
 no_steps : (set : Schemas) (left : ℕ) → steps_within no_schemas left ≤ steps_within set left
+unfolding steps_within
 no_steps set zero = omega arith
 no_steps set (suc n) = omega (arith, no_steps set n)
 
@@ -111,15 +119,18 @@ steps_under set t (dynamic.List l) h left = same_steps set _ left h.0
 steps_under set t v h left = no_steps set left
 
 pub level_falls : (set : Schemas) (left : ℕ) → 0 < left → steps_within set (left - 1) + (16 * length set.brands + 32) ≤ steps_within set left
+unfolding steps_within
 level_falls set zero h = absurd (omega (arith, h))
 level_falls set (suc n) h =
     let e : suc n - 1 ≡ n = omega arith in
     subst (λ m. steps_within set m + (16 * length set.brands + 32) ≤ steps_within set (suc n)) (sym e) (omega arith)
 
 pub few_groups : (set : Schemas) (b : ℕ) → groups_below set b ≤ length set.brands
+unfolding groups_below
 few_groups set b = omega arith
 
 pub fewer_groups : (set : Schemas) (b g : ℕ) → group_height set g < group_height set b → group_height set b ≤ length set.brands → groups_below set g < groups_below set b
+unfolding groups_below
 fewer_groups set b g h k = omega (arith, h, k)
 
 -- ---- a slot has no group ----
@@ -158,13 +169,13 @@ no_group_tree set x below l AnyPointerType = tt {0}
 
 no_group_value : (set : Schemas) (x : Tree) (l : Levels) (t : SchemaType) → IsNoGroup (value_of set x l t)
 no_group_value set tree.Null l t = tt {0}
-no_group_value set (tree.Struct bytes ps) l t = no_group_tree set _ _ l t
-no_group_value set (tree.Voids n) l t = no_group_tree set _ _ l t
-no_group_value set (tree.Bits bs) l t = no_group_tree set _ _ l t
-no_group_value set (tree.Numbers w bytes) l t = no_group_tree set _ _ l t
-no_group_value set (tree.Pointers ps) l t = no_group_tree set _ _ l t
-no_group_value set (tree.Composite d p es) l t = no_group_tree set _ _ l t
-no_group_value set (tree.FaultLeaf k) l t = no_group_tree set _ _ l t
+no_group_value set (tree.Struct bytes ps) l t = no_group_tree set (tree.Struct bytes ps) (struct_below (values_of set ps)) l t
+no_group_value set (tree.Voids n) l t = no_group_tree set (tree.Voids n) (bytes_below (tree.Voids n)) l t
+no_group_value set (tree.Bits bs) l t = no_group_tree set (tree.Bits bs) (bytes_below (tree.Bits bs)) l t
+no_group_value set (tree.Numbers w bytes) l t = no_group_tree set (tree.Numbers w bytes) (bytes_below (tree.Numbers w bytes)) l t
+no_group_value set (tree.Pointers ps) l t = no_group_tree set (tree.Pointers ps) (pointers_below (values_of set ps)) l t
+no_group_value set (tree.Composite d p es) l t = no_group_tree set (tree.Composite d p es) (structs_below set (bodies_of set es)) l t
+no_group_value set (tree.FaultLeaf k) l t = no_group_tree set (tree.FaultLeaf k) (struct_below []) l t
 
 no_group_slot : (set : Schemas) (l : Levels) (s : StructTree) (o : ℕ) (d : SchemaValue) (t : SchemaType) → IsNoGroup (slot_value l s.bytes (values_of set s.pointers) o d t)
 no_group_slot set l s o d t = go (is_pointer t)
@@ -231,3 +242,59 @@ module _ (set : Schemas) (group : ℕ → Record) (l : Levels) (s : StructTree) 
     where
       struct-same : {x y : Record} → value.Struct x ≡ value.Struct y → x ≡ y
       struct-same e = cc
+
+-- ---- what was read ----
+
+module _ (l : ListHandle) (i : ℕ) where
+  pub element_read : (r : Result DynamicValue Error) → answered r ≡ element_seen l i → IfOk r (IsUnder (list_set l) (element_of l)) → IfOk r (IsElement l i)
+  element_read (Ok v) is under = (
+    λ left. (let few = steps_under (list_set l) (element_of l) v under left in omega (arith, few)),
+    λ left at. ap (text_within (list_set l) left at (element_of l)) (sym is) ∙ text_under (list_set l) (element_of l) left at v under,
+  )
+  element_read (Err e) is under = tt {0}
+
+  pub element_refused : (r : Result DynamicValue Error) → answered r ≡ element_seen l i → IfErr r (λ e. IsElementRefused l i e.kind)
+  element_refused (Ok v) is = tt {0}
+  element_refused (Err e) is = λ left at. ap (text_within (list_set l) left at (element_of l)) (sym is) ∙ fault_text (list_set l) left at (element_of l) e.kind
+
+target_number : (k : FieldKind) (t : SchemaType) (b n : ℕ) → kind_target k t ≡ Some b → struct_brand t ≡ Some n → n ≡ b
+target_number (Slot o d) t b n e h = absurd (some-none (sym e))
+target_number (Group m) t b n e h = same_Some n b (sym h ∙ e)
+
+module _ (r : StructHandle) (f : Field) (field : IsFieldOf (schema_of r) (index_of f) f) where
+  -- a fact of the field's own schema is one of the struct's
+  pub target_in : (o : Option ℕ) → o ≡ kind_target (typed_of f).field.kind (typed_of f).type → o ≡ kind_target (field_in r f).field.kind (field_in r f).type
+  target_in o e = e ∙ ap (λ (s : StructSchema). kind_target (struct_field s (index_of f)).field.kind (struct_field s (index_of f)).type) field.schema
+
+  pub part_refused : (kind : ErrorKind) → value.Fault kind ≡ field_seen r (index_of f) → IsPartRefused r f kind
+  part_refused kind is = λ left at.
+      refused_shown (set_of (schema_of r)) (record_within (length (set_of (schema_of r)).brands) (set_of (schema_of r)) (Left (struct_levels (reader_of r))) (struct_of (reader_of r)).bytes (values_of (set_of (schema_of r)) (struct_of (reader_of r)).pointers)) (Left (struct_levels (reader_of r))) (struct_of (reader_of r)) left at
+      (field_in r f).field.kind (field_in r f).type kind is
+
+  pub part_value : IsStruct (schema_of r) → (v : DynamicValue) → value_seen v ≡ field_seen r (index_of f) → IsOf (set_of (schema_of r)) (field_in r f).type v →
+      None ≡ kind_target (field_in r f).field.kind (field_in r f).type → IsPart r f (part.Value v)
+  part_value stands v is typed none =
+      let under = under_of (set_of (schema_of r)) (field_in r f).type v typed in
+      (
+        λ left. (let few = steps_under (set_of (schema_of r)) (field_in r f).type v under left in omega (arith, few)),
+        λ left at.
+        slot_shown (set_of (schema_of r)) (record_within (length (set_of (schema_of r)).brands) (set_of (schema_of r)) (Left (struct_levels (reader_of r))) (struct_of (reader_of r)).bytes (values_of (set_of (schema_of r)) (struct_of (reader_of r)).pointers)) (Left (struct_levels (reader_of r))) (struct_of (reader_of r)) left at
+        (field_in r f).field.kind (field_in r f).type v (stands.accepted.rule7 (number_of (schema_of r)) (index_of f) stands.number field.inside) (sym none) is under,
+      )
+
+  pub part_group : IsStruct (schema_of r) → HeightsFall → (g : StructHandle) (s : StructSchema) → value.Struct (record_seen g) ≡ field_seen r (index_of f) →
+      IsOf (set_of (schema_of r)) (field_in r f).type (dynamic.Struct g) →
+      Some (number_of s) ≡ kind_target (field_in r f).field.kind (field_in r f).type → IsGroupIn (schema_of r) s → IsPart r f (part.Group g)
+  part_group stands heights g s is typed some down =
+      let number : number_of (schema_of g) ≡ number_of s = target_number (field_in r f).field.kind (field_in r f).type (number_of s) (number_of (schema_of g)) (sym some) (ap struct_brand (sym typed.2)) in
+      let lower : groups_below (set_of (schema_of r)) (number_of s) < groups_below (set_of (schema_of r)) (number_of (schema_of r)) =
+          fewer_groups (set_of (schema_of r)) (number_of (schema_of r)) (number_of s) down.leads.down.lower ((heights (set_of (schema_of r)) stands.accepted (number_of (schema_of r)) stands.number).0) in
+      let fewer : groups_below (set_of (schema_of r)) (number_of (schema_of g)) < groups_below (set_of (schema_of r)) (number_of (schema_of r)) =
+          subst (λ b. groups_below (set_of (schema_of r)) b < groups_below (set_of (schema_of r)) (number_of (schema_of r))) (sym number) lower in
+      (
+        λ left. subst (λ (z : Schemas). steps_within z left + (16 * groups_below z (number_of (schema_of g)) + 9) < steps_of r left 2) (sym typed.1) (omega (arith, fewer)),
+        λ left at.
+        group_shown (set_of (schema_of r)) (record_within (length (set_of (schema_of r)).brands) (set_of (schema_of r)) (Left (struct_levels (reader_of r))) (struct_of (reader_of r)).bytes (values_of (set_of (schema_of r)) (struct_of (reader_of r)).pointers)) (Left (struct_levels (reader_of r))) (struct_of (reader_of r)) left at
+        (field_in r f).field.kind (field_in r f).type (number_of s) g (sym some) number is
+        ∙ ap (λ (z : Schemas). record_text z (text_within z left) at (number_of (schema_of g)) (record_seen g)) (sym typed.1),
+      )

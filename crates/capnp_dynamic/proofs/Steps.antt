@@ -1,5 +1,5 @@
 -- The steps of a print.
-use Rattle.std.specs.Prelude.{ℕ, zero, suc, ◌+◌, ◌-◌, ◌*◌, ◌<◌, ◌≤◌, ◌≡◌, ◌==◌, refl, List, [], ◌∷◌, ◌++◌, Bool, true, false, cond, length, drop, min, codes, Ok, Err, Option, Some, None, IfErr}
+use Rattle.std.specs.Prelude.{ℕ, zero, suc, ◌+◌, ◌-◌, ◌*◌, ◌<◌, ◌≤◌, ◌≡◌, ◌==◌, refl, List, [], ◌∷◌, ◌++◌, Bool, true, false, cond, length, drop, min, codes, Ok, Err, Option, Some, None, Result, IfErr, OnOk}
 use Rattle.std.proofs.Common.{rules, ap, sym, subst, ◌∙◌, append_assoc, append-nil, arith}
 use Rattle.capnp_device.specs.declared.error.ErrorKind.{ErrorKind}
 use Rattle.capnp_device.specs.declared.error.ErrorKind.TheVariants.{OutOfMemory, TooDeep}
@@ -12,7 +12,7 @@ use Rattle.capnp_dynamic.specs.Handles.{list_set, schema_of}
 use Rattle.capnp_dynamic.specs.Leaf.{IsLeaf, leaf_text}
 use Rattle.capnp_dynamic.specs.Pieces.{IsFull, IsStopped}
 use Rattle.capnp_dynamic.specs.Reads.{element_seen}
-use Rattle.capnp_dynamic.specs.Shown.{ArePut, AreStopped, IsPut, count_of, element_items, element_shown, field_item, field_shown, list_shown, record_items, record_shown, set_seen, type_seen, value_shown}
+use Rattle.capnp_dynamic.specs.Shown.{ArePut, AreStopped, IsPut, count_of, element_items, element_shown, field_item, field_shown, list_shown, record_items, record_shown, set_seen, steps_of, steps_within, type_seen, value_shown}
 use Rattle.capnp_dynamic.specs.Seen.{value_seen}
 use Rattle.capnp_dynamic.specs.declared.dynamic_list.Reader.{Reader as ListHandle}
 use Rattle.capnp_dynamic.specs.declared.dynamic_struct.Reader.{Reader as StructHandle}
@@ -20,6 +20,7 @@ use Rattle.capnp_dynamic.specs.declared.dynamic_value.Reader.{Reader as DynamicV
 use Rattle.capnp_dynamic.specs.declared.dynamic_value.Reader.TheVariants as dynamic
 use Rattle.capnp_dynamic.specs.declared.printer.out.Stop.{Stop}
 use Rattle.capnp_dynamic.specs.declared.printer.out.Stop.TheVariants.{Full, Refused}
+use Rattle.capnp_dynamic.proofs.PartsShown.{few_groups, level_falls}
 use Rattle.capnp_dynamic.proofs.Streams.{after_nothing, assoc, then, then_stopped}
 
 -- ---- why a print stopped ----
@@ -53,22 +54,22 @@ by_levels set zero at t v o h = h None
 by_levels set (suc n) at t v o h = h (Some (text_within set n))
 
 pub leaf_deep : (left : ℕ) (at : Layout) (v : DynamicValue) → IsLeaf v → value_shown left at v ≡ leaf_text v
-leaf_deep left at dynamic.Void h = by_levels _ left at _ _ _ (λ inner. refl)
-leaf_deep left at (dynamic.Bool b) h = by_levels _ left at _ _ _ (λ inner. refl)
-leaf_deep left at (dynamic.Int8 x) h = by_levels _ left at _ _ _ (λ inner. refl)
-leaf_deep left at (dynamic.Int16 x) h = by_levels _ left at _ _ _ (λ inner. refl)
-leaf_deep left at (dynamic.Int32 x) h = by_levels _ left at _ _ _ (λ inner. refl)
-leaf_deep left at (dynamic.Int64 x) h = by_levels _ left at _ _ _ (λ inner. refl)
-leaf_deep left at (dynamic.UInt8 x) h = by_levels _ left at _ _ _ (λ inner. refl)
-leaf_deep left at (dynamic.UInt16 x) h = by_levels _ left at _ _ _ (λ inner. refl)
-leaf_deep left at (dynamic.UInt32 x) h = by_levels _ left at _ _ _ (λ inner. refl)
-leaf_deep left at (dynamic.UInt64 x) h = by_levels _ left at _ _ _ (λ inner. refl)
-leaf_deep left at (dynamic.Enum e) h = by_levels _ left at _ _ _ (λ inner. refl)
-leaf_deep left at (dynamic.Text t) h = by_levels _ left at _ _ _ (λ inner. refl)
-leaf_deep left at (dynamic.«Data» bytes) h = by_levels _ left at _ _ _ (λ inner. refl)
+leaf_deep left at dynamic.Void h = by_levels (set_seen dynamic.Void) left at (type_seen dynamic.Void) (value_seen dynamic.Void) (leaf_text dynamic.Void) (λ inner. refl)
+leaf_deep left at (dynamic.Bool b) h = by_levels (set_seen (dynamic.Bool b)) left at (type_seen (dynamic.Bool b)) (value_seen (dynamic.Bool b)) (leaf_text (dynamic.Bool b)) (λ inner. refl)
+leaf_deep left at (dynamic.Int8 x) h = by_levels (set_seen (dynamic.Int8 x)) left at (type_seen (dynamic.Int8 x)) (value_seen (dynamic.Int8 x)) (leaf_text (dynamic.Int8 x)) (λ inner. refl)
+leaf_deep left at (dynamic.Int16 x) h = by_levels (set_seen (dynamic.Int16 x)) left at (type_seen (dynamic.Int16 x)) (value_seen (dynamic.Int16 x)) (leaf_text (dynamic.Int16 x)) (λ inner. refl)
+leaf_deep left at (dynamic.Int32 x) h = by_levels (set_seen (dynamic.Int32 x)) left at (type_seen (dynamic.Int32 x)) (value_seen (dynamic.Int32 x)) (leaf_text (dynamic.Int32 x)) (λ inner. refl)
+leaf_deep left at (dynamic.Int64 x) h = by_levels (set_seen (dynamic.Int64 x)) left at (type_seen (dynamic.Int64 x)) (value_seen (dynamic.Int64 x)) (leaf_text (dynamic.Int64 x)) (λ inner. refl)
+leaf_deep left at (dynamic.UInt8 x) h = by_levels (set_seen (dynamic.UInt8 x)) left at (type_seen (dynamic.UInt8 x)) (value_seen (dynamic.UInt8 x)) (leaf_text (dynamic.UInt8 x)) (λ inner. refl)
+leaf_deep left at (dynamic.UInt16 x) h = by_levels (set_seen (dynamic.UInt16 x)) left at (type_seen (dynamic.UInt16 x)) (value_seen (dynamic.UInt16 x)) (leaf_text (dynamic.UInt16 x)) (λ inner. refl)
+leaf_deep left at (dynamic.UInt32 x) h = by_levels (set_seen (dynamic.UInt32 x)) left at (type_seen (dynamic.UInt32 x)) (value_seen (dynamic.UInt32 x)) (leaf_text (dynamic.UInt32 x)) (λ inner. refl)
+leaf_deep left at (dynamic.UInt64 x) h = by_levels (set_seen (dynamic.UInt64 x)) left at (type_seen (dynamic.UInt64 x)) (value_seen (dynamic.UInt64 x)) (leaf_text (dynamic.UInt64 x)) (λ inner. refl)
+leaf_deep left at (dynamic.Enum e) h = by_levels (set_seen (dynamic.Enum e)) left at (type_seen (dynamic.Enum e)) (value_seen (dynamic.Enum e)) (leaf_text (dynamic.Enum e)) (λ inner. refl)
+leaf_deep left at (dynamic.Text t) h = by_levels (set_seen (dynamic.Text t)) left at (type_seen (dynamic.Text t)) (value_seen (dynamic.Text t)) (leaf_text (dynamic.Text t)) (λ inner. refl)
+leaf_deep left at (dynamic.«Data» bytes) h = by_levels (set_seen (dynamic.«Data» bytes)) left at (type_seen (dynamic.«Data» bytes)) (value_seen (dynamic.«Data» bytes)) (leaf_text (dynamic.«Data» bytes)) (λ inner. refl)
 leaf_deep left at (dynamic.Struct s) h = absurd h
 leaf_deep left at (dynamic.List l) h = absurd h
-leaf_deep left at (dynamic.AnyPointer p) h = by_levels _ left at _ _ _ (λ inner. refl)
+leaf_deep left at (dynamic.AnyPointer p) h = by_levels (set_seen (dynamic.AnyPointer p)) left at (type_seen (dynamic.AnyPointer p)) (value_seen (dynamic.AnyPointer p)) (leaf_text (dynamic.AnyPointer p)) (λ inner. refl)
 
 -- a leaf that was put
 pub leaf_put : (left : ℕ) (at : Layout) (v : DynamicValue) (old new : Option (List ℕ)) → IsLeaf v → IsPut old (leaf_text v) new → IsPut old (value_shown left at v) new
@@ -106,7 +107,7 @@ none-left n i h = omega (arith, h)
 
 module _ (left : ℕ) (at : Layout) (l : ListHandle) where
   -- the items of the elements from one on
-  from : ℕ → ℕ → List Out
+  abbrev from : ℕ → ℕ → List Out
   from i n = element_items left at l i n
 
   pub element_next : (n i : ℕ) → i < n → (p0 p1 p2 : Option (List ℕ)) →
@@ -194,3 +195,49 @@ item_stopped stop at first f o p0 p1 p2 p3 a b c d = λ rest.
       ∙ then_stopped p1 kind (item f o) (more_text at false rest)
       (then p1 p3 (said (f.field.name ++ codes " = ")) o (then p1 p2 (said f.field.name) (said (codes " = ")) b ∙ c) ∙ e))
     stop d
+
+-- ---- through a result ----
+
+pub ok_map : {T E P Q : Type 0} (r : Result T E) → (P → Q) → OnOk r P → OnOk r Q
+ok_map (Ok x) f h = f h
+ok_map (Err e) f h = tt {0}
+
+pub err_map : {T E : Type 0} {F G : E → Type 0} (r : Result T E) → ((e : E) → F e → G e) → IfErr r F → IfErr r G
+err_map (Ok x) f h = tt {0}
+err_map (Err e) f h = f e h
+
+-- ---- structs ----
+
+pub record_put : (left : ℕ) (at further : Layout) (r : StructHandle) → further ≡ deeper at → 0 < length (struct_fields (schema_of r)) → (p0 p1 p2 p3 p4 : Option (List ℕ)) →
+    IsPut p0 (said (codes "(")) p1 → IsPut p1 (more_text further true (record_items left further r)) p2 → IsPut p2 (said (line at)) p3 → IsPut p3 (said (codes ")")) p4 →
+    IsPut p0 (record_shown left at r) p4
+record_put left at further r e h p0 p1 p2 p3 p4 a b c d =
+    ap (after (Ok p0)) (struct_some left at r h)
+    ∙ brackets_put (codes "(") (codes ")") at (deeper at) (record_items left (deeper at) r) refl p0 p1 p2 p3 p4 a (subst (λ (z : Layout). IsPut p1 (more_text z true (record_items left z r)) p2) e b) c d
+
+pub record_stopped : (left : ℕ) (at further : Layout) (r : StructHandle) → further ≡ deeper at → 0 < length (struct_fields (schema_of r)) → (p0 p1 : Option (List ℕ)) (kind : ErrorKind) →
+    IsPut p0 (said (codes "(")) p1 → after (Ok p1) (more_text further true (record_items left further r)) ≡ Err kind → after (Ok p0) (record_shown left at r) ≡ Err kind
+record_stopped left at further r e h p0 p1 kind a b =
+    ap (after (Ok p0)) (struct_some left at r h)
+    ∙ brackets_stopped (codes "(") (codes ")") at (deeper at) (record_items left (deeper at) r) refl p0 p1 kind a (subst (λ (z : Layout). after (Ok p1) (more_text z true (record_items left z r)) ≡ Err kind) e b)
+
+-- ---- levels fall ----
+
+pub leaf_from : (v : DynamicValue) → ((s : StructHandle) → v ≡ dynamic.Struct s → ⊥) → ((l : ListHandle) → v ≡ dynamic.List l → ⊥) → IsLeaf v
+leaf_from (dynamic.Struct s) h k = absurd (h s refl)
+leaf_from (dynamic.List l) h k = absurd (k l refl)
+leaf_from v h k = tt {0}
+
+some-left : (left : ℕ) → (left ≡ 0 → ⊥) → 0 < left
+some-left left h = omega (arith, h)
+
+pub record_falls : (v : DynamicValue) (r : StructHandle) (left : ℕ) → v ≡ dynamic.Struct r → (left ≡ 0 → ⊥) → steps_of r (left - 1) 9 < steps_within (set_seen v) left + 1
+record_falls v r left e h =
+    let down = level_falls (set_of (schema_of r)) left (some-left left h) in
+    let few = few_groups (set_of (schema_of r)) (number_of (schema_of r)) in
+    subst (λ (z : DynamicValue). steps_of r (left - 1) 9 < steps_within (set_seen z) left + 1) (sym e) (omega (arith, down, few))
+
+pub list_falls : (v : DynamicValue) (l : ListHandle) (left : ℕ) → v ≡ dynamic.List l → (left ≡ 0 → ⊥) → steps_within (list_set l) (left - 1) + 3 < steps_within (set_seen v) left + 1
+list_falls v l left e h =
+    let down = level_falls (list_set l) left (some-left left h) in
+    subst (λ (z : DynamicValue). steps_within (list_set l) (left - 1) + 3 < steps_within (set_seen z) left + 1) (sym e) (omega (arith, down))

@@ -5,7 +5,7 @@ use Rattle.capnp_wire.specs.Reading.{list_length}
 use Rattle.capnp_schema.specs.Enums.{enum_number, enum_set}
 use Rattle.capnp_schema.specs.FieldLists.{IsFieldOf, index_of}
 use Rattle.capnp_schema.specs.Laws.{group_height}
-use Rattle.capnp_schema.specs.Schema.{Schemas, TypedField, default_of, fields_of, is_member, node_of}
+use Rattle.capnp_schema.specs.Schema.{Schemas, TypedField, VoidValue, default_of, fields_of, is_member, node_of}
 use Rattle.capnp_schema.specs.StructHandles.{number_of, set_of, struct_field, struct_fields}
 use Rattle.capnp_schema.specs.Types.{SchemaType, VoidType, BoolType, IntType, UIntType, EnumType, TextType, DataType, ListType, AnyPointerType}
 use Rattle.capnp_schema.specs.declared.schema.fields.Field.{Field}
@@ -65,7 +65,10 @@ abbrev pub value_printed : DynamicValue → Value
 value_printed (dynamic.Struct s) = struct_printed (node_of (set_of (schema_of s)) (number_of (schema_of s))).is_group s
 value_printed v = value_seen v
 
--- the text of a value, with 64 levels
+-- the text of a value that stands alone, with 64 levels
+abbrev pub root_shown : Layout → DynamicValue → Out
+root_shown at v = part_text (set_seen v) (text_within (set_seen v) 64) at VoidValue (type_seen v) (value_printed v)
+
 abbrev pub printed_text : (indented : Bool) → DynamicValue → Out
 printed_text indented v = text_of (set_seen v) indented (type_seen v) (value_printed v)
 

@@ -1,18 +1,21 @@
 //! What a printer reads of structs and lists.
 ghost use Rattle.std.specs.Prelude.{◌≡◌, IfErr, IfOk, Some, false};
-ghost use Rattle.capnp_schema.specs.FieldLists.{IsFieldOf, index_of};
+ghost use Rattle.capnp_schema.specs.FieldLists.{IsFieldOf, IsFound, index_of};
 ghost use Rattle.capnp_schema.specs.Schema.{is_member};
 ghost use Rattle.capnp_schema.specs.Types.{seen_type};
+ghost use Rattle.capnp_records.specs.Part.{which_of};
 ghost use Rattle.capnp_records.specs.Record.{is_there};
 ghost use Rattle.capnp_records.specs.Text.{entering_fault, is_entered};
 ghost use Rattle.capnp_dynamic.specs.Handles.{schema_of};
 ghost use Rattle.capnp_dynamic.specs.PartsRead.{IsElement, IsElementRefused, IsPart, IsPartRefused, fault_at, field_in};
+ghost use Rattle.capnp_dynamic.specs.Seen.{record_seen};
 ghost use Rattle.capnp_dynamic.specs.Shown.{IsPending, is_member_shown, part_seen};
 
 use crate::dynamic_list;
 use crate::dynamic_struct;
 use crate::dynamic_value::Reader as Value;
 use capnp_base::introspect::{Type, TypeVariant};
+use capnp_schema::laws::heights_fall;
 use capnp_schema::schema::Field;
 use capnp_wire::error::{Error, ErrorKind, Result};
 
@@ -39,19 +42,25 @@ pub(crate) fn read_part<'a>(
     ensures read { IfOk result (IsPart reader.entry field.entry) }
     ensures refused { IfErr result (λ e. IsPartRefused reader.entry field.entry e.kind) }
 {
-    let value = reader.get(field)?;
-    if field.get_group().is_none() {
+    // What every set is known to meet is known of it here.
+    let _schema = field.get_containing_struct();
+    heights_fall();
+    let value = match reader.get(field) {
+        Ok(value) => value,
+        Err(error) => return Err(error),
+    };
+    let Some(_) = field.get_group() else {
         return Ok(Part::Value(value));
-    }
+    };
     let Value::Struct(group) = value else {
         unreachable!()
     };
     Ok(Part::Group(group))
 }
 
-/// The active member of a struct's union, whose place among the items is still to come.
+/// The active member of a struct's union.
 pub(crate) fn active_member<'a>(reader: dynamic_struct::Reader<'a>) -> Option<Field<'a>>
-    ensures { IsPending reader.entry result }
+    ensures { IsFound (schema_of reader.entry) (which_of (record_seen reader.entry)) result }
 {
     match reader.which() {
         Ok(member) => member,

@@ -19,6 +19,7 @@ use capnp_wire::error::{Error, ErrorKind};
 
 /// Appends the text of a value. A struct or list takes a level.
 #[cycle(print)]
+#[tactic(auto, using(crate::proofs::Steps::list_falls, crate::proofs::Steps::record_falls))]
 pub(crate) fn print_value<O: Out>(
     value: Value<'_>,
     left: u32,
