@@ -2,15 +2,13 @@
 use Rattle.std.proofs.Common.{arith, append_assoc, append-nil, Option, ◌≡◌, refl, ap, sym, ◌∙◌, ℕ, zero, suc, subst, Bool, true, false, List, [], ◌∷◌, ◌++◌, Some, None, Ok, Err, cond, ◌<◌, ◌≤◌, get_or, length, take, ◌+◌}
 use Rattle.std.specs.Bool.{MatchBool}
 use Rattle.std.specs.Char.{is_ascii}
-use Rattle.std.specs.Fmt.{AppendsText, debug_escape, debug_str, ◌++?◌}
+use Rattle.std.specs.Fmt.{AppendsText, debug_str, ◌++?◌}
 use Rattle.std.specs.List.{flat_map, list_all}
 use Rattle.std.specs.Prelude.{◌&&◌, ⊤, codes, decimal}
 use Rattle.std.specs.Str.{IsAscii, IsNotAscii, IsUtf8, is_utf8}
 use Rattle.capnp_records.specs.Text.{Out, after, decimals, quoted, said}
-use Rattle.capnp_dynamic.specs.Leaf.{is_plain}
 use Rattle.capnp_dynamic.specs.Pieces.{IsAppended}
 use Rattle.std.proofs.lemmas.Bool.Decides.{nat_tests}
-use Rattle.std.proofs.lemmas.List.Folds.{list_all_at, list_all_more}
 use Rattle.std.proofs.lemmas.List.{flat_map_more, length-take, take_more}
 use Rattle.std.proofs.lemmas.Str.{IsUtf8-from_is_utf8, is_utf8-from_IsUtf8}
 
@@ -85,53 +83,7 @@ pub three_put : (a b c d : Option (List ℕ)) (x y z : List ℕ) → after (Ok a
     after (Ok a) (said (x ++ (y ++ z))) ≡ Ok d
 three_put a b c d x y z e f g = two_put a b d x (y ++ z) e (two_put b c d y z f g)
 
--- ---- strings that stand for themselves ----
-
-plain_ascii : (b : ℕ) → is_plain b ≡ true → is_ascii b ≡ true
-plain_ascii b h = grind (arith, nat_tests)
-
-plain_escape : (b : ℕ) → is_plain b ≡ true → debug_escape 34 b ≡ b ∷ []
-unfolding debug_escape
-plain_escape b h = grind (arith, nat_tests)
-
-plain_first : (b : ℕ) (bs : List ℕ) → list_all is_plain (b ∷ bs) ≡ true → is_plain b ≡ true
-plain_first b bs h = grind (arith, nat_tests)
-
-plain_rest : (b : ℕ) (bs : List ℕ) → list_all is_plain (b ∷ bs) ≡ true → list_all is_plain bs ≡ true
-plain_rest b bs h = grind (arith, nat_tests)
-
-plain_is_ascii : (bs : List ℕ) → list_all is_plain bs ≡ true → list_all is_ascii bs ≡ true
-plain_is_ascii [] h = refl
-plain_is_ascii (b ∷ bs) h =
-    let e : is_ascii b ≡ true = plain_ascii b (plain_first b bs h) in
-    let f : list_all is_ascii bs ≡ true = plain_is_ascii bs (plain_rest b bs h) in
-    rw (e, f) refl
-
-plain_is_itself : (bs : List ℕ) → list_all is_plain bs ≡ true → flat_map (debug_escape 34) bs ≡ bs
-plain_is_itself [] h = refl
-plain_is_itself (b ∷ bs) h =
-    let e : debug_escape 34 b ≡ b ∷ [] = plain_escape b (plain_first b bs h) in
-    let f : flat_map (debug_escape 34) bs ≡ bs = plain_is_itself bs (plain_rest b bs h) in
-    rw (e, f) refl
-
-plain_form : (bs : List ℕ) → list_all is_plain bs ≡ true → debug_str bs ≡ Some (34 ∷ (bs ++ 34 ∷ []))
-plain_form bs h =
-    let e : list_all is_ascii bs ≡ true = plain_is_ascii bs h in
-    let f : flat_map (debug_escape 34) bs ≡ bs = plain_is_itself bs h in
-    rw (e, f) refl
-
--- a string that stands for itself, between its quotes
-pub plain_put : (a b c d : Option (List ℕ)) (bs : List ℕ) → list_all is_plain bs ≡ true → after (Ok a) (said (34 ∷ [])) ≡ Ok b → after (Ok b) (said bs) ≡ Ok c → after (Ok c) (said (34 ∷ [])) ≡ Ok d →
-    after (Ok a) (Ok (debug_str bs)) ≡ Ok d
-plain_put a b c d bs h e f g = ap (λ (z : Option (List ℕ)). after (Ok a) (Ok z)) (plain_form bs h) ∙ three_put a b c d (34 ∷ []) bs (34 ∷ []) e f g
-
 -- ---- bytes, one after another ----
-
-pub not_all_plain : (bs : List ℕ) (i : ℕ) → i < length bs → is_plain (get_or bs i 0) ≡ false → list_all is_plain bs ≡ false
-not_all_plain bs i h e = list_all_at is_plain bs i 0 h e
-
-pub more_plain : (bs : List ℕ) (i : ℕ) → i < length bs → list_all is_plain (take i bs) ≡ true → is_plain (get_or bs i 0) ≡ true → list_all is_plain (take (i + 1) bs) ≡ true
-more_plain bs i h e f = list_all_more is_plain bs i 0 h ∙ rw (e, f) refl
 
 -- one byte more
 pub more_put : (f : ℕ → List ℕ) (a b c : Option (List ℕ)) (bs : List ℕ) (i : ℕ) → i < length bs → after (Ok a) (said (flat_map f (take i bs))) ≡ Ok b → after (Ok b) (said (f (get_or bs i 0))) ≡ Ok c →

@@ -1,5 +1,5 @@
 -- The text of a value that is no struct and no list.
-use Rattle.std.specs.Prelude.{ℕ, List, [], ◌∷◌, Bool, not, ◌&&◌, ◌==◌, nat_lt, nat_le, cond, slice_get, codes, decimal, ⊤, Option, Ok, ◌≡◌}
+use Rattle.std.specs.Prelude.{ℕ, List, [], ◌∷◌, cond, slice_get, codes, decimal, ⊤, Option, Ok, ◌≡◌}
 use Rattle.std.specs.Char.Escape.{hex_digit_at}
 use Rattle.std.specs.Fmt.{signed_decimal}
 use Rattle.capnp_schema.specs.Enums.{enum_in}
@@ -12,10 +12,6 @@ use Rattle.capnp_dynamic.specs.Typed.{IsOf}
 use Rattle.capnp_dynamic.specs.declared.dynamic_value.Enum.{Enum}
 use Rattle.capnp_dynamic.specs.declared.dynamic_value.Reader.{Reader as DynamicValue}
 use Rattle.capnp_dynamic.specs.declared.dynamic_value.Reader.TheVariants as dynamic
-
--- a byte stands for itself in the debug form of a string
-abbrev pub is_plain : ℕ → Bool
-is_plain b = nat_le 32 b && nat_lt b 127 && not (b == 34) && not (b == 92)
 
 -- a byte in hexadecimal
 abbrev pub two_digits : ℕ → List ℕ

@@ -1,48 +1,11 @@
 //! The text of a value that is no struct and no list.
-ghost use Rattle.std.specs.Prelude.{◌≡◌, ◌∷◌, [], ◌<◌, ◌++◌, Ok, OnOk, false, flat_map, string_bytes};
-ghost use Rattle.std.specs.Char.Escape.{hex_digit_at};
+ghost use Rattle.std.specs.Prelude.{[], ◌≡◌, ◌<◌, ◌∷◌, flat_map, Ok, OnOk};
 ghost use Rattle.std.specs.Char.{digit_char};
-ghost use Rattle.std.specs.Fmt.{debug_str};
-ghost use Rattle.std.specs.List.{list_all};
 ghost use Rattle.capnp_records.specs.Text.{after, data_text, decimals, quoted, said};
-ghost use Rattle.capnp_dynamic.specs.Leaf.{IsLeaf, enum_name, is_plain, leaf_text, two_digits};
+ghost use Rattle.capnp_dynamic.specs.Leaf.{IsLeaf, enum_name, leaf_text, two_digits};
 
 use super::out::Out;
 use crate::dynamic_value::{Enum, Reader};
-
-/// Whether a byte stands for itself in the debug form of a string.
-fn is_plain_byte(byte: u8) -> bool
-    ensures { result ≡ is_plain byte }
-{
-    byte >= 32 && byte < 127 && byte != b'"' && byte != b'\\'
-}
-
-/// Whether each byte does.
-fn are_plain(bytes: &[u8]) -> bool
-    ensures { result ≡ list_all is_plain bytes.now }
-{
-    for byte in bytes {
-        if !is_plain_byte(*byte) {
-            return false;
-        }
-    }
-    true
-}
-
-/// Appends the debug form of a string. One that stands for itself is put whole.
-#[tactic(auto, using(crate::proofs::Pieces::plain_put))]
-fn put_string<O: Out>(string: &str, out: &mut O) -> Result<(), O::Fault>
-    ensures { OnOk result (after (Ok (O.text out.old)) (Ok (debug_str string.now)) ≡ Ok (O.text out.new)) }
-{
-    if !are_plain(string.as_bytes()) {
-        out.put_debug(string)?;
-        return Ok(());
-    }
-    out.put("\"")?;
-    out.put(string)?;
-    out.put("\"")?;
-    Ok(())
-}
 
 /// Appends bytes in decimal, with a comma and a space between them.
 fn put_decimals<O: Out>(bytes: &[u8], out: &mut O) -> Result<(), O::Fault>
@@ -65,7 +28,7 @@ fn put_text<O: Out>(bytes: &[u8], out: &mut O) -> Result<(), O::Fault>
     ensures { OnOk result (after (Ok (O.text out.old)) (quoted bytes.now) ≡ Ok (O.text out.new)) }
 {
     if let Ok(string) = std::str::from_utf8(bytes) {
-        put_string(string, out)?;
+        out.put_debug(string)?;
         return Ok(());
     }
     out.put("<invalid utf-8: [")?;

@@ -4,7 +4,7 @@ use Rattle.capnp_dynamic.proofs.printer.leaves.put_text.Goals as goal
 
 pub returns-in-Ok : goal.returns-in-Ok
 returns-in-Ok g c =
-    text_put c.args.bytes.now c.in-Ok.string.now (Ok (g.O.Out.text c.put_string.new.out)) (g.O.Out.text c.args.out.now) c.in-Ok.ensures.cases c.in_ok-put_string.ensures
+    text_put c.args.bytes.now c.in-Ok.string.now (Ok (g.O.Out.text c.put_debug.new.self)) (g.O.Out.text c.args.out.now) c.in-Ok.ensures.cases c.in_ok-put_debug.ensures
 
 pub returns : goal.returns
 returns g c =
