@@ -69,7 +69,7 @@ active-part r i v e = go ((node_of (set_of (schema_of r)) (number_of (schema_of 
     go true is e = absurd (no-active e)
     go false is e =
         let found = found-active (part_seen r) (struct_fields (schema_of r)) 0 i (discriminant (node_of (set_of (schema_of r)) (number_of (schema_of r))) (struct_of (reader_of r)).bytes)
-            (subst (λ n. is_active u n ≡ true) (omega arith) (ap (λ (w : Union). is_active w i) e ∙ eq-from i i refl)) in
+        (subst (λ n. is_active u n ≡ true) (omega arith) (ap (λ (w : Union). is_active w i) e ∙ eq-from i i refl)) in
         sym (ap active_value e) ∙ found.part_is
 
 -- which is the active member, where its place is still to come

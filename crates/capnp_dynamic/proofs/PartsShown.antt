@@ -274,12 +274,11 @@ module _ (r : StructHandle) (f : Field) (field : IsFieldOf (schema_of r) (index_
   pub part_value : IsStruct (schema_of r) → (v : DynamicValue) → value_seen v ≡ field_seen r (index_of f) → IsOf (set_of (schema_of r)) (field_in r f).type v →
       None ≡ kind_target (field_in r f).field.kind (field_in r f).type → IsPart r f (part.Value v)
   part_value stands v is typed none =
-      let under = under_of (set_of (schema_of r)) (field_in r f).type v typed in
-      (
+      let under = under_of (set_of (schema_of r)) (field_in r f).type v typed in (
         λ left. (let few = steps_under (set_of (schema_of r)) (field_in r f).type v under left in omega (arith, few)),
         λ left at.
-        slot_shown (set_of (schema_of r)) (record_within (length (set_of (schema_of r)).brands) (set_of (schema_of r)) (Left (struct_levels (reader_of r))) (struct_of (reader_of r)).bytes (values_of (set_of (schema_of r)) (struct_of (reader_of r)).pointers)) (Left (struct_levels (reader_of r))) (struct_of (reader_of r)) left at
-        (field_in r f).field.kind (field_in r f).type v (stands.accepted.rule7 (number_of (schema_of r)) (index_of f) stands.number field.inside) (sym none) is under,
+            slot_shown (set_of (schema_of r)) (record_within (length (set_of (schema_of r)).brands) (set_of (schema_of r)) (Left (struct_levels (reader_of r))) (struct_of (reader_of r)).bytes (values_of (set_of (schema_of r)) (struct_of (reader_of r)).pointers)) (Left (struct_levels (reader_of r))) (struct_of (reader_of r)) left at
+            (field_in r f).field.kind (field_in r f).type v (stands.accepted.rule7 (number_of (schema_of r)) (index_of f) stands.number field.inside) (sym none) is under,
       )
 
   pub part_group : IsStruct (schema_of r) → HeightsFall → (g : StructHandle) (s : StructSchema) → value.Struct (record_seen g) ≡ field_seen r (index_of f) →
@@ -288,13 +287,12 @@ module _ (r : StructHandle) (f : Field) (field : IsFieldOf (schema_of r) (index_
   part_group stands heights g s is typed some down =
       let number : number_of (schema_of g) ≡ number_of s = target_number (field_in r f).field.kind (field_in r f).type (number_of s) (number_of (schema_of g)) (sym some) (ap struct_brand (sym typed.2)) in
       let lower : groups_below (set_of (schema_of r)) (number_of s) < groups_below (set_of (schema_of r)) (number_of (schema_of r)) =
-          fewer_groups (set_of (schema_of r)) (number_of (schema_of r)) (number_of s) down.leads.down.lower ((heights (set_of (schema_of r)) stands.accepted (number_of (schema_of r)) stands.number).0) in
+      fewer_groups (set_of (schema_of r)) (number_of (schema_of r)) (number_of s) down.leads.down.lower ((heights (set_of (schema_of r)) stands.accepted (number_of (schema_of r)) stands.number).0) in
       let fewer : groups_below (set_of (schema_of r)) (number_of (schema_of g)) < groups_below (set_of (schema_of r)) (number_of (schema_of r)) =
-          subst (λ b. groups_below (set_of (schema_of r)) b < groups_below (set_of (schema_of r)) (number_of (schema_of r))) (sym number) lower in
-      (
+      subst (λ b. groups_below (set_of (schema_of r)) b < groups_below (set_of (schema_of r)) (number_of (schema_of r))) (sym number) lower in (
         λ left. subst (λ (z : Schemas). steps_within z left + (16 * groups_below z (number_of (schema_of g)) + 9) < steps_of r left 2) (sym typed.1) (omega (arith, fewer)),
         λ left at.
-        group_shown (set_of (schema_of r)) (record_within (length (set_of (schema_of r)).brands) (set_of (schema_of r)) (Left (struct_levels (reader_of r))) (struct_of (reader_of r)).bytes (values_of (set_of (schema_of r)) (struct_of (reader_of r)).pointers)) (Left (struct_levels (reader_of r))) (struct_of (reader_of r)) left at
-        (field_in r f).field.kind (field_in r f).type (number_of s) g (sym some) number is
-        ∙ ap (λ (z : Schemas). record_text z (text_within z left) at (number_of (schema_of g)) (record_seen g)) (sym typed.1),
+            group_shown (set_of (schema_of r)) (record_within (length (set_of (schema_of r)).brands) (set_of (schema_of r)) (Left (struct_levels (reader_of r))) (struct_of (reader_of r)).bytes (values_of (set_of (schema_of r)) (struct_of (reader_of r)).pointers)) (Left (struct_levels (reader_of r))) (struct_of (reader_of r)) left at
+            (field_in r f).field.kind (field_in r f).type (number_of s) g (sym some) number is
+            ∙ ap (λ (z : Schemas). record_text z (text_within z left) at (number_of (schema_of g)) (record_seen g)) (sym typed.1),
       )

@@ -191,9 +191,9 @@ pub item_stopped : {F : Type 0} (stop : Stop F) (at : Layout) (first : Bool) (f 
 item_stopped stop at first f o p0 p1 p2 p3 a b c d = λ rest.
     stopped_by p0 p3 (more_text at first (item f o ∷ rest)) o
     (λ kind e.
-      then p0 p1 (said (separator at first)) (after (item f o) (more_text at false rest)) a
-      ∙ then_stopped p1 kind (item f o) (more_text at false rest)
-      (then p1 p3 (said (f.field.name ++ codes " = ")) o (then p1 p2 (said f.field.name) (said (codes " = ")) b ∙ c) ∙ e))
+    then p0 p1 (said (separator at first)) (after (item f o) (more_text at false rest)) a
+    ∙ then_stopped p1 kind (item f o) (more_text at false rest)
+    (then p1 p3 (said (f.field.name ++ codes " = ")) o (then p1 p2 (said f.field.name) (said (codes " = ")) b ∙ c) ∙ e))
     stop d
 
 -- ---- through a result ----

@@ -13,6 +13,7 @@ mod values;
 use crate::dynamic_value;
 use crate::dynamic_value::Reader as Value;
 use crate::printer::out::{Made, Out, Stop};
+use crate::printer::pieces::layout;
 use crate::printer::values::{print_record, print_value};
 use capnp_wire::error::{Error, Result};
 use std::fmt;
@@ -32,14 +33,26 @@ pub fn print(value: dynamic_value::Reader<'_>, out: &mut String, indented: bool)
     ensures unchanged { OnErr result (string_bytes out.new ≡ string_bytes out.old) }
 {
     let mut made = Made::new(*out.allocator());
-    let at = if indented { Some(0) } else { None };
-    match print_root(value, at, &mut made) {
+    match print_root(value, layout(indented), &mut made) {
         Ok(()) => made.append_to(out),
         Err(stop) => Err(Error::from(stop)),
     }
 }
 
+/// Writes the text of a value to a formatter: on lines by `{:#?}`, and else on one line. A refusal comes after a beginning of
+/// the text. It takes no memory.
+pub(crate) fn print_debug<W: fmt::Write>(
+    value: Value<'_>,
+    f: &mut fmt::Formatter<W>,
+) -> fmt::Result {
+    match print_root(value, layout(f.alternate()), f) {
+        Ok(()) => Ok(()),
+        Err(_) => Err(fmt::Error),
+    }
+}
+
 /// Appends the text of a value that stands alone. A group takes no level, here as elsewhere.
+#[tactic(auto, using(crate::proofs::Roots::group_root, crate::proofs::Roots::struct_root, crate::proofs::Roots::other_root))]
 fn print_root<O: Out>(
     value: Value<'_>,
     at: Option<u64>,

@@ -11,9 +11,8 @@ ghost use Rattle.capnp_dynamic.specs.PartsRead.{IsElement, IsElementRefused, IsP
 ghost use Rattle.capnp_dynamic.specs.Seen.{record_seen};
 ghost use Rattle.capnp_dynamic.specs.Shown.{IsPending, is_member_shown, part_seen};
 
-use crate::dynamic_list;
-use crate::dynamic_struct;
 use crate::dynamic_value::Reader as Value;
+use crate::{dynamic_list, dynamic_struct};
 use capnp_base::introspect::{Type, TypeVariant};
 use capnp_schema::laws::heights_fall;
 use capnp_schema::schema::Field;

@@ -1,5 +1,5 @@
 //! Pieces of text: lines, and what stands before an item.
-ghost use Rattle.std.specs.Prelude.{◌≡◌, IfErr, IfOk, OnOk};
+ghost use Rattle.std.specs.Prelude.{◌≡◌, IfErr, IfOk, None, OnOk, Some, cond};
 ghost use Rattle.capnp_records.specs.Text.{deeper, line, said, separator};
 ghost use Rattle.capnp_dynamic.specs.Leaf.{IsLeaf, leaf_text};
 ghost use Rattle.capnp_dynamic.specs.Pieces.{IsFull};
@@ -9,6 +9,13 @@ use crate::dynamic_value::Reader as Value;
 use crate::printer::leaves::put_leaf;
 use crate::printer::out::{Out, Stop};
 use capnp_wire::error::{Error, ErrorKind};
+
+/// How many brackets stand around what is printed first; none where all is on one line.
+pub(crate) fn layout(indented: bool) -> Option<u64>
+    ensures { result ≡ cond indented (Some 0) None }
+{
+    if indented { Some(0) } else { None }
+}
 
 /// Appends a piece.
 pub(crate) fn put<O: Out>(piece: &str, out: &mut O) -> Result<(), Stop<O::Fault>>

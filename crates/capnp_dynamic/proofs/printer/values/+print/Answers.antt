@@ -26,7 +26,7 @@ print_before-returns-in-Err-clause-stopped g t c = λ rest.
     let m : Field = c.in-Some.member in
     let lt : index_of m < index_of f = omega (arith, c.if-get_index.false, c.get_index.ensures, c.get_index-2.ensures) in
     let same : before (pending_member c.args.left c.args.at c.args.reader c.args.progress.pending) (index_of f) ≡ member_items c.args.left c.args.at c.args.reader (field_in c.args.reader m) =
-        ap (λ (o : Option Field). before (pending_member c.args.left c.args.at c.args.reader o) (index_of f)) c.in-Some.is ∙ before_some (index_of m) (index_of f) _ lt in
+    ap (λ (o : Option Field). before (pending_member c.args.left c.args.at c.args.reader o) (index_of f)) c.in-Some.is ∙ before_some (index_of m) (index_of f) _ lt in
     subst (λ (xs : List Out). IsStopped (g.O.Out.text c.args.out.now) (more_text c.args.at c.args.progress.first (xs ++ rest)) c.in-Err.stop) (sym same) (c.in-Err.ensures.stopped rest)
 
 pub print_elements-returns-in-Err-print_value-clause-stopped : goal.print_elements-returns-in-Err-print_value-clause-stopped
@@ -46,7 +46,7 @@ print_elements-returns-in-Err-clause-stopped g t c = λ other.
     let inside : i < count_of l = omega (arith, c.loop-i-test.true, c.len-i-end.ensures) in
     let p1 = g.O.Out.text c.put_separator.new.out in
     let told : fault_at c.args.left (element_of l) c.in-Err.error.kind ≡ c.refusal.result.kind =
-        sym (c.refusal.ensures ∙ ap (λ (z : TypeHandle). fault_at c.args.left (seen_type z) c.in-Err.error.kind) c.element_type.ensures) in
+    sym (c.refusal.ensures ∙ ap (λ (z : TypeHandle). fault_at c.args.left (seen_type z) c.in-Err.error.kind) c.element_type.ensures) in
     c.loop-i.invariant
     ∙ element_stopped c.args.left c.args.at l (count_of l) i inside (g.O.Out.text c.loop-i.out) p1 c.refusal.result.kind c.in_ok-put_separator.ensures.put
     (ap (after (Ok p1)) (c.in-Err.ensures.refused c.args.left c.args.at ∙ ap Err told))
@@ -95,11 +95,10 @@ print_field-returns-clause-put g t c =
     let f : Field = c.args.field in
     let m : Member = pending_member c.args.left c.args.at r c.args.progress.pending in
     let x : Out = field_item c.args.left c.args.at r (field_in r f) in
-    let plain : is_member (field_in r f).field ≡ false = plain_from r f c.get_proto.result.now.discriminant_value (discriminant_in r f c.requires.field _ c.get_proto.ensures) (omega (arith, c.if-get_proto.false)) in
-    (
+    let plain : is_member (field_in r f).field ≡ false = plain_from r f c.get_proto.result.now.discriminant_value (discriminant_in r f c.requires.field _ c.get_proto.ensures) (omega (arith, c.if-get_proto.false)) in (
       λ rest. subst (λ (xs : List Out). after (Ok (g.O.Out.text c.args.out.now)) (more_text c.args.at c.args.progress.first (xs ++ rest)) ≡ after (Ok (g.O.Out.text c.print_item.new.out)) (more_text c.args.at false rest))
-      (sym (ap (λ (q : Bool). unless_member q (before m (index_of f) ++ item_if (is_there (part_seen r (field_in r f))) x)) plain ∙ ap (λ (q : Bool). before m (index_of f) ++ item_if q x) (sym c.if-not-is_field_there.ensures)))
-      (both_put c.args.at c.args.progress.first c.in-Ok.now.first false (before m (index_of f)) (x ∷ []) (g.O.Out.text c.args.out.now) (g.O.Out.text c.print_before.new.out) (g.O.Out.text c.print_item.new.out) c.in-Ok.ensures.put.0 c.in_default.ensures.put rest),
+          (sym (ap (λ (q : Bool). unless_member q (before m (index_of f) ++ item_if (is_there (part_seen r (field_in r f))) x)) plain ∙ ap (λ (q : Bool). before m (index_of f) ++ item_if q x) (sym c.if-not-is_field_there.ensures)))
+          (both_put c.args.at c.args.progress.first c.in-Ok.now.first false (before m (index_of f)) (x ∷ []) (g.O.Out.text c.args.out.now) (g.O.Out.text c.print_before.new.out) (g.O.Out.text c.print_item.new.out) c.in-Ok.ensures.put.0 c.in_default.ensures.put rest),
       c.in-Ok.ensures.put.1,
       c.in-Ok.ensures.put.2 ∙ ap (λ (q : Bool). still_pending q m (index_of f)) (sym plain),
     )
@@ -141,8 +140,8 @@ print_items-returns-in-Err-clause-stopped g t c =
     stopped_by (g.O.Out.text c.args.out.now) p0 (more_text c.args.at true (record_items c.args.left c.args.at r))
     (more_text c.args.at q (field_items c.args.left c.args.at r (field_in r f) (index_of f) (pending_member c.args.left c.args.at r o) ++ tail_items c.args.left c.args.at r o (index_of f)))
     (λ (kind : ErrorKind) e. c.loop-i.invariant.left
-      ∙ (ap (λ (j : ℕ). after (Ok p0) (more_text c.args.at q (rest_items c.args.left c.args.at r o j))) (sym c.get.ensures.index)
-      ∙ (ap (λ (xs : List Out). after (Ok p0) (more_text c.args.at q xs)) (items_begin c.args.left c.args.at r o (index_of f) h.inside) ∙ e)))
+    ∙ (ap (λ (j : ℕ). after (Ok p0) (more_text c.args.at q (rest_items c.args.left c.args.at r o j))) (sym c.get.ensures.index)
+    ∙ (ap (λ (xs : List Out). after (Ok p0) (more_text c.args.at q xs)) (items_begin c.args.left c.args.at r o (index_of f) h.inside) ∙ e)))
     c.in-Err.stop (c.in-Err.ensures.stopped (tail_items c.args.left c.args.at r o (index_of f)))
 
 pub print_items-loop-i-preserved : goal.print_items-loop-i-preserved
@@ -158,10 +157,10 @@ print_items-loop-i-preserved g t c =
     let h : IsFieldOf (schema_of r) (index_of f) f = own_index (schema_of r) _ c.loop-i.i f (c.in-Ok.ensures ∙ c.get_schema.ensures) c.get.ensures in
     record {
       left = c.loop-i.invariant.left
-        ∙ (ap (λ (j : ℕ). after (Ok p0) (more_text c.args.at q (rest_items c.args.left c.args.at r o j))) (sym c.get.ensures.index)
-        ∙ (ap (λ (xs : List Out). after (Ok p0) (more_text c.args.at q xs)) (items_next c.args.left c.args.at r o (index_of f) h.inside now.pending put.2)
-        ∙ (put.0 (rest_items c.args.left c.args.at r now.pending (index_of f + 1))
-        ∙ ap (λ (j : ℕ). after (Ok p1) (more_text c.args.at now.first (rest_items c.args.left c.args.at r now.pending (j + 1)))) c.get.ensures.index)));
+          ∙ (ap (λ (j : ℕ). after (Ok p0) (more_text c.args.at q (rest_items c.args.left c.args.at r o j))) (sym c.get.ensures.index)
+          ∙ (ap (λ (xs : List Out). after (Ok p0) (more_text c.args.at q xs)) (items_next c.args.left c.args.at r o (index_of f) h.inside now.pending put.2)
+          ∙ (put.0 (rest_items c.args.left c.args.at r now.pending (index_of f + 1))
+          ∙ ap (λ (j : ℕ). after (Ok p1) (more_text c.args.at now.first (rest_items c.args.left c.args.at r now.pending (j + 1)))) c.get.ensures.index)));
       pending = put.1;
     }
 
@@ -189,9 +188,9 @@ print_items-returns-in-Err-print_member-clause-stopped g t c =
     let n = ap (λ (z : StructSchema). length (struct_fields z)) (c.in-Ok.ensures ∙ c.get_schema.ensures) in
     stopped_by (g.O.Out.text c.args.out.now) p0 (more_text c.args.at true (record_items c.args.left c.args.at r)) (more_text c.args.at q (member_items c.args.left c.args.at r (field_in r m) ++ []))
     (λ (kind : ErrorKind) e. c.loop-i.invariant.left
-      ∙ (ap (λ (xs : List Out). after (Ok p0) (more_text c.args.at q xs)) (items_end c.args.left c.args.at r o c.loop-i.i (omega (arith, c.loop-i-test.false, c.len-i-end.ensures, n)))
-      ∙ (ap (λ (x : Option Field). after (Ok p0) (more_text c.args.at q (rest_of (pending_member c.args.left c.args.at r x)))) c.in-Some.is
-      ∙ (ap (λ (xs : List Out). after (Ok p0) (more_text c.args.at q xs)) (sym (append-nil (member_items c.args.left c.args.at r (field_in r m)))) ∙ e))))
+    ∙ (ap (λ (xs : List Out). after (Ok p0) (more_text c.args.at q xs)) (items_end c.args.left c.args.at r o c.loop-i.i (omega (arith, c.loop-i-test.false, c.len-i-end.ensures, n)))
+    ∙ (ap (λ (x : Option Field). after (Ok p0) (more_text c.args.at q (rest_of (pending_member c.args.left c.args.at r x)))) c.in-Some.is
+    ∙ (ap (λ (xs : List Out). after (Ok p0) (more_text c.args.at q xs)) (sym (append-nil (member_items c.args.left c.args.at r (field_in r m)))) ∙ e))))
     c.in-Err-print_member.stop (c.in-Err-print_member.ensures.stopped [])
 
 pub print_member-returns-in-Err-clause-stopped : goal.print_member-returns-in-Err-clause-stopped

@@ -43,6 +43,6 @@ invariant-print_elements-loop-i g l =
 abbrev pub invariant-print_items-loop-i : goal.invariant-print_items-loop-i
 invariant-print_items-loop-i g l = record {
   left : after (Ok (g.O.Out.text l.fn.out)) (more_text l.at true (record_items l.left l.at l.reader))
-    ≡ after (Ok (g.O.Out.text l.out)) (more_text l.at l.progress.first (rest_items l.left l.at l.reader l.progress.pending l.i));
+      ≡ after (Ok (g.O.Out.text l.out)) (more_text l.at l.progress.first (rest_items l.left l.at l.reader l.progress.pending l.i));
   pending : IsPending l.reader l.progress.pending;
 }
