@@ -1,21 +1,21 @@
 -- The items of a struct, from a field on.
-use Rattle.std.specs.Prelude.{ℕ, zero, suc, ◌+◌, ◌-◌, ◌<◌, ◌≤◌, ◌≡◌, ◌==◌, refl, List, [], ◌∷◌, ◌++◌, Bool, true, false, not, ◌&&◌, ◌||◌, nat_lt, cond, length, drop, slice_get, Option, Some, None, Result, Ok}
-use Rattle.std.proofs.Common.{ap, sym, subst, ◌∙◌, arith, append-nil}
+use Rattle.std.specs.Prelude.{ℕ, zero, suc, ◌+◌, ◌<◌, ◌≤◌, ◌≡◌, ◌==◌, refl, List, [], ◌∷◌, ◌++◌, Bool, true, false, not, ◌&&◌, ◌||◌, nat_lt, cond, length, drop, slice_get, Option, Some, None, Result, Ok}
+use Rattle.std.proofs.Common.{ap, sym, subst, ◌∙◌, arith}
 use Rattle.std.specs.Option.{unwrap_or}
 use Rattle.capnp_schema.specs.FieldLists.{IsFieldOf, IsFound, index_of, typed_of}
 use Rattle.capnp_device.specs.declared.error.Error.{Error}
 use Rattle.capnp_schema.specs.Schema.{Field as FieldRecord}
-use Rattle.capnp_schema.specs.Schema.{Schemas, TypedField, default_of, field_at, is_member, no_field, node_of}
+use Rattle.capnp_schema.specs.Schema.{Schemas, TypedField, default_of, is_member, no_field, node_of}
 use Rattle.capnp_schema.specs.StructHandles.{number_of, set_of, struct_field, struct_fields}
 use Rattle.capnp_schema.specs.declared.schema.fields.Field.{Field}
 use Rattle.capnp_schema.specs.declared.schema.structs.StructSchema.{StructSchema}
-use Rattle.capnp_records.specs.Facts.Frame.{eq-from, first-of, second-of, true≢false}
+use Rattle.capnp_records.specs.Facts.Frame.{eq-from, first-of, second-of}
 use Rattle.capnp_records.specs.Facts.PartRead.{found-active, nth-plain_parts}
 use Rattle.capnp_records.specs.Part.{active_value, has_of, is_active, nth_value, which_of}
-use Rattle.capnp_records.specs.Reading.{active_among, discriminant, plain_parts, union_of}
+use Rattle.capnp_records.specs.Reading.{active_among, discriminant, plain_parts}
 use Rattle.capnp_records.specs.Record as value
 use Rattle.capnp_records.specs.Record.{Active, MoreValues, NoUnion, Parts, Union, Unknown, Value, Values, is_there}
-use Rattle.capnp_records.specs.Text.{Inner, Layout, Member, Out, before, item, item_if, later, member, more_text, part_text, rest_of, shown}
+use Rattle.capnp_records.specs.Text.{Layout, Member, Out, before, item, item_if, later, member, part_text, rest_of, shown}
 use Rattle.capnp_wire.specs.Standing.{struct_of}
 use Rattle.capnp_dynamic.proofs.HasWhich.{not_zero}
 use Rattle.capnp_dynamic.specs.Handles.{reader_of, schema_of}

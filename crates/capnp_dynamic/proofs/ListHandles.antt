@@ -1,5 +1,5 @@
 -- A list's reader stands on what was answered.
-use Rattle.std.specs.Prelude.{◌≡◌, Result, Ok, Err}
+use Rattle.std.specs.Prelude.{◌≡◌}
 use Rattle.std.proofs.Common.{ap, ◌∙◌}
 use Rattle.capnp_wire.specs.Standing.{list_levels, list_of}
 use Rattle.capnp_wire.specs.declared.list_reader.ListReader.{ListReader}
@@ -8,8 +8,7 @@ use Rattle.capnp_schema.specs.Schema.{Schemas}
 use Rattle.capnp_schema.specs.Types.{seen_type}
 use Rattle.capnp_records.specs.Facts.ListValues.{below_of}
 use Rattle.capnp_records.specs.Reading.{elements_value}
-use Rattle.capnp_records.specs.Record.{Left, Value}
-use Rattle.capnp_dynamic.specs.Behind.{list_answered}
+use Rattle.capnp_records.specs.Record.{Left}
 use Rattle.capnp_dynamic.specs.Handles.{element_of, list_reader_of, list_set, type_of}
 use Rattle.capnp_dynamic.specs.Seen.{list_seen}
 use Rattle.capnp_dynamic.specs.declared.dynamic_list.Reader.{Reader as ListHandle}

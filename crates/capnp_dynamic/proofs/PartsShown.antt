@@ -1,5 +1,5 @@
 -- What is read under a field or at an index is printed as the definition has it.
-use Rattle.std.specs.Prelude.{ℕ, zero, suc, ◌+◌, ◌-◌, ◌*◌, ◌<◌, ◌≤◌, ◌≡◌, refl, List, [], Bool, true, false, length, min, Option, Some, None, Result, Ok, Err, ⊤, IfOk, IfErr}
+use Rattle.std.specs.Prelude.{ℕ, zero, suc, ◌+◌, ◌-◌, ◌*◌, ◌<◌, ◌≤◌, ◌≡◌, refl, [], Bool, true, false, length, Option, Some, None, Result, Ok, Err, ⊤, IfOk, IfErr}
 use Rattle.std.proofs.Common.{ap, sym, subst, ◌∙◌, arith}
 use Rattle.std.proofs.lemmas.Option.{same_Some}
 use Rattle.std.specs.Option.{unwrap_or}
@@ -9,12 +9,12 @@ use Rattle.capnp_wire.specs.Standing.{struct_levels, struct_of}
 use Rattle.capnp_wire.specs.Tree as tree
 use Rattle.capnp_wire.specs.Tree.{StructTree, Tree, nth_tree}
 use Rattle.capnp_wire.specs.Reading.{as_data, as_list, as_struct, as_text}
-use Rattle.capnp_schema.specs.Accepted.{GroupFits, IsAccepted}
+use Rattle.capnp_schema.specs.Accepted.{GroupFits}
 use Rattle.capnp_schema.specs.FieldLists.{IsFieldOf, index_of, typed_of}
 use Rattle.capnp_schema.specs.GroupsDown.{IsGroupIn}
 use Rattle.capnp_schema.specs.Laws.{HeightsFall, group_height}
 use Rattle.capnp_schema.specs.Parents.{kind_target}
-use Rattle.capnp_schema.specs.Schema.{FieldKind, Group, Schemas, Slot, TypedField, kind_default}
+use Rattle.capnp_schema.specs.Schema.{FieldKind, Group, Schemas, Slot, kind_default}
 use Rattle.capnp_schema.specs.Schema.{Value as SchemaValue}
 use Rattle.capnp_schema.specs.StructHandles.{IsStruct, number_of, set_of, struct_field}
 use Rattle.capnp_schema.specs.declared.schema.fields.Field.{Field}
@@ -26,13 +26,13 @@ use Rattle.capnp_schema.specs.SlotValue.{slot_number}
 use Rattle.capnp_records.specs.Reading.{Below, Reading, bodies_of, bytes_below, kind_value, nth_reading, number_value, of_read, pointers_below, record_within, slot_value, struct_below, structs_below, tree_value, value_of, values_of}
 use Rattle.capnp_records.specs.Record as value
 use Rattle.capnp_records.specs.Record.{Left, Levels, Record, Value, asked}
-use Rattle.capnp_records.specs.Text.{Inner, Layout, Out, part_text, record_text, text_within, value_text}
+use Rattle.capnp_records.specs.Text.{Inner, Layout, part_text, record_text, text_within, value_text}
 use Rattle.capnp_dynamic.specs.Handles.{element_of, list_set, reader_of, schema_of}
 use Rattle.capnp_dynamic.specs.PartsRead.{IsElement, IsElementRefused, IsPart, IsPartRefused, fault_at, field_in}
 use Rattle.capnp_dynamic.specs.Reads.{element_seen, field_seen, handed_out}
 use Rattle.capnp_dynamic.specs.Seen.{answered, record_seen, value_seen}
-use Rattle.capnp_dynamic.specs.Shown.{groups_below, no_schemas, set_seen, steps_of, steps_within, type_seen, value_shown}
-use Rattle.capnp_dynamic.specs.Typed.{IsOf, IsUnder, struct_type}
+use Rattle.capnp_dynamic.specs.Shown.{groups_below, no_schemas, set_seen, steps_of, steps_within, value_shown}
+use Rattle.capnp_dynamic.specs.Typed.{IsOf, IsUnder}
 use Rattle.capnp_dynamic.specs.declared.dynamic_list.Reader.{Reader as ListHandle}
 use Rattle.capnp_dynamic.specs.declared.dynamic_struct.Reader.{Reader as StructHandle}
 use Rattle.capnp_dynamic.specs.declared.dynamic_value.Reader.{Reader as DynamicValue}

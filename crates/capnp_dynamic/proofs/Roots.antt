@@ -1,5 +1,5 @@
 -- The text of a value that stands alone.
-use Rattle.std.specs.Prelude.{ℕ, ◌≡◌, ◌≢◌, refl, List, [], Bool, true, false, cond, Option, Some, None, Ok, Err}
+use Rattle.std.specs.Prelude.{ℕ, ◌≡◌, ◌≢◌, refl, List, [], Bool, true, false, Option, Some, Ok, Err}
 use Rattle.std.proofs.Common.{ap, sym, subst, ◌∙◌}
 use Rattle.std.specs.declared.alloc.AllocError.{AllocError}
 use Rattle.capnp_device.specs.declared.error.ErrorKind.{ErrorKind}

@@ -1,18 +1,17 @@
 -- The steps of a print.
-use Rattle.std.specs.Prelude.{ℕ, zero, suc, ◌+◌, ◌-◌, ◌*◌, ◌<◌, ◌≤◌, ◌≡◌, ◌==◌, refl, List, [], ◌∷◌, ◌++◌, Bool, true, false, cond, length, drop, min, codes, Ok, Err, Option, Some, None, Result, IfErr, OnOk}
-use Rattle.std.proofs.Common.{rules, ap, sym, subst, ◌∙◌, append_assoc, append-nil, arith}
+use Rattle.std.specs.Prelude.{ℕ, zero, suc, ◌+◌, ◌-◌, ◌<◌, ◌≡◌, ◌==◌, refl, List, [], ◌∷◌, ◌++◌, Bool, true, false, length, codes, Ok, Err, Option, Some, None, Result, IfErr, OnOk}
+use Rattle.std.proofs.Common.{rules, ap, sym, subst, ◌∙◌, append_assoc, arith}
 use Rattle.capnp_device.specs.declared.error.ErrorKind.{ErrorKind}
-use Rattle.capnp_device.specs.declared.error.ErrorKind.TheVariants.{OutOfMemory, TooDeep}
-use Rattle.capnp_schema.specs.Schema.{Schemas, TypedField, is_member}
+use Rattle.capnp_schema.specs.Schema.{Schemas, TypedField}
 use Rattle.capnp_schema.specs.StructHandles.{number_of, set_of, struct_fields}
 use Rattle.capnp_schema.specs.Types.{SchemaType}
 use Rattle.capnp_records.specs.Record.{Value}
-use Rattle.capnp_records.specs.Text.{Inner, Layout, Member, Out, after, before, bracketed, deeper, item, item_if, later, line, list_text, more_text, record_text, said, separator, struct_text, text_within, value_text}
+use Rattle.capnp_records.specs.Text.{Inner, Layout, Out, after, bracketed, deeper, item, line, list_text, more_text, said, separator, struct_text, text_within, value_text}
 use Rattle.capnp_dynamic.specs.Handles.{list_set, schema_of}
 use Rattle.capnp_dynamic.specs.Leaf.{IsLeaf, leaf_text}
 use Rattle.capnp_dynamic.specs.Pieces.{IsFull, IsStopped}
 use Rattle.capnp_dynamic.specs.Reads.{element_seen}
-use Rattle.capnp_dynamic.specs.Shown.{ArePut, AreStopped, IsPut, count_of, element_items, element_shown, field_item, field_shown, list_shown, record_items, record_shown, set_seen, steps_of, steps_within, type_seen, value_shown}
+use Rattle.capnp_dynamic.specs.Shown.{ArePut, AreStopped, IsPut, count_of, element_items, element_shown, list_shown, record_items, record_shown, set_seen, steps_of, steps_within, type_seen, value_shown}
 use Rattle.capnp_dynamic.specs.Seen.{value_seen}
 use Rattle.capnp_dynamic.specs.declared.dynamic_list.Reader.{Reader as ListHandle}
 use Rattle.capnp_dynamic.specs.declared.dynamic_struct.Reader.{Reader as StructHandle}
@@ -21,7 +20,7 @@ use Rattle.capnp_dynamic.specs.declared.dynamic_value.Reader.TheVariants as dyna
 use Rattle.capnp_dynamic.specs.declared.printer.out.Stop.{Stop}
 use Rattle.capnp_dynamic.specs.declared.printer.out.Stop.TheVariants.{Full, Refused}
 use Rattle.capnp_dynamic.proofs.PartsShown.{few_groups, level_falls}
-use Rattle.capnp_dynamic.proofs.Streams.{after_nothing, assoc, then, then_stopped}
+use Rattle.capnp_dynamic.proofs.Streams.{after_nothing, then, then_stopped}
 
 -- ---- why a print stopped ----
 

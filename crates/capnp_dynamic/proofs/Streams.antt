@@ -1,10 +1,10 @@
 -- Texts one after another.
-use Rattle.std.specs.Prelude.{ℕ, zero, suc, ◌+◌, ◌*◌, ◌≡◌, refl, List, [], ◌∷◌, ◌++◌, Bool, true, false, Ok, Err, Option, Some, None, replicate}
+use Rattle.std.specs.Prelude.{ℕ, zero, suc, ◌+◌, ◌*◌, ◌≡◌, refl, List, [], ◌∷◌, ◌++◌, Ok, Err, Option, Some, None, replicate}
 use Rattle.std.specs.Fmt.{◌++?◌}
 use Rattle.std.proofs.Common.{ap, sym, ◌∙◌, append_assoc, append-nil, arith}
 use Rattle.capnp_device.specs.declared.error.ErrorKind.{ErrorKind}
-use Rattle.capnp_records.specs.Text.{Layout, Out, after, bracketed, deeper, item, line, more_text, said, separator}
-use Rattle.capnp_dynamic.specs.Shown.{ArePut, IsPut}
+use Rattle.capnp_records.specs.Text.{Out, after, deeper, said}
+use Rattle.capnp_dynamic.specs.Shown.{IsPut}
 
 pub deeper_is : (n : ℕ) → Some (n + 1) ≡ deeper (Some n)
 deeper_is n = ap Some (omega arith)

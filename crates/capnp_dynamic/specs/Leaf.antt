@@ -1,14 +1,10 @@
 -- The text of a value that is no struct and no list.
-use Rattle.std.specs.Prelude.{ℕ, List, [], ◌∷◌, cond, slice_get, codes, decimal, ⊤, Option, Ok, ◌≡◌}
+use Rattle.std.specs.Prelude.{ℕ, List, [], ◌∷◌, cond, slice_get, codes, decimal, ⊤}
 use Rattle.std.specs.Char.Escape.{hex_digit_at}
 use Rattle.std.specs.Fmt.{signed_decimal}
 use Rattle.capnp_schema.specs.Enums.{enum_in}
-use Rattle.capnp_schema.specs.Schema.{Schemas}
-use Rattle.capnp_schema.specs.Types.{SchemaType}
-use Rattle.capnp_records.specs.Text.{Inner, Layout, Out, after, data_text, name_or, quoted, said, value_text}
+use Rattle.capnp_records.specs.Text.{Out, data_text, name_or, quoted, said}
 use Rattle.capnp_dynamic.specs.Handles.{enum_of, number_in}
-use Rattle.capnp_dynamic.specs.Seen.{value_seen}
-use Rattle.capnp_dynamic.specs.Typed.{IsOf}
 use Rattle.capnp_dynamic.specs.declared.dynamic_value.Enum.{Enum}
 use Rattle.capnp_dynamic.specs.declared.dynamic_value.Reader.{Reader as DynamicValue}
 use Rattle.capnp_dynamic.specs.declared.dynamic_value.Reader.TheVariants as dynamic

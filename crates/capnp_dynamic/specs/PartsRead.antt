@@ -1,9 +1,9 @@
 -- What a printer reads under a field, and how the text goes on there.
-use Rattle.std.specs.Prelude.{ℕ, zero, suc, ◌+◌, ◌<◌, ◌≤◌, ◌≡◌, List, Option, Some, None, cond, Err}
+use Rattle.std.specs.Prelude.{ℕ, zero, suc, ◌+◌, ◌<◌, ◌≡◌, List, Option, cond, Err}
 use Rattle.capnp_device.specs.declared.error.ErrorKind.{ErrorKind}
 use Rattle.capnp_schema.specs.FieldLists.{index_of}
 use Rattle.capnp_schema.specs.Schema.{TypedField, is_member}
-use Rattle.capnp_schema.specs.StructHandles.{set_of, struct_field}
+use Rattle.capnp_schema.specs.StructHandles.{struct_field}
 use Rattle.capnp_schema.specs.Types.{SchemaType}
 use Rattle.capnp_schema.specs.declared.schema.fields.Field.{Field}
 use Rattle.capnp_records.specs.Text.{Layout, before, entering_fault, is_entered, later}

@@ -1,11 +1,11 @@
 -- The texts of what is read, as a printer appends them.
-use Rattle.std.specs.Prelude.{ℕ, zero, suc, [], ◌∷◌, ◌++◌, ◌*◌, ◌+◌, ◌≡◌, ◌<◌, ◌≤◌, List, length, drop, Bool, true, false, not, ◌||◌, ◌==◌, min, ⊤, Option, Some, None, cond, Ok}
+use Rattle.std.specs.Prelude.{ℕ, zero, suc, [], ◌++◌, ◌*◌, ◌+◌, ◌≡◌, List, length, drop, Bool, true, false, not, ◌||◌, ◌==◌, min, ⊤, Option, Some, None, Ok}
 use Rattle.capnp_wire.specs.Standing.{list_levels, list_of, struct_levels, struct_of}
 use Rattle.capnp_wire.specs.Reading.{list_length}
 use Rattle.capnp_schema.specs.Enums.{enum_number, enum_set}
 use Rattle.capnp_schema.specs.FieldLists.{IsFieldOf, index_of}
 use Rattle.capnp_schema.specs.Laws.{group_height}
-use Rattle.capnp_schema.specs.Schema.{Schemas, TypedField, VoidValue, default_of, fields_of, is_member, node_of}
+use Rattle.capnp_schema.specs.Schema.{Schemas, TypedField, VoidValue, default_of, is_member, node_of}
 use Rattle.capnp_schema.specs.StructHandles.{number_of, set_of, struct_field, struct_fields}
 use Rattle.capnp_schema.specs.Types.{SchemaType, VoidType, BoolType, IntType, UIntType, EnumType, TextType, DataType, ListType, AnyPointerType}
 use Rattle.capnp_schema.specs.declared.schema.fields.Field.{Field}

@@ -1,5 +1,5 @@
-use Rattle.std.specs.Prelude.{[], Err, List, Ok, Option, Some, cond, string_bytes}
-use Rattle.std.proofs.Common.{ap, sym, subst, ◌≡◌, ℕ}
+use Rattle.std.specs.Prelude.{List, Ok, Option, string_bytes}
+use Rattle.std.proofs.Common.{subst, ◌≡◌, ℕ}
 use Rattle.capnp_records.specs.Text.{Layout, after}
 use Rattle.capnp_dynamic.specs.Pieces.{IsStopped, made_bytes, made_text}
 use Rattle.capnp_dynamic.specs.Shown.{printed_text, root_shown}

@@ -2,16 +2,14 @@
 use Rattle.std.proofs.Common.{◌≡◌, ap, subst, sym, IfOk, ◌∙◌}
 use Rattle.capnp_wire.specs.Standing.{struct_levels, struct_of}
 use Rattle.capnp_schema.specs.Accepted.{NamesEntries}
-use Rattle.capnp_schema.specs.Entries.{lists_seen}
 use Rattle.capnp_schema.specs.FieldLists.{index_of, schema_of as field_schema, typed_of}
-use Rattle.capnp_schema.specs.Plan.{IsSlotPlace, place_of}
+use Rattle.capnp_schema.specs.Plan.{IsSlotPlace}
 use Rattle.capnp_schema.specs.Schema.{Field, Schemas, TypedField, default_of, kind_default, seen_kind}
-use Rattle.capnp_schema.specs.StructHandles.{IsStruct, number_of, set_of, struct_field}
+use Rattle.capnp_schema.specs.StructHandles.{IsStruct, number_of, set_of}
 use Rattle.capnp_schema.specs.Tests.{seen_variant}
 use Rattle.capnp_schema.specs.Types.{SchemaType}
 use Rattle.capnp_schema.specs.declared.plan.Place.{Place}
 use Rattle.capnp_schema.specs.declared.plan.SlotPlan.{SlotPlan}
-use Rattle.capnp_schema.specs.declared.schema.fields.Field.{Field as FieldHandle}
 use Rattle.capnp_schema.specs.declared.schema.structs.StructSchema.{StructSchema}
 use Rattle.capnp_schema.specs.Facts.Layers.{seen_which}
 use Rattle.capnp_records.specs.Record.{Left}

@@ -1,4 +1,4 @@
-use Rattle.std.proofs.Common.{sym, ◌∙◌, arith}
+use Rattle.std.proofs.Common.{◌∙◌, arith}
 use Rattle.capnp_schema.specs.FieldLists.{index_of}
 use Rattle.capnp_dynamic.proofs.ItemsShown.{discriminant_in, member_has, ok_same, shown_of_another, shown_of_first}
 use Rattle.capnp_dynamic.proofs.printer.parts.is_shown.Goals as goal

@@ -1,6 +1,6 @@
 use Rattle.std.proofs.Common.{subst, ◌∙◌, ◌≡◌}
 use Rattle.std.proofs.Common.{None, Some}
-use Rattle.capnp_schema.specs.FieldLists.{index_of, schema_of as field_schema}
+use Rattle.capnp_schema.specs.FieldLists.{index_of}
 use Rattle.capnp_schema.specs.GroupsDown.{IsGroupIn}
 use Rattle.capnp_schema.specs.StructHandles.{IsStruct, number_of, set_of}
 use Rattle.capnp_schema.specs.declared.schema.structs.StructSchema.{StructSchema}

@@ -1,5 +1,5 @@
-use Rattle.std.specs.Prelude.{[], ◌∷◌, ◌++◌, ◌≤◌, Bool, Option, Some, OnOk, IfErr}
-use Rattle.std.proofs.Common.{append-nil, ◌≡◌, ℕ, ◌+◌, ◌-◌, ◌<◌, ◌∙◌, ap, sym, subst, refl, arith, true, false, Ok, Err, List, length}
+use Rattle.std.specs.Prelude.{[], ◌∷◌, ◌++◌, Bool, Option, OnOk, IfErr}
+use Rattle.std.proofs.Common.{append-nil, ◌≡◌, ℕ, ◌+◌, ◌-◌, ◌<◌, ◌∙◌, ap, sym, subst, arith, true, false, Ok, Err, List, length}
 use Rattle.capnp_device.specs.declared.error.ErrorKind.{ErrorKind}
 use Rattle.capnp_schema.specs.FieldLists.{IsFieldOf, index_of}
 use Rattle.capnp_schema.specs.Schema.{is_member}
@@ -9,11 +9,11 @@ use Rattle.capnp_schema.specs.declared.schema.fields.Field.{Field}
 use Rattle.capnp_schema.specs.declared.schema.structs.StructSchema.{StructSchema}
 use Rattle.capnp_base.specs.declared.introspect.«Type».{«Type» as TypeHandle}
 use Rattle.capnp_records.specs.Record.{is_there}
-use Rattle.capnp_records.specs.Text.{Member, Out, after, before, item_if, more_text, rest_of, said, separator}
-use Rattle.capnp_dynamic.specs.Handles.{element_of, list_set, schema_of}
+use Rattle.capnp_records.specs.Text.{Member, Out, after, before, item_if, more_text, rest_of, said}
+use Rattle.capnp_dynamic.specs.Handles.{element_of, schema_of}
 use Rattle.capnp_dynamic.specs.PartsRead.{fault_at, field_in}
 use Rattle.capnp_dynamic.specs.Pieces.{IsStopped}
-use Rattle.capnp_dynamic.specs.Shown.{ArePut, IsPut, count_of, element_items, field_item, field_items, field_shown, is_member_shown, list_shown, member_items, part_seen, pending_member, record_items, record_shown, rest_items, still_pending, unless_member, value_shown}
+use Rattle.capnp_dynamic.specs.Shown.{IsPut, count_of, element_items, field_item, field_items, field_shown, list_shown, member_items, part_seen, pending_member, record_items, record_shown, rest_items, still_pending, unless_member, value_shown}
 use Rattle.capnp_dynamic.specs.declared.dynamic_value.Reader.{Reader as DynamicValue}
 use Rattle.capnp_dynamic.proofs.ItemsShown.{before_some, discriminant_in, items_begin, items_end, items_next, items_start, name_in, own_index, pending_from, plain_from, tail_items}
 use Rattle.capnp_dynamic.proofs.Steps.{both_put, full_stopped, leaf_from, element_next, element_stopped, elements_end, err_map, first_stopped, item_put, item_stopped, leaf_put, list_deep, ok_map, record_put, record_stopped, second_stopped, stopped_by, struct_deep}

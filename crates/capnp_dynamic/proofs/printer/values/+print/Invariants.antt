@@ -1,4 +1,4 @@
-use Rattle.std.proofs.Common.{ℕ, ◌+◌, ◌-◌, ◌≡◌, true, Ok}
+use Rattle.std.proofs.Common.{◌+◌, ◌-◌, ◌≡◌, true, Ok}
 use Rattle.std.specs.Prelude.{◌==◌}
 use Rattle.capnp_records.specs.Text.{after, more_text}
 use Rattle.capnp_dynamic.specs.Handles.{list_set}

@@ -2,7 +2,7 @@
 use Rattle.std.proofs.Common.{ap, ◌∙◌}
 use Rattle.capnp_schema.specs.AnnotationLists.{annotation_in, annotation_set}
 use Rattle.capnp_schema.specs.Schema.{Schemas}
-use Rattle.capnp_schema.specs.Types.{SchemaType, seen_type}
+use Rattle.capnp_schema.specs.Types.{seen_type}
 use Rattle.capnp_dynamic.specs.Viewed.{view_read}
 use Rattle.capnp_dynamic.proofs.StoredValues.{view_is_stored}
 use Rattle.capnp_dynamic.proofs.dynamic_value.annotation_value.AnnotationAnnotationValue.get_value.Goals as goal
