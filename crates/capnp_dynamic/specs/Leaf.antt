@@ -1,14 +1,10 @@
 -- The text of a value that is no struct and no list.
-use Rattle.std.specs.Prelude.{ℕ, List, [], ◌∷◌, cond, slice_get, codes, decimal, ⊤, Option, Ok, ◌≡◌}
+use Rattle.std.specs.Prelude.{ℕ, List, [], ◌∷◌, cond, slice_get, codes, decimal, ⊤}
 use Rattle.std.specs.Char.Escape.{hex_digit_at}
 use Rattle.std.specs.Fmt.{signed_decimal}
 use Rattle.capnp_schema.specs.Enums.{enum_in}
-use Rattle.capnp_schema.specs.Schema.{Schemas}
-use Rattle.capnp_schema.specs.Types.{SchemaType}
-use Rattle.capnp_records.specs.Text.{Inner, Layout, Out, after, data_text, name_or, quoted, said, value_text}
+use Rattle.capnp_records.specs.Text.{Out, data_text, name_or, quoted, said}
 use Rattle.capnp_dynamic.specs.Handles.{enum_of, number_in}
-use Rattle.capnp_dynamic.specs.Seen.{value_seen}
-use Rattle.capnp_dynamic.specs.Typed.{IsOf}
 use Rattle.capnp_dynamic.specs.declared.dynamic_value.Enum.{Enum}
 use Rattle.capnp_dynamic.specs.declared.dynamic_value.Reader.{Reader as DynamicValue}
 use Rattle.capnp_dynamic.specs.declared.dynamic_value.Reader.TheVariants as dynamic
@@ -45,7 +41,3 @@ leaf_text (dynamic.«Data» bytes) = said (data_text bytes.now)
 leaf_text (dynamic.Struct s) = said []
 leaf_text (dynamic.List l) = said []
 leaf_text (dynamic.AnyPointer p) = said (codes "<opaque pointer>")
-
--- after what stood before stands what the definition says, for each set and type that the value is of
-abbrev pub IsLeafPut : DynamicValue → Option (List ℕ) → Option (List ℕ) → Type 0
-IsLeafPut v old new = (set : Schemas) (t : SchemaType) → IsOf set t v → (inner : Option Inner) (at : Layout) → after (Ok old) (value_text set inner at t (value_seen v)) ≡ Ok new

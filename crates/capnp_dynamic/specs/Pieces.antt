@@ -1,5 +1,5 @@
 -- Texts as they are put piece by piece into a place.
-use Rattle.std.specs.Prelude.{ℕ, List, ◌++◌, Option, Some, None, Ok, Err, ◌≡◌, ⊤, string_bytes, cond}
+use Rattle.std.specs.Prelude.{ℕ, List, ◌++◌, Option, Some, None, Ok, Err, ◌≡◌, ◌≢◌, ⊤, string_bytes, cond}
 use Rattle.std.specs.declared.alloc.AllocError.{AllocError}
 use Rattle.capnp_device.specs.declared.error.ErrorKind.{ErrorKind}
 use Rattle.capnp_device.specs.declared.error.ErrorKind.TheVariants.{OutOfMemory}
@@ -15,10 +15,15 @@ made_bytes made = string_bytes made.text
 abbrev pub made_text : Made → Option (List ℕ)
 made_text made = cond made.is_said (Some (made_bytes made)) None
 
--- why a printer stopped that was to put a text after another: the text is refused with that number, or the place was full
+-- why a printer stopped that was to put a text after another: the text is refused with that number, or there was no room
 abbrev pub IsStopped : {F : Type 0} → Option (List ℕ) → Out → Stop F → Type 0
-IsStopped old o (Refused e) = after (Ok old) o ≡ Err e.kind
+IsStopped old o (Refused e) = e.kind ≢ OutOfMemory → after (Ok old) o ≡ Err e.kind
 IsStopped old o (Full fault) = ⊤
+
+-- there was no room
+abbrev pub IsFull : {F : Type 0} → Stop F → Type 0
+IsFull (Refused e) = e.kind ≡ OutOfMemory
+IsFull (Full fault) = ⊤
 
 -- the number of the refusal of a printer that stopped in a string
 abbrev pub stopped_kind : Stop AllocError → ErrorKind

@@ -2,7 +2,7 @@
 ghost use Rattle.std.specs.Prelude.{[], ◌≡◌, ◌<◌, ◌∷◌, flat_map, Ok, OnOk};
 ghost use Rattle.std.specs.Char.{digit_char};
 ghost use Rattle.capnp_records.specs.Text.{after, data_text, decimals, quoted, said};
-ghost use Rattle.capnp_dynamic.specs.Leaf.{IsLeaf, IsLeafPut, enum_name, leaf_text, two_digits};
+ghost use Rattle.capnp_dynamic.specs.Leaf.{IsLeaf, enum_name, leaf_text, two_digits};
 
 use super::out::Out;
 use crate::dynamic_value::{Enum, Reader};
@@ -96,8 +96,8 @@ fn put_enum<O: Out>(value: Enum<'_>, out: &mut O) -> Result<(), O::Fault>
     Ok(())
 }
 
-/// Appends the text of a value that is no struct and no list, whatever its type.
-fn put_known<O: Out>(value: Reader<'_>, out: &mut O) -> Result<(), O::Fault>
+/// Appends the text of a value that is no struct and no list.
+pub(super) fn put_leaf<O: Out>(value: Reader<'_>, out: &mut O) -> Result<(), O::Fault>
     requires { IsLeaf value }
     ensures { OnOk result (after (Ok (O.text out.old)) (leaf_text value.entry) ≡ Ok (O.text out.new)) }
 {
@@ -119,13 +119,4 @@ fn put_known<O: Out>(value: Reader<'_>, out: &mut O) -> Result<(), O::Fault>
         Reader::AnyPointer(_) => out.put("<opaque pointer>"),
         Reader::Struct(_) | Reader::List(_) => unreachable!(),
     }
-}
-
-/// Appends the text of a value that is no struct and no list. Refused where the place takes no more, and never else.
-pub(super) fn put_leaf<O: Out>(value: Reader<'_>, out: &mut O) -> Result<(), O::Fault>
-    requires { IsLeaf value }
-    ensures { OnOk result (IsLeafPut value.entry (O.text out.old) (O.text out.new)) }
-{
-    put_known(value, out)?;
-    Ok(())
 }
