@@ -3,6 +3,7 @@ ghost use Rattle.capnp_schema.specs.Entries.{lists_seen};
 
 use crate::dynamic_value;
 use crate::elements::read_element;
+use crate::printer::print_debug;
 use capnp_base::any_pointer;
 use capnp_base::introspect::Type;
 use capnp_base::traits::{IndexMove, ListIter, SetterInput};
@@ -10,6 +11,7 @@ use capnp_schema::set::SchemaSet;
 use capnp_wire::error::Result;
 use capnp_wire::laws::list_is_well_formed;
 use capnp_wire::{ListReader, PointerBuilder};
+use std::fmt;
 
 /// A list that is read: its elements, their type, and the set that the type is of.
 #[derive(Clone, Copy)]
@@ -29,7 +31,7 @@ impl<'a> Reader<'a> {
     ghost use Rattle.capnp_dynamic.specs.Handles.{element_of, list_reader_of, list_set, type_of};
     ghost use Rattle.capnp_dynamic.specs.Reads.{element_seen};
     ghost use Rattle.capnp_dynamic.specs.Seen.{answered};
-    ghost use Rattle.capnp_dynamic.specs.Typed.{IsOf};
+    ghost use Rattle.capnp_dynamic.specs.Typed.{IsOf, IsUnder};
 
     /// A reader of a list whose elements are of a type of the set.
     pub(crate) fn new(reader: ListReader<'a>, element_type: Type, set: &'a SchemaSet) -> Reader<'a>
@@ -74,6 +76,7 @@ impl<'a> Reader<'a> {
     /// `TextNotTerminated`.
     pub fn get(self, index: u32) -> Result<dynamic_value::Reader<'a>>
         ensures value { answered result ≡ element_seen self.entry index }
+        ensures under { IfOk result (IsUnder (list_set self.entry) (element_of self.entry)) }
         ensures typed { NamesEntries (list_set self.entry) (element_of self.entry) → IfOk result (IsOf (list_set self.entry) (element_of self.entry)) }
     {
         read_element(&self.reader, self.set, self.element_type.which(), index)
@@ -123,6 +126,13 @@ impl<'a> IntoIterator for Reader<'a> {
 
     fn into_iter(self) -> ListIter<Reader<'a>, Result<dynamic_value::Reader<'a>>> {
         self.iter()
+    }
+}
+
+impl fmt::Debug for Reader<'_> {
+    /// The printed form of the list.
+    fn fmt<W: fmt::Write>(&self, f: &mut fmt::Formatter<W>) -> fmt::Result {
+        print_debug(dynamic_value::Reader::List(*self), f)
     }
 }
 

@@ -2,6 +2,7 @@
 use crate::bits::discriminant_at;
 use crate::dynamic_value;
 use crate::placed::{has_planned, read_placed};
+use crate::printer::print_debug;
 use capnp_base::any_pointer;
 use capnp_base::traits::{OwnedStruct, SetterInput};
 use capnp_schema::schema::{Field, StructSchema};
@@ -9,6 +10,7 @@ use capnp_wire::error::Result;
 use capnp_wire::laws::{copied_structs_are_well_formed, struct_is_well_formed};
 use capnp_wire::size::MessageSize;
 use capnp_wire::{PointerBuilder, StructReader};
+use std::fmt;
 
 /// A struct that is read: its sections, and its schema.
 #[derive(Clone, Copy)]
@@ -125,6 +127,13 @@ impl<'a> Reader<'a> {
         ensures { T.Reader.from_gives (reader_of self.entry) result }
     {
         T::Reader::from(self.reader)
+    }
+}
+
+impl fmt::Debug for Reader<'_> {
+    /// The printed form of the struct.
+    fn fmt<W: fmt::Write>(&self, f: &mut fmt::Formatter<W>) -> fmt::Result {
+        print_debug(dynamic_value::Reader::Struct(*self), f)
     }
 }
 

@@ -8,7 +8,7 @@ ghost use Rattle.capnp_schema.specs.Tests.{seen_variant};
 ghost use Rattle.capnp_records.specs.Facts.Readers.{element_read};
 ghost use Rattle.capnp_records.specs.Default.{read_of};
 ghost use Rattle.capnp_dynamic.specs.Seen.{answered};
-ghost use Rattle.capnp_dynamic.specs.Typed.{IsOf};
+ghost use Rattle.capnp_dynamic.specs.Typed.{IsOf, IsUnder};
 
 use crate::behind::{plain_data, plain_list, plain_text};
 use crate::dynamic_value::{Enum, Reader as Value};
@@ -27,6 +27,7 @@ pub(crate) fn read_element<'a>(
     index: u32,
 ) -> Result<Value<'a>>
     ensures value { answered result ≡ read_of (lists_seen set.now) VoidValue (seen_variant variant) (element_read (lists_seen set.now) (list_of list.now) (list_levels list.now) (seen_variant variant) index) }
+    ensures under { IfOk result (IsUnder (lists_seen set.now) (seen_variant variant)) }
     ensures typed { NamesEntries (lists_seen set.now) (seen_variant variant) → IfOk result (IsOf (lists_seen set.now) (seen_variant variant)) }
 {
     match variant {
