@@ -22,13 +22,14 @@ expect() {
     : > "$scratch/out"
 }
 
-# message FILE NAME TEXT OPTIONS LINE: `capnp encode OPTIONS` makes FILE from TEXT, and under NAME it is printed as LINE
+# message FILE WORDS TEXT OPTIONS LINE: `capnp encode OPTIONS` makes FILE from TEXT, and for these words it is printed as LINE
 message() {
-    ./capnp_show "$2" < "examples/$1" > "$scratch/out" 2> "$scratch/err"
+    # shellcheck disable=SC2086 # the name of a struct, and after it perhaps --indent
+    ./capnp_show $2 < "examples/$1" > "$scratch/out" 2> "$scratch/err"
     expect "$1" $? 0 "$5" ""
     if command -v capnp > "$scratch/which"; then
         # shellcheck disable=SC2086 # no option is no word
-        echo "$3" | capnp encode $4 examples/flat.capnp "$2" > "$scratch/made"
+        printf '%s\n' "$3" | capnp encode $4 examples/built_in.capnp "${2%% *}" > "$scratch/made"
         cmp -- "$scratch/made" "examples/$1" || fail "$1: capnp makes other bytes"
     fi
 }
@@ -44,6 +45,49 @@ message flat_segments.bin Flat '(a = 5)' --segment-size=1 '(a = 5)'
 message many_segments.bin Many '(flag = false, s = -128, n = 65535, w = 2147483647, q = 1)' --segment-size=1 \
     '(flag = false, s = -128, n = 65535, w = 2147483647, q = 1, z = ())'
 message two_messages.bin Flat '(a = 1) (a = 2)' '' '(a = 1)'
+message mixed.bin Mixed '(a = 5, y = 9, b = "hi")' '' '(a = 5, y = 9, b = "hi")'
+message mixed_segments.bin 'Mixed --indent' '(a = 5, x = void, b = "in another segment")' --segment-size=1 '(
+  a = 5,
+  x = (),
+  b = "in another segment"
+)'
+message shapes.bin Shapes '(id = 1, circle = (r = 4294967295))' '' '(id = 1, circle = (r = 4294967295))'
+message shapes_tag.bin Shapes '(id = 2, tag = (n = 3, u1 = 9, q = "z"))' '' '(id = 2, tag = (n = 3, u1 = 9, q = "z"))'
+message shapes_word.bin Shapes '(id = 3, word = "a word")' --segment-size=1 '(id = 3, word = "a word")'
+message loop.bin Loop '(again = (again = (again = (end = void))))' --segment-size=2 '(again = (again = (again = (end = ()))))'
+message lists.bin Lists '(bytes = [1, 2, 255], raw = 0x"00 ff", t = "a\"b\\\n", items = [(a = 1), (a = 2)])' '' \
+    '(bytes = [1, 2, 255], raw = 0x"00ff", t = "a\"b\\\n", items = [(a = 1), (a = 2)])'
+message lists_segments.bin Lists '(bytes = [1, 2, 255], raw = 0x"00 ff", t = "text", items = [(a = 1), (a = 2)])' \
+    --segment-size=3 '(bytes = [1, 2, 255], raw = 0x"00ff", t = "text", items = [(a = 1), (a = 2)])'
+message lists_empty.bin Lists '(bytes = [], t = "", items = [])' '' '(bytes = [], t = "", items = [])'
+message node.bin Node '(id = 18446744073709551615, displayName = "a name", size = inlineComposite)' '' \
+    '(id = 18446744073709551615, displayName = "a name", size = inlineComposite)'
+
+# long OPTIONS: a list of 5,000 structs is printed as the tool does: on one line to the byte, on lines but for spaces and
+# line breaks
+long() {
+    if command -v capnp > "$scratch/which"; then
+        # shellcheck disable=SC2086 # no option is no word
+        capnp encode $1 examples/built_in.capnp Lists < "$scratch/long" > "$scratch/message"
+        capnp decode --short examples/built_in.capnp Lists < "$scratch/message" > "$scratch/wanted"
+        ./capnp_show Lists < "$scratch/message" > "$scratch/out" 2> "$scratch/err"
+        checks=$((checks + 1))
+        cmp -- "$scratch/out" "$scratch/wanted" || fail "long $1: printed otherwise than by capnp"
+        capnp decode examples/built_in.capnp Lists < "$scratch/message" | tr -d ' \n' > "$scratch/wanted"
+        ./capnp_show Lists --indent < "$scratch/message" 2> "$scratch/err" | tr -d ' \n' > "$scratch/out"
+        checks=$((checks + 1))
+        cmp -- "$scratch/out" "$scratch/wanted" || fail "long $1: printed on lines otherwise than by capnp"
+        : > "$scratch/out"
+    fi
+}
+
+{
+    printf '(t = "5,000_structs", items = ['
+    seq -s ', ' -f '(a = %.0f)' 1 5000
+    printf '])\n'
+} > "$scratch/long"
+long ''
+long --segment-size=1000
 
 # kinds FILE VALUES OPTIONS: `capnp encode OPTIONS` makes FILE from the values in another file
 kinds() {
@@ -78,7 +122,7 @@ reading built.bin '(id = 7, level = -2, points = [(x = 1), (x = -3)])'
 reading copied.bin '(id = 7, name = "far away", scores = [4, 5], points = [(x = 6, y = 7)], next = (id = 8, name = "end"))'
 
 usage='usage: capnp_show NAME [--indent]'
-for words in '' Mixed many --indent 'Many --indent' 'Flat Many'; do
+for words in '' Nope many Shapes.circle --indent '--indent Many' 'Many --indent --indent' 'Flat Many'; do
     # shellcheck disable=SC2086 # some are several words
     ./capnp_show $words < examples/many.bin > "$scratch/out" 2> "$scratch/err"
     expect "words '$words'" $? 2 "" "$usage"
@@ -90,6 +134,9 @@ expect 'a word that is not UTF-8' $? 2 "" "$usage"
 expect 'no bytes' $? 1 "" 'refused: 2'
 head -c 31 examples/many.bin | ./capnp_show Many > "$scratch/out" 2> "$scratch/err"
 expect 'one byte short' $? 1 "" 'refused: 2'
+printf '\0\0\0\0\003\0\0\0\0\0\0\0\001\0\001\0\001\0\0\0\0\0\0\0\370\377\377\377\001\0\001\0' |
+    ./capnp_show Loop > "$scratch/out" 2> "$scratch/err"
+expect 'a struct that points to itself' $? 1 "" 'refused: 8'
 ./capnp_show Many < . > "$scratch/out" 2> "$scratch/err"
 expect 'a directory as input' $? 1 "" 'refused: 12'
 ./capnp_show Many <&- > "$scratch/out" 2> "$scratch/err"

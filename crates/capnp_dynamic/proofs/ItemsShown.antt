@@ -1,6 +1,7 @@
 -- The items of a struct, from a field on.
 use Rattle.std.specs.Prelude.{ℕ, zero, suc, ◌+◌, ◌<◌, ◌≤◌, ◌≡◌, ◌==◌, refl, List, [], ◌∷◌, ◌++◌, Bool, true, false, not, ◌&&◌, ◌||◌, nat_lt, cond, length, drop, slice_get, Option, Some, None, Result, Ok}
 use Rattle.std.proofs.Common.{ap, sym, subst, ◌∙◌, arith}
+use Rattle.std.proofs.lemmas.Bool.{eq-eqb}
 use Rattle.std.specs.Option.{unwrap_or}
 use Rattle.capnp_schema.specs.FieldLists.{IsFieldOf, IsFound, index_of, typed_of}
 use Rattle.capnp_device.specs.declared.error.Error.{Error}
@@ -9,7 +10,7 @@ use Rattle.capnp_schema.specs.Schema.{Schemas, TypedField, default_of, is_member
 use Rattle.capnp_schema.specs.StructHandles.{number_of, set_of, struct_field, struct_fields}
 use Rattle.capnp_schema.specs.declared.schema.fields.Field.{Field}
 use Rattle.capnp_schema.specs.declared.schema.structs.StructSchema.{StructSchema}
-use Rattle.capnp_records.specs.Facts.Frame.{eq-from, first-of, second-of}
+use Rattle.capnp_records.specs.Facts.Frame.{first-of, second-of}
 use Rattle.capnp_records.specs.Facts.PartRead.{found-active, nth-plain_parts}
 use Rattle.capnp_records.specs.Part.{active_value, has_of, is_active, nth_value, which_of}
 use Rattle.capnp_records.specs.Reading.{active_among, discriminant, plain_parts}
@@ -69,7 +70,7 @@ active-part r i v e = go ((node_of (set_of (schema_of r)) (number_of (schema_of 
     go true is e = absurd (no-active e)
     go false is e =
         let found = found-active (part_seen r) (struct_fields (schema_of r)) 0 i (discriminant (node_of (set_of (schema_of r)) (number_of (schema_of r))) (struct_of (reader_of r)).bytes)
-        (subst (λ n. is_active u n ≡ true) (omega arith) (ap (λ (w : Union). is_active w i) e ∙ eq-from i i refl)) in
+        (subst (λ n. is_active u n ≡ true) (omega arith) (ap (λ (w : Union). is_active w i) e ∙ eq-eqb i i refl)) in
         sym (ap active_value e) ∙ found.part_is
 
 -- which is the active member, where its place is still to come
@@ -123,7 +124,7 @@ member_has r i h w = go (union_seen r) (active-part r) w (is_member (struct_fiel
     none-some e = cc
 
     here : (q : Bool) (j : ℕ) → j ≡ i → not (q && not (i == j)) ≡ true
-    here true j e = ap (λ q. not (not q)) (eq-from i j (sym e))
+    here true j e = ap (λ q. not (not q)) (eq-eqb i j (sym e))
     here false j e = refl
 
     go : (u : Union) → IsActivePart r u → which_of (Parts (plain_parts (part_seen r) (struct_fields (schema_of r))) u) ≡ Some i → (q : Bool) → is_member (struct_field (schema_of r) i).field ≡ q →

@@ -1,10 +1,10 @@
 -- The text of a value that stands alone.
 use Rattle.std.specs.Prelude.{ℕ, ◌≡◌, ◌≢◌, refl, List, [], Bool, true, false, Option, Some, Ok, Err}
 use Rattle.std.proofs.Common.{ap, sym, subst, ◌∙◌}
+use Rattle.std.proofs.lemmas.Bool.{true≢false}
 use Rattle.std.specs.declared.alloc.AllocError.{AllocError}
 use Rattle.capnp_device.specs.declared.error.ErrorKind.{ErrorKind}
 use Rattle.capnp_device.specs.declared.error.ErrorKind.TheVariants.{OutOfMemory}
-use Rattle.capnp_records.specs.Facts.Frame.{true≢false}
 use Rattle.capnp_schema.specs.Schema.{VoidValue, node_of}
 use Rattle.capnp_schema.specs.StructHandles.{number_of, set_of}
 use Rattle.capnp_records.specs.Text.{Layout, Out, after, part_text, text_within}

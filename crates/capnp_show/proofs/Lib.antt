@@ -1,1 +1,4 @@
 pub mod Outcomes
+pub mod ReadFaults
+pub mod Shown
+pub mod TextFaults

@@ -9,6 +9,11 @@ pub refusal_gives : {T E P Q : Type 0} (K : E → Type 0) (r : Result T E) → (
 refusal_gives K (Ok x) f h = tt {0}
 refusal_gives K (Err e) f h = λ k. f h
 
+-- what each refusal says, of what it said before
+pub each_refusal : {T E : Type 0} {P Q : E → Type 0} (r : Result T E) → ((e : E) → P e → Q e) → IfErr r P → IfErr r Q
+each_refusal (Ok x) f h = tt {0}
+each_refusal (Err e) f h = f e h
+
 -- a line that a write of it was told of
 pub told_by_write : {T E : Type 0} (r : Result T E) (line : List ℕ) (written written' : Option (List ℕ)) (failures failures' : ℕ) →
     OnOk r (Appends written written' line) → OnErr r (HasFailed failures failures') →

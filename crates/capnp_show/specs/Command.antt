@@ -1,44 +1,42 @@
 -- What the program's words say.
-use Rattle.std.specs.Prelude.{ℕ, negsuc, pos, List, [], ◌∷◌, true, Option, Some, None, Result, Ok, Err, String, string_bytes, ◌++◌, ◌<◌, ◌⊎◌, length, take, drop, codes, decimal, bytes_eq, if◌then◌else◌}
+use Rattle.std.specs.Prelude.{ℕ, suc, List, [], ◌∷◌, Bool, true, false, not, ◌&&◌, Option, Some, None, Result, Ok, Err, String, string_bytes, ◌++◌, ◌<◌, ◌⊎◌, length, take, drop, codes, decimal, bytes_eq, if◌then◌else◌}
 use Rattle.std.specs.Io.KnownBytes.{Appends}
+use Rattle.std.specs.Option.{option_map}
 use Rattle.std.specs.Vec.Iter.{into_iter_items}
 use Rattle.std.specs.declared.vec.IntoIter.{IntoIter}
 use Rattle.capnp_device.specs.Device.{HasFailed}
 use Rattle.capnp_device.specs.ErrorNumber.{error_number}
 use Rattle.capnp_device.specs.declared.error.ErrorKind.{ErrorKind}
-use Rattle.capnp_show.specs.declared.fields.FlatValue.TheVariants.{Void, Bool as Truth, Int8, Int32, UInt16, UInt64}
-use Rattle.capnp_show.specs.Flat.{Field}
-
--- the fields of `Flat`
-abbrev pub flat : List Field
-flat = record { name = codes "a"; offset = 0; default = UInt16 0 } ∷ []
-
--- the fields of `Many`
-abbrev pub many : List Field
-many =
-    record { name = codes "flag"; offset = 0; default = Truth true }
-    ∷ record { name = codes "s"; offset = 1; default = Int8 (negsuc 0) }
-    ∷ record { name = codes "n"; offset = 1; default = UInt16 7 }
-    ∷ record { name = codes "w"; offset = 1; default = Int32 (pos 0) }
-    ∷ record { name = codes "q"; offset = 1; default = UInt64 0 }
-    ∷ record { name = codes "z"; offset = 0; default = Void }
-    ∷ []
+use Rattle.capnp_schema.specs.Builtin.{builtin}
+use Rattle.capnp_schema.specs.Schema.{Schemas, Brand, node_of}
+use Rattle.capnp_show.specs.declared.command.Request.{Request}
 
 -- the words after the program's name, none where the system answered no words
 abbrev pub words_after_name : {A Z E : Type 0} → Result (IntoIter A Z) E → List A
 words_after_name (Ok args) = drop 1 (into_iter_items args)
 words_after_name (Err error) = []
 
--- the fields of a struct by its name
-abbrev pub struct_named : List ℕ → Option (List Field)
-struct_named name =
-    if bytes_eq name (codes "Flat") then Some flat else (if bytes_eq name (codes "Many") then Some many else None)
+-- the first of these brands, which are the set's from a number on, that is no group and whose node has the name
+abbrev pub brand_among : Schemas → List Brand → ℕ → List ℕ → Option ℕ
+brand_among set [] b name = None
+brand_among set (x ∷ xs) b name =
+    if not (node_of set b).is_group && bytes_eq name (node_of set b).display_name then Some b else brand_among set xs (suc b) name
 
--- the fields of the struct that a lone word names
-abbrev pub fields_named : {A : Type 0} → List (String A) → Option (List Field)
-fields_named [] = None
-fields_named (word ∷ []) = struct_named (string_bytes word)
-fields_named (word ∷ more ∷ words) = None
+-- the struct of a name that is no group
+abbrev pub brand_named : Schemas → List ℕ → Option ℕ
+brand_named set name = brand_among set set.brands 0 name
+
+-- the text of that struct of the built-in set, where there is one
+abbrev pub text_asked : (indented : Bool) → Option ℕ → Option Request
+text_asked indented = option_map (λ b. record { brand = b; indented = indented })
+
+-- what the words ask for: a struct by its name, and after that whether its text is indented
+abbrev pub asked : {A : Type 0} → List (String A) → Option Request
+asked [] = None
+asked (name ∷ []) = text_asked false (brand_named builtin (string_bytes name))
+asked (name ∷ option ∷ []) =
+    if bytes_eq (string_bytes option) (codes "--indent") then text_asked true (brand_named builtin (string_bytes name)) else None
+asked (name ∷ option ∷ more ∷ words) = None
 
 -- ---- what is told where nothing is shown ----
 

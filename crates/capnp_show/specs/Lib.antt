@@ -1,4 +1,2 @@
-pub mod Flat
-pub mod Text
 pub mod Show
 pub mod Command

@@ -1,31 +1,61 @@
 -- What is shown for the bytes of a stream.
-use Rattle.std.specs.Prelude.{ℕ, ◌≡◌, ◌≢◌, List, [], ◌∷◌, ◌++◌, ◌<◌, length, take, Option, Result, Ok, Err}
+use Rattle.std.specs.Prelude.{ℕ, ◌≡◌, ◌≢◌, ⊤, List, [], ◌∷◌, ◌++◌, ◌<◌, Bool, true, false, length, take, Option, Some, None, Result, Ok, Err}
 use Rattle.std.specs.Io.KnownBytes.{Appends, Consumes, IsAtEnd}
-use Rattle.capnp_wire.specs.Tree.{Tree, StructTree}
-use Rattle.capnp_wire.specs.Reading.{as_struct}
+use Rattle.capnp_wire.specs.Tree.{Tree}
 use Rattle.capnp_wire.specs.Stream.{message_tree_of}
 use Rattle.capnp_device.specs.declared.error.ErrorKind.{ErrorKind}
 use Rattle.capnp_device.specs.declared.error.ErrorKind.TheVariants.{OutOfMemory, ReadFailed, WriteFailed}
-use Rattle.capnp_show.specs.Flat.{Field, record_of}
-use Rattle.capnp_show.specs.Text.{record_text}
+use Rattle.capnp_schema.specs.Schema.{Schemas, VoidValue, brand_at, node_of}
+use Rattle.capnp_schema.specs.Types.{SchemaType, StructType}
+use Rattle.capnp_records.specs.Reading.{value_of}
+use Rattle.capnp_records.specs.Default.{read_of}
+use Rattle.capnp_records.specs.Record as value
+use Rattle.capnp_records.specs.Record.{Left, Record, Value}
+use Rattle.capnp_records.specs.Text.{Out, text_of}
 
--- a struct's record and a line break
-abbrev pub shown_struct : List Field → Result StructTree ErrorKind → Result (List ℕ) ErrorKind
-shown_struct fields (Ok s) = Ok (record_text (record_of fields s.bytes) ++ 10 ∷ [])
-shown_struct fields (Err kind) = Err kind
+-- the type of the structs of a brand
+abbrev pub root_type : Schemas → ℕ → SchemaType
+root_type set b = StructType b (brand_at set b).node
 
--- the root of a message, as a struct, with 64 levels
-abbrev pub shown_root : List Field → Result Tree ErrorKind → Result (List ℕ) ErrorKind
-shown_root fields (Ok root) = shown_struct fields (as_struct root 64)
-shown_root fields (Err kind) = Err kind
+-- a struct that is read under a group's brand is a group, whose text takes no level
+abbrev pub struct_or_group : (is_group : Bool) → Record → Value
+struct_or_group true r = value.Group r
+struct_or_group false r = value.Struct r
 
--- the line for the first message of a stream, or why there is none
-abbrev pub shown_text : List Field → List ℕ → Result (List ℕ) ErrorKind
-shown_text fields bytes = shown_root fields (message_tree_of bytes)
+abbrev pub as_printed : (is_group : Bool) → Value → Value
+as_printed is_group (value.Struct r) = struct_or_group is_group r
+as_printed is_group v = v
+
+-- a message's root as it is read as a struct of a brand, with 64 levels
+abbrev pub root_value : Schemas → ℕ → Tree → Value
+root_value set b root = read_of set VoidValue (root_type set b) (value_of set root (Left 64) (root_type set b))
+
+-- its text
+abbrev pub root_text : Schemas → ℕ → (indented : Bool) → Result Tree ErrorKind → Out
+root_text set b indented (Ok root) = text_of set indented (root_type set b) (as_printed (node_of set b).is_group (root_value set b root))
+root_text set b indented (Err kind) = Err kind
+
+-- the text of the first message of a stream, or why there is none
+abbrev pub shown_text : Schemas → ℕ → (indented : Bool) → List ℕ → Out
+shown_text set b indented bytes = root_text set b indented (message_tree_of bytes)
+
+-- a text by its bytes: one that holds UTF-8 past ASCII has some, and a refusal none
+abbrev pub IsText : Out → List ℕ → Type 0
+IsText (Ok (Some text)) bytes = bytes ≡ text
+IsText (Ok None) bytes = ⊤
+IsText (Err kind) bytes = ⊥
+
+-- a text and a line break
+abbrev pub IsLineOf : Out → List ℕ → Type 0
+IsLineOf o line = (text : List ℕ) × IsText o text × (line ≡ text ++ 10 ∷ [])
 
 -- a refusal that is neither for memory nor for a device's failure
 abbrev pub IsOfMessage : ErrorKind → Type 0
 IsOfMessage kind = (kind ≢ OutOfMemory) × (kind ≢ ReadFailed) × (kind ≢ WriteFailed)
+
+-- a refusal that is no device's failure
+abbrev pub IsOfRead : ErrorKind → Type 0
+IsOfRead kind = (kind ≢ ReadFailed) × (kind ≢ WriteFailed)
 
 -- ---- what a show did to its source and sink, by what was left before and after, and what was written ----
 
@@ -33,16 +63,17 @@ IsOfMessage kind = (kind ≢ OutOfMemory) × (kind ≢ ReadFailed) × (kind ≢ 
 abbrev pub IsRead : List ℕ → Option (List ℕ) → Option (List ℕ) → Type 0
 IsRead bytes left left' = Consumes left left' bytes × IsAtEnd left'
 
--- some bytes were read to the end, and their text and nothing else was written
-abbrev pub IsShown : List Field → Option (List ℕ) → Option (List ℕ) → Option (List ℕ) → Option (List ℕ) → Type 0
-IsShown fields left left' written written' =
-    (bytes : List ℕ) × (text : List ℕ) × IsRead bytes left left' × (shown_text fields bytes ≡ Ok text) × Appends written written' text
+-- some bytes were read to the end, and their text, a line break and nothing else was written
+abbrev pub IsShown : Schemas → ℕ → (indented : Bool) → Option (List ℕ) → Option (List ℕ) → Option (List ℕ) → Option (List ℕ) → Type 0
+IsShown set b indented left left' written written' =
+    (bytes : List ℕ) × (line : List ℕ) × IsRead bytes left left' × IsLineOf (shown_text set b indented bytes) line × Appends written written' line
 
 -- some bytes were read to the end, for which there is no text
-abbrev pub IsRefused : List Field → ErrorKind → Option (List ℕ) → Option (List ℕ) → Type 0
-IsRefused fields kind left left' = (bytes : List ℕ) × IsRead bytes left left' × (shown_text fields bytes ≡ Err kind)
+abbrev pub IsRefused : Schemas → ℕ → (indented : Bool) → ErrorKind → Option (List ℕ) → Option (List ℕ) → Type 0
+IsRefused set b indented kind left left' = (bytes : List ℕ) × IsRead bytes left left' × (shown_text set b indented bytes ≡ Err kind)
 
--- some bytes were read to the end, and a beginning of their text, not the whole, was written
-abbrev pub IsCutShort : List Field → Option (List ℕ) → Option (List ℕ) → Option (List ℕ) → Option (List ℕ) → Type 0
-IsCutShort fields left left' written written' =
-    (bytes : List ℕ) × (text : List ℕ) × (n : ℕ) × IsRead bytes left left' × (shown_text fields bytes ≡ Ok text) × (n < length text) × Appends written written' (take n text)
+-- some bytes were read to the end, and a beginning of their text and line break, not the whole, was written
+abbrev pub IsCutShort : Schemas → ℕ → (indented : Bool) → Option (List ℕ) → Option (List ℕ) → Option (List ℕ) → Option (List ℕ) → Type 0
+IsCutShort set b indented left left' written written' =
+    (bytes : List ℕ) × (line : List ℕ) × (n : ℕ) × IsRead bytes left left' × IsLineOf (shown_text set b indented bytes) line
+    × (n < length line) × Appends written written' (take n line)

@@ -1,15 +1,17 @@
 //! What the program does with its words.
-ghost use Rattle.std.specs.Prelude.{◌≡◌, ◌≢◌, ◌≤◌, ◌⊎◌, List, IfErr, IfOk, OnOk, IfSome, IsNone};
+ghost use Rattle.std.specs.Prelude.{◌≡◌, ◌≢◌, ◌≤◌, ◌<◌, ◌⊎◌, List, length, IfErr, IfOk, IfSome, OnOk, Some, None};
 ghost use Rattle.std.specs.IoError.{error_kind};
 ghost use Rattle.std.specs.declared.io.ErrorKind.TheVariants.{OutOfMemory as NoMemory};
 ghost use Rattle.capnp_device.specs.Device.{HasFailed};
 ghost use Rattle.capnp_device.specs.declared.error.ErrorKind.TheVariants.{OutOfMemory, ReadFailed, WriteFailed};
-ghost use Rattle.capnp_show.specs.Command.{IsTold, fields_named, refusal_line, usage_line, words_after_name};
-ghost use Rattle.capnp_show.specs.Flat.{Field, fields_of};
+ghost use Rattle.capnp_schema.specs.Builtin.{builtin};
+ghost use Rattle.capnp_schema.specs.Entries.{lists_seen};
+ghost use Rattle.capnp_show.specs.Command.{IsTold, asked, brand_named, refusal_line, usage_line, words_after_name};
 ghost use Rattle.capnp_show.specs.Show.{IsCutShort, IsOfMessage, IsRefused, IsShown};
 
 use crate::engine::show;
-use crate::fields::{FLAT, FlatField, MANY};
+use capnp_schema::builtin;
+use capnp_schema::set::SchemaSet;
 use capnp_wire::device::{Sink, Source};
 use capnp_wire::error::{Error, ErrorKind, Result};
 use capnp_wire::transfer::write_all;
@@ -17,6 +19,13 @@ use std::alloc::Global;
 use std::{env, io};
 
 const USAGE: &str = "usage: capnp_show NAME [--indent]\n";
+
+/// What the words ask for: a brand of the built-in set, and whether its text is indented.
+#[derive(Clone, Copy, Debug, PartialEq, Eq)]
+pub struct Request {
+    pub brand: u32,
+    pub indented: bool,
+}
 
 /// The words after the program's name, of what the system answered; none where one of them is not UTF-8, since no such
 /// list of words names a struct. Refused with `OutOfMemory` alone.
@@ -34,24 +43,73 @@ pub fn words(alloc: Global, args: io::Result<env::Args>) -> Result<Vec<String>>
     }
 }
 
-/// The fields of the struct that the words name: `Flat` or `Many`, as the only word.
-fn find_fields(words: &[String]) -> Option<&'static [FlatField]>
-    ensures some { IfSome result (λ fields. fields_named words.now ≡ Some (fields_of fields.now)) }
-    ensures none { IsNone result → fields_named words.now ≡ None }
+/// The struct of the built-in set that has the name and is no group. It takes no memory, so that an unknown name is told
+/// whatever memory there is.
+fn find_brand(name: &str) -> Option<u32>
+    ensures found { result ≡ brand_named builtin name.now }
+    ensures inside { IfSome result (λ b. b < length builtin.brands) }
 {
-    let [name] = words else {
-        return None;
-    };
-    if name.as_str() == "Flat" {
-        return Some(&FLAT);
+    match name {
+        "Flat" => Some(0),
+        "Mixed" => Some(1),
+        "Many" => Some(2),
+        "Shapes" => Some(3),
+        "Loop" => Some(6),
+        "Lists" => Some(7),
+        "Node" => Some(8),
+        _ => None,
     }
-    if name.as_str() == "Many" {
-        return Some(&MANY);
-    }
-    None
 }
 
-/// Runs the program on its words, and answers its exit status: 0 where the line was written, 1 where `show` was refused,
+/// What the words ask for: the name of a struct, alone or followed by `--indent`.
+fn read_words(words: &[String]) -> Option<Request>
+    ensures asked { result ≡ asked words.now }
+    ensures inside { IfSome result (λ r. r.brand < length builtin.brands) }
+{
+    let (name, indented) = match words {
+        [name] => (name, false),
+        [name, option] if option.as_str() == "--indent" => (name, true),
+        _ => return None,
+    };
+    let brand = find_brand(name.as_str())?;
+    Some(Request { brand, indented })
+}
+
+/// The built-in set, whose lists meet the twelve rules. Refused with `OutOfMemory` alone.
+fn built_in_set(alloc: Global) -> Result<SchemaSet>
+    ensures set { IfOk result (λ set. lists_seen set ≡ builtin) }
+    ensures refused { IfErr result (λ e. e.kind ≡ OutOfMemory) }
+{
+    let (nodes, brands, enums) = builtin::records(alloc)?;
+    SchemaSet::new(alloc, nodes, brands, enums)
+}
+
+/// `show` under the built-in set, which is made before any input is read.
+fn show_built_in<R: Source, W: Sink>(
+    alloc: Global,
+    request: Request,
+    source: &mut R,
+    sink: &mut W,
+) -> Result<()>
+    requires { request.brand < length builtin.brands }
+    ensures shown { OnOk result (IsShown builtin request.brand request.indented (R.left source.old) (R.left source.new)
+        (W.written sink.old) (W.written sink.new)) }
+    ensures refused { IfErr result (λ e. IsOfMessage e.kind →
+        IsRefused builtin request.brand request.indented e.kind (R.left source.old) (R.left source.new)) }
+    ensures read_failed { IfErr result (λ e. e.kind ≡ ReadFailed →
+        HasFailed (R.failures source.old) (R.failures source.new)) }
+    ensures write_failed { IfErr result (λ e. e.kind ≡ WriteFailed →
+        HasFailed (W.failures sink.old) (W.failures sink.new)) }
+    ensures beginning { IfErr result (λ e. e.kind ≡ WriteFailed →
+        IsCutShort builtin request.brand request.indented (R.left source.old) (R.left source.new)
+        (W.written sink.old) (W.written sink.new)) }
+    ensures nothing { IfErr result (λ e. e.kind ≢ WriteFailed → sink.new ≡ sink.old) }
+{
+    let set = built_in_set(alloc)?;
+    show(alloc, &set, request.brand, source, sink, request.indented)
+}
+
+/// Runs the program on its words, and answers its exit status: 0 where the text was written, 1 where `show` was refused,
 /// with its number on `faults`, and 2 for other words, with the usage on `faults` and before any input is read. Where a
 /// line can't be written to `faults`, the status is the same.
 pub fn command<R: Source, W: Sink, F: Sink>(
@@ -62,30 +120,30 @@ pub fn command<R: Source, W: Sink, F: Sink>(
     faults: &mut F,
 ) -> u8
     ensures statuses { result ≤ 2 }
-    ensures other_words { fields_named words.now ≡ None → result ≡ 2 }
-    ensures known_words { result ≡ 2 → fields_named words.now ≡ None }
+    ensures other_words { asked words.now ≡ None → result ≡ 2 }
+    ensures known_words { result ≡ 2 → asked words.now ≡ None }
     ensures unread { result ≡ 2 → source.new ≡ source.old }
     ensures unwritten { result ≡ 2 → sink.new ≡ sink.old }
     ensures usage { result ≡ 2 → IsTold usage_line (F.written faults.old) (F.written faults.new)
         (F.failures faults.old) (F.failures faults.new) }
-    ensures shown { result ≡ 0 → (fields : List Field) × (fields_named words.now ≡ Some fields)
-        × IsShown fields (R.left source.old) (R.left source.new) (W.written sink.old) (W.written sink.new) }
+    ensures shown { result ≡ 0 → (r : Request) × (asked words.now ≡ Some r)
+        × IsShown builtin r.brand r.indented (R.left source.old) (R.left source.new) (W.written sink.old) (W.written sink.new) }
     ensures quiet { result ≡ 0 → faults.new ≡ faults.old }
-    ensures refused { result ≡ 1 → (fields : List Field) × (kind : ErrorKind) × (fields_named words.now ≡ Some fields)
+    ensures refused { result ≡ 1 → (r : Request) × (kind : ErrorKind) × (asked words.now ≡ Some r)
         × (IsTold (refusal_line kind) (F.written faults.old) (F.written faults.new)
         (F.failures faults.old) (F.failures faults.new) ⊎ (faults.new ≡ faults.old))
-        × (IsOfMessage kind → IsRefused fields kind (R.left source.old) (R.left source.new))
+        × (IsOfMessage kind → IsRefused builtin r.brand r.indented kind (R.left source.old) (R.left source.new))
         × (kind ≡ ReadFailed → HasFailed (R.failures source.old) (R.failures source.new))
         × (kind ≡ WriteFailed → HasFailed (W.failures sink.old) (W.failures sink.new))
-        × (kind ≡ WriteFailed → IsCutShort fields (R.left source.old) (R.left source.new)
+        × (kind ≡ WriteFailed → IsCutShort builtin r.brand r.indented (R.left source.old) (R.left source.new)
         (W.written sink.old) (W.written sink.new))
         × (kind ≢ WriteFailed → sink.new ≡ sink.old) }
 {
-    let Some(fields) = find_fields(words) else {
+    let Some(request) = read_words(words) else {
         tell(USAGE.as_bytes(), faults);
         return 2;
     };
-    match show(alloc, fields, source, sink) {
+    match show_built_in(alloc, request, source, sink) {
         Ok(()) => 0,
         Err(error) => {
             report(alloc, error.kind, faults);

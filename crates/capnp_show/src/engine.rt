@@ -1,59 +1,92 @@
 //! What the program is about: a message that is read is shown as its text.
-ghost use Rattle.std.specs.Prelude.{◌≡◌, ◌≢◌, Ok, Err, IfOk, IfErr, OnOk, string_bytes};
+ghost use Rattle.std.specs.Prelude.{◌≡◌, ◌≢◌, ◌<◌, ◌++◌, ◌∷◌, [], ℕ, List, length, Ok, Err, IfOk, IfErr, OnOk, string_bytes};
 ghost use Rattle.capnp_device.specs.Device.{HasFailed};
-ghost use Rattle.capnp_device.specs.declared.error.ErrorKind.TheVariants.{ReadFailed, WriteFailed};
-ghost use Rattle.capnp_show.specs.Flat.{fields_of};
-ghost use Rattle.capnp_show.specs.Show.{IsCutShort, IsOfMessage, IsRefused, IsShown, shown_text};
+ghost use Rattle.capnp_device.specs.declared.error.ErrorKind.TheVariants.{OutOfMemory, ReadFailed, WriteFailed};
+ghost use Rattle.capnp_schema.specs.Entries.{lists_seen};
+ghost use Rattle.capnp_show.specs.Show.{IsCutShort, IsLineOf, IsOfMessage, IsOfRead, IsRefused, IsShown, shown_text};
+ghost use Rattle.capnp_dynamic.specs.Pieces.{IsAppended};
 
-use crate::fields::FlatField;
-use crate::printer::print_struct;
+use capnp_dynamic::printer::print;
+use capnp_dynamic::{dynamic_struct, dynamic_value};
+use capnp_schema::set::SchemaSet;
 use capnp_wire::device::{Sink, Source};
 use capnp_wire::error::Result;
 use capnp_wire::message::Reader;
 use capnp_wire::transfer::{read_all, write_all};
 use std::alloc::Global;
 
-/// Reads the source to its end and writes the first message's root, as a struct with these fields, and a line break.
-/// What follows the message is not looked at (encoding, "Serialization Over a Stream"). The text is made whole before its
-/// first byte is written.
+/// Reads the source to its end and writes the text of the first message's root, read as a struct of that brand of the
+/// set, and a line break: on one line, or indented on several. What follows the message is not looked at (encoding,
+/// "Serialization Over a Stream"). The text is made whole before its first byte is written.
 ///
-/// Refused with `ReadFailed` or `WriteFailed` where a call of the source or the sink failed, with `OutOfMemory`, and
-/// as the message is: with `Truncated`, `TooManySegments`, `BadPointer`, `CapabilityPointer` or `WrongPointerKind`.
-/// After `WriteFailed` a proper beginning of the line was written, after any other refusal nothing.
+/// Refused with `ReadFailed` or `WriteFailed` where a call of the source or the sink failed, with `OutOfMemory`, as the
+/// message is (`Truncated`, `TooManySegments`), and with the number of the first value that can't be read, in the text's
+/// order: `BadPointer`, `WrongPointerKind`, `WrongElementSize`, `TextNotTerminated`, `TooDeep` or `CapabilityPointer`.
+/// After `WriteFailed` a proper beginning of the text and its line break was written, after any other refusal nothing.
 pub fn show<R: Source, W: Sink>(
     alloc: Global,
-    fields: &[FlatField],
+    set: &SchemaSet,
+    brand: u32,
     source: &mut R,
     sink: &mut W,
+    indented: bool,
 ) -> Result<()>
-    ensures shown { OnOk result (IsShown (fields_of fields.now) (R.left source.old) (R.left source.new)
+    requires { brand < length (lists_seen set.now).brands }
+    ensures shown { OnOk result (IsShown (lists_seen set.now) brand indented (R.left source.old) (R.left source.new)
         (W.written sink.old) (W.written sink.new)) }
     ensures refused { IfErr result (λ e. IsOfMessage e.kind →
-        IsRefused (fields_of fields.now) e.kind (R.left source.old) (R.left source.new)) }
+        IsRefused (lists_seen set.now) brand indented e.kind (R.left source.old) (R.left source.new)) }
     ensures read_failed { IfErr result (λ e. e.kind ≡ ReadFailed →
         HasFailed (R.failures source.old) (R.failures source.new)) }
     ensures write_failed { IfErr result (λ e. e.kind ≡ WriteFailed →
         HasFailed (W.failures sink.old) (W.failures sink.new)) }
     ensures beginning { IfErr result (λ e. e.kind ≡ WriteFailed →
-        IsCutShort (fields_of fields.now) (R.left source.old) (R.left source.new)
+        IsCutShort (lists_seen set.now) brand indented (R.left source.old) (R.left source.new)
         (W.written sink.old) (W.written sink.new)) }
     ensures nothing { IfErr result (λ e. e.kind ≢ WriteFailed → sink.new ≡ sink.old) }
 {
     let bytes = read_all(alloc, source)?;
-    let text = get_line(alloc, fields, &bytes)?;
-    write_all(sink, text.as_bytes())
+    let line = get_line(alloc, set, brand, &bytes, indented)?;
+    write_all(sink, line.as_bytes())
 }
 
-/// The line for the first message in these bytes.
-fn get_line(alloc: Global, fields: &[FlatField], bytes: &[u8]) -> Result<String>
-    ensures shown { IfOk result (λ line. shown_text (fields_of fields.now) bytes.now ≡ Ok (string_bytes line)) }
-    ensures refused { IfErr result (λ e. IsOfMessage e.kind → shown_text (fields_of fields.now) bytes.now ≡ Err e.kind) }
+/// The text of the first message in these bytes, and a line break.
+fn get_line(
+    alloc: Global,
+    set: &SchemaSet,
+    brand: u32,
+    bytes: &[u8],
+    indented: bool,
+) -> Result<String>
+    requires { brand < length (lists_seen set.now).brands }
+    ensures shown { IfOk result (λ line. IsLineOf (shown_text (lists_seen set.now) brand indented bytes.now) (string_bytes line)) }
+    ensures refused { IfErr result (λ e. IsOfMessage e.kind → shown_text (lists_seen set.now) brand indented bytes.now ≡ Err e.kind) }
     ensures not_read { IfErr result (λ e. e.kind ≢ ReadFailed) }
     ensures not_written { IfErr result (λ e. e.kind ≢ WriteFailed) }
 {
-    let reader = Reader::new(alloc, bytes)?;
-    let root = reader.get_root().get_struct()?;
-    let mut line = print_struct(alloc, fields, &root)?;
+    let mut line = String::new(alloc);
+    print_root(alloc, set, brand, bytes, &mut line, indented)?;
     line.push_str("\n")?;
     Ok(line)
+}
+
+/// Appends the text of the first message in these bytes.
+fn print_root(
+    alloc: Global,
+    set: &SchemaSet,
+    brand: u32,
+    bytes: &[u8],
+    out: &mut String,
+    indented: bool,
+) -> Result<()>
+    requires { brand < length (lists_seen set.now).brands }
+    ensures printed { OnOk result (IsAppended (string_bytes out.old)
+        (shown_text (lists_seen set.now) brand indented bytes.now) (string_bytes out.new)) }
+    ensures refused { IfErr result (λ e. e.kind ≢ OutOfMemory → shown_text (lists_seen set.now) brand indented bytes.now ≡ Err e.kind) }
+    ensures of_no_device { IfErr result (λ e. IsOfRead e.kind) }
+{
+    let reader = Reader::new(alloc, bytes)?;
+    let root = reader.get_root().get_struct()?;
+    let value = dynamic_struct::Reader::new(root, set.struct_schema(brand));
+    print(dynamic_value::Reader::Struct(value), out, indented)
 }

@@ -1,10 +1,12 @@
-//! Reads a message from standard input and prints its root on one line.
+//! Reads a message from standard input and prints its root.
 #![tactic(auto)]
 
 mod command;
 mod engine;
-mod fields;
-mod printer;
+#[cfg(test)]
+mod messages;
+#[cfg(test)]
+mod set_tests;
 #[cfg(test)]
 mod tests;
 

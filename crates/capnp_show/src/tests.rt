@@ -1,7 +1,8 @@
 //! What the program prints and answers, by its public call, over sources and sinks in memory.
-ghost use Rattle.std.specs.Prelude.{◌<◌};
+ghost use Rattle.std.specs.Prelude.{◌<◌, IfSome};
 
 use crate::command::command;
+use crate::messages::{BEGINNINGS, EXAMPLES, REFUSED, Row, SHOWN};
 use capnp_wire::memory::{MemorySink, MemorySource};
 use capnp_wire::transfer::read_all;
 use std::alloc::Global;
@@ -9,259 +10,11 @@ use std::test::Fail;
 
 const USAGE: &[u8] = b"usage: capnp_show NAME [--indent]\n";
 
-// A message, and the line that is written for it: the text, or the refusal.
-#[derive(Clone, Copy)]
-struct Shown {
-    name: &'static str,
-    bytes: &'static [u8],
-    line: &'static str,
-}
-
-const SHOWN: [Shown; 10] = [
-    // each field's bits are changed where its default's are 1
-    Shown {
-        name: "Many",
-        bytes: &[
-            0, 0, 0, 0, 2, 0, 0, 0, 0, 0, 0, 0, 1, 0, 0, 0, 0x2b, 0, 5, 0, 0xff, 0xff, 0xff, 0x7f,
-        ],
-        line: "(flag = false, s = -1, n = 2, w = 2147483647, q = 0, z = ())\n",
-    },
-    // a null root
-    Shown {
-        name: "Many",
-        bytes: &[0, 0, 0, 0, 1, 0, 0, 0, 0, 0, 0, 0, 0, 0, 0, 0],
-        line: "(flag = true, s = -1, n = 7, w = 0, q = 0, z = ())\n",
-    },
-    // a struct of size zero
-    Shown {
-        name: "Many",
-        bytes: &[0, 0, 0, 0, 1, 0, 0, 0, 0xfc, 0xff, 0xff, 0xff, 0, 0, 0, 0],
-        line: "(flag = true, s = -1, n = 7, w = 0, q = 0, z = ())\n",
-    },
-    // every field set
-    Shown {
-        name: "Many",
-        bytes: &[
-            0, 0, 0, 0, 3, 0, 0, 0, 0, 0, 0, 0, 2, 0, 0, 0, 1, 0xfd, 0x2b, 1, 0xfe, 0xff, 0xff,
-            0xff, 0xff, 0xff, 0xff, 0xff, 0xff, 0xff, 0xff, 0xff,
-        ],
-        line: "(flag = false, s = 2, n = 300, w = -2, q = 18446744073709551615, z = ())\n",
-    },
-    // the same with bytes after it
-    Shown {
-        name: "Many",
-        bytes: &[
-            0, 0, 0, 0, 3, 0, 0, 0, 0, 0, 0, 0, 2, 0, 0, 0, 1, 0xfd, 0x2b, 1, 0xfe, 0xff, 0xff,
-            0xff, 0xff, 0xff, 0xff, 0xff, 0xff, 0xff, 0xff, 0xff, 1, 2, 3,
-        ],
-        line: "(flag = false, s = 2, n = 300, w = -2, q = 18446744073709551615, z = ())\n",
-    },
-    // a far pointer into the second segment
-    Shown {
-        name: "Flat",
-        bytes: &[
-            1, 0, 0, 0, 1, 0, 0, 0, 2, 0, 0, 0, 0, 0, 0, 0, 2, 0, 0, 0, 1, 0, 0, 0, 0, 0, 0, 0, 1,
-            0, 0, 0, 5, 0, 0, 0, 0, 0, 0, 0,
-        ],
-        line: "(a = 5)\n",
-    },
-    // the same with a byte after it
-    Shown {
-        name: "Flat",
-        bytes: &[
-            1, 0, 0, 0, 1, 0, 0, 0, 2, 0, 0, 0, 0, 0, 0, 0, 2, 0, 0, 0, 1, 0, 0, 0, 0, 0, 0, 0, 1,
-            0, 0, 0, 5, 0, 0, 0, 0, 0, 0, 0, 0xff,
-        ],
-        line: "(a = 5)\n",
-    },
-    // a struct with more than the field
-    Shown {
-        name: "Flat",
-        bytes: &[
-            0, 0, 0, 0, 3, 0, 0, 0, 0, 0, 0, 0, 1, 0, 1, 0, 5, 0, 1, 0, 9, 0, 0, 0, 0, 0, 0, 0, 0,
-            0, 0, 0,
-        ],
-        line: "(a = 5)\n",
-    },
-    // a struct of a pointer alone, which can't be followed and isn't
-    Shown {
-        name: "Flat",
-        bytes: &[
-            0, 0, 0, 0, 2, 0, 0, 0, 0, 0, 0, 0, 0, 0, 1, 0, 0, 0, 0, 1, 0, 0, 0, 0,
-        ],
-        line: "(a = 0)\n",
-    },
-    // a landing pad of two words, for a struct in a third segment
-    Shown {
-        name: "Flat",
-        bytes: &[
-            2, 0, 0, 0, 1, 0, 0, 0, 2, 0, 0, 0, 1, 0, 0, 0, 6, 0, 0, 0, 1, 0, 0, 0, 2, 0, 0, 0, 2,
-            0, 0, 0, 0, 0, 0, 0, 1, 0, 0, 0, 5, 0, 0, 0, 0, 0, 0, 0,
-        ],
-        line: "(a = 5)\n",
-    },
-];
-
-const REFUSED: [Shown; 10] = [
-    // a segment of no words
-    Shown {
-        name: "Many",
-        bytes: &[0, 0, 0, 0, 0, 0, 0, 0],
-        line: "refused: 4\n",
-    },
-    // a capability
-    Shown {
-        name: "Many",
-        bytes: &[0, 0, 0, 0, 1, 0, 0, 0, 3, 0, 0, 0, 0, 0, 0, 0],
-        line: "refused: 9\n",
-    },
-    // a struct past its segment's end
-    Shown {
-        name: "Flat",
-        bytes: &[0, 0, 0, 0, 1, 0, 0, 0, 0xfc, 0xff, 0xff, 0x7f, 1, 0, 0, 0],
-        line: "refused: 4\n",
-    },
-    // a struct before its segment's start
-    Shown {
-        name: "Flat",
-        bytes: &[0, 0, 0, 0, 1, 0, 0, 0, 0xf8, 0xff, 0xff, 0xff, 1, 0, 0, 0],
-        line: "refused: 4\n",
-    },
-    // a landing pad of two words whose first is one's far pointer again
-    Shown {
-        name: "Flat",
-        bytes: &[
-            2, 0, 0, 0, 1, 0, 0, 0, 2, 0, 0, 0, 1, 0, 0, 0, 6, 0, 0, 0, 1, 0, 0, 0, 6, 0, 0, 0, 2,
-            0, 0, 0, 0, 0, 0, 0, 1, 0, 0, 0, 5, 0, 0, 0, 0, 0, 0, 0,
-        ],
-        line: "refused: 4\n",
-    },
-    // a landing pad of two words whose second is a far pointer
-    Shown {
-        name: "Flat",
-        bytes: &[
-            2, 0, 0, 0, 1, 0, 0, 0, 2, 0, 0, 0, 1, 0, 0, 0, 6, 0, 0, 0, 1, 0, 0, 0, 2, 0, 0, 0, 2,
-            0, 0, 0, 2, 0, 0, 0, 1, 0, 0, 0, 5, 0, 0, 0, 0, 0, 0, 0,
-        ],
-        line: "refused: 4\n",
-    },
-    // a landing pad of one word that is a far pointer
-    Shown {
-        name: "Flat",
-        bytes: &[
-            1, 0, 0, 0, 1, 0, 0, 0, 1, 0, 0, 0, 0, 0, 0, 0, 2, 0, 0, 0, 1, 0, 0, 0, 2, 0, 0, 0, 0,
-            0, 0, 0,
-        ],
-        line: "refused: 4\n",
-    },
-    // a list of bytes
-    Shown {
-        name: "Flat",
-        bytes: &[
-            0, 0, 0, 0, 3, 0, 0, 0, 1, 0, 0, 0, 0x72, 0, 0, 0, 0x48, 0x65, 0x6c, 0x6c, 0x6f, 0x2c,
-            0x20, 0x57, 0x6f, 0x72, 0x6c, 0x64, 0x21, 0, 0, 0,
-        ],
-        line: "refused: 5\n",
-    },
-    // no bytes
-    Shown {
-        name: "Many",
-        bytes: &[],
-        line: "refused: 2\n",
-    },
-    // 513 segments
-    Shown {
-        name: "Flat",
-        bytes: &[0, 2, 0, 0],
-        line: "refused: 3\n",
-    },
-];
-
-// The messages of `examples/`, which the public tool made, with the lines that it decodes them to.
-const EXAMPLES: [Shown; 6] = [
-    // flat.bin
-    Shown {
-        name: "Flat",
-        bytes: &[
-            0, 0, 0, 0, 2, 0, 0, 0, 0, 0, 0, 0, 1, 0, 0, 0, 5, 0, 0, 0, 0, 0, 0, 0,
-        ],
-        line: "(a = 5)\n",
-    },
-    // many.bin
-    Shown {
-        name: "Many",
-        bytes: &[
-            0, 0, 0, 0, 3, 0, 0, 0, 0, 0, 0, 0, 2, 0, 0, 0, 1, 0xfd, 0x2b, 1, 0xfe, 0xff, 0xff,
-            0xff, 0xff, 0xff, 0xff, 0xff, 0xff, 0xff, 0xff, 0xff,
-        ],
-        line: "(flag = false, s = 2, n = 300, w = -2, q = 18446744073709551615, z = ())\n",
-    },
-    // many_defaults.bin
-    Shown {
-        name: "Many",
-        bytes: &[
-            0, 0, 0, 0, 3, 0, 0, 0, 0, 0, 0, 0, 2, 0, 0, 0, 0, 0, 0, 0, 0, 0, 0, 0, 0, 0, 0, 0, 0,
-            0, 0, 0,
-        ],
-        line: "(flag = true, s = -1, n = 7, w = 0, q = 0, z = ())\n",
-    },
-    // flat_segments.bin
-    Shown {
-        name: "Flat",
-        bytes: &[
-            1, 0, 0, 0, 1, 0, 0, 0, 2, 0, 0, 0, 0, 0, 0, 0, 2, 0, 0, 0, 1, 0, 0, 0, 0, 0, 0, 0, 1,
-            0, 0, 0, 5, 0, 0, 0, 0, 0, 0, 0,
-        ],
-        line: "(a = 5)\n",
-    },
-    // many_segments.bin
-    Shown {
-        name: "Many",
-        bytes: &[
-            1, 0, 0, 0, 1, 0, 0, 0, 3, 0, 0, 0, 0, 0, 0, 0, 2, 0, 0, 0, 1, 0, 0, 0, 0, 0, 0, 0, 2,
-            0, 0, 0, 1, 0x7f, 0xf8, 0xff, 0xff, 0xff, 0xff, 0x7f, 1, 0, 0, 0, 0, 0, 0, 0,
-        ],
-        line: "(flag = false, s = -128, n = 65535, w = 2147483647, q = 1, z = ())\n",
-    },
-    // two_messages.bin
-    Shown {
-        name: "Flat",
-        bytes: &[
-            0, 0, 0, 0, 2, 0, 0, 0, 0, 0, 0, 0, 1, 0, 0, 0, 1, 0, 0, 0, 0, 0, 0, 0, 0, 0, 0, 0, 2,
-            0, 0, 0, 0, 0, 0, 0, 1, 0, 0, 0, 2, 0, 0, 0, 0, 0, 0, 0,
-        ],
-        line: "(a = 1)\n",
-    },
-];
-
-// Messages with proper beginnings: each of these is refused as cut short.
-const WHOLE: [&[u8]; 4] = [
-    &[
-        0, 0, 0, 0, 3, 0, 0, 0, 0, 0, 0, 0, 1, 0, 1, 0, 5, 0, 1, 0, 9, 0, 0, 0, 0, 0, 0, 0, 0, 0,
-        0, 0,
-    ],
-    &[
-        1, 0, 0, 0, 1, 0, 0, 0, 2, 0, 0, 0, 0, 0, 0, 0, 2, 0, 0, 0, 1, 0, 0, 0, 0, 0, 0, 0, 1, 0,
-        0, 0, 5, 0, 0, 0, 0, 0, 0, 0,
-    ],
-    &[
-        0, 0, 0, 0, 3, 0, 0, 0, 0, 0, 0, 0, 2, 0, 0, 0, 1, 0xfd, 0x2b, 1, 0xfe, 0xff, 0xff, 0xff,
-        0xff, 0xff, 0xff, 0xff, 0xff, 0xff, 0xff, 0xff,
-    ],
-    &[
-        0, 0, 0, 0, 8, 0, 0, 0, 0, 0, 0, 0, 0, 0, 4, 0, 0, 0, 0, 0, 0, 0, 0, 0, 0, 0, 0, 0, 0, 0,
-        0, 0, 0, 0, 0, 0, 0, 0, 0, 0, 1, 0, 0, 0, 0x17, 0, 0, 0, 8, 0, 0, 0, 1, 0, 0, 0, 1, 0, 0,
-        0, 0, 0, 0, 0, 2, 0, 0, 0, 0, 0, 0, 0,
-    ],
-];
-
-const LAST: Shown = Shown {
-    name: "Many",
-    bytes: &[
-        0, 0, 0, 0, 3, 0, 0, 0, 0, 0, 0, 0, 2, 0, 0, 0, 1, 0xfd, 0x2b, 1, 0xfe, 0xff, 0xff, 0xff,
-        0xff, 0xff, 0xff, 0xff, 0xff, 0xff, 0xff, 0xff,
-    ],
-    line: "(flag = false, s = 2, n = 300, w = -2, q = 18446744073709551615, z = ())\n",
+// The row of which each call of a device is made to fail.
+const LAST: Row = Row {
+    words: &["Mixed", "--indent"],
+    message: "0000000003000000 0000000001000100 0500010009000000 0000000000000000",
+    line: "(\n  a = 5,\n  y = 9\n)\n",
 };
 
 // The status, and what was written to the sink and to the sink of faults.
@@ -280,24 +33,51 @@ fn words_of(alloc: Global, words: &[&str]) -> Result<Vec<String>, Fail> {
     Ok(list)
 }
 
+fn digit(letter: u8) -> Option<u8> {
+    match letter {
+        b'0'..=b'9' => Some(letter - b'0'),
+        b'a'..=b'f' => Some(letter - b'a' + 10),
+        _ => None,
+    }
+}
+
+// The bytes of hexadecimal digits, two a byte; what is no digit is left out.
+pub fn bytes_of(alloc: Global, text: &str) -> Result<Vec<u8>, Fail> {
+    let mut bytes = Vec::new(alloc);
+    let mut high = None;
+    for letter in text.as_bytes() {
+        let Some(low) = digit(*letter) else {
+            continue;
+        };
+        high = match high {
+            None => Some(low << 4),
+            Some(first) => {
+                bytes.push(first | low)?;
+                None
+            }
+        };
+    }
+    Ok(bytes)
+}
+
 // The program over a source that gives `chunk` bytes a call.
-fn run(alloc: Global, name: &str, bytes: &[u8], chunk: usize) -> Result<Outcome, Fail>
+fn run(alloc: Global, words: &[&str], bytes: &[u8], chunk: usize) -> Result<Outcome, Fail>
     requires { 0 < chunk }
 {
     let mut source = MemorySource::new(bytes, chunk, None);
     let sink = MemorySink::new(alloc, 4096, None);
-    run_over(alloc, name, &mut source, sink, None)
+    run_over(alloc, words, &mut source, sink, None)
 }
 
 // The program over this source and sink, where the chosen call of the sink of faults fails.
 fn run_over(
     alloc: Global,
-    name: &str,
+    words: &[&str],
     source: &mut MemorySource<'_>,
     mut sink: MemorySink,
     failing_fault: Option<u64>,
 ) -> Result<Outcome, Fail> {
-    let words = words_of(alloc, &[name])?;
+    let words = words_of(alloc, words)?;
     let mut faults = MemorySink::new(alloc, 1, failing_fault);
     let status = command(alloc, &words, source, &mut sink, &mut faults);
     Ok(Outcome {
@@ -309,9 +89,10 @@ fn run_over(
 
 #[test]
 fn prints_each_message(rt: HostRuntime) -> Result<(), Fail> {
-    for chunk in [1, 5, 4096] {
-        for row in &SHOWN {
-            let outcome = run(rt.alloc(), row.name, row.bytes, chunk)?;
+    for chunk in [1, 4096] {
+        for row in SHOWN.iter().chain(EXAMPLES.iter()) {
+            let bytes = bytes_of(rt.alloc(), row.message)?;
+            let outcome = run(rt.alloc(), row.words, &bytes, chunk)?;
             let line = row.line;
             assert_eq!(rt; outcome.sink.as_slice(), line.as_bytes(), "{line}");
             assert!(rt; outcome.faults.as_slice().is_empty(), "{line}");
@@ -322,21 +103,11 @@ fn prints_each_message(rt: HostRuntime) -> Result<(), Fail> {
 }
 
 #[test]
-fn prints_the_messages_of_the_public_tool(rt: HostRuntime) -> Result<(), Fail> {
-    for row in &EXAMPLES {
-        let outcome = run(rt.alloc(), row.name, row.bytes, 4096)?;
-        let line = row.line;
-        assert_eq!(rt; outcome.sink.as_slice(), line.as_bytes(), "{line}");
-        assert_eq!(rt; outcome.status, 0, "{line}");
-    }
-    Ok(())
-}
-
-#[test]
 fn refuses_each_broken_message(rt: HostRuntime) -> Result<(), Fail> {
     for chunk in [1, 4096] {
         for (i, row) in REFUSED.iter().enumerate() {
-            let outcome = run(rt.alloc(), row.name, row.bytes, chunk)?;
+            let bytes = bytes_of(rt.alloc(), row.message)?;
+            let outcome = run(rt.alloc(), row.words, &bytes, chunk)?;
             assert_eq!(rt; outcome.faults.as_slice(), row.line.as_bytes(), "row {i}");
             assert!(rt; outcome.sink.as_slice().is_empty(), "row {i}");
             assert_eq!(rt; outcome.status, 1, "row {i}");
@@ -347,9 +118,10 @@ fn refuses_each_broken_message(rt: HostRuntime) -> Result<(), Fail> {
 
 #[test]
 fn refuses_each_proper_beginning(rt: HostRuntime) -> Result<(), Fail> {
-    for whole in &WHOLE {
+    for row in &BEGINNINGS {
+        let whole = bytes_of(rt.alloc(), row.message)?;
         for len in 0..whole.len() {
-            let outcome = run(rt.alloc(), "Many", &whole[..len], 4096)?;
+            let outcome = run(rt.alloc(), row.words, &whole[..len], 4096)?;
             assert_eq!(rt;
                 outcome.faults.as_slice(),
                 b"refused: 2\n".as_slice(),
@@ -362,13 +134,50 @@ fn refuses_each_proper_beginning(rt: HostRuntime) -> Result<(), Fail> {
     Ok(())
 }
 
+// A chain of so many structs, each the `again` of the one before, and the last of them with `end`; each is the next two
+// words after the pointer to it.
+fn chain(alloc: Global, count: u32) -> Result<Vec<u8>, Fail> {
+    let words = count.saturating_mul(2).saturating_add(1);
+    let mut bytes = Vec::new(alloc);
+    bytes.extend_from_slice(&[0, 0, 0, 0])?;
+    bytes.extend_from_slice(&words.to_le_bytes())?;
+    for _ in 1..count {
+        bytes.extend_from_slice(&[0, 0, 0, 0, 1, 0, 1, 0, 1, 0, 0, 0, 0, 0, 0, 0])?;
+    }
+    bytes.extend_from_slice(&[0, 0, 0, 0, 1, 0, 1, 0])?;
+    bytes.extend_from_slice(&[0; 16])?;
+    Ok(bytes)
+}
+
+#[test]
+fn a_chain_is_printed_as_far_as_levels_reach(rt: HostRuntime) -> Result<(), Fail> {
+    let whole = run(rt.alloc(), &["Loop"], &chain(rt.alloc(), 64)?, 4096)?;
+    assert_eq!(rt; whole.status, 0);
+    let mut line = String::new(rt.alloc());
+    for _ in 1..64 {
+        line.push_str("(again = ")?;
+    }
+    line.push_str("(end = ())")?;
+    for _ in 1..64 {
+        line.push_str(")")?;
+    }
+    line.push_str("\n")?;
+    assert_eq!(rt; whole.sink.as_slice(), line.as_bytes());
+    let deeper = run(rt.alloc(), &["Loop"], &chain(rt.alloc(), 65)?, 4096)?;
+    assert_eq!(rt; deeper.faults.as_slice(), b"refused: 8\n".as_slice());
+    assert!(rt; deeper.sink.as_slice().is_empty());
+    assert_eq!(rt; deeper.status, 1);
+    Ok(())
+}
+
 #[test]
 fn tells_of_each_failed_read(rt: HostRuntime) -> Result<(), Fail> {
+    let bytes = bytes_of(rt.alloc(), LAST.message)?;
     // one call a byte, and one that finds the end
     for calls in 0..33u64 {
-        let mut source = MemorySource::new(LAST.bytes, 1, Some(calls));
+        let mut source = MemorySource::new(&bytes, 1, Some(calls));
         let sink = MemorySink::new(rt.alloc(), 4096, None);
-        let outcome = run_over(rt.alloc(), LAST.name, &mut source, sink, None)?;
+        let outcome = run_over(rt.alloc(), LAST.words, &mut source, sink, None)?;
         assert_eq!(rt;
             outcome.faults.as_slice(),
             b"refused: 12\n".as_slice(),
@@ -377,9 +186,9 @@ fn tells_of_each_failed_read(rt: HostRuntime) -> Result<(), Fail> {
         assert!(rt; outcome.sink.as_slice().is_empty(), "at call {calls}");
         assert_eq!(rt; outcome.status, 1, "at call {calls}");
     }
-    let mut source = MemorySource::new(LAST.bytes, 1, Some(33));
+    let mut source = MemorySource::new(&bytes, 1, Some(33));
     let sink = MemorySink::new(rt.alloc(), 4096, None);
-    let outcome = run_over(rt.alloc(), LAST.name, &mut source, sink, None)?;
+    let outcome = run_over(rt.alloc(), LAST.words, &mut source, sink, None)?;
     assert_eq!(rt; outcome.sink.as_slice(), LAST.line.as_bytes());
     assert_eq!(rt; outcome.status, 0);
     Ok(())
@@ -387,11 +196,12 @@ fn tells_of_each_failed_read(rt: HostRuntime) -> Result<(), Fail> {
 
 #[test]
 fn tells_of_each_failed_write(rt: HostRuntime) -> Result<(), Fail> {
+    let bytes = bytes_of(rt.alloc(), LAST.message)?;
     let line = LAST.line.as_bytes();
     for calls in 0..line.len() {
-        let mut source = MemorySource::new(LAST.bytes, 4096, None);
+        let mut source = MemorySource::new(&bytes, 4096, None);
         let sink = MemorySink::new(rt.alloc(), 1, Some(calls as u64));
-        let outcome = run_over(rt.alloc(), LAST.name, &mut source, sink, None)?;
+        let outcome = run_over(rt.alloc(), LAST.words, &mut source, sink, None)?;
         assert_eq!(rt;
             outcome.faults.as_slice(),
             b"refused: 13\n".as_slice(),
@@ -400,9 +210,9 @@ fn tells_of_each_failed_write(rt: HostRuntime) -> Result<(), Fail> {
         assert_eq!(rt; outcome.sink.as_slice(), &line[..calls], "at call {calls}");
         assert_eq!(rt; outcome.status, 1, "at call {calls}");
     }
-    let mut source = MemorySource::new(LAST.bytes, 4096, None);
+    let mut source = MemorySource::new(&bytes, 4096, None);
     let sink = MemorySink::new(rt.alloc(), 1, Some(line.len() as u64));
-    let outcome = run_over(rt.alloc(), LAST.name, &mut source, sink, None)?;
+    let outcome = run_over(rt.alloc(), LAST.words, &mut source, sink, None)?;
     assert_eq!(rt; outcome.sink.as_slice(), line);
     assert_eq!(rt; outcome.status, 0);
     Ok(())
@@ -415,7 +225,7 @@ fn failing_faults_change_no_status(rt: HostRuntime) -> Result<(), Fail> {
         for calls in 0..line.len() {
             let mut source = MemorySource::new(&[], 1, None);
             let sink = MemorySink::new(rt.alloc(), 1, None);
-            let outcome = run_over(rt.alloc(), name, &mut source, sink, Some(calls as u64))?;
+            let outcome = run_over(rt.alloc(), &[name], &mut source, sink, Some(calls as u64))?;
             assert_eq!(rt; outcome.status, status, "{name} at call {calls}");
             assert_eq!(rt;
                 outcome.faults.as_slice(),
@@ -433,20 +243,26 @@ fn failing_faults_change_no_status(rt: HostRuntime) -> Result<(), Fail> {
 
 #[test]
 fn other_words_tell_the_usage_and_read_nothing(rt: HostRuntime) -> Result<(), Fail> {
-    let lists: [&[&str]; 9] = [
+    let lists: [&[&str]; 14] = [
         &[],
         &[""],
         &["many"],
-        &["Mixed"],
         &["Many "],
+        &["Nope"],
+        &["Shapes.circle"],
+        &["ElementSize"],
         &["--indent"],
-        &["Many", "--indent"],
+        &["--indent", "Many"],
+        &["Many", "--Indent"],
+        &["Many", "--indent", "--indent"],
+        &["Nope", "--indent"],
         &["Flat", "Many"],
         &["Flat", "Flat"],
     ];
+    let message: &[u8] = &[0, 0, 0, 0, 1, 0, 0, 0, 0, 0, 0, 0, 0, 0, 0, 0];
     for (i, list) in lists.iter().enumerate() {
         let words = words_of(rt.alloc(), list)?;
-        let mut source = MemorySource::new(LAST.bytes, 1, None);
+        let mut source = MemorySource::new(message, 1, None);
         let mut sink = MemorySink::new(rt.alloc(), 1, None);
         let mut faults = MemorySink::new(rt.alloc(), 1, None);
         let status = command(rt.alloc(), &words, &mut source, &mut sink, &mut faults);
@@ -455,7 +271,7 @@ fn other_words_tell_the_usage_and_read_nothing(rt: HostRuntime) -> Result<(), Fa
         assert!(rt; sink.as_slice().is_empty(), "list {i}");
         assert_eq!(rt;
             read_all(rt.alloc(), &mut source)?.as_slice(),
-            LAST.bytes,
+            message,
             "list {i}"
         );
     }

@@ -1,14 +1,14 @@
 use Rattle.std.proofs.Common.{◌≡◌, Ok, string_bytes}
 use Rattle.capnp_device.specs.declared.error.ErrorKind.TheVariants.{WriteFailed}
-use Rattle.capnp_show.specs.Flat.{fields_of}
-use Rattle.capnp_show.specs.Show.{shown_text}
+use Rattle.capnp_schema.specs.Entries.{lists_seen}
+use Rattle.capnp_show.specs.Show.{IsLineOf, shown_text}
 use Rattle.capnp_show.proofs.Outcomes.{refusal_gives}
 use Rattle.capnp_show.proofs.engine.show.Goals as goal
 
 pub returns-clause-beginning : goal.returns-clause-beginning
 returns-clause-beginning g c =
-    let line = string_bytes c.in_ok-text.text in
-    let shown : shown_text (fields_of c.args.fields.now) c.in_ok-bytes.bytes.items ≡ Ok line = rw c.deref.ensures.value at c.in_ok-text.ensures.shown in
+    let line = string_bytes c.in_ok-line.line in
+    let shown : IsLineOf (shown_text (lists_seen c.args.set.now) c.args.brand c.args.indented c.in_ok-bytes.bytes.items) line = rw c.deref.ensures.value at c.in_ok-line.ensures.shown in
     refusal_gives (λ e. e.kind ≡ WriteFailed) c.write_all.result
     (λ w. (c.in_ok-bytes.bytes.items, line, w.0, (c.in_ok-bytes.ensures.whole, c.in_ok-bytes.ensures.to_end), shown, rw (← c.as_bytes.ensures.value) w.1, rw (← c.as_bytes.ensures.value) w.2))
     c.write_all.ensures.beginning

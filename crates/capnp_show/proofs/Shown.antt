@@ -1,0 +1,103 @@
+-- The text of a message's root is that of the record that its struct's reader stands on.
+use Rattle.std.proofs.Common.{arith, ap, ap₂, sym, subst, ◌∙◌, ◌≡◌, refl, ℕ, ◌+◌, Bool, List, true, false, [], ◌∷◌, ◌++◌, Some, None, Result, Ok, Err}
+use Rattle.capnp_device.specs.declared.error.ErrorKind.{ErrorKind}
+use Rattle.capnp_wire.specs.Reading.{as_struct}
+use Rattle.capnp_wire.specs.Tree as tree
+use Rattle.capnp_wire.specs.Tree.{StructTree, Tree}
+use Rattle.capnp_wire.specs.Standing.{struct_levels, struct_of}
+use Rattle.capnp_wire.specs.Stream.{message_tree_of}
+use Rattle.capnp_wire.specs.declared.struct_reader.StructReader.{StructReader}
+use Rattle.capnp_schema.specs.Schema.{Schemas, brand_at, node_of}
+use Rattle.capnp_schema.specs.StructHandles.{IsStruct, number_of, set_of}
+use Rattle.capnp_schema.specs.Types.{StructType}
+use Rattle.capnp_schema.specs.declared.schema.structs.StructSchema.{StructSchema}
+use Rattle.capnp_dynamic.specs.Handles.{reader_of, schema_of}
+use Rattle.capnp_dynamic.specs.Seen.{record_seen}
+use Rattle.capnp_dynamic.specs.Typed.{struct_type}
+use Rattle.capnp_dynamic.specs.declared.dynamic_struct.Reader.{Reader as StructHandle}
+use Rattle.capnp_dynamic.specs.declared.dynamic_value.Reader.TheVariants as dynamic
+use Rattle.capnp_records.specs.Reading.{struct_record, value_of}
+use Rattle.capnp_records.specs.Record as value
+use Rattle.capnp_records.specs.Record.{Left, Record}
+use Rattle.capnp_records.specs.Text.{Out, text_of}
+use Rattle.capnp_show.specs.Show.{IsLineOf, IsText, root_text, root_type, shown_text, struct_or_group}
+use Rattle.capnp_dynamic.specs.Pieces.{IsAppended}
+use Rattle.capnp_dynamic.specs.Shown.{printed_text, struct_printed, value_printed}
+
+abbrev Read : Type 0
+Read = Result StructTree ErrorKind
+
+abbrev entered : StructTree → Read
+entered s = Ok s
+
+abbrev refused : ErrorKind → Read
+refused kind = Err kind
+
+abbrev no_text : ErrorKind → Out
+no_text kind = Err kind
+
+same-struct : (x y : StructTree) → entered x ≡ entered y → x ≡ y
+same-struct x y e = cc
+
+same-kind : (k j : ErrorKind) → refused k ≡ refused j → no_text j ≡ no_text k
+same-kind k j e = cc
+
+module _ (set : Schemas) (b : ℕ) (indented : Bool) where
+  -- the text of a struct's record, whose pointers have the levels that are left below a root
+  abbrev struct_text : StructTree → Out
+  struct_text s = text_of set indented (root_type set b) (struct_or_group (node_of set b).is_group (struct_record set (Left 63) s b))
+
+  entered-text : (root : Tree) (s : StructTree) → Ok s ≡ as_struct root 64 → struct_text s ≡ root_text set b indented (Ok root)
+  entered-text tree.Null s e = ap struct_text (same-struct s _ e)
+  entered-text (tree.Struct bytes ps) s e = ap struct_text (same-struct s _ e)
+  entered-text (tree.Voids n) s e = cc
+  entered-text (tree.Bits bs) s e = cc
+  entered-text (tree.Numbers w bytes) s e = cc
+  entered-text (tree.Pointers ps) s e = cc
+  entered-text (tree.Composite d p es) s e = cc
+  entered-text (tree.FaultLeaf k) s e = cc
+
+  -- a root that is read as a struct
+  pub text_of_root : (root : Tree) (s : StructTree) (m : ℕ) → Ok s ≡ as_struct root 64 → m + 1 ≡ 64 →
+      text_of set indented (root_type set b) (struct_or_group (node_of set b).is_group (struct_record set (Left m) s b)) ≡ root_text set b indented (Ok root)
+  text_of_root root s m e levels =
+      ap (λ n. text_of set indented (root_type set b) (struct_or_group (node_of set b).is_group (struct_record set (Left n) s b))) (omega (arith, levels)) ∙ entered-text root s e
+
+  -- a root that can't be
+  pub refused_root : (root : Tree) (kind : ErrorKind) → Err kind ≡ as_struct root 64 → root_text set b indented (Ok root) ≡ Err kind
+  refused_root tree.Null kind e = cc
+  refused_root (tree.Struct bytes ps) kind e = cc
+  refused_root (tree.Voids n) kind e = same-kind kind _ e
+  refused_root (tree.Bits bs) kind e = same-kind kind _ e
+  refused_root (tree.Numbers w bytes) kind e = same-kind kind _ e
+  refused_root (tree.Pointers ps) kind e = same-kind kind _ e
+  refused_root (tree.Composite d p es) kind e = same-kind kind _ e
+  refused_root (tree.FaultLeaf k) kind e = same-kind kind _ e
+
+printed-is : (q : Bool) (h : StructHandle) (r : Record) → record_seen h ≡ r → struct_printed q h ≡ struct_or_group q r
+printed-is true h r e = ap value.Group e
+printed-is false h r e = ap value.Struct e
+
+-- the text of a struct's reader under a brand is that of the message whose root it stands on
+pub text_seen : (set : Schemas) (b : ℕ) (indented : Bool) (bytes : List ℕ) (root x : Tree) (n : ℕ) (h : StructHandle) (s : StructSchema) (r : StructReader) →
+    Ok root ≡ message_tree_of bytes → x ≡ root → n ≡ 64 → Ok (struct_of r) ≡ as_struct x n → struct_levels r + 1 ≡ n →
+    schema_of h ≡ s → reader_of h ≡ r → IsStruct s → set_of s ≡ set → number_of s ≡ b →
+    printed_text indented (dynamic.Struct h) ≡ shown_text set b indented bytes
+text_seen set b indented bytes root x n h s r whole tree_is levels_are read levels schema reader stands set_is number_is =
+    let in_set : set_of (schema_of h) ≡ set = ap set_of schema ∙ set_is in
+    let of_brand : number_of (schema_of h) ≡ b = ap number_of schema ∙ number_is in
+    let typed : struct_type (schema_of h) ≡ root_type set b = ap struct_type schema ∙ ap₂ StructType number_is (stands.generic ∙ ap₂ (λ y z. (brand_at y z).node) set_is number_is) in
+    let seen : record_seen h ≡ struct_record set (Left (struct_levels r)) (struct_of r) b = cc in
+    let group : (node_of (set_of (schema_of h)) (number_of (schema_of h))).is_group ≡ (node_of set b).is_group = ap₂ (λ y z. (node_of y z).is_group) in_set of_brand in
+    let read_there : Ok (struct_of r) ≡ as_struct root 64 = read ∙ ap₂ as_struct tree_is levels_are in
+    ap (λ y. text_of y indented (struct_type (schema_of h)) (value_printed (dynamic.Struct h))) in_set
+    ∙ (ap (λ t. text_of set indented t (value_printed (dynamic.Struct h))) typed
+    ∙ (ap (λ q. text_of set indented (root_type set b) (struct_printed q h)) group
+    ∙ (ap (text_of set indented (root_type set b)) (printed-is (node_of set b).is_group h _ seen)
+    ∙ (text_of_root set b indented root (struct_of r) (struct_levels r) read_there (levels ∙ levels_are) ∙ ap (root_text set b indented) whole))))
+
+-- a text that was put into an empty string, and a line break
+pub line_of : (o : Out) (text line : List ℕ) → IsAppended [] o text → line ≡ text ++ 10 ∷ [] → IsLineOf o line
+line_of (Ok (Some bytes)) text line put e = (text, put, e)
+line_of (Ok None) text line put e = (text, tt {0}, e)
+line_of (Err kind) text line put e = absurd put
