@@ -15,8 +15,8 @@ returns-in-Ok-clause-printed c =
     let whole = subst (λ (z : Option (List ℕ)). after (Ok z) (printed_text c.args.indented c.args.value) ≡ Ok (made_text m)) c.new-made.ensures put in
     ok_map c.append_to.result (appended_whole (printed_text c.args.indented c.args.value) (string_bytes c.args.out.now) (string_bytes c.append_to.new.out) (made_bytes m) m.is_said whole) c.append_to.ensures.appended
 
-pub returns-clause-refused : goal.returns-clause-refused
-returns-clause-refused c =
+pub returns-in-Err-clause-refused : goal.returns-in-Err-clause-refused
+returns-in-Err-clause-refused c =
     let stopped = subst (λ (z : Layout). IsStopped (made_text c.new-made.result) (root_shown z c.args.value) c.in-Err.stop) c.layout.ensures c.in-Err.ensures.stopped in
     let whole = subst (λ (z : Option (List ℕ)). IsStopped z (printed_text c.args.indented c.args.value) c.in-Err.stop) c.new-made.ensures stopped in
     stopped_refused (printed_text c.args.indented c.args.value) c.in-Err.stop c.from.result.kind c.from.ensures whole
