@@ -15,7 +15,7 @@ use std::alloc::Global;
 use std::test::Fail;
 
 /// The struct, by number.
-const KINDS: u32 = 0;
+pub const KINDS: u32 = 0;
 
 const POINT: u32 = 1;
 
@@ -29,7 +29,7 @@ static POINT_WORDS: [u8; 16] = [0, 0, 0, 0, 1, 0, 0, 0, 3, 0, 0xfb, 0xff, 0, 0, 
 static NUMBER_WORDS: [u8; 16] = [1, 0, 0, 0, 0x1b, 0, 0, 0, 1, 0, 2, 0, 3, 0, 0, 0];
 
 /// A value in each field.
-static FULL: [u8; 376] = [
+pub static FULL: [u8; 376] = [
     0, 0, 0, 0, 46, 0, 0, 0, 0, 0, 0, 0, 5, 0, 15, 0, 3, 120, 240, 127, 224, 255, 255, 127, 192,
     255, 255, 255, 255, 255, 255, 127, 247, 0, 239, 255, 223, 255, 255, 255, 191, 255, 255, 255,
     255, 255, 255, 255, 3, 0, 2, 0, 1, 0, 4, 0, 57, 0, 0, 0, 42, 0, 0, 0, 57, 0, 0, 0, 26, 0, 0, 0,
@@ -47,7 +47,7 @@ static FULL: [u8; 376] = [
 ];
 
 /// The same in several segments.
-static SEGMENTS: [u8; 512] = [
+pub static SEGMENTS: [u8; 512] = [
     6, 0, 0, 0, 1, 0, 0, 0, 21, 0, 0, 0, 8, 0, 0, 0, 7, 0, 0, 0, 7, 0, 0, 0, 8, 0, 0, 0, 8, 0, 0,
     0, 2, 0, 0, 0, 1, 0, 0, 0, 0, 0, 0, 0, 5, 0, 15, 0, 3, 120, 240, 127, 224, 255, 255, 127, 192,
     255, 255, 255, 255, 255, 255, 127, 247, 0, 239, 255, 223, 255, 255, 255, 191, 255, 255, 255,
@@ -69,7 +69,7 @@ static SEGMENTS: [u8; 512] = [
 ];
 
 /// No value in any field.
-static EMPTY: [u8; 176] = [
+pub static EMPTY: [u8; 176] = [
     0, 0, 0, 0, 21, 0, 0, 0, 0, 0, 0, 0, 5, 0, 15, 0, 0, 0, 0, 0, 0, 0, 0, 0, 0, 0, 0, 0, 0, 0, 0,
     0, 0, 0, 0, 0, 0, 0, 0, 0, 0, 0, 0, 0, 0, 0, 0, 0, 0, 0, 0, 0, 0, 0, 0, 0, 0, 0, 0, 0, 0, 0, 0,
     0, 0, 0, 0, 0, 0, 0, 0, 0, 0, 0, 0, 0, 0, 0, 0, 0, 0, 0, 0, 0, 0, 0, 0, 0, 0, 0, 0, 0, 0, 0, 0,
@@ -177,7 +177,7 @@ fn records(alloc: Global) -> Result<Records> {
     Ok(records)
 }
 
-fn new_set(alloc: Global) -> Result<SchemaSet> {
+pub fn new_set(alloc: Global) -> Result<SchemaSet> {
     let Records {
         nodes,
         brands,

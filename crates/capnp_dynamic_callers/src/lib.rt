@@ -14,6 +14,8 @@ mod kind_tests;
 #[cfg(test)]
 mod list_tests;
 pub mod parts;
+#[cfg(test)]
+mod print_tests;
 pub mod round_trips;
 #[cfg(test)]
 mod struct_tests;
