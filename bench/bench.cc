@@ -1,4 +1,5 @@
 // Times this library and the C++ library side by side and prints one table. Its one word is the folder of schema.capnp.
+#include "prints.h"
 #include "reads.h"
 #include <capnp/schema-parser.h>
 #include <kj/filesystem.h>
@@ -14,5 +15,6 @@ int main(int count, char **words) {
   auto file = parser.parseFromDirectory(*folder, kj::Path::parse("schema.capnp"), nullptr);
   Table table;
   reads::add_rows(table, file.getNested("Many").asStruct());
+  prints::add_rows(table, file.getNested("Lists").asStruct());
   return table.status();
 }

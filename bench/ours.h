@@ -10,4 +10,5 @@ uint64_t bench_read_by_name(const uint8_t *message, size_t length, uint64_t roun
 uint64_t bench_read_by_field_opened(const uint8_t *message, size_t length, uint64_t rounds);
 uint64_t bench_read_by_field(const uint8_t *message, size_t length, uint64_t rounds);
 uint64_t bench_find_by_name(const uint8_t *message, size_t length, uint64_t rounds);
+uint64_t bench_print_lists(const uint8_t *message, size_t length, uint64_t rounds);
 }

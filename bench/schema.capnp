@@ -9,3 +9,14 @@ struct Many {
   q @4 :UInt64;
   z @5 :Void;
 }
+
+struct Flat {
+  a @0 :UInt16;
+}
+
+struct Lists {
+  bytes @0 :List(UInt8);
+  raw @1 :Data;
+  t @2 :Text;
+  items @3 :List(Flat);
+}

@@ -2,4 +2,5 @@
 //! checksum; one that is refused answers 0.
 #![tactic(auto)]
 
+mod prints;
 mod reads;

@@ -16,7 +16,11 @@ const NAMES: [&str; 6] = ["flag", "s", "n", "w", "q", "z"];
 /// The number of the struct of six numbers among the built-in brands.
 const MANY: u32 = 2;
 
-fn root_of<'a>(alloc: Global, message: &'a [u8], schema: StructSchema<'a>) -> Result<Reader<'a>>
+pub(crate) fn root_of<'a>(
+    alloc: Global,
+    message: &'a [u8],
+    schema: StructSchema<'a>,
+) -> Result<Reader<'a>>
     ensures { IfOk result (λ root. schema_of root ≡ schema.entry) }
 {
     let root = message::Reader::new(alloc, message)?
