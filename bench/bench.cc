@@ -1,12 +1,14 @@
-// Times this library and the C++ library side by side and prints one table. Its one word is the folder of schema.capnp.
+// Times this library and the C++ library side by side and prints one table. Its words are the folder of schema.capnp, one for
+// large files, and our program.
 #include "prints.h"
+#include "program.h"
 #include "reads.h"
 #include <capnp/schema-parser.h>
 #include <kj/filesystem.h>
 
 int main(int count, char **words) {
-  if (count != 2) {
-    std::fprintf(stderr, "usage: bench FOLDER\n");
+  if (count != 4) {
+    std::fprintf(stderr, "usage: bench FOLDER SCRATCH PROGRAM\n");
     return 2;
   }
   auto disk = kj::newDiskFilesystem();
@@ -16,5 +18,6 @@ int main(int count, char **words) {
   Table table;
   reads::add_rows(table, file.getNested("Many").asStruct());
   prints::add_rows(table, file.getNested("Lists").asStruct());
+  program::add_rows(table, file.getNested("Lists").asStruct(), words[1], words[2], words[3]);
   return table.status();
 }

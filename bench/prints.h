@@ -8,10 +8,10 @@ namespace prints {
 constexpr uint32_t COUNT = 10000;
 
 // a message of a list of structs, each of one number that is not its default
-inline kj::Array<capnp::word> message_of(capnp::StructSchema lists) {
-  capnp::MallocMessageBuilder message;
-  auto items = message.initRoot<capnp::DynamicStruct>(lists).init("items", COUNT).as<capnp::DynamicList>();
-  for (uint32_t i = 0; i < COUNT; i++) items[i].as<capnp::DynamicStruct>().set("a", i + 1);
+inline kj::Array<capnp::word> message_of(capnp::StructSchema lists, uint32_t count) {
+  capnp::MallocMessageBuilder message(count * 2);
+  auto items = message.initRoot<capnp::DynamicStruct>(lists).init("items", count).as<capnp::DynamicList>();
+  for (uint32_t i = 0; i < count; i++) items[i].as<capnp::DynamicStruct>().set("a", i % 65535 + 1);
   return capnp::messageToFlatArray(message);
 }
 
@@ -24,7 +24,7 @@ inline uint64_t print_lists(capnp::StructSchema lists, kj::ArrayPtr<const capnp:
 }
 
 inline void add_rows(Table &table, capnp::StructSchema lists) {
-  auto words = message_of(lists);
+  auto words = message_of(lists, COUNT);
   auto bytes = words.asBytes();
   table.row("a list of 10,000 structs printed", COUNT, with(bench_print_lists, bytes.begin(), bytes.size()),
             [lists, &words](uint64_t rounds) { return print_lists(lists, words, rounds); });

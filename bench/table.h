@@ -45,12 +45,17 @@ class Table {
 public:
   Table() { std::printf("| work | ours, ns | C++, ns | ratio |\n| --- | --- | --- | --- |\n"); }
 
+  // a line of the table, in nanoseconds
+  void line(const char *name, double ours, double theirs) {
+    std::printf("| %s | %.1f | %.1f | %.2f |\n", name, ours, theirs, ours / theirs);
+    std::fflush(stdout);
+  }
+
   // a row: what is done, how many single things a round does, and both sides
   void row(const char *name, double things, const Work &ours, const Work &theirs) {
     uint64_t rounds = rounds_for(theirs), our_sum, their_sum;
     double their_time = best(theirs, rounds, their_sum), our_time = best(ours, rounds, our_sum);
-    std::printf("| %s | %.1f | %.1f | %.2f |\n", name, our_time / things, their_time / things, our_time / their_time);
-    std::fflush(stdout);
+    line(name, our_time / things, their_time / things);
     if (our_sum != their_sum) {
       std::fprintf(stderr, "%s: the checksums differ: ours %llu, C++ %llu\n", name, (unsigned long long)our_sum, (unsigned long long)their_sum);
       differs = true;
