@@ -1,0 +1,5 @@
+pub mod SlotPlans
+pub mod FieldPlans
+pub mod Stored
+pub mod Pointers
+pub mod CopiedSources

@@ -1,0 +1,5 @@
+pub mod Planned
+pub mod Fields
+pub mod Primitives
+pub mod Sources
+pub mod Inits
