@@ -3,3 +3,4 @@ pub mod FieldPlans
 pub mod Stored
 pub mod Pointers
 pub mod CopiedSources
+pub mod NewLists

@@ -1,10 +1,14 @@
 -- Pointers of a struct that were lent, and what is written into a pointer's slot.
 use Rattle.std.specs.Prelude.{ℕ, ◌≡◌, refl, Option, Some, None, Result, Ok, Err, OnOk, OnErr}
-use Rattle.std.proofs.Common.{ap, sym, subst, ◌∙◌}
+use Rattle.std.proofs.Common.{ap, sym, subst, ◌∙◌, rules}
 use Rattle.capnp_wire.specs.Tree.{StructTree, Tree, Trees, nth_tree}
 use Rattle.capnp_wire.specs.Edits.{with_pointer_tree}
 use Rattle.capnp_wire.specs.Lends.{with_pointer}
-use Rattle.capnp_wire.specs.Objects.{object_tree, struct_object_tree}
+use Rattle.capnp_wire.specs.Objects.{list_object_tree, object_tree, struct_object_tree}
+use Rattle.capnp_wire.specs.Place.{struct_tree}
+use Rattle.capnp_wire.specs.declared.object.Object.TheVariants as object
+use Rattle.capnp_wire.specs.declared.object.ListObject.{ListObject}
+use Rattle.capnp_wire.specs.declared.object.ListObject.TheFolds.{the_lemmas}
 use Rattle.capnp_wire.specs.Facts.Written.{pointer_written}
 use Rattle.capnp_wire.specs.WellFormed.{IsWellFormed}
 use Rattle.capnp_wire.specs.declared.object.Object.{Object}
@@ -28,6 +32,13 @@ pub pointer_kept : (s : StructObject) (i : ℕ) (o : Object) → object_tree o �
 pointer_kept s i o e =
     let x : StructTree = struct_object_tree s in
     pointer_left s i o _ e ∙ ap (λ (ts : Trees). record { bytes = x.bytes; pointers = ts }) (with_tree-same x.pointers i)
+
+-- a struct, and a list, at a pointer
+pub struct_stands : (s : StructObject) → object_tree (object.Struct s) ≡ struct_tree (struct_object_tree s)
+struct_stands s = search (rules, the_lemmas)
+
+pub list_stands : (l : ListObject) → object_tree (object.List l) ≡ list_object_tree l
+list_stands l = search (rules, the_lemmas)
 
 pub on_ok : {A E : Type 0} {P Q : Type 0} (r : Result A E) → (P → Q) → OnOk r P → OnOk r Q
 on_ok (Ok a) f p = f p

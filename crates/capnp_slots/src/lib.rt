@@ -5,6 +5,7 @@
 #![tactic(auto)]
 
 mod copies;
+mod make;
 mod planned;
 mod pointer;
 pub mod primitive;

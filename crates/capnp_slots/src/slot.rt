@@ -1,6 +1,9 @@
 //! Slots of a struct that is built: a union's member becomes active, and then what stands in the slot is written.
 ghost use Rattle.std.specs.Prelude.{None, ◌≡◌, IfErr, IfOk, OnErr, OnOk, not};
+ghost use Rattle.capnp_device.specs.declared.error.ErrorKind.TheVariants.{OutOfMemory};
+ghost use Rattle.capnp_wire.specs.Edits.{zero_struct};
 ghost use Rattle.capnp_wire.specs.Objects.{struct_object_tree};
+ghost use Rattle.capnp_wire.specs.Place.{struct_tree};
 ghost use Rattle.capnp_wire.specs.WellFormed.{IsWellFormed};
 ghost use Rattle.capnp_wire.specs.Words.{first_fault};
 ghost use Rattle.capnp_schema.specs.FieldLists.{typed_of};
@@ -10,18 +13,22 @@ ghost use Rattle.capnp_records.specs.Writes.Overlay.{cleared_content};
 ghost use Rattle.capnp_records.specs.Writes.Slots.{At};
 ghost use Rattle.capnp_slots.specs.Fields.{field_set, IsPointer, IsRoomFor, IsSlot, Keeps, names_of, slot_with, switch_names, switched_to};
 ghost use Rattle.capnp_slots.specs.Sources.{IsPointed, IsSet, IsSetRefusal, source_seen};
+ghost use Rattle.capnp_slots.specs.Inits.{HasInit, HasInitn, IsInitRefusal, IsInitnRefusal, init_content, initn_content};
 ghost use Rattle.capnp_slots.specs.Primitives.{IsGiven, IsGivenAs, given_to, primitive_source, set_content};
 
 use crate::copies::{copies_to, copy_to};
+use crate::make::{is_sized, make_sized, make_struct, size_of};
 use crate::planned::{clear_plan, field_plan, slot_plan, store_number, switch_member};
 use crate::pointer::{pointer_slot, set_at};
 use crate::primitive::{Primitive, number_fits, number_given};
 use crate::source::Source;
+use capnp_base::introspect::TypeVariant;
 use capnp_base::traits::SetterInput;
 use capnp_schema::record::FieldKind;
 use capnp_schema::schema::Field;
-use capnp_wire::error::Result;
+use capnp_wire::error::{Error, ErrorKind, Result};
 use capnp_wire::object::StructObject;
+use capnp_wire::size::StructSize;
 
 /// Whether a field is a slot and no group.
 pub fn is_slot(field: Field<'_>) -> bool
@@ -135,6 +142,75 @@ fn set_pointed(object: &mut StructObject, field: Field<'_>, source: Source<'_>) 
     } else {
         set_primitive(object, field, Primitive::Void)
     }
+}
+
+/// Initializes a slot: a struct's becomes a new struct of its schema's sections, all zero and null, and an untyped one
+/// null. Then a member becomes active. An untyped slot takes no memory.
+///
+/// Refused with `InitIsOnlyValidForStructAndAnyPointerFields` for another slot, and with `OutOfMemory` for a struct; then
+/// nothing has changed.
+pub fn init(object: &mut StructObject, field: Field<'_>) -> Result<()>
+    requires slot { IsSlot field }
+    requires room { IsRoomFor field (struct_object_tree object.old) }
+    ensures written { OnOk result (struct_object_tree object.new ≡ slot_with field.entry (init_content field.entry) (struct_object_tree object.old)) }
+    ensures has { OnOk result (HasInit field.entry) }
+    ensures kept { OnOk result (Keeps (names_of field.entry) (struct_object_tree object.old) (struct_object_tree object.new)) }
+    ensures refused { OnErr result (struct_object_tree object.new ≡ struct_object_tree object.old) }
+    ensures cause { IfErr result (λ e. IsInitRefusal (typed_of field.entry).type e.kind) }
+{
+    match field.get_type().which() {
+        TypeVariant::Struct(raw) => {
+            let set = field.get_containing_struct().get_set();
+            init_struct(object, field, size_of(set.struct_schema(raw.number)))
+        }
+        TypeVariant::AnyPointer => {
+            clear(object, field);
+            Ok(())
+        }
+        _ => Err(Error::from(ErrorKind::InitIsOnlyValidForStructAndAnyPointerFields)),
+    }
+}
+
+/// Makes a pointer's slot a struct of a size, and then its field active.
+fn init_struct(object: &mut StructObject, field: Field<'_>, size: StructSize) -> Result<()>
+    requires slot { IsSlot field }
+    requires pointer { IsPointer field }
+    requires room { IsRoomFor field (struct_object_tree object.old) }
+    ensures written { OnOk result (struct_object_tree object.new ≡ slot_with field.entry (At (struct_tree (zero_struct size))) (struct_object_tree object.old)) }
+    ensures kept { OnOk result (Keeps (names_of field.entry) (struct_object_tree object.old) (struct_object_tree object.new)) }
+    ensures refused { OnErr result (struct_object_tree object.new ≡ struct_object_tree object.old) }
+    ensures cause { IfErr result (λ e. e.kind ≡ OutOfMemory) }
+{
+    let (index, member) = pointer_slot(field);
+    make_struct(object, index, size)?;
+    switch_member(object, member);
+    Ok(())
+}
+
+/// Initializes a slot with a size: it becomes a text or data of so many zero bytes, or a list of so many elements, all
+/// zero, false or null, or structs of their schema's sections. Then a member becomes active.
+///
+/// Refused with `InitnIsOnlyValidForListTextOrDataFields` for another slot; with `SizePastFormat` for a text of more than
+/// 2^29 - 2 bytes, data of more than 2^29 - 1, 2^29 elements or more, or structs that take 2^29 words or more; and with
+/// `OutOfMemory`. Then nothing has changed.
+pub fn initn(object: &mut StructObject, field: Field<'_>, count: u32) -> Result<()>
+    requires slot { IsSlot field }
+    requires room { IsRoomFor field (struct_object_tree object.old) }
+    ensures written { OnOk result (struct_object_tree object.new ≡ slot_with field.entry (initn_content field.entry count) (struct_object_tree object.old)) }
+    ensures has { OnOk result (HasInitn field.entry count) }
+    ensures kept { OnOk result (Keeps (names_of field.entry) (struct_object_tree object.old) (struct_object_tree object.new)) }
+    ensures refused { OnErr result (struct_object_tree object.new ≡ struct_object_tree object.old) }
+    ensures cause { IfErr result (λ e. IsInitnRefusal (field_set field.entry) count (typed_of field.entry).type e.kind) }
+{
+    let variant = field.get_type().which();
+    if !is_sized(variant) {
+        return Err(Error::from(ErrorKind::InitnIsOnlyValidForListTextOrDataFields));
+    }
+    let (index, member) = pointer_slot(field);
+    let set = field.get_containing_struct().get_set();
+    make_sized(object, index, set, variant, count)?;
+    switch_member(object, member);
+    Ok(())
 }
 
 /// Clears a slot: its bits are zero, which reads as its default, or its pointer is null. A member becomes active. No
