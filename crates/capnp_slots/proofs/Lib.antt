@@ -4,3 +4,5 @@ pub mod Stored
 pub mod Pointers
 pub mod CopiedSources
 pub mod NewLists
+pub mod GroupFields
+pub mod GroupClears

@@ -3,3 +3,4 @@ pub mod Fields
 pub mod Primitives
 pub mod Sources
 pub mod Inits
+pub mod Groups

@@ -5,6 +5,7 @@
 #![tactic(auto)]
 
 mod copies;
+pub mod group;
 mod make;
 mod planned;
 mod pointer;
