@@ -6,3 +6,5 @@ pub mod CopiedSources
 pub mod NewLists
 pub mod GroupFields
 pub mod GroupClears
+pub mod Filled
+pub mod FilledSlots

@@ -1,8 +1,8 @@
 -- Pointers of a struct that were lent, and what is written into a pointer's slot.
-use Rattle.std.specs.Prelude.{ℕ, ◌≡◌, refl, Option, Some, None, Result, Ok, Err, OnOk, OnErr}
-use Rattle.std.proofs.Common.{ap, sym, subst, ◌∙◌, rules}
-use Rattle.capnp_wire.specs.Tree.{StructTree, Tree, Trees, nth_tree}
-use Rattle.capnp_wire.specs.Edits.{with_pointer_tree}
+use Rattle.std.specs.Prelude.{ℕ, zero, suc, ◌<◌, ◌≡◌, refl, Option, Some, None, Result, Ok, Err, OnOk, OnErr}
+use Rattle.std.proofs.Common.{ap, arith, sym, subst, ◌∙◌, rules}
+use Rattle.capnp_wire.specs.Tree.{StructTree, Tree, Trees, NoTrees, MoreTrees, nth_tree, tree_count}
+use Rattle.capnp_wire.specs.Edits.{with_pointer_tree, with_tree}
 use Rattle.capnp_wire.specs.Lends.{with_pointer}
 use Rattle.capnp_wire.specs.Objects.{list_object_tree, object_tree, struct_object_tree}
 use Rattle.capnp_wire.specs.Place.{struct_tree}
@@ -18,7 +18,7 @@ use Rattle.capnp_schema.specs.declared.plan.Place.{Place}
 use Rattle.capnp_schema.specs.declared.plan.Place.TheVariants as place
 use Rattle.capnp_schema.specs.declared.plan.SlotPlan.{SlotPlan}
 use Rattle.capnp_schema.specs.declared.schema.fields.Field.{Field}
-use Rattle.capnp_records.specs.Facts.Pointers.{with_tree-same}
+use Rattle.capnp_records.specs.Facts.Pointers.{nth_tree-put_same, tree_count-put, with_tree-same}
 use Rattle.capnp_records.specs.Writes.Slots.{At}
 use Rattle.capnp_slots.specs.Fields.{IsPointer, IsPointerSlot, IsRoomFor, IsSlotPlan, Keeps, names_of, pointer_index, slot_with}
 use Rattle.capnp_slots.specs.Planned.{member_switched, place_written}
@@ -79,3 +79,23 @@ module _ (f : Field) (i : ℕ) (member : Option (ℕ × ℕ)) (is : IsPointerSlo
 
   pub slot_kept : (s m s' : StructTree) (t : Tree) → m ≡ with_pointer_tree s i t → s' ≡ member_switched member m → IsRoomFor f s → IsWellFormed t → Keeps (names_of f) s s'
   slot_kept s m s' t put switch room formed = subst (Keeps (names_of f) s) (sym (slot_set s m s' t put switch)) (is.keeps t s room formed)
+
+-- ---- a pointer that was filled, and lent ----
+
+with_tree-twice : (ts : Trees) (i : ℕ) (t u : Tree) → with_tree (with_tree ts i t) i u ≡ with_tree ts i u
+with_tree-twice NoTrees i t u = refl
+with_tree-twice (MoreTrees x ts) zero t u = refl
+with_tree-twice (MoreTrees x ts) (suc i) t u = ap (MoreTrees x) (with_tree-twice ts i t u)
+
+pub pointer_again : (i j : ℕ) (s : StructTree) (m : StructObject) (o : Object) (t : Tree) → i ≡ j → struct_object_tree m ≡ with_pointer_tree s i t → struct_object_tree (with_pointer m i o) ≡ with_pointer_tree s j (object_tree o)
+pointer_again i j s m o t same h =
+    pointer_left m i o (object_tree o) refl
+    ∙ (ap (λ (y : StructTree). with_pointer_tree y i (object_tree o)) h
+    ∙ (ap (λ (ts : Trees). record { bytes = s.bytes; pointers = ts }) (with_tree-twice s.pointers i t (object_tree o))
+    ∙ ap (λ k. with_pointer_tree s k (object_tree o)) same))
+
+pub pointer_read : (i : ℕ) (s x : StructTree) (t : Tree) → x ≡ with_pointer_tree s i t → i < tree_count s.pointers → nth_tree x.pointers i ≡ t
+pointer_read i s x t h inside = ap (λ (y : StructTree). nth_tree y.pointers i) h ∙ nth_tree-put_same s.pointers i t inside
+
+pub pointer_there : (i : ℕ) (s x : StructTree) (t : Tree) → x ≡ with_pointer_tree s i t → i < tree_count s.pointers → i < tree_count x.pointers
+pointer_there i s x t h inside = omega (arith, inside, ap (λ (y : StructTree). tree_count y.pointers) h, tree_count-put s.pointers i t)

@@ -4,3 +4,5 @@ pub mod Primitives
 pub mod Sources
 pub mod Inits
 pub mod Groups
+pub mod Fills
+pub mod Lending

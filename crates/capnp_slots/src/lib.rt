@@ -5,8 +5,10 @@
 #![tactic(auto)]
 
 mod copies;
+mod fill;
 pub mod group;
 mod make;
+pub mod part;
 mod planned;
 mod pointer;
 pub mod primitive;
