@@ -19,7 +19,7 @@ use Rattle.capnp_slots.specs.Primitives.{given_to}
 use Rattle.capnp_slots.specs.Sources.{GivesCopy, IsCopy, IsPointed, TakesSource, source_copied, source_past}
 
 -- what stands behind a pointer is given at once to a void slot alone
-void-only : (set : Schemas) (t : SchemaType) (s : Source) (v : Value) → IsPointed s → given_slot set t s ≡ Gives v → VoidType ≡ t
+pub void-only : (set : Schemas) (t : SchemaType) (s : Source) (v : Value) → IsPointed s → given_slot set t s ≡ Gives v → VoidType ≡ t
 void-only set VoidType s v p e = refl
 void-only set BoolType (BoolSource b) v p e = absurd p
 void-only set (IntType k) (IntSource n x) v p e = absurd p

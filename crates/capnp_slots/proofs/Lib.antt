@@ -8,3 +8,5 @@ pub mod GroupFields
 pub mod GroupClears
 pub mod Filled
 pub mod FilledSlots
+pub mod SetElements
+pub mod ElementParts

@@ -6,3 +6,4 @@ pub mod Inits
 pub mod Groups
 pub mod Fills
 pub mod Lending
+pub mod ElementSets

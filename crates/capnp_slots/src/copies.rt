@@ -88,7 +88,7 @@ fn copies_untyped(variant: TypeVariant) -> Result<bool>
 ///
 /// Refused with `CannotSetAnyPointerFieldToAPrimitiveValue` for an untyped slot and an untyped pointer, and with
 /// `TypeMismatch` where the slot is of another kind.
-fn copies_source(variant: TypeVariant, source: Source<'_>) -> Result<bool>
+pub(crate) fn copies_source(variant: TypeVariant, source: Source<'_>) -> Result<bool>
     requires { IsPointed (source_seen source) }
     ensures { (set : Schemas) → GivesCopy (source_seen source.entry) (given_slot set (seen_variant variant) (source_seen source.entry)) result }
 {

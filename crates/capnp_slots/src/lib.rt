@@ -5,6 +5,7 @@
 #![tactic(auto)]
 
 mod copies;
+pub mod element;
 mod fill;
 pub mod group;
 mod make;
