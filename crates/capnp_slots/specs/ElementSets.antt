@@ -1,11 +1,14 @@
 -- What an element of a list is set to, and why it is not.
 use Rattle.std.specs.Prelude.{ℕ, ◌≡◌, ⊤, Bool, true, false}
 use Rattle.capnp_wire.specs.Tree.{Tree}
+use Rattle.capnp_device.specs.declared.error.ErrorKind.{ErrorKind}
+use Rattle.capnp_device.specs.declared.error.ErrorKind.TheVariants.{ExpectedAListOrBlob, ListAnyPointerNotSupported}
+use Rattle.capnp_slots.specs.Inits.{IsInitnRefusal}
 use Rattle.capnp_wire.specs.Elements.{HasPointer, with_pointer_element}
 use Rattle.capnp_records.specs.Record.{Value}
 use Rattle.capnp_wire.specs.WellFormed.{IsWellFormed}
 use Rattle.capnp_schema.specs.Schema.{Schemas}
-use Rattle.capnp_schema.specs.Types.{SchemaType, VoidType}
+use Rattle.capnp_schema.specs.Types.{SchemaType, VoidType, TextType, DataType, ListType, AnyPointerType}
 use Rattle.capnp_records.specs.Call.{Source, TextSource, DataSource, StructSource, ListSource}
 use Rattle.capnp_records.specs.Given.{Given, Gives, Copies, CopiesGroup, Fails, given_element}
 use Rattle.capnp_records.specs.Writes.ElementEnds.{HasRoom, element_source_tree, element_written}
@@ -51,3 +54,13 @@ pub record IsPointerElement (t : SchemaType) : Type 0 where
 abbrev pub TakesInto : Schemas → SchemaType → Source → Bool → Type 0
 TakesInto set t s true = IsBlobOrList s × IsPointerElement t × ((v : Value) × (given_element set t s ≡ Copies (source_copied s) (source_past s) v))
 TakesInto set t s false = VoidType ≡ t
+
+-- ---- init ----
+
+-- why an element of a type is not initialized with a size
+abbrev pub IsElementInitRefusal : Schemas → ℕ → SchemaType → ErrorKind → Type 0
+IsElementInitRefusal set n TextType kind = IsInitnRefusal set n TextType kind
+IsElementInitRefusal set n DataType kind = IsInitnRefusal set n DataType kind
+IsElementInitRefusal set n (ListType e) kind = IsInitnRefusal set n (ListType e) kind
+IsElementInitRefusal set n AnyPointerType kind = kind ≡ ListAnyPointerNotSupported
+IsElementInitRefusal set n t kind = kind ≡ ExpectedAListOrBlob

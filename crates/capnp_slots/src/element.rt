@@ -1,5 +1,5 @@
 //! Elements of a list that is built.
-ghost use Rattle.std.specs.Prelude.{None, ◌≡◌, ◌<◌, ◌^◌, IfErr, IfOk, OnErr, OnOk, length};
+ghost use Rattle.std.specs.Prelude.{None, true, ◌≡◌, ◌<◌, ◌^◌, IfErr, IfOk, OnErr, OnOk, length};
 ghost use Rattle.capnp_wire.specs.Objects.{list_object_tree};
 ghost use Rattle.capnp_wire.specs.WellFormed.{IsWellFormed};
 ghost use Rattle.capnp_wire.specs.Edits.{IsCopyRefusal, fitted};
@@ -15,13 +15,16 @@ ghost use Rattle.capnp_records.specs.Call.{StructSource};
 ghost use Rattle.capnp_records.specs.Record.{Left};
 ghost use Rattle.capnp_schema.specs.StructHandles.{number_of};
 ghost use Rattle.capnp_records.specs.Given.{Fails, given_element, given_slot};
-ghost use Rattle.capnp_records.specs.Writes.ElementEnds.{HasRoom, with_element_number};
-ghost use Rattle.capnp_slots.specs.ElementSets.{IsBlobOrList, IsElementSet, NoStruct, TakesInto};
+ghost use Rattle.capnp_records.specs.Writes.ElementEnds.{HasRoom, InitnContent, element_written, with_element_number};
+ghost use Rattle.capnp_slots.specs.ElementSets.{IsBlobOrList, IsElementInitRefusal, IsElementSet, NoStruct, TakesInto};
 ghost use Rattle.capnp_slots.specs.Primitives.{IsGivenAs, primitive_source};
 ghost use Rattle.capnp_slots.specs.Sources.{IsCopyDue, IsPointed, IsSetRefusal, IsSoundCopy, source_seen};
-ghost use Rattle.capnp_records.specs.Writes.Contents.{source_tree};
+ghost use Rattle.capnp_records.specs.Writes.Contents.{initn_tree, source_tree};
+ghost use Rattle.capnp_records.specs.Writes.Slots.{At};
+ghost use Rattle.capnp_slots.specs.Inits.{IsInitnRefusal, is_sized};
 
 use crate::copies::copies_source;
+use crate::make::make_sized;
 use crate::primitive::{Primitive, mismatch, number_fits, number_given};
 use crate::source::{ListInput, Source};
 use capnp_base::introspect::{RawBrandedStructSchema, Type, TypeVariant};
@@ -33,7 +36,7 @@ use capnp_wire::StructReader;
 use capnp_wire::error::{Error, ErrorKind, Result};
 use capnp_wire::laws::kept_lists::{
     bits_keep_lists_well_formed, lent_pointers_keep_lists_well_formed,
-    numbers_keep_lists_well_formed,
+    numbers_keep_lists_well_formed, pointers_keep_lists_well_formed,
 };
 use capnp_wire::laws::{objects_hold_no_fault, struct_is_well_formed};
 use capnp_wire::object::ListObject;
@@ -240,5 +243,55 @@ pub fn set(
         Source::Text(_) | Source::Data(_) | Source::List(_, _) | Source::AnyPointer(_) => {
             set_pointed(list, set, element, index, source)
         }
+    }
+}
+
+/// Makes the pointer of an element lead to a new text, data or list of a type, with so many bytes or elements.
+fn init_at(
+    list: &mut ListObject,
+    set: &SchemaSet,
+    variant: TypeVariant,
+    index: u32,
+    count: u32,
+) -> Result<()>
+    requires inside { HasPointer (list_object_tree list.old) index }
+    requires is_sized { is_sized (seen_variant variant) ≡ true }
+    ensures written { OnOk result (list_object_tree list.new ≡ with_pointer_element index (initn_tree (lists_seen set.now) (seen_variant variant) count) (list_object_tree list.old)) }
+    ensures within { OnOk result (InitnContent (lists_seen set.now) count (seen_variant variant) (At (initn_tree (lists_seen set.now) (seen_variant variant) count))) }
+    ensures formed { OnOk result (IsWellFormed (list_object_tree list.old) → IsWellFormed (list_object_tree list.new)) }
+    ensures refused { OnErr result (list_object_tree list.new ≡ list_object_tree list.old) }
+    ensures cause { IfErr result (λ e. IsInitnRefusal (lists_seen set.now) count (seen_variant variant) e.kind) }
+{
+    pointers_keep_lists_well_formed();
+    make_sized(list.get_pointer_element(index), set, variant, count)
+}
+
+/// Initializes an element with a size: it becomes a text or data of so many zero bytes, or a list of so many elements, all
+/// zero, false or null, or structs of their schema's sections.
+///
+/// Refused with `ListAnyPointerNotSupported` for an untyped element and `ExpectedAListOrBlob` for another one that is no
+/// list, text or data; with `SizePastFormat` for a text of more than 2^29 - 2 bytes, data of more than 2^29 - 1, 2^29
+/// elements or more, or structs that take 2^29 words or more; and with `OutOfMemory`. Then nothing has changed.
+pub fn init(
+    list: &mut ListObject,
+    set: &SchemaSet,
+    element: Type,
+    index: u32,
+    count: u32,
+) -> Result<()>
+    requires { HasRoom (seen_type element) (list_object_tree list.old) index }
+    ensures written { OnOk result (list_object_tree list.new ≡ element_written (seen_type element) (list_object_tree list.old) index (At (initn_tree (lists_seen set.now) (seen_type element) count))) }
+    ensures has { OnOk result (InitnContent (lists_seen set.now) count (seen_type element) (At (initn_tree (lists_seen set.now) (seen_type element) count))) }
+    ensures formed { OnOk result (IsWellFormed (list_object_tree list.old) → IsWellFormed (list_object_tree list.new)) }
+    ensures refused { OnErr result (list_object_tree list.new ≡ list_object_tree list.old) }
+    ensures cause { IfErr result (λ e. IsElementInitRefusal (lists_seen set.now) count (seen_type element) e.kind) }
+{
+    let variant = element.which();
+    match variant {
+        TypeVariant::Text => init_at(list, set, variant, index, count),
+        TypeVariant::Data => init_at(list, set, variant, index, count),
+        TypeVariant::List(_) => init_at(list, set, variant, index, count),
+        TypeVariant::AnyPointer => Err(Error::from(ErrorKind::ListAnyPointerNotSupported)),
+        _ => Err(Error::from(ErrorKind::ExpectedAListOrBlob)),
     }
 }

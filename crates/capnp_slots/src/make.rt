@@ -1,10 +1,9 @@
-//! New structs, lists, texts and data at a struct's pointers, all zero and null.
+//! New structs, lists, texts and data at a pointer, all zero and null.
 ghost use Rattle.std.specs.Prelude.{false, true, ◌-◌, ◌*◌, ◌+◌, ◌^◌, ◌<◌, ◌≡◌, ◌≢◌, ◌||◌, IfErr, OnErr, OnOk, nat_lt, replicate};
 ghost use Rattle.capnp_device.specs.declared.error.ErrorKind.TheVariants.{OutOfMemory};
-ghost use Rattle.capnp_wire.specs.Edits.{with_pointer_tree, zero_list, zero_struct, zero_structs};
-ghost use Rattle.capnp_wire.specs.Objects.{struct_object_tree};
+ghost use Rattle.capnp_wire.specs.Edits.{zero_list, zero_struct, zero_structs};
+ghost use Rattle.capnp_wire.specs.Objects.{object_tree};
 ghost use Rattle.capnp_wire.specs.Place.{struct_tree};
-ghost use Rattle.capnp_wire.specs.Tree.{tree_count};
 ghost use Rattle.capnp_wire.specs.WellFormed.{IsWellFormed};
 ghost use Rattle.capnp_schema.specs.Entries.{lists_seen};
 ghost use Rattle.capnp_schema.specs.StructHandles.{number_of, set_of};
@@ -25,7 +24,7 @@ use capnp_wire::laws::kept::new_structs_are_well_formed;
 use capnp_wire::laws::kept_lists::{
     new_lists_are_well_formed, new_struct_lists_are_well_formed, new_texts_are_well_formed,
 };
-use capnp_wire::object::StructObject;
+use capnp_wire::object::Object;
 use capnp_wire::size::{ElementSize, StructSize};
 
 /// The sections of a schema's structs.
@@ -42,51 +41,48 @@ pub(crate) fn size_of(schema: StructSchema<'_>) -> StructSize
 /// Makes a pointer lead to a struct of a size.
 ///
 /// Refused with `OutOfMemory`, and then nothing has changed; so is each call below.
-#[tactic(auto, using(crate::proofs::Pointers::pointer_kept, crate::proofs::Pointers::pointer_left, crate::proofs::Pointers::struct_stands))]
-pub(crate) fn make_struct(object: &mut StructObject, index: u16, size: StructSize) -> Result<()>
-    requires { index < tree_count (struct_object_tree object.old).pointers }
-    ensures ok { OnOk result (struct_object_tree object.new ≡ with_pointer_tree (struct_object_tree object.old) index (struct_tree (zero_struct size))) }
+#[tactic(auto, using(crate::proofs::Pointers::struct_stands))]
+pub(crate) fn make_struct(pointer: &mut Object, size: StructSize) -> Result<()>
+    ensures ok { OnOk result (object_tree pointer.new ≡ struct_tree (zero_struct size)) }
     ensures formed { OnOk result (IsWellFormed (struct_tree (zero_struct size))) }
-    ensures refused { OnErr result (struct_object_tree object.new ≡ struct_object_tree object.old) }
+    ensures refused { OnErr result (object_tree pointer.new ≡ object_tree pointer.old) }
     ensures cause { IfErr result (λ e. e.kind ≡ OutOfMemory) }
 {
     new_structs_are_well_formed();
-    object.get_pointer_field(index).init_struct(size)?;
+    pointer.init_struct(size)?;
     Ok(())
 }
 
 /// Makes a pointer lead to a text of so many zero bytes.
 ///
 /// Refused with `SizePastFormat` for more than 2^29 - 2 bytes, and else with `OutOfMemory`.
-#[tactic(auto, using(crate::proofs::Pointers::pointer_kept, crate::proofs::Pointers::pointer_left, crate::proofs::Pointers::list_stands))]
-fn make_text(object: &mut StructObject, index: u16, count: u32) -> Result<()>
-    requires { index < tree_count (struct_object_tree object.old).pointers }
-    ensures ok { OnOk result (struct_object_tree object.new ≡ with_pointer_tree (struct_object_tree object.old) index (text_tree (replicate count 0))) }
+#[tactic(auto, using(crate::proofs::Pointers::list_stands))]
+fn make_text(pointer: &mut Object, count: u32) -> Result<()>
+    ensures ok { OnOk result (object_tree pointer.new ≡ text_tree (replicate count 0)) }
     ensures within { OnOk result (nat_lt (2 ^ 29 - 2) count ≡ false) }
     ensures formed { OnOk result (IsWellFormed (text_tree (replicate count 0))) }
-    ensures refused { OnErr result (struct_object_tree object.new ≡ struct_object_tree object.old) }
+    ensures refused { OnErr result (object_tree pointer.new ≡ object_tree pointer.old) }
     ensures cause { IfErr result (λ e. IsRoomless (nat_lt (2 ^ 29 - 2) count) e.kind) }
 {
     new_texts_are_well_formed();
-    object.get_pointer_field(index).init_text_list(count)?;
+    pointer.init_text_list(count)?;
     Ok(())
 }
 
 /// Makes a pointer lead to a list of so many elements of a size that is not composite.
 ///
 /// Refused with `SizePastFormat` for 2^29 elements or more, and else with `OutOfMemory`.
-#[tactic(auto, using(crate::proofs::Pointers::pointer_kept, crate::proofs::Pointers::pointer_left, crate::proofs::Pointers::list_stands))]
-fn make_list(object: &mut StructObject, index: u16, size: ElementSize, count: u32) -> Result<()>
-    requires inside { index < tree_count (struct_object_tree object.old).pointers }
-    requires simple { size ≢ ElementSize.InlineComposite }
-    ensures ok { OnOk result (struct_object_tree object.new ≡ with_pointer_tree (struct_object_tree object.old) index (zero_list size count)) }
+#[tactic(auto, using(crate::proofs::Pointers::list_stands))]
+fn make_list(pointer: &mut Object, size: ElementSize, count: u32) -> Result<()>
+    requires { size ≢ ElementSize.InlineComposite }
+    ensures ok { OnOk result (object_tree pointer.new ≡ zero_list size count) }
     ensures within { OnOk result (nat_lt (2 ^ 29 - 1) count ≡ false) }
     ensures formed { OnOk result (IsWellFormed (zero_list size count)) }
-    ensures refused { OnErr result (struct_object_tree object.new ≡ struct_object_tree object.old) }
+    ensures refused { OnErr result (object_tree pointer.new ≡ object_tree pointer.old) }
     ensures cause { IfErr result (λ e. IsRoomless (nat_lt (2 ^ 29 - 1) count) e.kind) }
 {
     new_lists_are_well_formed();
-    object.get_pointer_field(index).init_list(size, count)?;
+    pointer.init_list(size, count)?;
     Ok(())
 }
 
@@ -94,45 +90,35 @@ fn make_list(object: &mut StructObject, index: u16, size: ElementSize, count: u3
 ///
 /// Refused with `SizePastFormat` for 2^29 elements or more, or where they take 2^29 words or more, and else with
 /// `OutOfMemory`.
-#[tactic(auto, using(crate::proofs::Pointers::pointer_kept, crate::proofs::Pointers::pointer_left, crate::proofs::Pointers::list_stands))]
-fn make_structs(object: &mut StructObject, index: u16, size: StructSize, count: u32) -> Result<()>
-    requires { index < tree_count (struct_object_tree object.old).pointers }
-    ensures ok { OnOk result (struct_object_tree object.new ≡ with_pointer_tree (struct_object_tree object.old) index (zero_structs size count)) }
+#[tactic(auto, using(crate::proofs::Pointers::list_stands))]
+fn make_structs(pointer: &mut Object, size: StructSize, count: u32) -> Result<()>
+    ensures ok { OnOk result (object_tree pointer.new ≡ zero_structs size count) }
     ensures within { OnOk result ((nat_lt (2 ^ 29 - 1) (count * (size.data_words + size.pointers)) || nat_lt (2 ^ 29 - 1) count) ≡ false) }
     ensures formed { OnOk result (IsWellFormed (zero_structs size count)) }
-    ensures refused { OnErr result (struct_object_tree object.new ≡ struct_object_tree object.old) }
+    ensures refused { OnErr result (object_tree pointer.new ≡ object_tree pointer.old) }
     ensures cause { IfErr result (λ e. IsRoomless (nat_lt (2 ^ 29 - 1) (count * (size.data_words + size.pointers)) || nat_lt (2 ^ 29 - 1) count) e.kind) }
 {
     new_struct_lists_are_well_formed();
-    object
-        .get_pointer_field(index)
-        .init_struct_list(count, size)?;
+    pointer.init_struct_list(count, size)?;
     Ok(())
 }
 
 /// Makes a pointer lead to a list of so many elements of a type.
 ///
 /// Refused as `make_structs` for structs, and else as `make_list`.
-fn make_elements(
-    object: &mut StructObject,
-    index: u16,
-    set: &SchemaSet,
-    element: Type,
-    count: u32,
-) -> Result<()>
-    requires { index < tree_count (struct_object_tree object.old).pointers }
-    ensures ok { OnOk result (struct_object_tree object.new ≡ with_pointer_tree (struct_object_tree object.old) index (new_list (lists_seen set.now) (seen_type element) count)) }
+fn make_elements(pointer: &mut Object, set: &SchemaSet, element: Type, count: u32) -> Result<()>
+    ensures ok { OnOk result (object_tree pointer.new ≡ new_list (lists_seen set.now) (seen_type element) count) }
     ensures within { OnOk result (elements_past (lists_seen set.now) (seen_type element) count ≡ false) }
     ensures formed { OnOk result (IsWellFormed (new_list (lists_seen set.now) (seen_type element) count)) }
-    ensures refused { OnErr result (struct_object_tree object.new ≡ struct_object_tree object.old) }
+    ensures refused { OnErr result (object_tree pointer.new ≡ object_tree pointer.old) }
     ensures cause { IfErr result (λ e. IsRoomless (elements_past (lists_seen set.now) (seen_type element) count) e.kind) }
 {
     match element.which() {
         TypeVariant::Struct(raw) => {
             let size = size_of(set.struct_schema(raw.number));
-            make_structs(object, index, size, count)
+            make_structs(pointer, size, count)
         }
-        _ => make_list(object, index, element.expected_element_size(), count),
+        _ => make_list(pointer, element.expected_element_size(), count),
     }
 }
 
@@ -150,24 +136,22 @@ pub(crate) fn is_sized(variant: TypeVariant) -> bool
 
 /// Makes a pointer lead to a text, data or list of a type with so many bytes or elements.
 pub(crate) fn make_sized(
-    object: &mut StructObject,
-    index: u16,
+    pointer: &mut Object,
     set: &SchemaSet,
     variant: TypeVariant,
     count: u32,
 ) -> Result<()>
-    requires inside { index < tree_count (struct_object_tree object.old).pointers }
-    requires is_sized { is_sized (seen_variant variant) ≡ true }
-    ensures ok { OnOk result (struct_object_tree object.new ≡ with_pointer_tree (struct_object_tree object.old) index (initn_tree (lists_seen set.now) (seen_variant variant) count)) }
+    requires { is_sized (seen_variant variant) ≡ true }
+    ensures ok { OnOk result (object_tree pointer.new ≡ initn_tree (lists_seen set.now) (seen_variant variant) count) }
     ensures within { OnOk result (InitnContent (lists_seen set.now) count (seen_variant variant) (At (initn_tree (lists_seen set.now) (seen_variant variant) count))) }
     ensures formed { OnOk result (IsWellFormed (initn_tree (lists_seen set.now) (seen_variant variant) count)) }
-    ensures refused { OnErr result (struct_object_tree object.new ≡ struct_object_tree object.old) }
+    ensures refused { OnErr result (object_tree pointer.new ≡ object_tree pointer.old) }
     ensures cause { IfErr result (λ e. IsInitnRefusal (lists_seen set.now) count (seen_variant variant) e.kind) }
 {
     match variant {
-        TypeVariant::Text => make_text(object, index, count),
-        TypeVariant::Data => make_list(object, index, ElementSize::Byte, count),
-        TypeVariant::List(element) => make_elements(object, index, set, element, count),
+        TypeVariant::Text => make_text(pointer, count),
+        TypeVariant::Data => make_list(pointer, ElementSize::Byte, count),
+        TypeVariant::List(element) => make_elements(pointer, set, element, count),
         _ => unreachable!(),
     }
 }

@@ -17,9 +17,9 @@ ghost use Rattle.capnp_slots.specs.Inits.{HasInit, HasInitn, IsInitRefusal, IsIn
 ghost use Rattle.capnp_slots.specs.Primitives.{IsGiven, IsGivenAs, given_to, primitive_source, set_content};
 
 use crate::copies::{copies_to, copy_to};
-use crate::make::{is_sized, make_sized, make_struct, size_of};
+use crate::make::{is_sized, size_of};
 use crate::planned::{clear_plan, field_plan, slot_plan, store_number, switch_member};
-use crate::pointer::{pointer_slot, set_at};
+use crate::pointer::{make_sized_at, make_struct_at, pointer_slot, set_at};
 use crate::primitive::{Primitive, number_fits, number_given};
 use crate::source::Source;
 use capnp_base::introspect::TypeVariant;
@@ -182,7 +182,7 @@ fn init_struct(object: &mut StructObject, field: Field<'_>, size: StructSize) ->
     ensures cause { IfErr result (λ e. e.kind ≡ OutOfMemory) }
 {
     let (index, member) = pointer_slot(field);
-    make_struct(object, index, size)?;
+    make_struct_at(object, index, size)?;
     switch_member(object, member);
     Ok(())
 }
@@ -208,7 +208,7 @@ pub fn initn(object: &mut StructObject, field: Field<'_>, count: u32) -> Result<
     }
     let (index, member) = pointer_slot(field);
     let set = field.get_containing_struct().get_set();
-    make_sized(object, index, set, variant, count)?;
+    make_sized_at(object, index, set, variant, count)?;
     switch_member(object, member);
     Ok(())
 }
