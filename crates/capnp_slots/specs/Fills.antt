@@ -1,13 +1,15 @@
 -- What a builder's get of a slot leaves at its pointer, and why it is refused.
-use Rattle.std.specs.Prelude.{◌≡◌, false, Option, None}
+use Rattle.std.specs.Prelude.{ℕ, ◌<◌, ◌≡◌, false, Option, None}
 use Rattle.capnp_device.specs.declared.error.ErrorKind.{ErrorKind}
-use Rattle.capnp_wire.specs.Tree.{StructTree, Tree, nth_tree}
+use Rattle.capnp_wire.specs.Tree.{StructTree, Tree, nth_tree, tree_count}
+use Rattle.capnp_wire.specs.Objects.{struct_object_tree}
+use Rattle.capnp_wire.specs.declared.object.StructObject.{StructObject}
 use Rattle.capnp_wire.specs.Place.{struct_tree}
 use Rattle.capnp_wire.specs.Reading.{as_data, as_text}
 use Rattle.capnp_wire.specs.Defaults.{error_of, filled_list_refusal, filled_structs_refusal, list_refusal, takes_default}
 use Rattle.capnp_wire.specs.Defaults.{default_tree as reader_tree}
 use Rattle.capnp_wire.specs.declared.pointer_reader.PointerReader.{PointerReader}
-use Rattle.capnp_wire.specs.Edits.{HoldsStruct, struct_refusal}
+use Rattle.capnp_wire.specs.Edits.{HoldsStruct, struct_refusal, with_pointer_tree}
 use Rattle.capnp_wire.specs.StructLists.{HoldsStructs, struct_list_refusal}
 use Rattle.capnp_schema.specs.Defaults.{DefaultFits, default_tree}
 use Rattle.capnp_schema.specs.FieldLists.{typed_of}
@@ -87,3 +89,15 @@ text_filled d x = x
 abbrev pub data_filled : Value → Tree → Tree
 data_filled (DataValue bytes) x = or_else x (data_tree bytes)
 data_filled d x = x
+
+-- ---- by an object ----
+
+-- a struct has a pointer of an index, what stands there, and the struct became the same with something else there
+abbrev pub IsThere : StructObject → ℕ → Type 0
+IsThere s i = i < tree_count (struct_object_tree s).pointers
+
+abbrev pub tree_there : StructObject → ℕ → Tree
+tree_there s i = nth_tree (struct_object_tree s).pointers i
+
+abbrev pub HoldsThere : StructObject → ℕ → StructObject → Tree → Type 0
+HoldsThere s i s' t = struct_object_tree s' ≡ with_pointer_tree (struct_object_tree s) i t

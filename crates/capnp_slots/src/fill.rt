@@ -8,6 +8,7 @@ ghost use Rattle.capnp_wire.specs.Reading.{as_data, as_text};
 ghost use Rattle.capnp_wire.specs.StructLists.{HoldsStructs};
 ghost use Rattle.capnp_wire.specs.Tree.{nth_tree, tree_count};
 ghost use Rattle.capnp_wire.specs.WellFormed.{IsWellFormed};
+ghost use Rattle.capnp_slots.specs.Fills.{HoldsThere, IsThere, tree_there};
 ghost use Rattle.capnp_records.specs.Given.{data_tree, text_tree};
 ghost use Rattle.capnp_records.specs.Writes.TreeCopy.{or_else};
 
@@ -38,13 +39,13 @@ pub(crate) fn fill_struct(
     size: StructSize,
     default: Option<PointerReader<'_>>,
 ) -> Result<()>
-    requires { index < tree_count (struct_object_tree object.old).pointers }
-    ensures ok { OnOk result (struct_object_tree object.new ≡ with_pointer_tree (struct_object_tree object.old) index (struct_tree (filled_struct (default_tree default.entry) size (nth_tree (struct_object_tree object.old).pointers index)))) }
-    ensures formed { IsWellFormed (nth_tree (struct_object_tree object.old).pointers index) → IsWellFormed (struct_tree (filled_struct (default_tree default.entry) size (nth_tree (struct_object_tree object.old).pointers index))) }
-    ensures within { OnOk result (filled_struct_refusal (default_tree default.entry) (nth_tree (struct_object_tree object.old).pointers index) ≡ None) }
+    requires { IsThere object.old index }
+    ensures ok { OnOk result (HoldsThere object.old index object.new (struct_tree (filled_struct (default_tree default.entry) size (tree_there object.old index)))) }
+    ensures formed { IsWellFormed (tree_there object.old index) → IsWellFormed (struct_tree (filled_struct (default_tree default.entry) size (tree_there object.old index))) }
+    ensures within { OnOk result (filled_struct_refusal (default_tree default.entry) (tree_there object.old index) ≡ None) }
     ensures refused { OnErr result (struct_object_tree object.new ≡ struct_object_tree object.old) }
-    ensures cause { IfErr result (λ e. IsDueRefusal e (filled_struct_refusal (default_tree default.entry) (nth_tree (struct_object_tree object.old).pointers index))) }
-    ensures succeeds { HoldsStruct size (nth_tree (struct_object_tree object.old).pointers index) → IsOk result }
+    ensures cause { IfErr result (λ e. IsDueRefusal e (filled_struct_refusal (default_tree default.entry) (tree_there object.old index))) }
+    ensures succeeds { HoldsStruct size (tree_there object.old index) → IsOk result }
 {
     default_is_well_formed(default);
     filled_structs_are_well_formed();
@@ -62,14 +63,14 @@ pub(crate) fn fill_list(
     size: ElementSize,
     default: Option<PointerReader<'_>>,
 ) -> Result<()>
-    requires inside { index < tree_count (struct_object_tree object.old).pointers }
+    requires inside { IsThere object.old index }
     requires simple { size ≢ ElementSize.InlineComposite }
-    ensures ok { OnOk result (struct_object_tree object.new ≡ with_pointer_tree (struct_object_tree object.old) index (or_default (default_tree default.entry) (nth_tree (struct_object_tree object.old).pointers index))) }
-    ensures formed { IsWellFormed (nth_tree (struct_object_tree object.old).pointers index) → IsWellFormed (or_default (default_tree default.entry) (nth_tree (struct_object_tree object.old).pointers index)) }
-    ensures within { OnOk result (filled_list_refusal (default_tree default.entry) size (nth_tree (struct_object_tree object.old).pointers index) ≡ None) }
+    ensures ok { OnOk result (HoldsThere object.old index object.new (or_default (default_tree default.entry) (tree_there object.old index))) }
+    ensures formed { IsWellFormed (tree_there object.old index) → IsWellFormed (or_default (default_tree default.entry) (tree_there object.old index)) }
+    ensures within { OnOk result (filled_list_refusal (default_tree default.entry) size (tree_there object.old index) ≡ None) }
     ensures refused { OnErr result (struct_object_tree object.new ≡ struct_object_tree object.old) }
-    ensures cause { IfErr result (λ e. IsDueRefusal e (filled_list_refusal (default_tree default.entry) size (nth_tree (struct_object_tree object.old).pointers index))) }
-    ensures succeeds { takes_default (default_tree default.entry) (nth_tree (struct_object_tree object.old).pointers index) ≡ false → filled_list_refusal (default_tree default.entry) size (nth_tree (struct_object_tree object.old).pointers index) ≡ None → IsOk result }
+    ensures cause { IfErr result (λ e. IsDueRefusal e (filled_list_refusal (default_tree default.entry) size (tree_there object.old index))) }
+    ensures succeeds { takes_default (default_tree default.entry) (tree_there object.old index) ≡ false → filled_list_refusal (default_tree default.entry) size (tree_there object.old index) ≡ None → IsOk result }
 {
     default_is_well_formed(default);
     filled_lists_are_well_formed();
@@ -87,14 +88,14 @@ pub(crate) fn fill_structs(
     size: StructSize,
     default: Option<PointerReader<'_>>,
 ) -> Result<()>
-    requires inside { index < tree_count (struct_object_tree object.old).pointers }
-    requires formed { IsWellFormed (nth_tree (struct_object_tree object.old).pointers index) }
-    ensures ok { OnOk result (struct_object_tree object.new ≡ with_pointer_tree (struct_object_tree object.old) index (filled_structs (default_tree default.entry) size (nth_tree (struct_object_tree object.old).pointers index))) }
-    ensures kept { OnOk result (IsWellFormed (filled_structs (default_tree default.entry) size (nth_tree (struct_object_tree object.old).pointers index))) }
-    ensures within { OnOk result (filled_structs_refusal (default_tree default.entry) size (nth_tree (struct_object_tree object.old).pointers index) ≡ None) }
+    requires inside { IsThere object.old index }
+    requires formed { IsWellFormed (tree_there object.old index) }
+    ensures ok { OnOk result (HoldsThere object.old index object.new (filled_structs (default_tree default.entry) size (tree_there object.old index))) }
+    ensures kept { OnOk result (IsWellFormed (filled_structs (default_tree default.entry) size (tree_there object.old index))) }
+    ensures within { OnOk result (filled_structs_refusal (default_tree default.entry) size (tree_there object.old index) ≡ None) }
     ensures refused { OnErr result (struct_object_tree object.new ≡ struct_object_tree object.old) }
-    ensures cause { IfErr result (λ e. IsDueRefusal e (filled_structs_refusal (default_tree default.entry) size (nth_tree (struct_object_tree object.old).pointers index))) }
-    ensures succeeds { takes_default (default_tree default.entry) (nth_tree (struct_object_tree object.old).pointers index) ≡ false → HoldsStructs size (nth_tree (struct_object_tree object.old).pointers index) → IsOk result }
+    ensures cause { IfErr result (λ e. IsDueRefusal e (filled_structs_refusal (default_tree default.entry) size (tree_there object.old index))) }
+    ensures succeeds { takes_default (default_tree default.entry) (tree_there object.old index) ≡ false → HoldsStructs size (tree_there object.old index) → IsOk result }
 {
     default_is_well_formed(default);
     filled_struct_lists_are_well_formed();
@@ -107,10 +108,10 @@ pub(crate) fn fill_structs(
 /// Refuses what is not read as a text.
 #[tactic(auto, using(crate::proofs::Pointers::pointer_kept, crate::proofs::Pointers::list_stands))]
 pub(crate) fn check_text(object: &mut StructObject, index: u16) -> Result<()>
-    requires { index < tree_count (struct_object_tree object.old).pointers }
+    requires { IsThere object.old index }
     ensures stays { struct_object_tree object.new ≡ struct_object_tree object.old }
-    ensures within { OnOk result (error_of (as_text (nth_tree (struct_object_tree object.old).pointers index)) ≡ None) }
-    ensures cause { IfErr result (λ e. error_of (as_text (nth_tree (struct_object_tree object.old).pointers index)) ≡ Some e.kind) }
+    ensures within { OnOk result (error_of (as_text (tree_there object.old index)) ≡ None) }
+    ensures cause { IfErr result (λ e. error_of (as_text (tree_there object.old index)) ≡ Some e.kind) }
 {
     object.get_pointer_field(index).get_text_list()?;
     Ok(())
@@ -119,10 +120,10 @@ pub(crate) fn check_text(object: &mut StructObject, index: u16) -> Result<()>
 /// Refuses what is not read as data.
 #[tactic(auto, using(crate::proofs::Pointers::pointer_kept, crate::proofs::Pointers::list_stands))]
 pub(crate) fn check_data(object: &mut StructObject, index: u16) -> Result<()>
-    requires { index < tree_count (struct_object_tree object.old).pointers }
+    requires { IsThere object.old index }
     ensures stays { struct_object_tree object.new ≡ struct_object_tree object.old }
-    ensures within { OnOk result (error_of (as_data (nth_tree (struct_object_tree object.old).pointers index)) ≡ None) }
-    ensures cause { IfErr result (λ e. error_of (as_data (nth_tree (struct_object_tree object.old).pointers index)) ≡ Some e.kind) }
+    ensures within { OnOk result (error_of (as_data (tree_there object.old index)) ≡ None) }
+    ensures cause { IfErr result (λ e. error_of (as_data (tree_there object.old index)) ≡ Some e.kind) }
 {
     object.get_pointer_field(index).get_data_list()?;
     Ok(())

@@ -21,7 +21,7 @@ ghost use Rattle.capnp_schema.specs.Schema.{default_of};
 ghost use Rattle.capnp_schema.specs.Types.{ListType, StructType, seen_type};
 ghost use Rattle.capnp_slots.specs.Fields.{IsPointer, IsRoomFor, IsSlot, field_set, pointer_index};
 ghost use Rattle.capnp_slots.specs.Groups.{KeepsSize};
-ghost use Rattle.capnp_slots.specs.Fills.{IsDefaultPointer, ListRests, RestsIn, data_filled, due_in, filled_in, list_due, pointer_in, text_filled};
+ghost use Rattle.capnp_slots.specs.Fills.{HoldsThere, IsDefaultPointer, IsThere, ListRests, RestsIn, data_filled, due_in, filled_in, list_due, pointer_in, text_filled, tree_there};
 
 use crate::fill::{check_data, check_text, fill_list, fill_struct, fill_structs};
 use crate::make::size_of;
@@ -51,14 +51,14 @@ fn fill_elements(
     element: Type,
     default: Option<PointerReader<'_>>,
 ) -> Result<()>
-    requires inside { index < tree_count (struct_object_tree object.old).pointers }
-    requires formed { IsWellFormed (nth_tree (struct_object_tree object.old).pointers index) }
-    ensures ok { OnOk result (struct_object_tree object.new ≡ with_pointer_tree (struct_object_tree object.old) index (entered_list (lists_seen set.now) (seen_type element) (or_default (reader_tree default.entry) (nth_tree (struct_object_tree object.old).pointers index)))) }
-    ensures kept { OnOk result (IsWellFormed (entered_list (lists_seen set.now) (seen_type element) (or_default (reader_tree default.entry) (nth_tree (struct_object_tree object.old).pointers index)))) }
-    ensures within { OnOk result (list_due (lists_seen set.now) (seen_type element) (reader_tree default.entry) (nth_tree (struct_object_tree object.old).pointers index) ≡ None) }
+    requires inside { IsThere object.old index }
+    requires formed { IsWellFormed (tree_there object.old index) }
+    ensures ok { OnOk result (HoldsThere object.old index object.new (entered_list (lists_seen set.now) (seen_type element) (or_default (reader_tree default.entry) (tree_there object.old index)))) }
+    ensures kept { OnOk result (IsWellFormed (entered_list (lists_seen set.now) (seen_type element) (or_default (reader_tree default.entry) (tree_there object.old index)))) }
+    ensures within { OnOk result (list_due (lists_seen set.now) (seen_type element) (reader_tree default.entry) (tree_there object.old index) ≡ None) }
     ensures refused { OnErr result (struct_object_tree object.new ≡ struct_object_tree object.old) }
-    ensures cause { IfErr result (λ e. IsDueRefusal e (list_due (lists_seen set.now) (seen_type element) (reader_tree default.entry) (nth_tree (struct_object_tree object.old).pointers index))) }
-    ensures rests { ListRests (lists_seen set.now) (seen_type element) (reader_tree default.entry) (nth_tree (struct_object_tree object.old).pointers index) → IsOk result }
+    ensures cause { IfErr result (λ e. IsDueRefusal e (list_due (lists_seen set.now) (seen_type element) (reader_tree default.entry) (tree_there object.old index))) }
+    ensures rests { ListRests (lists_seen set.now) (seen_type element) (reader_tree default.entry) (tree_there object.old index) → IsOk result }
 {
     match element.which() {
         TypeVariant::Struct(raw) => {
@@ -74,9 +74,9 @@ fn fill_slot(object: &mut StructObject, field: Field<'_>, index: u16) -> Result<
     requires slot { IsSlot field }
     requires pointer { IsPointer field }
     requires is { index ≡ pointer_index field }
-    requires inside { index < tree_count (struct_object_tree object.old).pointers }
+    requires inside { IsThere object.old index }
     requires formed { IsWellFormed (struct_tree (struct_object_tree object.old)) }
-    ensures filled { OnOk result (struct_object_tree object.new ≡ with_pointer_tree (struct_object_tree object.old) index (filled_in field.entry (struct_object_tree object.old))) }
+    ensures filled { OnOk result (HoldsThere object.old index object.new (filled_in field.entry (struct_object_tree object.old))) }
     ensures within { OnOk result (due_in field.entry (struct_object_tree object.old) ≡ None) }
     ensures kept { OnOk result (IsWellFormed (filled_in field.entry (struct_object_tree object.old))) }
     ensures refused { OnErr result (struct_object_tree object.new ≡ struct_object_tree object.old) }
@@ -101,12 +101,12 @@ fn fill_slot(object: &mut StructObject, field: Field<'_>, index: u16) -> Result<
 
 /// Fills the text at a pointer: a null becomes the default of a text's slot, an empty one too.
 fn fill_text(object: &mut StructObject, index: u16, field: Field<'_>) -> Result<()>
-    requires { index < tree_count (struct_object_tree object.old).pointers }
-    ensures ok { OnOk result (struct_object_tree object.new ≡ with_pointer_tree (struct_object_tree object.old) index (text_filled (default_of (typed_of field.entry).field) (nth_tree (struct_object_tree object.old).pointers index))) }
-    ensures kept { OnOk result (IsWellFormed (nth_tree (struct_object_tree object.old).pointers index) → IsWellFormed (text_filled (default_of (typed_of field.entry).field) (nth_tree (struct_object_tree object.old).pointers index))) }
-    ensures within { OnOk result (error_of (as_text (nth_tree (struct_object_tree object.old).pointers index)) ≡ None) }
+    requires { IsThere object.old index }
+    ensures ok { OnOk result (HoldsThere object.old index object.new (text_filled (default_of (typed_of field.entry).field) (tree_there object.old index))) }
+    ensures kept { OnOk result (IsWellFormed (tree_there object.old index) → IsWellFormed (text_filled (default_of (typed_of field.entry).field) (tree_there object.old index))) }
+    ensures within { OnOk result (error_of (as_text (tree_there object.old index)) ≡ None) }
     ensures refused { OnErr result (struct_object_tree object.new ≡ struct_object_tree object.old) }
-    ensures cause { IfErr result (λ e. IsDueRefusal e (error_of (as_text (nth_tree (struct_object_tree object.old).pointers index)))) }
+    ensures cause { IfErr result (λ e. IsDueRefusal e (error_of (as_text (tree_there object.old index)))) }
 {
     check_text(object, index)?;
     match field.get_default() {
@@ -117,12 +117,12 @@ fn fill_text(object: &mut StructObject, index: u16, field: Field<'_>) -> Result<
 
 /// Puts a text in the place of a null.
 fn put_text(object: &mut StructObject, index: u16, text: text::Reader<'_>) -> Result<()>
-    requires inside { index < tree_count (struct_object_tree object.old).pointers }
+    requires inside { IsThere object.old index }
     requires small { length text.0.now ≤ 2 ^ 29 - 2 }
-    ensures ok { OnOk result (struct_object_tree object.new ≡ with_pointer_tree (struct_object_tree object.old) index (or_else (nth_tree (struct_object_tree object.old).pointers index) (text_tree text.entry.0.now))) }
-    ensures kept { OnOk result (IsWellFormed (nth_tree (struct_object_tree object.old).pointers index) → IsWellFormed (or_else (nth_tree (struct_object_tree object.old).pointers index) (text_tree text.entry.0.now))) }
+    ensures ok { OnOk result (HoldsThere object.old index object.new (or_else (tree_there object.old index) (text_tree text.entry.0.now))) }
+    ensures kept { OnOk result (IsWellFormed (tree_there object.old index) → IsWellFormed (or_else (tree_there object.old index) (text_tree text.entry.0.now))) }
     ensures refused { OnErr result (struct_object_tree object.new ≡ struct_object_tree object.old) }
-    ensures null { OnErr result (is_null_tree (nth_tree (struct_object_tree object.old).pointers index) ≡ true) }
+    ensures null { OnErr result (is_null_tree (tree_there object.old index) ≡ true) }
     ensures cause { IfErr result (λ e. e.kind ≡ OutOfMemory) }
 {
     if !object.pointer_field(index).is_null() {
@@ -133,12 +133,12 @@ fn put_text(object: &mut StructObject, index: u16, text: text::Reader<'_>) -> Re
 
 /// Fills the data at a pointer, likewise.
 fn fill_data(object: &mut StructObject, index: u16, field: Field<'_>) -> Result<()>
-    requires { index < tree_count (struct_object_tree object.old).pointers }
-    ensures ok { OnOk result (struct_object_tree object.new ≡ with_pointer_tree (struct_object_tree object.old) index (data_filled (default_of (typed_of field.entry).field) (nth_tree (struct_object_tree object.old).pointers index))) }
-    ensures kept { OnOk result (IsWellFormed (nth_tree (struct_object_tree object.old).pointers index) → IsWellFormed (data_filled (default_of (typed_of field.entry).field) (nth_tree (struct_object_tree object.old).pointers index))) }
-    ensures within { OnOk result (error_of (as_data (nth_tree (struct_object_tree object.old).pointers index)) ≡ None) }
+    requires { IsThere object.old index }
+    ensures ok { OnOk result (HoldsThere object.old index object.new (data_filled (default_of (typed_of field.entry).field) (tree_there object.old index))) }
+    ensures kept { OnOk result (IsWellFormed (tree_there object.old index) → IsWellFormed (data_filled (default_of (typed_of field.entry).field) (tree_there object.old index))) }
+    ensures within { OnOk result (error_of (as_data (tree_there object.old index)) ≡ None) }
     ensures refused { OnErr result (struct_object_tree object.new ≡ struct_object_tree object.old) }
-    ensures cause { IfErr result (λ e. IsDueRefusal e (error_of (as_data (nth_tree (struct_object_tree object.old).pointers index)))) }
+    ensures cause { IfErr result (λ e. IsDueRefusal e (error_of (as_data (tree_there object.old index)))) }
 {
     check_data(object, index)?;
     match field.get_default() {
@@ -149,12 +149,12 @@ fn fill_data(object: &mut StructObject, index: u16, field: Field<'_>) -> Result<
 
 /// Puts data in the place of a null.
 fn put_data(object: &mut StructObject, index: u16, bytes: data::Reader<'_>) -> Result<()>
-    requires inside { index < tree_count (struct_object_tree object.old).pointers }
+    requires inside { IsThere object.old index }
     requires small { length bytes.now ≤ 2 ^ 29 - 1 }
-    ensures ok { OnOk result (struct_object_tree object.new ≡ with_pointer_tree (struct_object_tree object.old) index (or_else (nth_tree (struct_object_tree object.old).pointers index) (data_tree bytes.now))) }
-    ensures kept { OnOk result (IsWellFormed (nth_tree (struct_object_tree object.old).pointers index) → IsWellFormed (or_else (nth_tree (struct_object_tree object.old).pointers index) (data_tree bytes.now))) }
+    ensures ok { OnOk result (HoldsThere object.old index object.new (or_else (tree_there object.old index) (data_tree bytes.now))) }
+    ensures kept { OnOk result (IsWellFormed (tree_there object.old index) → IsWellFormed (or_else (tree_there object.old index) (data_tree bytes.now))) }
     ensures refused { OnErr result (struct_object_tree object.new ≡ struct_object_tree object.old) }
-    ensures null { OnErr result (is_null_tree (nth_tree (struct_object_tree object.old).pointers index) ≡ true) }
+    ensures null { OnErr result (is_null_tree (tree_there object.old index) ≡ true) }
     ensures cause { IfErr result (λ e. e.kind ≡ OutOfMemory) }
 {
     if !object.pointer_field(index).is_null() {
