@@ -1,0 +1,215 @@
+-- What the wire fills from a field's default is what a builder's get leaves.
+use Rattle.std.specs.Prelude.{ℕ, ◌≡◌, ◌≢◌, refl, List, Bool, true, false, cond, Option, Some, None, option_map, MatchOption, Ok, Err, Result, IsOk}
+use Rattle.std.specs.Borrow.{Bor}
+use Rattle.std.proofs.Common.{ap, sym, subst, ◌∙◌}
+use Rattle.std.proofs.lemmas.Bool.{true≢false}
+use Rattle.capnp_device.specs.declared.error.ErrorKind.{ErrorKind}
+use Rattle.capnp_wire.specs.Tree as tree
+use Rattle.capnp_wire.specs.Tree.{StructTree, Tree, Trees, nth_tree}
+use Rattle.capnp_wire.specs.declared.size.ElementSize.TheVariants.{InlineComposite}
+use Rattle.capnp_base.specs.Types.{variant_of}
+use Rattle.capnp_base.specs.Types.{element_size as size_of_variant}
+use Rattle.capnp_base.specs.declared.introspect.RawBrandedStructSchema.{RawBrandedStructSchema}
+use Rattle.capnp_base.specs.declared.introspect.«Type».{«Type» as TypeHandle}
+use Rattle.capnp_base.specs.declared.introspect.TypeVariant.{TypeVariant}
+use Rattle.capnp_base.specs.declared.introspect.TypeVariant.TheVariants as variant
+use Rattle.capnp_base.specs.declared.text.Reader.{Reader as TextReader}
+use Rattle.capnp_schema.specs.Facts.Layers.{seen_which}
+use Rattle.capnp_schema.specs.Tests.{seen_variant}
+use Rattle.capnp_schema.specs.Views.{IsViewOf}
+use Rattle.capnp_schema.specs.declared.value.Value.{Value as View}
+use Rattle.capnp_schema.specs.declared.value.Value.TheVariants as view
+use Rattle.capnp_wire.specs.Reading.{as_list, is_null_tree, refusal}
+use Rattle.capnp_wire.specs.Defaults as wire
+use Rattle.capnp_wire.specs.Edits.{extended, struct_in, struct_refusal, with_pointer_tree}
+use Rattle.capnp_wire.specs.Standing.{levels_of, tree_of}
+use Rattle.capnp_wire.specs.StructLists.{struct_list_refusal}
+use Rattle.capnp_wire.specs.Words.{first_fault}
+use Rattle.capnp_wire.specs.declared.pointer_reader.PointerReader.{PointerReader}
+use Rattle.capnp_wire.specs.declared.size.ElementSize.{ElementSize}
+use Rattle.capnp_wire.specs.declared.size.StructSize.{StructSize}
+use Rattle.capnp_schema.specs.Accepted.{Decodes, IsDefaultOf, IsStructOrNull, KindDefault}
+use Rattle.capnp_schema.specs.Defaults.{default_tree}
+use Rattle.capnp_schema.specs.FieldLists.{typed_of}
+use Rattle.capnp_schema.specs.Schema.{FieldKind, Group, Schemas, Slot, Value, TextValue, DataValue, StructValue, ListValue, AnyPointerValue, default_of, kind_default}
+use Rattle.capnp_schema.specs.Types.{SchemaType, StructType, ListType, seen_type}
+use Rattle.capnp_schema.specs.declared.schema.fields.Field.{Field}
+use Rattle.capnp_records.specs.Facts.Frame.{second-of}
+use Rattle.capnp_records.specs.Facts.Pointers.{with_tree-same}
+use Rattle.capnp_records.specs.Writes.TreeCopy.{or_else}
+use Rattle.capnp_records.specs.Step.{is_group_field}
+use Rattle.capnp_records.specs.Writes.Fill.{default_struct, entered_list, filled_struct, or_default}
+use Rattle.capnp_records.specs.Writes.Slots.{brand_size}
+use Rattle.capnp_slots.specs.Fields.{IsSlot}
+use Rattle.capnp_slots.specs.Fills.{IsDefaultPointer, ListRests, data_filled, list_due, text_filled}
+
+-- ---- the pointer of a default ----
+
+pub pointer-tree : (d : Value) (r : Option PointerReader) → MatchOption r (default_tree d ≡ tree.Null) (λ x. (tree_of x ≡ default_tree d) × (levels_of x ≡ 64)) → wire.default_tree r ≡ default_tree d
+pointer-tree d None h = sym h
+pointer-tree d (Some x) h = h.0
+
+kind-is : (k : FieldKind) (t : SchemaType) → is_group_field k ≡ false → KindDefault IsDefaultOf k t → IsDefaultOf (kind_default k) t
+kind-is (Slot o d) t e h = h
+kind-is (Group n) t e h = absurd (true≢false e)
+
+pub default-is : (f : Field) (r : Option PointerReader) → IsSlot f → IsDefaultPointer f r → IsDefaultOf (default_of (typed_of f).field) (typed_of f).type
+default-is f r slot is = kind-is (typed_of f).field.kind (typed_of f).type slot is.fits.kind
+
+-- a default of a pointer type
+module _ (d : Value) (decodes : Decodes d) where
+  -- ---- structs ----
+
+  struct-default : (b g : ℕ) → IsDefaultOf d (StructType b g) → struct_in (default_tree d) ≡ default_struct d
+  struct-default b g of = go d of decodes
+    where
+      go : (d : Value) → IsDefaultOf d (StructType b g) → Decodes d → struct_in (default_tree d) ≡ default_struct d
+      go (StructValue words) of h = refl
+      go (AnyPointerValue words) of h = ap struct_in h
+      go d of h = absurd of
+
+  pub struct-filled : (set : Schemas) (b g : ℕ) (x : Tree) → IsDefaultOf d (StructType b g) → wire.filled_struct (default_tree d) (brand_size set b) x ≡ filled_struct set b d x
+  struct-filled set b g x of = go (is_null_tree x)
+    where
+      go : (q : Bool) → extended (brand_size set b) (struct_in (cond q (default_tree d) x)) ≡ extended (brand_size set b) (elim q as (λ _. StructTree) [ true ↦ default_struct d | false ↦ struct_in x ])
+      go true = ap (extended (brand_size set b)) (struct-default b g of)
+      go false = refl
+
+  -- ---- lists ----
+
+  list-default : (e : SchemaType) (x : Tree) → IsDefaultOf d (ListType e) → wire.or_default (default_tree d) x ≡ or_default d x
+  list-default e x of = go d of decodes x
+    where
+      go : (d : Value) → IsDefaultOf d (ListType e) → Decodes d → (x : Tree) → wire.or_default (default_tree d) x ≡ or_default d x
+      go (ListValue words) of h tree.Null = refl
+      go (ListValue words) of h (tree.Struct bytes ps) = refl
+      go (ListValue words) of h (tree.Voids n) = refl
+      go (ListValue words) of h (tree.Bits bs) = refl
+      go (ListValue words) of h (tree.Numbers w bytes) = refl
+      go (ListValue words) of h (tree.Pointers ps) = refl
+      go (ListValue words) of h (tree.Composite w p es) = refl
+      go (ListValue words) of h (tree.FaultLeaf k) = refl
+      go (AnyPointerValue words) of h tree.Null = h
+      go (AnyPointerValue words) of h (tree.Struct bytes ps) = refl
+      go (AnyPointerValue words) of h (tree.Voids n) = refl
+      go (AnyPointerValue words) of h (tree.Bits bs) = refl
+      go (AnyPointerValue words) of h (tree.Numbers w bytes) = refl
+      go (AnyPointerValue words) of h (tree.Pointers ps) = refl
+      go (AnyPointerValue words) of h (tree.Composite w p es) = refl
+      go (AnyPointerValue words) of h (tree.FaultLeaf k) = refl
+      go d of h x = absurd of
+
+  pub list-filled : (e : SchemaType) (x : Tree) → IsDefaultOf d (ListType e) → wire.or_default (default_tree d) x ≡ or_default d x
+  list-filled e x of = list-default e x of
+
+-- ---- refusals ----
+
+module _ (D : Tree) (sound : first_fault D ≡ None) where
+  no-fault : wire.fault_refusal D ≡ None
+  no-fault = ap (option_map refusal) sound
+
+  due-none : (o : Option ErrorKind) → wire.first_due o None ≡ o
+  due-none None = refl
+  due-none (Some k) = refl
+
+  first : (o : Option ErrorKind) → wire.first_due o (wire.fault_refusal D) ≡ o
+  first o = ap (wire.first_due o) no-fault ∙ due-none o
+
+  is-struct : IsStructOrNull D → struct_refusal D ≡ None
+  is-struct h = go D h
+    where
+      go : (x : Tree) → IsStructOrNull x → struct_refusal x ≡ None
+      go tree.Null h = refl
+      go (tree.Struct bytes ps) h = refl
+      go x h = absurd h
+
+  null-struct : (x : Tree) → is_null_tree x ≡ true → None ≡ struct_refusal x
+  null-struct tree.Null e = refl
+  null-struct x e = absurd (true≢false (sym e))
+
+  pub struct-due : (x : Tree) → IsStructOrNull D → wire.filled_struct_refusal D x ≡ struct_refusal x
+  struct-due x h = go (is_null_tree x) refl
+    where
+      go : (q : Bool) → is_null_tree x ≡ q → cond q (wire.struct_default_refusal D) (struct_refusal x) ≡ struct_refusal x
+      go true e = first (struct_refusal D) ∙ (is-struct h ∙ null-struct x e)
+      go false e = refl
+
+  is-list : (size : ElementSize) → IsOk (as_list size D 1) → wire.list_refusal size D ≡ None
+  is-list size h = go (as_list size D 1) h
+    where
+      go : (r : Result Tree ErrorKind) → IsOk r → wire.error_of r ≡ None
+      go (Ok x) h = refl
+      go (Err k) h = absurd (true≢false (sym h))
+
+  null-list : (size : ElementSize) (x : Tree) → is_null_tree x ≡ true → None ≡ wire.list_refusal size x
+  null-list size tree.Null e = refl
+  null-list size x e = absurd (true≢false (sym e))
+
+  pub list-due : (size : ElementSize) (x : Tree) → IsOk (as_list size D 1) → wire.filled_list_refusal D size x ≡ wire.list_refusal size x
+  list-due size x h = go (is_null_tree x) refl
+    where
+      go : (q : Bool) → is_null_tree x ≡ q → cond q (wire.list_default_refusal size D) (wire.list_refusal size x) ≡ wire.list_refusal size x
+      go true e = first (wire.list_refusal size D) ∙ (is-list size h ∙ null-list size x e)
+      go false e = refl
+
+  pub structs-due : (size : StructSize) (x : Tree) → wire.filled_structs_refusal D size x ≡ struct_list_refusal size (wire.or_default D x)
+  structs-due size x = go (is_null_tree x)
+    where
+      go : (q : Bool) → cond q (wire.structs_default_refusal size D) (struct_list_refusal size x) ≡ struct_list_refusal size (cond q D x)
+      go true = first (struct_list_refusal size D)
+      go false = refl
+
+-- ---- what stays ----
+
+pub pointer-same : (s : StructTree) (i : ℕ) → s ≡ with_pointer_tree s i (nth_tree s.pointers i)
+pointer-same s i = sym (ap (λ (ts : Trees). record { bytes = s.bytes; pointers = ts }) (with_tree-same s.pointers i))
+
+pub not-null : (x y : Tree) → is_null_tree x ≡ false → x ≡ or_else x y
+not-null x y e = sym (second-of (is_null_tree x) y x e)
+
+pub same-there : (s s' : StructTree) (i : ℕ) (x : Tree) → s' ≡ s → nth_tree s.pointers i ≡ x → s' ≡ with_pointer_tree s i x
+same-there s s' i x e h = e ∙ (pointer-same s i ∙ ap (with_pointer_tree s i) h)
+
+pub no-text : (d : Value) (v : View) (x : Tree) → IsViewOf d v → ((y : TextReader) → v ≡ view.Text y → ⊥) → x ≡ text_filled d x
+no-text (TextValue bytes) (view.Text y) x h none = absurd (none y refl)
+no-text (TextValue bytes) v x h none = absurd h
+no-text d v x h none = refl
+
+pub no-data : (d : Value) (v : View) (x : Tree) → IsViewOf d v → ((y : Bor (List ℕ)) → v ≡ view.«Data» y → ⊥) → x ≡ data_filled d x
+no-data (DataValue bytes) (view.«Data» y) x h none = absurd (none y refl)
+no-data (DataValue bytes) v x h none = absurd h
+no-data d v x h none = refl
+
+-- ---- lists of elements that are no structs ----
+
+-- such a list is entered as it is, and refused by the size of its elements
+pub record IsPlain (set : Schemas) (e : SchemaType) (size : ElementSize) : Type 0 where
+  pub enters : (x : Tree) → entered_list set e x ≡ x
+  pub due : (D x : Tree) → list_due set e D x ≡ wire.filled_list_refusal D size x
+  pub rests : (D x : Tree) → ListRests set e D x → (wire.takes_default D x ≡ false) × (wire.filled_list_refusal D size x ≡ None)
+  pub simple : size ≢ InlineComposite
+
+module _ (set : Schemas) where
+  by_variant : (v : TypeVariant) → ((x : RawBrandedStructSchema) → v ≡ variant.Struct x → ⊥) → IsPlain set (seen_variant v) (size_of_variant v)
+  by_variant (variant.Struct x) other = absurd (other x refl)
+  by_variant variant.Void other = record { enters = λ x. refl; due = λ D x. refl; rests = λ D x h. h; simple = λ e. cc }
+  by_variant variant.Bool other = record { enters = λ x. refl; due = λ D x. refl; rests = λ D x h. h; simple = λ e. cc }
+  by_variant variant.Int8 other = record { enters = λ x. refl; due = λ D x. refl; rests = λ D x h. h; simple = λ e. cc }
+  by_variant variant.Int16 other = record { enters = λ x. refl; due = λ D x. refl; rests = λ D x h. h; simple = λ e. cc }
+  by_variant variant.Int32 other = record { enters = λ x. refl; due = λ D x. refl; rests = λ D x h. h; simple = λ e. cc }
+  by_variant variant.Int64 other = record { enters = λ x. refl; due = λ D x. refl; rests = λ D x h. h; simple = λ e. cc }
+  by_variant variant.UInt8 other = record { enters = λ x. refl; due = λ D x. refl; rests = λ D x h. h; simple = λ e. cc }
+  by_variant variant.UInt16 other = record { enters = λ x. refl; due = λ D x. refl; rests = λ D x h. h; simple = λ e. cc }
+  by_variant variant.UInt32 other = record { enters = λ x. refl; due = λ D x. refl; rests = λ D x h. h; simple = λ e. cc }
+  by_variant variant.UInt64 other = record { enters = λ x. refl; due = λ D x. refl; rests = λ D x h. h; simple = λ e. cc }
+  by_variant variant.Text other = record { enters = λ x. refl; due = λ D x. refl; rests = λ D x h. h; simple = λ e. cc }
+  by_variant variant.«Data» other = record { enters = λ x. refl; due = λ D x. refl; rests = λ D x h. h; simple = λ e. cc }
+  by_variant variant.AnyPointer other = record { enters = λ x. refl; due = λ D x. refl; rests = λ D x h. h; simple = λ e. cc }
+  by_variant (variant.Enum e) other = record { enters = λ x. refl; due = λ D x. refl; rests = λ D x h. h; simple = λ e. cc }
+  by_variant (variant.List t) other = record { enters = λ x. refl; due = λ D x. refl; rests = λ D x h. h; simple = λ e. cc }
+
+  pub is_plain : (t : TypeHandle) (v : TypeVariant) (size : ElementSize) → v ≡ variant_of t → size ≡ size_of_variant (variant_of t) → ((x : RawBrandedStructSchema) → v ≡ variant.Struct x → ⊥) →
+      IsPlain set (seen_type t) size
+  is_plain t v size e f other =
+      subst (IsPlain set (seen_type t)) (sym (f ∙ ap size_of_variant (sym e)))
+      (subst (λ u. IsPlain set u (size_of_variant v)) (ap seen_variant e ∙ seen_which t) (by_variant v other))

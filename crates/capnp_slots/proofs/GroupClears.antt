@@ -1,0 +1,148 @@
+-- Groups are cleared one field after another.
+use Rattle.std.specs.Prelude.{ℕ, zero, suc, ◌+◌, ◌-◌, ◌<◌, ◌≡◌, refl, List, [], ◌∷◌, Bool, true, false, not, nat_lt, cond, length, map, position, slice_get, Option, Some, None}
+use Rattle.std.proofs.Common.{arith, ap, sym, subst, ◌∙◌}
+use Rattle.std.proofs.lemmas.Bool.{true≢false}
+use Rattle.std.specs.List.{position_or_len}
+use Rattle.std.specs.Option.{unwrap_or}
+use Rattle.capnp_wire.specs.Tree.{StructTree}
+use Rattle.capnp_schema.specs.Footprint.{Place}
+use Rattle.capnp_schema.specs.FieldLists.{index_of, schema_of, typed_of}
+use Rattle.capnp_schema.specs.Query.{indices_from, is_member_of, is_plain, keep_index, member_of, plain_fields, records_of}
+use Rattle.capnp_schema.specs.Accepted.{IsGroupOf}
+use Rattle.capnp_schema.specs.Ranges.{HasRanges}
+use Rattle.capnp_schema.specs.Schema.{Field as FieldSeen, Schemas, TypedField, field_at, fields_of, is_member, no_field}
+use Rattle.capnp_schema.specs.StructHandles.{IsStruct, number_of, set_of}
+use Rattle.capnp_schema.specs.Types.{struct_number}
+use Rattle.capnp_schema.specs.declared.schema.fields.Field.{Field}
+use Rattle.capnp_schema.specs.declared.schema.structs.StructSchema.{StructSchema}
+use Rattle.capnp_records.specs.Facts.FieldWrite.{fits-after, writes-refl, writes-trans, writes-wider}
+use Rattle.capnp_records.specs.Laws.{GroupClearStaysInside}
+use Rattle.capnp_records.specs.Writes.Overlay.{cleared_field, cleared_group, cleared_member, cleared_plain, cleared_within}
+use Rattle.capnp_records.specs.Writes.Slots.{Fits, Writes}
+use Rattle.capnp_slots.specs.Fields.{IsRoomFor, Keeps, field_brand, field_set, names_of, switched_to}
+use Rattle.capnp_slots.specs.Groups.{IsGroupAt, KeepsSize, clear_index, cleared_indices, cleared_option, cleared_through, group_without}
+
+-- ---- sizes ----
+
+pub keeps-size : (inside : Place → Bool) (s s' : StructTree) → Keeps inside s s' → KeepsSize s s'
+keeps-size inside s s' k = record { writes = writes-wider inside _ s s' (λ p e. refl) k.writes; formed = k.formed }
+
+pub keeps-refl : (s : StructTree) → KeepsSize s s
+keeps-refl s = record { writes = writes-refl _ s; formed = λ h. h }
+
+pub keeps-trans : (s m s' : StructTree) → KeepsSize s m → KeepsSize m s' → KeepsSize s s'
+keeps-trans s m s' v w = record { writes = writes-trans _ s m s' v.writes w.writes; formed = λ h. w.formed (v.formed h) }
+
+pub fits-kept : (set : Schemas) (b : ℕ) (s s' : StructTree) → KeepsSize s s' → Fits set b s → Fits set b s'
+fits-kept set b s s' k fits = fits-after _ set b s s' k.writes fits
+
+-- ---- the fields that are cleared, by their indices ----
+
+-- the entry of an index
+abbrev entry : List TypedField → ℕ → TypedField
+entry fs i = unwrap_or (slice_get fs i) no_field
+
+abbrev records : List TypedField → List FieldSeen
+records fs = map (λ (f : TypedField). f.field) fs
+
+-- an index below a count
+abbrev below : ℕ → ℕ → Option ℕ
+below k n = cond (nat_lt k n) (Some k) None
+
+below-zero : (n : ℕ) → below 0 (suc n) ≡ Some 0
+below-zero n = ap (λ q. cond q (Some 0) None) (lt-true 0 (suc n) (omega arith))
+  where
+    lt-true : (m n : ℕ) → m < n → nat_lt m n ≡ true
+    lt-true m n a = grind (arith, a)
+
+lt-suc : (k n : ℕ) → nat_lt k n ≡ nat_lt (1 + k) (suc n)
+lt-suc k n = grind arith
+
+module _ (clear : TypedField → StructTree → StructTree) where
+  later-member : (f : TypedField) (fs : List TypedField) (k n : ℕ) (s : StructTree) → cleared_option (λ i. clear (entry fs i)) (below k n) s ≡ cleared_option (λ i. clear (entry (f ∷ fs) i)) (below (1 + k) (suc n)) s
+  later-member f fs k n s = go (nat_lt k n) (nat_lt (1 + k) (suc n)) (lt-suc k n)
+    where
+      next : suc k ≡ 1 + k
+      next = omega arith
+
+      go : (q r : Bool) → q ≡ r → cleared_option (λ i. clear (entry fs i)) (cond q (Some k) None) s ≡ cleared_option (λ i. clear (entry (f ∷ fs) i)) (cond r (Some (1 + k)) None) s
+      go true true e = ap (λ i. clear (entry (f ∷ fs) i) s) next
+      go false false e = refl
+      go true false e = absurd (true≢false e)
+      go false true e = absurd (true≢false (sym e))
+
+  pub cleared-member : (fs : List TypedField) (s : StructTree) → cleared_member clear fs s ≡ cleared_option (λ i. clear (entry fs i)) (position (is_member_of 0) (records fs)) s
+  cleared-member [] s = refl
+  cleared-member (f ∷ fs) s = go (cleared-member fs s) (is_member_of 0 f.field)
+    where
+      k : ℕ
+      k = position_or_len (is_member_of 0) (records fs)
+
+      go : cleared_member clear fs s ≡ cleared_option (λ i. clear (entry fs i)) (below k (length (records fs))) s → (q : Bool) → (elim q as (λ _. StructTree) [ true ↦ clear f s | false ↦ cleared_member clear fs s ]) ≡ cleared_option (λ i. clear (entry (f ∷ fs) i)) (below (cond (not q) (1 + k) 0) (suc (length (records fs)))) s
+      go rest true = sym (ap (λ o. cleared_option (λ i. clear (entry (f ∷ fs) i)) o s) (below-zero (length (records fs))))
+      go rest false = rest ∙ later-member f fs k (length (records fs)) s
+
+  pub cleared-plain : (fs : List TypedField) (first : ℕ) (at : ℕ → TypedField) → ((j : ℕ) → at (first + j) ≡ entry fs j) → (s : StructTree) →
+      cleared_plain clear fs s ≡ cleared_indices (λ i. clear (at i)) (indices_from first is_plain (records fs)) s
+  cleared-plain [] first at h s = refl
+  cleared-plain (f ∷ fs) first at h s = go (cleared-plain fs (suc first) at later) (is_member f.field)
+    where
+      rest : List ℕ
+      rest = indices_from (suc first) is_plain (records fs)
+
+      later : (j : ℕ) → at (suc first + j) ≡ entry fs j
+      later j = let e : suc first + j ≡ first + suc j = omega arith in ap at e ∙ h (suc j)
+
+      here : at first ≡ f
+      here = let e : first ≡ first + 0 = omega arith in ap at e ∙ h 0
+
+      go : ((x : StructTree) → cleared_plain clear fs x ≡ cleared_indices (λ i. clear (at i)) rest x) → (q : Bool) → cleared_plain clear fs (elim q as (λ _. StructTree) [ true ↦ s | false ↦ clear f s ]) ≡ cleared_indices (λ i. clear (at i)) (keep_index (not q) first rest) s
+      go each true = each s
+      go each false = each (clear f s) ∙ sym (ap (λ (g : TypedField). cleared_indices (λ i. clear (at i)) rest (clear g s)) here)
+
+-- ---- a group ----
+
+pub cleared-none : (groups : ℕ) (set : Schemas) (b : ℕ) (s : StructTree) → groups ≡ 0 → s ≡ cleared_through groups set b s
+unfolding cleared_through
+cleared-none zero set b s e = refl
+cleared-none (suc n) set b s e = absurd (omega arith)
+
+whole : (n k : ℕ) (set : Schemas) (b : ℕ) (s m e : StructTree) → k ≡ n → m ≡ cleared_option (clear_index k set b) (member_of (records_of set b) 0) s →
+    e ≡ cleared_indices (clear_index k set b) (plain_fields (records_of set b)) m → e ≡ cleared_through (suc n) set b s
+unfolding cleared_through
+whole n k set b s m e h p q =
+    let clear : TypedField → StructTree → StructTree = cleared_field (cleared_within n set) set b in
+    let member : cleared_option (clear_index n set b) (member_of (records_of set b) 0) s ≡ cleared_member clear (fields_of set b) s = sym (cleared-member clear (fields_of set b) s) in
+    let at : (j : ℕ) → field_at set b (0 + j) ≡ entry (fields_of set b) j = λ j. let z : 0 + j ≡ j = omega arith in ap (field_at set b) z in
+    q ∙ (ap (cleared_indices (clear_index k set b) (plain_fields (records_of set b))) p
+    ∙ (ap (λ (j : ℕ). cleared_indices (clear_index j set b) (plain_fields (records_of set b)) (cleared_option (clear_index j set b) (member_of (records_of set b) 0) s)) h
+    ∙ (ap (cleared_indices (clear_index n set b) (plain_fields (records_of set b))) member
+    ∙ sym (cleared-plain clear (fields_of set b) 0 (field_at set b) at (cleared_member clear (fields_of set b) s)))))
+
+pub cleared-next : (groups : ℕ) (set : Schemas) (b : ℕ) (s m e : StructTree) → (groups ≡ 0 → ⊥) → m ≡ cleared_option (clear_index (groups - 1) set b) (member_of (records_of set b) 0) s →
+    e ≡ cleared_indices (clear_index (groups - 1) set b) (plain_fields (records_of set b)) m → e ≡ cleared_through groups set b s
+cleared-next zero set b s m e h p q = absurd (h refl)
+cleared-next (suc n) set b s m e h p q = whole n (suc n - 1) set b s m e (omega arith) p q
+
+pub cleared-whole : (set : Schemas) (b : ℕ) (s : StructTree) → cleared_through (length set.brands) set b s ≡ cleared_group set b s
+unfolding cleared_through
+cleared-whole set b s = refl
+
+-- ---- a field's group ----
+
+pub group-whole : (f : Field) (g : StructSchema) (n : ℕ) (s m s' : StructTree) → IsGroupAt f g → n ≡ length (field_set f).brands → m ≡ switched_to f s → s' ≡ cleared_through n (set_of g) (number_of g) m → s' ≡ group_without f s
+group-whole f g n s m s' is count switch e =
+    e ∙ (ap (λ (z : Schemas). cleared_through n z (number_of g) m) is.set
+    ∙ (ap (λ k. cleared_through n (field_set f) k m) is.number
+    ∙ (ap (cleared_through n (field_set f) (struct_number (typed_of f).type)) switch
+    ∙ (ap (λ k. cleared_through k (field_set f) (struct_number (typed_of f).type) (switched_to f s)) count
+    ∙ cleared-whole (field_set f) (struct_number (typed_of f).type) (switched_to f s)))))
+
+pub group-kept : (f : Field) (g : StructSchema) (s m s' : StructTree) → IsStruct (schema_of f) → HasRanges (field_set f) → GroupClearStaysInside → IsGroupAt f g → IsRoomFor f s →
+    s' ≡ group_without f s → KeepsSize s m → KeepsSize m s' → Keeps (names_of f) s s'
+group-kept f g s m s' is ranges stays at room e first then = record {
+  writes = subst (λ (x : StructTree). Writes (names_of f) s x) (sym e)
+      (stays (field_set f) (field_brand f) (index_of f) (struct_number (typed_of f).type) (record { accepted = is.accepted; ranges = ranges; brand = is.number; index = f.inside })
+      (subst (IsGroupOf (typed_of f).field.kind (typed_of f).type) at.number at.names) s room);
+  formed = λ h. then.formed (first.formed h);
+}

@@ -1,0 +1,12 @@
+pub mod SlotPlans
+pub mod FieldPlans
+pub mod Stored
+pub mod Pointers
+pub mod CopiedSources
+pub mod NewLists
+pub mod GroupFields
+pub mod GroupClears
+pub mod Filled
+pub mod FilledSlots
+pub mod SetElements
+pub mod ElementParts

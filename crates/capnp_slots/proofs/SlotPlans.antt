@@ -1,0 +1,151 @@
+-- What is written by a field's plan is written into the field's slot, and keeps the rest.
+use Rattle.std.specs.Prelude.{ℕ, zero, suc, ◌+◌, ◌*◌, ◌^◌, ◌<◌, ◌≤◌, ◌≡◌, ◌⊎◌, refl, Bool, true, false, ◌==◌, length, bit_xor}
+use Rattle.std.proofs.Common.{arith, ⊎_elim, ap, sym, subst}
+use Rattle.std.proofs.lemmas.Bool.Decides.{nat_tests}
+use Rattle.std.proofs.lemmas.Bool.{true≢false}
+use Rattle.capnp_wire.specs.Tree.{StructTree, Null}
+use Rattle.capnp_wire.specs.Place.{struct_tree}
+use Rattle.capnp_wire.specs.Edits.{HasAtLeast, with_bit, with_bytes, with_number}
+use Rattle.capnp_wire.specs.Facts.Bytes.{length-with_number}
+use Rattle.capnp_wire.specs.Kept.{bit_written, number_written, pointer_written}
+use Rattle.capnp_wire.specs.WellFormed.{IsWellFormed, is_width}
+use Rattle.capnp_schema.specs.Accepted.{LiesInside}
+use Rattle.capnp_schema.specs.Plan.{LiesInNode, data_place, member_plan, node_size, place_of, slot_place}
+use Rattle.capnp_schema.specs.Ranges.{HasWidths}
+use Rattle.capnp_schema.specs.Schema.{Field, Node, Slot, TypedField, Value, is_member}
+use Rattle.capnp_schema.specs.SlotValue.{default_bits}
+use Rattle.capnp_schema.specs.Types.{SchemaType, VoidType, BoolType, IntType, UIntType, EnumType, TextType, DataType, StructType, ListType, AnyPointerType, is_pointer, width}
+use Rattle.capnp_schema.specs.declared.plan.Place.TheVariants as place
+use Rattle.capnp_records.specs.Writes.Overlay.{cleared_content, switch, switched}
+use Rattle.capnp_records.specs.Writes.Slots.{Content, Bits, At, Suits, with_content}
+use Rattle.capnp_slots.specs.Fields.{IsFormed}
+use Rattle.capnp_slots.specs.Planned.{HoldsNumber, member_switched, place_cleared, place_mask, place_written}
+
+-- ---- the place of a slot ----
+
+bytes_are : (k : ℕ) → is_width k ≡ true → (k ≡ 1) ⊎ ((k ≡ 2) ⊎ ((k ≡ 4) ⊎ (k ≡ 8)))
+bytes_are k h = grind (arith, nat_tests)
+
+module _ (o : ℕ) (d : Value) (n : ℕ) (s : StructTree) where
+  -- a slot of a number of so many bytes
+  abbrev IsNumber : ℕ → Type 0
+  IsNumber k = place_written (data_place (8 * k) o d) (Bits n) s ≡ with_bytes s (with_number k o n s.bytes)
+
+  number_place : (k : ℕ) → is_width k ≡ true → IsNumber k
+  number_place k h = ⊎_elim (at 1 one) (⊎_elim (at 2 two) (⊎_elim (at 4 four) (at 8 eight))) (bytes_are k h)
+    where
+      at : (m : ℕ) → IsNumber m → k ≡ m → IsNumber k
+      at m p e = subst IsNumber (sym e) p
+
+      one : IsNumber 1
+      one = ap (λ i. with_bytes s (with_number 1 i n s.bytes)) (omega arith)
+
+      two : IsNumber 2
+      two = ap (λ i. with_bytes s (with_number 2 i n s.bytes)) (omega arith)
+
+      four : IsNumber 4
+      four = ap (λ i. with_bytes s (with_number 4 i n s.bytes)) (omega arith)
+
+      eight : IsNumber 8
+      eight = ap (λ i. with_bytes s (with_number 8 i n s.bytes)) (omega arith)
+
+place_of-bits : (o : ℕ) (d : Value) (t : SchemaType) → HasWidths t → (n : ℕ) (s : StructTree) → is_pointer t ≡ false → place_written (place_of (Slot o d) t) (Bits n) s ≡ with_content s o t (Bits n)
+place_of-bits o d VoidType h n s p = refl
+place_of-bits o d BoolType h n s p = ap (λ i. with_bytes s (with_bit i (n == 1) s.bytes)) (omega arith)
+place_of-bits o d (IntType k) h n s p = number_place o d n s k h
+place_of-bits o d (UIntType k) h n s p = number_place o d n s k h
+place_of-bits o d (EnumType e) h n s p = number_place o d n s 2 refl
+place_of-bits o d TextType h n s p = absurd (true≢false p)
+place_of-bits o d DataType h n s p = absurd (true≢false p)
+place_of-bits o d (StructType b g) h n s p = absurd (true≢false p)
+place_of-bits o d (ListType e) h n s p = absurd (true≢false p)
+place_of-bits o d AnyPointerType h n s p = absurd (true≢false p)
+
+pointer_at : (q : Bool) (o w : ℕ) (d : Value) (c : Content) (s : StructTree) → q ≡ true → place_written (slot_place q w o d) c s ≡ place_written (place.Pointer o) c s
+pointer_at true o w d c s e = refl
+pointer_at false o w d c s e = absurd (true≢false (sym e))
+
+pub slot_place-written : (o : ℕ) (d : Value) (t : SchemaType) → HasWidths t → (c : Content) (s : StructTree) → Suits t c → place_written (place_of (Slot o d) t) c s ≡ with_content s o t c
+slot_place-written o d t h (Bits n) s fits = place_of-bits o d t h n s fits.0
+slot_place-written o d t h (At x) s fits = pointer_at (is_pointer t) o (width t) d (At x) s fits
+
+-- ---- numbers and clears at a place ----
+
+data-holds : (w o : ℕ) (d : Value) (n : ℕ) → n < 2 ^ w → HoldsNumber (data_place w o d) n
+data-holds zero o d n h = tt
+data-holds (suc w) o d n h = h
+
+slot-holds : (q : Bool) (w o : ℕ) (d : Value) (n : ℕ) → n < 2 ^ w → HoldsNumber (slot_place q w o d) n
+slot-holds true w o d n h = tt
+slot-holds false w o d n h = data-holds w o d n h
+
+pub place-holds : (o : ℕ) (d : Value) (t : SchemaType) (n : ℕ) → n < 2 ^ width t → HoldsNumber (place_of (Slot o d) t) n
+place-holds o d t n h = slot-holds (is_pointer t) (width t) o d n h
+
+data-mask : (w o : ℕ) (d : Value) (n : ℕ) (s : StructTree) → place_written (data_place w o d) (Bits (bit_xor n (place_mask (data_place w o d)))) s ≡ place_written (data_place w o d) (Bits (bit_xor n (default_bits d))) s
+data-mask zero o d n s = refl
+data-mask (suc w) o d n s = refl
+
+slot-mask : (q : Bool) (w o : ℕ) (d : Value) (n : ℕ) (s : StructTree) → place_written (slot_place q w o d) (Bits (bit_xor n (place_mask (slot_place q w o d)))) s ≡ place_written (slot_place q w o d) (Bits (bit_xor n (default_bits d))) s
+slot-mask true w o d n s = refl
+slot-mask false w o d n s = data-mask w o d n s
+
+pub place-stores : (o : ℕ) (d : Value) (t : SchemaType) (n : ℕ) (s : StructTree) →
+    place_written (place_of (Slot o d) t) (Bits (bit_xor n (place_mask (place_of (Slot o d) t)))) s ≡ place_written (place_of (Slot o d) t) (Bits (bit_xor n (default_bits d))) s
+place-stores o d t n s = slot-mask (is_pointer t) (width t) o d n s
+
+data-clears : (w o : ℕ) (d : Value) (s : StructTree) → place_written (data_place w o d) (place_cleared (data_place w o d)) s ≡ place_written (data_place w o d) (Bits 0) s
+data-clears zero o d s = refl
+data-clears (suc w) o d s = refl
+
+slot-clears : (q : Bool) (w o : ℕ) (d : Value) (s : StructTree) → place_written (slot_place q w o d) (place_cleared (slot_place q w o d)) s ≡ place_written (slot_place q w o d) (elim q as (λ _. Content) [ true ↦ At Null | false ↦ Bits 0 ]) s
+slot-clears true w o d s = refl
+slot-clears false w o d s = data-clears w o d s
+
+pub place-clears : (o : ℕ) (d : Value) (t : SchemaType) (s : StructTree) →
+    place_written (place_of (Slot o d) t) (place_cleared (place_of (Slot o d) t)) s ≡ place_written (place_of (Slot o d) t) (cleared_content t) s
+place-clears o d t s = slot-clears (is_pointer t) (width t) o d s
+
+-- ---- the union ----
+
+pub member-switched : (q : Bool) (n : Node) (f : Field) (s : StructTree) → member_switched (member_plan q n f) s ≡ (elim q as (λ _. StructTree) [ true ↦ switch n f.discriminant_value s | false ↦ s ])
+member-switched true n f s = ap (λ i. with_bytes s (with_number 2 i f.discriminant_value s.bytes)) (omega arith)
+member-switched false n f s = refl
+
+-- ---- what stays well-formed ----
+
+module _ (n : Node) (s : StructTree) (size : HasAtLeast (node_size n) s) where
+  switched-size : (q : Bool) (d : ℕ) → (q ≡ true → 16 * (n.discriminant_offset + 1) ≤ 64 * n.data_word_count) →
+      length (elim q as (λ _. StructTree) [ true ↦ switch n d s | false ↦ s ]).bytes ≡ length s.bytes
+  switched-size true d inside = length-with_number 2 n.discriminant_offset d s.bytes (omega (arith, inside refl, size.0))
+  switched-size false d inside = refl
+
+  switched-formed : (q : Bool) (d : ℕ) → (q ≡ true → 16 * (n.discriminant_offset + 1) ≤ 64 * n.data_word_count) →
+      IsWellFormed (struct_tree s) → IsWellFormed (struct_tree (elim q as (λ _. StructTree) [ true ↦ switch n d s | false ↦ s ]))
+  switched-formed true d inside h = number_written 2 n.discriminant_offset d s (switch n d s) refl (omega (arith, inside refl, size.0)) h
+  switched-formed false d inside h = h
+
+  pub switch_formed : (f : TypedField) → LiesInNode n f → IsWellFormed (struct_tree s) → IsWellFormed (struct_tree (switched n f.field s))
+  switch_formed f lies h = switched-formed (is_member f.field) f.field.discriminant_value (λ e. lies.discriminant e) h
+
+  pub switch_size : (f : TypedField) → LiesInNode n f → length (switched n f.field s).bytes ≡ length s.bytes
+  switch_size f lies = switched-size (is_member f.field) f.field.discriminant_value (λ e. lies.discriminant e)
+
+content_formed : (t : SchemaType) (o : ℕ) (c : Content) (s : StructTree) → Suits t c → IsFormed c → (o + 1) * width t ≤ 8 * length s.bytes → IsWellFormed (struct_tree s) → IsWellFormed (struct_tree (with_content s o t c))
+content_formed VoidType o (Bits n) s fits g inside h = h
+content_formed BoolType o (Bits n) s fits g inside h = bit_written o (n == 1) s _ refl h
+content_formed (IntType k) o (Bits n) s fits g inside h = number_written k o n s _ refl (omega (arith, inside)) h
+content_formed (UIntType k) o (Bits n) s fits g inside h = number_written k o n s _ refl (omega (arith, inside)) h
+content_formed (EnumType e) o (Bits n) s fits g inside h = number_written 2 o n s _ refl (omega (arith, inside)) h
+content_formed TextType o (Bits n) s fits g inside h = absurd (true≢false fits.0)
+content_formed DataType o (Bits n) s fits g inside h = absurd (true≢false fits.0)
+content_formed (StructType b r) o (Bits n) s fits g inside h = absurd (true≢false fits.0)
+content_formed (ListType e) o (Bits n) s fits g inside h = absurd (true≢false fits.0)
+content_formed AnyPointerType o (Bits n) s fits g inside h = absurd (true≢false fits.0)
+content_formed t o (At x) s fits g inside h = pointer_written o x s _ refl g h
+
+pub slot_formed : (n : Node) (f : TypedField) (o : ℕ) (d : Value) (s : StructTree) → f.field.kind ≡ Slot o d → HasAtLeast (node_size n) s → LiesInNode n f → (c : Content) → Suits f.type c → IsFormed c →
+    IsWellFormed (struct_tree s) → IsWellFormed (struct_tree (with_content (switched n f.field s) o f.type c))
+slot_formed n f o d s kind size lies c fits g h =
+    let slot : LiesInside n (Slot o d) f.type = subst (λ k. LiesInside n k f.type) kind lies.slot in
+    content_formed f.type o c (switched n f.field s) fits g (omega (arith, slot.0, size.0, switch_size n s size f lies)) (switch_formed n s size f lies h)

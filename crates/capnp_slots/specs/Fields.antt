@@ -1,0 +1,102 @@
+-- Writes of a field by its handle, in the words of writes on trees.
+use Rattle.std.specs.Prelude.{ℕ, ◌+◌, ◌*◌, ◌^◌, ◌<◌, ◌≤◌, ◌≡◌, ⊤, Bool, ◌&&◌, true, false, bit_xor, length, IfSome, Option}
+use Rattle.capnp_wire.specs.Tree.{StructTree, Tree, tree_count}
+use Rattle.capnp_wire.specs.Place.{struct_tree}
+use Rattle.capnp_wire.specs.Edits.{with_pointer_tree}
+use Rattle.capnp_wire.specs.WellFormed.{IsWellFormed}
+use Rattle.capnp_schema.specs.FieldLists.{schema_of, typed_of}
+use Rattle.capnp_schema.specs.Footprint.{Place, discriminant_names}
+use Rattle.capnp_schema.specs.Plan.{IsSlotPlace, PlanFits}
+use Rattle.capnp_schema.specs.Schema.{Schemas, default_of, is_member}
+use Rattle.capnp_schema.specs.SlotValue.{default_bits}
+use Rattle.capnp_schema.specs.StructHandles.{number_of, set_of, struct_node}
+use Rattle.capnp_schema.specs.Types.{is_pointer, width}
+use Rattle.capnp_schema.specs.declared.plan.Place.TheVariants as place
+use Rattle.capnp_schema.specs.declared.plan.SlotPlan.{SlotPlan}
+use Rattle.capnp_schema.specs.declared.schema.fields.Field.{Field}
+use Rattle.capnp_records.specs.Facts.Numbers.{IsStored}
+use Rattle.capnp_records.specs.Record.{Value}
+use Rattle.capnp_records.specs.Step.{is_group_field}
+use Rattle.capnp_records.specs.Writes.Overlay.{cleared_content, field_names, stored, switched}
+use Rattle.capnp_records.specs.Writes.Slots.{Content, Bits, At, Fits, Suits, Writes}
+use Rattle.capnp_records.specs.Writes.TreeEnds.{offset_of, slot_written}
+use Rattle.capnp_slots.specs.Planned.{HoldsNumber, member_switched, place_cleared, place_mask, plan_written}
+
+-- the set and the brand that a field is of
+abbrev pub field_set : Field → Schemas
+field_set f = set_of (schema_of f)
+
+abbrev pub field_brand : Field → ℕ
+field_brand f = number_of (schema_of f)
+
+-- a struct has at least the sections of the field's schema
+abbrev pub IsRoomFor : Field → StructTree → Type 0
+IsRoomFor f s = Fits (field_set f) (field_brand f) s
+
+-- a field is a slot and no group
+abbrev pub IsSlot : Field → Type 0
+IsSlot f = is_group_field (typed_of f).field.kind ≡ false
+
+-- the union switched to the field; a plain field changes nothing
+abbrev pub switched_to : Field → StructTree → StructTree
+switched_to f s = switched (struct_node (schema_of f)) (typed_of f).field s
+
+-- the field's slot with that in it, and the union switched to the field
+abbrev pub slot_with : Field → Content → StructTree → StructTree
+slot_with f c s = slot_written (field_set f) (field_brand f) (typed_of f) c s
+
+-- a slot whose values stand behind a pointer, and the number of the pointer
+abbrev pub IsPointer : Field → Type 0
+IsPointer f = is_pointer (typed_of f).type ≡ true
+
+abbrev pub pointer_index : Field → ℕ
+pointer_index f = offset_of (typed_of f).field.kind
+
+-- ---- what stays ----
+
+-- the places of a member's discriminant, of a plain field none
+abbrev pub switch_names : Field → Place → Bool
+switch_names f p = is_member (typed_of f).field && discriminant_names (struct_node (schema_of f)) p
+
+-- the places of the field's slot or group, and of a member's discriminant
+abbrev pub names_of : Field → Place → Bool
+names_of f = field_names (field_set f) (field_brand f) (typed_of f)
+
+-- one struct became another: it is of the same size, the same but for these places, and well-formed where it was
+pub record Keeps (inside : Place → Bool) (s s' : StructTree) : Type 0 where
+  pub writes : Writes inside s s'
+  pub formed : IsWellFormed (struct_tree s) → IsWellFormed (struct_tree s')
+
+abbrev pub IsFormed : Content → Type 0
+IsFormed (Bits n) = ⊤
+IsFormed (At t) = IsWellFormed t
+
+-- ---- plans ----
+
+-- the plan of a field: its member is the field's discriminant, and lies inside each struct that is room for the field
+pub record IsFieldPlan (f : Field) (plan : SlotPlan) : Type 0 where
+  pub fits : (s : StructTree) → IsRoomFor f s → PlanFits plan s
+  pub switches : (s : StructTree) → member_switched plan.member s ≡ switched_to f s
+  pub keeps : (s : StructTree) → IsRoomFor f s → Keeps (switch_names f) s (switched_to f s)
+
+-- the plan of a slot: it lies inside each struct that is room for the field, what is written by it is written into the
+-- slot, and what is written into the slot keeps the rest
+pub record IsSlotPlan (f : Field) (plan : SlotPlan) : Type 0 where
+  pub slot : IsSlotPlace plan.place
+  pub fits : (s : StructTree) → IsRoomFor f s → PlanFits plan s
+  pub writes : (c : Content) (s : StructTree) → Suits (typed_of f).type c → plan_written plan c s ≡ slot_with f c s
+  pub clears : (s : StructTree) → plan_written plan (place_cleared plan.place) s ≡ plan_written plan (cleared_content (typed_of f).type) s
+  pub holds : (v : Value) → IsStored (typed_of f).type v → HoldsNumber plan.place (stored (typed_of f).type v)
+  pub stores : (n : ℕ) (s : StructTree) → plan_written plan (Bits (bit_xor n (place_mask plan.place))) s ≡ plan_written plan (Bits (bit_xor n (default_bits (default_of (typed_of f).field)))) s
+  pub pointer : IsPointer f → plan.place ≡ place.Pointer (pointer_index f)
+  pub small : default_bits (default_of (typed_of f).field) < 2 ^ width (typed_of f).type
+  pub keeps : (c : Content) (s : StructTree) → IsRoomFor f s → Suits (typed_of f).type c → IsFormed c → Keeps (names_of f) s (slot_with f c s)
+
+-- the pointer of a slot, and the discriminant of its field: both lie inside each struct that is room for the field; what is
+-- put at the pointer, and the union switched after it, is written into the slot, and keeps the rest
+pub record IsPointerSlot (f : Field) (index : ℕ) (member : Option (ℕ × ℕ)) : Type 0 where
+  pub is : index ≡ pointer_index f
+  pub inside : (s : StructTree) → IsRoomFor f s → index < tree_count s.pointers
+  pub member_inside : (s : StructTree) → IsRoomFor f s → IfSome member (λ m. m.0 + 16 ≤ 8 * length s.bytes)
+  pub writes : (t : Tree) (s : StructTree) → member_switched member (with_pointer_tree s index t) ≡ slot_with f (At t) s
+  pub keeps : (t : Tree) (s : StructTree) → IsRoomFor f s → IsWellFormed t → Keeps (names_of f) s (slot_with f (At t) s)

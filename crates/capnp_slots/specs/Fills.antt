@@ -1,0 +1,103 @@
+-- What a builder's get of a slot leaves at its pointer, and why it is refused.
+use Rattle.std.specs.Prelude.{ℕ, ◌<◌, ◌≡◌, false, Option, None}
+use Rattle.capnp_device.specs.declared.error.ErrorKind.{ErrorKind}
+use Rattle.capnp_wire.specs.Tree.{StructTree, Tree, nth_tree, tree_count}
+use Rattle.capnp_wire.specs.Objects.{struct_object_tree}
+use Rattle.capnp_wire.specs.declared.object.StructObject.{StructObject}
+use Rattle.capnp_wire.specs.Place.{struct_tree}
+use Rattle.capnp_wire.specs.Reading.{as_data, as_text}
+use Rattle.capnp_wire.specs.Defaults.{error_of, filled_list_refusal, filled_structs_refusal, list_refusal, takes_default}
+use Rattle.capnp_wire.specs.Defaults.{default_tree as reader_tree}
+use Rattle.capnp_wire.specs.declared.pointer_reader.PointerReader.{PointerReader}
+use Rattle.capnp_wire.specs.Edits.{HoldsStruct, struct_refusal, with_pointer_tree}
+use Rattle.capnp_wire.specs.StructLists.{HoldsStructs, struct_list_refusal}
+use Rattle.capnp_schema.specs.Defaults.{DefaultFits, default_tree}
+use Rattle.capnp_schema.specs.FieldLists.{typed_of}
+use Rattle.capnp_schema.specs.Schema.{Schemas, TextValue, DataValue, Value, default_of}
+use Rattle.capnp_schema.specs.Types.{SchemaType, TextType, DataType, StructType, ListType, element_size}
+use Rattle.capnp_schema.specs.declared.schema.fields.Field.{Field}
+use Rattle.capnp_records.specs.Given.{data_tree, text_tree}
+use Rattle.capnp_records.specs.Writes.Fill.{filled_list, filled_struct, or_default}
+use Rattle.capnp_records.specs.Writes.Slots.{brand_size}
+use Rattle.capnp_records.specs.Writes.TreeCopy.{or_else}
+use Rattle.capnp_slots.specs.Fields.{field_set, pointer_index}
+
+-- a struct is its default's where it is null, with at least its schema's sections; a list its default where it is null, and
+-- structs have at least their schema's sections; a text and data are a default of their own kind where they are null
+abbrev pub filled_tree : Schemas → Value → SchemaType → Tree → Tree
+filled_tree set d (StructType b g) x = struct_tree (filled_struct set b d x)
+filled_tree set d (ListType e) x = filled_list set e d x
+filled_tree set (TextValue bytes) TextType x = or_else x (text_tree bytes)
+filled_tree set (DataValue bytes) DataType x = or_else x (data_tree bytes)
+filled_tree set d t x = x
+
+-- what stands there is not read as the type, or as structs would be past the format
+abbrev pub fill_due : Schemas → Value → SchemaType → Tree → Option ErrorKind
+fill_due set d (StructType b g) x = struct_refusal x
+fill_due set d (ListType (StructType b g)) x = struct_list_refusal (brand_size set b) (or_default d x)
+fill_due set d (ListType e) x = list_refusal (element_size e) x
+fill_due set d TextType x = error_of (as_text x)
+fill_due set d DataType x = error_of (as_data x)
+fill_due set d t x = None
+
+-- nothing has to be filled or extended there
+abbrev pub IsAtRest : Schemas → Value → SchemaType → Tree → Type 0
+IsAtRest set d (StructType b g) x = HoldsStruct (brand_size set b) x
+IsAtRest set d (ListType (StructType b g)) x = (takes_default (default_tree d) x ≡ false) × HoldsStructs (brand_size set b) x
+IsAtRest set d (ListType e) x = (takes_default (default_tree d) x ≡ false) × (list_refusal (element_size e) x ≡ None)
+IsAtRest set d t x = ⊥
+
+-- ---- by a field ----
+
+-- what stands at the pointer of a field's slot
+abbrev pub pointer_in : Field → StructTree → Tree
+pointer_in f s = nth_tree s.pointers (pointer_index f)
+
+abbrev pub filled_in : Field → StructTree → Tree
+filled_in f s = filled_tree (field_set f) (default_of (typed_of f).field) (typed_of f).type (pointer_in f s)
+
+abbrev pub due_in : Field → StructTree → Option ErrorKind
+due_in f s = fill_due (field_set f) (default_of (typed_of f).field) (typed_of f).type (pointer_in f s)
+
+abbrev pub RestsIn : Field → StructTree → Type 0
+RestsIn f s = IsAtRest (field_set f) (default_of (typed_of f).field) (typed_of f).type (pointer_in f s)
+
+-- ---- defaults ----
+
+-- the pointer of a field's default has the default's tree, which fits the field
+pub record IsDefaultPointer (f : Field) (r : Option PointerReader) : Type 0 where
+  pub tree : reader_tree r ≡ default_tree (default_of (typed_of f).field)
+  pub fits : DefaultFits (typed_of f)
+
+-- ---- lists, by the tree of a default ----
+
+-- a list of structs is refused by its sizes, and another one by its elements' size
+abbrev pub list_due : Schemas → SchemaType → Tree → Tree → Option ErrorKind
+list_due set (StructType b g) D x = filled_structs_refusal D (brand_size set b) x
+list_due set e D x = filled_list_refusal D (element_size e) x
+
+abbrev pub ListRests : Schemas → SchemaType → Tree → Tree → Type 0
+ListRests set (StructType b g) D x = (takes_default D x ≡ false) × HoldsStructs (brand_size set b) x
+ListRests set e D x = (takes_default D x ≡ false) × (filled_list_refusal D (element_size e) x ≡ None)
+
+-- ---- texts and data ----
+
+abbrev pub text_filled : Value → Tree → Tree
+text_filled (TextValue bytes) x = or_else x (text_tree bytes)
+text_filled d x = x
+
+abbrev pub data_filled : Value → Tree → Tree
+data_filled (DataValue bytes) x = or_else x (data_tree bytes)
+data_filled d x = x
+
+-- ---- by an object ----
+
+-- a struct has a pointer of an index, what stands there, and the struct became the same with something else there
+abbrev pub IsThere : StructObject → ℕ → Type 0
+IsThere s i = i < tree_count (struct_object_tree s).pointers
+
+abbrev pub tree_there : StructObject → ℕ → Tree
+tree_there s i = nth_tree (struct_object_tree s).pointers i
+
+abbrev pub HoldsThere : StructObject → ℕ → StructObject → Tree → Type 0
+HoldsThere s i s' t = struct_object_tree s' ≡ with_pointer_tree (struct_object_tree s) i t

@@ -1,0 +1,118 @@
+//! Groups of a struct that is built: their fields lie in the struct's own sections.
+ghost use Rattle.std.specs.Prelude.{◌≡◌, MatchOption};
+ghost use Rattle.capnp_wire.specs.Objects.{struct_object_tree};
+ghost use Rattle.capnp_schema.specs.FieldLists.{typed_of};
+ghost use Rattle.capnp_schema.specs.Query.{member_of, plain_fields};
+ghost use Rattle.capnp_schema.specs.StructHandles.{number_of, set_of, struct_records};
+ghost use Rattle.capnp_records.specs.Writes.Slots.{Fits};
+ghost use Rattle.capnp_slots.specs.Fields.{IsRoomFor, IsSlot, Keeps, field_brand, field_set, names_of};
+ghost use Rattle.capnp_slots.specs.Groups.{IsGroup, IsGroupAt, KeepsSize, clear_by, clear_index, cleared_indices, cleared_option, cleared_through, group_without};
+
+use crate::slot;
+use capnp_records::laws::group_is_cleared;
+use capnp_schema::laws::numbers_fit;
+use capnp_schema::plan::{Place, plans_stand};
+use capnp_schema::schema::{Field, StructSchema};
+use capnp_wire::object::StructObject;
+
+/// The schema of a field's group; none for a slot.
+pub fn group_of<'s>(field: Field<'s>) -> Option<StructSchema<'s>>
+    ensures { MatchOption result (IsSlot field.entry) (IsGroupAt field.entry) }
+{
+    let Place::Group(brand) = field.plan().place else {
+        return None;
+    };
+    let set = field.get_containing_struct().get_set();
+    Some(set.struct_schema(brand))
+}
+
+/// Clears a field, through at most so many groups.
+#[cycle(clear)]
+fn clear_field(object: &mut StructObject, field: Field<'_>, groups: usize)
+    requires { IsRoomFor field (struct_object_tree object.old) }
+    ensures cleared { struct_object_tree object.new ≡ clear_by groups (field_set field.entry) (field_brand field.entry) (typed_of field.entry) (struct_object_tree object.old) }
+    ensures kept { KeepsSize (struct_object_tree object.old) (struct_object_tree object.new) }
+{
+    match group_of(field) {
+        Some(group) => {
+            slot::switch(object, field);
+            clear_group(object, group, groups);
+        }
+        None => slot::clear(object, field),
+    }
+}
+
+/// Clears the member of discriminant value 0, where there is one.
+#[cycle(clear)]
+fn clear_member(object: &mut StructObject, schema: StructSchema<'_>, groups: usize)
+    requires { Fits (set_of schema) (number_of schema) (struct_object_tree object.old) }
+    ensures cleared { struct_object_tree object.new ≡ cleared_option (clear_index groups (set_of schema.entry) (number_of schema.entry)) (member_of (struct_records schema.entry) 0) (struct_object_tree object.old) }
+    ensures kept { KeepsSize (struct_object_tree object.old) (struct_object_tree object.new) }
+{
+    let Ok(found) = schema.get_field_by_discriminant(0) else {
+        unreachable!()
+    };
+    match found {
+        Some(field) => clear_field(object, field, groups),
+        None => {}
+    }
+}
+
+/// Clears the plain fields by index.
+#[cycle(clear)]
+fn clear_plain(object: &mut StructObject, schema: StructSchema<'_>, groups: usize)
+    requires { Fits (set_of schema) (number_of schema) (struct_object_tree object.old) }
+    ensures cleared { struct_object_tree object.new ≡ cleared_indices (clear_index groups (set_of schema.entry) (number_of schema.entry)) (plain_fields (struct_records schema.entry)) (struct_object_tree object.old) }
+    ensures kept { KeepsSize (struct_object_tree object.old) (struct_object_tree object.new) }
+{
+    let Ok(fields) = schema.get_non_union_fields() else {
+        unreachable!()
+    };
+    for i in 0..fields.len() {
+        let field = fields.get(i);
+        clear_field(object, field, groups);
+    }
+}
+
+/// Clears a group of a struct: its member of discriminant value 0, and then its plain fields by index.
+#[cycle(clear)]
+fn clear_group(object: &mut StructObject, schema: StructSchema<'_>, groups: usize)
+    requires { Fits (set_of schema) (number_of schema) (struct_object_tree object.old) }
+    ensures cleared { struct_object_tree object.new ≡ cleared_through groups (set_of schema.entry) (number_of schema.entry) (struct_object_tree object.old) }
+    ensures kept { KeepsSize (struct_object_tree object.old) (struct_object_tree object.new) }
+{
+    if groups == 0 {
+        return;
+    }
+    clear_member(object, schema, groups - 1);
+    clear_plain(object, schema, groups - 1);
+}
+
+/// Clears a group: a member of its struct's union becomes active, and then the group's member of discriminant value 0 and
+/// its plain fields by index are cleared, groups in the same way. The group then reads as its default record. No memory is
+/// taken.
+pub fn clear(object: &mut StructObject, field: Field<'_>)
+    requires group { IsGroup field }
+    requires room { IsRoomFor field (struct_object_tree object.old) }
+    ensures cleared { struct_object_tree object.new ≡ group_without field.entry (struct_object_tree object.old) }
+    ensures kept { Keeps (names_of field.entry) (struct_object_tree object.old) (struct_object_tree object.new) }
+{
+    let Some(group) = group_of(field) else {
+        unreachable!()
+    };
+    let set = field.get_containing_struct().get_set();
+    numbers_fit(set);
+    group_is_cleared();
+    slot::switch(object, field);
+    clear_group(object, group, set.brands().len());
+}
+
+/// Initializes a group, as `clear` does.
+pub fn init(object: &mut StructObject, field: Field<'_>)
+    requires group { IsGroup field }
+    requires room { IsRoomFor field (struct_object_tree object.old) }
+    ensures cleared { struct_object_tree object.new ≡ group_without field.entry (struct_object_tree object.old) }
+    ensures kept { Keeps (names_of field.entry) (struct_object_tree object.old) (struct_object_tree object.new) }
+{
+    clear(object, field);
+}

@@ -1,0 +1,157 @@
+//! New structs, lists, texts and data at a pointer, all zero and null.
+ghost use Rattle.std.specs.Prelude.{false, true, ◌-◌, ◌*◌, ◌+◌, ◌^◌, ◌<◌, ◌≡◌, ◌≢◌, ◌||◌, IfErr, OnErr, OnOk, nat_lt, replicate};
+ghost use Rattle.capnp_device.specs.declared.error.ErrorKind.TheVariants.{OutOfMemory};
+ghost use Rattle.capnp_wire.specs.Edits.{zero_list, zero_struct, zero_structs};
+ghost use Rattle.capnp_wire.specs.Objects.{object_tree};
+ghost use Rattle.capnp_wire.specs.Place.{struct_tree};
+ghost use Rattle.capnp_wire.specs.WellFormed.{IsWellFormed};
+ghost use Rattle.capnp_schema.specs.Entries.{lists_seen};
+ghost use Rattle.capnp_schema.specs.StructHandles.{number_of, set_of};
+ghost use Rattle.capnp_schema.specs.Tests.{seen_variant};
+ghost use Rattle.capnp_schema.specs.Types.{seen_type};
+ghost use Rattle.capnp_records.specs.Given.{text_tree};
+ghost use Rattle.capnp_records.specs.Operation.{elements_past};
+ghost use Rattle.capnp_records.specs.Writes.Contents.{initn_tree, new_list};
+ghost use Rattle.capnp_records.specs.Writes.ElementEnds.{InitnContent};
+ghost use Rattle.capnp_records.specs.Writes.Slots.{At, brand_size};
+ghost use Rattle.capnp_slots.specs.Inits.{IsInitnRefusal, IsRoomless, is_sized};
+
+use capnp_base::introspect::{Type, TypeVariant};
+use capnp_schema::schema::StructSchema;
+use capnp_schema::set::SchemaSet;
+use capnp_wire::error::Result;
+use capnp_wire::laws::kept::new_structs_are_well_formed;
+use capnp_wire::laws::kept_lists::{
+    new_lists_are_well_formed, new_struct_lists_are_well_formed, new_texts_are_well_formed,
+};
+use capnp_wire::object::Object;
+use capnp_wire::size::{ElementSize, StructSize};
+
+/// The sections of a schema's structs.
+pub(crate) fn size_of(schema: StructSchema<'_>) -> StructSize
+    ensures { result ≡ brand_size (set_of schema.entry) (number_of schema.entry) }
+{
+    let body = &schema.get_proto().body;
+    StructSize {
+        data_words: body.data_word_count,
+        pointers: body.pointer_count,
+    }
+}
+
+/// Makes a pointer lead to a struct of a size.
+///
+/// Refused with `OutOfMemory`, and then nothing has changed; so is each call below.
+#[tactic(auto, using(crate::proofs::Pointers::struct_stands))]
+pub(crate) fn make_struct(pointer: &mut Object, size: StructSize) -> Result<()>
+    ensures ok { OnOk result (object_tree pointer.new ≡ struct_tree (zero_struct size)) }
+    ensures formed { OnOk result (IsWellFormed (struct_tree (zero_struct size))) }
+    ensures refused { OnErr result (object_tree pointer.new ≡ object_tree pointer.old) }
+    ensures cause { IfErr result (λ e. e.kind ≡ OutOfMemory) }
+{
+    new_structs_are_well_formed();
+    pointer.init_struct(size)?;
+    Ok(())
+}
+
+/// Makes a pointer lead to a text of so many zero bytes.
+///
+/// Refused with `SizePastFormat` for more than 2^29 - 2 bytes, and else with `OutOfMemory`.
+#[tactic(auto, using(crate::proofs::Pointers::list_stands))]
+fn make_text(pointer: &mut Object, count: u32) -> Result<()>
+    ensures ok { OnOk result (object_tree pointer.new ≡ text_tree (replicate count 0)) }
+    ensures within { OnOk result (nat_lt (2 ^ 29 - 2) count ≡ false) }
+    ensures formed { OnOk result (IsWellFormed (text_tree (replicate count 0))) }
+    ensures refused { OnErr result (object_tree pointer.new ≡ object_tree pointer.old) }
+    ensures cause { IfErr result (λ e. IsRoomless (nat_lt (2 ^ 29 - 2) count) e.kind) }
+{
+    new_texts_are_well_formed();
+    pointer.init_text_list(count)?;
+    Ok(())
+}
+
+/// Makes a pointer lead to a list of so many elements of a size that is not composite.
+///
+/// Refused with `SizePastFormat` for 2^29 elements or more, and else with `OutOfMemory`.
+#[tactic(auto, using(crate::proofs::Pointers::list_stands))]
+fn make_list(pointer: &mut Object, size: ElementSize, count: u32) -> Result<()>
+    requires { size ≢ ElementSize.InlineComposite }
+    ensures ok { OnOk result (object_tree pointer.new ≡ zero_list size count) }
+    ensures within { OnOk result (nat_lt (2 ^ 29 - 1) count ≡ false) }
+    ensures formed { OnOk result (IsWellFormed (zero_list size count)) }
+    ensures refused { OnErr result (object_tree pointer.new ≡ object_tree pointer.old) }
+    ensures cause { IfErr result (λ e. IsRoomless (nat_lt (2 ^ 29 - 1) count) e.kind) }
+{
+    new_lists_are_well_formed();
+    pointer.init_list(size, count)?;
+    Ok(())
+}
+
+/// Makes a pointer lead to a list of so many structs of a size.
+///
+/// Refused with `SizePastFormat` for 2^29 elements or more, or where they take 2^29 words or more, and else with
+/// `OutOfMemory`.
+#[tactic(auto, using(crate::proofs::Pointers::list_stands))]
+fn make_structs(pointer: &mut Object, size: StructSize, count: u32) -> Result<()>
+    ensures ok { OnOk result (object_tree pointer.new ≡ zero_structs size count) }
+    ensures within { OnOk result ((nat_lt (2 ^ 29 - 1) (count * (size.data_words + size.pointers)) || nat_lt (2 ^ 29 - 1) count) ≡ false) }
+    ensures formed { OnOk result (IsWellFormed (zero_structs size count)) }
+    ensures refused { OnErr result (object_tree pointer.new ≡ object_tree pointer.old) }
+    ensures cause { IfErr result (λ e. IsRoomless (nat_lt (2 ^ 29 - 1) (count * (size.data_words + size.pointers)) || nat_lt (2 ^ 29 - 1) count) e.kind) }
+{
+    new_struct_lists_are_well_formed();
+    pointer.init_struct_list(count, size)?;
+    Ok(())
+}
+
+/// Makes a pointer lead to a list of so many elements of a type.
+///
+/// Refused as `make_structs` for structs, and else as `make_list`.
+fn make_elements(pointer: &mut Object, set: &SchemaSet, element: Type, count: u32) -> Result<()>
+    ensures ok { OnOk result (object_tree pointer.new ≡ new_list (lists_seen set.now) (seen_type element) count) }
+    ensures within { OnOk result (elements_past (lists_seen set.now) (seen_type element) count ≡ false) }
+    ensures formed { OnOk result (IsWellFormed (new_list (lists_seen set.now) (seen_type element) count)) }
+    ensures refused { OnErr result (object_tree pointer.new ≡ object_tree pointer.old) }
+    ensures cause { IfErr result (λ e. IsRoomless (elements_past (lists_seen set.now) (seen_type element) count) e.kind) }
+{
+    match element.which() {
+        TypeVariant::Struct(raw) => {
+            let size = size_of(set.struct_schema(raw.number));
+            make_structs(pointer, size, count)
+        }
+        _ => make_list(pointer, element.expected_element_size(), count),
+    }
+}
+
+/// Whether a type's values have a size: texts, data and lists.
+pub(crate) fn is_sized(variant: TypeVariant) -> bool
+    ensures { result ≡ is_sized (seen_variant variant) }
+{
+    match variant {
+        TypeVariant::Text => true,
+        TypeVariant::Data => true,
+        TypeVariant::List(_) => true,
+        _ => false,
+    }
+}
+
+/// Makes a pointer lead to a text, data or list of a type with so many bytes or elements.
+pub(crate) fn make_sized(
+    pointer: &mut Object,
+    set: &SchemaSet,
+    variant: TypeVariant,
+    count: u32,
+) -> Result<()>
+    requires { is_sized (seen_variant variant) ≡ true }
+    ensures ok { OnOk result (object_tree pointer.new ≡ initn_tree (lists_seen set.now) (seen_variant variant) count) }
+    ensures within { OnOk result (InitnContent (lists_seen set.now) count (seen_variant variant) (At (initn_tree (lists_seen set.now) (seen_variant variant) count))) }
+    ensures formed { OnOk result (IsWellFormed (initn_tree (lists_seen set.now) (seen_variant variant) count)) }
+    ensures refused { OnErr result (object_tree pointer.new ≡ object_tree pointer.old) }
+    ensures cause { IfErr result (λ e. IsInitnRefusal (lists_seen set.now) count (seen_variant variant) e.kind) }
+{
+    match variant {
+        TypeVariant::Text => make_text(pointer, count),
+        TypeVariant::Data => make_list(pointer, ElementSize::Byte, count),
+        TypeVariant::List(element) => make_elements(pointer, set, element, count),
+        _ => unreachable!(),
+    }
+}

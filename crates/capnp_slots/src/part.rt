@@ -1,0 +1,221 @@
+//! Parts of a struct that is built: what a builder's `get` of a slot fills, and what it lends.
+ghost use Rattle.std.specs.Prelude.{None, true, ◌-◌, ◌^◌, ◌≡◌, ◌<◌, ◌≤◌, IfErr, IfOk, IsOk, OnErr, OnOk, length};
+ghost use Rattle.capnp_device.specs.declared.error.ErrorKind.TheVariants.{OutOfMemory};
+ghost use Rattle.capnp_wire.specs.Defaults.{default_tree as reader_tree, error_of, or_default};
+ghost use Rattle.capnp_wire.specs.Reading.{as_data, as_text, is_null_tree};
+ghost use Rattle.capnp_records.specs.Given.{data_tree, text_tree};
+ghost use Rattle.capnp_records.specs.Writes.Fill.{entered_list};
+ghost use Rattle.capnp_records.specs.Writes.TreeCopy.{or_else};
+ghost use Rattle.capnp_wire.specs.Edits.{IsDueRefusal, with_pointer_tree};
+ghost use Rattle.std.specs.Borrow.{sem};
+ghost use Rattle.capnp_slots.specs.Lending.{LendsFilled};
+ghost use Rattle.capnp_wire.specs.Lends.{LendsPointer};
+ghost use Rattle.capnp_wire.specs.Objects.{object_tree, struct_object_tree};
+ghost use Rattle.capnp_wire.specs.Place.{struct_tree};
+ghost use Rattle.capnp_wire.specs.Tree.{nth_tree, tree_count};
+ghost use Rattle.capnp_wire.specs.WellFormed.{IsWellFormed};
+ghost use Rattle.capnp_schema.specs.Defaults.{default_tree};
+ghost use Rattle.capnp_schema.specs.Entries.{lists_seen};
+ghost use Rattle.capnp_schema.specs.FieldLists.{typed_of};
+ghost use Rattle.capnp_schema.specs.Schema.{default_of};
+ghost use Rattle.capnp_schema.specs.Types.{ListType, StructType, seen_type};
+ghost use Rattle.capnp_slots.specs.Fields.{IsPointer, IsRoomFor, IsSlot, field_set, pointer_index};
+ghost use Rattle.capnp_slots.specs.Groups.{KeepsSize};
+ghost use Rattle.capnp_slots.specs.Fills.{HoldsThere, IsDefaultPointer, IsThere, ListRests, RestsIn, data_filled, due_in, filled_in, list_due, pointer_in, text_filled, tree_there};
+
+use crate::fill::{check_data, check_text, fill_list, fill_struct, fill_structs};
+use crate::make::size_of;
+use crate::pointer::{pointer_slot, set_at};
+use capnp_base::introspect::{Type, TypeVariant};
+use capnp_base::{data, text};
+use capnp_schema::schema::Field;
+use capnp_schema::set::SchemaSet;
+use capnp_schema::value::Value;
+use capnp_wire::error::Result;
+use capnp_wire::laws::kept::pointers_of_structs_are_well_formed;
+use capnp_wire::object::StructObject;
+use capnp_wire::{PointerBuilder, PointerReader};
+
+/// The root pointer of a field's default, where it has one.
+fn default_pointer<'s>(field: Field<'s>) -> Option<PointerReader<'s>>
+    ensures { IsDefaultPointer field.entry result }
+{
+    field.get_default_pointer()
+}
+
+/// Fills the list at a pointer, of elements of a type.
+fn fill_elements(
+    object: &mut StructObject,
+    index: u16,
+    set: &SchemaSet,
+    element: Type,
+    default: Option<PointerReader<'_>>,
+) -> Result<()>
+    requires inside { IsThere object.old index }
+    requires formed { IsWellFormed (tree_there object.old index) }
+    ensures ok { OnOk result (HoldsThere object.old index object.new (entered_list (lists_seen set.now) (seen_type element) (or_default (reader_tree default.entry) (tree_there object.old index)))) }
+    ensures kept { OnOk result (IsWellFormed (entered_list (lists_seen set.now) (seen_type element) (or_default (reader_tree default.entry) (tree_there object.old index)))) }
+    ensures within { OnOk result (list_due (lists_seen set.now) (seen_type element) (reader_tree default.entry) (tree_there object.old index) ≡ None) }
+    ensures refused { OnErr result (struct_object_tree object.new ≡ struct_object_tree object.old) }
+    ensures cause { IfErr result (λ e. IsDueRefusal e (list_due (lists_seen set.now) (seen_type element) (reader_tree default.entry) (tree_there object.old index))) }
+    ensures rests { ListRests (lists_seen set.now) (seen_type element) (reader_tree default.entry) (tree_there object.old index) → IsOk result }
+{
+    match element.which() {
+        TypeVariant::Struct(raw) => {
+            let size = size_of(set.struct_schema(raw.number));
+            fill_structs(object, index, size, default)
+        }
+        _ => fill_list(object, index, element.expected_element_size(), default),
+    }
+}
+
+/// Fills a pointer's slot.
+fn fill_slot(object: &mut StructObject, field: Field<'_>, index: u16) -> Result<()>
+    requires slot { IsSlot field }
+    requires pointer { IsPointer field }
+    requires is { index ≡ pointer_index field }
+    requires inside { IsThere object.old index }
+    requires formed { IsWellFormed (struct_tree (struct_object_tree object.old)) }
+    ensures filled { OnOk result (HoldsThere object.old index object.new (filled_in field.entry (struct_object_tree object.old))) }
+    ensures within { OnOk result (due_in field.entry (struct_object_tree object.old) ≡ None) }
+    ensures kept { OnOk result (IsWellFormed (filled_in field.entry (struct_object_tree object.old))) }
+    ensures refused { OnErr result (struct_object_tree object.new ≡ struct_object_tree object.old) }
+    ensures cause { IfErr result (λ e. IsDueRefusal e (due_in field.entry (struct_object_tree object.old))) }
+    ensures rests { RestsIn field.entry (struct_object_tree object.old) → IsOk result }
+{
+    pointers_of_structs_are_well_formed();
+    let set = field.get_containing_struct().get_set();
+    let default = default_pointer(field);
+    match field.get_type().which() {
+        TypeVariant::Struct(raw) => {
+            let size = size_of(set.struct_schema(raw.number));
+            fill_struct(object, index, size, default)
+        }
+        TypeVariant::List(element) => fill_elements(object, index, set, element, default),
+        TypeVariant::Text => fill_text(object, index, field),
+        TypeVariant::Data => fill_data(object, index, field),
+        TypeVariant::AnyPointer => Ok(()),
+        _ => unreachable!(),
+    }
+}
+
+/// Fills the text at a pointer: a null becomes the default of a text's slot, an empty one too.
+fn fill_text(object: &mut StructObject, index: u16, field: Field<'_>) -> Result<()>
+    requires { IsThere object.old index }
+    ensures ok { OnOk result (HoldsThere object.old index object.new (text_filled (default_of (typed_of field.entry).field) (tree_there object.old index))) }
+    ensures kept { OnOk result (IsWellFormed (tree_there object.old index) → IsWellFormed (text_filled (default_of (typed_of field.entry).field) (tree_there object.old index))) }
+    ensures within { OnOk result (error_of (as_text (tree_there object.old index)) ≡ None) }
+    ensures refused { OnErr result (struct_object_tree object.new ≡ struct_object_tree object.old) }
+    ensures cause { IfErr result (λ e. IsDueRefusal e (error_of (as_text (tree_there object.old index)))) }
+{
+    check_text(object, index)?;
+    match field.get_default() {
+        Value::Text(text) => put_text(object, index, text),
+        _ => Ok(()),
+    }
+}
+
+/// Puts a text in the place of a null.
+fn put_text(object: &mut StructObject, index: u16, text: text::Reader<'_>) -> Result<()>
+    requires inside { IsThere object.old index }
+    requires small { length text.0.now ≤ 2 ^ 29 - 2 }
+    ensures ok { OnOk result (HoldsThere object.old index object.new (or_else (tree_there object.old index) (text_tree text.entry.0.now))) }
+    ensures kept { OnOk result (IsWellFormed (tree_there object.old index) → IsWellFormed (or_else (tree_there object.old index) (text_tree text.entry.0.now))) }
+    ensures refused { OnErr result (struct_object_tree object.new ≡ struct_object_tree object.old) }
+    ensures null { OnErr result (is_null_tree (tree_there object.old index) ≡ true) }
+    ensures cause { IfErr result (λ e. e.kind ≡ OutOfMemory) }
+{
+    if !object.pointer_field(index).is_null() {
+        return Ok(());
+    }
+    set_at::<text::Owned, text::Reader<'_>>(object, index, text)
+}
+
+/// Fills the data at a pointer, likewise.
+fn fill_data(object: &mut StructObject, index: u16, field: Field<'_>) -> Result<()>
+    requires { IsThere object.old index }
+    ensures ok { OnOk result (HoldsThere object.old index object.new (data_filled (default_of (typed_of field.entry).field) (tree_there object.old index))) }
+    ensures kept { OnOk result (IsWellFormed (tree_there object.old index) → IsWellFormed (data_filled (default_of (typed_of field.entry).field) (tree_there object.old index))) }
+    ensures within { OnOk result (error_of (as_data (tree_there object.old index)) ≡ None) }
+    ensures refused { OnErr result (struct_object_tree object.new ≡ struct_object_tree object.old) }
+    ensures cause { IfErr result (λ e. IsDueRefusal e (error_of (as_data (tree_there object.old index)))) }
+{
+    check_data(object, index)?;
+    match field.get_default() {
+        Value::Data(bytes) => put_data(object, index, bytes),
+        _ => Ok(()),
+    }
+}
+
+/// Puts data in the place of a null.
+fn put_data(object: &mut StructObject, index: u16, bytes: data::Reader<'_>) -> Result<()>
+    requires inside { IsThere object.old index }
+    requires small { length bytes.now ≤ 2 ^ 29 - 1 }
+    ensures ok { OnOk result (HoldsThere object.old index object.new (or_else (tree_there object.old index) (data_tree bytes.now))) }
+    ensures kept { OnOk result (IsWellFormed (tree_there object.old index) → IsWellFormed (or_else (tree_there object.old index) (data_tree bytes.now))) }
+    ensures refused { OnErr result (struct_object_tree object.new ≡ struct_object_tree object.old) }
+    ensures null { OnErr result (is_null_tree (tree_there object.old index) ≡ true) }
+    ensures cause { IfErr result (λ e. e.kind ≡ OutOfMemory) }
+{
+    if !object.pointer_field(index).is_null() {
+        return Ok(());
+    }
+    set_at::<data::Owned, data::Reader<'_>>(object, index, bytes)
+}
+
+/// Fills what stands behind the pointer of a slot, as a builder's `get` does: a null text or data becomes a default of its
+/// own kind, an empty one too; a null struct its default or an empty one, and a struct that is smaller than its schema gets
+/// zeros and nulls after what it has; a null list becomes its default where that isn't null, and structs of a list get at
+/// least their schema's sections. An untyped pointer stays. Whether a member is active is not asked, and no union is
+/// switched.
+///
+/// Refused with `WrongPointerKind`, `WrongElementSize` or `TextNotTerminated` where what stands there is not read as the
+/// slot's type, with `SizePastFormat` where the structs of a list would take 2^29 words or more, and else with `OutOfMemory`;
+/// then nothing has changed. Where nothing has to be filled or extended no memory is taken.
+pub fn fill(object: &mut StructObject, field: Field<'_>) -> Result<()>
+    requires slot { IsSlot field }
+    requires pointer { IsPointer field }
+    requires room { IsRoomFor field (struct_object_tree object.old) }
+    requires formed { IsWellFormed (struct_tree (struct_object_tree object.old)) }
+    ensures filled { OnOk result (struct_object_tree object.new ≡ with_pointer_tree (struct_object_tree object.old) (pointer_index field.entry) (filled_in field.entry (struct_object_tree object.old))) }
+    ensures within { OnOk result (due_in field.entry (struct_object_tree object.old) ≡ None) }
+    ensures kept { OnOk result (KeepsSize (struct_object_tree object.old) (struct_object_tree object.new)) }
+    ensures refused { OnErr result (struct_object_tree object.new ≡ struct_object_tree object.old) }
+    ensures cause { IfErr result (λ e. IsDueRefusal e (due_in field.entry (struct_object_tree object.old))) }
+    ensures rests { RestsIn field.entry (struct_object_tree object.old) → IsOk result }
+{
+    let (index, _) = pointer_slot(field);
+    fill_slot(object, field, index)
+}
+
+/// The pointer of a slot, as it stands.
+pub fn pointer<'a>(object: &'a mut StructObject, field: Field<'_>) -> PointerBuilder<'a>
+    requires slot { IsSlot field }
+    requires pointer { IsPointer field }
+    requires room { IsRoomFor field (struct_object_tree object.old) }
+    ensures* lends { sem 𝓛 (LendsPointer object.entry (pointer_index field.entry) result) }
+    ensures now { object_tree result.now ≡ pointer_in field.entry (struct_object_tree object.old) }
+{
+    let (index, _) = pointer_slot(field);
+    object.get_pointer_field(index)
+}
+
+/// Fills what stands behind the pointer of a slot, as `fill`, and lends the pointer: `struct_here` of it then lends the
+/// struct, and `get_list` or `list_here` the list.
+///
+/// Refused as `fill`.
+pub fn get<'a>(object: &'a mut StructObject, field: Field<'_>) -> Result<PointerBuilder<'a>>
+    requires slot { IsSlot field }
+    requires pointer { IsPointer field }
+    requires room { IsRoomFor field (struct_object_tree object.old) }
+    requires formed { IsWellFormed (struct_tree (struct_object_tree object.old)) }
+    ensures* lends { sem 𝓛 (LendsFilled object.entry (pointer_index field.entry) result) }
+    ensures now { IfOk result (λ p. object_tree p.now ≡ filled_in field.entry (struct_object_tree object.old)) }
+    ensures within { OnOk result (due_in field.entry (struct_object_tree object.old) ≡ None) }
+    ensures cause { IfErr result (λ e. IsDueRefusal e (due_in field.entry (struct_object_tree object.old))) }
+    ensures rests { RestsIn field.entry (struct_object_tree object.old) → IsOk result }
+{
+    let (index, _) = pointer_slot(field);
+    fill_slot(object, field, index)?;
+    Ok(object.get_pointer_field(index))
+}

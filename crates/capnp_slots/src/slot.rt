@@ -1,0 +1,225 @@
+//! Slots of a struct that is built: a union's member becomes active, and then what stands in the slot is written.
+ghost use Rattle.std.specs.Prelude.{None, ◌≡◌, IfErr, IfOk, OnErr, OnOk, not};
+ghost use Rattle.capnp_device.specs.declared.error.ErrorKind.TheVariants.{OutOfMemory};
+ghost use Rattle.capnp_wire.specs.Edits.{zero_struct};
+ghost use Rattle.capnp_wire.specs.Objects.{struct_object_tree};
+ghost use Rattle.capnp_wire.specs.Place.{struct_tree};
+ghost use Rattle.capnp_wire.specs.WellFormed.{IsWellFormed};
+ghost use Rattle.capnp_wire.specs.Words.{first_fault};
+ghost use Rattle.capnp_schema.specs.FieldLists.{typed_of};
+ghost use Rattle.capnp_records.specs.Given.{Fails};
+ghost use Rattle.capnp_records.specs.Step.{is_group_field};
+ghost use Rattle.capnp_records.specs.Writes.Overlay.{cleared_content};
+ghost use Rattle.capnp_records.specs.Writes.Slots.{At};
+ghost use Rattle.capnp_slots.specs.Fields.{field_set, IsPointer, IsRoomFor, IsSlot, Keeps, names_of, slot_with, switch_names, switched_to};
+ghost use Rattle.capnp_slots.specs.Sources.{IsPointed, IsSet, IsSetRefusal, source_seen};
+ghost use Rattle.capnp_slots.specs.Inits.{HasInit, HasInitn, IsInitRefusal, IsInitnRefusal, init_content, initn_content};
+ghost use Rattle.capnp_slots.specs.Primitives.{IsGiven, IsGivenAs, given_to, primitive_source, set_content};
+
+use crate::copies::{copies_to, copy_to};
+use crate::make::{is_sized, size_of};
+use crate::planned::{clear_plan, field_plan, slot_plan, store_number, switch_member};
+use crate::pointer::{make_sized_at, make_struct_at, pointer_slot, set_at};
+use crate::primitive::{Primitive, number_fits, number_given};
+use crate::source::Source;
+use capnp_base::introspect::TypeVariant;
+use capnp_base::traits::SetterInput;
+use capnp_schema::record::FieldKind;
+use capnp_schema::schema::Field;
+use capnp_wire::error::{Error, ErrorKind, Result};
+use capnp_wire::object::StructObject;
+use capnp_wire::size::StructSize;
+
+/// Whether a field is a slot and no group.
+pub fn is_slot(field: Field<'_>) -> bool
+    ensures { result ≡ not (is_group_field (typed_of field.entry).field.kind) }
+{
+    matches!(
+        field.get_proto().kind,
+        FieldKind::Slot {
+            offset: _,
+            default: _
+        }
+    )
+}
+
+/// Makes a field active, where it is a member of its struct's union: its number stands in the discriminant. A plain field
+/// changes nothing. What stands in the field stays, and no memory is taken.
+pub fn switch(object: &mut StructObject, field: Field<'_>)
+    requires { IsRoomFor field (struct_object_tree object.old) }
+    ensures switched { struct_object_tree object.new ≡ switched_to field.entry (struct_object_tree object.old) }
+    ensures kept { Keeps (switch_names field.entry) (struct_object_tree object.old) (struct_object_tree object.new) }
+{
+    switch_member(object, field_plan(field).member);
+}
+
+/// The number that a field's slot stores for a value, but for its default; refused as the set.
+fn number_for(field: Field<'_>, value: Primitive) -> Result<u64>
+    ensures number { IfOk result (IsGivenAs (field_set field.entry) (typed_of field.entry).type (primitive_source value)) }
+    ensures refused { IfErr result (λ e. given_to field.entry (primitive_source value) ≡ Fails e.kind) }
+{
+    number_fits(value);
+    number_given(field.get_type().which(), value)
+}
+
+/// Sets a slot to a value that no pointer stands for: what is stored is its number, XORed with that of the slot's default.
+/// A member becomes active. A slot of type Void takes every value, and an enum's the number alone. No memory is taken.
+///
+/// Refused with `CannotSetAnyPointerFieldToAPrimitiveValue` for an untyped slot, and with `TypeMismatch` for a slot of
+/// another kind than the value's; then nothing has changed.
+pub fn set_primitive(object: &mut StructObject, field: Field<'_>, value: Primitive) -> Result<()>
+    requires slot { IsSlot field }
+    requires room { IsRoomFor field (struct_object_tree object.old) }
+    ensures written { OnOk result (struct_object_tree object.new ≡ slot_with field.entry (set_content field.entry (primitive_source value)) (struct_object_tree object.old)) }
+    ensures given { OnOk result (IsGiven (given_to field.entry (primitive_source value))) }
+    ensures kept { OnOk result (Keeps (names_of field.entry) (struct_object_tree object.old) (struct_object_tree object.new)) }
+    ensures refused { OnErr result (object.new ≡ object.old) }
+    ensures cause { IfErr result (λ e. given_to field.entry (primitive_source value) ≡ Fails e.kind) }
+{
+    let number = number_for(field, value)?;
+    store_number(object, slot_plan(field), number);
+    Ok(())
+}
+
+/// Sets a slot to what a pointer can be set to: a text, data, a struct, a list, or what an untyped pointer leads to. The
+/// copy is made first, and then a member becomes active.
+///
+/// Refused as the input's set of a pointer, and then nothing has changed.
+pub fn set_pointer<R, S: SetterInput<R>>(
+    object: &mut StructObject,
+    field: Field<'_>,
+    input: S,
+) -> Result<()>
+    requires slot { IsSlot field }
+    requires pointer { IsPointer field }
+    requires room { IsRoomFor field (struct_object_tree object.old) }
+    ensures written { OnOk result (struct_object_tree object.new ≡ slot_with field.entry (At (S.set_tree input)) (struct_object_tree object.old)) }
+    ensures kept { OnOk result (Keeps (names_of field.entry) (struct_object_tree object.old) (struct_object_tree object.new)) }
+    ensures formed { OnOk result (IsWellFormed (S.set_tree input)) }
+    ensures sound { OnOk result (first_fault (S.set_tree input) ≡ None) }
+    ensures refused { OnErr result (struct_object_tree object.new ≡ struct_object_tree object.old) }
+    ensures cause { IfErr result (S.set_refusal input) }
+{
+    let (index, member) = pointer_slot(field);
+    set_at(object, index, input)?;
+    switch_member(object, member);
+    Ok(())
+}
+
+/// Sets a slot. A void slot takes every source. A value that no pointer stands for is stored as by `set_primitive`. A text,
+/// data, a struct and a list are copied into a slot of their kind or an untyped one, whatever the struct's schema or the
+/// list's elements are: the copy is made first, and keeps what the slot's type doesn't know. Then a member becomes active.
+///
+/// Refused, in this order: with `CannotSetAnyPointerFieldToAPrimitiveValue` for an untyped slot and a source of another kind
+/// than these four, and with `TypeMismatch` for another slot and a source of another kind than its own; with `BadPointer`,
+/// `TooDeep` or `CapabilityPointer` where a pointer in the source can't be followed, by the first of these in preorder;
+/// with `SizePastFormat` for a text of more than 2^29 - 2 bytes or data of more than 2^29 - 1; and with `OutOfMemory`. Then
+/// nothing has changed.
+pub fn set(object: &mut StructObject, field: Field<'_>, source: Source<'_>) -> Result<()>
+    requires slot { IsSlot field }
+    requires room { IsRoomFor field (struct_object_tree object.old) }
+    ensures set { OnOk result (IsSet field.entry (source_seen source.entry) (struct_object_tree object.old) (struct_object_tree object.new)) }
+    ensures refused { OnErr result (struct_object_tree object.new ≡ struct_object_tree object.old) }
+    ensures cause { IfErr result (λ e. IsSetRefusal (given_to field.entry (source_seen source.entry)) e.kind) }
+{
+    match source {
+        Source::Primitive(value) => set_primitive(object, field, value),
+        _ => set_pointed(object, field, source),
+    }
+}
+
+/// Sets a slot to what stands behind a pointer.
+fn set_pointed(object: &mut StructObject, field: Field<'_>, source: Source<'_>) -> Result<()>
+    requires slot { IsSlot field }
+    requires room { IsRoomFor field (struct_object_tree object.old) }
+    requires pointed { IsPointed (source_seen source) }
+    ensures set { OnOk result (IsSet field.entry (source_seen source.entry) (struct_object_tree object.old) (struct_object_tree object.new)) }
+    ensures refused { OnErr result (struct_object_tree object.new ≡ struct_object_tree object.old) }
+    ensures cause { IfErr result (λ e. IsSetRefusal (given_to field.entry (source_seen source.entry)) e.kind) }
+{
+    if copies_to(field, source)? {
+        copy_to(object, field, source)
+    } else {
+        set_primitive(object, field, Primitive::Void)
+    }
+}
+
+/// Initializes a slot: a struct's becomes a new struct of its schema's sections, all zero and null, and an untyped one
+/// null. Then a member becomes active. An untyped slot takes no memory.
+///
+/// Refused with `InitIsOnlyValidForStructAndAnyPointerFields` for another slot, and with `OutOfMemory` for a struct; then
+/// nothing has changed.
+pub fn init(object: &mut StructObject, field: Field<'_>) -> Result<()>
+    requires slot { IsSlot field }
+    requires room { IsRoomFor field (struct_object_tree object.old) }
+    ensures written { OnOk result (struct_object_tree object.new ≡ slot_with field.entry (init_content field.entry) (struct_object_tree object.old)) }
+    ensures has { OnOk result (HasInit field.entry) }
+    ensures kept { OnOk result (Keeps (names_of field.entry) (struct_object_tree object.old) (struct_object_tree object.new)) }
+    ensures refused { OnErr result (struct_object_tree object.new ≡ struct_object_tree object.old) }
+    ensures cause { IfErr result (λ e. IsInitRefusal (typed_of field.entry).type e.kind) }
+{
+    match field.get_type().which() {
+        TypeVariant::Struct(raw) => {
+            let set = field.get_containing_struct().get_set();
+            init_struct(object, field, size_of(set.struct_schema(raw.number)))
+        }
+        TypeVariant::AnyPointer => {
+            clear(object, field);
+            Ok(())
+        }
+        _ => Err(Error::from(ErrorKind::InitIsOnlyValidForStructAndAnyPointerFields)),
+    }
+}
+
+/// Makes a pointer's slot a struct of a size, and then its field active.
+fn init_struct(object: &mut StructObject, field: Field<'_>, size: StructSize) -> Result<()>
+    requires slot { IsSlot field }
+    requires pointer { IsPointer field }
+    requires room { IsRoomFor field (struct_object_tree object.old) }
+    ensures written { OnOk result (struct_object_tree object.new ≡ slot_with field.entry (At (struct_tree (zero_struct size))) (struct_object_tree object.old)) }
+    ensures kept { OnOk result (Keeps (names_of field.entry) (struct_object_tree object.old) (struct_object_tree object.new)) }
+    ensures refused { OnErr result (struct_object_tree object.new ≡ struct_object_tree object.old) }
+    ensures cause { IfErr result (λ e. e.kind ≡ OutOfMemory) }
+{
+    let (index, member) = pointer_slot(field);
+    make_struct_at(object, index, size)?;
+    switch_member(object, member);
+    Ok(())
+}
+
+/// Initializes a slot with a size: it becomes a text or data of so many zero bytes, or a list of so many elements, all
+/// zero, false or null, or structs of their schema's sections. Then a member becomes active.
+///
+/// Refused with `InitnIsOnlyValidForListTextOrDataFields` for another slot; with `SizePastFormat` for a text of more than
+/// 2^29 - 2 bytes, data of more than 2^29 - 1, 2^29 elements or more, or structs that take 2^29 words or more; and with
+/// `OutOfMemory`. Then nothing has changed.
+pub fn initn(object: &mut StructObject, field: Field<'_>, count: u32) -> Result<()>
+    requires slot { IsSlot field }
+    requires room { IsRoomFor field (struct_object_tree object.old) }
+    ensures written { OnOk result (struct_object_tree object.new ≡ slot_with field.entry (initn_content field.entry count) (struct_object_tree object.old)) }
+    ensures has { OnOk result (HasInitn field.entry count) }
+    ensures kept { OnOk result (Keeps (names_of field.entry) (struct_object_tree object.old) (struct_object_tree object.new)) }
+    ensures refused { OnErr result (struct_object_tree object.new ≡ struct_object_tree object.old) }
+    ensures cause { IfErr result (λ e. IsInitnRefusal (field_set field.entry) count (typed_of field.entry).type e.kind) }
+{
+    let variant = field.get_type().which();
+    if !is_sized(variant) {
+        return Err(Error::from(ErrorKind::InitnIsOnlyValidForListTextOrDataFields));
+    }
+    let (index, member) = pointer_slot(field);
+    let set = field.get_containing_struct().get_set();
+    make_sized_at(object, index, set, variant, count)?;
+    switch_member(object, member);
+    Ok(())
+}
+
+/// Clears a slot: its bits are zero, which reads as its default, or its pointer is null. A member becomes active. No
+/// memory is taken.
+pub fn clear(object: &mut StructObject, field: Field<'_>)
+    requires slot { IsSlot field }
+    requires room { IsRoomFor field (struct_object_tree object.old) }
+    ensures cleared { struct_object_tree object.new ≡ slot_with field.entry (cleared_content (typed_of field.entry).type) (struct_object_tree object.old) }
+    ensures kept { Keeps (names_of field.entry) (struct_object_tree object.old) (struct_object_tree object.new) }
+{
+    clear_plan(object, slot_plan(field));
+}
