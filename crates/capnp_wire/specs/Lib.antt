@@ -20,6 +20,7 @@ pub mod Filling
 pub mod Depth
 pub mod Edits
 pub mod Elements
+pub mod ElementSizes
 pub mod StructLists
 pub mod Lends
 pub mod Measured

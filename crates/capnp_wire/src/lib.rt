@@ -33,8 +33,12 @@ mod struct_lists;
 mod struct_reader;
 mod total;
 
+pub use capnp_device::device::{Sink, Source};
+pub use capnp_device::error::{Error, ErrorKind};
 pub use capnp_device::{call_plan, device, error, memory, transfer};
 pub use list_reader::ListReader;
 pub use pointer_builder::{ListBuilder, PointerBuilder, StructBuilder};
 pub use pointer_reader::PointerReader;
+pub use primitive::PrimitiveElement;
+pub use size::{ElementSize, MessageSize, StructSize};
 pub use struct_reader::StructReader;

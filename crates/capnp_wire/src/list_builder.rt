@@ -8,12 +8,15 @@ ghost use Rattle.capnp_wire.specs.Reading.{element_bit, element_number, element_
 ghost use Rattle.capnp_wire.specs.Standing.{list_levels, list_of};
 ghost use Rattle.capnp_wire.specs.WellFormed.{IsWellFormed};
 ghost use Rattle.capnp_wire.specs.Elements.{HasBit, HasNumber, HasPointer, HasStruct, built_list, is_composite, reads_list, with_bit_element, with_number_element};
+ghost use Rattle.capnp_wire.specs.ElementSizes.{element_size_of};
 ghost use Rattle.capnp_wire.specs.Unchanged.{ListEndsUnchanged};
 ghost use Rattle.capnp_wire.specs.Lends.{HasObjects, HasStructs, LendsElement, LendsObject, LendsObjects, LendsStructs};
 
 use crate::elements::{bit_at, number_at};
 use crate::list_reader::{ListReader, reads_list_as};
-use crate::look::{ROOT_LEVELS, count_list, look_at_built_list, look_at_list_object};
+use crate::look::{
+    ROOT_LEVELS, count_list, look_at_built_list, look_at_list_object, size_of_elements,
+};
 use crate::object::{ListObject, Object, StructObject};
 use crate::pointer_builder::{ListBuilder, PointerBuilder, StructBuilder};
 use crate::primitive::PrimitiveElement;
@@ -75,6 +78,14 @@ impl ListObject {
             ListObject::Pointers(objects) => objects.is_empty(),
             ListObject::Composite(_, structs) => structs.is_empty(),
         }
+    }
+
+    /// The size of the elements, as the list has it: of one that is not there yet, the size that was asked (encoding,
+    /// "Lists").
+    pub fn get_element_size(&self) -> ElementSize
+        ensures { result ≡ element_size_of (built_list self.now) }
+    {
+        size_of_elements(look_at_built_list(self))
     }
 
     /// The bit at `index`; false where the elements are no bits.

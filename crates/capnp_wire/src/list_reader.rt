@@ -9,6 +9,7 @@ use crate::elements::{bit_at, number_at};
 use crate::fault::Fault;
 use crate::look::{
     Found, Place, count_list, get_element, get_element_parts, get_pointer, look, look_at_nothing,
+    size_of_elements,
 };
 use crate::pointer_reader::PointerReader;
 use crate::primitive::PrimitiveElement;
@@ -81,6 +82,7 @@ pub(crate) fn reads_list_as(asked: ElementSize, list: Found<'_>) -> bool
 }
 
 impl<'a> ListReader<'a> {
+    ghost use Rattle.capnp_wire.specs.ElementSizes.{element_size_of};
     ghost use Rattle.std.specs.Prelude.{Ok, false, ◌≡◌, ◌==◌, ◌+◌, ◌<◌, ◌^◌, IfOk};
     ghost use Rattle.capnp_wire.specs.Reading.{as_list, empty_list, is_fault_leaf, element_bit, element_levels, element_number, element_pointer, element_struct, list_length, with_level};
     ghost use Rattle.capnp_wire.specs.Standing.{levels_of, list_levels, list_of, list_read, struct_levels, struct_read, tree_of};
@@ -144,6 +146,14 @@ impl<'a> ListReader<'a> {
         ensures { result ≡ (list_length (list_of self.now) == 0) }
     {
         self.len() == 0
+    }
+
+    /// The size of the elements, as the list has it: of a null, the size that it was read as (encoding, "Lists").
+    #[tactic(auto, unfolding(crate::specs::Standing::list_of))]
+    pub fn get_element_size(&self) -> ElementSize
+        ensures { result ≡ element_size_of (list_of self.now) }
+    {
+        size_of_elements(self.found)
     }
 
     /// The bit at `index`; false where the elements are no bits.

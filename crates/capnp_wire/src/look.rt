@@ -6,6 +6,7 @@ ghost use Rattle.capnp_wire.specs.Level.{list_at_depth, tree_at_depth};
 ghost use Rattle.capnp_wire.specs.Backing.{StartFits, segment_list, target_of};
 ghost use Rattle.capnp_wire.specs.Objects.{list_object_tree, object_tree, struct_object_tree};
 ghost use Rattle.capnp_wire.specs.Elements.{built_list};
+ghost use Rattle.capnp_wire.specs.ElementSizes.{element_size_of, size_of_width};
 ghost use Rattle.capnp_wire.specs.Reading.{element_struct, empty_list, list_length};
 ghost use Rattle.capnp_wire.specs.WellFormed.{IsWellFormed};
 ghost use Rattle.capnp_wire.specs.Found.{ArePointersBelow, IsBelow, element_structs, found_tree, parts_tree, place_tree, pointer_trees};
@@ -502,6 +503,31 @@ pub fn count_list(found: Found<'_>) -> usize
         Found::Pointers(pointers) => count_pointers(pointers),
         Found::Composite(size, elements) => count_elements(size, elements),
         _ => 0,
+    }
+}
+
+/// The size of a number of so many bytes.
+fn size_of_width(width: u8) -> ElementSize
+    ensures { result ≡ size_of_width width }
+{
+    match width {
+        1 => ElementSize::Byte,
+        2 => ElementSize::TwoBytes,
+        4 => ElementSize::FourBytes,
+        _ => ElementSize::EightBytes,
+    }
+}
+
+/// The size of a list's elements.
+pub fn size_of_elements(found: Found<'_>) -> ElementSize
+    ensures { result ≡ element_size_of (found_tree found.entry) }
+{
+    match found {
+        Found::Bits(_, _) => ElementSize::Bit,
+        Found::Numbers(width, _) => size_of_width(width),
+        Found::Pointers(_) => ElementSize::Pointer,
+        Found::Composite(_, _) => ElementSize::InlineComposite,
+        _ => ElementSize::Void,
     }
 }
 

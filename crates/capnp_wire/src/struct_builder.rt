@@ -1,5 +1,5 @@
 //! Builders of structs.
-ghost use Rattle.std.specs.Prelude.{None, ◌≡◌, ◌≤◌, ◌<◌, ◌+◌, ◌*◌, ◌^◌, bit_xor, length, IfErr, IfOk, IsOk, IsTrue, OnErr, OnOk, ◌↔◌};
+ghost use Rattle.std.specs.Prelude.{None, ◌≡◌, ◌≤◌, ◌<◌, ◌+◌, ◌*◌, ◌/◌, ◌^◌, bit_xor, length, IfErr, IfOk, IsOk, IsTrue, OnErr, OnOk, ◌↔◌};
 ghost use Rattle.std.specs.Borrow.{sem};
 ghost use Rattle.capnp_wire.specs.Tree.{nth_tree, tree_count};
 ghost use Rattle.capnp_wire.specs.Slot.{bit_at, masked_bit, number_at};
@@ -41,6 +41,19 @@ impl StructObject {
         ensures levels { struct_levels result ≡ 64 }
     {
         StructReader::new(look_at_struct_object(self), ROOT_LEVELS)
+    }
+
+    /// How many words its data section has and how many pointers there are (encoding, "Structs").
+    pub fn get_size(&self) -> StructSize
+        requires { IsWellFormedStruct (struct_object_tree self.now) }
+        ensures data { result.data_words ≡ length (struct_object_tree self.now).bytes / 8 }
+        ensures pointers { result.pointers ≡ tree_count (struct_object_tree self.now).pointers }
+    {
+        let reader = self.as_reader();
+        StructSize {
+            data_words: (reader.get_data_section().len() / 8) as u16,
+            pointers: reader.get_pointer_count(),
+        }
     }
 
     /// Whether the struct has at least a size.

@@ -3,7 +3,7 @@ ghost use Rattle.capnp_wire.specs.Found.{parts_tree};
 ghost use Rattle.capnp_wire.specs.WellFormed.{IsWellFormedStruct, IsWellFormedStruct-prop};
 
 use crate::bytes::get_bit;
-use crate::look::{StructParts, empty_parts, get_pointer};
+use crate::look::{StructParts, count_pointers, empty_parts, get_pointer};
 use crate::pointer_reader::PointerReader;
 use crate::primitive::PrimitiveElement;
 use crate::size::MessageSize;
@@ -25,7 +25,7 @@ const _: () = prove!(size_of::<StructReader<'static>>() <= 72);
 
 impl<'a> StructReader<'a> {
     ghost use Rattle.std.specs.Prelude.{◌≡◌, bit_xor, IfErr, IfOk};
-    ghost use Rattle.capnp_wire.specs.Tree.{empty_struct, nth_tree};
+    ghost use Rattle.capnp_wire.specs.Tree.{empty_struct, nth_tree, tree_count};
     ghost use Rattle.capnp_wire.specs.Slot.{bit_at, masked_bit, number_at};
     ghost use Rattle.capnp_wire.specs.Standing.{levels_of, struct_levels, struct_of, tree_of};
     ghost use Rattle.capnp_wire.specs.Total.{IsSize, IsSizeRefusal};
@@ -56,6 +56,23 @@ impl<'a> StructReader<'a> {
         ensures { parts_tree result ≡ struct_of self.now }
     {
         self.parts
+    }
+
+    /// The bytes of the data section: whole words, but in an element of a list of numbers, which has that number's bytes
+    /// alone (encoding, "Structs", "Lists").
+    #[tactic(auto, unfolding(crate::specs::Standing::struct_of))]
+    pub fn get_data_section(&self) -> &'a [u8]
+        ensures { result.now ≡ (struct_of self.now).bytes }
+    {
+        self.parts.data
+    }
+
+    /// How many pointers there are (encoding, "Structs").
+    #[tactic(auto, unfolding(crate::specs::Standing::struct_of))]
+    pub fn get_pointer_count(&self) -> u16
+        ensures { result ≡ tree_count (struct_of self.now).pointers }
+    {
+        count_pointers(self.parts.pointers) as u16
     }
 
     /// The number at `offset`, in units of its own size, as it is stored (encoding, "Structs").
