@@ -5,8 +5,8 @@ use Rattle.capnp_wire.specs.Tree.{Tree, Trees, Structs, StructTree, trees_from, 
 use Rattle.capnp_wire.specs.Place.{tree_below, struct_at, struct_tree, bits_from}
 use Rattle.capnp_wire.specs.Backing.{segments_in}
 use Rattle.capnp_wire.specs.Objects.{object_tree, object_trees, struct_object_trees}
-use Rattle.capnp_wire.specs.declared.run.Block.{Block}
-use Rattle.capnp_wire.specs.declared.run.Run.{Run}
+use Rattle.capnp_wire.specs.declared.row.Block.{Block}
+use Rattle.capnp_wire.specs.declared.row.PointerRow.{PointerRow}
 use Rattle.capnp_wire.specs.declared.look.Place.{Place}
 use Rattle.capnp_wire.specs.declared.look.Place.TheVariants as place
 use Rattle.capnp_wire.specs.declared.look.Pointers.{Pointers}
@@ -24,11 +24,11 @@ place_tree (place.Bad fault) = tree.FaultLeaf fault
 place_tree (place.Word depth is_stream bytes segment index) = tree_below depth (segments_in is_stream bytes.now) segment.now index
 place_tree (place.Object object) = object_tree object.now
 
-abbrev pub run_trees : ℕ → Bool → ℕ → Run → Trees
-run_trees depth is_stream count run = trees_from (tree_below depth (segments_in is_stream run.bytes.now) run.segment.now) run.first count
+abbrev pub row_trees : ℕ → Bool → ℕ → PointerRow → Trees
+row_trees depth is_stream count row = trees_from (tree_below depth (segments_in is_stream row.bytes.now) row.segment.now) row.first count
 
 abbrev pub pointer_trees : Pointers → Trees
-pointer_trees (pointers.Words depth is_stream count run) = run_trees depth is_stream count run
+pointer_trees (pointers.Words depth is_stream count row) = row_trees depth is_stream count row
 pointer_trees (pointers.Objects objects) = object_trees objects.now
 
 abbrev pub block_struct : ℕ → ℕ → ℕ → Bool → Block → ℕ → StructTree
@@ -59,7 +59,7 @@ found_tree (found.Composite size es) = tree.Composite size.data_words size.point
 
 -- these are words, with fewer levels than a depth says
 abbrev pub ArePointersBelow : ℕ → Pointers → Type 0
-ArePointersBelow depth (pointers.Words levels is_stream count run) = levels < depth
+ArePointersBelow depth (pointers.Words levels is_stream count row) = levels < depth
 ArePointersBelow depth (pointers.Objects objects) = ⊥
 
 abbrev pub AreElementsBelow : ℕ → Elements → Type 0

@@ -1,7 +1,7 @@
 //! Looks for the first fault leaf of what stands at a place.
 ghost use Rattle.std.specs.Prelude.{◌≡◌};
 ghost use Rattle.capnp_wire.specs.Backing.{segment_list};
-ghost use Rattle.capnp_wire.specs.Found.{block_structs, place_tree, run_trees};
+ghost use Rattle.capnp_wire.specs.Found.{block_structs, place_tree, row_trees};
 ghost use Rattle.capnp_wire.specs.Place.{tree_below};
 ghost use Rattle.capnp_wire.specs.Standing.{tree_of};
 ghost use Rattle.capnp_wire.specs.Words.{first_fault, first_fault_of_all, first_fault_of_elements};
@@ -9,7 +9,7 @@ ghost use Rattle.capnp_wire.specs.Words.{first_fault, first_fault_of_all, first_
 use crate::fault::Fault;
 use crate::look::{Elements, Found, Place, Pointers, look_at_word};
 use crate::pointer_reader::PointerReader;
-use crate::run::{Block, Run};
+use crate::row::{Block, PointerRow};
 use crate::segments::Segments;
 use crate::size::StructSize;
 
@@ -25,21 +25,21 @@ fn fault_of_word(segments: Segments<'_>, segment: &[u8], index: usize, depth: u8
                 depth,
                 is_stream,
                 count,
-                run,
+                row,
             } = parts.pointers
             else {
                 unreachable!()
             };
-            fault_of_run(depth, is_stream, count, run)
+            fault_of_row(depth, is_stream, count, row)
         }
         Found::Pointers(
             Pointers::Words {
                 depth,
                 is_stream,
                 count,
-                run,
+                row,
             },
-        ) => fault_of_run(depth, is_stream, count, run),
+        ) => fault_of_row(depth, is_stream, count, row),
         Found::Composite(
             size,
             Elements::Words {
@@ -59,16 +59,16 @@ fn fault_of_word(segments: Segments<'_>, segment: &[u8], index: usize, depth: u8
 
 /// The first fault leaf of what pointers in a row lead to.
 #[cycle(faults)]
-fn fault_of_run(depth: u8, is_stream: bool, count: u32, run: Run<'_>) -> Option<Fault>
-    ensures { result ≡ first_fault_of_all (run_trees depth is_stream count run.entry) }
+fn fault_of_row(depth: u8, is_stream: bool, count: u32, row: PointerRow<'_>) -> Option<Fault>
+    ensures { result ≡ first_fault_of_all (row_trees depth is_stream count row.entry) }
 {
     let segments = Segments {
-        bytes: run.bytes,
+        bytes: row.bytes,
         is_stream,
     };
     for i in 0..count {
-        let index = run.first + i as usize;
-        if let Some(fault) = fault_of_word(segments, run.segment, index, depth) {
+        let index = row.first + i as usize;
+        if let Some(fault) = fault_of_word(segments, row.segment, index, depth) {
             return Some(fault);
         }
     }
@@ -87,14 +87,14 @@ fn fault_of_block(
     ensures { result ≡ first_fault_of_elements (block_structs size.data_words size.pointers depth is_stream count block.entry) }
 {
     for i in 0..count {
-        let run = Run {
+        let row = PointerRow {
             bytes: block.bytes,
             segment: block.segment,
             first: block.first
                 + i as usize * (size.data_words as usize + size.pointers as usize)
                 + size.data_words as usize,
         };
-        if let Some(fault) = fault_of_run(depth, is_stream, size.pointers as u32, run) {
+        if let Some(fault) = fault_of_row(depth, is_stream, size.pointers as u32, row) {
             return Some(fault);
         }
     }

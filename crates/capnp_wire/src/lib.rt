@@ -25,7 +25,7 @@ pub mod object;
 mod pointer_builder;
 mod pointer_reader;
 pub mod primitive;
-mod run;
+mod row;
 mod segments;
 pub mod size;
 mod struct_builder;

@@ -15,7 +15,7 @@ use crate::bytes::part;
 use crate::fault::Fault;
 use crate::locate::{Target, locate};
 use crate::object::{ListObject, Object, StructObject};
-use crate::run::{Block, Run};
+use crate::row::{Block, PointerRow};
 use crate::segments::{Segments, get_first_segment};
 use crate::size::{ElementSize, StructSize};
 
@@ -46,7 +46,7 @@ pub enum Pointers<'a> {
         depth: u8,
         is_stream: bool,
         count: u32,
-        run: Run<'a>,
+        row: PointerRow<'a>,
     },
     Objects(&'a [Object]),
 }
@@ -108,7 +108,7 @@ fn look_at_struct<'a>(
     ensures value { parts_tree result ≡ struct_at (tree_below (depth - 1) (segment_list segments.entry) segment.now) segment.now size.data_words size.pointers start }
     ensures below { ArePointersBelow depth result.pointers }
 {
-    let run = Run {
+    let row = PointerRow {
         bytes: segments.bytes,
         segment,
         first: start + size.data_words as usize,
@@ -119,7 +119,7 @@ fn look_at_struct<'a>(
             depth: depth - 1,
             is_stream: segments.is_stream,
             count: size.pointers as u32,
-            run,
+            row,
         },
     }
 }
@@ -152,7 +152,7 @@ fn look_at_list<'a>(
     } else if element_size == 5 {
         Found::Numbers(8, bytes_from(segment, start, 8 * count as usize))
     } else {
-        let run = Run {
+        let row = PointerRow {
             bytes: segments.bytes,
             segment,
             first: start,
@@ -161,7 +161,7 @@ fn look_at_list<'a>(
             depth: depth - 1,
             is_stream: segments.is_stream,
             count,
-            run,
+            row,
         })
     }
 }
@@ -360,7 +360,7 @@ pub fn get_pointer(pointers: Pointers<'_>, index: usize) -> Place<'_>
             depth,
             is_stream,
             count,
-            run,
+            row,
         } => {
             if index >= count as usize {
                 return Place::Null;
@@ -368,9 +368,9 @@ pub fn get_pointer(pointers: Pointers<'_>, index: usize) -> Place<'_>
             Place::Word {
                 depth,
                 is_stream,
-                bytes: run.bytes,
-                segment: run.segment,
-                index: run.first + index,
+                bytes: row.bytes,
+                segment: row.segment,
+                index: row.first + index,
             }
         }
         Pointers::Objects(objects) => match objects.get(index) {
@@ -397,21 +397,21 @@ pub fn get_only_pointer(pointers: Pointers<'_>, index: usize) -> Pointers<'_>
             depth,
             is_stream,
             count,
-            run,
+            row,
         } => {
             if index >= count as usize {
                 return Pointers::Objects(&[]);
             }
-            let only = Run {
-                bytes: run.bytes,
-                segment: run.segment,
-                first: get_capped(run.segment, run.first + index),
+            let only = PointerRow {
+                bytes: row.bytes,
+                segment: row.segment,
+                first: get_capped(row.segment, row.first + index),
             };
             Pointers::Words {
                 depth,
                 is_stream,
                 count: 1,
-                run: only,
+                row: only,
             }
         }
         Pointers::Objects(objects) => {
@@ -449,7 +449,7 @@ pub fn get_element<'a>(size: StructSize, elements: Elements<'a>, index: usize) -
                 return empty_parts();
             }
             let start = block.first + index * (size.data_words as usize + size.pointers as usize);
-            let run = Run {
+            let row = PointerRow {
                 bytes: block.bytes,
                 segment: block.segment,
                 first: start + size.data_words as usize,
@@ -460,7 +460,7 @@ pub fn get_element<'a>(size: StructSize, elements: Elements<'a>, index: usize) -
                     depth,
                     is_stream,
                     count: size.pointers as u32,
-                    run,
+                    row,
                 },
             }
         }

@@ -3,14 +3,14 @@ ghost use Rattle.std.specs.Prelude.{◌≡◌, ◌+◌, ◌*◌, None, IfErr, If
 ghost use Rattle.capnp_wire.specs.Place.{tree_below};
 ghost use Rattle.capnp_wire.specs.Backing.{segment_list};
 ghost use Rattle.capnp_wire.specs.Objects.{object_tree, object_trees, list_object_tree, struct_object_tree, struct_object_trees};
-ghost use Rattle.capnp_wire.specs.Found.{block_structs, parts_tree, place_tree, pointer_trees, run_trees};
+ghost use Rattle.capnp_wire.specs.Found.{block_structs, parts_tree, place_tree, pointer_trees, row_trees};
 ghost use Rattle.capnp_wire.specs.Words.{first_fault, first_fault_of_all, first_fault_of_elements, words_below_all, words_of, words_of_all, words_of_struct};
 ghost use Rattle.capnp_wire.specs.Total.{IsSize, IsSizeRefusal, Totals, TotalsBelow, TotalsOfAll, size_of_total, size_read};
 
 use crate::fault::{Fault, refuse};
 use crate::look::{Elements, Found, Place, Pointers, StructParts, look_at_word};
 use crate::object::{ListObject, Object, StructObject};
-use crate::run::{Block, Run};
+use crate::row::{Block, PointerRow};
 use crate::segments::Segments;
 use crate::size::{MessageSize, StructSize};
 use capnp_device::error::{Error, ErrorKind, Result};
@@ -43,13 +43,13 @@ fn total_word(segments: Segments<'_>, segment: &[u8], index: usize, depth: u8) -
                 depth,
                 is_stream,
                 count,
-                run,
+                row,
             } = parts.pointers
             else {
                 unreachable!()
             };
             let own = parts.data.len().div_ceil(8) as u64 + count as u64;
-            add(own, total_run(depth, is_stream, count, run)?)
+            add(own, total_row(depth, is_stream, count, row)?)
         }
         Found::Voids(_) => Ok(0),
         Found::Bits(_, count) => Ok((count as u64 + 63) / 64),
@@ -59,9 +59,9 @@ fn total_word(segments: Segments<'_>, segment: &[u8], index: usize, depth: u8) -
                 depth,
                 is_stream,
                 count,
-                run,
+                row,
             },
-        ) => add(count as u64, total_run(depth, is_stream, count, run)?),
+        ) => add(count as u64, total_row(depth, is_stream, count, row)?),
         Found::Composite(
             size,
             Elements::Words {
@@ -80,16 +80,16 @@ fn total_word(segments: Segments<'_>, segment: &[u8], index: usize, depth: u8) -
 
 /// The words of what pointers in a row lead to.
 #[cycle(total)]
-fn total_run(depth: u8, is_stream: bool, count: u32, run: Run<'_>) -> Total
-    ensures { TotalsOfAll result (run_trees depth is_stream count run.entry) }
+fn total_row(depth: u8, is_stream: bool, count: u32, row: PointerRow<'_>) -> Total
+    ensures { TotalsOfAll result (row_trees depth is_stream count row.entry) }
 {
     let segments = Segments {
-        bytes: run.bytes,
+        bytes: row.bytes,
         is_stream,
     };
     let mut sum: u64 = 0;
     for i in 0..count {
-        let words = total_word(segments, run.segment, run.first + i as usize, depth)?;
+        let words = total_word(segments, row.segment, row.first + i as usize, depth)?;
         sum = add(sum, words)?;
     }
     Ok(sum)
@@ -102,14 +102,14 @@ fn total_block(size: StructSize, depth: u8, is_stream: bool, count: u32, block: 
 {
     let mut sum: u64 = 0;
     for i in 0..count {
-        let run = Run {
+        let row = PointerRow {
             bytes: block.bytes,
             segment: block.segment,
             first: block.first
                 + i as usize * (size.data_words as usize + size.pointers as usize)
                 + size.data_words as usize,
         };
-        let words = total_run(depth, is_stream, size.pointers as u32, run)?;
+        let words = total_row(depth, is_stream, size.pointers as u32, row)?;
         sum = add(sum, words)?;
     }
     Ok(sum)
@@ -203,8 +203,8 @@ fn total_pointers(pointers: Pointers<'_>) -> Total
             depth,
             is_stream,
             count,
-            run,
-        } => total_run(depth, is_stream, count, run),
+            row,
+        } => total_row(depth, is_stream, count, row),
         Pointers::Objects(objects) => total_objects(objects),
     }
 }

@@ -3,14 +3,14 @@ use Rattle.capnp_wire.proofs.Lists.{nth_struct-start, nth_tree-from, struct_coun
 use Rattle.capnp_wire.proofs.FirstFaults.{element_fault_here, fault_here, no_element_fault, no_fault, one_more, one_more_element}
 use Rattle.capnp_wire.proofs.faults.+faults.Goals as goal
 
-pub fault_of_run-returns-in-Some : goal.fault_of_run-returns-in-Some
-fault_of_run-returns-in-Some t c = fault_here _ _ _ c.loop-i.invariant (rw tree_count-from c.loop-i-test.true) (nth_tree-from _ _ _ _ c.loop-i-test.true) _ c.in-Some.ensures
+pub fault_of_row-returns-in-Some : goal.fault_of_row-returns-in-Some
+fault_of_row-returns-in-Some t c = fault_here _ _ _ c.loop-i.invariant (rw tree_count-from c.loop-i-test.true) (nth_tree-from _ _ _ _ c.loop-i-test.true) _ c.in-Some.ensures
 
-pub fault_of_run-loop-i-preserved : goal.fault_of_run-loop-i-preserved
-fault_of_run-loop-i-preserved t c = one_more _ _ _ c.loop-i.invariant (rw tree_count-from c.loop-i-test.true) (nth_tree-from _ _ _ _ c.loop-i-test.true) _ c.in_default.ensures refl
+pub fault_of_row-loop-i-preserved : goal.fault_of_row-loop-i-preserved
+fault_of_row-loop-i-preserved t c = one_more _ _ _ c.loop-i.invariant (rw tree_count-from c.loop-i-test.true) (nth_tree-from _ _ _ _ c.loop-i-test.true) _ c.in_default.ensures refl
 
-pub fault_of_run-returns : goal.fault_of_run-returns
-fault_of_run-returns t c = no_fault _ _ c.loop-i.invariant (rw tree_count-from c.loop-i-test.false)
+pub fault_of_row-returns : goal.fault_of_row-returns
+fault_of_row-returns t c = no_fault _ _ c.loop-i.invariant (rw tree_count-from c.loop-i-test.false)
 
 pub fault_of_block-returns-in-Some : goal.fault_of_block-returns-in-Some
 fault_of_block-returns-in-Some t c = element_fault_here _ _ _ c.loop-i.invariant (rw struct_count-from c.loop-i-test.true) (nth_struct-start _ _ _ c.loop-i-test.true) _ c.in-Some.ensures

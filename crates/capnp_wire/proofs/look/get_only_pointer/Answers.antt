@@ -10,7 +10,7 @@ returns-then-index-count c = rw c.in-Words.is (sym (only_tree-past _ _ _ _ c.if-
 
 pub returns-else-index-count : goal.returns-else-index-count
 returns-else-index-count c =
-    rw (c.in-Words.is, c.get_capped.ensures.value) (alone_capped c.in-Words.depth (segments_in c.in-Words.is_stream c.in-Words.run'.bytes.now) c.in-Words.run'.segment.now (c.in-Words.run'.first + c.args.index) ∙ sym (only_tree-from _ _ _ _ c.if-index-count.false))
+    rw (c.in-Words.is, c.get_capped.ensures.value) (alone_capped c.in-Words.depth (segments_in c.in-Words.is_stream c.in-Words.row.bytes.now) c.in-Words.row.segment.now (c.in-Words.row.first + c.args.index) ∙ sym (only_tree-from _ _ _ _ c.if-index-count.false))
 
 pub returns-then-index-objects : goal.returns-then-index-objects
 returns-then-index-objects c =

@@ -3,7 +3,7 @@ use Rattle.std.proofs.lemmas.Result.{err_from_is_err_and}
 use Rattle.capnp_wire.specs.Tree.{Bits}
 use Rattle.capnp_wire.specs.Place.{tree_below, bits_from}
 use Rattle.capnp_wire.specs.Backing.{segment_list}
-use Rattle.capnp_wire.specs.Found.{ArePointersBelow, AreElementsBelow, pointer_trees, run_trees}
+use Rattle.capnp_wire.specs.Found.{ArePointersBelow, AreElementsBelow, pointer_trees, row_trees}
 use Rattle.capnp_wire.proofs.Lists.{length-bits_from, tree_count-from, struct_count-from, nth_tree-from, nth_struct-start}
 use Rattle.capnp_wire.proofs.Sums.{none_summed, all_summed, one_stops, one_sum_stops, one_summed, no_elements_summed, all_elements_summed, element_stops, element_sum_stops, element_summed, totals_at}
 use Rattle.capnp_wire.proofs.total.+total.Goals as goal
@@ -29,30 +29,30 @@ total_block-loop-i-preserved t c =
 pub total_block-returns : goal.total_block-returns
 total_block-returns t c = all_elements_summed _ _ _ c.loop-i.invariant (rw struct_count-from c.loop-i-test.false)
 
-pub total_run-loop-i-init : goal.total_run-loop-i-init
-total_run-loop-i-init t c = none_summed _
+pub total_row-loop-i-init : goal.total_row-loop-i-init
+total_row-loop-i-init t c = none_summed _
 
-pub total_run-returns-in_err-words : goal.total_run-returns-in_err-words
-total_run-returns-in_err-words t c =
+pub total_row-returns-in_err-words : goal.total_row-returns-in_err-words
+total_row-returns-in_err-words t c =
     let p = err_from_is_err_and c.from_residual.result c.from_residual.ensures.1 in
     rw (p.1, p.2) (one_stops _ _ _ _ c.loop-i.invariant (rw tree_count-from c.loop-i-test.true) (nth_tree-from _ _ _ _ c.loop-i-test.true) _ c.in_err-words.ensures)
 
-pub total_run-returns-in_err-sum : goal.total_run-returns-in_err-sum
-total_run-returns-in_err-sum t c =
+pub total_row-returns-in_err-sum : goal.total_row-returns-in_err-sum
+total_row-returns-in_err-sum t c =
     let p = err_from_is_err_and c.from_residual-in_err-sum.result c.from_residual-in_err-sum.ensures.1 in
     rw (p.1, p.2) (one_sum_stops _ _ _ _ c.loop-i.invariant (rw tree_count-from c.loop-i-test.true) (nth_tree-from _ _ _ _ c.loop-i-test.true) _ _ c.in_ok-words.ensures.1 c.in_err-sum.ensures)
 
-pub total_run-loop-i-preserved : goal.total_run-loop-i-preserved
-total_run-loop-i-preserved t c =
+pub total_row-loop-i-preserved : goal.total_row-loop-i-preserved
+total_row-loop-i-preserved t c =
     let h = c.in_ok-words.ensures in
     one_summed _ _ _ _ c.loop-i.invariant (rw tree_count-from c.loop-i-test.true) (nth_tree-from _ _ _ _ c.loop-i-test.true) _ _ _ h.0 h.1 c.in_ok-sum.ensures.1 refl
 
-pub total_run-returns : goal.total_run-returns
-total_run-returns t c = all_summed _ _ _ c.loop-i.invariant (rw tree_count-from c.loop-i-test.false)
+pub total_row-returns : goal.total_row-returns
+total_row-returns t c = all_summed _ _ _ c.loop-i.invariant (rw tree_count-from c.loop-i-test.false)
 
-pub total_word-total_run-requires-in-Pointers-Words :
-    goal.total_word-total_run-requires-in-Pointers-Words
-total_word-total_run-requires-in-Pointers-Words t c =
+pub total_word-total_row-requires-in-Pointers-Words :
+    goal.total_word-total_row-requires-in-Pointers-Words
+total_word-total_row-requires-in-Pointers-Words t c =
     let h : ArePointersBelow c.args.depth c.in-Pointers-Words.field-0 = c.in-Pointers-Words.ensures.below in
     let b = rw c.in-Pointers-Words.field-0-is at h in
     search (rules, arith, b)
@@ -68,10 +68,10 @@ total_word-returns-in-Bits t c =
     let e : tree_below c.args.depth (segment_list c.args.segments) c.args.segment.now c.args.index ≡ Bits (bits_from c.in-Bits.field-0.now 0 c.in-Bits.count) = sym c.in-Bits.ensures.value in
     rw (e, length-bits_from) (refl, omega arith)
 
-pub total_word-returns-in_ok-total_run-in-Pointers-Words :
-    goal.total_word-returns-in_ok-total_run-in-Pointers-Words
-total_word-returns-in_ok-total_run-in-Pointers-Words t c =
-    let h = c.in_ok-total_run-in-Pointers-Words.ensures in
+pub total_word-returns-in_ok-total_row-in-Pointers-Words :
+    goal.total_word-returns-in_ok-total_row-in-Pointers-Words
+total_word-returns-in_ok-total_row-in-Pointers-Words t c =
+    let h = c.in_ok-total_row-in-Pointers-Words.ensures in
     rw (← c.in-Pointers-Words.ensures.value, c.in-Pointers-Words.field-0-is) (totals_at _ _ _ _ h.0 (rw tree_count-from (omega (arith, h.1))) c.add-in-Pointers-Words.ensures)
 
 pub total_word-returns-in_ok-total_block-in-Composite-default-Words :
@@ -80,8 +80,8 @@ total_word-returns-in_ok-total_block-in-Composite-default-Words t c =
     let h = c.in_ok-total_block-in-Composite-default-Words.ensures in
     rw (← c.in-Composite-default-Words.ensures.value, c.in-Composite-default-Words.field-1-is) (totals_at _ _ _ _ h.0 (rw struct_count-from (omega (arith, h.1))) c.add-in-Composite-default-Words.ensures)
 
-pub total_word-returns-in_ok-total_run-in-Struct : goal.total_word-returns-in_ok-total_run-in-Struct
-total_word-returns-in_ok-total_run-in-Struct t c =
-    let h = c.in_ok-total_run-in-Struct.ensures in
-    let e : pointer_trees c.in-Struct.parts.pointers ≡ run_trees c.in-Words.depth c.in-Words.is_stream c.in-Words.count c.in-Words.run' = ap pointer_trees c.in-Words.is in
+pub total_word-returns-in_ok-total_row-in-Struct : goal.total_word-returns-in_ok-total_row-in-Struct
+total_word-returns-in_ok-total_row-in-Struct t c =
+    let h = c.in_ok-total_row-in-Struct.ensures in
+    let e : pointer_trees c.in-Struct.parts.pointers ≡ row_trees c.in-Words.depth c.in-Words.is_stream c.in-Words.count c.in-Words.row = ap pointer_trees c.in-Words.is in
     rw (← c.in-Struct.ensures.value, e) (totals_at _ _ _ _ h.0 (rw tree_count-from (omega (arith, h.1))) c.add.ensures)

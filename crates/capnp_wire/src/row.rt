@@ -3,7 +3,7 @@ ghost use Rattle.std.specs.Prelude.{◌+◌, ◌≤◌, ◌^◌};
 
 /// Where pointers stand, one after another: in a segment of the segments in `bytes`, from the word `first` on.
 #[derive(Clone, Copy)]
-pub struct Run<'a> {
+pub struct PointerRow<'a> {
     pub bytes: &'a [u8],
     pub segment: &'a [u8],
     pub first: usize,
