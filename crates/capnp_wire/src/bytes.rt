@@ -2,11 +2,12 @@
 //!
 //! Offsets count bytes, words of eight bytes or bits, as each function says. Numbers stand lowest
 //! byte first (the encoding page, "Primitive Values"). No read refuses.
-ghost use Rattle.std.specs.Prelude.{◌≡◌, ◌≤◌, ◌<◌, ◌^◌, ◌*◌, length, take, drop};
+ghost use Rattle.std.specs.Prelude.{◌≡◌, ◌≤◌, ◌<◌, ◌^◌, ◌*◌, ◌/◌, ◌%◌, length, take, drop};
 ghost use Rattle.capnp_wire.specs.Edits.{with_bit};
 ghost use Rattle.capnp_wire.specs.Slot.{little_endian, word_at, bit_at};
 
 /// The bytes from byte `start` on, none past the end.
+#[inline(always)]
 pub fn rest(bytes: &[u8], start: usize) -> &[u8]
     ensures { result.now ≡ drop start bytes.now }
 {
@@ -18,6 +19,7 @@ pub fn rest(bytes: &[u8], start: usize) -> &[u8]
 }
 
 /// At most `count` bytes from byte `start` on, none past the end.
+#[inline(always)]
 pub fn part(bytes: &[u8], start: usize, count: usize) -> &[u8]
     ensures { result.now ≡ take count (drop start bytes.now) }
 {
@@ -75,7 +77,7 @@ pub fn half_at(bytes: &[u8], start: usize) -> u32
 }
 
 /// Word `w`, the eight bytes from byte `8 * w` on, with zeros past the end.
-#[inline]
+#[inline(always)]
 pub fn get_word(bytes: &[u8], w: usize) -> u64
     requires { w < 2 ^ 61 }
     ensures { result ≡ word_at bytes.now w }
@@ -98,7 +100,7 @@ pub fn get_word(bytes: &[u8], w: usize) -> u64
 }
 
 /// Bit `i`, counted from the lowest of the first byte, and false past the end.
-#[inline]
+#[inline(always)]
 pub fn get_bit(bytes: &[u8], i: usize) -> bool
     ensures { result ≡ bit_at bytes.now i }
 {
@@ -107,6 +109,46 @@ pub fn get_bit(bytes: &[u8], i: usize) -> bool
         bytes[at] >> (i % 8) & 1 == 1
     } else {
         false
+    }
+}
+
+/// How many numbers of `width` bytes there are in `count` bytes.
+///
+/// A division by a width that varies costs more than the rest of a step, so the widths of numbers are told apart.
+#[inline(always)]
+pub fn divide(count: usize, width: u8) -> usize
+    requires { 0 < width }
+    ensures { result ≡ count / width }
+{
+    if width == 1 {
+        count / 1
+    } else if width == 2 {
+        count / 2
+    } else if width == 4 {
+        count / 4
+    } else if width == 8 {
+        count / 8
+    } else {
+        count / width as usize
+    }
+}
+
+/// How many bytes are over then.
+#[inline(always)]
+pub fn remainder(count: usize, width: u8) -> usize
+    requires { 0 < width }
+    ensures { result ≡ count % width }
+{
+    if width == 1 {
+        count % 1
+    } else if width == 2 {
+        count % 2
+    } else if width == 4 {
+        count % 4
+    } else if width == 8 {
+        count % 8
+    } else {
+        count % width as usize
     }
 }
 

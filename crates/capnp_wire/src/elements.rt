@@ -11,6 +11,7 @@ use crate::primitive::PrimitiveElement;
 use capnp_device::error::{Error, ErrorKind, Result};
 
 /// The bit of a list at `index`; false where the elements are no bits.
+#[inline(always)]
 pub(crate) fn bit_at(list: Found<'_>, index: u32) -> bool
     ensures { result ≡ element_bit (found_tree list.entry) index }
 {
@@ -21,6 +22,7 @@ pub(crate) fn bit_at(list: Found<'_>, index: u32) -> bool
 }
 
 /// The number of a list at `index`: of a struct, that at its start.
+#[inline(always)]
 pub(crate) fn number_at<T: PrimitiveElement>(list: Found<'_>, index: u32) -> T
     ensures { result ≡ T.of_number (element_number T.width (found_tree list.entry) index) }
 {
@@ -35,6 +37,7 @@ pub(crate) fn number_at<T: PrimitiveElement>(list: Found<'_>, index: u32) -> T
 }
 
 /// The bytes of what is read as data, none for a null.
+#[inline(always)]
 pub(crate) fn data_of(found: Found<'_>) -> Result<&[u8]>
     ensures { bytes_read result ≡ as_data (found_tree found.entry) }
 {
@@ -54,6 +57,7 @@ pub(crate) fn data_of(found: Found<'_>) -> Result<&[u8]>
 }
 
 /// The bytes of what is read as a text, without the zero that ends it; none for a null.
+#[inline(always)]
 pub(crate) fn text_of(found: Found<'_>) -> Result<&[u8]>
     ensures { bytes_read result ≡ as_text (found_tree found.entry) }
 {

@@ -13,6 +13,7 @@ ghost use Rattle.capnp_device.specs.declared.error.ErrorKind.TheVariants.{OutOfM
 ghost use Rattle.capnp_wire.specs.Encoding.{bits_number, bytes_of, bytes_of_all, list_word, message_of, number_size, packed, padded, pointer_row, pointer_word, spelled, struct_word};
 ghost use Rattle.capnp_wire.specs.Filling.{HasRoom, HaveRoom, put, with_element, with_elements, with_pointers};
 
+use crate::bytes::divide;
 use crate::measure::{get_composite_words, measure};
 use crate::object::{ListObject, Object, StructObject};
 use crate::size::StructSize;
@@ -79,7 +80,7 @@ fn get_list_pointer(gap: u64, object: &ListObject) -> u64
             if *width == 0 {
                 unreachable!()
             }
-            let count = bytes.len() as u64 / *width as u64;
+            let count = divide(bytes.len(), *width) as u64;
             make_list_word(gap, get_number_size(*width), count)
         }
         ListObject::Pointers(pointers) => make_list_word(gap, 6, pointers.len() as u64),

@@ -134,6 +134,7 @@ impl<'a> ListReader<'a> {
 
     /// How many elements there are, below 2^29.
     #[tactic(auto, unfolding(crate::specs::Standing::list_of))]
+    #[inline(always)]
     pub fn len(&self) -> u32
         ensures length { result ≡ list_length (list_of self.now) }
         ensures bound { result < 2 ^ 29 }
@@ -158,6 +159,7 @@ impl<'a> ListReader<'a> {
 
     /// The bit at `index`; false where the elements are no bits.
     #[tactic(auto, unfolding(crate::specs::Standing::list_of))]
+    #[inline(always)]
     pub fn get_bool_element(&self, index: u32) -> bool
         ensures { result ≡ element_bit (list_of self.now) index }
     {
@@ -166,6 +168,7 @@ impl<'a> ListReader<'a> {
 
     /// The number at `index`: of a struct, that at its start.
     #[tactic(auto, unfolding(crate::specs::Standing::list_of))]
+    #[inline(always)]
     pub fn get_data_element<T: PrimitiveElement>(&self, index: u32) -> T
         ensures { result ≡ T.of_number (element_number T.width (list_of self.now) index) }
     {
@@ -177,6 +180,7 @@ impl<'a> ListReader<'a> {
     ///
     /// Refused with `TooDeep` where no level is left.
     #[tactic(auto, unfolding(crate::specs::Standing::list_of, crate::specs::Standing::list_levels))]
+    #[inline(always)]
     pub fn get_struct_element(&self, index: u32) -> Result<StructReader<'a>>
         ensures read { struct_read result ≡ with_level (list_levels self.now) (Ok (element_struct (list_of self.now) index)) }
         ensures levels { IfOk result (λ s. struct_levels s + 1 ≡ list_levels self.now) }

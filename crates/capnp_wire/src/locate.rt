@@ -101,6 +101,7 @@ fn reaches(segment: &[u8], end: usize) -> bool
 
 /// Where the target of a pointer at word `w` starts, none before the segment: the offset is signed and counts from the
 /// word behind the pointer.
+#[inline(always)]
 fn get_start(w: usize, word: u64) -> Option<usize>
     requires { w < 2 ^ 61 }
     ensures { result ≡ start_of w word }
@@ -164,6 +165,7 @@ fn locate_tagged(segment: &[u8], start: usize, words: u32, tag: u64) -> Target<'
 }
 
 /// The words of `count` elements of a size from 0 to 6.
+#[inline(always)]
 fn get_list_words(element_size: u8, count: u32) -> usize
     ensures { result ≡ list_words element_size count }
 {
@@ -183,6 +185,7 @@ fn get_list_words(element_size: u8, count: u32) -> usize
     (count as usize * bits + 63) / 64
 }
 
+#[inline(always)]
 fn locate_list(segment: &[u8], start: usize, word: u64) -> Target<'_>
     requires { start < 2 ^ 61 + 2 ^ 31 }
     ensures value { target_of result ≡ list_target segment.now start word }

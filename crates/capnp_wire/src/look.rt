@@ -11,7 +11,7 @@ ghost use Rattle.capnp_wire.specs.Reading.{element_struct, empty_list, list_leng
 ghost use Rattle.capnp_wire.specs.WellFormed.{IsWellFormed};
 ghost use Rattle.capnp_wire.specs.Found.{ArePointersBelow, IsBelow, element_structs, found_tree, parts_tree, place_tree, pointer_trees};
 
-use crate::bytes::part;
+use crate::bytes::{divide, part};
 use crate::fault::Fault;
 use crate::locate::{Target, locate};
 use crate::object::{ListObject, Object, StructObject};
@@ -87,6 +87,7 @@ pub enum Found<'a> {
 }
 
 /// `count` bytes of a segment from the word `start` on.
+#[inline(always)]
 fn bytes_from(segment: &[u8], start: usize, count: usize) -> &[u8]
     requires { start < 2 ^ 61 }
     ensures { result.now ≡ bytes_at segment.now start count }
@@ -425,6 +426,7 @@ pub fn get_only_pointer(pointers: Pointers<'_>, index: usize) -> Pointers<'_>
 }
 
 /// A struct of size zero.
+#[inline(always)]
 pub fn empty_parts<'a>() -> StructParts<'a>
     ensures { parts_tree result ≡ empty_struct }
 {
@@ -435,6 +437,7 @@ pub fn empty_parts<'a>() -> StructParts<'a>
 }
 
 /// The struct at `index` of a composite list, of size zero past its end.
+#[inline(always)]
 pub fn get_element<'a>(size: StructSize, elements: Elements<'a>, index: usize) -> StructParts<'a>
     ensures { parts_tree result ≡ nth_struct (element_structs size.data_words size.pointers elements.entry) index }
 {
@@ -472,6 +475,7 @@ pub fn get_element<'a>(size: StructSize, elements: Elements<'a>, index: usize) -
 }
 
 /// How many pointers there are.
+#[inline(always)]
 pub fn count_pointers(pointers: Pointers<'_>) -> usize
     ensures { result ≡ tree_count (pointer_trees pointers.entry) }
 {
@@ -482,6 +486,7 @@ pub fn count_pointers(pointers: Pointers<'_>) -> usize
 }
 
 /// How many elements there are.
+#[inline(always)]
 pub fn count_elements(size: StructSize, elements: Elements<'_>) -> usize
     ensures { result ≡ struct_count (element_structs size.data_words size.pointers elements.entry) }
 {
@@ -492,6 +497,7 @@ pub fn count_elements(size: StructSize, elements: Elements<'_>) -> usize
 }
 
 /// How many elements a list has; what is no list has none.
+#[inline(always)]
 pub fn count_list(found: Found<'_>) -> usize
     requires { IsWellFormed (found_tree found) }
     ensures { result ≡ list_length (found_tree found.entry) }
@@ -499,7 +505,7 @@ pub fn count_list(found: Found<'_>) -> usize
     match found {
         Found::Voids(count) => count as usize,
         Found::Bits(_, count) => count as usize,
-        Found::Numbers(width, bytes) => bytes.len() / width as usize,
+        Found::Numbers(width, bytes) => divide(bytes.len(), width),
         Found::Pointers(pointers) => count_pointers(pointers),
         Found::Composite(size, elements) => count_elements(size, elements),
         _ => 0,
@@ -532,6 +538,7 @@ pub fn size_of_elements(found: Found<'_>) -> ElementSize
 }
 
 /// What an element of a list holds as a struct.
+#[inline(always)]
 pub fn get_element_parts(found: Found<'_>, index: u32) -> StructParts<'_>
     ensures { parts_tree result ≡ element_struct (found_tree found.entry) index }
 {

@@ -7,6 +7,7 @@ ghost use Rattle.capnp_wire.specs.Words.{byte_words, words_below_all, words_of, 
 ghost use Rattle.capnp_wire.specs.WellFormed.{AreBytes, AreElements, AreWellFormed, IsWellFormed};
 ghost use Rattle.capnp_wire.specs.Measured.{IsData, IsElement, Measured};
 
+use crate::bytes::{divide, remainder};
 use crate::object::{ListObject, Object, StructObject};
 use crate::size::StructSize;
 
@@ -44,15 +45,14 @@ fn measure_data(bytes: &[u8]) -> Option<u64>
 fn measure_numbers(width: u8, bytes: &[u8]) -> Option<u64>
     ensures { Measured result (IsWellFormed (Numbers width bytes.now)) (byte_words (length bytes.now)) }
 {
-    let width = width as usize;
     if width != 1 && width != 2 && width != 4 && width != 8 {
         return None;
     }
     let count = count_bytes(bytes);
-    if count % width != 0 {
+    if remainder(count, width) != 0 {
         return None;
     }
-    if count / width >= 1 << 29 {
+    if divide(count, width) >= 1 << 29 {
         return None;
     }
     add((count as u64).div_ceil(8), 0)

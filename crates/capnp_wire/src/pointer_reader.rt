@@ -133,6 +133,7 @@ impl<'a> PointerReader<'a> {
     /// Refused with `BadPointer`, `TooDeep` or `CapabilityPointer` where the pointer can't be followed, with
     /// `WrongPointerKind` for a struct, and with `WrongElementSize` for another list (encoding, "Blobs").
     #[tactic(auto, unfolding(crate::specs::Standing::tree_of))]
+    #[inline(always)]
     pub fn get_data(&self) -> Result<&'a [u8]>
         ensures { bytes_read result ≡ as_data (tree_of self.now) }
     {
@@ -145,6 +146,7 @@ impl<'a> PointerReader<'a> {
     /// Refused as `get_data`, and with `TextNotTerminated` where the list is empty or its last byte is not zero
     /// (encoding, "Blobs").
     #[tactic(auto, unfolding(crate::specs::Standing::tree_of))]
+    #[inline(always)]
     pub fn get_text(&self) -> Result<&'a [u8]>
         ensures { bytes_read result ≡ as_text (tree_of self.now) }
     {

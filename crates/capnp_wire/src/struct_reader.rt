@@ -77,6 +77,7 @@ impl<'a> StructReader<'a> {
 
     /// The number at `offset`, in units of its own size, as it is stored (encoding, "Structs").
     #[tactic(auto, unfolding(crate::specs::Standing::struct_of))]
+    #[inline(always)]
     pub fn get_data_field<T: PrimitiveElement>(&self, offset: u32) -> T
         ensures { result ≡ T.of_number (number_at T.width offset (struct_of self.now).bytes) }
     {
@@ -94,6 +95,7 @@ impl<'a> StructReader<'a> {
 
     /// The bit at `offset`, as it is stored.
     #[tactic(auto, unfolding(crate::specs::Standing::struct_of))]
+    #[inline(always)]
     pub fn get_bool_field(&self, offset: u32) -> bool
         ensures { result ≡ bit_at (struct_of self.now).bytes offset }
     {
