@@ -6,12 +6,12 @@ use Rattle.capnp_schema.specs.Schema.{Schemas, Node, TypedField, node_of, fields
 use Rattle.capnp_schema.specs.declared.record.ValueRecord.{ValueRecord}
 use Rattle.capnp_schema.specs.declared.record.FieldKind.TheVariants as kind
 use Rattle.capnp_schema.specs.declared.lists.TypedField.{TypedField as TypedRecord}
-use Rattle.capnp_schema.specs.Types.{seen_type}
+use Rattle.capnp_schema.specs.Types.{seen_type, struct_brand}
 use Rattle.capnp_schema.specs.Entries.{brand_node, seen_typed}
-use Rattle.capnp_schema.specs.Footprint.{Place, DataBit, PointerAt, is_in, slot_names, kind_names, some_field, brand_names, discriminant_names}
+use Rattle.capnp_schema.specs.Footprint.{Place, DataBit, PointerAt, is_in, slot_names, group_names, kind_names, some_field, brand_names, discriminant_names}
 use Rattle.capnp_schema.specs.declared.check.spans.Span.{Span}
 use Rattle.capnp_schema.specs.declared.check.spans.Span.TheVariants.{Data, Pointer}
-use Rattle.capnp_schema.specs.Spans.{span_names, some_span, field_names, entry_names}
+use Rattle.capnp_schema.specs.Spans.{span_names, some_span, field_names, entry_names, some_brand, reached}
 use Rattle.capnp_schema.proofs.FieldWalk.{found_node}
 use Rattle.capnp_schema.proofs.GroupTargets.{node_missing}
 
@@ -85,13 +85,35 @@ pub or_assoc : (x y z : Bool) → ((x || y) || z) ≡ (x || (y || z))
 or_assoc true y z = refl
 or_assoc false y z = refl
 
+-- what was named, what a part adds, and what is left, in another order
+or_swap : (before part rest : Bool) → ((before || part) || rest) ≡ ((before || rest) || part)
+or_swap true part rest = refl
+or_swap false true true = refl
+or_swap false true false = refl
+or_swap false false true = refl
+or_swap false false false = refl
+
+or_none : (x : Bool) → (x || false) ≡ x
+or_none true = refl
+or_none false = refl
+
+-- one more span
+span_reached : (groups : ℕ) (set : Schemas) (out : List Span) (below : List ℕ) (s : Span) (p : Place) → reached groups set (out ++ s ∷ []) below p ≡ (reached groups set out below p || span_names s p)
+span_reached groups set out below s p =
+    ap (λ x. x || some_brand groups set below p) (some_span-append out s p) ∙ or_swap (some_span out p) (span_names s p) (some_brand groups set below p)
+
+some_brand-append : (groups : ℕ) (set : Schemas) (bs : List ℕ) (b : ℕ) (p : Place) → some_brand groups set (bs ++ b ∷ []) p ≡ (some_brand groups set bs p || brand_names groups set b p)
+some_brand-append groups set [] b p = or_none (brand_names groups set b p)
+some_brand-append groups set (x ∷ xs) b p =
+    ap (λ y. brand_names groups set x p || y) (some_brand-append groups set xs b p) ∙ sym (or_assoc (brand_names groups set x p) (some_brand groups set xs p) (brand_names groups set b p))
+
 -- one field of the loop
-pub field_added : (groups : ℕ) (set : Schemas) (fs : List TypedField) (p : Place) (out more : List Span) (i : ℕ) (whole : Bool)
-    → some_span more p ≡ (some_span out p || entry_names groups set (slice_get fs i) p)
-    → (some_span out p || some_field (field_names groups set) (drop i fs) p) ≡ whole
-    → (some_span more p || some_field (field_names groups set) (drop (i + 1) fs) p) ≡ whole
-field_added groups set fs p out more i whole one kept =
-    rw (one, or_assoc, add-one) (ap (λ b. some_span out p || b) (sym (parts fs i)) ∙ kept)
+pub field_added : (groups : ℕ) (set : Schemas) (fs : List TypedField) (p : Place) (before after : Bool) (i : ℕ) (whole : Bool)
+    → after ≡ (before || entry_names groups set (slice_get fs i) p)
+    → (before || some_field (field_names groups set) (drop i fs) p) ≡ whole
+    → (after || some_field (field_names groups set) (drop (i + 1) fs) p) ≡ whole
+field_added groups set fs p before after i whole one kept =
+    rw (one, or_assoc, add-one) (ap (λ b. before || b) (sym (parts fs i)) ∙ kept)
   where
     parts : (fs : List TypedField) (i : ℕ) → some_field (field_names groups set) (drop i fs) p ≡ (entry_names groups set (slice_get fs i) p || some_field (field_names groups set) (drop (suc i) fs) p)
     parts [] zero = refl
@@ -100,41 +122,50 @@ field_added groups set fs p out more i whole one kept =
     parts (f ∷ fs) (suc i) = parts fs i
 
 -- a struct's fields and its discriminant
-pub brand_added : (set : Schemas) (groups b : ℕ) (p : Place) (before out : List Span) (n : Node) (s : Span) → 0 < groups
+pub brand_added : (set : Schemas) (groups b : ℕ) (p : Place) (before : Bool) (out : List Span) (below : List ℕ) (n : Node) (s : Span)
     → Some n ≡ brand_node set b
-    → some_span out p ≡ (some_span before p || some_field (field_names (groups - 1) set) (fields_of set b) p)
+    → reached groups set out below p ≡ (before || some_field (field_names groups set) (fields_of set b) p)
     → span_names s p ≡ discriminant_names n p
-    → some_span (out ++ s ∷ []) p ≡ (some_span before p || brand_names groups set b p)
-brand_added set zero b p before out n s some there fields names = absurd (omega arith)
-brand_added set (suc groups) b p before out n s some there fields names =
-    some_span-append out s p ∙ ap (λ x. some_span out p || x) (names ∙ ap (λ m. discriminant_names m p) (sym (found_node set b n there)))
-    ∙ ap (λ x. x || discriminant_names (node_of set b) p) (fields ∙ ap (λ g. some_span before p || some_field (field_names g set) (fields_of set b) p) less)
-    ∙ or_assoc (some_span before p) (some_field (field_names groups set) (fields_of set b) p) (discriminant_names (node_of set b) p)
-  where
-    less : suc groups - 1 ≡ groups
-    less = omega arith
+    → reached groups set (out ++ s ∷ []) below p ≡ (before || brand_names (suc groups) set b p)
+brand_added set groups b p before out below n s there fields names =
+    span_reached groups set out below s p
+    ∙ ap (λ x. reached groups set out below p || x) (names ∙ ap (λ m. discriminant_names m p) (sym (found_node set b n there)))
+    ∙ ap (λ x. x || discriminant_names (node_of set b) p) fields
+    ∙ or_assoc before (some_field (field_names groups set) (fields_of set b) p) (discriminant_names (node_of set b) p)
 
 -- a struct whose node isn't there has no discriminant
-pub fields_alone : (set : Schemas) (groups b : ℕ) (p : Place) (before out : List Span) → 0 < groups
+pub fields_alone : (set : Schemas) (groups b : ℕ) (p : Place) (before after : Bool)
     → None ≡ brand_node set b
-    → some_span out p ≡ (some_span before p || some_field (field_names (groups - 1) set) (fields_of set b) p)
-    → some_span out p ≡ (some_span before p || brand_names groups set b p)
-fields_alone set zero b p before out some missing fields = absurd (omega arith)
-fields_alone set (suc groups) b p before out some missing fields =
-    fields ∙ ap (λ g. some_span before p || some_field (field_names g set) (fields_of set b) p) less
-    ∙ ap (λ x. some_span before p || x) (or_false (some_field (field_names groups set) (fields_of set b) p) (discriminant_names (node_of set b) p) (none p))
+    → after ≡ (before || some_field (field_names groups set) (fields_of set b) p)
+    → after ≡ (before || brand_names (suc groups) set b p)
+fields_alone set groups b p before after missing fields =
+    fields ∙ ap (λ x. before || x) (or_false (some_field (field_names groups set) (fields_of set b) p) (discriminant_names (node_of set b) p) (none p))
   where
-    less : suc groups - 1 ≡ groups
-    less = omega arith
-
     none : (p : Place) → discriminant_names (node_of set b) p ≡ false
     none (DataBit i) = rw (node_missing set b missing) refl
     none (PointerAt i) = refl
 
 -- one more slot
-pub slot_added : (groups : ℕ) (set : Schemas) (entry : Option TypedField) (f : TypedRecord) (offset : ℕ) (default : ValueRecord) (out : List Span) (s : Span) (p : Place)
+pub slot_added : (groups : ℕ) (set : Schemas) (entry : Option TypedField) (f : TypedRecord) (offset : ℕ) (default : ValueRecord) (out : List Span) (below : List ℕ) (s : Span) (p : Place)
     → Some (seen_typed f) ≡ entry → f.field.now.kind ≡ kind.Slot offset default → span_names s p ≡ slot_names offset (seen_type f.field_type.now) p
-    → some_span (out ++ s ∷ []) p ≡ (some_span out p || entry_names groups set entry p)
-slot_added groups set entry f offset default out s p there is names =
-    some_span-append out s p
-    ∙ ap (λ x. some_span out p || x) (names ∙ ap (λ k. kind_names (brand_names groups set) (seen_kind k) (seen_type f.field_type.now) p) (sym is) ∙ ap (λ e. entry_names groups set e p) there)
+    → reached groups set (out ++ s ∷ []) below p ≡ (reached groups set out below p || entry_names groups set entry p)
+slot_added groups set entry f offset default out below s p there is names =
+    span_reached groups set out below s p
+    ∙ ap (λ x. reached groups set out below p || x) (names ∙ ap (λ k. kind_names (brand_names groups set) (seen_kind k) (seen_type f.field_type.now) p) (sym is) ∙ ap (λ e. entry_names groups set e p) there)
+
+-- one more group
+pub group_added : (groups : ℕ) (set : Schemas) (entry : Option TypedField) (f : TypedRecord) (node g : ℕ) (out : List Span) (below : List ℕ) (p : Place)
+    → Some (seen_typed f) ≡ entry → f.field.now.kind ≡ kind.Group node → Some g ≡ struct_brand (seen_type f.field_type.now)
+    → reached groups set out (below ++ g ∷ []) p ≡ (reached groups set out below p || entry_names groups set entry p)
+group_added groups set entry f node g out below p there is target =
+    ap (λ x. some_span out p || x) (some_brand-append groups set below g p)
+    ∙ sym (or_assoc (some_span out p) (some_brand groups set below p) (brand_names groups set g p))
+    ∙ ap (λ x. reached groups set out below p || x) (ap (λ t. group_names (brand_names groups set) t p) target ∙ ap (λ k. kind_names (brand_names groups set) (seen_kind k) (seen_type f.field_type.now) p) (sym is) ∙ ap (λ e. entry_names groups set e p) there)
+
+-- nothing is reached below the last depth
+pub reached_all : (set : Schemas) (out : List Span) (brands : List ℕ) (p : Place) → reached 0 set out brands p ≡ some_span out p
+reached_all set out brands p = ap (λ x. some_span out p || x) (none brands) ∙ or_none (some_span out p)
+  where
+    none : (bs : List ℕ) → some_brand 0 set bs p ≡ false
+    none [] = refl
+    none (b ∷ bs) = none bs

@@ -32,6 +32,15 @@ abbrev pub entry_names : ℕ → Schemas → Option TypedField → Place → Boo
 entry_names groups set None p = false
 entry_names groups set (Some f) p = field_names groups set f p
 
+-- whether one of the brands names the place, each through at most so many groups
+abbrev pub some_brand : ℕ → Schemas → List ℕ → Place → Bool
+some_brand groups set [] p = false
+some_brand groups set (b ∷ bs) p = brand_names groups set b p || some_brand groups set bs p
+
+-- what spans name, and brands whose own spans are still to be added
+abbrev pub reached : ℕ → Schemas → List Span → List ℕ → Place → Bool
+reached groups set spans brands p = some_span spans p || some_brand groups set brands p
+
 pub record SpansMeet (a b : List Span) : Type 0 where
   pub place : Place
   pub first : some_span a place ≡ true

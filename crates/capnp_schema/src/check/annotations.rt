@@ -1,4 +1,4 @@
-//! The types of annotations name existing entries.
+//! Rule 1 of the types of annotations: they name existing entries.
 ghost use Rattle.std.specs.Prelude.{◌≡◌, ◌≤◌, length, map, slice_get, All, MatchOption, MatchResult};
 ghost use Rattle.std.specs.Bool.{Decides};
 ghost use Rattle.std.specs.Option.{option_copied, option_map};

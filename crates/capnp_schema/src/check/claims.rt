@@ -1,4 +1,4 @@
-//! Marks of the places that a tour of a struct's fields has named, and the times that are closed to what comes.
+//! For rules 11 and 12: marks of the places that a tour of a struct's fields has named, and the times that are closed to what comes.
 ghost use Rattle.std.specs.Prelude.{true, false, ◌≡◌, ◌++◌, ◌∷◌, [], ℕ, ◌≤◌, ◌+◌, ◌^◌, length, get_or, IfOk, OnOk, IfErr};
 ghost use Rattle.capnp_device.specs.declared.error.ErrorKind.TheVariants.{OutOfMemory};
 ghost use Rattle.capnp_schema.specs.Levels.{AreOpen, AreInOrder, AreClaimed, IsClaimed};

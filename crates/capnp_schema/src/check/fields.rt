@@ -1,5 +1,5 @@
-//! The rules that one field can break: its type names an existing entry, its slot lies inside its
-//! section, its default is of its type's kind, and groups are named by group fields alone.
+//! Rules 1, 4, 5 and 7 of fields: a field's type names an existing entry, its slot lies inside its section, its default is
+//! of its type's kind, and groups are named by group fields alone.
 ghost use Rattle.std.specs.Prelude.{ℕ, ◌≡◌, ◌<◌, length, MatchResult};
 ghost use Rattle.capnp_schema.specs.Types.{seen_type};
 ghost use Rattle.capnp_schema.specs.Schema.{seen_node, seen_kind, seen_value, node_of, fields_of, field_at};

@@ -1,4 +1,4 @@
-//! Footprints: a plain field's meets that of no other field of its struct, and the discriminant meets none.
+//! Rules 11 and 12: a plain field's footprint meets that of no other field of its struct, and the discriminant meets none.
 ghost use Rattle.std.specs.Prelude.{true, false, ◌≡◌, ◌<◌, ◌≤◌, ◌↔◌, ℕ, IsTrue, IsFalse, length, MatchOption, MatchResult, IfSome, IfErr};
 ghost use Rattle.capnp_schema.specs.Schema.{fields_of, field_at, is_member};
 ghost use Rattle.capnp_schema.specs.Entries.{lists_seen};
@@ -126,8 +126,9 @@ fn find_meeting(alloc: Global, lists: &Lists) -> Result<()>
 }
 
 /// Decides rules 11 and 12: a plain field's footprint meets that of no other field of its struct, and no field's meets
-/// the discriminant of its struct. One tour through each struct and its groups accepts, or finds where fields meet; where
-/// it can say neither, all are compared. It is refused where memory is short, or at a field for which one of the rules is broken.
+/// the discriminant of its struct. One tour through each struct and its groups accepts, or finds where fields meet. It says
+/// neither where there are more fields than 32 bits count; then all are compared. It is refused where memory is short, or at
+/// a field for which one of the rules is broken.
 pub(crate) fn check_footprints(alloc: Global, lists: &Lists) -> Result<()>
     requires { Rule3 (lists_seen lists.now) }
     ensures { MatchResult result (λ _. Rule11 (lists_seen lists.now) × Rule12 (lists_seen lists.now)) (IsRefusalOf (lists_seen lists.now)) }

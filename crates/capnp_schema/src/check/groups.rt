@@ -1,4 +1,4 @@
-//! Groups: the field that each one stands under, and the struct that it stands in.
+//! Rule 8: each group stands under one field, has its parent's section sizes, and stands in a struct.
 ghost use Rattle.std.specs.Prelude.{true, false, ◌≡◌, ℕ, ◌<◌, ◌↔◌, IsTrue, IfOk, IfErr, length, get_or, slice_get, MatchResult};
 ghost use Rattle.capnp_device.specs.declared.error.ErrorKind.TheVariants.{OutOfMemory};
 ghost use Rattle.capnp_schema.specs.Schema.{node_of};

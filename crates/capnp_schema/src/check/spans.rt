@@ -1,11 +1,11 @@
-//! The data bits and pointers that fields name, as spans.
-ghost use Rattle.std.specs.Prelude.{true, false, ◌≡◌, ◌<◌, ◌≤◌, ◌||◌, length, slice_get, OnOk, IfOk, IfErr};
+//! Footprints for rules 11 and 12: the data bits and pointers that fields name, as spans.
+ghost use Rattle.std.specs.Prelude.{true, false, ◌≡◌, ◌<◌, ◌≤◌, ◌||◌, ℕ, suc, length, slice_get, OnOk, IfOk, IfErr};
 ghost use Rattle.capnp_device.specs.declared.error.ErrorKind.TheVariants.{OutOfMemory};
 ghost use Rattle.capnp_schema.specs.Types.{seen_type};
 ghost use Rattle.capnp_schema.specs.Schema.{seen_node, fields_of};
 ghost use Rattle.capnp_schema.specs.Footprint.{Place, slot_names, discriminant_names, some_field, brand_names};
 ghost use Rattle.capnp_schema.specs.Entries.{lists_seen};
-ghost use Rattle.capnp_schema.specs.Spans.{span_names, some_span, field_names, entry_names, SpansMeet, AreSpansOf, seen_spot};
+ghost use Rattle.capnp_schema.specs.Spans.{span_names, some_span, field_names, entry_names, SpansMeet, AreSpansOf, reached, seen_spot};
 
 use crate::check::groups::brand_count;
 use crate::layers::{is_pointer, struct_brand, width};
@@ -125,45 +125,45 @@ pub(crate) fn spans_meet(a: &[Span], b: &[Span]) -> bool
     false
 }
 
-/// Adds what a struct's fields and discriminant name, through at most so many groups.
-#[cycle(spans)]
-fn add_brand(lists: &Lists, brand: usize, groups: usize, out: &mut Vec<Span>) -> Result<()>
-    ensures added { OnOk result ((p : Place) → some_span out.new.items p ≡ (some_span out.old.items p || brand_names groups (lists_seen lists.now) brand p)) }
+/// Adds what a brand's discriminant and slots name, and to `below` the brands that its group fields name.
+fn add_brand(lists: &Lists, brand: usize, below: &mut Vec<usize>, out: &mut Vec<Span>) -> Result<()>
+    ensures added { OnOk result ((groups : ℕ) (p : Place) → reached groups (lists_seen lists.now) out.new.items below.new.items p ≡ (reached groups (lists_seen lists.now) out.old.items below.old.items p || brand_names (suc groups) (lists_seen lists.now) brand p)) }
     ensures refused { IfErr result (λ e. e.kind ≡ OutOfMemory) }
 {
-    if groups == 0 {
-        return Ok(());
-    }
-    add_fields(lists, brand, groups - 1, out)?;
+    add_fields(lists, brand, below, out)?;
     if let Some(node) = lists.node_of(brand) {
         out.push(discriminant_span(node))?;
     }
     Ok(())
 }
 
-/// Adds what the fields of a brand name.
-#[cycle(spans)]
-fn add_fields(lists: &Lists, brand: usize, groups: usize, out: &mut Vec<Span>) -> Result<()>
-    ensures added { OnOk result ((p : Place) → some_span out.new.items p ≡ (some_span out.old.items p || some_field (field_names groups (lists_seen lists.now)) (fields_of (lists_seen lists.now) brand) p)) }
+/// Adds what the slots of a brand name, and to `below` the brands that its group fields name.
+fn add_fields(
+    lists: &Lists,
+    brand: usize,
+    below: &mut Vec<usize>,
+    out: &mut Vec<Span>,
+) -> Result<()>
+    ensures added { OnOk result ((groups : ℕ) (p : Place) → reached groups (lists_seen lists.now) out.new.items below.new.items p ≡ (reached groups (lists_seen lists.now) out.old.items below.old.items p || some_field (field_names groups (lists_seen lists.now)) (fields_of (lists_seen lists.now) brand) p)) }
     ensures refused { IfErr result (λ e. e.kind ≡ OutOfMemory) }
 {
     for i in 0..lists.field_count(brand) {
-        add_field(lists, brand, i, groups, out)?;
+        add_field(lists, brand, i, below, out)?;
     }
     Ok(())
 }
 
-/// Adds what a field names; nothing for a field that isn't there, or a group field of a type that is no struct type.
+/// Adds what a slot names, or to `below` the brand that a group field names; nothing for a field that isn't there, or a
+/// group field of a type that is no struct type.
 #[tactic(auto, using(crate::specs::Facts::Layers::seen_which))]
-#[cycle(spans)]
 fn add_field(
     lists: &Lists,
     brand: usize,
     field: usize,
-    groups: usize,
+    below: &mut Vec<usize>,
     out: &mut Vec<Span>,
 ) -> Result<()>
-    ensures added { OnOk result ((p : Place) → some_span out.new.items p ≡ (some_span out.old.items p || entry_names groups (lists_seen lists.now) (slice_get (fields_of (lists_seen lists.now) brand) field) p)) }
+    ensures added { OnOk result ((groups : ℕ) (p : Place) → reached groups (lists_seen lists.now) out.new.items below.new.items p ≡ (reached groups (lists_seen lists.now) out.old.items below.old.items p || entry_names groups (lists_seen lists.now) (slice_get (fields_of (lists_seen lists.now) brand) field) p)) }
     ensures refused { IfErr result (λ e. e.kind ≡ OutOfMemory) }
 {
     let Some(typed) = lists.field_at(brand, field) else {
@@ -175,19 +175,47 @@ fn add_field(
             Ok(())
         }
         FieldKind::Group { .. } => match struct_brand(typed.field_type.which()) {
-            Some(group) => add_brand(lists, group as usize, groups, out),
+            Some(group) => {
+                below.push(group as usize)?;
+                Ok(())
+            }
             None => Ok(()),
         },
     }
 }
 
-/// What a field of a brand names, through its groups.
+/// Adds what the discriminants and slots of brands name; answers the brands that their group fields name.
+fn add_brands(
+    alloc: Global,
+    lists: &Lists,
+    brands: &[usize],
+    out: &mut Vec<Span>,
+) -> Result<Vec<usize>>
+    ensures added { IfOk result (λ below. (groups : ℕ) (p : Place) → reached groups (lists_seen lists.now) out.new.items below.items p ≡ reached (suc groups) (lists_seen lists.now) out.old.items brands.now p) }
+    ensures refused { IfErr result (λ e. e.kind ≡ OutOfMemory) }
+{
+    let mut below = Vec::new(alloc);
+    for i in 0..brands.len() {
+        add_brand(lists, brands[i], &mut below, out)?;
+    }
+    Ok(below)
+}
+
+/// What a field of a brand names, through its groups: these are gone through one depth after another.
 fn field_spans(alloc: Global, lists: &Lists, brand: usize, field: usize) -> Result<Vec<Span>>
     ensures spans { IfOk result (λ spans. (p : Place) → some_span spans.items p ≡ entry_names (length (lists_seen lists.now).brands) (lists_seen lists.now) (slice_get (fields_of (lists_seen lists.now) brand) field) p) }
     ensures refused { IfErr result (λ e. e.kind ≡ OutOfMemory) }
 {
     let mut spans = Vec::new(alloc);
-    add_field(lists, brand, field, brand_count(lists), &mut spans)?;
+    let mut brands = Vec::new(alloc);
+    add_field(lists, brand, field, &mut brands, &mut spans)?;
+    for depth in 0..brand_count(lists) {
+        if brands.is_empty() {
+            return Ok(spans);
+        }
+        let below = add_brands(alloc, lists, &brands, &mut spans)?;
+        brands = below;
+    }
     Ok(spans)
 }
 

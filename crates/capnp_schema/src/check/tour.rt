@@ -93,11 +93,9 @@ fn enter(lists: &Lists, tour: &mut Tour, top: Level, group: usize) -> Result<Ste
         return Ok(Step::Met(None));
     }
     let now = tour.now;
-    if !tour
-        .claims
-        .claim(discriminant_span(node), now, &tour.below, top)?
-    {
-        return Ok(Step::Met(None));
+    let span = discriminant_span(node);
+    if !tour.claims.claim(span, now, &tour.below, top)? {
+        return Ok(Step::Met(tour.claims.find_meeting(span, &tour.below, top)));
     }
     tour.below.push(top)?;
     tour.now = now + 1;

@@ -1,4 +1,4 @@
-//! Each brand names a node; brands and enums have one type for each field and each annotation.
+//! Rule 2: each brand names a node; brands and enums have one type for each field and each annotation.
 ghost use Rattle.std.specs.Prelude.{ℕ, ◌≡◌, ◌<◌, length, get_or, slice_get, All, MatchResult};
 ghost use Rattle.std.specs.Bool.{Decides};
 ghost use Rattle.std.specs.Option.{option_copied};

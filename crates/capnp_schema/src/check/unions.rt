@@ -1,5 +1,5 @@
-//! The rules of a struct's unnamed union: its members' discriminant values are all below the count,
-//! each once, and its discriminant lies inside the data section.
+//! Rules 9 and 10, of a struct's unnamed union: its members' discriminant values are all below the count, each once, and
+//! its discriminant lies inside the data section.
 ghost use Rattle.std.specs.Prelude.{ℕ, true, false, ◌≡◌, ◌≤◌, ◌<◌, length, map, get_or, replicate, slice_set, IfOk, MatchResult};
 ghost use Rattle.std.specs.Bool.{Decides};
 ghost use Rattle.capnp_schema.specs.Schema.{Node, seen_node, seen_field};
