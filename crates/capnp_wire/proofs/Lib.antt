@@ -49,3 +49,4 @@ pub mod PointerParts
 pub mod ObjectFaults
 pub mod Filling
 pub mod Blobs
+pub mod SameTrees

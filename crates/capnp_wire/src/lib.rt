@@ -11,6 +11,7 @@ mod copy;
 mod defaults;
 mod elements;
 mod encode;
+mod equal;
 pub mod fault;
 mod faults;
 pub mod laws;
