@@ -1,5 +1,5 @@
 -- What the plan of a field's handle gives.
-use Rattle.std.specs.Prelude.{ℕ, ◌^◌, ◌<◌, ◌≡◌, refl, true, false, bit_xor}
+use Rattle.std.specs.Prelude.{ℕ, List, ◌*◌, ◌^◌, ◌<◌, ◌≡◌, refl, true, false, bit_xor}
 use Rattle.std.proofs.Common.{ap, sym, subst, ◌∙◌}
 use Rattle.std.proofs.lemmas.Bool.{true≢false}
 use Rattle.capnp_wire.specs.Tree.{StructTree}
@@ -7,7 +7,7 @@ use Rattle.capnp_schema.specs.FieldLists.{index_of, schema_of, typed_of}
 use Rattle.capnp_schema.specs.Plan.{IsPlan, LiesInNode, PlansStand, place_of, plan_of}
 use Rattle.capnp_schema.specs.Ranges.{HasRanges, HasWidths}
 use Rattle.capnp_schema.specs.Schema.{FieldKind, Group, Schemas, Slot, field_at, is_member, kind_default, node_of}
-use Rattle.capnp_schema.specs.SlotValue.{default_bits}
+use Rattle.capnp_schema.specs.SlotValue.{bits_at, default_bits}
 use Rattle.capnp_schema.specs.StructHandles.{IsStruct}
 use Rattle.capnp_schema.specs.Types.{SchemaType, is_pointer, width}
 use Rattle.capnp_schema.specs.declared.plan.Place.TheVariants as place
@@ -21,8 +21,8 @@ use Rattle.capnp_records.specs.Writes.Slots.{Content, Bits, Fits, Suits, with_co
 use Rattle.capnp_records.specs.Writes.Overlay.{field_names}
 use Rattle.capnp_records.specs.Writes.TreeEnds.{offset_of}
 use Rattle.capnp_slots.specs.Fields.{IsFieldPlan, IsFormed, IsSlot, IsSlotPlan, Keeps, field_brand, field_set, switched_to}
-use Rattle.capnp_slots.specs.Planned.{HoldsNumber, member_switched, place_cleared, place_mask, place_written}
-use Rattle.capnp_slots.proofs.SlotPlans.{member-switched, place-clears, place-holds, place-stores, slot_formed, slot_place-written, switch_formed}
+use Rattle.capnp_slots.specs.Planned.{HoldsNumber, member_switched, place_bits, place_cleared, place_mask, place_written}
+use Rattle.capnp_slots.proofs.SlotPlans.{member-switched, place-clears, place-holds, place-stores, slot-loads, slot_formed, slot_place-written, switch_formed}
 
 -- ---- the kind of a slot ----
 
@@ -42,6 +42,10 @@ kind-stores : (k : FieldKind) (t : SchemaType) → is_group_field k ≡ false �
     place_written (place_of k t) (Bits (bit_xor n (place_mask (place_of k t)))) s ≡ place_written (place_of k t) (Bits (bit_xor n (default_bits (kind_default k)))) s
 kind-stores (Slot o d) t e n s = place-stores o d t n s
 kind-stores (Group g) t e n s = absurd (true≢false e)
+
+kind-loads : (k : FieldKind) (t : SchemaType) → is_group_field k ≡ false → is_pointer t ≡ false → (bytes : List ℕ) → place_bits (place_of k t) bytes ≡ bits_at bytes (offset_of k * width t) (width t)
+kind-loads (Slot o d) t e p bytes = slot-loads (is_pointer t) (width t) o d p bytes
+kind-loads (Group n) t e p bytes = absurd (true≢false e)
 
 kind-pointer : (k : FieldKind) (t : SchemaType) → is_group_field k ≡ false → is_pointer t ≡ true → place_of k t ≡ place.Pointer (offset_of k)
 kind-pointer (Slot o d) t e p = rw p refl
@@ -94,6 +98,7 @@ module _ (f : Field) (is : IsStruct (schema_of f)) (ranges : HasRanges (field_se
         clears = λ s. kind-clears k t slot (member_switched p.member s);
         holds = λ v stored. kind-holds k t slot _ stored.small;
         stores = λ n s. kind-stores k t slot n (member_switched p.member s);
+        loads = λ bytes p. kind-loads k t slot p bytes;
         pointer = λ e. kind-pointer k t slot e;
         small = ranges.masks (field_brand f) (index_of f) is.number f.inside;
         keeps = λ c s room fits formed. kind-keeps (field_set f) (field_brand f) (index_of f) at lies stays k refl slot c s room fits formed;

@@ -3,6 +3,8 @@ pub mod FieldPlans
 pub mod Stored
 pub mod Pointers
 pub mod CopiedSources
+pub mod CopiedSlots
+pub mod LoadedBits
 pub mod NewLists
 pub mod GroupFields
 pub mod GroupClears

@@ -1,5 +1,5 @@
 -- What is written by a field's plan is written into the field's slot, and keeps the rest.
-use Rattle.std.specs.Prelude.{ℕ, zero, suc, ◌+◌, ◌*◌, ◌^◌, ◌<◌, ◌≤◌, ◌≡◌, ◌⊎◌, refl, Bool, true, false, ◌==◌, length, bit_xor}
+use Rattle.std.specs.Prelude.{ℕ, List, zero, suc, ◌+◌, ◌*◌, ◌^◌, ◌<◌, ◌≤◌, ◌≡◌, ◌⊎◌, refl, Bool, true, false, ◌==◌, length, bit_xor}
 use Rattle.std.proofs.Common.{arith, ⊎_elim, ap, sym, subst}
 use Rattle.std.proofs.lemmas.Bool.Decides.{nat_tests}
 use Rattle.std.proofs.lemmas.Bool.{true≢false}
@@ -13,13 +13,13 @@ use Rattle.capnp_schema.specs.Accepted.{LiesInside}
 use Rattle.capnp_schema.specs.Plan.{LiesInNode, data_place, member_plan, node_size, place_of, slot_place}
 use Rattle.capnp_schema.specs.Ranges.{HasWidths}
 use Rattle.capnp_schema.specs.Schema.{Field, Node, Slot, TypedField, Value, is_member}
-use Rattle.capnp_schema.specs.SlotValue.{default_bits}
+use Rattle.capnp_schema.specs.SlotValue.{bits_at, default_bits}
 use Rattle.capnp_schema.specs.Types.{SchemaType, VoidType, BoolType, IntType, UIntType, EnumType, TextType, DataType, StructType, ListType, AnyPointerType, is_pointer, width}
 use Rattle.capnp_schema.specs.declared.plan.Place.TheVariants as place
 use Rattle.capnp_records.specs.Writes.Overlay.{cleared_content, switch, switched}
 use Rattle.capnp_records.specs.Writes.Slots.{Content, Bits, At, Suits, with_content}
 use Rattle.capnp_slots.specs.Fields.{IsFormed}
-use Rattle.capnp_slots.specs.Planned.{HoldsNumber, member_switched, place_cleared, place_mask, place_written}
+use Rattle.capnp_slots.specs.Planned.{HoldsNumber, member_switched, place_bits, place_cleared, place_mask, place_written}
 
 -- ---- the place of a slot ----
 
@@ -70,6 +70,14 @@ slot_place-written o d t h (Bits n) s fits = place_of-bits o d t h n s fits.0
 slot_place-written o d t h (At x) s fits = pointer_at (is_pointer t) o (width t) d (At x) s fits
 
 -- ---- numbers and clears at a place ----
+
+data-loads : (w o : ℕ) (d : Value) (bytes : List ℕ) → place_bits (data_place w o d) bytes ≡ bits_at bytes (o * w) w
+data-loads zero o d bytes = refl
+data-loads (suc w) o d bytes = refl
+
+pub slot-loads : (q : Bool) (w o : ℕ) (d : Value) → q ≡ false → (bytes : List ℕ) → place_bits (slot_place q w o d) bytes ≡ bits_at bytes (o * w) w
+slot-loads true w o d e bytes = absurd (true≢false e)
+slot-loads false w o d e bytes = data-loads w o d bytes
 
 data-holds : (w o : ℕ) (d : Value) (n : ℕ) → n < 2 ^ w → HoldsNumber (data_place w o d) n
 data-holds zero o d n h = tt

@@ -1,5 +1,5 @@
 -- Writes of a field by its handle, in the words of writes on trees.
-use Rattle.std.specs.Prelude.{ℕ, ◌+◌, ◌*◌, ◌^◌, ◌<◌, ◌≤◌, ◌≡◌, ⊤, Bool, ◌&&◌, true, false, bit_xor, length, IfSome, Option}
+use Rattle.std.specs.Prelude.{ℕ, List, ◌+◌, ◌*◌, ◌^◌, ◌<◌, ◌≤◌, ◌≡◌, ⊤, Bool, ◌&&◌, true, false, bit_xor, length, IfSome, Option}
 use Rattle.capnp_wire.specs.Tree.{StructTree, Tree, tree_count}
 use Rattle.capnp_wire.specs.Place.{struct_tree}
 use Rattle.capnp_wire.specs.Edits.{with_pointer_tree}
@@ -8,7 +8,7 @@ use Rattle.capnp_schema.specs.FieldLists.{schema_of, typed_of}
 use Rattle.capnp_schema.specs.Footprint.{Place, discriminant_names}
 use Rattle.capnp_schema.specs.Plan.{IsSlotPlace, PlanFits}
 use Rattle.capnp_schema.specs.Schema.{Schemas, default_of, is_member}
-use Rattle.capnp_schema.specs.SlotValue.{default_bits}
+use Rattle.capnp_schema.specs.SlotValue.{bits_at, default_bits}
 use Rattle.capnp_schema.specs.StructHandles.{number_of, set_of, struct_node}
 use Rattle.capnp_schema.specs.Types.{is_pointer, width}
 use Rattle.capnp_schema.specs.declared.plan.Place.TheVariants as place
@@ -20,7 +20,7 @@ use Rattle.capnp_records.specs.Step.{is_group_field}
 use Rattle.capnp_records.specs.Writes.Overlay.{cleared_content, field_names, stored, switched}
 use Rattle.capnp_records.specs.Writes.Slots.{Content, Bits, At, Fits, Suits, Writes}
 use Rattle.capnp_records.specs.Writes.TreeEnds.{offset_of, slot_written}
-use Rattle.capnp_slots.specs.Planned.{HoldsNumber, member_switched, place_cleared, place_mask, plan_written}
+use Rattle.capnp_slots.specs.Planned.{HoldsNumber, member_switched, place_bits, place_cleared, place_mask, plan_written}
 
 -- the set and the brand that a field is of
 abbrev pub field_set : Field → Schemas
@@ -88,6 +88,7 @@ pub record IsSlotPlan (f : Field) (plan : SlotPlan) : Type 0 where
   pub clears : (s : StructTree) → plan_written plan (place_cleared plan.place) s ≡ plan_written plan (cleared_content (typed_of f).type) s
   pub holds : (v : Value) → IsStored (typed_of f).type v → HoldsNumber plan.place (stored (typed_of f).type v)
   pub stores : (n : ℕ) (s : StructTree) → plan_written plan (Bits (bit_xor n (place_mask plan.place))) s ≡ plan_written plan (Bits (bit_xor n (default_bits (default_of (typed_of f).field)))) s
+  pub loads : (bytes : List ℕ) → is_pointer (typed_of f).type ≡ false → place_bits plan.place bytes ≡ bits_at bytes (pointer_index f * width (typed_of f).type) (width (typed_of f).type)
   pub pointer : IsPointer f → plan.place ≡ place.Pointer (pointer_index f)
   pub small : default_bits (default_of (typed_of f).field) < 2 ^ width (typed_of f).type
   pub keeps : (c : Content) (s : StructTree) → IsRoomFor f s → Suits (typed_of f).type c → IsFormed c → Keeps (names_of f) s (slot_with f c s)

@@ -1,8 +1,9 @@
 -- Writes by a field's plan alone.
-use Rattle.std.specs.Prelude.{ℕ, ◌/◌, ◌^◌, ◌<◌, ⊤, Option, Some, None}
+use Rattle.std.specs.Prelude.{ℕ, List, ◌/◌, ◌^◌, ◌<◌, ⊤, Option, Some, None}
 use Rattle.capnp_wire.specs.Tree.{Null, StructTree}
 use Rattle.capnp_wire.specs.Edits.{with_bytes, with_number, with_pointer_tree}
 use Rattle.capnp_schema.specs.SlotBits.{with_bits}
+use Rattle.capnp_schema.specs.SlotValue.{bits_at}
 use Rattle.capnp_schema.specs.declared.plan.Place.{Place}
 use Rattle.capnp_schema.specs.declared.plan.Place.TheVariants as place
 use Rattle.capnp_schema.specs.declared.plan.SlotPlan.{SlotPlan}
@@ -45,3 +46,10 @@ place_cleared place.Nothing = Bits 0
 place_cleared (place.Bits start bits mask) = Bits 0
 place_cleared (place.Pointer number) = At Null
 place_cleared (place.Group brand) = Bits 0
+
+-- the bits that stand at a place of a data section
+abbrev pub place_bits : Place → List ℕ → ℕ
+place_bits place.Nothing bytes = 0
+place_bits (place.Bits start bits mask) bytes = bits_at bytes start bits
+place_bits (place.Pointer number) bytes = 0
+place_bits (place.Group brand) bytes = 0

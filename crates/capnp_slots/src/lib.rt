@@ -4,10 +4,12 @@
 //! then say what becomes of the struct's record. No call walks a schema: a field is found by its plan.
 #![tactic(auto)]
 
+pub mod copied;
 mod copies;
 pub mod element;
 mod fill;
 pub mod group;
+mod loaded;
 mod make;
 pub mod part;
 mod planned;

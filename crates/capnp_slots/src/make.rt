@@ -4,16 +4,18 @@ ghost use Rattle.capnp_device.specs.declared.error.ErrorKind.TheVariants.{OutOfM
 ghost use Rattle.capnp_wire.specs.Edits.{zero_list, zero_struct, zero_structs};
 ghost use Rattle.capnp_wire.specs.Objects.{object_tree};
 ghost use Rattle.capnp_wire.specs.Place.{struct_tree};
+ghost use Rattle.capnp_wire.specs.Reading.{empty_list};
 ghost use Rattle.capnp_wire.specs.WellFormed.{IsWellFormed};
 ghost use Rattle.capnp_schema.specs.Entries.{lists_seen};
 ghost use Rattle.capnp_schema.specs.StructHandles.{number_of, set_of};
 ghost use Rattle.capnp_schema.specs.Tests.{seen_variant};
-ghost use Rattle.capnp_schema.specs.Types.{seen_type};
+ghost use Rattle.capnp_schema.specs.Types.{AnyPointerType, is_pointer, seen_type};
 ghost use Rattle.capnp_records.specs.Given.{text_tree};
 ghost use Rattle.capnp_records.specs.Operation.{elements_past};
 ghost use Rattle.capnp_records.specs.Writes.Contents.{initn_tree, new_list};
 ghost use Rattle.capnp_records.specs.Writes.ElementEnds.{InitnContent};
 ghost use Rattle.capnp_records.specs.Writes.Slots.{At, brand_size};
+ghost use Rattle.capnp_slots.specs.Copied.{empty_tree};
 ghost use Rattle.capnp_slots.specs.Inits.{IsInitnRefusal, IsRoomless, is_sized};
 
 use capnp_base::introspect::{Type, TypeVariant};
@@ -152,6 +154,48 @@ pub(crate) fn make_sized(
         TypeVariant::Text => make_text(pointer, count),
         TypeVariant::Data => make_list(pointer, ElementSize::Byte, count),
         TypeVariant::List(element) => make_elements(pointer, set, element, count),
+        _ => unreachable!(),
+    }
+}
+
+/// Makes a pointer lead to a list of no elements of a size.
+///
+/// Refused with `OutOfMemory`; so is the call below.
+fn make_empty_list(pointer: &mut Object, size: ElementSize) -> Result<()>
+    ensures ok { OnOk result (object_tree pointer.new ≡ empty_list size) }
+    ensures formed { OnOk result (IsWellFormed (empty_list size)) }
+    ensures refused { OnErr result (object_tree pointer.new ≡ object_tree pointer.old) }
+    ensures cause { IfErr result (λ e. e.kind ≡ OutOfMemory) }
+{
+    let none = StructSize {
+        data_words: 0,
+        pointers: 0,
+    };
+    match size {
+        ElementSize::InlineComposite => make_structs(pointer, none, 0),
+        _ => make_list(pointer, size, 0),
+    }
+}
+
+/// Makes a pointer lead to what stands in the place of a default that is none: no bytes, a struct of size zero, or a list of
+/// no elements.
+pub(crate) fn make_empty(pointer: &mut Object, variant: TypeVariant) -> Result<()>
+    requires pointer { is_pointer (seen_variant variant) ≡ true }
+    requires typed { AnyPointerType ≢ seen_variant variant }
+    ensures ok { OnOk result (object_tree pointer.new ≡ empty_tree (seen_variant variant)) }
+    ensures formed { OnOk result (IsWellFormed (empty_tree (seen_variant variant))) }
+    ensures refused { OnErr result (object_tree pointer.new ≡ object_tree pointer.old) }
+    ensures cause { IfErr result (λ e. e.kind ≡ OutOfMemory) }
+{
+    let none = StructSize {
+        data_words: 0,
+        pointers: 0,
+    };
+    match variant {
+        TypeVariant::Text => make_text(pointer, 0),
+        TypeVariant::Data => make_empty_list(pointer, ElementSize::Byte),
+        TypeVariant::Struct(_) => make_struct(pointer, none),
+        TypeVariant::List(element) => make_empty_list(pointer, element.expected_element_size()),
         _ => unreachable!(),
     }
 }

@@ -6,13 +6,17 @@ ghost use Rattle.capnp_wire.specs.Tree.{tree_count};
 ghost use Rattle.capnp_schema.specs.Plan.{IsSlotPlace, PlaceFits, PlanFits, is_slot_width};
 ghost use Rattle.capnp_schema.specs.SlotBits.{with_bits};
 ghost use Rattle.capnp_records.specs.Writes.Slots.{Bits};
+ghost use Rattle.capnp_wire.specs.Standing.{struct_of};
+ghost use Rattle.capnp_slots.specs.Planned.{place_bits};
 ghost use Rattle.capnp_slots.specs.Fields.{IsFieldPlan, IsSlot, IsSlotPlan};
 ghost use Rattle.capnp_slots.specs.Planned.{HoldsNumber, member_switched, place_cleared, place_mask, place_written, plan_written};
 
+use crate::loaded::load_bits;
 use capnp_records::laws::slot_is_written;
 use capnp_schema::laws::numbers_fit;
 use capnp_schema::plan::{Place, SlotPlan, plans_stand};
 use capnp_schema::schema::Field;
+use capnp_wire::StructReader;
 use capnp_wire::object::StructObject;
 
 /// The plan of a field, as far as its union goes.
@@ -107,6 +111,26 @@ pub(crate) fn clear_plan(object: &mut StructObject, plan: SlotPlan)
             mask: _,
         } => store_bits(object, start, width, 0),
         Place::Pointer(index) => clear_pointer(object, index),
+        Place::Group(_) => {}
+    }
+}
+
+/// Switches the union to a plan's member, and stores the bits that a struct that is read has at the plan's place.
+pub(crate) fn copy_bits(object: &mut StructObject, plan: SlotPlan, source: &StructReader<'_>)
+    requires slot { IsSlotPlace plan.place }
+    requires inside { PlanFits plan (struct_object_tree object.old) }
+    ensures { struct_object_tree object.new ≡ plan_written plan (Bits (place_bits plan.place (struct_of source.now).bytes)) (struct_object_tree object.old) }
+{
+    let SlotPlan { place, member: discriminant } = plan;
+    switch_member(object, discriminant);
+    match place {
+        Place::Nothing => {}
+        Place::Bits {
+            start,
+            width,
+            mask: _mask,
+        } => store_bits(object, start, width, load_bits(source, start, width)),
+        Place::Pointer(_) => {}
         Place::Group(_) => {}
     }
 }

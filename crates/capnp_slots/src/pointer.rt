@@ -1,5 +1,5 @@
 //! The pointers of slots.
-ghost use Rattle.std.specs.Prelude.{None, true, ◌≡◌, ◌<◌, IfErr, OnErr, OnOk};
+ghost use Rattle.std.specs.Prelude.{None, true, ◌≡◌, ◌≢◌, ◌<◌, IfErr, OnErr, OnOk};
 ghost use Rattle.capnp_device.specs.declared.error.ErrorKind.TheVariants.{OutOfMemory};
 ghost use Rattle.capnp_wire.specs.Edits.{with_pointer_tree, zero_struct};
 ghost use Rattle.capnp_wire.specs.Place.{struct_tree};
@@ -8,6 +8,8 @@ ghost use Rattle.capnp_schema.specs.Tests.{seen_variant};
 ghost use Rattle.capnp_records.specs.Writes.Contents.{initn_tree};
 ghost use Rattle.capnp_records.specs.Writes.ElementEnds.{InitnContent};
 ghost use Rattle.capnp_records.specs.Writes.Slots.{At};
+ghost use Rattle.capnp_schema.specs.Types.{AnyPointerType, is_pointer};
+ghost use Rattle.capnp_slots.specs.Copied.{empty_tree};
 ghost use Rattle.capnp_slots.specs.Inits.{IsInitnRefusal, is_sized};
 ghost use Rattle.capnp_wire.specs.Objects.{struct_object_tree};
 ghost use Rattle.capnp_wire.specs.Tree.{tree_count};
@@ -15,7 +17,7 @@ ghost use Rattle.capnp_wire.specs.WellFormed.{IsWellFormed};
 ghost use Rattle.capnp_wire.specs.Words.{first_fault};
 ghost use Rattle.capnp_slots.specs.Fields.{IsPointer, IsPointerSlot, IsSlot};
 
-use crate::make::{make_sized, make_struct};
+use crate::make::{make_empty, make_sized, make_struct};
 use crate::planned::slot_plan;
 use capnp_base::introspect::TypeVariant;
 use capnp_base::traits::SetterInput;
@@ -87,4 +89,23 @@ pub(crate) fn make_sized_at(
     ensures cause { IfErr result (λ e. IsInitnRefusal (lists_seen set.now) count (seen_variant variant) e.kind) }
 {
     make_sized(object.get_pointer_field(index), set, variant, count)
+}
+
+/// Makes a pointer of a struct lead to what stands in the place of a default that is none.
+///
+/// Refused with `OutOfMemory`, and then nothing has changed.
+pub(crate) fn make_empty_at(
+    object: &mut StructObject,
+    index: u16,
+    variant: TypeVariant,
+) -> Result<()>
+    requires inside { index < tree_count (struct_object_tree object.old).pointers }
+    requires pointer { is_pointer (seen_variant variant) ≡ true }
+    requires typed { AnyPointerType ≢ seen_variant variant }
+    ensures ok { OnOk result (struct_object_tree object.new ≡ with_pointer_tree (struct_object_tree object.old) index (empty_tree (seen_variant variant))) }
+    ensures formed { OnOk result (IsWellFormed (empty_tree (seen_variant variant))) }
+    ensures refused { OnErr result (struct_object_tree object.new ≡ struct_object_tree object.old) }
+    ensures cause { IfErr result (λ e. e.kind ≡ OutOfMemory) }
+{
+    make_empty(object.get_pointer_field(index), variant)
 }
