@@ -3,15 +3,15 @@
 //! A builder is thin: its calls are those of `slot` and `group` on its object, and their contracts say what the struct
 //! becomes. A field that is given to a call belongs to the builder's schema, and the struct has at least the schema's
 //! sections; both are conditions.
-ghost use Rattle.std.specs.Prelude.{None, Ok, IfErr, IsOk, OnErr, OnOk, ◌≡◌};
+ghost use Rattle.std.specs.Prelude.{None, Ok, IfErr, IsOk, IsOkAnd, OnErr, OnOk, ◌≡◌};
 ghost use Rattle.capnp_device.specs.declared.error.ErrorKind.TheVariants.{FieldNotFound};
 ghost use Rattle.capnp_wire.specs.Objects.{struct_object_tree};
 ghost use Rattle.capnp_wire.specs.Standing.{struct_levels, struct_of};
-ghost use Rattle.capnp_schema.specs.FieldLists.{index_of};
+ghost use Rattle.capnp_schema.specs.FieldLists.{IsFound, index_of};
 ghost use Rattle.capnp_schema.specs.Query.{field_named};
 ghost use Rattle.capnp_schema.specs.StructHandles.{number_of, set_of, struct_field, struct_records};
 ghost use Rattle.capnp_schema.specs.declared.schema.fields.Field.{Field};
-ghost use Rattle.capnp_records.specs.Part.{has_of};
+ghost use Rattle.capnp_records.specs.Part.{has_of, which_of};
 ghost use Rattle.capnp_records.specs.Writes.Slots.{Fits};
 ghost use Rattle.capnp_slots.specs.Fields.{IsSlot, Keeps, names_of};
 ghost use Rattle.capnp_slots.specs.Primitives.{given_to};
@@ -24,6 +24,7 @@ ghost use Rattle.capnp_dynamic.specs.SetValues.{source_of};
 ghost use Rattle.capnp_dynamic.specs.Typed.{struct_type};
 ghost use Rattle.capnp_schema.specs.Types.{seen_type};
 
+use crate::bits::discriminant_at;
 use crate::dynamic_struct::Reader;
 use crate::dynamic_value;
 use capnp_base::traits::OwnedStruct;
@@ -88,6 +89,22 @@ impl<'a> Builder<'a> {
         ensures { result ≡ built_schema self.now }
     {
         self.schema
+    }
+
+    /// The member whose discriminant value stands in the struct; none without a union or for an unknown number. The
+    /// answer is always Ok.
+    pub fn which(&self) -> Result<Option<Field<'a>>>
+        requires { IsReady self.now }
+        ensures { IsOkAnd result (IsFound (built_schema self.now) (which_of (built_record self.now))) }
+    {
+        structs_can_be_read();
+        let schema = self.schema;
+        let body = &schema.get_proto().body;
+        if body.discriminant_count == 0 {
+            return Ok(None);
+        }
+        let value = discriminant_at(&self.builder.as_reader(), body.discriminant_offset);
+        schema.get_field_by_discriminant(value)
     }
 
     /// False for a member that is not active and for a null pointer, else true. The answer is always Ok.
