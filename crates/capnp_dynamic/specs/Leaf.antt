@@ -41,3 +41,12 @@ leaf_text (dynamic.«Data» bytes) = said (data_text bytes.now)
 leaf_text (dynamic.Struct s) = said []
 leaf_text (dynamic.List l) = said []
 leaf_text (dynamic.AnyPointer p) = said (codes "<opaque pointer>")
+
+-- a value is one that no pointer stands for
+abbrev pub IsNumber : DynamicValue → Type 0
+IsNumber (dynamic.Text t) = ⊥
+IsNumber (dynamic.«Data» bytes) = ⊥
+IsNumber (dynamic.Struct s) = ⊥
+IsNumber (dynamic.List l) = ⊥
+IsNumber (dynamic.AnyPointer p) = ⊥
+IsNumber v = ⊤

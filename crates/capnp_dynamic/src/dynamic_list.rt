@@ -1,9 +1,12 @@
 //! Lists whose element types are known only at run time.
 ghost use Rattle.capnp_schema.specs.Entries.{lists_seen};
 
+mod build;
+
 use crate::dynamic_value;
 use crate::elements::read_element;
 use crate::printer::print_debug;
+pub use build::Builder;
 use capnp_base::any_pointer;
 use capnp_base::introspect::Type;
 use capnp_base::traits::{IndexMove, ListIter, SetterInput};
@@ -16,8 +19,8 @@ use std::fmt;
 /// A list that is read: its elements, their type, and the set that the type is of.
 #[derive(Clone, Copy)]
 pub struct Reader<'a> {
-    reader: ListReader<'a>,
-    element_type: Type,
+    pub(crate) reader: ListReader<'a>,
+    pub(crate) element_type: Type,
     set: &'a SchemaSet,
 }
 

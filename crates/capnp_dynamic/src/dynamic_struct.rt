@@ -1,8 +1,11 @@
 //! Structs whose schemas are known only at run time.
+mod build;
+
 use crate::bits::discriminant_at;
 use crate::dynamic_value;
 use crate::placed::{has_planned, read_placed};
 use crate::printer::print_debug;
+pub use build::Builder;
 use capnp_base::any_pointer;
 use capnp_base::traits::{OwnedStruct, SetterInput};
 use capnp_schema::schema::{Field, StructSchema};
@@ -15,8 +18,8 @@ use std::fmt;
 /// A struct that is read: its sections, and its schema.
 #[derive(Clone, Copy)]
 pub struct Reader<'a> {
-    reader: StructReader<'a>,
-    schema: StructSchema<'a>,
+    pub(crate) reader: StructReader<'a>,
+    pub(crate) schema: StructSchema<'a>,
 }
 
 impl<'a> Reader<'a> {

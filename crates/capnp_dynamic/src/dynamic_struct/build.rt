@@ -1,0 +1,184 @@
+//! Structs whose schemas are known only at run time, as they are built.
+//!
+//! A builder is thin: its calls are those of `slot` and `group` on its object, and their contracts say what the struct
+//! becomes. A field that is given to a call belongs to the builder's schema, and the struct has at least the schema's
+//! sections; both are conditions.
+ghost use Rattle.std.specs.Prelude.{None, Ok, IfErr, IsOk, IsOkAnd, OnErr, OnOk, ◌≡◌};
+ghost use Rattle.capnp_device.specs.declared.error.ErrorKind.TheVariants.{FieldNotFound};
+ghost use Rattle.capnp_wire.specs.Objects.{struct_object_tree};
+ghost use Rattle.capnp_wire.specs.Standing.{struct_levels, struct_of};
+ghost use Rattle.capnp_schema.specs.FieldLists.{IsFound, index_of};
+ghost use Rattle.capnp_schema.specs.Query.{field_named};
+ghost use Rattle.capnp_schema.specs.StructHandles.{number_of, set_of, struct_field, struct_records};
+ghost use Rattle.capnp_schema.specs.declared.schema.fields.Field.{Field};
+ghost use Rattle.capnp_records.specs.Part.{has_of, which_of};
+ghost use Rattle.capnp_records.specs.Writes.Slots.{Fits};
+ghost use Rattle.capnp_slots.specs.Fields.{IsSlot, Keeps, names_of};
+ghost use Rattle.capnp_slots.specs.Primitives.{given_to};
+ghost use Rattle.capnp_slots.specs.Sources.{IsSet, IsSetRefusal};
+ghost use Rattle.capnp_dynamic.specs.Built.{IsReady, built_record, built_schema, built_struct, struct_behind};
+ghost use Rattle.capnp_dynamic.specs.FieldWrites.{IsNamed, field_cleared};
+ghost use Rattle.capnp_dynamic.specs.Handles.{reader_of, schema_of};
+ghost use Rattle.capnp_dynamic.specs.Reads.{BelongsTo};
+ghost use Rattle.capnp_dynamic.specs.SetValues.{source_of};
+ghost use Rattle.capnp_dynamic.specs.Typed.{struct_type};
+ghost use Rattle.capnp_schema.specs.Types.{seen_type};
+
+use crate::bits::discriminant_at;
+use crate::dynamic_struct::Reader;
+use crate::dynamic_value;
+use capnp_base::traits::OwnedStruct;
+use capnp_schema::schema::{Field, StructSchema};
+use capnp_slots::{group, slot};
+use capnp_wire::StructBuilder;
+use capnp_wire::error::Result;
+use capnp_wire::laws::kept::structs_can_be_read;
+
+/// A struct that is built: its object, and its schema.
+#[derive(Drop)]
+pub struct Builder<'a> {
+    pub builder: StructBuilder<'a>,
+    pub schema: StructSchema<'a>,
+}
+
+impl<'a> Builder<'a> {
+    /// A builder of a struct under a schema, of which the struct has at least the sections.
+    pub fn new(builder: StructBuilder<'a>, schema: StructSchema<'a>) -> Builder<'a>
+        requires { Fits (set_of schema) (number_of schema) (struct_object_tree builder.old) }
+        ensures builder { struct_behind result ≡ builder.entry }
+        ensures schema { built_schema result ≡ schema.entry }
+    {
+        Builder { builder, schema }
+    }
+
+    /// The same struct for a shorter time.
+    pub fn reborrow(&mut self) -> Builder<'_>
+        ensures schema { built_schema result ≡ built_schema self.old }
+        ensures now { built_struct result ≡ built_struct self.old }
+    {
+        let schema = self.schema;
+        let builder = &mut *self.builder;
+        Builder { builder, schema }
+    }
+
+    /// A reader of the struct, with 64 levels.
+    pub fn reborrow_as_reader(&self) -> Reader<'_>
+        requires { IsReady self.now }
+        ensures parts { struct_of (reader_of result) ≡ built_struct self.now }
+        ensures levels { struct_levels (reader_of result) ≡ 64 }
+        ensures schema { schema_of result ≡ built_schema self.now }
+    {
+        structs_can_be_read();
+        Reader::new(self.builder.as_reader(), self.schema)
+    }
+
+    /// A reader of the struct for as long as the builder would be there, with 64 levels. The struct stays as it is.
+    pub fn into_reader(self) -> Reader<'a>
+        requires { IsReady self }
+        ensures parts { struct_of (reader_of result) ≡ built_struct self.entry }
+        ensures levels { struct_levels (reader_of result) ≡ 64 }
+        ensures schema { schema_of result ≡ built_schema self.entry }
+    {
+        structs_can_be_read();
+        let Builder { builder, schema } = self;
+        Reader::new(builder.into_reader(), schema)
+    }
+
+    /// The schema.
+    pub fn get_schema(&self) -> StructSchema<'a>
+        ensures { result ≡ built_schema self.now }
+    {
+        self.schema
+    }
+
+    /// The member whose discriminant value stands in the struct; none without a union or for an unknown number. The
+    /// answer is always Ok.
+    pub fn which(&self) -> Result<Option<Field<'a>>>
+        requires { IsReady self.now }
+        ensures { IsOkAnd result (IsFound (built_schema self.now) (which_of (built_record self.now))) }
+    {
+        structs_can_be_read();
+        let schema = self.schema;
+        let body = &schema.get_proto().body;
+        if body.discriminant_count == 0 {
+            return Ok(None);
+        }
+        let value = discriminant_at(&self.builder.as_reader(), body.discriminant_offset);
+        schema.get_field_by_discriminant(value)
+    }
+
+    /// False for a member that is not active and for a null pointer, else true. The answer is always Ok.
+    pub fn has(&self, field: Field<'a>) -> Result<bool>
+        requires belongs { BelongsTo field (built_schema self.now) }
+        requires ready { IsReady self.now }
+        ensures { result ≡ Ok (has_of (built_record self.now) (struct_field (built_schema self.now) (index_of field.entry)).field (index_of field.entry)) }
+    {
+        self.reborrow_as_reader().has(field)
+    }
+
+    /// Whether the field of a name is there, as `has`. Refused with `FieldNotFound` where there is none of that name.
+    pub fn has_named(&self, field_name: &str) -> Result<bool>
+        requires { IsReady self.now }
+        ensures is { (f : Field) → IsNamed (built_schema self.now) field_name.now f → result ≡ Ok (has_of (built_record self.now) (struct_field (built_schema self.now) (index_of f)).field (index_of f)) }
+        ensures refused { IfErr result (λ e. (e.kind ≡ FieldNotFound) × (field_named (struct_records (built_schema self.now)) field_name.now ≡ None)) }
+    {
+        let schema = self.schema;
+        let field = schema.get_field_by_name(field_name)?;
+        self.has(field)
+    }
+
+    /// Sets a slot, as `slot::set`: a void slot takes every value; a value that no pointer stands for is stored; a text, data, a
+    /// struct and a list are copied into a slot of their kind or an untyped one, whatever the struct's schema or the list's
+    /// elements are. The copy is made first, and then a member becomes active.
+    ///
+    /// Refused, in this order: with `CannotSetAnyPointerFieldToAPrimitiveValue` for an untyped slot and a value of another
+    /// kind than these four, and with `TypeMismatch` for another slot and a value of another kind than its own; with
+    /// `BadPointer`, `TooDeep` or `CapabilityPointer` where a pointer in the value can't be followed, by the first of these in
+    /// preorder; with `SizePastFormat` for a text of more than 2^29 - 2 bytes or data of more than 2^29 - 1; and with
+    /// `OutOfMemory`. Then nothing has changed.
+    #[tactic(auto, using(crate::proofs::Builders::room_for, crate::proofs::Builders::under_kept, crate::proofs::Builders::under_same))]
+    pub fn set_slot(&mut self, field: Field<'a>, value: dynamic_value::Reader<'_>) -> Result<()>
+        requires belongs { BelongsTo field (built_schema self.old) }
+        requires ready { IsReady self.old }
+        requires slot { IsSlot field }
+        ensures same { (struct_behind self.new).ghost_name ≡ (struct_behind self.old).ghost_name }
+        ensures schema { built_schema self.new ≡ built_schema self.old }
+        ensures set { OnOk result (IsSet field.entry (source_of value.entry) (built_struct self.old) (built_struct self.new)) }
+        ensures refused { OnErr result (built_struct self.new ≡ built_struct self.old) }
+        ensures cause { IfErr result (λ e. IsSetRefusal (given_to field.entry (source_of value.entry)) e.kind) }
+        ensures ready { IsReady self.new }
+    {
+        slot::set(self.builder, field, value.into_source())
+    }
+
+    /// Clears a field. The bits of a slot become zero, which reads as its default, or its pointer null; of a group the member
+    /// of discriminant value 0 is cleared and then its plain fields by index. A member becomes active first. No memory is
+    /// taken, and the answer is always Ok.
+    #[tactic(auto, using(crate::proofs::Builders::room_for, crate::proofs::Builders::under_kept, crate::proofs::Builders::cleared_slot, crate::proofs::Builders::cleared_group))]
+    pub fn clear(&mut self, field: Field<'a>) -> Result<()>
+        requires belongs { BelongsTo field (built_schema self.old) }
+        requires ready { IsReady self.old }
+        ensures ok { IsOk result }
+        ensures same { (struct_behind self.new).ghost_name ≡ (struct_behind self.old).ghost_name }
+        ensures schema { built_schema self.new ≡ built_schema self.old }
+        ensures cleared { built_struct self.new ≡ field_cleared field.entry (built_struct self.old) }
+        ensures kept { Keeps (names_of field.entry) (built_struct self.old) (built_struct self.new) }
+        ensures ready { IsReady self.new }
+    {
+        if slot::is_slot(field) {
+            slot::clear(self.builder, field);
+        } else {
+            group::clear(self.builder, field);
+        }
+        Ok(())
+    }
+
+    /// The same struct by the handle of a struct type, which has to be that of the schema.
+    pub fn downcast<T: OwnedStruct<'a>>(self) -> T::Builder
+        requires { seen_type T.type_of ≡ struct_type (built_schema self) }
+        ensures { T.Builder.from_gives (struct_behind self.entry) result }
+    {
+        let Builder { builder, schema: _ } = self;
+        T::Builder::from(builder)
+    }
+}
