@@ -24,6 +24,7 @@ pub enum Stop {
 
 type Total = std::result::Result<u64, Stop>;
 
+#[inline(always)]
 fn add(a: u64, b: u64) -> Total
     ensures { Totals result None (a + b) }
 {
@@ -80,6 +81,7 @@ fn total_word(segments: Segments<'_>, segment: &[u8], index: usize, depth: u8) -
 
 /// The words of what pointers in a row lead to.
 #[cycle(total)]
+#[inline(always)]
 fn total_run(depth: u8, is_stream: bool, count: u32, run: Run<'_>) -> Total
     ensures { TotalsOfAll result (run_trees depth is_stream count run.entry) }
 {

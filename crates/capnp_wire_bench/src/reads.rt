@@ -8,12 +8,16 @@ use std::alloc::Global;
 
 /// The root struct's pointers.
 const ITEMS: u16 = 0;
+
 const SMALL_NUMBERS: u16 = 1;
+
 const LARGE_NUMBERS: u16 = 2;
+
 const CHAIN: u16 = 4;
 
 /// An item's pointers.
 const BLOB: u16 = 0;
+
 const NEXT: u16 = 1;
 
 /// How many hops a chain is followed for.
