@@ -81,7 +81,6 @@ fn total_word(segments: Segments<'_>, segment: &[u8], index: usize, depth: u8) -
 
 /// The words of what pointers in a row lead to.
 #[cycle(total)]
-#[inline(always)]
 fn total_run(depth: u8, is_stream: bool, count: u32, run: Run<'_>) -> Total
     ensures { TotalsOfAll result (run_trees depth is_stream count run.entry) }
 {
