@@ -3,6 +3,7 @@
 #include "prints.h"
 #include "program.h"
 #include "reads.h"
+#include "wire.h"
 #include <capnp/schema-parser.h>
 #include <kj/filesystem.h>
 
@@ -16,6 +17,7 @@ int main(int count, char **words) {
   capnp::SchemaParser parser;
   auto file = parser.parseFromDirectory(*folder, kj::Path::parse("schema.capnp"), nullptr);
   Table table;
+  wire::add_rows(table);
   reads::add_rows(table, file.getNested("Many").asStruct());
   prints::add_rows(table, file.getNested("Lists").asStruct());
   program::add_rows(table, file.getNested("Lists").asStruct(), words[1], words[2], words[3]);

@@ -1,4 +1,4 @@
-// The calls of our static library that are timed, each a whole row's work. A call does its work `rounds` times over the
+// The calls of our static libraries that are timed, each a whole row's work. A call does its work `rounds` times over the
 // same message and answers a checksum, which has to be that of the C++ library's work.
 #pragma once
 #include <cstddef>
@@ -11,4 +11,19 @@ uint64_t bench_read_by_field_opened(const uint8_t *message, size_t length, uint6
 uint64_t bench_read_by_field(const uint8_t *message, size_t length, uint64_t rounds);
 uint64_t bench_find_by_name(const uint8_t *message, size_t length, uint64_t rounds);
 uint64_t bench_print_lists(const uint8_t *message, size_t length, uint64_t rounds);
+uint64_t bench_wire_open(const uint8_t *message, size_t length, uint64_t rounds);
+uint64_t bench_wire_bytes(const uint8_t *message, size_t length, uint64_t rounds);
+uint64_t bench_wire_halves(const uint8_t *message, size_t length, uint64_t rounds);
+uint64_t bench_wire_words(const uint8_t *message, size_t length, uint64_t rounds);
+uint64_t bench_wire_bits(const uint8_t *message, size_t length, uint64_t rounds);
+uint64_t bench_wire_hops(const uint8_t *message, size_t length, uint64_t rounds);
+uint64_t bench_wire_texts(const uint8_t *message, size_t length, uint64_t rounds);
+uint64_t bench_wire_data(const uint8_t *message, size_t length, uint64_t rounds);
+uint64_t bench_wire_structs(const uint8_t *message, size_t length, uint64_t rounds);
+uint64_t bench_wire_small_numbers(const uint8_t *message, size_t length, uint64_t rounds);
+uint64_t bench_wire_large_numbers(const uint8_t *message, size_t length, uint64_t rounds);
+uint64_t bench_wire_next(const uint8_t *message, size_t length, uint64_t rounds);
+uint64_t bench_wire_total_size(const uint8_t *message, size_t length, uint64_t rounds);
+uint64_t bench_wire_copy(const uint8_t *message, size_t length, uint64_t rounds);
+uint64_t bench_wire_encode(const uint8_t *message, size_t length, uint64_t rounds);
 }

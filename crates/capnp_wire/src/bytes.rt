@@ -31,8 +31,10 @@ pub fn part(bytes: &[u8], start: usize, count: usize) -> &[u8]
     }
 }
 
-/// The number that at most eight bytes spell, lowest first.
-fn number(bytes: &[u8]) -> u64
+/// The number that at most eight bytes spell, lowest first, byte by byte.
+#[cold]
+#[inline(never)]
+fn spell(bytes: &[u8]) -> u64
     requires { length bytes.now ≤ 8 }
     ensures { result ≡ little_endian bytes.now }
 {
@@ -45,12 +47,19 @@ fn number(bytes: &[u8]) -> u64
     number
 }
 
+/// The same number: 0 at once where there is no byte, as for a field past the end of a struct.
+#[inline(always)]
+fn number(bytes: &[u8]) -> u64
+    requires { length bytes.now ≤ 8 }
+    ensures { result ≡ little_endian bytes.now }
+{
+    if bytes.is_empty() { 0 } else { spell(bytes) }
+}
+
 /// The number that `width` bytes from byte `start` on spell, with zeros past the end.
 ///
-/// It goes byte by byte: the reads below test for the end first, and call it only where bytes are
-/// missing.
-#[cold]
-#[inline(never)]
+/// The reads below test for the end first, and call it only where bytes are missing.
+#[inline(always)]
 pub fn number_from(bytes: &[u8], start: usize, width: usize) -> u64
     requires { width ≤ 8 }
     ensures value { result ≡ little_endian (take width (drop start bytes.now)) }

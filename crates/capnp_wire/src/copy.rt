@@ -37,6 +37,7 @@ pub fn copy_place(alloc: Global, place: Place<'_>) -> Result<Object>
 /// Refused with `OutOfMemory` where memory is refused, and with `BadPointer`, `TooDeep` or `CapabilityPointer` where a
 /// pointer in it can't be followed, by the first of these in preorder; with either where both hold.
 #[cycle(copy)]
+#[inline(always)]
 pub fn copy_found(alloc: Global, found: Found<'_>) -> Result<Object>
     ensures copy { IfOk result (λ object. object_tree object ≡ found_tree found.entry) }
     ensures sound { IfOk result (λ _. first_fault (found_tree found.entry) ≡ None) }
@@ -59,6 +60,7 @@ pub fn copy_found(alloc: Global, found: Found<'_>) -> Result<Object>
 
 /// The object of a struct, with its data as it is.
 #[cycle(copy)]
+#[inline(always)]
 pub fn copy_struct(alloc: Global, parts: StructParts<'_>) -> Result<StructObject>
     ensures copy { IfOk result (λ object. struct_object_tree object ≡ parts_tree parts.entry) }
     ensures sound { IfOk result (λ _. first_fault_of_all (parts_tree parts.entry).pointers ≡ None) }

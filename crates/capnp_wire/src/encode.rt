@@ -52,6 +52,7 @@ fn get_number_size(width: u8) -> u64
 }
 
 /// The pointer to a struct that starts `gap` words after it.
+#[inline(always)]
 fn get_struct_pointer(gap: u64, object: &StructObject) -> u64
     requires held { IsWellFormed (struct_tree (struct_object_tree object.now)) }
     requires near { gap < 2 ^ 29 }
@@ -67,6 +68,7 @@ fn get_struct_pointer(gap: u64, object: &StructObject) -> u64
 }
 
 /// The pointer to a list that starts `gap` words after it.
+#[inline(always)]
 fn get_list_pointer(gap: u64, object: &ListObject) -> u64
     requires held { IsWellFormed (list_object_tree object.now) }
     requires near { gap < 2 ^ 29 }
@@ -92,6 +94,7 @@ fn get_list_pointer(gap: u64, object: &ListObject) -> u64
 }
 
 /// The pointer to an object that starts `gap` words after it.
+#[inline(always)]
 fn get_pointer(gap: u64, object: &Object) -> u64
     requires held { IsWellFormed (object_tree object.now) }
     requires near { gap < 2 ^ 29 }
@@ -117,6 +120,7 @@ fn append_half(out: &mut Vec<u8>, half: u32) -> Appended
 }
 
 /// Fewer zeros than a word has.
+#[inline(always)]
 fn append_zeros(out: &mut Vec<u8>, count: usize) -> Appended
     requires { count < 8 }
     ensures { IfOk result (λ _. out.new.items ≡ out.old.items ++ replicate count 0) }
@@ -126,6 +130,7 @@ fn append_zeros(out: &mut Vec<u8>, count: usize) -> Appended
 }
 
 /// Bytes, and zeros up to a whole word.
+#[inline(always)]
 fn append_padded(out: &mut Vec<u8>, bytes: &[u8]) -> Appended
     ensures { IfOk result (λ _. out.new.items ≡ out.old.items ++ padded bytes.now) }
 {
@@ -164,6 +169,7 @@ fn append_bits(out: &mut Vec<u8>, bits: &[u8], count: u32) -> Appended
 }
 
 /// Bytes in the place of as many from an index on.
+#[inline(always)]
 fn put_bytes(out: &mut Vec<u8>, at: usize, bytes: &[u8])
     requires { at + length bytes.now ≤ length out.old.items }
     ensures { out.new.items ≡ put at bytes.now out.old.items }
@@ -172,6 +178,7 @@ fn put_bytes(out: &mut Vec<u8>, at: usize, bytes: &[u8])
 }
 
 /// A word in the place of another from an index on.
+#[inline(always)]
 fn put_word(out: &mut Vec<u8>, at: usize, word: u64)
     requires { at + 8 ≤ length out.old.items }
     ensures { out.new.items ≡ put at (spelled 8 word) out.old.items }
@@ -284,6 +291,7 @@ fn fill_pointers(out: &mut Vec<u8>, at: usize, objects: &[Object]) -> Appended
 
 /// The same of an element of a composite list: its data and its pointers.
 #[cycle(append)]
+#[inline(always)]
 fn fill_element(out: &mut Vec<u8>, at: usize, element: &StructObject) -> Appended
     requires { HasRoom (at + length (struct_object_tree element.now).bytes) (struct_object_tree element.now).pointers out.old.items }
     ensures { IfOk result (λ _. out.new.items ≡ with_element at (struct_object_tree element.now) out.old.items) }

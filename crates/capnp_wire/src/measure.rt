@@ -12,6 +12,7 @@ use crate::object::{ListObject, Object, StructObject};
 use crate::size::StructSize;
 
 /// The sum, where it is below 2^29, the words that a message has at most.
+#[inline(always)]
 fn add(a: u64, b: u64) -> Option<u64>
     requires { (a < 2 ^ 61) × (b < 2 ^ 29) }
     ensures { Measured result ⊤ (a + b) }
@@ -28,6 +29,7 @@ fn count_bytes(bytes: &[u8]) -> usize
 }
 
 /// The words of a data section.
+#[inline(always)]
 fn measure_data(bytes: &[u8]) -> Option<u64>
     ensures { Measured result (IsData bytes.now) (byte_words (length bytes.now)) }
 {
@@ -42,6 +44,7 @@ fn measure_data(bytes: &[u8]) -> Option<u64>
 }
 
 /// The words of a list of numbers of so many bytes each.
+#[inline(always)]
 fn measure_numbers(width: u8, bytes: &[u8]) -> Option<u64>
     ensures { Measured result (IsWellFormed (Numbers width bytes.now)) (byte_words (length bytes.now)) }
 {
@@ -72,6 +75,7 @@ pub(crate) fn measure(object: &Object) -> Option<u64>
 
 /// The same of a struct.
 #[cycle(measure)]
+#[inline(always)]
 fn measure_struct(object: &StructObject) -> Option<u64>
     ensures { Measured result (IsWellFormed (struct_tree (struct_object_tree object.now))) (words_of_struct (struct_object_tree object.now)) }
 {
@@ -86,6 +90,7 @@ fn measure_struct(object: &StructObject) -> Option<u64>
 
 /// The same of a list.
 #[cycle(measure)]
+#[inline(always)]
 fn measure_list(object: &ListObject) -> Option<u64>
     ensures { Measured result (IsWellFormed (list_object_tree object.now)) (words_of (list_object_tree object.now)) }
 {
@@ -157,6 +162,7 @@ fn measure_elements(size: StructSize, elements: &[StructObject]) -> Option<u64>
 
 /// The words of what an element's pointers lead to.
 #[cycle(measure)]
+#[inline(always)]
 fn measure_element(size: StructSize, element: &StructObject) -> Option<u64>
     ensures { Measured result (IsElement size.data_words size.pointers (struct_object_tree element.now)) (words_of_all (struct_object_tree element.now).pointers) }
 {

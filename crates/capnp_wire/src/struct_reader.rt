@@ -43,6 +43,7 @@ impl<'a> StructReader<'a> {
     }
 
     /// A reader of a struct of size zero.
+    #[inline(always)]
     pub(crate) fn empty(levels: u8) -> StructReader<'a>
         ensures parts { struct_of result ≡ empty_struct }
         ensures levels { struct_levels result ≡ levels }

@@ -24,6 +24,7 @@ pub enum Stop {
 
 type Total = std::result::Result<u64, Stop>;
 
+#[inline(always)]
 fn add(a: u64, b: u64) -> Total
     ensures { Totals result None (a + b) }
 {

@@ -1,6 +1,6 @@
 use Rattle.std.proofs.Common.{arith, ◌-◌}
 use Rattle.capnp_wire.proofs.Spelled.{spelled_drop_below}
-use Rattle.capnp_wire.proofs.bytes.number.Goals as goal
+use Rattle.capnp_wire.proofs.bytes.spell.Goals as goal
 
 pub overflow_mul-number : goal.overflow_mul-number
 overflow_mul-number c = omega (arith, spelled_drop_below c.args.bytes.now c.loop-i.i c.type_inv.bytes c.requires (omega arith))
