@@ -16,7 +16,7 @@ returns-in-Ok-Some c =
     let s = struct_object_tree c.args.object.now in
     let which = sym (which_reads c.new-reader.result (schema_of f) s (c.new-reader.ensures.schema ∙ c.get_containing_struct.ensures.is) (ap struct_of c.new-reader.ensures.reader ∙ c.as_reader.ensures.parts)) in
     other_active (reads (field_set f) s (field_brand f)) (typed_of f).field (index_of f) (index_of c.in-Ok-Some.active) c.get_index.result c.get_index-in-Ok-Some.result
-      c.get_index.ensures c.get_index-in-Ok-Some.ensures (sym c.is_member.ensures ∙ c.if-not-is_member.false) (which ∙ found_index _ _ c.in-Ok-Some.field-0 c.in-Ok-Some.active c.in-Ok-Some.ensures c.in-Ok-Some.field-0-is)
+    c.get_index.ensures c.get_index-in-Ok-Some.ensures (sym c.is_member.ensures ∙ c.if-not-is_member.false) (which ∙ found_index _ _ c.in-Ok-Some.field-0 c.in-Ok-Some.active c.in-Ok-Some.ensures c.in-Ok-Some.field-0-is)
 
 pub returns-in-Ok-None : goal.returns-in-Ok-None
 returns-in-Ok-None c =
@@ -24,4 +24,4 @@ returns-in-Ok-None c =
     let s = struct_object_tree c.args.object.now in
     let which = sym (which_reads c.new-reader.result (schema_of f) s (c.new-reader.ensures.schema ∙ c.get_containing_struct.ensures.is) (ap struct_of c.new-reader.ensures.reader ∙ c.as_reader.ensures.parts)) in
     none_active (reads (field_set f) s (field_brand f)) (typed_of f).field (index_of f)
-      (sym c.is_member.ensures ∙ c.if-not-is_member.false) (which ∙ found_none _ _ c.in-Ok-None.field-0 c.in-Ok-None.ensures c.in-Ok-None.field-0-is)
+    (sym c.is_member.ensures ∙ c.if-not-is_member.false) (which ∙ found_none _ _ c.in-Ok-None.field-0 c.in-Ok-None.ensures c.in-Ok-None.field-0-is)
