@@ -1,0 +1,5 @@
+//! Calls along paths of a struct that is built, whose schema is known only at run time.
+#![tactic(auto)]
+
+pub mod calls;
+pub mod way;
