@@ -2,6 +2,8 @@
 use Rattle.std.specs.Prelude.{◌≡◌}
 use Rattle.capnp_schema.specs.declared.schema.structs.StructSchema.{StructSchema}
 use Rattle.capnp_schema.specs.StructHandles.{IsStruct, number_of, set_of}
+use Rattle.capnp_dynamic.specs.Handles.{schema_of}
+use Rattle.capnp_dynamic.specs.declared.dynamic_struct.Reader.{Reader as StructHandle}
 use Rattle.capnp_wire.specs.Tree.{StructTree}
 use Rattle.capnp_records.specs.Record.{Levels}
 use Rattle.capnp_records.specs.Reading.{struct_record}
@@ -23,6 +25,10 @@ newer_of c = c.1
 -- the pair of two schemas
 abbrev pub IsPair : StructSchema → StructSchema → StructSchema × StructSchema → Type 0
 IsPair older newer c = (older_of c ≡ older) × (newer_of c ≡ newer)
+
+-- a struct is read under a schema
+abbrev pub IsUnder : StructHandle → StructSchema → Type 0
+IsUnder s schema = (set_of (schema_of s) ≡ set_of schema) × (number_of (schema_of s) ≡ number_of schema)
 
 -- what an older schema reads is the projection of what the newer reads
 abbrev pub Projects : StructSchema → StructSchema → Type 0

@@ -1,11 +1,12 @@
 //! A struct schema and a compatible successor of it.
 ghost use Rattle.std.specs.Prelude.{◌≡◌, IfErr, IfOk, MatchOption};
 ghost use Rattle.capnp_device.specs.declared.error.ErrorKind.TheVariants.{OutOfMemory};
-ghost use Rattle.capnp_records.specs.Compatible.{IsCompatible};
+ghost use Rattle.capnp_records.specs.Compatible.{IsCompatible, projection_of};
 ghost use Rattle.capnp_schema.specs.StructHandles.{IsStruct, number_of, set_of};
 
 use crate::decide::decide;
 use capnp_base::introspect::RawBrandedStructSchema;
+use capnp_dynamic::dynamic_struct;
 use capnp_records::laws::projection_law;
 use capnp_schema::schema::StructSchema;
 use capnp_wire::error::Result;
@@ -32,7 +33,9 @@ impl<'s> Model for Compatible<'s> {
 }
 
 impl<'s> Compatible<'s> {
-    ghost use Rattle.capnp_compatible.specs.Checked.{IsPair, Projects, newer_of, older_of};
+    ghost use Rattle.capnp_dynamic.specs.Handles.{reader_of, schema_of};
+    ghost use Rattle.capnp_dynamic.specs.Seen.{record_seen};
+    ghost use Rattle.capnp_compatible.specs.Checked.{IsPair, IsUnder, Projects, newer_of, older_of};
 
     /// The pair of an older schema and a newer one, where the newer is a compatible successor; nothing where it is not.
     /// Both are brands of one set. The same is asked of each pair of structs that two shared fields name, and each pair is
@@ -81,5 +84,35 @@ impl<'s> Compatible<'s> {
     {
         projection_law();
         self.follows();
+    }
+
+    /// A struct of the newer schema as the older one reads it. Fields that were added are not seen, an active member that
+    /// was added is an unknown one, and a union that was added is none. Nothing is copied, no memory is taken, and the
+    /// levels stay.
+    #[tactic(auto, using(crate::proofs::Sees::narrowed))]
+    pub fn narrow(&self, reader: dynamic_struct::Reader<'s>) -> dynamic_struct::Reader<'s>
+        requires { IsUnder reader (newer_of self.now) }
+        ensures schema { schema_of result ≡ older_of self.now }
+        ensures reader { reader_of result ≡ reader_of reader.entry }
+        ensures record { record_seen result ≡ projection_of (set_of (older_of self.now)) (number_of (older_of self.now)) (number_of (newer_of self.now)) (record_seen reader.entry) }
+    {
+        self.follows();
+        self.projects();
+        dynamic_struct::Reader::new(reader.get_sections(), self.older)
+    }
+
+    /// A struct of the older schema as the newer one reads it, where fields that were added have what stands at their
+    /// place: their default in a struct that was written under the older schema. Nothing is copied, no memory is taken, and
+    /// the levels stay.
+    #[tactic(auto, using(crate::proofs::Sees::widened))]
+    pub fn widen(&self, reader: dynamic_struct::Reader<'s>) -> dynamic_struct::Reader<'s>
+        requires { IsUnder reader (older_of self.now) }
+        ensures schema { schema_of result ≡ newer_of self.now }
+        ensures reader { reader_of result ≡ reader_of reader.entry }
+        ensures record { projection_of (set_of (older_of self.now)) (number_of (older_of self.now)) (number_of (newer_of self.now)) (record_seen result) ≡ record_seen reader.entry }
+    {
+        self.follows();
+        self.projects();
+        dynamic_struct::Reader::new(reader.get_sections(), self.newer)
     }
 }
