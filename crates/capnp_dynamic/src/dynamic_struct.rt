@@ -45,6 +45,13 @@ impl<'a> Reader<'a> {
         Reader { reader, schema }
     }
 
+    /// The struct's sections, without its schema.
+    pub fn get_sections(self) -> StructReader<'a>
+        ensures { result ≡ reader_of self.entry }
+    {
+        self.reader
+    }
+
     /// The size of the struct with all that its pointers lead to, as `StructReader::total_size`, and refused as that is.
     pub fn total_size(&self) -> Result<MessageSize>
         ensures size { IfOk result (λ size. IsSize size (first_fault_of_all (struct_of (reader_of self.now)).pointers) (words_of_struct (struct_of (reader_of self.now)))) }

@@ -1,0 +1,47 @@
+-- What an older schema sees of a struct is the projection of what a newer one sees.
+use Rattle.std.specs.Prelude.{ℕ, ◌≡◌, refl}
+use Rattle.std.proofs.Common.{ap, ap₂, sym, ◌∙◌}
+use Rattle.capnp_wire.specs.Standing.{struct_levels, struct_of}
+use Rattle.capnp_wire.specs.declared.struct_reader.StructReader.{StructReader}
+use Rattle.capnp_schema.specs.Schema.{Schemas}
+use Rattle.capnp_schema.specs.StructHandles.{number_of, set_of}
+use Rattle.capnp_schema.specs.declared.schema.structs.StructSchema.{StructSchema}
+use Rattle.capnp_records.specs.Compatible.{projection_of}
+use Rattle.capnp_records.specs.Reading.{struct_record}
+use Rattle.capnp_records.specs.Record.{Left, Record}
+use Rattle.capnp_dynamic.specs.Handles.{reader_of, schema_of}
+use Rattle.capnp_dynamic.specs.Seen.{record_seen}
+use Rattle.capnp_dynamic.specs.declared.dynamic_struct.Reader.{Reader as StructHandle}
+use Rattle.capnp_compatible.specs.Checked.{IsUnder, Projects}
+
+-- a record by the set, the number of the brand and the sections
+record_by : Schemas → ℕ → StructReader → Record
+record_by set b r = struct_record set (Left (struct_levels r)) (struct_of r) b
+
+seen_by : (s : StructHandle) (set : Schemas) (b : ℕ) (r : StructReader) → set_of (schema_of s) ≡ set → number_of (schema_of s) ≡ b → reader_of s ≡ r → record_seen s ≡ record_by set b r
+unfolding record_by
+seen_by s set b r e n h =
+    ap₂ (λ (x : Schemas) (m : ℕ). struct_record x (Left (struct_levels (reader_of s))) (struct_of (reader_of s)) m) e n
+    ∙ ap (λ (x : StructReader). struct_record set (Left (struct_levels x)) (struct_of x) b) h
+
+projects-by : (older newer : StructSchema) (r : StructReader) → Projects older newer →
+    record_by (set_of older) (number_of older) r ≡ projection_of (set_of older) (number_of older) (number_of newer) (record_by (set_of older) (number_of newer) r)
+unfolding record_by
+projects-by older newer r projects = projects (Left (struct_levels r)) (struct_of r)
+
+pub projection_seen : (older newer : StructSchema) (s t : StructHandle) → Projects older newer → set_of newer ≡ set_of older → IsUnder s older → IsUnder t newer → reader_of s ≡ reader_of t →
+    record_seen s ≡ projection_of (set_of older) (number_of older) (number_of newer) (record_seen t)
+projection_seen older newer s t projects one under over same =
+    seen_by s (set_of older) (number_of older) (reader_of t) under.0 under.1 same
+    ∙ projects-by older newer (reader_of t) projects
+    ∙ ap (projection_of (set_of older) (number_of older) (number_of newer)) (sym (seen_by t (set_of older) (number_of newer) (reader_of t) (over.0 ∙ one) over.1 refl))
+
+-- a struct under the older schema that a reader was narrowed to
+pub narrowed : (older newer : StructSchema) (s t : StructHandle) → Projects older newer → set_of newer ≡ set_of older → schema_of s ≡ older → IsUnder t newer → reader_of s ≡ reader_of t →
+    record_seen s ≡ projection_of (set_of older) (number_of older) (number_of newer) (record_seen t)
+narrowed older newer s t projects one is over same = projection_seen older newer s t projects one (ap set_of is, ap number_of is) over same
+
+-- one under the newer schema that a reader was widened to
+pub widened : (older newer : StructSchema) (s t : StructHandle) → Projects older newer → set_of newer ≡ set_of older → schema_of s ≡ newer → IsUnder t older → reader_of s ≡ reader_of t →
+    projection_of (set_of older) (number_of older) (number_of newer) (record_seen s) ≡ record_seen t
+widened older newer s t projects one is under same = sym (projection_seen older newer t s projects one under (ap set_of is, ap number_of is) (sym same))

@@ -1,0 +1,118 @@
+//! A struct schema and a compatible successor of it.
+ghost use Rattle.std.specs.Prelude.{◌≡◌, IfErr, IfOk, MatchOption};
+ghost use Rattle.capnp_device.specs.declared.error.ErrorKind.TheVariants.{OutOfMemory};
+ghost use Rattle.capnp_records.specs.Compatible.{IsCompatible, projection_of};
+ghost use Rattle.capnp_schema.specs.StructHandles.{IsStruct, number_of, set_of};
+
+use crate::decide::decide;
+use capnp_base::introspect::RawBrandedStructSchema;
+use capnp_dynamic::dynamic_struct;
+use capnp_records::laws::projection_law;
+use capnp_schema::schema::StructSchema;
+use capnp_wire::error::Result;
+use std::alloc::Global;
+use std::marker::Model;
+
+/// A struct schema and a compatible successor of it, of one set: a struct that was written under either reads under the
+/// other, and the older schema sees the projection of what the newer sees (language page, "Evolving Your Protocol").
+#[derive(Drop)]
+pub struct Compatible<'s> {
+    older: StructSchema<'s>,
+    newer: StructSchema<'s>,
+}
+
+impl<'s> Model for Compatible<'s> {
+    ghost use Rattle.capnp_schema.specs.declared.schema.structs.StructSchema.{StructSchema};
+    ghost use Rattle.capnp_compatible.specs.Checked.{Follows};
+
+    ghost Value = { StructSchema × StructSchema };
+
+    ghost view = { λ c. (c.older, c.newer) };
+
+    ghost invariant = { λ c. Follows c.older c.newer };
+}
+
+impl<'s> Compatible<'s> {
+    ghost use Rattle.capnp_dynamic.specs.Handles.{reader_of, schema_of};
+    ghost use Rattle.capnp_dynamic.specs.Seen.{record_seen};
+    ghost use Rattle.capnp_compatible.specs.Checked.{IsPair, IsUnder, Projects, newer_of, older_of};
+
+    /// The pair of an older schema and a newer one, where the newer is a compatible successor; nothing where it is not.
+    /// Both are brands of one set. The same is asked of each pair of structs that two shared fields name, and each pair is
+    /// looked at once.
+    ///
+    /// It is a successor where the older fields are a beginning of the newer ones, by index, and each has its place, its
+    /// discriminant value and its default still, and a type that is related: the same one; an enum with at least as many
+    /// enumerants; a list of a related type; or a struct or group that is a successor. A union stands where it stood and
+    /// has no fewer members. Names are not compared.
+    ///
+    /// Refused with `OutOfMemory` where there is no memory for the list of pairs, and with nothing else.
+    pub fn check(
+        alloc: Global,
+        older: StructSchema<'s>,
+        newer: StructSchema<'s>,
+    ) -> Result<Option<Compatible<'s>>>
+        requires older { IsStruct older }
+        requires newer { IsStruct newer }
+        requires one_set { set_of newer ≡ set_of older }
+        ensures answer { IfOk result (λ found. MatchOption found (IsCompatible (set_of older.entry) (number_of older.entry) (number_of newer.entry) → ⊥) (IsPair older.entry newer.entry)) }
+        ensures refused { IfErr result (λ e. e.kind ≡ OutOfMemory) }
+    {
+        let set = older.get_set();
+        let one = RawBrandedStructSchema::from(older);
+        let other = RawBrandedStructSchema::from(newer);
+        if !decide(alloc, set, one.number, other.number)? {
+            return Ok(None);
+        }
+        Ok(Some(Compatible { older, newer }))
+    }
+
+    /// What is so of every pair. Does nothing: a caller's proof has its clauses.
+    pub fn follows(&self)
+        ensures older { IsStruct (older_of self.now) }
+        ensures newer { IsStruct (newer_of self.now) }
+        ensures one_set { set_of (newer_of self.now) ≡ set_of (older_of self.now) }
+        ensures follows { IsCompatible (set_of (older_of self.now)) (number_of (older_of self.now)) (number_of (newer_of self.now)) }
+    {
+        let _older = self.older;
+    }
+
+    /// The record of any struct under the older schema is the projection of its record under the newer one. Does nothing:
+    /// a caller's proof has its clause.
+    pub fn projects(&self)
+        ensures { Projects (older_of self.now) (newer_of self.now) }
+    {
+        projection_law();
+        self.follows();
+    }
+
+    /// A struct of the newer schema as the older one reads it. Fields that were added are not seen, an active member that
+    /// was added is an unknown one, and a union that was added is none. Nothing is copied, no memory is taken, and the
+    /// levels stay.
+    #[tactic(auto, using(crate::proofs::Sees::narrowed))]
+    pub fn narrow(&self, reader: dynamic_struct::Reader<'s>) -> dynamic_struct::Reader<'s>
+        requires { IsUnder reader (newer_of self.now) }
+        ensures schema { schema_of result ≡ older_of self.now }
+        ensures reader { reader_of result ≡ reader_of reader.entry }
+        ensures record { record_seen result ≡ projection_of (set_of (older_of self.now)) (number_of (older_of self.now)) (number_of (newer_of self.now)) (record_seen reader.entry) }
+    {
+        self.follows();
+        self.projects();
+        dynamic_struct::Reader::new(reader.get_sections(), self.older)
+    }
+
+    /// A struct of the older schema as the newer one reads it, where fields that were added have what stands at their
+    /// place: their default in a struct that was written under the older schema. Nothing is copied, no memory is taken, and
+    /// the levels stay.
+    #[tactic(auto, using(crate::proofs::Sees::widened))]
+    pub fn widen(&self, reader: dynamic_struct::Reader<'s>) -> dynamic_struct::Reader<'s>
+        requires { IsUnder reader (older_of self.now) }
+        ensures schema { schema_of result ≡ newer_of self.now }
+        ensures reader { reader_of result ≡ reader_of reader.entry }
+        ensures record { projection_of (set_of (older_of self.now)) (number_of (older_of self.now)) (number_of (newer_of self.now)) (record_seen result) ≡ record_seen reader.entry }
+    {
+        self.follows();
+        self.projects();
+        dynamic_struct::Reader::new(reader.get_sections(), self.newer)
+    }
+}

@@ -1,0 +1,37 @@
+//! Whether a brand is a compatible successor of another, by a walk over pairs of brands.
+ghost use Rattle.std.specs.Prelude.{◌≡◌, ◌<◌, IfErr, IfOk, length};
+ghost use Rattle.std.specs.Bool.{Decides};
+ghost use Rattle.capnp_device.specs.declared.error.ErrorKind.TheVariants.{OutOfMemory};
+ghost use Rattle.capnp_schema.specs.Entries.{lists_seen};
+ghost use Rattle.capnp_records.specs.Compatible.{IsCompatible};
+
+use crate::brands::is_accepted;
+use crate::fields::is_successor;
+use crate::named::add_named;
+use crate::pairs::{Pair, pair_at};
+use capnp_schema::set::SchemaSet;
+use capnp_wire::error::Result;
+use std::alloc::Global;
+
+/// Whether a brand is a compatible successor of another. Each pair of brands that the fields of two structs name, from
+/// the given pair on, is looked at once.
+pub(crate) fn decide(alloc: Global, set: &SchemaSet, older: u32, newer: u32) -> Result<bool>
+    requires older { older < length (lists_seen set.now).brands }
+    requires newer { newer < length (lists_seen set.now).brands }
+    ensures decides { IfOk result (λ yes. Decides yes (IsCompatible (lists_seen set.now) older newer)) }
+    ensures refused { IfErr result (λ e. e.kind ≡ OutOfMemory) }
+{
+    is_accepted(set);
+    let mut pairs = Vec::new(alloc);
+    pairs.push(Pair { older, newer })?;
+    let mut next = 0;
+    while next < pairs.len() {
+        let pair = pair_at(&pairs, next);
+        if !is_successor(set, pair.older, pair.newer) {
+            return Ok(false);
+        }
+        add_named(set, pair.older, pair.newer, &mut pairs)?;
+        next += 1;
+    }
+    Ok(true)
+}

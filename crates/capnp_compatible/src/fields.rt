@@ -1,0 +1,76 @@
+//! Fields and structs that are shared, where all pairs of structs are related.
+ghost use Rattle.std.specs.Prelude.{◌≡◌, ◌<◌, ◌≤◌, ◌↔◌, IsTrue, length};
+ghost use Rattle.capnp_schema.specs.Entries.{lists_seen};
+ghost use Rattle.capnp_schema.specs.Schema.{field_at, fields_of, node_of};
+ghost use Rattle.capnp_schema.specs.FieldLists.{typed_of};
+ghost use Rattle.capnp_records.specs.Compatible.{SharedField, SharedStruct};
+ghost use Rattle.capnp_compatible.specs.Closing.{UnionGrows, all_pairs, FieldsShared};
+
+use crate::brands::{field_count, field_of, node_of};
+use crate::defaults::are_same_kind;
+use crate::types::are_related;
+use capnp_schema::schema::Field;
+use capnp_schema::set::SchemaSet;
+
+/// Whether two fields are of one place and discriminant value, with the same default and related types.
+#[tactic(auto, using(crate::proofs::SharedParts::field_parts))]
+fn is_shared(set: &SchemaSet, older: Field<'_>, newer: Field<'_>) -> bool
+    ensures { IsTrue result ↔ SharedField (lists_seen set.now) all_pairs (typed_of older.entry) (typed_of newer.entry) }
+{
+    let one = older.get_proto();
+    let other = newer.get_proto();
+    if one.discriminant_value != other.discriminant_value {
+        return false;
+    }
+    if !are_same_kind(&one.kind, &other.kind) {
+        return false;
+    }
+    are_related(set, older.get_type(), newer.get_type())
+}
+
+/// Whether the fields of an older struct are shared by a newer one, which has as many.
+fn are_fields_shared(set: &SchemaSet, older: u32, newer: u32) -> bool
+    requires older { older < length (lists_seen set.now).brands }
+    requires newer { newer < length (lists_seen set.now).brands }
+    requires enough { length (fields_of (lists_seen set.now) older) ≤ length (fields_of (lists_seen set.now) newer) }
+    ensures yes { IsTrue result → FieldsShared (lists_seen set.now) all_pairs older newer (length (fields_of (lists_seen set.now) older)) }
+    ensures no { FieldsShared (lists_seen set.now) all_pairs older newer (length (fields_of (lists_seen set.now) older)) → IsTrue result }
+{
+    for i in 0..field_count(set, older) {
+        if !is_shared(set, field_of(set, older, i), field_of(set, newer, i)) {
+            return false;
+        }
+    }
+    true
+}
+
+/// Whether a newer struct has the union of an older one, with at least as many members.
+fn does_union_grow(set: &SchemaSet, older: u32, newer: u32) -> bool
+    requires older { older < length (lists_seen set.now).brands }
+    requires newer { newer < length (lists_seen set.now).brands }
+    ensures { IsTrue result ↔ UnionGrows (node_of (lists_seen set.now) older) (node_of (lists_seen set.now) newer) }
+{
+    let one = node_of(set, older);
+    let other = node_of(set, newer);
+    if one.body.discriminant_count == 0 {
+        return true;
+    }
+    one.body.discriminant_offset == other.body.discriminant_offset
+        && one.body.discriminant_count <= other.body.discriminant_count
+}
+
+/// Whether a newer struct is related to an older one, where all pairs of structs are.
+#[tactic(auto, using(crate::proofs::SharedParts::struct_parts))]
+pub(crate) fn is_successor(set: &SchemaSet, older: u32, newer: u32) -> bool
+    requires older { older < length (lists_seen set.now).brands }
+    requires newer { newer < length (lists_seen set.now).brands }
+    ensures { IsTrue result ↔ SharedStruct (lists_seen set.now) all_pairs older newer }
+{
+    if field_count(set, older) > field_count(set, newer) {
+        return false;
+    }
+    if !does_union_grow(set, older, newer) {
+        return false;
+    }
+    are_fields_shared(set, older, newer)
+}

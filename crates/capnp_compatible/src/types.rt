@@ -1,0 +1,122 @@
+//! Types that are related.
+ghost use Rattle.std.specs.Prelude.{◌≡◌, ◌↔◌, IsTrue, length, slice_get};
+ghost use Rattle.std.specs.Option.{option_copied};
+ghost use Rattle.capnp_base.specs.Types.{kind};
+ghost use Rattle.capnp_schema.specs.Entries.{lists_seen};
+ghost use Rattle.capnp_schema.specs.Schema.{enum_at};
+ghost use Rattle.capnp_schema.specs.Types.{seen_type};
+ghost use Rattle.capnp_schema.specs.Tests.{seen_variant};
+ghost use Rattle.capnp_records.specs.Compatible.{Related};
+ghost use Rattle.capnp_compatible.specs.Closing.{all_pairs, named};
+
+use crate::pairs::Pair;
+use capnp_base::introspect::{Type, TypeVariant};
+use capnp_schema::record::EnumRecord;
+use capnp_schema::set::SchemaSet;
+
+fn kind(layer: TypeVariant) -> u8
+    ensures { result ≡ kind layer }
+{
+    match layer {
+        TypeVariant::Void => 0,
+        TypeVariant::Bool => 1,
+        TypeVariant::Int8 => 2,
+        TypeVariant::Int16 => 3,
+        TypeVariant::Int32 => 4,
+        TypeVariant::Int64 => 5,
+        TypeVariant::UInt8 => 6,
+        TypeVariant::UInt16 => 7,
+        TypeVariant::UInt32 => 8,
+        TypeVariant::UInt64 => 9,
+        TypeVariant::Text => 10,
+        TypeVariant::Data => 11,
+        TypeVariant::Struct(_) => 12,
+        TypeVariant::AnyPointer => 13,
+        TypeVariant::Enum(_) => 14,
+        TypeVariant::List(_) => 15,
+    }
+}
+
+fn enum_of(enums: &[EnumRecord], number: u32) -> Option<&EnumRecord>
+    ensures { option_copied result ≡ slice_get enums.now number }
+{
+    enums.get(number as usize)
+}
+
+/// How many names an enum of the set has.
+fn enumerant_count(set: &SchemaSet, number: u32) -> usize
+    ensures { result ≡ length (enum_at (lists_seen set.now) number).enumerants }
+{
+    match enum_of(set.enums(), number) {
+        Some(record) => record.enumerants.len(),
+        None => 0,
+    }
+}
+
+/// Whether two layers are related, of which not both are lists.
+fn are_related_layers(set: &SchemaSet, older: TypeVariant, newer: TypeVariant) -> bool
+    requires { kind older ≡ 15 → kind newer ≡ 15 → ⊥ }
+    ensures { IsTrue result ↔ Related (lists_seen set.now) all_pairs (seen_variant older) (seen_variant newer) }
+{
+    if kind(older) != kind(newer) {
+        return false;
+    }
+    match older {
+        TypeVariant::Enum(d) => match newer {
+            TypeVariant::Enum(e) =>
+                enumerant_count(set, d.number) <= enumerant_count(set, e.number),
+            _ => false,
+        },
+        _ => true,
+    }
+}
+
+/// Whether an older type is related to a newer one, where all pairs of structs are.
+pub(crate) fn are_related(set: &SchemaSet, older: Type, newer: Type) -> bool
+    ensures { IsTrue result ↔ Related (lists_seen set.now) all_pairs (seen_type older) (seen_type newer) }
+{
+    let s = older.which();
+    let t = newer.which();
+    match s {
+        TypeVariant::List(x) => match t {
+            TypeVariant::List(y) => are_related(set, x, y),
+            _ => are_related_layers(set, s, t),
+        },
+        _ => are_related_layers(set, s, t),
+    }
+}
+
+/// The pair of structs that two layers name, of which not both are lists.
+fn named_layers(older: TypeVariant, newer: TypeVariant) -> Option<Pair>
+    requires { kind older ≡ 15 → kind newer ≡ 15 → ⊥ }
+    ensures { result ≡ named (seen_variant older) (seen_variant newer) }
+{
+    if kind(older) != kind(newer) {
+        return None;
+    }
+    match older {
+        TypeVariant::Struct(s) => match newer {
+            TypeVariant::Struct(t) => Some(Pair {
+                older: s.number,
+                newer: t.number,
+            }),
+            _ => None,
+        },
+        _ => None,
+    }
+}
+
+/// The pair of structs that two types name, inside lists of the same depth.
+pub(crate) fn named(older: Type, newer: Type) -> Option<Pair>
+    ensures { result ≡ named (seen_type older) (seen_type newer) }
+{
+    let s = older.which();
+    let t = newer.which();
+    match s {
+        TypeVariant::List(x) => match t {
+            TypeVariant::List(y) => named(x, y),
+            _ => named_layers(s, t),
+        },
+        _ => named_layers(s, t),
+    }
+}
