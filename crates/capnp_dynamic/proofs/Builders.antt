@@ -26,8 +26,10 @@ room_for f schema s belongs under =
 -- what a write keeps, the schema keeps
 pub under_kept : (schema : StructSchema) (inside : Place → Bool) (s s' : StructTree) → IsUnder schema s → Keeps inside s s' → IsUnder schema s'
 under_kept schema inside s s' under kept = record {
-  room = (subst (λ n. 8 * (brand_size (set_of schema) (number_of schema)).data_words ≤ n) (sym kept.writes.data_size) under.room.0,
-      subst (λ n. (brand_size (set_of schema) (number_of schema)).pointers ≤ n) (sym kept.writes.pointer_count) under.room.1);
+  room = (
+    subst (λ n. 8 * (brand_size (set_of schema) (number_of schema)).data_words ≤ n) (sym kept.writes.data_size) under.room.0,
+    subst (λ n. (brand_size (set_of schema) (number_of schema)).pointers ≤ n) (sym kept.writes.pointer_count) under.room.1,
+  );
   formed = kept.formed under.formed;
 }
 
