@@ -121,7 +121,10 @@ pub(crate) fn copy_bits(object: &mut StructObject, plan: SlotPlan, source: &Stru
     requires inside { PlanFits plan (struct_object_tree object.old) }
     ensures { struct_object_tree object.new ≡ plan_written plan (Bits (place_bits plan.place (struct_of source.now).bytes)) (struct_object_tree object.old) }
 {
-    let SlotPlan { place, member: discriminant } = plan;
+    let SlotPlan {
+        place,
+        member: discriminant,
+    } = plan;
     switch_member(object, discriminant);
     match place {
         Place::Nothing => {}
