@@ -1,10 +1,9 @@
 -- A group is copied one field after another.
-use Rattle.std.specs.Prelude.{ℕ, zero, suc, ◌+◌, ◌-◌, ◌<◌, ◌≤◌, ◌≡◌, ◌≢◌, ⊤, refl, List, [], ◌∷◌, ◌++◌, Bool, true, false, not, ◌&&◌, ◌==◌, nat_lt, cond, length, map, position, slice_get, slice_index, drop, Option, Some, None, option_map, Result, Ok, Err, OnOk, OnErr, IfErr}
+use Rattle.std.specs.Prelude.{ℕ, zero, suc, ◌+◌, ◌-◌, ◌<◌, ◌≤◌, ◌≡◌, ◌≢◌, ⊤, refl, List, [], ◌∷◌, ◌++◌, Bool, true, false, not, ◌&&◌, ◌==◌, nat_lt, cond, length, position, slice_index, drop, Option, Some, None, option_map, Result, Ok, Err, OnOk, OnErr, IfErr}
 use Rattle.std.proofs.Common.{arith, inl, inr, ap, sym, subst, ◌∙◌}
 use Rattle.std.proofs.lemmas.Bool.{eq-eqb, true≢false}
 use Rattle.std.proofs.lemmas.List.{drop_all, drop_more}
 use Rattle.std.specs.List.{position_or_len}
-use Rattle.std.specs.Option.{unwrap_or}
 use Rattle.capnp_device.specs.declared.error.Error.{Error}
 use Rattle.capnp_device.specs.declared.error.ErrorKind.{ErrorKind}
 use Rattle.capnp_device.specs.declared.error.ErrorKind.TheVariants.{OutOfMemory, TypeMismatch}
@@ -13,7 +12,7 @@ use Rattle.capnp_wire.specs.Tree.{StructTree, Tree, nth_tree}
 use Rattle.capnp_schema.specs.FieldLists.{IsFieldOf, IsFound, index_of, schema_of, typed_of}
 use Rattle.capnp_schema.specs.Query.{indices_from, is_member_of, is_plain, keep_index, member_of, records_of}
 use Rattle.capnp_schema.specs.Ranges.{HasRanges}
-use Rattle.capnp_schema.specs.Schema.{Field as FieldSeen, FieldKind, Group, Schemas, Slot, TypedField, field_at, fields_of, is_member, kind_default, no_field, node_of}
+use Rattle.capnp_schema.specs.Schema.{FieldKind, Group, Schemas, Slot, TypedField, field_at, fields_of, is_member, kind_default, node_of}
 use Rattle.capnp_schema.specs.Schema.{Value as SchemaValue}
 use Rattle.capnp_schema.specs.StructHandles.{IsStruct, number_of, set_of}
 use Rattle.capnp_schema.specs.Types.{AnyPointerType, BoolType, DataType, EnumType, IntType, ListType, SchemaType, StructType, TextType, UIntType, VoidType, is_pointer, struct_number}
@@ -39,7 +38,7 @@ use Rattle.capnp_slots.specs.Fields.{IsRoomFor, IsSlot, Keeps, field_brand, fiel
 use Rattle.capnp_slots.specs.GroupSets.{CopiesIndices, CopiesThrough, IsGroupSet, active_in, given_to_group, is_index_there, is_part_there, kept_indices, member_indices, plain_in}
 use Rattle.capnp_slots.specs.Groups.{IsGroupAt, KeepsSize, cleared_through}
 use Rattle.capnp_slots.specs.Sources.{IsSetRefusal, IsTaken, copy_due}
-use Rattle.capnp_slots.proofs.GroupClears.{cleared-whole}
+use Rattle.capnp_slots.proofs.GroupClears.{cleared-whole, entry, lt-suc, records}
 
 -- ---- a slot ----
 
@@ -197,12 +196,6 @@ module _ (copy : TreeCopying) (set : Schemas) (l : Levels) (x : StructTree) (b :
 
 -- ---- the fields of the source ----
 
-abbrev entry : List TypedField → ℕ → TypedField
-entry fs i = unwrap_or (slice_get fs i) no_field
-
-abbrev records : List TypedField → List FieldSeen
-records fs = map (λ (f : TypedField). f.field) fs
-
 plain-kept : (part : TypedField → Value) (fs : List TypedField) (vs : Values) (first : ℕ) (at : ℕ → TypedField) → ((j : ℕ) → at (first + j) ≡ entry fs j) → ((j : ℕ) → nth_value vs (first + j) ≡ nth_value (plain_parts part fs) j) →
     plain_there fs vs first ≡ kept_indices (λ i. is_there (part (at i))) (indices_from first is_plain (records fs))
 plain-kept part [] vs first at names there = refl
@@ -311,9 +304,6 @@ plain-end groups schema l x is n past s = subst (λ js. Remains groups schema l 
 
 -- ---- the member ----
 
-lt-suc : (n m : ℕ) → nat_lt (1 + n) (suc m) ≡ nat_lt n m
-lt-suc n m = grind arith
-
 lt-zero : (m : ℕ) → nat_lt 0 (suc m) ≡ true
 lt-zero m = grind arith
 
@@ -337,7 +327,7 @@ which-among vs v (f ∷ fs) k d = go (is_member_of d f.field) (which-among vs v 
     go : (q : Bool) → which_of (Parts vs (active_among v fs (suc k) d)) ≡ option_map (λ i. suc k + i) (cond (nat_lt n m) (Some n) None) →
         which_of (Parts vs (elim q as (λ _. Union) [ true ↦ Active k (v f) | false ↦ active_among v fs (suc k) d ])) ≡ option_map (λ i. k + i) (cond (nat_lt (cond (not q) (1 + n) 0) (suc m)) (Some (cond (not q) (1 + n) 0)) None)
     go true ih = ap Some (omega arith) ∙ sym (ap (λ q. option_map (λ i. k + i) (cond q (Some 0) None)) (lt-zero m))
-    go false ih = ih ∙ (shift (nat_lt n m) ∙ sym (ap (λ q. option_map (λ i. k + i) (cond q (Some (1 + n)) None)) (lt-suc n m)))
+    go false ih = ih ∙ (shift (nat_lt n m) ∙ ap (λ q. option_map (λ i. k + i) (cond q (Some (1 + n)) None)) (lt-suc n m))
 
 from-zero : (o : Option ℕ) → option_map (λ i. 0 + i) o ≡ o
 from-zero None = refl

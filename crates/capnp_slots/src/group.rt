@@ -146,13 +146,13 @@ fn copy(
     copy_group(object, group, source, set.brands().len() + 1)
 }
 
-/// Sets a group to a struct of its schema: it is cleared, as `clear` does, and then the source's fields are copied: its
-/// active member, a null one as its default, and its plain fields by index, null pointers left out. Groups in it are copied in
-/// the same way. A union whose discriminant is no member's is not copied.
+/// Sets a group to a struct of its schema: it is cleared, as by `clear`, and then the source's fields are copied: first its
+/// active member, a null one as its default, and then its plain fields by index, but for null pointers. Groups in it are
+/// copied in the same way. A member is not copied where the source's discriminant is that of none.
 ///
-/// Refused with `NotAStruct` for a source that is no struct, and then with `TypeMismatch` for a struct of another schema;
-/// then nothing has changed. The first field whose copy is refused, as `copied::copy` says, ends the whole, with its refusal:
-/// the member is active, and what was copied before it stays.
+/// Refused with `NotAStruct` for a source that is no struct, and with `TypeMismatch` for a struct of another schema; then
+/// nothing has changed. The first slot whose copy is refused, as by `copied::copy`, ends the whole with that refusal: the
+/// group stays as it is by then, cleared and with what was copied before.
 pub fn set(object: &mut StructObject, field: Field<'_>, source: Source<'_>) -> Result<()>
     requires group { IsGroup field }
     requires room { IsRoomFor field (struct_object_tree object.old) }
