@@ -1,11 +1,11 @@
 -- What is copied into a slot is what its copy is given.
-use Rattle.std.specs.Prelude.{ℕ, List, ◌*◌, ◌≡◌, ◌≢◌, refl, Bool, true, false, ◌==◌, cond, Option, Some, None, option_map, Result, Ok, Err, IsOk, OnOk, IfErr, ⊤}
+use Rattle.std.specs.Prelude.{ℕ, List, ◌*◌, ◌≡◌, refl, Bool, true, false, ◌==◌, cond, Option, Some, None, option_map, Result, Ok, Err, IsOk, OnOk, IfErr, ⊤}
 use Rattle.std.specs.Borrow.{Bor}
 use Rattle.std.proofs.Common.{ap, sym, subst, ◌∙◌}
 use Rattle.std.proofs.lemmas.Bool.{true≢false}
 use Rattle.capnp_device.specs.declared.error.Error.{Error}
 use Rattle.capnp_device.specs.declared.error.ErrorKind.{ErrorKind}
-use Rattle.capnp_device.specs.declared.error.ErrorKind.TheVariants.{OutOfMemory, TooDeep, CannotSetAnyPointerFieldToAPrimitiveValue}
+use Rattle.capnp_device.specs.declared.error.ErrorKind.TheVariants.{OutOfMemory, TooDeep}
 use Rattle.capnp_wire.specs.Tree as tree
 use Rattle.capnp_wire.specs.Tree.{StructTree, Tree, empty_struct, nth_tree}
 use Rattle.capnp_wire.specs.Defaults.{error_of}
@@ -18,7 +18,7 @@ use Rattle.capnp_schema.specs.Defaults.{DefaultFits, IsReadAs}
 use Rattle.capnp_schema.specs.Defaults.{default_tree as words_tree}
 use Rattle.capnp_schema.specs.Schema.{FieldKind, Group, Slot, default_of, kind_default, Schemas, TextValue, DataValue, StructValue, ListValue, AnyPointerValue}
 use Rattle.capnp_schema.specs.Schema.{Value as SchemaValue}
-use Rattle.capnp_schema.specs.Types.{width, AnyPointerType, BoolType, DataType, EnumType, IntType, ListType, SchemaType, StructType, TextType, UIntType, VoidType, element_size, is_pointer}
+use Rattle.capnp_schema.specs.Types.{width, AnyPointerType, DataType, ListType, SchemaType, StructType, TextType, element_size, is_pointer}
 use Rattle.capnp_records.specs.Default.{default_value, read_of, unless_null}
 use Rattle.capnp_records.specs.Facts.DefaultTree.{read-there}
 use Rattle.capnp_records.specs.Facts.ListValues.{below_of}

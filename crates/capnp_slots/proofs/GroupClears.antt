@@ -39,10 +39,10 @@ fits-kept set b s s' k fits = fits-after _ set b s s' k.writes fits
 -- ---- the fields that are cleared, by their indices ----
 
 -- the entry of an index
-abbrev entry : List TypedField → ℕ → TypedField
+abbrev pub entry : List TypedField → ℕ → TypedField
 entry fs i = unwrap_or (slice_get fs i) no_field
 
-abbrev records : List TypedField → List FieldSeen
+abbrev pub records : List TypedField → List FieldSeen
 records fs = map (λ (f : TypedField). f.field) fs
 
 -- an index below a count
@@ -55,7 +55,7 @@ below-zero n = ap (λ q. cond q (Some 0) None) (lt-true 0 (suc n) (omega arith))
     lt-true : (m n : ℕ) → m < n → nat_lt m n ≡ true
     lt-true m n a = grind (arith, a)
 
-lt-suc : (k n : ℕ) → nat_lt k n ≡ nat_lt (1 + k) (suc n)
+pub lt-suc : (k n : ℕ) → nat_lt k n ≡ nat_lt (1 + k) (suc n)
 lt-suc k n = grind arith
 
 module _ (clear : TypedField → StructTree → StructTree) where

@@ -1,9 +1,10 @@
 -- A field's group, by the place of its plan.
-use Rattle.std.specs.Prelude.{ℕ, zero, suc, ◌≡◌, refl, Bool, true, false}
+use Rattle.std.specs.Prelude.{ℕ, zero, suc, ◌<◌, ◌≡◌, refl, Bool, true, false}
 use Rattle.std.proofs.Common.{arith, ap, sym, subst, ◌∙◌}
 use Rattle.capnp_schema.specs.Accepted.{IsGroupOf, GroupFits}
 use Rattle.capnp_schema.specs.FieldLists.{index_of, schema_of, typed_of}
 use Rattle.capnp_schema.specs.GroupsDown.{IfGroup, LeadsToGroup}
+use Rattle.capnp_schema.specs.Laws.{group_height}
 use Rattle.capnp_schema.specs.Plan.{place_of, plan_of, slot_place}
 use Rattle.capnp_schema.specs.Schema.{FieldKind, Group, Schemas, Slot, Value}
 use Rattle.capnp_schema.specs.StructHandles.{IsStruct, number_of, set_of}
@@ -61,6 +62,7 @@ group-is f p g schema is e h leads set number stands =
       number = number ∙ at.number;
       names = subst (IsGroupOf (typed_of f).field.kind (typed_of f).type) (sym number) at.names;
       room = λ s room. subst (λ z. Fits z (number_of schema) s) (sym set) (subst (λ n. Fits (field_set f) n s) (sym number) (omega (arith, leads.data_words, room.0), omega (arith, leads.pointers, room.1)));
+      lower = subst (λ z. group_height z (number_of schema) < group_height (field_set f) (field_brand f)) (sym set) (subst (λ n. group_height (field_set f) n < group_height (field_set f) (field_brand f)) (sym number) leads.down.lower);
     }
 
 pub leads-from : (f : Field) (p : Place) (g : ℕ) → p ≡ place.Group g → IfGroup p (LeadsToGroup (field_set f) (field_brand f)) → LeadsToGroup (field_set f) (field_brand f) g

@@ -12,3 +12,4 @@ pub mod Filled
 pub mod FilledSlots
 pub mod SetElements
 pub mod ElementParts
+pub mod GroupCopies

@@ -1,9 +1,10 @@
 -- Groups of a struct: what they are, and their clear a field after another.
-use Rattle.std.specs.Prelude.{ℕ, ◌≡◌, true, List, [], ◌∷◌, Option, Some, None}
+use Rattle.std.specs.Prelude.{ℕ, ◌<◌, ◌≡◌, true, List, [], ◌∷◌, Option, Some, None}
 use Rattle.capnp_wire.specs.Tree.{StructTree}
 use Rattle.capnp_schema.specs.Accepted.{IsGroupOf}
 use Rattle.capnp_schema.specs.FieldLists.{typed_of}
 use Rattle.capnp_schema.specs.Footprint.{Place}
+use Rattle.capnp_schema.specs.Laws.{group_height}
 use Rattle.capnp_schema.specs.Schema.{Schemas, TypedField, field_at}
 use Rattle.capnp_schema.specs.StructHandles.{IsStruct, number_of, set_of}
 use Rattle.capnp_schema.specs.Types.{struct_number}
@@ -19,7 +20,7 @@ use Rattle.capnp_slots.specs.Fields.{IsRoomFor, Keeps, field_brand, field_set}
 abbrev pub IsGroup : Field → Type 0
 IsGroup f = is_group_field (typed_of f).field.kind ≡ true
 
--- the schema of a field's group: it is room where the field's is
+-- the schema of a field's group, of lesser height: it is room where the field's is
 pub record IsGroupAt (f : Field) (g : StructSchema) : Type 0 where
   pub is_group : IsGroup f
   pub stands : IsStruct g
@@ -27,6 +28,7 @@ pub record IsGroupAt (f : Field) (g : StructSchema) : Type 0 where
   pub number : number_of g ≡ struct_number (typed_of f).type
   pub names : IsGroupOf (typed_of f).field.kind (typed_of f).type (number_of g)
   pub room : (s : StructTree) → IsRoomFor f s → Fits (set_of g) (number_of g) s
+  pub lower : group_height (set_of g) (number_of g) < group_height (field_set f) (field_brand f)
 
 -- the struct with the field's group cleared and the union switched to the field
 abbrev pub group_without : Field → StructTree → StructTree

@@ -8,3 +8,4 @@ pub mod Groups
 pub mod Fills
 pub mod Lending
 pub mod ElementSets
+pub mod GroupSets

@@ -29,7 +29,7 @@ use capnp_wire::object::StructObject;
 use capnp_wire::{PointerReader, StructReader};
 
 /// The variant of a field's type.
-fn variant_of(field: Field<'_>) -> TypeVariant
+pub(crate) fn variant_of(field: Field<'_>) -> TypeVariant
     ensures { seen_variant result ≡ (typed_of field.entry).type }
 {
     field.get_type().which()
@@ -208,7 +208,7 @@ fn copy_number(object: &mut StructObject, field: Field<'_>, source: &StructReade
 }
 
 /// Whether a type's values stand behind a pointer.
-fn is_behind(variant: TypeVariant) -> bool
+pub(crate) fn is_behind(variant: TypeVariant) -> bool
     ensures { result ≡ is_pointer (seen_variant variant) }
 {
     match variant {

@@ -5,14 +5,23 @@ ghost use Rattle.capnp_schema.specs.FieldLists.{typed_of};
 ghost use Rattle.capnp_schema.specs.Query.{member_of, plain_fields};
 ghost use Rattle.capnp_schema.specs.StructHandles.{number_of, set_of, struct_records};
 ghost use Rattle.capnp_records.specs.Writes.Slots.{Fits};
+ghost use Rattle.capnp_slots.specs.Copied.{refusal_of};
 ghost use Rattle.capnp_slots.specs.Fields.{IsRoomFor, IsSlot, Keeps, field_brand, field_set, names_of};
 ghost use Rattle.capnp_slots.specs.Groups.{IsGroup, IsGroupAt, KeepsSize, clear_by, clear_index, cleared_indices, cleared_option, cleared_through, group_without};
+ghost use Rattle.capnp_slots.specs.GroupSets.{IsCopiedInto, IsGroupSet, given_to_group};
+ghost use Rattle.capnp_slots.specs.Sources.{source_seen};
 
+use crate::group_copy::copy_group;
+use crate::primitive::mismatch;
 use crate::slot;
-use capnp_records::laws::group_is_cleared;
-use capnp_schema::laws::numbers_fit;
+use crate::source::Source;
+use capnp_base::introspect::RawBrandedStructSchema;
+use capnp_records::laws::{group_is_cleared, group_is_copied};
+use capnp_schema::laws::{heights_fall, numbers_fit};
 use capnp_schema::plan::{Place, plans_stand};
 use capnp_schema::schema::{Field, StructSchema};
+use capnp_wire::StructReader;
+use capnp_wire::error::{Error, ErrorKind, Result};
 use capnp_wire::object::StructObject;
 
 /// The schema of a field's group; none for a slot.
@@ -76,7 +85,7 @@ fn clear_plain(object: &mut StructObject, schema: StructSchema<'_>, groups: usiz
 
 /// Clears a group of a struct: its member of discriminant value 0, and then its plain fields by index.
 #[cycle(clear)]
-fn clear_group(object: &mut StructObject, schema: StructSchema<'_>, groups: usize)
+pub(crate) fn clear_group(object: &mut StructObject, schema: StructSchema<'_>, groups: usize)
     requires { Fits (set_of schema) (number_of schema) (struct_object_tree object.old) }
     ensures cleared { struct_object_tree object.new ≡ cleared_through groups (set_of schema.entry) (number_of schema.entry) (struct_object_tree object.old) }
     ensures kept { KeepsSize (struct_object_tree object.old) (struct_object_tree object.new) }
@@ -115,4 +124,50 @@ pub fn init(object: &mut StructObject, field: Field<'_>)
     ensures kept { Keeps (names_of field.entry) (struct_object_tree object.old) (struct_object_tree object.new) }
 {
     clear(object, field);
+}
+
+/// Copies a struct of the schema of a field's group into the group.
+fn copy(
+    object: &mut StructObject,
+    field: Field<'_>,
+    group: StructSchema<'_>,
+    source: StructReader<'_>,
+) -> Result<()>
+    requires group { IsGroupAt field group }
+    requires room { IsRoomFor field (struct_object_tree object.old) }
+    ensures copied { IsCopiedInto field.entry group.entry source.entry (struct_object_tree object.old) (refusal_of result) (struct_object_tree object.new) }
+    ensures kept { Keeps (names_of field.entry) (struct_object_tree object.old) (struct_object_tree object.new) }
+{
+    let set = field.get_containing_struct().get_set();
+    numbers_fit(set);
+    group_is_copied();
+    heights_fall();
+    slot::switch(object, field);
+    copy_group(object, group, source, set.brands().len() + 1)
+}
+
+/// Sets a group to a struct of its schema: it is cleared, as by `clear`, and then the source's fields are copied: first its
+/// active member, a null one as its default, and then its plain fields by index, but for null pointers. Groups in it are
+/// copied in the same way. A member is not copied where the source's discriminant is that of none.
+///
+/// Refused with `NotAStruct` for a source that is no struct, and with `TypeMismatch` for a struct of another schema; then
+/// nothing has changed. The first slot whose copy is refused, as by `copied::copy`, ends the whole with that refusal: the
+/// group stays as it is by then, cleared and with what was copied before.
+pub fn set(object: &mut StructObject, field: Field<'_>, source: Source<'_>) -> Result<()>
+    requires group { IsGroup field }
+    requires room { IsRoomFor field (struct_object_tree object.old) }
+    ensures set { IsGroupSet field.entry (given_to_group field.entry (source_seen source.entry)) (struct_object_tree object.old) (refusal_of result) (struct_object_tree object.new) }
+    ensures kept { Keeps (names_of field.entry) (struct_object_tree object.old) (struct_object_tree object.new) }
+{
+    let Source::Struct(reader, schema) = source else {
+        return Err(Error::from(ErrorKind::NotAStruct));
+    };
+    let Some(group) = group_of(field) else {
+        unreachable!()
+    };
+    let given = RawBrandedStructSchema::from(schema).number;
+    if given != RawBrandedStructSchema::from(group).number {
+        return Err(mismatch());
+    }
+    copy(object, field, group, reader)
 }

@@ -9,6 +9,7 @@ mod copies;
 pub mod element;
 mod fill;
 pub mod group;
+mod group_copy;
 mod loaded;
 mod make;
 pub mod part;

@@ -1,5 +1,5 @@
 //! Bits of a data section that is read, as they are stored.
-ghost use Rattle.std.specs.Prelude.{◌≡◌, ◌<◌, ◌%◌, ◌^◌, IsTrue};
+ghost use Rattle.std.specs.Prelude.{◌≡◌, ◌<◌, ◌*◌, ◌%◌, ◌^◌, IsTrue};
 ghost use Rattle.capnp_wire.specs.Standing.{struct_of};
 ghost use Rattle.capnp_schema.specs.Plan.{is_slot_width};
 ghost use Rattle.capnp_schema.specs.SlotValue.{bits_at};
@@ -71,4 +71,13 @@ pub(crate) fn load_bits(reader: &StructReader<'_>, start: u32, width: u8) -> u64
         64 => load_word(reader, start),
         _ => unreachable!(),
     }
+}
+
+/// The number of two bytes at an offset in units of them, as a discriminant stands there; zero past the end of the section.
+#[tactic(auto, using(crate::proofs::LoadedBits::load_discriminant))]
+pub(crate) fn load_discriminant(reader: &StructReader<'_>, offset: u32) -> u16
+    ensures { result ≡ bits_at (struct_of reader.now).bytes (16 * offset) 16 }
+{
+    struct_is_well_formed(reader);
+    reader.get_data_field::<u16>(offset)
 }

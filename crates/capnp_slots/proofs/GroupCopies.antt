@@ -1,0 +1,442 @@
+-- A group is copied one field after another.
+use Rattle.std.specs.Prelude.{ℕ, zero, suc, ◌+◌, ◌-◌, ◌<◌, ◌≤◌, ◌≡◌, ◌≢◌, ⊤, refl, List, [], ◌∷◌, ◌++◌, Bool, true, false, not, ◌&&◌, ◌==◌, nat_lt, cond, length, position, slice_index, drop, Option, Some, None, option_map, Result, Ok, Err, OnOk, OnErr, IfErr}
+use Rattle.std.proofs.Common.{arith, inl, inr, ap, sym, subst, ◌∙◌}
+use Rattle.std.proofs.lemmas.Bool.{eq-eqb, true≢false}
+use Rattle.std.proofs.lemmas.List.{drop_all, drop_more}
+use Rattle.std.specs.List.{position_or_len}
+use Rattle.capnp_device.specs.declared.error.Error.{Error}
+use Rattle.capnp_device.specs.declared.error.ErrorKind.{ErrorKind}
+use Rattle.capnp_device.specs.declared.error.ErrorKind.TheVariants.{OutOfMemory, TypeMismatch}
+use Rattle.capnp_wire.specs.Reading.{is_null_tree}
+use Rattle.capnp_wire.specs.Tree.{StructTree, Tree, nth_tree}
+use Rattle.capnp_schema.specs.FieldLists.{IsFieldOf, IsFound, index_of, schema_of, typed_of}
+use Rattle.capnp_schema.specs.Query.{indices_from, is_member_of, is_plain, keep_index, member_of, records_of}
+use Rattle.capnp_schema.specs.Ranges.{HasRanges}
+use Rattle.capnp_schema.specs.Schema.{FieldKind, Group, Schemas, Slot, TypedField, field_at, fields_of, is_member, kind_default, node_of}
+use Rattle.capnp_schema.specs.Schema.{Value as SchemaValue}
+use Rattle.capnp_schema.specs.StructHandles.{IsStruct, number_of, set_of}
+use Rattle.capnp_schema.specs.Types.{AnyPointerType, BoolType, DataType, EnumType, IntType, ListType, SchemaType, StructType, TextType, UIntType, VoidType, is_pointer, struct_number}
+use Rattle.capnp_schema.specs.declared.schema.fields.Field.{Field}
+use Rattle.capnp_schema.specs.declared.schema.structs.StructSchema.{StructSchema}
+use Rattle.capnp_records.specs.Call.{StructSource}
+use Rattle.capnp_records.specs.Facts.Frame.{first-of, second-of}
+use Rattle.capnp_records.specs.Facts.Pointers.{values_of-nth}
+use Rattle.capnp_records.specs.Facts.Readers.{null-is, value-there}
+use Rattle.capnp_records.specs.Given.{Copies, CopiesGroup, Fails, Given, Gives, copy_refusal}
+use Rattle.capnp_records.specs.GroupCopy.{active_first, plain_there, pointer_copy, read_copy, slot_copy}
+use Rattle.capnp_records.specs.Laws.{GroupCopyStaysInside}
+use Rattle.capnp_records.specs.Part.{nth_value, which_of}
+use Rattle.capnp_records.specs.Reading.{Reading, active_among, discriminant, kind_value, part_of, plain_parts, record_within, slot_value, struct_record, union_of, value_of, values_of}
+use Rattle.capnp_records.specs.Record as value
+use Rattle.capnp_records.specs.Record.{Active, Levels, MoreValues, NoUnion, Parts, Union, Unknown, Value, Values, is_there}
+use Rattle.capnp_records.specs.Step.{is_group_field}
+use Rattle.capnp_records.specs.Writes.Overlay.{cleared_group, switched, with_slot}
+use Rattle.capnp_records.specs.Writes.TreeCopy.{CopiesTreeOr, TreeCopiesFields, TreeCopiesPart, TreeCopiesSlot, TreeCopiesWithin, TreeCopying, copied_content}
+use Rattle.capnp_records.specs.Writes.TreeEnds.{offset_of}
+use Rattle.capnp_slots.specs.Copied.{IsCopied, copy_content, copy_given, refusal_of}
+use Rattle.capnp_slots.specs.Fields.{IsRoomFor, IsSlot, Keeps, field_brand, field_set, names_of, switched_to}
+use Rattle.capnp_slots.specs.GroupSets.{CopiesIndices, CopiesThrough, IsGroupSet, active_in, given_to_group, is_index_there, is_part_there, kept_indices, member_indices, plain_in}
+use Rattle.capnp_slots.specs.Groups.{IsGroupAt, KeepsSize, cleared_through}
+use Rattle.capnp_slots.specs.Sources.{IsSetRefusal, IsTaken, copy_due}
+use Rattle.capnp_slots.proofs.GroupClears.{cleared-whole, entry, lt-suc, records}
+
+-- ---- a slot ----
+
+abbrev NotPast : Given → Type 0
+NotPast (Gives v) = ⊤
+NotPast (Copies x past v) = past ≡ false
+NotPast (CopiesGroup l x b) = ⊤
+NotPast (Fails kind) = ⊤
+
+read-inside : (o : Option ErrorKind) (x : Tree) (v : Value) → NotPast (read_copy o (Copies x false v))
+read-inside None x v = refl
+read-inside (Some kind) x v = tt
+
+pointer-inside : (set : Schemas) (l : Levels) (x : Tree) (d : SchemaValue) (t : SchemaType) → NotPast (pointer_copy set l x d t)
+pointer-inside set l x d AnyPointerType = tt
+pointer-inside set l x d t = read-inside _ x _
+
+slot-inside : (set : Schemas) (l : Levels) (x : StructTree) (offset : ℕ) (d : SchemaValue) (t : SchemaType) → NotPast (slot_copy set l x offset d t)
+slot-inside set l x offset d t = go (is_pointer t) _ _ (pointer-inside set l (nth_tree x.pointers offset) d t) tt
+  where
+    go : (q : Bool) (g h : Given) → NotPast g → NotPast h → NotPast (elim q as (λ _. Given) [ true ↦ g | false ↦ h ])
+    go true g h a b = a
+    go false g h a b = b
+
+some-same : {j k : ErrorKind} → Some j ≡ Some k → k ≡ j
+some-same e = cc
+
+memory-or : (k : ErrorKind) (o : Option ErrorKind) (P : Type 0) (Q : ErrorKind → Type 0) → (k ≢ OutOfMemory → copy_due o false ≡ Some k) → Q k → CopiesTreeOr o P Q
+memory-or OutOfMemory None P Q h q = inr q
+memory-or OutOfMemory (Some j) P Q h q = inr q
+memory-or k None P Q h q = absurd (let e = h (λ e. cc) in cc)
+memory-or k (Some j) P Q h q = inl (subst Q (some-same (h (λ e. cc))) q)
+
+taken-or : (o : Option ErrorKind) (P : Type 0) (Q : ErrorKind → Type 0) → o ≡ None → P → CopiesTreeOr o P Q
+taken-or None P Q e p = inl p
+taken-or (Some k) P Q e p = absurd cc
+
+slot-answer : (g : Given) → NotPast g → (P : Type 0) (Q : ErrorKind → Type 0) (r : Result ⊤ Error) → OnOk r (IsTaken g × P) → IfErr r (λ e. IsSetRefusal g e.kind × Q e.kind) → TreeCopiesSlot g P Q
+slot-answer (Gives v) n P Q (Ok a) h k = h.1
+slot-answer (Gives v) n P Q (Err e) h k = absurd k.0
+slot-answer (Copies x past v) n P Q (Ok a) h k = taken-or (copy_refusal x) P Q h.0.0 h.1
+slot-answer (Copies x past v) n P Q (Err e) h k = memory-or e.kind (copy_refusal x) P Q (λ other. subst (λ q. copy_due (copy_refusal x) q ≡ Some e.kind) n (k.0 other)) k.1
+slot-answer (CopiesGroup l x b) n P Q (Ok a) h k = absurd h.0
+slot-answer (CopiesGroup l x b) n P Q (Err e) h k = absurd k.0
+slot-answer (Fails kind) n P Q (Ok a) h k = absurd h.0
+slot-answer (Fails kind) n P Q (Err e) h k = subst Q k.0 k.1
+
+-- what a copy answers, and what it leaves
+abbrev Ended : Result ⊤ Error → StructTree → StructTree → Type 0
+Ended r s' y = (refusal_of r ≡ None) × (s' ≡ y)
+
+abbrev Cut : Result ⊤ Error → StructTree → ErrorKind → StructTree → Type 0
+Cut r s' kind y = (refusal_of r ≡ Some kind) × (s' ≡ y)
+
+by-kind : (copy : TreeCopying) (set : Schemas) (l : Levels) (x : StructTree) (b : ℕ) (f : TypedField) (k : FieldKind) (s s' : StructTree) (r : Result ⊤ Error) → is_group_field k ≡ false →
+    OnOk r (IsTaken (slot_copy set l x (offset_of k) (kind_default k) f.type)) → OnOk r (s' ≡ with_slot set b f (offset_of k) (copied_content x (offset_of k) (kind_default k) f.type) s) →
+    OnErr r (s' ≡ s) → IfErr r (λ e. IsSetRefusal (slot_copy set l x (offset_of k) (kind_default k) f.type) e.kind) →
+    TreeCopiesPart copy set l x b f k s (Ended r s') (λ kind. Cut r s' kind s) (Cut r s')
+by-kind copy set l x b f (Slot o d) s s' (Ok a) slot taken written same cause = slot-answer (slot_copy set l x o d f.type) (slot-inside set l x o d f.type) _ _ (Ok a) (taken, (refl, written)) tt
+by-kind copy set l x b f (Slot o d) s s' (Err e) slot taken written same cause = slot-answer (slot_copy set l x o d f.type) (slot-inside set l x o d f.type) _ _ (Err e) tt (cause, (refl, same))
+by-kind copy set l x b f (Group n) s s' r slot taken written same cause = absurd (true≢false slot)
+
+copied-taken : (f : Field) (g : Given) (x s s' : StructTree) (r : Result ⊤ Error) → OnOk r (IsCopied f g (copy_content f x) s s') → OnOk r (IsTaken g)
+copied-taken f g x s s' (Ok a) h = h.taken
+copied-taken f g x s s' (Err e) h = tt
+
+copied-written : (f : Field) (g : Given) (x s s' : StructTree) (r : Result ⊤ Error) → OnOk r (IsCopied f g (copy_content f x) s s') →
+    OnOk r (s' ≡ with_slot (field_set f) (field_brand f) (typed_of f) (offset_of (typed_of f).field.kind) (copy_content f x) s)
+copied-written f g x s s' (Ok a) h = h.written
+copied-written f g x s s' (Err e) h = tt
+
+pub slot-copied : (groups : ℕ) (f : Field) (l : Levels) (x s s' : StructTree) (r : Result ⊤ Error) → IsSlot f → OnOk r (IsCopied f (copy_given f l x) (copy_content f x) s s') → OnErr r (s' ≡ s) →
+    IfErr r (λ e. IsSetRefusal (copy_given f l x) e.kind) → CopiesIndices groups (field_set f) l x (field_brand f) (index_of f ∷ []) s (refusal_of r) s'
+unfolding CopiesIndices
+slot-copied groups f l x s s' r slot copied same cause =
+    by-kind (TreeCopiesWithin groups (field_set f) l x) (field_set f) l x (field_brand f) (typed_of f) (typed_of f).field.kind s s' r slot
+    (copied-taken f (copy_given f l x) x s s' r copied) (copied-written f (copy_given f l x) x s s' r copied) same cause
+
+-- ---- a group ----
+
+by-group : (copy : TreeCopying) (set : Schemas) (l : Levels) (x : StructTree) (b : ℕ) (f : TypedField) (k : FieldKind) (s s' : StructTree) (o : Option ErrorKind) → is_group_field k ≡ true →
+    copy (struct_number f.type) (switched (node_of set b) f.field s) o s' →
+    TreeCopiesPart copy set l x b f k s (λ y. (o ≡ None) × (s' ≡ y)) (λ kind. (o ≡ Some kind) × (s' ≡ s)) (λ kind y. (o ≡ Some kind) × (s' ≡ y))
+by-group copy set l x b f (Slot offset d) s s' o group h = absurd (true≢false (sym group))
+by-group copy set l x b f (Group n) s s' None group h = inl (s', h, (refl, refl))
+by-group copy set l x b f (Group n) s s' (Some kind) group h = inr (kind, s', h, (refl, refl))
+
+pub group-copied : (groups : ℕ) (f : Field) (g : StructSchema) (l : Levels) (x s m s' : StructTree) (o : Option ErrorKind) → IsGroupAt f g → m ≡ switched_to f s →
+    CopiesThrough groups (set_of g) l x (number_of g) m o s' → CopiesIndices groups (field_set f) l x (field_brand f) (index_of f ∷ []) s o s'
+unfolding CopiesIndices CopiesThrough
+group-copied groups f g l x s m s' o is switch h =
+    by-group (TreeCopiesWithin groups (field_set f) l x) (field_set f) l x (field_brand f) (typed_of f) (typed_of f).field.kind s s' o is.is_group
+    (subst (λ (y : StructTree). TreeCopiesWithin groups (field_set f) l x (struct_number (typed_of f).type) y o s') switch
+    (subst (λ b. TreeCopiesWithin groups (field_set f) l x b m o s') is.number (subst (λ z. TreeCopiesWithin groups z l x (number_of g) m o s') is.set h)))
+
+-- ---- one field after another ----
+
+pub none-copied : (groups : ℕ) (set : Schemas) (l : Levels) (x : StructTree) (b : ℕ) (s : StructTree) → CopiesIndices groups set l x b [] s None s
+unfolding CopiesIndices
+none-copied groups set l x b s = (refl, refl)
+
+tree-map : (o : Option ErrorKind) (P P' : Type 0) (Q Q' : ErrorKind → Type 0) → (P → P') → ((k : ErrorKind) → Q k → Q' k) → CopiesTreeOr o P Q → CopiesTreeOr o P' Q'
+tree-map None P P' Q Q' p q (inl h) = inl (p h)
+tree-map None P P' Q Q' p q (inr h) = inr (q OutOfMemory h)
+tree-map (Some k) P P' Q Q' p q (inl h) = inl (q k h)
+tree-map (Some k) P P' Q Q' p q (inr h) = inr (q OutOfMemory h)
+
+slot-map : (g : Given) (P P' : Type 0) (Q Q' : ErrorKind → Type 0) → (P → P') → ((k : ErrorKind) → Q k → Q' k) → TreeCopiesSlot g P Q → TreeCopiesSlot g P' Q'
+slot-map (Gives v) P P' Q Q' p q h = p h
+slot-map (Copies x past v) P P' Q Q' p q h = tree-map (copy_refusal x) P P' Q Q' p q h
+slot-map (CopiesGroup l x b) P P' Q Q' p q h = h
+slot-map (Fails k) P P' Q Q' p q h = q k h
+
+module _ (copy : TreeCopying) (set : Schemas) (l : Levels) (x : StructTree) (b : ℕ) where
+  part-map : (f : TypedField) (k : FieldKind) (s : StructTree) (P P' : StructTree → Type 0) (Q Q' : ErrorKind → Type 0) (R : ErrorKind → StructTree → Type 0) (R' : ErrorKind → StructTree → Type 0) →
+      ((y : StructTree) → P y → P' y) → ((n : ErrorKind) → Q n → Q' n) → ((n : ErrorKind) (y : StructTree) → R n y → R' n y) → TreeCopiesPart copy set l x b f k s P Q R → TreeCopiesPart copy set l x b f k s P' Q' R'
+  part-map f (Slot offset d) s P P' Q Q' R R' p q r h = slot-map (slot_copy set l x offset d f.type) _ _ Q Q' (p _) q h
+  part-map f (Group n) s P P' Q Q' R R' p q r (inl (y, copied, rest)) = inl (y, copied, p y rest)
+  part-map f (Group n) s P P' Q Q' R R' p q r (inr (kind, y, copied, rest)) = inr (kind, y, copied, r kind y rest)
+
+  fields-next : (i : ℕ) (is : List ℕ) (s m s' : StructTree) (o : Option ErrorKind) → TreeCopiesFields copy set l x b (i ∷ []) s None m → TreeCopiesFields copy set l x b is m o s' → TreeCopiesFields copy set l x b (i ∷ is) s o s'
+  fields-next i is s m s' o first rest =
+      part-map (field_at set b i) (field_at set b i).field.kind s _ _ _ _ _ _
+      (λ y h. subst (λ (z : StructTree). TreeCopiesFields copy set l x b is z o s') h.1 rest) (λ n h. absurd (none-some n h.0)) (λ n y h. absurd (none-some n h.0)) first
+    where
+      none-some : (n : ErrorKind) → None ≡ Some n → ⊥
+      none-some n e = cc
+
+  fields-cut : (i : ℕ) (is : List ℕ) (s s' : StructTree) (kind : ErrorKind) → TreeCopiesFields copy set l x b (i ∷ []) s (Some kind) s' → TreeCopiesFields copy set l x b (i ∷ is) s (Some kind) s'
+  fields-cut i is s s' kind first =
+      part-map (field_at set b i) (field_at set b i).field.kind s _ _ _ _ _ _ (λ y h. absurd (some-none h.0)) (λ n h. h) (λ n y h. h) first
+    where
+      some-none : Some kind ≡ None → ⊥
+      some-none e = cc
+
+  -- ---- the member, and then the plain fields ----
+
+  member-next : (o : Option ℕ) (is : List ℕ) (s m s' : StructTree) (refused : Option ErrorKind) → TreeCopiesFields copy set l x b (member_indices o) s None m → TreeCopiesFields copy set l x b is m refused s' →
+      TreeCopiesFields copy set l x b (member_indices o ++ is) s refused s'
+  member-next None is s m s' refused first rest = subst (λ (z : StructTree). TreeCopiesFields copy set l x b is z refused s') first.1 rest
+  member-next (Some i) is s m s' refused first rest = fields-next i is s m s' refused first rest
+
+  member-cut : (o : Option ℕ) (is : List ℕ) (s s' : StructTree) (kind : ErrorKind) → TreeCopiesFields copy set l x b (member_indices o) s (Some kind) s' → TreeCopiesFields copy set l x b (member_indices o ++ is) s (Some kind) s'
+  member-cut None is s s' kind first = absurd (let e = first.0 in cc)
+  member-cut (Some i) is s s' kind first = fields-cut i is s s' kind first
+
+  kept-next : (q : Bool) (i : ℕ) (is : List ℕ) (s m s' : StructTree) (refused : Option ErrorKind) → TreeCopiesFields copy set l x b (keep_index q i []) s None m → TreeCopiesFields copy set l x b is m refused s' →
+      TreeCopiesFields copy set l x b (keep_index q i is) s refused s'
+  kept-next true i is s m s' refused first rest = fields-next i is s m s' refused first rest
+  kept-next false i is s m s' refused first rest = subst (λ (z : StructTree). TreeCopiesFields copy set l x b is z refused s') first.1 rest
+
+  kept-cut : (q : Bool) (i : ℕ) (is : List ℕ) (s s' : StructTree) (kind : ErrorKind) → TreeCopiesFields copy set l x b (keep_index q i []) s (Some kind) s' → TreeCopiesFields copy set l x b (keep_index q i is) s (Some kind) s'
+  kept-cut true i is s s' kind first = fields-cut i is s s' kind first
+  kept-cut false i is s s' kind first = absurd (let e = first.0 in cc)
+
+-- ---- the fields of the source ----
+
+plain-kept : (part : TypedField → Value) (fs : List TypedField) (vs : Values) (first : ℕ) (at : ℕ → TypedField) → ((j : ℕ) → at (first + j) ≡ entry fs j) → ((j : ℕ) → nth_value vs (first + j) ≡ nth_value (plain_parts part fs) j) →
+    plain_there fs vs first ≡ kept_indices (λ i. is_there (part (at i))) (indices_from first is_plain (records fs))
+plain-kept part [] vs first at names there = refl
+plain-kept part (f ∷ fs) vs first at names there = go (plain-kept part fs vs (suc first) at (λ j. ap at (shift j) ∙ names (suc j)) (λ j. ap (nth_value vs) (shift j) ∙ there (suc j))) (is_member f.field) (ap (nth_value vs) here ∙ there 0)
+  where
+    shift : (j : ℕ) → suc first + j ≡ first + suc j
+    shift j = omega arith
+
+    here : first ≡ first + 0
+    here = omega arith
+
+    rest : List ℕ
+    rest = indices_from (suc first) is_plain (records fs)
+
+    is : at first ≡ f
+    is = ap at here ∙ names 0
+
+    keep : (q : Bool) (is js : List ℕ) → is ≡ js → cond q (first ∷ is) is ≡ keep_index q first js
+    keep true is js e = ap (λ ks. first ∷ ks) e
+    keep false is js e = e
+
+    go : plain_there fs vs (suc first) ≡ kept_indices (λ i. is_there (part (at i))) rest → (q : Bool) → nth_value vs first ≡ (elim q as (λ _. Value) [ true ↦ value.Elsewhere | false ↦ part f ]) →
+        cond (not q && is_there (nth_value vs first)) (first ∷ plain_there fs vs (suc first)) (plain_there fs vs (suc first)) ≡ kept_indices (λ i. is_there (part (at i))) (keep_index (not q) first rest)
+    go each true e = each
+    go each false e = ap (λ v. cond (is_there v) (first ∷ plain_there fs vs (suc first)) (plain_there fs vs (suc first))) e
+        ∙ (ap (λ (g : TypedField). cond (is_there (part g)) (first ∷ plain_there fs vs (suc first)) (plain_there fs vs (suc first))) (sym is) ∙ keep (is_there (part (at first))) _ _ each)
+
+active-split : (vs : Values) (u : Union) (rest : List ℕ) → active_first u rest ≡ member_indices (which_of (Parts vs u)) ++ rest
+active-split vs NoUnion rest = refl
+active-split vs (Active i v) rest = refl
+active-split vs (Unknown n) rest = refl
+
+module _ (n : ℕ) (set : Schemas) (l : Levels) (x : StructTree) (b : ℕ) where
+  abbrev part : TypedField → Value
+  part = part_of set l x.bytes (values_of set x.pointers)
+
+  abbrev union : Union
+  union = union_of part (node_of set b) (fields_of set b) x.bytes
+
+  whole : (s m s' : StructTree) (o : Option ErrorKind) → m ≡ cleared_group set b s →
+      TreeCopiesFields (TreeCopiesWithin n set l x) set l x b (member_indices (which_of (Parts (plain_parts part (fields_of set b)) union)) ++ plain_in set l x b) m o s' → TreeCopiesWithin (suc n) set l x b s o s'
+  unfolding is_part_there
+  whole s m s' o cleared h =
+      let plain = plain-kept part (fields_of set b) (plain_parts part (fields_of set b)) 0 (field_at set b)
+      (λ j. let z : 0 + j ≡ j = omega arith in ap (field_at set b) z) (λ j. let z : 0 + j ≡ j = omega arith in ap (nth_value (plain_parts part (fields_of set b))) z) in
+      subst (λ (y : StructTree). TreeCopiesFields (TreeCopiesWithin n set l x) set l x b (active_first union (plain_there (fields_of set b) (plain_parts part (fields_of set b)) 0)) y o s') cleared
+      (subst (λ is. TreeCopiesFields (TreeCopiesWithin n set l x) set l x b is m o s')
+      (sym (active-split (plain_parts part (fields_of set b)) union (plain_there (fields_of set b) (plain_parts part (fields_of set b)) 0) ∙ ap (λ is. member_indices (which_of (Parts (plain_parts part (fields_of set b)) union)) ++ is) plain)) h)
+
+pub group-cut : (groups : ℕ) (set : Schemas) (l : Levels) (x : StructTree) (b : ℕ) (s m s' : StructTree) (kind : ErrorKind) → 0 < groups → m ≡ cleared_group set b s →
+    CopiesIndices (groups - 1) set l x b (member_indices (active_in set l x b)) m (Some kind) s' → CopiesThrough groups set l x b s (Some kind) s'
+unfolding CopiesIndices CopiesThrough active_in
+group-cut zero set l x b s m s' kind some cleared h = absurd (omega arith)
+group-cut (suc n) set l x b s m s' kind some cleared h =
+    let same : suc n - 1 ≡ n = omega arith in
+    whole n set l x b s m s' (Some kind) cleared
+    (member-cut (TreeCopiesWithin n set l x) set l x b (which_of (struct_record set l x b)) (plain_in set l x b) m s' kind
+    (subst (λ k. TreeCopiesFields (TreeCopiesWithin k set l x) set l x b (member_indices (which_of (struct_record set l x b))) m (Some kind) s') same h))
+
+pub group-whole : (groups : ℕ) (set : Schemas) (l : Levels) (x : StructTree) (b : ℕ) (s m y s' : StructTree) (o : Option ErrorKind) → 0 < groups → m ≡ cleared_group set b s →
+    CopiesIndices (groups - 1) set l x b (member_indices (active_in set l x b)) m None y → CopiesIndices (groups - 1) set l x b (plain_in set l x b) y o s' → CopiesThrough groups set l x b s o s'
+unfolding CopiesIndices CopiesThrough active_in
+group-whole zero set l x b s m y s' o some cleared h k = absurd (omega arith)
+group-whole (suc n) set l x b s m y s' o some cleared h k =
+    let same : suc n - 1 ≡ n = omega arith in
+    whole n set l x b s m s' o cleared
+    (member-next (TreeCopiesWithin n set l x) set l x b (which_of (struct_record set l x b)) (plain_in set l x b) m y s' o
+    (subst (λ j. TreeCopiesFields (TreeCopiesWithin j set l x) set l x b (member_indices (which_of (struct_record set l x b))) m None y) same h)
+    (subst (λ j. TreeCopiesFields (TreeCopiesWithin j set l x) set l x b (plain_in set l x b) y o s') same k))
+
+-- ---- the plain fields, one more ----
+
+-- those of the indices that are left, where the source has their fields
+abbrev Remains : ℕ → StructSchema → Levels → StructTree → List ℕ → StructTree → Option ErrorKind → StructTree → Type 0
+Remains groups schema l x is s o s' = CopiesIndices groups (set_of schema) l x (number_of schema) (kept_indices (is_index_there (set_of schema) l x (number_of schema)) is) s o s'
+
+module _ (groups : ℕ) (schema : StructSchema) (l : Levels) (x : StructTree) (is : List ℕ) (n : ℕ) (inside : n < length is) (f : Field) (field : IsFieldOf schema (slice_index is n) f) (s y : StructTree) where
+  first : (o : Option ErrorKind) → CopiesIndices groups (field_set f) l x (field_brand f) (keep_index (is_part_there (field_set f) l x (typed_of f)) (index_of f) []) s o y →
+      CopiesIndices groups (set_of schema) l x (number_of schema) (keep_index (is_index_there (set_of schema) l x (number_of schema) (slice_index is n)) (slice_index is n) []) s o y
+  first o h =
+      subst (λ i. CopiesIndices groups (set_of schema) l x (number_of schema) (keep_index (is_index_there (set_of schema) l x (number_of schema) i) i []) s o y) field.index
+      (subst (λ (z : StructSchema). CopiesIndices groups (set_of z) l x (number_of z) (keep_index (is_index_there (set_of z) l x (number_of z) (index_of f)) (index_of f) []) s o y) field.schema h)
+
+  split : drop n is ≡ slice_index is n ∷ drop (n + 1) is
+  split = drop_more is n 0 inside
+
+  pub plain-next : CopiesIndices groups (field_set f) l x (field_brand f) (keep_index (is_part_there (field_set f) l x (typed_of f)) (index_of f) []) s None y →
+      (o : Option ErrorKind) (s' : StructTree) → Remains groups schema l x (drop (n + 1) is) y o s' → Remains groups schema l x (drop n is) s o s'
+  unfolding CopiesIndices
+  plain-next h o s' rest =
+      subst (λ js. Remains groups schema l x js s o s') (sym split)
+      (kept-next (TreeCopiesWithin groups (set_of schema) l x) (set_of schema) l x (number_of schema) (is_index_there (set_of schema) l x (number_of schema) (slice_index is n)) (slice_index is n)
+      (kept_indices (is_index_there (set_of schema) l x (number_of schema)) (drop (n + 1) is)) s y s' o (first None h) rest)
+
+  pub plain-cut : (kind : ErrorKind) → CopiesIndices groups (field_set f) l x (field_brand f) (keep_index (is_part_there (field_set f) l x (typed_of f)) (index_of f) []) s (Some kind) y →
+      Remains groups schema l x (drop n is) s (Some kind) y
+  unfolding CopiesIndices
+  plain-cut kind h =
+      subst (λ js. Remains groups schema l x js s (Some kind) y) (sym split)
+      (kept-cut (TreeCopiesWithin groups (set_of schema) l x) (set_of schema) l x (number_of schema) (is_index_there (set_of schema) l x (number_of schema) (slice_index is n)) (slice_index is n)
+      (kept_indices (is_index_there (set_of schema) l x (number_of schema)) (drop (n + 1) is)) s y kind (first (Some kind) h))
+
+pub plain-end : (groups : ℕ) (schema : StructSchema) (l : Levels) (x : StructTree) (is : List ℕ) (n : ℕ) → length is ≤ n → (s : StructTree) → Remains groups schema l x (drop n is) s None s
+unfolding CopiesIndices
+plain-end groups schema l x is n past s = subst (λ js. Remains groups schema l x js s None s) (sym (drop_all n is past)) (refl, refl)
+
+-- ---- the member ----
+
+lt-zero : (m : ℕ) → nat_lt 0 (suc m) ≡ true
+lt-zero m = grind arith
+
+pub not-zero : (n : ℕ) → (n ≡ 0 → ⊥) → (n == 0) ≡ false
+not-zero n h = grind (arith, h)
+
+which-among : (vs : Values) (v : TypedField → Value) (fs : List TypedField) (k d : ℕ) → which_of (Parts vs (active_among v fs k d)) ≡ option_map (λ i. k + i) (position (is_member_of d) (records fs))
+which-among vs v [] k d = refl
+which-among vs v (f ∷ fs) k d = go (is_member_of d f.field) (which-among vs v fs (suc k) d)
+  where
+    n : ℕ
+    n = position_or_len (is_member_of d) (records fs)
+
+    m : ℕ
+    m = length (records fs)
+
+    shift : (q : Bool) → option_map (λ i. suc k + i) (cond q (Some n) None) ≡ option_map (λ i. k + i) (cond q (Some (1 + n)) None)
+    shift true = ap Some (omega arith)
+    shift false = refl
+
+    go : (q : Bool) → which_of (Parts vs (active_among v fs (suc k) d)) ≡ option_map (λ i. suc k + i) (cond (nat_lt n m) (Some n) None) →
+        which_of (Parts vs (elim q as (λ _. Union) [ true ↦ Active k (v f) | false ↦ active_among v fs (suc k) d ])) ≡ option_map (λ i. k + i) (cond (nat_lt (cond (not q) (1 + n) 0) (suc m)) (Some (cond (not q) (1 + n) 0)) None)
+    go true ih = ap Some (omega arith) ∙ sym (ap (λ q. option_map (λ i. k + i) (cond q (Some 0) None)) (lt-zero m))
+    go false ih = ih ∙ (shift (nat_lt n m) ∙ ap (λ q. option_map (λ i. k + i) (cond q (Some (1 + n)) None)) (lt-suc n m))
+
+from-zero : (o : Option ℕ) → option_map (λ i. 0 + i) o ≡ o
+from-zero None = refl
+from-zero (Some i) = ap Some (omega arith)
+
+pub active-counted : (set : Schemas) (l : Levels) (x : StructTree) (b d : ℕ) → ((node_of set b).discriminant_count == 0) ≡ false → d ≡ discriminant (node_of set b) x.bytes →
+    member_of (records_of set b) d ≡ active_in set l x b
+unfolding active_in
+active-counted set l x b d counted is =
+    ap (member_of (records_of set b)) is
+    ∙ (sym (from-zero (member_of (records_of set b) (discriminant (node_of set b) x.bytes)))
+    ∙ (sym (which-among (plain_parts v (fields_of set b)) v (fields_of set b) 0 (discriminant (node_of set b) x.bytes))
+    ∙ ap (λ u. which_of (Parts (plain_parts v (fields_of set b)) u)) (sym (second-of ((node_of set b).discriminant_count == 0) NoUnion (active_among v (fields_of set b) 0 (discriminant (node_of set b) x.bytes)) counted))))
+  where
+    v : TypedField → Value
+    v = part_of set l x.bytes (values_of set x.pointers)
+
+pub active-none : (set : Schemas) (l : Levels) (x : StructTree) (b : ℕ) → ((node_of set b).discriminant_count == 0) ≡ true → None ≡ active_in set l x b
+unfolding active_in
+active-none set l x b none = ap (λ u. which_of (Parts (plain_parts v (fields_of set b)) u)) (sym (first-of ((node_of set b).discriminant_count == 0) NoUnion (active_among v (fields_of set b) 0 (discriminant (node_of set b) x.bytes)) none))
+  where
+    v : TypedField → Value
+    v = part_of set l x.bytes (values_of set x.pointers)
+
+-- ---- whether a field is there ----
+
+not-null : (set : Schemas) (x : Tree) (l : Levels) (t : SchemaType) → not (is_null_tree x) ≡ is_there (value_of set x l t)
+not-null set x l t = go (is_null_tree x) refl
+  where
+    go : (q : Bool) → is_null_tree x ≡ q → not (is_null_tree x) ≡ is_there (value_of set x l t)
+    go true h = ap not h ∙ sym (ap (λ y. is_there (value_of set y l t)) (null-is x h))
+    go false h = ap not h ∙ sym (value-there set x l t h)
+
+number-there : (l : Levels) (bytes : List ℕ) (rs : List Reading) (o : ℕ) (d : SchemaValue) (t : SchemaType) → is_pointer t ≡ false → true ≡ is_there (slot_value l bytes rs o d t)
+number-there l bytes rs o d VoidType e = refl
+number-there l bytes rs o d BoolType e = refl
+number-there l bytes rs o d (IntType k) e = refl
+number-there l bytes rs o d (UIntType k) e = refl
+number-there l bytes rs o d (EnumType k) e = refl
+number-there l bytes rs o d TextType e = absurd (true≢false e)
+number-there l bytes rs o d DataType e = absurd (true≢false e)
+number-there l bytes rs o d (StructType b g) e = absurd (true≢false e)
+number-there l bytes rs o d (ListType t) e = absurd (true≢false e)
+number-there l bytes rs o d AnyPointerType e = absurd (true≢false e)
+
+module _ (set : Schemas) (l : Levels) (x : StructTree) (f : TypedField) where
+  abbrev kind_there : FieldKind → Bool
+  kind_there k = is_there (kind_value (record_within (length set.brands) set l x.bytes (values_of set x.pointers)) l x.bytes (values_of set x.pointers) k f.type)
+
+  group-kind : (k : FieldKind) → is_group_field k ≡ true → true ≡ kind_there k
+  group-kind (Slot o d) e = absurd (true≢false (sym e))
+  group-kind (Group n) e = refl
+
+  number-kind : (k : FieldKind) → is_pointer f.type ≡ false → true ≡ kind_there k
+  number-kind (Slot o d) e = number-there l x.bytes (values_of set x.pointers) o d f.type e
+  number-kind (Group n) e = refl
+
+  pointer-kind : (k : FieldKind) → is_group_field k ≡ false → is_pointer f.type ≡ true → not (is_null_tree (nth_tree x.pointers (offset_of k))) ≡ kind_there k
+  pointer-kind (Slot o d) slot e =
+      not-null set (nth_tree x.pointers o) l f.type
+      ∙ (sym (ap (λ (r : Reading). is_there (r l f.type)) (values_of-nth set x.pointers o))
+      ∙ sym (ap is_there (first-of (is_pointer f.type) _ _ e)))
+  pointer-kind (Group n) slot e = absurd (true≢false slot)
+
+  pub group-there : is_group_field f.field.kind ≡ true → true ≡ is_part_there set l x f
+  unfolding is_part_there
+  group-there e = group-kind f.field.kind e
+
+  pub data-there : is_pointer f.type ≡ false → true ≡ is_part_there set l x f
+  unfolding is_part_there
+  data-there e = number-kind f.field.kind e
+
+  pub behind-there : is_group_field f.field.kind ≡ false → is_pointer f.type ≡ true → not (is_null_tree (nth_tree x.pointers (offset_of f.field.kind))) ≡ is_part_there set l x f
+  unfolding is_part_there
+  behind-there slot e = pointer-kind f.field.kind slot e
+
+-- ---- handles ----
+
+pub cleared-counted : (schema : StructSchema) (n : ℕ) (s m : StructTree) → n ≡ length (set_of schema).brands → m ≡ cleared_through n (set_of schema) (number_of schema) s → m ≡ cleared_group (set_of schema) (number_of schema) s
+cleared-counted schema n s m count e = e ∙ (ap (λ k. cleared_through k (set_of schema) (number_of schema) s) count ∙ cleared-whole (set_of schema) (number_of schema) s)
+
+pub field-in : (s schema : StructSchema) (i : ℕ) (f : Field) → s ≡ schema → IsFieldOf s i f → IsFieldOf schema i f
+field-in s schema i f e h = subst (λ (z : StructSchema). IsFieldOf z i f) e h
+
+pub found-none : (groups : ℕ) (schema : StructSchema) (l : Levels) (x : StructTree) (o : Option ℕ) (s : StructTree) → IsFound schema o None → CopiesIndices groups (set_of schema) l x (number_of schema) (member_indices o) s None s
+found-none groups schema l x None s h = none-copied groups (set_of schema) l x (number_of schema) s
+found-none groups schema l x (Some i) s h = absurd h
+
+-- ---- a field's group ----
+
+pub copied-whole : (f : Field) (g : StructSchema) (n : ℕ) (l : Levels) (x s m s' : StructTree) (o : Option ErrorKind) → IsGroupAt f g → n ≡ length (field_set f).brands → m ≡ switched_to f s →
+    CopiesThrough (n + 1) (set_of g) l x (number_of g) m o s' → CopiesThrough (suc (length (field_set f).brands)) (field_set f) l x (number_of g) (switched_to f s) o s'
+copied-whole f g n l x s m s' o is count switch h =
+    let more : n + 1 ≡ suc (length (field_set f).brands) = omega (arith, count) in
+    subst (λ k. CopiesThrough k (field_set f) l x (number_of g) (switched_to f s) o s') more
+    (subst (λ (y : StructTree). CopiesThrough (n + 1) (field_set f) l x (number_of g) y o s') switch (subst (λ z. CopiesThrough (n + 1) z l x (number_of g) m o s') is.set h))
+
+pub copied-kept : (f : Field) (g : StructSchema) (l : Levels) (x s m s' : StructTree) (o : Option ErrorKind) → IsStruct (schema_of f) → HasRanges (field_set f) → GroupCopyStaysInside → IsGroupAt f g → IsRoomFor f s →
+    CopiesThrough (suc (length (field_set f).brands)) (field_set f) l x (number_of g) (switched_to f s) o s' → KeepsSize s m → KeepsSize m s' → Keeps (names_of f) s s'
+unfolding CopiesThrough
+copied-kept f g l x s m s' o is ranges stays at room copied first then = record {
+  writes = stays (field_set f) (field_brand f) (index_of f) (number_of g) (suc (length (field_set f).brands)) (record { accepted = is.accepted; ranges = ranges; brand = is.number; index = f.inside }) at.names l x s room o s' copied;
+  formed = λ h. then.formed (first.formed h);
+}
+
+pub set-copied : (f : Field) (g : StructSchema) (l : Levels) (x : StructTree) (from : ℕ) (s s' : StructTree) (o : Option ErrorKind) → IsGroupAt f g → from ≡ number_of g →
+    CopiesThrough (suc (length (field_set f).brands)) (field_set f) l x (number_of g) (switched_to f s) o s' → IsGroupSet f (given_to_group f (StructSource l x from)) s o s'
+unfolding CopiesThrough
+set-copied f g l x from s s' o at same h =
+    let own : from ≡ struct_number (typed_of f).type = same ∙ at.number in
+    subst (λ q. IsGroupSet f (cond q (CopiesGroup l x from) (Fails TypeMismatch)) s o s') (sym (eq-eqb from (struct_number (typed_of f).type) own))
+    (subst (λ n. TreeCopiesWithin (suc (length (field_set f).brands)) (field_set f) l x n (switched_to f s) o s') (sym same) h)

@@ -1,0 +1,94 @@
+-- The set of a group: what its fields are copied from, and their copies one after another.
+use Rattle.std.specs.Prelude.{ℕ, suc, ◌≡◌, List, [], ◌∷◌, Bool, Option, Some, None, length}
+use Rattle.capnp_device.specs.declared.error.ErrorKind.{ErrorKind}
+use Rattle.capnp_wire.specs.Standing.{struct_levels, struct_of}
+use Rattle.capnp_wire.specs.Tree.{StructTree}
+use Rattle.capnp_wire.specs.declared.struct_reader.StructReader.{StructReader}
+use Rattle.capnp_schema.specs.FieldLists.{typed_of}
+use Rattle.capnp_schema.specs.Query.{keep_index, plain_fields, records_of}
+use Rattle.capnp_schema.specs.Schema.{Schemas, TypedField, field_at}
+use Rattle.capnp_schema.specs.StructHandles.{number_of, set_of}
+use Rattle.capnp_schema.specs.declared.schema.fields.Field.{Field}
+use Rattle.capnp_schema.specs.declared.schema.structs.StructSchema.{StructSchema}
+use Rattle.capnp_records.specs.Call.{Source}
+use Rattle.capnp_records.specs.Given.{Given, Gives, Copies, CopiesGroup, Fails, given_group}
+use Rattle.capnp_records.specs.Part.{which_of}
+use Rattle.capnp_records.specs.Reading.{part_of, struct_record, values_of}
+use Rattle.capnp_records.specs.Record.{Left, Levels, is_there}
+use Rattle.capnp_records.specs.Writes.TreeCopy.{TreeCopiesFields, TreeCopiesWithin}
+use Rattle.capnp_slots.specs.Fields.{field_set, switched_to}
+
+-- ---- what the source has ----
+
+-- the active member of a struct under a brand, by its index
+unfoldable pub active_in : Schemas → Levels → StructTree → ℕ → Option ℕ
+active_in set l x b = which_of (struct_record set l x b)
+
+-- whether a struct has a field: all but a null pointer
+unfoldable pub is_part_there : Schemas → Levels → StructTree → TypedField → Bool
+is_part_there set l x f = is_there (part_of set l x.bytes (values_of set x.pointers) f)
+
+-- a member, where there is one
+abbrev pub member_indices : Option ℕ → List ℕ
+member_indices None = []
+member_indices (Some i) = i ∷ []
+
+-- those of several indices that pass
+abbrev pub kept_indices : (ℕ → Bool) → List ℕ → List ℕ
+kept_indices passes [] = []
+kept_indices passes (i ∷ is) = keep_index (passes i) i (kept_indices passes is)
+
+-- whether a struct has the field of an index, and those of its plain fields that it has
+abbrev pub is_index_there : Schemas → Levels → StructTree → ℕ → ℕ → Bool
+is_index_there set l x b i = is_part_there set l x (field_at set b i)
+
+abbrev pub plain_in : Schemas → Levels → StructTree → ℕ → List ℕ
+plain_in set l x b = kept_indices (is_index_there set l x b) (plain_fields (records_of set b))
+
+-- ---- field by field ----
+
+-- the fields of these indices were copied out of a struct, through at most so many groups
+unfoldable pub CopiesIndices : ℕ → Schemas → Levels → StructTree → ℕ → List ℕ → StructTree → Option ErrorKind → StructTree → Type 0
+CopiesIndices groups set l x b is s refused s' = TreeCopiesFields (TreeCopiesWithin groups set l x) set l x b is s refused s'
+
+-- a brand's struct was cleared, and then copied
+unfoldable pub CopiesThrough : ℕ → Schemas → Levels → StructTree → ℕ → StructTree → Option ErrorKind → StructTree → Type 0
+CopiesThrough groups set l x b s refused s' = TreeCopiesWithin groups set l x b s refused s'
+
+-- the same by handles
+abbrev pub AreCopied : ℕ → StructSchema → StructReader → List ℕ → StructTree → Option ErrorKind → StructTree → Type 0
+AreCopied groups schema source is s refused s' = CopiesIndices groups (set_of schema) (Left (struct_levels source)) (struct_of source) (number_of schema) is s refused s'
+
+abbrev pub IsCopiedThrough : ℕ → StructSchema → StructReader → StructTree → Option ErrorKind → StructTree → Type 0
+IsCopiedThrough groups schema source s refused s' = CopiesThrough groups (set_of schema) (Left (struct_levels source)) (struct_of source) (number_of schema) s refused s'
+
+-- a struct's fields were copied into the group of a field, to which the union was switched
+abbrev pub IsCopiedInto : Field → StructSchema → StructReader → StructTree → Option ErrorKind → StructTree → Type 0
+IsCopiedInto f group source s refused s' =
+    CopiesThrough (suc (length (field_set f).brands)) (field_set f) (Left (struct_levels source)) (struct_of source) (number_of group) (switched_to f s) refused s'
+
+abbrev pub active_field : StructSchema → StructReader → Option ℕ
+active_field schema source = active_in (set_of schema) (Left (struct_levels source)) (struct_of source) (number_of schema)
+
+abbrev pub plain_in_source : StructSchema → StructReader → List ℕ
+plain_in_source schema source = plain_in (set_of schema) (Left (struct_levels source)) (struct_of source) (number_of schema)
+
+abbrev pub has_index : StructSchema → StructReader → ℕ → Bool
+has_index schema source i = is_index_there (set_of schema) (Left (struct_levels source)) (struct_of source) (number_of schema) i
+
+abbrev pub has_field : Field → StructReader → Bool
+has_field f source = is_part_there (field_set f) (Left (struct_levels source)) (struct_of source) (typed_of f)
+
+-- ---- a group's set ----
+
+-- what is given to a field that is a group
+abbrev pub given_to_group : Field → Source → Given
+given_to_group f s = given_group (typed_of f).type s
+
+-- A group was set to what is given: the union switched to it, the group cleared, and the source's fields copied up to the
+-- first that is refused. What is no struct of the group's schema changes nothing.
+abbrev pub IsGroupSet : Field → Given → StructTree → Option ErrorKind → StructTree → Type 0
+IsGroupSet f (Gives v) s refused s' = ⊥
+IsGroupSet f (Copies x past v) s refused s' = ⊥
+IsGroupSet f (CopiesGroup l x b) s refused s' = TreeCopiesWithin (suc (length (field_set f).brands)) (field_set f) l x b (switched_to f s) refused s'
+IsGroupSet f (Fails kind) s refused s' = (refused ≡ Some kind) × (s' ≡ s)

@@ -1,0 +1,157 @@
+//! Copies of a group out of a struct of its schema that is read, field by field.
+ghost use Rattle.std.specs.Prelude.{◌≡◌, ◌≤◌, ◌<◌, ◌∷◌, []};
+ghost use Rattle.capnp_wire.specs.Objects.{struct_object_tree};
+ghost use Rattle.capnp_schema.specs.FieldLists.{IsFound, index_of, schema_of};
+ghost use Rattle.capnp_schema.specs.Laws.{group_height};
+ghost use Rattle.capnp_schema.specs.Query.{keep_index};
+ghost use Rattle.capnp_schema.specs.StructHandles.{number_of, set_of};
+ghost use Rattle.capnp_records.specs.Writes.Slots.{Fits};
+ghost use Rattle.capnp_slots.specs.Copied.{refusal_of};
+ghost use Rattle.capnp_slots.specs.Fields.{IsRoomFor, field_brand, field_set};
+ghost use Rattle.capnp_slots.specs.Groups.{KeepsSize};
+ghost use Rattle.capnp_slots.specs.GroupSets.{AreCopied, IsCopiedThrough, active_field, has_field, member_indices, plain_in_source};
+
+use crate::copied::{copy, is_behind, variant_of};
+use crate::group::{clear_group, group_of};
+use crate::loaded::load_discriminant;
+use crate::pointer::pointer_slot;
+use crate::slot::{is_slot, switch};
+use capnp_schema::schema::{Field, StructSchema};
+use capnp_wire::StructReader;
+use capnp_wire::error::Result;
+use capnp_wire::object::StructObject;
+
+/// The active member of a struct that is read; none without a union and for an unknown number.
+fn active_member<'s>(schema: StructSchema<'s>, source: &StructReader<'_>) -> Option<Field<'s>>
+    ensures { IsFound schema.entry (active_field schema.entry source.now) result }
+{
+    let body = &schema.get_proto().body;
+    if body.discriminant_count == 0 {
+        return None;
+    }
+    let number = load_discriminant(source, body.discriminant_offset);
+    let Ok(found) = schema.get_field_by_discriminant(number) else {
+        unreachable!()
+    };
+    found
+}
+
+/// Whether a struct that is read has a field: all but a null pointer.
+fn has(field: Field<'_>, source: &StructReader<'_>) -> bool
+    ensures { result ≡ has_field field.entry source.now }
+{
+    if !is_slot(field) {
+        return true;
+    }
+    if !is_behind(variant_of(field)) {
+        return true;
+    }
+    let (index, _) = pointer_slot(field);
+    !source.get_pointer_field(index).is_null()
+}
+
+/// Copies a field, through at most so many groups.
+#[cycle(copy)]
+fn copy_field(
+    object: &mut StructObject,
+    field: Field<'_>,
+    source: StructReader<'_>,
+    groups: usize,
+) -> Result<()>
+    requires room { IsRoomFor field (struct_object_tree object.old) }
+    requires height { group_height (field_set field) (field_brand field) ≤ groups }
+    ensures copied { AreCopied groups (schema_of field.entry) source.entry (index_of field.entry ∷ []) (struct_object_tree object.old) (refusal_of result) (struct_object_tree object.new) }
+    ensures kept { KeepsSize (struct_object_tree object.old) (struct_object_tree object.new) }
+{
+    match group_of(field) {
+        Some(group) => {
+            switch(object, field);
+            copy_group(object, group, source, groups)
+        }
+        None => copy(object, field, source),
+    }
+}
+
+/// Copies a field that the source has.
+#[cycle(copy)]
+fn copy_present(
+    object: &mut StructObject,
+    field: Field<'_>,
+    source: StructReader<'_>,
+    groups: usize,
+) -> Result<()>
+    requires room { IsRoomFor field (struct_object_tree object.old) }
+    requires height { group_height (field_set field) (field_brand field) ≤ groups }
+    ensures copied { AreCopied groups (schema_of field.entry) source.entry (keep_index (has_field field.entry source.entry) (index_of field.entry) []) (struct_object_tree object.old) (refusal_of result) (struct_object_tree object.new) }
+    ensures kept { KeepsSize (struct_object_tree object.old) (struct_object_tree object.new) }
+{
+    if has(field, &source) {
+        copy_field(object, field, source, groups)
+    } else {
+        Ok(())
+    }
+}
+
+/// Copies the active member, where there is one.
+#[cycle(copy)]
+fn copy_member(
+    object: &mut StructObject,
+    schema: StructSchema<'_>,
+    source: StructReader<'_>,
+    groups: usize,
+) -> Result<()>
+    requires room { Fits (set_of schema) (number_of schema) (struct_object_tree object.old) }
+    requires height { group_height (set_of schema) (number_of schema) ≤ groups }
+    ensures copied { AreCopied groups schema.entry source.entry (member_indices (active_field schema.entry source.entry)) (struct_object_tree object.old) (refusal_of result) (struct_object_tree object.new) }
+    ensures kept { KeepsSize (struct_object_tree object.old) (struct_object_tree object.new) }
+{
+    match active_member(schema, &source) {
+        Some(field) => copy_field(object, field, source, groups),
+        None => Ok(()),
+    }
+}
+
+/// Copies the plain fields that the source has, by index, up to the first that is refused.
+#[cycle(copy)]
+fn copy_plain(
+    object: &mut StructObject,
+    schema: StructSchema<'_>,
+    source: StructReader<'_>,
+    groups: usize,
+) -> Result<()>
+    requires room { Fits (set_of schema) (number_of schema) (struct_object_tree object.old) }
+    requires height { group_height (set_of schema) (number_of schema) ≤ groups }
+    ensures copied { AreCopied groups schema.entry source.entry (plain_in_source schema.entry source.entry) (struct_object_tree object.old) (refusal_of result) (struct_object_tree object.new) }
+    ensures kept { KeepsSize (struct_object_tree object.old) (struct_object_tree object.new) }
+{
+    let Ok(fields) = schema.get_non_union_fields() else {
+        unreachable!()
+    };
+    for i in 0..fields.len() {
+        if let Err(error) = copy_present(object, fields.get(i), source, groups) {
+            return Err(error);
+        }
+    }
+    Ok(())
+}
+
+/// Copies a group: it is cleared, and then the source's active member and the plain fields that the source has are copied
+/// up to the first that is refused.
+#[cycle(copy)]
+pub(crate) fn copy_group(
+    object: &mut StructObject,
+    schema: StructSchema<'_>,
+    source: StructReader<'_>,
+    groups: usize,
+) -> Result<()>
+    requires room { Fits (set_of schema) (number_of schema) (struct_object_tree object.old) }
+    requires height { group_height (set_of schema) (number_of schema) < groups }
+    ensures copied { IsCopiedThrough groups schema.entry source.entry (struct_object_tree object.old) (refusal_of result) (struct_object_tree object.new) }
+    ensures kept { KeepsSize (struct_object_tree object.old) (struct_object_tree object.new) }
+{
+    clear_group(object, schema, schema.get_set().brands().len());
+    if let Err(error) = copy_member(object, schema, source, groups - 1) {
+        return Err(error);
+    }
+    copy_plain(object, schema, source, groups - 1)
+}
