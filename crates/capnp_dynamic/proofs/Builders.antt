@@ -52,6 +52,11 @@ same_field what s None f g a b = absurd a
 same_field what s (Some i) f g a b =
     ap (λ (z : StructSchema). what z (index_of f)) (a.schema ∙ sym b.schema) ∙ ap (what (field_schema g)) (a.index ∙ sym b.index)
 
+pub moved : (what : StructSchema → ℕ → Type 0) (s : StructSchema) (o : Option ℕ) (f g : Field) → IsFound s o (Some f) → IsFound s o (Some g) →
+    what (field_schema f) (index_of f) → what (field_schema g) (index_of g)
+moved what s None f g a b h = absurd a
+moved what s (Some i) f g a b h = subst (λ (z : StructSchema). what z (index_of g)) (a.schema ∙ sym b.schema) (subst (what (field_schema f)) (a.index ∙ sym b.index) h)
+
 abbrev cleared-at : Bool → StructSchema → ℕ → StructTree → StructTree
 cleared-at true s i x = group_cleared (set_of s) (number_of s) (struct_field s i) x
 cleared-at false s i x = slot_written (set_of s) (number_of s) (struct_field s i) (cleared_content (struct_field s i).type) x
