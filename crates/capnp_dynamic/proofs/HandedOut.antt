@@ -52,7 +52,7 @@ null-text : (x : Tree) → is_null_tree x ≡ true → IsOk (as_text x)
 null-text tree.Null e = refl
 null-text x e = absurd (true≢false (sym e))
 
-text-is : (bytes : List ℕ) → IsOk (as_text (text_tree bytes))
+pub text-is : (bytes : List ℕ) → IsOk (as_text (text_tree bytes))
 text-is bytes = subst (λ (r : Result (List ℕ) ErrorKind). IsOk r) (sym (as_text-text_tree bytes)) refl
 
 text-filled : (d : Value) (x : Tree) → error_of (as_text x) ≡ None → (set : Schemas) → IsOk (as_text (filled_tree set d TextType x))
@@ -157,7 +157,7 @@ zero-list size.EightBytes n = λ q. absurd (true≢false q)
 zero-list size.Pointer n = λ q. absurd (true≢false q)
 zero-list size.InlineComposite n = λ q. absurd (true≢false q)
 
-new-list : (set : Schemas) (e : SchemaType) (n : ℕ) → IsListOrNull (new_list set e n)
+pub new-list : (set : Schemas) (e : SchemaType) (n : ℕ) → IsListOrNull (new_list set e n)
 new-list set (StructType b g) n = λ q. absurd (true≢false q)
 new-list set VoidType n = zero-list size.Void n
 new-list set BoolType n = zero-list size.Bit n

@@ -15,10 +15,13 @@ use Rattle.capnp_schema.specs.Types.{struct_number, SchemaType, TextType, DataTy
 use Rattle.capnp_schema.specs.declared.schema.fields.Field.{Field}
 use Rattle.capnp_records.specs.Record.{Left}
 use Rattle.capnp_records.specs.Step.{is_group_field}
-use Rattle.capnp_records.specs.Writes.Slots.{Fits}
-use Rattle.capnp_slots.specs.Fields.{field_set}
+use Rattle.capnp_records.specs.Writes.Slots.{At, Fits}
+use Rattle.capnp_slots.specs.Fields.{field_brand, field_set}
+use Rattle.capnp_slots.specs.Inits.{IsInitRefusal, IsInitnRefusal}
+use Rattle.capnp_records.specs.Writes.Contents.{init_tree, initn_tree}
+use Rattle.capnp_records.specs.Writes.ElementEnds.{InitnContent}
 use Rattle.capnp_slots.specs.Fills.{fill_due, filled_tree}
-use Rattle.capnp_records.specs.Writes.TreeEnds.{offset_of}
+use Rattle.capnp_records.specs.Writes.TreeEnds.{InitContent, group_cleared, offset_of}
 use Rattle.capnp_dynamic.specs.Built.{built_element, built_elements, built_reading, built_schema, built_set, built_struct}
 use Rattle.capnp_dynamic.specs.BuiltValues.{IsReaderOf}
 use Rattle.capnp_dynamic.specs.Reads.{field_read}
@@ -83,3 +86,30 @@ IsRefusalAt set f s e =
 
 abbrev pub IsPartRefusal : Field → StructTree → Error → Type 0
 IsPartRefusal f s e = IsRefusalAt (field_set f) (typed_of f) s e
+
+-- ---- what init and initn hand out ----
+
+-- a slot that is started anew, and one with a size
+abbrev pub HandsNew : Schemas → TypedField → BuiltValue → Type 0
+HandsNew set f v = InitContent set f.type (At (init_tree set f.type)) × HandsOut true set f.type (init_tree set f.type) v
+
+abbrev pub HandsNewSized : Schemas → TypedField → ℕ → BuiltValue → Type 0
+HandsNewSized set f n v = InitnContent set n f.type (At (initn_tree set f.type n)) × HandsOut true set f.type (initn_tree set f.type n) v
+
+-- a group that is started is cleared
+abbrev pub start_handed : (group : Bool) → Schemas → ℕ → TypedField → StructTree → BuiltValue → Type 0
+start_handed true set b f s v = HandsGroup set f (group_cleared set b f s) v
+start_handed false set b f s v = HandsNew set f v
+
+abbrev pub HandsInit : Field → StructTree → BuiltValue → Type 0
+HandsInit f s v = start_handed (is_group_field (typed_of f).field.kind) (field_set f) (field_brand f) (typed_of f) s v
+
+abbrev pub HandsInitn : Field → ℕ → BuiltValue → Type 0
+HandsInitn f n v = HandsNewSized (field_set f) (typed_of f) n v
+
+-- why a field is not started anew: a group always is
+abbrev pub IsStartRefusal : Field → Error → Type 0
+IsStartRefusal f e = (is_group_field (typed_of f).field.kind ≡ false) × IsInitRefusal (typed_of f).type e.kind
+
+abbrev pub IsSizedRefusal : Field → ℕ → Error → Type 0
+IsSizedRefusal f n e = IsInitnRefusal (field_set f) n (typed_of f).type e.kind

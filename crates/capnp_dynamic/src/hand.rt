@@ -114,7 +114,7 @@ fn pointed_of<'a>(
 }
 
 /// The pointer of a slot lies inside each struct that has the sections of the field's schema.
-fn pointer_is_inside(field: Field<'_>)
+pub(crate) fn pointer_is_inside(field: Field<'_>)
     requires slot { IsSlot field }
     requires pointer { IsPointer field }
     ensures { (s : StructTree) → IsRoomFor field.entry s → pointer_index field.entry < tree_count s.pointers }
