@@ -93,8 +93,11 @@ IsPartRefusal f s e = IsRefusalAt (field_set f) (typed_of f) s e
 abbrev pub HandsNew : Schemas → TypedField → BuiltValue → Type 0
 HandsNew set f v = InitContent set f.type (At (init_tree set f.type)) × HandsOut true set f.type (init_tree set f.type) v
 
+abbrev pub HandsSized : Schemas → SchemaType → ℕ → BuiltValue → Type 0
+HandsSized set t n v = InitnContent set n t (At (initn_tree set t n)) × HandsOut true set t (initn_tree set t n) v
+
 abbrev pub HandsNewSized : Schemas → TypedField → ℕ → BuiltValue → Type 0
-HandsNewSized set f n v = InitnContent set n f.type (At (initn_tree set f.type n)) × HandsOut true set f.type (initn_tree set f.type n) v
+HandsNewSized set f n v = HandsSized set f.type n v
 
 -- a group that is started is cleared
 abbrev pub start_handed : (group : Bool) → Schemas → ℕ → TypedField → StructTree → BuiltValue → Type 0
