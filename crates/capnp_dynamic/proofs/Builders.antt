@@ -1,8 +1,8 @@
 -- What a write keeps of a struct that is built, what is cleared by a field's kind, and fields of one name.
-use Rattle.std.specs.Prelude.{ℕ, ◌*◌, ◌≤◌, ◌≡◌, refl, Bool, true, false, not, Option, Some, None, Result, Ok, Err, OnOk, OnErr, length}
+use Rattle.std.specs.Prelude.{ℕ, ◌*◌, ◌≤◌, ◌≡◌, refl, Bool, true, false, not, Option, Some, None}
 use Rattle.std.proofs.Common.{ap, sym, subst, ◌∙◌}
 use Rattle.std.proofs.lemmas.Bool.{true≢false}
-use Rattle.capnp_wire.specs.Tree.{StructTree, tree_count}
+use Rattle.capnp_wire.specs.Tree.{StructTree}
 use Rattle.capnp_schema.specs.FieldLists.{IsFound, index_of, schema_of as field_schema, typed_of}
 use Rattle.capnp_schema.specs.Footprint.{Place}
 use Rattle.capnp_schema.specs.Schema.{Schemas}
@@ -13,7 +13,7 @@ use Rattle.capnp_records.specs.Step.{is_group_field}
 use Rattle.capnp_records.specs.Writes.Overlay.{cleared_content}
 use Rattle.capnp_records.specs.Writes.Slots.{Fits, brand_size}
 use Rattle.capnp_records.specs.Writes.TreeEnds.{group_cleared, slot_written}
-use Rattle.capnp_slots.specs.Fields.{IsRoomFor, Keeps, field_brand, field_set}
+use Rattle.capnp_slots.specs.Fields.{IsRoomFor, Keeps, field_brand}
 use Rattle.capnp_slots.specs.Primitives.{given_content, given_to}
 use Rattle.capnp_slots.specs.Sources.{IsSet, IsSetRefusal, IsTaken}
 use Rattle.capnp_device.specs.declared.error.ErrorKind.{ErrorKind}

@@ -2,21 +2,18 @@
 use Rattle.std.specs.Prelude.{ℕ, zero, suc, ◌<◌, ◌≡◌, refl, true}
 use Rattle.std.proofs.Common.{ap, arith, sym, subst, ◌∙◌}
 use Rattle.capnp_wire.specs.Elements.{HasPointer, with_pointer_element, with_struct}
-use Rattle.capnp_wire.specs.Edits.{with_pointer_tree, with_tree}
+use Rattle.capnp_wire.specs.Edits.{with_pointer_tree}
 use Rattle.capnp_wire.specs.Facts.Rows.{struct_count-with_struct, tree_count-with_tree}
 use Rattle.capnp_records.specs.Facts.ListValues.{cut-same}
-use Rattle.capnp_wire.specs.Reading.{cut_pointer, element_pointer}
+use Rattle.capnp_wire.specs.Reading.{element_pointer}
 use Rattle.capnp_wire.specs.Tree as tree
 use Rattle.capnp_wire.specs.Tree.{StructTree, Structs, Tree, Trees, nth_struct, nth_tree, struct_count, tree_count}
 use Rattle.capnp_schema.specs.Schema.{Schemas}
-use Rattle.capnp_schema.specs.Types.{SchemaType, VoidType, BoolType, IntType, UIntType, EnumType, TextType, DataType, StructType, ListType, AnyPointerType, is_pointer}
+use Rattle.capnp_schema.specs.Types.{SchemaType, TextType, DataType, ListType, is_pointer}
 use Rattle.capnp_records.specs.Facts.Pointers.{nth_tree-put_same}
 use Rattle.capnp_records.specs.Writes.Contents.{initn_tree}
 use Rattle.capnp_records.specs.Writes.ElementEnds.{HasRoom, InitnContent, element_written}
 use Rattle.capnp_records.specs.Writes.Slots.{At}
-use Rattle.capnp_dynamic.specs.Handed.{CanBeHanded, HandsOut, HandsSized}
-use Rattle.capnp_dynamic.specs.declared.dynamic_value.build.Builder.{Builder as BuiltValue}
-use Rattle.capnp_dynamic.proofs.Started.{handed-initn}
 
 -- ---- the pointer of an element ----
 

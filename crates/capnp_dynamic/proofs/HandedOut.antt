@@ -1,13 +1,13 @@
 -- What was filled, or started anew, can be handed out.
 use Rattle.std.specs.Prelude.{ℕ, ◌<◌, ◌≡◌, refl, List, Bool, true, false, Option, Some, None, IsOk, Ok, Err, Result}
-use Rattle.std.proofs.Common.{ap, arith, sym, subst, ◌∙◌}
+use Rattle.std.proofs.Common.{ap, sym, subst, ◌∙◌}
 use Rattle.std.proofs.lemmas.Bool.{true≢false}
 use Rattle.capnp_device.specs.declared.error.ErrorKind.{ErrorKind}
 use Rattle.capnp_wire.specs.Tree as tree
 use Rattle.capnp_wire.specs.Tree.{StructTree, Tree, nth_tree, tree_count}
 use Rattle.capnp_wire.specs.Defaults.{error_of, list_refusal}
-use Rattle.capnp_wire.specs.Edits.{extended, with_pointer_tree, zero_list, zero_struct}
-use Rattle.capnp_wire.specs.Facts.Lengths.{HasAtLeast-extended, HasAtLeast-zero_struct}
+use Rattle.capnp_wire.specs.Edits.{with_pointer_tree, zero_list}
+use Rattle.capnp_wire.specs.Facts.Lengths.{HasAtLeast-extended}
 use Rattle.capnp_wire.specs.Reading.{as_data, as_text, is_null_tree}
 use Rattle.capnp_wire.specs.StructLists.{struct_list, struct_list_refusal}
 use Rattle.capnp_wire.specs.Words.{first_fault}
@@ -17,13 +17,12 @@ use Rattle.capnp_wire.specs.declared.size.ElementSize.TheVariants as size
 use Rattle.capnp_wire.specs.declared.size.StructSize.{StructSize}
 use Rattle.capnp_base.specs.ReadBack.{as_text-text_tree}
 use Rattle.capnp_schema.specs.Accepted.{Decodes, IsListOrNull as IsRootList, root_of}
-use Rattle.capnp_schema.specs.Schema.{Schemas, Value, VoidValue, BoolValue, IntValue, UIntValue, EnumValue, TextValue, DataValue, StructValue, ListValue, AnyPointerValue}
+use Rattle.capnp_schema.specs.Schema.{Schemas, Value, TextValue, DataValue, ListValue}
 use Rattle.capnp_schema.specs.Types.{is_pointer, SchemaType, VoidType, BoolType, IntType, UIntType, EnumType, TextType, DataType, StructType, ListType, AnyPointerType, element_size}
 use Rattle.capnp_records.specs.Given.{text_tree}
-use Rattle.capnp_records.specs.Writes.Contents.{init_tree, initn_tree, new_list}
+use Rattle.capnp_records.specs.Writes.Contents.{new_list}
 use Rattle.capnp_records.specs.Writes.Fill.{or_default}
 use Rattle.capnp_records.specs.Writes.Slots.{brand_size}
-use Rattle.capnp_records.specs.Writes.TreeCopy.{or_else}
 use Rattle.capnp_slots.specs.Fills.{fill_due, filled_tree}
 use Rattle.capnp_records.specs.Facts.Pointers.{nth_tree-put_same}
 use Rattle.capnp_device.specs.declared.error.Error.{Error}

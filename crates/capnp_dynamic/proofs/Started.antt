@@ -1,16 +1,14 @@
 -- What is started anew can be handed out.
-use Rattle.std.specs.Prelude.{ℕ, ◌*◌, ◌<◌, ◌≤◌, ◌≡◌, refl, Bool, true, false, not, Option, Some, None, length, replicate}
+use Rattle.std.specs.Prelude.{ℕ, ◌*◌, ◌<◌, ◌≤◌, ◌≡◌, refl, Bool, true, false, Option, Some, replicate}
 use Rattle.std.proofs.Common.{ap, sym, subst, ◌∙◌}
-use Rattle.std.proofs.lemmas.Bool.{true≢false}
 use Rattle.capnp_device.specs.declared.error.Error.{Error}
 use Rattle.capnp_device.specs.declared.error.ErrorKind.TheVariants.{InitnIsOnlyValidForListTextOrDataFields}
-use Rattle.capnp_wire.specs.Edits.{zero_struct}
 use Rattle.capnp_wire.specs.Facts.Lengths.{HasAtLeast-zero_struct}
 use Rattle.capnp_wire.specs.Tree.{StructTree, Tree, Trees, nth_tree, tree_count}
 use Rattle.capnp_schema.specs.Accepted.{IsGroupOf}
 use Rattle.capnp_schema.specs.FieldLists.{IsFound, typed_of}
 use Rattle.capnp_schema.specs.Footprint.{Place}
-use Rattle.capnp_schema.specs.Schema.{Field as FieldEntry, FieldKind, Group, Node, Schemas, Slot, TypedField, is_member, node_of}
+use Rattle.capnp_schema.specs.Schema.{Field as FieldEntry, FieldKind, Group, Node, Schemas, Slot, is_member, node_of}
 use Rattle.capnp_schema.specs.StructHandles.{number_of, set_of, struct_field}
 use Rattle.capnp_schema.specs.Types.{is_pointer, struct_brand, SchemaType, VoidType, BoolType, IntType, UIntType, EnumType, TextType, DataType, StructType, ListType, AnyPointerType}
 use Rattle.capnp_schema.specs.declared.schema.fields.Field.{Field}

@@ -1,10 +1,9 @@
 -- What was filled stands at the pointer, under the field's set and type.
-use Rattle.std.specs.Prelude.{ℕ, ◌≡◌, false, None}
-use Rattle.std.proofs.Common.{ap, sym, subst, ◌∙◌, Option}
+use Rattle.std.specs.Prelude.{◌≡◌, false}
+use Rattle.std.proofs.Common.{ap, sym, ◌∙◌}
 use Rattle.capnp_wire.specs.Objects.{object_tree, struct_object_tree}
-use Rattle.capnp_wire.specs.Tree.{StructTree, Tree}
+use Rattle.capnp_wire.specs.Tree.{StructTree}
 use Rattle.capnp_wire.specs.Words.{first_fault}
-use Rattle.capnp_wire.specs.declared.fault.Fault.{Fault}
 use Rattle.capnp_schema.specs.Entries.{lists_seen}
 use Rattle.capnp_schema.specs.FieldLists.{typed_of}
 use Rattle.capnp_schema.specs.Schema.{default_of}

@@ -1,14 +1,12 @@
 -- The element was started, and its pointer is handed out under the elements' type.
-use Rattle.std.specs.Prelude.{ℕ, ◌≡◌, refl, true}
-use Rattle.std.proofs.Common.{ap, sym, ◌∙◌}
-use Rattle.capnp_wire.specs.Objects.{list_object_tree, object_tree}
-use Rattle.capnp_wire.specs.Tree.{Tree}
+use Rattle.std.specs.Prelude.{refl, true}
+use Rattle.std.proofs.Common.{ap, ◌∙◌}
 use Rattle.capnp_schema.specs.Facts.Layers.{seen_which}
 use Rattle.capnp_schema.specs.Tests.{seen_variant}
-use Rattle.capnp_schema.specs.Types.{SchemaType, is_pointer, seen_type}
+use Rattle.capnp_schema.specs.Types.{is_pointer}
 use Rattle.capnp_records.specs.Writes.Contents.{initn_tree}
 use Rattle.capnp_dynamic.specs.Built.{built_element, built_elements, built_set}
-use Rattle.capnp_dynamic.proofs.ElementsStarted.{IsStarted, element_started}
+use Rattle.capnp_dynamic.proofs.ElementsStarted.{element_started}
 use Rattle.capnp_dynamic.proofs.HandedOut.{can-hand, handed-out}
 use Rattle.capnp_dynamic.proofs.Started.{handed-initn}
 use Rattle.capnp_dynamic.proofs.dynamic_list.build.Builder.init.Goals as goal

@@ -2,7 +2,7 @@
 use Rattle.std.proofs.Common.{ap, sym, ◌∙◌}
 use Rattle.capnp_schema.specs.Facts.Layers.{seen_which}
 use Rattle.capnp_schema.specs.Tests.{seen_variant}
-use Rattle.capnp_schema.specs.Types.{SchemaType, is_pointer}
+use Rattle.capnp_schema.specs.Types.{is_pointer}
 use Rattle.capnp_dynamic.specs.Built.{built_struct}
 use Rattle.capnp_dynamic.proofs.HandedOut.{hands_number}
 use Rattle.capnp_dynamic.proofs.dynamic_struct.build.Builder.get.Goals as goal
