@@ -1,8 +1,8 @@
--- What a write keeps of a struct that is built, and what is cleared by a field's kind.
-use Rattle.std.specs.Prelude.{ℕ, ◌*◌, ◌≤◌, ◌≡◌, refl, Bool, true, false, not, Option, Some, None, Result, Ok, Err, OnOk, OnErr, length}
+-- What a write keeps of a struct that is built, what is cleared by a field's kind, and fields of one name.
+use Rattle.std.specs.Prelude.{ℕ, ◌*◌, ◌≤◌, ◌≡◌, refl, Bool, true, false, not, Option, Some, None}
 use Rattle.std.proofs.Common.{ap, sym, subst, ◌∙◌}
 use Rattle.std.proofs.lemmas.Bool.{true≢false}
-use Rattle.capnp_wire.specs.Tree.{StructTree, tree_count}
+use Rattle.capnp_wire.specs.Tree.{StructTree}
 use Rattle.capnp_schema.specs.FieldLists.{IsFound, index_of, schema_of as field_schema, typed_of}
 use Rattle.capnp_schema.specs.Footprint.{Place}
 use Rattle.capnp_schema.specs.Schema.{Schemas}
@@ -13,7 +13,14 @@ use Rattle.capnp_records.specs.Step.{is_group_field}
 use Rattle.capnp_records.specs.Writes.Overlay.{cleared_content}
 use Rattle.capnp_records.specs.Writes.Slots.{Fits, brand_size}
 use Rattle.capnp_records.specs.Writes.TreeEnds.{group_cleared, slot_written}
-use Rattle.capnp_slots.specs.Fields.{IsRoomFor, Keeps, field_brand, field_set}
+use Rattle.capnp_slots.specs.Fields.{IsRoomFor, Keeps, field_brand}
+use Rattle.capnp_slots.specs.Primitives.{given_content, given_to}
+use Rattle.capnp_slots.specs.Sources.{IsSet, IsSetRefusal, IsTaken}
+use Rattle.capnp_device.specs.declared.error.ErrorKind.{ErrorKind}
+use Rattle.capnp_records.specs.Call.{Source}
+use Rattle.capnp_records.specs.Given.{Given, given_slot}
+use Rattle.capnp_records.specs.Writes.Overlay.{field_names}
+use Rattle.capnp_schema.specs.Schema.{default_of}
 use Rattle.capnp_dynamic.specs.Built.{IsUnder}
 use Rattle.capnp_dynamic.specs.FieldWrites.{cleared_kind, field_cleared}
 use Rattle.capnp_dynamic.specs.Reads.{BelongsTo}
@@ -35,6 +42,54 @@ under_kept schema inside s s' under kept = record {
 
 pub under_same : (schema : StructSchema) (s s' : StructTree) → IsUnder schema s → s' ≡ s → IsUnder schema s'
 under_same schema s s' under e = subst (IsUnder schema) (sym e) under
+
+-- ---- fields of one name ----
+
+-- what is said of a field by its schema and its index alone is said of each of that name
+pub same_field : {A : Type 0} (what : StructSchema → ℕ → A) (s : StructSchema) (o : Option ℕ) (f g : Field) → IsFound s o (Some f) → IsFound s o (Some g) →
+    what (field_schema f) (index_of f) ≡ what (field_schema g) (index_of g)
+same_field what s None f g a b = absurd a
+same_field what s (Some i) f g a b =
+    ap (λ (z : StructSchema). what z (index_of f)) (a.schema ∙ sym b.schema) ∙ ap (what (field_schema g)) (a.index ∙ sym b.index)
+
+pub moved : (what : StructSchema → ℕ → Type 0) (s : StructSchema) (o : Option ℕ) (f g : Field) → IsFound s o (Some f) → IsFound s o (Some g) →
+    what (field_schema f) (index_of f) → what (field_schema g) (index_of g)
+moved what s None f g a b h = absurd a
+moved what s (Some i) f g a b h = subst (λ (z : StructSchema). what z (index_of g)) (a.schema ∙ sym b.schema) (subst (what (field_schema f)) (a.index ∙ sym b.index) h)
+
+abbrev cleared-at : Bool → StructSchema → ℕ → StructTree → StructTree
+cleared-at true s i x = group_cleared (set_of s) (number_of s) (struct_field s i) x
+cleared-at false s i x = slot_written (set_of s) (number_of s) (struct_field s i) (cleared_content (struct_field s i).type) x
+
+cleared-is : (q : Bool) (f : Field) (x : StructTree) → cleared_kind q f x ≡ cleared-at q (field_schema f) (index_of f) x
+cleared-is true f x = refl
+cleared-is false f x = refl
+
+pub same_cleared : (s : StructSchema) (o : Option ℕ) (f g : Field) → IsFound s o (Some f) → IsFound s o (Some g) → (x : StructTree) → field_cleared f x ≡ field_cleared g x
+same_cleared s o f g a b x =
+    cleared-is (is_group_field (typed_of f).field.kind) f x
+    ∙ (same_field (λ (z : StructSchema) i. cleared-at (is_group_field (struct_field z i).field.kind) z i x) s o f g a b
+    ∙ sym (cleared-is (is_group_field (typed_of g).field.kind) g x))
+
+-- a set of one of them is a set of each
+pub same_set : (s : StructSchema) (o : Option ℕ) (f g : Field) → IsFound s o (Some f) → IsFound s o (Some g) → (x : Source) (old new : StructTree) → IsSet f x old new → IsSet g x old new
+same_set s o f g a b x old new h = record {
+  taken = subst IsTaken (same_field (λ (z : StructSchema) i. given_slot (set_of z) (struct_field z i).type x) s o f g a b) h.taken;
+  written = h.written ∙ same_field (λ (z : StructSchema) i. slot_written (set_of z) (number_of z) (struct_field z i)
+      (given_content (default_of (struct_field z i).field) (struct_field z i).type x (given_slot (set_of z) (struct_field z i).type x)) old) s o f g a b;
+  kept = subst (λ (inside : Place → Bool). Keeps inside old new) (same_field (λ (z : StructSchema) i. field_names (set_of z) (number_of z) (struct_field z i)) s o f g a b) h.kept;
+}
+
+pub same_given : (s : StructSchema) (o : Option ℕ) (f g : Field) → IsFound s o (Some f) → IsFound s o (Some g) → (x : Source) → given_to f x ≡ given_to g x
+same_given s o f g a b x = same_field (λ (z : StructSchema) i. given_slot (set_of z) (struct_field z i).type x) s o f g a b
+
+pub same_refusal : (s : StructSchema) (o : Option ℕ) (f g : Field) → IsFound s o (Some f) → IsFound s o (Some g) → (x : Source) (k : ErrorKind) → IsSetRefusal (given_to f x) k → IsSetRefusal (given_to g x) k
+same_refusal s o f g a b x k h = subst (λ (q : Given). IsSetRefusal q k) (same_given s o f g a b x) h
+
+-- a field of a name belongs to the schema
+pub found_belongs : (s : StructSchema) (o : Option ℕ) (f : Field) → IsFound s o (Some f) → BelongsTo f s
+found_belongs s None f a = absurd a
+found_belongs s (Some i) f a = record { set = ap set_of a.schema; number = ap number_of a.schema }
 
 -- ---- what is cleared, by its kind ----
 

@@ -1,6 +1,5 @@
 -- What builders of dynamic values stand on. Contracts cite these words; a builder's fields are public, so that it can be
 -- taken apart.
-use Rattle.std.specs.Prelude.{ℕ}
 use Rattle.std.specs.Borrow.{MutBor}
 use Rattle.capnp_wire.specs.Elements.{built_list}
 use Rattle.capnp_wire.specs.Objects.{list_object_tree, struct_object_tree}

@@ -1,5 +1,5 @@
 -- What a builder's writes make of a struct, by a field's handle: in the words of the core, for slots and groups alike.
-use Rattle.std.specs.Prelude.{◌≡◌, Bool, true, false, Option, Some}
+use Rattle.std.specs.Prelude.{Bool, true, false, Some}
 use Rattle.capnp_wire.specs.Tree.{StructTree}
 use Rattle.capnp_schema.specs.FieldLists.{IsFound, typed_of}
 use Rattle.capnp_schema.specs.Query.{field_named}

@@ -1,24 +1,28 @@
 //! Lists whose element types are known only at run time, as they are built.
-ghost use Rattle.std.specs.Prelude.{◌==◌, ◌≡◌, ◌<◌, ◌^◌, IfErr, OnErr, OnOk};
+ghost use Rattle.std.specs.Prelude.{◌==◌, ◌≡◌, ◌<◌, ◌^◌, IfErr, IfOk, OnErr, OnOk};
 ghost use Rattle.capnp_wire.specs.Reading.{list_length};
 ghost use Rattle.capnp_wire.specs.Standing.{list_levels, list_of};
 ghost use Rattle.capnp_wire.specs.WellFormed.{IsWellFormed};
 ghost use Rattle.capnp_schema.specs.Entries.{lists_seen};
 ghost use Rattle.capnp_records.specs.Given.{given_element};
 ghost use Rattle.capnp_records.specs.Writes.ElementEnds.{HasRoom};
-ghost use Rattle.capnp_slots.specs.ElementSets.{IsElementSet};
+ghost use Rattle.capnp_slots.specs.ElementSets.{IsElementInitRefusal, IsElementSet};
 ghost use Rattle.capnp_slots.specs.Sources.{IsSetRefusal};
 ghost use Rattle.capnp_dynamic.specs.Built.{built_element, built_elements, built_reading, built_set, built_type, list_behind};
+ghost use Rattle.capnp_dynamic.specs.BuiltValues.{CanBeRead};
+ghost use Rattle.capnp_dynamic.specs.Handed.{HandsSized};
 ghost use Rattle.capnp_dynamic.specs.Handles.{list_reader_of, list_set, type_of};
 ghost use Rattle.capnp_dynamic.specs.SetValues.{source_of};
 
 use crate::dynamic_list::Reader;
 use crate::dynamic_value;
+use crate::handed::hand_out;
 use capnp_base::introspect::Type;
 use capnp_schema::set::SchemaSet;
 use capnp_slots::element;
 use capnp_wire::ListBuilder;
 use capnp_wire::error::Result;
+use capnp_wire::laws::kept_lists::pointers_of_lists_are_well_formed;
 
 /// A list that is built: its object, the type of its elements, and the set that the type is of.
 #[derive(Drop)]
@@ -122,5 +126,30 @@ impl<'a> Builder<'a> {
         let element_type = self.element_type;
         let set = self.set;
         element::set(self.builder, set, element_type, index, value.into_source())
+    }
+
+    /// Starts an element anew with a size, and hands it out; the element has to be there. It becomes a text or data of so many
+    /// zero bytes, or a list of so many elements, all zero, false or null, or structs of their schema's sections.
+    ///
+    /// Refused with `ListAnyPointerNotSupported` for an untyped element and `ExpectedAListOrBlob` for another one that is no
+    /// list, text or data; with `SizePastFormat` for a text of more than 2^29 - 2 bytes, data of more than 2^29 - 1, 2^29
+    /// elements or more, or structs that take 2^29 words or more; and with `OutOfMemory`. Then nothing has changed, as
+    /// `element::init` says.
+    pub fn init(self, index: u32, size: u32) -> Result<dynamic_value::Builder<'a>>
+        requires room { HasRoom (built_element self) (built_elements self) index }
+        requires formed { IsWellFormed (built_elements self) }
+        ensures stands { IfOk result (HandsSized (built_set self.entry) (built_element self.entry) size) }
+        ensures ready { IfOk result CanBeRead }
+        ensures cause { IfErr result (λ e. IsElementInitRefusal (built_set self.entry) size (built_element self.entry) e.kind) }
+    {
+        pointers_of_lists_are_well_formed();
+        let Builder {
+            builder,
+            element_type,
+            set,
+        } = self;
+        let variant = element_type.which();
+        element::init(builder, set, element_type, index, size)?;
+        Ok(hand_out(builder.get_pointer_element(index), set, variant, true))
     }
 }

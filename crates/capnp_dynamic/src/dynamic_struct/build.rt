@@ -3,7 +3,7 @@
 //! A builder is thin: its calls are those of `slot` and `group` on its object, and their contracts say what the struct
 //! becomes. A field that is given to a call belongs to the builder's schema, and the struct has at least the schema's
 //! sections; both are conditions.
-ghost use Rattle.std.specs.Prelude.{None, Ok, IfErr, IsOk, IsOkAnd, OnErr, OnOk, ◌≡◌};
+ghost use Rattle.std.specs.Prelude.{None, Ok, IfErr, IsErrAnd, IsOk, IsOkAnd, OnErr, OnOk, ◌≡◌, ◌≢◌};
 ghost use Rattle.capnp_device.specs.declared.error.ErrorKind.TheVariants.{FieldNotFound};
 ghost use Rattle.capnp_wire.specs.Objects.{struct_object_tree};
 ghost use Rattle.capnp_wire.specs.Standing.{struct_levels, struct_of};
@@ -121,6 +121,7 @@ impl<'a> Builder<'a> {
         requires { IsReady self.now }
         ensures is { (f : Field) → IsNamed (built_schema self.now) field_name.now f → result ≡ Ok (has_of (built_record self.now) (struct_field (built_schema self.now) (index_of f)).field (index_of f)) }
         ensures refused { IfErr result (λ e. (e.kind ≡ FieldNotFound) × (field_named (struct_records (built_schema self.now)) field_name.now ≡ None)) }
+        ensures none { OnOk result (field_named (struct_records (built_schema self.now)) field_name.now ≢ None) }
     {
         let schema = self.schema;
         let field = schema.get_field_by_name(field_name)?;
@@ -151,6 +152,29 @@ impl<'a> Builder<'a> {
         slot::set(self.builder, field, value.into_source())
     }
 
+    /// Sets the slot of a name, as `set_slot`. Refused with `FieldNotFound` where there is none of that name, and else as that
+    /// is; then nothing has changed.
+    #[tactic(auto, using(crate::proofs::Builders::same_set, crate::proofs::Builders::same_refusal, crate::proofs::Builders::found_belongs))]
+    pub fn set_slot_named(
+        &mut self,
+        field_name: &str,
+        value: dynamic_value::Reader<'_>,
+    ) -> Result<()>
+        requires ready { IsReady self.old }
+        requires slot { (f : Field) → IsNamed (built_schema self.old) field_name.now f → IsSlot f }
+        ensures same { (struct_behind self.new).ghost_name ≡ (struct_behind self.old).ghost_name }
+        ensures schema { built_schema self.new ≡ built_schema self.old }
+        ensures set { (f : Field) → IsNamed (built_schema self.old) field_name.now f → OnOk result (IsSet f (source_of value.entry) (built_struct self.old) (built_struct self.new)) }
+        ensures refused { OnErr result (built_struct self.new ≡ built_struct self.old) }
+        ensures cause { (f : Field) → IsNamed (built_schema self.old) field_name.now f → IfErr result (λ e. IsSetRefusal (given_to f (source_of value.entry)) e.kind) }
+        ensures none { field_named (struct_records (built_schema self.old)) field_name.now ≡ None → IsErrAnd result (λ e. e.kind ≡ FieldNotFound) }
+        ensures ready { IsReady self.new }
+    {
+        let schema = self.schema;
+        let field = schema.get_field_by_name(field_name)?;
+        self.set_slot(field, value)
+    }
+
     /// Clears a field. The bits of a slot become zero, which reads as its default, or its pointer null; of a group the member
     /// of discriminant value 0 is cleared and then its plain fields by index. A member becomes active first. No memory is
     /// taken, and the answer is always Ok.
@@ -171,6 +195,24 @@ impl<'a> Builder<'a> {
             group::clear(self.builder, field);
         }
         Ok(())
+    }
+
+    /// Clears the field of a name, as `clear`. Refused with `FieldNotFound` where there is none of that name, and then
+    /// nothing has changed.
+    #[tactic(auto, using(crate::proofs::Builders::same_cleared, crate::proofs::Builders::found_belongs))]
+    pub fn clear_named(&mut self, field_name: &str) -> Result<()>
+        requires { IsReady self.old }
+        ensures same { (struct_behind self.new).ghost_name ≡ (struct_behind self.old).ghost_name }
+        ensures schema { built_schema self.new ≡ built_schema self.old }
+        ensures cleared { (f : Field) → IsNamed (built_schema self.old) field_name.now f → built_struct self.new ≡ field_cleared f (built_struct self.old) }
+        ensures refused { OnErr result (built_struct self.new ≡ built_struct self.old) }
+        ensures cause { IfErr result (λ e. (e.kind ≡ FieldNotFound) × (field_named (struct_records (built_schema self.old)) field_name.now ≡ None)) }
+        ensures none { OnOk result (field_named (struct_records (built_schema self.old)) field_name.now ≢ None) }
+        ensures ready { IsReady self.new }
+    {
+        let schema = self.schema;
+        let field = schema.get_field_by_name(field_name)?;
+        self.clear(field)
     }
 
     /// The same struct by the handle of a struct type, which has to be that of the schema.

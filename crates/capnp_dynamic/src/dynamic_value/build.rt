@@ -5,11 +5,13 @@ ghost use Rattle.capnp_dynamic.specs.BuiltValues.{CanBeRead, IsReaderOf, StandsA
 ghost use Rattle.capnp_dynamic.specs.Built.{built_schema, struct_behind};
 ghost use Rattle.capnp_dynamic.specs.Typed.{struct_type};
 ghost use Rattle.capnp_schema.specs.Types.{seen_type};
+ghost use Rattle.capnp_dynamic.specs.declared.dynamic_value.build.Builder.{Builder};
 
 use crate::dynamic_value::{Enum, Reader};
 use crate::{dynamic_list, dynamic_struct};
 use capnp_base::traits::OwnedStruct;
 use capnp_base::{any_pointer, data, text};
+use std::marker::PhantomData;
 
 /// A value that is built: a number is what stood there, and the others can be written through.
 #[derive(Drop)]
@@ -30,6 +32,39 @@ pub enum Builder<'a> {
     Struct(dynamic_struct::Builder<'a>),
     List(dynamic_list::Builder<'a>),
     AnyPointer(any_pointer::Builder<'a>),
+}
+
+/// What was taken out of a value that lives for `'a`.
+#[derive(Drop)]
+pub struct Kept<'a, T> {
+    pub value: T,
+    marker: PhantomData<&'a ()>,
+}
+
+impl<'a, T> Kept<'a, T> {
+    /// Keeps a value with the lifetime of what it was taken out of.
+    pub fn new(value: T) -> Kept<'a, T>
+        ensures { result.value ≡ value }
+    {
+        Kept {
+            value,
+            marker: PhantomData,
+        }
+    }
+}
+
+/// What a value that is built can be taken as.
+pub trait DowncastBuilder<'a>: Sized {
+    // The dynamic value of it.
+    ghost value_of: { Self → Builder };
+
+    // Whether a dynamic value is of its kind.
+    ghost is_kind: { Builder → Type 0 };
+
+    /// The value that a dynamic value of its kind holds.
+    fn downcast_builder(value: Builder<'a>) -> Kept<'a, Self>
+        requires { is_kind value }
+        ensures { value_of result.value ≡ value.entry };
 }
 
 impl<'a> Builder<'a> {
@@ -81,6 +116,14 @@ impl<'a> Builder<'a> {
             Builder::List(x) => Reader::List(x.into_reader()),
             Builder::AnyPointer(x) => Reader::AnyPointer(x.into_reader()),
         }
+    }
+
+    /// The value that it holds, of the kind that the type names, which has to be this value's.
+    pub fn downcast<T: DowncastBuilder<'a>>(self) -> T
+        requires { T.is_kind self }
+        ensures { T.value_of result ≡ self.entry }
+    {
+        T::downcast_builder(self).value
     }
 
     /// The struct that it holds, by the handle of a struct type, which has to be that of the struct's schema.

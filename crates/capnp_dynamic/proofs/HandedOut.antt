@@ -1,0 +1,206 @@
+-- What was filled, or started anew, can be handed out.
+use Rattle.std.specs.Prelude.{ℕ, ◌<◌, ◌≡◌, refl, List, Bool, true, false, Option, Some, None, IsOk, Ok, Err, Result}
+use Rattle.std.proofs.Common.{ap, sym, subst, ◌∙◌}
+use Rattle.std.proofs.lemmas.Bool.{true≢false}
+use Rattle.capnp_device.specs.declared.error.ErrorKind.{ErrorKind}
+use Rattle.capnp_wire.specs.Tree as tree
+use Rattle.capnp_wire.specs.Tree.{StructTree, Tree, nth_tree, tree_count}
+use Rattle.capnp_wire.specs.Defaults.{error_of, list_refusal}
+use Rattle.capnp_wire.specs.Edits.{with_pointer_tree, zero_list}
+use Rattle.capnp_wire.specs.Facts.Lengths.{HasAtLeast-extended}
+use Rattle.capnp_wire.specs.Reading.{as_data, as_text, is_null_tree}
+use Rattle.capnp_wire.specs.StructLists.{struct_list, struct_list_refusal}
+use Rattle.capnp_wire.specs.Words.{first_fault}
+use Rattle.capnp_wire.specs.declared.fault.Fault.{Fault}
+use Rattle.capnp_wire.specs.declared.size.ElementSize.{ElementSize}
+use Rattle.capnp_wire.specs.declared.size.ElementSize.TheVariants as size
+use Rattle.capnp_wire.specs.declared.size.StructSize.{StructSize}
+use Rattle.capnp_base.specs.ReadBack.{as_text-text_tree}
+use Rattle.capnp_schema.specs.Accepted.{Decodes, IsListOrNull as IsRootList, root_of}
+use Rattle.capnp_schema.specs.Schema.{Schemas, Value, TextValue, DataValue, ListValue}
+use Rattle.capnp_schema.specs.Types.{is_pointer, SchemaType, VoidType, BoolType, IntType, UIntType, EnumType, TextType, DataType, StructType, ListType, AnyPointerType, element_size}
+use Rattle.capnp_records.specs.Given.{text_tree}
+use Rattle.capnp_records.specs.Writes.Contents.{new_list}
+use Rattle.capnp_records.specs.Writes.Fill.{or_default}
+use Rattle.capnp_records.specs.Writes.Slots.{brand_size}
+use Rattle.capnp_slots.specs.Fills.{fill_due, filled_tree}
+use Rattle.capnp_records.specs.Facts.Pointers.{nth_tree-put_same}
+use Rattle.capnp_device.specs.declared.error.Error.{Error}
+use Rattle.capnp_schema.specs.FieldLists.{IsFound, typed_of}
+use Rattle.capnp_schema.specs.StructHandles.{set_of, struct_field}
+use Rattle.capnp_schema.specs.declared.schema.fields.Field.{Field}
+use Rattle.capnp_schema.specs.declared.schema.structs.StructSchema.{StructSchema}
+use Rattle.capnp_records.specs.Step.{is_group_field}
+use Rattle.capnp_slots.specs.Fields.{IsPointer, IsSlot, field_set}
+use Rattle.capnp_slots.specs.Fills.{filled_in}
+use Rattle.capnp_slots.specs.Groups.{IsGroupAt}
+use Rattle.capnp_dynamic.specs.Built.{built_schema, built_struct}
+use Rattle.capnp_dynamic.specs.Handed.{CanBeHanded, HandsField, HandsNumber, HandsOut, IsListOrNull, IsPartRefusal, IsRefusalAt, part_handed}
+use Rattle.capnp_dynamic.specs.declared.dynamic_struct.build.Builder.{Builder as StructHandle}
+use Rattle.capnp_dynamic.specs.declared.dynamic_value.build.Builder.TheVariants as built
+use Rattle.capnp_dynamic.proofs.Builders.{moved}
+use Rattle.capnp_dynamic.specs.declared.dynamic_value.build.Builder.{Builder as BuiltValue}
+
+-- ---- texts and data ----
+
+no-error : {A : Type 0} (r : Result A ErrorKind) → error_of r ≡ None → IsOk r
+no-error (Ok x) e = refl
+no-error (Err k) e = absurd cc
+
+null-text : (x : Tree) → is_null_tree x ≡ true → IsOk (as_text x)
+null-text tree.Null e = refl
+null-text x e = absurd (true≢false (sym e))
+
+pub text-is : (bytes : List ℕ) → IsOk (as_text (text_tree bytes))
+text-is bytes = subst (λ (r : Result (List ℕ) ErrorKind). IsOk r) (sym (as_text-text_tree bytes)) refl
+
+text-filled : (d : Value) (x : Tree) → error_of (as_text x) ≡ None → (set : Schemas) → IsOk (as_text (filled_tree set d TextType x))
+text-filled (TextValue bytes) x e set = go (is_null_tree x)
+  where
+    go : (q : Bool) → IsOk (as_text (elim q as (λ _. Tree) [ true ↦ text_tree bytes | false ↦ x ]))
+    go true = text-is bytes
+    go false = no-error (as_text x) e
+text-filled d x e set = no-error (as_text x) e
+
+data-filled : (d : Value) (x : Tree) → error_of (as_data x) ≡ None → (set : Schemas) → IsOk (as_data (filled_tree set d DataType x))
+data-filled (DataValue bytes) x e set = go (is_null_tree x)
+  where
+    go : (q : Bool) → IsOk (as_data (elim q as (λ _. Tree) [ true ↦ tree.Numbers 1 bytes | false ↦ x ]))
+    go true = refl
+    go false = no-error (as_data x) e
+data-filled d x e set = no-error (as_data x) e
+
+-- ---- lists ----
+
+no-leaf : (k : Fault) → first_fault (tree.FaultLeaf k) ≡ None → ⊥
+no-leaf k e = cc
+
+structs-are : (s : StructSize) (y : Tree) → struct_list_refusal s y ≡ None → first_fault (struct_list s y) ≡ None → IsListOrNull (struct_list s y)
+structs-are s tree.Null e h = λ _. refl
+structs-are s (tree.Struct bytes ps) e h = absurd cc
+structs-are s (tree.Voids n) e h = λ q. absurd (true≢false q)
+structs-are s (tree.Bits bs) e h = absurd cc
+structs-are s (tree.Numbers w bytes) e h = λ q. absurd (true≢false q)
+structs-are s (tree.Pointers ps) e h = λ q. absurd (true≢false q)
+structs-are s (tree.Composite w p es) e h = λ q. absurd (true≢false q)
+structs-are s (tree.FaultLeaf k) e h = absurd (no-leaf k h)
+
+root : (x : Tree) → IsRootList x → IsListOrNull x
+root tree.Null h = λ _. refl
+root (tree.Struct bytes ps) h = absurd h
+root (tree.Voids n) h = λ q. absurd (true≢false q)
+root (tree.Bits bs) h = λ q. absurd (true≢false q)
+root (tree.Numbers w bytes) h = λ q. absurd (true≢false q)
+root (tree.Pointers ps) h = λ q. absurd (true≢false q)
+root (tree.Composite w p es) h = λ q. absurd (true≢false q)
+root (tree.FaultLeaf k) h = absurd h
+
+module _ (element : ElementSize) where
+  there : (x : Tree) → list_refusal element x ≡ None → IsListOrNull x
+  there tree.Null e = λ _. refl
+  there (tree.Struct bytes ps) e = absurd cc
+  there (tree.Voids n) e = λ q. absurd (true≢false q)
+  there (tree.Bits bs) e = λ q. absurd (true≢false q)
+  there (tree.Numbers w bytes) e = λ q. absurd (true≢false q)
+  there (tree.Pointers ps) e = λ q. absurd (true≢false q)
+  there (tree.Composite w p es) e = λ q. absurd (true≢false q)
+  there (tree.FaultLeaf k) e = absurd cc
+
+  -- a default that is entered as a list is one, or null
+  listed : (d : Value) → Decodes d → (x : Tree) → list_refusal element x ≡ None → IsListOrNull (or_default d x)
+  listed (ListValue words) h tree.Null e = root (root_of words) h.1
+  listed (ListValue words) h (tree.Struct bytes ps) e = there (tree.Struct bytes ps) e
+  listed (ListValue words) h (tree.Voids n) e = there (tree.Voids n) e
+  listed (ListValue words) h (tree.Bits bs) e = there (tree.Bits bs) e
+  listed (ListValue words) h (tree.Numbers w bytes) e = there (tree.Numbers w bytes) e
+  listed (ListValue words) h (tree.Pointers ps) e = there (tree.Pointers ps) e
+  listed (ListValue words) h (tree.Composite w p es) e = there (tree.Composite w p es) e
+  listed (ListValue words) h (tree.FaultLeaf k) e = there (tree.FaultLeaf k) e
+  listed d h x e = there x e
+
+list-filled : (set : Schemas) (d : Value) → Decodes d → (e : SchemaType) (x : Tree) → fill_due set d (ListType e) x ≡ None → first_fault (filled_tree set d (ListType e) x) ≡ None → IsListOrNull (filled_tree set d (ListType e) x)
+list-filled set d h (StructType b g) x e n = structs-are (brand_size set b) (or_default d x) e n
+list-filled set d h VoidType x e n = listed size.Void d h x e
+list-filled set d h BoolType x e n = listed size.Bit d h x e
+list-filled set d h (IntType k) x e n = listed (element_size (IntType k)) d h x e
+list-filled set d h (UIntType k) x e n = listed (element_size (UIntType k)) d h x e
+list-filled set d h (EnumType k) x e n = listed size.TwoBytes d h x e
+list-filled set d h TextType x e n = listed size.Pointer d h x e
+list-filled set d h DataType x e n = listed size.Pointer d h x e
+list-filled set d h (ListType t) x e n = listed size.Pointer d h x e
+list-filled set d h AnyPointerType x e n = listed size.Pointer d h x e
+
+-- ---- by type ----
+
+pub can-fill : (set : Schemas) (d : Value) → Decodes d → (t : SchemaType) (x : Tree) → fill_due set d t x ≡ None → first_fault (filled_tree set d t x) ≡ None → CanBeHanded set t (filled_tree set d t x)
+can-fill set d h TextType x e n = text-filled d x e set
+can-fill set d h DataType x e n = data-filled d x e set
+can-fill set d h (StructType b g) x e n = (refl, HasAtLeast-extended (brand_size set b) _)
+can-fill set d h (ListType t) x e n = list-filled set d h t x e n
+can-fill set d h VoidType x e n = tt
+can-fill set d h BoolType x e n = tt
+can-fill set d h (IntType k) x e n = tt
+can-fill set d h (UIntType k) x e n = tt
+can-fill set d h (EnumType k) x e n = tt
+can-fill set d h AnyPointerType x e n = tt
+
+-- ---- what is new ----
+
+zero-list : (s : ElementSize) (n : ℕ) → IsListOrNull (zero_list s n)
+zero-list size.Void n = λ q. absurd (true≢false q)
+zero-list size.Bit n = λ q. absurd (true≢false q)
+zero-list size.Byte n = λ q. absurd (true≢false q)
+zero-list size.TwoBytes n = λ q. absurd (true≢false q)
+zero-list size.FourBytes n = λ q. absurd (true≢false q)
+zero-list size.EightBytes n = λ q. absurd (true≢false q)
+zero-list size.Pointer n = λ q. absurd (true≢false q)
+zero-list size.InlineComposite n = λ q. absurd (true≢false q)
+
+pub new-list : (set : Schemas) (e : SchemaType) (n : ℕ) → IsListOrNull (new_list set e n)
+new-list set (StructType b g) n = λ q. absurd (true≢false q)
+new-list set VoidType n = zero-list size.Void n
+new-list set BoolType n = zero-list size.Bit n
+new-list set (IntType k) n = zero-list (element_size (IntType k)) n
+new-list set (UIntType k) n = zero-list (element_size (UIntType k)) n
+new-list set (EnumType k) n = zero-list size.TwoBytes n
+new-list set TextType n = zero-list size.Pointer n
+new-list set DataType n = zero-list size.Pointer n
+new-list set (ListType t) n = zero-list size.Pointer n
+new-list set AnyPointerType n = zero-list size.Pointer n
+
+-- ---- of a field ----
+
+-- what a pointer has under a type can be handed out, and stands there, also under the field's own set and type
+pub can-hand : (set set' : Schemas) (t t' : SchemaType) (x x' : Tree) → set ≡ set' → t ≡ t' → x ≡ x' → CanBeHanded set' t' x' → CanBeHanded set t x
+can-hand set set' t t' x x' a b c h =
+    subst (λ (z : Schemas). CanBeHanded z t x) (sym a) (subst (λ (u : SchemaType). CanBeHanded set' u x) (sym b) (subst (CanBeHanded set' t') (sym c) h))
+
+pub handed-out : (new : Bool) (set set' : Schemas) (t t' : SchemaType) (x x' : Tree) (v : BuiltValue) → set ≡ set' → t ≡ t' → x ≡ x' → HandsOut new set t x v → HandsOut new set' t' x' v
+handed-out new set set' t t' x x' v a b c h =
+    subst (λ (z : Schemas). HandsOut new z t' x' v) a (subst (λ (u : SchemaType). HandsOut new set u x' v) b (subst (λ (y : Tree). HandsOut new set t y v) c h))
+
+-- what was put at a pointer of a struct stands there
+pub put-there : (i : ℕ) (s s' : StructTree) (t x : Tree) → i < tree_count s.pointers → s' ≡ with_pointer_tree s i t → x ≡ nth_tree s'.pointers i → x ≡ t
+put-there i s s' t x there e h = h ∙ (ap (λ (y : StructTree). nth_tree y.pointers i) e ∙ nth_tree-put_same s.pointers i t there)
+
+-- ---- by the kind of a field, and by its name ----
+
+pub hands_group : (f : Field) (g : StructHandle) (s : StructTree) → IsGroupAt f (built_schema g) → built_struct g ≡ s → HandsField f s (built.Struct g)
+hands_group f g s at e = subst (λ (q : Bool). part_handed q (is_pointer (typed_of f).type) (field_set f) (typed_of f) s (built.Struct g)) (sym at.is_group) (at.set, at.number, e)
+
+pub hands_pointed : (f : Field) (s : StructTree) (v : BuiltValue) → IsSlot f → IsPointer f → HandsOut false (field_set f) (typed_of f).type (filled_in f s) v → HandsField f s v
+hands_pointed f s v slot pointer h =
+    subst (λ (q : Bool). part_handed q (is_pointer (typed_of f).type) (field_set f) (typed_of f) s v) (sym slot)
+    (subst (λ (q : Bool). part_handed false q (field_set f) (typed_of f) s v) (sym pointer) h)
+
+pub hands_number : (f : Field) (s : StructTree) (v : BuiltValue) → IsSlot f → is_pointer (typed_of f).type ≡ false → HandsNumber (field_set f) (typed_of f) s v → HandsField f s v
+hands_number f s v slot pointer h =
+    subst (λ (q : Bool). part_handed q (is_pointer (typed_of f).type) (field_set f) (typed_of f) s v) (sym slot)
+    (subst (λ (q : Bool). part_handed false q (field_set f) (typed_of f) s v) (sym pointer) h)
+
+pub same_handed : (s : StructSchema) (o : Option ℕ) (f g : Field) → IsFound s o (Some f) → IsFound s o (Some g) → (x : StructTree) (v : BuiltValue) → HandsField f x v → HandsField g x v
+same_handed s o f g a b x v h =
+    moved (λ (z : StructSchema) (i : ℕ). part_handed (is_group_field (struct_field z i).field.kind) (is_pointer (struct_field z i).type) (set_of z) (struct_field z i) x v) s o f g a b h
+
+pub same_due : (s : StructSchema) (o : Option ℕ) (f g : Field) → IsFound s o (Some f) → IsFound s o (Some g) → (x : StructTree) (e : Error) → IsPartRefusal f x e → IsPartRefusal g x e
+same_due s o f g a b x e h = moved (λ (z : StructSchema) (i : ℕ). IsRefusalAt (set_of z) (struct_field z i) x e) s o f g a b h

@@ -1,0 +1,14 @@
+-- A slot of no pointer has its number.
+use Rattle.std.proofs.Common.{ap, sym, ◌∙◌}
+use Rattle.capnp_schema.specs.Facts.Layers.{seen_which}
+use Rattle.capnp_schema.specs.Tests.{seen_variant}
+use Rattle.capnp_schema.specs.Types.{is_pointer}
+use Rattle.capnp_dynamic.specs.Built.{built_struct}
+use Rattle.capnp_dynamic.proofs.HandedOut.{hands_number}
+use Rattle.capnp_dynamic.proofs.dynamic_struct.build.Builder.get.Goals as goal
+
+pub returns-clause-stands : goal.returns-clause-stands
+returns-clause-stands c =
+    hands_number c.args.field (built_struct c.args.self) c.number_of.result c.in_default.ensures
+    (ap is_pointer (sym (ap seen_variant c.which.ensures ∙ (seen_which c.get_type.result ∙ c.get_type.ensures.is))) ∙ sym c.if-is_pointer_variant.ensures)
+    c.number_of.ensures.stands

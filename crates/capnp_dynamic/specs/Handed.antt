@@ -1,0 +1,118 @@
+-- What builders hand out of a pointer, an element or a field, and when it can be.
+use Rattle.std.specs.Prelude.{ℕ, ◌≡◌, ⊤, Bool, true, false, cond, Some, IsOk, Ok, length}
+use Rattle.capnp_device.specs.declared.error.Error.{Error}
+use Rattle.capnp_wire.specs.Edits.{IsDueRefusal, is_struct, struct_in}
+use Rattle.capnp_wire.specs.Elements.{or_empty}
+use Rattle.capnp_wire.specs.Place.{struct_tree}
+use Rattle.capnp_wire.specs.Reading.{as_data, as_text, is_list, is_null_tree}
+use Rattle.capnp_wire.specs.Tree.{StructTree, Tree, nth_tree}
+use Rattle.capnp_base.specs.AnyPointer.{pointer_tree}
+use Rattle.capnp_base.specs.Text.{position, text_bytes}
+use Rattle.capnp_schema.specs.FieldLists.{typed_of}
+use Rattle.capnp_schema.specs.Schema.{Schemas, TypedField, default_of}
+use Rattle.capnp_schema.specs.StructHandles.{number_of, set_of}
+use Rattle.capnp_schema.specs.Types.{struct_number, SchemaType, TextType, DataType, StructType, ListType, AnyPointerType, element_size, is_pointer, struct_brand}
+use Rattle.capnp_schema.specs.declared.schema.fields.Field.{Field}
+use Rattle.capnp_records.specs.Record.{Left}
+use Rattle.capnp_records.specs.Step.{is_group_field}
+use Rattle.capnp_records.specs.Writes.Slots.{At, Fits}
+use Rattle.capnp_slots.specs.Fields.{field_brand, field_set}
+use Rattle.capnp_slots.specs.Inits.{IsInitRefusal, IsInitnRefusal}
+use Rattle.capnp_records.specs.Writes.Contents.{init_tree, initn_tree}
+use Rattle.capnp_records.specs.Writes.ElementEnds.{InitnContent}
+use Rattle.capnp_slots.specs.Fills.{fill_due, filled_tree}
+use Rattle.capnp_records.specs.Writes.TreeEnds.{InitContent, group_cleared, offset_of}
+use Rattle.capnp_dynamic.specs.Built.{built_element, built_elements, built_reading, built_schema, built_set, built_struct}
+use Rattle.capnp_dynamic.specs.BuiltValues.{IsReaderOf}
+use Rattle.capnp_dynamic.specs.Reads.{field_read}
+use Rattle.capnp_dynamic.specs.Seen.{value_seen}
+use Rattle.capnp_dynamic.specs.Typed.{IsOf}
+use Rattle.capnp_dynamic.specs.declared.dynamic_value.Reader.{Reader as DynamicValue}
+use Rattle.capnp_dynamic.specs.declared.dynamic_value.build.Builder.{Builder as BuiltValue}
+use Rattle.capnp_dynamic.specs.declared.dynamic_value.build.Builder.TheVariants as built
+
+-- ---- pointers ----
+
+abbrev pub IsListOrNull : Tree → Type 0
+IsListOrNull x = is_list x ≡ false → is_null_tree x ≡ true
+
+-- what stands at a pointer is of its type: text or data that can be read, a struct of its schema's sections, a list or null
+abbrev pub CanBeHanded : Schemas → SchemaType → Tree → Type 0
+CanBeHanded set TextType x = IsOk (as_text x)
+CanBeHanded set DataType x = IsOk (as_data x)
+CanBeHanded set (StructType b g) x = (is_struct x ≡ true) × Fits set b (struct_in x)
+CanBeHanded set (ListType e) x = IsListOrNull x
+CanBeHanded set t x = ⊤
+
+-- a value stands on the tree of a pointer of a type: a text that is new writes at its start, and another one after its last
+-- byte; a null list reads as an empty one
+abbrev pub HandsOut : (is_new : Bool) → Schemas → SchemaType → Tree → BuiltValue → Type 0
+HandsOut new set t x (built.Text b) = (TextType ≡ t) × (as_text x ≡ Ok (text_bytes b)) × (position b ≡ cond new 0 (length (text_bytes b)))
+HandsOut new set t x (built.«Data» bytes) = (DataType ≡ t) × (as_data x ≡ Ok bytes.now)
+HandsOut new set t x (built.Struct s) = (struct_brand t ≡ Some (number_of (built_schema s))) × (set_of (built_schema s) ≡ set) × (struct_tree (built_struct s) ≡ x)
+HandsOut new set t x (built.List l) = (ListType (built_element l) ≡ t) × (built_set l ≡ set) × (built_elements l ≡ x) × (built_reading l ≡ or_empty (element_size (built_element l)) x)
+HandsOut new set t x (built.AnyPointer p) = (AnyPointerType ≡ t) × (pointer_tree p ≡ x)
+HandsOut new set t x v = ⊥
+
+-- ---- fields ----
+
+-- the number of a slot is what a reader of the field answers
+abbrev pub HandsNumber : Schemas → TypedField → StructTree → BuiltValue → Type 0
+HandsNumber set f s v = (r : DynamicValue) × IsReaderOf v r × (value_seen r ≡ field_read set (Left 64) s f) × IsOf set f.type r
+
+-- a group is the same struct under the group's schema
+abbrev pub HandsGroup : Schemas → TypedField → StructTree → BuiltValue → Type 0
+HandsGroup set f s (built.Struct g) = (set_of (built_schema g) ≡ set) × (number_of (built_schema g) ≡ struct_number f.type) × (built_struct g ≡ s)
+HandsGroup set f s v = ⊥
+
+-- what stands at the pointer of a slot once it was filled
+abbrev pub field_filled : Schemas → TypedField → StructTree → Tree
+field_filled set f s = filled_tree set (default_of f.field) f.type (nth_tree s.pointers (offset_of f.field.kind))
+
+-- a builder's get of a field: of a pointer's slot what was filled there
+abbrev pub part_handed : (group pointer : Bool) → Schemas → TypedField → StructTree → BuiltValue → Type 0
+part_handed true pointer set f s v = HandsGroup set f s v
+part_handed false true set f s v = HandsOut false set f.type (field_filled set f s) v
+part_handed false false set f s v = HandsNumber set f s v
+
+abbrev pub HandsField : Field → StructTree → BuiltValue → Type 0
+HandsField f s v = part_handed (is_group_field (typed_of f).field.kind) (is_pointer (typed_of f).type) (field_set f) (typed_of f) s v
+
+-- why a builder's get of a field is refused: what stands at the pointer of its slot is not read as its type, or the format
+-- has no room for it, or memory was refused
+abbrev pub IsRefusalAt : Schemas → TypedField → StructTree → Error → Type 0
+IsRefusalAt set f s e =
+    (is_group_field f.field.kind ≡ false) × (is_pointer f.type ≡ true) × IsDueRefusal e (fill_due set (default_of f.field) f.type (nth_tree s.pointers (offset_of f.field.kind)))
+
+abbrev pub IsPartRefusal : Field → StructTree → Error → Type 0
+IsPartRefusal f s e = IsRefusalAt (field_set f) (typed_of f) s e
+
+-- ---- what init and initn hand out ----
+
+-- a slot that is started anew, and one with a size
+abbrev pub HandsNew : Schemas → TypedField → BuiltValue → Type 0
+HandsNew set f v = InitContent set f.type (At (init_tree set f.type)) × HandsOut true set f.type (init_tree set f.type) v
+
+abbrev pub HandsSized : Schemas → SchemaType → ℕ → BuiltValue → Type 0
+HandsSized set t n v = InitnContent set n t (At (initn_tree set t n)) × HandsOut true set t (initn_tree set t n) v
+
+abbrev pub HandsNewSized : Schemas → TypedField → ℕ → BuiltValue → Type 0
+HandsNewSized set f n v = HandsSized set f.type n v
+
+-- a group that is started is cleared
+abbrev pub start_handed : (group : Bool) → Schemas → ℕ → TypedField → StructTree → BuiltValue → Type 0
+start_handed true set b f s v = HandsGroup set f (group_cleared set b f s) v
+start_handed false set b f s v = HandsNew set f v
+
+abbrev pub HandsInit : Field → StructTree → BuiltValue → Type 0
+HandsInit f s v = start_handed (is_group_field (typed_of f).field.kind) (field_set f) (field_brand f) (typed_of f) s v
+
+abbrev pub HandsInitn : Field → ℕ → BuiltValue → Type 0
+HandsInitn f n v = HandsNewSized (field_set f) (typed_of f) n v
+
+-- why a field is not started anew: a group always is
+abbrev pub IsStartRefusal : Field → Error → Type 0
+IsStartRefusal f e = (is_group_field (typed_of f).field.kind ≡ false) × IsInitRefusal (typed_of f).type e.kind
+
+abbrev pub IsSizedRefusal : Field → ℕ → Error → Type 0
+IsSizedRefusal f n e = IsInitnRefusal (field_set f) n (typed_of f).type e.kind

@@ -1,0 +1,158 @@
+//! Parts of a struct that is built, started anew: what `init` and `initn` hand out of a field.
+//!
+//! A part is handed out by value, so these contracts say what it stands on at the return. That the struct ends with just that
+//! part started and its member active, and that a refusal changed nothing, is said by the calls of `slot` and `group`.
+ghost use Rattle.std.specs.Prelude.{None, true, IfErr, IfOk, IsErrAnd, ◌≡◌};
+ghost use Rattle.capnp_device.specs.declared.error.ErrorKind.TheVariants.{FieldNotFound};
+ghost use Rattle.capnp_wire.specs.Objects.{struct_object_tree};
+ghost use Rattle.capnp_wire.specs.Place.{struct_tree};
+ghost use Rattle.capnp_wire.specs.WellFormed.{IsWellFormed};
+ghost use Rattle.capnp_schema.specs.FieldLists.{typed_of};
+ghost use Rattle.capnp_schema.specs.Query.{field_named};
+ghost use Rattle.capnp_schema.specs.StructHandles.{struct_records};
+ghost use Rattle.capnp_schema.specs.declared.schema.fields.Field.{Field};
+ghost use Rattle.capnp_slots.specs.Fields.{IsPointer, IsRoomFor, IsSlot, field_set};
+ghost use Rattle.capnp_slots.specs.Fills.{pointer_in};
+ghost use Rattle.capnp_slots.specs.Inits.{IsInitRefusal, IsInitnRefusal};
+ghost use Rattle.capnp_dynamic.specs.Built.{IsReady, built_schema, built_struct};
+ghost use Rattle.capnp_dynamic.specs.BuiltValues.{CanBeRead};
+ghost use Rattle.capnp_dynamic.specs.FieldWrites.{IsNamed};
+ghost use Rattle.capnp_dynamic.specs.Handed.{CanBeHanded, HandsInit, HandsInitn, HandsNew, HandsNewSized, HandsOut, IsStartRefusal, IsSizedRefusal};
+ghost use Rattle.capnp_dynamic.specs.Reads.{BelongsTo};
+
+use crate::dynamic_struct::Builder;
+use crate::dynamic_value;
+use crate::hand::pointer_is_inside;
+use crate::handed::hand_out;
+use capnp_schema::schema::Field;
+use capnp_slots::{group, part, slot};
+use capnp_wire::StructBuilder;
+use capnp_wire::error::{Error, ErrorKind, Result};
+use capnp_wire::laws::kept::pointers_of_structs_are_well_formed;
+
+/// What stands at the pointer of a slot that was started anew.
+fn hand_new<'a>(builder: StructBuilder<'a>, field: Field<'a>) -> dynamic_value::Builder<'a>
+    requires slot { IsSlot field }
+    requires pointer { IsPointer field }
+    requires room { IsRoomFor field (struct_object_tree builder.old) }
+    requires formed { IsWellFormed (struct_tree (struct_object_tree builder.old)) }
+    requires handed { CanBeHanded (field_set field) (typed_of field).type (pointer_in field (struct_object_tree builder.old)) }
+    ensures stands { HandsOut true (field_set field.entry) (typed_of field.entry).type (pointer_in field.entry (struct_object_tree builder.old)) result }
+    ensures ready { CanBeRead result }
+{
+    pointers_of_structs_are_well_formed();
+    pointer_is_inside(field);
+    let set = field.get_containing_struct().get_set();
+    let variant = field.get_type().which();
+    hand_out(part::pointer(builder, field), set, variant, true)
+}
+
+/// What an init of a slot hands out.
+#[tactic(auto, using(crate::proofs::Started::init_pointer, crate::proofs::Started::init_hands, crate::proofs::Started::init_stands, crate::proofs::Started::room_kept))]
+fn start_slot<'a>(
+    builder: StructBuilder<'a>,
+    field: Field<'a>,
+) -> Result<dynamic_value::Builder<'a>>
+    requires slot { IsSlot field }
+    requires room { IsRoomFor field (struct_object_tree builder.old) }
+    requires formed { IsWellFormed (struct_tree (struct_object_tree builder.old)) }
+    ensures stands { IfOk result (HandsNew (field_set field.entry) (typed_of field.entry)) }
+    ensures ready { IfOk result CanBeRead }
+    ensures cause { IfErr result (λ e. IsInitRefusal (typed_of field.entry).type e.kind) }
+{
+    slot::init(builder, field)?;
+    pointer_is_inside(field);
+    Ok(hand_new(builder, field))
+}
+
+/// What an init of a slot with a size hands out.
+#[tactic(auto, using(crate::proofs::Started::initn_pointer, crate::proofs::Started::initn_hands, crate::proofs::Started::initn_stands, crate::proofs::Started::room_kept))]
+fn start_sized<'a>(
+    builder: StructBuilder<'a>,
+    field: Field<'a>,
+    size: u32,
+) -> Result<dynamic_value::Builder<'a>>
+    requires slot { IsSlot field }
+    requires room { IsRoomFor field (struct_object_tree builder.old) }
+    requires formed { IsWellFormed (struct_tree (struct_object_tree builder.old)) }
+    ensures stands { IfOk result (HandsNewSized (field_set field.entry) (typed_of field.entry) size) }
+    ensures ready { IfOk result CanBeRead }
+    ensures cause { IfErr result (λ e. IsInitnRefusal (field_set field.entry) size (typed_of field.entry).type e.kind) }
+{
+    slot::initn(builder, field, size)?;
+    pointer_is_inside(field);
+    Ok(hand_new(builder, field))
+}
+
+impl<'a> Builder<'a> {
+    /// Starts a field anew, and hands it out: a struct's slot becomes a struct of its schema's sections, all zero and null, an
+    /// untyped one null, and a group is cleared. Then a member becomes active.
+    ///
+    /// Refused with `InitIsOnlyValidForStructAndAnyPointerFields` for another slot, and with `OutOfMemory` for a struct; then
+    /// nothing has changed, as `slot::init` says.
+    #[tactic(auto, using(crate::proofs::Builders::room_for, crate::proofs::Started::init_group, crate::proofs::Started::init_slot))]
+    pub fn init(self, field: Field<'a>) -> Result<dynamic_value::Builder<'a>>
+        requires belongs { BelongsTo field (built_schema self) }
+        requires ready { IsReady self }
+        ensures stands { IfOk result (HandsInit field.entry (built_struct self.entry)) }
+        ensures ready { IfOk result CanBeRead }
+        ensures cause { IfErr result (IsStartRefusal field.entry) }
+    {
+        let Builder { builder, schema: _ } = self;
+        if let Some(schema) = group::group_of(field) {
+            group::init(builder, field);
+            return Ok(dynamic_value::Builder::Struct(Builder { builder, schema }));
+        }
+        start_slot(builder, field)
+    }
+
+    /// Starts the field of a name anew, as `init`. Refused first with `FieldNotFound` where there is none of that name.
+    #[tactic(auto, using(crate::proofs::Builders::found_belongs, crate::proofs::Started::same_init, crate::proofs::Started::same_start_refusal))]
+    pub fn init_named(self, field_name: &str) -> Result<dynamic_value::Builder<'a>>
+        requires { IsReady self }
+        ensures stands { (f : Field) → IsNamed (built_schema self.entry) field_name.now f → IfOk result (HandsInit f (built_struct self.entry)) }
+        ensures ready { IfOk result CanBeRead }
+        ensures cause { (f : Field) → IsNamed (built_schema self.entry) field_name.now f → IfErr result (IsStartRefusal f) }
+        ensures none { field_named (struct_records (built_schema self.entry)) field_name.now ≡ None → IsErrAnd result (λ e. e.kind ≡ FieldNotFound) }
+    {
+        let schema = self.schema;
+        let field = schema.get_field_by_name(field_name)?;
+        self.init(field)
+    }
+
+    /// Starts a field anew with a size, and hands it out: a text or data of so many zero bytes, or a list of so many elements,
+    /// all zero, false or null, or structs of their schema's sections. Then a member becomes active.
+    ///
+    /// Refused with `InitnIsOnlyValidForListTextOrDataFields` for another slot and for a group; with `SizePastFormat` for a
+    /// text of more than 2^29 - 2 bytes, data of more than 2^29 - 1, 2^29 elements or more, or structs that take 2^29 words or
+    /// more; and with `OutOfMemory`. Then nothing has changed, as `slot::initn` says.
+    #[tactic(auto, using(crate::proofs::Builders::room_for, crate::proofs::Started::no_sized_group))]
+    pub fn initn(self, field: Field<'a>, size: u32) -> Result<dynamic_value::Builder<'a>>
+        requires belongs { BelongsTo field (built_schema self) }
+        requires ready { IsReady self }
+        ensures stands { IfOk result (HandsInitn field.entry size) }
+        ensures ready { IfOk result CanBeRead }
+        ensures cause { IfErr result (IsSizedRefusal field.entry size) }
+    {
+        if let Some(_group) = group::group_of(field) {
+            return Err(Error::from(ErrorKind::InitnIsOnlyValidForListTextOrDataFields));
+        }
+        let Builder { builder, schema: _ } = self;
+        start_sized(builder, field, size)
+    }
+
+    /// Starts the field of a name anew with a size, as `initn`. Refused first with `FieldNotFound` where there is none of that
+    /// name.
+    #[tactic(auto, using(crate::proofs::Builders::found_belongs, crate::proofs::Started::same_initn, crate::proofs::Started::same_sized_refusal))]
+    pub fn initn_named(self, field_name: &str, size: u32) -> Result<dynamic_value::Builder<'a>>
+        requires { IsReady self }
+        ensures stands { (f : Field) → IsNamed (built_schema self.entry) field_name.now f → IfOk result (HandsInitn f size) }
+        ensures ready { IfOk result CanBeRead }
+        ensures cause { (f : Field) → IsNamed (built_schema self.entry) field_name.now f → IfErr result (IsSizedRefusal f size) }
+        ensures none { field_named (struct_records (built_schema self.entry)) field_name.now ≡ None → IsErrAnd result (λ e. e.kind ≡ FieldNotFound) }
+    {
+        let schema = self.schema;
+        let field = schema.get_field_by_name(field_name)?;
+        self.initn(field, size)
+    }
+}
