@@ -21,6 +21,7 @@ other-way p q e = at (is_pair q.older q.newer p) refl
       where
         clash : true ≡ false → ⊥
         clash c = cc
+
         both : (k l m n : ℕ) → k ≡ l → m ≡ n → (k == l) && (m == n) ≡ true
         both k l m n e f = grind arith
 
@@ -74,6 +75,7 @@ module _ (n : ℕ) where
     where
       clash : true ≡ false → ⊥
       clash c = cc
+
       differs : (t : Bool) → eqb (code p) (code x) ≡ t → t ≡ false
       differs false q = refl
       differs true q = let s : code p ≡ code x = grind arith in absurd (clash (sym (same_code p x h r.1 s) ∙ left-false (is_pair p.older p.newer x) (listed xs p.older p.newer) e))

@@ -8,8 +8,8 @@ ghost use Rattle.capnp_compatible.specs.Closing.{Adds, Apart, Begins, Holds, Hol
 use crate::brands::{field_count, field_of};
 use crate::pairs::{Pair, add};
 use crate::types::named;
-use capnp_wire::error::Result;
 use capnp_schema::set::SchemaSet;
+use capnp_wire::error::Result;
 
 /// The pair that two fields of one index name.
 fn named_at(set: &SchemaSet, older: u32, newer: u32, index: u16) -> Option<Pair>

@@ -3,7 +3,6 @@ ghost use Rattle.std.specs.Prelude.{◌≡◌, ◌++◌, [], ◌∷◌, IsTrue, 
 ghost use Rattle.capnp_device.specs.declared.error.ErrorKind.TheVariants.{OutOfMemory};
 ghost use Rattle.capnp_compatible.specs.Closing.{Adds, Apart, Begins, Holds, Within, listed};
 
-
 use capnp_wire::error::Result;
 
 /// Two brands of one set: of an older struct and of a newer.

@@ -63,8 +63,8 @@ fn are_related_layers(set: &SchemaSet, older: TypeVariant, newer: TypeVariant) -
     }
     match older {
         TypeVariant::Enum(d) => match newer {
-            TypeVariant::Enum(e) =>
-                enumerant_count(set, d.number) <= enumerant_count(set, e.number),
+            TypeVariant::Enum(e) => enumerant_count(set, d.number)
+                <= enumerant_count(set, e.number),
             _ => false,
         },
         _ => true,
