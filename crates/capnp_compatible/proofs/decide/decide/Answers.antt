@@ -1,7 +1,5 @@
-use Rattle.std.proofs.Common.{ap, arith, refl, sym, ◌∙◌}
-use Rattle.std.specs.Prelude.{List, slice_get}
+use Rattle.std.proofs.Common.{arith, refl}
 use Rattle.capnp_schema.specs.Entries.{lists_seen}
-use Rattle.capnp_compatible.specs.declared.pairs.Pair.{Pair}
 use Rattle.capnp_compatible.proofs.Walking.{decides_no, decides_yes, newer_in, older_in, walk_ends, walk_fails, walk_more}
 use Rattle.capnp_compatible.proofs.Bound.{pairs_bound}
 use Rattle.capnp_compatible.proofs.decide.decide.Goals as goal
