@@ -21,6 +21,11 @@ is_pair a b p = (p.older == a) && (p.newer == b)
 abbrev pub listed : List Pair → Pairs
 listed ps a b = list_any (is_pair a b) ps
 
+-- the types inside the lists that both are
+abbrev pub inside_lists : SchemaType → SchemaType → SchemaType × SchemaType
+inside_lists (ListType s) (ListType t) = inside_lists s t
+inside_lists s t = (s, t)
+
 -- the pair of structs that two types name, inside lists of the same depth
 abbrev pub named : SchemaType → SchemaType → Option Pair
 named (ListType s) (ListType t) = named s t

@@ -8,7 +8,7 @@ ghost use Rattle.capnp_records.specs.Compatible.{IsCompatible};
 use crate::brands::is_accepted;
 use crate::fields::is_successor;
 use crate::named::add_named;
-use crate::pairs::{Pair, pair_at};
+use crate::pairs::{Pair, Pairs};
 use capnp_schema::set::SchemaSet;
 use capnp_wire::error::Result;
 use std::alloc::Global;
@@ -22,11 +22,10 @@ pub(crate) fn decide(alloc: Global, set: &SchemaSet, older: u32, newer: u32) -> 
     ensures refused { IfErr result (λ e. e.kind ≡ OutOfMemory) }
 {
     is_accepted(set);
-    let mut pairs = Vec::new(alloc);
-    pairs.push(Pair { older, newer })?;
+    let mut pairs = Pairs::of(alloc, Pair { older, newer })?;
     let mut next = 0;
     while next < pairs.len() {
-        let pair = pair_at(&pairs, next);
+        let pair = pairs.at(next);
         if !is_successor(set, pair.older, pair.newer) {
             return Ok(false);
         }

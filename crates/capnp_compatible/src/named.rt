@@ -6,7 +6,7 @@ ghost use Rattle.capnp_schema.specs.Schema.{fields_of, field_at};
 ghost use Rattle.capnp_compatible.specs.Closing.{Adds, Apart, Begins, Holds, HoldsNamed, Within, listed, named};
 
 use crate::brands::{field_count, field_of};
-use crate::pairs::{Pair, add};
+use crate::pairs::{Pair, Pairs};
 use crate::types::named;
 use capnp_schema::set::SchemaSet;
 use capnp_wire::error::Result;
@@ -27,35 +27,30 @@ fn named_at(set: &SchemaSet, older: u32, newer: u32, index: u16) -> Option<Pair>
 
 /// Adds a pair, where there is one.
 #[tactic(auto, using(crate::proofs::Lists::within_same, crate::proofs::Lists::begins_same, crate::proofs::Lists::adds_same))]
-fn add_some(pairs: &mut Vec<Pair>, pair: Option<Pair>) -> Result<()>
-    ensures more { Within (listed pairs.old.items) (listed pairs.new.items) }
-    ensures begins { Begins pairs.old.items pairs.new.items }
-    ensures added { OnOk result (Holds (listed pairs.new.items) pair) }
-    ensures only { Adds pairs.old.items pairs.new.items (λ sets. Holds sets pair) }
-    ensures apart { Apart pairs.old.items → Apart pairs.new.items }
+fn add_some(pairs: &mut Pairs, pair: Option<Pair>) -> Result<()>
+    ensures more { Within (listed pairs.old) (listed pairs.new) }
+    ensures begins { Begins pairs.old pairs.new }
+    ensures added { OnOk result (Holds (listed pairs.new) pair) }
+    ensures only { Adds pairs.old pairs.new (λ sets. Holds sets pair) }
+    ensures apart { Apart pairs.old → Apart pairs.new }
     ensures refused { IfErr result (λ e. e.kind ≡ OutOfMemory) }
 {
     match pair {
-        Some(pair) => add(pairs, pair),
+        Some(pair) => pairs.add(pair),
         None => Ok(()),
     }
 }
 
 /// Adds the pairs that the fields of two structs name.
-pub(crate) fn add_named(
-    set: &SchemaSet,
-    older: u32,
-    newer: u32,
-    pairs: &mut Vec<Pair>,
-) -> Result<()>
+pub(crate) fn add_named(set: &SchemaSet, older: u32, newer: u32, pairs: &mut Pairs) -> Result<()>
     requires older { older < length (lists_seen set.now).brands }
     requires newer { newer < length (lists_seen set.now).brands }
     requires enough { length (fields_of (lists_seen set.now) older) ≤ length (fields_of (lists_seen set.now) newer) }
-    ensures more { Within (listed pairs.old.items) (listed pairs.new.items) }
-    ensures begins { Begins pairs.old.items pairs.new.items }
-    ensures added { OnOk result (HoldsNamed (lists_seen set.now) (listed pairs.new.items) older newer (length (fields_of (lists_seen set.now) older))) }
-    ensures only { Adds pairs.old.items pairs.new.items (λ sets. HoldsNamed (lists_seen set.now) sets older newer (length (fields_of (lists_seen set.now) older))) }
-    ensures apart { Apart pairs.old.items → Apart pairs.new.items }
+    ensures more { Within (listed pairs.old) (listed pairs.new) }
+    ensures begins { Begins pairs.old pairs.new }
+    ensures added { OnOk result (HoldsNamed (lists_seen set.now) (listed pairs.new) older newer (length (fields_of (lists_seen set.now) older))) }
+    ensures only { Adds pairs.old pairs.new (λ sets. HoldsNamed (lists_seen set.now) sets older newer (length (fields_of (lists_seen set.now) older))) }
+    ensures apart { Apart pairs.old → Apart pairs.new }
     ensures refused { IfErr result (λ e. e.kind ≡ OutOfMemory) }
 {
     for i in 0..field_count(set, older) {

@@ -1,9 +1,12 @@
-//! Pairs of brands.
-ghost use Rattle.std.specs.Prelude.{◌≡◌, ◌++◌, [], ◌∷◌, IsTrue, IfErr, IfOk, OnOk, MatchOption, Some, None, length, slice_get, ◌<◌};
+//! Pairs of brands, in the order in which they were added, and none of them twice.
+ghost use Rattle.std.specs.Prelude.{◌≡◌, ◌<◌, ◌++◌, [], ◌∷◌, IsTrue, IfErr, IfOk, OnErr, OnOk, Some, length, slice_get};
 ghost use Rattle.capnp_device.specs.declared.error.ErrorKind.TheVariants.{OutOfMemory};
-ghost use Rattle.capnp_compatible.specs.Closing.{Adds, Apart, Begins, Holds, Within, listed};
+ghost use Rattle.capnp_compatible.specs.Closing.{Adds, Apart, Begins, Within, listed};
 
-use capnp_wire::error::Result;
+use capnp_wire::error::{Error, Result};
+use std::alloc::Global;
+use std::collections::HashSet;
+use std::marker::Model;
 
 /// Two brands of one set: of an older struct and of a newer.
 #[derive(Clone, Copy)]
@@ -12,36 +15,96 @@ pub struct Pair {
     pub newer: u32,
 }
 
-/// Whether a pair stands in a list.
-fn is_listed(pairs: &[Pair], pair: Pair) -> bool
-    ensures { result ≡ listed pairs.now pair.older pair.newer }
-{
-    pairs
-        .iter()
-        .any(|p| p.older == pair.older && p.newer == pair.newer)
+/// Pairs as a list. Whether it has a pair is asked of a set beside it, so that a long list isn't gone through.
+#[derive(Drop)]
+pub struct Pairs {
+    list: Vec<Pair>,
+    keys: HashSet<(u32, u32)>,
 }
 
-/// Adds a pair that doesn't stand in a list yet.
-#[tactic(auto, using(crate::proofs::Lists::within_same, crate::proofs::Lists::within_more, crate::proofs::Lists::begins_same, crate::proofs::Lists::begins_more, crate::proofs::Lists::listed_last, crate::proofs::Lists::adds_same, crate::proofs::Lists::adds_more, crate::proofs::Bound::apart_more))]
-pub(crate) fn add(pairs: &mut Vec<Pair>, pair: Pair) -> Result<()>
-    ensures more { Within (listed pairs.old.items) (listed pairs.new.items) }
-    ensures begins { Begins pairs.old.items pairs.new.items }
-    ensures added { OnOk result (IsTrue (listed pairs.new.items pair.older pair.newer)) }
-    ensures only { Adds pairs.old.items pairs.new.items (λ sets. IsTrue (sets pair.older pair.newer)) }
-    ensures apart { Apart pairs.old.items → Apart pairs.new.items }
-    ensures refused { IfErr result (λ e. e.kind ≡ OutOfMemory) }
-{
-    if is_listed(pairs, pair) {
-        return Ok(());
+impl Model for Pairs {
+    ghost use Rattle.std.specs.Prelude.{List};
+    ghost use Rattle.capnp_compatible.specs.declared.pairs.Pair.{Pair};
+    ghost use Rattle.capnp_compatible.specs.Keys.{AreKeysOf};
+
+    ghost Value = { List Pair };
+
+    ghost view = { λ p. p.list.items };
+
+    ghost invariant = { λ p. AreKeysOf p.list.items p.keys };
+}
+
+impl Pairs {
+    /// The list of one pair.
+    pub(crate) fn of(alloc: Global, first: Pair) -> Result<Pairs>
+        ensures list { IfOk result (λ pairs. pairs ≡ first ∷ []) }
+        ensures refused { IfErr result (λ e. e.kind ≡ OutOfMemory) }
+    {
+        let mut pairs = Pairs::empty(alloc);
+        pairs.push(first)?;
+        Ok(pairs)
     }
-    pairs.push(pair)?;
-    Ok(())
-}
 
-/// The pair at an index.
-pub(crate) fn pair_at(pairs: &[Pair], index: usize) -> Pair
-    requires { index < length pairs.now }
-    ensures { slice_get pairs.now index ≡ Some result }
-{
-    pairs[index]
+    fn empty(alloc: Global) -> Pairs
+        ensures { result ≡ [] }
+    {
+        Pairs {
+            list: Vec::new(alloc),
+            keys: HashSet::new(alloc),
+        }
+    }
+
+    pub(crate) fn len(&self) -> usize
+        ensures { result ≡ length self.now }
+    {
+        self.list.len()
+    }
+
+    /// The pair at an index.
+    pub(crate) fn at(&self, index: usize) -> Pair
+        requires { index < length self.now }
+        ensures { slice_get self.now index ≡ Some result }
+    {
+        self.list[index]
+    }
+
+    fn has(&self, pair: Pair) -> bool
+        ensures { result ≡ listed self.now pair.older pair.newer }
+    {
+        self.keys.contains(&(pair.older, pair.newer))
+    }
+
+    /// Puts a pair at the end. Where there is no memory the list stays.
+    #[tactic(auto, using(crate::proofs::Keys::keys_more, crate::proofs::Keys::keys_same))]
+    fn push(&mut self, pair: Pair) -> Result<()>
+        ensures more { OnOk result (self.new ≡ self.old ++ (pair ∷ [])) }
+        ensures unchanged { OnErr result (self.new ≡ self.old) }
+        ensures refused { IfErr result (λ e. e.kind ≡ OutOfMemory) }
+    {
+        self.list.push(pair)?;
+        match self.keys.insert((pair.older, pair.newer)) {
+            Ok(_) => Ok(()),
+            Err(error) => {
+                self.list.pop();
+                Err(Error::from(error))
+            }
+        }
+    }
+
+    /// Adds a pair that isn't there yet.
+    #[tactic(auto, using(crate::proofs::Lists::within_same, crate::proofs::Lists::within_more, crate::proofs::Lists::begins_same, crate::proofs::Lists::begins_more, crate::proofs::Lists::listed_last, crate::proofs::Lists::adds_same, crate::proofs::Lists::adds_more, crate::proofs::Bound::apart_more))]
+    pub(crate) fn add(&mut self, pair: Pair) -> Result<()>
+        ensures more { Within (listed self.old) (listed self.new) }
+        ensures begins { Begins self.old self.new }
+        ensures added { OnOk result (IsTrue (listed self.new pair.older pair.newer)) }
+        ensures only { Adds self.old self.new (λ sets. IsTrue (sets pair.older pair.newer)) }
+        ensures apart { Apart self.old → Apart self.new }
+        ensures refused { IfErr result (λ e. e.kind ≡ OutOfMemory) }
+    {
+        if self.has(pair) {
+            return Ok(());
+        }
+        self.push(pair)?;
+        Ok(())
+    }
 }

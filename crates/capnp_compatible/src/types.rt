@@ -7,7 +7,7 @@ ghost use Rattle.capnp_schema.specs.Schema.{enum_at};
 ghost use Rattle.capnp_schema.specs.Types.{seen_type};
 ghost use Rattle.capnp_schema.specs.Tests.{seen_variant};
 ghost use Rattle.capnp_records.specs.Compatible.{Related};
-ghost use Rattle.capnp_compatible.specs.Closing.{all_pairs, named};
+ghost use Rattle.capnp_compatible.specs.Closing.{all_pairs, inside_lists, named};
 
 use crate::pairs::Pair;
 use capnp_base::introspect::{Type, TypeVariant};
@@ -71,19 +71,34 @@ fn are_related_layers(set: &SchemaSet, older: TypeVariant, newer: TypeVariant) -
     }
 }
 
+/// The layers of two types inside the lists that both are: not both are lists.
+fn inside_lists(older: Type, newer: Type) -> (TypeVariant, TypeVariant)
+    ensures older { seen_variant result.0 ≡ (inside_lists (seen_type older) (seen_type newer)).0 }
+    ensures newer { seen_variant result.1 ≡ (inside_lists (seen_type older) (seen_type newer)).1 }
+    ensures all { kind result.0 ≡ 15 → kind result.1 ≡ 15 → ⊥ }
+{
+    let mut one = older;
+    let mut other = newer;
+    loop {
+        let s = one.which();
+        let t = other.which();
+        let TypeVariant::List(x) = s else {
+            return (s, t);
+        };
+        let TypeVariant::List(y) = t else {
+            return (s, t);
+        };
+        one = x;
+        other = y;
+    }
+}
+
 /// Whether an older type is related to a newer one, where all pairs of structs are.
 pub(crate) fn are_related(set: &SchemaSet, older: Type, newer: Type) -> bool
     ensures { IsTrue result ↔ Related (lists_seen set.now) all_pairs (seen_type older) (seen_type newer) }
 {
-    let s = older.which();
-    let t = newer.which();
-    match s {
-        TypeVariant::List(x) => match t {
-            TypeVariant::List(y) => are_related(set, x, y),
-            _ => are_related_layers(set, s, t),
-        },
-        _ => are_related_layers(set, s, t),
-    }
+    let (one, other) = inside_lists(older, newer);
+    are_related_layers(set, one, other)
 }
 
 /// The pair of structs that two layers name, of which not both are lists.
@@ -107,16 +122,10 @@ fn named_layers(older: TypeVariant, newer: TypeVariant) -> Option<Pair>
 }
 
 /// The pair of structs that two types name, inside lists of the same depth.
+#[tactic(auto, using(crate::proofs::ByLayer::named_through))]
 pub(crate) fn named(older: Type, newer: Type) -> Option<Pair>
     ensures { result ≡ named (seen_type older) (seen_type newer) }
 {
-    let s = older.which();
-    let t = newer.which();
-    match s {
-        TypeVariant::List(x) => match t {
-            TypeVariant::List(y) => named(x, y),
-            _ => named_layers(s, t),
-        },
-        _ => named_layers(s, t),
-    }
+    let (one, other) = inside_lists(older, newer);
+    named_layers(one, other)
 }

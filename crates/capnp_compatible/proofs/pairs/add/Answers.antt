@@ -1,5 +1,0 @@
-use Rattle.capnp_compatible.proofs.Lists.{adds_more}
-use Rattle.capnp_compatible.proofs.pairs.add.Goals as goal
-
-pub returns-clause-only : goal.returns-clause-only
-returns-clause-only c = rw c.in_ok-push.ensures.items (adds_more _ c.args.pair)
