@@ -1,2 +1,4 @@
+pub mod FieldReads
 pub mod Found
+pub mod Levels
 pub mod WhichLevels

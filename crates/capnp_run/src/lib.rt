@@ -1,5 +1,6 @@
 //! Calls along paths of a struct that is built, whose schema is known only at run time.
 #![tactic(auto)]
 
+pub mod answer;
 pub mod calls;
 pub mod way;
