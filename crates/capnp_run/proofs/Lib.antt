@@ -1,3 +1,4 @@
+pub mod EndsDone
 pub mod FieldReads
 pub mod Found
 pub mod Levels
