@@ -4,4 +4,5 @@
 pub mod answer;
 pub mod calls;
 pub mod end;
+pub mod enter;
 pub mod way;
