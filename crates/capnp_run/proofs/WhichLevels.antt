@@ -1,5 +1,5 @@
 -- The active member is the same whatever levels a reader has left.
-use Rattle.std.specs.Prelude.{ℕ, ◌≡◌, refl, Bool, true, false, ◌==◌, Option, None}
+use Rattle.std.specs.Prelude.{ℕ, ◌≡◌, refl, Bool, true, false, ◌==◌, None}
 use Rattle.std.proofs.Common.{ap, sym, ◌∙◌}
 use Rattle.capnp_wire.specs.Tree.{StructTree}
 use Rattle.capnp_wire.specs.Standing.{struct_levels, struct_of}
@@ -15,7 +15,7 @@ use Rattle.capnp_dynamic.specs.Handles.{reader_of, schema_of}
 use Rattle.capnp_dynamic.specs.Seen.{record_seen}
 use Rattle.capnp_dynamic.specs.declared.dynamic_struct.Reader.{Reader as StructHandle}
 
-which_levels : (set : Schemas) (l : Levels) (s : StructTree) (b : ℕ) → which_of (struct_record set l s b) ≡ which_of (struct_record set Endless s b)
+pub which_levels : (set : Schemas) (l : Levels) (s : StructTree) (b : ℕ) → which_of (struct_record set l s b) ≡ which_of (struct_record set Endless s b)
 which_levels set l s b = go ((node_of set b).discriminant_count == 0) refl
   where
     part : Levels → TypedField → Value

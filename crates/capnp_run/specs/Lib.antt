@@ -1,2 +1,4 @@
+pub mod Ends
 pub mod Seen
+pub mod Walks
 pub mod Ways

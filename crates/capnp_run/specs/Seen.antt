@@ -1,5 +1,5 @@
 -- Calls and replies as the machine of records has them.
-use Rattle.std.specs.Prelude.{ℕ, pos, List, map}
+use Rattle.std.specs.Prelude.{List, map}
 use Rattle.capnp_records.specs.Call.{PathStep, FieldNumber, FieldNamed, ElementAt}
 use Rattle.capnp_records.specs.Call.{VoidPlain, BoolPlain, IntPlain, UIntPlain, EnumPlain, TextPlain, DataPlain, StructPlain, ListPlain, AnyPointerPlain}
 use Rattle.capnp_records.specs.Call as record_call

@@ -1,5 +1,8 @@
 //! Calls along paths of a struct that is built, whose schema is known only at run time.
 #![tactic(auto)]
 
+pub mod answer;
 pub mod calls;
+pub mod end;
+pub mod enter;
 pub mod way;

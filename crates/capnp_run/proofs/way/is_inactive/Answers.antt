@@ -1,9 +1,8 @@
 -- The active member is the one that stands in the whole record.
-use Rattle.std.proofs.Common.{◌≡◌, ap, sym, ◌∙◌, Some, None}
+use Rattle.std.proofs.Common.{ap, sym, ◌∙◌}
 use Rattle.capnp_wire.specs.Objects.{struct_object_tree}
 use Rattle.capnp_wire.specs.Standing.{struct_of}
 use Rattle.capnp_schema.specs.FieldLists.{index_of, schema_of, typed_of}
-use Rattle.capnp_records.specs.Part.{which_of}
 use Rattle.capnp_records.specs.Reading.{reads}
 use Rattle.capnp_slots.specs.Fields.{field_brand, field_set}
 use Rattle.capnp_run.proofs.Found.{found_index, found_none, none_active, other_active}

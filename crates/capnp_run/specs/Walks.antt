@@ -1,0 +1,43 @@
+-- What a step into a field does, whatever the rest of the call does there.
+use Rattle.std.specs.Prelude.{ℕ, ◌≡◌, List, Ok}
+use Rattle.capnp_device.specs.declared.error.ErrorKind.{ErrorKind}
+use Rattle.capnp_wire.specs.Tree.{StructTree}
+use Rattle.capnp_schema.specs.Types.{StructType}
+use Rattle.capnp_schema.specs.FieldLists.{index_of, typed_of}
+use Rattle.capnp_schema.specs.declared.schema.fields.Field.{Field}
+use Rattle.capnp_records.specs.Call.{Op, PathStep, Refused, Reply}
+use Rattle.capnp_records.specs.Record.{Record, Value}
+use Rattle.capnp_records.specs.Step.{fault_of, walked}
+use Rattle.capnp_records.specs.Writes.Stand.{Stand, entered_field, left_field, step_index}
+use Rattle.capnp_records.specs.Writes.TreeEnds.{TreeEnds}
+use Rattle.capnp_records.specs.Writes.TreeRun.{TreeEnd, TreeEnters, TreePasses, TreeWalks}
+use Rattle.capnp_slots.specs.Fields.{field_brand, field_set}
+use Rattle.capnp_run.specs.Ends.{Whole, stand_of, whole_of}
+use Rattle.capnp_run.specs.Ways.{target_in}
+
+-- a field that a step goes into: it is active, and leads to a struct, group or list
+abbrev pub IsWalked : Field → StructTree → Type 0
+IsWalked f s = (whole : Record → Value) → Ok (target_in whole f s) ≡ walked (target_in whole f s)
+
+-- the walk goes on into a field whose tests passed
+abbrev pub FieldEnters : Field → TreeEnd → StructTree → Reply → StructTree → Type 0
+FieldEnters f further old reply new =
+    (w : Whole) (g : ℕ) (step : PathStep) → step_index (field_set f) (field_brand f) step ≡ index_of f →
+    TreeEnters (field_set f) further (StructType (field_brand f) g) (stand_of w old) step (fault_of (target_in (whole_of w) f old).part) (target_in (whole_of w) f old) reply (stand_of w new)
+
+-- a field that is there is tested, and the walk goes on into it
+abbrev pub FieldPasses : Field → TreeEnd → StructTree → Reply → StructTree → Type 0
+FieldPasses f further old reply new =
+    (w : Whole) (g : ℕ) (step : PathStep) → step_index (field_set f) (field_brand f) step ≡ index_of f →
+    TreePasses (field_set f) further (StructType (field_brand f) g) (stand_of w old) step (walked (target_in (whole_of w) f old)) reply (stand_of w new)
+
+-- whatever the rest of the call does in what the step enters, the call does that to the field
+abbrev pub StepGoes : Field → StructTree → Type 0
+StepGoes f s =
+    (path : List PathStep) (last : PathStep) (op : Op) (reply : Reply) (inner : Stand) →
+    TreeWalks (field_set f) (TreeEnds (field_set f) last op) path (typed_of f).type (entered_field (field_set f) (typed_of f) s) reply inner →
+    FieldPasses f (TreeWalks (field_set f) (TreeEnds (field_set f) last op) path) s reply (left_field (typed_of f) s inner)
+
+-- whatever the rest of the call is, it is refused at the field
+abbrev pub StepStops : Field → StructTree → ErrorKind → Type 0
+StepStops f s kind = (path : List PathStep) (last : PathStep) (op : Op) → FieldPasses f (TreeWalks (field_set f) (TreeEnds (field_set f) last op) path) s (Refused kind) s

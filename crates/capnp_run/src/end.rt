@@ -1,0 +1,141 @@
+//! What a call does at the end of its path, at a struct or group.
+ghost use Rattle.std.specs.Prelude.{◌≡◌, ◌≢◌};
+ghost use Rattle.capnp_wire.specs.Objects.{struct_object_tree};
+ghost use Rattle.capnp_wire.specs.Place.{struct_tree};
+ghost use Rattle.capnp_wire.specs.WellFormed.{IsWellFormed};
+ghost use Rattle.capnp_schema.specs.StructHandles.{IsStruct, number_of, set_of};
+ghost use Rattle.capnp_records.specs.Call.{Clear, Init, Initn};
+ghost use Rattle.capnp_records.specs.Writes.Slots.{Fits};
+ghost use Rattle.capnp_slots.specs.Fields.{IsRoomFor, IsSlot};
+ghost use Rattle.capnp_slots.specs.Groups.{KeepsSize};
+ghost use Rattle.capnp_run.specs.Ends.{FieldDoes, NamedDoes, StructEnds};
+ghost use Rattle.capnp_run.specs.Seen.{op_seen, reply_seen, step_seen};
+
+use crate::answer::{get_field, has_field, which_member};
+use crate::calls::{Op, Reply, Step};
+use crate::way::find_field;
+use capnp_schema::schema::{Field, StructSchema};
+use capnp_slots::{group, slot};
+use capnp_wire::error::ErrorKind;
+use capnp_wire::object::StructObject;
+use std::alloc::Global;
+
+/// Initializes a field: a group becomes its default record, a struct's slot a new struct, and an untyped one null. A member
+/// becomes active.
+///
+/// Refused as `slot::init`, and then nothing has changed.
+fn init_field(object: &mut StructObject, field: Field<'_>) -> Reply
+    requires { IsRoomFor field (struct_object_tree object.old) }
+    ensures does { FieldDoes field.entry Init (struct_object_tree object.old) (reply_seen result) (struct_object_tree object.new) }
+    ensures kept { KeepsSize (struct_object_tree object.old) (struct_object_tree object.new) }
+{
+    if !slot::is_slot(field) {
+        group::init(object, field);
+        return Reply::Done;
+    }
+    match slot::init(object, field) {
+        Ok(()) => Reply::Done,
+        Err(error) => Reply::Refused(error.kind),
+    }
+}
+
+/// Initializes a field with a size, as `slot::initn`; a group is refused as a slot that has no size.
+fn initn_field(object: &mut StructObject, field: Field<'_>, count: u32) -> Reply
+    requires { IsRoomFor field (struct_object_tree object.old) }
+    ensures does { FieldDoes field.entry (Initn count) (struct_object_tree object.old) (reply_seen result) (struct_object_tree object.new) }
+    ensures kept { KeepsSize (struct_object_tree object.old) (struct_object_tree object.new) }
+{
+    match group::group_of(field) {
+        Some(_) => Reply::Refused(ErrorKind::InitnIsOnlyValidForListTextOrDataFields),
+        None => initn_slot(object, field, count),
+    }
+}
+
+/// Initializes a slot with a size, as `slot::initn`.
+fn initn_slot(object: &mut StructObject, field: Field<'_>, count: u32) -> Reply
+    requires slot { IsSlot field }
+    requires room { IsRoomFor field (struct_object_tree object.old) }
+    ensures does { FieldDoes field.entry (Initn count) (struct_object_tree object.old) (reply_seen result) (struct_object_tree object.new) }
+    ensures kept { KeepsSize (struct_object_tree object.old) (struct_object_tree object.new) }
+{
+    match slot::initn(object, field, count) {
+        Ok(()) => Reply::Done,
+        Err(error) => Reply::Refused(error.kind),
+    }
+}
+
+/// Puts a field back to its default, and makes a member active.
+fn clear_field(object: &mut StructObject, field: Field<'_>) -> Reply
+    requires { IsRoomFor field (struct_object_tree object.old) }
+    ensures does { FieldDoes field.entry Clear (struct_object_tree object.old) (reply_seen result) (struct_object_tree object.new) }
+    ensures kept { KeepsSize (struct_object_tree object.old) (struct_object_tree object.new) }
+{
+    if slot::is_slot(field) {
+        slot::clear(object, field);
+    } else {
+        group::clear(object, field);
+    }
+    Reply::Done
+}
+
+/// Does an operation to a field of a struct.
+fn do_field(alloc: Global, object: &mut StructObject, field: Field<'_>, op: Op) -> Reply
+    requires room { IsRoomFor field (struct_object_tree object.old) }
+    requires formed { IsWellFormed (struct_tree (struct_object_tree object.old)) }
+    requires names { op ≢ Op.Which }
+    ensures does { FieldDoes field.entry (op_seen op) (struct_object_tree object.old) (reply_seen result) (struct_object_tree object.new) }
+    ensures kept { KeepsSize (struct_object_tree object.old) (struct_object_tree object.new) }
+{
+    match op {
+        Op::Get => get_field(alloc, object, field),
+        Op::Has => has_field(object, field),
+        Op::Which => unreachable!(),
+        Op::Init => init_field(object, field),
+        Op::Initn(count) => initn_field(object, field, count),
+        Op::Clear => clear_field(object, field),
+    }
+}
+
+/// Does an operation to the field that a step names.
+fn do_named(
+    alloc: Global,
+    object: &mut StructObject,
+    schema: StructSchema<'_>,
+    last: Step<'_>,
+    op: Op,
+) -> Reply
+    requires fits { Fits (set_of schema) (number_of schema) (struct_object_tree object.old) }
+    requires formed { IsWellFormed (struct_tree (struct_object_tree object.old)) }
+    requires names { op ≢ Op.Which }
+    ensures does { NamedDoes (set_of schema.entry) (number_of schema.entry) (step_seen last.entry) (op_seen op) (struct_object_tree object.old) (reply_seen result) (struct_object_tree object.new) }
+    ensures kept { KeepsSize (struct_object_tree object.old) (struct_object_tree object.new) }
+{
+    match find_field(schema, last) {
+        Err(error) => Reply::Refused(error.kind),
+        Ok(field) => do_field(alloc, object, field, op),
+    }
+}
+
+/// Does an operation at a struct or group at which a path ends. `Which` asks the struct and doesn't look at the last step.
+///
+/// Refused with `NotAContainer` where the last step names an element, with `FieldNotFound` where there is no such field, and
+/// else as the operation. Only a `Get` asks whether a member is active: it is refused with `InactiveMember` where not. What
+/// is written is the field and, of a member, the union; after a refusal nothing has changed.
+pub fn end_at_struct(
+    alloc: Global,
+    object: &mut StructObject,
+    schema: StructSchema<'_>,
+    last: Step<'_>,
+    op: Op,
+) -> Reply
+    requires stands { IsStruct schema }
+    requires fits { Fits (set_of schema) (number_of schema) (struct_object_tree object.old) }
+    requires formed { IsWellFormed (struct_tree (struct_object_tree object.old)) }
+    ensures ends { StructEnds (set_of schema.entry) (number_of schema.entry) (step_seen last.entry) (op_seen op) (struct_object_tree object.old) (reply_seen result) (struct_object_tree object.new) }
+    ensures kept { KeepsSize (struct_object_tree object.old) (struct_object_tree object.new) }
+{
+    match op {
+        Op::Which => which_member(object, schema),
+        _ => do_named(alloc, object, schema, last, op),
+    }
+}

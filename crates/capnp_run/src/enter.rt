@@ -1,0 +1,49 @@
+//! A step of a path into what stands behind a field.
+ghost use Rattle.std.specs.Prelude.{◌≡◌, IfErr, OnErr, OnOk};
+ghost use Rattle.capnp_wire.specs.Edits.{with_pointer_tree};
+ghost use Rattle.capnp_wire.specs.Objects.{struct_object_tree};
+ghost use Rattle.capnp_wire.specs.Place.{struct_tree};
+ghost use Rattle.capnp_wire.specs.WellFormed.{IsWellFormed};
+ghost use Rattle.capnp_slots.specs.Fields.{IsRoomFor, pointer_index};
+ghost use Rattle.capnp_slots.specs.Fills.{filled_in};
+ghost use Rattle.capnp_slots.specs.Groups.{IsGroup, KeepsSize};
+ghost use Rattle.capnp_run.specs.Walks.{IsWalked, StepGoes, StepStops};
+ghost use Rattle.capnp_run.specs.Ways.{IsStructSlot};
+
+use capnp_schema::schema::{Field, StructSchema};
+use capnp_slots::part;
+use capnp_wire::error::Result;
+use capnp_wire::laws::objects_hold_no_fault;
+use capnp_wire::object::StructObject;
+
+/// Steps into the struct behind a slot: a null becomes the default's struct or an empty one, and a struct that is smaller than
+/// its schema gets zeros and nulls after what it has. What is filled stays, whatever the rest of the call does, and no union
+/// is switched. `part::pointer` of `capnp_slots` and `struct_here` of `capnp_wire` then lend the struct.
+///
+/// Refused with `WrongPointerKind` where something else than a struct stands there, and else with `OutOfMemory`; then nothing
+/// has changed.
+pub fn enter_struct(
+    object: &mut StructObject,
+    field: Field<'_>,
+    schema: StructSchema<'_>,
+) -> Result<()>
+    requires leads { IsStructSlot field schema }
+    requires walked { IsWalked field (struct_object_tree object.old) }
+    requires room { IsRoomFor field (struct_object_tree object.old) }
+    requires formed { IsWellFormed (struct_tree (struct_object_tree object.old)) }
+    ensures filled { OnOk result (struct_object_tree object.new ≡ with_pointer_tree (struct_object_tree object.old) (pointer_index field.entry) (filled_in field.entry (struct_object_tree object.old))) }
+    ensures goes { OnOk result (StepGoes field.entry (struct_object_tree object.old)) }
+    ensures kept { OnOk result (KeepsSize (struct_object_tree object.old) (struct_object_tree object.new)) }
+    ensures refused { OnErr result (struct_object_tree object.new ≡ struct_object_tree object.old) }
+    ensures cause { IfErr result (λ e. StepStops field.entry (struct_object_tree object.old) e.kind) }
+{
+    objects_hold_no_fault();
+    part::fill(object, field)
+}
+
+/// Steps into a group: it is the same struct under the group's schema. Nothing is filled and nothing is refused.
+pub fn enter_group(object: &StructObject, field: Field<'_>)
+    requires group { IsGroup field }
+    requires walked { IsWalked field (struct_object_tree object.now) }
+    ensures { StepGoes field.entry (struct_object_tree object.now) }
+{}
