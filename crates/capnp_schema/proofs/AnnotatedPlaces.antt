@@ -8,7 +8,7 @@ use Rattle.capnp_base.specs.declared.introspect.«Type».{«Type» as TypeHandle
 use Rattle.capnp_schema.specs.declared.record.EnumerantRecord.{EnumerantRecord}
 use Rattle.capnp_schema.specs.Types.{SchemaType, seen_type}
 use Rattle.capnp_schema.specs.Schema.{Schemas, Node, Brand, Enum, Enumerant, Field, Annotation, TypedField, no_node, no_brand, no_enum, no_field, typed, node_of, node_at, brand_at, enum_at, field_at, fields_of, seen_enumerant}
-use Rattle.capnp_schema.specs.Accepted.{IsAccepted, EachOfEnum, EachOfNode, EnumHasTypes, HasFewAnnotations}
+use Rattle.capnp_schema.specs.Accepted.{IsAccepted, EnumHasTypes, HasFewAnnotations, HasFewEnumerants, HasFewFields}
 use Rattle.capnp_schema.specs.Annotated.{with_types, annotations_of, child_types, no_enumerant, enumerant_at, struct_annotations, field_annotations, enum_annotations, enumerant_annotations}
 use Rattle.capnp_schema.proofs.AnnotatedLemmas.{annotations_are}
 use Rattle.capnp_schema.proofs.EntryWalk.{entry_has}
@@ -53,14 +53,14 @@ module _ (set : Schemas) (accepted : IsAccepted set) where
 
   pub own_types : (b : ℕ) (x : Brand) (n : Node) → Some x ≡ slice_get set.brands b → Some n ≡ slice_get set.nodes x.node → length x.annotation_types.own ≡ length n.annotations
   own_types b x n e is =
-      let there = (accepted.rule2.brands b (slice_get_within set.brands b x (sym e))).1.0 in
+      let there = (accepted.rule2.brands b (slice_get_within set.brands b x (sym e))).types.1.0 in
       ap (λ (y : Brand). length y.annotation_types.own) (sym (brand_found set b x e)) ∙ there ∙ ap (λ (m : Node). length m.annotations) (node_found set b x n e is)
 
   pub few_own : (i : ℕ) (n : Node) → Some n ≡ slice_get set.nodes i → length n.annotations < 2 ^ 29
-  few_own i n is = (entry_has (EachOfNode HasFewAnnotations) set.nodes i n accepted.rule3.annotations is).0
+  few_own i n is = (entry_has HasFewFields set.nodes i n accepted.rule3.counts.nodes is).annotations.0
 
   pub struct_whole : (b : ℕ) → b < length set.brands → annotations_of (struct_annotations set b) ≡ (node_of set b).annotations
-  struct_whole b h = annotations_are (node_of set b).annotations (brand_at set b).annotation_types.own (accepted.rule2.brands b h).1.0
+  struct_whole b h = annotations_are (node_of set b).annotations (brand_at set b).annotation_types.own (accepted.rule2.brands b h).types.1.0
 
   pub struct_whole_everywhere : (b : ℕ) → annotations_of (struct_annotations set b) ≡ (node_of set b).annotations
   struct_whole_everywhere b = ⊎_elim (struct_whole b)
@@ -84,13 +84,13 @@ module _ (set : Schemas) (accepted : IsAccepted set) where
 
   node_there : (b : ℕ) → b < length set.brands → Some (node_of set b) ≡ slice_get set.nodes (brand_at set b).node
   node_there b h =
-      let lt : (brand_at set b).node < length set.nodes = subst (λ (y : Brand). y.node < length set.nodes) (sym (unwrap_or-slice_get set.brands b (no_brand set))) (accepted.rule2.node b (no_brand set) h) in
+      let lt = (accepted.rule2.brands b h).node in
       ap Some (unwrap_or-slice_get set.nodes (brand_at set b).node no_node) ∙ sym (slice_get-get_or set.nodes (brand_at set b).node no_node lt)
 
   pub few_at : (b i : ℕ) (f : TypedField) → Some f ≡ slice_get (fields_of set b) i → length f.field.annotations < 2 ^ 29
   few_at b i f at =
-      let each = entry_has (EachOfNode HasFewAnnotations) set.nodes (brand_at set b).node (node_of set b) accepted.rule3.annotations (node_there b (in_brands b i f at)) in
-      entry_has (λ (g : Field). HasFewAnnotations g.annotations) (node_of set b).fields i f.field each.1 (field_of (node_of set b).fields (brand_at set b).field_types i f at)
+      let each = entry_has HasFewFields set.nodes (brand_at set b).node (node_of set b) accepted.rule3.counts.nodes (node_there b (in_brands b i f at)) in
+      entry_has (λ (g : Field). HasFewAnnotations g.annotations) (node_of set b).fields i f.field each.annotations.1 (field_of (node_of set b).fields (brand_at set b).field_types i f at)
 
   child_list : (xs : List (List SchemaType)) (ys : List (List Annotation)) (i : ℕ) (y : List Annotation) → map length xs ≡ map length ys → Some y ≡ slice_get ys i → length (unwrap_or (slice_get xs i) []) ≡ length y
   child_list xs ys i y e at = by_entry (slice_get xs i) refl
@@ -101,7 +101,7 @@ module _ (set : Schemas) (accepted : IsAccepted set) where
 
   pub field_types : (b i : ℕ) (f : TypedField) → Some f ≡ slice_get (fields_of set b) i → length (child_types (brand_at set b).annotation_types i) ≡ length f.field.annotations
   field_types b i f at = child_list (brand_at set b).annotation_types.children (map (λ (g : Field). g.annotations) (node_of set b).fields) i f.field.annotations
-      (accepted.rule2.brands b (in_brands b i f at)).1.1
+      (accepted.rule2.brands b (in_brands b i f at)).types.1.1
       (ap (option_map (λ (g : Field). g.annotations)) (field_of (node_of set b).fields (brand_at set b).field_types i f at) ∙ sym (slice_get-map (λ (g : Field). g.annotations) (node_of set b).fields i))
 
   pub field_whole : (b i : ℕ) → annotations_of (field_annotations set b i) ≡ (field_at set b i).field.annotations
@@ -129,7 +129,7 @@ module _ (set : Schemas) (accepted : IsAccepted set) where
       (ap (option_map (λ (z : Enumerant). z.annotations)) at ∙ sym (slice_get-map (λ (z : Enumerant). z.annotations) x.enumerants i))
 
   pub few_of_enumerant : (e i : ℕ) (x : Enum) (y : Enumerant) → Some x ≡ slice_get set.enums e → Some y ≡ slice_get x.enumerants i → length y.annotations < 2 ^ 29
-  few_of_enumerant e i x y is at = entry_has (λ (z : Enumerant). HasFewAnnotations z.annotations) x.enumerants i y (entry_has (EachOfEnum HasFewAnnotations) set.enums e x accepted.rule3.enum_annotations is).1 at
+  few_of_enumerant e i x y is at = entry_has (λ (z : Enumerant). HasFewAnnotations z.annotations) x.enumerants i y (entry_has HasFewEnumerants set.enums e x accepted.rule3.counts.enums is).annotations.1 at
 
   pub enumerant_whole : (e i : ℕ) → annotations_of (enumerant_annotations set e i) ≡ (enumerant_at set e i).annotations
   enumerant_whole e i = by_enum (slice_get set.enums e) refl

@@ -1,14 +1,15 @@
 -- Where a rule is broken at a place the rule doesn't hold, and the set isn't accepted.
-use Rattle.std.proofs.Common.{◌≡◌, refl, ℕ, ◌<◌, ◌≤◌, List, length, subst}
+use Rattle.std.proofs.Common.{◌≡◌, refl, ℕ, ◌<◌, List, Option, ap, length, subst}
 use Rattle.std.specs.Prelude.{All, slice_get, Some}
+use Rattle.std.specs.Option.{unwrap_or}
 use Rattle.std.proofs.lemmas.Option.{slice_get_within, get_or_from_slice_get}
 use Rattle.std.proofs.lemmas.List.Elements.{All-get_or}
 use Rattle.capnp_device.specs.declared.error.SchemaTable.{SchemaTable}
 use Rattle.capnp_device.specs.declared.error.Error.{Error}
 use Rattle.capnp_device.specs.declared.error.ErrorKind.{ErrorKind}
 use Rattle.capnp_device.specs.declared.error.ErrorKind.TheVariants as error
-use Rattle.capnp_schema.specs.Schema.{Schemas, Node, Brand, Enum, Field, default_of}
-use Rattle.capnp_schema.specs.Accepted.{IsAccepted, TypesName, EnumHasTypes, HasOwnName, HasFewAnnotations, EachOfNode, EachOfEnum, HasWords, HaveWords, Decodes, HasEachMember, DiscriminantFits}
+use Rattle.capnp_schema.specs.Schema.{Schemas, Node, Brand, Enum, no_brand}
+use Rattle.capnp_schema.specs.Accepted.{IsAccepted, TypesName, EnumHasTypes, HasFewEnumerants, HasFewFields, HasOwnName, EachOfEnum, HaveWords, NodeHasWords, HasEachMember, DiscriminantFits}
 use Rattle.capnp_schema.specs.Broken as broken
 use Rattle.capnp_schema.specs.Broken.{IsBroken, EntryBreaks, ChildBreaks, IsKindOf, IsRefusalOf}
 use Rattle.capnp_schema.specs.BrokenLaw.{RuleHolds, BrokenRuleFails, BrokenIsRefused}
@@ -31,24 +32,24 @@ fails set _ _ _ _ (broken.brand_types b w) h = entry_stands (λ (x : Brand). Typ
 fails set _ _ _ _ (broken.brand_child_types b i w) h = child_stands (λ (x : Brand). TypesName set x.annotation_types) _ _ set.brands b i (λ x so. so.1) w (h.rule1 refl).brands
 fails set _ _ _ _ (broken.enum_types e w) h = entry_stands (λ (x : Enum). TypesName set x.annotation_types) _ set.enums e (λ x so. so.0) w (h.rule1 refl).enums
 fails set _ _ _ _ (broken.enum_child_types e i w) h = child_stands (λ (x : Enum). TypesName set x.annotation_types) _ _ set.enums e i (λ x so. so.1) w (h.rule1 refl).enums
-fails set _ _ _ _ (broken.brand_node b w) h = entry_stands (λ (x : Brand). x.node < length set.nodes) _ set.brands b (λ x so. so) w (h.rule2 refl).node
-fails set _ _ _ _ (broken.brand_lengths b inside w) h = w ((h.rule2 refl).brands b inside)
+fails set _ _ _ _ (broken.brand_node b w) h = w.broken (subst (λ (x : Brand). x.node < length set.nodes) (ap (λ (o : Option Brand). unwrap_or o (no_brand set)) w.is) ((h.rule2 refl).brands b (slice_get_within set.brands b w.entry w.is)).node)
+fails set _ _ _ _ (broken.brand_lengths b inside w) h = w ((h.rule2 refl).brands b inside).types
 fails set _ _ _ _ (broken.enum_lengths e w) h = entry_stands EnumHasTypes _ set.enums e (λ x so. so) w (h.rule2 refl).enums
 fails set _ _ _ _ (broken.name n i w) h = entry_stands (λ (x : Node). (i : ℕ) → HasOwnName x.fields i) _ set.nodes n (λ x so. so i) w (h.rule3 refl).names
-fails set _ _ _ _ (broken.field_count n w) h = entry_stands (λ (x : Node). length x.fields ≤ 65535) _ set.nodes n (λ x so. so) w (h.rule3 refl).fields
-fails set _ _ _ _ (broken.enumerant_count e w) h = entry_stands (λ (x : Enum). length x.enumerants ≤ 65535) _ set.enums e (λ x so. so) w (h.rule3 refl).enumerants
-fails set _ _ _ _ (broken.node_annotation_count n w) h = entry_stands (EachOfNode HasFewAnnotations) _ set.nodes n (λ x so. so.0) w (h.rule3 refl).annotations
-fails set _ _ _ _ (broken.field_annotation_count n i w) h = child_stands (EachOfNode HasFewAnnotations) _ _ set.nodes n i (λ x so. so.1) w (h.rule3 refl).annotations
-fails set _ _ _ _ (broken.enum_annotation_count e w) h = entry_stands (EachOfEnum HasFewAnnotations) _ set.enums e (λ x so. so.0) w (h.rule3 refl).enum_annotations
-fails set _ _ _ _ (broken.enumerant_annotation_count e i w) h = child_stands (EachOfEnum HasFewAnnotations) _ _ set.enums e i (λ x so. so.1) w (h.rule3 refl).enum_annotations
+fails set _ _ _ _ (broken.field_count n w) h = entry_stands HasFewFields _ set.nodes n (λ x so. so.fields) w (h.rule3 refl).counts.nodes
+fails set _ _ _ _ (broken.enumerant_count e w) h = entry_stands HasFewEnumerants _ set.enums e (λ x so. so.enumerants) w (h.rule3 refl).counts.enums
+fails set _ _ _ _ (broken.node_annotation_count n w) h = entry_stands HasFewFields _ set.nodes n (λ x so. so.annotations.0) w (h.rule3 refl).counts.nodes
+fails set _ _ _ _ (broken.field_annotation_count n i w) h = child_stands HasFewFields _ _ set.nodes n i (λ x so. so.annotations.1) w (h.rule3 refl).counts.nodes
+fails set _ _ _ _ (broken.enum_annotation_count e w) h = entry_stands HasFewEnumerants _ set.enums e (λ x so. so.annotations.0) w (h.rule3 refl).counts.enums
+fails set _ _ _ _ (broken.enumerant_annotation_count e i w) h = child_stands HasFewEnumerants _ _ set.enums e i (λ x so. so.annotations.1) w (h.rule3 refl).counts.enums
 fails set _ _ _ _ (broken.slot_outside b i w) h = w.broken ((h.rule4 refl) b i w.brand w.field)
 fails set _ _ _ _ (broken.default_kind b i w) h = w.broken ((h.rule5 refl) b i w.brand w.field)
-fails set _ _ _ _ (broken.default_words n i w) h = child_stands (λ (x : Node). All (λ (f : Field). HasWords (default_of f) × Decodes (default_of f)) x.fields) _ _ set.nodes n i (λ x so. so) w (h.rule6 refl).defaults
+fails set _ _ _ _ (broken.default_words n i w) h = child_stands NodeHasWords _ _ set.nodes n i (λ x so. so.defaults) w (h.rule6 refl).values.nodes
 fails set _ _ _ _ (broken.default_list b i w) h = w.broken ((h.rule6 refl).lists b i w.brand w.field)
-fails set _ _ _ _ (broken.node_annotation_words n w) h = entry_stands (EachOfNode HaveWords) _ set.nodes n (λ x so. so.0) w (h.rule6 refl).annotations
-fails set _ _ _ _ (broken.field_annotation_words n i w) h = child_stands (EachOfNode HaveWords) _ _ set.nodes n i (λ x so. so.1) w (h.rule6 refl).annotations
-fails set _ _ _ _ (broken.enum_annotation_words e w) h = entry_stands (EachOfEnum HaveWords) _ set.enums e (λ x so. so.0) w (h.rule6 refl).enum_annotations
-fails set _ _ _ _ (broken.enumerant_annotation_words e i w) h = child_stands (EachOfEnum HaveWords) _ _ set.enums e i (λ x so. so.1) w (h.rule6 refl).enum_annotations
+fails set _ _ _ _ (broken.node_annotation_words n w) h = entry_stands NodeHasWords _ set.nodes n (λ x so. so.annotations.0) w (h.rule6 refl).values.nodes
+fails set _ _ _ _ (broken.field_annotation_words n i w) h = child_stands NodeHasWords _ _ set.nodes n i (λ x so. so.annotations.1) w (h.rule6 refl).values.nodes
+fails set _ _ _ _ (broken.enum_annotation_words e w) h = entry_stands (EachOfEnum HaveWords) _ set.enums e (λ x so. so.0) w (h.rule6 refl).values.enums
+fails set _ _ _ _ (broken.enumerant_annotation_words e i w) h = child_stands (EachOfEnum HaveWords) _ _ set.enums e i (λ x so. so.1) w (h.rule6 refl).values.enums
 fails set _ _ _ _ (broken.group_type b i w) h = w.broken ((h.rule7 refl) b i w.brand w.field)
 fails set _ _ _ _ (broken.group_parent g inside w) h = w ((h.rule8 refl) g inside)
 fails set _ _ _ _ (broken.members n w) h = entry_stands HasEachMember _ set.nodes n (λ x so. so) w (h.rule9 refl)

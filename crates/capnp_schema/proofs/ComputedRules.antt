@@ -1,5 +1,5 @@
 -- Rules of single entries of a set, as tests that compute.
-use Rattle.std.proofs.Common.{ℕ, ◌≡◌, ◌<◌, ◌≤◌, ◌^◌, ◌&&◌, ◌==◌, nat_lt, nat_le, ⊎_elim, Bool, true, false, not, List, length, map, refl}
+use Rattle.std.proofs.Common.{ℕ, ◌≡◌, ◌<◌, ◌^◌, ◌&&◌, ◌==◌, nat_lt, nat_le, ⊎_elim, Bool, true, false, not, List, length, map, refl}
 use Rattle.std.specs.Prelude.{All, IsTrue, bytes_eq}
 use Rattle.std.specs.List.{list_all, list_any}
 use Rattle.std.proofs.lemmas.Bool.{ltb-true, leb-true}
@@ -8,9 +8,10 @@ use Rattle.std.proofs.lemmas.Map.Views.{Contains-from_any}
 use Rattle.std.proofs.lemmas.Slice.Eq.{bytes_eq-Decides}
 use Rattle.capnp_schema.specs.Types.{SchemaType}
 use Rattle.capnp_schema.specs.Schema.{Schemas, Node, Brand, Enum, Enumerant, Field, Annotation, AnnotationTypes, brand_at, node_of, is_member}
-use Rattle.capnp_schema.specs.Accepted.{NamesEntries, TypesName, Rule1, HasTypes, BrandHasTypes, EnumHasTypes, Rule2, HasFewAnnotations, HasOwnName, EachOfNode, EachOfEnum, Rule3, LiesInside, Rule4, KindDefault, IsDefaultOf, Rule5, GroupFits, Rule7, HasEachMember, Rule9, DiscriminantFits, Rule10}
+use Rattle.capnp_schema.specs.Accepted.{NamesEntries, TypesName, Rule1, HasTypes, BrandHasTypes, EnumHasTypes, Rule2, HasFewAnnotations, HasFewEnumerants, HasFewFields, HasOwnName, EachOfNode, EachOfEnum, Rule3, LiesInside, Rule4, KindDefault, IsDefaultOf, Rule5, GroupFits, Rule7, HasEachMember, Rule9, DiscriminantFits, Rule10}
 use Rattle.capnp_schema.specs.Tests.{is_named, is_inside, kind_is_default, group_fits, is_discriminant_inside}
 use Rattle.capnp_schema.proofs.Decided.{named_decides, inside_decides, kind_default_decides, group_decides, discriminant_decides}
+use Rattle.capnp_schema.specs.Facts.Fields.{All-entry}
 use Rattle.capnp_schema.proofs.Computed.{both, not_so, not_both, all_below, passes_below, all_pass, all_pairs, each_pair, all_fields, each_field}
 
 -- ---- rule 1 ----
@@ -51,7 +52,7 @@ abbrev pub enum_has_types : Enum → Bool
 enum_has_types e = has_types e.annotations (map (λ (x : Enumerant). x.annotations) e.enumerants) e.annotation_types
 
 abbrev pub meets_rule2 : Schemas → Bool
-meets_rule2 set = list_all (λ (b : Brand). nat_lt b.node (length set.nodes)) set.brands && (all_below (length set.brands) (λ b. brand_has_types (node_of set b) (brand_at set b)) && list_all enum_has_types set.enums)
+meets_rule2 set = all_below (length set.brands) (λ b. nat_lt (brand_at set b).node (length set.nodes)) && (all_below (length set.brands) (λ b. brand_has_types (node_of set b) (brand_at set b)) && list_all enum_has_types set.enums)
 
 types_there : (own : List Annotation) (children : List (List Annotation)) (types : AnnotationTypes) → has_types own children types ≡ true → HasTypes own children types
 types_there own children types e =
@@ -68,8 +69,10 @@ rule2 set e =
     let parts = both _ _ e in
     let lists = both _ _ parts.1 in
     record {
-      node = all_pass _ (λ (b : Brand). b.node < length set.nodes) set.brands (λ b. ltb-true b.node (length set.nodes)) parts.0;
-      brands = λ b b_in. brand_types_there (node_of set b) (brand_at set b) (passes_below (length set.brands) (λ b. brand_has_types (node_of set b) (brand_at set b)) lists.0 b b_in);
+      brands = λ b b_in. record {
+        node = ltb-true (brand_at set b).node (length set.nodes) (passes_below (length set.brands) (λ b. nat_lt (brand_at set b).node (length set.nodes)) parts.0 b b_in);
+        types = brand_types_there (node_of set b) (brand_at set b) (passes_below (length set.brands) (λ b. brand_has_types (node_of set b) (brand_at set b)) lists.0 b b_in);
+      };
       enums = all_pass _ EnumHasTypes set.enums (λ x. types_there x.annotations (map (λ (y : Enumerant). y.annotations) x.enumerants) x.annotation_types) lists.1;
     }
 
@@ -87,8 +90,14 @@ passes_node test n = test n.annotations && list_all (λ (f : Field). test f.anno
 abbrev pub passes_enum : (List Annotation → Bool) → Enum → Bool
 passes_enum test e = test e.annotations && list_all (λ (x : Enumerant). test x.annotations) e.enumerants
 
+abbrev pub node_has_few : Node → Bool
+node_has_few n = nat_le (length n.fields) 65535 && passes_node has_few n
+
+abbrev pub enum_has_few : Enum → Bool
+enum_has_few e = nat_le (length e.enumerants) 65535 && passes_enum has_few e
+
 abbrev pub has_counts : Schemas → Bool
-has_counts set = (list_all (λ (n : Node). nat_le (length n.fields) 65535) set.nodes && list_all (λ (e : Enum). nat_le (length e.enumerants) 65535) set.enums) && (list_all (passes_node has_few) set.nodes && list_all (passes_enum has_few) set.enums)
+has_counts set = list_all node_has_few set.nodes && list_all enum_has_few set.enums
 
 abbrev pub meets_rule3 : Schemas → Bool
 meets_rule3 set = list_all (λ (n : Node). all_pairs names_differ n.fields) set.nodes && has_counts set
@@ -103,6 +112,16 @@ of_enum test P gives x e =
     let parts = both (test x.annotations) (list_all (λ (y : Enumerant). test y.annotations) x.enumerants) e in
     (gives x.annotations parts.0, all_pass _ (λ (y : Enumerant). P y.annotations) x.enumerants (λ y. gives y.annotations) parts.1)
 
+few_of_node : (n : Node) → node_has_few n ≡ true → HasFewFields n
+few_of_node n e =
+    let parts = both (nat_le (length n.fields) 65535) (passes_node has_few n) e in
+    record { fields = leb-true (length n.fields) 65535 parts.0; annotations = of_node has_few HasFewAnnotations (λ xs. ltb-true (length xs) (2 ^ 29)) n parts.1 }
+
+few_of_enum : (x : Enum) → enum_has_few x ≡ true → HasFewEnumerants x
+few_of_enum x e =
+    let parts = both (nat_le (length x.enumerants) 65535) (passes_enum has_few x) e in
+    record { enumerants = leb-true (length x.enumerants) 65535 parts.0; annotations = of_enum has_few HasFewAnnotations (λ xs. ltb-true (length xs) (2 ^ 29)) x parts.1 }
+
 own_names : (n : Node) → all_pairs names_differ n.fields ≡ true → (i : ℕ) → HasOwnName n.fields i
 own_names n e i j f g at_i at_j same = ⊎_elim
     (λ here. here)
@@ -113,14 +132,12 @@ pub rule3 : (set : Schemas) → meets_rule3 set ≡ true → Rule3 set
 rule3 set e =
     let parts = both _ _ e in
     let counts = both _ _ parts.1 in
-    let lengths = both _ _ counts.0 in
-    let few = both _ _ counts.1 in
     record {
       names = all_pass _ (λ (n : Node). (i : ℕ) → HasOwnName n.fields i) set.nodes own_names parts.0;
-      fields = all_pass _ (λ (n : Node). length n.fields ≤ 65535) set.nodes (λ n. leb-true (length n.fields) 65535) lengths.0;
-      enumerants = all_pass _ (λ (x : Enum). length x.enumerants ≤ 65535) set.enums (λ x. leb-true (length x.enumerants) 65535) lengths.1;
-      annotations = all_pass _ (EachOfNode HasFewAnnotations) set.nodes (of_node has_few HasFewAnnotations (λ xs. ltb-true (length xs) (2 ^ 29))) few.0;
-      enum_annotations = all_pass _ (EachOfEnum HasFewAnnotations) set.enums (of_enum has_few HasFewAnnotations (λ xs. ltb-true (length xs) (2 ^ 29))) few.1;
+      counts = record {
+        nodes = all_pass _ HasFewFields set.nodes few_of_node counts.0;
+        enums = all_pass _ HasFewEnumerants set.enums few_of_enum counts.1;
+      };
     }
 
 -- ---- rules 4, 5, 7 and 10 ----
@@ -170,13 +187,16 @@ each_member : (n : Node) → has_each_member n ≡ true → HasEachMember n
 each_member n e =
     let parts = both (list_all (member_is_below n.discriminant_count) n.fields) (all_below n.discriminant_count (has_value n.fields) && all_pairs values_differ n.fields) e in
     let values = both (all_below n.discriminant_count (has_value n.fields)) (all_pairs values_differ n.fields) parts.1 in
+    let bounded = all_pass (member_is_below n.discriminant_count) (λ (f : Field). IsTrue (is_member f) → f.discriminant_value < n.discriminant_count) n.fields (λ f below member. ltb-true f.discriminant_value n.discriminant_count (inside (is_member f) (nat_lt f.discriminant_value n.discriminant_count) below member)) parts.0 in
     record {
-      below = all_pass (member_is_below n.discriminant_count) (λ (f : Field). IsTrue (is_member f) → f.discriminant_value < n.discriminant_count) n.fields (λ f below member. ltb-true f.discriminant_value n.discriminant_count (inside (is_member f) (nat_lt f.discriminant_value n.discriminant_count) below member)) parts.0;
+      apart = record {
+        below = λ k f at. All-entry (λ (x : Field). IsTrue (is_member x) → x.discriminant_value < n.discriminant_count) n.fields k f bounded at;
+        once = λ i j f g at_i at_j member same. ⊎_elim
+            (λ here. here)
+            (λ apart. absurd (not_both (is_member f) (f.discriminant_value == g.discriminant_value) apart member ((Decides-eqb f.discriminant_value g.discriminant_value).1 same)))
+            (each_pair values_differ n.fields values.1 i j f g at_i at_j);
+      };
       some = λ d d_in. Contains-from_any {eq = λ x y. x == y} (λ x y. (Decides-eqb x y).0) d (map (λ (f : Field). f.discriminant_value) n.fields) (passes_below n.discriminant_count (has_value n.fields) values.0 d d_in);
-      once = λ i j f g at_i at_j member same. ⊎_elim
-          (λ here. here)
-          (λ apart. absurd (not_both (is_member f) (f.discriminant_value == g.discriminant_value) apart member ((Decides-eqb f.discriminant_value g.discriminant_value).1 same)))
-          (each_pair values_differ n.fields values.1 i j f g at_i at_j);
     }
   where
     inside : (a b : Bool) → not (a && not b) ≡ true → a ≡ true → b ≡ true

@@ -1,6 +1,5 @@
 -- The words of a set's values, as a test that computes.
 use Rattle.std.proofs.Common.{ℕ, ◌≡◌, ◌-◌, ◌%◌, ◌^◌, ◌&&◌, ◌==◌, nat_lt, nat_le, Bool, true, false, List, length, refl, Option, Some, None}
-use Rattle.std.specs.Prelude.{All}
 use Rattle.std.specs.List.{list_all}
 use Rattle.std.specs.Option.{is_none}
 use Rattle.std.specs.Result.{is_ok}
@@ -12,7 +11,7 @@ use Rattle.capnp_wire.specs.Reading.{as_list, is_null_tree}
 use Rattle.capnp_wire.specs.Words.{first_fault}
 use Rattle.capnp_schema.specs.Types.{SchemaType, ListType, element_size}
 use Rattle.capnp_schema.specs.Schema.{Schemas, Node, Field, Annotation, FieldKind, Slot, Group, Value, TextValue, DataValue, StructValue, ListValue, AnyPointerValue, default_of}
-use Rattle.capnp_schema.specs.Accepted.{KindDefault, AreWords, HasWords, HaveWords, IsStructOrNull, IsListOrNull, Decodes, ListReads, root_of, EachOfNode, EachOfEnum, Rule6}
+use Rattle.capnp_schema.specs.Accepted.{KindDefault, AreWords, HasWords, HaveWords, IsStructOrNull, IsListOrNull, Decodes, ListReads, DefaultStands, NodeHasWords, root_of, EachOfEnum, Rule6}
 use Rattle.capnp_schema.proofs.Computed.{both, all_pass, all_fields, each_field}
 use Rattle.capnp_schema.proofs.ComputedRules.{passes_node, passes_enum, of_node, of_enum}
 
@@ -125,22 +124,30 @@ kind_read (Group node) t e = tt
 abbrev pub default_stands : Field → Bool
 default_stands f = has_words (default_of f) && decodes (default_of f)
 
-abbrev pub meets_rule6 : Schemas → Bool
-meets_rule6 set = (list_all (λ (n : Node). list_all default_stands n.fields) set.nodes && all_fields set (λ b i f. kind_reads f.field.kind f.type)) && (list_all (passes_node have_words) set.nodes && list_all (passes_enum have_words) set.enums)
+abbrev pub node_stands : Node → Bool
+node_stands n = list_all default_stands n.fields && passes_node have_words n
 
-default_there : (f : Field) → default_stands f ≡ true → HasWords (default_of f) × Decodes (default_of f)
+abbrev pub meets_rule6 : Schemas → Bool
+meets_rule6 set = (list_all node_stands set.nodes && list_all (passes_enum have_words) set.enums) && all_fields set (λ b i f. kind_reads f.field.kind f.type)
+
+default_there : (f : Field) → default_stands f ≡ true → DefaultStands f
 default_there f e =
     let parts = both (has_words (default_of f)) (decodes (default_of f)) e in
     (words_there (default_of f) parts.0, decoded (default_of f) parts.1)
 
+node_there : (n : Node) → node_stands n ≡ true → NodeHasWords n
+node_there n e =
+    let parts = both (list_all default_stands n.fields) (passes_node have_words n) e in
+    record { defaults = all_pass default_stands DefaultStands n.fields default_there parts.0; annotations = of_node have_words HaveWords all_words n parts.1 }
+
 pub rule6 : (set : Schemas) → meets_rule6 set ≡ true → Rule6 set
 rule6 set e =
     let parts = both _ _ e in
-    let defaults = both _ _ parts.0 in
-    let words = both _ _ parts.1 in
+    let words = both _ _ parts.0 in
     record {
-      defaults = all_pass _ (λ (n : Node). All (λ (f : Field). HasWords (default_of f) × Decodes (default_of f)) n.fields) set.nodes (λ n. all_pass default_stands (λ (f : Field). HasWords (default_of f) × Decodes (default_of f)) n.fields default_there) defaults.0;
-      lists = each_field set _ (λ b i f. KindDefault ListReads f.field.kind f.type) (λ b i f. kind_read f.field.kind f.type) defaults.1;
-      annotations = all_pass _ (EachOfNode HaveWords) set.nodes (of_node have_words HaveWords all_words) words.0;
-      enum_annotations = all_pass _ (EachOfEnum HaveWords) set.enums (of_enum have_words HaveWords all_words) words.1;
+      values = record {
+        nodes = all_pass _ NodeHasWords set.nodes node_there words.0;
+        enums = all_pass _ (EachOfEnum HaveWords) set.enums (of_enum have_words HaveWords all_words) words.1;
+      };
+      lists = each_field set _ (λ b i f. KindDefault ListReads f.field.kind f.type) (λ b i f. kind_read f.field.kind f.type) parts.1;
     }

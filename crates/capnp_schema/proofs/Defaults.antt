@@ -7,7 +7,7 @@ use Rattle.capnp_wire.specs.Words.{first_fault}
 use Rattle.capnp_wire.specs.declared.pointer_reader.PointerReader.{PointerReader}
 use Rattle.capnp_schema.specs.Types.{SchemaType, VoidType, BoolType, IntType, UIntType, EnumType, TextType, DataType, StructType, ListType, AnyPointerType}
 use Rattle.capnp_schema.specs.Schema.{Schemas, Node, FieldKind, Slot, Group, Value, VoidValue, BoolValue, IntValue, UIntValue, EnumValue, TextValue, DataValue, StructValue, ListValue, AnyPointerValue, fields_of, field_at, default_of, kind_default}
-use Rattle.capnp_schema.specs.Accepted.{IsAccepted, KindDefault, IsDefaultOf, Decodes, ListReads}
+use Rattle.capnp_schema.specs.Accepted.{IsAccepted, DefaultStands, KindDefault, IsDefaultOf, Decodes, ListReads}
 use Rattle.capnp_schema.specs.Defaults.{DefaultFits, IsReadAs, default_tree}
 use Rattle.capnp_schema.specs.Entries.{lists_seen}
 use Rattle.capnp_schema.specs.FieldLists.{index_of, schema_of, typed_of}
@@ -16,7 +16,6 @@ use Rattle.capnp_schema.specs.Views.{IsViewOf}
 use Rattle.capnp_schema.specs.declared.lists.Lists.{Lists}
 use Rattle.capnp_schema.specs.declared.schema.fields.Field.{Field as FieldHandle}
 use Rattle.capnp_schema.specs.declared.value.Value.TheVariants as view
-use Rattle.capnp_schema.specs.Values.{DefaultStands}
 use Rattle.capnp_schema.proofs.LookUps.{accepted_seen}
 use Rattle.capnp_schema.proofs.NamedTypes.{brand_of_field}
 use Rattle.capnp_schema.specs.Facts.Fields.{of_field, of_node}
@@ -67,7 +66,7 @@ default_fits set accepted b i b_in i_in = record {
 }
   where
     stands : DefaultStands (field_at set b i).field
-    stands = of_field DefaultStands set b i i_in (of_node set accepted (λ (n : Node). All DefaultStands n.fields) accepted.rule6.defaults b b_in)
+    stands = of_field DefaultStands set b i i_in (of_node set accepted (λ (n : Node). All DefaultStands n.fields) (λ n d h. (accepted.rule6.values.nodes n d h).defaults) b b_in)
 
     fits : Fits (default_of (field_at set b i).field) (field_at set b i).type
     fits = kind_fits (field_at set b i).field.kind (field_at set b i).type (accepted.rule5 b i b_in i_in) stands.1 (accepted.rule6.lists b i b_in i_in)

@@ -41,7 +41,7 @@ records_typed (f ∷ fs) (t ∷ ts) e = ap (λ (gs : List Field). f ∷ gs) (rec
 
 -- a brand that is there has the fields of its node
 pub records_inside : (set : Schemas) → IsAccepted set → (b : ℕ) → b < length set.brands → records_of set b ≡ (node_of set b).fields
-records_inside set accepted b h = records_typed (node_of set b).fields (brand_at set b).field_types (accepted.rule2.brands b h).0
+records_inside set accepted b h = records_typed (node_of set b).fields (brand_at set b).field_types (accepted.rule2.brands b h).types.0
 
 pub counted_fields : (set : Schemas) → IsAccepted set → (b : ℕ) → b < length set.brands → length (fields_of set b) ≡ length (node_of set b).fields
 counted_fields set accepted b h = sym (length-map (fields_of set b) (λ (f : TypedField). f.field)) ∙ ap (λ (fs : List Field). length fs) (records_inside set accepted b h)

@@ -12,10 +12,10 @@ use Rattle.capnp_schema.specs.declared.record.FieldRecord.{FieldRecord}
 use Rattle.capnp_schema.specs.declared.record.NodeRecord.{NodeRecord}
 use Rattle.capnp_schema.specs.Schema.{Schemas, Node, Field, is_member, no_node, node_at, seen_field, seen_node}
 use Rattle.capnp_schema.specs.Query.{is_member_of, is_plain, member_of}
-use Rattle.capnp_schema.specs.Accepted.{HasEachMember, IsAccepted}
+use Rattle.capnp_schema.specs.Accepted.{AreApartBelow, HasEachMember, IsAccepted}
 use Rattle.capnp_schema.proofs.EntryWalk.{at_node}
 use Rattle.capnp_schema.proofs.Members.{member_by_value}
-use Rattle.capnp_schema.specs.Tables.{AreApartBelow, ArePlaced, IsMemberTable, placed}
+use Rattle.capnp_schema.specs.Tables.{ArePlaced, IsMemberTable, placed}
 
 not_plain : (b : Bool) → not b ≡ false → b ≡ true
 not_plain true e = refl
@@ -24,12 +24,6 @@ not_plain false e = cc
 plain_only : (b : Bool) → not b ≡ true → b ≡ true → ⊥
 plain_only true e h = cc
 plain_only false e h = cc
-
-pub members_apart : (n : Node) → HasEachMember n → AreApartBelow n.fields n.discriminant_count
-members_apart n each = record {
-  below = λ k f at member. subst (λ (x : Field). IsTrue (is_member x) → x.discriminant_value < n.discriminant_count) (get_or_from_slice_get n.fields k f f at) (each.below k f (slice_get_within n.fields k f at)) member;
-  once = each.once;
-}
 
 pub none_placed : (fields : List Field) (count : ℕ) (table : List ℕ) → length table ≡ count → ArePlaced fields 0 count table
 none_placed fields count table counted = record { counted = counted; each = λ k f h. absurd (omega arith) }
@@ -118,22 +112,21 @@ member_table_stands n table few each all = record {
         let is : is_member_of d f ≡ true = of_value d f same below in
         let found : get_or table d 0 ≡ k = ap (λ v. get_or table v 0) (sym same) ∙ all.each k f (slice_get_within n.fields k f here) here (is_of d f is).0 in
         let k_is : k ≡ i = sym found ∙ get_or_from_slice_get table d i 0 at in
-        found_first (is_member_of d) n.fields k f here is (λ j g h there test. let j_is : j ≡ k = each.once j k g f there here (is_of d g test).0 ((is_of d g test).1 ∙ sym same) in omega arith) ∙ ap Some k_is
+        found_first (is_member_of d) n.fields k f here is (λ j g h there test. let j_is : j ≡ k = each.apart.once j k g f there here (is_of d g test).0 ((is_of d g test).1 ∙ sym same) in omega arith) ∙ ap Some k_is
 
 -- the look-up
 pub member_found : (n : Node) (table : List ℕ) → HasEachMember n → IsMemberTable n table → (d : ℕ) → slice_get table d ≡ member_of n.fields d
 member_found n table each stands d = ⊎_elim
     (λ less. let there = slice_get-get_or table d 0 less in there ∙ sym (stands.each d (get_or table d 0) there))
-    (λ le. slice_get_past table d le ∙ sym (found_none (is_member_of d) n.fields (λ k g at test. let h = (members_apart n each).below k g at (is_of d g test).0 in let v = (is_of d g test).1 in let c = stands.same_length in omega arith)))
+    (λ le. slice_get_past table d le ∙ sym (found_none (is_member_of d) n.fields (λ k g at test. let h = each.apart.below k g at (is_of d g test).0 in let v = (is_of d g test).1 in let c = stands.same_length in omega arith)))
     (cases_lt d (length table))
 
 -- ---- nodes by number, and past the last ----
 
 no_members : HasEachMember no_node
 no_members = record {
-  below = λ k d h. absurd (omega arith);
+  apart = record { below = λ k f at. cc; once = λ i j f g at. cc };
   some = λ d h. absurd (omega arith);
-  once = λ i j f g at. cc;
 }
 
 pub has_each : (set : Schemas) → IsAccepted set → (n : ℕ) → HasEachMember (node_at set n)

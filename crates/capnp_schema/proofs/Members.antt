@@ -9,7 +9,7 @@ use Rattle.std.specs.Bool.{Decides}
 use Rattle.capnp_schema.specs.declared.record.FieldRecord.{FieldRecord}
 use Rattle.capnp_schema.specs.Schema.{Node, Field, is_member, seen_field}
 use Rattle.capnp_schema.specs.Accepted.{HasEachMember}
-use Rattle.capnp_schema.specs.Marks.{Marked}
+use Rattle.capnp_schema.specs.Checking.Marks.{Marked}
 
 -- a mark that is set stands inside
 set_inside : (marks : List Bool) (d : ℕ) → get_or marks d false ≡ true → d < length marks
@@ -90,13 +90,13 @@ module _ (fields : List Field) (marks : List Bool) (i : ℕ) (f : Field) (here :
 
 -- a member past the count
 pub too_large : (n : Node) (i : ℕ) (f : Field) → slice_get n.fields i ≡ Some f → IsTrue (is_member f) → n.discriminant_count ≤ f.discriminant_value → HasEachMember n → ⊥
-too_large n i f at member past each = let small = subst (λ (x : Field). IsTrue (is_member x) → x.discriminant_value < n.discriminant_count) (get_or_from_slice_get n.fields i f f at) (each.below i f (slice_get_within n.fields i f at)) member in omega arith
+too_large n i f at member past each = let small = each.apart.below i f at member in omega arith
 
 -- a member whose value is marked
 pub twice : (n : Node) (marks : List Bool) (i : ℕ) (f : Field) → slice_get n.fields i ≡ Some f → Marked n.fields i marks → get_or marks f.discriminant_value false ≡ true → HasEachMember n → ⊥
 twice n marks i f at so_far set each =
     let there = so_far.found f.discriminant_value set in
-    let e = each.once there.0 i there.1 f there.3 at there.4 there.5 in
+    let e = each.apart.once there.0 i there.1 f there.3 at there.4 there.5 in
     omega (arith, there.2)
 
 -- a value that no member has
@@ -118,10 +118,12 @@ missing n marks d all few h unset each = by_place (each.some d h)
 -- all marks are set
 pub complete : (n : Node) (marks : List Bool) → Marked n.fields (length n.fields) marks → length marks ≡ n.discriminant_count → ((d : ℕ) → d < length marks → get_or marks d false ≡ true) → HasEachMember n
 complete n marks all counted set = record {
-  below = λ k d h member. omega (arith, set_inside marks (get_or n.fields k d).discriminant_value (all.within k (get_or n.fields k d) h (slice_get-get_or n.fields k d h) member));
+  apart = record {
+    below = λ k f at member. omega (arith, set_inside marks f.discriminant_value (all.within k f (slice_get_within n.fields k f at) at member));
+    once = λ i j f g at_i at_j member same. all.once i j f g (slice_get_within n.fields i f at_i) (slice_get_within n.fields j g at_j) at_i at_j member same;
+  };
   some = λ d h. let there = all.found d (set d (omega arith)) in
       (there.0, omega (arith, there.2, length-map n.fields (λ (f : Field). f.discriminant_value)), get_or_from_slice_get (map (λ (f : Field). f.discriminant_value) n.fields) there.0 d d (slice_get-map (λ (f : Field). f.discriminant_value) n.fields there.0 ∙ ap (option_map (λ (f : Field). f.discriminant_value)) there.3 ∙ ap Some there.5));
-  once = λ i j f g at_i at_j member same. all.once i j f g (slice_get_within n.fields i f at_i) (slice_get_within n.fields j g at_j) at_i at_j member same;
 }
 
 -- ---- as the code has them ----

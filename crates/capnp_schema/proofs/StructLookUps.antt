@@ -4,11 +4,11 @@ use Rattle.std.specs.Prelude.{All, bytes_eq}
 use Rattle.std.specs.List.{position_or_len}
 use Rattle.std.specs.Option.{option_map, unwrap_or}
 use Rattle.std.proofs.lemmas.List.{length-map}
-use Rattle.std.proofs.lemmas.Option.{slice_get-get_or, slice_get-map, unwrap_or-slice_get}
+use Rattle.std.proofs.lemmas.Option.{slice_get-get_or, slice_get-map}
 use Rattle.std.proofs.lemmas.Bool.{cases_lt, lt-ltb, le-ltb}
 use Rattle.capnp_schema.specs.declared.record.NodeRecord.{NodeRecord}
 use Rattle.capnp_schema.specs.declared.schema.structs.StructSchema.{StructSchema}
-use Rattle.capnp_schema.specs.Schema.{Schemas, Node, Brand, Field, TypedField, no_brand, no_node, brand_at, node_of, seen_node}
+use Rattle.capnp_schema.specs.Schema.{Schemas, Node, Field, TypedField, no_node, brand_at, node_of, seen_node}
 use Rattle.capnp_schema.specs.Accepted.{IsAccepted}
 use Rattle.capnp_schema.specs.Query.{AreMembers, field_named, member_of, is_member_of, indices_from, keep_index, is_plain, plain_fields}
 use Rattle.capnp_schema.specs.StructHandles.{struct_fields, struct_records}
@@ -19,7 +19,7 @@ use Rattle.capnp_schema.proofs.MemberTables.{found_none, is_of, no_member}
 module _ (set : Schemas) (accepted : IsAccepted set) (nodes : List NodeRecord) (are : map seen_node nodes ≡ set.nodes) (b g : ℕ) (inside : b < length set.brands) (is : g ≡ (brand_at set b).node) where
   pub node_inside : g < length nodes
   node_inside =
-      let there = subst (λ (x : Brand). x.node < length set.nodes) (sym (unwrap_or-slice_get set.brands b (no_brand set))) (accepted.rule2.node b (no_brand set) inside) in
+      let there = (accepted.rule2.brands b inside).node in
       let count = sym (length-map nodes seen_node) ∙ ap (λ (l : List Node). length l) are in
       omega (arith, there, count, is)
 

@@ -40,10 +40,21 @@ NamesEntries set AnyPointerType = ⊤
 abbrev pub TypesName : Schemas → AnnotationTypes → Type 0
 TypesName set types = All (NamesEntries set) types.own × All (All (NamesEntries set)) types.children
 
+-- the type of each field does
+abbrev pub FieldsName : Schemas → Type 0
+FieldsName set = EachField set (λ b i f. NamesEntries set f.type)
+
+-- the types of the annotations of each brand and each enum do
+abbrev pub BrandTypesName : Schemas → Type 0
+BrandTypesName set = All (λ (b : Brand). TypesName set b.annotation_types) set.brands
+
+abbrev pub EnumTypesName : Schemas → Type 0
+EnumTypesName set = All (λ (e : Enum). TypesName set e.annotation_types) set.enums
+
 pub record Rule1 (set : Schemas) : Type 0 where
-  pub fields : EachField set (λ b i f. NamesEntries set f.type)
-  pub brands : All (λ (b : Brand). TypesName set b.annotation_types) set.brands
-  pub enums : All (λ (e : Enum). TypesName set e.annotation_types) set.enums
+  pub fields : FieldsName set
+  pub brands : BrandTypesName set
+  pub enums : EnumTypesName set
 
 -- ---- rule 2: each brand names a node; brands and enums have one type for each field, each annotation of their own and
 -- each annotation of a field or enumerant ----
@@ -58,9 +69,15 @@ BrandHasTypes n b = (length b.field_types ≡ length n.fields) × HasTypes n.ann
 abbrev pub EnumHasTypes : Enum → Type 0
 EnumHasTypes e = HasTypes e.annotations (map (λ (x : Enumerant). x.annotations) e.enumerants) e.annotation_types
 
+pub record BrandStands (set : Schemas) (b : ℕ) : Type 0 where
+  pub node : (brand_at set b).node < length set.nodes
+  pub types : BrandHasTypes (node_of set b) (brand_at set b)
+
+abbrev pub BrandsStand : Schemas → Type 0
+BrandsStand set = (b : ℕ) → b < length set.brands → BrandStands set b
+
 pub record Rule2 (set : Schemas) : Type 0 where
-  pub node : All (λ (b : Brand). b.node < length set.nodes) set.brands
-  pub brands : (b : ℕ) → b < length set.brands → BrandHasTypes (node_of set b) (brand_at set b)
+  pub brands : BrandsStand set
   pub enums : All EnumHasTypes set.enums
 
 -- ---- rule 3: field names in a struct are distinct; at most 65,535 fields or enumerants, and 2^29 - 1 annotations at one
@@ -73,12 +90,21 @@ HasFewAnnotations annotations = length annotations < 2 ^ 29
 abbrev pub HasOwnName : List Field → ℕ → Type 0
 HasOwnName fields i = (j : ℕ) (f g : Field) → slice_get fields i ≡ Some f → slice_get fields j ≡ Some g → f.name ≡ g.name → i ≡ j
 
+pub record HasFewFields (n : Node) : Type 0 where
+  pub fields : length n.fields ≤ 65535
+  pub annotations : EachOfNode HasFewAnnotations n
+
+pub record HasFewEnumerants (e : Enum) : Type 0 where
+  pub enumerants : length e.enumerants ≤ 65535
+  pub annotations : EachOfEnum HasFewAnnotations e
+
+pub record HasSmallCounts (set : Schemas) : Type 0 where
+  pub nodes : All HasFewFields set.nodes
+  pub enums : All HasFewEnumerants set.enums
+
 pub record Rule3 (set : Schemas) : Type 0 where
   pub names : All (λ (n : Node). (i : ℕ) → HasOwnName n.fields i) set.nodes
-  pub fields : All (λ (n : Node). length n.fields ≤ 65535) set.nodes
-  pub enumerants : All (λ (e : Enum). length e.enumerants ≤ 65535) set.enums
-  pub annotations : All (EachOfNode HasFewAnnotations) set.nodes
-  pub enum_annotations : All (EachOfEnum HasFewAnnotations) set.enums
+  pub counts : HasSmallCounts set
 
 -- ---- rule 4: each slot lies inside the data section or the pointer section ----
 
@@ -159,11 +185,24 @@ abbrev pub ListReads : Value → SchemaType → Type 0
 ListReads (ListValue words) (ListType element) = IsOk (as_list (element_size element) (root_of words) 1)
 ListReads value t = ⊤
 
+-- a field's default has whole words and decodes
+abbrev pub DefaultStands : Field → Type 0
+DefaultStands f = HasWords (default_of f) × Decodes (default_of f)
+
+pub record NodeHasWords (n : Node) : Type 0 where
+  pub defaults : All DefaultStands n.fields
+  pub annotations : EachOfNode HaveWords n
+
+pub record HaveAllWords (set : Schemas) : Type 0 where
+  pub nodes : All NodeHasWords set.nodes
+  pub enums : All (EachOfEnum HaveWords) set.enums
+
+abbrev pub ListDefaultsRead : Schemas → Type 0
+ListDefaultsRead set = EachField set (λ b i f. KindDefault ListReads f.field.kind f.type)
+
 pub record Rule6 (set : Schemas) : Type 0 where
-  pub defaults : All (λ (n : Node). All (λ (f : Field). HasWords (default_of f) × Decodes (default_of f)) n.fields) set.nodes
-  pub lists : EachField set (λ b i f. KindDefault ListReads f.field.kind f.type)
-  pub annotations : All (EachOfNode HaveWords) set.nodes
-  pub enum_annotations : All (EachOfEnum HaveWords) set.enums
+  pub values : HaveAllWords set
+  pub lists : ListDefaultsRead set
 
 -- ---- rule 7: a group field's type is a struct type whose node is the field's group node and is marked as a group; the
 -- type of a slot, and what its lists hold, never names a group ----
@@ -224,10 +263,14 @@ Rule8 set = (g : ℕ) → g < length set.brands → GroupStands set g
 
 -- ---- rule 9: the members' discriminant values are 0 to the discriminant count - 1, each once ----
 
+-- the members have discriminant values below a count, and no two have one
+pub record AreApartBelow (fields : List Field) (count : ℕ) : Type 0 where
+  pub below : (k : ℕ) (f : Field) → slice_get fields k ≡ Some f → IsTrue (is_member f) → f.discriminant_value < count
+  pub once : (i j : ℕ) (f g : Field) → slice_get fields i ≡ Some f → slice_get fields j ≡ Some g → IsTrue (is_member f) → f.discriminant_value ≡ g.discriminant_value → i ≡ j
+
 pub record HasEachMember (n : Node) : Type 0 where
-  pub below : All (λ (f : Field). IsTrue (is_member f) → f.discriminant_value < n.discriminant_count) n.fields
+  pub apart : AreApartBelow n.fields n.discriminant_count
   pub some : (d : ℕ) → d < n.discriminant_count → Contains (map (λ (f : Field). f.discriminant_value) n.fields) d
-  pub once : (i j : ℕ) (f g : Field) → slice_get n.fields i ≡ Some f → slice_get n.fields j ≡ Some g → IsTrue (is_member f) → f.discriminant_value ≡ g.discriminant_value → i ≡ j
 
 abbrev pub Rule9 : Schemas → Type 0
 Rule9 set = All HasEachMember set.nodes

@@ -5,8 +5,8 @@ use Rattle.capnp_device.specs.declared.error.SchemaTable.TheVariants.{Node as In
 use Rattle.capnp_device.specs.declared.error.Error.{Error}
 use Rattle.capnp_device.specs.declared.error.ErrorKind.{ErrorKind}
 use Rattle.capnp_device.specs.declared.error.ErrorKind.TheVariants as error
-use Rattle.capnp_schema.specs.Schema.{Schemas, Node, Brand, Enum, Enumerant, Field, TypedField, brand_at, node_of, fields_of, field_at, default_of}
-use Rattle.capnp_schema.specs.Accepted.{NamesEntries, BrandHasTypes, EnumHasTypes, HasFewAnnotations, HasOwnName, LiesInside, KindDefault, IsDefaultOf, HasWords, HaveWords, Decodes, ListReads, GroupFits, GroupStands, HasEachMember, DiscriminantFits, FieldsApart, DiscriminantApart}
+use Rattle.capnp_schema.specs.Schema.{Schemas, Node, Brand, Enum, Enumerant, Field, TypedField, brand_at, node_of, fields_of, field_at}
+use Rattle.capnp_schema.specs.Accepted.{NamesEntries, BrandHasTypes, EnumHasTypes, HasFewAnnotations, HasOwnName, LiesInside, KindDefault, IsDefaultOf, HaveWords, DefaultStands, ListReads, GroupFits, GroupStands, HasEachMember, DiscriminantFits, FieldsApart, DiscriminantApart}
 
 -- that P isn't so of field i of brand b, which is there
 pub record FieldBreaks (set : Schemas) (P : TypedField → Type 0) (b i : ℕ) : Type 0 where
@@ -46,7 +46,7 @@ pub data IsBroken (set : Schemas) : ℕ → SchemaTable → ℕ → ℕ → Type
   enumerant_annotation_count : (e i : ℕ) → ChildBreaks set.enums (λ (x : Enum). x.enumerants) (λ (y : Enumerant). HasFewAnnotations y.annotations) e i → IsBroken set 3 InEnums e i
   slot_outside : (b i : ℕ) → FieldBreaks set (λ f. LiesInside (node_of set b) f.field.kind f.type) b i → IsBroken set 4 InBrands b i
   default_kind : (b i : ℕ) → FieldBreaks set (λ f. KindDefault IsDefaultOf f.field.kind f.type) b i → IsBroken set 5 InBrands b i
-  default_words : (n i : ℕ) → ChildBreaks set.nodes (λ (x : Node). x.fields) (λ (f : Field). HasWords (default_of f) × Decodes (default_of f)) n i → IsBroken set 6 InNodes n i
+  default_words : (n i : ℕ) → ChildBreaks set.nodes (λ (x : Node). x.fields) DefaultStands n i → IsBroken set 6 InNodes n i
   default_list : (b i : ℕ) → FieldBreaks set (λ f. KindDefault ListReads f.field.kind f.type) b i → IsBroken set 6 InBrands b i
   node_annotation_words : (n : ℕ) → EntryBreaks set.nodes (λ (x : Node). HaveWords x.annotations) n → IsBroken set 6 InNodes n 65535
   field_annotation_words : (n i : ℕ) → ChildBreaks set.nodes (λ (x : Node). x.fields) (λ (f : Field). HaveWords f.annotations) n i → IsBroken set 6 InNodes n i

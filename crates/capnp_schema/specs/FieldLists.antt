@@ -1,11 +1,14 @@
 -- Handles of fields, and lists of them, as clauses speak of them.
 use Rattle.std.specs.Prelude.{ℕ, ◌<◌, ◌≡◌, List, length, Option, Some, None}
-use Rattle.capnp_schema.specs.Schema.{TypedField}
-use Rattle.capnp_schema.specs.StructHandles.{struct_field, struct_fields}
+use Rattle.capnp_schema.specs.Schema.{TypedField, default_of}
+use Rattle.capnp_schema.specs.StructHandles.{struct_field, struct_fields, number_of, set_of}
+use Rattle.capnp_schema.specs.Annotated.{TypedAnnotation, field_annotations}
+use Rattle.capnp_schema.specs.Defaults.{default_tree}
 use Rattle.capnp_schema.specs.declared.schema.structs.StructSchema.{StructSchema}
 use Rattle.capnp_schema.specs.declared.schema.fields.Field.{Field}
 use Rattle.capnp_schema.specs.declared.schema.field_list.FieldList.{FieldList}
 use Rattle.capnp_schema.specs.declared.schema.field_subset.FieldSubset.{FieldSubset}
+use Rattle.capnp_wire.specs.Tree.{Tree}
 
 -- the struct that a field is of
 abbrev pub schema_of : Field → StructSchema
@@ -17,6 +20,18 @@ index_of f = f.index
 -- its record, with its type in the brand
 abbrev pub typed_of : Field → TypedField
 typed_of f = struct_field (schema_of f) (index_of f)
+
+-- its annotations with their types
+abbrev pub field_annotated : Field → List TypedAnnotation
+field_annotated f = field_annotations (set_of (schema_of f)) (number_of (schema_of f)) (index_of f)
+
+-- the tree of its default, null for a default that has no words
+abbrev pub default_behind : Field → Tree
+default_behind f = default_tree (default_of (typed_of f).field)
+
+-- two fields of one place: of schemas of one number, with one index
+abbrev pub HaveOnePlace : (f g : Field) → Type 0
+HaveOnePlace f g = (number_of (schema_of f) ≡ number_of (schema_of g)) × (index_of f ≡ index_of g)
 
 -- field i of a struct
 pub record IsFieldOf (s : StructSchema) (i : ℕ) (f : Field) : Type 0 where

@@ -1,11 +1,10 @@
 pub mod Accepted
 pub mod Annotated
 pub mod AnnotationLists
-pub mod Annotations
 pub mod Broken
 pub mod BrokenLaw
 pub mod Builtin
-pub mod Counts
+pub mod Checking
 pub mod Defaults
 pub mod Discriminant
 pub mod Entries
@@ -18,10 +17,6 @@ pub mod Footprint
 pub mod GroupsDown
 pub mod Laws
 pub mod Layers
-pub mod Lengths
-pub mod Levels
-pub mod ListDefaults
-pub mod Marks
 pub mod Named
 pub mod Names
 pub mod Parents
@@ -31,10 +26,8 @@ pub mod Ranges
 pub mod Schema
 pub mod SlotBits
 pub mod SlotValue
-pub mod Spans
 pub mod StructHandles
 pub mod Tables
 pub mod Tests
 pub mod Types
-pub mod Values
 pub mod Views

@@ -1,7 +1,7 @@
 -- Which brand each group field names, and which field names each group brand.
 use Rattle.std.specs.Prelude.{ℕ, ◌<◌, ◌≤◌, ◌≡◌, Bool, true, false, List, length, get_or, slice_get, Option, Some, None}
 use Rattle.capnp_schema.specs.Types.{SchemaType, struct_brand}
-use Rattle.capnp_schema.specs.Schema.{Schemas, FieldKind, Slot, Group, TypedField, fields_of}
+use Rattle.capnp_schema.specs.Schema.{Schemas, FieldKind, Slot, Group, TypedField, fields_of, node_of}
 use Rattle.capnp_schema.specs.Accepted.{EndsAtStruct, IsGroupBrand}
 
 abbrev pub kind_target : FieldKind → SchemaType → Option ℕ
@@ -19,6 +19,10 @@ group_target set b i = entry_target (slice_get (fields_of set b) i)
 -- each group field names a group that is there
 abbrev pub TargetsAreGroups : Schemas → Type 0
 TargetsAreGroups set = (b i g : ℕ) → group_target set b i ≡ Some g → (g < length set.brands) × IsGroupBrand set g
+
+-- two brands have sections of the same sizes
+abbrev pub HaveSameSizes : Schemas → (a b : ℕ) → Type 0
+HaveSameSizes set a b = ((node_of set a).data_word_count ≡ (node_of set b).data_word_count) × ((node_of set a).pointer_count ≡ (node_of set b).pointer_count)
 
 -- a table of so many entries that names no parent
 pub record HasNoParents (table : List (Option (ℕ × ℕ))) (count : ℕ) : Type 0 where

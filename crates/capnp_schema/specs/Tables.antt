@@ -14,11 +14,6 @@ pub record IsMemberTable (n : Node) (table : List ℕ) : Type 0 where
   pub same_length : length table ≡ n.discriminant_count
   pub each : (d i : ℕ) → slice_get table d ≡ Some i → member_of n.fields d ≡ Some i
 
--- the members have discriminant values below a count, and no two have one
-pub record AreApartBelow (fields : List Field) (count : ℕ) : Type 0 where
-  pub below : (k : ℕ) (f : Field) → slice_get fields k ≡ Some f → IsTrue (is_member f) → f.discriminant_value < count
-  pub once : (i j : ℕ) (f g : Field) → slice_get fields i ≡ Some f → slice_get fields j ≡ Some g → IsTrue (is_member f) → f.discriminant_value ≡ g.discriminant_value → i ≡ j
-
 -- a table in which a member's index is set at its discriminant value
 abbrev pub placed : (plain : Bool) → List ℕ → (value index : ℕ) → List ℕ
 placed true table value index = table

@@ -1,11 +1,11 @@
 -- The tests of the rules about single entries, as they compute.
-use Rattle.std.specs.Prelude.{ℕ, ◌+◌, ◌*◌, ◌==◌, ◌&&◌, ◌||◌, not, nat_lt, nat_le, Bool, true, false, length, Option, Some, None}
+use Rattle.std.specs.Prelude.{ℕ, ◌+◌, ◌*◌, ◌<◌, ◌==◌, ◌&&◌, ◌||◌, not, nat_lt, nat_le, Bool, true, false, length, Option, Some, None}
 use Rattle.capnp_base.specs.declared.introspect.TypeVariant.{TypeVariant}
 use Rattle.capnp_base.specs.declared.introspect.TypeVariant.TheVariants as variant
 use Rattle.capnp_schema.specs.Types.{SchemaType, VoidType, BoolType, IntType, UIntType, EnumType, TextType, DataType, StructType, ListType, AnyPointerType, seen_type, is_pointer, width}
-use Rattle.capnp_schema.specs.Schema.{Schemas, Node, Brand, FieldKind, Slot, Group, Value, VoidValue, BoolValue, IntValue, UIntValue, EnumValue, TextValue, DataValue, StructValue, ListValue, AnyPointerValue, TypedField}
+use Rattle.capnp_schema.specs.Schema.{Schemas, field_at, fields_of, node_of, Node, Brand, FieldKind, Slot, Group, Value, VoidValue, BoolValue, IntValue, UIntValue, EnumValue, TextValue, DataValue, StructValue, ListValue, AnyPointerValue, TypedField}
 use Rattle.capnp_schema.specs.Entries.{brand_entry, brand_node}
-use Rattle.capnp_schema.specs.Accepted.{EachField, NamesEntries, LiesInside, KindDefault, IsDefaultOf, GroupFits, Rule4, Rule5, Rule7}
+use Rattle.capnp_schema.specs.Accepted.{FieldsName, NamesEntries, LiesInside, KindDefault, IsDefaultOf, GroupFits, Rule4, Rule5, Rule7}
 
 -- what one layer of a type stands for
 abbrev pub seen_variant : TypeVariant → SchemaType
@@ -121,9 +121,16 @@ pub record FieldStands (set : Schemas) (n : Node) (f : TypedField) : Type 0 wher
   pub default : KindDefault IsDefaultOf f.field.kind f.type
   pub group : GroupFits set f.field.kind f.type
 
--- of each field
+-- of a field of a brand, and of each
+abbrev pub FieldStandsAt : Schemas → (b i : ℕ) → Type 0
+FieldStandsAt set b i = FieldStands set (node_of set b) (field_at set b i)
+
+abbrev pub FieldsStandIn : Schemas → ℕ → Type 0
+FieldsStandIn set b = (i : ℕ) → i < length (fields_of set b) → FieldStandsAt set b i
+
+-- of each field of a set
 pub record FieldsStand (set : Schemas) : Type 0 where
-  pub types : EachField set (λ b i f. NamesEntries set f.type)
+  pub types : FieldsName set
   pub rule4 : Rule4 set
   pub rule5 : Rule5 set
   pub rule7 : Rule7 set

@@ -51,7 +51,9 @@ impl Model for SchemaSet {
 /// The tables of fields by name, of lists that meet the twelve rules. A refusal names a rule that is broken and where, or
 /// is for memory.
 fn check(alloc: Global, lists: &Lists) -> Result<Vec<Vec<u16>>>
-    ensures { MatchResult result (λ tables. IsAccepted (lists_seen lists.now) × AreNameTables (lists_seen lists.now) tables.items) (IsRefusalOf (lists_seen lists.now)) }
+    ensures { MatchResult result
+        (λ tables. IsAccepted (lists_seen lists.now) × AreNameTables (lists_seen lists.now) tables.items)
+        (IsRefusalOf (lists_seen lists.now)) }
 {
     let by_name = check_names(alloc, lists)?;
     check_lengths(lists)?;

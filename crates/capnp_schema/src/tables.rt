@@ -4,8 +4,8 @@ ghost use Rattle.capnp_device.specs.declared.error.ErrorKind.TheVariants.{OutOfM
 ghost use Rattle.capnp_schema.specs.Schema.{node_at, seen_field, seen_node};
 ghost use Rattle.capnp_schema.specs.Entries.{lists_seen};
 ghost use Rattle.capnp_schema.specs.Query.{indices_from, keep_index, is_plain};
-ghost use Rattle.capnp_schema.specs.Accepted.{HasEachMember, IsAccepted};
-ghost use Rattle.capnp_schema.specs.Tables.{AreApartBelow, AreMemberTables, AreNameTables, ArePlaced, ArePlainTables, AreTables, IsMemberTable, placed};
+ghost use Rattle.capnp_schema.specs.Accepted.{AreApartBelow, HasEachMember, IsAccepted};
+ghost use Rattle.capnp_schema.specs.Tables.{AreMemberTables, AreNameTables, ArePlaced, ArePlainTables, AreTables, IsMemberTable, placed};
 
 mod empty;
 

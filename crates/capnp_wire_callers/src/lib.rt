@@ -38,6 +38,10 @@ pub mod path;
 #[cfg(test)]
 mod pointer_tests;
 #[cfg(test)]
+mod same_tree_tests;
+#[cfg(test)]
+mod size_tests;
+#[cfg(test)]
 mod stream_tests;
 #[cfg(test)]
 mod struct_list_tests;

@@ -25,10 +25,7 @@ All-entry P xs i x all e = subst P (get_or_from_slice_get xs i x x e) (all i x (
 -- what holds of all nodes holds of a brand's
 pub of_node : (set : Schemas) → IsAccepted set → (P : Node → Type 0) → All P set.nodes → (b : ℕ) → b < length set.brands → P (node_of set b)
 of_node set accepted P all b b_in =
-    All-entry P set.nodes (brand_at set b).node (node_of set b) all (entry-some set.nodes (brand_at set b).node no_node inside)
-  where
-    inside : (brand_at set b).node < length set.nodes
-    inside = All-entry (λ (x : Brand). x.node < length set.nodes) set.brands b (brand_at set b) accepted.rule2.node (entry-some set.brands b (no_brand set) b_in)
+    All-entry P set.nodes (brand_at set b).node (node_of set b) all (entry-some set.nodes (brand_at set b).node no_node (accepted.rule2.brands b b_in).node)
 
 pub typed-field : (fs : List Field) (ts : List SchemaType) (i : ℕ) → i < length (typed fs ts) → slice_get fs i ≡ Some (unwrap_or (slice_get (typed fs ts) i) no_field).field
 typed-field [] ts i a = absurd (omega arith)
@@ -44,8 +41,7 @@ of_field P set b i i_in all = All-entry P (node_of set b).fields i (field_at set
 pub member_counted : (set : Schemas) → IsAccepted set → (b i : ℕ) → b < length set.brands → i < length (fields_of set b) → IsTrue (is_member (field_at set b i).field) →
     (field_at set b i).field.discriminant_value < (node_of set b).discriminant_count
 member_counted set accepted b i b_in i_in member =
-    All-entry (λ (f : Field). IsTrue (is_member f) → f.discriminant_value < (node_of set b).discriminant_count) (node_of set b).fields i (field_at set b i).field
-    (of_node set accepted HasEachMember accepted.rule9 b b_in).below (typed-field (node_of set b).fields (brand_at set b).field_types i i_in) member
+    (of_node set accepted HasEachMember accepted.rule9 b b_in).apart.below i (field_at set b i).field (typed-field (node_of set b).fields (brand_at set b).field_types i i_in) member
 
 -- a field of a brand shows that the brand is there
 pub brand_there : (set : Schemas) (b i : ℕ) → i < length (fields_of set b) → b < length set.brands

@@ -5,9 +5,10 @@ ghost use Rattle.std.specs.Option.{option_copied, option_map};
 ghost use Rattle.capnp_schema.specs.Types.{seen_type};
 ghost use Rattle.capnp_schema.specs.Schema.{Brand, Enum, seen_types};
 ghost use Rattle.capnp_schema.specs.Entries.{lists_seen};
-ghost use Rattle.capnp_schema.specs.Accepted.{NamesEntries, TypesName, Rule2, Rule3};
-ghost use Rattle.capnp_schema.specs.Broken.{EntryBreaks, IsRefusalOf};
-ghost use Rattle.capnp_schema.specs.Annotations.{seen_children, IsUnnamed, TypesStand};
+ghost use Rattle.capnp_schema.specs.Accepted.{NamesEntries, TypesName, Rule2, Rule3, BrandTypesName, EnumTypesName};
+ghost use Rattle.capnp_schema.specs.Broken.{IsRefusalOf};
+ghost use Rattle.capnp_schema.specs.Checking.Annotations.{seen_children, IsUnnamed, TypesStand};
+ghost use Rattle.capnp_schema.specs.Checking.Entry.{AllOrBroken};
 
 use crate::check::fields::{check_fields, names_entry};
 use crate::check::refusal::{WHOLE, refusal};
@@ -42,7 +43,7 @@ fn all_named(lists: &Lists, types: &[Type]) -> bool
 /// The first field or enumerant with an annotation whose type names no entry.
 fn unnamed_child(lists: &Lists, children: &[Vec<Type>]) -> Option<u16>
     requires { length children.now ≤ 65535 }
-    ensures { MatchOption result (All (All (NamesEntries (lists_seen lists.now))) (seen_children children.now)) (λ i. EntryBreaks (seen_children children.now) (All (NamesEntries (lists_seen lists.now))) i) }
+    ensures { AllOrBroken (seen_children children.now) (All (NamesEntries (lists_seen lists.now))) result }
 {
     for i in 0..children.len() {
         let Some(types) = child_at(children, i) else {
@@ -70,7 +71,7 @@ fn unnamed(lists: &Lists, types: &AnnotationTypes) -> Option<u16>
 fn check_brand_types(lists: &Lists) -> Result<()>
     requires rule2 { Rule2 (lists_seen lists.now) }
     requires rule3 { Rule3 (lists_seen lists.now) }
-    ensures { MatchResult result (λ _. All (λ (b : Brand). TypesName (lists_seen lists.now) b.annotation_types) (lists_seen lists.now).brands) (IsRefusalOf (lists_seen lists.now)) }
+    ensures { MatchResult result (λ _. BrandTypesName (lists_seen lists.now)) (IsRefusalOf (lists_seen lists.now)) }
 {
     for brand in 0..lists.brands.len() {
         let Some(entry) = lists.brand_at(brand) else {
@@ -87,7 +88,7 @@ fn check_brand_types(lists: &Lists) -> Result<()>
 fn check_enum_types(lists: &Lists) -> Result<()>
     requires rule2 { Rule2 (lists_seen lists.now) }
     requires rule3 { Rule3 (lists_seen lists.now) }
-    ensures { MatchResult result (λ _. All (λ (e : Enum). TypesName (lists_seen lists.now) e.annotation_types) (lists_seen lists.now).enums) (IsRefusalOf (lists_seen lists.now)) }
+    ensures { MatchResult result (λ _. EnumTypesName (lists_seen lists.now)) (IsRefusalOf (lists_seen lists.now)) }
 {
     for e in 0..lists.enums.len() {
         let Some(entry) = lists.enum_at(e) else {

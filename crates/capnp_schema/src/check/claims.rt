@@ -1,7 +1,7 @@
 //! For rules 11 and 12: marks of the places that a tour of a struct's fields has named, and the times that are closed to what comes.
 ghost use Rattle.std.specs.Prelude.{true, false, ◌≡◌, ◌++◌, ◌∷◌, [], ℕ, ◌≤◌, ◌+◌, ◌^◌, length, get_or, IfOk, OnOk, IfErr};
 ghost use Rattle.capnp_device.specs.declared.error.ErrorKind.TheVariants.{OutOfMemory};
-ghost use Rattle.capnp_schema.specs.Levels.{AreOpen, AreInOrder, AreClaimed, IsClaimed};
+ghost use Rattle.capnp_schema.specs.Checking.Levels.{AreOpen, AreInOrder, AreClaimed, IsClaimed};
 
 use crate::check::spans::{Span, Spot};
 use capnp_wire::error::Result;
@@ -79,7 +79,7 @@ fn is_open(below: &[Level], top: Level, time: u32) -> bool
 }
 
 /// Adds marks that were never set, up to an end.
-#[tactic(auto, using(crate::proofs::LevelTimes::push_zero))]
+#[tactic(auto, using(crate::proofs::Checking::LevelTimes::push_zero))]
 fn lengthen(marks: &mut Vec<u32>, end: usize) -> Result<()>
     ensures same { OnOk result ((i : ℕ) → get_or marks.new.items i 0 ≡ get_or marks.old.items i 0) }
     ensures long { OnOk result (end ≤ length marks.new.items) }

@@ -1,10 +1,10 @@
 //! Rule 3: how many fields, enumerants and annotations there are, and that the names of a node's fields are distinct.
-ghost use Rattle.std.specs.Prelude.{◌≡◌, ◌<◌, ◌≤◌, ◌^◌, ◌↔◌, IsTrue, All, length, map, MatchOption, MatchResult};
+ghost use Rattle.std.specs.Prelude.{◌<◌, ◌^◌, ◌↔◌, IsTrue, map, MatchResult};
 ghost use Rattle.capnp_schema.specs.Schema.{Enumerant, Field, seen_enumerant, seen_field, seen_annotations};
 ghost use Rattle.capnp_schema.specs.Entries.{lists_seen};
-ghost use Rattle.capnp_schema.specs.Accepted.{HasFewAnnotations};
-ghost use Rattle.capnp_schema.specs.Broken.{EntryBreaks, IsRefusalOf};
-ghost use Rattle.capnp_schema.specs.Counts.{HasFewEnumerants, HasFewFields, HasSmallCounts, IsSoAt};
+ghost use Rattle.capnp_schema.specs.Accepted.{HasFewAnnotations, HasFewEnumerants, HasFewFields, HasSmallCounts};
+ghost use Rattle.capnp_schema.specs.Broken.{IsRefusalOf};
+ghost use Rattle.capnp_schema.specs.Checking.Entry.{IsSoAt, AllOrBroken};
 
 use crate::check::refusal::{WHOLE, refusal};
 use crate::lists::Lists;
@@ -23,7 +23,7 @@ fn are_few(annotations: &[AnnotationRecord]) -> bool
 
 /// A field with too many annotations.
 fn crowded_field(fields: &[FieldRecord]) -> Option<usize>
-    ensures { MatchOption result (All (λ (f : Field). HasFewAnnotations f.annotations) (map seen_field fields.now)) (EntryBreaks (map seen_field fields.now) (λ (f : Field). HasFewAnnotations f.annotations)) }
+    ensures { AllOrBroken (map seen_field fields.now) (λ (f : Field). HasFewAnnotations f.annotations) result }
 {
     for i in 0..fields.len() {
         if !are_few(&fields[i].annotations) {
@@ -35,7 +35,7 @@ fn crowded_field(fields: &[FieldRecord]) -> Option<usize>
 
 /// An enumerant with too many annotations.
 fn crowded_enumerant(enumerants: &[EnumerantRecord]) -> Option<usize>
-    ensures { MatchOption result (All (λ (x : Enumerant). HasFewAnnotations x.annotations) (map seen_enumerant enumerants.now)) (EntryBreaks (map seen_enumerant enumerants.now) (λ (x : Enumerant). HasFewAnnotations x.annotations)) }
+    ensures { AllOrBroken (map seen_enumerant enumerants.now) (λ (x : Enumerant). HasFewAnnotations x.annotations) result }
 {
     for i in 0..enumerants.len() {
         if !are_few(&enumerants[i].annotations) {

@@ -1,12 +1,12 @@
 //! Rules 1, 4, 5 and 7 of fields: a field's type names an existing entry, its slot lies inside its section, its default is
 //! of its type's kind, and groups are named by group fields alone.
-ghost use Rattle.std.specs.Prelude.{ℕ, ◌≡◌, ◌<◌, length, MatchResult};
+ghost use Rattle.std.specs.Prelude.{◌≡◌, ◌<◌, length, MatchResult};
 ghost use Rattle.capnp_schema.specs.Types.{seen_type};
-ghost use Rattle.capnp_schema.specs.Schema.{seen_node, seen_kind, seen_value, node_of, fields_of, field_at};
+ghost use Rattle.capnp_schema.specs.Schema.{seen_node, seen_kind, seen_value, fields_of};
 ghost use Rattle.capnp_schema.specs.Entries.{lists_seen, brand_entry};
 ghost use Rattle.capnp_schema.specs.Accepted.{Rule3};
 ghost use Rattle.capnp_schema.specs.Broken.{IsRefusalOf};
-ghost use Rattle.capnp_schema.specs.Tests.{seen_variant, variant_is_named, variant_is_no_group, slot_is_inside, brand_is, is_named, is_inside, is_default, kind_is_default, names_no_group, is_group_type, group_fits, FieldStands, FieldsStand};
+ghost use Rattle.capnp_schema.specs.Tests.{seen_variant, variant_is_named, variant_is_no_group, slot_is_inside, brand_is, is_named, is_inside, is_default, kind_is_default, names_no_group, is_group_type, group_fits, FieldsStand, FieldStandsAt, FieldsStandIn};
 
 use crate::check::groups::is_group;
 use crate::check::refusal::refusal;
@@ -143,7 +143,7 @@ fn check_field(lists: &Lists, brand: usize, i: usize) -> Result<()>
     requires rule3 { Rule3 (lists_seen lists.now) }
     requires brand_in { brand < length (lists_seen lists.now).brands }
     requires field_in { i < length (fields_of (lists_seen lists.now) brand) }
-    ensures { MatchResult result (λ _. FieldStands (lists_seen lists.now) (node_of (lists_seen lists.now) brand) (field_at (lists_seen lists.now) brand i)) (IsRefusalOf (lists_seen lists.now)) }
+    ensures { MatchResult result (λ _. FieldStandsAt (lists_seen lists.now) brand i) (IsRefusalOf (lists_seen lists.now)) }
 {
     let Some(node) = lists.node_of(brand) else {
         return Ok(());
@@ -171,7 +171,7 @@ fn check_field(lists: &Lists, brand: usize, i: usize) -> Result<()>
 fn check_fields_of(lists: &Lists, brand: usize) -> Result<()>
     requires rule3 { Rule3 (lists_seen lists.now) }
     requires brand_in { brand < length (lists_seen lists.now).brands }
-    ensures { MatchResult result (λ _. (i : ℕ) → i < length (fields_of (lists_seen lists.now) brand) → FieldStands (lists_seen lists.now) (node_of (lists_seen lists.now) brand) (field_at (lists_seen lists.now) brand i)) (IsRefusalOf (lists_seen lists.now)) }
+    ensures { MatchResult result (λ _. FieldsStandIn (lists_seen lists.now) brand) (IsRefusalOf (lists_seen lists.now)) }
 {
     for i in 0..lists.field_count(brand) {
         check_field(lists, brand, i)?;

@@ -1,10 +1,11 @@
 //! Rules 11 and 12: a plain field's footprint meets that of no other field of its struct, and the discriminant meets none.
-ghost use Rattle.std.specs.Prelude.{true, false, ◌≡◌, ◌<◌, ◌≤◌, ◌↔◌, ℕ, IsTrue, IsFalse, length, MatchOption, MatchResult, IfSome, IfErr};
+ghost use Rattle.std.specs.Prelude.{true, false, ◌<◌, ◌↔◌, IsTrue, IsFalse, length, MatchResult, IfSome, IfErr};
 ghost use Rattle.capnp_schema.specs.Schema.{fields_of, field_at, is_member};
 ghost use Rattle.capnp_schema.specs.Entries.{lists_seen};
-ghost use Rattle.capnp_schema.specs.Accepted.{FieldsApart, DiscriminantApart, Rule3, Rule11, Rule12};
-ghost use Rattle.capnp_schema.specs.Broken.{FieldBreaks, IsRefusalOf};
-ghost use Rattle.capnp_schema.specs.Spans.{AreSpansOf, IsNamedBy, seen_spot};
+ghost use Rattle.capnp_schema.specs.Accepted.{Rule3, Rule11, Rule12};
+ghost use Rattle.capnp_schema.specs.Broken.{IsRefusalOf};
+ghost use Rattle.capnp_schema.specs.Checking.Spans.{AreSpansOf, IsNamedBy, seen_spot};
+ghost use Rattle.capnp_schema.specs.Checking.Meetings.{IsMeetingField, IsDiscriminantField};
 
 use crate::check::groups::brand_count;
 use crate::check::refusal::refusal;
@@ -31,7 +32,7 @@ fn is_plain(lists: &Lists, brand: usize, field: usize) -> bool
 fn meeting_field(lists: &Lists, brand: usize, spans: &[Vec<Span>]) -> Option<usize>
     requires within { brand < length (lists_seen lists.now).brands }
     requires spans { AreSpansOf (lists_seen lists.now) brand spans.now }
-    ensures { MatchOption result ((i : ℕ) → i < length (fields_of (lists_seen lists.now) brand) → FieldsApart (lists_seen lists.now) brand i (field_at (lists_seen lists.now) brand i)) (λ i. FieldBreaks (lists_seen lists.now) (FieldsApart (lists_seen lists.now) brand i) brand i) }
+    ensures { IsMeetingField (lists_seen lists.now) brand result }
 {
     for i in 0..spans.len() {
         if is_plain(lists, brand, i) {
@@ -49,7 +50,7 @@ fn meeting_field(lists: &Lists, brand: usize, spans: &[Vec<Span>]) -> Option<usi
 fn discriminant_field(lists: &Lists, brand: usize, spans: &[Vec<Span>]) -> Option<usize>
     requires within { brand < length (lists_seen lists.now).brands }
     requires spans { AreSpansOf (lists_seen lists.now) brand spans.now }
-    ensures { MatchOption result ((i : ℕ) → i < length (fields_of (lists_seen lists.now) brand) → DiscriminantApart (lists_seen lists.now) brand (field_at (lists_seen lists.now) brand i)) (λ i. FieldBreaks (lists_seen lists.now) (DiscriminantApart (lists_seen lists.now) brand) brand i) }
+    ensures { IsDiscriminantField (lists_seen lists.now) brand result }
 {
     let Some(node) = lists.node_of(brand) else {
         return None;

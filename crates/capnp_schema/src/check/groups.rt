@@ -1,11 +1,11 @@
 //! Rule 8: each group stands under one field, has its parent's section sizes, and stands in a struct.
-ghost use Rattle.std.specs.Prelude.{true, false, ◌≡◌, ℕ, ◌<◌, ◌↔◌, IsTrue, IfOk, IfErr, length, get_or, slice_get, MatchResult};
+ghost use Rattle.std.specs.Prelude.{true, false, ◌≡◌, ◌<◌, ◌↔◌, IsTrue, IfOk, IfErr, length, get_or, slice_get, MatchResult};
 ghost use Rattle.capnp_device.specs.declared.error.ErrorKind.TheVariants.{OutOfMemory};
 ghost use Rattle.capnp_schema.specs.Schema.{node_of};
 ghost use Rattle.capnp_schema.specs.Entries.{brand_node, lists_seen};
 ghost use Rattle.capnp_schema.specs.Accepted.{Rule1, Rule7, Rule8, GroupStands, IsGroupBrand};
 ghost use Rattle.capnp_schema.specs.Broken.{IsRefusalOf};
-ghost use Rattle.capnp_schema.specs.Parents.{group_target, TargetsAreGroups, HasNoParents, IsParentTable, entry_in, StandsInStruct, AreKnown};
+ghost use Rattle.capnp_schema.specs.Parents.{group_target, TargetsAreGroups, HasNoParents, IsParentTable, entry_in, StandsInStruct, AreKnown, HaveSameSizes};
 ghost use Rattle.capnp_schema.specs.Tests.{node_is_group};
 
 use crate::check::refusal::{WHOLE, refusal};
@@ -77,7 +77,7 @@ fn pointers(lists: &Lists, brand: usize) -> u16
 fn has_same_sizes(lists: &Lists, a: usize, b: usize) -> bool
     requires a_in { a < length (lists_seen lists.now).brands }
     requires b_in { b < length (lists_seen lists.now).brands }
-    ensures { IsTrue result ↔ ((node_of (lists_seen lists.now) a).data_word_count ≡ (node_of (lists_seen lists.now) b).data_word_count) × ((node_of (lists_seen lists.now) a).pointer_count ≡ (node_of (lists_seen lists.now) b).pointer_count) }
+    ensures { IsTrue result ↔ HaveSameSizes (lists_seen lists.now) a b }
 {
     data_words(lists, a) == data_words(lists, b) && pointers(lists, a) == pointers(lists, b)
 }

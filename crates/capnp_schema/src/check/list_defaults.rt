@@ -1,13 +1,13 @@
 //! Rule 6: a list default is read as the elements of its field's type.
-ghost use Rattle.std.specs.Prelude.{◌≡◌, ◌↔◌, All, IsOk, IsTrue, MatchResult};
+ghost use Rattle.std.specs.Prelude.{◌↔◌, All, IsOk, IsTrue, MatchResult};
 ghost use Rattle.capnp_wire.specs.Reading.{as_list};
 ghost use Rattle.capnp_schema.specs.Types.{element_size, seen_type};
 ghost use Rattle.capnp_schema.specs.Schema.{fields_of, seen_kind, seen_value};
 ghost use Rattle.capnp_schema.specs.Entries.{lists_seen};
-ghost use Rattle.capnp_schema.specs.Accepted.{EachField, KindDefault, ListReads, Rule3, root_of};
+ghost use Rattle.capnp_schema.specs.Accepted.{KindDefault, ListReads, Rule3, root_of, ListDefaultsRead};
 ghost use Rattle.capnp_schema.specs.Broken.{IsRefusalOf};
-ghost use Rattle.capnp_schema.specs.Counts.{IsSoAt};
-ghost use Rattle.capnp_schema.specs.ListDefaults.{LayerReads, ReadsDefault};
+ghost use Rattle.capnp_schema.specs.Checking.Entry.{IsSoAt};
+ghost use Rattle.capnp_schema.specs.Checking.ListDefaults.{LayerReads, ReadsDefault};
 
 use crate::check::refusal::refusal;
 use crate::lists::Lists;
@@ -17,7 +17,7 @@ use capnp_device::error::{Result, SchemaTable};
 use capnp_wire::PointerReader;
 
 /// Whether words hold null or a list that is read as such elements.
-#[tactic(auto, using(crate::proofs::ReadDefaults::one_level, crate::specs::Facts::Layers::elements_sized))]
+#[tactic(auto, using(crate::proofs::Checking::ReadDefaults::one_level, crate::specs::Facts::Layers::elements_sized))]
 fn are_read_as(words: &[u8], element: Type) -> bool
     ensures { IsTrue result ↔ IsOk (as_list (element_size (seen_type element)) (root_of words.now) 1) }
 {
@@ -84,7 +84,7 @@ fn check_brand_defaults(lists: &Lists, brand: usize) -> Result<()>
 /// Refuses the lists where a list default is not read as its type's elements, with rule 6.
 pub(crate) fn check_list_defaults(lists: &Lists) -> Result<()>
     requires { Rule3 (lists_seen lists.now) }
-    ensures { MatchResult result (λ _. EachField (lists_seen lists.now) (λ b i f. KindDefault ListReads f.field.kind f.type)) (IsRefusalOf (lists_seen lists.now)) }
+    ensures { MatchResult result (λ _. ListDefaultsRead (lists_seen lists.now)) (IsRefusalOf (lists_seen lists.now)) }
 {
     for b in 0..lists.brands.len() {
         check_brand_defaults(lists, b)?;

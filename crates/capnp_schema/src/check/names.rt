@@ -2,9 +2,8 @@
 ghost use Rattle.std.specs.Prelude.{◌≡◌, map, MatchResult};
 ghost use Rattle.capnp_schema.specs.Schema.{node_at, seen_field};
 ghost use Rattle.capnp_schema.specs.Entries.{lists_seen};
-ghost use Rattle.capnp_schema.specs.Accepted.{Rule3};
+ghost use Rattle.capnp_schema.specs.Accepted.{HasSmallCounts, Rule3};
 ghost use Rattle.capnp_schema.specs.Broken.{IsRefusalOf};
-ghost use Rattle.capnp_schema.specs.Counts.{HasSmallCounts};
 ghost use Rattle.capnp_schema.specs.Names.{IsNameTable};
 ghost use Rattle.capnp_schema.specs.Tables.{AreNameTables};
 
@@ -56,7 +55,9 @@ fn name_tables(alloc: Global, lists: &Lists) -> Result<Vec<Vec<u16>>>
 /// one name, where a node has more than 65,535 fields or an enum more than 65,535 enumerants, and where 2^29 annotations
 /// or more stand at one place.
 pub(crate) fn check_names(alloc: Global, lists: &Lists) -> Result<Vec<Vec<u16>>>
-    ensures { MatchResult result (λ tables. Rule3 (lists_seen lists.now) × AreNameTables (lists_seen lists.now) tables.items) (IsRefusalOf (lists_seen lists.now)) }
+    ensures { MatchResult result
+        (λ tables. Rule3 (lists_seen lists.now) × AreNameTables (lists_seen lists.now) tables.items)
+        (IsRefusalOf (lists_seen lists.now)) }
 {
     check_counts(lists)?;
     let tables = name_tables(alloc, lists)?;

@@ -1,11 +1,11 @@
 //! Footprints for rules 11 and 12: the data bits and pointers that fields name, as spans.
-ghost use Rattle.std.specs.Prelude.{true, false, ◌≡◌, ◌<◌, ◌≤◌, ◌||◌, ℕ, suc, length, slice_get, OnOk, IfOk, IfErr};
+ghost use Rattle.std.specs.Prelude.{true, false, ◌≡◌, ◌<◌, length, OnOk, IfOk, IfErr};
 ghost use Rattle.capnp_device.specs.declared.error.ErrorKind.TheVariants.{OutOfMemory};
 ghost use Rattle.capnp_schema.specs.Types.{seen_type};
-ghost use Rattle.capnp_schema.specs.Schema.{seen_node, fields_of};
-ghost use Rattle.capnp_schema.specs.Footprint.{Place, slot_names, discriminant_names, some_field, brand_names};
+ghost use Rattle.capnp_schema.specs.Schema.{seen_node};
+ghost use Rattle.capnp_schema.specs.Footprint.{Place, slot_names, discriminant_names};
 ghost use Rattle.capnp_schema.specs.Entries.{lists_seen};
-ghost use Rattle.capnp_schema.specs.Spans.{span_names, some_span, field_names, entry_names, SpansMeet, AreSpansOf, reached, seen_spot};
+ghost use Rattle.capnp_schema.specs.Checking.Spans.{span_names, some_span, SpansMeet, AreSpansOf, seen_spot, AddsBrand, AddsBrands, AddsField, AddsFields, AreSpansAt};
 
 use crate::check::groups::brand_count;
 use crate::layers::{is_pointer, struct_brand, width};
@@ -127,7 +127,7 @@ pub(crate) fn spans_meet(a: &[Span], b: &[Span]) -> bool
 
 /// Adds what a brand's discriminant and slots name, and to `below` the brands that its group fields name.
 fn add_brand(lists: &Lists, brand: usize, below: &mut Vec<usize>, out: &mut Vec<Span>) -> Result<()>
-    ensures added { OnOk result ((groups : ℕ) (p : Place) → reached groups (lists_seen lists.now) out.new.items below.new.items p ≡ (reached groups (lists_seen lists.now) out.old.items below.old.items p || brand_names (suc groups) (lists_seen lists.now) brand p)) }
+    ensures added { OnOk result (AddsBrand (lists_seen lists.now) brand (out.old.items, below.old.items) (out.new.items, below.new.items)) }
     ensures refused { IfErr result (λ e. e.kind ≡ OutOfMemory) }
 {
     add_fields(lists, brand, below, out)?;
@@ -144,7 +144,7 @@ fn add_fields(
     below: &mut Vec<usize>,
     out: &mut Vec<Span>,
 ) -> Result<()>
-    ensures added { OnOk result ((groups : ℕ) (p : Place) → reached groups (lists_seen lists.now) out.new.items below.new.items p ≡ (reached groups (lists_seen lists.now) out.old.items below.old.items p || some_field (field_names groups (lists_seen lists.now)) (fields_of (lists_seen lists.now) brand) p)) }
+    ensures added { OnOk result (AddsFields (lists_seen lists.now) brand (out.old.items, below.old.items) (out.new.items, below.new.items)) }
     ensures refused { IfErr result (λ e. e.kind ≡ OutOfMemory) }
 {
     for i in 0..lists.field_count(brand) {
@@ -163,7 +163,7 @@ fn add_field(
     below: &mut Vec<usize>,
     out: &mut Vec<Span>,
 ) -> Result<()>
-    ensures added { OnOk result ((groups : ℕ) (p : Place) → reached groups (lists_seen lists.now) out.new.items below.new.items p ≡ (reached groups (lists_seen lists.now) out.old.items below.old.items p || entry_names groups (lists_seen lists.now) (slice_get (fields_of (lists_seen lists.now) brand) field) p)) }
+    ensures added { OnOk result (AddsField (lists_seen lists.now) brand field (out.old.items, below.old.items) (out.new.items, below.new.items)) }
     ensures refused { IfErr result (λ e. e.kind ≡ OutOfMemory) }
 {
     let Some(typed) = lists.field_at(brand, field) else {
@@ -191,7 +191,7 @@ fn add_brands(
     brands: &[usize],
     out: &mut Vec<Span>,
 ) -> Result<Vec<usize>>
-    ensures added { IfOk result (λ below. (groups : ℕ) (p : Place) → reached groups (lists_seen lists.now) out.new.items below.items p ≡ reached (suc groups) (lists_seen lists.now) out.old.items brands.now p) }
+    ensures added { IfOk result (λ below. AddsBrands (lists_seen lists.now) brands.now out.old.items (out.new.items, below.items)) }
     ensures refused { IfErr result (λ e. e.kind ≡ OutOfMemory) }
 {
     let mut below = Vec::new(alloc);
@@ -203,7 +203,7 @@ fn add_brands(
 
 /// What a field of a brand names, through its groups: these are gone through one depth after another.
 fn field_spans(alloc: Global, lists: &Lists, brand: usize, field: usize) -> Result<Vec<Span>>
-    ensures spans { IfOk result (λ spans. (p : Place) → some_span spans.items p ≡ entry_names (length (lists_seen lists.now).brands) (lists_seen lists.now) (slice_get (fields_of (lists_seen lists.now) brand) field) p) }
+    ensures spans { IfOk result (λ spans. AreSpansAt (lists_seen lists.now) brand field spans.items) }
     ensures refused { IfErr result (λ e. e.kind ≡ OutOfMemory) }
 {
     let mut spans = Vec::new(alloc);

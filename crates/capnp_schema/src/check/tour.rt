@@ -1,13 +1,13 @@
 //! Rules 11 and 12 by one tour of each struct through its groups.
-ghost use Rattle.std.specs.Prelude.{true, false, ◌≡◌, ◌++◌, ◌∷◌, [], ℕ, ◌<◌, ◌≤◌, ◌+◌, ◌^◌, ◌-◌, cond, length, Some, IfOk, IfErr, slice_get};
+ghost use Rattle.std.specs.Prelude.{true, false, ◌≡◌, [], ◌<◌, ◌≤◌, ◌+◌, ◌^◌, ◌-◌, cond, length, Some, IfOk, IfErr};
 ghost use Rattle.capnp_device.specs.declared.error.ErrorKind.TheVariants.{OutOfMemory};
-ghost use Rattle.capnp_schema.specs.Schema.{fields_of, field_at, is_member, seen_node, node_of};
-ghost use Rattle.capnp_schema.specs.Footprint.{Place, discriminant_names};
+ghost use Rattle.capnp_schema.specs.Schema.{fields_of, is_member};
+ghost use Rattle.capnp_schema.specs.Footprint.{Place};
 ghost use Rattle.capnp_schema.specs.Entries.{lists_seen};
 ghost use Rattle.capnp_schema.specs.Accepted.{Rule11, Rule12};
 ghost use Rattle.capnp_schema.specs.Parents.{group_target};
-ghost use Rattle.capnp_schema.specs.Spans.{span_names};
-ghost use Rattle.capnp_schema.specs.Levels.{member_at, Names, IsCurrent, IsCurrentGroup, TourStands, TourRests, StepStands, DoneStand};
+ghost use Rattle.capnp_schema.specs.Checking.Spans.{span_names};
+ghost use Rattle.capnp_schema.specs.Checking.Levels.{member_at, Names, IsCurrent, IsCurrentGroup, TourStands, TourRests, StepStands};
 ghost use Rattle.capnp_schema.specs.declared.check.tour.Step.TheVariants.{Ended};
 
 use crate::check::claims::{Claims, Level, Meeting};

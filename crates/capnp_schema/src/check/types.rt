@@ -1,12 +1,12 @@
 //! Rule 2: each brand names a node; brands and enums have one type for each field and each annotation.
-ghost use Rattle.std.specs.Prelude.{ℕ, ◌≡◌, ◌<◌, length, get_or, slice_get, All, MatchResult};
+ghost use Rattle.std.specs.Prelude.{◌≡◌, ◌<◌, length, get_or, slice_get, All, MatchResult};
 ghost use Rattle.std.specs.Bool.{Decides};
 ghost use Rattle.std.specs.Option.{option_copied};
 ghost use Rattle.capnp_schema.specs.Schema.{seen_node, seen_brand, seen_enum};
 ghost use Rattle.capnp_schema.specs.Entries.{lists_seen};
-ghost use Rattle.capnp_schema.specs.Accepted.{BrandHasTypes, EnumHasTypes, Rule2};
+ghost use Rattle.capnp_schema.specs.Accepted.{BrandHasTypes, BrandStands, EnumHasTypes, Rule2, BrandsStand};
 ghost use Rattle.capnp_schema.specs.Broken.{IsRefusalOf};
-ghost use Rattle.capnp_schema.specs.Lengths.{children_counts, field_counts, enumerant_counts, BrandStands};
+ghost use Rattle.capnp_schema.specs.Checking.Lengths.{children_counts, field_counts, enumerant_counts};
 
 use crate::check::refusal::{WHOLE, refusal};
 use crate::lists::Lists;
@@ -34,7 +34,7 @@ pub(crate) fn enumerant_in(enumerants: &[EnumerantRecord], i: usize) -> Option<&
     enumerants.get(i)
 }
 
-#[tactic(auto, using(crate::proofs::Lengths::types_at))]
+#[tactic(auto, using(crate::proofs::Checking::Lengths::types_at))]
 fn types_at(types: &[Vec<Type>], i: usize) -> usize
     ensures { result ≡ get_or (children_counts types.now) i 0 }
 {
@@ -44,7 +44,7 @@ fn types_at(types: &[Vec<Type>], i: usize) -> usize
     }
 }
 
-#[tactic(auto, using(crate::proofs::Lengths::fields_at))]
+#[tactic(auto, using(crate::proofs::Checking::Lengths::fields_at))]
 fn field_annotations(fields: &[FieldRecord], i: usize) -> usize
     ensures { result ≡ get_or (field_counts fields.now) i 0 }
 {
@@ -54,7 +54,7 @@ fn field_annotations(fields: &[FieldRecord], i: usize) -> usize
     }
 }
 
-#[tactic(auto, using(crate::proofs::Lengths::enumerants_at))]
+#[tactic(auto, using(crate::proofs::Checking::Lengths::enumerants_at))]
 fn enumerant_annotations(enumerants: &[EnumerantRecord], i: usize) -> usize
     ensures { result ≡ get_or (enumerant_counts enumerants.now) i 0 }
 {
@@ -135,7 +135,7 @@ fn check_brand(lists: &Lists, brand: usize) -> Result<()>
 }
 
 fn check_brands(lists: &Lists) -> Result<()>
-    ensures { MatchResult result (λ _. (b : ℕ) → b < length (lists_seen lists.now).brands → BrandStands (lists_seen lists.now) b) (IsRefusalOf (lists_seen lists.now)) }
+    ensures { MatchResult result (λ _. BrandsStand (lists_seen lists.now)) (IsRefusalOf (lists_seen lists.now)) }
 {
     for brand in 0..lists.brands.len() {
         check_brand(lists, brand)?;

@@ -1,13 +1,12 @@
 //! Rule 6: the words of defaults and of annotations' values.
-ghost use Rattle.std.specs.Prelude.{◌≡◌, ◌↔◌, All, IsTrue, MatchOption, MatchResult, None, map};
+ghost use Rattle.std.specs.Prelude.{◌≡◌, ◌↔◌, IsTrue, MatchResult, None, map};
 ghost use Rattle.capnp_wire.specs.Tree.{Null};
 ghost use Rattle.capnp_wire.specs.Words.{first_fault};
 ghost use Rattle.capnp_schema.specs.Schema.{Enumerant, Field, seen_annotations, seen_enumerant, seen_field, seen_value};
 ghost use Rattle.capnp_schema.specs.Entries.{lists_seen};
-ghost use Rattle.capnp_schema.specs.Accepted.{AreWords, Decodes, HasWords, HaveWords, IsListOrNull, IsStructOrNull, Rule3, Rule6, root_of};
-ghost use Rattle.capnp_schema.specs.Broken.{EntryBreaks, IsRefusalOf};
-ghost use Rattle.capnp_schema.specs.Counts.{IsSoAt};
-ghost use Rattle.capnp_schema.specs.Values.{DefaultStands, EnumHasWords, HaveAllWords, NodeHasWords};
+ghost use Rattle.capnp_schema.specs.Accepted.{AreWords, Decodes, DefaultStands, EachOfEnum, HasWords, HaveAllWords, HaveWords, IsListOrNull, IsStructOrNull, NodeHasWords, Rule3, Rule6, root_of};
+ghost use Rattle.capnp_schema.specs.Broken.{IsRefusalOf};
+ghost use Rattle.capnp_schema.specs.Checking.Entry.{IsSoAt, AllOrBroken};
 
 use crate::check::list_defaults::check_list_defaults;
 use crate::check::refusal::{WHOLE, refusal};
@@ -110,7 +109,7 @@ fn default_stands(field: &FieldRecord) -> bool
 
 /// A field whose default does not stand.
 fn broken_default(fields: &[FieldRecord]) -> Option<usize>
-    ensures { MatchOption result (All DefaultStands (map seen_field fields.now)) (EntryBreaks (map seen_field fields.now) DefaultStands) }
+    ensures { AllOrBroken (map seen_field fields.now) DefaultStands result }
 {
     for i in 0..fields.len() {
         if !default_stands(&fields[i]) {
@@ -122,7 +121,7 @@ fn broken_default(fields: &[FieldRecord]) -> Option<usize>
 
 /// A field with an annotation whose words are not whole.
 fn wordless_field(fields: &[FieldRecord]) -> Option<usize>
-    ensures { MatchOption result (All (λ (f : Field). HaveWords f.annotations) (map seen_field fields.now)) (EntryBreaks (map seen_field fields.now) (λ (f : Field). HaveWords f.annotations)) }
+    ensures { AllOrBroken (map seen_field fields.now) (λ (f : Field). HaveWords f.annotations) result }
 {
     for i in 0..fields.len() {
         if !have_words(&fields[i].annotations) {
@@ -134,7 +133,7 @@ fn wordless_field(fields: &[FieldRecord]) -> Option<usize>
 
 /// An enumerant with an annotation whose words are not whole.
 fn wordless_enumerant(enumerants: &[EnumerantRecord]) -> Option<usize>
-    ensures { MatchOption result (All (λ (x : Enumerant). HaveWords x.annotations) (map seen_enumerant enumerants.now)) (EntryBreaks (map seen_enumerant enumerants.now) (λ (x : Enumerant). HaveWords x.annotations)) }
+    ensures { AllOrBroken (map seen_enumerant enumerants.now) (λ (x : Enumerant). HaveWords x.annotations) result }
 {
     for i in 0..enumerants.len() {
         if !have_words(&enumerants[i].annotations) {
@@ -165,7 +164,7 @@ fn check_node_words(lists: &Lists, entry: usize) -> Result<()>
 
 fn check_enum_words(lists: &Lists, entry: usize) -> Result<()>
     requires { Rule3 (lists_seen lists.now) }
-    ensures { MatchResult result (λ _. IsSoAt (lists_seen lists.now).enums EnumHasWords entry) (IsRefusalOf (lists_seen lists.now)) }
+    ensures { MatchResult result (λ _. IsSoAt (lists_seen lists.now).enums (EachOfEnum HaveWords) entry) (IsRefusalOf (lists_seen lists.now)) }
 {
     let Some(schema) = lists.enum_at(entry) else {
         return Ok(());

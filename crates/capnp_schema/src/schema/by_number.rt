@@ -26,7 +26,8 @@ impl SchemaSet {
     /// The schema of the struct or group of a brand number, as a struct type and the place of a group have it. None past
     /// the last brand.
     pub fn get_struct(&self, number: u32) -> Option<StructSchema<'_>>
-        ensures { MatchOption result (length (lists_seen self.now).brands ≤ number) (λ s. IsStruct s × (set_of s ≡ lists_seen self.now) × (number_of s ≡ number)) }
+        ensures { MatchOption result (length (lists_seen self.now).brands ≤ number)
+            (λ s. IsStruct s × (set_of s ≡ lists_seen self.now) × (number_of s ≡ number)) }
     {
         if (number as usize) < self.brands().len() {
             return Some(self.struct_schema(number));
@@ -49,7 +50,8 @@ impl SchemaSet {
 
     /// The schema of the enum of a number, as an enum type has it. None past the last enum.
     pub fn get_enum(&self, number: u32) -> Option<EnumSchema<'_>>
-        ensures { MatchOption result (length (lists_seen self.now).enums ≤ number) (λ e. IsEnum e × (enum_set e ≡ lists_seen self.now) × (enum_number e ≡ number)) }
+        ensures { MatchOption result (length (lists_seen self.now).enums ≤ number)
+            (λ e. IsEnum e × (enum_set e ≡ lists_seen self.now) × (enum_number e ≡ number)) }
     {
         if (number as usize) < self.enums().len() {
             return Some(self.enum_schema(number));

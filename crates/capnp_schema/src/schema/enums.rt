@@ -1,9 +1,9 @@
 //! Enums of a set, and their enumerants.
-ghost use Rattle.std.specs.Prelude.{◌≡◌, ◌<◌, ◌≤◌, length};
+ghost use Rattle.std.specs.Prelude.{◌≡◌, ◌<◌, length};
 ghost use Rattle.capnp_schema.specs.Entries.{lists_seen};
 ghost use Rattle.capnp_schema.specs.Annotated.{enumerant_at};
 ghost use Rattle.capnp_schema.specs.Enums.{enum_in, enum_number, enum_set};
-ghost use Rattle.capnp_schema.specs.Schema.{enum_at, seen_enumerant};
+ghost use Rattle.capnp_schema.specs.Schema.{seen_enumerant};
 
 use crate::record::{EnumRecord, EnumerantRecord};
 use crate::schema::annotations::AnnotationList;
@@ -97,9 +97,9 @@ pub struct Enumerant<'s> {
 
 impl<'s> Enumerant<'s> {
     ghost use Rattle.std.specs.Prelude.{IsOkAnd};
-    ghost use Rattle.capnp_schema.specs.Annotated.{annotations_of, enumerant_annotations};
+    ghost use Rattle.capnp_schema.specs.Annotated.{annotations_of};
     ghost use Rattle.capnp_schema.specs.AnnotationLists.{annotations_in, annotations_set};
-    ghost use Rattle.capnp_schema.specs.Enumerants.{containing_enum, enumerant_in, ordinal_of};
+    ghost use Rattle.capnp_schema.specs.Enumerants.{containing_enum, enumerant_annotated, enumerant_in, ordinal_of};
     ghost use Rattle.capnp_schema.specs.Enums.{enum_number, enum_set};
 
     /// The enum that it is an enumerant of.
@@ -125,7 +125,7 @@ impl<'s> Enumerant<'s> {
 
     /// Its annotations, each with its type. The answer is always Ok.
     pub fn get_annotations(self) -> Result<AnnotationList<'s>>
-        ensures typed { IsOkAnd result (λ list. annotations_in list ≡ enumerant_annotations (enum_set (containing_enum self.entry)) (enum_number (containing_enum self.entry)) (ordinal_of self.entry)) }
+        ensures typed { IsOkAnd result (λ list. annotations_in list ≡ enumerant_annotated self.entry) }
         ensures whole { IsOkAnd result (λ list. annotations_of (annotations_in list) ≡ (enumerant_in self.entry).annotations) }
         ensures set { IsOkAnd result (λ list. annotations_set list ≡ enum_set (containing_enum self.entry)) }
     {

@@ -46,7 +46,7 @@ impl<'s> Field<'s> {
     ghost use Rattle.capnp_schema.specs.StructHandles.{IsStruct, number_of};
     ghost use Rattle.capnp_schema.specs.Annotated.{annotations_of, field_annotations};
     ghost use Rattle.capnp_schema.specs.AnnotationLists.{annotations_in, annotations_set};
-    ghost use Rattle.capnp_schema.specs.FieldLists.{IsFieldOf, index_of, schema_of, typed_of};
+    ghost use Rattle.capnp_schema.specs.FieldLists.{IsFieldOf, index_of, schema_of, typed_of, default_behind, field_annotated};
 
     /// The field of an index, which is below the count of fields.
     pub(crate) fn new(schema: StructSchema<'s>, index: u16) -> Field<'s>
@@ -115,7 +115,7 @@ impl<'s> Field<'s> {
     /// The root pointer of the words of the field's default, with 64 levels; none for a default that has no words.
     #[tactic(auto, using(crate::proofs::Defaults::struct_view, crate::proofs::Defaults::list_view, crate::proofs::Defaults::untyped_view))]
     pub fn get_default_pointer(&self) -> Option<PointerReader<'s>>
-        ensures pointer { MatchOption result (default_tree (default_of (typed_of self.now).field) ≡ Null) (λ reader. (tree_of reader ≡ default_tree (default_of (typed_of self.now).field)) × (levels_of reader ≡ 64)) }
+        ensures pointer { MatchOption result (default_behind self.now ≡ Null) (λ reader. (tree_of reader ≡ default_behind self.now) × (levels_of reader ≡ 64)) }
         ensures fits { DefaultFits (typed_of self.now) }
     {
         match self.get_default() {
@@ -146,8 +146,8 @@ impl<'s> Field<'s> {
 
     /// Its annotations, each with its type in the brand. The answer is always Ok.
     pub fn get_annotations(self) -> Result<AnnotationList<'s>>
-        ensures typed { IsOkAnd result (λ list. annotations_in list ≡ field_annotations (set_of (schema_of self.entry)) (number_of (schema_of self.entry)) (index_of self.entry)) }
-        ensures whole { IsOkAnd result (λ list. annotations_of (annotations_in list) ≡ (struct_field (schema_of self.entry) (index_of self.entry)).field.annotations) }
+        ensures typed { IsOkAnd result (λ list. annotations_in list ≡ field_annotated self.entry) }
+        ensures whole { IsOkAnd result (λ list. annotations_of (annotations_in list) ≡ (typed_of self.entry).field.annotations) }
         ensures set { IsOkAnd result (λ list. annotations_set list ≡ set_of (schema_of self.entry)) }
     {
         Ok(AnnotationList::of_field(self.schema.set, self.schema.number, self.index))

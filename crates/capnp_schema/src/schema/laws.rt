@@ -3,7 +3,7 @@ ghost use Rattle.std.specs.Prelude.{◌≡◌, ◌↔◌, IsTrue};
 ghost use Rattle.capnp_schema.specs.Enumerants.{containing_enum, ordinal_of};
 ghost use Rattle.capnp_schema.specs.Enums.{enum_number};
 ghost use Rattle.capnp_schema.specs.StructHandles.{number_of};
-ghost use Rattle.capnp_schema.specs.FieldLists.{index_of, schema_of};
+ghost use Rattle.capnp_schema.specs.FieldLists.{HaveOnePlace};
 
 use crate::schema::enums::{EnumSchema, Enumerant};
 use crate::schema::fields::Field;
@@ -20,7 +20,7 @@ pub fn equal_schemas_hash_equally<'s>(one: &StructSchema<'s>, another: &StructSc
 /// Fields are equal exactly where the numbers of their schemas and their indices are, and equal ones make the same writes
 /// to a hasher.
 pub fn equal_fields_hash_equally<'s>(one: &Field<'s>, another: &Field<'s>)
-    ensures place { IsTrue (⟦<Field<'s> as PartialEq>⟧.eq one.now another.now) ↔ ((number_of (schema_of one.now) ≡ number_of (schema_of another.now)) × (index_of one.now ≡ index_of another.now)) }
+    ensures place { IsTrue (⟦<Field<'s> as PartialEq>⟧.eq one.now another.now) ↔ HaveOnePlace one.now another.now }
     ensures hash { IsTrue (⟦<Field<'s> as PartialEq>⟧.eq one.now another.now)
         → ⟦<Field<'s> as Hash>⟧.hash_input one.now ≡ ⟦<Field<'s> as Hash>⟧.hash_input another.now }
 {}

@@ -58,7 +58,8 @@ fn index_at(indices: &[u16], i: usize) -> Option<u16>
 impl SchemaSet {
     /// The number of a brand's node, whose fields are the brand's. None past the last brand, where no fields are.
     fn node_number(&self, brand: u32) -> Option<usize>
-        ensures { MatchOption result (records_of (lists_seen self.now) brand ≡ []) (λ n. records_of (lists_seen self.now) brand ≡ (node_at (lists_seen self.now) n).fields) }
+        ensures { MatchOption result (records_of (lists_seen self.now) brand ≡ [])
+            (λ n. records_of (lists_seen self.now) brand ≡ (node_at (lists_seen self.now) n).fields) }
     {
         match self.lists.brand_at(brand as usize) {
             Some(record) => Some(record.node as usize),
@@ -159,7 +160,8 @@ impl SchemaSet {
     #[tactic(auto, using(crate::proofs::LookUps::plan_here))]
     pub(crate) fn plan(&self, brand: u32, field: u16) -> SlotPlan
         ensures is { result ≡ plan_of (lists_seen self.now) brand (field_at (lists_seen self.now) brand field) }
-        ensures stands { field < length (fields_of (lists_seen self.now) brand) → IsPlan (lists_seen self.now) brand (field_at (lists_seen self.now) brand field) result }
+        ensures stands { field < length (fields_of (lists_seen self.now) brand)
+            → IsPlan (lists_seen self.now) brand (field_at (lists_seen self.now) brand field) result }
         ensures group { field < length (fields_of (lists_seen self.now) brand) → IfGroup result.place (LeadsToGroup (lists_seen self.now) brand) }
     {
         plan_at(plans_at(&self.tables.plans, brand as usize), field as usize)

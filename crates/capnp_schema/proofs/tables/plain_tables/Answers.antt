@@ -9,7 +9,7 @@ use Rattle.capnp_schema.proofs.tables.plain_tables.Goals as goal
 
 pub plain_table-requires : goal.plain_table-requires
 plain_table-requires c =
-    let few = few_fields (lists_seen c.args.lists.now) c.requires.rule3.fields c.loop-n.n in
+    let few = few_fields (lists_seen c.args.lists.now) c.requires.rule3.counts c.loop-n.n in
     let n = length-map c.fields_at.result.now seen_field in
     let e = ap (λ fs. length fs) c.fields_at.ensures in
     omega arith

@@ -6,7 +6,7 @@ use Rattle.capnp_schema.specs.Accepted.{NamesEntries}
 use Rattle.capnp_schema.specs.Entries.{lists_seen}
 use Rattle.capnp_schema.proofs.Decided.{named_decides}
 use Rattle.capnp_schema.proofs.EntryWalk.{one_stands, all_stand}
-use Rattle.capnp_schema.proofs.AnnotationTypes.{not_all, all_hold}
+use Rattle.capnp_schema.proofs.Checking.AnnotationTypes.{not_all, all_hold}
 use Rattle.capnp_schema.proofs.check.annotations.all_named.Goals as goal
 
 pub returns-then-not-names_entry : goal.returns-then-not-names_entry

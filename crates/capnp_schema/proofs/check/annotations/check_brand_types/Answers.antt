@@ -6,7 +6,7 @@ use Rattle.capnp_schema.specs.Accepted.{TypesName}
 use Rattle.capnp_schema.specs.Entries.{lists_seen}
 use Rattle.capnp_schema.proofs.EntryWalk.{one_stands, all_stand}
 use Rattle.capnp_schema.proofs.FieldWalk.{refused}
-use Rattle.capnp_schema.proofs.AnnotationTypes.{brand_unnamed, few_brand_children, children_length}
+use Rattle.capnp_schema.proofs.Checking.AnnotationTypes.{brand_unnamed, few_brand_children, children_length}
 use Rattle.capnp_schema.proofs.check.annotations.check_brand_types.Goals as goal
 
 pub unnamed-requires : goal.unnamed-requires

@@ -1,5 +1,5 @@
 use Rattle.capnp_schema.specs.Entries.{lists_seen}
-use Rattle.capnp_schema.proofs.AnnotationTypes.{types_stand}
+use Rattle.capnp_schema.proofs.Checking.AnnotationTypes.{types_stand}
 use Rattle.capnp_schema.proofs.check.annotations.check_types.Goals as goal
 
 pub returns : goal.returns

@@ -1,7 +1,7 @@
 use Rattle.capnp_schema.specs.Schema.{seen_types}
-use Rattle.capnp_schema.specs.Annotations.{own}
+use Rattle.capnp_schema.specs.Checking.Annotations.{own}
 use Rattle.capnp_schema.specs.Entries.{lists_seen}
-use Rattle.capnp_schema.proofs.AnnotationTypes.{own_or_child, decided_at, decided_not, of_children}
+use Rattle.capnp_schema.proofs.Checking.AnnotationTypes.{own_or_child, decided_at, decided_not, of_children}
 use Rattle.capnp_schema.proofs.check.annotations.unnamed.Goals as goal
 
 pub returns-then-not-all_named : goal.returns-then-not-all_named

@@ -2,10 +2,10 @@ use Rattle.std.proofs.Common.{map, arith}
 use Rattle.std.specs.Prelude.{All}
 use Rattle.capnp_schema.specs.Types.{seen_type}
 use Rattle.capnp_schema.specs.Accepted.{NamesEntries}
-use Rattle.capnp_schema.specs.Annotations.{seen_children}
+use Rattle.capnp_schema.specs.Checking.Annotations.{seen_children}
 use Rattle.capnp_schema.specs.Entries.{lists_seen}
 use Rattle.capnp_schema.proofs.EntryWalk.{one_stands, all_stand, entry_breaks}
-use Rattle.capnp_schema.proofs.AnnotationTypes.{child_seen, children_length, decided_at, decided_not}
+use Rattle.capnp_schema.proofs.Checking.AnnotationTypes.{child_seen, children_length, decided_at, decided_not}
 use Rattle.capnp_schema.proofs.check.annotations.unnamed_child.Goals as goal
 
 pub returns-then-not-all_named : goal.returns-then-not-all_named

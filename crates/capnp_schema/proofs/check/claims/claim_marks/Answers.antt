@@ -1,5 +1,5 @@
 use Rattle.std.proofs.Common.{arith}
-use Rattle.capnp_schema.proofs.LevelTimes.{all_claimed}
+use Rattle.capnp_schema.proofs.Checking.LevelTimes.{all_claimed}
 use Rattle.capnp_schema.proofs.check.claims.claim_marks.Goals as goal
 
 pub returns : goal.returns

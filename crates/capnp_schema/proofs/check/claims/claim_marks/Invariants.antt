@@ -1,5 +1,5 @@
 use Rattle.std.proofs.Common.{◌++◌, ◌∷◌, []}
-use Rattle.capnp_schema.proofs.LevelTimes.{ClaimedTo}
+use Rattle.capnp_schema.proofs.Checking.LevelTimes.{ClaimedTo}
 use Rattle.capnp_schema.proofs.check.claims.claim_marks.Given as goal
 
 abbrev pub invariant-loop-i : goal.invariant-loop-i

@@ -1,5 +1,5 @@
 use Rattle.std.proofs.Common.{◌-◌}
-use Rattle.capnp_schema.proofs.LevelTimes.{Bisected}
+use Rattle.capnp_schema.proofs.Checking.LevelTimes.{Bisected}
 use Rattle.capnp_schema.proofs.check.claims.is_open_below.Given as goal
 
 abbrev pub invariant-loop-low : goal.invariant-loop-low

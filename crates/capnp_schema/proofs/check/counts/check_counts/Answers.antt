@@ -1,6 +1,6 @@
 use Rattle.std.proofs.Common.{arith}
 use Rattle.std.proofs.lemmas.List.{length-map}
-use Rattle.capnp_schema.specs.Counts.{HasFewEnumerants, HasFewFields}
+use Rattle.capnp_schema.specs.Accepted.{HasFewEnumerants, HasFewFields}
 use Rattle.capnp_schema.specs.Schema.{seen_enum, seen_node}
 use Rattle.capnp_schema.proofs.EntryWalk.{all_stand, more_stand, none_stand}
 use Rattle.capnp_schema.proofs.check.counts.check_counts.Goals as goal

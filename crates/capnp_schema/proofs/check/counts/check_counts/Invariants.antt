@@ -1,4 +1,4 @@
-use Rattle.capnp_schema.specs.Counts.{HasFewEnumerants, HasFewFields}
+use Rattle.capnp_schema.specs.Accepted.{HasFewEnumerants, HasFewFields}
 use Rattle.capnp_schema.specs.Entries.{lists_seen}
 use Rattle.capnp_schema.proofs.EntryWalk.{StandBelow}
 use Rattle.capnp_schema.proofs.check.counts.check_counts.Given as goal

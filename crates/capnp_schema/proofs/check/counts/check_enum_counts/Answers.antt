@@ -4,7 +4,7 @@ use Rattle.capnp_schema.specs.Accepted.{HasFewAnnotations}
 use Rattle.capnp_schema.specs.Schema.{Enumerant, seen_enum, seen_enumerant}
 use Rattle.capnp_schema.specs.declared.record.EnumerantRecord.{EnumerantRecord}
 use Rattle.capnp_schema.proofs.EntryWalk.{breaks_within}
-use Rattle.capnp_schema.proofs.SmallCounts.{crowded_enum, annotated_enum, annotated_enumerant}
+use Rattle.capnp_schema.proofs.Checking.SmallCounts.{crowded_enum, annotated_enum, annotated_enumerant}
 use Rattle.capnp_schema.proofs.FieldWalk.{refused}
 use Rattle.capnp_schema.proofs.check.counts.check_enum_counts.Goals as goal
 

@@ -4,7 +4,7 @@ use Rattle.capnp_schema.specs.Accepted.{HasFewAnnotations}
 use Rattle.capnp_schema.specs.Schema.{Field, seen_node, seen_field}
 use Rattle.capnp_schema.specs.declared.record.FieldRecord.{FieldRecord}
 use Rattle.capnp_schema.proofs.EntryWalk.{breaks_within}
-use Rattle.capnp_schema.proofs.SmallCounts.{crowded_node, annotated_node, annotated_field}
+use Rattle.capnp_schema.proofs.Checking.SmallCounts.{crowded_node, annotated_node, annotated_field}
 use Rattle.capnp_schema.proofs.FieldWalk.{refused}
 use Rattle.capnp_schema.proofs.check.counts.check_node_counts.Goals as goal
 

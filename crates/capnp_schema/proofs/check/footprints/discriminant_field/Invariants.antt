@@ -1,8 +1,8 @@
 use Rattle.std.proofs.Common.{ℕ, ◌<◌, ◌≡◌, true, false}
 use Rattle.capnp_schema.specs.Footprint.{Place}
 use Rattle.capnp_schema.specs.Entries.{lists_seen}
-use Rattle.capnp_schema.specs.Spans.{some_span}
-use Rattle.capnp_schema.proofs.SpanTables.{footprint_at}
+use Rattle.capnp_schema.specs.Checking.Spans.{some_span}
+use Rattle.capnp_schema.proofs.Checking.SpanTables.{footprint_at}
 use Rattle.capnp_schema.proofs.check.footprints.discriminant_field.Given as goal
 
 abbrev pub invariant-loop-i : goal.invariant-loop-i

@@ -1,6 +1,6 @@
 use Rattle.std.proofs.Common.{◌≤◌, length, refl, arith}
 use Rattle.capnp_schema.specs.Entries.{lists_seen}
-use Rattle.capnp_schema.proofs.SpanTables.{apart_from_spans, meet_from_spans, more_apart, apart_from_all, more_fields_apart, apart_from_same, apart_from_member}
+use Rattle.capnp_schema.proofs.Checking.SpanTables.{apart_from_spans, meet_from_spans, more_apart, apart_from_all, more_fields_apart, apart_from_same, apart_from_member}
 use Rattle.capnp_schema.proofs.check.footprints.meeting_field.Goals as goal
 use Rattle.capnp_schema.proofs.check.footprints.meeting_field.Goals.{else-i-j-via-then-i-j+else-spans_meet, else-i-j-via-else-i-j, then-is_plain+else-loop-j-test, else-is_plain}
 

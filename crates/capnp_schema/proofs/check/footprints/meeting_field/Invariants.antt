@@ -3,7 +3,7 @@ use Rattle.capnp_schema.specs.Footprint.{Place}
 use Rattle.capnp_schema.specs.Schema.{field_at}
 use Rattle.capnp_schema.specs.Entries.{lists_seen}
 use Rattle.capnp_schema.specs.Accepted.{FieldsApart}
-use Rattle.capnp_schema.proofs.SpanTables.{footprint_at}
+use Rattle.capnp_schema.proofs.Checking.SpanTables.{footprint_at}
 use Rattle.capnp_schema.proofs.check.footprints.meeting_field.Given as goal
 
 abbrev pub invariant-loop-j : goal.invariant-loop-j

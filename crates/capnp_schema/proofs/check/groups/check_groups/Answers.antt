@@ -2,8 +2,8 @@ use Rattle.std.proofs.Common.{refl, sym, subst, arith, below_more}
 use Rattle.capnp_schema.specs.Accepted.{GroupStands}
 use Rattle.capnp_schema.specs.Entries.{lists_seen}
 use Rattle.capnp_schema.specs.Parents.{AreKnown}
-use Rattle.capnp_schema.proofs.BrandRefusals.{refused_at_group}
-use Rattle.capnp_schema.proofs.GroupChains.{none_known}
+use Rattle.capnp_schema.proofs.Checking.BrandRefusals.{refused_at_group}
+use Rattle.capnp_schema.proofs.Checking.GroupChains.{none_known}
 use Rattle.capnp_schema.proofs.GroupTargets.{targets_are_groups}
 use Rattle.capnp_schema.proofs.check.groups.check_groups.Goals as goal
 

@@ -1,6 +1,6 @@
 use Rattle.std.proofs.Common.{sym, refl}
 use Rattle.capnp_schema.specs.Entries.{lists_seen}
-use Rattle.capnp_schema.proofs.GroupChains.{one_parent, sizes_differ, parent_within, without_parent}
+use Rattle.capnp_schema.proofs.Checking.GroupChains.{one_parent, sizes_differ, parent_within, without_parent}
 use Rattle.capnp_schema.proofs.check.groups.group_stands.Goals as goal
 
 pub returns-in_default-clause-no : goal.returns-in_default-clause-no

@@ -1,6 +1,6 @@
 use Rattle.std.proofs.Common.{sym}
 use Rattle.capnp_schema.specs.Entries.{lists_seen}
-use Rattle.capnp_schema.proofs.GroupChains.{parent_within, parent_stands, mark_known}
+use Rattle.capnp_schema.proofs.Checking.GroupChains.{parent_within, parent_stands, mark_known}
 use Rattle.capnp_schema.proofs.check.groups.mark_way.Goals as goal
 
 pub loop-preserved : goal.loop-preserved

@@ -1,4 +1,4 @@
-use Rattle.capnp_schema.proofs.GroupTable.{no_parents_more}
+use Rattle.capnp_schema.proofs.Checking.GroupTable.{no_parents_more}
 use Rattle.capnp_schema.proofs.check.groups.no_parents.Goals as goal
 
 pub loop-preserved : goal.loop-preserved

@@ -1,7 +1,7 @@
 use Rattle.std.proofs.Common.{◌<◌, length, sym, arith}
 use Rattle.capnp_schema.specs.Entries.{lists_seen}
-use Rattle.capnp_schema.proofs.BrandRefusals.{refused_at_group}
-use Rattle.capnp_schema.proofs.GroupTable.{filled_skip, filled_set, filled_next, table_from_filled, twice_at, free_at}
+use Rattle.capnp_schema.proofs.Checking.BrandRefusals.{refused_at_group}
+use Rattle.capnp_schema.proofs.Checking.GroupTable.{filled_skip, filled_set, filled_next, table_from_filled, twice_at, free_at}
 use Rattle.capnp_schema.proofs.check.groups.parent_table.Goals as goal
 use Rattle.capnp_schema.proofs.check.groups.parent_table.Goals.{in-Some+else-is_some, in_default}
 

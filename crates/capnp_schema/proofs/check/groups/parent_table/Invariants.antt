@@ -1,5 +1,5 @@
 use Rattle.capnp_schema.specs.Entries.{lists_seen}
-use Rattle.capnp_schema.proofs.GroupTable.{Filled}
+use Rattle.capnp_schema.proofs.Checking.GroupTable.{Filled}
 use Rattle.capnp_schema.proofs.check.groups.parent_table.Given as goal
 
 abbrev pub invariant-loop-brand : goal.invariant-loop-brand

@@ -2,7 +2,7 @@ use Rattle.std.proofs.Common.{sym, refl, arith}
 use Rattle.std.proofs.lemmas.List.{length-map}
 use Rattle.capnp_schema.specs.Entries.{lists_seen}
 use Rattle.capnp_schema.specs.Schema.{seen_brand}
-use Rattle.capnp_schema.proofs.GroupChains.{walk_ends, walk_joins, walk_broken, walk_more, walk_endless, parent_within}
+use Rattle.capnp_schema.proofs.Checking.GroupChains.{walk_ends, walk_joins, walk_broken, walk_more, walk_endless, parent_within}
 use Rattle.capnp_schema.proofs.check.groups.stands_in_struct.Goals as goal
 
 pub returns-then-not-is_group : goal.returns-then-not-is_group

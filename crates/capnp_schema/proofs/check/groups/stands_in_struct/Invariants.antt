@@ -1,6 +1,6 @@
 use Rattle.std.proofs.Common.{◌<◌, length}
 use Rattle.capnp_schema.specs.Entries.{lists_seen}
-use Rattle.capnp_schema.proofs.GroupChains.{StepsUp}
+use Rattle.capnp_schema.proofs.Checking.GroupChains.{StepsUp}
 use Rattle.capnp_schema.proofs.check.groups.stands_in_struct.Given as goal
 
 -- so many steps lead to where the walk stands, which is a brand

@@ -1,10 +1,10 @@
 use Rattle.std.proofs.Common.{arith, sym}
 use Rattle.capnp_schema.specs.Entries.{lists_seen, seen_typed}
 use Rattle.capnp_schema.specs.Schema.{fields_of}
-use Rattle.capnp_schema.specs.ListDefaults.{ReadsDefault}
+use Rattle.capnp_schema.specs.Checking.ListDefaults.{ReadsDefault}
 use Rattle.capnp_schema.proofs.EntryWalk.{is_so_here}
 use Rattle.capnp_schema.proofs.FieldCounts.{index_fits}
-use Rattle.capnp_schema.proofs.ReadDefaults.{field_inside, unread_at}
+use Rattle.capnp_schema.proofs.Checking.ReadDefaults.{field_inside, unread_at}
 use Rattle.capnp_schema.proofs.FieldWalk.{refused}
 use Rattle.capnp_schema.proofs.check.list_defaults.check_list_default.Goals as goal
 

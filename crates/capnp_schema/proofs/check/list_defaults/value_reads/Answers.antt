@@ -1,4 +1,4 @@
-use Rattle.capnp_schema.proofs.ReadDefaults.{layer_read}
+use Rattle.capnp_schema.proofs.Checking.ReadDefaults.{layer_read}
 use Rattle.capnp_schema.proofs.check.list_defaults.value_reads.Goals as goal
 
 pub returns-in-List : goal.returns-in-List

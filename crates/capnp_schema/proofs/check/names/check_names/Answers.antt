@@ -1,5 +1,5 @@
 use Rattle.capnp_schema.specs.Entries.{lists_seen}
-use Rattle.capnp_schema.proofs.NameTables.{rule3_stands}
+use Rattle.capnp_schema.proofs.Checking.NameTables.{rule3_stands}
 use Rattle.capnp_schema.proofs.check.names.check_names.Goals as goal
 
 pub returns : goal.returns

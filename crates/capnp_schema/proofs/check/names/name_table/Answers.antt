@@ -4,13 +4,13 @@ use Rattle.capnp_schema.specs.Entries.{lists_seen}
 use Rattle.capnp_schema.specs.Names.{IsRepeated}
 use Rattle.capnp_schema.specs.Schema.{Field, seen_field}
 use Rattle.capnp_schema.proofs.FieldCounts.{few_fields}
-use Rattle.capnp_schema.proofs.NameTables.{repeated_at}
+use Rattle.capnp_schema.proofs.Checking.NameTables.{repeated_at}
 use Rattle.capnp_schema.proofs.FieldWalk.{refused}
 use Rattle.capnp_schema.proofs.check.names.name_table.Goals as goal
 
 pub name_order-requires : goal.name_order-requires
 name_order-requires c =
-    let few = few_fields (lists_seen c.args.lists.now) (λ k d h. (c.requires.nodes k d h).fields) c.args.node in
+    let few = few_fields (lists_seen c.args.lists.now) c.requires c.args.node in
     let n = length-map c.fields_at-fields.result.now seen_field in
     let same = ap (λ (fs : List Field). length fs) c.fields_at-fields.ensures in
     omega arith

@@ -4,7 +4,7 @@ use Rattle.capnp_schema.specs.Entries.{lists_seen}
 use Rattle.capnp_schema.specs.Names.{IsNameTable}
 use Rattle.capnp_schema.specs.Schema.{node_at, seen_node}
 use Rattle.capnp_schema.proofs.EntryTables.{all_node_tables, one_table}
-use Rattle.capnp_schema.proofs.NameTables.{no_names}
+use Rattle.capnp_schema.proofs.Checking.NameTables.{no_names}
 use Rattle.capnp_schema.proofs.check.names.name_tables.Goals as goal
 
 pub loop-n-preserved : goal.loop-n-preserved

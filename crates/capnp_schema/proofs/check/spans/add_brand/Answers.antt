@@ -1,6 +1,6 @@
 use Rattle.capnp_schema.specs.Entries.{lists_seen}
 use Rattle.capnp_schema.specs.Schema.{seen_node}
-use Rattle.capnp_schema.proofs.SpanLemmas.{brand_added, fields_alone}
+use Rattle.capnp_schema.proofs.Checking.SpanLemmas.{brand_added, fields_alone}
 use Rattle.capnp_schema.proofs.check.spans.add_brand.Goals as goal
 
 pub returns-in_ok-push-clause-added : goal.returns-in_ok-push-clause-added

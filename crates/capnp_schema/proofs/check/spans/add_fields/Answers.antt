@@ -1,6 +1,6 @@
 use Rattle.capnp_schema.specs.Entries.{lists_seen}
 use Rattle.capnp_schema.specs.Schema.{fields_of}
-use Rattle.capnp_schema.proofs.SpanLemmas.{field_added}
+use Rattle.capnp_schema.proofs.Checking.SpanLemmas.{field_added}
 use Rattle.capnp_schema.proofs.check.spans.add_fields.Goals as goal
 
 pub loop-i-preserved : goal.loop-i-preserved

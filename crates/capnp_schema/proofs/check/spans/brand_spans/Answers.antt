@@ -1,7 +1,7 @@
 use Rattle.std.proofs.Common.{arith}
 use Rattle.capnp_schema.specs.Entries.{lists_seen}
 use Rattle.capnp_schema.proofs.EntryTables.{one_table}
-use Rattle.capnp_schema.proofs.SpanTables.{NameWhatField, spans_of_all}
+use Rattle.capnp_schema.proofs.Checking.SpanTables.{NameWhatField, spans_of_all}
 use Rattle.capnp_schema.proofs.check.spans.brand_spans.Goals as goal
 
 pub loop-field-preserved : goal.loop-field-preserved

@@ -1,6 +1,6 @@
 use Rattle.capnp_schema.specs.Entries.{lists_seen}
 use Rattle.capnp_schema.proofs.EntryTables.{EachTable}
-use Rattle.capnp_schema.proofs.SpanTables.{NameWhatField}
+use Rattle.capnp_schema.proofs.Checking.SpanTables.{NameWhatField}
 use Rattle.capnp_schema.proofs.check.spans.brand_spans.Given as goal
 
 abbrev pub invariant-loop-field : goal.invariant-loop-field

@@ -1,7 +1,7 @@
 use Rattle.std.proofs.Common.{◌≡◌, ◌-◌, ◌∙◌, ap, sym, arith, length}
 use Rattle.capnp_schema.specs.Entries.{lists_seen}
-use Rattle.capnp_schema.specs.Spans.{reached}
-use Rattle.capnp_schema.proofs.SpanLemmas.{reached_all}
+use Rattle.capnp_schema.specs.Checking.Spans.{reached}
+use Rattle.capnp_schema.proofs.Checking.SpanLemmas.{reached_all}
 use Rattle.capnp_schema.proofs.check.spans.field_spans.Goals as goal
 
 pub returns-clause-spans : goal.returns-clause-spans

@@ -2,7 +2,7 @@ use Rattle.std.proofs.Common.{◌≡◌, ◌-◌, length, slice_get}
 use Rattle.capnp_schema.specs.Schema.{fields_of}
 use Rattle.capnp_schema.specs.Entries.{lists_seen}
 use Rattle.capnp_schema.specs.Footprint.{Place}
-use Rattle.capnp_schema.specs.Spans.{entry_names, reached}
+use Rattle.capnp_schema.specs.Checking.Spans.{entry_names, reached}
 use Rattle.capnp_schema.proofs.check.spans.field_spans.Given as goal
 
 -- what is reached within the depths that are left

@@ -1,5 +1,5 @@
 use Rattle.std.proofs.Common.{refl}
-use Rattle.capnp_schema.proofs.SpanLemmas.{some_from_at}
+use Rattle.capnp_schema.proofs.Checking.SpanLemmas.{some_from_at}
 use Rattle.capnp_schema.proofs.check.spans.some_holds.Goals as goal
 
 pub returns-then-holds_spot : goal.returns-then-holds_spot

@@ -1,6 +1,6 @@
 use Rattle.std.proofs.Common.{arith}
 use Rattle.std.proofs.lemmas.Bool.Decides.{nat_tests}
-use Rattle.capnp_schema.proofs.SpanLemmas.{right_meets, left_meets, pointers_meet}
+use Rattle.capnp_schema.proofs.Checking.SpanLemmas.{right_meets, left_meets, pointers_meet}
 use Rattle.capnp_schema.proofs.check.spans.span_meets.Goals as goal
 
 pub returns-then-first-other-clause-yes : goal.returns-then-first-other-clause-yes

@@ -1,6 +1,6 @@
 use Rattle.std.proofs.Common.{refl, arith}
 use Rattle.capnp_schema.specs.declared.check.spans.Span.TheVariants.{Pointer}
-use Rattle.capnp_schema.proofs.SpanLemmas.{some_from_at, span_at, none_from_all, row_done}
+use Rattle.capnp_schema.proofs.Checking.SpanLemmas.{some_from_at, span_at, none_from_all, row_done}
 use Rattle.capnp_schema.proofs.check.spans.spans_meet.Goals as goal
 
 pub returns-then-span_meets-clause-yes : goal.returns-then-span_meets-clause-yes

@@ -1,10 +1,10 @@
 use Rattle.std.proofs.Common.{rules, subst, List, ◌++◌, ◌∷◌, []}
 use Rattle.capnp_schema.specs.Schema.{seen_node}
 use Rattle.capnp_schema.specs.Entries.{lists_seen}
-use Rattle.capnp_schema.specs.Levels.{IsClaimed}
+use Rattle.capnp_schema.specs.Checking.Levels.{IsClaimed}
 use Rattle.capnp_schema.specs.declared.check.claims.Level.{Level}
 use Rattle.capnp_schema.proofs.FieldWalk.{found_node}
-use Rattle.capnp_schema.proofs.TourGroups.{group_entered}
+use Rattle.capnp_schema.proofs.Checking.TourGroups.{group_entered}
 use Rattle.capnp_schema.proofs.check.tour.enter.Goals as goal
 
 pub returns-clause-stands : goal.returns-clause-stands

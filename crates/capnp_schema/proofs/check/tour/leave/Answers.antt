@@ -1,7 +1,7 @@
 use Rattle.std.proofs.Common.{arith, rules}
 use Rattle.std.proofs.lemmas.Bool.Decides.{nat_tests}
 use Rattle.capnp_schema.specs.Entries.{lists_seen}
-use Rattle.capnp_schema.proofs.TourGroups.{left_done, is_left, left_to_rest, left_to_level}
+use Rattle.capnp_schema.proofs.Checking.TourGroups.{left_done, is_left, left_to_rest, left_to_level}
 use Rattle.capnp_schema.proofs.check.tour.leave.Goals as goal
 use Rattle.capnp_schema.proofs.check.tour.leave.Goals.{then-top-len, else-top-len}
 

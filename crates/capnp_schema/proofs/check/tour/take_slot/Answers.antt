@@ -1,8 +1,8 @@
 use Rattle.std.proofs.Common.{rules, subst, List, ◌++◌, ◌∷◌, []}
 use Rattle.capnp_schema.specs.Entries.{lists_seen}
-use Rattle.capnp_schema.specs.Levels.{IsClaimed}
+use Rattle.capnp_schema.specs.Checking.Levels.{IsClaimed}
 use Rattle.capnp_schema.specs.declared.check.claims.Level.{Level}
-use Rattle.capnp_schema.proofs.Tours.{slot_taken}
+use Rattle.capnp_schema.proofs.Checking.Tours.{slot_taken}
 use Rattle.capnp_schema.proofs.check.tour.take_slot.Goals as goal
 
 pub returns-clause-stands : goal.returns-clause-stands

@@ -1,6 +1,6 @@
 use Rattle.std.proofs.Common.{arith, sym, ◌∙◌}
 use Rattle.capnp_schema.specs.Entries.{lists_seen}
-use Rattle.capnp_schema.proofs.Tours.{skipped, new_none_early, new_none_late}
+use Rattle.capnp_schema.proofs.Checking.Tours.{skipped, new_none_early, new_none_late}
 use Rattle.capnp_schema.proofs.check.tour.take_step.Goals as goal
 
 pub returns-then-is_member_at-clause-stands : goal.returns-then-is_member_at-clause-stands

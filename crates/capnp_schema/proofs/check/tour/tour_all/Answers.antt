@@ -1,6 +1,6 @@
 use Rattle.std.proofs.Common.{arith, ◌≡◌, ◌<◌, length, refl, sym, true, false, get_or, subst, List, Bool}
 use Rattle.capnp_schema.specs.Entries.{lists_seen}
-use Rattle.capnp_schema.proofs.TourGroups.{rules_of_clear}
+use Rattle.capnp_schema.proofs.Checking.TourGroups.{rules_of_clear}
 use Rattle.capnp_schema.proofs.check.tour.tour_all.Goals as goal
 
 pub returns-then-all_set-clause-apart : goal.returns-then-all_set-clause-apart

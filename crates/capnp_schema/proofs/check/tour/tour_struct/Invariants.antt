@@ -1,5 +1,5 @@
 use Rattle.capnp_schema.specs.Entries.{lists_seen}
-use Rattle.capnp_schema.specs.Levels.{TourStands}
+use Rattle.capnp_schema.specs.Checking.Levels.{TourStands}
 use Rattle.capnp_schema.proofs.check.tour.tour_struct.Given as goal
 
 abbrev pub invariant-loop : goal.invariant-loop

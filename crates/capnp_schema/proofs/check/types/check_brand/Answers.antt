@@ -3,7 +3,7 @@ use Rattle.capnp_device.specs.declared.error.SchemaTable.TheVariants.{Brand as I
 use Rattle.capnp_schema.specs.Schema.{seen_node, seen_brand}
 use Rattle.capnp_schema.specs.Entries.{lists_seen}
 use Rattle.capnp_schema.proofs.FieldWalk.{refused}
-use Rattle.capnp_schema.proofs.Lengths.{names_no_node, brand_stands, lacks_types}
+use Rattle.capnp_schema.proofs.Checking.Lengths.{names_no_node, brand_stands, lacks_types}
 use Rattle.capnp_schema.proofs.check.types.check_brand.Goals as goal
 
 pub returns-in_default-node_of : goal.returns-in_default-node_of

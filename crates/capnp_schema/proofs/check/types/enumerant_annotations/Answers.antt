@@ -1,6 +1,6 @@
 use Rattle.std.proofs.Common.{◌≡◌, ap, sym, ◌∙◌, length, arith}
-use Rattle.capnp_schema.specs.Lengths.{enumerant_count}
-use Rattle.capnp_schema.proofs.Lengths.{enumerants_at}
+use Rattle.capnp_schema.specs.Checking.Lengths.{enumerant_count}
+use Rattle.capnp_schema.proofs.Checking.Lengths.{enumerants_at}
 use Rattle.capnp_schema.proofs.check.types.enumerant_annotations.Goals as goal
 
 pub returns-in-Some : goal.returns-in-Some

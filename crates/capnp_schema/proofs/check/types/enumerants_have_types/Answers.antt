@@ -1,6 +1,6 @@
 use Rattle.std.proofs.Common.{sym, ◌∙◌, arith}
-use Rattle.capnp_schema.specs.Lengths.{children_counts, enumerant_counts}
-use Rattle.capnp_schema.proofs.Lengths.{other_length, other_at, same_counts, children_length, enumerants_length}
+use Rattle.capnp_schema.specs.Checking.Lengths.{children_counts, enumerant_counts}
+use Rattle.capnp_schema.proofs.Checking.Lengths.{other_length, other_at, same_counts, children_length, enumerants_length}
 use Rattle.capnp_schema.proofs.check.types.enumerants_have_types.Goals as goal
 
 pub returns-then-types-enumerants : goal.returns-then-types-enumerants

@@ -1,5 +1,5 @@
 use Rattle.std.proofs.Common.{ℕ, ◌<◌, ◌≡◌, get_or}
-use Rattle.capnp_schema.specs.Lengths.{children_counts, enumerant_counts}
+use Rattle.capnp_schema.specs.Checking.Lengths.{children_counts, enumerant_counts}
 use Rattle.capnp_schema.proofs.check.types.enumerants_have_types.Given as goal
 
 abbrev pub invariant-loop-i : goal.invariant-loop-i

@@ -1,6 +1,6 @@
 use Rattle.std.proofs.Common.{◌≡◌, ap, sym, ◌∙◌, length, arith}
-use Rattle.capnp_schema.specs.Lengths.{field_count}
-use Rattle.capnp_schema.proofs.Lengths.{fields_at}
+use Rattle.capnp_schema.specs.Checking.Lengths.{field_count}
+use Rattle.capnp_schema.proofs.Checking.Lengths.{fields_at}
 use Rattle.capnp_schema.proofs.check.types.field_annotations.Goals as goal
 
 pub returns-in-Some : goal.returns-in-Some

@@ -1,6 +1,6 @@
 use Rattle.std.proofs.Common.{◌≡◌, ap, sym, ◌∙◌, length, arith}
-use Rattle.capnp_schema.specs.Lengths.{types_count}
-use Rattle.capnp_schema.proofs.Lengths.{types_at}
+use Rattle.capnp_schema.specs.Checking.Lengths.{types_count}
+use Rattle.capnp_schema.proofs.Checking.Lengths.{types_at}
 use Rattle.capnp_schema.proofs.check.types.types_at.Goals as goal
 
 pub returns-in-Some : goal.returns-in-Some

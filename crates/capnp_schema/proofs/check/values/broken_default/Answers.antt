@@ -1,7 +1,7 @@
 use Rattle.std.proofs.Common.{arith, map}
 use Rattle.std.proofs.lemmas.List.{length-map}
 use Rattle.capnp_schema.specs.Schema.{seen_field}
-use Rattle.capnp_schema.specs.Values.{DefaultStands}
+use Rattle.capnp_schema.specs.Accepted.{DefaultStands}
 use Rattle.capnp_schema.proofs.EntryWalk.{all_stand, entry_breaks, is_so_here, more_stand, none_stand, seen_read}
 use Rattle.capnp_schema.proofs.check.values.broken_default.Goals as goal
 

@@ -1,5 +1,5 @@
 use Rattle.std.proofs.Common.{map}
-use Rattle.capnp_schema.specs.Values.{DefaultStands}
+use Rattle.capnp_schema.specs.Accepted.{DefaultStands}
 use Rattle.capnp_schema.specs.Schema.{seen_field}
 use Rattle.capnp_schema.proofs.EntryWalk.{StandBelow}
 use Rattle.capnp_schema.proofs.check.values.broken_default.Given as goal

@@ -5,7 +5,7 @@ use Rattle.capnp_schema.specs.Schema.{Enumerant, seen_enum, seen_enumerant}
 use Rattle.capnp_schema.specs.Entries.{lists_seen}
 use Rattle.capnp_schema.specs.declared.record.EnumerantRecord.{EnumerantRecord}
 use Rattle.capnp_schema.proofs.EntryWalk.{breaks_within}
-use Rattle.capnp_schema.proofs.WordPlaces.{few_enumerants_at, wordless_enum_at, wordless_enumerant_at}
+use Rattle.capnp_schema.proofs.Checking.WordPlaces.{few_enumerants_at, wordless_enum_at, wordless_enumerant_at}
 use Rattle.capnp_schema.proofs.FieldWalk.{refused}
 use Rattle.capnp_schema.proofs.check.values.check_enum_words.Goals as goal
 

@@ -3,10 +3,10 @@ use Rattle.std.proofs.lemmas.List.{length-map}
 use Rattle.capnp_schema.specs.Accepted.{HaveWords}
 use Rattle.capnp_schema.specs.Schema.{Field, seen_node, seen_field}
 use Rattle.capnp_schema.specs.Entries.{lists_seen}
-use Rattle.capnp_schema.specs.Values.{DefaultStands}
+use Rattle.capnp_schema.specs.Accepted.{DefaultStands}
 use Rattle.capnp_schema.specs.declared.record.FieldRecord.{FieldRecord}
 use Rattle.capnp_schema.proofs.EntryWalk.{breaks_within}
-use Rattle.capnp_schema.proofs.WordPlaces.{few_at, wordless_node_at, wordless_field_at, broken_default_at}
+use Rattle.capnp_schema.proofs.Checking.WordPlaces.{few_at, wordless_node_at, wordless_field_at, broken_default_at}
 use Rattle.capnp_schema.proofs.FieldWalk.{refused}
 use Rattle.capnp_schema.proofs.check.values.check_node_words.Goals as goal
 

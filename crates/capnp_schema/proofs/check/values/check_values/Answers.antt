@@ -1,5 +1,5 @@
 use Rattle.capnp_schema.specs.Entries.{lists_seen}
-use Rattle.capnp_schema.proofs.ReadDefaults.{rule6_stands}
+use Rattle.capnp_schema.proofs.Checking.ReadDefaults.{rule6_stands}
 use Rattle.capnp_schema.proofs.check.values.check_values.Goals as goal
 
 pub returns : goal.returns

@@ -1,6 +1,6 @@
 use Rattle.std.proofs.Common.{arith}
 use Rattle.std.proofs.lemmas.List.{length-map}
-use Rattle.capnp_schema.specs.Values.{EnumHasWords, NodeHasWords}
+use Rattle.capnp_schema.specs.Accepted.{EachOfEnum, HaveWords, NodeHasWords}
 use Rattle.capnp_schema.specs.Schema.{seen_enum, seen_node}
 use Rattle.capnp_schema.proofs.EntryWalk.{all_stand, more_stand, none_stand}
 use Rattle.capnp_schema.proofs.check.values.check_words.Goals as goal
@@ -12,13 +12,13 @@ pub loop-n-preserved : goal.loop-n-preserved
 loop-n-preserved c = more_stand _ NodeHasWords _ c.loop-n.invariant c.in_ok-check_node_words.ensures
 
 pub loop-e-init : goal.loop-e-init
-loop-e-init c = none_stand _ EnumHasWords
+loop-e-init c = none_stand _ (EachOfEnum HaveWords)
 
 pub loop-e-preserved : goal.loop-e-preserved
-loop-e-preserved c = more_stand _ EnumHasWords _ c.loop-e.invariant c.in_ok-check_enum_words.ensures
+loop-e-preserved c = more_stand _ (EachOfEnum HaveWords) _ c.loop-e.invariant c.in_ok-check_enum_words.ensures
 
 pub returns : goal.returns
 returns c = record {
   nodes = all_stand _ NodeHasWords _ c.loop-n.invariant (let n = length-map c.args.lists.now.nodes.items seen_node in omega arith);
-  enums = all_stand _ EnumHasWords _ c.loop-e.invariant (let n = length-map c.args.lists.now.enums.items seen_enum in omega arith);
+  enums = all_stand _ (EachOfEnum HaveWords) _ c.loop-e.invariant (let n = length-map c.args.lists.now.enums.items seen_enum in omega arith);
 }

@@ -15,4 +15,4 @@ pub returns-clause-whole : goal.returns-clause-whole
 returns-clause-whole c = λ h. c.field_count.ensures ∙ ap (λ (l : Lists). length (fields_of (lists_seen l) c.args.brand)) c.self.view_is ∙ counted_fields (lists_seen c.args.self.now) (accepted_seen c.self.view_is c.self.invariant.0) c.args.brand h
 
 pub returns-clause-few : goal.returns-clause-few
-returns-clause-few c = few_fields (lists_seen c.args.self.now) (accepted_seen c.self.view_is c.self.invariant.0).rule3.fields (brand_at (lists_seen c.args.self.now) c.args.brand).node
+returns-clause-few c = few_fields (lists_seen c.args.self.now) (accepted_seen c.self.view_is c.self.invariant.0).rule3.counts (brand_at (lists_seen c.args.self.now) c.args.brand).node

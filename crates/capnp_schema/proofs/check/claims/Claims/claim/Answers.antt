@@ -1,5 +1,5 @@
 use Rattle.std.proofs.Common.{◌++◌, ◌∷◌, []}
-use Rattle.capnp_schema.proofs.LevelTimes.{data_claimed}
+use Rattle.capnp_schema.proofs.Checking.LevelTimes.{data_claimed}
 use Rattle.capnp_schema.proofs.check.claims.Claims.claim.Goals as goal
 
 pub returns-else-count-gt64-clause-claimed : goal.returns-else-count-gt64-clause-claimed

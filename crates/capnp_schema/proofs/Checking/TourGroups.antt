@@ -9,15 +9,15 @@ use Rattle.capnp_schema.specs.Schema.{Schemas, Node, FieldKind, Slot, Group, Typ
 use Rattle.capnp_schema.specs.Footprint.{Place, kind_names, group_names, brand_names, some_field, discriminant_names, footprint}
 use Rattle.capnp_schema.specs.Accepted.{Rule11, Rule12}
 use Rattle.capnp_schema.specs.Parents.{group_target, entry_target, kind_target}
-use Rattle.capnp_schema.specs.Spans.{span_names, entry_names, field_names}
-use Rattle.capnp_schema.specs.Levels.{mark_at, IsClaimed, member_at, Names, by_discriminant, by_plain, Done, among_plain, by_member, IsCurrent, plain, member, IsClear, LevelStands, IsAbove, IsCurrentGroup, LevelsStand, AreClear, DoneStand, TourStands, TourRests}
+use Rattle.capnp_schema.specs.Checking.Spans.{span_names, entry_names, field_names}
+use Rattle.capnp_schema.specs.Checking.Levels.{mark_at, IsClaimed, member_at, Names, by_discriminant, by_plain, Done, among_plain, by_member, IsCurrent, plain, member, IsClear, LevelStands, IsAbove, IsCurrentGroup, LevelsStand, AreClear, DoneStand, TourStands, TourRests}
 use Rattle.capnp_schema.specs.declared.check.claims.Claims.{Claims}
 use Rattle.capnp_schema.specs.declared.check.claims.Level.{Level}
 use Rattle.capnp_schema.specs.declared.check.spans.Span.{Span}
 use Rattle.capnp_schema.specs.declared.check.tour.Tour.{Tour}
 use Rattle.capnp_schema.proofs.GroupTargets.{field_is}
-use Rattle.capnp_schema.proofs.LevelTimes.{slice_get-last, pushed}
-use Rattle.capnp_schema.proofs.Tours.{keeps_from_claim, levels_kept, open_is_apart, AtTop, top_stands, next_stands, push_stands, pop_stands, more_stands, NewStands, new_current, clear_current}
+use Rattle.capnp_schema.proofs.Checking.LevelTimes.{slice_get-last, pushed}
+use Rattle.capnp_schema.proofs.Checking.Tours.{keeps_from_claim, levels_kept, open_is_apart, AtTop, top_stands, next_stands, push_stands, pop_stands, more_stands, NewStands, new_current, clear_current}
 
 -- ---- into a group ----
 

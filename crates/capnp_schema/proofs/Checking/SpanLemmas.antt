@@ -11,7 +11,7 @@ use Rattle.capnp_schema.specs.Entries.{brand_node, seen_typed}
 use Rattle.capnp_schema.specs.Footprint.{Place, DataBit, PointerAt, is_in, slot_names, group_names, kind_names, some_field, brand_names, discriminant_names}
 use Rattle.capnp_schema.specs.declared.check.spans.Span.{Span}
 use Rattle.capnp_schema.specs.declared.check.spans.Span.TheVariants.{Data, Pointer}
-use Rattle.capnp_schema.specs.Spans.{span_names, some_span, field_names, entry_names, some_brand, reached}
+use Rattle.capnp_schema.specs.Checking.Spans.{span_names, some_span, field_names, entry_names, some_brand, reached}
 use Rattle.capnp_schema.proofs.FieldWalk.{found_node}
 use Rattle.capnp_schema.proofs.GroupTargets.{node_missing}
 

@@ -1,8 +1,8 @@
 -- What spans name, and the spans of the fields of a brand.
-use Rattle.std.specs.Prelude.{ℕ, ◌≡◌, ◌≢◌, ◌<◌, ◌||◌, ◌==◌, Bool, true, false, List, [], ◌∷◌, length, slice_get, Option, Some, None, Vec}
+use Rattle.std.specs.Prelude.{ℕ, suc, ◌≡◌, ◌≢◌, ◌<◌, ◌||◌, ◌==◌, Bool, true, false, List, [], ◌∷◌, length, slice_get, Option, Some, None, Vec}
 use Rattle.std.specs.declared.alloc.Global.{Global}
 use Rattle.capnp_schema.specs.Schema.{Schemas, TypedField, fields_of, field_at, is_member}
-use Rattle.capnp_schema.specs.Footprint.{Place, DataBit, PointerAt, is_in, kind_names, brand_names, footprint}
+use Rattle.capnp_schema.specs.Footprint.{Place, DataBit, PointerAt, is_in, kind_names, brand_names, footprint, some_field}
 use Rattle.capnp_schema.specs.declared.check.spans.Span.{Span}
 use Rattle.capnp_schema.specs.declared.check.spans.Spot.{Spot}
 use Rattle.capnp_schema.specs.declared.check.spans.Spot.TheVariants as spot
@@ -40,6 +40,26 @@ some_brand groups set (b ∷ bs) p = brand_names groups set b p || some_brand gr
 -- what spans name, and brands whose own spans are still to be added
 abbrev pub reached : ℕ → Schemas → List Span → List ℕ → Place → Bool
 reached groups set spans brands p = some_span spans p || some_brand groups set brands p
+
+-- what that is once a brand's discriminant and fields are added, at each depth of groups
+abbrev pub AddsBrand : Schemas → ℕ → (old new : List Span × List ℕ) → Type 0
+AddsBrand set b old new = (groups : ℕ) (p : Place) → reached groups set new.0 new.1 p ≡ (reached groups set old.0 old.1 p || brand_names (suc groups) set b p)
+
+-- a brand's fields
+abbrev pub AddsFields : Schemas → ℕ → (old new : List Span × List ℕ) → Type 0
+AddsFields set b old new = (groups : ℕ) (p : Place) → reached groups set new.0 new.1 p ≡ (reached groups set old.0 old.1 p || some_field (field_names groups set) (fields_of set b) p)
+
+-- a field, nothing where it isn't there
+abbrev pub AddsField : Schemas → (b i : ℕ) → (old new : List Span × List ℕ) → Type 0
+AddsField set b i old new = (groups : ℕ) (p : Place) → reached groups set new.0 new.1 p ≡ (reached groups set old.0 old.1 p || entry_names groups set (slice_get (fields_of set b) i) p)
+
+-- brands, by the brands of their groups
+abbrev pub AddsBrands : Schemas → List ℕ → (old : List Span) → (new : List Span × List ℕ) → Type 0
+AddsBrands set brands old new = (groups : ℕ) (p : Place) → reached groups set new.0 new.1 p ≡ reached (suc groups) set old brands p
+
+-- the spans of a field that is there or not, through its groups
+abbrev pub AreSpansAt : Schemas → (b i : ℕ) → List Span → Type 0
+AreSpansAt set b i spans = (p : Place) → some_span spans p ≡ entry_names (length set.brands) set (slice_get (fields_of set b) i) p
 
 pub record SpansMeet (a b : List Span) : Type 0 where
   pub place : Place

@@ -8,7 +8,7 @@ use Rattle.capnp_schema.specs.Footprint.{Place, footprint, discriminant_names}
 use Rattle.capnp_schema.specs.Accepted.{FieldsApart, DiscriminantApart}
 use Rattle.capnp_schema.specs.Broken.{FieldBreaks}
 use Rattle.capnp_schema.specs.declared.check.spans.Span.{Span}
-use Rattle.capnp_schema.specs.Spans.{some_span, entry_names, SpansMeet, AreSpansOf, IsNamedBy}
+use Rattle.capnp_schema.specs.Checking.Spans.{some_span, entry_names, SpansMeet, AreSpansOf, IsNamedBy}
 use Rattle.capnp_schema.specs.Tables.{items_of, table_at}
 use Rattle.capnp_schema.proofs.EntryTables.{EachTable}
 use Rattle.capnp_schema.proofs.FieldWalk.{one_more}

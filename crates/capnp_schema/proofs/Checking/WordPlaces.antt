@@ -2,14 +2,13 @@
 use Rattle.std.proofs.Common.{◌≡◌, ℕ, ◌≤◌, Some, length, slice_get, sym}
 use Rattle.capnp_device.specs.declared.error.SchemaTable.TheVariants.{Node as InNodes, Enum as InEnums}
 use Rattle.capnp_schema.specs.Schema.{Schemas, Node, Enum, Enumerant, Field}
-use Rattle.capnp_schema.specs.Accepted.{HaveWords, Rule3}
+use Rattle.capnp_schema.specs.Accepted.{DefaultStands, HasFewEnumerants, HasFewFields, HaveWords, Rule3}
 use Rattle.capnp_schema.specs.Broken.{EntryBreaks, IsBroken, default_words, enum_annotation_words, enumerant_annotation_words, field_annotation_words, node_annotation_words}
-use Rattle.capnp_schema.specs.Values.{DefaultStands}
 use Rattle.capnp_schema.proofs.EntryWalk.{entry_breaks, entry_has}
 
 module _ (set : Schemas) (n : ℕ) (x : Node) (here : slice_get set.nodes n ≡ Some x) where
   pub few_at : Rule3 set → length x.fields ≤ 65535
-  few_at rule = entry_has (λ (y : Node). length y.fields ≤ 65535) set.nodes n x rule.fields (sym here)
+  few_at rule = (entry_has HasFewFields set.nodes n x rule.counts.nodes (sym here)).fields
 
   pub wordless_node_at : (HaveWords x.annotations → ⊥) → IsBroken set 6 InNodes n 65535
   wordless_node_at fails = node_annotation_words n (entry_breaks set.nodes (λ (y : Node). HaveWords y.annotations) n x (sym here) fails)
@@ -22,7 +21,7 @@ module _ (set : Schemas) (n : ℕ) (x : Node) (here : slice_get set.nodes n ≡ 
 
 module _ (set : Schemas) (n : ℕ) (x : Enum) (here : slice_get set.enums n ≡ Some x) where
   pub few_enumerants_at : Rule3 set → length x.enumerants ≤ 65535
-  few_enumerants_at rule = entry_has (λ (y : Enum). length y.enumerants ≤ 65535) set.enums n x rule.enumerants (sym here)
+  few_enumerants_at rule = (entry_has HasFewEnumerants set.enums n x rule.counts.enums (sym here)).enumerants
 
   pub wordless_enum_at : (HaveWords x.annotations → ⊥) → IsBroken set 6 InEnums n 65535
   wordless_enum_at fails = enum_annotation_words n (entry_breaks set.enums (λ (y : Enum). HaveWords y.annotations) n x (sym here) fails)

@@ -1,12 +1,11 @@
 -- How many types and annotations there are at each field and each enumerant.
-use Rattle.std.specs.Prelude.{ℕ, ◌<◌, List, length, map, Option, Some, None, Vec}
+use Rattle.std.specs.Prelude.{ℕ, List, length, map, Option, Some, None, Vec}
 use Rattle.std.specs.declared.alloc.Global.{Global}
 use Rattle.capnp_base.specs.declared.introspect.«Type».{«Type» as TypeHandle}
 use Rattle.capnp_schema.specs.declared.record.FieldRecord.{FieldRecord}
 use Rattle.capnp_schema.specs.declared.record.EnumerantRecord.{EnumerantRecord}
 use Rattle.capnp_schema.specs.Types.{seen_type}
-use Rattle.capnp_schema.specs.Schema.{Schemas, brand_at, node_of, Field, Enumerant, seen_field, seen_enumerant}
-use Rattle.capnp_schema.specs.Accepted.{BrandHasTypes}
+use Rattle.capnp_schema.specs.Schema.{Field, Enumerant, seen_field, seen_enumerant}
 
 abbrev pub children_counts : List (Vec TypeHandle Global) → List ℕ
 children_counts types = map length (map (λ (ts : Vec TypeHandle Global). map seen_type ts.items) types)
@@ -28,8 +27,3 @@ field_count (Some f) = length f.annotations.items
 abbrev pub enumerant_count : Option EnumerantRecord → ℕ
 enumerant_count None = 0
 enumerant_count (Some x) = length x.annotations.items
-
--- rule 2 of one brand
-pub record BrandStands (set : Schemas) (b : ℕ) : Type 0 where
-  pub node : (brand_at set b).node < length set.nodes
-  pub types : BrandHasTypes (node_of set b) (brand_at set b)

@@ -5,9 +5,8 @@ use Rattle.std.specs.declared.alloc.Global.{Global}
 use Rattle.std.proofs.lemmas.Option.{slice_get-get_or}
 use Rattle.capnp_device.specs.declared.error.SchemaTable.TheVariants.{Node as InNodes}
 use Rattle.capnp_schema.specs.Schema.{Schemas, Node, no_node, node_at}
-use Rattle.capnp_schema.specs.Accepted.{HasOwnName, Rule3}
+use Rattle.capnp_schema.specs.Accepted.{HasOwnName, HasSmallCounts, Rule3}
 use Rattle.capnp_schema.specs.Broken.{IsBroken, name}
-use Rattle.capnp_schema.specs.Counts.{HasSmallCounts}
 use Rattle.capnp_schema.specs.Names.{IsNameTable, IsRepeated}
 use Rattle.capnp_schema.specs.Tables.{AreNameTables, table_at}
 use Rattle.capnp_schema.proofs.NameOrder.{distinct_from_table, repeated_is_not_own}
@@ -37,8 +36,5 @@ no_names = record {
 pub rule3_stands : (set : Schemas) (tables : List (Vec ℕ Global)) → HasSmallCounts set → AreNameTables set tables → Rule3 set
 rule3_stands set tables small named = record {
   names = λ k d h i. subst (λ (x : Node). HasOwnName x.fields i) (node_there set k d h) (distinct_from_table (node_at set k).fields (table_at tables k) (named.each k) i);
-  fields = λ k d h. (small.nodes k d h).fields;
-  enumerants = λ k d h. (small.enums k d h).enumerants;
-  annotations = λ k d h. (small.nodes k d h).annotations;
-  enum_annotations = λ k d h. (small.enums k d h).annotations;
+  counts = small;
 }

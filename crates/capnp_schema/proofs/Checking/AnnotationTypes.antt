@@ -13,7 +13,7 @@ use Rattle.capnp_schema.specs.Types.{seen_type}
 use Rattle.capnp_schema.specs.Schema.{Schemas, Brand, Enum, Field, Enumerant, AnnotationTypes, no_brand, node_of, brand_at}
 use Rattle.capnp_schema.specs.Accepted.{NamesEntries, TypesName, EnumHasTypes, Rule2, Rule3}
 use Rattle.capnp_schema.specs.Broken.{EntryBreaks, IsBroken, brand_types, brand_child_types, enum_types, enum_child_types}
-use Rattle.capnp_schema.specs.Annotations.{seen_children, IsUnnamed, own, child, TypesStand}
+use Rattle.capnp_schema.specs.Checking.Annotations.{seen_children, IsUnnamed, own, child, TypesStand}
 use Rattle.capnp_schema.specs.Tests.{FieldsStand}
 use Rattle.capnp_schema.proofs.FieldCounts.{few_fields}
 
@@ -56,8 +56,8 @@ pub few_brand_children : (set : Schemas) → Rule3 set → Rule2 set → (b : �
 few_brand_children set rule3 lengths b x is =
     let same : brand_at set b ≡ x = ap (λ o. unwrap_or o (no_brand set)) (sym is) in
     let types = lengths.brands b (slice_get_within set.brands b x (sym is)) in
-    let counted = same_lengths (brand_at set b).annotation_types.children (map (λ (f : Field). f.annotations) (node_of set b).fields) types.1.1 in
-    let h : length (brand_at set b).annotation_types.children ≤ 65535 = omega (arith, counted, length-map (node_of set b).fields (λ (f : Field). f.annotations), few_fields set rule3.fields (brand_at set b).node) in
+    let counted = same_lengths (brand_at set b).annotation_types.children (map (λ (f : Field). f.annotations) (node_of set b).fields) types.types.1.1 in
+    let h : length (brand_at set b).annotation_types.children ≤ 65535 = omega (arith, counted, length-map (node_of set b).fields (λ (f : Field). f.annotations), few_fields set rule3.counts (brand_at set b).node) in
     subst (λ (y : Brand). length y.annotation_types.children ≤ 65535) same h
 
 pub few_enum_children : (set : Schemas) → Rule3 set → Rule2 set → (e : ℕ) (x : Enum) → Some x ≡ slice_get set.enums e → length x.annotation_types.children ≤ 65535
@@ -65,7 +65,7 @@ few_enum_children set rule3 lengths e x is =
     let there = slice_get_within set.enums e x (sym is) in
     let at = get_or_from_slice_get set.enums e x x (sym is) in
     let types = subst EnumHasTypes at (lengths.enums e x there) in
-    let count = subst (λ (y : Enum). length y.enumerants ≤ 65535) at (rule3.enumerants e x there) in
+    let count = subst (λ (y : Enum). length y.enumerants ≤ 65535) at (rule3.counts.enums e x there).enumerants in
     let counted = same_lengths x.annotation_types.children (map (λ (y : Enumerant). y.annotations) x.enumerants) types.1 in
     omega (arith, counted, length-map x.enumerants (λ (y : Enumerant). y.annotations))
 

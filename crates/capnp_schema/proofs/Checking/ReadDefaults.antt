@@ -16,10 +16,9 @@ use Rattle.capnp_wire.specs.Tree.{Tree}
 use Rattle.capnp_wire.specs.declared.size.ElementSize.{ElementSize}
 use Rattle.capnp_schema.specs.Types.{lists_of, seen_base, seen_type}
 use Rattle.capnp_schema.specs.Schema.{Schemas, ListValue, TypedField, fields_of, no_field}
-use Rattle.capnp_schema.specs.Accepted.{EachField, KindDefault, ListReads, Rule6}
+use Rattle.capnp_schema.specs.Accepted.{EachField, HaveAllWords, KindDefault, ListReads, Rule6}
 use Rattle.capnp_schema.specs.Broken.{IsBroken, default_list}
-use Rattle.capnp_schema.specs.ListDefaults.{LayerReads, ReadsDefault}
-use Rattle.capnp_schema.specs.Values.{HaveAllWords}
+use Rattle.capnp_schema.specs.Checking.ListDefaults.{LayerReads, ReadsDefault}
 use Rattle.capnp_schema.specs.Facts.Fields.{brand_there}
 
 reads_by : (r : Bool) (words : List ℕ) (b : BaseType) (n : ℕ) → (IsTrue r ↔ LayerReads words (variant_by b n)) → IsTrue r ↔ ListReads (ListValue words) (lists_of n (seen_base b))
@@ -72,8 +71,6 @@ read_all set n before end = λ b i hb hi. subst (λ (f : TypedField). KindDefaul
 
 pub rule6_stands : (set : Schemas) → HaveAllWords set → EachField set (λ b i f. KindDefault ListReads f.field.kind f.type) → Rule6 set
 rule6_stands set words reads = record {
-  defaults = λ k d h. (words.nodes k d h).defaults;
+  values = words;
   lists = reads;
-  annotations = λ k d h. (words.nodes k d h).annotations;
-  enum_annotations = words.enums;
 }

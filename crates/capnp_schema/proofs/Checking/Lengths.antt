@@ -1,11 +1,10 @@
 -- One type for each field and each annotation.
 use Rattle.std.proofs.Common.{ℕ, zero, suc, ◌≡◌, ◌≢◌, ◌<◌, true, false, List, [], ◌∷◌, length, get_or, slice_get, Some, None, Vec, refl, sym, ap, ◌∙◌, subst}
-use Rattle.std.specs.Prelude.{All}
 use Rattle.std.specs.Bool.{Decides}
 use Rattle.std.specs.Option.{unwrap_or}
 use Rattle.std.specs.declared.alloc.Global.{Global}
 use Rattle.std.proofs.lemmas.List.{length-map, ext_get_or}
-use Rattle.std.proofs.lemmas.Option.{slice_get_within, slice_get-get_or, get_or_from_slice_get, unwrap_or-slice_get}
+use Rattle.std.proofs.lemmas.Option.{slice_get_within, slice_get-get_or}
 use Rattle.capnp_base.specs.declared.introspect.«Type».{«Type» as TypeHandle}
 use Rattle.capnp_device.specs.declared.error.SchemaTable.TheVariants.{Brand as InBrands}
 use Rattle.capnp_schema.specs.declared.record.FieldRecord.{FieldRecord}
@@ -13,9 +12,9 @@ use Rattle.capnp_schema.specs.declared.record.EnumerantRecord.{EnumerantRecord}
 use Rattle.capnp_schema.specs.Types.{seen_type}
 use Rattle.capnp_schema.specs.Schema.{Schemas, Node, Brand, no_brand, no_node, brand_at, seen_annotation}
 use Rattle.capnp_schema.specs.Entries.{brand_node, node_of_entry}
-use Rattle.capnp_schema.specs.Accepted.{BrandHasTypes, EnumHasTypes, Rule2}
+use Rattle.capnp_schema.specs.Accepted.{BrandHasTypes, BrandStands}
 use Rattle.capnp_schema.specs.Broken.{IsBroken, brand_node as broken_node, brand_lengths}
-use Rattle.capnp_schema.specs.Lengths.{children_counts, field_counts, enumerant_counts, types_count, field_count, enumerant_count, BrandStands}
+use Rattle.capnp_schema.specs.Checking.Lengths.{children_counts, field_counts, enumerant_counts, types_count, field_count, enumerant_count}
 use Rattle.capnp_schema.proofs.FieldWalk.{found_node}
 
 pub types_at : (types : List (Vec TypeHandle Global)) (i : ℕ) → get_or (children_counts types) i 0 ≡ types_count (slice_get types i)
@@ -77,13 +76,3 @@ lacks_types set b x n is there broken = brand_lengths b (slice_get_within set.br
   where
     same : x ≡ brand_at set b
     same = ap (λ o. unwrap_or o (no_brand set)) is
-
-pub all_brands : (set : Schemas) → ((b : ℕ) → b < length set.brands → BrandStands set b) → All EnumHasTypes set.enums → Rule2 set
-all_brands set each enums = record {
-  node = λ k d h. subst (λ (y : Brand). y.node < length set.nodes) (unwrap_or-slice_get set.brands k (no_brand set) ∙ get_or_other set.brands k (no_brand set) d h) (each k h).node;
-  brands = λ b h. (each b h).types;
-  enums = enums;
-}
-  where
-    get_or_other : (xs : List Brand) (k : ℕ) (d e : Brand) → k < length xs → get_or xs k d ≡ get_or xs k e
-    get_or_other xs k d e h = get_or_from_slice_get xs k (get_or xs k e) d (slice_get-get_or xs k e h)

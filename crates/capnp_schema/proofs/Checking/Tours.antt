@@ -6,13 +6,13 @@ use Rattle.std.proofs.lemmas.List.{length_push}
 use Rattle.std.proofs.lemmas.Option.{slice_get_within, same_Some, slice_get_past}
 use Rattle.capnp_schema.specs.Schema.{Schemas, fields_of}
 use Rattle.capnp_schema.specs.Footprint.{Place}
-use Rattle.capnp_schema.specs.Spans.{span_names, entry_names}
-use Rattle.capnp_schema.specs.Levels.{IsOpen, AreOpen, AreInOrder, mark_at, IsClaimed, member_at, Names, PlainDone, by_discriminant, by_plain, Done, among_plain, by_member, IsCurrent, plain, member, IsClear, LevelStands, IsAbove, IsCurrentGroup, LevelsStand, TourStands}
+use Rattle.capnp_schema.specs.Checking.Spans.{span_names, entry_names}
+use Rattle.capnp_schema.specs.Checking.Levels.{IsOpen, AreOpen, AreInOrder, mark_at, IsClaimed, member_at, Names, PlainDone, by_discriminant, by_plain, Done, among_plain, by_member, IsCurrent, plain, member, IsClear, LevelStands, IsAbove, IsCurrentGroup, LevelsStand, TourStands}
 use Rattle.capnp_schema.specs.declared.check.claims.Claims.{Claims}
 use Rattle.capnp_schema.specs.declared.check.claims.Level.{Level}
 use Rattle.capnp_schema.specs.declared.check.spans.Span.{Span}
 use Rattle.capnp_schema.specs.declared.check.tour.Tour.{Tour}
-use Rattle.capnp_schema.proofs.LevelTimes.{slice_get-push, slice_get-last, slice_get-end, pushed}
+use Rattle.capnp_schema.proofs.Checking.LevelTimes.{slice_get-push, slice_get-last, slice_get-end, pushed}
 
 -- ---- times ----
 

@@ -1,0 +1,15 @@
+-- Lemmas that the steps of the check are proved by.
+pub mod AnnotationTypes
+pub mod BrandRefusals
+pub mod GroupChains
+pub mod GroupTable
+pub mod Lengths
+pub mod LevelTimes
+pub mod NameTables
+pub mod ReadDefaults
+pub mod SmallCounts
+pub mod SpanLemmas
+pub mod SpanTables
+pub mod TourGroups
+pub mod Tours
+pub mod WordPlaces

@@ -1,0 +1,9 @@
+-- What the steps of the check find out, for their own contracts and proofs.
+pub mod Annotations
+pub mod Entry
+pub mod Lengths
+pub mod Levels
+pub mod ListDefaults
+pub mod Marks
+pub mod Meetings
+pub mod Spans
