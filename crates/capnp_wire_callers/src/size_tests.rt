@@ -2,7 +2,7 @@
 
 use crate::fixtures::{ONE_EACH, answer, bytes_of, root_of};
 use capnp_wire::error::{ErrorKind, Result};
-use capnp_wire::laws::pointer_is_well_formed;
+use capnp_wire::laws::kept;
 use capnp_wire::message::Builder;
 use capnp_wire::size::ElementSize;
 use std::alloc::Global;
@@ -30,7 +30,7 @@ fn a_struct_has_its_sections(rt: HostRuntime) -> std::result::Result<(), Fail> {
         ),
         (
             "00 00 00 00 01 00 00 00 | 01 00 00 00 00 00 00 00",
-            Err(ErrorKind::ExpectedStructPointer),
+            Err(ErrorKind::WrongPointerKind),
         ),
     ];
     for (text, sections) in table {
@@ -74,7 +74,7 @@ fn what_is_built_has_its_size(rt: HostRuntime) -> std::result::Result<(), Fail> 
     let mut message = Builder::new(rt.alloc());
     let root = message.root();
     let fields = root.init_struct(ONE_EACH)?;
-    pointer_is_well_formed();
+    kept::new_structs_are_well_formed();
     assert_eq!(rt; fields.get_size(), ONE_EACH);
     let list = fields.get_pointer_field(0).init_list(ElementSize::FourBytes, 3)?;
     assert_eq!(rt; list.get_element_size(), ElementSize::FourBytes);
