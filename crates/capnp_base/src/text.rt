@@ -333,7 +333,8 @@ impl<'a> Builder<'a> {
         requires room { position self.old + length string.now ≤ length (text_bytes self.old) }
         ensures same { (text_behind self.new).ghost_name ≡ (text_behind self.old).ghost_name }
         ensures position { position self.new ≡ position self.old + length string.now }
-        ensures bytes { text_bytes self.new ≡ take (position self.old) (text_bytes self.old) ++ string.now ++ drop (position self.old + length string.now) (text_bytes self.old) }
+        ensures bytes { text_bytes self.new
+            ≡ take (position self.old) (text_bytes self.old) ++ string.now ++ drop (position self.old + length string.now) (text_bytes self.old) }
     {
         let bytes = string.as_bytes();
         let end = self.pos + bytes.len();

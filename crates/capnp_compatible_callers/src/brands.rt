@@ -59,7 +59,8 @@ pub fn seen_by_older<'s>(
     newer: u32,
     sections: StructReader<'s>,
 ) -> Result<Option<dynamic_struct::Reader<'s>>>
-    ensures answer { IfOk result (λ found. MatchOption found (IsCompatible (lists_seen set.now) older newer → ⊥) (IsSeenByOlder (lists_seen set.now) older newer sections.entry)) }
+    ensures answer { IfOk result (λ found. MatchOption found (IsCompatible (lists_seen set.now) older newer → ⊥)
+        (IsSeenByOlder (lists_seen set.now) older newer sections.entry)) }
     ensures there { IfOk result (λ found. HasBoth (lists_seen set.now) older newer) }
     ensures refused { IfErr result (λ e. e.kind ≢ OutOfMemory → (e.kind ≡ NoSuchElement) × (HasBoth (lists_seen set.now) older newer → ⊥)) }
 {
@@ -81,7 +82,8 @@ pub fn seen_by_newer<'s>(
     newer: u32,
     sections: StructReader<'s>,
 ) -> Result<Option<dynamic_struct::Reader<'s>>>
-    ensures answer { IfOk result (λ found. MatchOption found (IsCompatible (lists_seen set.now) older newer → ⊥) (IsSeenByNewer (lists_seen set.now) older newer sections.entry)) }
+    ensures answer { IfOk result (λ found. MatchOption found (IsCompatible (lists_seen set.now) older newer → ⊥)
+        (IsSeenByNewer (lists_seen set.now) older newer sections.entry)) }
     ensures there { IfOk result (λ found. HasBoth (lists_seen set.now) older newer) }
     ensures refused { IfErr result (λ e. e.kind ≢ OutOfMemory → (e.kind ≡ NoSuchElement) × (HasBoth (lists_seen set.now) older newer → ⊥)) }
 {
