@@ -1,28 +1,33 @@
--- What a write keeps of a struct that is built, what is cleared by a field's kind, and fields of one name.
-use Rattle.std.specs.Prelude.{ℕ, ◌*◌, ◌≤◌, ◌≡◌, refl, Bool, true, false, not, Option, Some, None}
+-- What a write keeps of a struct that is built, what is set and cleared by a field's kind, and fields of one name.
+use Rattle.std.specs.Prelude.{ℕ, suc, ◌*◌, ◌≤◌, ◌≡◌, refl, Bool, true, false, not, length, Option, Some, None, Result, Ok, Err, OnOk, OnErr, IfErr}
+use Rattle.capnp_device.specs.declared.error.Error.{Error}
 use Rattle.std.proofs.Common.{ap, sym, subst, ◌∙◌}
 use Rattle.std.proofs.lemmas.Bool.{true≢false}
 use Rattle.capnp_wire.specs.Tree.{StructTree}
 use Rattle.capnp_schema.specs.FieldLists.{IsFound, index_of, schema_of as field_schema, typed_of}
 use Rattle.capnp_schema.specs.Footprint.{Place}
 use Rattle.capnp_schema.specs.Schema.{Schemas}
-use Rattle.capnp_schema.specs.StructHandles.{number_of, set_of, struct_field}
+use Rattle.capnp_schema.specs.StructHandles.{number_of, set_of, struct_field, struct_node}
 use Rattle.capnp_schema.specs.declared.schema.fields.Field.{Field}
 use Rattle.capnp_schema.specs.declared.schema.structs.StructSchema.{StructSchema}
 use Rattle.capnp_records.specs.Step.{is_group_field}
 use Rattle.capnp_records.specs.Writes.Overlay.{cleared_content}
 use Rattle.capnp_records.specs.Writes.Slots.{Fits, brand_size}
 use Rattle.capnp_records.specs.Writes.TreeEnds.{group_cleared, slot_written}
-use Rattle.capnp_slots.specs.Fields.{IsRoomFor, Keeps, field_brand}
+use Rattle.capnp_slots.specs.Copied.{refusal_of}
+use Rattle.capnp_slots.specs.Fields.{IsRoomFor, Keeps, field_brand, names_of}
+use Rattle.capnp_slots.specs.GroupSets.{IsGroupSet, given_to_group}
 use Rattle.capnp_slots.specs.Primitives.{given_content, given_to}
 use Rattle.capnp_slots.specs.Sources.{IsSet, IsSetRefusal, IsTaken}
 use Rattle.capnp_device.specs.declared.error.ErrorKind.{ErrorKind}
 use Rattle.capnp_records.specs.Call.{Source}
-use Rattle.capnp_records.specs.Given.{Given, given_slot}
-use Rattle.capnp_records.specs.Writes.Overlay.{field_names}
+use Rattle.capnp_records.specs.Facts.FieldWrite.{writes-refl}
+use Rattle.capnp_records.specs.Given.{Given, Gives, Copies, CopiesGroup, Fails, given_group, given_slot}
+use Rattle.capnp_records.specs.Writes.TreeCopy.{TreeCopiesWithin}
+use Rattle.capnp_records.specs.Writes.Overlay.{field_names, switched}
 use Rattle.capnp_schema.specs.Schema.{default_of}
 use Rattle.capnp_dynamic.specs.Built.{IsUnder}
-use Rattle.capnp_dynamic.specs.FieldWrites.{cleared_kind, field_cleared}
+use Rattle.capnp_dynamic.specs.FieldWrites.{IsFieldSet, KindIsSet, SlotIsSet, cleared_kind, field_cleared}
 use Rattle.capnp_dynamic.specs.Reads.{BelongsTo}
 
 -- a struct of a schema is room for the schema's fields
@@ -106,3 +111,59 @@ cleared_group f x e = go (is_group_field (typed_of f).field.kind) e
     go : (q : Bool) → false ≡ not q → cleared_kind true f x ≡ cleared_kind q f x
     go true e = refl
     go false e = absurd (true≢false (sym e))
+
+-- ---- what is set, by its kind ----
+
+kept-same : (inside : Place → Bool) (s s' : StructTree) → s' ≡ s → Keeps inside s s'
+kept-same inside s s' e = subst (λ (x : StructTree). Keeps inside s x) (sym e) (record { writes = writes-refl inside s; formed = λ h. h })
+
+slot-kind : (q : Bool) → true ≡ not q → q ≡ false
+slot-kind true e = absurd (true≢false e)
+slot-kind false e = refl
+
+group-kind : (q : Bool) → false ≡ not q → q ≡ true
+group-kind true e = refl
+group-kind false e = absurd (true≢false (sym e))
+
+module _ {A : Type 0} (f : Field) (x : Source) (old new : StructTree) where
+  slot-set : (r : Result A Error) → OnOk r (IsSet f x old new) → OnErr r (new ≡ old) → IfErr r (λ e. IsSetRefusal (given_to f x) e.kind) → SlotIsSet f x old (refusal_of r) new
+  slot-set (Ok a) ok same cause = ok
+  slot-set (Err e) ok same cause = (cause, same)
+
+  pub slot_was_set : (r : Result A Error) → true ≡ not (is_group_field (typed_of f).field.kind) → OnOk r (IsSet f x old new) → OnErr r (new ≡ old) → IfErr r (λ e. IsSetRefusal (given_to f x) e.kind) →
+      IsFieldSet f x old (refusal_of r) new
+  slot_was_set r e ok same cause =
+      subst (λ (q : Bool). KindIsSet q f x old (refusal_of r) new) (sym (slot-kind (is_group_field (typed_of f).field.kind) e)) (slot-set r ok same cause)
+
+  pub slot_set_keeps : (r : Result A Error) → OnOk r (IsSet f x old new) → OnErr r (new ≡ old) → Keeps (names_of f) old new
+  slot_set_keeps (Ok a) ok same = ok.kept
+  slot_set_keeps (Err e) ok same = kept-same (names_of f) old new same
+
+  pub group_was_set : (r : Result A Error) → false ≡ not (is_group_field (typed_of f).field.kind) → IsGroupSet f (given_to_group f x) old (refusal_of r) new → IsFieldSet f x old (refusal_of r) new
+  group_was_set r e h = subst (λ (q : Bool). KindIsSet q f x old (refusal_of r) new) (sym (group-kind (is_group_field (typed_of f).field.kind) e)) h
+
+-- a set of one of several fields of one name is a set of each
+module _ (s : StructSchema) (o : Option ℕ) (f g : Field) (a : IsFound s o (Some f)) (b : IsFound s o (Some g)) where
+  group-moved : (given : Given) (old : StructTree) (refused : Option ErrorKind) (new : StructTree) → IsGroupSet f given old refused new → IsGroupSet g given old refused new
+  group-moved (Gives v) old refused new h = absurd h
+  group-moved (Copies source past v) old refused new h = absurd h
+  group-moved (CopiesGroup l x n) old refused new h =
+      moved (λ (z : StructSchema) (i : ℕ). TreeCopiesWithin (suc (length (set_of z).brands)) (set_of z) l x n (switched (struct_node z) (struct_field z i).field old) refused new) s o f g a b h
+  group-moved (Fails kind) old refused new h = h
+
+  slot-moved : (x : Source) (old : StructTree) (refused : Option ErrorKind) (new : StructTree) → SlotIsSet f x old refused new → SlotIsSet g x old refused new
+  slot-moved x old None new h = same_set s o f g a b x old new h
+  slot-moved x old (Some kind) new h = (same_refusal s o f g a b x kind h.0, h.1)
+
+  kind-moved : (q : Bool) (x : Source) (old : StructTree) (refused : Option ErrorKind) (new : StructTree) → KindIsSet q f x old refused new → KindIsSet q g x old refused new
+  kind-moved true x old refused new h =
+      subst (λ (given : Given). IsGroupSet g given old refused new) (same_field (λ (z : StructSchema) i. given_group (struct_field z i).type x) s o f g a b) (group-moved (given_to_group f x) old refused new h)
+  kind-moved false x old refused new h = slot-moved x old refused new h
+
+  pub same_field_set : (x : Source) (old : StructTree) (refused : Option ErrorKind) (new : StructTree) → IsFieldSet f x old refused new → IsFieldSet g x old refused new
+  same_field_set x old refused new h =
+      subst (λ (q : Bool). KindIsSet q g x old refused new) (same_field (λ (z : StructSchema) i. is_group_field (struct_field z i).field.kind) s o f g a b)
+      (kind-moved (is_group_field (typed_of f).field.kind) x old refused new h)
+
+  pub same_slot : is_group_field (typed_of g).field.kind ≡ false → is_group_field (typed_of f).field.kind ≡ false
+  same_slot e = same_field (λ (z : StructSchema) i. is_group_field (struct_field z i).field.kind) s o f g a b ∙ e

@@ -22,7 +22,7 @@ nth_struct-put_same tree.NoStructs j s a = absurd (omega (arith, a))
 nth_struct-put_same (tree.MoreStructs bytes ps es) zero s a = refl
 nth_struct-put_same (tree.MoreStructs bytes ps es) (suc j) s a = nth_struct-put_same es j s (omega (arith, a))
 
-pointer-here : (x : Tree) (j : ℕ) (y : Tree) → HasPointer x j → element_pointer (with_pointer_element j y x) j 1 ≡ y
+pub pointer-here : (x : Tree) (j : ℕ) (y : Tree) → HasPointer x j → element_pointer (with_pointer_element j y x) j 1 ≡ y
 pointer-here (tree.Pointers ps) j y there = nth_tree-put_same ps j y there
 pointer-here (tree.Composite d p es) j y there =
     cut-same (nth_tree (nth_struct (with_struct es j (with_pointer_tree (nth_struct es j) 0 y)) j).pointers 0)
@@ -30,7 +30,7 @@ pointer-here (tree.Composite d p es) j y there =
     ∙ nth_tree-put_same (nth_struct es j).pointers 0 y there.1)
 pointer-here x j y there = absurd there
 
-pointer-there : (x : Tree) (j : ℕ) (y : Tree) → HasPointer x j → HasPointer (with_pointer_element j y x) j
+pub pointer-there : (x : Tree) (j : ℕ) (y : Tree) → HasPointer x j → HasPointer (with_pointer_element j y x) j
 pointer-there (tree.Pointers ps) j y there = subst (λ (n : ℕ). j < n) (sym (tree_count-with_tree ps j y)) there
 pointer-there (tree.Composite d p es) j y there = (
   subst (λ (n : ℕ). j < n) (sym (struct_count-with_struct es j (with_pointer_tree (nth_struct es j) 0 y))) there.0,

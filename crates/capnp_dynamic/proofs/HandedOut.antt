@@ -1,6 +1,6 @@
 -- What was filled, or started anew, can be handed out.
 use Rattle.std.specs.Prelude.{ℕ, ◌<◌, ◌≡◌, refl, List, Bool, true, false, Option, Some, None, IsOk, Ok, Err, Result}
-use Rattle.std.proofs.Common.{ap, sym, subst, ◌∙◌}
+use Rattle.std.proofs.Common.{ap, arith, sym, subst, ◌∙◌}
 use Rattle.std.proofs.lemmas.Bool.{true≢false}
 use Rattle.capnp_device.specs.declared.error.ErrorKind.{ErrorKind}
 use Rattle.capnp_wire.specs.Tree as tree
@@ -8,15 +8,16 @@ use Rattle.capnp_wire.specs.Tree.{StructTree, Tree, nth_tree, tree_count}
 use Rattle.capnp_wire.specs.Defaults.{error_of, list_refusal}
 use Rattle.capnp_wire.specs.Edits.{with_pointer_tree, zero_list}
 use Rattle.capnp_wire.specs.Facts.Lengths.{HasAtLeast-extended}
-use Rattle.capnp_wire.specs.Reading.{as_data, as_text, is_null_tree}
-use Rattle.capnp_wire.specs.StructLists.{struct_list, struct_list_refusal}
+use Rattle.capnp_wire.specs.Reading.{as_data, as_list, as_text, is_null_tree}
+use Rattle.capnp_wire.specs.StructLists.{HoldsStructs, struct_list, struct_list_refusal}
 use Rattle.capnp_wire.specs.Words.{first_fault}
 use Rattle.capnp_wire.specs.declared.fault.Fault.{Fault}
 use Rattle.capnp_wire.specs.declared.size.ElementSize.{ElementSize}
 use Rattle.capnp_wire.specs.declared.size.ElementSize.TheVariants as size
 use Rattle.capnp_wire.specs.declared.size.StructSize.{StructSize}
 use Rattle.capnp_base.specs.ReadBack.{as_text-text_tree}
-use Rattle.capnp_schema.specs.Accepted.{Decodes, IsListOrNull as IsRootList, root_of}
+use Rattle.capnp_schema.specs.Accepted.{root_of}
+use Rattle.capnp_schema.specs.Defaults.{IsReadAs, default_tree}
 use Rattle.capnp_schema.specs.Schema.{Schemas, Value, TextValue, DataValue, ListValue}
 use Rattle.capnp_schema.specs.Types.{is_pointer, SchemaType, VoidType, BoolType, IntType, UIntType, EnumType, TextType, DataType, StructType, ListType, AnyPointerType, element_size}
 use Rattle.capnp_records.specs.Given.{text_tree}
@@ -34,8 +35,8 @@ use Rattle.capnp_records.specs.Step.{is_group_field}
 use Rattle.capnp_slots.specs.Fields.{IsPointer, IsSlot, field_set}
 use Rattle.capnp_slots.specs.Fills.{filled_in}
 use Rattle.capnp_slots.specs.Groups.{IsGroupAt}
-use Rattle.capnp_dynamic.specs.Built.{built_schema, built_struct}
-use Rattle.capnp_dynamic.specs.Handed.{CanBeHanded, HandsField, HandsNumber, HandsOut, IsListOrNull, IsPartRefusal, IsRefusalAt, part_handed}
+use Rattle.capnp_dynamic.specs.Built.{HoldsElements, built_schema, built_struct}
+use Rattle.capnp_dynamic.specs.Handed.{CanBeHanded, HandsField, HandsNumber, HandsOut, IsPartRefusal, IsRefusalAt, part_handed}
 use Rattle.capnp_dynamic.specs.declared.dynamic_struct.build.Builder.{Builder as StructHandle}
 use Rattle.capnp_dynamic.specs.declared.dynamic_value.build.Builder.TheVariants as built
 use Rattle.capnp_dynamic.proofs.Builders.{moved}
@@ -75,89 +76,77 @@ data-filled d x e set = no-error (as_data x) e
 no-leaf : (k : Fault) → first_fault (tree.FaultLeaf k) ≡ None → ⊥
 no-leaf k e = cc
 
-structs-are : (s : StructSize) (y : Tree) → struct_list_refusal s y ≡ None → first_fault (struct_list s y) ≡ None → IsListOrNull (struct_list s y)
-structs-are s tree.Null e h = λ _. refl
-structs-are s (tree.Struct bytes ps) e h = absurd cc
-structs-are s (tree.Voids n) e h = λ q. absurd (true≢false q)
-structs-are s (tree.Bits bs) e h = absurd cc
-structs-are s (tree.Numbers w bytes) e h = λ q. absurd (true≢false q)
-structs-are s (tree.Pointers ps) e h = λ q. absurd (true≢false q)
-structs-are s (tree.Composite w p es) e h = λ q. absurd (true≢false q)
-structs-are s (tree.FaultLeaf k) e h = absurd (no-leaf k h)
+structs-hold : (s : StructSize) (y : Tree) → struct_list_refusal s y ≡ None → first_fault (struct_list s y) ≡ None → HoldsStructs s (struct_list s y)
+structs-hold s tree.Null e h = tt
+structs-hold s (tree.Struct bytes ps) e h = absurd cc
+structs-hold s (tree.Voids n) e h = (omega arith, omega arith)
+structs-hold s (tree.Bits bs) e h = absurd cc
+structs-hold s (tree.Numbers w bytes) e h = (omega arith, omega arith)
+structs-hold s (tree.Pointers ps) e h = (omega arith, omega arith)
+structs-hold s (tree.Composite w p es) e h = (omega arith, omega arith)
+structs-hold s (tree.FaultLeaf k) e h = absurd (no-leaf k h)
 
-root : (x : Tree) → IsRootList x → IsListOrNull x
-root tree.Null h = λ _. refl
-root (tree.Struct bytes ps) h = absurd h
-root (tree.Voids n) h = λ q. absurd (true≢false q)
-root (tree.Bits bs) h = λ q. absurd (true≢false q)
-root (tree.Numbers w bytes) h = λ q. absurd (true≢false q)
-root (tree.Pointers ps) h = λ q. absurd (true≢false q)
-root (tree.Composite w p es) h = λ q. absurd (true≢false q)
-root (tree.FaultLeaf k) h = absurd h
+reads-ok : (s : ElementSize) (x : Tree) → IsOk (as_list s x 1) → list_refusal s x ≡ None
+reads-ok s x h = go (as_list s x 1) h
+  where
+    go : (r : Result Tree ErrorKind) → IsOk r → error_of r ≡ None
+    go (Ok y) h = refl
+    go (Err k) h = absurd (true≢false (sym h))
 
-module _ (element : ElementSize) where
-  there : (x : Tree) → list_refusal element x ≡ None → IsListOrNull x
-  there tree.Null e = λ _. refl
-  there (tree.Struct bytes ps) e = absurd cc
-  there (tree.Voids n) e = λ q. absurd (true≢false q)
-  there (tree.Bits bs) e = λ q. absurd (true≢false q)
-  there (tree.Numbers w bytes) e = λ q. absurd (true≢false q)
-  there (tree.Pointers ps) e = λ q. absurd (true≢false q)
-  there (tree.Composite w p es) e = λ q. absurd (true≢false q)
-  there (tree.FaultLeaf k) e = absurd cc
+-- a default that is entered as a list is read as its type's
+module _ (e : SchemaType) where
+  listed : (d : Value) → IsReadAs (ListType e) (default_tree d) → (x : Tree) → list_refusal (element_size e) x ≡ None → list_refusal (element_size e) (or_default d x) ≡ None
+  listed (ListValue words) h tree.Null n = reads-ok (element_size e) (root_of words) h.1
+  listed (ListValue words) h (tree.Struct bytes ps) n = n
+  listed (ListValue words) h (tree.Voids c) n = n
+  listed (ListValue words) h (tree.Bits bs) n = n
+  listed (ListValue words) h (tree.Numbers w bytes) n = n
+  listed (ListValue words) h (tree.Pointers ps) n = n
+  listed (ListValue words) h (tree.Composite w p es) n = n
+  listed (ListValue words) h (tree.FaultLeaf k) n = n
+  listed d h x n = n
 
-  -- a default that is entered as a list is one, or null
-  listed : (d : Value) → Decodes d → (x : Tree) → list_refusal element x ≡ None → IsListOrNull (or_default d x)
-  listed (ListValue words) h tree.Null e = root (root_of words) h.1
-  listed (ListValue words) h (tree.Struct bytes ps) e = there (tree.Struct bytes ps) e
-  listed (ListValue words) h (tree.Voids n) e = there (tree.Voids n) e
-  listed (ListValue words) h (tree.Bits bs) e = there (tree.Bits bs) e
-  listed (ListValue words) h (tree.Numbers w bytes) e = there (tree.Numbers w bytes) e
-  listed (ListValue words) h (tree.Pointers ps) e = there (tree.Pointers ps) e
-  listed (ListValue words) h (tree.Composite w p es) e = there (tree.Composite w p es) e
-  listed (ListValue words) h (tree.FaultLeaf k) e = there (tree.FaultLeaf k) e
-  listed d h x e = there x e
-
-list-filled : (set : Schemas) (d : Value) → Decodes d → (e : SchemaType) (x : Tree) → fill_due set d (ListType e) x ≡ None → first_fault (filled_tree set d (ListType e) x) ≡ None → IsListOrNull (filled_tree set d (ListType e) x)
-list-filled set d h (StructType b g) x e n = structs-are (brand_size set b) (or_default d x) e n
-list-filled set d h VoidType x e n = listed size.Void d h x e
-list-filled set d h BoolType x e n = listed size.Bit d h x e
-list-filled set d h (IntType k) x e n = listed (element_size (IntType k)) d h x e
-list-filled set d h (UIntType k) x e n = listed (element_size (UIntType k)) d h x e
-list-filled set d h (EnumType k) x e n = listed size.TwoBytes d h x e
-list-filled set d h TextType x e n = listed size.Pointer d h x e
-list-filled set d h DataType x e n = listed size.Pointer d h x e
-list-filled set d h (ListType t) x e n = listed size.Pointer d h x e
-list-filled set d h AnyPointerType x e n = listed size.Pointer d h x e
+list-filled : (set : Schemas) (d : Value) (e : SchemaType) → IsReadAs (ListType e) (default_tree d) → (x : Tree) → fill_due set d (ListType e) x ≡ None → first_fault (filled_tree set d (ListType e) x) ≡ None →
+    HoldsElements set e (filled_tree set d (ListType e) x)
+list-filled set d (StructType b g) h x e n = structs-hold (brand_size set b) (or_default d x) e n
+list-filled set d VoidType h x e n = listed VoidType d h x e
+list-filled set d BoolType h x e n = listed BoolType d h x e
+list-filled set d (IntType k) h x e n = listed (IntType k) d h x e
+list-filled set d (UIntType k) h x e n = listed (UIntType k) d h x e
+list-filled set d (EnumType k) h x e n = listed (EnumType k) d h x e
+list-filled set d TextType h x e n = listed TextType d h x e
+list-filled set d DataType h x e n = listed DataType d h x e
+list-filled set d (ListType t) h x e n = listed (ListType t) d h x e
+list-filled set d AnyPointerType h x e n = listed AnyPointerType d h x e
 
 -- ---- by type ----
 
-pub can-fill : (set : Schemas) (d : Value) → Decodes d → (t : SchemaType) (x : Tree) → fill_due set d t x ≡ None → first_fault (filled_tree set d t x) ≡ None → CanBeHanded set t (filled_tree set d t x)
-can-fill set d h TextType x e n = text-filled d x e set
-can-fill set d h DataType x e n = data-filled d x e set
-can-fill set d h (StructType b g) x e n = (refl, HasAtLeast-extended (brand_size set b) _)
-can-fill set d h (ListType t) x e n = list-filled set d h t x e n
-can-fill set d h VoidType x e n = tt
-can-fill set d h BoolType x e n = tt
-can-fill set d h (IntType k) x e n = tt
-can-fill set d h (UIntType k) x e n = tt
-can-fill set d h (EnumType k) x e n = tt
-can-fill set d h AnyPointerType x e n = tt
+pub can-fill : (set : Schemas) (d : Value) (t : SchemaType) → IsReadAs t (default_tree d) → (x : Tree) → fill_due set d t x ≡ None → first_fault (filled_tree set d t x) ≡ None → CanBeHanded set t (filled_tree set d t x)
+can-fill set d TextType h x e n = text-filled d x e set
+can-fill set d DataType h x e n = data-filled d x e set
+can-fill set d (StructType b g) h x e n = (refl, HasAtLeast-extended (brand_size set b) _)
+can-fill set d (ListType t) h x e n = list-filled set d t h x e n
+can-fill set d VoidType h x e n = tt
+can-fill set d BoolType h x e n = tt
+can-fill set d (IntType k) h x e n = tt
+can-fill set d (UIntType k) h x e n = tt
+can-fill set d (EnumType k) h x e n = tt
+can-fill set d AnyPointerType h x e n = tt
 
 -- ---- what is new ----
 
-zero-list : (s : ElementSize) (n : ℕ) → IsListOrNull (zero_list s n)
-zero-list size.Void n = λ q. absurd (true≢false q)
-zero-list size.Bit n = λ q. absurd (true≢false q)
-zero-list size.Byte n = λ q. absurd (true≢false q)
-zero-list size.TwoBytes n = λ q. absurd (true≢false q)
-zero-list size.FourBytes n = λ q. absurd (true≢false q)
-zero-list size.EightBytes n = λ q. absurd (true≢false q)
-zero-list size.Pointer n = λ q. absurd (true≢false q)
-zero-list size.InlineComposite n = λ q. absurd (true≢false q)
+zero-list : (s : ElementSize) (n : ℕ) → list_refusal s (zero_list s n) ≡ None
+zero-list size.Void n = refl
+zero-list size.Bit n = refl
+zero-list size.Byte n = refl
+zero-list size.TwoBytes n = refl
+zero-list size.FourBytes n = refl
+zero-list size.EightBytes n = refl
+zero-list size.Pointer n = refl
+zero-list size.InlineComposite n = refl
 
-pub new-list : (set : Schemas) (e : SchemaType) (n : ℕ) → IsListOrNull (new_list set e n)
-new-list set (StructType b g) n = λ q. absurd (true≢false q)
+pub new-list : (set : Schemas) (e : SchemaType) (n : ℕ) → HoldsElements set e (new_list set e n)
+new-list set (StructType b g) n = (omega arith, omega arith)
 new-list set VoidType n = zero-list size.Void n
 new-list set BoolType n = zero-list size.Bit n
 new-list set (IntType k) n = zero-list (element_size (IntType k)) n

@@ -1,9 +1,13 @@
 -- What builders of dynamic values stand on. Contracts cite these words; a builder's fields are public, so that it can be
 -- taken apart.
+use Rattle.std.specs.Prelude.{ℕ, ◌<◌, ◌≡◌, None}
 use Rattle.std.specs.Borrow.{MutBor}
+use Rattle.capnp_wire.specs.Defaults.{list_refusal}
 use Rattle.capnp_wire.specs.Elements.{built_list}
 use Rattle.capnp_wire.specs.Objects.{list_object_tree, struct_object_tree}
 use Rattle.capnp_wire.specs.Place.{struct_tree}
+use Rattle.capnp_wire.specs.Reading.{list_length}
+use Rattle.capnp_wire.specs.StructLists.{HoldsStructs}
 use Rattle.capnp_wire.specs.Tree.{StructTree, Tree}
 use Rattle.capnp_wire.specs.WellFormed.{IsWellFormed}
 use Rattle.capnp_wire.specs.declared.object.ListObject.{ListObject}
@@ -12,11 +16,11 @@ use Rattle.capnp_base.specs.declared.introspect.«Type».{«Type» as TypeHandle
 use Rattle.capnp_schema.specs.Entries.{lists_seen}
 use Rattle.capnp_schema.specs.Schema.{Schemas}
 use Rattle.capnp_schema.specs.StructHandles.{number_of, set_of}
-use Rattle.capnp_schema.specs.Types.{SchemaType, seen_type}
+use Rattle.capnp_schema.specs.Types.{SchemaType, StructType, element_size, seen_type}
 use Rattle.capnp_schema.specs.declared.schema.structs.StructSchema.{StructSchema}
 use Rattle.capnp_records.specs.Reading.{struct_record}
 use Rattle.capnp_records.specs.Record.{Left, Record}
-use Rattle.capnp_records.specs.Writes.Slots.{Fits}
+use Rattle.capnp_records.specs.Writes.Slots.{Fits, brand_size}
 use Rattle.capnp_dynamic.specs.declared.dynamic_list.build.Builder.{Builder as ListHandle}
 use Rattle.capnp_dynamic.specs.declared.dynamic_struct.build.Builder.{Builder as StructHandle}
 
@@ -61,3 +65,21 @@ built_elements l = list_object_tree l.builder.now
 
 abbrev pub built_reading : ListHandle → Tree
 built_reading l = built_list l.builder.now
+
+-- a list has elements of a type: structs of at least their schema's sections, or what is read as elements of the type's size;
+-- a null has none
+abbrev pub HoldsElements : Schemas → SchemaType → Tree → Type 0
+HoldsElements set (StructType b g) x = HoldsStructs (brand_size set b) x
+HoldsElements set t x = list_refusal (element_size t) x ≡ None
+
+-- a list has elements of its type, and is what the format lets a tree be
+pub record IsListUnder (set : Schemas) (t : SchemaType) (x : Tree) : Type 0 where
+  pub holds : HoldsElements set t x
+  pub formed : IsWellFormed x
+
+abbrev pub IsListReady : ListHandle → Type 0
+IsListReady l = IsListUnder (built_set l) (built_element l) (built_elements l)
+
+-- an element is there
+abbrev pub IsIn : ℕ → ListHandle → Type 0
+IsIn j l = j < list_length (built_elements l)

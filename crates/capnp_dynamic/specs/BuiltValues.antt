@@ -4,7 +4,7 @@ use Rattle.capnp_wire.specs.Standing.{levels_of, list_levels, list_of, struct_le
 use Rattle.capnp_wire.specs.WellFormed.{IsWellFormed}
 use Rattle.capnp_base.specs.AnyPointer.{pointer_behind, pointer_of, pointer_tree}
 use Rattle.capnp_base.specs.Text.{position, text_bytes}
-use Rattle.capnp_dynamic.specs.Built.{IsReady, built_elements, built_reading, built_schema, built_set, built_struct, built_type, list_behind}
+use Rattle.capnp_dynamic.specs.Built.{IsListReady, IsReady, built_reading, built_schema, built_set, built_struct, built_type, list_behind}
 use Rattle.capnp_dynamic.specs.Handles.{list_reader_of, list_set, reader_of, schema_of, type_of}
 use Rattle.capnp_dynamic.specs.declared.dynamic_value.Reader.{Reader as DynamicValue}
 use Rattle.capnp_dynamic.specs.declared.dynamic_value.Reader.TheVariants as dynamic
@@ -32,10 +32,10 @@ StandsAs (built.List x) (built.List y) = (built_type x ≡ built_type y) × (bui
 StandsAs (built.AnyPointer x) (built.AnyPointer y) = (pointer_behind x).now ≡ (pointer_behind y).now
 StandsAs x y = ⊥
 
--- what a value stands on is what the format lets a tree be, and a struct has its schema's sections
+-- what a value stands on is what the format lets a tree be; a struct has its schema's sections, and a list elements of its type
 abbrev pub CanBeRead : BuiltValue → Type 0
 CanBeRead (built.Struct s) = IsReady s
-CanBeRead (built.List l) = IsWellFormed (built_elements l)
+CanBeRead (built.List l) = IsListReady l
 CanBeRead (built.AnyPointer p) = IsWellFormed (pointer_tree p)
 CanBeRead v = ⊤
 

@@ -4,44 +4,46 @@ use Rattle.capnp_device.specs.declared.error.Error.{Error}
 use Rattle.capnp_wire.specs.Edits.{IsDueRefusal, is_struct, struct_in}
 use Rattle.capnp_wire.specs.Elements.{or_empty}
 use Rattle.capnp_wire.specs.Place.{struct_tree}
-use Rattle.capnp_wire.specs.Reading.{as_data, as_text, is_list, is_null_tree}
+use Rattle.capnp_wire.specs.Reading.{as_data, as_text, element_pointer, element_struct}
 use Rattle.capnp_wire.specs.Tree.{StructTree, Tree, nth_tree}
 use Rattle.capnp_base.specs.AnyPointer.{pointer_tree}
 use Rattle.capnp_base.specs.Text.{position, text_bytes}
 use Rattle.capnp_schema.specs.FieldLists.{typed_of}
-use Rattle.capnp_schema.specs.Schema.{Schemas, TypedField, default_of}
+use Rattle.capnp_schema.specs.Schema.{Schemas, TypedField, VoidValue, default_of}
 use Rattle.capnp_schema.specs.StructHandles.{number_of, set_of}
 use Rattle.capnp_schema.specs.Types.{struct_number, SchemaType, TextType, DataType, StructType, ListType, AnyPointerType, element_size, is_pointer, struct_brand}
 use Rattle.capnp_schema.specs.declared.schema.fields.Field.{Field}
-use Rattle.capnp_records.specs.Record.{Left}
+use Rattle.capnp_records.specs.Default.{read_of}
+use Rattle.capnp_records.specs.Facts.ListValues.{below_of}
+use Rattle.capnp_records.specs.Reading.{element_value}
+use Rattle.capnp_records.specs.Record.{Left, Value}
 use Rattle.capnp_records.specs.Step.{is_group_field}
 use Rattle.capnp_records.specs.Writes.Slots.{At, Fits}
 use Rattle.capnp_slots.specs.Fields.{field_brand, field_set}
 use Rattle.capnp_slots.specs.Inits.{IsInitRefusal, IsInitnRefusal}
 use Rattle.capnp_records.specs.Writes.Contents.{init_tree, initn_tree}
 use Rattle.capnp_records.specs.Writes.ElementEnds.{InitnContent}
-use Rattle.capnp_slots.specs.Fills.{fill_due, filled_tree}
+use Rattle.capnp_slots.specs.Fills.{ElementRests, element_due, element_filled, fill_due, filled_tree, is_behind}
 use Rattle.capnp_records.specs.Writes.TreeEnds.{InitContent, group_cleared, offset_of}
-use Rattle.capnp_dynamic.specs.Built.{built_element, built_elements, built_reading, built_schema, built_set, built_struct}
+use Rattle.capnp_dynamic.specs.Built.{HoldsElements, built_element, built_elements, built_reading, built_schema, built_set, built_struct}
 use Rattle.capnp_dynamic.specs.BuiltValues.{IsReaderOf}
 use Rattle.capnp_dynamic.specs.Reads.{field_read}
 use Rattle.capnp_dynamic.specs.Seen.{value_seen}
-use Rattle.capnp_dynamic.specs.Typed.{IsOf}
+use Rattle.capnp_dynamic.specs.Typed.{IsOf, IsUnder}
+use Rattle.capnp_dynamic.specs.declared.dynamic_list.build.Builder.{Builder as ListHandle}
 use Rattle.capnp_dynamic.specs.declared.dynamic_value.Reader.{Reader as DynamicValue}
 use Rattle.capnp_dynamic.specs.declared.dynamic_value.build.Builder.{Builder as BuiltValue}
 use Rattle.capnp_dynamic.specs.declared.dynamic_value.build.Builder.TheVariants as built
 
 -- ---- pointers ----
 
-abbrev pub IsListOrNull : Tree → Type 0
-IsListOrNull x = is_list x ≡ false → is_null_tree x ≡ true
-
--- what stands at a pointer is of its type: text or data that can be read, a struct of its schema's sections, a list or null
+-- what stands at a pointer is of its type: text or data that can be read, a struct of its schema's sections, a list of
+-- elements of their type, or null
 abbrev pub CanBeHanded : Schemas → SchemaType → Tree → Type 0
 CanBeHanded set TextType x = IsOk (as_text x)
 CanBeHanded set DataType x = IsOk (as_data x)
 CanBeHanded set (StructType b g) x = (is_struct x ≡ true) × Fits set b (struct_in x)
-CanBeHanded set (ListType e) x = IsListOrNull x
+CanBeHanded set (ListType e) x = HoldsElements set e x
 CanBeHanded set t x = ⊤
 
 -- a value stands on the tree of a pointer of a type: a text that is new writes at its start, and another one after its last
@@ -86,6 +88,37 @@ IsRefusalAt set f s e =
 
 abbrev pub IsPartRefusal : Field → StructTree → Error → Type 0
 IsPartRefusal f s e = IsRefusalAt (field_set f) (typed_of f) s e
+
+-- ---- elements ----
+
+-- what a reader of a list, with 64 levels, reads of an element
+abbrev pub element_read_of : Schemas → SchemaType → Tree → ℕ → Value
+element_read_of set t x j = read_of set VoidValue t (element_value set x (below_of set x) (Left 64) t j)
+
+-- the number of an element is what a reader of the list answers
+abbrev pub HandsElementNumber : Schemas → SchemaType → Tree → ℕ → BuiltValue → Type 0
+HandsElementNumber set t x j v = (r : DynamicValue) × IsReaderOf v r × (value_seen r ≡ element_read_of set t x j) × IsUnder set t r
+
+-- a builder's get of an element of a list that reads as `y`: a struct of the list as it stands, what stands behind the
+-- element's pointer once it was filled, or its number
+abbrev pub element_handed : Schemas → SchemaType → (x y : Tree) → ℕ → BuiltValue → Type 0
+element_handed set (StructType b g) x y j v = HandsOut false set (StructType b g) (struct_tree (element_struct x j)) v
+element_handed set TextType x y j v = HandsOut false set TextType (element_filled set TextType (element_pointer x j 1)) v
+element_handed set DataType x y j v = HandsOut false set DataType (element_filled set DataType (element_pointer x j 1)) v
+element_handed set (ListType e) x y j v = HandsOut false set (ListType e) (element_filled set (ListType e) (element_pointer x j 1)) v
+element_handed set AnyPointerType x y j v = HandsOut false set AnyPointerType (element_filled set AnyPointerType (element_pointer x j 1)) v
+element_handed set t x y j v = HandsElementNumber set t y j v
+
+abbrev pub HandsElement : ListHandle → ℕ → BuiltValue → Type 0
+HandsElement l j v = element_handed (built_set l) (built_element l) (built_elements l) (built_reading l) j v
+
+-- why it is refused: what stands behind the element's pointer is not read as its type, or the format or memory has no room
+abbrev pub IsElementPartRefusal : ListHandle → ℕ → Error → Type 0
+IsElementPartRefusal l j e = (is_behind (built_element l) ≡ true) × IsDueRefusal e (element_due (built_set l) (built_element l) (element_pointer (built_elements l) j 1))
+
+-- nothing has to be extended there
+abbrev pub RestsAt : ListHandle → ℕ → Type 0
+RestsAt l j = ElementRests (built_set l) (built_element l) (element_pointer (built_elements l) j 1)
 
 -- ---- what init and initn hand out ----
 

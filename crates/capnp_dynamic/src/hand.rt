@@ -52,7 +52,7 @@ fn is_pointer_variant(variant: TypeVariant) -> bool
 }
 
 /// A value that no pointer stands for, as one that is built.
-fn built_number<'a>(value: dynamic_value::Reader<'a>) -> dynamic_value::Builder<'a>
+pub(crate) fn built_number<'a>(value: dynamic_value::Reader<'a>) -> dynamic_value::Builder<'a>
     requires { IsNumber value }
     ensures reads { IsReaderOf result value.entry }
     ensures ready { CanBeRead result }

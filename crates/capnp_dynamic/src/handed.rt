@@ -8,9 +8,9 @@ ghost use Rattle.capnp_base.specs.Text.{position, text_bytes};
 ghost use Rattle.capnp_schema.specs.Entries.{lists_seen};
 ghost use Rattle.capnp_schema.specs.Tests.{seen_variant};
 ghost use Rattle.capnp_schema.specs.Types.{element_size, is_pointer, seen_type};
-ghost use Rattle.capnp_dynamic.specs.Built.{built_elements, built_reading, built_set, built_type};
+ghost use Rattle.capnp_dynamic.specs.Built.{HoldsElements, built_elements, built_reading, built_set, built_type};
 ghost use Rattle.capnp_dynamic.specs.BuiltValues.{CanBeRead};
-ghost use Rattle.capnp_dynamic.specs.Handed.{CanBeHanded, HandsOut, IsListOrNull};
+ghost use Rattle.capnp_dynamic.specs.Handed.{CanBeHanded, HandsOut};
 
 use crate::dynamic_value::Builder;
 use crate::{dynamic_list, dynamic_struct};
@@ -62,12 +62,13 @@ fn null_list<'a>(pointer: PointerBuilder<'a>, size: ElementSize) -> ListBuilder<
 }
 
 /// The list at a pointer, of elements of a type; a null is got as an empty one, and stays null.
+#[tactic(auto, using(crate::proofs::ListElements::null_or_list))]
 fn list_at<'a>(
     pointer: PointerBuilder<'a>,
     element: Type,
     set: &'a SchemaSet,
 ) -> dynamic_list::Builder<'a>
-    requires { IsListOrNull (object_tree pointer.old) }
+    requires { HoldsElements (lists_seen set.now) (seen_type element) (object_tree pointer.old) }
     ensures element { built_type result ≡ element }
     ensures set { built_set result ≡ lists_seen set.now }
     ensures now { built_elements result ≡ object_tree pointer.old }

@@ -12,4 +12,5 @@ pub mod Filled
 pub mod FilledSlots
 pub mod SetElements
 pub mod ElementParts
+pub mod ElementFills
 pub mod GroupCopies

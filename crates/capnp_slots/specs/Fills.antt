@@ -1,5 +1,5 @@
 -- What a builder's get of a slot leaves at its pointer, and why it is refused.
-use Rattle.std.specs.Prelude.{ℕ, ◌<◌, ◌≡◌, false, Option, None}
+use Rattle.std.specs.Prelude.{ℕ, ◌<◌, ◌≡◌, Bool, true, false, Option, None}
 use Rattle.capnp_device.specs.declared.error.ErrorKind.{ErrorKind}
 use Rattle.capnp_wire.specs.Tree.{StructTree, Tree, nth_tree, tree_count}
 use Rattle.capnp_wire.specs.Objects.{struct_object_tree}
@@ -13,8 +13,8 @@ use Rattle.capnp_wire.specs.Edits.{HoldsStruct, struct_refusal, with_pointer_tre
 use Rattle.capnp_wire.specs.StructLists.{HoldsStructs, struct_list_refusal}
 use Rattle.capnp_schema.specs.Defaults.{DefaultFits, default_tree}
 use Rattle.capnp_schema.specs.FieldLists.{typed_of}
-use Rattle.capnp_schema.specs.Schema.{Schemas, TextValue, DataValue, Value, default_of}
-use Rattle.capnp_schema.specs.Types.{SchemaType, TextType, DataType, StructType, ListType, element_size}
+use Rattle.capnp_schema.specs.Schema.{Schemas, VoidValue, TextValue, DataValue, Value, default_of}
+use Rattle.capnp_schema.specs.Types.{SchemaType, TextType, DataType, StructType, ListType, AnyPointerType, element_size}
 use Rattle.capnp_schema.specs.declared.schema.fields.Field.{Field}
 use Rattle.capnp_records.specs.Given.{data_tree, text_tree}
 use Rattle.capnp_records.specs.Writes.Fill.{filled_list, filled_struct, or_default}
@@ -101,3 +101,25 @@ tree_there s i = nth_tree (struct_object_tree s).pointers i
 
 abbrev pub HoldsThere : StructObject → ℕ → StructObject → Tree → Type 0
 HoldsThere s i s' t = struct_object_tree s' ≡ with_pointer_tree (struct_object_tree s) i t
+
+-- ---- elements of a list ----
+
+-- whether an element of a type stands behind a pointer of its own
+abbrev pub is_behind : SchemaType → Bool
+is_behind TextType = true
+is_behind DataType = true
+is_behind (ListType e) = true
+is_behind AnyPointerType = true
+is_behind t = false
+
+-- what a builder's get of an element leaves at its pointer, and why it is refused: as of a slot without a default
+abbrev pub element_filled : Schemas → SchemaType → Tree → Tree
+element_filled set t x = filled_tree set VoidValue t x
+
+abbrev pub element_due : Schemas → SchemaType → Tree → Option ErrorKind
+element_due set t x = fill_due set VoidValue t x
+
+-- nothing has to be extended there
+abbrev pub ElementRests : Schemas → SchemaType → Tree → Type 0
+ElementRests set (ListType (StructType b g)) x = HoldsStructs (brand_size set b) x
+ElementRests set t x = element_due set t x ≡ None

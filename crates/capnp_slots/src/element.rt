@@ -1,10 +1,10 @@
 //! Elements of a list that is built.
-ghost use Rattle.std.specs.Prelude.{None, true, ◌≡◌, ◌<◌, ◌^◌, IfErr, IfOk, OnErr, OnOk, length};
+ghost use Rattle.std.specs.Prelude.{None, true, ◌≡◌, ◌<◌, ◌^◌, IfErr, IfOk, IsOk, OnErr, OnOk, length};
 ghost use Rattle.capnp_wire.specs.Objects.{list_object_tree};
 ghost use Rattle.capnp_wire.specs.WellFormed.{IsWellFormed};
-ghost use Rattle.capnp_wire.specs.Edits.{IsCopyRefusal, fitted};
+ghost use Rattle.capnp_wire.specs.Edits.{IsCopyRefusal, IsDueRefusal, fitted};
 ghost use Rattle.capnp_wire.specs.Elements.{HasPointer, HasStruct, with_pointer_element, with_struct_element};
-ghost use Rattle.capnp_wire.specs.Reading.{element_struct};
+ghost use Rattle.capnp_wire.specs.Reading.{element_pointer, element_struct};
 ghost use Rattle.capnp_wire.specs.Standing.{struct_levels, struct_of};
 ghost use Rattle.capnp_wire.specs.Tree.{tree_count};
 ghost use Rattle.capnp_wire.specs.Words.{first_fault, first_fault_of_all};
@@ -17,6 +17,7 @@ ghost use Rattle.capnp_schema.specs.StructHandles.{number_of};
 ghost use Rattle.capnp_records.specs.Given.{Fails, given_element, given_slot};
 ghost use Rattle.capnp_records.specs.Writes.ElementEnds.{HasRoom, InitnContent, element_written, with_element_number};
 ghost use Rattle.capnp_slots.specs.ElementSets.{IsBlobOrList, IsElementInitRefusal, IsElementSet, NoStruct, TakesInto};
+ghost use Rattle.capnp_slots.specs.Fills.{ElementRests, element_due, element_filled, is_behind};
 ghost use Rattle.capnp_slots.specs.Primitives.{IsGivenAs, primitive_source};
 ghost use Rattle.capnp_slots.specs.Sources.{IsCopyDue, IsPointed, IsSetRefusal, IsSoundCopy, source_seen};
 ghost use Rattle.capnp_records.specs.Writes.Contents.{initn_tree, source_tree};
@@ -24,6 +25,7 @@ ghost use Rattle.capnp_records.specs.Writes.Slots.{At};
 ghost use Rattle.capnp_slots.specs.Inits.{IsInitnRefusal, is_sized};
 
 use crate::copies::copies_source;
+use crate::fill_element::fill_behind;
 use crate::make::make_sized;
 use crate::primitive::{Primitive, mismatch, number_fits, number_given};
 use crate::source::{ListInput, Source};
@@ -37,6 +39,7 @@ use capnp_wire::error::{Error, ErrorKind, Result};
 use capnp_wire::laws::kept_lists::{
     bits_keep_lists_well_formed, lent_pointers_keep_lists_well_formed,
     numbers_keep_lists_well_formed, pointers_keep_lists_well_formed,
+    pointers_of_lists_are_well_formed,
 };
 use capnp_wire::laws::{objects_hold_no_fault, struct_is_well_formed};
 use capnp_wire::object::ListObject;
@@ -294,4 +297,42 @@ pub fn init(
         TypeVariant::AnyPointer => Err(Error::from(ErrorKind::ListAnyPointerNotSupported)),
         _ => Err(Error::from(ErrorKind::ExpectedAListOrBlob)),
     }
+}
+
+/// Fills what stands behind the pointer of an element, as a builder's `get` does: of a list of structs, these get at least their
+/// schema's sections, with zeros and nulls after what they have. A null, a text, data, another list and an untyped pointer
+/// stay as they are.
+///
+/// Refused with `WrongPointerKind`, `WrongElementSize` or `TextNotTerminated` where what stands there is not read as the
+/// element's type, with `SizePastFormat` where the structs of a list would take 2^29 words or more, and else with
+/// `OutOfMemory`; then nothing has changed. Where nothing has to be extended no memory is taken.
+pub fn fill(list: &mut ListObject, set: &SchemaSet, element: Type, index: u32) -> Result<()>
+    requires behind { is_behind (seen_type element) ≡ true }
+    requires pointer { HasPointer (list_object_tree list.old) index }
+    requires formed { IsWellFormed (list_object_tree list.old) }
+    ensures filled { OnOk result (list_object_tree list.new ≡ with_pointer_element index (element_filled (lists_seen set.now) (seen_type element) (element_pointer (list_object_tree list.old) index 1)) (list_object_tree list.old)) }
+    ensures within { OnOk result (element_due (lists_seen set.now) (seen_type element) (element_pointer (list_object_tree list.old) index 1) ≡ None) }
+    ensures kept { OnOk result (IsWellFormed (list_object_tree list.new)) }
+    ensures refused { OnErr result (list_object_tree list.new ≡ list_object_tree list.old) }
+    ensures cause { IfErr result (λ e. IsDueRefusal e (element_due (lists_seen set.now) (seen_type element) (element_pointer (list_object_tree list.old) index 1))) }
+    ensures rests { ElementRests (lists_seen set.now) (seen_type element) (element_pointer (list_object_tree list.old) index 1) → IsOk result }
+{
+    fill_at(list, set, element.which(), index)
+}
+
+/// Fills what stands behind the pointer of an element of a type.
+fn fill_at(list: &mut ListObject, set: &SchemaSet, variant: TypeVariant, index: u32) -> Result<()>
+    requires behind { is_behind (seen_variant variant) ≡ true }
+    requires pointer { HasPointer (list_object_tree list.old) index }
+    requires formed { IsWellFormed (list_object_tree list.old) }
+    ensures filled { OnOk result (list_object_tree list.new ≡ with_pointer_element index (element_filled (lists_seen set.now) (seen_variant variant) (element_pointer (list_object_tree list.old) index 1)) (list_object_tree list.old)) }
+    ensures within { OnOk result (element_due (lists_seen set.now) (seen_variant variant) (element_pointer (list_object_tree list.old) index 1) ≡ None) }
+    ensures kept { OnOk result (IsWellFormed (list_object_tree list.new)) }
+    ensures refused { OnErr result (list_object_tree list.new ≡ list_object_tree list.old) }
+    ensures cause { IfErr result (λ e. IsDueRefusal e (element_due (lists_seen set.now) (seen_variant variant) (element_pointer (list_object_tree list.old) index 1))) }
+    ensures rests { ElementRests (lists_seen set.now) (seen_variant variant) (element_pointer (list_object_tree list.old) index 1) → IsOk result }
+{
+    pointers_of_lists_are_well_formed();
+    pointers_keep_lists_well_formed();
+    fill_behind(list.get_pointer_element(index), set, variant)
 }

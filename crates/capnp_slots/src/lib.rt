@@ -8,6 +8,7 @@ pub mod copied;
 mod copies;
 pub mod element;
 mod fill;
+mod fill_element;
 pub mod group;
 mod group_copy;
 mod loaded;

@@ -5,10 +5,9 @@ ghost use Rattle.capnp_wire.specs.Standing.{list_levels, list_of};
 ghost use Rattle.capnp_wire.specs.WellFormed.{IsWellFormed};
 ghost use Rattle.capnp_schema.specs.Entries.{lists_seen};
 ghost use Rattle.capnp_records.specs.Given.{given_element};
-ghost use Rattle.capnp_records.specs.Writes.ElementEnds.{HasRoom};
 ghost use Rattle.capnp_slots.specs.ElementSets.{IsElementInitRefusal, IsElementSet};
 ghost use Rattle.capnp_slots.specs.Sources.{IsSetRefusal};
-ghost use Rattle.capnp_dynamic.specs.Built.{built_element, built_elements, built_reading, built_set, built_type, list_behind};
+ghost use Rattle.capnp_dynamic.specs.Built.{IsIn, IsListReady, built_element, built_elements, built_reading, built_set, built_type, list_behind};
 ghost use Rattle.capnp_dynamic.specs.BuiltValues.{CanBeRead};
 ghost use Rattle.capnp_dynamic.specs.Handed.{HandsSized};
 ghost use Rattle.capnp_dynamic.specs.Handles.{list_reader_of, list_set, type_of};
@@ -114,14 +113,17 @@ impl<'a> Builder<'a> {
     /// and a struct of another schema; then with `BadPointer`, `TooDeep` or `CapabilityPointer` where a pointer in the value
     /// can't be followed, by the first of these in preorder, also where it would not fit; with `SizePastFormat` for a text of
     /// more than 2^29 - 2 bytes or data of more than 2^29 - 1; and with `OutOfMemory`. Then nothing has changed.
+    #[tactic(auto, using(crate::proofs::ListElements::room_in, crate::proofs::ListElements::set_ready))]
     pub fn set(&mut self, index: u32, value: dynamic_value::Reader<'_>) -> Result<()>
-        requires { HasRoom (built_element self.old) (built_elements self.old) index }
+        requires ready { IsListReady self.old }
+        requires inside { IsIn index self.old }
         ensures same { (list_behind self.new).ghost_name ≡ (list_behind self.old).ghost_name }
         ensures element { built_type self.new ≡ built_type self.old }
         ensures lists { built_set self.new ≡ built_set self.old }
         ensures set { OnOk result (IsElementSet (built_set self.old) (built_element self.old) (source_of value.entry) index (built_elements self.old) (built_elements self.new)) }
         ensures refused { OnErr result (built_elements self.new ≡ built_elements self.old) }
         ensures cause { IfErr result (λ e. IsSetRefusal (given_element (built_set self.old) (built_element self.old) (source_of value.entry)) e.kind) }
+        ensures ready { IsListReady self.new }
     {
         let element_type = self.element_type;
         let set = self.set;
@@ -135,9 +137,10 @@ impl<'a> Builder<'a> {
     /// list, text or data; with `SizePastFormat` for a text of more than 2^29 - 2 bytes, data of more than 2^29 - 1, 2^29
     /// elements or more, or structs that take 2^29 words or more; and with `OutOfMemory`. Then nothing has changed, as
     /// `element::init` says.
+    #[tactic(auto, using(crate::proofs::ListElements::room_in))]
     pub fn init(self, index: u32, size: u32) -> Result<dynamic_value::Builder<'a>>
-        requires room { HasRoom (built_element self) (built_elements self) index }
-        requires formed { IsWellFormed (built_elements self) }
+        requires ready { IsListReady self }
+        requires inside { IsIn index self }
         ensures stands { IfOk result (HandsSized (built_set self.entry) (built_element self.entry) size) }
         ensures ready { IfOk result CanBeRead }
         ensures cause { IfErr result (λ e. IsElementInitRefusal (built_set self.entry) size (built_element self.entry) e.kind) }

@@ -13,11 +13,10 @@ ghost use Rattle.capnp_schema.specs.StructHandles.{number_of, set_of, struct_fie
 ghost use Rattle.capnp_schema.specs.declared.schema.fields.Field.{Field};
 ghost use Rattle.capnp_records.specs.Part.{has_of, which_of};
 ghost use Rattle.capnp_records.specs.Writes.Slots.{Fits};
+ghost use Rattle.capnp_slots.specs.Copied.{refusal_of};
 ghost use Rattle.capnp_slots.specs.Fields.{IsSlot, Keeps, names_of};
-ghost use Rattle.capnp_slots.specs.Primitives.{given_to};
-ghost use Rattle.capnp_slots.specs.Sources.{IsSet, IsSetRefusal};
 ghost use Rattle.capnp_dynamic.specs.Built.{IsReady, built_record, built_schema, built_struct, struct_behind};
-ghost use Rattle.capnp_dynamic.specs.FieldWrites.{IsNamed, field_cleared};
+ghost use Rattle.capnp_dynamic.specs.FieldWrites.{IsFieldSet, IsNamed, field_cleared};
 ghost use Rattle.capnp_dynamic.specs.Handles.{reader_of, schema_of};
 ghost use Rattle.capnp_dynamic.specs.Reads.{BelongsTo};
 ghost use Rattle.capnp_dynamic.specs.SetValues.{source_of};
@@ -128,51 +127,53 @@ impl<'a> Builder<'a> {
         self.has(field)
     }
 
-    /// Sets a slot, as `slot::set`: a void slot takes every value; a value that no pointer stands for is stored; a text, data, a
-    /// struct and a list are copied into a slot of their kind or an untyped one, whatever the struct's schema or the list's
-    /// elements are. The copy is made first, and then a member becomes active.
+    /// Sets a field. A slot takes a value that no pointer stands for, or a copy of a text, data, struct or list of its kind,
+    /// whatever the struct's schema or the list's elements are; an untyped slot takes these four, and a void one every value.
+    /// The copy is made first, and then a member becomes active. A group takes a struct of its schema: it is cleared, and
+    /// then the source's fields are copied, first its active member, a null one as its default, and then its plain fields
+    /// by index, but for null pointers.
     ///
-    /// Refused, in this order: with `CannotSetAnyPointerFieldToAPrimitiveValue` for an untyped slot and a value of another
-    /// kind than these four, and with `TypeMismatch` for another slot and a value of another kind than its own; with
+    /// A slot is refused, in this order: with `CannotSetAnyPointerFieldToAPrimitiveValue` for an untyped one and a value of
+    /// another kind than these four, and with `TypeMismatch` for another one and a value of another kind than its own; with
     /// `BadPointer`, `TooDeep` or `CapabilityPointer` where a pointer in the value can't be followed, by the first of these in
     /// preorder; with `SizePastFormat` for a text of more than 2^29 - 2 bytes or data of more than 2^29 - 1; and with
-    /// `OutOfMemory`. Then nothing has changed.
-    #[tactic(auto, using(crate::proofs::Builders::room_for, crate::proofs::Builders::under_kept, crate::proofs::Builders::under_same))]
-    pub fn set_slot(&mut self, field: Field<'a>, value: dynamic_value::Reader<'_>) -> Result<()>
+    /// `OutOfMemory`. Then nothing has changed. A group is refused with `NotAStruct` for a value that is no struct and with
+    /// `TypeMismatch` for a struct of another schema, and then nothing has changed; and as the first of its copies that is
+    /// refused, where the group stays as it is by then, cleared and with what was copied before.
+    #[tactic(auto, using(crate::proofs::Builders::room_for, crate::proofs::Builders::under_kept, crate::proofs::Builders::under_same, crate::proofs::Builders::slot_was_set, crate::proofs::Builders::group_was_set, crate::proofs::Builders::slot_set_keeps))]
+    pub fn set(&mut self, field: Field<'a>, value: dynamic_value::Reader<'_>) -> Result<()>
         requires belongs { BelongsTo field (built_schema self.old) }
         requires ready { IsReady self.old }
-        requires slot { IsSlot field }
         ensures same { (struct_behind self.new).ghost_name ≡ (struct_behind self.old).ghost_name }
         ensures schema { built_schema self.new ≡ built_schema self.old }
-        ensures set { OnOk result (IsSet field.entry (source_of value.entry) (built_struct self.old) (built_struct self.new)) }
-        ensures refused { OnErr result (built_struct self.new ≡ built_struct self.old) }
-        ensures cause { IfErr result (λ e. IsSetRefusal (given_to field.entry (source_of value.entry)) e.kind) }
+        ensures set { IsFieldSet field.entry (source_of value.entry) (built_struct self.old) (refusal_of result) (built_struct self.new) }
+        ensures kept { Keeps (names_of field.entry) (built_struct self.old) (built_struct self.new) }
+        ensures refused { IsSlot field.entry → OnErr result (built_struct self.new ≡ built_struct self.old) }
         ensures ready { IsReady self.new }
     {
-        slot::set(self.builder, field, value.into_source())
+        if slot::is_slot(field) {
+            slot::set(self.builder, field, value.into_source())
+        } else {
+            group::set(self.builder, field, value.into_source())
+        }
     }
 
-    /// Sets the slot of a name, as `set_slot`. Refused with `FieldNotFound` where there is none of that name, and else as that
-    /// is; then nothing has changed.
-    #[tactic(auto, using(crate::proofs::Builders::same_set, crate::proofs::Builders::same_refusal, crate::proofs::Builders::found_belongs))]
-    pub fn set_slot_named(
-        &mut self,
-        field_name: &str,
-        value: dynamic_value::Reader<'_>,
-    ) -> Result<()>
-        requires ready { IsReady self.old }
-        requires slot { (f : Field) → IsNamed (built_schema self.old) field_name.now f → IsSlot f }
+    /// Sets the field of a name, as `set`. Refused first with `FieldNotFound` where there is none of that name, and then
+    /// nothing has changed.
+    #[tactic(auto, using(crate::proofs::Builders::same_field_set, crate::proofs::Builders::same_slot, crate::proofs::Builders::found_belongs))]
+    pub fn set_named(&mut self, field_name: &str, value: dynamic_value::Reader<'_>) -> Result<()>
+        requires { IsReady self.old }
         ensures same { (struct_behind self.new).ghost_name ≡ (struct_behind self.old).ghost_name }
         ensures schema { built_schema self.new ≡ built_schema self.old }
-        ensures set { (f : Field) → IsNamed (built_schema self.old) field_name.now f → OnOk result (IsSet f (source_of value.entry) (built_struct self.old) (built_struct self.new)) }
-        ensures refused { OnErr result (built_struct self.new ≡ built_struct self.old) }
-        ensures cause { (f : Field) → IsNamed (built_schema self.old) field_name.now f → IfErr result (λ e. IsSetRefusal (given_to f (source_of value.entry)) e.kind) }
+        ensures set { (f : Field) → IsNamed (built_schema self.old) field_name.now f → IsFieldSet f (source_of value.entry) (built_struct self.old) (refusal_of result) (built_struct self.new) }
+        ensures refused { (f : Field) → IsNamed (built_schema self.old) field_name.now f → IsSlot f → OnErr result (built_struct self.new ≡ built_struct self.old) }
         ensures none { field_named (struct_records (built_schema self.old)) field_name.now ≡ None → IsErrAnd result (λ e. e.kind ≡ FieldNotFound) }
+        ensures stays { field_named (struct_records (built_schema self.old)) field_name.now ≡ None → built_struct self.new ≡ built_struct self.old }
         ensures ready { IsReady self.new }
     {
         let schema = self.schema;
         let field = schema.get_field_by_name(field_name)?;
-        self.set_slot(field, value)
+        self.set(field, value)
     }
 
     /// Clears a field. The bits of a slot become zero, which reads as its default, or its pointer null; of a group the member

@@ -25,7 +25,7 @@ hand_out-requires-clause-handed c =
     (c.get_set-set.ensures ∙ ap set_of c.get_containing_struct.ensures.is)
     (ap seen_variant c.which-variant.ensures ∙ (seen_which c.get_type.result ∙ c.get_type.ensures.is))
     x
-    (can-fill (field_set f) (default_of (typed_of f).field) c.get_default-default.ensures.fits.decodes (typed_of f).type (pointer_in f s) c.in_ok-fill.ensures.within
+    (can-fill (field_set f) (default_of (typed_of f).field) (typed_of f).type c.get_default-default.ensures.fits.read (pointer_in f s) c.in_ok-fill.ensures.within
     (sym (ap first_fault x) ∙ c.objects_hold_no_fault.ensures.objects c.pointer.result.now))
 
 pub returns-clause-stands : goal.returns-clause-stands

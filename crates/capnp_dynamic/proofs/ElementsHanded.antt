@@ -1,0 +1,121 @@
+-- Elements of lists, as a builder hands them out.
+use Rattle.std.specs.Prelude.{ℕ, ◌<◌, ◌≡◌, refl, true, false, Some, Err}
+use Rattle.std.proofs.Common.{ap, sym, subst, ◌∙◌}
+use Rattle.std.proofs.lemmas.Bool.{true≢false}
+use Rattle.capnp_device.specs.declared.error.Error.{Error}
+use Rattle.capnp_wire.specs.Elements.{HasPointer, HasStruct}
+use Rattle.capnp_wire.specs.Facts.Lengths.{HasStruct-there}
+use Rattle.capnp_wire.specs.Place.{struct_tree}
+use Rattle.capnp_wire.specs.Reading.{element_struct, list_length}
+use Rattle.capnp_wire.specs.Tree as tree
+use Rattle.capnp_wire.specs.Tree.{StructTree, Tree}
+use Rattle.capnp_wire.specs.WellFormed.{IsWellFormed}
+use Rattle.capnp_base.specs.declared.introspect.«Type».{«Type» as TypeHandle}
+use Rattle.capnp_schema.specs.Defaults.{IsReadAs}
+use Rattle.capnp_schema.specs.Schema.{Schemas, VoidValue}
+use Rattle.capnp_schema.specs.StructHandles.{number_of, set_of}
+use Rattle.capnp_schema.specs.Types.{SchemaType, VoidType, BoolType, IntType, UIntType, EnumType, TextType, DataType, StructType, ListType, AnyPointerType, is_pointer, seen_type, struct_brand}
+use Rattle.capnp_schema.specs.declared.schema.structs.StructSchema.{StructSchema}
+use Rattle.capnp_records.specs.Default.{read_of}
+use Rattle.capnp_records.specs.Facts.Readers.{element_read}
+use Rattle.capnp_records.specs.Writes.ElementEnds.{HasRoom}
+use Rattle.capnp_records.specs.Writes.Slots.{Fits, brand_size}
+use Rattle.capnp_slots.specs.Fills.{is_behind}
+use Rattle.capnp_dynamic.specs.Built.{IsListUnder, IsUnder as IsStructUnder}
+use Rattle.capnp_dynamic.specs.Leaf.{IsNumber}
+use Rattle.capnp_dynamic.specs.Seen.{answered}
+use Rattle.capnp_dynamic.specs.Typed.{IsUnder}
+use Rattle.capnp_dynamic.specs.declared.dynamic_value.Reader.{Reader as DynamicValue}
+use Rattle.capnp_dynamic.specs.declared.dynamic_value.Reader.TheVariants as dynamic
+use Rattle.capnp_dynamic.proofs.ListElements.{room_in, struct_fits}
+
+-- ---- structs ----
+
+pub struct_there : (set : Schemas) (b g : ℕ) (x : Tree) (j : ℕ) → IsListUnder set (StructType b g) x → j < list_length x → HasStruct x j
+struct_there set b g x j under a = HasStruct-there (brand_size set b) x j under.holds a
+
+pub struct_ready : (set : Schemas) (b g : ℕ) (x : Tree) (j : ℕ) (schema : StructSchema) → set_of schema ≡ set → number_of schema ≡ b → IsListUnder set (StructType b g) x → j < list_length x →
+    (s : StructTree) → s ≡ element_struct x j → IsWellFormed (struct_tree s) → IsStructUnder schema s
+struct_ready set b g x j schema same number under a s e formed = record {
+  room = subst (λ (z : Schemas). Fits z (number_of schema) s) (sym same) (subst (λ (n : ℕ). Fits set n s) (sym number) (subst (Fits set b) (sym e) (struct_fits set b g x j under a)));
+  formed = formed;
+}
+
+-- ---- pointers ----
+
+pub pointer_there : (set : Schemas) (t : TypeHandle) (x : Tree) (j : ℕ) → is_behind (seen_type t) ≡ true → IsListUnder set (seen_type t) x → j < list_length x → HasPointer x j
+pointer_there set t x j behind under a = go (seen_type t) behind (room_in set t x j under a)
+  where
+    go : (u : SchemaType) → is_behind u ≡ true → HasRoom u x j → HasPointer x j
+    go TextType h r = r
+    go DataType h r = r
+    go (ListType e) h r = r
+    go AnyPointerType h r = r
+    go VoidType h r = absurd (true≢false (sym h))
+    go BoolType h r = absurd (true≢false (sym h))
+    go (IntType k) h r = absurd (true≢false (sym h))
+    go (UIntType k) h r = absurd (true≢false (sym h))
+    go (EnumType k) h r = absurd (true≢false (sym h))
+    go (StructType b g) h r = absurd (true≢false (sym h))
+
+-- an element has no default
+pub no_default : (t : SchemaType) → IsReadAs t tree.Null
+no_default VoidType = refl
+no_default BoolType = refl
+no_default (IntType k) = refl
+no_default (UIntType k) = refl
+no_default (EnumType k) = refl
+no_default TextType = refl
+no_default DataType = refl
+no_default (StructType b g) = tt
+no_default (ListType e) = (tt, refl)
+no_default AnyPointerType = refl
+
+pub behind_pointer : (t : SchemaType) → is_behind t ≡ true → is_pointer t ≡ true
+behind_pointer TextType h = refl
+behind_pointer DataType h = refl
+behind_pointer (ListType e) h = refl
+behind_pointer AnyPointerType h = refl
+behind_pointer (StructType b g) h = refl
+behind_pointer VoidType h = absurd (true≢false (sym h))
+behind_pointer BoolType h = absurd (true≢false (sym h))
+behind_pointer (IntType k) h = absurd (true≢false (sym h))
+behind_pointer (UIntType k) h = absurd (true≢false (sym h))
+behind_pointer (EnumType k) h = absurd (true≢false (sym h))
+
+-- ---- numbers ----
+
+-- an element that no pointer stands for is read
+pub is_read : (set : Schemas) (t : SchemaType) (x : Tree) (n j : ℕ) (e : Error) → is_pointer t ≡ false → answered (Err e) ≡ read_of set VoidValue t (element_read set x n t j) → ⊥
+is_read set VoidType x n j e h a = cc
+is_read set BoolType x n j e h a = cc
+is_read set (IntType k) x n j e h a = cc
+is_read set (UIntType k) x n j e h a = cc
+is_read set (EnumType k) x n j e h a = cc
+is_read set TextType x n j e h a = absurd (true≢false h)
+is_read set DataType x n j e h a = absurd (true≢false h)
+is_read set (StructType b g) x n j e h a = absurd (true≢false h)
+is_read set (ListType t) x n j e h a = absurd (true≢false h)
+is_read set AnyPointerType x n j e h a = absurd (true≢false h)
+
+pub is_number : (set : Schemas) (t : SchemaType) (v : DynamicValue) → is_pointer t ≡ false → IsUnder set t v → IsNumber v
+is_number set t dynamic.Void h u = tt
+is_number set t (dynamic.Bool x) h u = tt
+is_number set t (dynamic.Int8 x) h u = tt
+is_number set t (dynamic.Int16 x) h u = tt
+is_number set t (dynamic.Int32 x) h u = tt
+is_number set t (dynamic.Int64 x) h u = tt
+is_number set t (dynamic.UInt8 x) h u = tt
+is_number set t (dynamic.UInt16 x) h u = tt
+is_number set t (dynamic.UInt32 x) h u = tt
+is_number set t (dynamic.UInt64 x) h u = tt
+is_number set t (dynamic.Enum x) h u = tt
+is_number set t (dynamic.Text x) h u = true≢false (ap is_pointer u ∙ h)
+is_number set t (dynamic.«Data» x) h u = true≢false (ap is_pointer u ∙ h)
+is_number set t (dynamic.Struct x) h u = no-struct t (number_of x.schema) u.1 h
+  where
+    no-struct : (t : SchemaType) (n : ℕ) → struct_brand t ≡ Some n → is_pointer t ≡ false → ⊥
+    no-struct (StructType b g) n e h = true≢false h
+    no-struct t n e h = cc
+is_number set t (dynamic.List x) h u = true≢false (ap is_pointer u.1 ∙ h)
+is_number set t (dynamic.AnyPointer x) h u = true≢false (ap is_pointer u ∙ h)

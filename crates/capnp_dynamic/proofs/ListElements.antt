@@ -1,0 +1,159 @@
+-- In a list that has elements of its type each of them is there, also after one was written.
+use Rattle.std.specs.Prelude.{ℕ, ◌==◌, ◌<◌, ◌≡◌, refl, Bool, true, false, None, Result, Ok, Err, OnOk, OnErr}
+use Rattle.std.proofs.Common.{arith, sym, subst, ◌∙◌}
+use Rattle.std.proofs.lemmas.Bool.{true≢false}
+use Rattle.capnp_device.specs.declared.error.Error.{Error}
+use Rattle.capnp_device.specs.declared.error.ErrorKind.{ErrorKind}
+use Rattle.capnp_wire.specs.Defaults.{error_of, list_refusal}
+use Rattle.capnp_wire.specs.Elements.{with_bit_element, with_number_element, with_pointer_element}
+use Rattle.capnp_wire.specs.Facts.Lengths.{HasAtLeast-element_struct, HasStruct-there, HoldsStructs-with_struct_element}
+use Rattle.capnp_wire.specs.Facts.Room.{HasBit-there, HasNumber-there, HasPointer-there, reads_list-as_list}
+use Rattle.capnp_wire.specs.Elements.{reads_list}
+use Rattle.capnp_wire.specs.Reading.{as_list, element_struct, is_list, is_null_tree, list_if, list_length, reads_bits, reads_numbers, reads_pointers, reads_structs}
+use Rattle.capnp_wire.specs.StructLists.{HoldsStructs}
+use Rattle.capnp_wire.specs.Tree as tree
+use Rattle.capnp_wire.specs.Tree.{Tree}
+use Rattle.capnp_wire.specs.WellFormed.{IsWellFormed}
+use Rattle.capnp_wire.specs.declared.size.ElementSize.{ElementSize}
+use Rattle.capnp_wire.specs.declared.size.ElementSize.TheVariants as size
+use Rattle.capnp_wire.specs.declared.size.StructSize.{StructSize}
+use Rattle.capnp_base.specs.declared.introspect.«Type».{«Type» as TypeHandle}
+use Rattle.capnp_base.specs.Types.{variant_of}
+use Rattle.capnp_base.specs.declared.introspect.TypeVariant.{TypeVariant}
+use Rattle.capnp_base.specs.declared.introspect.TypeVariant.TheVariants as variant
+use Rattle.capnp_schema.specs.Facts.Layers.{seen_which}
+use Rattle.capnp_schema.specs.Schema.{Schemas}
+use Rattle.capnp_schema.specs.Tests.{seen_variant}
+use Rattle.capnp_schema.specs.Types.{SchemaType, VoidType, BoolType, IntType, UIntType, EnumType, TextType, DataType, StructType, ListType, AnyPointerType, element_size, seen_type}
+use Rattle.capnp_records.specs.Call.{Source}
+use Rattle.capnp_records.specs.Writes.ElementEnds.{HasRoom, element_written}
+use Rattle.capnp_records.specs.Writes.Slots.{Bits, At, Content, Fits, brand_size}
+use Rattle.capnp_slots.specs.ElementSets.{IsElementSet, element_content}
+use Rattle.capnp_dynamic.specs.Built.{HoldsElements, IsListUnder}
+
+-- ---- a list, or null ----
+
+module _ (s : ElementSize) where
+  pub there : (x : Tree) → list_refusal s x ≡ None → is_list x ≡ false → is_null_tree x ≡ true
+  there tree.Null e = λ _. refl
+  there (tree.Struct bytes ps) e = absurd cc
+  there (tree.Voids n) e = λ q. absurd (true≢false q)
+  there (tree.Bits bs) e = λ q. absurd (true≢false q)
+  there (tree.Numbers w bytes) e = λ q. absurd (true≢false q)
+  there (tree.Pointers ps) e = λ q. absurd (true≢false q)
+  there (tree.Composite d p es) e = λ q. absurd (true≢false q)
+  there (tree.FaultLeaf k) e = absurd cc
+
+structs-there : (s : StructSize) (x : Tree) → HoldsStructs s x → is_list x ≡ false → is_null_tree x ≡ true
+structs-there s tree.Null h = λ _. refl
+structs-there s (tree.Composite d p es) h = λ q. absurd (true≢false q)
+structs-there s x h = absurd h
+
+pub null_or_list : (set : Schemas) (t : SchemaType) (x : Tree) → HoldsElements set t x → is_list x ≡ false → is_null_tree x ≡ true
+null_or_list set (StructType b g) x h = structs-there (brand_size set b) x h
+null_or_list set VoidType x h = there size.Void x h
+null_or_list set BoolType x h = there size.Bit x h
+null_or_list set (IntType k) x h = there (element_size (IntType k)) x h
+null_or_list set (UIntType k) x h = there (element_size (UIntType k)) x h
+null_or_list set (EnumType k) x h = there size.TwoBytes x h
+null_or_list set TextType x h = there size.Pointer x h
+null_or_list set DataType x h = there size.Pointer x h
+null_or_list set (ListType e) x h = there size.Pointer x h
+null_or_list set AnyPointerType x h = there size.Pointer x h
+
+-- ---- each element is there ----
+
+some-there : (x : Tree) (j : ℕ) → j < list_length x → is_null_tree x ≡ false
+some-there tree.Null j a = absurd (omega (arith, a))
+some-there (tree.Struct bytes ps) j a = refl
+some-there (tree.Voids n) j a = refl
+some-there (tree.Bits bs) j a = refl
+some-there (tree.Numbers w bytes) j a = refl
+some-there (tree.Pointers ps) j a = refl
+some-there (tree.Composite d p es) j a = refl
+some-there (tree.FaultLeaf k) j a = refl
+
+reads-so : (s : ElementSize) (x : Tree) (j : ℕ) → list_refusal s x ≡ None → j < list_length x → reads_list s x ≡ true
+reads-so s x j e a = go (as_list s x 1) refl e
+  where
+    go : (r : Result Tree ErrorKind) → as_list s x 1 ≡ r → error_of r ≡ None → reads_list s x ≡ true
+    go (Ok y) is h = reads_list-as_list s x 1 y (some-there x j a) is
+    go (Err k) is h = absurd cc
+
+module _ (set : Schemas) (x : Tree) (j : ℕ) (formed : IsWellFormed x) (a : j < list_length x) where
+  by-variant : (v : TypeVariant) → HoldsElements set (seen_variant v) x → HasRoom (seen_variant v) x j
+  by-variant variant.Void h = tt
+  by-variant variant.Bool h = HasBit-there x j (reads-so size.Bit x j h a) a
+  by-variant variant.Int8 h = HasNumber-there size.Byte 1 x j refl refl (reads-so size.Byte x j h a) formed a
+  by-variant variant.Int16 h = HasNumber-there size.TwoBytes 2 x j refl refl (reads-so size.TwoBytes x j h a) formed a
+  by-variant variant.Int32 h = HasNumber-there size.FourBytes 4 x j refl refl (reads-so size.FourBytes x j h a) formed a
+  by-variant variant.Int64 h = HasNumber-there size.EightBytes 8 x j refl refl (reads-so size.EightBytes x j h a) formed a
+  by-variant variant.UInt8 h = HasNumber-there size.Byte 1 x j refl refl (reads-so size.Byte x j h a) formed a
+  by-variant variant.UInt16 h = HasNumber-there size.TwoBytes 2 x j refl refl (reads-so size.TwoBytes x j h a) formed a
+  by-variant variant.UInt32 h = HasNumber-there size.FourBytes 4 x j refl refl (reads-so size.FourBytes x j h a) formed a
+  by-variant variant.UInt64 h = HasNumber-there size.EightBytes 8 x j refl refl (reads-so size.EightBytes x j h a) formed a
+  by-variant variant.Text h = HasPointer-there x j (reads-so size.Pointer x j h a) formed a
+  by-variant variant.«Data» h = HasPointer-there x j (reads-so size.Pointer x j h a) formed a
+  by-variant (variant.Struct s) h = HasStruct-there (brand_size set s.number) x j h a
+  by-variant variant.AnyPointer h = HasPointer-there x j (reads-so size.Pointer x j h a) formed a
+  by-variant (variant.Enum e) h = HasNumber-there size.TwoBytes 2 x j refl refl (reads-so size.TwoBytes x j h a) formed a
+  by-variant (variant.List t) h = HasPointer-there x j (reads-so size.Pointer x j h a) formed a
+
+pub room_in : (set : Schemas) (t : TypeHandle) (x : Tree) (j : ℕ) → IsListUnder set (seen_type t) x → j < list_length x → HasRoom (seen_type t) x j
+room_in set t x j under a =
+    subst (λ (u : SchemaType). HasRoom u x j) (seen_which t)
+    (by-variant set x j under.formed a (variant_of t) (subst (λ (u : SchemaType). HoldsElements set u x) (sym (seen_which t)) under.holds))
+
+pub struct_fits : (set : Schemas) (b g : ℕ) (x : Tree) (j : ℕ) → IsListUnder set (StructType b g) x → j < list_length x → Fits set b (element_struct x j)
+struct_fits set b g x j under a = HasAtLeast-element_struct (brand_size set b) x j under.holds under.formed a
+
+-- ---- with another element ----
+
+same-if : (q : Bool) (x y : Tree) → error_of (list_if q x 1) ≡ error_of (list_if q y 1)
+same-if true x y = refl
+same-if false x y = refl
+
+module _ (s : ElementSize) (i : ℕ) where
+  bit-kept : (bit : Bool) (x : Tree) → list_refusal s (with_bit_element i bit x) ≡ list_refusal s x
+  bit-kept bit (tree.Bits bs) = same-if (reads_bits s) _ (tree.Bits bs)
+  bit-kept bit x = refl
+
+  number-kept : (w n : ℕ) (x : Tree) → list_refusal s (with_number_element w i n x) ≡ list_refusal s x
+  number-kept w n (tree.Numbers v bytes) = same-if (reads_numbers s v) _ (tree.Numbers v bytes)
+  number-kept w n (tree.Composite d p es) = same-if (reads_structs s d p) _ (tree.Composite d p es)
+  number-kept w n x = refl
+
+  pointer-kept : (y x : Tree) → list_refusal s (with_pointer_element i y x) ≡ list_refusal s x
+  pointer-kept y (tree.Pointers ps) = same-if (reads_pointers s) _ (tree.Pointers ps)
+  pointer-kept y (tree.Composite d p es) = same-if (reads_structs s d p) _ (tree.Composite d p es)
+  pointer-kept y x = refl
+
+pub elements_kept : (set : Schemas) (t : SchemaType) (j : ℕ) (c : Content) (x : Tree) → HoldsElements set t x → HoldsElements set t (element_written t x j c)
+elements_kept set VoidType j (Bits n) x h = h
+elements_kept set BoolType j (Bits n) x h = bit-kept size.Bit j (n == 1) x ∙ h
+elements_kept set (IntType k) j (Bits n) x h = number-kept (element_size (IntType k)) j k n x ∙ h
+elements_kept set (UIntType k) j (Bits n) x h = number-kept (element_size (UIntType k)) j k n x ∙ h
+elements_kept set (EnumType k) j (Bits n) x h = number-kept size.TwoBytes j 2 n x ∙ h
+elements_kept set TextType j (Bits n) x h = h
+elements_kept set DataType j (Bits n) x h = h
+elements_kept set (StructType b g) j (Bits n) x h = h
+elements_kept set (ListType e) j (Bits n) x h = h
+elements_kept set AnyPointerType j (Bits n) x h = h
+elements_kept set (StructType b g) j (At y) x h = HoldsStructs-with_struct_element (brand_size set b) j _ x h
+elements_kept set VoidType j (At y) x h = pointer-kept size.Void j y x ∙ h
+elements_kept set BoolType j (At y) x h = pointer-kept size.Bit j y x ∙ h
+elements_kept set (IntType k) j (At y) x h = pointer-kept (element_size (IntType k)) j y x ∙ h
+elements_kept set (UIntType k) j (At y) x h = pointer-kept (element_size (UIntType k)) j y x ∙ h
+elements_kept set (EnumType k) j (At y) x h = pointer-kept size.TwoBytes j y x ∙ h
+elements_kept set TextType j (At y) x h = pointer-kept size.Pointer j y x ∙ h
+elements_kept set DataType j (At y) x h = pointer-kept size.Pointer j y x ∙ h
+elements_kept set (ListType e) j (At y) x h = pointer-kept size.Pointer j y x ∙ h
+elements_kept set AnyPointerType j (At y) x h = pointer-kept size.Pointer j y x ∙ h
+
+-- what a set of an element leaves has elements of its type
+pub set_ready : {A : Type 0} (set : Schemas) (t : SchemaType) (x : Source) (j : ℕ) (old new : Tree) (r : Result A Error) → IsListUnder set t old → OnOk r (IsElementSet set t x j old new) → OnErr r (new ≡ old) → IsListUnder set t new
+set_ready set t x j old new (Ok a) under ok same = record {
+  holds = subst (HoldsElements set t) (sym ok.written) (elements_kept set t j (element_content set t x) old under.holds);
+  formed = ok.formed under.formed;
+}
+set_ready set t x j old new (Err e) under ok same = subst (IsListUnder set t) (sym same) under
