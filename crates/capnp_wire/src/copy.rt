@@ -24,6 +24,7 @@ use std::alloc::Global;
 ///
 /// Refused as `copy_found`.
 #[cycle(copy)]
+#[inline(always)]
 pub fn copy_place(alloc: Global, place: Place<'_>) -> Result<Object>
     ensures copy { IfOk result (λ object. object_tree object ≡ place_tree place.entry) }
     ensures sound { IfOk result (λ _. first_fault (place_tree place.entry) ≡ None) }
@@ -90,6 +91,7 @@ fn copy_pointers(alloc: Global, pointers: Pointers<'_>) -> Result<Vec<Object>>
 
 /// The objects of a composite list's elements.
 #[cycle(copy)]
+#[inline(never)]
 fn copy_elements(
     alloc: Global,
     size: StructSize,
