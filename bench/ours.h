@@ -25,5 +25,6 @@ uint64_t bench_wire_large_numbers(const uint8_t *message, size_t length, uint64_
 uint64_t bench_wire_next(const uint8_t *message, size_t length, uint64_t rounds);
 uint64_t bench_wire_total_size(const uint8_t *message, size_t length, uint64_t rounds);
 uint64_t bench_wire_copy(const uint8_t *message, size_t length, uint64_t rounds);
+uint64_t bench_wire_build(const uint8_t *message, size_t length, uint64_t rounds);
 uint64_t bench_wire_encode(const uint8_t *message, size_t length, uint64_t rounds);
 }

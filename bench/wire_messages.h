@@ -35,13 +35,17 @@ inline Bytes small() {
   return bytes_of(message);
 }
 
+inline void fill_items(capnp::List<Item>::Builder items, bool with_texts) {
+  for (unsigned i = 0; i < items.size(); i++) {
+    auto item = items[i];
+    fill(item, i);
+    if (with_texts) item.setText("a text of 20 letters");
+  }
+}
+
 inline Bytes items(unsigned count, bool with_texts) {
   capnp::MallocMessageBuilder message(8 * count + 16);
-  auto items = message.initRoot<Root>().initItems(count);
-  for (unsigned i = 0; i < count; i++) {
-    fill(items[i], i);
-    if (with_texts) items[i].setText("a text of 20 letters");
-  }
+  fill_items(message.initRoot<Root>().initItems(count), with_texts);
   return bytes_of(message);
 }
 

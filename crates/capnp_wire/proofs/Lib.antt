@@ -50,3 +50,4 @@ pub mod ObjectFaults
 pub mod Filling
 pub mod Blobs
 pub mod SameTrees
+pub mod NoPointers

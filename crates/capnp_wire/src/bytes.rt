@@ -93,16 +93,9 @@ pub fn get_word(bytes: &[u8], w: usize) -> u64
 {
     let start = 8 * w;
     if w < bytes.len() / 8 {
-        u64::from_le_bytes([
-            bytes[start],
-            bytes[start + 1],
-            bytes[start + 2],
-            bytes[start + 3],
-            bytes[start + 4],
-            bytes[start + 5],
-            bytes[start + 6],
-            bytes[start + 7],
-        ])
+        let mut word: [u8; 8] = [0; 8];
+        word.copy_from_slice(&bytes[start..start + 8]);
+        u64::from_le_bytes(word)
     } else {
         number_from(bytes, start, 8)
     }

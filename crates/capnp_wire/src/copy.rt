@@ -14,7 +14,7 @@ use crate::look::{
     Elements, Found, Place, Pointers, StructParts, count_elements, count_pointers, get_element,
     get_pointer, look,
 };
-use crate::make::make_nulls;
+use crate::make::{make_nulls, make_room};
 use crate::object::{ListObject, Object, StructObject};
 use crate::size::StructSize;
 use capnp_device::error::Result;
@@ -24,6 +24,7 @@ use std::alloc::Global;
 ///
 /// Refused as `copy_found`.
 #[cycle(copy)]
+#[inline(always)]
 pub fn copy_place(alloc: Global, place: Place<'_>) -> Result<Object>
     ensures copy { IfOk result (λ object. object_tree object ≡ place_tree place.entry) }
     ensures sound { IfOk result (λ _. first_fault (place_tree place.entry) ≡ None) }
@@ -34,8 +35,9 @@ pub fn copy_place(alloc: Global, place: Place<'_>) -> Result<Object>
 
 /// The object of what was found. Each section and each list takes its memory once.
 ///
-/// Refused with `OutOfMemory` where memory is refused, and with `BadPointer`, `TooDeep` or `CapabilityPointer` where a
-/// pointer in it can't be followed, by the first of these in preorder; with either where both hold.
+/// Refused with `OutOfMemory` where memory is refused, or a list has more than 2^20 structs of size zero, and with
+/// `BadPointer`, `TooDeep` or `CapabilityPointer` where a pointer in it can't be followed, by the first of these in
+/// preorder; with either where both hold.
 #[cycle(copy)]
 #[inline(always)]
 pub fn copy_found(alloc: Global, found: Found<'_>) -> Result<Object>
@@ -89,6 +91,7 @@ fn copy_pointers(alloc: Global, pointers: Pointers<'_>) -> Result<Vec<Object>>
 
 /// The objects of a composite list's elements.
 #[cycle(copy)]
+#[inline(never)]
 fn copy_elements(
     alloc: Global,
     size: StructSize,
@@ -99,7 +102,7 @@ fn copy_elements(
     ensures refused { IfErr result (λ error. IsCopyRefusal error (first_fault_of_elements (element_structs size.data_words size.pointers elements.entry))) }
 {
     let count = count_elements(size, elements);
-    let mut objects = Vec::with_capacity(alloc, count)?;
+    let mut objects = make_room(alloc, size, count)?;
     for i in 0..count {
         let object = copy_struct(alloc, get_element(size, elements, i))?;
         objects.push(object)?;

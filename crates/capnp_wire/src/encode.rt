@@ -158,6 +158,7 @@ fn get_bits(bits: &[u8], count: u32, k: usize) -> u8
 }
 
 /// Bits, eight in each byte, up to a whole word.
+#[inline(never)]
 fn append_bits(out: &mut Vec<u8>, bits: &[u8], count: u32) -> Appended
     ensures { IfOk result (λ _. out.new.items ≡ out.old.items ++ packed (8 * list_words 1 count) (bits_from bits.now 0 count)) }
 {
@@ -196,6 +197,7 @@ fn append_room(out: &mut Vec<u8>, words: usize) -> Appended
 
 /// An object, and then what its pointers lead to.
 #[cycle(append)]
+#[inline(always)]
 fn append_object(out: &mut Vec<u8>, object: &Object) -> Appended
     requires held { IsWellFormed (object_tree object.now) }
     requires small { words_of (object_tree object.now) < 2 ^ 29 }
@@ -210,6 +212,7 @@ fn append_object(out: &mut Vec<u8>, object: &Object) -> Appended
 
 /// The same of a struct.
 #[cycle(append)]
+#[inline(always)]
 fn append_struct(out: &mut Vec<u8>, object: &StructObject) -> Appended
     requires held { IsWellFormed (struct_tree (struct_object_tree object.now)) }
     requires small { words_of (struct_tree (struct_object_tree object.now)) < 2 ^ 29 }
@@ -222,6 +225,7 @@ fn append_struct(out: &mut Vec<u8>, object: &StructObject) -> Appended
 
 /// The same of a list.
 #[cycle(append)]
+#[inline(always)]
 fn append_list(out: &mut Vec<u8>, object: &ListObject) -> Appended
     requires held { IsWellFormed (list_object_tree object.now) }
     requires small { words_of (list_object_tree object.now) < 2 ^ 29 }
@@ -255,6 +259,7 @@ fn append_pointers(out: &mut Vec<u8>, objects: &[Object]) -> Appended
 
 /// A composite list: its tag and its elements, and then what their pointers lead to.
 #[cycle(append)]
+#[inline(never)]
 fn append_composite(out: &mut Vec<u8>, size: StructSize, elements: &[StructObject]) -> Appended
     requires held { IsWellFormed (Composite size.data_words size.pointers (struct_object_trees elements.now)) }
     requires small { words_of (Composite size.data_words size.pointers (struct_object_trees elements.now)) < 2 ^ 29 }

@@ -86,6 +86,9 @@ fn fault_of_block(
 ) -> Option<Fault>
     ensures { result ≡ first_fault_of_elements (block_structs size.data_words size.pointers depth is_stream count block.entry) }
 {
+    if size.pointers == 0 {
+        return None;
+    }
     for i in 0..count {
         let row = PointerRow {
             bytes: block.bytes,

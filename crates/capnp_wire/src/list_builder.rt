@@ -12,6 +12,7 @@ ghost use Rattle.capnp_wire.specs.ElementSizes.{element_size_of};
 ghost use Rattle.capnp_wire.specs.Unchanged.{ListEndsUnchanged};
 ghost use Rattle.capnp_wire.specs.Lends.{HasObjects, HasStructs, LendsElement, LendsObject, LendsObjects, LendsStructs};
 
+use crate::bytes::divide;
 use crate::elements::{bit_at, number_at};
 use crate::list_reader::{ListReader, reads_list_as};
 use crate::look::{
@@ -74,7 +75,7 @@ impl ListObject {
             ListObject::Missing(_, _) => true,
             ListObject::Voids(_, count) => *count == 0,
             ListObject::Bits(row) => row.count == 0,
-            ListObject::Numbers(width, bytes) => *width == 0 || bytes.len() / *width as usize == 0,
+            ListObject::Numbers(width, bytes) => *width == 0 || divide(bytes.len(), *width) == 0,
             ListObject::Pointers(objects) => objects.is_empty(),
             ListObject::Composite(_, structs) => structs.is_empty(),
         }

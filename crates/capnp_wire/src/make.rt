@@ -1,5 +1,5 @@
 //! New objects, all zero and null.
-ghost use Rattle.std.specs.Prelude.{◌≡◌, IfErr, IfOk, ℕ, replicate};
+ghost use Rattle.std.specs.Prelude.{◌≡◌, ◌≤◌, ◌^◌, [], IfErr, IfOk, ℕ, replicate};
 ghost use Rattle.capnp_wire.specs.Edits.{nulls, zero_list, zero_struct, zero_structs};
 ghost use Rattle.capnp_wire.specs.Objects.{list_object_tree, object_trees, struct_object_tree};
 
@@ -35,11 +35,32 @@ pub fn make_struct(alloc: Global, size: StructSize) -> Result<StructObject, Allo
     Ok(StructObject { data, pointers })
 }
 
+/// The most structs of size zero in a list in memory. A message has no word for any of them, and each takes a place here.
+const MOST_EMPTY_STRUCTS: usize = 1 << 20;
+
+/// Room for so many structs of a size.
+///
+/// For more than 2^20 structs of size zero it is refused without asking for memory: two words of a message can say 2^29 - 1
+/// of them.
+pub fn make_room(
+    alloc: Global,
+    size: StructSize,
+    count: usize,
+) -> Result<Vec<StructObject>, AllocError>
+    ensures items { IfOk result (λ structs. structs.items ≡ []) }
+    ensures few { IfOk result (λ _. size.data_words ≡ 0 → size.pointers ≡ 0 → count ≤ 2 ^ 20) }
+{
+    if size.data_words == 0 && size.pointers == 0 && count > MOST_EMPTY_STRUCTS {
+        return Err(AllocError);
+    }
+    Vec::with_capacity(alloc, count)
+}
+
 /// A list of so many structs of a size.
 pub fn make_structs(alloc: Global, size: StructSize, count: u32) -> Result<ListObject, AllocError>
     ensures { IfOk result (λ object. list_object_tree object ≡ zero_structs size count) }
 {
-    let mut elements = Vec::with_capacity(alloc, count as usize)?;
+    let mut elements = make_room(alloc, size, count as usize)?;
     for _ in 0..count {
         elements.push(make_struct(alloc, size)?)?;
     }

@@ -63,6 +63,7 @@ fn measure_numbers(width: u8, bytes: &[u8]) -> Option<u64>
 
 /// The words of an object and all below it, where they are fewer than 2^29 and each part is within the format's limits.
 #[cycle(measure)]
+#[inline(always)]
 pub(crate) fn measure(object: &Object) -> Option<u64>
     ensures { Measured result (IsWellFormed (object_tree object.now)) (words_of (object_tree object.now)) }
 {

@@ -251,7 +251,7 @@ impl Object {
     /// Replaces what stands here by a list of so many structs of a size, all zero and null.
     ///
     /// Refused with `SizePastFormat` for 2^29 elements or more, or where they take 2^29 words or more, and else with
-    /// `OutOfMemory`; then nothing has changed.
+    /// `OutOfMemory`, always for more than 2^20 structs of size zero; then nothing has changed.
     pub fn init_struct_list(&mut self, count: u32, size: StructSize) -> Result<ListBuilder<'_>>
         ensures* lends { sem 𝓛 (LendsList self.entry result) }
         ensures now { IfOk result (λ l. list_object_tree l.now ≡ zero_structs size count) }

@@ -13,6 +13,7 @@ ghost use Rattle.capnp_wire.specs.Lends.{LendsList, holds_list};
 
 use crate::copy::copy_struct;
 use crate::look::{Found, get_element_parts, look_at_list_object};
+use crate::make::make_room;
 use crate::object::{ListObject, Object, StructObject};
 use crate::pointer_builder::ListBuilder;
 use crate::size::{ElementSize, StructSize};
@@ -56,7 +57,7 @@ fn copy_as_structs(
     ensures copy { IfOk result (λ structs. struct_object_trees structs.items ≡ structs_from (λ i. extended size (element_struct (list_object_tree list.now) i)) 0 count) }
     ensures refused { IfErr result (λ error. IsCopyRefusal error None) }
 {
-    let mut structs = Vec::with_capacity(alloc, count as usize)?;
+    let mut structs = make_room(alloc, size, count as usize)?;
     for i in 0..count {
         let mut element = copy_struct(alloc, get_element_parts(look_at_list_object(list), i))?;
         element.extend(size)?;

@@ -101,6 +101,9 @@ fn total_row(depth: u8, is_stream: bool, count: u32, row: PointerRow<'_>) -> Tot
 fn total_block(size: StructSize, depth: u8, is_stream: bool, count: u32, block: Block<'_>) -> Total
     ensures { TotalsBelow result (block_structs size.data_words size.pointers depth is_stream count block.entry) }
 {
+    if size.pointers == 0 {
+        return Ok(0);
+    }
     let mut sum: u64 = 0;
     for i in 0..count {
         let row = PointerRow {

@@ -2,5 +2,6 @@
 //! answers a checksum; one that is refused answers 0.
 #![tactic(auto)]
 
+mod builds;
 mod reads;
 mod writes;

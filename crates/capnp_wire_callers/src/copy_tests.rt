@@ -31,6 +31,13 @@ const STRUCTS: [u8; 56] = [
     0, 6, 0, 0, 0, 0, 0, 0, 0, 1, 0, 0, 0, 0x1a, 0, 0, 0, b'h', b'i', 0, 0, 0, 0, 0, 0,
 ];
 
+/// Lists of structs of size zero: three of them, 2^20 + 1 and 2^29 - 1.
+const THREE_EMPTY: [u8; 16] = [1, 0, 0, 0, 7, 0, 0, 0, 0x0c, 0, 0, 0, 0, 0, 0, 0];
+
+const MANY_EMPTY: [u8; 16] = [1, 0, 0, 0, 7, 0, 0, 0, 4, 0, 0x40, 0, 0, 0, 0, 0];
+
+const MOST_EMPTY: [u8; 16] = [1, 0, 0, 0, 7, 0, 0, 0, 0xfc, 0xff, 0xff, 0x7f, 0, 0, 0, 0];
+
 /// A message whose root is a copy of the list at the root of these words.
 fn copy_list(alloc: Global, words: &[u8], size: ElementSize) -> Result<Vec<u8>> {
     let list = PointerReader::from_words(words).get_list(size)?;
@@ -92,6 +99,42 @@ fn structs_are_copied(rt: HostRuntime) -> std::result::Result<(), Fail> {
     for size in [ElementSize::EightBytes, ElementSize::Pointer] {
         let copied = copy_list(rt.alloc(), &STRUCTS, size)?;
         assert_eq!(rt; words_of_message(copied.as_slice()), STRUCTS.as_slice());
+    }
+    Ok(())
+}
+
+#[test]
+fn few_structs_of_size_zero_are_copied(rt: HostRuntime) -> std::result::Result<(), Fail> {
+    let copied = copy_list(rt.alloc(), &THREE_EMPTY, ElementSize::InlineComposite)?;
+    assert_eq!(rt; words_of_message(copied.as_slice()), THREE_EMPTY.as_slice());
+    let root = Reader::new(rt.alloc(), copied.as_slice())?.get_root();
+    assert_eq!(rt; root.get_list(ElementSize::InlineComposite)?.len(), 3);
+    Ok(())
+}
+
+// These would take 48 bytes each: 50 megabytes and 26 gigabytes.
+#[test]
+fn many_structs_of_size_zero_are_read_alone(rt: HostRuntime) -> std::result::Result<(), Fail> {
+    let size = StructSize {
+        data_words: 0,
+        pointers: 0,
+    };
+    for (words, count) in [(MANY_EMPTY, (1 << 20) + 1), (MOST_EMPTY, (1 << 29) - 1)] {
+        let source = PointerReader::from_words(&words);
+        let list = source.get_list(ElementSize::InlineComposite)?;
+        assert_eq!(rt; list.len(), count);
+        let mut message = Builder::new(rt.alloc());
+        message.root().set_text(b"before")?;
+        let before = message.write_message()?;
+        let refused = [
+            message.set_root(source).err(),
+            message.root().set_list(&list).err(),
+            message.root().init_struct_list(count, size).err(),
+        ];
+        for error in refused {
+            assert_eq!(rt; error.map(|e| e.kind), Some(ErrorKind::OutOfMemory));
+        }
+        assert_eq!(rt; message.write_message()?, before);
     }
     Ok(())
 }

@@ -1,6 +1,7 @@
-use Rattle.std.proofs.Common.{refl}
+use Rattle.std.proofs.Common.{refl, sym}
 use Rattle.capnp_wire.proofs.Lists.{nth_struct-start, nth_tree-from, struct_count-from, tree_count-from}
 use Rattle.capnp_wire.proofs.FirstFaults.{element_fault_here, fault_here, no_element_fault, no_fault, one_more, one_more_element}
+use Rattle.capnp_wire.proofs.NoPointers.{no_faults_below}
 use Rattle.capnp_wire.proofs.faults.+faults.Goals as goal
 
 pub fault_of_row-returns-in-Some : goal.fault_of_row-returns-in-Some
@@ -11,6 +12,9 @@ fault_of_row-loop-i-preserved t c = one_more _ _ _ c.loop-i.invariant (rw tree_c
 
 pub fault_of_row-returns : goal.fault_of_row-returns
 fault_of_row-returns t c = no_fault _ _ c.loop-i.invariant (rw tree_count-from c.loop-i-test.false)
+
+pub fault_of_block-returns-then-size-eq0 : goal.fault_of_block-returns-then-size-eq0
+fault_of_block-returns-then-size-eq0 t c = sym (no_faults_below _ _ _ _ _ c.args.block c.if-size-eq0.true)
 
 pub fault_of_block-returns-in-Some : goal.fault_of_block-returns-in-Some
 fault_of_block-returns-in-Some t c = element_fault_here _ _ _ c.loop-i.invariant (rw struct_count-from c.loop-i-test.true) (nth_struct-start _ _ _ c.loop-i-test.true) _ c.in-Some.ensures

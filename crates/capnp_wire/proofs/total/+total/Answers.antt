@@ -5,8 +5,13 @@ use Rattle.capnp_wire.specs.Place.{tree_below, bits_from}
 use Rattle.capnp_wire.specs.Backing.{segment_list}
 use Rattle.capnp_wire.specs.Found.{ArePointersBelow, AreElementsBelow, pointer_trees, row_trees}
 use Rattle.capnp_wire.proofs.Lists.{length-bits_from, tree_count-from, struct_count-from, nth_tree-from, nth_struct-start}
+use Rattle.capnp_wire.proofs.NoPointers.{no_faults_below, no_words_below}
 use Rattle.capnp_wire.proofs.Sums.{none_summed, all_summed, one_stops, one_sum_stops, one_summed, no_elements_summed, all_elements_summed, element_stops, element_sum_stops, element_summed, totals_at}
 use Rattle.capnp_wire.proofs.total.+total.Goals as goal
+
+pub total_block-returns-then-size-eq0 : goal.total_block-returns-then-size-eq0
+total_block-returns-then-size-eq0 t c =
+    (no_faults_below _ _ _ _ _ c.args.block c.if-size-eq0.true, sym (no_words_below _ _ _ _ _ c.args.block c.if-size-eq0.true))
 
 pub total_block-loop-i-init : goal.total_block-loop-i-init
 total_block-loop-i-init t c = no_elements_summed _
