@@ -1,5 +1,5 @@
 -- A list of pairs to which those are added that fields name.
-use Rattle.std.specs.Prelude.{ℕ, ◌+◌, ◌<◌, List}
+use Rattle.std.specs.Prelude.{ℕ, ◌+◌, ◌<◌, List, Bool}
 use Rattle.std.proofs.Common.{arith, ◌∙◌, below_more}
 use Rattle.capnp_schema.specs.Schema.{Schemas, field_at}
 use Rattle.capnp_compatible.specs.declared.pairs.Pair.{Pair}
@@ -7,15 +7,15 @@ use Rattle.capnp_compatible.specs.Closing.{Adds, Apart, Begins, Holds, HoldsName
 use Rattle.capnp_compatible.proofs.Relating.{named_within}
 use Rattle.capnp_compatible.proofs.Lists.{begins_same}
 
-pub record Grown (set : Schemas) (a b count : ℕ) (old new : List Pair) : Type 0 where
+pub record Grown (lists : Bool) (set : Schemas) (a b count : ℕ) (old new : List Pair) : Type 0 where
   pub more : Within (listed old) (listed new)
   pub begins : Begins old new
-  pub added : HoldsNamed set (listed new) a b count
-  pub only : Adds old new (λ sets. HoldsNamed set sets a b count)
+  pub added : HoldsNamed lists set (listed new) a b count
+  pub only : Adds old new (λ sets. HoldsNamed lists set sets a b count)
   pub apart : Apart old → Apart new
 
-pub grown_none : (set : Schemas) (a b : ℕ) (xs : List Pair) → Grown set a b 0 xs xs
-grown_none set a b xs = record {
+pub grown_none : (lists : Bool) (set : Schemas) (a b : ℕ) (xs : List Pair) → Grown lists set a b 0 xs xs
+grown_none lists set a b xs = record {
   more = λ m n h. h;
   begins = begins_same xs;
   added = λ i below. absurd (omega arith);
@@ -26,23 +26,23 @@ grown_none set a b xs = record {
 pub begins_far : (xs ys zs : List Pair) → Begins xs ys → Begins ys zs → Begins xs zs
 begins_far xs ys zs f g = (let l = f.0 in let m = g.0 in omega arith, λ k below. g.1 k (let l = f.0 in omega arith) ∙ f.1 k below)
 
-module _ (set : Schemas) (a b count : ℕ) (xs ys zs : List Pair) (g : Grown set a b count xs ys)
+module _ (lists : Bool) (set : Schemas) (a b count : ℕ) (xs ys zs : List Pair) (g : Grown lists set a b count xs ys)
     (more : Within (listed ys) (listed zs)) (begins : Begins ys zs)
-    (only : Adds ys zs (λ sets. Holds sets (named (field_at set a count).type (field_at set b count).type))) where
+    (only : Adds ys zs (λ sets. Holds sets (named lists set (field_at set a count).type (field_at set b count).type))) where
   pub far_more : Within (listed xs) (listed zs)
   far_more m n h = more m n (g.more m n h)
 
   pub far_begins : Begins xs zs
   far_begins = begins_far xs ys zs g.begins begins
 
-  pub far_only : (total : ℕ) → count < total → Adds xs zs (λ sets. HoldsNamed set sets a b total)
+  pub far_only : (total : ℕ) → count < total → Adds xs zs (λ sets. HoldsNamed lists set sets a b total)
   far_only total lt pairs within holds = only pairs (g.only pairs within (λ i below. holds i (omega arith))) (holds count lt)
 
-  pub grown_more : Holds (listed zs) (named (field_at set a count).type (field_at set b count).type) → (Apart ys → Apart zs) → Grown set a b (count + 1) xs zs
+  pub grown_more : Holds (listed zs) (named lists set (field_at set a count).type (field_at set b count).type) → (Apart ys → Apart zs) → Grown lists set a b (count + 1) xs zs
   grown_more here apart = record {
     more = far_more;
     begins = far_begins;
-    added = below_more (λ i. Holds (listed zs) (named (field_at set a i).type (field_at set b i).type)) count (named_within set (listed ys) (listed zs) a b count more g.added) here;
+    added = below_more (λ i. Holds (listed zs) (named lists set (field_at set a i).type (field_at set b i).type)) count (named_within lists set (listed ys) (listed zs) a b count more g.added) here;
     only = far_only (count + 1) (omega arith);
     apart = λ h. apart (g.apart h);
   }

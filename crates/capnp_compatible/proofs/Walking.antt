@@ -4,9 +4,10 @@ use Rattle.std.specs.Bool.{Decides}
 use Rattle.std.proofs.Common.{arith, sym, ◌∙◌, subst, below_more}
 use Rattle.std.proofs.lemmas.Bool.{le-leb}
 use Rattle.capnp_schema.specs.Types.{SchemaType, StructType, ListType}
-use Rattle.capnp_schema.specs.Schema.{Schemas, field_at, fields_of}
+use Rattle.capnp_schema.specs.Schema.{Schemas, TypedField, field_at, fields_of, no_field}
+use Rattle.std.specs.Option.{unwrap_or}
 use Rattle.capnp_schema.specs.Accepted.{IsAccepted, NamesEntries}
-use Rattle.capnp_records.specs.Compatible.{IsCompatible, SharedStruct}
+use Rattle.capnp_records.specs.Compatible.{IsSuccessor, SharedStruct, can_become_struct, stands_first, type_in_place}
 use Rattle.capnp_compatible.specs.declared.pairs.Pair.{Pair}
 use Rattle.capnp_compatible.specs.Closing.{Adds, Apart, AreForced, Begins, Holds, HoldsNamed, Within, all_pairs, brand_pairs, listed, named}
 use Rattle.capnp_compatible.proofs.Relating.{struct_all, struct_from, struct_named, struct_within}
@@ -22,12 +23,12 @@ pub decides_yes : {P : Type 0} → P → Decides true P
 decides_yes p = (λ e. p, λ p. refl)
 
 -- the pairs before an index were looked at
-pub record Walking (set : Schemas) (older newer next : ℕ) (ps : List Pair) : Type 0 where
+pub record Walking (lists : Bool) (set : Schemas) (older newer next : ℕ) (ps : List Pair) : Type 0 where
   pub given : IsTrue (listed ps older newer)
   pub brands : Within (listed ps) (brand_pairs set)
-  pub forced : AreForced set older newer (listed ps)
+  pub forced : AreForced lists set older newer (listed ps)
   pub apart : Apart ps
-  pub done : (k : ℕ) → k < next → (p : Pair) → slice_get ps k ≡ Some p → SharedStruct set (listed ps) p.older p.newer
+  pub done : (k : ℕ) → k < next → (p : Pair) → slice_get ps k ≡ Some p → SharedStruct lists set (listed ps) p.older p.newer
 
 both-true : (x y : Bool) → x ≡ true → y ≡ true → x && y ≡ true
 both-true x y e f = cc
@@ -52,17 +53,33 @@ first_in set a b h = below-by a (length set.brands) (first-true (nat_lt a (lengt
 pub second_in : (set : Schemas) (a b : ℕ) → IsTrue (brand_pairs set a b) → b < length set.brands
 second_in set a b h = below-by b (length set.brands) (second-true (nat_lt a (length set.brands)) (nat_lt b (length set.brands)) h)
 
-module _ (set : Schemas) where
-  types_in : (s t : SchemaType) → NamesEntries set s → NamesEntries set t → Holds (brand_pairs set) (named s t)
-  types_in (ListType s) (ListType t) h k = types_in s t h k
-  types_in (StructType a g) (StructType b j) h k = in_brands set a b h.0 k.0
-  types_in s t h k = tt
+module _ (lists : Bool) (set : Schemas) where
+  first-named : IsAccepted set → (b : ℕ) → b < length set.brands → NamesEntries set (field_at set b 0).type
+  first-named accepted b inside = at (fields_of set b) refl
+    where
+      at : (fs : List TypedField) → fields_of set b ≡ fs → NamesEntries set (field_at set b 0).type
+      at [] e = subst (λ (fs : List TypedField). NamesEntries set (unwrap_or (slice_get fs 0) no_field).type) (sym e) tt
+      at (f ∷ fs) e = accepted.rule1.fields b 0 inside (subst (λ (gs : List TypedField). 0 < length gs) (sym e) (omega arith))
 
-  pub named_in : IsAccepted set → (a b : ℕ) → a < length set.brands → b < length set.brands → length (fields_of set a) ≤ length (fields_of set b) → HoldsNamed set (brand_pairs set) a b (length (fields_of set a))
-  named_in accepted a b l m le i below = types_in (field_at set a i).type (field_at set b i).type (accepted.rule1.fields a i l below) (accepted.rule1.fields b i m (omega arith))
+  -- the type in an element's place names entries of the set, as the newer one does
+  in-place : IsAccepted set → (s t : SchemaType) → NamesEntries set t → NamesEntries set (type_in_place lists set s t)
+  in-place accepted s (StructType b h) k = at (lists && (can_become_struct s && stands_first set b))
+    where
+      at : (q : Bool) → NamesEntries set (elim q as (λ _. SchemaType) [ true ↦ (field_at set b 0).type | false ↦ StructType b h ])
+      at true = first-named accepted b k.0
+      at false = k
+  in-place accepted s t k = k
 
-pub walk_start : (set : Schemas) (older newer : ℕ) (p : Pair) → p.older ≡ older → p.newer ≡ newer → older < length set.brands → newer < length set.brands → Walking set older newer 0 (p ∷ [])
-walk_start set older newer p e f l m = record {
+  types_in : IsAccepted set → (s t : SchemaType) → NamesEntries set s → NamesEntries set t → Holds (brand_pairs set) (named lists set s t)
+  types_in accepted (ListType s) (ListType t) h k = types_in accepted s (type_in_place lists set s t) h (in-place accepted s t k)
+  types_in accepted (StructType a g) (StructType b j) h k = in_brands set a b h.0 k.0
+  types_in accepted s t h k = tt
+
+  pub named_in : IsAccepted set → (a b : ℕ) → a < length set.brands → b < length set.brands → length (fields_of set a) ≤ length (fields_of set b) → HoldsNamed lists set (brand_pairs set) a b (length (fields_of set a))
+  named_in accepted a b l m le i below = types_in accepted (field_at set a i).type (field_at set b i).type (accepted.rule1.fields a i l below) (accepted.rule1.fields b i m (omega arith))
+
+pub walk_start : (lists : Bool) (set : Schemas) (older newer : ℕ) (p : Pair) → p.older ≡ older → p.newer ≡ newer → older < length set.brands → newer < length set.brands → Walking lists set older newer 0 (p ∷ [])
+walk_start lists set older newer p e f l m = record {
   given = subst (λ (x : ℕ). IsTrue (listed (p ∷ []) older x)) f (subst (λ (x : ℕ). IsTrue (listed (p ∷ []) x p.newer)) e (at_listed (p ∷ []) 0 p refl));
   brands = within_pairs [] p (brand_pairs set) (λ a b h. cc) (in_brands set p.older p.newer (omega arith) (omega arith));
   forced = λ pairs here closed. within_pairs [] p pairs (λ a b h. cc) (subst (λ (x : ℕ). IsTrue (pairs p.older x)) (sym f) (subst (λ (x : ℕ). IsTrue (pairs x newer)) (sym e) here));
@@ -70,7 +87,7 @@ walk_start set older newer p e f l m = record {
   done = λ k below q at. absurd (omega arith);
 }
 
-module _ (set : Schemas) (older newer next : ℕ) (ps : List Pair) (w : Walking set older newer next ps) (p : Pair) (at : slice_get ps next ≡ Some p) where
+module _ (lists : Bool) (set : Schemas) (older newer next : ℕ) (ps : List Pair) (w : Walking lists set older newer next ps) (p : Pair) (at : slice_get ps next ≡ Some p) where
   pub here : IsTrue (listed ps p.older p.newer)
   here = at_listed ps next p at
 
@@ -81,36 +98,36 @@ module _ (set : Schemas) (older newer next : ℕ) (ps : List Pair) (w : Walking 
   newer_in = second_in set p.older p.newer (w.brands p.older p.newer here)
 
   -- a pair that fails refutes every set
-  pub walk_fails : (SharedStruct set all_pairs p.older p.newer → ⊥) → IsCompatible set older newer → ⊥
-  walk_fails fails c = fails (struct_all set c.pairs p.older p.newer (c.closed p.older p.newer (w.forced c.pairs c.given c.closed p.older p.newer here)))
+  pub walk_fails : (SharedStruct lists set all_pairs p.older p.newer → ⊥) → IsSuccessor lists set older newer → ⊥
+  walk_fails fails c = fails (struct_all lists set c.pairs p.older p.newer (c.closed p.older p.newer (w.forced c.pairs c.given c.closed p.older p.newer here)))
 
-  module _ (accepted : IsAccepted set) (shared : SharedStruct set all_pairs p.older p.newer) (qs : List Pair)
+  module _ (accepted : IsAccepted set) (shared : SharedStruct lists set all_pairs p.older p.newer) (qs : List Pair)
       (more : Within (listed ps) (listed qs)) (begins : Begins ps qs)
-      (added : HoldsNamed set (listed qs) p.older p.newer (length (fields_of set p.older)))
-      (only : Adds ps qs (λ sets. HoldsNamed set sets p.older p.newer (length (fields_of set p.older)))) (apart : Apart ps → Apart qs) where
+      (added : HoldsNamed lists set (listed qs) p.older p.newer (length (fields_of set p.older)))
+      (only : Adds ps qs (λ sets. HoldsNamed lists set sets p.older p.newer (length (fields_of set p.older)))) (apart : Apart ps → Apart qs) where
     old_at : next < length ps → (k : ℕ) (q : Pair) → k < next + 1 → slice_get qs k ≡ Some q → slice_get ps k ≡ Some q
     old_at inside k q below e = sym (begins.1 k (omega arith)) ∙ e
 
-    pub walk_more : next < length ps → Walking set older newer (next + 1) qs
+    pub walk_more : next < length ps → Walking lists set older newer (next + 1) qs
     walk_more inside = record {
       given = more older newer w.given;
-      brands = only (brand_pairs set) w.brands (named_in set accepted p.older p.newer older_in newer_in shared.beginning);
-      forced = λ pairs given closed. only pairs (w.forced pairs given closed) (struct_named set pairs p.older p.newer (closed p.older p.newer (w.forced pairs given closed p.older p.newer here)));
+      brands = only (brand_pairs set) w.brands (named_in lists set accepted p.older p.newer older_in newer_in shared.beginning);
+      forced = λ pairs given closed. only pairs (w.forced pairs given closed) (struct_named lists set pairs p.older p.newer (closed p.older p.newer (w.forced pairs given closed p.older p.newer here)));
       apart = apart w.apart;
-      done = below_more (λ k. (q : Pair) → slice_get qs k ≡ Some q → SharedStruct set (listed qs) q.older q.newer) next
-          (λ k below q e. struct_within set (listed ps) (listed qs) q.older q.newer more (w.done k below q (old_at inside k q (omega arith) e)))
-          (λ q e. subst (λ (x : Pair). SharedStruct set (listed qs) x.older x.newer) (same q (sym at ∙ old_at inside next q (omega arith) e)) (struct_from set (listed qs) p.older p.newer shared added));
+      done = below_more (λ k. (q : Pair) → slice_get qs k ≡ Some q → SharedStruct lists set (listed qs) q.older q.newer) next
+          (λ k below q e. struct_within lists set (listed ps) (listed qs) q.older q.newer more (w.done k below q (old_at inside k q (omega arith) e)))
+          (λ q e. subst (λ (x : Pair). SharedStruct lists set (listed qs) x.older x.newer) (same q (sym at ∙ old_at inside next q (omega arith) e)) (struct_from lists set (listed qs) p.older p.newer shared added));
     }
       where
         same : (q : Pair) → Some p ≡ Some q → p ≡ q
         same q e = cc
 
-pub walk_ends : (set : Schemas) (older newer next : ℕ) (ps : List Pair) → Walking set older newer next ps → length ps ≤ next → IsCompatible set older newer
-walk_ends set older newer next ps w past = record {
+pub walk_ends : (lists : Bool) (set : Schemas) (older newer next : ℕ) (ps : List Pair) → Walking lists set older newer next ps → length ps ≤ next → IsSuccessor lists set older newer
+walk_ends lists set older newer next ps w past = record {
   pairs = listed ps;
   given = w.given;
   closed = λ a b h. let r = listed_at ps a b h in
-      subst (λ (x : ℕ). SharedStruct set (listed ps) a x) r.4 (subst (λ (x : ℕ). SharedStruct set (listed ps) x (r.1).newer) r.3 (w.done r.0 (let l = inside ps r.0 r.1 r.2 in omega arith) r.1 r.2));
+      subst (λ (x : ℕ). SharedStruct lists set (listed ps) a x) r.4 (subst (λ (x : ℕ). SharedStruct lists set (listed ps) x (r.1).newer) r.3 (w.done r.0 (let l = inside ps r.0 r.1 r.2 in omega arith) r.1 r.2));
 }
   where
     inside : (xs : List Pair) (k : ℕ) (p : Pair) → slice_get xs k ≡ Some p → k < length xs

@@ -3,7 +3,7 @@ use Rattle.std.specs.Prelude.{ℕ, ◌<◌, ◌≤◌, ◌≡◌, List, [], ◌�
 use Rattle.std.specs.List.{list_any}
 use Rattle.capnp_schema.specs.Types.{SchemaType, StructType, ListType}
 use Rattle.capnp_schema.specs.Schema.{Schemas, Node, Value, VoidValue, BoolValue, IntValue, UIntValue, EnumValue, TextValue, DataValue, StructValue, ListValue, AnyPointerValue, field_at}
-use Rattle.capnp_records.specs.Compatible.{Pairs, SharedField, SharedStruct}
+use Rattle.capnp_records.specs.Compatible.{Pairs, SharedField, SharedStruct, type_in_place}
 use Rattle.capnp_compatible.specs.declared.pairs.Pair.{Pair}
 
 -- the set of all pairs
@@ -21,28 +21,28 @@ is_pair a b p = (p.older == a) && (p.newer == b)
 abbrev pub listed : List Pair → Pairs
 listed ps a b = list_any (is_pair a b) ps
 
--- the types inside the lists that both are
-abbrev pub inside_lists : SchemaType → SchemaType → SchemaType × SchemaType
-inside_lists (ListType s) (ListType t) = inside_lists s t
-inside_lists s t = (s, t)
+-- the types inside the lists that both are, where in a struct's place its field 0 stands for an element that became it
+abbrev pub inside_lists : Bool → Schemas → SchemaType → SchemaType → SchemaType × SchemaType
+inside_lists lists set (ListType s) (ListType t) = inside_lists lists set s (type_in_place lists set s t)
+inside_lists lists set s t = (s, t)
 
 -- the pair of structs that two types name, inside lists of the same depth
-abbrev pub named : SchemaType → SchemaType → Option Pair
-named (ListType s) (ListType t) = named s t
-named (StructType a g) (StructType b h) = Some (record { older = a; newer = b })
-named s t = None
+abbrev pub named : Bool → Schemas → SchemaType → SchemaType → Option Pair
+named lists set (ListType s) (ListType t) = named lists set s (type_in_place lists set s t)
+named lists set (StructType a g) (StructType b h) = Some (record { older = a; newer = b })
+named lists set s t = None
 
 -- each pair of a set is related by it
-abbrev pub IsClosed : Schemas → Pairs → Type 0
-IsClosed set pairs = (a b : ℕ) → IsTrue (pairs a b) → SharedStruct set pairs a b
+abbrev pub IsClosed : Bool → Schemas → Pairs → Type 0
+IsClosed lists set pairs = (a b : ℕ) → IsTrue (pairs a b) → SharedStruct lists set pairs a b
 
 abbrev pub Holds : Pairs → Option Pair → Type 0
 Holds pairs None = Unit {0}
 Holds pairs (Some p) = IsTrue (pairs p.older p.newer)
 
 -- the pairs that the first so many fields of two structs name are among these
-abbrev pub HoldsNamed : Schemas → Pairs → ℕ → ℕ → ℕ → Type 0
-HoldsNamed set pairs a b count = (i : ℕ) → i < count → Holds pairs (named (field_at set a i).type (field_at set b i).type)
+abbrev pub HoldsNamed : Bool → Schemas → Pairs → ℕ → ℕ → ℕ → Type 0
+HoldsNamed lists set pairs a b count = (i : ℕ) → i < count → Holds pairs (named lists set (field_at set a i).type (field_at set b i).type)
 
 abbrev pub Within : Pairs → Pairs → Type 0
 Within xs ys = (a b : ℕ) → IsTrue (xs a b) → IsTrue (ys a b)
@@ -86,12 +86,12 @@ abbrev pub UnionGrows : Node → Node → Type 0
 UnionGrows n m = 0 < n.discriminant_count → (n.discriminant_offset ≡ m.discriminant_offset) × (n.discriminant_count ≤ m.discriminant_count)
 
 -- the first so many fields of two structs are shared
-abbrev pub FieldsShared : Schemas → Pairs → ℕ → ℕ → ℕ → Type 0
-FieldsShared set pairs a b count = (i : ℕ) → i < count → SharedField set pairs (field_at set a i) (field_at set b i)
+abbrev pub FieldsShared : Bool → Schemas → Pairs → ℕ → ℕ → ℕ → Type 0
+FieldsShared lists set pairs a b count = (i : ℕ) → i < count → SharedField lists set pairs (field_at set a i) (field_at set b i)
 
 -- pairs that stand in each closed set that holds the given one
-abbrev pub AreForced : Schemas → ℕ → ℕ → Pairs → Type 0
-AreForced set older newer xs = (pairs : Pairs) → IsTrue (pairs older newer) → IsClosed set pairs → Within xs pairs
+abbrev pub AreForced : Bool → Schemas → ℕ → ℕ → Pairs → Type 0
+AreForced lists set older newer xs = (pairs : Pairs) → IsTrue (pairs older newer) → IsClosed lists set pairs → Within xs pairs
 
 -- no pair stands twice
 abbrev pub Apart : List Pair → Type 0

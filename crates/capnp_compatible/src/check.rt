@@ -61,7 +61,7 @@ impl<'s> Compatible<'s> {
         let set = older.get_set();
         let one = RawBrandedStructSchema::from(older);
         let other = RawBrandedStructSchema::from(newer);
-        if !decide(alloc, set, one.number, other.number)? {
+        if !decide(alloc, set, false, one.number, other.number)? {
             return Ok(None);
         }
         Ok(Some(Compatible { older, newer }))

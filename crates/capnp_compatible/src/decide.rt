@@ -3,7 +3,7 @@ ghost use Rattle.std.specs.Prelude.{◌≡◌, ◌<◌, IfErr, IfOk, length};
 ghost use Rattle.std.specs.Bool.{Decides};
 ghost use Rattle.capnp_device.specs.declared.error.ErrorKind.TheVariants.{OutOfMemory};
 ghost use Rattle.capnp_schema.specs.Entries.{lists_seen};
-ghost use Rattle.capnp_records.specs.Compatible.{IsCompatible};
+ghost use Rattle.capnp_records.specs.Compatible.{IsSuccessor};
 
 use crate::brands::is_accepted;
 use crate::fields::is_successor;
@@ -14,11 +14,17 @@ use capnp_wire::error::Result;
 use std::alloc::Global;
 
 /// Whether a brand is a compatible successor of another. Each pair of brands that the fields of two structs name, from
-/// the given pair on, is looked at once.
-pub(crate) fn decide(alloc: Global, set: &SchemaSet, older: u32, newer: u32) -> Result<bool>
+/// the given pair on, is looked at once. `lists` is whether lists may have become lists of structs.
+pub(crate) fn decide(
+    alloc: Global,
+    set: &SchemaSet,
+    lists: bool,
+    older: u32,
+    newer: u32,
+) -> Result<bool>
     requires older { older < length (lists_seen set.now).brands }
     requires newer { newer < length (lists_seen set.now).brands }
-    ensures decides { IfOk result (λ yes. Decides yes (IsCompatible (lists_seen set.now) older newer)) }
+    ensures decides { IfOk result (λ yes. Decides yes (IsSuccessor lists (lists_seen set.now) older newer)) }
     ensures refused { IfErr result (λ e. e.kind ≡ OutOfMemory) }
 {
     is_accepted(set);
@@ -26,10 +32,10 @@ pub(crate) fn decide(alloc: Global, set: &SchemaSet, older: u32, newer: u32) -> 
     let mut next = 0;
     while next < pairs.len() {
         let pair = pairs.at(next);
-        if !is_successor(set, pair.older, pair.newer) {
+        if !is_successor(set, lists, pair.older, pair.newer) {
             return Ok(false);
         }
-        add_named(set, pair.older, pair.newer, &mut pairs)?;
+        add_named(set, lists, pair.older, pair.newer, &mut pairs)?;
         next += 1;
     }
     Ok(true)

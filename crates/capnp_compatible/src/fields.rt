@@ -12,10 +12,11 @@ use crate::types::are_related;
 use capnp_schema::schema::Field;
 use capnp_schema::set::SchemaSet;
 
-/// Whether two fields are of one place and discriminant value, with the same default and related types.
+/// Whether two fields are of one place and discriminant value, with the same default and related types. `lists` is whether
+/// lists may have become lists of structs.
 #[tactic(auto, using(crate::proofs::SharedParts::field_parts))]
-fn is_shared(set: &SchemaSet, older: Field<'_>, newer: Field<'_>) -> bool
-    ensures { IsTrue result ↔ SharedField (lists_seen set.now) all_pairs (typed_of older.entry) (typed_of newer.entry) }
+fn is_shared(set: &SchemaSet, lists: bool, older: Field<'_>, newer: Field<'_>) -> bool
+    ensures { IsTrue result ↔ SharedField lists (lists_seen set.now) all_pairs (typed_of older.entry) (typed_of newer.entry) }
 {
     let one = older.get_proto();
     let other = newer.get_proto();
@@ -25,19 +26,19 @@ fn is_shared(set: &SchemaSet, older: Field<'_>, newer: Field<'_>) -> bool
     if !are_same_kind(&one.kind, &other.kind) {
         return false;
     }
-    are_related(set, older.get_type(), newer.get_type())
+    are_related(set, lists, older.get_type(), newer.get_type())
 }
 
 /// Whether the fields of an older struct are shared by a newer one, which has as many.
-fn are_fields_shared(set: &SchemaSet, older: u32, newer: u32) -> bool
+fn are_fields_shared(set: &SchemaSet, lists: bool, older: u32, newer: u32) -> bool
     requires older { older < length (lists_seen set.now).brands }
     requires newer { newer < length (lists_seen set.now).brands }
     requires enough { length (fields_of (lists_seen set.now) older) ≤ length (fields_of (lists_seen set.now) newer) }
-    ensures yes { IsTrue result → FieldsShared (lists_seen set.now) all_pairs older newer (length (fields_of (lists_seen set.now) older)) }
-    ensures no { FieldsShared (lists_seen set.now) all_pairs older newer (length (fields_of (lists_seen set.now) older)) → IsTrue result }
+    ensures yes { IsTrue result → FieldsShared lists (lists_seen set.now) all_pairs older newer (length (fields_of (lists_seen set.now) older)) }
+    ensures no { FieldsShared lists (lists_seen set.now) all_pairs older newer (length (fields_of (lists_seen set.now) older)) → IsTrue result }
 {
     for i in 0..field_count(set, older) {
-        if !is_shared(set, field_of(set, older, i), field_of(set, newer, i)) {
+        if !is_shared(set, lists, field_of(set, older, i), field_of(set, newer, i)) {
             return false;
         }
     }
@@ -61,10 +62,10 @@ fn does_union_grow(set: &SchemaSet, older: u32, newer: u32) -> bool
 
 /// Whether a newer struct is related to an older one, where all pairs of structs are.
 #[tactic(auto, using(crate::proofs::SharedParts::struct_parts))]
-pub(crate) fn is_successor(set: &SchemaSet, older: u32, newer: u32) -> bool
+pub(crate) fn is_successor(set: &SchemaSet, lists: bool, older: u32, newer: u32) -> bool
     requires older { older < length (lists_seen set.now).brands }
     requires newer { newer < length (lists_seen set.now).brands }
-    ensures { IsTrue result ↔ SharedStruct (lists_seen set.now) all_pairs older newer }
+    ensures { IsTrue result ↔ SharedStruct lists (lists_seen set.now) all_pairs older newer }
 {
     if field_count(set, older) > field_count(set, newer) {
         return false;
@@ -72,5 +73,5 @@ pub(crate) fn is_successor(set: &SchemaSet, older: u32, newer: u32) -> bool
     if !does_union_grow(set, older, newer) {
         return false;
     }
-    are_fields_shared(set, older, newer)
+    are_fields_shared(set, lists, older, newer)
 }

@@ -6,6 +6,7 @@ mod check;
 mod decide;
 mod defaults;
 mod fields;
+mod first;
 mod named;
 mod pairs;
 mod types;

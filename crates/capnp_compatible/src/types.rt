@@ -1,5 +1,5 @@
 //! Types that are related.
-ghost use Rattle.std.specs.Prelude.{◌≡◌, ◌↔◌, IsTrue, length, slice_get};
+ghost use Rattle.std.specs.Prelude.{◌≡◌, ◌↔◌, IsTrue, false, length, slice_get};
 ghost use Rattle.std.specs.Option.{option_copied};
 ghost use Rattle.capnp_base.specs.Types.{kind};
 ghost use Rattle.capnp_schema.specs.Entries.{lists_seen};
@@ -9,6 +9,7 @@ ghost use Rattle.capnp_schema.specs.Tests.{seen_variant};
 ghost use Rattle.capnp_records.specs.Compatible.{Related};
 ghost use Rattle.capnp_compatible.specs.Closing.{all_pairs, inside_lists, named};
 
+use crate::first::type_in_place;
 use crate::pairs::Pair;
 use capnp_base::introspect::{Type, TypeVariant};
 use capnp_schema::record::EnumRecord;
@@ -56,7 +57,7 @@ fn enumerant_count(set: &SchemaSet, number: u32) -> usize
 /// Whether two layers are related, of which not both are lists.
 fn are_related_layers(set: &SchemaSet, older: TypeVariant, newer: TypeVariant) -> bool
     requires { kind older ≡ 15 → kind newer ≡ 15 → ⊥ }
-    ensures { IsTrue result ↔ Related (lists_seen set.now) all_pairs (seen_variant older) (seen_variant newer) }
+    ensures { IsTrue result ↔ Related false (lists_seen set.now) all_pairs (seen_variant older) (seen_variant newer) }
 {
     if kind(older) != kind(newer) {
         return false;
@@ -71,10 +72,16 @@ fn are_related_layers(set: &SchemaSet, older: TypeVariant, newer: TypeVariant) -
     }
 }
 
-/// The layers of two types inside the lists that both are: not both are lists.
-fn inside_lists(older: Type, newer: Type) -> (TypeVariant, TypeVariant)
-    ensures older { seen_variant result.0 ≡ (inside_lists (seen_type older) (seen_type newer)).0 }
-    ensures newer { seen_variant result.1 ≡ (inside_lists (seen_type older) (seen_type newer)).1 }
+/// The layers of two types inside the lists that both are: not both are lists. Where elements may have become structs, the
+/// type of field 0 is gone on with in such a struct's place.
+fn inside_lists(
+    set: &SchemaSet,
+    lists: bool,
+    older: Type,
+    newer: Type,
+) -> (TypeVariant, TypeVariant)
+    ensures older { seen_variant result.0 ≡ (inside_lists lists (lists_seen set.now) (seen_type older) (seen_type newer)).0 }
+    ensures newer { seen_variant result.1 ≡ (inside_lists lists (lists_seen set.now) (seen_type older) (seen_type newer)).1 }
     ensures all { kind result.0 ≡ 15 → kind result.1 ≡ 15 → ⊥ }
 {
     let mut one = older;
@@ -89,22 +96,27 @@ fn inside_lists(older: Type, newer: Type) -> (TypeVariant, TypeVariant)
             return (s, t);
         };
         one = x;
-        other = y;
+        other = type_in_place(set, lists, x, y);
     }
 }
 
 /// Whether an older type is related to a newer one, where all pairs of structs are.
-pub(crate) fn are_related(set: &SchemaSet, older: Type, newer: Type) -> bool
-    ensures { IsTrue result ↔ Related (lists_seen set.now) all_pairs (seen_type older) (seen_type newer) }
+pub(crate) fn are_related(set: &SchemaSet, lists: bool, older: Type, newer: Type) -> bool
+    ensures { IsTrue result ↔ Related lists (lists_seen set.now) all_pairs (seen_type older) (seen_type newer) }
 {
-    let (one, other) = inside_lists(older, newer);
+    let (one, other) = inside_lists(set, lists, older, newer);
     are_related_layers(set, one, other)
 }
 
 /// The pair of structs that two layers name, of which not both are lists.
-fn named_layers(older: TypeVariant, newer: TypeVariant) -> Option<Pair>
+fn named_layers(
+    set: &SchemaSet,
+    lists: bool,
+    older: TypeVariant,
+    newer: TypeVariant,
+) -> Option<Pair>
     requires { kind older ≡ 15 → kind newer ≡ 15 → ⊥ }
-    ensures { result ≡ named (seen_variant older) (seen_variant newer) }
+    ensures { result ≡ named lists (lists_seen set.now) (seen_variant older) (seen_variant newer) }
 {
     if kind(older) != kind(newer) {
         return None;
@@ -123,9 +135,9 @@ fn named_layers(older: TypeVariant, newer: TypeVariant) -> Option<Pair>
 
 /// The pair of structs that two types name, inside lists of the same depth.
 #[tactic(auto, using(crate::proofs::ByLayer::named_through))]
-pub(crate) fn named(older: Type, newer: Type) -> Option<Pair>
-    ensures { result ≡ named (seen_type older) (seen_type newer) }
+pub(crate) fn named(set: &SchemaSet, lists: bool, older: Type, newer: Type) -> Option<Pair>
+    ensures { result ≡ named lists (lists_seen set.now) (seen_type older) (seen_type newer) }
 {
-    let (one, other) = inside_lists(older, newer);
-    named_layers(one, other)
+    let (one, other) = inside_lists(set, lists, older, newer);
+    named_layers(set, lists, one, other)
 }

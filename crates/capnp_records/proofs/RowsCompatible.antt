@@ -92,48 +92,48 @@ union_dropped_is_projected = refl
 
 -- ---- which are compatible ----
 
-abbrev only : ℕ → ℕ → Pairs
+abbrev pub only : ℕ → ℕ → Pairs
 only older newer a b = (a == older) && (b == newer)
 
 -- a pair that leads to no other
-closed_pair : (set : Schemas) (older newer : ℕ) → SharedStruct set (only older newer) older newer → (a b : ℕ) → IsTrue (only older newer a b) → SharedStruct set (only older newer) a b
+closed_pair : (set : Schemas) (older newer : ℕ) → SharedStruct false set (only older newer) older newer → (a b : ℕ) → IsTrue (only older newer a b) → SharedStruct false set (only older newer) a b
 closed_pair set older newer h a b e =
-    subst (λ a. SharedStruct set (only older newer) a b) (sym (eqb-true a older (and-left _ _ e)))
-    (subst (λ b. SharedStruct set (only older newer) older b) (sym (eqb-true b newer (and-right (a == older) _ e))) h)
+    subst (λ a. SharedStruct false set (only older newer) a b) (sym (eqb-true a older (and-left _ _ e)))
+    (subst (λ b. SharedStruct false set (only older newer) older b) (sym (eqb-true b newer (and-right (a == older) _ e))) h)
 
 mixed_grew_into_mixed2 : (name : List ℕ) → IsCompatible (named_so name) 1 9
 mixed_grew_into_mixed2 name = record { pairs = only 1 9; given = refl; closed = closed_pair (named_so name) 1 9 shared }
   where
-    fields : (i : ℕ) → i < 4 → SharedField (named_so name) (only 1 9) (field_at (named_so name) 1 i) (field_at (named_so name) 9 i)
+    fields : (i : ℕ) → i < 4 → SharedField false (named_so name) (only 1 9) (field_at (named_so name) 1 i) (field_at (named_so name) 9 i)
     fields zero a = record { kind = (refl, refl); discriminant_value = refl; type = refl }
     fields (suc zero) a = record { kind = (refl, refl); discriminant_value = refl; type = tt }
     fields (suc (suc zero)) a = record { kind = (refl, refl); discriminant_value = refl; type = refl }
     fields (suc (suc (suc zero))) a = record { kind = (refl, refl); discriminant_value = refl; type = tt }
     fields (suc (suc (suc (suc i)))) a = absurd (omega (arith, a))
 
-    shared : SharedStruct (named_so name) (only 1 9) 1 9
+    shared : SharedStruct false (named_so name) (only 1 9) 1 9
     shared = record { beginning = omega arith; fields = fields; union = λ a. (refl, omega arith) }
 
 flat_grew_into_mixed : IsCompatible builtin 0 1
 flat_grew_into_mixed = record { pairs = only 0 1; given = refl; closed = closed_pair builtin 0 1 shared }
   where
-    fields : (i : ℕ) → i < 1 → SharedField builtin (only 0 1) (field_at builtin 0 i) (field_at builtin 1 i)
+    fields : (i : ℕ) → i < 1 → SharedField false builtin (only 0 1) (field_at builtin 0 i) (field_at builtin 1 i)
     fields zero a = record { kind = (refl, refl); discriminant_value = refl; type = refl }
     fields (suc i) a = absurd (omega (arith, a))
 
-    shared : SharedStruct builtin (only 0 1) 0 1
+    shared : SharedStruct false builtin (only 0 1) 0 1
     shared = record { beginning = omega arith; fields = fields; union = λ a. absurd (omega (arith, a)) }
 
 -- `Loop` leads to itself
 loop_with_itself : IsCompatible builtin 6 6
 loop_with_itself = record { pairs = only 6 6; given = refl; closed = closed_pair builtin 6 6 shared }
   where
-    fields : (i : ℕ) → i < 2 → SharedField builtin (only 6 6) (field_at builtin 6 i) (field_at builtin 6 i)
+    fields : (i : ℕ) → i < 2 → SharedField false builtin (only 6 6) (field_at builtin 6 i) (field_at builtin 6 i)
     fields zero a = record { kind = (refl, refl); discriminant_value = refl; type = tt }
     fields (suc zero) a = record { kind = (refl, refl); discriminant_value = refl; type = refl }
     fields (suc (suc i)) a = absurd (omega (arith, a))
 
-    shared : SharedStruct builtin (only 6 6) 6 6
+    shared : SharedStruct false builtin (only 6 6) 6 6
     shared = record { beginning = omega arith; fields = fields; union = λ a. (refl, omega arith) }
 
 not_the_other_way : IsCompatible wider 9 1 → ⊥

@@ -24,6 +24,7 @@ pub mod RowsTable
 pub mod RowsSlots
 pub mod RowsWellFormed
 pub mod Rounded
+pub mod StandFirst
 pub mod Stands
 pub mod EncodedSizes
 pub mod PointerWords

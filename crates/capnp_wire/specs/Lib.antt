@@ -10,6 +10,7 @@ pub mod Backing
 pub mod Bits
 pub mod Objects
 pub mod Found
+pub mod StandFirst
 pub mod Standing
 pub mod Message
 pub mod Laws

@@ -2,6 +2,7 @@
 ghost use Rattle.capnp_wire.specs.Blobs.{DataAreLeft, NullIsLeft, TextIsLeft};
 ghost use Rattle.capnp_wire.specs.Laws.{CopiedStructsAreWellFormed, IsReadBack, MoreBytesChangeNothing, PointerElementsAreWritten, PointersAreWritten, StructElementsAreWritten, TreesAreWellFormed};
 ghost use Rattle.capnp_wire.specs.ObjectLaws.{ListsHoldNoFault, ListsReadAsTheyStand, ListsStandAsTheyAre, ObjectsHoldNoFault, SoundListsAreTaken, SoundStructListsAreTaken, SoundStructsAreTaken, StructsHoldNoFault, StructsStandAsTheyAre};
+ghost use Rattle.capnp_wire.specs.StandFirst.{NumbersStandFirst, PointersStandFirst};
 ghost use Rattle.capnp_wire.specs.Standing.{list_of, struct_of, tree_of};
 ghost use Rattle.capnp_wire.specs.WellFormed.{IsWellFormed, IsWellFormedStruct};
 
@@ -88,6 +89,13 @@ pub fn objects_are_what_they_hold()
     ensures structs { StructsStandAsTheyAre }
     ensures lists { ListsStandAsTheyAre }
     ensures reads { ListsReadAsTheyStand }
+{}
+
+/// In a list that is read as numbers or pointers, an element is the first bits, or the first pointer, of that element read
+/// as a struct. So a list of numbers, texts, data or lists may become a list of structs of which they are the first field.
+pub fn elements_stand_first()
+    ensures numbers { NumbersStandFirst }
+    ensures pointers { PointersStandFirst }
 {}
 
 /// Each pointer in a message in memory can be followed.

@@ -4,7 +4,7 @@ use Rattle.capnp_compatible.proofs.Walking.{Walking}
 use Rattle.capnp_compatible.proofs.decide.decide.Given as goal
 
 abbrev pub invariant-loop-next : goal.invariant-loop-next
-invariant-loop-next l = Walking (lists_seen l.set) l.older l.newer l.next l.pairs
+invariant-loop-next l = Walking l.lists (lists_seen l.set) l.older l.newer l.next l.pairs
 
 -- no more pairs are looked at than there are pairs of brands
 abbrev pub decreases-loop-next : goal.decreases-loop-next
