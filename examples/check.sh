@@ -89,20 +89,23 @@ long() {
 long ''
 long --segment-size=1000
 
-# kinds FILE VALUES OPTIONS: `capnp encode OPTIONS` makes FILE from the values in another file
-kinds() {
+# made SCHEMA STRUCT FILE VALUES OPTIONS: `capnp encode OPTIONS` makes FILE from the values in another file
+made() {
     if command -v capnp > "$scratch/which"; then
         checks=$((checks + 1))
         # shellcheck disable=SC2086 # no option is no word
-        capnp encode $3 examples/kinds.capnp Kinds < "$2" > "$scratch/made"
-        cmp -- "$scratch/made" "examples/$1" || fail "$1: capnp makes other bytes"
+        capnp encode $5 "examples/$1" "$2" < "$4" > "$scratch/made"
+        cmp -- "$scratch/made" "examples/$3" || fail "$3: capnp makes other bytes"
     fi
 }
 
 echo '()' > "$scratch/nothing"
-kinds kinds.bin examples/kinds.txt ''
-kinds kinds_segments.bin examples/kinds.txt --segment-size=8
-kinds kinds_empty.bin "$scratch/nothing" ''
+made kinds.capnp Kinds kinds.bin examples/kinds.txt ''
+made kinds.capnp Kinds kinds_segments.bin examples/kinds.txt --segment-size=8
+made kinds.capnp Kinds kinds_empty.bin "$scratch/nothing" ''
+made station_before.capnp Station station_before.bin examples/station_before.txt ''
+made station.capnp Station station.bin examples/station.txt ''
+made station.capnp Station station_segments.bin examples/station.txt --segment-size=4
 
 # reading FILE TEXT: `capnp encode` makes FILE from TEXT, and `capnp decode` gives it back alike
 reading() {

@@ -9,6 +9,10 @@ mod evolution_tests;
 #[cfg(test)]
 mod fixtures;
 #[cfg(test)]
+mod memory_tests;
+#[cfg(test)]
 mod shape_tests;
+#[cfg(test)]
+mod tool_tests;
 #[cfg(test)]
 mod type_tests;

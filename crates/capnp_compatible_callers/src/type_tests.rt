@@ -131,3 +131,40 @@ fn structs_that_types_name(rt: HostRuntime) -> std::result::Result<(), Fail> {
     }
     Ok(())
 }
+
+/// A type inside so many lists.
+fn in_lists(element: Type, count: u32) -> Type {
+    let mut of = element;
+    for _ in 0..count {
+        of = list_type(of);
+    }
+    of
+}
+
+#[test]
+fn chains_of_lists(rt: HostRuntime) -> std::result::Result<(), Fail> {
+    let alloc = rt.alloc();
+    let word = Type::from(TypeVariant::UInt16);
+    let byte = Type::from(TypeVariant::UInt8);
+    for count in [2, 3, 30, 60] {
+        let one = in_lists(word, count);
+        assert!(rt; are_related(alloc, one, one, true)?, "{count}");
+        assert!(rt;
+            !are_related(alloc, one, in_lists(byte, count), true)?,
+            "{count}"
+        );
+        assert!(rt;
+            !are_related(alloc, one, in_lists(word, count - 1), true)?,
+            "{count}"
+        );
+        assert!(rt;
+            !are_related(alloc, one, in_lists(word, count + 1), true)?,
+            "{count}"
+        );
+        let short = in_lists(struct_type(2), count);
+        let long = in_lists(struct_type(3), count);
+        assert!(rt; are_related(alloc, short, long, true)?, "{count}");
+        assert!(rt; !are_related(alloc, long, short, true)?, "{count}");
+    }
+    Ok(())
+}

@@ -1,0 +1,104 @@
+//! The memory that is taken, and sets that are large.
+
+use crate::brands::{between, is_successor};
+use crate::fixtures::{ADDED, MIXED, grown_fields, sections, set_with, two_pointers};
+use capnp_base::introspect::TypeVariant;
+use capnp_compatible::Compatible;
+use capnp_dynamic::dynamic_struct;
+use capnp_dynamic::dynamic_value::Reader as Value;
+use capnp_schema::set::SchemaSet;
+use capnp_schema_callers::fixtures::{
+    add_struct, list_type, records_of, slot, struct_type, typed_slot,
+};
+use capnp_wire::error::{ErrorKind, Result};
+use std::alloc::Global;
+use std::test::Fail;
+
+/// A `Mixed` whose `a` is 5, with `y` active and 9.
+static NINE: [u8; 32] = [
+    0, 0, 0, 0, 3, 0, 0, 0, 0, 0, 0, 0, 1, 0, 1, 0, 5, 0, 1, 0, 9, 0, 0, 0, 0, 0, 0, 0, 0, 0, 0, 0,
+];
+
+/// The number of a field by its name; nothing where it is no number of 16 or 8 bits.
+fn number(reader: dynamic_struct::Reader<'_>, name: &str) -> Result<Option<u16>> {
+    match reader.get_named(name)? {
+        Value::UInt16(x) => Ok(Some(x)),
+        Value::UInt8(x) => Ok(Some(u16::from(x))),
+        _ => Ok(None),
+    }
+}
+
+/// What both schemas read of a message, without memory.
+fn reads(pair: &Compatible<'_>, older: dynamic_struct::Reader<'_>) -> Result<[Option<u16>; 4]> {
+    let newer = pair.widen(older);
+    let again = pair.narrow(newer);
+    Ok([
+        number(newer, "y")?,
+        number(newer, "c")?,
+        number(again, "a")?,
+        number(again, "y")?,
+    ])
+}
+
+// Run with `rt try --test --fail-alloc N` for each N: whichever request for memory is refused, what stands before it is
+// refused for memory alone, and once there is a pair both reads succeed.
+#[test]
+fn narrow_and_widen_take_no_memory(rt: HostRuntime) -> std::result::Result<(), Fail> {
+    let fields = grown_fields();
+    let made = set_with(rt.alloc(), two_pointers(1, &fields).union(3, 1));
+    let Ok(set) = made else {
+        assert!(rt; made.is_err_and(|error| error.kind == ErrorKind::OutOfMemory));
+        return Ok(());
+    };
+    let part = sections(rt.alloc(), &NINE)?;
+    let found = between(rt.alloc(), &set, MIXED, ADDED);
+    let Ok(Some(pair)) = found else {
+        assert!(rt; found.is_err_and(|error| error.kind == ErrorKind::OutOfMemory));
+        return Ok(());
+    };
+    let older = dynamic_struct::Reader::new(part, set.struct_schema(MIXED));
+    assert_eq!(rt; reads(&pair, older)?, [Some(9), Some(0), Some(5), Some(9)]);
+    Ok(())
+}
+
+/// A set of so many structs. Each names the next one, and another by a list, and from each all are named at last.
+fn ring(alloc: Global, count: u32) -> Result<SchemaSet> {
+    let of = |number: u32| {
+        [
+            slot("value", 0, TypeVariant::UInt16),
+            typed_slot("next", 0, struct_type((number + 1) % count)),
+            typed_slot(
+                "others",
+                1,
+                list_type(struct_type((7 * number + 3) % count)),
+            ),
+        ]
+    };
+    let mut records = records_of(alloc, two_pointers(1, &of(0)))?;
+    for number in 1..count {
+        add_struct(alloc, &mut records, number, &two_pointers(1, &of(number)))?;
+    }
+    SchemaSet::new(alloc, records.nodes, records.brands, records.enums)
+}
+
+#[test]
+fn a_large_set_has_itself_as_a_successor(rt: HostRuntime) -> std::result::Result<(), Fail> {
+    let set = ring(rt.alloc(), 2_000)?;
+    assert!(rt; is_successor(rt.alloc(), &set, 0, 0)?);
+    Ok(())
+}
+
+#[test]
+fn all_pairs_of_a_ring(rt: HostRuntime) -> std::result::Result<(), Fail> {
+    // each pair leads to all pairs that stand as far apart, and these to others by their lists
+    let set = ring(rt.alloc(), 12)?;
+    for older in 0..12 {
+        for newer in 0..12 {
+            assert!(rt;
+                is_successor(rt.alloc(), &set, older, newer)?,
+                "{older} {newer}"
+            );
+        }
+    }
+    Ok(())
+}
