@@ -1,8 +1,10 @@
 //! Elements of a list that is built.
-ghost use Rattle.std.specs.Prelude.{None, true, ◌≡◌, ◌<◌, ◌^◌, IfErr, IfOk, OnErr, OnOk, length};
-ghost use Rattle.capnp_wire.specs.Objects.{list_object_tree};
+ghost use Rattle.std.specs.Prelude.{None, Some, true, ◌≡◌, ◌≢◌, ◌<◌, ◌^◌, IfErr, IfOk, IsOk, OnErr, OnOk, length};
+ghost use Rattle.capnp_wire.specs.Defaults.{list_refusal};
+ghost use Rattle.capnp_wire.specs.Objects.{list_object_tree, object_tree};
+ghost use Rattle.capnp_wire.specs.StructLists.{HoldsStructs, struct_list, struct_list_refusal};
 ghost use Rattle.capnp_wire.specs.WellFormed.{IsWellFormed};
-ghost use Rattle.capnp_wire.specs.Edits.{IsCopyRefusal, fitted};
+ghost use Rattle.capnp_wire.specs.Edits.{IsCopyRefusal, IsDueRefusal, fitted};
 ghost use Rattle.capnp_wire.specs.Elements.{HasPointer, HasStruct, with_pointer_element, with_struct_element};
 ghost use Rattle.capnp_wire.specs.Reading.{element_struct};
 ghost use Rattle.capnp_wire.specs.Standing.{struct_levels, struct_of};
@@ -10,7 +12,8 @@ ghost use Rattle.capnp_wire.specs.Tree.{tree_count};
 ghost use Rattle.capnp_wire.specs.Words.{first_fault, first_fault_of_all};
 ghost use Rattle.capnp_schema.specs.Entries.{lists_seen};
 ghost use Rattle.capnp_schema.specs.Tests.{seen_variant};
-ghost use Rattle.capnp_schema.specs.Types.{seen_type, width};
+ghost use Rattle.capnp_schema.specs.Schema.{VoidValue};
+ghost use Rattle.capnp_schema.specs.Types.{ListType, seen_type, width};
 ghost use Rattle.capnp_records.specs.Call.{StructSource};
 ghost use Rattle.capnp_records.specs.Record.{Left};
 ghost use Rattle.capnp_schema.specs.StructHandles.{number_of};
@@ -20,11 +23,13 @@ ghost use Rattle.capnp_slots.specs.ElementSets.{IsBlobOrList, IsElementInitRefus
 ghost use Rattle.capnp_slots.specs.Primitives.{IsGivenAs, primitive_source};
 ghost use Rattle.capnp_slots.specs.Sources.{IsCopyDue, IsPointed, IsSetRefusal, IsSoundCopy, source_seen};
 ghost use Rattle.capnp_records.specs.Writes.Contents.{initn_tree, source_tree};
+ghost use Rattle.capnp_records.specs.Writes.Fill.{entered_list};
 ghost use Rattle.capnp_records.specs.Writes.Slots.{At};
+ghost use Rattle.capnp_slots.specs.Fills.{IsAtRest, fill_due};
 ghost use Rattle.capnp_slots.specs.Inits.{IsInitnRefusal, is_sized};
 
 use crate::copies::copies_source;
-use crate::make::make_sized;
+use crate::make::{make_sized, size_of};
 use crate::primitive::{Primitive, mismatch, number_fits, number_given};
 use crate::source::{ListInput, Source};
 use capnp_base::introspect::{RawBrandedStructSchema, Type, TypeVariant};
@@ -36,10 +41,11 @@ use capnp_wire::StructReader;
 use capnp_wire::error::{Error, ErrorKind, Result};
 use capnp_wire::laws::kept_lists::{
     bits_keep_lists_well_formed, lent_pointers_keep_lists_well_formed,
-    numbers_keep_lists_well_formed, pointers_keep_lists_well_formed,
+    numbers_keep_lists_well_formed, pointers_keep_lists_well_formed, struct_lists_are_well_formed,
 };
 use capnp_wire::laws::{objects_hold_no_fault, struct_is_well_formed};
-use capnp_wire::object::ListObject;
+use capnp_wire::object::{ListObject, Object};
+use capnp_wire::size::{ElementSize, StructSize};
 
 /// Stores a number in an element of a type.
 fn store_element(list: &mut ListObject, variant: TypeVariant, index: u32, number: u64)
@@ -294,4 +300,57 @@ pub fn init(
         TypeVariant::AnyPointer => Err(Error::from(ErrorKind::ListAnyPointerNotSupported)),
         _ => Err(Error::from(ErrorKind::ExpectedAListOrBlob)),
     }
+}
+
+/// Fills the list behind a pointer that is an element, of elements of a type, as a builder's `get` does: a list of other
+/// elements becomes one of structs where these are asked, and structs get at least their schema's sections. A null stays
+/// null, and has no elements: elements have no defaults.
+///
+/// Refused with `WrongPointerKind` or `WrongElementSize` where what stands there is not read as such a list, with
+/// `SizePastFormat` where the structs would take 2^29 words or more, and else with `OutOfMemory`; then nothing has changed.
+/// Where no struct has to be extended no memory is taken.
+pub fn fill(pointer: &mut Object, set: &SchemaSet, element: Type) -> Result<()>
+    requires { IsWellFormed (object_tree pointer.old) }
+    ensures filled { OnOk result (object_tree pointer.new ≡ entered_list (lists_seen set.now) (seen_type element) (object_tree pointer.old)) }
+    ensures within { OnOk result (fill_due (lists_seen set.now) VoidValue (ListType (seen_type element)) (object_tree pointer.old) ≡ None) }
+    ensures formed { OnOk result (IsWellFormed (object_tree pointer.new)) }
+    ensures refused { OnErr result (object_tree pointer.new ≡ object_tree pointer.old) }
+    ensures cause { IfErr result (λ e. IsDueRefusal e (fill_due (lists_seen set.now) VoidValue (ListType (seen_type element)) (object_tree pointer.old))) }
+    ensures rests { IsAtRest (lists_seen set.now) VoidValue (ListType (seen_type element)) (object_tree pointer.old) → IsOk result }
+{
+    match element.which() {
+        TypeVariant::Struct(raw) => {
+            let size = size_of(set.struct_schema(raw.number));
+            fill_structs(pointer, size)
+        }
+        _ => check_list(pointer, element.expected_element_size()),
+    }
+}
+
+/// Makes what stands at a pointer a list of structs of at least a size.
+#[tactic(auto, using(crate::proofs::Pointers::list_stands))]
+fn fill_structs(pointer: &mut Object, size: StructSize) -> Result<()>
+    requires { IsWellFormed (object_tree pointer.old) }
+    ensures filled { OnOk result (object_tree pointer.new ≡ struct_list size (object_tree pointer.old)) }
+    ensures within { OnOk result (struct_list_refusal size (object_tree pointer.old) ≡ None) }
+    ensures formed { OnOk result (IsWellFormed (object_tree pointer.new)) }
+    ensures refused { OnErr result (object_tree pointer.new ≡ object_tree pointer.old) }
+    ensures cause { IfErr result (λ e. IsDueRefusal e (struct_list_refusal size (object_tree pointer.old))) }
+    ensures rests { HoldsStructs size (object_tree pointer.old) → IsOk result }
+{
+    struct_lists_are_well_formed();
+    pointer.get_struct_list(size)?;
+    Ok(())
+}
+
+/// Refuses what is not read as a list of elements of a size.
+#[tactic(auto, using(crate::proofs::Pointers::list_stands))]
+fn check_list(pointer: &mut Object, size: ElementSize) -> Result<()>
+    requires { size ≢ ElementSize.InlineComposite }
+    ensures stays { object_tree pointer.new ≡ object_tree pointer.old }
+    ensures within { OnOk result (list_refusal size (object_tree pointer.old) ≡ None) }
+    ensures cause { IfErr result (λ e. list_refusal size (object_tree pointer.old) ≡ Some e.kind) }
+{
+    pointer.get_list(size)?;
+    Ok(())
 }
