@@ -37,7 +37,7 @@ impl<'a> Reader<'a> {
     ghost use Rattle.capnp_dynamic.specs.Typed.{IsOf, IsUnder};
 
     /// A reader of a list whose elements are of a type of the set.
-    pub(crate) fn new(reader: ListReader<'a>, element_type: Type, set: &'a SchemaSet) -> Reader<'a>
+    pub fn new(reader: ListReader<'a>, element_type: Type, set: &'a SchemaSet) -> Reader<'a>
         ensures reader { list_reader_of result ≡ reader.entry }
         ensures element { type_of result ≡ element_type }
         ensures set { list_set result ≡ lists_seen set.now }

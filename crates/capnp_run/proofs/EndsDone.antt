@@ -35,7 +35,7 @@ module _ (f : Field) (s s' : StructTree) where
 
 -- ---- refusals ----
 
-roomless : (x : Target) (past : Bool) (v old : Value) (kind : ErrorKind) → IsRoomless past kind → Makes x past v old (Refused kind) old
+pub roomless : (x : Target) (past : Bool) (v old : Value) (kind : ErrorKind) → IsRoomless past kind → Makes x past v old (Refused kind) old
 roomless x true v old kind h = inr (ap Refused h, refl)
 roomless x false v old kind h = inl (ap Refused h, refl)
 

@@ -1,12 +1,13 @@
 -- What a reader with 64 levels is answered is what the whole record says.
-use Rattle.std.specs.Prelude.{ℕ, ◌≡◌, ◌⊎◌, ◌<◌, refl, List, Bool, true, false, cond, length, IsTrue, Option, Some, None, Ok, Err}
+use Rattle.std.specs.Prelude.{ℕ, ◌≡◌, ◌⊎◌, ◌<◌, refl, List, Bool, true, false, cond, length, IsTrue, ◌==◌, Result, Option, Some, None, Ok, Err}
 use Rattle.std.proofs.Common.{ap, sym, subst, ◌∙◌}
 use Rattle.std.proofs.lemmas.Bool.{true≢false}
 use Rattle.capnp_wire.specs.Tree as tree
 use Rattle.capnp_wire.specs.Tree.{StructTree, Tree, Trees, nth_tree}
 use Rattle.capnp_device.specs.declared.error.ErrorKind.{ErrorKind}
-use Rattle.capnp_device.specs.declared.error.ErrorKind.TheVariants.{OutOfMemory, WrongElementSize}
-use Rattle.capnp_wire.specs.Reading.{as_struct, is_null_tree, list_length, reads_bits, reads_numbers, reads_pointers, reads_structs, reads_voids}
+use Rattle.capnp_device.specs.declared.error.ErrorKind.TheVariants.{OutOfMemory, TooDeep, WrongElementSize}
+use Rattle.capnp_wire.specs.Reading.{as_list, as_struct, is_null_tree, list_length, reads_bits, reads_numbers, reads_pointers, reads_structs, reads_voids, with_level}
+use Rattle.capnp_wire.specs.declared.size.ElementSize.{ElementSize}
 use Rattle.capnp_base.specs.declared.introspect.TypeVariant.{TypeVariant}
 use Rattle.capnp_schema.specs.Accepted.{IsAccepted, root_of}
 use Rattle.capnp_schema.specs.Schema.{Schemas, StructValue, ListValue, FieldKind, Slot, Group, TypedField, default_of, field_at, fields_of}
@@ -20,7 +21,7 @@ use Rattle.capnp_records.specs.Facts.ListValues.{below_of, count-values_from}
 use Rattle.capnp_records.specs.Facts.Pointers.{values_of-nth}
 use Rattle.capnp_records.specs.Operation.{Answers, plain, takes_memory}
 use Rattle.capnp_records.specs.Part.{has_of}
-use Rattle.capnp_records.specs.Reading.{Below, Reading, element_value, kind_value, nth_reading, of_read, part_of, record_of, record_within, struct_record, tree_value, value_of, values_of}
+use Rattle.capnp_records.specs.Reading.{Below, Reading, element_value, elements_value, kind_value, nth_reading, of_read, part_of, record_of, record_within, struct_record, tree_value, value_of, values_of}
 use Rattle.capnp_records.specs.Record as value
 use Rattle.capnp_records.specs.Record.{Endless, Left, Levels, NoUnion, Parts, Record, Value, one_less, values_from}
 use Rattle.capnp_records.specs.Call.{GivesValue, ListPlain, Reply}
@@ -70,47 +71,75 @@ module _ (set : Schemas) where
   list_read f g t x true kind = elements f g t (list_length x)
   list_read f g t x false kind = alike refl refl
 
-  module _ (below : Below) where
-    struct_there : (b g : ℕ) (x : Tree) → SameAnswer (StructType b g) (tree_value set x below (Left 64) (StructType b g)) (tree_value set x below Endless (StructType b g))
-    struct_there b g x = go x
-      where
-        go : (x : Tree) → SameAnswer (StructType b g)
-            (of_read (λ (s : StructTree). value.Struct (record_of set (one_less (Left 64)) s.bytes below.pointers b)) (as_struct x 64))
-            (of_read (λ (s : StructTree). value.Struct (record_of set Endless s.bytes below.pointers b)) (as_struct x 1))
-        go tree.Null = alike refl refl
-        go (tree.Struct bytes ps) = alike refl refl
-        go (tree.Voids n) = alike refl refl
-        go (tree.Bits bs) = alike refl refl
-        go (tree.Numbers w bytes) = alike refl refl
-        go (tree.Pointers ps) = alike refl refl
-        go (tree.Composite d p es) = alike refl refl
-        go (tree.FaultLeaf k) = alike refl refl
+  -- where a level is left, a struct or list is read as where none are counted
+  module _ (n : ℕ) (enough : (n == 0) ≡ false) where
+    with_enough : {A : Type 0} (r : Result A ErrorKind) → with_level n r ≡ with_level 1 r
+    with_enough r = ap (λ q. cond q (Err TooDeep) r) enough
 
-    list_there : (e : SchemaType) (x : Tree) → SameAnswer (ListType e) (tree_value set x below (Left 64) (ListType e)) (tree_value set x below Endless (ListType e))
-    list_there e tree.Null = elements (element_value set tree.Null below (one_less (Left 64)) e) (element_value set tree.Null below (one_less Endless) e) (ListType e) (list_length tree.Null)
-    list_there e (tree.Struct bytes ps) = alike refl refl
-    list_there e (tree.Voids n) = list_read _ _ (ListType e) (tree.Voids n) (reads_voids (element_size e)) WrongElementSize
-    list_there e (tree.Bits bs) = list_read _ _ (ListType e) (tree.Bits bs) (reads_bits (element_size e)) WrongElementSize
-    list_there e (tree.Numbers w bytes) = list_read _ _ (ListType e) (tree.Numbers w bytes) (reads_numbers (element_size e) w) WrongElementSize
-    list_there e (tree.Pointers ps) = list_read _ _ (ListType e) (tree.Pointers ps) (reads_pointers (element_size e)) WrongElementSize
-    list_there e (tree.Composite d p es) = list_read _ _ (ListType e) (tree.Composite d p es) (reads_structs (element_size e) d p) WrongElementSize
-    list_there e (tree.FaultLeaf k) = alike refl refl
+    struct_enough : (x : Tree) → as_struct x n ≡ as_struct x 1
+    struct_enough tree.Null = with_enough _
+    struct_enough (tree.Struct bytes ps) = with_enough _
+    struct_enough (tree.Voids k) = with_enough _
+    struct_enough (tree.Bits bs) = with_enough _
+    struct_enough (tree.Numbers w bytes) = with_enough _
+    struct_enough (tree.Pointers ps) = with_enough _
+    struct_enough (tree.Composite d p es) = with_enough _
+    struct_enough (tree.FaultLeaf k) = refl
 
-    tree_there : (x : Tree) (t : SchemaType) → SameAnswer t (tree_value set x below (Left 64) t) (tree_value set x below Endless t)
-    tree_there x (StructType b g) = struct_there b g x
-    tree_there x (ListType e) = list_there e x
-    tree_there x t = alike refl refl
+    list_enough : (size : ElementSize) (x : Tree) → as_list size x n ≡ as_list size x 1
+    list_enough size tree.Null = with_enough _
+    list_enough size (tree.Struct bytes ps) = with_enough _
+    list_enough size (tree.Voids k) = with_enough _
+    list_enough size (tree.Bits bs) = with_enough _
+    list_enough size (tree.Numbers w bytes) = with_enough _
+    list_enough size (tree.Pointers ps) = with_enough _
+    list_enough size (tree.Composite d p es) = with_enough _
+    list_enough size (tree.FaultLeaf k) = refl
 
-  -- a pointer that isn't null
-  there : (x : Tree) (t : SchemaType) → is_null_tree x ≡ false → SameAnswer t (value_of set x (Left 64) t) (value_of set x Endless t)
-  there tree.Null t e = absurd (true≢false e)
-  there (tree.Struct bytes ps) t e = tree_there (below_of set (tree.Struct bytes ps)) (tree.Struct bytes ps) t
-  there (tree.Voids n) t e = tree_there (below_of set (tree.Voids n)) (tree.Voids n) t
-  there (tree.Bits bs) t e = tree_there (below_of set (tree.Bits bs)) (tree.Bits bs) t
-  there (tree.Numbers w bytes) t e = tree_there (below_of set (tree.Numbers w bytes)) (tree.Numbers w bytes) t
-  there (tree.Pointers ps) t e = tree_there (below_of set (tree.Pointers ps)) (tree.Pointers ps) t
-  there (tree.Composite d p es) t e = tree_there (below_of set (tree.Composite d p es)) (tree.Composite d p es) t
-  there (tree.FaultLeaf k) t e = tree_there (below_of set (tree.FaultLeaf k)) (tree.FaultLeaf k) t
+    module _ (below : Below) where
+      struct_there : (b g : ℕ) (x : Tree) → SameAnswer (StructType b g) (tree_value set x below (Left n) (StructType b g)) (tree_value set x below Endless (StructType b g))
+      struct_there b g x = same_then (same_from (ap (of_read (λ (s : StructTree). value.Struct (record_of set (one_less (Left n)) s.bytes below.pointers b))) (struct_enough x))) (go x)
+        where
+          go : (x : Tree) → SameAnswer (StructType b g)
+              (of_read (λ (s : StructTree). value.Struct (record_of set (one_less (Left n)) s.bytes below.pointers b)) (as_struct x 1))
+              (of_read (λ (s : StructTree). value.Struct (record_of set Endless s.bytes below.pointers b)) (as_struct x 1))
+          go tree.Null = alike refl refl
+          go (tree.Struct bytes ps) = alike refl refl
+          go (tree.Voids k) = alike refl refl
+          go (tree.Bits bs) = alike refl refl
+          go (tree.Numbers w bytes) = alike refl refl
+          go (tree.Pointers ps) = alike refl refl
+          go (tree.Composite d p es) = alike refl refl
+          go (tree.FaultLeaf k) = alike refl refl
+
+      list_there : (e : SchemaType) (x : Tree) → SameAnswer (ListType e) (tree_value set x below (Left n) (ListType e)) (tree_value set x below Endless (ListType e))
+      list_there e x = same_then (same_from (ap (of_read (λ (_ : Tree). elements_value set x below (one_less (Left n)) e)) (list_enough (element_size e) x))) (go x)
+        where
+          go : (y : Tree) → SameAnswer (ListType e) (of_read (λ (_ : Tree). elements_value set y below (one_less (Left n)) e) (as_list (element_size e) y 1)) (of_read (λ (_ : Tree). elements_value set y below (one_less Endless) e) (as_list (element_size e) y 1))
+          go tree.Null = elements (element_value set tree.Null below (one_less (Left n)) e) (element_value set tree.Null below (one_less Endless) e) (ListType e) (list_length tree.Null)
+          go (tree.Struct bytes ps) = alike refl refl
+          go (tree.Voids k) = list_read _ _ (ListType e) (tree.Voids k) (reads_voids (element_size e)) WrongElementSize
+          go (tree.Bits bs) = list_read _ _ (ListType e) (tree.Bits bs) (reads_bits (element_size e)) WrongElementSize
+          go (tree.Numbers w bytes) = list_read _ _ (ListType e) (tree.Numbers w bytes) (reads_numbers (element_size e) w) WrongElementSize
+          go (tree.Pointers ps) = list_read _ _ (ListType e) (tree.Pointers ps) (reads_pointers (element_size e)) WrongElementSize
+          go (tree.Composite d p es) = list_read _ _ (ListType e) (tree.Composite d p es) (reads_structs (element_size e) d p) WrongElementSize
+          go (tree.FaultLeaf k) = alike refl refl
+
+      tree_there : (x : Tree) (t : SchemaType) → SameAnswer t (tree_value set x below (Left n) t) (tree_value set x below Endless t)
+      tree_there x (StructType b g) = struct_there b g x
+      tree_there x (ListType e) = list_there e x
+      tree_there x t = alike refl refl
+
+    -- a pointer that isn't null
+    pub there : (x : Tree) (t : SchemaType) → is_null_tree x ≡ false → SameAnswer t (value_of set x (Left n) t) (value_of set x Endless t)
+    there tree.Null t e = absurd (true≢false e)
+    there (tree.Struct bytes ps) t e = tree_there (below_of set (tree.Struct bytes ps)) (tree.Struct bytes ps) t
+    there (tree.Voids k) t e = tree_there (below_of set (tree.Voids k)) (tree.Voids k) t
+    there (tree.Bits bs) t e = tree_there (below_of set (tree.Bits bs)) (tree.Bits bs) t
+    there (tree.Numbers w bytes) t e = tree_there (below_of set (tree.Numbers w bytes)) (tree.Numbers w bytes) t
+    there (tree.Pointers ps) t e = tree_there (below_of set (tree.Pointers ps)) (tree.Pointers ps) t
+    there (tree.Composite d p es) t e = tree_there (below_of set (tree.Composite d p es)) (tree.Composite d p es) t
+    there (tree.FaultLeaf k) t e = tree_there (below_of set (tree.FaultLeaf k)) (tree.FaultLeaf k) t
 
   -- a default
   unless : (t : SchemaType) (x : Tree) → SameAnswer t (empty_value set (Left 64) t) (empty_value set Endless t) → SameAnswer t (unless_null set (Left 64) t x) (unless_null set Endless t x)
@@ -120,7 +149,7 @@ module _ (set : Schemas) where
           (elim q as (λ _. Value) [ true ↦ empty_value set (Left 64) t | false ↦ value_of set x (Left 64) t ])
           (elim q as (λ _. Value) [ true ↦ empty_value set Endless t | false ↦ value_of set x Endless t ])
       go true e = none
-      go false e = there x t e
+      go false e = there 64 refl x t e
 
   default_same : (d : SchemaValue) (t : SchemaType) → SameAnswer t (default_value set (Left 64) d t) (default_value set Endless d t)
   default_same (StructValue words) (StructType b g) = unless (StructType b g) (root_of words) (alike refl refl)
@@ -137,7 +166,7 @@ module _ (set : Schemas) where
       go true e = subst (λ y. SameAnswer t (read_of set d t (value_of set y (Left 64) t)) (read_of set d t (value_of set y Endless t))) (sym (null-is x e)) (default_same d t)
       go false e =
           same_then (same_from (read-there set d t _ (value-there set x (Left 64) t e)))
-          (same_then (there x t e) (same_from (sym (read-there set d t _ (value-there set x Endless t e)))))
+          (same_then (there 64 refl x t e) (same_from (sym (read-there set d t _ (value-there set x Endless t e)))))
 
   module _ (bytes : List ℕ) (ps : Trees) (d : SchemaValue) where
     pointed : (o : ℕ) (t : SchemaType) → SameAnswer t (read_of set d t (nth_reading (values_of set ps) o (Left 64) t)) (read_of set d t (nth_reading (values_of set ps) o Endless t))

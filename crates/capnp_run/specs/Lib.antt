@@ -1,4 +1,6 @@
 pub mod Ends
+pub mod Lists
+pub mod Runs
 pub mod Seen
 pub mod Walks
 pub mod Ways

@@ -2,6 +2,7 @@
 use Rattle.std.specs.Prelude.{ℕ, ◌≡◌, List, Ok}
 use Rattle.capnp_device.specs.declared.error.ErrorKind.{ErrorKind}
 use Rattle.capnp_wire.specs.Tree.{StructTree}
+use Rattle.capnp_schema.specs.Schema.{Schemas}
 use Rattle.capnp_schema.specs.Types.{StructType}
 use Rattle.capnp_schema.specs.FieldLists.{index_of, typed_of}
 use Rattle.capnp_schema.specs.declared.schema.fields.Field.{Field}
@@ -13,7 +14,11 @@ use Rattle.capnp_records.specs.Writes.TreeEnds.{TreeEnds}
 use Rattle.capnp_records.specs.Writes.TreeRun.{TreeEnd, TreeEnters, TreePasses, TreeWalks}
 use Rattle.capnp_slots.specs.Fields.{field_brand, field_set}
 use Rattle.capnp_run.specs.Ends.{Whole, stand_of, whole_of}
+use Rattle.capnp_run.specs.Seen.{op_seen, path_seen, reply_seen, step_seen}
 use Rattle.capnp_run.specs.Ways.{target_in}
+use Rattle.capnp_run.specs.declared.calls.Reply.{Reply as ReplyOf}
+use Rattle.capnp_run.specs.declared.calls.Step.{Step}
+use Rattle.capnp_run.specs.declared.calls.Ending.{Ending}
 
 -- a field that a step goes into: it is active, and leads to a struct, group or list
 abbrev pub IsWalked : Field → StructTree → Type 0
@@ -41,3 +46,17 @@ StepGoes f s =
 -- whatever the rest of the call is, it is refused at the field
 abbrev pub StepStops : Field → StructTree → ErrorKind → Type 0
 StepStops f s kind = (path : List PathStep) (last : PathStep) (op : Op) → FieldPasses f (TreeWalks (field_set f) (TreeEnds (field_set f) last op) path) s (Refused kind) s
+
+-- ---- the rest of a call, as the code has it ----
+
+-- the end of its path
+abbrev pub EndsAt : Schemas → Ending → TreeEnd
+EndsAt set end = TreeEnds set (step_seen end.last) (op_seen end.op)
+
+-- a path is walked from a struct of a brand, or the struct of a group, and the operation is done at its end
+unfoldable pub StructWalks : Schemas → ℕ → List Step → Ending → StructTree → ReplyOf → StructTree → Type 0
+StructWalks set b path end old reply new = (w : Whole) (g : ℕ) → TreeWalks set (EndsAt set end) (path_seen path) (StructType b g) (stand_of w old) (reply_seen reply) (stand_of w new)
+
+-- the same into a field that is there, and along the rest of the path
+unfoldable pub FieldWalks : Field → List Step → Ending → StructTree → ReplyOf → StructTree → Type 0
+FieldWalks f rest end old reply new = FieldPasses f (TreeWalks (field_set f) (EndsAt (field_set f) end) (path_seen rest)) old (reply_seen reply) new

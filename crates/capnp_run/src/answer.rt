@@ -59,7 +59,7 @@ fn plain_of(alloc: Global, value: Value<'_>) -> Result<Plain>
 }
 
 /// The reply to a read.
-fn answer(alloc: Global, read: Result<Value<'_>>) -> Reply
+pub(crate) fn answer(alloc: Global, read: Result<Value<'_>>) -> Reply
     ensures { (set : Schemas) (t : SchemaType) (old : RecordValue) → IfOk read.entry (IsOf set t) → Answers t (answered read.entry) (fault_of (answered read.entry)) old (reply_seen result) old }
 {
     match read {

@@ -1,5 +1,6 @@
 //! Calls along paths, and their replies.
 use capnp_wire::error::ErrorKind;
+use std::alloc::Global;
 
 /// A step of a path.
 #[derive(Clone, Copy)]
@@ -33,6 +34,14 @@ pub enum Op {
 #[derive(Clone, Copy)]
 pub struct Call<'c> {
     pub path: &'c [Step<'c>],
+    pub last: Step<'c>,
+    pub op: Op,
+}
+
+/// What is done where a path ends, and what a reply takes its memory from.
+#[derive(Clone, Copy)]
+pub struct Ending<'c> {
+    pub alloc: Global,
     pub last: Step<'c>,
     pub op: Op,
 }

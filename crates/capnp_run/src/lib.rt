@@ -5,4 +5,7 @@ pub mod answer;
 pub mod calls;
 pub mod end;
 pub mod enter;
+pub mod list_end;
+pub mod run;
+pub mod walk;
 pub mod way;

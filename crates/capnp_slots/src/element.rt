@@ -1,6 +1,6 @@
 //! Elements of a list that is built.
 ghost use Rattle.std.specs.Prelude.{None, true, ◌≡◌, ◌<◌, ◌^◌, IfErr, IfOk, IsOk, OnErr, OnOk, length};
-ghost use Rattle.capnp_wire.specs.Objects.{list_object_tree};
+ghost use Rattle.capnp_wire.specs.Objects.{list_object_tree, object_tree};
 ghost use Rattle.capnp_wire.specs.WellFormed.{IsWellFormed};
 ghost use Rattle.capnp_wire.specs.Edits.{IsCopyRefusal, IsDueRefusal, fitted};
 ghost use Rattle.capnp_wire.specs.Elements.{HasPointer, HasStruct, with_pointer_element, with_struct_element};
@@ -10,23 +10,25 @@ ghost use Rattle.capnp_wire.specs.Tree.{tree_count};
 ghost use Rattle.capnp_wire.specs.Words.{first_fault, first_fault_of_all};
 ghost use Rattle.capnp_schema.specs.Entries.{lists_seen};
 ghost use Rattle.capnp_schema.specs.Tests.{seen_variant};
-ghost use Rattle.capnp_schema.specs.Types.{seen_type, width};
+ghost use Rattle.capnp_schema.specs.Schema.{VoidValue};
+ghost use Rattle.capnp_schema.specs.Types.{ListType, seen_type, width};
 ghost use Rattle.capnp_records.specs.Call.{StructSource};
 ghost use Rattle.capnp_records.specs.Record.{Left};
 ghost use Rattle.capnp_schema.specs.StructHandles.{number_of};
 ghost use Rattle.capnp_records.specs.Given.{Fails, given_element, given_slot};
 ghost use Rattle.capnp_records.specs.Writes.ElementEnds.{HasRoom, InitnContent, element_written, with_element_number};
 ghost use Rattle.capnp_slots.specs.ElementSets.{IsBlobOrList, IsElementInitRefusal, IsElementSet, NoStruct, TakesInto};
-ghost use Rattle.capnp_slots.specs.Fills.{ElementRests, element_due, element_filled, is_behind};
+ghost use Rattle.capnp_slots.specs.Fills.{ElementRests, IsAtRest, element_due, element_filled, fill_due, is_behind};
 ghost use Rattle.capnp_slots.specs.Primitives.{IsGivenAs, primitive_source};
 ghost use Rattle.capnp_slots.specs.Sources.{IsCopyDue, IsPointed, IsSetRefusal, IsSoundCopy, source_seen};
 ghost use Rattle.capnp_records.specs.Writes.Contents.{initn_tree, source_tree};
+ghost use Rattle.capnp_records.specs.Writes.Fill.{entered_list};
 ghost use Rattle.capnp_records.specs.Writes.Slots.{At};
 ghost use Rattle.capnp_slots.specs.Inits.{IsInitnRefusal, is_sized};
 
 use crate::copies::copies_source;
-use crate::fill_element::fill_behind;
-use crate::make::make_sized;
+use crate::fill_element::{check_list, extend_structs, fill_behind};
+use crate::make::{make_sized, size_of};
 use crate::primitive::{Primitive, mismatch, number_fits, number_given};
 use crate::source::{ListInput, Source};
 use capnp_base::introspect::{RawBrandedStructSchema, Type, TypeVariant};
@@ -42,7 +44,8 @@ use capnp_wire::laws::kept_lists::{
     pointers_of_lists_are_well_formed,
 };
 use capnp_wire::laws::{objects_hold_no_fault, struct_is_well_formed};
-use capnp_wire::object::ListObject;
+use capnp_wire::object::{ListObject, Object};
+use capnp_wire::size::{ElementSize, StructSize};
 
 /// Stores a number in an element of a type.
 fn store_element(list: &mut ListObject, variant: TypeVariant, index: u32, number: u64)
@@ -335,4 +338,29 @@ fn fill_at(list: &mut ListObject, set: &SchemaSet, variant: TypeVariant, index: 
     pointers_of_lists_are_well_formed();
     pointers_keep_lists_well_formed();
     fill_behind(list.get_pointer_element(index), set, variant)
+}
+
+/// Fills the list behind a pointer that is an element, of elements of a type, as a builder's `get` does: structs get at least
+/// their schema's sections, and a list of other elements becomes one of structs where these are asked. A null stays null,
+/// and has no elements.
+///
+/// Refused with `WrongPointerKind` or `WrongElementSize` where what stands there is not read as such a list, with
+/// `SizePastFormat` where the structs would take 2^29 words or more, and else with `OutOfMemory`; then nothing has changed.
+/// Where no struct has to be extended no memory is taken.
+pub fn fill_list(pointer: &mut Object, set: &SchemaSet, element: Type) -> Result<()>
+    requires { IsWellFormed (object_tree pointer.old) }
+    ensures filled { OnOk result (object_tree pointer.new ≡ entered_list (lists_seen set.now) (seen_type element) (object_tree pointer.old)) }
+    ensures within { OnOk result (fill_due (lists_seen set.now) VoidValue (ListType (seen_type element)) (object_tree pointer.old) ≡ None) }
+    ensures formed { OnOk result (IsWellFormed (object_tree pointer.new)) }
+    ensures refused { OnErr result (object_tree pointer.new ≡ object_tree pointer.old) }
+    ensures cause { IfErr result (λ e. IsDueRefusal e (fill_due (lists_seen set.now) VoidValue (ListType (seen_type element)) (object_tree pointer.old))) }
+    ensures rests { IsAtRest (lists_seen set.now) VoidValue (ListType (seen_type element)) (object_tree pointer.old) → IsOk result }
+{
+    match element.which() {
+        TypeVariant::Struct(raw) => {
+            let size = size_of(set.struct_schema(raw.number));
+            extend_structs(pointer, size)
+        }
+        _ => check_list(pointer, element.expected_element_size()),
+    }
 }

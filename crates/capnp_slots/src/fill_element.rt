@@ -42,7 +42,7 @@ fn check_data(pointer: &mut Object) -> Result<()>
 
 /// Refuses what is not read as a list of elements of a size.
 #[tactic(auto, using(crate::proofs::Pointers::list_stands))]
-fn check_list(pointer: &mut Object, size: ElementSize) -> Result<()>
+pub(crate) fn check_list(pointer: &mut Object, size: ElementSize) -> Result<()>
     requires { size ≢ ElementSize.InlineComposite }
     ensures stays { object_tree pointer.new ≡ object_tree pointer.old }
     ensures due { refusal_of result ≡ list_refusal size (object_tree pointer.old) }
@@ -56,10 +56,11 @@ fn check_list(pointer: &mut Object, size: ElementSize) -> Result<()>
 /// Refused with `WrongPointerKind` for a struct, with `WrongElementSize` for a list of bits, with `SizePastFormat` where the
 /// structs would take 2^29 words or more, and else with `OutOfMemory`; then nothing has changed.
 #[tactic(auto, using(crate::proofs::Pointers::list_stands))]
-fn extend_structs(pointer: &mut Object, size: StructSize) -> Result<()>
+pub(crate) fn extend_structs(pointer: &mut Object, size: StructSize) -> Result<()>
     requires formed { IsWellFormed (object_tree pointer.old) }
     ensures ok { OnOk result (object_tree pointer.new ≡ struct_list size (object_tree pointer.old)) }
     ensures kept { OnOk result (IsWellFormed (struct_list size (object_tree pointer.old))) }
+    ensures formed { OnOk result (IsWellFormed (object_tree pointer.new)) }
     ensures within { OnOk result (struct_list_refusal size (object_tree pointer.old) ≡ None) }
     ensures refused { OnErr result (object_tree pointer.new ≡ object_tree pointer.old) }
     ensures cause { IfErr result (λ e. IsDueRefusal e (struct_list_refusal size (object_tree pointer.old))) }

@@ -178,6 +178,7 @@ pub fn fill(object: &mut StructObject, field: Field<'_>) -> Result<()>
     requires room { IsRoomFor field (struct_object_tree object.old) }
     requires formed { IsWellFormed (struct_tree (struct_object_tree object.old)) }
     ensures filled { OnOk result (struct_object_tree object.new ≡ with_pointer_tree (struct_object_tree object.old) (pointer_index field.entry) (filled_in field.entry (struct_object_tree object.old))) }
+    ensures here { OnOk result (pointer_in field.entry (struct_object_tree object.new) ≡ filled_in field.entry (struct_object_tree object.old)) }
     ensures within { OnOk result (due_in field.entry (struct_object_tree object.old) ≡ None) }
     ensures kept { OnOk result (KeepsSize (struct_object_tree object.old) (struct_object_tree object.new)) }
     ensures refused { OnErr result (struct_object_tree object.new ≡ struct_object_tree object.old) }

@@ -1,0 +1,73 @@
+-- Calls one after another.
+use Rattle.std.specs.Prelude.{ℕ, ◌*◌, ◌≤◌, ◌≡◌, refl, List, [], ◌∷◌, ◌++◌, map}
+use Rattle.std.proofs.Common.{sym, subst, ◌∙◌}
+use Rattle.std.proofs.lemmas.Bool.{true≢false}
+use Rattle.capnp_wire.specs.Tree.{StructTree}
+use Rattle.capnp_schema.specs.Schema.{Schemas, brand_at}
+use Rattle.capnp_schema.specs.StructHandles.{IsStruct, number_of, set_of}
+use Rattle.capnp_schema.specs.Types.{StructType}
+use Rattle.capnp_schema.specs.Ranges.{HasRanges}
+use Rattle.capnp_schema.specs.declared.schema.structs.StructSchema.{StructSchema}
+use Rattle.capnp_records.specs.Laws.{OverlayLaw}
+use Rattle.capnp_records.specs.Reading.{reads}
+use Rattle.capnp_records.specs.Run.{Run}
+use Rattle.capnp_records.specs.Writes.Slots.{Fits, brand_size}
+use Rattle.capnp_records.specs.Writes.Stand.{OnStruct}
+use Rattle.capnp_records.specs.Writes.TreeEnds.{TreeEnds, TreeRun, TreeStep}
+use Rattle.capnp_records.specs.Writes.TreeRun.{TreeWalks}
+use Rattle.capnp_slots.specs.Groups.{KeepsSize}
+use Rattle.capnp_run.specs.Runs.{Makes}
+use Rattle.capnp_run.specs.Seen.{call_seen, op_seen, path_seen, reply_seen, step_seen}
+use Rattle.capnp_run.specs.Ends.{AsStruct}
+use Rattle.capnp_run.specs.Walks.{StructWalks}
+use Rattle.capnp_run.specs.declared.calls.Call.{Call}
+use Rattle.capnp_run.specs.declared.calls.Ending.{Ending}
+use Rattle.capnp_run.specs.declared.calls.Op.{Op}
+use Rattle.capnp_run.specs.declared.calls.Step.{Step}
+use Rattle.capnp_run.specs.declared.calls.Reply.{Reply}
+
+pub makes_none : (set : Schemas) (b : ℕ) (s : StructTree) → Makes set b s [] [] s
+unfolding Makes
+makes_none set b s = refl
+
+pub makes_more : (set : Schemas) (b : ℕ) (old mid new : StructTree) (calls : List Call) (replies : List Reply) (call : Call) (reply : Reply) →
+    Makes set b old calls replies mid → TreeStep set b mid (call_seen call) (reply_seen reply) new → Makes set b old (calls ++ call ∷ []) (replies ++ reply ∷ []) new
+unfolding Makes
+makes_more set b old mid new [] [] call reply h c = (new, subst (λ (x : StructTree). TreeStep set b x (call_seen call) (reply_seen reply) new) h c, refl)
+makes_more set b old mid new [] (r ∷ rs) call reply h c = absurd h
+makes_more set b old mid new (k ∷ ks) [] call reply h c = absurd h
+makes_more set b old mid new (k ∷ ks) (r ∷ rs) call reply h c = (h.0, h.1, makes_more set b h.0 mid new ks rs call reply h.2 c)
+
+tree_run : (set : Schemas) (b : ℕ) (old new : StructTree) (calls : List Call) (replies : List Reply) → Makes set b old calls replies new → TreeRun set b old (map call_seen calls) (map reply_seen replies) new
+unfolding Makes
+tree_run set b old new [] [] h = h
+tree_run set b old new [] (r ∷ rs) h = absurd h
+tree_run set b old new (k ∷ ks) [] h = absurd h
+tree_run set b old new (k ∷ ks) (r ∷ rs) h = (h.0, h.1, tree_run set b h.0 new ks rs h.2)
+
+pub machine_runs : (schema : StructSchema) (old new : StructTree) (calls : List Call) (replies : List Reply) → IsStruct schema → HasRanges (set_of schema) → OverlayLaw → Fits (set_of schema) (number_of schema) old →
+    Makes (set_of schema) (number_of schema) old calls replies new →
+    Run (set_of schema) (number_of schema) (reads (set_of schema) old (number_of schema)) (map call_seen calls) (map reply_seen replies) (reads (set_of schema) new (number_of schema))
+machine_runs schema old new calls replies stands ranges law fits made =
+    law (set_of schema) stands.accepted ranges (number_of schema) stands.number old (map call_seen calls) (map reply_seen replies) new fits
+    (tree_run (set_of schema) (number_of schema) old new calls replies made)
+
+pub keeps_same : (s : StructTree) → KeepsSize s s
+keeps_same s = record { writes = record { agree = λ p inside. absurd (true≢false inside); data_size = refl; pointer_count = refl }; formed = λ h. h }
+
+pub keeps_on : (s m s' : StructTree) → KeepsSize s m → KeepsSize m s' → KeepsSize s s'
+keeps_on s m s' k l = record {
+  writes = record { agree = λ p inside. absurd (true≢false inside); data_size = l.writes.data_size ∙ k.writes.data_size; pointer_count = l.writes.pointer_count ∙ k.writes.pointer_count };
+  formed = λ h. l.formed (k.formed h);
+}
+
+pub fits_on : (set : Schemas) (b : ℕ) (s s' : StructTree) → Fits set b s → KeepsSize s s' → Fits set b s'
+fits_on set b s s' h k = (subst (λ n. 8 * (brand_size set b).data_words ≤ n) (sym k.writes.data_size) h.0, subst (λ n. (brand_size set b).pointers ≤ n) (sym k.writes.pointer_count) h.1)
+
+-- one call, by the walk of its path
+pub call_made : (set : Schemas) (b : ℕ) (call : Call) (end : Ending) (s : StructTree) (r : Reply) (s' : StructTree) → end.last ≡ call.last → end.op ≡ call.op → StructWalks set b call.path.now end s r s' →
+    TreeStep set b s (call_seen call) (reply_seen r) s'
+unfolding StructWalks
+call_made set b call end s r s' last op walks =
+    subst (λ (o : Op). TreeWalks set (TreeEnds set (step_seen call.last) (op_seen o)) (path_seen call.path.now) (StructType b (brand_at set b).node) (OnStruct s) (reply_seen r) (OnStruct s')) op
+    (subst (λ (l : Step). TreeWalks set (TreeEnds set (step_seen l) (op_seen end.op)) (path_seen call.path.now) (StructType b (brand_at set b).node) (OnStruct s) (reply_seen r) (OnStruct s')) last (walks AsStruct (brand_at set b).node))

@@ -1,0 +1,92 @@
+//! Lists of calls on a struct that is built.
+ghost use Rattle.std.specs.Prelude.{◌≡◌, IfErr, IfOk, OnErr, map};
+ghost use Rattle.capnp_device.specs.declared.error.ErrorKind.TheVariants.{OutOfMemory};
+ghost use Rattle.capnp_wire.specs.Objects.{struct_object_tree};
+ghost use Rattle.capnp_wire.specs.Place.{struct_tree};
+ghost use Rattle.capnp_wire.specs.WellFormed.{IsWellFormed};
+ghost use Rattle.capnp_schema.specs.StructHandles.{IsStruct, number_of, set_of};
+ghost use Rattle.capnp_records.specs.Reading.{reads};
+ghost use Rattle.capnp_records.specs.Run.{Run};
+ghost use Rattle.capnp_records.specs.Writes.Slots.{Fits};
+ghost use Rattle.capnp_records.specs.Writes.TreeEnds.{TreeStep};
+ghost use Rattle.capnp_slots.specs.Groups.{KeepsSize};
+ghost use Rattle.capnp_run.specs.Runs.{Makes};
+ghost use Rattle.capnp_run.specs.Seen.{call_seen, reply_seen};
+
+use crate::calls::{Call, Ending, Reply};
+use crate::walk::walk;
+use capnp_records::laws::overlay_law;
+use capnp_schema::laws::numbers_fit;
+use capnp_schema::schema::StructSchema;
+use capnp_wire::error::Result;
+use capnp_wire::object::StructObject;
+use std::alloc::Global;
+
+/// Makes one call.
+fn call_at(
+    alloc: Global,
+    object: &mut StructObject,
+    schema: StructSchema<'_>,
+    call: Call<'_>,
+) -> Reply
+    requires stands { IsStruct schema }
+    requires fits { Fits (set_of schema) (number_of schema) (struct_object_tree object.old) }
+    requires formed { IsWellFormed (struct_tree (struct_object_tree object.old)) }
+    ensures made { TreeStep (set_of schema.entry) (number_of schema.entry) (struct_object_tree object.old) (call_seen call.entry) (reply_seen result) (struct_object_tree object.new) }
+    ensures kept { KeepsSize (struct_object_tree object.old) (struct_object_tree object.new) }
+{
+    let end = Ending {
+        alloc,
+        last: call.last,
+        op: call.op,
+    };
+    walk(object, schema, call.path, end)
+}
+
+/// Makes calls one after another; there is room for the replies.
+fn make_calls(
+    alloc: Global,
+    object: &mut StructObject,
+    schema: StructSchema<'_>,
+    calls: &[Call<'_>],
+) -> Result<Vec<Reply>>
+    requires stands { IsStruct schema }
+    requires fits { Fits (set_of schema) (number_of schema) (struct_object_tree object.old) }
+    requires formed { IsWellFormed (struct_tree (struct_object_tree object.old)) }
+    ensures made { IfOk result (λ replies. Makes (set_of schema.entry) (number_of schema.entry) (struct_object_tree object.old) calls.now replies.items (struct_object_tree object.new)) }
+    ensures kept { KeepsSize (struct_object_tree object.old) (struct_object_tree object.new) }
+    ensures refused { OnErr result (object.new ≡ object.old) }
+    ensures cause { IfErr result (λ e. e.kind ≡ OutOfMemory) }
+{
+    let mut replies = Vec::with_capacity(alloc, calls.len())?;
+    for call in calls {
+        let reply = call_at(alloc, object, schema, *call);
+        if replies.push(reply).is_err() {
+            unreachable!();
+        }
+    }
+    Ok(replies)
+}
+
+/// Makes calls along paths of a struct, one after another, and gives one reply to each, in order. A refused call doesn't end
+/// the run, and leaves the nulls filled that the steps before the refusal filled.
+///
+/// Refused with `OutOfMemory` where there is no room for the replies, and then nothing has changed.
+pub fn run_on(
+    alloc: Global,
+    object: &mut StructObject,
+    schema: StructSchema<'_>,
+    calls: &[Call<'_>],
+) -> Result<Vec<Reply>>
+    requires stands { IsStruct schema }
+    requires fits { Fits (set_of schema) (number_of schema) (struct_object_tree object.old) }
+    requires formed { IsWellFormed (struct_tree (struct_object_tree object.old)) }
+    ensures runs { IfOk result (λ replies. Run (set_of schema.entry) (number_of schema.entry) (reads (set_of schema.entry) (struct_object_tree object.old) (number_of schema.entry)) (map call_seen calls.now) (map reply_seen replies.items) (reads (set_of schema.entry) (struct_object_tree object.new) (number_of schema.entry))) }
+    ensures kept { KeepsSize (struct_object_tree object.old) (struct_object_tree object.new) }
+    ensures refused { OnErr result (object.new ≡ object.old) }
+    ensures cause { IfErr result (λ e. e.kind ≡ OutOfMemory) }
+{
+    overlay_law();
+    numbers_fit(schema.get_set());
+    make_calls(alloc, object, schema, calls)
+}
