@@ -31,7 +31,7 @@ module _ (P : Reading → Type 0) where
     pub struct-below : (rs : List Reading) → AllReadings rs → AllBelow (struct_below rs)
     struct-below rs all = record { pointers = all; element_pointers = λ i. of_null; element_bodies = λ i. tt }
 
-    bytes-below : (x : Tree) → AllBelow (bytes_below x)
+    pub bytes-below : (x : Tree) → AllBelow (bytes_below x)
     bytes-below x = record { pointers = tt; element_pointers = λ i. of_null; element_bodies = λ i. tt }
 
     only-readings : (rs : List Reading) → AllReadings rs → (i : ℕ) → AllReadings (only_reading rs i)
@@ -39,10 +39,10 @@ module _ (P : Reading → Type 0) where
     only-readings (r ∷ rs) all zero = (all.0, tt)
     only-readings (r ∷ rs) all (suc i) = only-readings rs all.1 i
 
-    pointers-below : (rs : List Reading) → AllReadings rs → AllBelow (pointers_below rs)
+    pub pointers-below : (rs : List Reading) → AllReadings rs → AllBelow (pointers_below rs)
     pointers-below rs all = record { pointers = tt; element_pointers = nth-reading rs all; element_bodies = only-readings rs all }
 
-    nth-body : (bs : List Body) → AllBodies bs → (i : ℕ) → AllReadings (nth_body bs i).pointers
+    pub nth-body : (bs : List Body) → AllBodies bs → (i : ℕ) → AllReadings (nth_body bs i).pointers
     nth-body [] all i = tt
     nth-body (b ∷ bs) all zero = all.0
     nth-body (b ∷ bs) all (suc i) = nth-body bs all.1 i

@@ -14,7 +14,7 @@ use Rattle.capnp_records.specs.Record.{Left, Value, Fault, MoreValues, NoUnion, 
 use Rattle.capnp_records.specs.Record as value
 use Rattle.capnp_records.specs.Reading.{value_of}
 use Rattle.capnp_records.specs.Text.{said, text_of}
-use Rattle.capnp_records.specs.Compatible.{IsCompatible, IsUpgrade, Pairs, SharedField, SharedStruct, projected}
+use Rattle.capnp_records.specs.Compatible.{IsCompatible, IsCompatibleOrUpgraded, SharedField, SharedStruct, projected}
 use Rattle.capnp_records.specs.Upgrades.{lists_read}
 use Rattle.capnp_records.proofs.RowsCompatible.{only}
 
@@ -50,7 +50,7 @@ closed_pair set h a b e =
     subst (λ a. SharedStruct true set (only 9 10) a b) (sym (eqb-true a 9 (and-left _ _ e)))
     (subst (λ b. SharedStruct true set (only 9 10) 9 b) (sym (eqb-true b 10 (and-right (a == 9) _ e))) h)
 
-tally_became_tally2 : IsUpgrade tallies 9 10
+tally_became_tally2 : IsCompatibleOrUpgraded tallies 9 10
 tally_became_tally2 = record { pairs = only 9 10; given = refl; closed = closed_pair tallies shared }
   where
     fields : (i : ℕ) → i < 1 → SharedField true tallies (only 9 10) (field_at tallies 9 i) (field_at tallies 10 i)
@@ -63,19 +63,19 @@ tally_became_tally2 = record { pairs = only 9 10; given = refl; closed = closed_
 not_without_upgrades : IsCompatible tallies 9 10 → ⊥
 not_without_upgrades h = ((h.closed 9 10 h.given).fields 0 (omega arith)).type
 
-not_the_other_way : IsUpgrade tallies 10 9 → ⊥
+not_the_other_way : IsCompatibleOrUpgraded tallies 10 9 → ⊥
 not_the_other_way h = ((h.closed 10 9 h.given).fields 0 (omega arith)).type
 
-not_with_a_default : IsUpgrade (with_lists (UIntType 2) (pair_node (v_at 0 1) (w_at 1)) numbers) 9 10 → ⊥
+not_with_a_default : IsCompatibleOrUpgraded (with_lists (UIntType 2) (pair_node (v_at 0 1) (w_at 1)) numbers) 9 10 → ⊥
 not_with_a_default h = ((h.closed 9 10 h.given).fields 0 (omega arith)).type
 
-not_at_another_offset : IsUpgrade (with_lists (UIntType 2) (pair_node (v_at 1 0) (w_at 0)) numbers) 9 10 → ⊥
+not_at_another_offset : IsCompatibleOrUpgraded (with_lists (UIntType 2) (pair_node (v_at 1 0) (w_at 0)) numbers) 9 10 → ⊥
 not_at_another_offset h = ((h.closed 9 10 h.given).fields 0 (omega arith)).type
 
-not_a_member : IsUpgrade (with_lists (UIntType 2) (union_node 111 (codes "Pair") 1 0 2 1 (member 0 (codes "v") 0 (UIntValue 2 0) ∷ member 1 (codes "w") 0 (UIntValue 2 0) ∷ [])) numbers) 9 10 → ⊥
+not_a_member : IsCompatibleOrUpgraded (with_lists (UIntType 2) (union_node 111 (codes "Pair") 1 0 2 1 (member 0 (codes "v") 0 (UIntValue 2 0) ∷ member 1 (codes "w") 0 (UIntValue 2 0) ∷ [])) numbers) 9 10 → ⊥
 not_a_member h = ((h.closed 9 10 h.given).fields 0 (omega arith)).type
 
-not_of_bits : IsUpgrade (with_lists BoolType (struct_node 111 (codes "Pair") 1 0 (plain (codes "v") 0 (BoolValue false) ∷ [])) (BoolType ∷ [])) 9 10 → ⊥
+not_of_bits : IsCompatibleOrUpgraded (with_lists BoolType (struct_node 111 (codes "Pair") 1 0 (plain (codes "v") 0 (BoolValue false) ∷ [])) (BoolType ∷ [])) 9 10 → ⊥
 not_of_bits h = ((h.closed 9 10 h.given).fields 0 (omega arith)).type
 
 -- ---- what is read ----

@@ -1,6 +1,6 @@
 -- What is asked of a message where lists became lists of structs: that they are read as what they were, and that no level is
 -- missing inside them; and when two records are the same but for the levels that their missing parts carry.
-use Rattle.std.specs.Prelude.{ℕ, List, [], ◌∷◌, Bool, true, false, not, ◌&&◌}
+use Rattle.std.specs.Prelude.{ℕ, ◌≡◌, List, ◌∷◌, Bool, true, false, not, ◌&&◌}
 use Rattle.capnp_wire.specs.Tree as tree
 use Rattle.capnp_wire.specs.Tree.{Tree}
 use Rattle.capnp_wire.specs.declared.fault.Fault.TheVariants as fault
@@ -11,7 +11,7 @@ use Rattle.capnp_schema.specs.Schema.{Schemas, TypedField, field_at, fields_of}
 use Rattle.capnp_records.specs.Record as value
 use Rattle.capnp_records.specs.Record.{Value, Values, Union, Record, Parts, NoUnion, Active, Unknown, NoValues, MoreValues, Endless}
 use Rattle.capnp_records.specs.Reading.{element_type}
-use Rattle.capnp_records.specs.Compatible.{became_struct}
+use Rattle.capnp_records.specs.Compatible.{became_struct, projection_of}
 
 -- ---- values of which no part was refused for want of levels ----
 
@@ -116,3 +116,14 @@ abbrev mutual
 
   pub unleveled_record : Record → Record
   unleveled_record (Parts vs u) = Parts (unleveled_values vs) (unleveled_union u)
+
+-- ---- what is asked of a struct, and what an older schema sees of it then ----
+
+-- of the records that an older brand and a newer one read of one struct: each list that became one of structs, where it is
+-- there and read, is read as what it was, and no level is missing inside
+abbrev pub AreUpgradesRead : Schemas → ℕ → ℕ → Record → Record → Type 0
+AreUpgradesRead set older newer r q = record_lists_read set older newer (unleveled_record r) (unleveled_record q) ≡ true
+
+-- the older record is the projection of the newer, but for the levels of missing parts
+abbrev pub IsSeenOf : Schemas → ℕ → ℕ → Record → Record → Type 0
+IsSeenOf set older newer r q = unleveled_record r ≡ projection_of set older newer (unleveled_record q)

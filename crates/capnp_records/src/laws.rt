@@ -1,5 +1,7 @@
 //! What holds of records, of the machine of records, and of writes on trees.
-ghost use Rattle.capnp_records.specs.Laws.{DefaultPartsStand, ExtensionChangesNothing, FirstMemberIsActive, FormedLaw, GroupClearStaysInside, GroupCopyStaysInside, GroupIsCleared, GroupIsCopied, GroupPrintLaw, OverlayLaw, PartDependsOnFootprint, PrintLaw, ProjectionLaw, RoundingChangesNothing, SlotIsWritten, SlotWriteStaysInside, ValuePrintLaw, WriteReplacesOnePart};
+ghost use Rattle.capnp_records.specs.Laws.{DefaultPartsStand, ExtensionChangesNothing, FirstMemberIsActive, FormedLaw, GroupClearStaysInside, GroupCopyStaysInside, GroupIsCleared, GroupIsCopied, GroupPrintLaw, OverlayLaw, PartDependsOnFootprint, PrintLaw, ProjectionLaw, RoundingChangesNothing, SlotIsWritten, SlotWriteStaysInside, UpgradeLaw, ValuePrintLaw, WriteReplacesOnePart};
+
+use capnp_wire::laws::elements_stand_first;
 
 /// What a field has of a struct depends on its footprint alone: structs that have the same data
 /// bits and pointers there give it the same part of their records.
@@ -78,3 +80,11 @@ pub fn print_law()
 pub fn projection_law()
     ensures { ProjectionLaw }
 {}
+
+/// The same where lists became lists of structs: of a struct whose lists are read as what they were, the record under the
+/// older schema is the projection of that under the newer one, but for the levels that missing parts carry.
+pub fn upgrade_law()
+    ensures { UpgradeLaw }
+{
+    elements_stand_first();
+}
