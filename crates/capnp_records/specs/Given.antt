@@ -66,7 +66,7 @@ given_slot set (ListType e) (ListSource l t from) = Copies t false (value_of set
 given_slot set AnyPointerType (TextSource bytes) = Copies tree.Null (text_past bytes) (value.Untyped (text_tree bytes))
 given_slot set AnyPointerType (DataSource bytes) = Copies tree.Null (data_past bytes) (value.Untyped (data_tree bytes))
 given_slot set AnyPointerType (StructSource l s from) = Copies (copied_struct s) false (value.Untyped (copied_struct s))
-given_slot set AnyPointerType (ListSource l t from) = Copies t false (value.Untyped t)
+given_slot set AnyPointerType (ListSource l t from) = Copies t false (value_of set t Endless AnyPointerType)
 given_slot set AnyPointerType s = Fails CannotSetAnyPointerFieldToAPrimitiveValue
 given_slot set t s = Fails TypeMismatch
 

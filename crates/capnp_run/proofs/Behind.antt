@@ -103,11 +103,11 @@ pointed f s slot pointer walks = go (typed_of f).field.kind refl
 
 -- ---- refusals ----
 
-abbrev is_memory : ErrorKind → Bool
+abbrev pub is_memory : ErrorKind → Bool
 is_memory OutOfMemory = true
 is_memory k = false
 
-memory_is : (k : ErrorKind) → is_memory k ≡ true → k ≡ OutOfMemory
+pub memory_is : (k : ErrorKind) → is_memory k ≡ true → k ≡ OutOfMemory
 memory_is OutOfMemory h = refl
 memory_is k h = absurd (true≢false (sym h))
 

@@ -11,5 +11,6 @@ pub mod ListReads
 pub mod ListWalks
 pub mod Making
 pub mod Parts
+pub mod SetsDone
 pub mod Walking
 pub mod WhichLevels

@@ -3,6 +3,7 @@ use Rattle.std.specs.Prelude.{List, map}
 use Rattle.capnp_records.specs.Call.{PathStep, FieldNumber, FieldNamed, ElementAt}
 use Rattle.capnp_records.specs.Call.{VoidPlain, BoolPlain, IntPlain, UIntPlain, EnumPlain, TextPlain, DataPlain, StructPlain, ListPlain, AnyPointerPlain}
 use Rattle.capnp_records.specs.Call as record_call
+use Rattle.capnp_dynamic.specs.SetValues.{source_of}
 use Rattle.capnp_run.specs.declared.calls.Call.{Call}
 use Rattle.capnp_run.specs.declared.calls.Op.{Op}
 use Rattle.capnp_run.specs.declared.calls.Op.TheVariants as op
@@ -25,6 +26,7 @@ abbrev pub op_seen : Op → record_call.Op
 op_seen op.Get = record_call.Get
 op_seen op.Has = record_call.Has
 op_seen op.Which = record_call.Which
+op_seen (op.Set v) = record_call.Set (source_of v)
 op_seen op.Init = record_call.Init
 op_seen (op.Initn n) = record_call.Initn n
 op_seen op.Clear = record_call.Clear

@@ -1,4 +1,5 @@
 //! Calls along paths, and their replies.
+use capnp_dynamic::dynamic_value::Reader as Value;
 use capnp_wire::error::ErrorKind;
 use std::alloc::Global;
 
@@ -15,13 +16,15 @@ pub enum Step<'c> {
 
 /// What a call does at the end of its path.
 #[derive(Clone, Copy)]
-pub enum Op {
+pub enum Op<'c> {
     /// Reads what the last step names; nothing is filled.
     Get,
     /// Asks whether a field is there: false for an inactive member and for a null pointer.
     Has,
     /// Asks the struct at the end of the path for its active member; the last step isn't looked at.
     Which,
+    /// Sets a field or element to a value; a struct's, list's, text's or data's copy is made first.
+    Set(Value<'c>),
     /// Makes a struct or group all zero and null, and an untyped pointer null.
     Init,
     /// Makes a text or data of so many zero bytes, or a list of so many elements.
@@ -35,7 +38,7 @@ pub enum Op {
 pub struct Call<'c> {
     pub path: &'c [Step<'c>],
     pub last: Step<'c>,
-    pub op: Op,
+    pub op: Op<'c>,
 }
 
 /// What is done where a path ends, and what a reply takes its memory from.
@@ -43,7 +46,7 @@ pub struct Call<'c> {
 pub struct Ending<'c> {
     pub alloc: Global,
     pub last: Step<'c>,
-    pub op: Op,
+    pub op: Op<'c>,
 }
 
 /// A value as it is answered.

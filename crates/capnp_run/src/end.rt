@@ -4,21 +4,66 @@ ghost use Rattle.capnp_wire.specs.Objects.{struct_object_tree};
 ghost use Rattle.capnp_wire.specs.Place.{struct_tree};
 ghost use Rattle.capnp_wire.specs.WellFormed.{IsWellFormed};
 ghost use Rattle.capnp_schema.specs.StructHandles.{IsStruct, number_of, set_of};
-ghost use Rattle.capnp_records.specs.Call.{Clear, Init, Initn};
+ghost use Rattle.capnp_records.specs.Call.{Clear, Init, Initn, Set};
 ghost use Rattle.capnp_records.specs.Writes.Slots.{Fits};
 ghost use Rattle.capnp_slots.specs.Fields.{IsRoomFor, IsSlot};
-ghost use Rattle.capnp_slots.specs.Groups.{KeepsSize};
+ghost use Rattle.capnp_slots.specs.Groups.{IsGroup, KeepsSize};
+ghost use Rattle.capnp_slots.specs.Sources.{source_seen};
+ghost use Rattle.capnp_dynamic.specs.SetValues.{source_of};
 ghost use Rattle.capnp_run.specs.Ends.{FieldDoes, NamedDoes, StructEnds};
 ghost use Rattle.capnp_run.specs.Seen.{op_seen, reply_seen, step_seen};
 
 use crate::answer::{get_field, has_field, which_member};
 use crate::calls::{Op, Reply, Step};
 use crate::way::find_field;
+use capnp_dynamic::dynamic_value::Reader as Value;
 use capnp_schema::schema::{Field, StructSchema};
+use capnp_slots::source::{Source, source_fits};
 use capnp_slots::{group, slot};
 use capnp_wire::error::ErrorKind;
 use capnp_wire::object::StructObject;
 use std::alloc::Global;
+
+/// Sets a slot to a source, as `slot::set`.
+fn set_slot(object: &mut StructObject, field: Field<'_>, source: Source<'_>) -> Reply
+    requires slot { IsSlot field }
+    requires room { IsRoomFor field (struct_object_tree object.old) }
+    ensures does { FieldDoes field.entry (Set (source_seen source.entry)) (struct_object_tree object.old) (reply_seen result) (struct_object_tree object.new) }
+    ensures kept { KeepsSize (struct_object_tree object.old) (struct_object_tree object.new) }
+{
+    source_fits(source);
+    match slot::set(object, field, source) {
+        Ok(()) => Reply::Done,
+        Err(error) => Reply::Refused(error.kind),
+    }
+}
+
+/// Sets a group to a source, as `group::set`: what was copied before a refusal stays.
+fn set_group(object: &mut StructObject, field: Field<'_>, source: Source<'_>) -> Reply
+    requires group { IsGroup field }
+    requires room { IsRoomFor field (struct_object_tree object.old) }
+    ensures does { FieldDoes field.entry (Set (source_seen source.entry)) (struct_object_tree object.old) (reply_seen result) (struct_object_tree object.new) }
+    ensures kept { KeepsSize (struct_object_tree object.old) (struct_object_tree object.new) }
+{
+    match group::set(object, field, source) {
+        Ok(()) => Reply::Done,
+        Err(error) => Reply::Refused(error.kind),
+    }
+}
+
+/// Sets a field to a value.
+fn set_field(object: &mut StructObject, field: Field<'_>, value: Value<'_>) -> Reply
+    requires { IsRoomFor field (struct_object_tree object.old) }
+    ensures does { FieldDoes field.entry (Set (source_of value.entry)) (struct_object_tree object.old) (reply_seen result) (struct_object_tree object.new) }
+    ensures kept { KeepsSize (struct_object_tree object.old) (struct_object_tree object.new) }
+{
+    let source = value.into_source();
+    if slot::is_slot(field) {
+        set_slot(object, field, source)
+    } else {
+        set_group(object, field, source)
+    }
+}
 
 /// Initializes a field: a group becomes its default record, a struct's slot a new struct, and an untyped one null. A member
 /// becomes active.
@@ -79,17 +124,18 @@ fn clear_field(object: &mut StructObject, field: Field<'_>) -> Reply
 }
 
 /// Does an operation to a field of a struct.
-fn do_field(alloc: Global, object: &mut StructObject, field: Field<'_>, op: Op) -> Reply
+fn do_field(alloc: Global, object: &mut StructObject, field: Field<'_>, op: Op<'_>) -> Reply
     requires room { IsRoomFor field (struct_object_tree object.old) }
     requires formed { IsWellFormed (struct_tree (struct_object_tree object.old)) }
     requires names { op ≢ Op.Which }
-    ensures does { FieldDoes field.entry (op_seen op) (struct_object_tree object.old) (reply_seen result) (struct_object_tree object.new) }
+    ensures does { FieldDoes field.entry (op_seen op.entry) (struct_object_tree object.old) (reply_seen result) (struct_object_tree object.new) }
     ensures kept { KeepsSize (struct_object_tree object.old) (struct_object_tree object.new) }
 {
     match op {
         Op::Get => get_field(alloc, object, field),
         Op::Has => has_field(object, field),
         Op::Which => unreachable!(),
+        Op::Set(value) => set_field(object, field, value),
         Op::Init => init_field(object, field),
         Op::Initn(count) => initn_field(object, field, count),
         Op::Clear => clear_field(object, field),
@@ -102,12 +148,12 @@ fn do_named(
     object: &mut StructObject,
     schema: StructSchema<'_>,
     last: Step<'_>,
-    op: Op,
+    op: Op<'_>,
 ) -> Reply
     requires fits { Fits (set_of schema) (number_of schema) (struct_object_tree object.old) }
     requires formed { IsWellFormed (struct_tree (struct_object_tree object.old)) }
     requires names { op ≢ Op.Which }
-    ensures does { NamedDoes (set_of schema.entry) (number_of schema.entry) (step_seen last.entry) (op_seen op) (struct_object_tree object.old) (reply_seen result) (struct_object_tree object.new) }
+    ensures does { NamedDoes (set_of schema.entry) (number_of schema.entry) (step_seen last.entry) (op_seen op.entry) (struct_object_tree object.old) (reply_seen result) (struct_object_tree object.new) }
     ensures kept { KeepsSize (struct_object_tree object.old) (struct_object_tree object.new) }
 {
     match find_field(schema, last) {
@@ -120,18 +166,19 @@ fn do_named(
 ///
 /// Refused with `NotAContainer` where the last step names an element, with `FieldNotFound` where there is no such field, and
 /// else as the operation. Only a `Get` asks whether a member is active: it is refused with `InactiveMember` where not. What
-/// is written is the field and, of a member, the union; after a refusal nothing has changed.
+/// is written is the field and, of a member, the union; after a refusal nothing has changed, but for the set of a group that is
+/// cut short, which keeps what was copied by then.
 pub fn end_at_struct(
     alloc: Global,
     object: &mut StructObject,
     schema: StructSchema<'_>,
     last: Step<'_>,
-    op: Op,
+    op: Op<'_>,
 ) -> Reply
     requires stands { IsStruct schema }
     requires fits { Fits (set_of schema) (number_of schema) (struct_object_tree object.old) }
     requires formed { IsWellFormed (struct_tree (struct_object_tree object.old)) }
-    ensures ends { StructEnds (set_of schema.entry) (number_of schema.entry) (step_seen last.entry) (op_seen op) (struct_object_tree object.old) (reply_seen result) (struct_object_tree object.new) }
+    ensures ends { StructEnds (set_of schema.entry) (number_of schema.entry) (step_seen last.entry) (op_seen op.entry) (struct_object_tree object.old) (reply_seen result) (struct_object_tree object.new) }
     ensures kept { KeepsSize (struct_object_tree object.old) (struct_object_tree object.new) }
 {
     match op {

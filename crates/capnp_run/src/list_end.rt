@@ -8,7 +8,7 @@ ghost use Rattle.capnp_schema.specs.Entries.{lists_seen};
 ghost use Rattle.capnp_schema.specs.Types.{seen_type};
 ghost use Rattle.capnp_records.specs.Call.{Get};
 ghost use Rattle.capnp_records.specs.Operation.{Does};
-ghost use Rattle.capnp_records.specs.Record.{Value};
+ghost use Rattle.capnp_records.specs.Record.{Value as RecordValue};
 ghost use Rattle.capnp_run.specs.Lists.{ElementDoes, IsListStand, ListEnds, element_at};
 ghost use Rattle.capnp_run.specs.Seen.{reply_seen};
 
@@ -16,8 +16,10 @@ use crate::answer::answer;
 use crate::calls::{Ending, Op, Reply, Step};
 use capnp_base::introspect::Type;
 use capnp_dynamic::dynamic_list;
+use capnp_dynamic::dynamic_value::Reader as Value;
 use capnp_schema::set::SchemaSet;
 use capnp_slots::element;
+use capnp_slots::source::source_fits;
 use capnp_wire::error::ErrorKind;
 use capnp_wire::laws::objects_are_what_they_hold;
 use capnp_wire::object::ListObject;
@@ -37,7 +39,7 @@ fn get_element(
     requires entries { NamesEntries (lists_seen set.now) (seen_type element) }
     requires stands { IsListStand (lists_seen set.now) (seen_type element) (list_object_tree list.now) }
     requires inside { index < list_length (list_object_tree list.now) }
-    ensures { (old : Value) → Does (lists_seen set.now) Get (element_at (lists_seen set.now) (seen_type element) (list_object_tree list.now) index) old (reply_seen result) old }
+    ensures { (old : RecordValue) → Does (lists_seen set.now) Get (element_at (lists_seen set.now) (seen_type element) (list_object_tree list.now) index) old (reply_seen result) old }
 {
     objects_are_what_they_hold();
     let reader = dynamic_list::Reader::new(list.as_reader(), element, set);
@@ -63,6 +65,27 @@ fn initn_element(
     }
 }
 
+/// Sets an element to a value, as `element::set`.
+fn set_element(
+    list: &mut ListObject,
+    set: &SchemaSet,
+    element: Type,
+    index: u32,
+    value: Value<'_>,
+) -> Reply
+    requires stands { IsListStand (lists_seen set.now) (seen_type element) (list_object_tree list.old) }
+    requires inside { index < list_length (list_object_tree list.old) }
+    ensures does { ElementDoes (lists_seen set.now) (seen_type element) index (Op.Set value.entry) (list_object_tree list.old) result (list_object_tree list.new) }
+    ensures formed { IsWellFormed (list_object_tree list.new) }
+{
+    let source = value.into_source();
+    source_fits(source);
+    match element::set(list, set, element, index, source) {
+        Ok(()) => Reply::Done,
+        Err(error) => Reply::Refused(error.kind),
+    }
+}
+
 /// Does an operation to an element that is there.
 fn do_element(
     list: &mut ListObject,
@@ -82,6 +105,7 @@ fn do_element(
         Op::Get => get_element(end.alloc, list, set, element, index),
         Op::Has => Reply::Refused(ErrorKind::NotAContainer),
         Op::Which => unreachable!(),
+        Op::Set(value) => set_element(list, set, element, index, value),
         Op::Init => Reply::Refused(ErrorKind::NotAContainer),
         Op::Initn(count) => initn_element(list, set, element, index, count),
         Op::Clear => Reply::Refused(ErrorKind::NotAContainer),

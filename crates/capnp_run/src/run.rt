@@ -27,12 +27,12 @@ fn call_at(
     alloc: Global,
     object: &mut StructObject,
     schema: StructSchema<'_>,
-    call: Call<'_>,
+    call: &Call<'_>,
 ) -> Reply
     requires stands { IsStruct schema }
     requires fits { Fits (set_of schema) (number_of schema) (struct_object_tree object.old) }
     requires formed { IsWellFormed (struct_tree (struct_object_tree object.old)) }
-    ensures made { TreeStep (set_of schema.entry) (number_of schema.entry) (struct_object_tree object.old) (call_seen call.entry) (reply_seen result) (struct_object_tree object.new) }
+    ensures made { TreeStep (set_of schema.entry) (number_of schema.entry) (struct_object_tree object.old) (call_seen call.now) (reply_seen result) (struct_object_tree object.new) }
     ensures kept { KeepsSize (struct_object_tree object.old) (struct_object_tree object.new) }
 {
     let end = Ending {
@@ -60,7 +60,7 @@ fn make_calls(
 {
     let mut replies = Vec::with_capacity(alloc, calls.len())?;
     for call in calls {
-        let reply = call_at(alloc, object, schema, *call);
+        let reply = call_at(alloc, object, schema, call);
         if replies.push(reply).is_err() {
             unreachable!();
         }

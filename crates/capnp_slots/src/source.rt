@@ -3,8 +3,10 @@ ghost use Rattle.capnp_wire.specs.Edits.{IsCopyRefusal, rounded};
 ghost use Rattle.capnp_wire.specs.Place.{struct_tree};
 ghost use Rattle.capnp_wire.specs.Standing.{list_of, struct_of};
 ghost use Rattle.capnp_wire.specs.Words.{first_fault, first_fault_of_all};
+ghost use Rattle.capnp_records.specs.Writes.Contents.{SourceFits};
+ghost use Rattle.capnp_slots.specs.Sources.{source_seen};
 
-use crate::primitive::Primitive;
+use crate::primitive::{Primitive, number_fits};
 use capnp_base::introspect::Type;
 use capnp_base::traits::SetterInput;
 use capnp_base::{any_pointer, data, text};
@@ -26,6 +28,20 @@ pub enum Source<'a> {
     /// A list, and the type of its elements.
     List(ListReader<'a>, Type),
     AnyPointer(any_pointer::Reader<'a>),
+}
+
+/// What the Rust type of a source says of its number.
+pub fn source_fits(source: Source<'_>)
+    ensures { SourceFits (source_seen source.entry) }
+{
+    match source {
+        Source::Primitive(value) => number_fits(value),
+        Source::Text(_) => {}
+        Source::Data(_) => {}
+        Source::Struct(_, _) => {}
+        Source::List(_, _) => {}
+        Source::AnyPointer(_) => {}
+    }
 }
 
 /// A struct that a pointer is set to, whatever its schema: a copy with its data rounded up to whole words.

@@ -2,7 +2,6 @@
 use Rattle.std.specs.Prelude.{ℕ, ◌*◌, ◌^◌, ◌<◌, ◌≡◌, ⊤, false, replicate}
 use Rattle.capnp_wire.specs.Tree.{Tree, Null}
 use Rattle.capnp_wire.specs.Place.{struct_tree}
-use Rattle.capnp_wire.specs.Reading.{is_null_tree}
 use Rattle.capnp_wire.specs.Edits.{zero_struct, zero_structs, zero_list}
 use Rattle.capnp_schema.specs.Types.{SchemaType, TextType, DataType, StructType, ListType, element_size}
 use Rattle.capnp_schema.specs.Ranges.{IsSigned}
@@ -19,12 +18,11 @@ source_tree (StructSource l s from) = copied_struct s
 source_tree (ListSource l t from) = t
 source_tree s = Null
 
--- what the Rust types of sources give by themselves; a null list's reader is an empty list
+-- what the Rust types of sources give by themselves
 abbrev pub SourceFits : Source → Type 0
 SourceFits (IntSource bytes x) = (0 < bytes) × IsSigned bytes x
 SourceFits (UIntSource bytes n) = n < 2 ^ (8 * bytes)
 SourceFits (EnumSource n) = n < 65536
-SourceFits (ListSource l t from) = is_null_tree t ≡ false
 SourceFits s = ⊤
 
 -- ---- init and initn ----

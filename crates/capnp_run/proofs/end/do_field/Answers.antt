@@ -34,3 +34,8 @@ pub returns-in-Clear-clause-does : goal.returns-in-Clear-clause-does
 returns-in-Clear-clause-does c =
     let s = struct_object_tree c.args.object.now in
     subst (λ (o : Op). FieldDoes c.args.field (op_seen o) s (reply_seen c.clear_field.result) (struct_object_tree c.clear_field.new.object)) (sym c.in-Clear.is) c.clear_field.ensures.does
+
+pub returns-in-Set-clause-does : goal.returns-in-Set-clause-does
+returns-in-Set-clause-does c =
+    let s = struct_object_tree c.args.object.now in
+    subst (λ (o : Op). FieldDoes c.args.field (op_seen o) s (reply_seen c.set_field.result) (struct_object_tree c.set_field.new.object)) (sym c.in-Set.is) c.set_field.ensures.does

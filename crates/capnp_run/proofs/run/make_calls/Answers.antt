@@ -1,5 +1,5 @@
 -- Each call has one reply, in order.
-use Rattle.std.proofs.Common.{◌<◌, ◌≤◌, ◌+◌, ◌++◌, ◌∷◌, [], List, sym, subst, arith, length, take, vec_len}
+use Rattle.std.proofs.Common.{◌<◌, ◌≤◌, ◌+◌, ◌++◌, ◌∷◌, ◌≡◌, ◌∙◌, [], List, ap, get_or, sym, subst, arith, length, take, vec_len}
 use Rattle.std.proofs.lemmas.List.{take_more}
 use Rattle.std.specs.Vec.{vec_capacity}
 use Rattle.capnp_wire.specs.Objects.{struct_object_tree}
@@ -31,10 +31,12 @@ loop-call-preserved c =
     let inside : i < length calls = omega (arith, c.loop-call-test.true) in
     let items = rw c.if-is_err.ensures.negation at c.push.ensures.items in
     let len = rw c.if-is_err.ensures.negation at c.push.ensures.len in
-    let next = makes_more set b old _ now (take i calls) c.loop-call.replies.items _ c.call_at-reply.result c.loop-call.invariant.made c.call_at-reply.ensures.made in
+    let call : Call = c.call-item.result in
+    let item : get_or calls i call ≡ call = sym c.call-item.is in
+    let next = makes_more set b old _ now (take i calls) c.loop-call.replies.items call c.call_at-reply.result c.loop-call.invariant.made c.call_at-reply.ensures.made in
     record {
       made = subst (λ (rs : List Reply). Makes set b old (take (i + 1) calls) rs now) (sym items)
-          (subst (λ (cs : List Call). Makes set b old cs (c.loop-call.replies.items ++ c.call_at-reply.result ∷ []) now) (sym (take_more calls i _ inside)) next);
+          (subst (λ (cs : List Call). Makes set b old cs (c.loop-call.replies.items ++ c.call_at-reply.result ∷ []) now) (sym (take_more calls i call inside ∙ ap (λ (k : Call). take i calls ++ k ∷ []) item)) next);
       kept = keeps_on old _ now c.loop-call.invariant.kept c.call_at-reply.ensures.kept;
       room = omega (arith, c.push.ensures.capacity, c.loop-call.invariant.room);
       count = omega (arith, len, c.loop-call.invariant.count);
