@@ -1,5 +1,5 @@
 //! Calls on whole messages: on an empty root, or on a message that was copied in whole.
-ghost use Rattle.std.specs.Prelude.{IsTrue, ◌≡◌, OnOk, IfOk};
+ghost use Rattle.std.specs.Prelude.{IsTrue, ◌≡◌, OnOk, IfOk, string_bytes};
 ghost use Rattle.capnp_wire.specs.Edits.{is_struct, struct_in};
 ghost use Rattle.capnp_wire.specs.Message.{builder_tree};
 ghost use Rattle.capnp_wire.specs.Objects.{object_tree};
@@ -10,10 +10,15 @@ ghost use Rattle.capnp_schema.specs.StructHandles.{IsStruct, number_of, set_of};
 ghost use Rattle.capnp_records.specs.Default.{default_record};
 ghost use Rattle.capnp_records.specs.Record.{Endless};
 ghost use Rattle.capnp_records.specs.Writes.Slots.{Fits, brand_size};
-ghost use Rattle.capnp_run.specs.Messages.{HasRoot, IsRun, LeavesRun, record_in};
+ghost use Rattle.capnp_dynamic.specs.Pieces.{IsAppended};
+ghost use Rattle.capnp_run.specs.Messages.{HasRoot, IsRun, IsWhole, LeavesRun, record_in, text_in};
 
 use crate::calls::{Call, Reply};
 use crate::run::run_on;
+use capnp_dynamic::dynamic_struct;
+use capnp_dynamic::dynamic_value::Reader as Value;
+use capnp_dynamic::printer::print;
+use capnp_records::laws::print_law;
 use capnp_schema::schema::StructSchema;
 use capnp_wire::PointerReader;
 use capnp_wire::error::Result;
@@ -132,4 +137,81 @@ pub fn run_copied(
 {
     copied_root(message, source, schema)?;
     run_root(alloc, message, schema, calls)
+}
+
+/// Appends the text of the struct that stands at a pointer.
+fn print_here(
+    pointer: &Object,
+    schema: StructSchema<'_>,
+    out: &mut String,
+    indented: bool,
+) -> Result<()>
+    requires here { IsTrue (is_struct (object_tree pointer.now)) }
+    requires formed { IsWellFormed (object_tree pointer.now) }
+    ensures { OnOk result (IsAppended (string_bytes out.old) (text_in schema.entry indented (record_in schema.entry (struct_in (object_tree pointer.now)))) (string_bytes out.new)) }
+{
+    print_law();
+    let reader = pointer.as_reader().get_struct()?;
+    let root = dynamic_struct::Reader::new(reader, schema);
+    print(Value::Struct(root), out, indented)
+}
+
+/// Appends the text of a message's root.
+#[tactic(auto, unfolding(capnp_wire::specs::Message::builder_tree))]
+fn print_root(
+    message: &mut Builder,
+    schema: StructSchema<'_>,
+    out: &mut String,
+    indented: bool,
+) -> Result<()>
+    requires here { IsTrue (is_struct (builder_tree message.old)) }
+    requires formed { IsWellFormed (builder_tree message.old) }
+    ensures printed { OnOk result (IsAppended (string_bytes out.old) (text_in schema.entry indented (record_in schema.entry (struct_in (builder_tree message.old)))) (string_bytes out.new)) }
+    ensures same { builder_tree message.new ≡ builder_tree message.old }
+{
+    let root = message.root();
+    print_here(&*root, schema, out, indented)
+}
+
+/// Makes calls on an empty root of a new message, prints the root and writes the message: the promise of this crate, whole.
+/// The replies and the record that the bytes are read back as are related by the machine of records to the default record,
+/// and what is printed is the text of that record.
+///
+/// Refused with `OutOfMemory`, as the print, and with `TooLarge` for a message of 2^29 words or more.
+pub fn whole_new(
+    alloc: Global,
+    schema: StructSchema<'_>,
+    calls: &[Call<'_>],
+    out: &mut String,
+    indented: bool,
+) -> Result<(Vec<Reply>, Vec<u8>)>
+    requires { IsStruct schema }
+    ensures { IfOk result (λ done. IsWhole schema.entry (default_record (set_of schema.entry) Endless (number_of schema.entry)) calls.now done.0.items done.1.items indented (string_bytes out.old) (string_bytes out.new)) }
+{
+    let mut message = Builder::new(alloc);
+    let replies = run_new(alloc, &mut message, schema, calls)?;
+    print_root(&mut message, schema, out, indented)?;
+    let bytes = message.write_message()?;
+    Ok((replies, bytes))
+}
+
+/// The same on a copy of a message's root, which is a struct.
+///
+/// Refused as `run_copied`, as the print, and with `TooLarge` for a message of 2^29 words or more.
+pub fn whole_copied(
+    alloc: Global,
+    source: PointerReader<'_>,
+    schema: StructSchema<'_>,
+    calls: &[Call<'_>],
+    out: &mut String,
+    indented: bool,
+) -> Result<(Vec<Reply>, Vec<u8>)>
+    requires { IsStruct schema }
+    ensures { IfOk result (λ done. IsWhole schema.entry (record_in schema.entry (struct_in (tree_of source.entry))) calls.now done.0.items done.1.items indented (string_bytes out.old) (string_bytes out.new)) }
+{
+    let mut message = Builder::new(alloc);
+    let replies = run_copied(alloc, &mut message, source, schema, calls)?;
+    print_root(&mut message, schema, out, indented)?;
+    let bytes = message.write_message()?;
+    Ok((replies, bytes))
 }
