@@ -12,5 +12,6 @@ pub mod ListWalks
 pub mod Making
 pub mod Parts
 pub mod SetsDone
+pub mod Starts
 pub mod Walking
 pub mod WhichLevels

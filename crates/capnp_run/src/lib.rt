@@ -6,6 +6,7 @@ pub mod calls;
 pub mod end;
 pub mod enter;
 pub mod list_end;
+pub mod message;
 pub mod run;
 pub mod walk;
 pub mod way;

@@ -1,0 +1,150 @@
+-- The root that a run starts from, and what a run leaves there.
+use Rattle.std.specs.Prelude.{ℕ, ◌^◌, ◌<◌, ◌≡◌, refl, List, ◌++◌, Vec, Bool, true, false, cond, ◌==◌, IsTrue, Option, Result, Ok, Err, IfOk, OnOk}
+use Rattle.std.specs.declared.alloc.Global.{Global}
+use Rattle.std.specs.Result.{is_ok}
+use Rattle.std.proofs.Common.{ap, sym, subst, ◌∙◌}
+use Rattle.std.proofs.lemmas.Bool.{true≢false}
+use Rattle.capnp_device.specs.declared.error.ErrorKind.{ErrorKind}
+use Rattle.capnp_device.specs.declared.error.ErrorKind.TheVariants.{TooDeep}
+use Rattle.capnp_wire.specs.Depth.{IsShallow}
+use Rattle.capnp_wire.specs.Reading.{as_struct}
+use Rattle.capnp_wire.specs.Standing.{levels_of, struct_levels, struct_of, tree_of}
+use Rattle.capnp_wire.specs.Stream.{message_tree_of}
+use Rattle.capnp_wire.specs.Tree as tree
+use Rattle.capnp_wire.specs.declared.pointer_reader.PointerReader.{PointerReader}
+use Rattle.capnp_wire.specs.declared.struct_reader.StructReader.{StructReader}
+use Rattle.capnp_schema.specs.Schema.{Schemas}
+use Rattle.capnp_schema.specs.Types.{StructType}
+use Rattle.capnp_records.specs.Laws.{GroupPrintLaw, PrintLaw}
+use Rattle.capnp_records.specs.Reading.{reads, struct_record}
+use Rattle.capnp_records.specs.Text.{Out, text_of}
+use Rattle.capnp_dynamic.specs.Handles.{reader_of, schema_of}
+use Rattle.capnp_dynamic.specs.Pieces.{IsAppended}
+use Rattle.capnp_dynamic.specs.Seen.{record_seen}
+use Rattle.capnp_dynamic.specs.Shown.{printed_text, struct_printed}
+use Rattle.capnp_dynamic.specs.Typed.{struct_type}
+use Rattle.capnp_dynamic.specs.declared.dynamic_struct.Reader.{Reader as StructHandle}
+use Rattle.capnp_dynamic.specs.declared.dynamic_value.Reader.TheVariants as dynamic
+use Rattle.capnp_wire.specs.Edits.{extended, is_struct, struct_in, zero_struct}
+use Rattle.capnp_wire.specs.Kept as kept
+use Rattle.capnp_wire.specs.Place.{struct_tree}
+use Rattle.capnp_wire.specs.Sizes as sizes
+use Rattle.capnp_wire.specs.Tree.{StructTree, Tree}
+use Rattle.capnp_wire.specs.WellFormed.{IsWellFormed}
+use Rattle.capnp_wire.specs.declared.size.StructSize.{StructSize}
+use Rattle.capnp_schema.specs.StructHandles.{generic_of, number_of, set_of, struct_node}
+use Rattle.capnp_schema.specs.declared.schema.structs.StructSchema.{StructSchema}
+use Rattle.capnp_records.specs.Default.{default_record}
+use Rattle.capnp_records.specs.Facts.Extension.{fits-extended, reads-extended, reads-zero_struct}
+use Rattle.capnp_records.specs.Record.{Endless, Left, Levels, Record}
+use Rattle.capnp_records.specs.Writes.Slots.{Fits, brand_size}
+use Rattle.capnp_run.specs.Messages.{HasRoot, IsRun, IsRunFrom, IsWhole, LeavesRun, record_in, root_value, text_in}
+use Rattle.capnp_run.specs.declared.calls.Call.{Call}
+use Rattle.capnp_run.specs.declared.calls.Reply.{Reply}
+
+-- a struct as a root
+root_of_struct : (schema : StructSchema) (s : StructTree) (r : Record) (t : Tree) → t ≡ struct_tree s → Fits (set_of schema) (number_of schema) s → IsWellFormed (struct_tree s) → record_in schema s ≡ r → HasRoot schema r t
+root_of_struct schema s r t e fits formed reads =
+    subst (HasRoot schema r) (sym e) (record { here = refl; fits = fits; formed = formed; reads_as = reads })
+
+-- an empty one
+pub empty_root : (schema : StructSchema) (size : StructSize) (s : StructTree) (t : Tree) → size ≡ brand_size (set_of schema) (number_of schema) → s ≡ zero_struct size → t ≡ struct_tree s → size.data_words < 2 ^ 16 → size.pointers < 2 ^ 16 →
+    HasRoot schema (default_record (set_of schema) Endless (number_of schema)) t
+empty_root schema size s t is zero root few words =
+    root_of_struct schema s _ t root
+    (sizes.new_struct_size (brand_size (set_of schema) (number_of schema)) s (zero ∙ ap zero_struct is))
+    (kept.new_struct size s zero few words)
+    (ap (record_in schema) zero ∙ reads-zero_struct (set_of schema) size (number_of schema))
+
+-- a copy, with at least the schema's sections
+pub copied_root : (schema : StructSchema) (size : StructSize) (s : StructTree) (source t : Tree) → size ≡ brand_size (set_of schema) (number_of schema) → s ≡ extended size (struct_in source) → t ≡ struct_tree s → size.data_words < 2 ^ 16 → size.pointers < 2 ^ 16 →
+    IsWellFormed source → HasRoot schema (record_in schema (struct_in source)) t
+copied_root schema size s source t is whole root few words formed =
+    root_of_struct schema s _ t root
+    (subst (Fits (set_of schema) (number_of schema)) (sym (whole ∙ ap (λ (z : StructSize). extended z (struct_in source)) is)) (fits-extended (set_of schema) (number_of schema) (struct_in source)))
+    (kept.extended_struct size (struct_in source) s whole few words (kept.struct_here source (struct_in source) refl formed))
+    (ap (record_in schema) whole ∙ reads-extended (set_of schema) size (struct_in source) (number_of schema))
+
+-- what a run leaves
+pub leaves_run : (schema : StructSchema) (r : Record) (t t' : Tree) (calls : List Call) (replies : List Reply) → HasRoot schema r t → IsRun schema (struct_in t) calls replies (struct_in t') → t' ≡ struct_tree (struct_in t') → IsWellFormed t' →
+    LeavesRun schema r calls replies t'
+unfolding IsRun
+leaves_run schema r t t' calls replies root runs is formed = record {
+  root = is;
+  formed = formed;
+  runs = subst (λ (y : Record). IsRunFrom schema y calls replies (record_in schema (struct_in t'))) root.reads_as runs;
+}
+
+pub run_is : (schema : StructSchema) (s s' : StructTree) (calls : List Call) (replies : List Reply) → IsRunFrom schema (record_in schema s) calls replies (record_in schema s') → IsRun schema s calls replies s'
+unfolding IsRun
+run_is schema s s' calls replies h = h
+
+-- the same of an answer
+pub all_leave : {E : Type 0} (schema : StructSchema) (r : Record) (t t' : Tree) (calls : List Call) (result : Result (Vec Reply Global) E) → HasRoot schema r t →
+    IfOk result (λ replies. IsRun schema (struct_in t) calls replies.items (struct_in t')) → OnOk result (t' ≡ struct_tree (struct_in t')) → OnOk result (IsWellFormed t') → IfOk result (λ replies. LeavesRun schema r calls replies.items t')
+all_leave schema r t t' calls (Ok replies) root runs is formed = leaves_run schema r t t' calls replies.items root runs is formed
+all_leave schema r t t' calls (Err e) root runs is formed = tt
+
+-- ---- what is printed ----
+
+module _ (law : PrintLaw) (groups : GroupPrintLaw) (set : Schemas) (indented : Bool) (b g : ℕ) (s : StructTree) (l : Levels) where
+  text_same : (q : Bool) (bytes : Option (List ℕ)) → text_of set indented (StructType b g) (root_value q (struct_record set l s b)) ≡ Ok bytes → text_of set indented (StructType b g) (root_value q (reads set s b)) ≡ Ok bytes
+  text_same true bytes h = groups set l indented b g s bytes h
+  text_same false bytes h = law set l indented b g s bytes h
+
+  pub appended : (q : Bool) (old new : List ℕ) → IsAppended old (text_of set indented (StructType b g) (root_value q (struct_record set l s b))) new → IsAppended old (text_of set indented (StructType b g) (root_value q (reads set s b))) new
+  appended q old new h = go (text_of set indented (StructType b g) (root_value q (struct_record set l s b))) refl h
+    where
+      go : (o : Out) → text_of set indented (StructType b g) (root_value q (struct_record set l s b)) ≡ o → IsAppended old o new → IsAppended old (text_of set indented (StructType b g) (root_value q (reads set s b))) new
+      go (Ok bytes) e k = subst (λ (o : Out). IsAppended old o new) (sym (text_same q bytes e)) k
+      go (Err kind) e k = absurd k
+
+-- a struct that was read as one, by its reader
+pub printed_by : (law : PrintLaw) (groups : GroupPrintLaw) (schema : StructSchema) (handle : StructHandle) (s : StructTree) (indented : Bool) (old new : List ℕ) → schema_of handle ≡ schema → struct_of (reader_of handle) ≡ s →
+    IsAppended old (printed_text indented (dynamic.Struct handle)) new → IsAppended old (text_in schema indented (record_in schema s)) new
+printed_by law groups schema handle s indented old new e h printed =
+    subst (λ (x : StructTree). IsAppended old (text_in schema indented (record_in schema x)) new) h
+    (subst (λ (z : StructSchema). IsAppended old (text_in z indented (record_in z (struct_of (reader_of handle)))) new) e
+    (appended law groups (set_of (schema_of handle)) indented (number_of (schema_of handle)) (generic_of (schema_of handle)) (struct_of (reader_of handle)) (Left (struct_levels (reader_of handle)))
+    (struct_node (schema_of handle)).is_group old new (seen_so (struct_node (schema_of handle)).is_group printed)))
+  where
+    seen_so : (q : Bool) → IsAppended old (text_of (set_of (schema_of handle)) indented (struct_type (schema_of handle)) (struct_printed q handle)) new →
+        IsAppended old (text_of (set_of (schema_of handle)) indented (struct_type (schema_of handle)) (root_value q (record_seen handle))) new
+    seen_so true k = k
+    seen_so false k = k
+
+abbrev ok_struct : StructTree → Result StructTree ErrorKind → StructTree
+ok_struct other (Ok s) = s
+ok_struct other (Err kind) = other
+
+-- what was read as a struct is the one that stands there
+struct_answered : (t : Tree) (n : ℕ) (x : StructTree) → IsTrue (is_struct t) → as_struct t n ≡ Ok x → x ≡ struct_in t
+struct_answered (tree.Struct bytes ps) n x here h = go (n == 0) h
+  where
+    go : (q : Bool) → cond q (Err TooDeep) (Ok (record { bytes = bytes; pointers = ps })) ≡ Ok x → x ≡ record { bytes = bytes; pointers = ps }
+    go true h = absurd (true≢false (sym (ap is_ok h)))
+    go false h = sym (ap (ok_struct x) h)
+struct_answered tree.Null n x here h = absurd (true≢false (sym here))
+struct_answered (tree.Voids k) n x here h = absurd (true≢false (sym here))
+struct_answered (tree.Bits bs) n x here h = absurd (true≢false (sym here))
+struct_answered (tree.Numbers w bytes) n x here h = absurd (true≢false (sym here))
+struct_answered (tree.Pointers ps) n x here h = absurd (true≢false (sym here))
+struct_answered (tree.Composite d p es) n x here h = absurd (true≢false (sym here))
+struct_answered (tree.FaultLeaf k) n x here h = absurd (true≢false (sym here))
+
+pub struct_read_so : (p : PointerReader) (t : Tree) (reader : StructReader) → tree_of p ≡ t → IsTrue (is_struct t) → Ok (struct_of reader) ≡ as_struct (tree_of p) (levels_of p) → struct_of reader ≡ struct_in t
+struct_read_so p t reader e here h = struct_answered t (levels_of p) (struct_of reader) here (ap (λ (y : Tree). as_struct y (levels_of p)) (sym e) ∙ sym h)
+
+-- ---- the whole ----
+
+pub whole : (schema : StructSchema) (r : Record) (t : Tree) (calls : List Call) (replies : List Reply) (bytes : List ℕ) (indented : Bool) (old new : List ℕ) → LeavesRun schema r calls replies t →
+    (IsShallow t → (rest : List ℕ) → message_tree_of (bytes ++ rest) ≡ Ok t) → IsAppended old (text_in schema indented (record_in schema (struct_in t))) new → IsWhole schema r calls replies bytes indented old new
+whole schema r t calls replies bytes indented old new leaves read printed = record {
+  root = struct_in t;
+  runs = leaves.runs;
+  read_back = subst (λ (y : Tree). IsShallow y → (rest : List ℕ) → message_tree_of (bytes ++ rest) ≡ Ok y) leaves.root read;
+  printed = printed;
+}
+
+pub is_root : (schema : StructSchema) (r : Record) (t : Tree) (calls : List Call) (replies : List Reply) → LeavesRun schema r calls replies t → IsTrue (is_struct t)
+is_root schema r t calls replies leaves = subst (λ (y : Tree). IsTrue (is_struct y)) (sym leaves.root) refl
