@@ -5,7 +5,8 @@ use Rattle.capnp_wire.specs.declared.struct_reader.StructReader.{StructReader}
 use Rattle.capnp_schema.specs.Schema.{Schemas}
 use Rattle.capnp_schema.specs.StructHandles.{number_of, set_of}
 use Rattle.capnp_schema.specs.declared.schema.structs.StructSchema.{StructSchema}
-use Rattle.capnp_records.specs.Compatible.{projection_of}
+use Rattle.capnp_records.specs.Compatible.{IsCompatible, projection_of}
+use Rattle.capnp_records.specs.Upgrades.{AreUpgradesRead, IsSeenOf}
 use Rattle.capnp_records.specs.Reading.{struct_record}
 use Rattle.capnp_records.specs.Record.{Left, Record}
 use Rattle.capnp_dynamic.specs.Handles.{reader_of, schema_of}
@@ -29,10 +30,17 @@ IsBetween set older newer pair = IsBrand set older (older_of pair) × IsBrand se
 abbrev pub record_under : Schemas → StructReader → ℕ → Record
 record_under set sections number = struct_record set (Left (struct_levels sections)) (struct_of sections) number
 
--- a reader of the struct under the older brand, which sees the projection of its record under the newer
+-- a reader of the struct under the older brand, which sees the projection of its record under the newer; where lists became
+-- lists of structs, if they are read, and but for the levels of missing parts
 abbrev pub IsSeenByOlder : Schemas → ℕ → ℕ → StructReader → StructHandle → Type 0
-IsSeenByOlder set older newer sections r = IsBrand set older (schema_of r) × (reader_of r ≡ sections) × (record_seen r ≡ projection_of set older newer (record_under set sections newer))
+IsSeenByOlder set older newer sections r =
+    IsBrand set older (schema_of r) × (reader_of r ≡ sections)
+    × (IsCompatible set older newer → record_seen r ≡ projection_of set older newer (record_under set sections newer))
+    × (AreUpgradesRead set older newer (record_seen r) (record_under set sections newer) → IsSeenOf set older newer (record_seen r) (record_under set sections newer))
 
--- a reader of the struct under the newer brand, of whose record the older brand sees the projection
+-- a reader of the struct under the newer brand, of whose record the older brand sees the projection, likewise
 abbrev pub IsSeenByNewer : Schemas → ℕ → ℕ → StructReader → StructHandle → Type 0
-IsSeenByNewer set older newer sections r = IsBrand set newer (schema_of r) × (reader_of r ≡ sections) × (projection_of set older newer (record_seen r) ≡ record_under set sections older)
+IsSeenByNewer set older newer sections r =
+    IsBrand set newer (schema_of r) × (reader_of r ≡ sections)
+    × (IsCompatible set older newer → projection_of set older newer (record_seen r) ≡ record_under set sections older)
+    × (AreUpgradesRead set older newer (record_under set sections older) (record_seen r) → IsSeenOf set older newer (record_under set sections older) (record_seen r))

@@ -4,7 +4,7 @@ ghost use Rattle.std.specs.Prelude.{◌≡◌, ◌≢◌, IfErr, IfOk, MatchOpti
 ghost use Rattle.std.specs.Bool.{Decides};
 ghost use Rattle.capnp_device.specs.declared.error.ErrorKind.TheVariants.{NoSuchElement, OutOfMemory};
 ghost use Rattle.capnp_schema.specs.Entries.{lists_seen};
-ghost use Rattle.capnp_records.specs.Compatible.{IsCompatible};
+ghost use Rattle.capnp_records.specs.Compatible.{IsCompatibleOrUpgraded};
 ghost use Rattle.capnp_compatible_callers.specs.Sight.{HasBoth, IsBetween, IsSeenByNewer, IsSeenByOlder};
 
 use capnp_compatible::Compatible;
@@ -22,7 +22,8 @@ pub fn between<'s>(
     older: u32,
     newer: u32,
 ) -> Result<Option<Compatible<'s>>>
-    ensures answer { IfOk result (λ found. MatchOption found (IsCompatible (lists_seen set.now) older newer → ⊥) (IsBetween (lists_seen set.now) older newer)) }
+    ensures answer { IfOk result (λ found. MatchOption found (IsCompatibleOrUpgraded (lists_seen set.now) older newer → ⊥)
+        (IsBetween (lists_seen set.now) older newer)) }
     ensures there { IfOk result (λ found. HasBoth (lists_seen set.now) older newer) }
     ensures refused { IfErr result (λ e. e.kind ≢ OutOfMemory → (e.kind ≡ NoSuchElement) × (HasBoth (lists_seen set.now) older newer → ⊥)) }
 {
@@ -37,7 +38,7 @@ pub fn between<'s>(
 
 /// Whether a brand is a compatible successor of another. Refused as `between`.
 pub fn is_successor(alloc: Global, set: &SchemaSet, older: u32, newer: u32) -> Result<bool>
-    ensures answer { IfOk result (λ yes. Decides yes (IsCompatible (lists_seen set.now) older newer)) }
+    ensures answer { IfOk result (λ yes. Decides yes (IsCompatibleOrUpgraded (lists_seen set.now) older newer)) }
     ensures there { IfOk result (λ yes. HasBoth (lists_seen set.now) older newer) }
     ensures refused { IfErr result (λ e. e.kind ≢ OutOfMemory → (e.kind ≡ NoSuchElement) × (HasBoth (lists_seen set.now) older newer → ⊥)) }
 {
@@ -59,7 +60,7 @@ pub fn seen_by_older<'s>(
     newer: u32,
     sections: StructReader<'s>,
 ) -> Result<Option<dynamic_struct::Reader<'s>>>
-    ensures answer { IfOk result (λ found. MatchOption found (IsCompatible (lists_seen set.now) older newer → ⊥)
+    ensures answer { IfOk result (λ found. MatchOption found (IsCompatibleOrUpgraded (lists_seen set.now) older newer → ⊥)
         (IsSeenByOlder (lists_seen set.now) older newer sections.entry)) }
     ensures there { IfOk result (λ found. HasBoth (lists_seen set.now) older newer) }
     ensures refused { IfErr result (λ e. e.kind ≢ OutOfMemory → (e.kind ≡ NoSuchElement) × (HasBoth (lists_seen set.now) older newer → ⊥)) }
@@ -82,7 +83,7 @@ pub fn seen_by_newer<'s>(
     newer: u32,
     sections: StructReader<'s>,
 ) -> Result<Option<dynamic_struct::Reader<'s>>>
-    ensures answer { IfOk result (λ found. MatchOption found (IsCompatible (lists_seen set.now) older newer → ⊥)
+    ensures answer { IfOk result (λ found. MatchOption found (IsCompatibleOrUpgraded (lists_seen set.now) older newer → ⊥)
         (IsSeenByNewer (lists_seen set.now) older newer sections.entry)) }
     ensures there { IfOk result (λ found. HasBoth (lists_seen set.now) older newer) }
     ensures refused { IfErr result (λ e. e.kind ≢ OutOfMemory → (e.kind ≡ NoSuchElement) × (HasBoth (lists_seen set.now) older newer → ⊥)) }

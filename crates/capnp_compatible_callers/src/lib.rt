@@ -16,3 +16,5 @@ mod shape_tests;
 mod tool_tests;
 #[cfg(test)]
 mod type_tests;
+#[cfg(test)]
+mod upgrade_tests;

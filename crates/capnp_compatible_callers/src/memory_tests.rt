@@ -3,12 +3,11 @@
 use crate::brands::{between, is_successor};
 use crate::fixtures::{ADDED, MIXED, grown_fields, sections, set_with, two_pointers};
 use capnp_base::introspect::TypeVariant;
-use capnp_compatible::Compatible;
 use capnp_dynamic::dynamic_struct;
 use capnp_dynamic::dynamic_value::Reader as Value;
 use capnp_schema::set::SchemaSet;
 use capnp_schema_callers::fixtures::{
-    add_struct, list_type, records_of, slot, struct_type, typed_slot,
+    FieldOf, add_struct, list_type, records_of, slot, struct_type, typed_slot,
 };
 use capnp_wire::error::{ErrorKind, Result};
 use std::alloc::Global;
@@ -28,18 +27,6 @@ fn number(reader: dynamic_struct::Reader<'_>, name: &str) -> Result<Option<u16>>
     }
 }
 
-/// What both schemas read of a message, without memory.
-fn reads(pair: &Compatible<'_>, older: dynamic_struct::Reader<'_>) -> Result<[Option<u16>; 4]> {
-    let newer = pair.widen(older);
-    let again = pair.narrow(newer);
-    Ok([
-        number(newer, "y")?,
-        number(newer, "c")?,
-        number(again, "a")?,
-        number(again, "y")?,
-    ])
-}
-
 // Run with `rt try --test --fail-alloc N` for each N: whichever request for memory is refused, what stands before it is
 // refused for memory alone, and once there is a pair both reads succeed.
 #[test]
@@ -57,26 +44,31 @@ fn narrow_and_widen_take_no_memory(rt: HostRuntime) -> std::result::Result<(), F
         return Ok(());
     };
     let older = dynamic_struct::Reader::new(part, set.struct_schema(MIXED));
-    assert_eq!(rt; reads(&pair, older)?, [Some(9), Some(0), Some(5), Some(9)]);
+    let newer = pair.widen(older);
+    let again = pair.narrow(newer);
+    assert_eq!(rt; number(newer, "y")?, Some(9));
+    assert_eq!(rt; number(newer, "c")?, Some(0));
+    assert_eq!(rt; number(again, "a")?, Some(5));
+    assert_eq!(rt; number(again, "y")?, Some(9));
     Ok(())
 }
 
-/// A set of so many structs. Each names the next one, and another by a list, and from each all are named at last.
+/// A struct that names two others: by a pointer, and by a list.
+fn link(next: u32, other: u32) -> [FieldOf; 3] {
+    [
+        slot("value", 0, TypeVariant::UInt16),
+        typed_slot("next", 0, struct_type(next)),
+        typed_slot("others", 1, list_type(struct_type(other))),
+    ]
+}
+
+/// A set of so many structs. Each names the next one, and another, and from each all are named at last.
 fn ring(alloc: Global, count: u32) -> Result<SchemaSet> {
-    let of = |number: u32| {
-        [
-            slot("value", 0, TypeVariant::UInt16),
-            typed_slot("next", 0, struct_type((number + 1) % count)),
-            typed_slot(
-                "others",
-                1,
-                list_type(struct_type((7 * number + 3) % count)),
-            ),
-        ]
-    };
-    let mut records = records_of(alloc, two_pointers(1, &of(0)))?;
+    let at = |number: u32| number.checked_rem(count).unwrap_or(0);
+    let mut records = records_of(alloc, two_pointers(1, &link(at(1), at(3))))?;
     for number in 1..count {
-        add_struct(alloc, &mut records, number, &two_pointers(1, &of(number)))?;
+        let fields = link(at(number + 1), at(number.wrapping_mul(7).wrapping_add(3)));
+        add_struct(alloc, &mut records, number, &two_pointers(1, &fields))?;
     }
     SchemaSet::new(alloc, records.nodes, records.brands, records.enums)
 }
