@@ -52,3 +52,4 @@ pub mod Filling
 pub mod Blobs
 pub mod SameTrees
 pub mod NoPointers
+pub mod NullWords

@@ -1,5 +1,6 @@
 //! Counts the words of what stands at a place, and looks for its first fault leaf.
-ghost use Rattle.std.specs.Prelude.{◌≡◌, ◌+◌, ◌*◌, None, IfErr, IfOk};
+ghost use Rattle.std.specs.Prelude.{◌≡◌, ◌+◌, ◌*◌, None, IfErr, IfOk, IsTrue};
+ghost use Rattle.capnp_wire.specs.Locate.{NoTarget, target_at};
 ghost use Rattle.capnp_wire.specs.Place.{tree_below};
 ghost use Rattle.capnp_wire.specs.Backing.{segment_list};
 ghost use Rattle.capnp_wire.specs.Objects.{object_tree, object_trees, list_object_tree, struct_object_tree, struct_object_trees};
@@ -7,6 +8,7 @@ ghost use Rattle.capnp_wire.specs.Found.{block_structs, parts_tree, place_tree, 
 ghost use Rattle.capnp_wire.specs.Words.{first_fault, first_fault_of_all, first_fault_of_elements, words_below_all, words_of, words_of_all, words_of_struct};
 ghost use Rattle.capnp_wire.specs.Total.{IsSize, IsSizeRefusal, Totals, TotalsBelow, TotalsOfAll, size_of_total, size_read};
 
+use crate::bytes::get_word;
 use crate::fault::{Fault, refuse};
 use crate::look::{Elements, Found, Place, Pointers, StructParts, look_at_word};
 use crate::object::{ListObject, Object, StructObject};
@@ -31,9 +33,31 @@ fn add(a: u64, b: u64) -> Total
     a.checked_add(b).ok_or(Stop::TooLarge)
 }
 
-/// The words of the tree of a word of a message.
+/// Whether the pointer at a word is there and is null.
+#[inline(always)]
+fn is_null_word(segments: Segments<'_>, segment: &[u8], w: usize) -> bool
+    ensures { IsTrue result → target_at (segment_list segments.entry) segment.now w ≡ NoTarget }
+{
+    w < segment.len() / 8 && get_word(segment, w) == 0
+}
+
+/// The words of the tree of a word of a message. Most pointers of many messages are null, so these are told apart without a
+/// call.
 #[cycle(total)]
+#[inline(always)]
 fn total_word(segments: Segments<'_>, segment: &[u8], index: usize, depth: u8) -> Total
+    ensures { Totals result (first_fault (tree_below depth (segment_list segments.entry) segment.now index)) (words_of (tree_below depth (segment_list segments.entry) segment.now index)) }
+{
+    if is_null_word(segments, segment, index) {
+        return Ok(0);
+    }
+    total_target(segments, segment, index, depth)
+}
+
+/// The same of a pointer that may not be null.
+#[cycle(total)]
+#[inline(never)]
+fn total_target(segments: Segments<'_>, segment: &[u8], index: usize, depth: u8) -> Total
     ensures { Totals result (first_fault (tree_below depth (segment_list segments.entry) segment.now index)) (words_of (tree_below depth (segment_list segments.entry) segment.now index)) }
 {
     match look_at_word(segments, segment, index, depth) {

@@ -4,7 +4,9 @@ use Rattle.capnp_wire.specs.Tree.{Bits}
 use Rattle.capnp_wire.specs.Place.{tree_below, bits_from}
 use Rattle.capnp_wire.specs.Backing.{segment_list}
 use Rattle.capnp_wire.specs.Found.{ArePointersBelow, AreElementsBelow, pointer_trees, row_trees}
+use Rattle.capnp_wire.specs.Words.{first_fault, words_of}
 use Rattle.capnp_wire.proofs.Lists.{length-bits_from, tree_count-from, struct_count-from, nth_tree-from, nth_struct-start}
+use Rattle.capnp_wire.proofs.NullWords.{null_below}
 use Rattle.capnp_wire.proofs.NoPointers.{no_faults_below, no_words_below}
 use Rattle.capnp_wire.proofs.Sums.{none_summed, all_summed, one_stops, one_sum_stops, one_summed, no_elements_summed, all_elements_summed, element_stops, element_sum_stops, element_summed, totals_at}
 use Rattle.capnp_wire.proofs.total.+total.Goals as goal
@@ -55,38 +57,43 @@ total_row-loop-i-preserved t c =
 pub total_row-returns : goal.total_row-returns
 total_row-returns t c = all_summed _ _ _ c.loop-i.invariant (rw tree_count-from c.loop-i-test.false)
 
-pub total_word-total_row-requires-in-Pointers-Words :
-    goal.total_word-total_row-requires-in-Pointers-Words
-total_word-total_row-requires-in-Pointers-Words t c =
+pub total_target-total_row-requires-in-Pointers-Words :
+    goal.total_target-total_row-requires-in-Pointers-Words
+total_target-total_row-requires-in-Pointers-Words t c =
     let h : ArePointersBelow c.args.depth c.in-Pointers-Words.field-0 = c.in-Pointers-Words.ensures.below in
     let b = rw c.in-Pointers-Words.field-0-is at h in
     search (rules, arith, b)
 
-pub total_word-total_block-requires : goal.total_word-total_block-requires
-total_word-total_block-requires t c =
+pub total_target-total_block-requires : goal.total_target-total_block-requires
+total_target-total_block-requires t c =
     let h : AreElementsBelow c.args.depth c.in-Composite-default-Words.field-1 = c.in-Composite-default-Words.ensures.below in
     let b = rw c.in-Composite-default-Words.field-1-is at h in
     search (rules, arith, b)
 
-pub total_word-returns-in-Bits : goal.total_word-returns-in-Bits
-total_word-returns-in-Bits t c =
+pub total_target-returns-in-Bits : goal.total_target-returns-in-Bits
+total_target-returns-in-Bits t c =
     let e : tree_below c.args.depth (segment_list c.args.segments) c.args.segment.now c.args.index ≡ Bits (bits_from c.in-Bits.field-0.now 0 c.in-Bits.count) = sym c.in-Bits.ensures.value in
     rw (e, length-bits_from) (refl, omega arith)
 
-pub total_word-returns-in_ok-total_row-in-Pointers-Words :
-    goal.total_word-returns-in_ok-total_row-in-Pointers-Words
-total_word-returns-in_ok-total_row-in-Pointers-Words t c =
+pub total_target-returns-in_ok-total_row-in-Pointers-Words :
+    goal.total_target-returns-in_ok-total_row-in-Pointers-Words
+total_target-returns-in_ok-total_row-in-Pointers-Words t c =
     let h = c.in_ok-total_row-in-Pointers-Words.ensures in
     rw (← c.in-Pointers-Words.ensures.value, c.in-Pointers-Words.field-0-is) (totals_at _ _ _ _ h.0 (rw tree_count-from (omega (arith, h.1))) c.add-in-Pointers-Words.ensures)
 
-pub total_word-returns-in_ok-total_block-in-Composite-default-Words :
-    goal.total_word-returns-in_ok-total_block-in-Composite-default-Words
-total_word-returns-in_ok-total_block-in-Composite-default-Words t c =
+pub total_target-returns-in_ok-total_block-in-Composite-default-Words :
+    goal.total_target-returns-in_ok-total_block-in-Composite-default-Words
+total_target-returns-in_ok-total_block-in-Composite-default-Words t c =
     let h = c.in_ok-total_block-in-Composite-default-Words.ensures in
     rw (← c.in-Composite-default-Words.ensures.value, c.in-Composite-default-Words.field-1-is) (totals_at _ _ _ _ h.0 (rw struct_count-from (omega (arith, h.1))) c.add-in-Composite-default-Words.ensures)
 
-pub total_word-returns-in_ok-total_row-in-Struct : goal.total_word-returns-in_ok-total_row-in-Struct
-total_word-returns-in_ok-total_row-in-Struct t c =
+pub total_target-returns-in_ok-total_row-in-Struct : goal.total_target-returns-in_ok-total_row-in-Struct
+total_target-returns-in_ok-total_row-in-Struct t c =
     let h = c.in_ok-total_row-in-Struct.ensures in
     let e : pointer_trees c.in-Struct.parts.pointers ≡ row_trees c.in-Words.depth c.in-Words.is_stream c.in-Words.count c.in-Words.row = ap pointer_trees c.in-Words.is in
     rw (← c.in-Struct.ensures.value, e) (totals_at _ _ _ _ h.0 (rw tree_count-from (omega (arith, h.1))) c.add.ensures)
+
+pub total_word-returns-then-is_null_word : goal.total_word-returns-then-is_null_word
+total_word-returns-then-is_null_word t c =
+    let null = null_below c.args.depth (segment_list c.args.segments) c.args.segment.now c.args.index (c.if-is_null_word.ensures refl) in
+    (ap first_fault null, sym (ap words_of null))
