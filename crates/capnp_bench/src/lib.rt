@@ -4,3 +4,4 @@
 
 mod prints;
 mod reads;
+mod schemas;
