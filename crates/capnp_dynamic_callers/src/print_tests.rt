@@ -2,10 +2,10 @@
 //! `examples/kinds.txt`, and the debug forms of readers.
 
 use crate::fixtures::root;
-use crate::kind_tests::{EMPTY, FULL, KINDS, SEGMENTS, new_set};
 use crate::parts::{list_named, struct_named};
 use capnp_dynamic::dynamic_value::Reader as Value;
 use capnp_dynamic::printer::print;
+use capnp_schema_callers::kinds::{EMPTY, FULL, KINDS, SEGMENTS, new_set};
 use std::test::Fail;
 
 /// The text of `FULL` and of `SEGMENTS`.

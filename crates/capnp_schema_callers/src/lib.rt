@@ -17,6 +17,7 @@ mod footprint_tests;
 mod group_tests;
 #[cfg(test)]
 mod handle_tests;
+pub mod kinds;
 pub mod lookup;
 #[cfg(test)]
 mod name_tests;
