@@ -1,4 +1,5 @@
-//! Calls along paths of a struct that is built, whose schema is known only at run time.
+//! Calls along paths of a struct that is built, whose schema is known only at run time; and, from the crate below, schemas
+//! that are compatible successors of others.
 #![tactic(auto)]
 
 pub mod answer;
@@ -10,3 +11,5 @@ pub mod message;
 pub mod run;
 pub mod walk;
 pub mod way;
+
+pub use capnp_compatible::Compatible;
