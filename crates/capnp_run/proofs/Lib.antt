@@ -15,3 +15,4 @@ pub mod SetsDone
 pub mod Starts
 pub mod Walking
 pub mod WhichLevels
+pub mod Results

@@ -10,11 +10,13 @@ ghost use Rattle.capnp_records.specs.Run.{Run};
 ghost use Rattle.capnp_records.specs.Writes.Slots.{Fits};
 ghost use Rattle.capnp_records.specs.Writes.TreeEnds.{TreeStep};
 ghost use Rattle.capnp_slots.specs.Groups.{KeepsSize};
-ghost use Rattle.capnp_run.specs.Runs.{Makes};
+ghost use Rattle.capnp_dynamic.specs.Built.{IsReady, built_schema, built_struct};
+ghost use Rattle.capnp_run.specs.Runs.{Makes, RunsFrom};
 ghost use Rattle.capnp_run.specs.Seen.{call_seen, reply_seen};
 
 use crate::calls::{Call, Ending, Reply};
 use crate::walk::walk;
+use capnp_dynamic::dynamic_struct;
 use capnp_records::laws::overlay_law;
 use capnp_schema::laws::numbers_fit;
 use capnp_schema::schema::StructSchema;
@@ -89,4 +91,22 @@ pub fn run_on(
     overlay_law();
     numbers_fit(schema.get_set());
     make_calls(alloc, object, schema, calls)
+}
+
+/// Makes calls along paths of the struct that a builder stands on, as `run_on`, whose contract also says what the struct ends
+/// as: a builder is given by value.
+///
+/// Refused with `OutOfMemory` where there is no room for the replies, and then nothing has changed.
+pub fn run(
+    alloc: Global,
+    root: dynamic_struct::Builder<'_>,
+    calls: &[Call<'_>],
+) -> Result<Vec<Reply>>
+    requires stands { IsStruct (built_schema root) }
+    requires ready { IsReady root }
+    ensures runs { IfOk result (λ replies. RunsFrom (built_schema root.entry) (built_struct root.entry) calls.now replies.items) }
+    ensures cause { IfErr result (λ e. e.kind ≡ OutOfMemory) }
+{
+    let dynamic_struct::Builder { builder, schema } = root;
+    run_on(alloc, builder, schema, calls)
 }

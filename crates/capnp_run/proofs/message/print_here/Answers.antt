@@ -1,15 +1,12 @@
 -- What is printed is the text of the whole record.
-use Rattle.std.proofs.Common.{Result, Ok, Err, OnOk, ap, ◌∙◌}
+use Rattle.std.proofs.Common.{ap, ◌∙◌}
 use Rattle.std.specs.Prelude.{string_bytes}
 use Rattle.capnp_wire.specs.Edits.{struct_in}
 use Rattle.capnp_wire.specs.Objects.{object_tree}
 use Rattle.capnp_wire.specs.Standing.{struct_of}
 use Rattle.capnp_run.proofs.Starts.{printed_by, struct_read_so}
+use Rattle.capnp_run.proofs.Results.{on_ok}
 use Rattle.capnp_run.proofs.message.print_here.Goals as goal
-
-on_ok : {A E : Type 0} {P Q : Type 0} (r : Result A E) → (P → Q) → OnOk r P → OnOk r Q
-on_ok (Ok a) f p = f p
-on_ok (Err e) f p = tt
 
 pub returns : goal.returns
 returns c =

@@ -1,20 +1,17 @@
 -- The root is what was lent.
-use Rattle.std.proofs.Common.{Result, Ok, Err, IfOk, subst}
+use Rattle.std.proofs.Common.{subst}
 use Rattle.capnp_wire.specs.Edits.{struct_in}
 use Rattle.capnp_wire.specs.Message.{builder_tree}
 use Rattle.capnp_wire.specs.Objects.{object_tree}
 use Rattle.capnp_wire.specs.Tree.{Tree}
 use Rattle.capnp_run.specs.Messages.{IsRun}
+use Rattle.capnp_run.proofs.Results.{if_ok}
 use Rattle.capnp_run.proofs.message.run_root.Goals as goal
-
-on_ok : {A E : Type 0} {P Q : A → Type 0} (r : Result A E) → ((a : A) → P a → Q a) → IfOk r P → IfOk r Q
-on_ok (Ok a) f p = f a p
-on_ok (Err e) f p = tt
 
 pub returns-clause-runs : goal.returns-clause-runs
 unfolding builder_tree
 returns-clause-runs c =
-    on_ok c.run_here.result
+    if_ok c.run_here.result
     (λ replies h. subst (λ (t : Tree). IsRun c.args.schema (struct_in t) c.args.calls.now replies.items (struct_in (object_tree c.run_here.new.pointer))) c.root-root.ensures.now h)
     c.run_here.ensures.runs
 

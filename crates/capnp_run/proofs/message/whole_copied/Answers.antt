@@ -1,5 +1,5 @@
 -- The run, the print and the bytes are of one root.
-use Rattle.std.proofs.Common.{List, ◌++◌, ◌≡◌, Ok, ℕ, subst, sym}
+use Rattle.std.proofs.Common.{List, ◌++◌, ◌≡◌, Ok, ℕ, subst}
 use Rattle.std.specs.Prelude.{string_bytes}
 use Rattle.capnp_wire.specs.Depth.{IsShallow}
 use Rattle.capnp_wire.specs.Message.{builder_tree}
