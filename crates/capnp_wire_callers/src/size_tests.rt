@@ -13,7 +13,11 @@ fn sections_of(alloc: Global, text: &str) -> Result<(u8, usize, u16)> {
     let bytes = bytes_of(alloc, text)?;
     let root = root_of(alloc, &bytes)?.get_struct()?;
     let data = root.get_data_section();
-    Ok((data.first().copied().unwrap_or(0), data.len(), root.get_pointer_count()))
+    Ok((
+        data.first().copied().unwrap_or(0),
+        data.len(),
+        root.get_pointer_count(),
+    ))
 }
 
 #[test]
@@ -60,7 +64,11 @@ fn a_list_has_the_size_of_its_elements(rt: HostRuntime) -> std::result::Result<(
     ];
     for (pointer, size) in table {
         let text = format!(in rt.alloc(); "00 00 00 00 02 00 00 00 | {pointer} | 0")?;
-        assert_eq!(rt; answer(size_read_as(rt.alloc(), &text, size)), Ok(size), "{text}");
+        assert_eq!(rt;
+            answer(size_read_as(rt.alloc(), &text, size)),
+            Ok(size),
+            "{text}"
+        );
     }
     // numbers that are read as structs are still numbers
     let numbers = "00 00 00 00 02 00 00 00 | 01 00 00 00 13 00 00 00 | 01 00 02 00 00 00 00 00";
@@ -76,7 +84,9 @@ fn what_is_built_has_its_size(rt: HostRuntime) -> std::result::Result<(), Fail> 
     let fields = root.init_struct(ONE_EACH)?;
     kept::new_structs_are_well_formed();
     assert_eq!(rt; fields.get_size(), ONE_EACH);
-    let list = fields.get_pointer_field(0).init_list(ElementSize::FourBytes, 3)?;
+    let list = fields
+        .get_pointer_field(0)
+        .init_list(ElementSize::FourBytes, 3)?;
     assert_eq!(rt; list.get_element_size(), ElementSize::FourBytes);
     Ok(())
 }
