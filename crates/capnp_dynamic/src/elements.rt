@@ -4,7 +4,7 @@ ghost use Rattle.capnp_wire.specs.Standing.{list_levels, list_of};
 ghost use Rattle.capnp_schema.specs.Accepted.{NamesEntries};
 ghost use Rattle.capnp_schema.specs.Entries.{lists_seen};
 ghost use Rattle.capnp_schema.specs.Schema.{VoidValue};
-ghost use Rattle.capnp_schema.specs.Tests.{seen_variant};
+ghost use Rattle.capnp_schema.specs.Types.{seen_variant};
 ghost use Rattle.capnp_records.specs.Facts.Readers.{element_read};
 ghost use Rattle.capnp_records.specs.Default.{read_of};
 ghost use Rattle.capnp_dynamic.specs.Seen.{answered};

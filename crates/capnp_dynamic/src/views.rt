@@ -2,7 +2,7 @@
 ghost use Rattle.std.specs.Prelude.{IfOk, ◌≡◌};
 ghost use Rattle.capnp_schema.specs.Accepted.{NamesEntries};
 ghost use Rattle.capnp_schema.specs.Entries.{lists_seen};
-ghost use Rattle.capnp_schema.specs.Tests.{seen_variant};
+ghost use Rattle.capnp_schema.specs.Types.{seen_variant};
 ghost use Rattle.capnp_schema.specs.declared.value.Value.TheVariants as view;
 ghost use Rattle.capnp_dynamic.specs.Seen.{answered};
 ghost use Rattle.capnp_dynamic.specs.Typed.{IsOf};

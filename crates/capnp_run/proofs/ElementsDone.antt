@@ -15,8 +15,7 @@ use Rattle.capnp_base.specs.declared.introspect.TypeVariant.TheVariants as varia
 use Rattle.capnp_base.specs.Types.{variant_of}
 use Rattle.capnp_schema.specs.Facts.Layers.{seen_which}
 use Rattle.capnp_schema.specs.Schema.{Schemas}
-use Rattle.capnp_schema.specs.Tests.{seen_variant}
-use Rattle.capnp_schema.specs.Types.{AnyPointerType, DataType, ListType, SchemaType, StructType, TextType, element_size, seen_type}
+use Rattle.capnp_schema.specs.Types.{AnyPointerType, DataType, ListType, SchemaType, StructType, TextType, element_size, seen_type, seen_variant}
 use Rattle.capnp_records.specs.Call.{Initn, Refused}
 use Rattle.capnp_records.specs.Operation.{Initns}
 use Rattle.capnp_records.specs.Record.{Value}

@@ -18,9 +18,8 @@ use Rattle.capnp_base.specs.declared.introspect.RawBrandedStructSchema.{RawBrand
 use Rattle.capnp_base.specs.declared.introspect.«Type».{«Type» as TypeHandle}
 use Rattle.capnp_base.specs.declared.introspect.TypeVariant.{TypeVariant}
 use Rattle.capnp_base.specs.declared.introspect.TypeVariant.TheVariants as variant
-use Rattle.capnp_schema.specs.Tests.{seen_variant}
 use Rattle.capnp_schema.specs.Schema.{ListValue, Schemas, VoidValue}
-use Rattle.capnp_schema.specs.Types.{AnyPointerType, BoolType, DataType, IntType, ListType, SchemaType, StructType, TextType, UIntType, VoidType, element_size}
+use Rattle.capnp_schema.specs.Types.{AnyPointerType, BoolType, DataType, IntType, ListType, SchemaType, StructType, TextType, UIntType, VoidType, element_size, seen_variant}
 use Rattle.capnp_records.specs.Call.{ElementAt, FieldNamed, FieldNumber, PathStep, Refused}
 use Rattle.capnp_records.specs.Call as record_call
 use Rattle.capnp_records.specs.Facts.Frame.{first-of, second-of}

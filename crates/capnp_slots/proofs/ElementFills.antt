@@ -16,8 +16,7 @@ use Rattle.capnp_base.specs.declared.introspect.TypeVariant.{TypeVariant}
 use Rattle.capnp_base.specs.declared.introspect.TypeVariant.TheVariants as variant
 use Rattle.capnp_schema.specs.Facts.Layers.{seen_which}
 use Rattle.capnp_schema.specs.Schema.{Schemas}
-use Rattle.capnp_schema.specs.Tests.{seen_variant}
-use Rattle.capnp_schema.specs.Types.{SchemaType, ListType, seen_type}
+use Rattle.capnp_schema.specs.Types.{SchemaType, ListType, seen_type, seen_variant}
 use Rattle.capnp_slots.specs.Copied.{refusal_of}
 use Rattle.capnp_slots.specs.Fills.{ElementRests, element_due, element_filled}
 

@@ -15,7 +15,6 @@ use Rattle.capnp_base.specs.declared.introspect.TypeVariant.{TypeVariant}
 use Rattle.capnp_base.specs.declared.introspect.TypeVariant.TheVariants as variant
 use Rattle.capnp_base.specs.declared.text.Reader.{Reader as TextReader}
 use Rattle.capnp_schema.specs.Facts.Layers.{seen_which}
-use Rattle.capnp_schema.specs.Tests.{seen_variant}
 use Rattle.capnp_schema.specs.Views.{IsViewOf}
 use Rattle.capnp_schema.specs.declared.value.Value.{Value as View}
 use Rattle.capnp_schema.specs.declared.value.Value.TheVariants as view
@@ -32,7 +31,7 @@ use Rattle.capnp_schema.specs.Accepted.{Decodes, IsDefaultOf, IsStructOrNull, Ki
 use Rattle.capnp_schema.specs.Defaults.{default_tree}
 use Rattle.capnp_schema.specs.FieldLists.{typed_of}
 use Rattle.capnp_schema.specs.Schema.{FieldKind, Group, Schemas, Slot, Value, TextValue, DataValue, StructValue, ListValue, AnyPointerValue, VoidValue, default_of, kind_default}
-use Rattle.capnp_schema.specs.Types.{SchemaType, StructType, ListType, seen_type}
+use Rattle.capnp_schema.specs.Types.{SchemaType, StructType, ListType, seen_type, seen_variant}
 use Rattle.capnp_schema.specs.declared.schema.fields.Field.{Field}
 use Rattle.capnp_records.specs.Facts.Frame.{second-of}
 use Rattle.capnp_records.specs.Facts.Pointers.{with_tree-same}

@@ -8,8 +8,7 @@ ghost use Rattle.capnp_wire.specs.Standing.{levels_of, struct_levels, struct_of,
 ghost use Rattle.capnp_wire.specs.Words.{first_fault};
 ghost use Rattle.capnp_schema.specs.Defaults.{DefaultFits};
 ghost use Rattle.capnp_schema.specs.FieldLists.{typed_of};
-ghost use Rattle.capnp_schema.specs.Tests.{seen_variant};
-ghost use Rattle.capnp_schema.specs.Types.{AnyPointerType, is_pointer};
+ghost use Rattle.capnp_schema.specs.Types.{AnyPointerType, is_pointer, seen_variant};
 ghost use Rattle.capnp_records.specs.Record.{Left};
 ghost use Rattle.capnp_records.specs.Writes.Slots.{At};
 ghost use Rattle.capnp_slots.specs.Copied.{IsCopied, IsCopiedFrom, IsGivenCopy, copy_given, default_in, empty_tree, pointer_content, pointer_given, read_due, refusal_of};

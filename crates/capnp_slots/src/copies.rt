@@ -3,8 +3,7 @@ ghost use Rattle.std.specs.Prelude.{ℕ, List, ◌≡◌, IfErr, IfOk, OnErr, On
 ghost use Rattle.capnp_wire.specs.Objects.{struct_object_tree};
 ghost use Rattle.capnp_wire.specs.Tree.{StructTree, Tree};
 ghost use Rattle.capnp_schema.specs.Schema.{Schemas};
-ghost use Rattle.capnp_schema.specs.Tests.{seen_variant};
-ghost use Rattle.capnp_schema.specs.Types.{SchemaType};
+ghost use Rattle.capnp_schema.specs.Types.{SchemaType, seen_variant};
 ghost use Rattle.capnp_records.specs.Call.{AnyPointerSource, DataSource, ListSource, StructSource, TextSource};
 ghost use Rattle.capnp_records.specs.Given.{Fails, given_slot};
 ghost use Rattle.capnp_records.specs.Record.{Levels};

@@ -4,11 +4,10 @@ ghost use Rattle.capnp_device.specs.declared.error.ErrorKind.TheVariants.{OutOfM
 ghost use Rattle.capnp_wire.specs.Edits.{with_pointer_tree, zero_struct};
 ghost use Rattle.capnp_wire.specs.Place.{struct_tree};
 ghost use Rattle.capnp_schema.specs.Entries.{lists_seen};
-ghost use Rattle.capnp_schema.specs.Tests.{seen_variant};
 ghost use Rattle.capnp_records.specs.Writes.Contents.{initn_tree};
 ghost use Rattle.capnp_records.specs.Writes.ElementEnds.{InitnContent};
 ghost use Rattle.capnp_records.specs.Writes.Slots.{At};
-ghost use Rattle.capnp_schema.specs.Types.{AnyPointerType, is_pointer};
+ghost use Rattle.capnp_schema.specs.Types.{AnyPointerType, is_pointer, seen_variant};
 ghost use Rattle.capnp_slots.specs.Copied.{empty_tree};
 ghost use Rattle.capnp_slots.specs.Inits.{IsInitnRefusal, is_sized};
 ghost use Rattle.capnp_wire.specs.Objects.{struct_object_tree};

@@ -39,9 +39,8 @@ impl<'s> Field<'s> {
     ghost use Rattle.std.specs.Option.{option_map};
     ghost use Rattle.capnp_schema.specs.Defaults.{DefaultFits, default_tree};
     ghost use Rattle.capnp_schema.specs.GroupsDown.{IfGroup, IsGroupIn, LeadsToGroup};
-    ghost use Rattle.capnp_schema.specs.Parents.{kind_target};
     ghost use Rattle.capnp_schema.specs.Plan.{IsPlan, plan_of};
-    ghost use Rattle.capnp_schema.specs.Schema.{default_of};
+    ghost use Rattle.capnp_schema.specs.Schema.{default_of, kind_target};
     ghost use Rattle.capnp_schema.specs.Views.{IsViewOf};
     ghost use Rattle.capnp_schema.specs.StructHandles.{IsStruct, number_of};
     ghost use Rattle.capnp_schema.specs.Annotated.{annotations_of, field_annotations};
@@ -115,7 +114,8 @@ impl<'s> Field<'s> {
     /// The root pointer of the words of the field's default, with 64 levels; none for a default that has no words.
     #[tactic(auto, using(crate::proofs::Defaults::struct_view, crate::proofs::Defaults::list_view, crate::proofs::Defaults::untyped_view))]
     pub fn get_default_pointer(&self) -> Option<PointerReader<'s>>
-        ensures pointer { MatchOption result (default_behind self.now ≡ Null) (λ reader. (tree_of reader ≡ default_behind self.now) × (levels_of reader ≡ 64)) }
+        ensures pointer { MatchOption result (default_behind self.now ≡ Null)
+            (λ reader. (tree_of reader ≡ default_behind self.now) × (levels_of reader ≡ 64)) }
         ensures fits { DefaultFits (typed_of self.now) }
     {
         match self.get_default() {

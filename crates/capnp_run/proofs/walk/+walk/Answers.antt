@@ -21,8 +21,7 @@ use Rattle.capnp_schema.specs.Facts.Layers.{seen_which}
 use Rattle.capnp_schema.specs.Ranges.{HasRanges}
 use Rattle.capnp_schema.specs.Schema.{Schemas, VoidValue, brand_at}
 use Rattle.capnp_schema.specs.StructHandles.{generic_of, number_of, set_of}
-use Rattle.capnp_schema.specs.Tests.{seen_variant}
-use Rattle.capnp_schema.specs.Types.{ListType, SchemaType, StructType, seen_type}
+use Rattle.capnp_schema.specs.Types.{ListType, SchemaType, StructType, seen_type, seen_variant}
 use Rattle.capnp_records.specs.Writes.Fill.{entered_list}
 use Rattle.capnp_records.specs.Writes.Slots.{Fits}
 use Rattle.capnp_slots.specs.Fields.{field_set, pointer_index}

@@ -1,12 +1,7 @@
 -- Which brand each group field names, and which field names each group brand.
 use Rattle.std.specs.Prelude.{ℕ, ◌<◌, ◌≤◌, ◌≡◌, Bool, true, false, List, length, get_or, slice_get, Option, Some, None}
-use Rattle.capnp_schema.specs.Types.{SchemaType, struct_brand}
-use Rattle.capnp_schema.specs.Schema.{Schemas, FieldKind, Slot, Group, TypedField, fields_of, node_of}
+use Rattle.capnp_schema.specs.Schema.{Schemas, TypedField, fields_of, node_of, kind_target}
 use Rattle.capnp_schema.specs.Accepted.{EndsAtStruct, IsGroupBrand}
-
-abbrev pub kind_target : FieldKind → SchemaType → Option ℕ
-kind_target (Slot offset default) t = None
-kind_target (Group node) t = struct_brand t
 
 abbrev pub entry_target : Option TypedField → Option ℕ
 entry_target None = None
