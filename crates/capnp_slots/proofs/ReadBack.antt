@@ -1,5 +1,6 @@
 -- What is read of a field after a write of it, by its handle.
-use Rattle.std.specs.Prelude.{ℕ, suc, ◌≡◌, refl, false, ◌&&◌, length}
+use Rattle.std.specs.Prelude.{ℕ, suc, ◌≡◌, refl, pos, List, Bool, true, false, ◌&&◌, ◌==◌, cond, length}
+use Rattle.capnp_device.specs.declared.error.ErrorKind.TheVariants.{TypeMismatch}
 use Rattle.std.proofs.Common.{ap, subst, sym, ◌∙◌}
 use Rattle.capnp_wire.specs.Tree.{Null, StructTree}
 use Rattle.capnp_schema.specs.FieldLists.{index_of, schema_of, typed_of}
@@ -7,9 +8,9 @@ use Rattle.capnp_schema.specs.Ranges.{HasRanges}
 use Rattle.capnp_schema.specs.Schema.{Schemas, default_of, field_at, is_member}
 use Rattle.capnp_schema.specs.Schema.{Value as SchemaValue}
 use Rattle.capnp_schema.specs.StructHandles.{IsStruct}
-use Rattle.capnp_schema.specs.Types.{AnyPointerType, DataType, ListType, SchemaType, StructType, TextType}
+use Rattle.capnp_schema.specs.Types.{AnyPointerType, BoolType, DataType, EnumType, IntType, ListType, SchemaType, StructType, TextType, UIntType, VoidType}
 use Rattle.capnp_schema.specs.declared.schema.fields.Field.{Field}
-use Rattle.capnp_records.specs.Call.{DataSource, Source, TextSource}
+use Rattle.capnp_records.specs.Call.{BoolSource, DataSource, EnumSource, IntSource, ListSource, Source, StructSource, TextSource, UIntSource}
 use Rattle.capnp_records.specs.Facts.GroupWrite.{suits-cleared}
 use Rattle.capnp_records.specs.Facts.NewTrees.{copied-given}
 use Rattle.capnp_records.specs.Facts.Numbers.{stored-given, suits-number}
@@ -20,6 +21,7 @@ use Rattle.capnp_records.specs.ReadBack.{ClearIsRead, ClearedIsActive, CopiedIsA
 use Rattle.capnp_records.specs.ReadBack.{AreApart as ArePlaces}
 use Rattle.capnp_records.specs.Reading.{struct_record}
 use Rattle.capnp_records.specs.Record as value
+use Rattle.capnp_records.specs.Record.{Value}
 use Rattle.capnp_records.specs.Writes.Contents.{SourceFits, init_tree, initn_tree, source_tree}
 use Rattle.capnp_records.specs.Writes.ElementEnds.{InitnContent}
 use Rattle.capnp_records.specs.Writes.Overlay.{cleared_content}
@@ -29,8 +31,34 @@ use Rattle.capnp_slots.specs.Fields.{IsRoomFor, IsSlot, field_brand, field_set, 
 use Rattle.capnp_slots.specs.Groups.{IsGroup}
 use Rattle.capnp_slots.specs.Inits.{init_content, initn_content}
 use Rattle.capnp_slots.specs.Primitives.{given_content, given_to, set_content}
-use Rattle.capnp_slots.specs.ReadBack.{AreApart, ClearIsActive, ClearIsGot, CopyIsActive, CopyIsGot, DataIsGot, GroupIsActive, GroupStarts, InitIsActive, InitnIsActive, IsActiveIn, NumberIsGot, OtherIsGot, OtherIsThere, PlainStays, SetIsActive, TextIsGot, got_in, member_in}
+use Rattle.capnp_slots.specs.ReadBack.{AreApart, ClearIsActive, ClearIsGot, CopyIsActive, CopyIsGot, DataIsGot, GroupIsActive, GroupStarts, HasKind, InitIsActive, InitnIsActive, IsActiveIn, IsWhole, NumberIsGot, OtherIsGot, OtherIsThere, PlainStays, SetIsActive, TextIsGot, WholeIsGot, got_in, member_in, whole_value}
 use Rattle.capnp_slots.specs.Sources.{IsSet, IsTaken}
+
+-- ---- values without parts ----
+
+-- how a slot takes such a value
+data TakesWhole (set : Schemas) (t : SchemaType) (s : Source) : Type 0 where
+  at_once : given_slot set t s ≡ Gives (whole_value s) → TakesWhole set t s
+  as_text : (bytes : List ℕ) → s ≡ TextSource bytes → TextType ≡ t → TakesWhole set t s
+  as_data : (bytes : List ℕ) → s ≡ DataSource bytes → DataType ≡ t → TakesWhole set t s
+
+-- where a test that it passed was of its size
+sized : (q : Bool) (v : Value) → IsTaken (cond q (Gives v) (Fails TypeMismatch)) → cond q (Gives v) (Fails TypeMismatch) ≡ Gives v
+sized true v taken = refl
+sized false v taken = absurd taken
+
+takes-whole : (set : Schemas) (t : SchemaType) (s : Source) → IsWhole s → HasKind t → IsTaken (given_slot set t s) → TakesWhole set t s
+takes-whole set BoolType (BoolSource b) whole kind taken = at_once refl
+takes-whole set (IntType k) (IntSource n x) whole kind taken = at_once (sized (k == n) (value.Number x) taken)
+takes-whole set (UIntType k) (UIntSource n x) whole kind taken = at_once (sized (k == n) (value.Number (pos x)) taken)
+takes-whole set (EnumType e) (EnumSource n) whole kind taken = at_once refl
+takes-whole set TextType (TextSource bytes) whole kind taken = as_text bytes refl refl
+takes-whole set DataType (DataSource bytes) whole kind taken = as_data bytes refl refl
+takes-whole set VoidType s whole kind taken = absurd kind
+takes-whole set AnyPointerType s whole kind taken = absurd kind
+takes-whole set t (StructSource l x from) whole kind taken = absurd whole
+takes-whole set t (ListSource l x e) whole kind taken = absurd whole
+takes-whole set t s whole kind taken = absurd taken
 
 -- the field of a handle
 abbrev pub IsAt : Field → Type 0
@@ -86,6 +114,14 @@ module _ (f : Field) (at : IsAt f) where
     where
       given : given_to f s ≡ Copies Null (data_past bytes) (value.Data bytes)
       given = ap (given_slot (field_set f) t) source ∙ ap (λ t. given_slot (field_set f) t (DataSource bytes)) (sym typed)
+
+  pub whole-got : NumberIsRead → TextIsRead → DataIsRead → (s : Source) → SourceFits s → WholeIsGot f s
+  whole-got numbers texts data_read s fits old new slot room is whole kind l = go (takes-whole (field_set f) t s whole kind is.taken)
+    where
+      go : TakesWhole (field_set f) t s → got_in f l new ≡ whole_value s
+      go (at_once e) = number-got numbers s fits old new slot room is (whole_value s) e l
+      go (as_text bytes e typed) = text-got texts s old new slot room is bytes e typed l ∙ sym (ap whole_value e)
+      go (as_data bytes e typed) = data-got data_read s old new slot room is bytes e typed l ∙ sym (ap whole_value e)
 
   suits-taken : (s : Source) → SourceFits s → (g : Given) → given_to f s ≡ g → IsTaken g → Suits t (given_content d t s g)
   suits-taken s fits (Gives v) e taken = suits-number d t v (stored-given (field_set f) t s v e fits) (at.ranges.masks b i at.brand at.index)

@@ -1,18 +1,19 @@
 -- What is read of a field after a write of it, by its handle: the statements of the laws.
-use Rattle.std.specs.Prelude.{ℕ, ◌<◌, ◌≡◌, ◌≢◌, List, Bool, true, false, ◌&&◌, Option, Some, length}
+use Rattle.std.specs.Prelude.{ℕ, ⊤, pos, ◌<◌, ◌≡◌, ◌≢◌, List, Bool, true, false, ◌&&◌, Option, Some, length}
 use Rattle.capnp_device.specs.declared.error.ErrorKind.{ErrorKind}
 use Rattle.capnp_wire.specs.Tree.{StructTree, Tree}
 use Rattle.capnp_schema.specs.FieldLists.{index_of, typed_of}
 use Rattle.capnp_schema.specs.Schema.{field_at, fields_of, is_member}
-use Rattle.capnp_schema.specs.Types.{TextType, DataType, struct_number}
+use Rattle.capnp_schema.specs.Types.{SchemaType, VoidType, TextType, DataType, AnyPointerType, struct_number}
 use Rattle.capnp_schema.specs.declared.schema.fields.Field.{Field}
-use Rattle.capnp_records.specs.Call.{Source, TextSource, DataSource}
+use Rattle.capnp_records.specs.Call.{Source, BoolSource, IntSource, UIntSource, EnumSource, TextSource, DataSource}
 use Rattle.capnp_records.specs.Default.{read_field}
 use Rattle.capnp_records.specs.Given.{Copies, CopiesGroup, Gives}
 use Rattle.capnp_records.specs.Part.{has_of}
 use Rattle.capnp_records.specs.ReadBack.{active_member, default_got, field_got}
 use Rattle.capnp_records.specs.Reading.{struct_record, value_of}
-use Rattle.capnp_records.specs.Record.{Levels, Value, Text, Data}
+use Rattle.capnp_records.specs.Record as value
+use Rattle.capnp_records.specs.Record.{Levels, Value}
 use Rattle.capnp_records.specs.Writes.Contents.{source_tree}
 use Rattle.capnp_records.specs.Writes.Overlay.{cleared_content}
 use Rattle.capnp_slots.specs.Fields.{IsRoomFor, IsSlot, Keeps, field_brand, field_set, names_of, slot_with}
@@ -44,6 +45,35 @@ IsActiveIn f s = is_member (typed_of f).field ≡ true → (l : Levels) → memb
 abbrev pub NumberIsGot : Field → Source → Type 0
 NumberIsGot f s = (old new : StructTree) → IsSlot f → IsRoomFor f old → IsSet f s old new → (v : Value) → given_to f s ≡ Gives v → (l : Levels) → got_in f l new ≡ v
 
+-- what a value is that has no parts of its own: a truth value, a number, an enum's number, a text or data
+abbrev pub IsWhole : Source → Type 0
+IsWhole (BoolSource b) = ⊤
+IsWhole (IntSource bytes x) = ⊤
+IsWhole (UIntSource bytes n) = ⊤
+IsWhole (EnumSource n) = ⊤
+IsWhole (TextSource bytes) = ⊤
+IsWhole (DataSource bytes) = ⊤
+IsWhole s = ⊥
+
+abbrev pub whole_value : Source → Value
+whole_value (BoolSource b) = value.Truth b
+whole_value (IntSource bytes x) = value.Number x
+whole_value (UIntSource bytes n) = value.Number (pos n)
+whole_value (EnumSource n) = value.Enum n
+whole_value (TextSource bytes) = value.Text bytes
+whole_value (DataSource bytes) = value.Data bytes
+whole_value s = value.Void
+
+-- a type whose slots take values of one kind alone: all but Void and untyped pointers
+abbrev pub HasKind : SchemaType → Type 0
+HasKind VoidType = ⊥
+HasKind AnyPointerType = ⊥
+HasKind t = ⊤
+
+-- such a value that was set into a slot of such a type is read
+abbrev pub WholeIsGot : Field → Source → Type 0
+WholeIsGot f s = (old new : StructTree) → IsSlot f → IsRoomFor f old → IsSet f s old new → IsWhole s → HasKind (typed_of f).type → (l : Levels) → got_in f l new ≡ whole_value s
+
 -- what is copied is read as the slot's type reads it
 abbrev pub CopyIsGot : Field → Source → Type 0
 CopyIsGot f s = (old new : StructTree) → IsSlot f → IsRoomFor f old → IsSet f s old new → (x : Tree) (past : Bool) (v : Value) → given_to f s ≡ Copies x past v → (l : Levels) →
@@ -51,10 +81,10 @@ CopyIsGot f s = (old new : StructTree) → IsSlot f → IsRoomFor f old → IsSe
 
 -- so a text is read as its bytes, and data
 abbrev pub TextIsGot : Field → Source → Type 0
-TextIsGot f s = (old new : StructTree) → IsSlot f → IsRoomFor f old → IsSet f s old new → (bytes : List ℕ) → s ≡ TextSource bytes → TextType ≡ (typed_of f).type → (l : Levels) → got_in f l new ≡ Text bytes
+TextIsGot f s = (old new : StructTree) → IsSlot f → IsRoomFor f old → IsSet f s old new → (bytes : List ℕ) → s ≡ TextSource bytes → TextType ≡ (typed_of f).type → (l : Levels) → got_in f l new ≡ value.Text bytes
 
 abbrev pub DataIsGot : Field → Source → Type 0
-DataIsGot f s = (old new : StructTree) → IsSlot f → IsRoomFor f old → IsSet f s old new → (bytes : List ℕ) → s ≡ DataSource bytes → DataType ≡ (typed_of f).type → (l : Levels) → got_in f l new ≡ Data bytes
+DataIsGot f s = (old new : StructTree) → IsSlot f → IsRoomFor f old → IsSet f s old new → (bytes : List ℕ) → s ≡ DataSource bytes → DataType ≡ (typed_of f).type → (l : Levels) → got_in f l new ≡ value.Data bytes
 
 -- a member that was set is the active one
 abbrev pub SetIsActive : Field → Source → Type 0

@@ -3,7 +3,7 @@
 ghost use Rattle.capnp_schema.specs.FieldLists.{index_of};
 ghost use Rattle.capnp_records.specs.Laws.{IsFieldAt};
 ghost use Rattle.capnp_slots.specs.Fields.{field_brand, field_set};
-ghost use Rattle.capnp_slots.specs.ReadBack.{ClearIsActive, ClearIsGot, CopyIsActive, CopyIsGot, DataIsGot, GroupIsActive, GroupStarts, InitIsActive, InitnIsActive, NumberIsGot, OtherIsGot, OtherIsThere, PlainStays, SetIsActive, TextIsGot};
+ghost use Rattle.capnp_slots.specs.ReadBack.{ClearIsActive, ClearIsGot, CopyIsActive, CopyIsGot, DataIsGot, GroupIsActive, GroupStarts, InitIsActive, InitnIsActive, NumberIsGot, OtherIsGot, OtherIsThere, PlainStays, SetIsActive, TextIsGot, WholeIsGot};
 ghost use Rattle.capnp_slots.specs.Sources.{source_seen};
 
 use crate::source::{Source, source_fits};
@@ -21,10 +21,11 @@ fn field_stands(field: Field<'_>)
     numbers_fit(schema.get_set());
 }
 
-/// After a set of a slot, what was given at once, as a number, a truth value or an enum's number, is read as it was given; a
-/// text or data in a slot of its kind as its bytes; and what else was copied as the slot's type reads it. A member is the
-/// active one.
+/// After a set of a slot of a kind, which Void and untyped pointers have none of, to a number, a truth value, an enum's
+/// number, a text or data, this value is read. Of all slots, what was given at once is read as it was given, a text or data
+/// in a slot of its kind as its bytes, and what else was copied as the slot's type reads it. A member is the active one.
 pub fn sets_are_read(field: Field<'_>, source: Source<'_>)
+    ensures values { WholeIsGot field.entry (source_seen source.entry) }
     ensures numbers { NumberIsGot field.entry (source_seen source.entry) }
     ensures copies { CopyIsGot field.entry (source_seen source.entry) }
     ensures texts { TextIsGot field.entry (source_seen source.entry) }
