@@ -37,13 +37,13 @@ impl<'s> Field<'s> {
     ghost use Rattle.capnp_wire.specs.Standing.{levels_of, tree_of};
     ghost use Rattle.capnp_wire.specs.Tree.{Null};
     ghost use Rattle.std.specs.Option.{option_map};
-    ghost use Rattle.capnp_schema.specs.Defaults.{DefaultFits, default_tree};
+    ghost use Rattle.capnp_schema.specs.Defaults.{DefaultFits};
     ghost use Rattle.capnp_schema.specs.GroupsDown.{IfGroup, IsGroupIn, LeadsToGroup};
     ghost use Rattle.capnp_schema.specs.Plan.{IsPlan, plan_of};
     ghost use Rattle.capnp_schema.specs.Schema.{default_of, kind_target};
     ghost use Rattle.capnp_schema.specs.Views.{IsViewOf};
     ghost use Rattle.capnp_schema.specs.StructHandles.{IsStruct, number_of};
-    ghost use Rattle.capnp_schema.specs.Annotated.{annotations_of, field_annotations};
+    ghost use Rattle.capnp_schema.specs.Annotated.{annotations_of};
     ghost use Rattle.capnp_schema.specs.AnnotationLists.{annotations_in, annotations_set};
     ghost use Rattle.capnp_schema.specs.FieldLists.{IsFieldOf, index_of, schema_of, typed_of, default_behind, field_annotated};
 
