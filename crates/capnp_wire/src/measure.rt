@@ -123,6 +123,7 @@ fn measure_list(object: &ListObject) -> Option<u64>
             let below = measure_elements(*size, elements.as_slice())?;
             add(get_composite_words(*size, count as u32), below)
         }
+        ListObject::EmptyStructs(count, _) => { if *count < 1 << 29 { Some(1) } else { None } }
     }
 }
 

@@ -193,6 +193,7 @@ fn total_list_object(object: &ListObject) -> Total
             let own = total_own_words(*size, elements.len())?;
             add(own, total_struct_objects(elements.as_slice())?)
         }
+        ListObject::EmptyStructs(_, _) => Ok(1),
     }
 }
 
