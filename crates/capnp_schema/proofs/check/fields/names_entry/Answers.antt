@@ -1,4 +1,4 @@
-use Rattle.std.proofs.Common.{arith}
+use Rattle.std.proofs.Common.{arith, rules}
 use Rattle.std.proofs.lemmas.Bool.{ltb-true, lt-ltb}
 use Rattle.std.proofs.lemmas.List.{length-map}
 use Rattle.capnp_base.specs.declared.introspect.TypeVariant.TheVariants as variant
@@ -8,7 +8,7 @@ use Rattle.capnp_schema.proofs.Checking.InnermostTypes.{names_innermost, other_n
 use Rattle.capnp_schema.proofs.check.fields.names_entry.Goals as goal
 
 pub returns-in-Struct : goal.returns-in-Struct
-returns-in-Struct c = names_innermost (lists_seen c.args.lists.now) c.args.of.now (variant.Struct c.in-Struct.schema) c.brand_is.result c.in-Struct.ensures c.brand_is.ensures
+returns-in-Struct c = names_innermost (lists_seen c.args.lists.now) c.args.of.now (variant.Struct c.in-Struct.schema) _ c.in-Struct.ensures (search rules)
 
 pub returns-in-Enum : goal.returns-in-Enum
 returns-in-Enum c = let l = length-map c.args.lists.now.enums.items seen_enum in
