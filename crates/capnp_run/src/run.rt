@@ -1,5 +1,5 @@
 //! Lists of calls on a struct that is built.
-ghost use Rattle.std.specs.Prelude.{◌≡◌, IfErr, IfOk, OnErr, map};
+ghost use Rattle.std.specs.Prelude.{All, ◌≡◌, ◌≢◌, IfErr, IfOk, OnErr, map};
 ghost use Rattle.capnp_device.specs.declared.error.ErrorKind.TheVariants.{OutOfMemory};
 ghost use Rattle.capnp_wire.specs.Objects.{struct_object_tree};
 ghost use Rattle.capnp_wire.specs.Place.{struct_tree};
@@ -11,6 +11,7 @@ ghost use Rattle.capnp_records.specs.Writes.Slots.{Fits};
 ghost use Rattle.capnp_records.specs.Writes.TreeEnds.{TreeStep};
 ghost use Rattle.capnp_slots.specs.Groups.{KeepsSize};
 ghost use Rattle.capnp_dynamic.specs.Built.{IsReady, built_schema, built_struct};
+ghost use Rattle.capnp_run.specs.Memory.{RunRests};
 ghost use Rattle.capnp_run.specs.Runs.{Makes, RunsFrom};
 ghost use Rattle.capnp_run.specs.Seen.{call_seen, reply_seen};
 
@@ -73,7 +74,8 @@ fn make_calls(
 /// Makes calls along paths of a struct, one after another, and gives one reply to each, in order. A refused call doesn't end
 /// the run, and leaves the nulls filled that the steps before the refusal filled.
 ///
-/// Refused with `OutOfMemory` where there is no room for the replies, and then nothing has changed.
+/// Refused with `OutOfMemory` where there is no room for the replies, and then nothing has changed. Once there is, no reply is
+/// `OutOfMemory` where no call takes memory.
 pub fn run_on(
     alloc: Global,
     object: &mut StructObject,
@@ -84,6 +86,7 @@ pub fn run_on(
     requires fits { Fits (set_of schema) (number_of schema) (struct_object_tree object.old) }
     requires formed { IsWellFormed (struct_tree (struct_object_tree object.old)) }
     ensures runs { IfOk result (λ replies. Run (set_of schema.entry) (number_of schema.entry) (reads (set_of schema.entry) (struct_object_tree object.old) (number_of schema.entry)) (map call_seen calls.now) (map reply_seen replies.items) (reads (set_of schema.entry) (struct_object_tree object.new) (number_of schema.entry))) }
+    ensures rests { IfOk result (λ replies. RunRests schema.entry (struct_object_tree object.old) calls.now → All (λ r. r ≢ Reply.Refused OutOfMemory) replies.items) }
     ensures kept { KeepsSize (struct_object_tree object.old) (struct_object_tree object.new) }
     ensures refused { OnErr result (object.new ≡ object.old) }
     ensures cause { IfErr result (λ e. e.kind ≡ OutOfMemory) }

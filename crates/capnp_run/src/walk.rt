@@ -1,5 +1,6 @@
 //! The walk of a path: a step after another, each into a part of what the one before it entered.
-ghost use Rattle.std.specs.Prelude.{IsTrue, ◌≡◌, ◌<◌, ◌∷◌, false};
+ghost use Rattle.std.specs.Prelude.{IsTrue, ◌≡◌, ◌≢◌, ◌<◌, ◌∷◌, false};
+ghost use Rattle.capnp_device.specs.declared.error.ErrorKind.TheVariants.{OutOfMemory};
 ghost use Rattle.capnp_wire.specs.Edits.{is_struct, struct_in};
 ghost use Rattle.capnp_wire.specs.Objects.{list_object_tree, object_tree, struct_object_tree};
 ghost use Rattle.capnp_wire.specs.Place.{struct_tree};
@@ -15,6 +16,7 @@ ghost use Rattle.capnp_records.specs.Writes.Slots.{Fits};
 ghost use Rattle.capnp_slots.specs.Fields.{IsRoomFor};
 ghost use Rattle.capnp_slots.specs.Groups.{IsGroupAt, KeepsSize};
 ghost use Rattle.capnp_run.specs.Lists.{ElementWalks, IsListStand, ListWalks, refusal_at_nothing};
+ghost use Rattle.capnp_run.specs.Memory.{PathRests};
 ghost use Rattle.capnp_run.specs.Seen.{step_seen};
 ghost use Rattle.capnp_run.specs.Walks.{FieldWalks, IsWalked, StructWalks};
 ghost use Rattle.capnp_run.specs.Ways.{IsListSlot, IsStructSlot, LeadsTo};
@@ -39,7 +41,8 @@ use capnp_wire::object::{ListObject, Object, StructObject};
 /// then as `way::way_of`, and then as `enter::enter_struct` and `enter::enter_list`; at a list with `NotAContainer` where it
 /// names a field, then with `NoSuchElement` past the end, then with `UntypedStep` into an untyped element and with
 /// `NotAContainer` into another one that is no struct or list. The end is refused as `end::end_at_struct` and
-/// `list_end::end_at_list`. What the steps before a refusal filled stays.
+/// `list_end::end_at_list`. What the steps before a refusal filled stays. Where nothing has to be filled or extended behind a
+/// step and the operation takes no memory, nothing is refused with `OutOfMemory`.
 #[cycle(walk)]
 pub fn walk(
     object: &mut StructObject,
@@ -51,6 +54,7 @@ pub fn walk(
     requires fits { Fits (set_of schema) (number_of schema) (struct_object_tree object.old) }
     requires formed { IsWellFormed (struct_tree (struct_object_tree object.old)) }
     ensures walks { StructWalks (set_of schema.entry) (number_of schema.entry) path.now end.entry (struct_object_tree object.old) result (struct_object_tree object.new) }
+    ensures rests { PathRests schema.entry path.now end.entry (struct_object_tree object.old) → result ≢ Reply.Refused OutOfMemory }
     ensures kept { KeepsSize (struct_object_tree object.old) (struct_object_tree object.new) }
 {
     let Some((step, rest)) = path.split_first() else {

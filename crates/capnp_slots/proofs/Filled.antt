@@ -37,10 +37,10 @@ use Rattle.capnp_records.specs.Facts.Frame.{second-of}
 use Rattle.capnp_records.specs.Facts.Pointers.{with_tree-same}
 use Rattle.capnp_records.specs.Writes.TreeCopy.{or_else}
 use Rattle.capnp_records.specs.Step.{is_group_field}
-use Rattle.capnp_records.specs.Writes.Fill.{default_struct, entered_list, filled_struct, or_default}
+use Rattle.capnp_records.specs.Writes.Fill.{IsAtRest, default_struct, entered_list, filled_struct, or_default}
 use Rattle.capnp_records.specs.Writes.Slots.{brand_size}
 use Rattle.capnp_slots.specs.Fields.{IsSlot}
-use Rattle.capnp_slots.specs.Fills.{IsAtRest, IsDefaultPointer, ListRests, data_filled, fill_due, list_due, text_filled}
+use Rattle.capnp_slots.specs.Fills.{IsDefaultPointer, ListRests, data_filled, fill_due, list_due, text_filled}
 
 -- ---- the pointer of a default ----
 

@@ -16,9 +16,9 @@ use Rattle.capnp_schema.specs.Accepted.{Decodes, IsDefaultOf}
 use Rattle.capnp_schema.specs.Defaults.{IsReadAs, default_tree}
 use Rattle.capnp_schema.specs.Schema.{Schemas, Value, default_of}
 use Rattle.capnp_schema.specs.Types.{SchemaType, VoidType, BoolType, IntType, UIntType, EnumType, TextType, DataType, StructType, ListType, AnyPointerType, element_size, seen_type, seen_variant}
-use Rattle.capnp_records.specs.Writes.Fill.{entered_list}
+use Rattle.capnp_records.specs.Writes.Fill.{IsAtRest, entered_list}
 use Rattle.capnp_records.specs.Writes.Slots.{brand_size}
-use Rattle.capnp_slots.specs.Fills.{IsAtRest, IsDefaultPointer, ListRests, RestsIn, due_in, fill_due, filled_in, filled_tree, list_due, pointer_in}
+use Rattle.capnp_slots.specs.Fills.{IsDefaultPointer, ListRests, RestsIn, due_in, fill_due, filled_in, filled_tree, list_due, pointer_in}
 use Rattle.capnp_slots.specs.Fields.{IsSlot, field_set, pointer_index}
 use Rattle.capnp_slots.proofs.Filled.{default-is, list-due, list-filled, struct-due, structs-due}
 

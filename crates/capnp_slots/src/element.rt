@@ -17,11 +17,11 @@ ghost use Rattle.capnp_schema.specs.StructHandles.{number_of};
 ghost use Rattle.capnp_records.specs.Given.{Fails, given_element, given_slot};
 ghost use Rattle.capnp_records.specs.Writes.ElementEnds.{HasRoom, InitnContent, element_written, with_element_number};
 ghost use Rattle.capnp_slots.specs.ElementSets.{IsBlobOrList, IsElementInitRefusal, IsElementSet, NoStruct, TakesInto};
-ghost use Rattle.capnp_slots.specs.Fills.{ElementRests, IsAtRest, element_due, element_filled, fill_due, is_behind};
+ghost use Rattle.capnp_slots.specs.Fills.{ElementRests, element_due, element_filled, fill_due, is_behind};
 ghost use Rattle.capnp_slots.specs.Primitives.{IsGivenAs, primitive_source};
 ghost use Rattle.capnp_slots.specs.Sources.{IsCopyDue, IsPointed, IsSetRefusal, IsSoundCopy, source_seen};
 ghost use Rattle.capnp_records.specs.Writes.Contents.{initn_tree, source_tree};
-ghost use Rattle.capnp_records.specs.Writes.Fill.{entered_list};
+ghost use Rattle.capnp_records.specs.Writes.Fill.{IsAtRest, entered_list};
 ghost use Rattle.capnp_records.specs.Writes.Slots.{At};
 ghost use Rattle.capnp_slots.specs.Inits.{IsInitnRefusal, is_sized};
 

@@ -22,17 +22,19 @@ use Rattle.capnp_schema.specs.Ranges.{HasRanges}
 use Rattle.capnp_schema.specs.Schema.{Schemas, VoidValue, brand_at}
 use Rattle.capnp_schema.specs.StructHandles.{generic_of, number_of, set_of}
 use Rattle.capnp_schema.specs.Types.{ListType, SchemaType, StructType, seen_type, seen_variant}
-use Rattle.capnp_records.specs.Writes.Fill.{entered_list}
+use Rattle.capnp_records.specs.Writes.Fill.{IsAtRest, entered_list}
 use Rattle.capnp_records.specs.Writes.Slots.{Fits}
 use Rattle.capnp_slots.specs.Fields.{field_set, pointer_index}
-use Rattle.capnp_slots.specs.Fills.{IsAtRest, fill_due, filled_in}
+use Rattle.capnp_slots.specs.Fills.{fill_due, filled_in}
 use Rattle.capnp_slots.specs.Groups.{KeepsSize}
 use Rattle.capnp_run.proofs.ListWalks.{element_in_list, element_in_struct, element_list_stops, element_past, element_there, filled_there, fits_at, has_pointer, has_struct, list_end, names_none, other_stops, untyped_stops}
+use Rattle.capnp_run.proofs.NoMemory.{path_rests}
 use Rattle.capnp_run.proofs.Parts.{IsStructHere, element_formed, inner_stands, object_kept, pointer_formed, struct_here}
 use Rattle.capnp_run.proofs.Walking.{field_group, field_list, field_refused, field_stops, field_struct, pointer_again, pointer_keeps, step_found, step_missing, walks_end}
 use Rattle.capnp_run.specs.Lists.{ElementWalks, IsListStand, ListWalks}
 use Rattle.capnp_run.specs.Walks.{FieldWalks, StructWalks}
 use Rattle.capnp_run.specs.declared.calls.Reply.TheVariants as reply
+use Rattle.capnp_run.specs.declared.calls.Step.{Step}
 use Rattle.capnp_run.specs.declared.calls.Step.TheVariants as step
 use Rattle.capnp_run.proofs.walk.+walk.Goals as goal
 
@@ -48,6 +50,19 @@ pub walk-returns-in_default-clause-walks : goal.walk-returns-in_default-clause-w
 walk-returns-in_default-clause-walks t c =
     walks_end (set_of c.args.schema) (number_of c.args.schema) c.args.path.now c.args.end (struct_object_tree c.args.object.now) c.end_at_struct.result (struct_object_tree c.end_at_struct.new.object)
     (nil_from_length c.args.path.now c.in_default.ensures.cases) c.end_at_struct.ensures.ends
+
+pub walk-returns-in_default-clause-rests : goal.walk-returns-in_default-clause-rests
+walk-returns-in_default-clause-rests t c =
+    path_rests c.args.schema c.args.path.now c.args.end (struct_object_tree c.args.object.now) c.end_at_struct.result (struct_object_tree c.end_at_struct.new.object)
+    (walks_end (set_of c.args.schema) (number_of c.args.schema) c.args.path.now c.args.end (struct_object_tree c.args.object.now) c.end_at_struct.result (struct_object_tree c.end_at_struct.new.object)
+    (nil_from_length c.args.path.now c.in_default.ensures.cases) c.end_at_struct.ensures.ends)
+
+pub walk-returns-clause-rests : goal.walk-returns-clause-rests
+walk-returns-clause-rests t c =
+    let s = struct_object_tree c.args.object.now in
+    let s' = struct_object_tree c.walk_step.new.object in
+    path_rests c.args.schema c.args.path.now c.args.end s c.walk_step.result s'
+    (subst (λ (path : List Step). StructWalks (set_of c.args.schema) (number_of c.args.schema) path c.args.end s c.walk_step.result s') (sym c.in-Some.ensures.cases.0) c.walk_step.ensures.walks)
 
 pub walk_step-returns-in-Err-clause-walks : goal.walk_step-returns-in-Err-clause-walks
 walk_step-returns-in-Err-clause-walks t c = step_missing c.args.schema c.args.step c.args.rest.now c.args.end (struct_object_tree c.args.object.now) c.in-Err.error c.in-Err.ensures.found

@@ -1,5 +1,5 @@
--- What a value or a text is refused with is a number of reads, and never that of a device.
-use Rattle.std.specs.Prelude.{ℕ, zero, suc, ◌≡◌, ◌≢◌, ⊤, List, [], ◌∷◌, Bool, true, false, cond, ◌&&◌, ◌==◌, Result, Ok, Err, get_or, length, take, ◌-◌, Option, Some, None}
+-- What a value is refused with is a number of reads, and never that of memory or of a device.
+use Rattle.std.specs.Prelude.{ℕ, zero, suc, ◌≡◌, refl, ⊤, List, [], ◌∷◌, Bool, true, false, cond, ◌&&◌, ◌==◌, Result, Ok, Err, get_or, length, take, ◌-◌, Option, Some, None}
 use Rattle.capnp_device.specs.declared.error.ErrorKind.{ErrorKind}
 use Rattle.capnp_device.specs.declared.error.ErrorKind.TheVariants.{BadPointer, CapabilityPointer, TextNotTerminated, TooDeep, WrongElementSize, WrongPointerKind}
 use Rattle.capnp_wire.specs.Reading.{as_data, as_list, as_struct, as_text, empty_list, is_null_tree, list_length, reads_bits, reads_numbers, reads_pointers, reads_structs, reads_voids, refusal, terminated_text, with_level}
@@ -9,50 +9,45 @@ use Rattle.capnp_wire.specs.declared.fault.Fault.{Fault}
 use Rattle.capnp_wire.specs.declared.fault.Fault.TheVariants as fault
 use Rattle.capnp_wire.specs.declared.size.ElementSize.{ElementSize}
 use Rattle.capnp_schema.specs.Accepted.{root_of}
-use Rattle.capnp_schema.specs.Schema.{DataValue, FieldKind, Group, ListValue, Node, Schemas, Slot, StructValue, TextValue, TypedField, fields_of, is_member, node_of}
+use Rattle.capnp_schema.specs.Schema.{DataValue, Field, FieldKind, Group, ListValue, Node, Schemas, Slot, StructValue, TextValue, TypedField, fields_of, is_member, node_of}
 use Rattle.capnp_schema.specs.Schema.{Value as SchemaValue}
 use Rattle.capnp_schema.specs.SlotValue.{slot_number}
 use Rattle.capnp_schema.specs.Types.{AnyPointerType, BoolType, DataType, EnumType, IntType, ListType, SchemaType, StructType, TextType, UIntType, VoidType, element_size, is_pointer, struct_brand}
+use Rattle.capnp_records.specs.Part.{active_value, nth_value, part_at}
 use Rattle.capnp_records.specs.Default.{default_levels, default_value, empty_value, read_of, unless_null}
-use Rattle.capnp_records.specs.Reading.{Below, Body, Reading, active_among, bodies_of, bytes_below, discriminant, element_value, elements_value, entered, first_pointer, group_record, kind_value, nth_body, nth_reading, null, number_value, of_read, only_reading, plain_parts, pointers_below, record_of, record_within, slot_value, struct_below, structs_below, tree_value, union_of, value_of, values_of}
+use Rattle.capnp_records.specs.Reading.{Below, Body, Reading, active_among, bodies_of, bytes_below, discriminant, element_value, elements_value, entered, first_pointer, group_record, kind_value, nth_body, nth_reading, null, number_value, of_read, only_reading, plain_parts, pointers_below, reads, record_of, record_within, slot_value, struct_below, structs_below, tree_value, union_of, value_of, values_of}
 use Rattle.capnp_records.specs.Record as value
-use Rattle.capnp_show.specs.Show.{IsOfRead}
-use Rattle.capnp_records.specs.Record.{Active, Levels, MoreValues, NoUnion, NoValues, Parts, Record, Union, Unknown, Value, Values, asked, is_there, one_less, values_from}
+use Rattle.capnp_records.specs.Record.{Active, Endless, Levels, MoreValues, NoUnion, NoValues, Parts, Record, Union, Unknown, Value, Values, asked, is_there, one_less, values_from}
 
-bad : IsOfRead BadPointer
-bad = ((λ e. cc), (λ e. cc))
+-- the kinds that a read of a tree is refused with
+abbrev pub is_read_kind : ErrorKind → Bool
+is_read_kind BadPointer = true
+is_read_kind WrongPointerKind = true
+is_read_kind WrongElementSize = true
+is_read_kind TextNotTerminated = true
+is_read_kind TooDeep = true
+is_read_kind CapabilityPointer = true
+is_read_kind kind = false
 
-pub deep : IsOfRead TooDeep
-deep = ((λ e. cc), (λ e. cc))
-
-capability : IsOfRead CapabilityPointer
-capability = ((λ e. cc), (λ e. cc))
-
-wrong_kind : IsOfRead WrongPointerKind
-wrong_kind = ((λ e. cc), (λ e. cc))
-
-wrong_size : IsOfRead WrongElementSize
-wrong_size = ((λ e. cc), (λ e. cc))
-
-open_text : IsOfRead TextNotTerminated
-open_text = ((λ e. cc), (λ e. cc))
+abbrev pub IsReadKind : ErrorKind → Type 0
+IsReadKind kind = is_read_kind kind ≡ true
 
 -- ---- reads of a tree ----
 
 abbrev pub Told : {A : Type 0} → Result A ErrorKind → Type 0
 Told (Ok a) = ⊤
-Told (Err kind) = IsOfRead kind
+Told (Err kind) = IsReadKind kind
 
-of_fault : (k : Fault) → IsOfRead (refusal k)
-of_fault fault.BadPointer = bad
-of_fault fault.TooDeep = deep
-of_fault fault.CapabilityPointer = capability
+of_fault : (k : Fault) → IsReadKind (refusal k)
+of_fault fault.BadPointer = refl
+of_fault fault.TooDeep = refl
+of_fault fault.CapabilityPointer = refl
 
 with_level-told : {A : Type 0} (n : ℕ) (r : Result A ErrorKind) → Told r → Told (with_level n r)
 with_level-told n r h = go (n == 0)
   where
     go : (q : Bool) → Told (cond q (Err TooDeep) r)
-    go true = deep
+    go true = refl
     go false = h
 
 either-told : {A : Type 0} (q : Bool) (r s : Result A ErrorKind) → Told r → Told s → Told (cond q r s)
@@ -62,19 +57,19 @@ either-told false r s h k = k
 as_struct-told : (x : Tree) (n : ℕ) → Told (as_struct x n)
 as_struct-told tree.Null n = with_level-told n _ tt
 as_struct-told (tree.Struct bytes ps) n = with_level-told n _ tt
-as_struct-told (tree.Voids m) n = with_level-told n _ wrong_kind
-as_struct-told (tree.Bits bs) n = with_level-told n _ wrong_kind
-as_struct-told (tree.Numbers w bytes) n = with_level-told n _ wrong_kind
-as_struct-told (tree.Pointers ps) n = with_level-told n _ wrong_kind
-as_struct-told (tree.Composite d p es) n = with_level-told n _ wrong_kind
+as_struct-told (tree.Voids m) n = with_level-told n _ refl
+as_struct-told (tree.Bits bs) n = with_level-told n _ refl
+as_struct-told (tree.Numbers w bytes) n = with_level-told n _ refl
+as_struct-told (tree.Pointers ps) n = with_level-told n _ refl
+as_struct-told (tree.Composite d p es) n = with_level-told n _ refl
 as_struct-told (tree.FaultLeaf k) n = of_fault k
 
 list_if-told : (q : Bool) (x : Tree) (n : ℕ) → Told (with_level n (cond q (Ok x) (Err WrongElementSize)))
-list_if-told q x n = with_level-told n _ (either-told q (Ok x) (Err WrongElementSize) tt wrong_size)
+list_if-told q x n = with_level-told n _ (either-told q (Ok x) (Err WrongElementSize) tt refl)
 
 as_list-told : (size : ElementSize) (x : Tree) (n : ℕ) → Told (as_list size x n)
 as_list-told size tree.Null n = with_level-told n _ tt
-as_list-told size (tree.Struct bytes ps) n = with_level-told n _ wrong_kind
+as_list-told size (tree.Struct bytes ps) n = with_level-told n _ refl
 as_list-told size (tree.Voids m) n = list_if-told (reads_voids size) (tree.Voids m) n
 as_list-told size (tree.Bits bs) n = list_if-told (reads_bits size) (tree.Bits bs) n
 as_list-told size (tree.Numbers w bytes) n = list_if-told (reads_numbers size w) (tree.Numbers w bytes) n
@@ -83,26 +78,26 @@ as_list-told size (tree.Composite d p es) n = list_if-told (reads_structs size d
 as_list-told size (tree.FaultLeaf k) n = of_fault k
 
 terminated-told : (bytes : List ℕ) → Told (terminated_text bytes)
-terminated-told bytes = either-told (get_or bytes (length bytes - 1) 1 == 0) (Ok (take (length bytes - 1) bytes)) (Err TextNotTerminated) tt open_text
+terminated-told bytes = either-told (get_or bytes (length bytes - 1) 1 == 0) (Ok (take (length bytes - 1) bytes)) (Err TextNotTerminated) tt refl
 
 as_text-told : (x : Tree) → Told (as_text x)
 as_text-told tree.Null = tt
-as_text-told (tree.Struct bytes ps) = wrong_kind
-as_text-told (tree.Voids n) = wrong_size
-as_text-told (tree.Bits bs) = wrong_size
-as_text-told (tree.Numbers w bytes) = either-told (w == 1) (terminated_text bytes) (Err WrongElementSize) (terminated-told bytes) wrong_size
-as_text-told (tree.Pointers ps) = wrong_size
-as_text-told (tree.Composite d p es) = wrong_size
+as_text-told (tree.Struct bytes ps) = refl
+as_text-told (tree.Voids n) = refl
+as_text-told (tree.Bits bs) = refl
+as_text-told (tree.Numbers w bytes) = either-told (w == 1) (terminated_text bytes) (Err WrongElementSize) (terminated-told bytes) refl
+as_text-told (tree.Pointers ps) = refl
+as_text-told (tree.Composite d p es) = refl
 as_text-told (tree.FaultLeaf k) = of_fault k
 
 as_data-told : (x : Tree) → Told (as_data x)
 as_data-told tree.Null = tt
-as_data-told (tree.Struct bytes ps) = wrong_kind
-as_data-told (tree.Voids n) = wrong_size
-as_data-told (tree.Bits bs) = wrong_size
-as_data-told (tree.Numbers w bytes) = either-told (w == 1) (Ok bytes) (Err WrongElementSize) tt wrong_size
-as_data-told (tree.Pointers ps) = wrong_size
-as_data-told (tree.Composite d p es) = wrong_size
+as_data-told (tree.Struct bytes ps) = refl
+as_data-told (tree.Voids n) = refl
+as_data-told (tree.Bits bs) = refl
+as_data-told (tree.Numbers w bytes) = either-told (w == 1) (Ok bytes) (Err WrongElementSize) tt refl
+as_data-told (tree.Pointers ps) = refl
+as_data-told (tree.Composite d p es) = refl
 as_data-told (tree.FaultLeaf k) = of_fault k
 
 -- ---- values whose faults are those of reads ----
@@ -112,7 +107,7 @@ abbrev mutual
   Sound (value.Struct r) = RecordSound r
   Sound (value.Group r) = RecordSound r
   Sound (value.Elements vs) = AllSound vs
-  Sound (value.Fault kind) = IsOfRead kind
+  Sound (value.Fault kind) = IsReadKind kind
   Sound v = ⊤
 
   pub AllSound : Values → Type 0
@@ -147,7 +142,7 @@ entered-sound : (l : Levels) (v : Value) → Sound v → Sound (entered l v)
 entered-sound l v h = go (asked l == 0)
   where
     go : (q : Bool) → Sound (elim q as (λ _. Value) [ true ↦ value.Fault TooDeep | false ↦ v ])
-    go true = deep
+    go true = refl
     go false = h
 
 row-sound : (f : ℕ → Value) → ((i : ℕ) → Sound (f i)) → (a n : ℕ) → AllSound (values_from f a n)
@@ -335,3 +330,25 @@ module _ (set : Schemas) where
   pub read_of-sound : (d : SchemaValue) (t : SchemaType) (v : Value) → Sound v → Sound (read_of set d t v)
   read_of-sound d t (value.Missing l) h = default-sound l d t
   read_of-sound d t v h = h
+
+  -- ---- a record's parts ----
+
+  pub reads-sound : (s : StructTree) (b : ℕ) → RecordSound (reads set s b)
+  reads-sound s b = record-sound Endless s.bytes (values_of set s.pointers) (values_of-sound s.pointers) (suc (length set.brands)) b
+
+pub nth-value-sound : (vs : Values) → AllSound vs → (i : ℕ) → Sound (nth_value vs i)
+nth-value-sound NoValues h i = tt
+nth-value-sound (MoreValues v vs) h zero = h.0
+nth-value-sound (MoreValues v vs) h (suc i) = nth-value-sound vs h.1 i
+
+active-value-sound : (u : Union) → UnionSound u → Sound (active_value u)
+active-value-sound NoUnion h = tt
+active-value-sound (Active i v) h = h
+active-value-sound (Unknown n) h = tt
+
+pub part-sound : (r : Record) → RecordSound r → (f : Field) (i : ℕ) → Sound (part_at r f i)
+part-sound (Parts vs u) h f i = go (is_member f)
+  where
+    go : (q : Bool) → Sound (elim q as (λ _. Value) [ true ↦ active_value u | false ↦ nth_value vs i ])
+    go true = active-value-sound u h.1
+    go false = nth-value-sound vs h.0 i
