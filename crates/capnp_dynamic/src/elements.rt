@@ -26,7 +26,8 @@ pub(crate) fn read_element<'a>(
     variant: TypeVariant,
     index: u32,
 ) -> Result<Value<'a>>
-    ensures value { answered result ≡ read_of (lists_seen set.now) VoidValue (seen_variant variant) (element_read (lists_seen set.now) (list_of list.now) (list_levels list.now) (seen_variant variant) index) }
+    ensures value { answered result ≡ read_of (lists_seen set.now) VoidValue (seen_variant variant)
+        (element_read (lists_seen set.now) (list_of list.now) (list_levels list.now) (seen_variant variant) index) }
     ensures under { IfOk result (IsUnder (lists_seen set.now) (seen_variant variant)) }
     ensures typed { NamesEntries (lists_seen set.now) (seen_variant variant) → IfOk result (IsOf (lists_seen set.now) (seen_variant variant)) }
 {

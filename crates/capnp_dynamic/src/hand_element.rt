@@ -41,7 +41,8 @@ fn struct_at<'a>(
 ) -> dynamic_value::Builder<'a>
     requires under { IsListUnder (lists_seen set.now) (StructType raw.number raw.generic) (list_object_tree builder.old) }
     requires inside { index < list_length (list_object_tree builder.old) }
-    ensures stands { HandsOut false (lists_seen set.now) (StructType raw.number raw.generic) (struct_tree (element_struct (list_object_tree builder.old) index)) result }
+    ensures stands { HandsOut false (lists_seen set.now) (StructType raw.number raw.generic)
+        (struct_tree (element_struct (list_object_tree builder.old) index)) result }
     ensures ready { CanBeRead result }
 {
     structs_of_lists_are_well_formed();
@@ -80,9 +81,11 @@ fn pointed_at<'a>(
     requires behind { is_behind (seen_type element_type) ≡ true }
     requires under { IsListUnder (lists_seen set.now) (seen_type element_type) (list_object_tree builder.old) }
     requires inside { index < list_length (list_object_tree builder.old) }
-    ensures stands { IfOk result (HandsOut false (lists_seen set.now) (seen_type element_type) (element_filled (lists_seen set.now) (seen_type element_type) (element_pointer (list_object_tree builder.old) index 1))) }
+    ensures stands { IfOk result (HandsOut false (lists_seen set.now) (seen_type element_type)
+        (element_filled (lists_seen set.now) (seen_type element_type) (element_pointer (list_object_tree builder.old) index 1))) }
     ensures ready { IfOk result CanBeRead }
-    ensures cause { IfErr result (λ e. IsDueRefusal e (element_due (lists_seen set.now) (seen_type element_type) (element_pointer (list_object_tree builder.old) index 1))) }
+    ensures cause { IfErr result (λ e. IsDueRefusal e (element_due (lists_seen set.now) (seen_type element_type)
+        (element_pointer (list_object_tree builder.old) index 1))) }
     ensures rests { ElementRests (lists_seen set.now) (seen_type element_type) (element_pointer (list_object_tree builder.old) index 1) → IsOk result }
 {
     objects_hold_no_fault();

@@ -25,7 +25,8 @@ pub(crate) fn read_view<'a>(
     variant: TypeVariant,
 ) -> Result<Reader<'a>>
     ensures value { answered result ≡ view_read (lists_seen set.now) value.entry (seen_variant variant) }
-    ensures typed { NamesEntries (lists_seen set.now) (seen_variant variant) → IfOk result (IsOf (lists_seen set.now) (view_type value.entry (seen_variant variant))) }
+    ensures typed { NamesEntries (lists_seen set.now) (seen_variant variant)
+        → IfOk result (IsOf (lists_seen set.now) (view_type value.entry (seen_variant variant))) }
 {
     match value {
         Value::Void => Ok(Reader::Void),

@@ -88,7 +88,8 @@ fn put_empty(object: &mut StructObject, field: Field<'_>) -> Result<()>
     requires pointer { IsPointer field }
     requires room { IsRoomFor field (struct_object_tree object.old) }
     requires typed { AnyPointerType ≢ (typed_of field).type }
-    ensures written { OnOk result (struct_object_tree object.new ≡ slot_with field.entry (At (empty_tree (typed_of field.entry).type)) (struct_object_tree object.old)) }
+    ensures written { OnOk result (struct_object_tree object.new
+        ≡ slot_with field.entry (At (empty_tree (typed_of field.entry).type)) (struct_object_tree object.old)) }
     ensures kept { OnOk result (Keeps (names_of field.entry) (struct_object_tree object.old) (struct_object_tree object.new)) }
     ensures refused { OnErr result (struct_object_tree object.new ≡ struct_object_tree object.old) }
     ensures cause { IfErr result (λ e. e.kind ≡ OutOfMemory) }
@@ -107,7 +108,8 @@ fn put_words(object: &mut StructObject, field: Field<'_>, pointer: PointerReader
     requires room { IsRoomFor field (struct_object_tree object.old) }
     requires typed { AnyPointerType ≢ (typed_of field).type }
     requires sound { first_fault (tree_of pointer) ≡ None }
-    ensures written { OnOk result (struct_object_tree object.new ≡ slot_with field.entry (At (or_else (tree_of pointer.entry) (empty_tree (typed_of field.entry).type))) (struct_object_tree object.old)) }
+    ensures written { OnOk result (struct_object_tree object.new
+        ≡ slot_with field.entry (At (or_else (tree_of pointer.entry) (empty_tree (typed_of field.entry).type))) (struct_object_tree object.old)) }
     ensures kept { OnOk result (Keeps (names_of field.entry) (struct_object_tree object.old) (struct_object_tree object.new)) }
     ensures refused { OnErr result (struct_object_tree object.new ≡ struct_object_tree object.old) }
     ensures cause { IfErr result (λ e. e.kind ≡ OutOfMemory) }
@@ -166,7 +168,8 @@ fn copy_pointer(
     requires slot { IsSlot field }
     requires pointer { IsPointer field }
     requires room { IsRoomFor field (struct_object_tree object.old) }
-    ensures copied { OnOk result (IsCopied field.entry (pointer_given field.entry (levels_of pointer.entry) (tree_of pointer.entry)) (pointer_content field.entry (tree_of pointer.entry)) (struct_object_tree object.old) (struct_object_tree object.new)) }
+    ensures copied { OnOk result (IsCopied field.entry (pointer_given field.entry (levels_of pointer.entry) (tree_of pointer.entry))
+        (pointer_content field.entry (tree_of pointer.entry)) (struct_object_tree object.old) (struct_object_tree object.new)) }
     ensures refused { OnErr result (struct_object_tree object.new ≡ struct_object_tree object.old) }
     ensures cause { IfErr result (λ e. IsSetRefusal (pointer_given field.entry (levels_of pointer.entry) (tree_of pointer.entry)) e.kind) }
 {
@@ -189,7 +192,8 @@ fn copy_behind(
     requires pointer { IsPointer field }
     requires is { index ≡ pointer_index field }
     requires room { IsRoomFor field (struct_object_tree object.old) }
-    ensures copied { OnOk result (IsCopiedFrom field.entry (struct_levels source.now) (struct_of source.now) (struct_object_tree object.old) (struct_object_tree object.new)) }
+    ensures copied { OnOk result (IsCopiedFrom field.entry (struct_levels source.now) (struct_of source.now) (struct_object_tree object.old)
+        (struct_object_tree object.new)) }
     ensures refused { OnErr result (struct_object_tree object.new ≡ struct_object_tree object.old) }
     ensures cause { IfErr result (λ e. IsSetRefusal (copy_given field.entry (Left (struct_levels source.now)) (struct_of source.now)) e.kind) }
 {
@@ -229,7 +233,8 @@ pub(crate) fn is_behind(variant: TypeVariant) -> bool
 pub fn copy(object: &mut StructObject, field: Field<'_>, source: StructReader<'_>) -> Result<()>
     requires slot { IsSlot field }
     requires room { IsRoomFor field (struct_object_tree object.old) }
-    ensures copied { OnOk result (IsCopiedFrom field.entry (struct_levels source.entry) (struct_of source.entry) (struct_object_tree object.old) (struct_object_tree object.new)) }
+    ensures copied { OnOk result (IsCopiedFrom field.entry (struct_levels source.entry) (struct_of source.entry) (struct_object_tree object.old)
+        (struct_object_tree object.new)) }
     ensures refused { OnErr result (struct_object_tree object.new ≡ struct_object_tree object.old) }
     ensures cause { IfErr result (λ e. IsSetRefusal (copy_given field.entry (Left (struct_levels source.entry)) (struct_of source.entry)) e.kind) }
 {

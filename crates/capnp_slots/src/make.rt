@@ -144,7 +144,8 @@ pub(crate) fn make_sized(
 ) -> Result<()>
     requires { is_sized (seen_variant variant) ≡ true }
     ensures ok { OnOk result (object_tree pointer.new ≡ initn_tree (lists_seen set.now) (seen_variant variant) count) }
-    ensures within { OnOk result (InitnContent (lists_seen set.now) count (seen_variant variant) (At (initn_tree (lists_seen set.now) (seen_variant variant) count))) }
+    ensures within { OnOk result (InitnContent (lists_seen set.now) count (seen_variant variant)
+        (At (initn_tree (lists_seen set.now) (seen_variant variant) count))) }
     ensures formed { OnOk result (IsWellFormed (initn_tree (lists_seen set.now) (seen_variant variant) count)) }
     ensures refused { OnErr result (object_tree pointer.new ≡ object_tree pointer.old) }
     ensures cause { IfErr result (λ e. IsInitnRefusal (lists_seen set.now) count (seen_variant variant) e.kind) }

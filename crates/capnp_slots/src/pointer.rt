@@ -81,8 +81,10 @@ pub(crate) fn make_sized_at(
 ) -> Result<()>
     requires inside { index < tree_count (struct_object_tree object.old).pointers }
     requires is_sized { is_sized (seen_variant variant) ≡ true }
-    ensures ok { OnOk result (struct_object_tree object.new ≡ with_pointer_tree (struct_object_tree object.old) index (initn_tree (lists_seen set.now) (seen_variant variant) count)) }
-    ensures within { OnOk result (InitnContent (lists_seen set.now) count (seen_variant variant) (At (initn_tree (lists_seen set.now) (seen_variant variant) count))) }
+    ensures ok { OnOk result (struct_object_tree object.new
+        ≡ with_pointer_tree (struct_object_tree object.old) index (initn_tree (lists_seen set.now) (seen_variant variant) count)) }
+    ensures within { OnOk result (InitnContent (lists_seen set.now) count (seen_variant variant)
+        (At (initn_tree (lists_seen set.now) (seen_variant variant) count))) }
     ensures formed { OnOk result (IsWellFormed (initn_tree (lists_seen set.now) (seen_variant variant) count)) }
     ensures refused { OnErr result (struct_object_tree object.new ≡ struct_object_tree object.old) }
     ensures cause { IfErr result (λ e. IsInitnRefusal (lists_seen set.now) count (seen_variant variant) e.kind) }
