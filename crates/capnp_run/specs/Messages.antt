@@ -1,5 +1,5 @@
 -- Calls on a message's root.
-use Rattle.std.specs.Prelude.{ℕ, suc, ◌^◌, ◌<◌, ◌≤◌, ◌≡◌, ◌⊎◌, List, ◌++◌, map, Bool, true, false, IsTrue, Option, Some, None, Ok, Err}
+use Rattle.std.specs.Prelude.{ℕ, suc, ◌^◌, ◌<◌, ◌≤◌, ◌≡◌, ◌⊎◌, List, ◌++◌, Bool, true, false, IsTrue, Option, Some, None, Ok, Err}
 use Rattle.capnp_device.specs.declared.error.ErrorKind.{ErrorKind}
 use Rattle.capnp_device.specs.declared.error.ErrorKind.TheVariants.{TooLarge}
 use Rattle.capnp_wire.specs.Depth.{IsShallow}
@@ -16,21 +16,16 @@ use Rattle.capnp_wire.specs.declared.pointer_reader.PointerReader.{PointerReader
 use Rattle.capnp_schema.specs.StructHandles.{number_of, set_of, struct_node}
 use Rattle.capnp_schema.specs.declared.schema.structs.StructSchema.{StructSchema}
 use Rattle.capnp_records.specs.Default.{default_record}
-use Rattle.capnp_records.specs.Reading.{reads, struct_record}
+use Rattle.capnp_records.specs.Reading.{struct_record}
 use Rattle.capnp_records.specs.Record as value
 use Rattle.capnp_records.specs.Record.{Endless, Left, Record, Value}
-use Rattle.capnp_records.specs.Run.{Run}
 use Rattle.capnp_records.specs.Text.{Out, text_of}
 use Rattle.capnp_records.specs.Writes.Slots.{Fits}
 use Rattle.capnp_dynamic.specs.Pieces.{IsAppended}
 use Rattle.capnp_dynamic.specs.Typed.{struct_type}
-use Rattle.capnp_run.specs.Seen.{call_seen, reply_seen}
+use Rattle.capnp_run.specs.Runs.{IsRunFrom, record_in}
 use Rattle.capnp_run.specs.declared.calls.Call.{Call}
 use Rattle.capnp_run.specs.declared.calls.Reply.{Reply}
-
--- the record of a struct that is built
-abbrev pub record_in : StructSchema → StructTree → Record
-record_in schema s = reads (set_of schema) s (number_of schema)
 
 -- the record of an empty root, and that of a copy of what a reader stands on
 abbrev pub new_record : StructSchema → Record
@@ -38,10 +33,6 @@ new_record schema = default_record (set_of schema) Endless (number_of schema)
 
 abbrev pub copied_record : StructSchema → PointerReader → Record
 copied_record schema source = record_in schema (struct_in (tree_of source))
-
--- calls with their replies take the record of one struct to that of another, as the machine of records says
-abbrev pub IsRunFrom : StructSchema → Record → List Call → List Reply → Record → Type 0
-IsRunFrom schema r calls replies r' = Run (set_of schema) (number_of schema) r (map call_seen calls) (map reply_seen replies) r'
 
 -- a root: a struct that has its schema's sections and is well-formed
 pub record IsRoot (schema : StructSchema) (t : Tree) : Type 0 where
@@ -86,6 +77,13 @@ text_in schema indented r = text_of (set_of schema) indented (struct_type schema
 -- the record of a root as a reader of the message sees it, which takes one of its 64 levels
 abbrev pub record_left : StructSchema → StructTree → Record
 record_left schema s = struct_record (set_of schema) (Left 63) s (number_of schema)
+
+-- the text of a root's record, and of what a reader of it sees
+abbrev pub root_text : StructSchema → (indented : Bool) → Tree → Out
+root_text schema indented t = text_in schema indented (record_in schema (struct_in t))
+
+abbrev pub read_text : StructSchema → (indented : Bool) → Tree → Out
+read_text schema indented t = text_in schema indented (record_left schema (struct_in t))
 
 -- the words of the segment of a root's message
 abbrev pub message_words : StructTree → ℕ

@@ -1,7 +1,7 @@
 //! Calls on whole messages: on an empty root, or on a message that was copied in whole.
 ghost use Rattle.std.specs.Prelude.{IsTrue, None, Some, Err, ◌≡◌, ◌≢◌, OnErr, OnOk, IfErr, IfOk, string_bytes};
 ghost use Rattle.capnp_device.specs.declared.error.ErrorKind.TheVariants.{OutOfMemory};
-ghost use Rattle.capnp_wire.specs.Edits.{is_struct, struct_in};
+ghost use Rattle.capnp_wire.specs.Edits.{is_struct};
 ghost use Rattle.capnp_wire.specs.Message.{builder_tree};
 ghost use Rattle.capnp_wire.specs.Objects.{object_tree};
 ghost use Rattle.capnp_wire.specs.Standing.{tree_of};
@@ -9,7 +9,7 @@ ghost use Rattle.capnp_wire.specs.WellFormed.{IsWellFormed};
 ghost use Rattle.capnp_schema.specs.StructHandles.{IsStruct, number_of, set_of};
 ghost use Rattle.capnp_records.specs.Writes.Slots.{brand_size};
 ghost use Rattle.capnp_dynamic.specs.Pieces.{IsAppended};
-ghost use Rattle.capnp_run.specs.Messages.{HasRoot, IsCopiedRefusal, IsRoot, IsWhole, IsWholeRefusal, LeavesRun, RunsOn, copied_record, new_record, record_in, record_left, root_refusal, text_in};
+ghost use Rattle.capnp_run.specs.Messages.{HasRoot, IsCopiedRefusal, IsRoot, IsWhole, IsWholeRefusal, LeavesRun, RunsOn, copied_record, new_record, read_text, root_refusal, root_text};
 
 use crate::calls::{Call, Reply};
 use crate::run::run_on;
@@ -137,7 +137,8 @@ pub fn run_copied(
     calls: &[Call<'_>],
 ) -> Result<Vec<Reply>>
     requires { IsStruct schema }
-    ensures run { IfOk result (λ replies. LeavesRun schema.entry (copied_record schema.entry source.entry) calls.now replies.items (builder_tree message.new)) }
+    ensures run { IfOk result (λ replies. LeavesRun schema.entry (copied_record schema.entry source.entry) calls.now replies.items
+        (builder_tree message.new)) }
     ensures sound { OnOk result (root_refusal (tree_of source.entry) ≡ None) }
     ensures refused { OnErr result (message.new ≡ message.old) }
     ensures cause { IfErr result (λ e. e.kind ≢ OutOfMemory → root_refusal (tree_of source.entry) ≡ Some e.kind) }
@@ -158,9 +159,9 @@ fn print_here(
 ) -> Result<()>
     requires here { IsTrue (is_struct (object_tree pointer.now)) }
     requires formed { IsWellFormed (object_tree pointer.now) }
-    ensures printed { OnOk result (IsAppended (string_bytes out.old) (text_in schema.entry indented (record_in schema.entry (struct_in (object_tree pointer.now)))) (string_bytes out.new)) }
+    ensures printed { OnOk result (IsAppended (string_bytes out.old) (root_text schema.entry indented (object_tree pointer.now)) (string_bytes out.new)) }
     ensures refused { OnErr result (string_bytes out.new ≡ string_bytes out.old) }
-    ensures cause { IfErr result (λ e. e.kind ≢ OutOfMemory → text_in schema.entry indented (record_left schema.entry (struct_in (object_tree pointer.now))) ≡ Err e.kind) }
+    ensures cause { IfErr result (λ e. e.kind ≢ OutOfMemory → read_text schema.entry indented (object_tree pointer.now) ≡ Err e.kind) }
 {
     print_law();
     let reader = pointer.as_reader().get_struct()?;
@@ -178,10 +179,10 @@ fn print_root(
 ) -> Result<()>
     requires here { IsTrue (is_struct (builder_tree message.old)) }
     requires formed { IsWellFormed (builder_tree message.old) }
-    ensures printed { OnOk result (IsAppended (string_bytes out.old) (text_in schema.entry indented (record_in schema.entry (struct_in (builder_tree message.old)))) (string_bytes out.new)) }
+    ensures printed { OnOk result (IsAppended (string_bytes out.old) (root_text schema.entry indented (builder_tree message.old)) (string_bytes out.new)) }
     ensures same { builder_tree message.new ≡ builder_tree message.old }
     ensures refused { OnErr result (string_bytes out.new ≡ string_bytes out.old) }
-    ensures cause { IfErr result (λ e. e.kind ≢ OutOfMemory → text_in schema.entry indented (record_left schema.entry (struct_in (builder_tree message.old))) ≡ Err e.kind) }
+    ensures cause { IfErr result (λ e. e.kind ≢ OutOfMemory → read_text schema.entry indented (builder_tree message.old) ≡ Err e.kind) }
 {
     let root = message.root();
     print_here(&*root, schema, out, indented)
@@ -201,7 +202,8 @@ pub fn whole_new(
     indented: bool,
 ) -> Result<(Vec<Reply>, Vec<u8>)>
     requires { IsStruct schema }
-    ensures whole { IfOk result (λ done. IsWhole schema.entry (new_record schema.entry) calls.now done.0.items done.1.items indented (string_bytes out.old) (string_bytes out.new)) }
+    ensures whole { IfOk result (λ done. IsWhole schema.entry (new_record schema.entry) calls.now done.0.items done.1.items indented
+        (string_bytes out.old) (string_bytes out.new)) }
     ensures refused { OnErr result (string_bytes out.new ≡ string_bytes out.old) }
     ensures cause { IfErr result (λ e. e.kind ≢ OutOfMemory → IsWholeRefusal schema.entry (new_record schema.entry) calls.now indented e.kind) }
 {
@@ -224,7 +226,8 @@ pub fn whole_copied(
     indented: bool,
 ) -> Result<(Vec<Reply>, Vec<u8>)>
     requires { IsStruct schema }
-    ensures whole { IfOk result (λ done. IsWhole schema.entry (copied_record schema.entry source.entry) calls.now done.0.items done.1.items indented (string_bytes out.old) (string_bytes out.new)) }
+    ensures whole { IfOk result (λ done. IsWhole schema.entry (copied_record schema.entry source.entry) calls.now done.0.items done.1.items indented
+        (string_bytes out.old) (string_bytes out.new)) }
     ensures sound { OnOk result (root_refusal (tree_of source.entry) ≡ None) }
     ensures refused { OnErr result (string_bytes out.new ≡ string_bytes out.old) }
     ensures cause { IfErr result (λ e. e.kind ≢ OutOfMemory → IsCopiedRefusal schema.entry source.entry calls.now indented e.kind) }

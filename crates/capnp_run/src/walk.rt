@@ -53,7 +53,8 @@ pub fn walk(
     requires stands { IsStruct schema }
     requires fits { Fits (set_of schema) (number_of schema) (struct_object_tree object.old) }
     requires formed { IsWellFormed (struct_tree (struct_object_tree object.old)) }
-    ensures walks { StructWalks (set_of schema.entry) (number_of schema.entry) path.now end.entry (struct_object_tree object.old) result (struct_object_tree object.new) }
+    ensures walks { StructWalks (set_of schema.entry) (number_of schema.entry) path.now end.entry (struct_object_tree object.old) result
+        (struct_object_tree object.new) }
     ensures rests { PathRests schema.entry path.now end.entry (struct_object_tree object.old) → result ≢ Reply.Refused OutOfMemory }
     ensures kept { KeepsSize (struct_object_tree object.old) (struct_object_tree object.new) }
 {
@@ -75,7 +76,8 @@ fn walk_step(
     requires stands { IsStruct schema }
     requires fits { Fits (set_of schema) (number_of schema) (struct_object_tree object.old) }
     requires formed { IsWellFormed (struct_tree (struct_object_tree object.old)) }
-    ensures walks { StructWalks (set_of schema.entry) (number_of schema.entry) (step.entry ∷ rest.now) end.entry (struct_object_tree object.old) result (struct_object_tree object.new) }
+    ensures walks { StructWalks (set_of schema.entry) (number_of schema.entry) (step.entry ∷ rest.now) end.entry (struct_object_tree object.old) result
+        (struct_object_tree object.new) }
     ensures kept { KeepsSize (struct_object_tree object.old) (struct_object_tree object.new) }
 {
     match find_field(schema, step) {
@@ -181,7 +183,8 @@ fn walk_struct_here(
     requires here { IsTrue (is_struct (object_tree pointer.old)) }
     requires fits { Fits (set_of schema) (number_of schema) (struct_in (object_tree pointer.old)) }
     requires formed { IsWellFormed (object_tree pointer.old) }
-    ensures walks { StructWalks (set_of schema.entry) (number_of schema.entry) rest.now end.entry (struct_in (object_tree pointer.old)) result (struct_in (object_tree pointer.new)) }
+    ensures walks { StructWalks (set_of schema.entry) (number_of schema.entry) rest.now end.entry (struct_in (object_tree pointer.old)) result
+        (struct_in (object_tree pointer.new)) }
     ensures here { object_tree pointer.new ≡ struct_tree (struct_in (object_tree pointer.new)) }
     ensures formed { IsWellFormed (object_tree pointer.new) }
 {
@@ -297,7 +300,8 @@ fn walk_element(
     requires entries { NamesEntries (lists_seen set.now) (seen_type element) }
     requires stands { IsListStand (lists_seen set.now) (seen_type element) (list_object_tree list.old) }
     requires there { is_null_tree (list_object_tree list.old) ≡ false }
-    ensures walks { ListWalks (lists_seen set.now) (seen_type element) (Step.Element index ∷ rest.now) end.entry (list_object_tree list.old) result (list_object_tree list.new) }
+    ensures walks { ListWalks (lists_seen set.now) (seen_type element) (Step.Element index ∷ rest.now) end.entry (list_object_tree list.old) result
+        (list_object_tree list.new) }
     ensures formed { IsWellFormed (list_object_tree list.new) }
 {
     if index >= list.len() {
@@ -319,7 +323,8 @@ fn walk_part(
     requires entries { NamesEntries (lists_seen set.now) (seen_type element) }
     requires stands { IsListStand (lists_seen set.now) (seen_type element) (list_object_tree list.old) }
     requires inside { index < list_length (list_object_tree list.old) }
-    ensures walks { ElementWalks (lists_seen set.now) (seen_type element) index rest.now end.entry (list_object_tree list.old) result (list_object_tree list.new) }
+    ensures walks { ElementWalks (lists_seen set.now) (seen_type element) index rest.now end.entry (list_object_tree list.old) result
+        (list_object_tree list.new) }
     ensures formed { IsWellFormed (list_object_tree list.new) }
 {
     match element.which() {
@@ -345,7 +350,8 @@ fn walk_struct_in(
     requires struct_stands { IsStruct schema }
     requires stands { IsListStand (set_of schema) (StructType (number_of schema) (generic_of schema)) (list_object_tree list.old) }
     requires inside { index < list_length (list_object_tree list.old) }
-    ensures walks { ElementWalks (set_of schema.entry) (StructType (number_of schema.entry) (generic_of schema.entry)) index rest.now end.entry (list_object_tree list.old) result (list_object_tree list.new) }
+    ensures walks { ElementWalks (set_of schema.entry) (StructType (number_of schema.entry) (generic_of schema.entry)) index rest.now end.entry
+        (list_object_tree list.old) result (list_object_tree list.new) }
     ensures formed { IsWellFormed (list_object_tree list.new) }
 {
     let inner = list.get_struct_element(index);
@@ -365,7 +371,8 @@ fn walk_list_in(
     requires entries { NamesEntries (lists_seen set.now) (seen_type inner) }
     requires stands { IsListStand (lists_seen set.now) (ListType (seen_type inner)) (list_object_tree list.old) }
     requires inside { index < list_length (list_object_tree list.old) }
-    ensures walks { ElementWalks (lists_seen set.now) (ListType (seen_type inner)) index rest.now end.entry (list_object_tree list.old) result (list_object_tree list.new) }
+    ensures walks { ElementWalks (lists_seen set.now) (ListType (seen_type inner)) index rest.now end.entry (list_object_tree list.old) result
+        (list_object_tree list.new) }
     ensures formed { IsWellFormed (list_object_tree list.new) }
 {
     objects_hold_no_fault();

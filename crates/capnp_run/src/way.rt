@@ -41,7 +41,8 @@ pub enum Way<'s> {
 /// Refused with `NotAContainer` for a step to an element, and else with `FieldNotFound` where there is no field of that index
 /// or name.
 pub fn find_field<'s>(schema: StructSchema<'s>, step: Step<'_>) -> Result<Field<'s>>
-    ensures found { (whole : Record → Value) (r : Record) → found_target whole r result ≡ in_record (set_of schema.entry) whole r (number_of schema.entry) (step_seen step.entry) }
+    ensures found { (whole : Record → Value) (r : Record)
+        → found_target whole r result ≡ in_record (set_of schema.entry) whole r (number_of schema.entry) (step_seen step.entry) }
     ensures named { IfOk result (IsNamedBy schema.entry step.entry) }
 {
     match step {
@@ -53,7 +54,8 @@ pub fn find_field<'s>(schema: StructSchema<'s>, step: Step<'_>) -> Result<Field<
 
 /// The field of an index; refused with `FieldNotFound` where there is none.
 fn find_numbered(schema: StructSchema<'_>, index: u16) -> Result<Field<'_>>
-    ensures found { (whole : Record → Value) (r : Record) → found_target whole r result ≡ in_record (set_of schema.entry) whole r (number_of schema.entry) (step_seen (Step.Field index)) }
+    ensures found { (whole : Record → Value) (r : Record)
+        → found_target whole r result ≡ in_record (set_of schema.entry) whole r (number_of schema.entry) (step_seen (Step.Field index)) }
     ensures named { IfOk result (IsNamedBy schema.entry (Step.Field index)) }
 {
     let fields = schema.get_fields()?;
@@ -76,7 +78,8 @@ fn is_member(field: Field<'_>) -> bool
 /// Whether a field is a member of its struct's union that isn't active.
 pub fn is_inactive(object: &StructObject, field: Field<'_>) -> bool
     requires { IsWellFormed (struct_tree (struct_object_tree object.now)) }
-    ensures { result ≡ is_inactive (reads (field_set field.entry) (struct_object_tree object.now) (field_brand field.entry)) (typed_of field.entry).field (index_of field.entry) }
+    ensures { result ≡ is_inactive (reads (field_set field.entry) (struct_object_tree object.now) (field_brand field.entry)) (typed_of field.entry).field
+        (index_of field.entry) }
 {
     if !is_member(field) {
         return false;
@@ -96,7 +99,8 @@ pub fn is_inactive(object: &StructObject, field: Field<'_>) -> bool
 /// `NotAContainer` for another field that is no struct, group or list.
 pub fn way_of<'s>(object: &StructObject, field: Field<'s>) -> Result<Way<'s>>
     requires { IsWellFormed (struct_tree (struct_object_tree object.now)) }
-    ensures walked { (whole : Record → Value) → way_target (target_in whole field.entry (struct_object_tree object.now)) result ≡ walked (target_in whole field.entry (struct_object_tree object.now)) }
+    ensures walked { (whole : Record → Value) → way_target (target_in whole field.entry (struct_object_tree object.now)) result
+        ≡ walked (target_in whole field.entry (struct_object_tree object.now)) }
     ensures leads { IfOk result (LeadsTo field.entry) }
 {
     if is_inactive(object, field) {
