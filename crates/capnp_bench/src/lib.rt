@@ -5,3 +5,4 @@
 mod prints;
 mod reads;
 mod schemas;
+mod sets;
