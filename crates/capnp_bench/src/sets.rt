@@ -97,6 +97,7 @@ fn shapes_of<'s>(schema: StructSchema<'s>) -> Result<Shapes<'s>>
 
 /// Sets a field of a struct.
 #[tactic(auto, using(crate::proofs::Kept::kept_under))]
+#[inline(always)]
 fn set<'s>(
     object: &mut StructObject,
     schema: StructSchema<'s>,
@@ -123,6 +124,7 @@ fn start<'s>(object: &mut StructObject, schema: StructSchema<'s>, field: Field<'
 }
 
 /// What a field reads as, as a number.
+#[inline(always)]
 fn get<'s>(object: &StructObject, schema: StructSchema<'s>, field: Field<'s>) -> Result<u64>
     requires lies { LiesIn schema field }
     requires under { IsUnder schema (struct_object_tree object.now) }

@@ -61,6 +61,7 @@ pub fn walk(
 
 /// Goes on into the field that a step names.
 #[cycle(walk)]
+#[inline(always)]
 fn walk_step(
     object: &mut StructObject,
     schema: StructSchema<'_>,
@@ -82,6 +83,7 @@ fn walk_step(
 
 /// Goes on into a field, where the tests of a step pass.
 #[cycle(walk)]
+#[inline(always)]
 fn walk_field(
     object: &mut StructObject,
     field: Field<'_>,
@@ -101,6 +103,7 @@ fn walk_field(
 
 /// Goes on along the way that a field leads.
 #[cycle(walk)]
+#[inline(always)]
 fn walk_way(
     object: &mut StructObject,
     field: Field<'_>,
@@ -124,6 +127,7 @@ fn walk_way(
 
 /// Goes on in a group.
 #[cycle(walk)]
+#[inline(always)]
 fn walk_group(
     object: &mut StructObject,
     field: Field<'_>,
@@ -144,6 +148,7 @@ fn walk_group(
 
 /// Goes on in the struct behind a slot.
 #[cycle(walk)]
+#[inline(always)]
 fn walk_struct(
     object: &mut StructObject,
     field: Field<'_>,
@@ -167,6 +172,7 @@ fn walk_struct(
 
 /// Goes on in the struct that stands at a pointer.
 #[cycle(walk)]
+#[inline(always)]
 fn walk_struct_here(
     pointer: &mut Object,
     schema: StructSchema<'_>,
@@ -187,6 +193,7 @@ fn walk_struct_here(
 
 /// Goes on in the list behind a slot.
 #[cycle(walk)]
+#[inline(always)]
 fn walk_list_slot(
     object: &mut StructObject,
     field: Field<'_>,
@@ -211,6 +218,7 @@ fn walk_list_slot(
 
 /// Goes on in the list that stands at a pointer, or in the list of nothing that a null is.
 #[cycle(walk)]
+#[inline(always)]
 fn walk_list_here(
     pointer: &mut Object,
     set: &SchemaSet,
@@ -282,6 +290,7 @@ fn walk_list(
 
 /// Goes on in an element of a list, where there is one of that index.
 #[cycle(walk)]
+#[inline(always)]
 fn walk_element(
     list: &mut ListObject,
     set: &SchemaSet,
@@ -304,6 +313,7 @@ fn walk_element(
 
 /// Goes on in an element of a list, by its type.
 #[cycle(walk)]
+#[inline(always)]
 fn walk_part(
     list: &mut ListObject,
     set: &SchemaSet,
@@ -331,6 +341,7 @@ fn walk_part(
 
 /// Goes on in a struct of a list of structs.
 #[cycle(walk)]
+#[inline(always)]
 fn walk_struct_in(
     list: &mut ListObject,
     schema: StructSchema<'_>,
