@@ -4,5 +4,6 @@
 
 mod prints;
 mod reads;
+mod runs;
 mod schemas;
 mod sets;
