@@ -101,6 +101,7 @@ fn clear_pointer(object: &mut StructObject, index: u16)
 }
 
 /// Switches the union to a plan's member, and clears the plan's place: zero bits, or null.
+#[inline(always)]
 pub(crate) fn clear_plan(object: &mut StructObject, plan: SlotPlan)
     requires slot { IsSlotPlace plan.place }
     requires inside { PlanFits plan (struct_object_tree object.old) }
