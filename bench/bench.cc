@@ -3,7 +3,9 @@
 #include "prints.h"
 #include "program.h"
 #include "reads.h"
+#include "runs.h"
 #include "schemas.h"
+#include "sets.h"
 #include "wire.h"
 #include <capnp/schema-parser.h>
 #include <kj/filesystem.h>
@@ -20,6 +22,8 @@ int main(int count, char **words) {
   Table table;
   wire::add_rows(table);
   reads::add_rows(table, file.getNested("Many").asStruct());
+  sets::add_rows(table, file.getNested("Shapes").asStruct());
+  runs::add_rows(table, file.getNested("Lists").asStruct(), file.getNested("Loop").asStruct());
   schemas::add_rows(table);
   prints::add_rows(table, file.getNested("Lists").asStruct());
   program::add_rows(table, file.getNested("Lists").asStruct(), words[1], words[2], words[3]);

@@ -11,6 +11,14 @@ uint64_t bench_read_by_field_opened(const uint8_t *message, size_t length, uint6
 uint64_t bench_read_by_field(const uint8_t *message, size_t length, uint64_t rounds);
 uint64_t bench_find_by_name(const uint8_t *message, size_t length, uint64_t rounds);
 uint64_t bench_print_lists(const uint8_t *message, size_t length, uint64_t rounds);
+uint64_t bench_set_shapes_numbers(const uint8_t *message, size_t length, uint64_t rounds);
+uint64_t bench_set_shapes_message(const uint8_t *message, size_t length, uint64_t rounds);
+uint64_t bench_run_items(const uint8_t *message, size_t length, uint64_t rounds);
+uint64_t bench_run_items_many(const uint8_t *message, size_t length, uint64_t rounds);
+uint64_t bench_run_short(const uint8_t *message, size_t length, uint64_t rounds);
+uint64_t bench_run_short_many(const uint8_t *message, size_t length, uint64_t rounds);
+uint64_t bench_run_long(const uint8_t *message, size_t length, uint64_t rounds);
+uint64_t bench_run_long_many(const uint8_t *message, size_t length, uint64_t rounds);
 uint64_t bench_check_many(const uint8_t *message, size_t length, uint64_t rounds);
 uint64_t bench_check_wide(const uint8_t *message, size_t length, uint64_t rounds);
 uint64_t bench_check_chain(const uint8_t *message, size_t length, uint64_t rounds);

@@ -1,4 +1,4 @@
-# The structs of the built-in set that the rows read, in the schema language.
+# The structs of the built-in set that the rows read and build, in the schema language.
 @0xbf5147cbbecf40c1;
 
 struct Many {
@@ -12,6 +12,32 @@ struct Many {
 
 struct Flat {
   a @0 :UInt16;
+}
+
+struct Shapes {
+  id @0 :UInt16;
+  union {
+    circle :group {
+      r @1 :UInt32;
+    }
+    tag :group {
+      n @2 :UInt16;
+      union {
+        u0 @3 :Void;
+        u1 @4 :UInt8;
+      }
+      any @5 :AnyPointer;
+      q @6 :Text;
+    }
+    word @7 :Text;
+  }
+}
+
+struct Loop {
+  union {
+    end @0 :Void;
+    again @1 :Loop;
+  }
 }
 
 struct Lists {

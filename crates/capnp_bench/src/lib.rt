@@ -4,4 +4,6 @@
 
 mod prints;
 mod reads;
+mod runs;
 mod schemas;
+mod sets;

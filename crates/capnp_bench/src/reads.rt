@@ -42,7 +42,7 @@ fn fields_of<'s>(alloc: Global, schema: StructSchema<'s>) -> Result<Vec<Field<'s
 }
 
 /// A field as a number of 64 bits: in two's complement, a truth value as 0 or 1, and nothing as 0.
-fn number_of(value: Value<'_>) -> u64 {
+pub(crate) fn number_of(value: Value<'_>) -> u64 {
     match value {
         Value::Bool(x) => x as u64,
         Value::Int8(x) => (x as i64).cast_unsigned(),

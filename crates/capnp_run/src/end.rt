@@ -25,6 +25,7 @@ use capnp_wire::object::StructObject;
 use std::alloc::Global;
 
 /// Sets a slot to a source, as `slot::set`.
+#[inline(always)]
 fn set_slot(object: &mut StructObject, field: Field<'_>, source: Source<'_>) -> Reply
     requires slot { IsSlot field }
     requires room { IsRoomFor field (struct_object_tree object.old) }
@@ -39,6 +40,7 @@ fn set_slot(object: &mut StructObject, field: Field<'_>, source: Source<'_>) -> 
 }
 
 /// Sets a group to a source, as `group::set`: what was copied before a refusal stays.
+#[inline(never)]
 fn set_group(object: &mut StructObject, field: Field<'_>, source: Source<'_>) -> Reply
     requires group { IsGroup field }
     requires room { IsRoomFor field (struct_object_tree object.old) }
@@ -52,6 +54,7 @@ fn set_group(object: &mut StructObject, field: Field<'_>, source: Source<'_>) ->
 }
 
 /// Sets a field to a value.
+#[inline(always)]
 fn set_field(object: &mut StructObject, field: Field<'_>, value: Value<'_>) -> Reply
     requires { IsRoomFor field (struct_object_tree object.old) }
     ensures does { FieldDoes field.entry (Set (source_of value.entry)) (struct_object_tree object.old) (reply_seen result) (struct_object_tree object.new) }
@@ -124,6 +127,7 @@ fn clear_field(object: &mut StructObject, field: Field<'_>) -> Reply
 }
 
 /// Does an operation to a field of a struct.
+#[inline(always)]
 fn do_field(alloc: Global, object: &mut StructObject, field: Field<'_>, op: Op<'_>) -> Reply
     requires room { IsRoomFor field (struct_object_tree object.old) }
     requires formed { IsWellFormed (struct_tree (struct_object_tree object.old)) }
@@ -143,6 +147,7 @@ fn do_field(alloc: Global, object: &mut StructObject, field: Field<'_>, op: Op<'
 }
 
 /// Does an operation to the field that a step names.
+#[inline(always)]
 fn do_named(
     alloc: Global,
     object: &mut StructObject,
@@ -169,6 +174,7 @@ fn do_named(
 /// else as the operation. Only a `Get` asks whether a member is active: it is refused with `InactiveMember` where not. What
 /// is written is the field and, of a member, the union; after a refusal nothing has changed, but for the set of a group that is
 /// cut short, which keeps what was copied by then.
+#[inline(never)]
 pub fn end_at_struct(
     alloc: Global,
     object: &mut StructObject,

@@ -30,6 +30,7 @@ use capnp_wire::object::StructObject;
 ///
 /// Refused with `WrongPointerKind` where something else than a struct stands there, and else with `OutOfMemory`; then nothing
 /// has changed.
+#[inline(always)]
 pub fn enter_struct(
     object: &mut StructObject,
     field: Field<'_>,
@@ -52,6 +53,7 @@ pub fn enter_struct(
 }
 
 /// Steps into a group: it is the same struct under the group's schema. Nothing is filled and nothing is refused.
+#[inline(always)]
 pub fn enter_group(object: &StructObject, field: Field<'_>)
     requires group { IsGroup field }
     requires walked { IsWalked field (struct_object_tree object.now) }
@@ -76,6 +78,7 @@ fn default_is_sound(field: Field<'_>)
 /// Refused with `WrongPointerKind` or `WrongElementSize` where what stands there is not read as a list of the slot's type,
 /// with `SizePastFormat` where the structs of a list would take 2^29 words or more, and else with `OutOfMemory`; then nothing
 /// has changed. Only a list of structs that are smaller than their schema, and a null with a default, take memory.
+#[inline(always)]
 pub fn enter_list(object: &mut StructObject, field: Field<'_>, element: Type) -> Result<()>
     requires leads { IsListSlot field element }
     requires walked { IsWalked field (struct_object_tree object.old) }

@@ -66,6 +66,7 @@ pub fn walk(
 
 /// Goes on into the field that a step names.
 #[cycle(walk)]
+#[inline(always)]
 fn walk_step(
     object: &mut StructObject,
     schema: StructSchema<'_>,
@@ -88,6 +89,7 @@ fn walk_step(
 
 /// Goes on into a field, where the tests of a step pass.
 #[cycle(walk)]
+#[inline(always)]
 fn walk_field(
     object: &mut StructObject,
     field: Field<'_>,
@@ -107,6 +109,7 @@ fn walk_field(
 
 /// Goes on along the way that a field leads.
 #[cycle(walk)]
+#[inline(always)]
 fn walk_way(
     object: &mut StructObject,
     field: Field<'_>,
@@ -130,6 +133,7 @@ fn walk_way(
 
 /// Goes on in a group.
 #[cycle(walk)]
+#[inline(always)]
 fn walk_group(
     object: &mut StructObject,
     field: Field<'_>,
@@ -150,6 +154,7 @@ fn walk_group(
 
 /// Goes on in the struct behind a slot.
 #[cycle(walk)]
+#[inline(always)]
 fn walk_struct(
     object: &mut StructObject,
     field: Field<'_>,
@@ -173,6 +178,7 @@ fn walk_struct(
 
 /// Goes on in the struct that stands at a pointer.
 #[cycle(walk)]
+#[inline(always)]
 fn walk_struct_here(
     pointer: &mut Object,
     schema: StructSchema<'_>,
@@ -194,6 +200,7 @@ fn walk_struct_here(
 
 /// Goes on in the list behind a slot.
 #[cycle(walk)]
+#[inline(always)]
 fn walk_list_slot(
     object: &mut StructObject,
     field: Field<'_>,
@@ -218,6 +225,7 @@ fn walk_list_slot(
 
 /// Goes on in the list that stands at a pointer, or in the list of nothing that a null is.
 #[cycle(walk)]
+#[inline(always)]
 fn walk_list_here(
     pointer: &mut Object,
     set: &SchemaSet,
@@ -289,6 +297,7 @@ fn walk_list(
 
 /// Goes on in an element of a list, where there is one of that index.
 #[cycle(walk)]
+#[inline(always)]
 fn walk_element(
     list: &mut ListObject,
     set: &SchemaSet,
@@ -312,6 +321,7 @@ fn walk_element(
 
 /// Goes on in an element of a list, by its type.
 #[cycle(walk)]
+#[inline(always)]
 fn walk_part(
     list: &mut ListObject,
     set: &SchemaSet,
@@ -340,6 +350,7 @@ fn walk_part(
 
 /// Goes on in a struct of a list of structs.
 #[cycle(walk)]
+#[inline(always)]
 fn walk_struct_in(
     list: &mut ListObject,
     schema: StructSchema<'_>,

@@ -40,6 +40,7 @@ pub enum Way<'s> {
 ///
 /// Refused with `NotAContainer` for a step to an element, and else with `FieldNotFound` where there is no field of that index
 /// or name.
+#[inline(always)]
 pub fn find_field<'s>(schema: StructSchema<'s>, step: Step<'_>) -> Result<Field<'s>>
     ensures found { (whole : Record → Value) (r : Record)
         → found_target whole r result ≡ in_record (set_of schema.entry) whole r (number_of schema.entry) (step_seen step.entry) }
@@ -53,6 +54,7 @@ pub fn find_field<'s>(schema: StructSchema<'s>, step: Step<'_>) -> Result<Field<
 }
 
 /// The field of an index; refused with `FieldNotFound` where there is none.
+#[inline(always)]
 fn find_numbered(schema: StructSchema<'_>, index: u16) -> Result<Field<'_>>
     ensures found { (whole : Record → Value) (r : Record)
         → found_target whole r result ≡ in_record (set_of schema.entry) whole r (number_of schema.entry) (step_seen (Step.Field index)) }
@@ -66,6 +68,7 @@ fn find_numbered(schema: StructSchema<'_>, index: u16) -> Result<Field<'_>>
 }
 
 /// Whether a field is a member of its struct's union.
+#[inline(always)]
 fn is_member(field: Field<'_>) -> bool
     ensures { result ≡ is_member (typed_of field.entry).field }
 {
@@ -76,6 +79,7 @@ fn is_member(field: Field<'_>) -> bool
 }
 
 /// Whether a field is a member of its struct's union that isn't active.
+#[inline(always)]
 pub fn is_inactive(object: &StructObject, field: Field<'_>) -> bool
     requires { IsWellFormed (struct_tree (struct_object_tree object.now)) }
     ensures { result ≡ is_inactive (reads (field_set field.entry) (struct_object_tree object.now) (field_brand field.entry)) (typed_of field.entry).field
@@ -97,6 +101,7 @@ pub fn is_inactive(object: &StructObject, field: Field<'_>) -> bool
 ///
 /// Refused with `InactiveMember` for a member that isn't active, then with `UntypedStep` for an untyped pointer, and with
 /// `NotAContainer` for another field that is no struct, group or list.
+#[inline(always)]
 pub fn way_of<'s>(object: &StructObject, field: Field<'s>) -> Result<Way<'s>>
     requires { IsWellFormed (struct_tree (struct_object_tree object.now)) }
     ensures walked { (whole : Record → Value) → way_target (target_in whole field.entry (struct_object_tree object.now)) result
@@ -118,6 +123,7 @@ pub fn way_of<'s>(object: &StructObject, field: Field<'s>) -> Result<Way<'s>>
 }
 
 /// Into a group, or into the struct of a schema behind a pointer.
+#[inline(always)]
 fn way_into<'s>(field: Field<'s>, schema: StructSchema<'s>) -> Way<'s>
     requires stands { IsStruct schema }
     requires set { set_of schema ≡ field_set field }
@@ -131,6 +137,7 @@ fn way_into<'s>(field: Field<'s>, schema: StructSchema<'s>) -> Way<'s>
 }
 
 /// Into the list behind a pointer, of elements of a type.
+#[inline(always)]
 fn way_along<'s>(field: Field<'s>, element: Type) -> Way<'s>
     requires type_is { ListType (seen_type element) ≡ (typed_of field).type }
     requires entries { NamesEntries (field_set field) (seen_type element) }

@@ -30,6 +30,7 @@ pub enum Value<'s> {
 
 /// The view of a record's value, as of a default or an annotation. The words of a struct, a list or an untyped pointer are
 /// read where they lie, with 64 levels.
+#[inline(always)]
 pub fn view(stored: &ValueRecord) -> Value<'_>
     ensures { IsViewOf (seen_value stored.now) result }
 {

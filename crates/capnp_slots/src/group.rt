@@ -25,6 +25,7 @@ use capnp_wire::error::{Error, ErrorKind, Result};
 use capnp_wire::object::StructObject;
 
 /// The schema of a field's group; none for a slot.
+#[inline(always)]
 pub fn group_of<'s>(field: Field<'s>) -> Option<StructSchema<'s>>
     ensures { MatchOption result (IsSlot field.entry) (IsGroupAt field.entry) }
 {
@@ -156,6 +157,7 @@ fn copy(
 /// Refused with `NotAStruct` for a source that is no struct, and with `TypeMismatch` for a struct of another schema; then
 /// nothing has changed. The first slot whose copy is refused, as by `copied::copy`, ends the whole with that refusal: the
 /// group stays as it is by then, cleared and with what was copied before.
+#[inline(never)]
 pub fn set(object: &mut StructObject, field: Field<'_>, source: Source<'_>) -> Result<()>
     requires group { IsGroup field }
     requires room { IsRoomFor field (struct_object_tree object.old) }

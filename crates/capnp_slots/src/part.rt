@@ -37,6 +37,7 @@ use capnp_wire::object::StructObject;
 use capnp_wire::{PointerBuilder, PointerReader};
 
 /// The root pointer of a field's default, where it has one.
+#[inline(always)]
 fn default_pointer<'s>(field: Field<'s>) -> Option<PointerReader<'s>>
     ensures { IsDefaultPointer field.entry result }
 {
@@ -44,6 +45,7 @@ fn default_pointer<'s>(field: Field<'s>) -> Option<PointerReader<'s>>
 }
 
 /// Fills the list at a pointer, of elements of a type.
+#[inline(always)]
 fn fill_elements(
     object: &mut StructObject,
     index: u16,
@@ -73,6 +75,7 @@ fn fill_elements(
 }
 
 /// Fills a pointer's slot.
+#[inline(always)]
 fn fill_slot(object: &mut StructObject, field: Field<'_>, index: u16) -> Result<()>
     requires slot { IsSlot field }
     requires pointer { IsPointer field }

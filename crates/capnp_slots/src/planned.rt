@@ -20,6 +20,7 @@ use capnp_wire::StructReader;
 use capnp_wire::object::StructObject;
 
 /// The plan of a field, as far as its union goes.
+#[inline(always)]
 pub(crate) fn field_plan(field: Field<'_>) -> SlotPlan
     ensures { IsFieldPlan field.entry result }
 {
@@ -30,6 +31,7 @@ pub(crate) fn field_plan(field: Field<'_>) -> SlotPlan
 }
 
 /// The plan of a field that is a slot.
+#[inline(always)]
 pub(crate) fn slot_plan(field: Field<'_>) -> SlotPlan
     requires { IsSlot field }
     ensures { IsSlotPlan field.entry result }
@@ -42,6 +44,7 @@ pub(crate) fn slot_plan(field: Field<'_>) -> SlotPlan
 }
 
 /// Switches the union to a plan's member.
+#[inline(always)]
 pub(crate) fn switch_member(object: &mut StructObject, member: Option<(u32, u16)>)
     requires { IfSome member (λ m. m.0 + 16 ≤ 8 * length (struct_object_tree object.old).bytes) }
     ensures switched { struct_object_tree object.new ≡ member_switched member (struct_object_tree object.old) }
@@ -54,6 +57,7 @@ pub(crate) fn switch_member(object: &mut StructObject, member: Option<(u32, u16)
 }
 
 /// Stores bits at a place of the data section.
+#[inline(always)]
 fn store_bits(object: &mut StructObject, start: u32, width: u8, bits: u64)
     requires width { IsTrue (is_slot_width width) }
     requires inside { start + width ≤ 8 * length (struct_object_tree object.old).bytes }
@@ -72,6 +76,7 @@ fn store_bits(object: &mut StructObject, start: u32, width: u8, bits: u64)
 
 /// Switches the union to a plan's member, and stores a number at the plan's place, XORed with the place's default.
 #[tactic(auto, using(std::proofs::lemmas::Nat::xor_lt))]
+#[inline(always)]
 pub(crate) fn store_number(object: &mut StructObject, plan: SlotPlan, number: u64)
     requires slot { IsSlotPlace plan.place }
     requires inside { PlanFits plan (struct_object_tree object.old) }
@@ -96,6 +101,7 @@ fn clear_pointer(object: &mut StructObject, index: u16)
 }
 
 /// Switches the union to a plan's member, and clears the plan's place: zero bits, or null.
+#[inline(always)]
 pub(crate) fn clear_plan(object: &mut StructObject, plan: SlotPlan)
     requires slot { IsSlotPlace plan.place }
     requires inside { PlanFits plan (struct_object_tree object.old) }

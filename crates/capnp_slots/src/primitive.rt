@@ -34,6 +34,7 @@ pub(crate) fn mismatch() -> Error
 }
 
 /// What the Rust type of a value says of its number.
+#[inline(always)]
 pub(crate) fn number_fits(value: Primitive)
     ensures { SourceFits (primitive_source value) }
 {
@@ -53,6 +54,7 @@ pub(crate) fn number_fits(value: Primitive)
 }
 
 /// A number with a sign of so many bytes, in two's complement.
+#[inline(always)]
 fn signed_given(bytes: u8, value: Primitive) -> Result<u64>
     ensures { (set : Schemas) → GivesNumber (IntType bytes) (given_slot set (IntType bytes) (primitive_source value)) result }
 {
@@ -66,6 +68,7 @@ fn signed_given(bytes: u8, value: Primitive) -> Result<u64>
 }
 
 /// A number without a sign of so many bytes.
+#[inline(always)]
 fn unsigned_given(bytes: u8, value: Primitive) -> Result<u64>
     ensures { (set : Schemas) → GivesNumber (UIntType bytes) (given_slot set (UIntType bytes) (primitive_source value)) result }
 {
@@ -82,6 +85,7 @@ fn unsigned_given(bytes: u8, value: Primitive) -> Result<u64>
 ///
 /// Refused with `CannotSetAnyPointerFieldToAPrimitiveValue` for an untyped pointer, and with `TypeMismatch` where the
 /// type is another one than the value's. A void slot takes every value.
+#[inline(always)]
 pub(crate) fn number_given(variant: TypeVariant, value: Primitive) -> Result<u64>
     ensures { (set : Schemas) → GivesNumber (seen_variant variant) (given_slot set (seen_variant variant) (primitive_source value)) result }
 {

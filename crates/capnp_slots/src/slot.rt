@@ -31,6 +31,7 @@ use capnp_wire::object::StructObject;
 use capnp_wire::size::StructSize;
 
 /// Whether a field is a slot and no group.
+#[inline(always)]
 pub fn is_slot(field: Field<'_>) -> bool
     ensures { result ≡ not (is_group_field (typed_of field.entry).field.kind) }
 {
@@ -54,6 +55,7 @@ pub fn switch(object: &mut StructObject, field: Field<'_>)
 }
 
 /// The number that a field's slot stores for a value, but for its default; refused as the set.
+#[inline(always)]
 fn number_for(field: Field<'_>, value: Primitive) -> Result<u64>
     ensures number { IfOk result (IsGivenAs (field_set field.entry) (typed_of field.entry).type (primitive_source value)) }
     ensures refused { IfErr result (λ e. given_to field.entry (primitive_source value) ≡ Fails e.kind) }
@@ -67,6 +69,7 @@ fn number_for(field: Field<'_>, value: Primitive) -> Result<u64>
 ///
 /// Refused with `CannotSetAnyPointerFieldToAPrimitiveValue` for an untyped slot, and with `TypeMismatch` for a slot of
 /// another kind than the value's; then nothing has changed.
+#[inline(always)]
 pub fn set_primitive(object: &mut StructObject, field: Field<'_>, value: Primitive) -> Result<()>
     requires slot { IsSlot field }
     requires room { IsRoomFor field (struct_object_tree object.old) }
@@ -116,6 +119,7 @@ pub fn set_pointer<R, S: SetterInput<R>>(
 /// `TooDeep` or `CapabilityPointer` where a pointer in the source can't be followed, by the first of these in preorder;
 /// with `SizePastFormat` for a text of more than 2^29 - 2 bytes or data of more than 2^29 - 1; and with `OutOfMemory`. Then
 /// nothing has changed.
+#[inline(always)]
 pub fn set(object: &mut StructObject, field: Field<'_>, source: Source<'_>) -> Result<()>
     requires slot { IsSlot field }
     requires room { IsRoomFor field (struct_object_tree object.old) }
@@ -130,6 +134,7 @@ pub fn set(object: &mut StructObject, field: Field<'_>, source: Source<'_>) -> R
 }
 
 /// Sets a slot to what stands behind a pointer.
+#[inline(never)]
 fn set_pointed(object: &mut StructObject, field: Field<'_>, source: Source<'_>) -> Result<()>
     requires slot { IsSlot field }
     requires room { IsRoomFor field (struct_object_tree object.old) }

@@ -142,6 +142,7 @@ impl<'a> Builder<'a> {
     /// `TypeMismatch` for a struct of another schema, and then nothing has changed; and as the first of its copies that is
     /// refused, where the group stays as it is by then, cleared and with what was copied before.
     #[tactic(auto, using(crate::proofs::Builders::room_for, crate::proofs::Builders::under_kept, crate::proofs::Builders::under_same, crate::proofs::Builders::slot_was_set, crate::proofs::Builders::group_was_set, crate::proofs::Builders::slot_set_keeps))]
+    #[inline(always)]
     pub fn set(&mut self, field: Field<'a>, value: dynamic_value::Reader<'_>) -> Result<()>
         requires belongs { BelongsTo field (built_schema self.old) }
         requires ready { IsReady self.old }

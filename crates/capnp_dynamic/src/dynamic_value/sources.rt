@@ -9,6 +9,7 @@ use capnp_slots::source::Source;
 
 impl<'a> Reader<'a> {
     /// The value, as it is given to a set of a slot or an element.
+    #[inline(always)]
     pub fn into_source(self) -> Source<'a>
         ensures { source_seen result ≡ source_of self.entry }
     {

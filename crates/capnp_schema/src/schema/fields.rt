@@ -48,6 +48,7 @@ impl<'s> Field<'s> {
     ghost use Rattle.capnp_schema.specs.FieldLists.{IsFieldOf, index_of, schema_of, typed_of, default_behind, field_annotated};
 
     /// The field of an index, which is below the count of fields.
+    #[inline(always)]
     pub(crate) fn new(schema: StructSchema<'s>, index: u16) -> Field<'s>
         requires { index < length (struct_fields schema) }
         ensures { IsFieldOf schema.entry index result }
@@ -99,6 +100,7 @@ impl<'s> Field<'s> {
 
     /// The default of the field's slot, whose words are read where they lie, with 64 levels; void for a group. It is of the
     /// field's type, or an untyped null. What stands behind a pointer decodes, and is null or what the type reads.
+    #[inline(always)]
     pub fn get_default(&self) -> Value<'s>
         ensures view { IsViewOf (default_of (typed_of self.now).field) result }
         ensures fits { DefaultFits (typed_of self.now) }
@@ -113,6 +115,7 @@ impl<'s> Field<'s> {
 
     /// The root pointer of the words of the field's default, with 64 levels; none for a default that has no words.
     #[tactic(auto, using(crate::proofs::Defaults::struct_view, crate::proofs::Defaults::list_view, crate::proofs::Defaults::untyped_view))]
+    #[inline(always)]
     pub fn get_default_pointer(&self) -> Option<PointerReader<'s>>
         ensures pointer { MatchOption result (default_behind self.now ≡ Null)
             (λ reader. (tree_of reader ≡ default_behind self.now) × (levels_of reader ≡ 64)) }
@@ -155,6 +158,7 @@ impl<'s> Field<'s> {
 
     /// Where the field stands in its struct, worked out when the set was made. It lies inside each struct that has the
     /// sections of the field's schema.
+    #[inline(always)]
     pub fn plan(&self) -> SlotPlan
         ensures is { result ≡ plan_of (set_of (schema_of self.now)) (number_of (schema_of self.now)) (struct_field (schema_of self.now) (index_of self.now)) }
         ensures stands { IsPlan (set_of (schema_of self.now)) (number_of (schema_of self.now)) (struct_field (schema_of self.now) (index_of self.now)) result }

@@ -29,6 +29,7 @@ fn indices_at(tables: &[Vec<u16>], table: usize) -> &[u16]
 }
 
 /// The plans in a table of so many, none past the last table.
+#[inline(always)]
 fn plans_at(tables: &[Vec<SlotPlan>], table: usize) -> &[SlotPlan]
     ensures { result.now ≡ table_at tables.now table }
 {
@@ -39,6 +40,7 @@ fn plans_at(tables: &[Vec<SlotPlan>], table: usize) -> &[SlotPlan]
 }
 
 /// The plan of a number, that of a slot without room past the end.
+#[inline(always)]
 fn plan_at(plans: &[SlotPlan], i: usize) -> SlotPlan
     ensures { result ≡ unwrap_or (slice_get plans.now i) no_plan }
 {
@@ -158,6 +160,7 @@ impl SchemaSet {
 
     /// The plan of a field, that of a slot without room where there is no such field.
     #[tactic(auto, using(crate::proofs::LookUps::plan_here))]
+    #[inline(always)]
     pub(crate) fn plan(&self, brand: u32, field: u16) -> SlotPlan
         ensures is { result ≡ plan_of (lists_seen self.now) brand (field_at (lists_seen self.now) brand field) }
         ensures stands { field < length (fields_of (lists_seen self.now) brand)

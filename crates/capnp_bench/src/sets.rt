@@ -1,0 +1,243 @@
+//! Dynamic sets: numbers by field handle in a struct and its groups, and messages that are built whole.
+ghost use Rattle.std.specs.Prelude.{◌≡◌, IfOk, Some};
+ghost use Rattle.capnp_wire.specs.Objects.{struct_object_tree};
+ghost use Rattle.capnp_schema.specs.FieldLists.{schema_of};
+ghost use Rattle.capnp_slots.specs.Groups.{IsGroup, IsGroupAt};
+ghost use Rattle.capnp_dynamic.specs.Built.{IsUnder};
+ghost use Rattle.capnp_bench.specs.Room.{AreShapes, LiesIn, StaysUnder};
+
+use crate::reads::number_of;
+use capnp_dynamic::dynamic_struct::{Builder, Reader};
+use capnp_dynamic::dynamic_value::Reader as Value;
+use capnp_dynamic::group;
+use capnp_schema::schema::{Field, StructSchema};
+use capnp_schema_callers::built_in::new_set;
+use capnp_wire::error::{Error, ErrorKind, Result};
+use capnp_wire::laws::kept::{nulls_are_well_formed, structs_can_be_read};
+use capnp_wire::message;
+use capnp_wire::object::StructObject;
+use capnp_write_callers::parts::open;
+use std::alloc::Global;
+
+/// The number of the struct with groups among the built-in brands.
+const SHAPES: u32 = 3;
+
+/// The fields of it that are set, and of its groups.
+#[derive(Clone, Copy)]
+struct Shapes<'s> {
+    id: Field<'s>,
+    circle: Field<'s>,
+    r: Field<'s>,
+    tag: Field<'s>,
+    n: Field<'s>,
+    u1: Field<'s>,
+    q: Field<'s>,
+}
+
+/// The field of a name; refused with `FieldNotFound` where there is none.
+#[tactic(auto, using(crate::proofs::Kept::own_lies))]
+fn field_of<'s>(schema: StructSchema<'s>, name: &str) -> Result<Field<'s>>
+    ensures own { IfOk result (λ f. schema_of f ≡ schema.entry) }
+    ensures lies { IfOk result (LiesIn schema.entry) }
+{
+    schema.get_field_by_name(name)
+}
+
+/// The schema of a field's group; refused with `TypeMismatch` for a slot.
+fn group_of<'s>(field: Field<'s>) -> Result<StructSchema<'s>>
+    ensures { IfOk result (IsGroupAt field.entry) }
+{
+    match group::group_of(field) {
+        Some(group) => Ok(group),
+        None => Err(Error::from(ErrorKind::TypeMismatch)),
+    }
+}
+
+/// The group of a name; refused as `field_of`, and with `TypeMismatch` for a slot.
+fn group_named<'s>(schema: StructSchema<'s>, name: &str) -> Result<Field<'s>>
+    ensures lies { IfOk result (LiesIn schema.entry) }
+    ensures group { IfOk result IsGroup }
+{
+    let field = field_of(schema, name)?;
+    group_of(field)?;
+    Ok(field)
+}
+
+/// The field of a name of a group; refused as `group_of` and `field_of`.
+#[tactic(auto, using(crate::proofs::Kept::group_lies))]
+fn inner_field<'s>(schema: StructSchema<'s>, group: Field<'s>, name: &str) -> Result<Field<'s>>
+    requires { LiesIn schema group }
+    ensures { IfOk result (LiesIn schema.entry) }
+{
+    let inner = group_of(group)?;
+    field_of(inner, name)
+}
+
+/// The fields of a schema that are set.
+fn shapes_of<'s>(schema: StructSchema<'s>) -> Result<Shapes<'s>>
+    ensures { IfOk result (AreShapes schema.entry) }
+{
+    let id = field_of(schema, "id")?;
+    let circle = group_named(schema, "circle")?;
+    let r = inner_field(schema, circle, "r")?;
+    let tag = group_named(schema, "tag")?;
+    let n = inner_field(schema, tag, "n")?;
+    let u1 = inner_field(schema, tag, "u1")?;
+    let q = inner_field(schema, tag, "q")?;
+    Ok(Shapes {
+        id,
+        circle,
+        r,
+        tag,
+        n,
+        u1,
+        q,
+    })
+}
+
+/// Sets a field of a struct.
+#[tactic(auto, using(crate::proofs::Kept::kept_under))]
+#[inline(always)]
+fn set<'s>(
+    object: &mut StructObject,
+    schema: StructSchema<'s>,
+    field: Field<'s>,
+    value: Value<'_>,
+) -> Result<()>
+    requires lies { LiesIn schema field }
+    requires under { IsUnder schema (struct_object_tree object.old) }
+    ensures { StaysUnder (struct_object_tree object.old) (struct_object_tree object.new) }
+{
+    let mut builder = Builder::new(object, field.get_containing_struct());
+    builder.set(field, value)
+}
+
+/// Starts a group of a struct anew.
+#[tactic(auto, using(crate::proofs::Kept::kept_under))]
+fn start<'s>(object: &mut StructObject, schema: StructSchema<'s>, field: Field<'s>)
+    requires group { IsGroup field }
+    requires lies { LiesIn schema field }
+    requires under { IsUnder schema (struct_object_tree object.old) }
+    ensures { StaysUnder (struct_object_tree object.old) (struct_object_tree object.new) }
+{
+    group::init(object, field);
+}
+
+/// What a field reads as, as a number.
+#[inline(always)]
+fn get<'s>(object: &StructObject, schema: StructSchema<'s>, field: Field<'s>) -> Result<u64>
+    requires lies { LiesIn schema field }
+    requires under { IsUnder schema (struct_object_tree object.now) }
+{
+    structs_can_be_read();
+    let reader = Reader::new(object.as_reader(), field.get_containing_struct());
+    Ok(number_of(reader.get(field)?))
+}
+
+/// Sets numbers of a struct and of its groups, and adds three of them as they then read.
+#[inline(never)]
+fn set_numbers(
+    object: &mut StructObject,
+    schema: StructSchema<'_>,
+    fields: &Shapes<'_>,
+    number: u64,
+    sum: &mut u64,
+) -> Result<()>
+    requires fields { AreShapes schema fields.now }
+    requires under { IsUnder schema (struct_object_tree object.old) }
+    ensures { IsUnder schema.entry (struct_object_tree object.new) }
+{
+    let half = Value::UInt16((number % 65_536) as u16);
+    set(object, schema, fields.id, half)?;
+    start(object, schema, fields.circle);
+    set(
+        object,
+        schema,
+        fields.r,
+        Value::UInt32((number % 4_294_967_296) as u32),
+    )?;
+    start(object, schema, fields.tag);
+    set(object, schema, fields.n, half)?;
+    set(
+        object,
+        schema,
+        fields.u1,
+        Value::UInt8((number % 256) as u8),
+    )?;
+    *sum = sum.wrapping_add(get(object, schema, fields.id)?);
+    *sum = sum.wrapping_add(get(object, schema, fields.n)?);
+    *sum = sum.wrapping_add(get(object, schema, fields.u1)?);
+    Ok(())
+}
+
+/// Sets numbers so many times.
+fn set_all(
+    object: &mut StructObject,
+    schema: StructSchema<'_>,
+    fields: &Shapes<'_>,
+    rounds: u64,
+) -> Result<u64>
+    requires fields { AreShapes schema fields.now }
+    requires under { IsUnder schema (struct_object_tree object.old) }
+{
+    let mut sum: u64 = 0;
+    for number in 0..rounds {
+        set_numbers(object, schema, fields, number, &mut sum)?;
+    }
+    Ok(sum)
+}
+
+fn numbers(alloc: Global, rounds: u64) -> Result<u64> {
+    let set = new_set(alloc)?;
+    let schema = set.struct_schema(SHAPES);
+    let fields = shapes_of(schema)?;
+    nulls_are_well_formed();
+    let mut message = message::Builder::new(alloc);
+    let Builder { builder, schema: _ } = open(message.root(), schema)?;
+    set_all(builder, schema, &fields, rounds)
+}
+
+/// Fills a struct with numbers and a text.
+fn fill(object: &mut StructObject, schema: StructSchema<'_>, fields: &Shapes<'_>) -> Result<()>
+    requires fields { AreShapes schema fields.now }
+    requires under { IsUnder schema (struct_object_tree object.old) }
+{
+    set(object, schema, fields.id, Value::UInt16(5))?;
+    start(object, schema, fields.tag);
+    set(object, schema, fields.n, Value::UInt16(3))?;
+    set(object, schema, fields.u1, Value::UInt8(9))?;
+    set(object, schema, fields.q, Value::from("hello"))
+}
+
+/// Builds and writes a message, and gives the number of its bytes.
+#[inline(never)]
+fn build(alloc: Global, schema: StructSchema<'_>, fields: &Shapes<'_>) -> Result<u64>
+    requires { AreShapes schema fields.now }
+{
+    nulls_are_well_formed();
+    let mut message = message::Builder::new(alloc);
+    let Builder { builder, schema: _ } = open(message.root(), schema)?;
+    fill(builder, schema, fields)?;
+    Ok(message.write_message()?.len() as u64)
+}
+
+fn messages(alloc: Global, rounds: u64) -> Result<u64> {
+    let set = new_set(alloc)?;
+    let schema = set.struct_schema(SHAPES);
+    let fields = shapes_of(schema)?;
+    let mut sum: u64 = 0;
+    for _ in 0..rounds {
+        sum = sum.wrapping_add(build(alloc, schema, &fields)?);
+    }
+    Ok(sum)
+}
+
+#[unsafe(no_mangle)]
+pub extern "C" fn bench_set_shapes_numbers(alloc: Global, _message: &[u8], rounds: u64) -> u64 {
+    numbers(alloc, rounds).unwrap_or(0)
+}
+
+#[unsafe(no_mangle)]
+pub extern "C" fn bench_set_shapes_message(alloc: Global, _message: &[u8], rounds: u64) -> u64 {
+    messages(alloc, rounds).unwrap_or(0)
+}
