@@ -91,7 +91,8 @@ fn copy_pointers(alloc: Global, pointers: Pointers<'_>) -> Result<Vec<Object>>
 #[cycle(copy)]
 #[inline(always)]
 fn copy_composite(alloc: Global, size: StructSize, elements: Elements<'_>) -> Result<ListObject>
-    ensures copy { IfOk result (λ list. list_object_tree list ≡ Composite size.data_words size.pointers (element_structs size.data_words size.pointers elements.entry)) }
+    ensures copy { IfOk result (λ list. list_object_tree list ≡
+        Composite size.data_words size.pointers (element_structs size.data_words size.pointers elements.entry)) }
     ensures sound { IfOk result (λ _. first_fault_of_elements (element_structs size.data_words size.pointers elements.entry) ≡ None) }
     ensures refused { IfErr result (λ error. IsCopyRefusal error (first_fault_of_elements (element_structs size.data_words size.pointers elements.entry))) }
 {
@@ -152,7 +153,8 @@ pub fn copy_parts(alloc: Global, parts: StructParts<'_>) -> Result<StructObject>
 ///
 /// Refused with `OutOfMemory`, and then some may be cut off already.
 fn fit_pointers(pointers: &mut Vec<Object>, count: usize) -> Result<()>
-    ensures fitted { OnOk result (object_trees pointers.new.items ≡ append_trees (first_trees count (object_trees pointers.old.items)) (nulls (count - tree_count (object_trees pointers.old.items)))) }
+    ensures fitted { OnOk result (object_trees pointers.new.items ≡
+        append_trees (first_trees count (object_trees pointers.old.items)) (nulls (count - tree_count (object_trees pointers.old.items)))) }
     ensures refused { IfErr result (λ error. error.kind ≡ OutOfMemory) }
 {
     let missing = count.saturating_sub(pointers.len());

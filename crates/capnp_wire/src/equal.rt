@@ -118,7 +118,8 @@ fn is_pointers(pointers: Pointers<'_>, found: Found<'_>) -> bool
 
 #[cycle(equal)]
 fn is_composite(size: StructSize, elements: Elements<'_>, found: Found<'_>) -> bool
-    ensures { IsTrue result ↔ (tree.Composite size.data_words size.pointers (element_structs size.data_words size.pointers elements.entry) ≡ found_tree found.entry) }
+    ensures { IsTrue result ↔ (tree.Composite size.data_words size.pointers
+        (element_structs size.data_words size.pointers elements.entry) ≡ found_tree found.entry) }
 {
     match found {
         Found::Composite(other_size, others) => {

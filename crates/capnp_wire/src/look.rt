@@ -106,7 +106,8 @@ fn look_at_struct<'a>(
 ) -> StructParts<'a>
     requires start { start ≤ 2 ^ 60 }
     requires level { 0 < depth }
-    ensures value { parts_tree result ≡ struct_at (tree_below (depth - 1) (segment_list segments.entry) segment.now) segment.now size.data_words size.pointers start }
+    ensures value { parts_tree result ≡
+        struct_at (tree_below (depth - 1) (segment_list segments.entry) segment.now) segment.now size.data_words size.pointers start }
     ensures below { ArePointersBelow depth result.pointers }
 {
     let row = PointerRow {
@@ -171,7 +172,9 @@ fn look_at_list<'a>(
 #[inline(always)]
 fn look_at_target<'a>(segments: Segments<'a>, target: Target<'a>, depth: u8) -> Found<'a>
     requires { StartFits target }
-    ensures value { found_tree result ≡ tree_at_depth depth (tree_below (depth - 1) (segment_list segments.entry)) (tree_below (depth - 2) (segment_list segments.entry)) (target_of target.entry) }
+    ensures value { found_tree result ≡
+        tree_at_depth depth (tree_below (depth - 1) (segment_list segments.entry))
+        (tree_below (depth - 2) (segment_list segments.entry)) (target_of target.entry) }
     ensures below { IsBelow depth result }
 {
     match target {

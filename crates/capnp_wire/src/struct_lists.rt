@@ -54,7 +54,8 @@ fn copy_as_structs(
     list: &ListObject,
     count: u32,
 ) -> Result<Vec<StructObject>>
-    ensures copy { IfOk result (λ structs. struct_object_trees structs.items ≡ structs_from (λ i. extended size (element_struct (list_object_tree list.now) i)) 0 count) }
+    ensures copy { IfOk result (λ structs. struct_object_trees structs.items ≡
+        structs_from (λ i. extended size (element_struct (list_object_tree list.now) i)) 0 count) }
     ensures refused { IfErr result (λ error. IsCopyRefusal error None) }
 {
     let mut structs = Vec::with_capacity(alloc, count as usize)?;
