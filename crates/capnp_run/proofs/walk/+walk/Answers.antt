@@ -6,7 +6,7 @@ use Rattle.std.specs.Borrow.{Bor}
 use Rattle.capnp_device.specs.declared.error.ErrorKind.TheVariants.{NotAContainer}
 use Rattle.capnp_wire.specs.Edits.{IsDueRefusal, struct_in}
 use Rattle.capnp_wire.specs.Elements.{HasPointer, HasStruct}
-use Rattle.capnp_wire.specs.Facts.Written.{element_written, object_written}
+use Rattle.capnp_wire.specs.Facts.Written.{object_written}
 use Rattle.capnp_wire.specs.KeptLists as kept_lists
 use Rattle.capnp_wire.specs.Kept as kept
 use Rattle.capnp_wire.specs.Lends.{with_element, with_object}
@@ -29,7 +29,7 @@ use Rattle.capnp_slots.specs.Fills.{fill_due, filled_in}
 use Rattle.capnp_slots.specs.Groups.{KeepsSize}
 use Rattle.capnp_run.proofs.ListWalks.{element_in_list, element_in_struct, element_list_stops, element_past, element_there, filled_there, fits_at, has_pointer, has_struct, list_end, names_none, other_stops, untyped_stops}
 use Rattle.capnp_run.proofs.NoMemory.{path_rests}
-use Rattle.capnp_run.proofs.Parts.{IsStructHere, element_formed, inner_stands, object_kept, pointer_formed, struct_here}
+use Rattle.capnp_run.proofs.Parts.{IsStructHere, element_formed, element_walked, inner_stands, object_kept, pointer_formed, struct_here}
 use Rattle.capnp_run.proofs.Walking.{field_group, field_list, field_refused, field_stops, field_struct, pointer_again, pointer_keeps, step_found, step_missing, walks_end}
 use Rattle.capnp_run.specs.Lists.{ElementWalks, IsListStand, ListWalks}
 use Rattle.capnp_run.specs.Walks.{FieldWalks, StructWalks}
@@ -200,7 +200,7 @@ walk_struct_in-returns-clause-walks t c =
     let g = generic_of c.args.schema in
     let x = list_object_tree c.args.list.now in
     let y : StructTree = struct_object_tree c.walk.new.object in
-    subst (λ (z : Tree). ElementWalks set (StructType b g) c.args.index c.args.rest.now c.args.end x c.walk.result z) (sym (element_written c.args.list.now c.args.index c.walk.new.object))
+    subst (λ (z : Tree). ElementWalks set (StructType b g) c.args.index c.args.rest.now c.args.end x c.walk.result z) (sym (element_walked c.args.list.now c.args.index c.walk.new.object _ c.get_struct_element-inner.ensures.now c.walk.ensures.kept))
     (element_in_struct set x c.args.index c.args.rest.now c.args.end c.requires.inside b g c.walk.result y
     (subst (λ (s : StructTree). StructWalks set b c.args.rest.now c.args.end s c.walk.result y) c.get_struct_element-inner.ensures.now c.walk.ensures.walks))
 
