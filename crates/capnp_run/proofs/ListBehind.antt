@@ -1,5 +1,5 @@
 -- What stands behind a list's slot that a step goes into, and why it is refused.
-use Rattle.std.specs.Prelude.{ℕ, ◌-◌, ◌*◌, ◌^◌, ◌<◌, ◌≡◌, ◌⊎◌, refl, List, Bool, true, false, not, ◌&&◌, ◌||◌, Option, Some, None, Result, Ok, Err, IsOk, IsTrue, IfErr, OnErr, OnOk}
+use Rattle.std.specs.Prelude.{ℕ, ◌-◌, ◌*◌, ◌^◌, ◌<◌, ◌≡◌, ◌⊎◌, refl, List, Bool, true, false, not, ◌&&◌, ◌||◌, Option, Some, None, Result, Ok, Err, IsOk, IsTrue, IfErr, OnOk}
 use Rattle.std.proofs.Common.{ap, inl, inr, sym, subst, ◌∙◌}
 use Rattle.std.proofs.lemmas.Bool.{true≢false}
 use Rattle.capnp_device.specs.declared.error.Error.{Error}
@@ -10,14 +10,13 @@ use Rattle.capnp_wire.specs.Edits.{IsDueRefusal}
 use Rattle.capnp_wire.specs.Elements.{reads_list}
 use Rattle.capnp_wire.specs.Facts.Room.{reads_list-as_list}
 use Rattle.capnp_wire.specs.Reading.{as_list, is_null_tree}
-use Rattle.capnp_wire.specs.StructLists.{struct_list, struct_list_refusal}
 use Rattle.capnp_wire.specs.Tree as tree
 use Rattle.capnp_wire.specs.Tree.{StructTree, Tree, nth_tree}
 use Rattle.capnp_wire.specs.WellFormed.{IsWellFormed}
 use Rattle.capnp_wire.specs.Words.{first_fault, first_fault_of_all}
 use Rattle.capnp_schema.specs.Accepted.{Decodes, IsDefaultOf, KindDefault, root_of}
 use Rattle.capnp_schema.specs.Defaults.{DefaultFits, IsReadAs, default_tree}
-use Rattle.capnp_schema.specs.FieldLists.{index_of, typed_of}
+use Rattle.capnp_schema.specs.FieldLists.{typed_of}
 use Rattle.capnp_schema.specs.Ranges.{HasRanges}
 use Rattle.capnp_schema.specs.Schema.{AnyPointerValue, FieldKind, Group, ListValue, Schemas, Slot, StructValue, brand_at, default_of, kind_default}
 use Rattle.capnp_schema.specs.Schema.{Value as SchemaValue}
@@ -30,12 +29,12 @@ use Rattle.capnp_records.specs.Reading.{value_of}
 use Rattle.capnp_records.specs.Record.{Endless, Record, Value}
 use Rattle.capnp_records.specs.Record as value
 use Rattle.capnp_records.specs.Step.{CanRefuse, Target, fault_of, filled, for_memory, for_size, is_group_field, is_list_default, is_struct_list, size_of, takes_room}
-use Rattle.capnp_records.specs.Writes.Fill.{IsAtRest, entered_list, filled_list, or_default}
+use Rattle.capnp_records.specs.Writes.Fill.{IsAtRest, filled_list, or_default}
 use Rattle.capnp_records.specs.Writes.Slots.{brand_size}
-use Rattle.capnp_records.specs.Writes.Stand.{KindWithin, ListSound, SlotWithin, left_field}
+use Rattle.capnp_records.specs.Writes.Stand.{KindWithin, SlotWithin, left_field}
 use Rattle.capnp_records.specs.Writes.TreeEnds.{TreeEnds, offset_of}
 use Rattle.capnp_records.specs.Writes.TreeRun.{TreeEnd, TreeWalks}
-use Rattle.capnp_slots.specs.Fields.{IsPointer, IsSlot, field_brand, field_set}
+use Rattle.capnp_slots.specs.Fields.{IsPointer, IsSlot, field_set}
 use Rattle.capnp_slots.specs.Fills.{RestsIn, due_in, fill_due, filled_in, filled_tree, pointer_in}
 use Rattle.capnp_run.proofs.Behind.{due_memory, nth_sound, pointed, rests_in}
 use Rattle.capnp_run.proofs.Entered.{enters, part_in, passes, short, unread}

@@ -19,22 +19,22 @@ use Rattle.capnp_base.specs.declared.introspect.«Type».{«Type» as TypeHandle
 use Rattle.capnp_base.specs.declared.introspect.TypeVariant.{TypeVariant}
 use Rattle.capnp_base.specs.declared.introspect.TypeVariant.TheVariants as variant
 use Rattle.capnp_schema.specs.Schema.{ListValue, Schemas, VoidValue}
-use Rattle.capnp_schema.specs.Types.{AnyPointerType, BoolType, DataType, IntType, ListType, SchemaType, StructType, TextType, UIntType, VoidType, element_size, seen_variant}
+use Rattle.capnp_schema.specs.Types.{AnyPointerType, BoolType, DataType, IntType, ListType, SchemaType, StructType, TextType, UIntType, VoidType, seen_variant}
 use Rattle.capnp_records.specs.Call.{ElementAt, FieldNamed, FieldNumber, PathStep, Refused}
 use Rattle.capnp_records.specs.Call as record_call
 use Rattle.capnp_records.specs.Facts.Frame.{first-of, second-of}
-use Rattle.capnp_records.specs.Facts.ListValues.{count-values_from, elements_seen, list-from, nth-values_from}
+use Rattle.capnp_records.specs.Facts.ListValues.{count-values_from, list-from, nth-values_from}
 use Rattle.capnp_records.specs.Part.{value_count}
 use Rattle.capnp_records.specs.Reading.{value_of}
 use Rattle.capnp_records.specs.Record as value
 use Rattle.capnp_records.specs.Record.{Endless, NoValues, Value, Values, values_from}
 use Rattle.capnp_records.specs.Run.{Asks}
-use Rattle.capnp_records.specs.Step.{CanRefuse, Found, Target, element_target, fault_of, filled, for_memory, for_size, in_list, size_of, takes_room, target_at, walked, walked_by_type, walked_result, walked_target}
+use Rattle.capnp_records.specs.Step.{CanRefuse, Found, Target, fault_of, filled, for_memory, for_size, in_list, size_of, takes_room, target_at, walked_by_type, walked_result, walked_target}
 use Rattle.capnp_records.specs.Writes.Fill.{IsAtRest, entered_list}
 use Rattle.capnp_records.specs.Writes.Slots.{Fits, brand_size}
-use Rattle.capnp_records.specs.Writes.Stand.{ListSound, OnList, OnStruct, Stand, seen_element}
+use Rattle.capnp_records.specs.Writes.Stand.{ListSound, OnList, OnStruct, seen_element}
 use Rattle.capnp_records.specs.Writes.TreeEnds.{TreeDoesAt, TreeEnds}
-use Rattle.capnp_records.specs.Writes.TreeRun.{TreeEnd, TreeEnters, TreeGoes, TreePasses, TreeWalks}
+use Rattle.capnp_records.specs.Writes.TreeRun.{TreeEnd, TreeEnters, TreePasses, TreeWalks}
 use Rattle.capnp_slots.specs.Fills.{fill_due}
 use Rattle.capnp_run.proofs.Behind.{due_memory}
 use Rattle.capnp_run.proofs.ListBehind.{IsListDefault, memory_structs, size_memory, slot_within}

@@ -1,5 +1,5 @@
 -- Each step goes on in the part that it enters, and the owner has what is left of that.
-use Rattle.std.proofs.Common.{◌≡◌, ◌<◌, ◌≤◌, ◌∷◌, List, ℕ, refl, ap, sym, subst, arith, None, ◌∙◌}
+use Rattle.std.proofs.Common.{◌≡◌, List, ℕ, refl, ap, sym, subst, arith, None, ◌∙◌}
 use Rattle.std.proofs.lemmas.Bool.{true≢false}
 use Rattle.std.proofs.lemmas.List.{nil_from_length}
 use Rattle.std.specs.Borrow.{Bor}
@@ -8,17 +8,14 @@ use Rattle.capnp_wire.specs.Edits.{IsDueRefusal, struct_in}
 use Rattle.capnp_wire.specs.Elements.{HasPointer, HasStruct}
 use Rattle.capnp_wire.specs.Facts.Written.{object_written}
 use Rattle.capnp_wire.specs.KeptLists as kept_lists
-use Rattle.capnp_wire.specs.Kept as kept
-use Rattle.capnp_wire.specs.Lends.{with_element, with_object}
+use Rattle.capnp_wire.specs.Lends.{with_object}
 use Rattle.capnp_wire.specs.Objects.{list_object_tree, object_tree, struct_object_tree}
 use Rattle.capnp_wire.specs.Place.{struct_tree}
-use Rattle.capnp_wire.specs.Reading.{element_pointer, element_struct, is_null_tree, list_length}
 use Rattle.capnp_wire.specs.Tree.{StructTree, Tree}
 use Rattle.capnp_wire.specs.WellFormed.{IsWellFormed}
 use Rattle.capnp_wire.specs.Words.{first_fault}
 use Rattle.capnp_schema.specs.Entries.{lists_seen}
 use Rattle.capnp_schema.specs.Facts.Layers.{seen_which}
-use Rattle.capnp_schema.specs.Ranges.{HasRanges}
 use Rattle.capnp_schema.specs.Schema.{Schemas, VoidValue, brand_at}
 use Rattle.capnp_schema.specs.StructHandles.{generic_of, number_of, set_of}
 use Rattle.capnp_schema.specs.Types.{ListType, SchemaType, StructType, seen_type, seen_variant}
@@ -26,12 +23,11 @@ use Rattle.capnp_records.specs.Writes.Fill.{IsAtRest, entered_list}
 use Rattle.capnp_records.specs.Writes.Slots.{Fits}
 use Rattle.capnp_slots.specs.Fields.{field_set, pointer_index}
 use Rattle.capnp_slots.specs.Fills.{fill_due, filled_in}
-use Rattle.capnp_slots.specs.Groups.{KeepsSize}
-use Rattle.capnp_run.proofs.ListWalks.{element_in_list, element_in_struct, element_list_stops, element_past, element_there, filled_there, fits_at, has_pointer, has_struct, list_end, names_none, other_stops, untyped_stops}
+use Rattle.capnp_run.proofs.ListWalks.{element_in_list, element_in_struct, element_list_stops, element_past, element_there, fits_at, has_pointer, has_struct, list_end, names_none, other_stops, untyped_stops}
 use Rattle.capnp_run.proofs.NoMemory.{path_rests}
 use Rattle.capnp_run.proofs.Parts.{IsStructHere, element_formed, element_walked, inner_stands, object_kept, pointer_formed, struct_here}
 use Rattle.capnp_run.proofs.Walking.{field_group, field_list, field_refused, field_stops, field_struct, pointer_again, pointer_keeps, step_found, step_missing, walks_end}
-use Rattle.capnp_run.specs.Lists.{ElementWalks, IsListStand, ListWalks}
+use Rattle.capnp_run.specs.Lists.{ElementWalks, ListWalks}
 use Rattle.capnp_run.specs.Walks.{FieldWalks, StructWalks}
 use Rattle.capnp_run.specs.declared.calls.Reply.TheVariants as reply
 use Rattle.capnp_run.specs.declared.calls.Step.{Step}
