@@ -1,16 +1,14 @@
 -- What a write keeps: a struct has its schema's sections as before, and is well-formed.
-use Rattle.std.specs.Prelude.{ℕ, ◌*◌, ◌≤◌, ◌≡◌, Bool, Some}
-use Rattle.std.proofs.Common.{ap, subst, sym}
+use Rattle.std.specs.Prelude.{◌*◌, ◌≤◌, ◌≡◌, Bool}
+use Rattle.std.proofs.Common.{subst, sym}
 use Rattle.capnp_wire.specs.Tree.{StructTree}
-use Rattle.capnp_schema.specs.FieldLists.{IsFound, schema_of}
+use Rattle.capnp_schema.specs.FieldLists.{schema_of}
 use Rattle.capnp_schema.specs.Footprint.{Place}
-use Rattle.capnp_schema.specs.Query.{field_named}
-use Rattle.capnp_schema.specs.Schema.{Schemas}
-use Rattle.capnp_schema.specs.StructHandles.{number_of, set_of, struct_records}
+use Rattle.capnp_schema.specs.StructHandles.{number_of, set_of}
 use Rattle.capnp_schema.specs.declared.schema.fields.Field.{Field}
 use Rattle.capnp_schema.specs.declared.schema.structs.StructSchema.{StructSchema}
 use Rattle.capnp_records.specs.Writes.Slots.{Fits, brand_size}
-use Rattle.capnp_slots.specs.Fields.{IsRoomFor, Keeps}
+use Rattle.capnp_slots.specs.Fields.{Keeps}
 use Rattle.capnp_slots.specs.Groups.{IsGroupAt}
 use Rattle.capnp_dynamic.specs.Built.{IsUnder}
 use Rattle.capnp_bench.specs.Room.{LiesIn, StaysUnder}

@@ -1,5 +1,5 @@
 //! Dynamic sets: numbers by field handle in a struct and its groups, and messages that are built whole.
-ghost use Rattle.std.specs.Prelude.{◌≡◌, IfOk, Some};
+ghost use Rattle.std.specs.Prelude.{◌≡◌, IfOk};
 ghost use Rattle.capnp_wire.specs.Objects.{struct_object_tree};
 ghost use Rattle.capnp_schema.specs.FieldLists.{schema_of};
 ghost use Rattle.capnp_slots.specs.Groups.{IsGroup, IsGroupAt};
