@@ -36,7 +36,7 @@ use Rattle.capnp_records.proofs.Cut.{RecordCuts, UnionCuts, struct_record-cuts}
 use Rattle.capnp_records.proofs.DefaultParts.{first-active}
 use Rattle.capnp_records.proofs.GroupClear.{fits-group, turns-cleared_group, within-cleared}
 use Rattle.capnp_records.proofs.GroupCopy.{within-copied}
-use Rattle.capnp_records.proofs.SlotWrite.{part_of-slot, slot-inside, turns-with_slot}
+use Rattle.capnp_records.proofs.SlotWrite.{slot-inside, slot-part, turns-with_slot}
 
 -- ---- slots ----
 
@@ -58,7 +58,7 @@ part-written set b i s h c suits l = go f.field.kind refl h.slot
     go : (k : FieldKind) → f.field.kind ≡ k → is_group_field k ≡ false →
         part_of set l (with_slot set b f (offset_of k) c s).bytes (values_of set (with_slot set b f (offset_of k) c s).pointers) f ≡ content_read set l (kind_default k) f.type c
     go (Slot offset d) e q =
-        part_of-slot set l (with_content m offset f.type c) f offset d e
+        slot-part set l (with_content m offset f.type c) f offset d e
         ∙ slot_value-written set l m offset d f.type c suits (slot-inside set h.at.accepted b i h.at.brand h.at.index offset d e m (fits-after _ set b s m ready.writes h.room))
     go (Group node) e q = absurd (true≢false q)
 
