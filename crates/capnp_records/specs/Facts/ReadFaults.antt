@@ -2,7 +2,7 @@
 use Rattle.std.specs.Prelude.{ℕ, zero, suc, ◌≡◌, refl, ⊤, List, [], ◌∷◌, Bool, true, false, cond, ◌&&◌, ◌==◌, Result, Ok, Err, get_or, length, take, ◌-◌, Option, Some, None}
 use Rattle.capnp_device.specs.declared.error.ErrorKind.{ErrorKind}
 use Rattle.capnp_device.specs.declared.error.ErrorKind.TheVariants.{BadPointer, CapabilityPointer, TextNotTerminated, TooDeep, WrongElementSize, WrongPointerKind}
-use Rattle.capnp_wire.specs.Reading.{as_data, as_list, as_struct, as_text, empty_list, is_null_tree, list_length, reads_bits, reads_numbers, reads_pointers, reads_structs, reads_voids, refusal, terminated_text, with_level}
+use Rattle.capnp_wire.specs.Reading.{as_data, as_list, as_struct, as_text, is_null_tree, list_length, reads_bits, reads_numbers, reads_pointers, reads_structs, reads_voids, refusal, terminated_text, with_level}
 use Rattle.capnp_wire.specs.Tree as tree
 use Rattle.capnp_wire.specs.Tree.{StructTree, Structs, Tree, Trees}
 use Rattle.capnp_wire.specs.declared.fault.Fault.{Fault}
