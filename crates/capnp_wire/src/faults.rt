@@ -90,13 +90,7 @@ fn fault_of_block(
         return None;
     }
     for i in 0..count {
-        let row = PointerRow {
-            bytes: block.bytes,
-            segment: block.segment,
-            first: block.first
-                + i as usize * (size.data_words as usize + size.pointers as usize)
-                + size.data_words as usize,
-        };
+        let row = block.pointers_of(size, i);
         if let Some(fault) = fault_of_row(depth, is_stream, size.pointers as u32, row) {
             return Some(fault);
         }

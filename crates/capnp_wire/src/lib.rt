@@ -6,6 +6,7 @@
 
 mod bits;
 mod blob_builder;
+mod block;
 mod bytes;
 mod copy;
 mod defaults;

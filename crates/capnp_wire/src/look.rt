@@ -481,18 +481,13 @@ pub fn get_element<'a>(size: StructSize, elements: Elements<'a>, index: usize) -
                 return empty_parts();
             }
             let start = block.first + index * (size.data_words as usize + size.pointers as usize);
-            let row = PointerRow {
-                bytes: block.bytes,
-                segment: block.segment,
-                first: start + size.data_words as usize,
-            };
             StructParts {
                 data: bytes_from(block.segment, start, 8 * size.data_words as usize),
                 pointers: Pointers::Words {
                     depth,
                     is_stream,
                     count: size.pointers as u32,
-                    row,
+                    row: block.pointers_of(size, index as u32),
                 },
             }
         }

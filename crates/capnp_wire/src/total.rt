@@ -132,13 +132,7 @@ fn total_block(size: StructSize, depth: u8, is_stream: bool, count: u32, block: 
     }
     let mut sum: u64 = 0;
     for i in 0..count {
-        let row = PointerRow {
-            bytes: block.bytes,
-            segment: block.segment,
-            first: block.first
-                + i as usize * (size.data_words as usize + size.pointers as usize)
-                + size.data_words as usize,
-        };
+        let row = block.pointers_of(size, i);
         let words = total_row(depth, is_stream, size.pointers as u32, row)?;
         sum = add(sum, words)?;
     }

@@ -1,10 +1,10 @@
-use Rattle.std.proofs.Common.{rules, arith, ◌≡◌, sym, ap, refl}
+use Rattle.std.proofs.Common.{rules, arith, ◌≡◌, sym, ap, refl, ◌∙◌}
 use Rattle.std.proofs.lemmas.Result.{err_from_is_err_and}
 use Rattle.capnp_wire.specs.Tree.{Bits}
 use Rattle.capnp_wire.specs.Place.{tree_below, bits_from}
 use Rattle.capnp_wire.specs.Backing.{segment_list}
 use Rattle.capnp_wire.specs.Found.{ArePointersBelow, AreElementsBelow, pointer_trees, row_trees}
-use Rattle.capnp_wire.specs.Words.{first_fault, words_of}
+use Rattle.capnp_wire.specs.Words.{first_fault, first_fault_of_all, words_of, words_of_all}
 use Rattle.capnp_wire.proofs.Lists.{length-bits_from, tree_count-from, struct_count-from, nth_tree-from, nth_struct-start}
 use Rattle.capnp_wire.proofs.NullWords.{null_below}
 use Rattle.capnp_wire.proofs.NoPointers.{no_faults_below, no_words_below}
@@ -21,17 +21,18 @@ total_block-loop-i-init t c = no_elements_summed _
 pub total_block-returns-in_err-words : goal.total_block-returns-in_err-words
 total_block-returns-in_err-words t c =
     let p = err_from_is_err_and c.from_residual.result c.from_residual.ensures.1 in
-    rw (p.1, p.2) (element_stops _ _ _ _ c.loop-i.invariant (rw struct_count-from c.loop-i-test.true) (nth_struct-start _ _ _ c.loop-i-test.true) _ c.in_err-words.ensures)
+    rw (p.1, p.2) (element_stops _ _ _ _ c.loop-i.invariant (rw struct_count-from c.loop-i-test.true) (nth_struct-start _ _ _ c.loop-i-test.true) _ (rw (c.pointers_of-row.ensures c.args.depth c.args.is_stream) at c.in_err-words.ensures))
 
 pub total_block-returns-in_err-sum : goal.total_block-returns-in_err-sum
 total_block-returns-in_err-sum t c =
     let p = err_from_is_err_and c.from_residual-in_err-sum.result c.from_residual-in_err-sum.ensures.1 in
-    rw (p.1, p.2) (element_sum_stops _ _ _ _ c.loop-i.invariant (rw struct_count-from c.loop-i-test.true) (nth_struct-start _ _ _ c.loop-i-test.true) _ _ c.in_ok-words.ensures.1 c.in_err-sum.ensures)
+    rw (p.1, p.2) (element_sum_stops _ _ _ _ c.loop-i.invariant (rw struct_count-from c.loop-i-test.true) (nth_struct-start _ _ _ c.loop-i-test.true) _ _ (c.in_ok-words.ensures.1 ∙ ap words_of_all (c.pointers_of-row.ensures c.args.depth c.args.is_stream)) c.in_err-sum.ensures)
 
 pub total_block-loop-i-preserved : goal.total_block-loop-i-preserved
 total_block-loop-i-preserved t c =
     let h = c.in_ok-words.ensures in
-    element_summed _ _ _ _ c.loop-i.invariant (rw struct_count-from c.loop-i-test.true) (nth_struct-start _ _ _ c.loop-i-test.true) _ _ _ h.0 h.1 c.in_ok-sum.ensures.1 refl
+    let there = c.pointers_of-row.ensures c.args.depth c.args.is_stream in
+    element_summed _ _ _ _ c.loop-i.invariant (rw struct_count-from c.loop-i-test.true) (nth_struct-start _ _ _ c.loop-i-test.true) _ _ _ (ap first_fault_of_all (sym there) ∙ h.0) (h.1 ∙ ap words_of_all there) c.in_ok-sum.ensures.1 refl
 
 pub total_block-returns : goal.total_block-returns
 total_block-returns t c = all_elements_summed _ _ _ c.loop-i.invariant (rw struct_count-from c.loop-i-test.false)
