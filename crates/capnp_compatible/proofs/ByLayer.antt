@@ -6,8 +6,7 @@ use Rattle.capnp_base.specs.declared.introspect.TypeVariant.{TypeVariant}
 use Rattle.capnp_base.specs.declared.introspect.TypeVariant.TheVariants as variant
 use Rattle.capnp_base.specs.Types.{kind, variant_of}
 use Rattle.capnp_schema.specs.Schema.{Schemas}
-use Rattle.capnp_schema.specs.Types.{SchemaType, ListType, seen_type}
-use Rattle.capnp_schema.specs.Tests.{seen_variant}
+use Rattle.capnp_schema.specs.Types.{SchemaType, ListType, seen_type, seen_variant}
 use Rattle.capnp_schema.specs.Facts.Layers.{seen_which}
 use Rattle.capnp_records.specs.Compatible.{Related, type_in_place}
 use Rattle.capnp_compatible.specs.Closing.{all_pairs, inside_lists, named}

@@ -7,8 +7,7 @@ use Rattle.capnp_base.specs.declared.introspect.TypeVariant.TheVariants as varia
 use Rattle.capnp_base.specs.declared.introspect.RawBrandedStructSchema.{RawBrandedStructSchema}
 use Rattle.capnp_base.specs.Types.{variant_of}
 use Rattle.capnp_schema.specs.Schema.{Schemas, field_at}
-use Rattle.capnp_schema.specs.Types.{SchemaType, seen_type}
-use Rattle.capnp_schema.specs.Tests.{seen_variant}
+use Rattle.capnp_schema.specs.Types.{SchemaType, seen_type, seen_variant}
 use Rattle.capnp_records.specs.Compatible.{can_become_struct, stands_first, type_in_place}
 use Rattle.capnp_compatible.proofs.ByLayer.{seen}
 

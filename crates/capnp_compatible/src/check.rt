@@ -63,7 +63,8 @@ impl<'s> Compatible<'s> {
         requires older { IsStruct older }
         requires newer { IsStruct newer }
         requires one_set { set_of newer ≡ set_of older }
-        ensures answer { IfOk result (λ found. MatchOption found (IsCompatibleOrUpgraded (set_of older.entry) (number_of older.entry) (number_of newer.entry) → ⊥) (IsPair older.entry newer.entry)) }
+        ensures answer { IfOk result (λ found. MatchOption found
+            (IsCompatibleOrUpgraded (set_of older.entry) (number_of older.entry) (number_of newer.entry) → ⊥) (IsPair older.entry newer.entry)) }
         ensures refused { IfErr result (λ e. e.kind ≡ OutOfMemory) }
     {
         let set = older.get_set();
@@ -161,8 +162,11 @@ impl<'s> Compatible<'s> {
         requires { IsUnder reader (newer_of self.now) }
         ensures schema { schema_of result ≡ older_of self.now }
         ensures reader { reader_of result ≡ reader_of reader.entry }
-        ensures record { IsAsItWas (older_of self.now) (newer_of self.now) → record_seen result ≡ projection_of (set_of (older_of self.now)) (number_of (older_of self.now)) (number_of (newer_of self.now)) (record_seen reader.entry) }
-        ensures where_read { AreRead (older_of self.now) (newer_of self.now) (record_seen result) (record_seen reader.entry) → IsSeen (older_of self.now) (newer_of self.now) (record_seen result) (record_seen reader.entry) }
+        ensures record { IsAsItWas (older_of self.now) (newer_of self.now)
+            → record_seen result ≡ projection_of (set_of (older_of self.now)) (number_of (older_of self.now)) (number_of (newer_of self.now))
+            (record_seen reader.entry) }
+        ensures where_read { AreRead (older_of self.now) (newer_of self.now) (record_seen result) (record_seen reader.entry)
+            → IsSeen (older_of self.now) (newer_of self.now) (record_seen result) (record_seen reader.entry) }
     {
         self.follows();
         self.projects();
@@ -181,8 +185,11 @@ impl<'s> Compatible<'s> {
         requires { IsUnder reader (older_of self.now) }
         ensures schema { schema_of result ≡ newer_of self.now }
         ensures reader { reader_of result ≡ reader_of reader.entry }
-        ensures record { IsAsItWas (older_of self.now) (newer_of self.now) → projection_of (set_of (older_of self.now)) (number_of (older_of self.now)) (number_of (newer_of self.now)) (record_seen result) ≡ record_seen reader.entry }
-        ensures where_read { AreRead (older_of self.now) (newer_of self.now) (record_seen reader.entry) (record_seen result) → IsSeen (older_of self.now) (newer_of self.now) (record_seen reader.entry) (record_seen result) }
+        ensures record { IsAsItWas (older_of self.now) (newer_of self.now)
+            → projection_of (set_of (older_of self.now)) (number_of (older_of self.now)) (number_of (newer_of self.now)) (record_seen result)
+            ≡ record_seen reader.entry }
+        ensures where_read { AreRead (older_of self.now) (newer_of self.now) (record_seen reader.entry) (record_seen result)
+            → IsSeen (older_of self.now) (newer_of self.now) (record_seen reader.entry) (record_seen result) }
     {
         self.follows();
         self.projects();

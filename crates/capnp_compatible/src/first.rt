@@ -2,8 +2,7 @@
 ghost use Rattle.std.specs.Prelude.{◌≡◌, ◌<◌, ◌&&◌, IsTrue, length};
 ghost use Rattle.capnp_schema.specs.Entries.{lists_seen};
 ghost use Rattle.capnp_schema.specs.Schema.{ListValue, seen_kind, seen_value};
-ghost use Rattle.capnp_schema.specs.Tests.{seen_variant};
-ghost use Rattle.capnp_schema.specs.Types.{seen_type};
+ghost use Rattle.capnp_schema.specs.Types.{seen_type, seen_variant};
 ghost use Rattle.capnp_records.specs.Compatible.{can_become_struct, is_empty_default, is_first_slot, stands_first, type_in_place};
 
 use crate::brands::{field_count, field_of};

@@ -4,8 +4,7 @@ ghost use Rattle.std.specs.Option.{option_copied};
 ghost use Rattle.capnp_base.specs.Types.{kind};
 ghost use Rattle.capnp_schema.specs.Entries.{lists_seen};
 ghost use Rattle.capnp_schema.specs.Schema.{enum_at};
-ghost use Rattle.capnp_schema.specs.Types.{seen_type};
-ghost use Rattle.capnp_schema.specs.Tests.{seen_variant};
+ghost use Rattle.capnp_schema.specs.Types.{seen_type, seen_variant};
 ghost use Rattle.capnp_records.specs.Compatible.{Related};
 ghost use Rattle.capnp_compatible.specs.Closing.{all_pairs, inside_lists, named};
 

@@ -13,8 +13,7 @@ use Rattle.capnp_schema.specs.Accepted.{GroupFits}
 use Rattle.capnp_schema.specs.FieldLists.{IsFieldOf, index_of, typed_of}
 use Rattle.capnp_schema.specs.GroupsDown.{IsGroupIn}
 use Rattle.capnp_schema.specs.Laws.{HeightsFall, group_height}
-use Rattle.capnp_schema.specs.Parents.{kind_target}
-use Rattle.capnp_schema.specs.Schema.{FieldKind, Group, Schemas, Slot, kind_default}
+use Rattle.capnp_schema.specs.Schema.{FieldKind, Group, Schemas, Slot, kind_default, kind_target}
 use Rattle.capnp_schema.specs.Schema.{Value as SchemaValue}
 use Rattle.capnp_schema.specs.StructHandles.{IsStruct, number_of, set_of, struct_field}
 use Rattle.capnp_schema.specs.declared.schema.fields.Field.{Field}

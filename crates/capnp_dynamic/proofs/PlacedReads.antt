@@ -8,8 +8,7 @@ use Rattle.capnp_schema.specs.Accepted.{IsAccepted, IsGroupOf, GroupFits, NamesE
 use Rattle.capnp_schema.specs.Plan.{IsSlotPlace, place_of}
 use Rattle.capnp_schema.specs.Schema.{FieldKind, Group, Schemas, Slot, default_of, field_at, fields_of, kind_default}
 use Rattle.capnp_schema.specs.Schema.{Value as SchemaValue}
-use Rattle.capnp_schema.specs.Tests.{seen_variant}
-use Rattle.capnp_schema.specs.Types.{SchemaType, StructType, struct_brand, struct_number}
+use Rattle.capnp_schema.specs.Types.{SchemaType, StructType, struct_brand, struct_number, seen_variant}
 use Rattle.capnp_records.specs.Facts.Groups.{part_of-group}
 use Rattle.capnp_records.specs.Facts.Pointers.{values_of-nth}
 use Rattle.capnp_records.specs.Default.{read_of}

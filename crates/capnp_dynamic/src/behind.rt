@@ -122,7 +122,8 @@ pub(crate) fn read_list<'a>(
     size: ElementSize,
     pointer: &PointerReader<'a>,
 ) -> Result<ListReader<'a>>
-    ensures { (set : Schemas) (e : SchemaType) → element_size e ≡ size → list_answered set e result ≡ pointer_read set (kind_default (seen_kind kind.now)) (ListType e) pointer.now }
+    ensures { (set : Schemas) (e : SchemaType) → element_size e ≡ size
+        → list_answered set e result ≡ pointer_read set (kind_default (seen_kind kind.now)) (ListType e) pointer.now }
 {
     let here = pointer.get_list(size)?;
     if !pointer.is_null() {

@@ -54,8 +54,10 @@ impl<'a> Reader<'a> {
 
     /// The size of the struct with all that its pointers lead to, as `StructReader::total_size`, and refused as that is.
     pub fn total_size(&self) -> Result<MessageSize>
-        ensures size { IfOk result (λ size. IsSize size (first_fault_of_all (struct_of (reader_of self.now)).pointers) (words_of_struct (struct_of (reader_of self.now)))) }
-        ensures refused { IfErr result (λ error. IsSizeRefusal error (first_fault_of_all (struct_of (reader_of self.now)).pointers) (words_of_struct (struct_of (reader_of self.now)))) }
+        ensures size { IfOk result (λ size. IsSize size (first_fault_of_all (struct_of (reader_of self.now)).pointers)
+            (words_of_struct (struct_of (reader_of self.now)))) }
+        ensures refused { IfErr result (λ error. IsSizeRefusal error (first_fault_of_all (struct_of (reader_of self.now)).pointers)
+            (words_of_struct (struct_of (reader_of self.now)))) }
     {
         self.reader.total_size()
     }

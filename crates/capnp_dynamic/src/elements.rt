@@ -4,7 +4,7 @@ ghost use Rattle.capnp_wire.specs.Standing.{list_levels, list_of};
 ghost use Rattle.capnp_schema.specs.Accepted.{NamesEntries};
 ghost use Rattle.capnp_schema.specs.Entries.{lists_seen};
 ghost use Rattle.capnp_schema.specs.Schema.{VoidValue};
-ghost use Rattle.capnp_schema.specs.Tests.{seen_variant};
+ghost use Rattle.capnp_schema.specs.Types.{seen_variant};
 ghost use Rattle.capnp_records.specs.Facts.Readers.{element_read};
 ghost use Rattle.capnp_records.specs.Default.{read_of};
 ghost use Rattle.capnp_dynamic.specs.Seen.{answered};
@@ -26,7 +26,8 @@ pub(crate) fn read_element<'a>(
     variant: TypeVariant,
     index: u32,
 ) -> Result<Value<'a>>
-    ensures value { answered result ≡ read_of (lists_seen set.now) VoidValue (seen_variant variant) (element_read (lists_seen set.now) (list_of list.now) (list_levels list.now) (seen_variant variant) index) }
+    ensures value { answered result ≡ read_of (lists_seen set.now) VoidValue (seen_variant variant)
+        (element_read (lists_seen set.now) (list_of list.now) (list_levels list.now) (seen_variant variant) index) }
     ensures under { IfOk result (IsUnder (lists_seen set.now) (seen_variant variant)) }
     ensures typed { NamesEntries (lists_seen set.now) (seen_variant variant) → IfOk result (IsOf (lists_seen set.now) (seen_variant variant)) }
 {

@@ -10,8 +10,7 @@ ghost use Rattle.capnp_wire.specs.Place.{struct_tree};
 ghost use Rattle.capnp_wire.specs.Reading.{element_pointer, element_struct, list_length};
 ghost use Rattle.capnp_wire.specs.WellFormed.{IsWellFormed};
 ghost use Rattle.capnp_schema.specs.Entries.{lists_seen};
-ghost use Rattle.capnp_schema.specs.Tests.{seen_variant};
-ghost use Rattle.capnp_schema.specs.Types.{StructType, is_pointer, seen_type};
+ghost use Rattle.capnp_schema.specs.Types.{StructType, is_pointer, seen_type, seen_variant};
 ghost use Rattle.capnp_slots.specs.Fills.{ElementRests, element_due, element_filled, is_behind};
 ghost use Rattle.capnp_dynamic.specs.Built.{IsIn, IsListReady, IsListUnder};
 ghost use Rattle.capnp_dynamic.specs.BuiltValues.{CanBeRead};
@@ -42,7 +41,8 @@ fn struct_at<'a>(
 ) -> dynamic_value::Builder<'a>
     requires under { IsListUnder (lists_seen set.now) (StructType raw.number raw.generic) (list_object_tree builder.old) }
     requires inside { index < list_length (list_object_tree builder.old) }
-    ensures stands { HandsOut false (lists_seen set.now) (StructType raw.number raw.generic) (struct_tree (element_struct (list_object_tree builder.old) index)) result }
+    ensures stands { HandsOut false (lists_seen set.now) (StructType raw.number raw.generic)
+        (struct_tree (element_struct (list_object_tree builder.old) index)) result }
     ensures ready { CanBeRead result }
 {
     structs_of_lists_are_well_formed();
@@ -81,9 +81,11 @@ fn pointed_at<'a>(
     requires behind { is_behind (seen_type element_type) ≡ true }
     requires under { IsListUnder (lists_seen set.now) (seen_type element_type) (list_object_tree builder.old) }
     requires inside { index < list_length (list_object_tree builder.old) }
-    ensures stands { IfOk result (HandsOut false (lists_seen set.now) (seen_type element_type) (element_filled (lists_seen set.now) (seen_type element_type) (element_pointer (list_object_tree builder.old) index 1))) }
+    ensures stands { IfOk result (HandsOut false (lists_seen set.now) (seen_type element_type)
+        (element_filled (lists_seen set.now) (seen_type element_type) (element_pointer (list_object_tree builder.old) index 1))) }
     ensures ready { IfOk result CanBeRead }
-    ensures cause { IfErr result (λ e. IsDueRefusal e (element_due (lists_seen set.now) (seen_type element_type) (element_pointer (list_object_tree builder.old) index 1))) }
+    ensures cause { IfErr result (λ e. IsDueRefusal e (element_due (lists_seen set.now) (seen_type element_type)
+        (element_pointer (list_object_tree builder.old) index 1))) }
     ensures rests { ElementRests (lists_seen set.now) (seen_type element_type) (element_pointer (list_object_tree builder.old) index 1) → IsOk result }
 {
     objects_hold_no_fault();

@@ -5,8 +5,7 @@ ghost use Rattle.capnp_schema.specs.Accepted.{NamesEntries};
 ghost use Rattle.capnp_schema.specs.Entries.{lists_seen};
 ghost use Rattle.capnp_schema.specs.Schema.{kind_default, seen_kind};
 ghost use Rattle.capnp_schema.specs.SlotValue.{bits_at};
-ghost use Rattle.capnp_schema.specs.Tests.{seen_variant};
-ghost use Rattle.capnp_schema.specs.Types.{is_pointer, width};
+ghost use Rattle.capnp_schema.specs.Types.{is_pointer, width, seen_variant};
 ghost use Rattle.capnp_records.specs.Reading.{number_value};
 ghost use Rattle.capnp_records.specs.Record.{Left};
 ghost use Rattle.capnp_dynamic.specs.Planned.{IsSound, placed_read, planned_has};
@@ -38,7 +37,8 @@ fn read_bits<'a>(
     requires wide { 0 < width (seen_variant variant) }
     requires start { start % width (seen_variant variant) ≡ 0 }
     requires mask { mask < 2 ^ width (seen_variant variant) }
-    ensures value { answered result ≡ number_value (seen_variant variant) (bit_xor (bits_at (struct_of reader.now).bytes start (width (seen_variant variant))) mask) }
+    ensures value { answered result ≡ number_value (seen_variant variant)
+        (bit_xor (bits_at (struct_of reader.now).bytes start (width (seen_variant variant))) mask) }
     ensures typed { NamesEntries (lists_seen set.now) (seen_variant variant) → IfOk result (IsOf (lists_seen set.now) (seen_variant variant)) }
 {
     match variant {
@@ -99,7 +99,8 @@ pub(crate) fn read_placed<'a>(
     place: Place,
 ) -> Result<Value<'a>>
     requires { IsSound (lists_seen set.now) (seen_variant variant) place }
-    ensures value { answered result ≡ placed_read (lists_seen set.now) (Left (struct_levels reader.now)) (struct_of reader.now) (kind_default (seen_kind kind.now)) (seen_variant variant) place }
+    ensures value { answered result ≡ placed_read (lists_seen set.now) (Left (struct_levels reader.now)) (struct_of reader.now)
+        (kind_default (seen_kind kind.now)) (seen_variant variant) place }
     ensures typed { NamesEntries (lists_seen set.now) (seen_variant variant) → IfOk result (IsOf (lists_seen set.now) (seen_variant variant)) }
 {
     match place {

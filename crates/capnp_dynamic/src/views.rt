@@ -2,7 +2,7 @@
 ghost use Rattle.std.specs.Prelude.{IfOk, ◌≡◌};
 ghost use Rattle.capnp_schema.specs.Accepted.{NamesEntries};
 ghost use Rattle.capnp_schema.specs.Entries.{lists_seen};
-ghost use Rattle.capnp_schema.specs.Tests.{seen_variant};
+ghost use Rattle.capnp_schema.specs.Types.{seen_variant};
 ghost use Rattle.capnp_schema.specs.declared.value.Value.TheVariants as view;
 ghost use Rattle.capnp_dynamic.specs.Seen.{answered};
 ghost use Rattle.capnp_dynamic.specs.Typed.{IsOf};
@@ -25,7 +25,8 @@ pub(crate) fn read_view<'a>(
     variant: TypeVariant,
 ) -> Result<Reader<'a>>
     ensures value { answered result ≡ view_read (lists_seen set.now) value.entry (seen_variant variant) }
-    ensures typed { NamesEntries (lists_seen set.now) (seen_variant variant) → IfOk result (IsOf (lists_seen set.now) (view_type value.entry (seen_variant variant))) }
+    ensures typed { NamesEntries (lists_seen set.now) (seen_variant variant)
+        → IfOk result (IsOf (lists_seen set.now) (view_type value.entry (seen_variant variant))) }
 {
     match value {
         Value::Void => Ok(Reader::Void),

@@ -11,4 +11,5 @@ pub mod NewTrees
 pub mod Numbers
 pub mod PartRead
 pub mod Pointers
+pub mod ReadFaults
 pub mod Readers

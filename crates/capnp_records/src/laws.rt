@@ -1,5 +1,6 @@
 //! What holds of records, of the machine of records, and of writes on trees.
 ghost use Rattle.capnp_records.specs.Laws.{DefaultPartsStand, ExtensionChangesNothing, FirstMemberIsActive, FormedLaw, GroupClearStaysInside, GroupCopyStaysInside, GroupIsCleared, GroupIsCopied, GroupPrintLaw, OverlayLaw, PartDependsOnFootprint, PrintLaw, ProjectionLaw, RoundingChangesNothing, SlotIsWritten, SlotWriteStaysInside, UpgradeLaw, ValuePrintLaw, WriteReplacesOnePart};
+ghost use Rattle.capnp_records.specs.ReadBack.{ClearIsRead, ClearedIsActive, ContentIsRead, CopiedIsActive, CopyIsRead, DataIsRead, GroupStartsAtFirst, NumberIsRead, OthersAreRead, OthersAreThere, PlainKeepsActive, TextIsRead, WrittenIsActive};
 
 use capnp_wire::laws::elements_stand_first;
 
@@ -88,3 +89,36 @@ pub fn upgrade_law()
 {
     elements_stand_first();
 }
+
+/// What is written into a slot is read there, by a reader with any number of levels left: a number, a truth value or an
+/// enum's number that was set is the value, a text or data its bytes, and what else was copied what the slot's own type reads
+/// of it. A member is the active one then.
+pub fn written_slots_are_read()
+    ensures content { ContentIsRead }
+    ensures numbers { NumberIsRead }
+    ensures copies { CopyIsRead }
+    ensures texts { TextIsRead }
+    ensures data { DataIsRead }
+    ensures active { WrittenIsActive }
+{}
+
+/// A slot that was cleared is read as its default.
+pub fn cleared_slots_are_read()
+    ensures { ClearIsRead }
+{}
+
+/// A group that was cleared or initialized has its member of discriminant value 0 active, where it has one; and a group that
+/// is a member itself is the active one after it was cleared, initialized or set.
+pub fn groups_are_active()
+    ensures first { GroupStartsAtFirst }
+    ensures cleared { ClearedIsActive }
+    ensures copied { CopiedIsActive }
+{}
+
+/// A write of a field changes nothing of what another one is read as, nor of whether it is there, unless both are members;
+/// and that of a plain field leaves the active member.
+pub fn other_fields_are_read()
+    ensures read { OthersAreRead }
+    ensures there { OthersAreThere }
+    ensures active { PlainKeepsActive }
+{}

@@ -1,5 +1,5 @@
 -- What stands behind a pointer's slot that a step goes into, and why it is refused.
-use Rattle.std.specs.Prelude.{ℕ, zero, suc, ◌≡◌, refl, Bool, true, false, not, ◌&&◌, Option, Some, None, Ok, Err, IsTrue, IfErr, OnOk, Result, length}
+use Rattle.std.specs.Prelude.{ℕ, zero, suc, ◌≡◌, refl, Bool, true, false, not, ◌&&◌, Option, Some, None, Ok, Err, IsTrue, IfErr, OnOk, Result, IsOk, length}
 use Rattle.std.proofs.Common.{ap, sym, subst, ◌∙◌}
 use Rattle.std.proofs.lemmas.Bool.{true≢false}
 use Rattle.capnp_device.specs.declared.error.Error.{Error}
@@ -11,7 +11,7 @@ use Rattle.capnp_wire.specs.Tree.{MoreTrees, NoTrees, StructTree, Tree, Trees, n
 use Rattle.capnp_wire.specs.Words.{first_fault, first_fault_of_all, first_of}
 use Rattle.capnp_wire.specs.declared.fault.Fault.{Fault}
 use Rattle.capnp_schema.specs.FieldLists.{index_of, typed_of}
-use Rattle.capnp_schema.specs.Schema.{FieldKind, Group, Schemas, Slot, default_of}
+use Rattle.capnp_schema.specs.Schema.{FieldKind, Group, Schemas, Slot, default_of, kind_default}
 use Rattle.capnp_schema.specs.Schema.{Value as SchemaValue}
 use Rattle.capnp_schema.specs.Types.{SchemaType, StructType, is_pointer}
 use Rattle.capnp_schema.specs.declared.schema.fields.Field.{Field}
@@ -26,11 +26,12 @@ use Rattle.capnp_records.specs.Reading.{Reading, kind_value, reads, record_withi
 use Rattle.capnp_records.specs.Record.{Endless, Record, Value}
 use Rattle.capnp_records.specs.Record as value
 use Rattle.capnp_records.specs.Step.{CanRefuse, Found, Target, fault_of, for_memory, is_group_field, takes_room, walked_by_type}
-use Rattle.capnp_records.specs.Writes.Stand.{KindWithin, SlotWithin, left_field}
+use Rattle.capnp_records.specs.Writes.Fill.{IsAtRest}
+use Rattle.capnp_records.specs.Writes.Stand.{FieldRests, KindRests, KindWithin, SlotWithin, left_field}
 use Rattle.capnp_records.specs.Writes.TreeEnds.{TreeEnds, offset_of}
 use Rattle.capnp_records.specs.Writes.TreeRun.{TreeEnd, TreeWalks}
 use Rattle.capnp_slots.specs.Fields.{IsPointer, IsSlot, field_brand, field_set}
-use Rattle.capnp_slots.specs.Fills.{due_in, fill_due, pointer_in}
+use Rattle.capnp_slots.specs.Fills.{RestsIn, due_in, fill_due, pointer_in}
 use Rattle.capnp_run.proofs.Entered.{enters, part_in, passes, short, unread}
 use Rattle.capnp_run.specs.Walks.{FieldEnters, IsWalked, StepGoes, StepStops}
 use Rattle.capnp_run.specs.Ways.{target_in}
@@ -101,6 +102,14 @@ pointed f s slot pointer walks = go (typed_of f).field.kind refl
         ∙ ap (λ (r : Reading). r Endless t) (values_of-nth set s.pointers offset)))
     go (Group node) e = absurd (true≢false (sym (ap is_group_field e) ∙ slot))
 
+-- a slot at which a step rests
+rests_kind : (set : Schemas) (k : FieldKind) (t : SchemaType) (s : StructTree) → is_group_field k ≡ false → KindRests set k t s → IsAtRest set (kind_default k) t (nth_tree s.pointers (offset_of k))
+rests_kind set (Slot offset d) t s slot h = h
+rests_kind set (Group node) t s slot h = absurd (true≢false slot)
+
+pub rests_in : (f : Field) (s : StructTree) → IsSlot f → FieldRests (field_set f) (typed_of f) s → RestsIn f s
+rests_in f s slot h = rests_kind (field_set f) (typed_of f).field.kind (typed_of f).type s slot h
+
 -- ---- refusals ----
 
 abbrev pub is_memory : ErrorKind → Bool
@@ -156,24 +165,24 @@ module _ (f : Field) (s : StructTree) (b g : ℕ) (slot : IsSlot f) (pointer : I
       (enters f (TreeWalks set (TreeEnds set last op) path) s reply (left_field (typed_of f) s inner) (read due) (struct_within (typed_of f).field.kind (typed_of f).type type_is) inner goes_on refl)
 
   -- something else stands there, or memory is refused
-  pub struct_stops : (e : Error) → IsDueRefusal e (due_in f s) → StepStops f s e.kind
-  struct_stops e refusal path last op = passes f further s (Refused e.kind) s walks (go (due_in f s) refl)
+  pub struct_stops : (e : Error) → IsDueRefusal e (due_in f s) → (RestsIn f s → ⊥) → StepStops f s e.kind
+  struct_stops e refusal moves path last op = passes f further s (Refused e.kind) s walks (go (due_in f s) refl)
     where
       further : TreeEnd
       further = TreeWalks set (TreeEnds set last op) path
 
       go : (o : Option ErrorKind) → due_in f s ≡ o → FieldEnters f further s (Refused e.kind) s
       go (Some kind) due = unread f further s (Refused e.kind) s kind (unreadable kind due) (ap Refused (refusal.1 kind due)) refl
-      go None due = short f further s (Refused e.kind) s OutOfMemory (read due) has_room (ap Refused (due_memory e (due_in f s) refusal due)) refl
+      go None due = short f further s (Refused e.kind) s OutOfMemory (read due) has_room (λ same h. moves (rests_in f s slot h)) (ap Refused (due_memory e (due_in f s) refusal due)) refl
 
   -- the same of an answer
   pub struct_entered : {A : Type 0} (r : Result A Error) → OnOk r (due_in f s ≡ None) → OnOk r (StepGoes f s)
   struct_entered (Ok a) h = struct_goes h
   struct_entered (Err e) h = tt
 
-  pub struct_stopped : {A : Type 0} (r : Result A Error) → IfErr r (λ e. IsDueRefusal e (due_in f s)) → IfErr r (λ e. StepStops f s e.kind)
-  struct_stopped (Ok a) h = tt
-  struct_stopped (Err e) h = struct_stops e h
+  pub struct_stopped : {A : Type 0} (r : Result A Error) → IfErr r (λ e. IsDueRefusal e (due_in f s)) → (RestsIn f s → IsOk r) → IfErr r (λ e. StepStops f s e.kind)
+  struct_stopped (Ok a) h rests = tt
+  struct_stopped (Err e) h rests = struct_stops e h (λ at. true≢false (sym (rests at)))
 
 -- ---- a group ----
 

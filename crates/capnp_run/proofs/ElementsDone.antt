@@ -1,7 +1,6 @@
 -- What is done to an element is what the words of writes on trees say of its list.
-use Rattle.std.specs.Prelude.{ℕ, ◌<◌, ◌≡◌, refl, true, cond, Result, Ok, Err, OnOk, OnErr, IfErr}
-use Rattle.std.proofs.Common.{ap, inl, inr, sym, subst, ◌∙◌}
-use Rattle.capnp_device.specs.declared.error.Error.{Error}
+use Rattle.std.specs.Prelude.{ℕ, ◌<◌, ◌≡◌, refl, true, cond}
+use Rattle.std.proofs.Common.{ap, sym, subst, ◌∙◌}
 use Rattle.capnp_device.specs.declared.error.ErrorKind.{ErrorKind}
 use Rattle.capnp_device.specs.declared.error.ErrorKind.TheVariants.{ExpectedAListOrBlob, InitnIsOnlyValidForListTextOrDataFields, ListAnyPointerNotSupported}
 use Rattle.capnp_wire.specs.Facts.Room.{HasBit-there, HasNumber-there, HasPointer-there}
@@ -15,9 +14,8 @@ use Rattle.capnp_base.specs.declared.introspect.TypeVariant.TheVariants as varia
 use Rattle.capnp_base.specs.Types.{variant_of}
 use Rattle.capnp_schema.specs.Facts.Layers.{seen_which}
 use Rattle.capnp_schema.specs.Schema.{Schemas}
-use Rattle.capnp_schema.specs.Tests.{seen_variant}
-use Rattle.capnp_schema.specs.Types.{AnyPointerType, DataType, ListType, SchemaType, StructType, TextType, element_size, seen_type}
-use Rattle.capnp_records.specs.Call.{Initn, Refused}
+use Rattle.capnp_schema.specs.Types.{AnyPointerType, DataType, ListType, SchemaType, TextType, element_size, seen_type, seen_variant}
+use Rattle.capnp_records.specs.Call.{Refused}
 use Rattle.capnp_records.specs.Operation.{Initns}
 use Rattle.capnp_records.specs.Record.{Value}
 use Rattle.capnp_records.specs.Step.{Target}

@@ -12,8 +12,7 @@ use Rattle.capnp_base.specs.declared.introspect.TypeVariant.{TypeVariant}
 use Rattle.capnp_schema.specs.Accepted.{IsAccepted, root_of}
 use Rattle.capnp_schema.specs.Schema.{Schemas, StructValue, ListValue, FieldKind, Slot, Group, TypedField, default_of, field_at, fields_of}
 use Rattle.capnp_schema.specs.Schema.{Value as SchemaValue}
-use Rattle.capnp_schema.specs.Tests.{seen_variant}
-use Rattle.capnp_schema.specs.Types.{SchemaType, TextType, DataType, StructType, ListType, AnyPointerType, element_size}
+use Rattle.capnp_schema.specs.Types.{SchemaType, TextType, DataType, StructType, ListType, AnyPointerType, element_size, seen_variant}
 use Rattle.capnp_records.specs.Default.{default_value, empty_value, read_of, unless_null}
 use Rattle.capnp_records.specs.Facts.DefaultTree.{read-there}
 use Rattle.capnp_records.specs.Facts.Readers.{null-is, value-there}

@@ -10,6 +10,7 @@ pub mod ListBehind
 pub mod ListReads
 pub mod ListWalks
 pub mod Making
+pub mod NoMemory
 pub mod Parts
 pub mod SetsDone
 pub mod Starts

@@ -1,5 +1,5 @@
 -- What stands behind a list's slot that a step goes into, and why it is refused.
-use Rattle.std.specs.Prelude.{ℕ, ◌-◌, ◌*◌, ◌^◌, ◌<◌, ◌≡◌, ◌⊎◌, refl, List, Bool, true, false, not, ◌&&◌, ◌||◌, Option, Some, None, Result, Ok, Err, IsOk, IsTrue, IfErr, OnErr, OnOk}
+use Rattle.std.specs.Prelude.{ℕ, ◌-◌, ◌*◌, ◌^◌, ◌<◌, ◌≡◌, ◌⊎◌, refl, List, Bool, true, false, not, ◌&&◌, ◌||◌, Option, Some, None, Result, Ok, Err, IsOk, IsTrue, IfErr, OnOk}
 use Rattle.std.proofs.Common.{ap, inl, inr, sym, subst, ◌∙◌}
 use Rattle.std.proofs.lemmas.Bool.{true≢false}
 use Rattle.capnp_device.specs.declared.error.Error.{Error}
@@ -10,14 +10,13 @@ use Rattle.capnp_wire.specs.Edits.{IsDueRefusal}
 use Rattle.capnp_wire.specs.Elements.{reads_list}
 use Rattle.capnp_wire.specs.Facts.Room.{reads_list-as_list}
 use Rattle.capnp_wire.specs.Reading.{as_list, is_null_tree}
-use Rattle.capnp_wire.specs.StructLists.{struct_list, struct_list_refusal}
 use Rattle.capnp_wire.specs.Tree as tree
 use Rattle.capnp_wire.specs.Tree.{StructTree, Tree, nth_tree}
 use Rattle.capnp_wire.specs.WellFormed.{IsWellFormed}
 use Rattle.capnp_wire.specs.Words.{first_fault, first_fault_of_all}
 use Rattle.capnp_schema.specs.Accepted.{Decodes, IsDefaultOf, KindDefault, root_of}
 use Rattle.capnp_schema.specs.Defaults.{DefaultFits, IsReadAs, default_tree}
-use Rattle.capnp_schema.specs.FieldLists.{index_of, typed_of}
+use Rattle.capnp_schema.specs.FieldLists.{typed_of}
 use Rattle.capnp_schema.specs.Ranges.{HasRanges}
 use Rattle.capnp_schema.specs.Schema.{AnyPointerValue, FieldKind, Group, ListValue, Schemas, Slot, StructValue, brand_at, default_of, kind_default}
 use Rattle.capnp_schema.specs.Schema.{Value as SchemaValue}
@@ -30,14 +29,14 @@ use Rattle.capnp_records.specs.Reading.{value_of}
 use Rattle.capnp_records.specs.Record.{Endless, Record, Value}
 use Rattle.capnp_records.specs.Record as value
 use Rattle.capnp_records.specs.Step.{CanRefuse, Target, fault_of, filled, for_memory, for_size, is_group_field, is_list_default, is_struct_list, size_of, takes_room}
-use Rattle.capnp_records.specs.Writes.Fill.{entered_list, filled_list, or_default}
+use Rattle.capnp_records.specs.Writes.Fill.{IsAtRest, filled_list, or_default}
 use Rattle.capnp_records.specs.Writes.Slots.{brand_size}
-use Rattle.capnp_records.specs.Writes.Stand.{KindWithin, ListSound, SlotWithin, left_field}
+use Rattle.capnp_records.specs.Writes.Stand.{KindWithin, SlotWithin, left_field}
 use Rattle.capnp_records.specs.Writes.TreeEnds.{TreeEnds, offset_of}
 use Rattle.capnp_records.specs.Writes.TreeRun.{TreeEnd, TreeWalks}
-use Rattle.capnp_slots.specs.Fields.{IsPointer, IsSlot, field_brand, field_set}
-use Rattle.capnp_slots.specs.Fills.{IsAtRest, RestsIn, due_in, fill_due, filled_in, filled_tree, pointer_in}
-use Rattle.capnp_run.proofs.Behind.{due_memory, nth_sound, pointed}
+use Rattle.capnp_slots.specs.Fields.{IsPointer, IsSlot, field_set}
+use Rattle.capnp_slots.specs.Fills.{RestsIn, due_in, fill_due, filled_in, filled_tree, pointer_in}
+use Rattle.capnp_run.proofs.Behind.{due_memory, nth_sound, pointed, rests_in}
 use Rattle.capnp_run.proofs.Entered.{enters, part_in, passes, short, unread}
 use Rattle.capnp_run.proofs.ListReads.{IsPastSize, IsTooLarge, IsUnreadable, kept_default, list_read, list_unfilled, plain_reads, structs_stand}
 use Rattle.capnp_run.specs.Lists.{IsListStand}
@@ -121,6 +120,10 @@ memory_for : (set : Schemas) (x : Target) (e : SchemaType) (p : Tree) → x.part
     (IsAtRest set x.default (ListType e) p → ⊥) → IsDefaultOf x.default (ListType e) → Decodes x.default → IsTrue (takes_room x (ListType e) x.part)
 memory_for set x (StructType b g) p part due moves of dec = memory_structs x b g x.part
 memory_for set x e p part due moves of dec = memory_plain set x e p part (λ same. moves (same, due)) of dec
+
+-- what is past the format is not refused for memory
+pub size_memory : SizePastFormat ≡ OutOfMemory → ⊥
+size_memory e = cc
 
 -- ---- a list's slot ----
 
@@ -219,11 +222,11 @@ module _ (f : Field) (s : StructTree) (e : SchemaType) (slot : IsSlot f) (pointe
 
         refused : (kind : ErrorKind) → r.kind ≡ kind → IsUnreadable set e x kind ⊎ IsTooLarge set d e x kind → FieldEnters f further s (Refused r.kind) s
         refused kind is (inl h) = unread f further s (Refused r.kind) s kind (ap fault_of part_is ∙ h.fault) (ap Refused is) refl
-        refused kind is (inr h) = short f further s (Refused r.kind) s kind (ap fault_of part_is ∙ h.sound) (has_size kind h.past) (ap Refused is) refl
+        refused kind is (inr h) = short f further s (Refused r.kind) s kind (ap fault_of part_is ∙ h.sound) (has_size kind h.past) (λ same at. size_memory (sym h.past.0 ∙ same)) (ap Refused is) refl
 
         go : (o : Option ErrorKind) → due_in f s ≡ o → FieldEnters f further s (Refused r.kind) s
         go (Some kind) due = refused kind (refusal.1 kind due) (list_unfilled set d x e kind sizes list_default formed (due_as (Some kind) due))
-        go None due = short f further s (Refused r.kind) s OutOfMemory (ap fault_of part_is ∙ list_read set d x e (due_as None due) (nth_sound s.pointers _ whole)) (has_room due moves)
+        go None due = short f further s (Refused r.kind) s OutOfMemory (ap fault_of part_is ∙ list_read set d x e (due_as None due) (nth_sound s.pointers _ whole)) (has_room due moves) (λ same at. moves (rests_in f s slot at))
             (ap Refused (due_memory r (due_in f s) refusal due)) refl
 
     -- the same of an answer

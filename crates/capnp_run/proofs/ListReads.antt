@@ -1,5 +1,5 @@
 -- What a list that is filled reads as, and what a list that is not is refused with.
-use Rattle.std.specs.Prelude.{ℕ, ◌*◌, ◌-◌, ◌^◌, ◌<◌, ◌≡◌, ◌⊎◌, refl, List, Bool, true, false, Option, Some, None, Ok, Err, Result, IsOk, IsTrue}
+use Rattle.std.specs.Prelude.{ℕ, ◌*◌, ◌-◌, ◌^◌, ◌<◌, ◌≡◌, ◌⊎◌, refl, List, Bool, true, false, Some, None, Ok, Err, Result, IsOk, IsTrue}
 use Rattle.std.proofs.Common.{ap, arith, inl, inr, sym, subst, ◌∙◌}
 use Rattle.std.proofs.lemmas.Bool.{true≢false}
 use Rattle.capnp_device.specs.declared.error.ErrorKind.{ErrorKind}
@@ -13,7 +13,6 @@ use Rattle.capnp_wire.specs.Tree as tree
 use Rattle.capnp_wire.specs.Tree.{Tree}
 use Rattle.capnp_wire.specs.WellFormed.{IsWellFormed}
 use Rattle.capnp_wire.specs.Words.{first_fault}
-use Rattle.capnp_wire.specs.declared.fault.Fault.{Fault}
 use Rattle.capnp_wire.specs.declared.size.ElementSize.TheVariants.{InlineComposite}
 use Rattle.capnp_wire.specs.declared.size.StructSize.{StructSize}
 use Rattle.capnp_schema.specs.Accepted.{root_of}
@@ -23,9 +22,9 @@ use Rattle.capnp_records.proofs.Refusals.{list-answered, list-refused, past-grea
 use Rattle.capnp_records.specs.Facts.ListValues.{count-values_from, elements_seen, list-from}
 use Rattle.capnp_records.specs.Facts.Readers.{null-is}
 use Rattle.capnp_records.specs.Reading.{value_of}
-use Rattle.capnp_records.specs.Record.{Endless, Value}
+use Rattle.capnp_records.specs.Record.{Endless}
 use Rattle.capnp_records.specs.Step.{fault_of, filled, is_struct_list, size_of}
-use Rattle.capnp_records.specs.Writes.Fill.{entered_list, filled_list, or_default}
+use Rattle.capnp_records.specs.Writes.Fill.{or_default}
 use Rattle.capnp_records.specs.Writes.Slots.{brand_size}
 use Rattle.capnp_records.specs.Writes.Stand.{seen_element}
 use Rattle.capnp_slots.specs.Fills.{fill_due}

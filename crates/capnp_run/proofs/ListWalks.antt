@@ -18,27 +18,26 @@ use Rattle.capnp_base.specs.declared.introspect.RawBrandedStructSchema.{RawBrand
 use Rattle.capnp_base.specs.declared.introspect.«Type».{«Type» as TypeHandle}
 use Rattle.capnp_base.specs.declared.introspect.TypeVariant.{TypeVariant}
 use Rattle.capnp_base.specs.declared.introspect.TypeVariant.TheVariants as variant
-use Rattle.capnp_schema.specs.Tests.{seen_variant}
 use Rattle.capnp_schema.specs.Schema.{ListValue, Schemas, VoidValue}
-use Rattle.capnp_schema.specs.Types.{AnyPointerType, BoolType, DataType, IntType, ListType, SchemaType, StructType, TextType, UIntType, VoidType, element_size}
+use Rattle.capnp_schema.specs.Types.{AnyPointerType, BoolType, DataType, IntType, ListType, SchemaType, StructType, TextType, UIntType, VoidType, seen_variant}
 use Rattle.capnp_records.specs.Call.{ElementAt, FieldNamed, FieldNumber, PathStep, Refused}
 use Rattle.capnp_records.specs.Call as record_call
 use Rattle.capnp_records.specs.Facts.Frame.{first-of, second-of}
-use Rattle.capnp_records.specs.Facts.ListValues.{count-values_from, elements_seen, list-from, nth-values_from}
+use Rattle.capnp_records.specs.Facts.ListValues.{count-values_from, list-from, nth-values_from}
 use Rattle.capnp_records.specs.Part.{value_count}
 use Rattle.capnp_records.specs.Reading.{value_of}
 use Rattle.capnp_records.specs.Record as value
 use Rattle.capnp_records.specs.Record.{Endless, NoValues, Value, Values, values_from}
 use Rattle.capnp_records.specs.Run.{Asks}
-use Rattle.capnp_records.specs.Step.{CanRefuse, Found, Target, element_target, fault_of, filled, for_memory, for_size, in_list, size_of, takes_room, target_at, walked, walked_by_type, walked_result, walked_target}
-use Rattle.capnp_records.specs.Writes.Fill.{entered_list}
+use Rattle.capnp_records.specs.Step.{CanRefuse, Found, Target, fault_of, filled, for_memory, for_size, in_list, size_of, takes_room, target_at, walked_by_type, walked_result, walked_target}
+use Rattle.capnp_records.specs.Writes.Fill.{IsAtRest, entered_list}
 use Rattle.capnp_records.specs.Writes.Slots.{Fits, brand_size}
-use Rattle.capnp_records.specs.Writes.Stand.{ListSound, OnList, OnStruct, Stand, seen_element}
+use Rattle.capnp_records.specs.Writes.Stand.{ListSound, OnList, OnStruct, seen_element}
 use Rattle.capnp_records.specs.Writes.TreeEnds.{TreeDoesAt, TreeEnds}
-use Rattle.capnp_records.specs.Writes.TreeRun.{TreeEnd, TreeEnters, TreeGoes, TreePasses, TreeWalks}
-use Rattle.capnp_slots.specs.Fills.{IsAtRest, fill_due}
+use Rattle.capnp_records.specs.Writes.TreeRun.{TreeEnd, TreeEnters, TreePasses, TreeWalks}
+use Rattle.capnp_slots.specs.Fills.{fill_due}
 use Rattle.capnp_run.proofs.Behind.{due_memory}
-use Rattle.capnp_run.proofs.ListBehind.{IsListDefault, memory_structs, slot_within}
+use Rattle.capnp_run.proofs.ListBehind.{IsListDefault, memory_structs, size_memory, slot_within}
 use Rattle.capnp_run.proofs.ListReads.{IsTooLarge, IsUnreadable, list_read, list_unfilled}
 use Rattle.capnp_run.specs.Ends.{AsStruct}
 use Rattle.capnp_run.specs.Lists.{ElementDoes, ElementWalks, IsListStand, ListEnds, ListWalks, element_at, refusal_at_nothing}
@@ -279,12 +278,22 @@ module _ (set : Schemas) (x : Tree) (i : ℕ) (rest : List Step) (end : Ending) 
         refused : (kind : ErrorKind) → n.kind ≡ kind → IsUnreadable set e at kind ⊎ IsTooLarge set VoidValue e at kind → TreePasses set further (ListType (ListType e)) (OnList x) (ElementAt i) (Ok z) (Refused n.kind) (OnList x)
         refused kind is (inl h) = enters (Some kind) (ap fault_of part_is ∙ h.fault) (ap Refused is, refl)
         refused kind is (inr h) = enters None (ap fault_of part_is ∙ h.sound)
-            (inl (kind, subst (CanRefuse set z) (sym h.past.0) (for_size h.past.1 (subst (λ v. 2 ^ 29 - 1 < size_of (filled set VoidValue (ListType e) v) * 131070) (sym part_is) h.past.2)), (ap Refused is, refl)))
+            (inl (record {
+              kind = kind;
+              can = subst (CanRefuse set z) (sym h.past.0) (for_size h.past.1 (subst (λ v. 2 ^ 29 - 1 < size_of (filled set VoidValue (ListType e) v) * 131070) (sym part_is) h.past.2));
+              moves = λ same rests. size_memory (sym h.past.0 ∙ same);
+              refused = (ap Refused is, refl);
+            }))
 
         go : (o : Option ErrorKind) → fill_due set VoidValue (ListType e) at ≡ o → TreePasses set further (ListType (ListType e)) (OnList x) (ElementAt i) (Ok z) (Refused n.kind) (OnList x)
         go (Some kind) due = refused kind (refusal.1 kind due) (list_unfilled set VoidValue at e kind sizes no_default formed due)
         go None due = enters None (ap fault_of part_is ∙ list_read set VoidValue at e due whole)
-            (inl (OutOfMemory, for_memory (memory_of e due moves z), (ap Refused (due_memory n (fill_due set VoidValue (ListType e) at) refusal due), refl)))
+            (inl (record {
+              kind = OutOfMemory;
+              can = for_memory (memory_of e due moves z);
+              moves = λ same rests. moves rests;
+              refused = (ap Refused (due_memory n (fill_due set VoidValue (ListType e) at) refusal due), refl);
+            }))
 
 -- ---- elements that lead nowhere, and steps that name none ----
 

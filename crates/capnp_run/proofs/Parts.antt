@@ -1,9 +1,9 @@
 -- Parts that a walk enters: what is known of them, and what is left of their owner.
-use Rattle.std.specs.Prelude.{ℕ, zero, suc, ◌≡◌, refl, List, Bool, true, false, cond, IsTrue, None}
+use Rattle.std.specs.Prelude.{ℕ, zero, suc, ◌≡◌, refl, List, Bool, true, false, cond, IsTrue, None, length}
 use Rattle.std.proofs.Common.{ap, sym, subst, ◌∙◌}
 use Rattle.capnp_wire.specs.Edits.{is_struct, struct_in, with_pointer_tree}
-use Rattle.capnp_wire.specs.Elements.{HasPointer, HasStruct, with_pointer_element, with_struct, with_struct_element}
-use Rattle.capnp_wire.specs.Facts.Written.{element_written, object_written}
+use Rattle.capnp_wire.specs.Elements.{HasPointer, HasStruct, with_pointer_element, with_struct}
+use Rattle.capnp_wire.specs.Facts.Written.{object_written}
 use Rattle.capnp_wire.specs.Kept as kept
 use Rattle.capnp_wire.specs.KeptLists as kept_lists
 use Rattle.capnp_wire.specs.Lends.{with_element, with_object}
@@ -12,7 +12,7 @@ use Rattle.capnp_wire.specs.Place.{struct_tree}
 use Rattle.capnp_wire.specs.Reading.{cut_pointer, element_pointer, element_struct, is_null_tree}
 use Rattle.capnp_wire.specs.Sizes as sizes
 use Rattle.capnp_wire.specs.Tree as tree
-use Rattle.capnp_wire.specs.Tree.{MoreStructs, NoStructs, Null, StructTree, Structs, Tree, Trees, nth_struct, nth_tree}
+use Rattle.capnp_wire.specs.Tree.{MoreStructs, NoStructs, Null, StructTree, Structs, Tree, Trees, nth_struct, nth_tree, tree_count}
 use Rattle.capnp_wire.specs.WellFormed.{IsWellFormed}
 use Rattle.capnp_wire.specs.Words.{first_fault}
 use Rattle.capnp_wire.specs.declared.object.ListObject.{ListObject}
@@ -89,7 +89,13 @@ inner_stands set e t now is due whole formed =
     other : {words : List ℕ} → VoidValue ≡ ListValue words → ⊥
     other e = cc
 
--- a struct that is an element, as it was left
+-- a struct that is an element, as it was left: it has the sections that it had
+pub element_walked : (l : ListObject) (j : ℕ) (s : StructObject) (old : StructTree) → old ≡ element_struct (list_object_tree l) j → KeepsSize old (struct_object_tree s) →
+    list_object_tree (with_element l j s) ≡ with_struct_element j (struct_object_tree s) (list_object_tree l)
+element_walked l j s old e k =
+    element_written l j s (k.writes.data_size ∙ ap (λ (y : StructTree). length y.bytes) e) (k.writes.pointer_count ∙ ap (λ (y : StructTree). tree_count y.pointers) e)
+
+-- so the list stays well-formed
 pub element_formed : (l : ListObject) (j : ℕ) (s : StructObject) (old : StructTree) → HasStruct (list_object_tree l) j → old ≡ element_struct (list_object_tree l) j → IsWellFormed (list_object_tree l) →
     KeepsSize old (struct_object_tree s) → IsWellFormed (list_object_tree (with_element l j s))
 element_formed l j s old there e h k =

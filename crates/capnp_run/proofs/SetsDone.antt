@@ -1,12 +1,10 @@
 -- What a set does is what the machine of records says, and why it is refused.
-use Rattle.std.specs.Prelude.{ℕ, suc, ◌≡◌, ◌≢◌, refl, Bool, true, false, length, Option, Some, None, Result, Ok, Err}
+use Rattle.std.specs.Prelude.{ℕ, suc, ◌≡◌, refl, Bool, true, false, length, Option, Some, None}
 use Rattle.std.proofs.Common.{ap, inl, inr, sym, subst, ◌∙◌}
 use Rattle.std.proofs.lemmas.Bool.{true≢false}
-use Rattle.capnp_device.specs.declared.error.Error.{Error}
 use Rattle.capnp_device.specs.declared.error.ErrorKind.{ErrorKind}
-use Rattle.capnp_device.specs.declared.error.ErrorKind.TheVariants.{OutOfMemory, SizePastFormat}
 use Rattle.capnp_wire.specs.Tree.{StructTree, Tree}
-use Rattle.capnp_schema.specs.FieldLists.{index_of, schema_of, typed_of}
+use Rattle.capnp_schema.specs.FieldLists.{schema_of, typed_of}
 use Rattle.capnp_schema.specs.Schema.{Schemas, TypedField, default_of, field_at}
 use Rattle.capnp_schema.specs.Schema.{Value as SchemaValue}
 use Rattle.capnp_schema.specs.StructHandles.{struct_node}
@@ -15,18 +13,17 @@ use Rattle.capnp_schema.specs.declared.schema.fields.Field.{Field}
 use Rattle.capnp_records.specs.Call.{ElementAt, PathStep, Refused, Set, Source}
 use Rattle.capnp_records.specs.Call as record_call
 use Rattle.capnp_records.specs.Given.{Copies, CopiesGroup, Fails, Given, Gives, copy_refusal, given, given_element, given_group, given_slot}
-use Rattle.capnp_records.specs.Operation.{CopiesWhole, Does, Sets}
+use Rattle.capnp_records.specs.Operation.{CopiesWhole, Sets}
 use Rattle.capnp_records.specs.Record.{Record, Value}
-use Rattle.capnp_records.specs.Step.{Target, is_group_field}
+use Rattle.capnp_records.specs.Step.{Target}
 use Rattle.capnp_records.specs.Writes.Contents.{SourceFits}
-use Rattle.capnp_records.specs.Writes.ElementEnds.{ElementSetContent, HasRoom, element_source_tree}
+use Rattle.capnp_records.specs.Writes.ElementEnds.{ElementSetContent, HasRoom}
 use Rattle.capnp_records.specs.Writes.Overlay.{switched}
-use Rattle.capnp_records.specs.Writes.Stand.{OnGroup, OnList, OnStruct, seen, stand_struct, step_field, step_index}
+use Rattle.capnp_records.specs.Writes.Stand.{OnGroup, OnList, OnStruct, seen, stand_struct, step_field}
 use Rattle.capnp_records.specs.Writes.TreeCopy.{TreeCopiesWithin}
-use Rattle.capnp_records.specs.Writes.TreeEnds.{CopiedReply, CopiesGiven, CopiesTo, SetContent, TreeDoes, slot_written, with_stand_struct, written}
-use Rattle.capnp_slots.specs.Copied.{refusal_of}
+use Rattle.capnp_records.specs.Writes.TreeEnds.{CopiedReply, CopiesGiven, SetContent, TreeDoes, slot_written, with_stand_struct, written}
 use Rattle.capnp_slots.specs.ElementSets.{IsElementSet, element_content, element_given}
-use Rattle.capnp_slots.specs.Fields.{IsSlot, field_brand, field_set, switched_to}
+use Rattle.capnp_slots.specs.Fields.{IsSlot, field_brand, field_set}
 use Rattle.capnp_slots.specs.GroupSets.{IsGroupSet, given_to_group}
 use Rattle.capnp_slots.specs.Groups.{IsGroup}
 use Rattle.capnp_slots.specs.Primitives.{given_content, given_to, set_content}

@@ -1,13 +1,13 @@
 -- The root that a run starts from, and what a run leaves there.
-use Rattle.std.specs.Prelude.{ℕ, ◌^◌, ◌<◌, ◌≡◌, refl, List, ◌++◌, Vec, Bool, true, false, cond, ◌==◌, IsTrue, Option, Result, Ok, Err, IfOk, OnOk}
-use Rattle.std.specs.declared.alloc.Global.{Global}
+use Rattle.std.specs.Prelude.{ℕ, suc, ◌^◌, ◌<◌, ◌≤◌, ◌≡◌, ◌≢◌, refl, List, ◌++◌, Bool, true, false, cond, ◌==◌, IsTrue, Option, Some, None, option_map, Result, Ok, Err}
 use Rattle.std.specs.Result.{is_ok}
-use Rattle.std.proofs.Common.{ap, sym, subst, ◌∙◌}
+use Rattle.std.proofs.Common.{ap, inl, inr, sym, subst, ◌∙◌}
 use Rattle.std.proofs.lemmas.Bool.{true≢false}
+use Rattle.capnp_device.specs.declared.error.Error.{Error}
 use Rattle.capnp_device.specs.declared.error.ErrorKind.{ErrorKind}
-use Rattle.capnp_device.specs.declared.error.ErrorKind.TheVariants.{TooDeep}
+use Rattle.capnp_device.specs.declared.error.ErrorKind.TheVariants.{OutOfMemory, TooDeep, TooLarge}
 use Rattle.capnp_wire.specs.Depth.{IsShallow}
-use Rattle.capnp_wire.specs.Reading.{as_struct}
+use Rattle.capnp_wire.specs.Reading.{as_struct, refusal}
 use Rattle.capnp_wire.specs.Standing.{levels_of, struct_levels, struct_of, tree_of}
 use Rattle.capnp_wire.specs.Stream.{message_tree_of}
 use Rattle.capnp_wire.specs.Tree as tree
@@ -25,31 +25,33 @@ use Rattle.capnp_dynamic.specs.Shown.{printed_text, struct_printed}
 use Rattle.capnp_dynamic.specs.Typed.{struct_type}
 use Rattle.capnp_dynamic.specs.declared.dynamic_struct.Reader.{Reader as StructHandle}
 use Rattle.capnp_dynamic.specs.declared.dynamic_value.Reader.TheVariants as dynamic
-use Rattle.capnp_wire.specs.Edits.{extended, is_struct, struct_in, zero_struct}
+use Rattle.capnp_wire.specs.Edits.{IsCopyRefusal, IsStructRefusal, extended, is_struct, struct_in, struct_refusal, zero_struct}
 use Rattle.capnp_wire.specs.Kept as kept
 use Rattle.capnp_wire.specs.Place.{struct_tree}
 use Rattle.capnp_wire.specs.Sizes as sizes
 use Rattle.capnp_wire.specs.Tree.{StructTree, Tree}
 use Rattle.capnp_wire.specs.WellFormed.{IsWellFormed}
+use Rattle.capnp_wire.specs.Words.{first_fault, words_of}
+use Rattle.capnp_wire.specs.declared.fault.Fault.{Fault}
 use Rattle.capnp_wire.specs.declared.size.StructSize.{StructSize}
 use Rattle.capnp_schema.specs.StructHandles.{generic_of, number_of, set_of, struct_node}
 use Rattle.capnp_schema.specs.declared.schema.structs.StructSchema.{StructSchema}
-use Rattle.capnp_records.specs.Default.{default_record}
 use Rattle.capnp_records.specs.Facts.Extension.{fits-extended, reads-extended, reads-zero_struct}
-use Rattle.capnp_records.specs.Record.{Endless, Left, Levels, Record}
+use Rattle.capnp_records.specs.Record.{Left, Levels, Record}
 use Rattle.capnp_records.specs.Writes.Slots.{Fits, brand_size}
-use Rattle.capnp_run.specs.Messages.{HasRoot, IsRun, IsRunFrom, IsWhole, LeavesRun, record_in, root_value, text_in}
+use Rattle.capnp_run.specs.Messages.{HasRoot, IsWhole, IsWholeRefusal, LeavesRun, RunsOn, fault_or, new_record, record_left, root_refusal, root_value, text_in}
+use Rattle.capnp_run.specs.Runs.{IsRunFrom, record_in}
 use Rattle.capnp_run.specs.declared.calls.Call.{Call}
 use Rattle.capnp_run.specs.declared.calls.Reply.{Reply}
 
 -- a struct as a root
 root_of_struct : (schema : StructSchema) (s : StructTree) (r : Record) (t : Tree) → t ≡ struct_tree s → Fits (set_of schema) (number_of schema) s → IsWellFormed (struct_tree s) → record_in schema s ≡ r → HasRoot schema r t
 root_of_struct schema s r t e fits formed reads =
-    subst (HasRoot schema r) (sym e) (record { here = refl; fits = fits; formed = formed; reads_as = reads })
+    subst (HasRoot schema r) (sym e) (record { root = record { here = refl; fits = fits; formed = formed }; reads_as = reads })
 
 -- an empty one
 pub empty_root : (schema : StructSchema) (size : StructSize) (s : StructTree) (t : Tree) → size ≡ brand_size (set_of schema) (number_of schema) → s ≡ zero_struct size → t ≡ struct_tree s → size.data_words < 2 ^ 16 → size.pointers < 2 ^ 16 →
-    HasRoot schema (default_record (set_of schema) Endless (number_of schema)) t
+    HasRoot schema (new_record schema) t
 empty_root schema size s t is zero root few words =
     root_of_struct schema s _ t root
     (sizes.new_struct_size (brand_size (set_of schema) (number_of schema)) s (zero ∙ ap zero_struct is))
@@ -65,25 +67,36 @@ copied_root schema size s source t is whole root few words formed =
     (kept.extended_struct size (struct_in source) s whole few words (kept.struct_here source (struct_in source) refl formed))
     (ap (record_in schema) whole ∙ reads-extended (set_of schema) size (struct_in source) (number_of schema))
 
--- what a run leaves
-pub leaves_run : (schema : StructSchema) (r : Record) (t t' : Tree) (calls : List Call) (replies : List Reply) → HasRoot schema r t → IsRun schema (struct_in t) calls replies (struct_in t') → t' ≡ struct_tree (struct_in t') → IsWellFormed t' →
-    LeavesRun schema r calls replies t'
-unfolding IsRun
-leaves_run schema r t t' calls replies root runs is formed = record {
-  root = is;
-  formed = formed;
-  runs = subst (λ (y : Record). IsRunFrom schema y calls replies (record_in schema (struct_in t'))) root.reads_as runs;
+-- why there is none: the copy was refused, or a list was copied
+pub copy_stops : (e : Error) (t : Tree) → IsCopyRefusal e (first_fault t) → e.kind ≢ OutOfMemory → root_refusal t ≡ Some e.kind
+copy_stops e t h other = go (first_fault t) (h other)
+  where
+    none-some : None ≡ Some e.kind → ⊥
+    none-some e = cc
+
+    go : (f : Option Fault) → option_map refusal f ≡ Some e.kind → fault_or f (struct_refusal t) ≡ Some e.kind
+    go None h = absurd (none-some h)
+    go (Some fault) h = h
+
+pub refused_whole : (t t' : Tree) (o : Option ErrorKind) → first_fault t ≡ None → t' ≡ t → struct_refusal t' ≡ o → root_refusal t ≡ o
+refused_whole t t' o whole same h = ap (λ (f : Option Fault). fault_or f (struct_refusal t)) whole ∙ (ap struct_refusal (sym same) ∙ h)
+
+pub stopped_whole : (e : Error) (t t' : Tree) → first_fault t ≡ None → t' ≡ t → IsStructRefusal e t' → e.kind ≢ OutOfMemory → root_refusal t ≡ Some e.kind
+stopped_whole e t t' whole same h other = refused_whole t t' (Some e.kind) whole same (h.0 other)
+
+-- what a run leaves of a struct that stands at a pointer
+pub runs_here : (schema : StructSchema) (old t : Tree) (s s' : StructTree) (calls : List Call) (replies : List Reply) → s ≡ struct_in old → t ≡ struct_tree s' → IsWellFormed (struct_tree s') →
+    IsRunFrom schema (record_in schema s) calls replies (record_in schema s') → RunsOn schema old calls replies t
+runs_here schema old t s s' calls replies e is formed runs = record {
+  root = is ∙ ap struct_tree (sym (ap struct_in is));
+  formed = subst IsWellFormed (sym is) formed;
+  runs = subst (λ (x : StructTree). IsRunFrom schema (record_in schema x) calls replies (record_in schema (struct_in t))) e
+      (subst (λ (y : StructTree). IsRunFrom schema (record_in schema s) calls replies (record_in schema y)) (sym (ap struct_in is)) runs);
 }
 
-pub run_is : (schema : StructSchema) (s s' : StructTree) (calls : List Call) (replies : List Reply) → IsRunFrom schema (record_in schema s) calls replies (record_in schema s') → IsRun schema s calls replies s'
-unfolding IsRun
-run_is schema s s' calls replies h = h
-
--- the same of an answer
-pub all_leave : {E : Type 0} (schema : StructSchema) (r : Record) (t t' : Tree) (calls : List Call) (result : Result (Vec Reply Global) E) → HasRoot schema r t →
-    IfOk result (λ replies. IsRun schema (struct_in t) calls replies.items (struct_in t')) → OnOk result (t' ≡ struct_tree (struct_in t')) → OnOk result (IsWellFormed t') → IfOk result (λ replies. LeavesRun schema r calls replies.items t')
-all_leave schema r t t' calls (Ok replies) root runs is formed = leaves_run schema r t t' calls replies.items root runs is formed
-all_leave schema r t t' calls (Err e) root runs is formed = tt
+-- and of a root that reads as a record
+pub leaves_run : (schema : StructSchema) (r : Record) (t t' : Tree) (calls : List Call) (replies : List Reply) → HasRoot schema r t → RunsOn schema t calls replies t' → LeavesRun schema r calls replies t'
+leaves_run schema r t t' calls replies root run = subst (λ (y : Record). LeavesRun schema y calls replies t') root.reads_as run
 
 -- ---- what is printed ----
 
@@ -113,6 +126,20 @@ printed_by law groups schema handle s indented old new e h printed =
     seen_so true k = k
     seen_so false k = k
 
+-- why nothing was printed, by the levels of the reader
+pub unprinted_by : (schema : StructSchema) (handle : StructHandle) (s : StructTree) (indented : Bool) (kind : ErrorKind) → schema_of handle ≡ schema → struct_of (reader_of handle) ≡ s → struct_levels (reader_of handle) ≡ 63 →
+    printed_text indented (dynamic.Struct handle) ≡ Err kind → text_in schema indented (record_left schema s) ≡ Err kind
+unprinted_by schema handle s indented kind e h l refused =
+    subst (λ (x : StructTree). text_in schema indented (record_left schema x) ≡ Err kind) h
+    (subst (λ (z : StructSchema). text_in z indented (record_left z (struct_of (reader_of handle))) ≡ Err kind) e
+    (subst (λ (n : ℕ). text_in (schema_of handle) indented (struct_record (set_of (schema_of handle)) (Left n) (struct_of (reader_of handle)) (number_of (schema_of handle))) ≡ Err kind) l
+    (seen_so (struct_node (schema_of handle)).is_group refused)))
+  where
+    seen_so : (q : Bool) → text_of (set_of (schema_of handle)) indented (struct_type (schema_of handle)) (struct_printed q handle) ≡ Err kind →
+        text_of (set_of (schema_of handle)) indented (struct_type (schema_of handle)) (root_value q (record_seen handle)) ≡ Err kind
+    seen_so true k = k
+    seen_so false k = k
+
 abbrev ok_struct : StructTree → Result StructTree ErrorKind → StructTree
 ok_struct other (Ok s) = s
 ok_struct other (Err kind) = other
@@ -135,16 +162,54 @@ struct_answered (tree.FaultLeaf k) n x here h = absurd (true≢false (sym here))
 pub struct_read_so : (p : PointerReader) (t : Tree) (reader : StructReader) → tree_of p ≡ t → IsTrue (is_struct t) → Ok (struct_of reader) ≡ as_struct (tree_of p) (levels_of p) → struct_of reader ≡ struct_in t
 struct_read_so p t reader e here h = struct_answered t (levels_of p) (struct_of reader) here (ap (λ (y : Tree). as_struct y (levels_of p)) (sym e) ∙ sym h)
 
+-- and a struct is read as one where a level is left
+pub struct_reads : (t : Tree) (n : ℕ) (kind : ErrorKind) → IsTrue (is_struct t) → n ≡ 64 → Err kind ≡ as_struct t n → ⊥
+struct_reads (tree.Struct bytes ps) n kind here levels h = true≢false (sym (ap is_ok (h ∙ ap (as_struct (tree.Struct bytes ps)) levels)))
+struct_reads tree.Null n kind here levels h = true≢false (sym here)
+struct_reads (tree.Voids k) n kind here levels h = true≢false (sym here)
+struct_reads (tree.Bits bs) n kind here levels h = true≢false (sym here)
+struct_reads (tree.Numbers w bytes) n kind here levels h = true≢false (sym here)
+struct_reads (tree.Pointers ps) n kind here levels h = true≢false (sym here)
+struct_reads (tree.Composite d p es) n kind here levels h = true≢false (sym here)
+struct_reads (tree.FaultLeaf k) n kind here levels h = true≢false (sym here)
+
 -- ---- the whole ----
 
 pub whole : (schema : StructSchema) (r : Record) (t : Tree) (calls : List Call) (replies : List Reply) (bytes : List ℕ) (indented : Bool) (old new : List ℕ) → LeavesRun schema r calls replies t →
-    (IsShallow t → (rest : List ℕ) → message_tree_of (bytes ++ rest) ≡ Ok t) → IsAppended old (text_in schema indented (record_in schema (struct_in t))) new → IsWhole schema r calls replies bytes indented old new
-whole schema r t calls replies bytes indented old new leaves read printed = record {
+    suc (words_of t) < 2 ^ 29 → (IsShallow t → (rest : List ℕ) → message_tree_of (bytes ++ rest) ≡ Ok t) → IsAppended old (text_in schema indented (record_in schema (struct_in t))) new →
+    IsWhole schema r calls replies bytes indented old new
+whole schema r t calls replies bytes indented old new leaves fits read printed = record {
   root = struct_in t;
   runs = leaves.runs;
+  fits = subst (λ (y : Tree). suc (words_of y) < 2 ^ 29) leaves.root fits;
   read_back = subst (λ (y : Tree). IsShallow y → (rest : List ℕ) → message_tree_of (bytes ++ rest) ≡ Ok y) leaves.root read;
   printed = printed;
 }
 
 pub is_root : (schema : StructSchema) (r : Record) (t : Tree) (calls : List Call) (replies : List Reply) → LeavesRun schema r calls replies t → IsTrue (is_struct t)
 is_root schema r t calls replies leaves = subst (λ (y : Tree). IsTrue (is_struct y)) (sym leaves.root) refl
+
+-- a kind that can't be another one
+is_too_large : (k : ErrorKind) → (k ≢ TooLarge → ⊥) → k ≡ TooLarge
+is_too_large TooLarge h = refl
+is_too_large _ h = absurd (h (λ e. cc))
+
+-- why a root was not written, or not printed
+module _ (schema : StructSchema) (r : Record) (t : Tree) (calls : List Call) (replies : List Reply) (leaves : LeavesRun schema r calls replies t) (indented : Bool) (kind : ErrorKind) where
+  pub not_written : (kind ≢ TooLarge → kind ≡ OutOfMemory) → (kind ≡ TooLarge → IsWellFormed t → 2 ^ 29 ≤ suc (words_of t)) → kind ≢ OutOfMemory → IsWholeRefusal schema r calls indented kind
+  not_written kinds refused other =
+      let large = is_too_large kind (λ ne. other (kinds ne)) in
+      record {
+        root = struct_in t;
+        replies = replies;
+        runs = leaves.runs;
+        cause = inl (subst (λ (y : Tree). 2 ^ 29 ≤ suc (words_of y)) leaves.root (refused large leaves.formed), large);
+      }
+
+  pub not_printed : suc (words_of t) < 2 ^ 29 → (kind ≢ OutOfMemory → text_in schema indented (record_left schema (struct_in t)) ≡ Err kind) → kind ≢ OutOfMemory → IsWholeRefusal schema r calls indented kind
+  not_printed fits refused other = record {
+    root = struct_in t;
+    replies = replies;
+    runs = leaves.runs;
+    cause = inr (subst (λ (y : Tree). suc (words_of y) < 2 ^ 29) leaves.root fits, refused other);
+  }

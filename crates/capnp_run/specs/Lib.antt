@@ -1,5 +1,6 @@
 pub mod Ends
 pub mod Lists
+pub mod Memory
 pub mod Messages
 pub mod Runs
 pub mod Seen

@@ -1,5 +1,5 @@
 -- Lists along a path: what the code knows of one, and what a call does from it on.
-use Rattle.std.specs.Prelude.{ℕ, ◌≡◌, List, Option, false, true}
+use Rattle.std.specs.Prelude.{ℕ, ◌≡◌, List, false, true}
 use Rattle.capnp_wire.specs.Elements.{reads_list}
 use Rattle.capnp_wire.specs.Reading.{is_null_tree, list_length}
 use Rattle.capnp_wire.specs.Tree.{Tree}

@@ -1,41 +1,48 @@
 -- Calls on a message's root.
-use Rattle.std.specs.Prelude.{ℕ, ◌≡◌, List, ◌++◌, map, Bool, true, false, IsTrue, Ok}
+use Rattle.std.specs.Prelude.{ℕ, suc, ◌^◌, ◌<◌, ◌≤◌, ◌≡◌, ◌⊎◌, List, ◌++◌, Bool, true, false, IsTrue, Option, Some, None, Ok, Err}
+use Rattle.capnp_device.specs.declared.error.ErrorKind.{ErrorKind}
+use Rattle.capnp_device.specs.declared.error.ErrorKind.TheVariants.{TooLarge}
 use Rattle.capnp_wire.specs.Depth.{IsShallow}
-use Rattle.capnp_wire.specs.Edits.{is_struct, struct_in}
+use Rattle.capnp_wire.specs.Edits.{is_struct, struct_in, struct_refusal}
 use Rattle.capnp_wire.specs.Place.{struct_tree}
+use Rattle.capnp_wire.specs.Reading.{refusal}
+use Rattle.capnp_wire.specs.Standing.{tree_of}
 use Rattle.capnp_wire.specs.Stream.{message_tree_of}
 use Rattle.capnp_wire.specs.Tree.{StructTree, Tree}
 use Rattle.capnp_wire.specs.WellFormed.{IsWellFormed}
+use Rattle.capnp_wire.specs.Words.{first_fault, words_of}
+use Rattle.capnp_wire.specs.declared.fault.Fault.{Fault}
+use Rattle.capnp_wire.specs.declared.pointer_reader.PointerReader.{PointerReader}
 use Rattle.capnp_schema.specs.StructHandles.{number_of, set_of, struct_node}
 use Rattle.capnp_schema.specs.declared.schema.structs.StructSchema.{StructSchema}
-use Rattle.capnp_records.specs.Reading.{reads}
+use Rattle.capnp_records.specs.Default.{default_record}
+use Rattle.capnp_records.specs.Reading.{struct_record}
 use Rattle.capnp_records.specs.Record as value
-use Rattle.capnp_records.specs.Record.{Record, Value}
-use Rattle.capnp_records.specs.Run.{Run}
+use Rattle.capnp_records.specs.Record.{Endless, Left, Record, Value}
 use Rattle.capnp_records.specs.Text.{Out, text_of}
 use Rattle.capnp_records.specs.Writes.Slots.{Fits}
 use Rattle.capnp_dynamic.specs.Pieces.{IsAppended}
 use Rattle.capnp_dynamic.specs.Typed.{struct_type}
-use Rattle.capnp_run.specs.Seen.{call_seen, reply_seen}
+use Rattle.capnp_run.specs.Runs.{IsRunFrom, record_in}
 use Rattle.capnp_run.specs.declared.calls.Call.{Call}
 use Rattle.capnp_run.specs.declared.calls.Reply.{Reply}
 
--- the record of a struct that is built
-abbrev pub record_in : StructSchema → StructTree → Record
-record_in schema s = reads (set_of schema) s (number_of schema)
+-- the record of an empty root, and that of a copy of what a reader stands on
+abbrev pub new_record : StructSchema → Record
+new_record schema = default_record (set_of schema) Endless (number_of schema)
 
--- calls with their replies take the record of one struct to that of another, as the machine of records says
-abbrev pub IsRunFrom : StructSchema → Record → List Call → List Reply → Record → Type 0
-IsRunFrom schema r calls replies r' = Run (set_of schema) (number_of schema) r (map call_seen calls) (map reply_seen replies) r'
+abbrev pub copied_record : StructSchema → PointerReader → Record
+copied_record schema source = record_in schema (struct_in (tree_of source))
 
-unfoldable pub IsRun : StructSchema → StructTree → List Call → List Reply → StructTree → Type 0
-IsRun schema s calls replies s' = IsRunFrom schema (record_in schema s) calls replies (record_in schema s')
-
--- a root: a struct that has its schema's sections, is well-formed and reads as a record
-pub record HasRoot (schema : StructSchema) (r : Record) (t : Tree) : Type 0 where
+-- a root: a struct that has its schema's sections and is well-formed
+pub record IsRoot (schema : StructSchema) (t : Tree) : Type 0 where
   pub here : IsTrue (is_struct t)
   pub fits : Fits (set_of schema) (number_of schema) (struct_in t)
   pub formed : IsWellFormed t
+
+-- one that reads as a record
+pub record HasRoot (schema : StructSchema) (r : Record) (t : Tree) : Type 0 where
+  pub root : IsRoot schema t
   pub reads_as : record_in schema (struct_in t) ≡ r
 
 -- what calls leave of a message: its root is a struct, and a run led from the record to that struct's
@@ -43,6 +50,18 @@ pub record LeavesRun (schema : StructSchema) (r : Record) (calls : List Call) (r
   pub root : t ≡ struct_tree (struct_in t)
   pub formed : IsWellFormed t
   pub runs : IsRunFrom schema r calls replies (record_in schema (struct_in t))
+
+-- what calls on one root leave as another
+abbrev pub RunsOn : StructSchema → Tree → List Call → List Reply → Tree → Type 0
+RunsOn schema old calls replies new = LeavesRun schema (record_in schema (struct_in old)) calls replies new
+
+-- why a tree is not copied as a root, memory aside: for its first fault in preorder, and else because it is a list
+abbrev pub fault_or : Option Fault → Option ErrorKind → Option ErrorKind
+fault_or None later = later
+fault_or (Some fault) later = Some (refusal fault)
+
+abbrev pub root_refusal : Tree → Option ErrorKind
+root_refusal t = fault_or (first_fault t) (struct_refusal t)
 
 -- ---- what is written and printed ----
 
@@ -55,10 +74,45 @@ root_value false r = value.Struct r
 abbrev pub text_in : StructSchema → (indented : Bool) → Record → Out
 text_in schema indented r = text_of (set_of schema) indented (struct_type schema) (root_value (struct_node schema).is_group r)
 
+-- the record of a root as a reader of the message sees it, which takes one of its 64 levels
+abbrev pub record_left : StructSchema → StructTree → Record
+record_left schema s = struct_record (set_of schema) (Left 63) s (number_of schema)
+
+-- the text of a root's record, and of what a reader of it sees
+abbrev pub root_text : StructSchema → (indented : Bool) → Tree → Out
+root_text schema indented t = text_in schema indented (record_in schema (struct_in t))
+
+abbrev pub read_text : StructSchema → (indented : Bool) → Tree → Out
+read_text schema indented t = text_in schema indented (record_left schema (struct_in t))
+
+-- the words of the segment of a root's message
+abbrev pub message_words : StructTree → ℕ
+message_words root = suc (words_of (struct_tree root))
+
 -- What is promised of a run, whole: a run of the machine leads from the record at the start to that of a struct, which the
 -- bytes of the message are read back as where its pointers go at most 64 levels down, and whose text is appended.
 pub record IsWhole (schema : StructSchema) (r : Record) (calls : List Call) (replies : List Reply) (bytes : List ℕ) (indented : Bool) (old new : List ℕ) : Type 0 where
   pub root : StructTree
   pub runs : IsRunFrom schema r calls replies (record_in schema root)
+  pub fits : message_words root < 2 ^ 29
   pub read_back : IsShallow (struct_tree root) → (rest : List ℕ) → message_tree_of (bytes ++ rest) ≡ Ok (struct_tree root)
   pub printed : IsAppended old (text_in schema indented (record_in schema root)) new
+
+-- why a root is not written and printed, memory aside: its message is too large, and else what a reader of it sees has no
+-- text, and that is its refusal
+abbrev pub IsOutputRefusal : StructSchema → StructTree → (indented : Bool) → ErrorKind → Type 0
+IsOutputRefusal schema root indented kind =
+    ((2 ^ 29 ≤ message_words root) × (kind ≡ TooLarge)) ⊎ ((message_words root < 2 ^ 29) × (text_in schema indented (record_left schema root) ≡ Err kind))
+
+-- why a run is refused as a whole, memory aside: each call had its reply, a run of the machine led from the record at the
+-- start to that of a struct, and this is not written and printed
+pub record IsWholeRefusal (schema : StructSchema) (r : Record) (calls : List Call) (indented : Bool) (kind : ErrorKind) : Type 0 where
+  pub root : StructTree
+  pub replies : List Reply
+  pub runs : IsRunFrom schema r calls replies (record_in schema root)
+  pub cause : IsOutputRefusal schema root indented kind
+
+-- the same of a copy: the source is not copied as a root, or the run on the copy is refused so
+abbrev pub IsCopiedRefusal : StructSchema → PointerReader → List Call → (indented : Bool) → ErrorKind → Type 0
+IsCopiedRefusal schema source calls indented kind =
+    (root_refusal (tree_of source) ≡ Some kind) ⊎ ((root_refusal (tree_of source) ≡ None) × IsWholeRefusal schema (copied_record schema source) calls indented kind)

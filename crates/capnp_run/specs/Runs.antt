@@ -19,7 +19,19 @@ Makes set b old (call ∷ calls) (reply ∷ replies) new = (mid : StructTree) ×
 Makes set b old [] (reply ∷ replies) new = ⊥
 Makes set b old (call ∷ calls) [] new = ⊥
 
+-- the record of a struct that is built
+abbrev pub record_in : StructSchema → StructTree → Record
+record_in schema s = reads (set_of schema) s (number_of schema)
+
+-- calls with their replies take a record to another, as the machine of records says, and the record of one struct to that of
+-- another
+abbrev pub IsRunFrom : StructSchema → Record → List Call → List Reply → Record → Type 0
+IsRunFrom schema r calls replies r' = Run (set_of schema) (number_of schema) r (map call_seen calls) (map reply_seen replies) r'
+
+abbrev pub RunsTo : StructSchema → StructTree → List Call → List Reply → StructTree → Type 0
+RunsTo schema s calls replies s' = IsRunFrom schema (record_in schema s) calls replies (record_in schema s')
+
 -- a run of the machine leads from the record of a struct, by calls with their replies, to a record
 pub record RunsFrom (schema : StructSchema) (s : StructTree) (calls : List Call) (replies : List Reply) : Type 0 where
   pub after : Record
-  pub runs : Run (set_of schema) (number_of schema) (reads (set_of schema) s (number_of schema)) (map call_seen calls) (map reply_seen replies) after
+  pub runs : IsRunFrom schema (record_in schema s) calls replies after

@@ -60,7 +60,8 @@ fn plain_of(alloc: Global, value: Value<'_>) -> Result<Plain>
 
 /// The reply to a read.
 pub(crate) fn answer(alloc: Global, read: Result<Value<'_>>) -> Reply
-    ensures { (set : Schemas) (t : SchemaType) (old : RecordValue) → IfOk read.entry (IsOf set t) → Answers t (answered read.entry) (fault_of (answered read.entry)) old (reply_seen result) old }
+    ensures { (set : Schemas) (t : SchemaType) (old : RecordValue) → IfOk read.entry (IsOf set t)
+        → Answers t (answered read.entry) (fault_of (answered read.entry)) old (reply_seen result) old }
 {
     match read {
         Err(error) => Reply::Refused(error.kind),
@@ -78,7 +79,8 @@ pub(crate) fn answer(alloc: Global, read: Result<Value<'_>>) -> Reply
 /// or data.
 pub fn get_field(alloc: Global, object: &StructObject, field: Field<'_>) -> Reply
     requires { IsWellFormed (struct_tree (struct_object_tree object.now)) }
-    ensures { (whole : Record → RecordValue) (old : RecordValue) → Does (field_set field.entry) Get (target_in whole field.entry (struct_object_tree object.now)) old (reply_seen result) old }
+    ensures { (whole : Record → RecordValue) (old : RecordValue)
+        → Does (field_set field.entry) Get (target_in whole field.entry (struct_object_tree object.now)) old (reply_seen result) old }
 {
     if is_inactive(object, field) {
         return Reply::Refused(ErrorKind::InactiveMember);
@@ -91,7 +93,8 @@ pub fn get_field(alloc: Global, object: &StructObject, field: Field<'_>) -> Repl
 /// Whether a field of a struct is there: false for a member that isn't active and for a null pointer.
 pub fn has_field(object: &StructObject, field: Field<'_>) -> Reply
     requires { IsWellFormed (struct_tree (struct_object_tree object.now)) }
-    ensures { (whole : Record → RecordValue) (old : RecordValue) → Does (field_set field.entry) Has (target_in whole field.entry (struct_object_tree object.now)) old (reply_seen result) old }
+    ensures { (whole : Record → RecordValue) (old : RecordValue)
+        → Does (field_set field.entry) Has (target_in whole field.entry (struct_object_tree object.now)) old (reply_seen result) old }
 {
     structs_can_be_read();
     // What the type of every field is known to meet is known of it here.

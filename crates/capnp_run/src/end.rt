@@ -158,7 +158,8 @@ fn do_named(
     requires fits { Fits (set_of schema) (number_of schema) (struct_object_tree object.old) }
     requires formed { IsWellFormed (struct_tree (struct_object_tree object.old)) }
     requires names { op ≢ Op.Which }
-    ensures does { NamedDoes (set_of schema.entry) (number_of schema.entry) (step_seen last.entry) (op_seen op.entry) (struct_object_tree object.old) (reply_seen result) (struct_object_tree object.new) }
+    ensures does { NamedDoes (set_of schema.entry) (number_of schema.entry) (step_seen last.entry) (op_seen op.entry) (struct_object_tree object.old)
+        (reply_seen result) (struct_object_tree object.new) }
     ensures kept { KeepsSize (struct_object_tree object.old) (struct_object_tree object.new) }
 {
     match find_field(schema, last) {
@@ -184,7 +185,8 @@ pub fn end_at_struct(
     requires stands { IsStruct schema }
     requires fits { Fits (set_of schema) (number_of schema) (struct_object_tree object.old) }
     requires formed { IsWellFormed (struct_tree (struct_object_tree object.old)) }
-    ensures ends { StructEnds (set_of schema.entry) (number_of schema.entry) (step_seen last.entry) (op_seen op.entry) (struct_object_tree object.old) (reply_seen result) (struct_object_tree object.new) }
+    ensures ends { StructEnds (set_of schema.entry) (number_of schema.entry) (step_seen last.entry) (op_seen op.entry) (struct_object_tree object.old)
+        (reply_seen result) (struct_object_tree object.new) }
     ensures kept { KeepsSize (struct_object_tree object.old) (struct_object_tree object.new) }
 {
     match op {

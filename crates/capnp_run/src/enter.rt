@@ -40,7 +40,8 @@ pub fn enter_struct(
     requires walked { IsWalked field (struct_object_tree object.old) }
     requires room { IsRoomFor field (struct_object_tree object.old) }
     requires formed { IsWellFormed (struct_tree (struct_object_tree object.old)) }
-    ensures filled { OnOk result (struct_object_tree object.new ≡ with_pointer_tree (struct_object_tree object.old) (pointer_index field.entry) (filled_in field.entry (struct_object_tree object.old))) }
+    ensures filled { OnOk result (struct_object_tree object.new
+        ≡ with_pointer_tree (struct_object_tree object.old) (pointer_index field.entry) (filled_in field.entry (struct_object_tree object.old))) }
     ensures here { OnOk result (pointer_in field.entry (struct_object_tree object.new) ≡ filled_in field.entry (struct_object_tree object.old)) }
     ensures goes { OnOk result (StepGoes field.entry (struct_object_tree object.old)) }
     ensures kept { OnOk result (KeepsSize (struct_object_tree object.old) (struct_object_tree object.new)) }
@@ -83,7 +84,8 @@ pub fn enter_list(object: &mut StructObject, field: Field<'_>, element: Type) ->
     requires walked { IsWalked field (struct_object_tree object.old) }
     requires room { IsRoomFor field (struct_object_tree object.old) }
     requires formed { IsWellFormed (struct_tree (struct_object_tree object.old)) }
-    ensures filled { OnOk result (struct_object_tree object.new ≡ with_pointer_tree (struct_object_tree object.old) (pointer_index field.entry) (filled_in field.entry (struct_object_tree object.old))) }
+    ensures filled { OnOk result (struct_object_tree object.new
+        ≡ with_pointer_tree (struct_object_tree object.old) (pointer_index field.entry) (filled_in field.entry (struct_object_tree object.old))) }
     ensures here { OnOk result (pointer_in field.entry (struct_object_tree object.new) ≡ filled_in field.entry (struct_object_tree object.old)) }
     ensures stands { OnOk result (IsListStand (field_set field.entry) (seen_type element) (filled_in field.entry (struct_object_tree object.old))) }
     ensures goes { OnOk result (StepGoes field.entry (struct_object_tree object.old)) }

@@ -39,7 +39,8 @@ fn get_element(
     requires entries { NamesEntries (lists_seen set.now) (seen_type element) }
     requires stands { IsListStand (lists_seen set.now) (seen_type element) (list_object_tree list.now) }
     requires inside { index < list_length (list_object_tree list.now) }
-    ensures { (old : RecordValue) → Does (lists_seen set.now) Get (element_at (lists_seen set.now) (seen_type element) (list_object_tree list.now) index) old (reply_seen result) old }
+    ensures { (old : RecordValue) → Does (lists_seen set.now) Get
+        (element_at (lists_seen set.now) (seen_type element) (list_object_tree list.now) index) old (reply_seen result) old }
 {
     objects_are_what_they_hold();
     let reader = dynamic_list::Reader::new(list.as_reader(), element, set);
@@ -75,7 +76,8 @@ fn set_element(
 ) -> Reply
     requires stands { IsListStand (lists_seen set.now) (seen_type element) (list_object_tree list.old) }
     requires inside { index < list_length (list_object_tree list.old) }
-    ensures does { ElementDoes (lists_seen set.now) (seen_type element) index (Op.Set value.entry) (list_object_tree list.old) result (list_object_tree list.new) }
+    ensures does { ElementDoes (lists_seen set.now) (seen_type element) index (Op.Set value.entry) (list_object_tree list.old) result
+        (list_object_tree list.new) }
     ensures formed { IsWellFormed (list_object_tree list.new) }
 {
     let source = value.into_source();

@@ -1,17 +1,15 @@
 //! Calls on whole messages: on an empty root, or on a message that was copied in whole.
-ghost use Rattle.std.specs.Prelude.{IsTrue, ◌≡◌, OnOk, IfOk, string_bytes};
-ghost use Rattle.capnp_wire.specs.Edits.{is_struct, struct_in};
+ghost use Rattle.std.specs.Prelude.{IsTrue, None, Some, Err, ◌≡◌, ◌≢◌, OnErr, OnOk, IfErr, IfOk, string_bytes};
+ghost use Rattle.capnp_device.specs.declared.error.ErrorKind.TheVariants.{OutOfMemory};
+ghost use Rattle.capnp_wire.specs.Edits.{is_struct};
 ghost use Rattle.capnp_wire.specs.Message.{builder_tree};
 ghost use Rattle.capnp_wire.specs.Objects.{object_tree};
-ghost use Rattle.capnp_wire.specs.Place.{struct_tree};
 ghost use Rattle.capnp_wire.specs.Standing.{tree_of};
 ghost use Rattle.capnp_wire.specs.WellFormed.{IsWellFormed};
 ghost use Rattle.capnp_schema.specs.StructHandles.{IsStruct, number_of, set_of};
-ghost use Rattle.capnp_records.specs.Default.{default_record};
-ghost use Rattle.capnp_records.specs.Record.{Endless};
-ghost use Rattle.capnp_records.specs.Writes.Slots.{Fits, brand_size};
+ghost use Rattle.capnp_records.specs.Writes.Slots.{brand_size};
 ghost use Rattle.capnp_dynamic.specs.Pieces.{IsAppended};
-ghost use Rattle.capnp_run.specs.Messages.{HasRoot, IsRun, IsWhole, LeavesRun, record_in, text_in};
+ghost use Rattle.capnp_run.specs.Messages.{HasRoot, IsCopiedRefusal, IsRoot, IsWhole, IsWholeRefusal, LeavesRun, RunsOn, copied_record, new_record, read_text, root_refusal, root_text};
 
 use crate::calls::{Call, Reply};
 use crate::run::run_on;
@@ -41,7 +39,8 @@ fn size_of(schema: StructSchema<'_>) -> StructSize
 
 /// Makes the root a struct of a schema, all zero and null. Refused with `OutOfMemory`.
 fn empty_root(message: &mut Builder, schema: StructSchema<'_>) -> Result<()>
-    ensures root { OnOk result (HasRoot schema.entry (default_record (set_of schema.entry) Endless (number_of schema.entry)) (builder_tree message.new)) }
+    ensures root { OnOk result (HasRoot schema.entry (new_record schema.entry) (builder_tree message.new)) }
+    ensures cause { IfErr result (λ e. e.kind ≡ OutOfMemory) }
 {
     objects_are_what_they_hold();
     let size = size_of(schema);
@@ -55,7 +54,9 @@ fn copied_root(
     source: PointerReader<'_>,
     schema: StructSchema<'_>,
 ) -> Result<()>
-    ensures root { OnOk result (HasRoot schema.entry (record_in schema.entry (struct_in (tree_of source.entry))) (builder_tree message.new)) }
+    ensures root { OnOk result (HasRoot schema.entry (copied_record schema.entry source.entry) (builder_tree message.new)) }
+    ensures sound { OnOk result (root_refusal (tree_of source.entry) ≡ None) }
+    ensures cause { IfErr result (λ e. e.kind ≢ OutOfMemory → root_refusal (tree_of source.entry) ≡ Some e.kind) }
 {
     pointer_is_well_formed(&source);
     objects_are_what_they_hold();
@@ -65,7 +66,7 @@ fn copied_root(
     Ok(())
 }
 
-/// Makes calls on the struct that stands at a pointer.
+/// Makes calls on the struct that stands at a pointer. Refused with `OutOfMemory`.
 fn run_here(
     alloc: Global,
     pointer: &mut Object,
@@ -73,19 +74,16 @@ fn run_here(
     calls: &[Call<'_>],
 ) -> Result<Vec<Reply>>
     requires stands { IsStruct schema }
-    requires here { IsTrue (is_struct (object_tree pointer.old)) }
-    requires fits { Fits (set_of schema) (number_of schema) (struct_in (object_tree pointer.old)) }
-    requires formed { IsWellFormed (object_tree pointer.old) }
-    ensures runs { IfOk result (λ replies. IsRun schema.entry (struct_in (object_tree pointer.old)) calls.now replies.items (struct_in (object_tree pointer.new))) }
-    ensures here { OnOk result (object_tree pointer.new ≡ struct_tree (struct_in (object_tree pointer.new))) }
-    ensures formed { OnOk result (IsWellFormed (object_tree pointer.new)) }
+    requires root { IsRoot schema (object_tree pointer.old) }
+    ensures run { IfOk result (λ replies. RunsOn schema.entry (object_tree pointer.old) calls.now replies.items (object_tree pointer.new)) }
+    ensures cause { IfErr result (λ e. e.kind ≡ OutOfMemory) }
 {
     objects_are_what_they_hold();
     let object = pointer.struct_here();
     run_on(alloc, object, schema, calls)
 }
 
-/// Makes calls on a root.
+/// Makes calls on a root. Refused with `OutOfMemory`.
 fn run_root(
     alloc: Global,
     message: &mut Builder,
@@ -93,21 +91,20 @@ fn run_root(
     calls: &[Call<'_>],
 ) -> Result<Vec<Reply>>
     requires stands { IsStruct schema }
-    requires here { IsTrue (is_struct (builder_tree message.old)) }
-    requires fits { Fits (set_of schema) (number_of schema) (struct_in (builder_tree message.old)) }
-    requires formed { IsWellFormed (builder_tree message.old) }
-    ensures runs { IfOk result (λ replies. IsRun schema.entry (struct_in (builder_tree message.old)) calls.now replies.items (struct_in (builder_tree message.new))) }
-    ensures here { OnOk result (builder_tree message.new ≡ struct_tree (struct_in (builder_tree message.new))) }
-    ensures formed { OnOk result (IsWellFormed (builder_tree message.new)) }
+    requires root { IsRoot schema (builder_tree message.old) }
+    ensures run { IfOk result (λ replies. RunsOn schema.entry (builder_tree message.old) calls.now replies.items (builder_tree message.new)) }
+    ensures cause { IfErr result (λ e. e.kind ≡ OutOfMemory) }
 {
     let root = message.root();
     run_here(alloc, root, schema, calls)
 }
 
 /// Makes calls on an empty root of a message: the root becomes a struct of the schema, all zero and null, and what it reads as
-/// after the calls is what the machine of records makes of the schema's default record.
+/// after the calls is what the machine of records makes of the schema's default record. What stood in the message before is
+/// given up.
 ///
-/// Refused with `OutOfMemory`.
+/// Refused with `OutOfMemory` alone, where there is no room for the root or the replies; then no call was made, and the
+/// message is as it was. A call that is refused has its reply, and doesn't refuse the run.
 pub fn run_new(
     alloc: Global,
     message: &mut Builder,
@@ -115,16 +112,23 @@ pub fn run_new(
     calls: &[Call<'_>],
 ) -> Result<Vec<Reply>>
     requires { IsStruct schema }
-    ensures { IfOk result (λ replies. LeavesRun schema.entry (default_record (set_of schema.entry) Endless (number_of schema.entry)) calls.now replies.items (builder_tree message.new)) }
+    ensures run { IfOk result (λ replies. LeavesRun schema.entry (new_record schema.entry) calls.now replies.items (builder_tree message.new)) }
+    ensures refused { OnErr result (message.new ≡ message.old) }
+    ensures cause { IfErr result (λ e. e.kind ≡ OutOfMemory) }
 {
-    empty_root(message, schema)?;
-    run_root(alloc, message, schema, calls)
+    let mut made = Builder::new(alloc);
+    empty_root(&mut made, schema)?;
+    let replies = run_root(alloc, &mut made, schema, calls)?;
+    *message = made;
+    Ok(replies)
 }
 
 /// Makes calls on a copy of a message's root, which is a struct: what it reads as after the calls is what the machine of
-/// records makes of the record that the source reads as.
+/// records makes of the record that the source reads as. What stood in the message before is given up.
 ///
-/// Refused as `set_root` for a source that can't be copied, with `WrongPointerKind` for a list, and with `OutOfMemory`.
+/// Refused with `BadPointer`, `TooDeep` or `CapabilityPointer` where a pointer in the source can't be followed, by the first
+/// of these in preorder; else with `WrongPointerKind` where the source is a list; and with `OutOfMemory`. Then no call was
+/// made, and the message is as it was.
 pub fn run_copied(
     alloc: Global,
     message: &mut Builder,
@@ -133,13 +137,20 @@ pub fn run_copied(
     calls: &[Call<'_>],
 ) -> Result<Vec<Reply>>
     requires { IsStruct schema }
-    ensures { IfOk result (λ replies. LeavesRun schema.entry (record_in schema.entry (struct_in (tree_of source.entry))) calls.now replies.items (builder_tree message.new)) }
+    ensures run { IfOk result (λ replies. LeavesRun schema.entry (copied_record schema.entry source.entry) calls.now replies.items
+        (builder_tree message.new)) }
+    ensures sound { OnOk result (root_refusal (tree_of source.entry) ≡ None) }
+    ensures refused { OnErr result (message.new ≡ message.old) }
+    ensures cause { IfErr result (λ e. e.kind ≢ OutOfMemory → root_refusal (tree_of source.entry) ≡ Some e.kind) }
 {
-    copied_root(message, source, schema)?;
-    run_root(alloc, message, schema, calls)
+    let mut made = Builder::new(alloc);
+    copied_root(&mut made, source, schema)?;
+    let replies = run_root(alloc, &mut made, schema, calls)?;
+    *message = made;
+    Ok(replies)
 }
 
-/// Appends the text of the struct that stands at a pointer.
+/// Appends the text of the struct that stands at a pointer. Refused as the print, and then nothing is appended.
 fn print_here(
     pointer: &Object,
     schema: StructSchema<'_>,
@@ -148,7 +159,9 @@ fn print_here(
 ) -> Result<()>
     requires here { IsTrue (is_struct (object_tree pointer.now)) }
     requires formed { IsWellFormed (object_tree pointer.now) }
-    ensures { OnOk result (IsAppended (string_bytes out.old) (text_in schema.entry indented (record_in schema.entry (struct_in (object_tree pointer.now)))) (string_bytes out.new)) }
+    ensures printed { OnOk result (IsAppended (string_bytes out.old) (root_text schema.entry indented (object_tree pointer.now)) (string_bytes out.new)) }
+    ensures refused { OnErr result (string_bytes out.new ≡ string_bytes out.old) }
+    ensures cause { IfErr result (λ e. e.kind ≢ OutOfMemory → read_text schema.entry indented (object_tree pointer.now) ≡ Err e.kind) }
 {
     print_law();
     let reader = pointer.as_reader().get_struct()?;
@@ -156,7 +169,7 @@ fn print_here(
     print(Value::Struct(root), out, indented)
 }
 
-/// Appends the text of a message's root.
+/// Appends the text of a message's root. Refused as the print, and then nothing is appended.
 #[tactic(auto, unfolding(capnp_wire::specs::Message::builder_tree))]
 fn print_root(
     message: &mut Builder,
@@ -166,18 +179,21 @@ fn print_root(
 ) -> Result<()>
     requires here { IsTrue (is_struct (builder_tree message.old)) }
     requires formed { IsWellFormed (builder_tree message.old) }
-    ensures printed { OnOk result (IsAppended (string_bytes out.old) (text_in schema.entry indented (record_in schema.entry (struct_in (builder_tree message.old)))) (string_bytes out.new)) }
+    ensures printed { OnOk result (IsAppended (string_bytes out.old) (root_text schema.entry indented (builder_tree message.old)) (string_bytes out.new)) }
     ensures same { builder_tree message.new ≡ builder_tree message.old }
+    ensures refused { OnErr result (string_bytes out.new ≡ string_bytes out.old) }
+    ensures cause { IfErr result (λ e. e.kind ≢ OutOfMemory → read_text schema.entry indented (builder_tree message.old) ≡ Err e.kind) }
 {
     let root = message.root();
     print_here(&*root, schema, out, indented)
 }
 
-/// Makes calls on an empty root of a new message, prints the root and writes the message: the promise of this crate, whole.
+/// Makes calls on an empty root of a new message, writes the message and prints its root: the promise of this crate, whole.
 /// The replies and the record that the bytes are read back as are related by the machine of records to the default record,
 /// and what is printed is the text of that record.
 ///
-/// Refused with `OutOfMemory`, as the print, and with `TooLarge` for a message of 2^29 words or more.
+/// Refused with `OutOfMemory`; with `TooLarge` where the calls left a message of 2^29 words or more; and else as the print of
+/// the root that they left. Then the string is as it was. A call that is refused has its reply, and doesn't refuse the whole.
 pub fn whole_new(
     alloc: Global,
     schema: StructSchema<'_>,
@@ -186,18 +202,21 @@ pub fn whole_new(
     indented: bool,
 ) -> Result<(Vec<Reply>, Vec<u8>)>
     requires { IsStruct schema }
-    ensures { IfOk result (λ done. IsWhole schema.entry (default_record (set_of schema.entry) Endless (number_of schema.entry)) calls.now done.0.items done.1.items indented (string_bytes out.old) (string_bytes out.new)) }
+    ensures whole { IfOk result (λ done. IsWhole schema.entry (new_record schema.entry) calls.now done.0.items done.1.items indented
+        (string_bytes out.old) (string_bytes out.new)) }
+    ensures refused { OnErr result (string_bytes out.new ≡ string_bytes out.old) }
+    ensures cause { IfErr result (λ e. e.kind ≢ OutOfMemory → IsWholeRefusal schema.entry (new_record schema.entry) calls.now indented e.kind) }
 {
     let mut message = Builder::new(alloc);
     let replies = run_new(alloc, &mut message, schema, calls)?;
-    print_root(&mut message, schema, out, indented)?;
     let bytes = message.write_message()?;
+    print_root(&mut message, schema, out, indented)?;
     Ok((replies, bytes))
 }
 
 /// The same on a copy of a message's root, which is a struct.
 ///
-/// Refused as `run_copied`, as the print, and with `TooLarge` for a message of 2^29 words or more.
+/// Refused as `run_copied`, and then as `whole_new`. Then the string is as it was.
 pub fn whole_copied(
     alloc: Global,
     source: PointerReader<'_>,
@@ -207,11 +226,15 @@ pub fn whole_copied(
     indented: bool,
 ) -> Result<(Vec<Reply>, Vec<u8>)>
     requires { IsStruct schema }
-    ensures { IfOk result (λ done. IsWhole schema.entry (record_in schema.entry (struct_in (tree_of source.entry))) calls.now done.0.items done.1.items indented (string_bytes out.old) (string_bytes out.new)) }
+    ensures whole { IfOk result (λ done. IsWhole schema.entry (copied_record schema.entry source.entry) calls.now done.0.items done.1.items indented
+        (string_bytes out.old) (string_bytes out.new)) }
+    ensures sound { OnOk result (root_refusal (tree_of source.entry) ≡ None) }
+    ensures refused { OnErr result (string_bytes out.new ≡ string_bytes out.old) }
+    ensures cause { IfErr result (λ e. e.kind ≢ OutOfMemory → IsCopiedRefusal schema.entry source.entry calls.now indented e.kind) }
 {
     let mut message = Builder::new(alloc);
     let replies = run_copied(alloc, &mut message, source, schema, calls)?;
-    print_root(&mut message, schema, out, indented)?;
     let bytes = message.write_message()?;
+    print_root(&mut message, schema, out, indented)?;
     Ok((replies, bytes))
 }

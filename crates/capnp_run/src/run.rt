@@ -1,17 +1,16 @@
 //! Lists of calls on a struct that is built.
-ghost use Rattle.std.specs.Prelude.{◌≡◌, IfErr, IfOk, OnErr, map};
+ghost use Rattle.std.specs.Prelude.{All, ◌≡◌, ◌≢◌, IfErr, IfOk, OnErr};
 ghost use Rattle.capnp_device.specs.declared.error.ErrorKind.TheVariants.{OutOfMemory};
 ghost use Rattle.capnp_wire.specs.Objects.{struct_object_tree};
 ghost use Rattle.capnp_wire.specs.Place.{struct_tree};
 ghost use Rattle.capnp_wire.specs.WellFormed.{IsWellFormed};
 ghost use Rattle.capnp_schema.specs.StructHandles.{IsStruct, number_of, set_of};
-ghost use Rattle.capnp_records.specs.Reading.{reads};
-ghost use Rattle.capnp_records.specs.Run.{Run};
 ghost use Rattle.capnp_records.specs.Writes.Slots.{Fits};
 ghost use Rattle.capnp_records.specs.Writes.TreeEnds.{TreeStep};
 ghost use Rattle.capnp_slots.specs.Groups.{KeepsSize};
 ghost use Rattle.capnp_dynamic.specs.Built.{IsReady, built_schema, built_struct};
-ghost use Rattle.capnp_run.specs.Runs.{Makes, RunsFrom};
+ghost use Rattle.capnp_run.specs.Memory.{RunRests};
+ghost use Rattle.capnp_run.specs.Runs.{Makes, RunsFrom, RunsTo};
 ghost use Rattle.capnp_run.specs.Seen.{call_seen, reply_seen};
 
 use crate::calls::{Call, Ending, Reply};
@@ -34,7 +33,8 @@ fn call_at(
     requires stands { IsStruct schema }
     requires fits { Fits (set_of schema) (number_of schema) (struct_object_tree object.old) }
     requires formed { IsWellFormed (struct_tree (struct_object_tree object.old)) }
-    ensures made { TreeStep (set_of schema.entry) (number_of schema.entry) (struct_object_tree object.old) (call_seen call.now) (reply_seen result) (struct_object_tree object.new) }
+    ensures made { TreeStep (set_of schema.entry) (number_of schema.entry) (struct_object_tree object.old) (call_seen call.now) (reply_seen result)
+        (struct_object_tree object.new) }
     ensures kept { KeepsSize (struct_object_tree object.old) (struct_object_tree object.new) }
 {
     let end = Ending {
@@ -55,7 +55,8 @@ fn make_calls(
     requires stands { IsStruct schema }
     requires fits { Fits (set_of schema) (number_of schema) (struct_object_tree object.old) }
     requires formed { IsWellFormed (struct_tree (struct_object_tree object.old)) }
-    ensures made { IfOk result (λ replies. Makes (set_of schema.entry) (number_of schema.entry) (struct_object_tree object.old) calls.now replies.items (struct_object_tree object.new)) }
+    ensures made { IfOk result (λ replies. Makes (set_of schema.entry) (number_of schema.entry) (struct_object_tree object.old) calls.now replies.items
+        (struct_object_tree object.new)) }
     ensures kept { KeepsSize (struct_object_tree object.old) (struct_object_tree object.new) }
     ensures refused { OnErr result (object.new ≡ object.old) }
     ensures cause { IfErr result (λ e. e.kind ≡ OutOfMemory) }
@@ -73,7 +74,8 @@ fn make_calls(
 /// Makes calls along paths of a struct, one after another, and gives one reply to each, in order. A refused call doesn't end
 /// the run, and leaves the nulls filled that the steps before the refusal filled.
 ///
-/// Refused with `OutOfMemory` where there is no room for the replies, and then nothing has changed.
+/// Refused with `OutOfMemory` where there is no room for the replies, and then nothing has changed. Once there is, no reply is
+/// `OutOfMemory` where no call takes memory.
 pub fn run_on(
     alloc: Global,
     object: &mut StructObject,
@@ -83,7 +85,9 @@ pub fn run_on(
     requires stands { IsStruct schema }
     requires fits { Fits (set_of schema) (number_of schema) (struct_object_tree object.old) }
     requires formed { IsWellFormed (struct_tree (struct_object_tree object.old)) }
-    ensures runs { IfOk result (λ replies. Run (set_of schema.entry) (number_of schema.entry) (reads (set_of schema.entry) (struct_object_tree object.old) (number_of schema.entry)) (map call_seen calls.now) (map reply_seen replies.items) (reads (set_of schema.entry) (struct_object_tree object.new) (number_of schema.entry))) }
+    ensures runs { IfOk result (λ replies. RunsTo schema.entry (struct_object_tree object.old) calls.now replies.items (struct_object_tree object.new)) }
+    ensures rests { IfOk result (λ replies. RunRests schema.entry (struct_object_tree object.old) calls.now
+        → All (λ r. r ≢ Reply.Refused OutOfMemory) replies.items) }
     ensures kept { KeepsSize (struct_object_tree object.old) (struct_object_tree object.new) }
     ensures refused { OnErr result (object.new ≡ object.old) }
     ensures cause { IfErr result (λ e. e.kind ≡ OutOfMemory) }

@@ -1,5 +1,6 @@
 //! The walk of a path: a step after another, each into a part of what the one before it entered.
-ghost use Rattle.std.specs.Prelude.{IsTrue, ◌≡◌, ◌<◌, ◌∷◌, false};
+ghost use Rattle.std.specs.Prelude.{IsTrue, ◌≡◌, ◌≢◌, ◌<◌, ◌∷◌, false};
+ghost use Rattle.capnp_device.specs.declared.error.ErrorKind.TheVariants.{OutOfMemory};
 ghost use Rattle.capnp_wire.specs.Edits.{is_struct, struct_in};
 ghost use Rattle.capnp_wire.specs.Objects.{list_object_tree, object_tree, struct_object_tree};
 ghost use Rattle.capnp_wire.specs.Place.{struct_tree};
@@ -15,6 +16,7 @@ ghost use Rattle.capnp_records.specs.Writes.Slots.{Fits};
 ghost use Rattle.capnp_slots.specs.Fields.{IsRoomFor};
 ghost use Rattle.capnp_slots.specs.Groups.{IsGroupAt, KeepsSize};
 ghost use Rattle.capnp_run.specs.Lists.{ElementWalks, IsListStand, ListWalks, refusal_at_nothing};
+ghost use Rattle.capnp_run.specs.Memory.{PathRests};
 ghost use Rattle.capnp_run.specs.Seen.{step_seen};
 ghost use Rattle.capnp_run.specs.Walks.{FieldWalks, IsWalked, StructWalks};
 ghost use Rattle.capnp_run.specs.Ways.{IsListSlot, IsStructSlot, LeadsTo};
@@ -39,7 +41,8 @@ use capnp_wire::object::{ListObject, Object, StructObject};
 /// then as `way::way_of`, and then as `enter::enter_struct` and `enter::enter_list`; at a list with `NotAContainer` where it
 /// names a field, then with `NoSuchElement` past the end, then with `UntypedStep` into an untyped element and with
 /// `NotAContainer` into another one that is no struct or list. The end is refused as `end::end_at_struct` and
-/// `list_end::end_at_list`. What the steps before a refusal filled stays.
+/// `list_end::end_at_list`. What the steps before a refusal filled stays. Where nothing has to be filled or extended behind a
+/// step and the operation takes no memory, nothing is refused with `OutOfMemory`.
 #[cycle(walk)]
 pub fn walk(
     object: &mut StructObject,
@@ -50,7 +53,9 @@ pub fn walk(
     requires stands { IsStruct schema }
     requires fits { Fits (set_of schema) (number_of schema) (struct_object_tree object.old) }
     requires formed { IsWellFormed (struct_tree (struct_object_tree object.old)) }
-    ensures walks { StructWalks (set_of schema.entry) (number_of schema.entry) path.now end.entry (struct_object_tree object.old) result (struct_object_tree object.new) }
+    ensures walks { StructWalks (set_of schema.entry) (number_of schema.entry) path.now end.entry (struct_object_tree object.old) result
+        (struct_object_tree object.new) }
+    ensures rests { PathRests schema.entry path.now end.entry (struct_object_tree object.old) → result ≢ Reply.Refused OutOfMemory }
     ensures kept { KeepsSize (struct_object_tree object.old) (struct_object_tree object.new) }
 {
     let Some((step, rest)) = path.split_first() else {
@@ -72,7 +77,8 @@ fn walk_step(
     requires stands { IsStruct schema }
     requires fits { Fits (set_of schema) (number_of schema) (struct_object_tree object.old) }
     requires formed { IsWellFormed (struct_tree (struct_object_tree object.old)) }
-    ensures walks { StructWalks (set_of schema.entry) (number_of schema.entry) (step.entry ∷ rest.now) end.entry (struct_object_tree object.old) result (struct_object_tree object.new) }
+    ensures walks { StructWalks (set_of schema.entry) (number_of schema.entry) (step.entry ∷ rest.now) end.entry (struct_object_tree object.old) result
+        (struct_object_tree object.new) }
     ensures kept { KeepsSize (struct_object_tree object.old) (struct_object_tree object.new) }
 {
     match find_field(schema, step) {
@@ -183,7 +189,8 @@ fn walk_struct_here(
     requires here { IsTrue (is_struct (object_tree pointer.old)) }
     requires fits { Fits (set_of schema) (number_of schema) (struct_in (object_tree pointer.old)) }
     requires formed { IsWellFormed (object_tree pointer.old) }
-    ensures walks { StructWalks (set_of schema.entry) (number_of schema.entry) rest.now end.entry (struct_in (object_tree pointer.old)) result (struct_in (object_tree pointer.new)) }
+    ensures walks { StructWalks (set_of schema.entry) (number_of schema.entry) rest.now end.entry (struct_in (object_tree pointer.old)) result
+        (struct_in (object_tree pointer.new)) }
     ensures here { object_tree pointer.new ≡ struct_tree (struct_in (object_tree pointer.new)) }
     ensures formed { IsWellFormed (object_tree pointer.new) }
 {
@@ -302,7 +309,8 @@ fn walk_element(
     requires entries { NamesEntries (lists_seen set.now) (seen_type element) }
     requires stands { IsListStand (lists_seen set.now) (seen_type element) (list_object_tree list.old) }
     requires there { is_null_tree (list_object_tree list.old) ≡ false }
-    ensures walks { ListWalks (lists_seen set.now) (seen_type element) (Step.Element index ∷ rest.now) end.entry (list_object_tree list.old) result (list_object_tree list.new) }
+    ensures walks { ListWalks (lists_seen set.now) (seen_type element) (Step.Element index ∷ rest.now) end.entry (list_object_tree list.old) result
+        (list_object_tree list.new) }
     ensures formed { IsWellFormed (list_object_tree list.new) }
 {
     if index >= list.len() {
@@ -325,7 +333,8 @@ fn walk_part(
     requires entries { NamesEntries (lists_seen set.now) (seen_type element) }
     requires stands { IsListStand (lists_seen set.now) (seen_type element) (list_object_tree list.old) }
     requires inside { index < list_length (list_object_tree list.old) }
-    ensures walks { ElementWalks (lists_seen set.now) (seen_type element) index rest.now end.entry (list_object_tree list.old) result (list_object_tree list.new) }
+    ensures walks { ElementWalks (lists_seen set.now) (seen_type element) index rest.now end.entry (list_object_tree list.old) result
+        (list_object_tree list.new) }
     ensures formed { IsWellFormed (list_object_tree list.new) }
 {
     match element.which() {
@@ -352,7 +361,8 @@ fn walk_struct_in(
     requires struct_stands { IsStruct schema }
     requires stands { IsListStand (set_of schema) (StructType (number_of schema) (generic_of schema)) (list_object_tree list.old) }
     requires inside { index < list_length (list_object_tree list.old) }
-    ensures walks { ElementWalks (set_of schema.entry) (StructType (number_of schema.entry) (generic_of schema.entry)) index rest.now end.entry (list_object_tree list.old) result (list_object_tree list.new) }
+    ensures walks { ElementWalks (set_of schema.entry) (StructType (number_of schema.entry) (generic_of schema.entry)) index rest.now end.entry
+        (list_object_tree list.old) result (list_object_tree list.new) }
     ensures formed { IsWellFormed (list_object_tree list.new) }
 {
     let inner = list.get_struct_element(index);
@@ -372,7 +382,8 @@ fn walk_list_in(
     requires entries { NamesEntries (lists_seen set.now) (seen_type inner) }
     requires stands { IsListStand (lists_seen set.now) (ListType (seen_type inner)) (list_object_tree list.old) }
     requires inside { index < list_length (list_object_tree list.old) }
-    ensures walks { ElementWalks (lists_seen set.now) (ListType (seen_type inner)) index rest.now end.entry (list_object_tree list.old) result (list_object_tree list.new) }
+    ensures walks { ElementWalks (lists_seen set.now) (ListType (seen_type inner)) index rest.now end.entry (list_object_tree list.old) result
+        (list_object_tree list.new) }
     ensures formed { IsWellFormed (list_object_tree list.new) }
 {
     objects_hold_no_fault();

@@ -42,7 +42,8 @@ pub enum Way<'s> {
 /// or name.
 #[inline(always)]
 pub fn find_field<'s>(schema: StructSchema<'s>, step: Step<'_>) -> Result<Field<'s>>
-    ensures found { (whole : Record → Value) (r : Record) → found_target whole r result ≡ in_record (set_of schema.entry) whole r (number_of schema.entry) (step_seen step.entry) }
+    ensures found { (whole : Record → Value) (r : Record)
+        → found_target whole r result ≡ in_record (set_of schema.entry) whole r (number_of schema.entry) (step_seen step.entry) }
     ensures named { IfOk result (IsNamedBy schema.entry step.entry) }
 {
     match step {
@@ -55,7 +56,8 @@ pub fn find_field<'s>(schema: StructSchema<'s>, step: Step<'_>) -> Result<Field<
 /// The field of an index; refused with `FieldNotFound` where there is none.
 #[inline(always)]
 fn find_numbered(schema: StructSchema<'_>, index: u16) -> Result<Field<'_>>
-    ensures found { (whole : Record → Value) (r : Record) → found_target whole r result ≡ in_record (set_of schema.entry) whole r (number_of schema.entry) (step_seen (Step.Field index)) }
+    ensures found { (whole : Record → Value) (r : Record)
+        → found_target whole r result ≡ in_record (set_of schema.entry) whole r (number_of schema.entry) (step_seen (Step.Field index)) }
     ensures named { IfOk result (IsNamedBy schema.entry (Step.Field index)) }
 {
     let fields = schema.get_fields()?;
@@ -80,7 +82,8 @@ fn is_member(field: Field<'_>) -> bool
 #[inline(always)]
 pub fn is_inactive(object: &StructObject, field: Field<'_>) -> bool
     requires { IsWellFormed (struct_tree (struct_object_tree object.now)) }
-    ensures { result ≡ is_inactive (reads (field_set field.entry) (struct_object_tree object.now) (field_brand field.entry)) (typed_of field.entry).field (index_of field.entry) }
+    ensures { result ≡ is_inactive (reads (field_set field.entry) (struct_object_tree object.now) (field_brand field.entry)) (typed_of field.entry).field
+        (index_of field.entry) }
 {
     if !is_member(field) {
         return false;
@@ -101,7 +104,8 @@ pub fn is_inactive(object: &StructObject, field: Field<'_>) -> bool
 #[inline(always)]
 pub fn way_of<'s>(object: &StructObject, field: Field<'s>) -> Result<Way<'s>>
     requires { IsWellFormed (struct_tree (struct_object_tree object.now)) }
-    ensures walked { (whole : Record → Value) → way_target (target_in whole field.entry (struct_object_tree object.now)) result ≡ walked (target_in whole field.entry (struct_object_tree object.now)) }
+    ensures walked { (whole : Record → Value) → way_target (target_in whole field.entry (struct_object_tree object.now)) result
+        ≡ walked (target_in whole field.entry (struct_object_tree object.now)) }
     ensures leads { IfOk result (LeadsTo field.entry) }
 {
     if is_inactive(object, field) {

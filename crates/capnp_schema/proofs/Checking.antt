@@ -3,6 +3,7 @@ pub mod AnnotationTypes
 pub mod BrandRefusals
 pub mod GroupChains
 pub mod GroupTable
+pub mod InnermostTypes
 pub mod Lengths
 pub mod LevelTimes
 pub mod NameTables

@@ -4,9 +4,8 @@ use Rattle.std.proofs.lemmas.Bool.{ltb-true}
 use Rattle.std.proofs.lemmas.Bool.Decides.{Decides-eqb}
 use Rattle.std.proofs.lemmas.Option.{same_Some}
 use Rattle.capnp_schema.specs.Types.{SchemaType}
-use Rattle.capnp_schema.specs.Schema.{Schemas, FieldKind, Slot, Group, TypedField, node_of, fields_of, field_at}
+use Rattle.capnp_schema.specs.Schema.{Schemas, FieldKind, Slot, Group, TypedField, node_of, fields_of, field_at, kind_target}
 use Rattle.capnp_schema.specs.Accepted.{IsGroupBrand, IsGroupOf, IsParent, EndsAtStruct, HasOneParent, Rule8}
-use Rattle.capnp_schema.specs.Parents.{kind_target}
 use Rattle.capnp_schema.proofs.Computed.{both, all_below, passes_below, all_fields, each_field}
 
 abbrev pub is_target : Option ℕ → ℕ → Bool

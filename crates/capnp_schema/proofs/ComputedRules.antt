@@ -9,12 +9,14 @@ use Rattle.std.proofs.lemmas.Slice.Eq.{bytes_eq-Decides}
 use Rattle.capnp_schema.specs.Types.{SchemaType}
 use Rattle.capnp_schema.specs.Schema.{Schemas, Node, Brand, Enum, Enumerant, Field, Annotation, AnnotationTypes, brand_at, node_of, is_member}
 use Rattle.capnp_schema.specs.Accepted.{NamesEntries, TypesName, Rule1, HasTypes, BrandHasTypes, EnumHasTypes, Rule2, HasFewAnnotations, HasFewEnumerants, HasFewFields, HasOwnName, EachOfNode, EachOfEnum, Rule3, LiesInside, Rule4, KindDefault, IsDefaultOf, Rule5, GroupFits, Rule7, HasEachMember, Rule9, DiscriminantFits, Rule10}
-use Rattle.capnp_schema.specs.Tests.{is_named, is_inside, kind_is_default, group_fits, is_discriminant_inside}
-use Rattle.capnp_schema.proofs.Decided.{named_decides, inside_decides, kind_default_decides, group_decides, discriminant_decides}
+use Rattle.capnp_schema.proofs.ComputedEntries.{is_shown, shown, named, inside, slot_default, group_fits, discriminant_fits}
 use Rattle.capnp_schema.specs.Facts.Fields.{All-entry}
 use Rattle.capnp_schema.proofs.Computed.{both, not_so, not_both, all_below, passes_below, all_pass, all_pairs, each_pair, all_fields, each_field}
 
 -- ---- rule 1 ----
+
+abbrev pub is_named : Schemas → SchemaType → Bool
+is_named set t = is_shown (named set t)
 
 abbrev pub types_name : Schemas → AnnotationTypes → Bool
 types_name set types = list_all (is_named set) types.own && list_all (list_all (is_named set)) types.children
@@ -23,7 +25,7 @@ abbrev pub meets_rule1 : Schemas → Bool
 meets_rule1 set = all_fields set (λ b i f. is_named set f.type) && (list_all (λ (b : Brand). types_name set b.annotation_types) set.brands && list_all (λ (e : Enum). types_name set e.annotation_types) set.enums)
 
 all_named : (set : Schemas) (types : List SchemaType) → list_all (is_named set) types ≡ true → All (NamesEntries set) types
-all_named set types = all_pass (is_named set) (NamesEntries set) types (λ t. (named_decides set t).0)
+all_named set types = all_pass (is_named set) (NamesEntries set) types (λ t. shown (named set t))
 
 named_types : (set : Schemas) (types : AnnotationTypes) → types_name set types ≡ true → TypesName set types
 named_types set types e =
@@ -35,7 +37,7 @@ rule1 set e =
     let parts = both _ _ e in
     let lists = both _ _ parts.1 in
     record {
-      fields = each_field set _ (λ b i f. NamesEntries set f.type) (λ b i f. (named_decides set f.type).0) parts.0;
+      fields = each_field set _ (λ b i f. NamesEntries set f.type) (λ b i f. shown (named set f.type)) parts.0;
       brands = all_pass _ (λ (b : Brand). TypesName set b.annotation_types) set.brands (λ b. named_types set b.annotation_types) lists.0;
       enums = all_pass _ (λ (x : Enum). TypesName set x.annotation_types) set.enums (λ x. named_types set x.annotation_types) lists.1;
     }
@@ -143,28 +145,28 @@ rule3 set e =
 -- ---- rules 4, 5, 7 and 10 ----
 
 abbrev pub meets_rule4 : Schemas → Bool
-meets_rule4 set = all_fields set (λ b i f. is_inside (node_of set b) f.field.kind f.type)
+meets_rule4 set = all_fields set (λ b i f. is_shown (inside (node_of set b) f.field.kind f.type))
 
 pub rule4 : (set : Schemas) → meets_rule4 set ≡ true → Rule4 set
-rule4 set = each_field set _ (λ b i f. LiesInside (node_of set b) f.field.kind f.type) (λ b i f. (inside_decides (node_of set b) f.field.kind f.type).0)
+rule4 set = each_field set _ (λ b i f. LiesInside (node_of set b) f.field.kind f.type) (λ b i f. shown (inside (node_of set b) f.field.kind f.type))
 
 abbrev pub meets_rule5 : Schemas → Bool
-meets_rule5 set = all_fields set (λ b i f. kind_is_default f.field.kind f.type)
+meets_rule5 set = all_fields set (λ b i f. is_shown (slot_default f.field.kind f.type))
 
 pub rule5 : (set : Schemas) → meets_rule5 set ≡ true → Rule5 set
-rule5 set = each_field set _ (λ b i f. KindDefault IsDefaultOf f.field.kind f.type) (λ b i f. (kind_default_decides f.field.kind f.type).0)
+rule5 set = each_field set _ (λ b i f. KindDefault IsDefaultOf f.field.kind f.type) (λ b i f. shown (slot_default f.field.kind f.type))
 
 abbrev pub meets_rule7 : Schemas → Bool
-meets_rule7 set = all_fields set (λ b i f. group_fits set f.field.kind f.type)
+meets_rule7 set = all_fields set (λ b i f. is_shown (group_fits set f.field.kind f.type))
 
 pub rule7 : (set : Schemas) → meets_rule7 set ≡ true → Rule7 set
-rule7 set = each_field set _ (λ b i f. GroupFits set f.field.kind f.type) (λ b i f. (group_decides set f.field.kind f.type).0)
+rule7 set = each_field set _ (λ b i f. GroupFits set f.field.kind f.type) (λ b i f. shown (group_fits set f.field.kind f.type))
 
 abbrev pub meets_rule10 : Schemas → Bool
-meets_rule10 set = list_all is_discriminant_inside set.nodes
+meets_rule10 set = list_all (λ (n : Node). is_shown (discriminant_fits n)) set.nodes
 
 pub rule10 : (set : Schemas) → meets_rule10 set ≡ true → Rule10 set
-rule10 set = all_pass is_discriminant_inside DiscriminantFits set.nodes (λ n. (discriminant_decides n).0)
+rule10 set = all_pass (λ (n : Node). is_shown (discriminant_fits n)) DiscriminantFits set.nodes (λ n. shown (discriminant_fits n))
 
 -- ---- rule 9 ----
 

@@ -1,5 +1,6 @@
--- What the tests of one field say of the rules, and all fields of all brands by one after another.
-use Rattle.std.proofs.Common.{ℕ, ◌≡◌, ◌<◌, ◌+◌, ⊎_elim, true, false, length, slice_get, Option, Some, None, sym, ap, subst, arith}
+-- What the check of one field says of the rules, and all fields of all brands by one after another.
+use Rattle.std.proofs.Common.{ℕ, ◌≡◌, ◌<◌, ◌+◌, ⊎_elim, true, false, length, slice_get, Option, Some, None, refl, sym, ap, subst, arith}
+use Rattle.std.specs.Bool.{Decides}
 use Rattle.std.specs.Option.{unwrap_or}
 use Rattle.std.proofs.lemmas.Bool.{cases_lt}
 use Rattle.std.proofs.lemmas.Bool.Decides.{not_from_Decides}
@@ -12,8 +13,7 @@ use Rattle.capnp_schema.specs.Schema.{Schemas, Node, Brand, TypedField, no_node,
 use Rattle.capnp_schema.specs.Entries.{brand_node, node_of_entry}
 use Rattle.capnp_schema.specs.Accepted.{EachField, NamesEntries, LiesInside, KindDefault, IsDefaultOf, GroupFits}
 use Rattle.capnp_schema.specs.Broken.{FieldBreaks, IsBroken, field_type, slot_outside, default_kind, group_type, IsKindOf}
-use Rattle.capnp_schema.specs.Tests.{is_named, is_inside, kind_is_default, group_fits, FieldStands, FieldsStand}
-use Rattle.capnp_schema.proofs.Decided.{named_decides, inside_decides, kind_default_decides, group_decides}
+use Rattle.capnp_schema.specs.Checking.Fields.{FieldStands, FieldsStand}
 
 -- a refusal that names a broken rule
 pub refused : (set : Schemas) (kind : ErrorKind) (rule : ℕ) (table : SchemaTable) (entry field : ℕ) → kind ≡ error.Schema rule table entry field → IsBroken set rule table entry field → IsKindOf set kind
@@ -35,24 +35,24 @@ module _ (set : Schemas) (b i : ℕ) (f : TypedField) (in_brands : b < length se
   breaks : (P : TypedField → Type 0) → (P f → ⊥) → FieldBreaks set P b i
   breaks P broken = record { brand = in_brands; field = slice_get_within (fields_of set b) i f (sym found); broken = λ h. broken (subst P (found_field set b i f found) h) }
 
-  pub breaks_names : is_named set f.type ≡ false → IsBroken set 1 InBrands b i
-  breaks_names e = field_type b i (breaks (λ x. NamesEntries set x.type) (not_from_Decides _ (named_decides set f.type) e))
+  pub breaks_names : Decides false (NamesEntries set f.type) → IsBroken set 1 InBrands b i
+  breaks_names d = field_type b i (breaks (λ x. NamesEntries set x.type) (not_from_Decides false d refl))
 
-  pub breaks_inside : (n : Node) → Some n ≡ brand_node set b → is_inside n f.field.kind f.type ≡ false → IsBroken set 4 InBrands b i
-  breaks_inside n is e = slot_outside b i (breaks (λ x. LiesInside (node_of set b) x.field.kind x.type) (λ h. not_from_Decides _ (inside_decides n f.field.kind f.type) e (subst (λ (m : Node). LiesInside m f.field.kind f.type) (found_node set b n is) h)))
+  pub breaks_inside : (n : Node) → Some n ≡ brand_node set b → Decides false (LiesInside n f.field.kind f.type) → IsBroken set 4 InBrands b i
+  breaks_inside n is d = slot_outside b i (breaks (λ x. LiesInside (node_of set b) x.field.kind x.type) (λ h. not_from_Decides false d refl (subst (λ (m : Node). LiesInside m f.field.kind f.type) (found_node set b n is) h)))
 
-  pub breaks_default : kind_is_default f.field.kind f.type ≡ false → IsBroken set 5 InBrands b i
-  breaks_default e = default_kind b i (breaks (λ x. KindDefault IsDefaultOf x.field.kind x.type) (not_from_Decides _ (kind_default_decides f.field.kind f.type) e))
+  pub breaks_default : Decides false (KindDefault IsDefaultOf f.field.kind f.type) → IsBroken set 5 InBrands b i
+  breaks_default d = default_kind b i (breaks (λ x. KindDefault IsDefaultOf x.field.kind x.type) (not_from_Decides false d refl))
 
-  pub breaks_group : group_fits set f.field.kind f.type ≡ false → IsBroken set 7 InBrands b i
-  breaks_group e = group_type b i (breaks (λ x. GroupFits set x.field.kind x.type) (not_from_Decides _ (group_decides set f.field.kind f.type) e))
+  pub breaks_group : Decides false (GroupFits set f.field.kind f.type) → IsBroken set 7 InBrands b i
+  breaks_group d = group_type b i (breaks (λ x. GroupFits set x.field.kind x.type) (not_from_Decides false d refl))
 
-  pub stands : (n : Node) → Some n ≡ brand_node set b → is_named set f.type ≡ true → is_inside n f.field.kind f.type ≡ true → kind_is_default f.field.kind f.type ≡ true → group_fits set f.field.kind f.type ≡ true → FieldStands set (node_of set b) (field_at set b i)
-  stands n is named inside default group = subst (λ m. FieldStands set m (field_at set b i)) (sym (found_node set b n is)) (subst (FieldStands set n) (sym (found_field set b i f found)) (record {
-    names = (named_decides set f.type).0 named;
-    inside = (inside_decides n f.field.kind f.type).0 inside;
-    default = (kind_default_decides f.field.kind f.type).0 default;
-    group = (group_decides set f.field.kind f.type).0 group;
+  pub stands : (n : Node) → Some n ≡ brand_node set b → Decides true (NamesEntries set f.type) → Decides true (LiesInside n f.field.kind f.type) → Decides true (KindDefault IsDefaultOf f.field.kind f.type) → Decides true (GroupFits set f.field.kind f.type) → FieldStands set (node_of set b) (field_at set b i)
+  stands n is names inside default group = subst (λ m. FieldStands set m (field_at set b i)) (sym (found_node set b n is)) (subst (FieldStands set n) (sym (found_field set b i f found)) (record {
+    names = names.0 refl;
+    inside = inside.0 refl;
+    default = default.0 refl;
+    group = group.0 refl;
   }))
 
 -- one more

@@ -1,7 +1,7 @@
 -- Worked examples of groups and spans, computed.
 use Rattle.std.specs.Prelude.{◌≡◌, refl, [], ◌∷◌, true, false, Some, None}
 use Rattle.capnp_schema.specs.Footprint.{DataBit, PointerAt}
-use Rattle.capnp_schema.specs.Parents.{group_target}
+use Rattle.capnp_schema.specs.Checking.Parents.{group_target}
 use Rattle.capnp_schema.specs.Builtin.{builtin}
 use Rattle.capnp_schema.specs.declared.check.spans.Span.TheVariants.{Data, Pointer}
 use Rattle.capnp_schema.specs.Checking.Spans.{span_names, some_span}

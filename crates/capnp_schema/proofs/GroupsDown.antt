@@ -1,18 +1,16 @@
 -- Group fields lead to groups of lesser height, in the sections of the struct that they are in.
 use Rattle.std.proofs.Common.{ℕ, zero, suc, ◌≡◌, ◌<◌, Bool, true, false, length, Some, refl, sym, ap, ◌∙◌, subst}
-use Rattle.capnp_schema.specs.Types.{SchemaType, StructType, is_pointer, struct_number, width}
+use Rattle.capnp_schema.specs.Types.{SchemaType, StructType, is_pointer, struct_number, width, seen_variant}
 use Rattle.capnp_base.specs.declared.introspect.TypeVariant.{TypeVariant}
 use Rattle.capnp_base.specs.Types.{variant_of}
 use Rattle.capnp_schema.specs.declared.record.FieldKind.TheVariants.{Group as KindOfGroup}
-use Rattle.capnp_schema.specs.Schema.{Schemas, Field, FieldKind, Slot, Group, Value, node_of, fields_of, field_at, seen_kind}
+use Rattle.capnp_schema.specs.Schema.{Schemas, Field, FieldKind, Slot, Group, Value, node_of, fields_of, field_at, seen_kind, kind_target}
 use Rattle.capnp_schema.specs.Accepted.{IsAccepted, IsGroupOf, IsParent, GroupFits, HasOneParent}
 use Rattle.capnp_schema.specs.Laws.{LeadsDown}
-use Rattle.capnp_schema.specs.Parents.{kind_target}
 use Rattle.capnp_schema.specs.Plan.{place_of, plan_of, slot_place}
 use Rattle.capnp_schema.specs.FieldLists.{index_of, schema_of, typed_of}
 use Rattle.capnp_schema.specs.GroupsDown.{LeadsToGroup, IfGroup, IsGroupIn}
 use Rattle.capnp_schema.specs.StructHandles.{IsStruct, number_of, set_of}
-use Rattle.capnp_schema.specs.Tests.{seen_variant}
 use Rattle.capnp_schema.specs.declared.schema.fields.Field.{Field as FieldHandle}
 use Rattle.capnp_schema.specs.declared.schema.structs.StructSchema.{StructSchema}
 use Rattle.capnp_schema.specs.declared.plan.SlotPlan.{SlotPlan}

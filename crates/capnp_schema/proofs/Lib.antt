@@ -5,11 +5,11 @@ pub mod BuiltinAccepted
 pub mod BuiltinLemmas
 pub mod ByNumber
 pub mod Computed
+pub mod ComputedEntries
 pub mod ComputedGroups
 pub mod ComputedRules
 pub mod ComputedSpans
 pub mod ComputedValues
-pub mod Decided
 pub mod Defaults
 pub mod EntryTables
 pub mod EntryWalk

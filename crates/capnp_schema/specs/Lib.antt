@@ -19,7 +19,6 @@ pub mod Laws
 pub mod Layers
 pub mod Named
 pub mod Names
-pub mod Parents
 pub mod Plan
 pub mod Query
 pub mod Ranges
@@ -28,6 +27,5 @@ pub mod SlotBits
 pub mod SlotValue
 pub mod StructHandles
 pub mod Tables
-pub mod Tests
 pub mod Types
 pub mod Views

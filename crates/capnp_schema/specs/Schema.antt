@@ -1,7 +1,7 @@
 -- The three lists of a schema set, as specs see them.
-use Rattle.std.specs.Prelude.{ℕ, ℤ, List, [], ◌∷◌, Bool, false, not, ◌==◌, length, map, slice_get, string_bytes}
+use Rattle.std.specs.Prelude.{ℕ, ℤ, List, [], ◌∷◌, Bool, false, not, ◌==◌, length, map, slice_get, string_bytes, Option, None}
 use Rattle.std.specs.Option.{unwrap_or}
-use Rattle.capnp_schema.specs.Types.{SchemaType, VoidType, seen_type}
+use Rattle.capnp_schema.specs.Types.{SchemaType, VoidType, seen_type, struct_brand}
 use Rattle.capnp_schema.specs.declared.record.ValueRecord.{ValueRecord}
 use Rattle.capnp_schema.specs.declared.record.ValueRecord.TheVariants as value
 use Rattle.capnp_schema.specs.declared.record.AnnotationRecord.{AnnotationRecord}
@@ -195,3 +195,8 @@ kind_default (Group node) = VoidValue
 
 abbrev pub default_of : Field → Value
 default_of f = kind_default f.kind
+
+-- the brand that a group field of a struct type names
+abbrev pub kind_target : FieldKind → SchemaType → Option ℕ
+kind_target (Slot offset default) t = None
+kind_target (Group node) t = struct_brand t

@@ -4,6 +4,8 @@ use Rattle.std.specs.Option.{unwrap_or}
 use Rattle.capnp_wire.specs.declared.size.ElementSize.{ElementSize}
 use Rattle.capnp_wire.specs.declared.size.ElementSize.TheVariants as size
 use Rattle.capnp_base.specs.declared.introspect.«Type».{«Type» as TypeHandle}
+use Rattle.capnp_base.specs.declared.introspect.TypeVariant.{TypeVariant}
+use Rattle.capnp_base.specs.declared.introspect.TypeVariant.TheVariants as variant
 use Rattle.capnp_base.specs.declared.introspect.BaseType.{BaseType}
 use Rattle.capnp_base.specs.declared.introspect.BaseType.TheVariants as base
 use Rattle.capnp_base.specs.Types.{base_of, list_depth}
@@ -49,6 +51,25 @@ lists_of (suc count) t = ListType (lists_of count t)
 -- the type that a value of the code stands for
 abbrev pub seen_type : TypeHandle → SchemaType
 seen_type t = lists_of (list_depth t) (seen_base (base_of t))
+
+-- what one layer of a type stands for
+abbrev pub seen_variant : TypeVariant → SchemaType
+seen_variant variant.Void = VoidType
+seen_variant variant.Bool = BoolType
+seen_variant variant.Int8 = IntType 1
+seen_variant variant.Int16 = IntType 2
+seen_variant variant.Int32 = IntType 4
+seen_variant variant.Int64 = IntType 8
+seen_variant variant.UInt8 = UIntType 1
+seen_variant variant.UInt16 = UIntType 2
+seen_variant variant.UInt32 = UIntType 4
+seen_variant variant.UInt64 = UIntType 8
+seen_variant variant.Text = TextType
+seen_variant variant.«Data» = DataType
+seen_variant (variant.Struct schema) = StructType schema.number schema.generic
+seen_variant variant.AnyPointer = AnyPointerType
+seen_variant (variant.Enum schema) = EnumType schema.number
+seen_variant (variant.List element) = ListType (seen_type element)
 
 -- whether values of the type stand behind a pointer
 abbrev pub is_pointer : SchemaType → Bool

@@ -3,6 +3,7 @@
 pub(crate) mod annotations;
 mod claims;
 pub(crate) mod counts;
+mod entries;
 pub(crate) mod fields;
 pub(crate) mod footprints;
 pub(crate) mod groups;

@@ -1,7 +1,6 @@
 //! What one layer of a type says of the field that has it.
 ghost use Rattle.std.specs.Prelude.{◌≡◌, ◌≤◌};
-ghost use Rattle.capnp_schema.specs.Types.{width, is_pointer, struct_brand, struct_number};
-ghost use Rattle.capnp_schema.specs.Tests.{seen_variant};
+ghost use Rattle.capnp_schema.specs.Types.{width, is_pointer, struct_brand, struct_number, seen_variant};
 
 use capnp_base::introspect::TypeVariant;
 

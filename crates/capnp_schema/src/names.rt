@@ -2,7 +2,6 @@
 ghost use Rattle.std.specs.Prelude.{◌≡◌, ◌+◌, ◌*◌, ◌^◌, ◌<◌, ◌≤◌, bytes_eq, length, map, position, IfOk, MatchOption};
 ghost use Rattle.std.specs.Cmp.Lexicographic.{slice_cmp};
 ghost use Rattle.std.specs.Ordering.{nat_cmp};
-ghost use Rattle.std.specs.Option.{option_copied, option_map};
 ghost use Rattle.capnp_schema.specs.Schema.{Field, seen_field};
 ghost use Rattle.capnp_schema.specs.Names.{name_at, IsNameTable, IsNameOrder, IsRepeated};
 

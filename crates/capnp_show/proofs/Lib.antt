@@ -1,4 +1,3 @@
 pub mod Outcomes
-pub mod ReadFaults
 pub mod Shown
 pub mod TextFaults

@@ -1,6 +1,7 @@
 -- What a text is refused with is a number of reads.
 use Rattle.std.specs.Prelude.{ℕ, zero, suc, ⊤, List, [], ◌∷◌, ◌++◌, Bool, true, false, not, cond, ◌||◌, ◌==◌, Option, Some, None, Ok, Err, codes}
-use Rattle.std.proofs.Common.{◌≡◌, ◌≢◌, ◌∙◌, subst, sym}
+use Rattle.std.proofs.Common.{◌≡◌, ◌≢◌, ◌∙◌, ap, refl, subst, sym}
+use Rattle.std.proofs.lemmas.Bool.{true≢false}
 use Rattle.capnp_device.specs.declared.error.ErrorKind.{ErrorKind}
 use Rattle.capnp_device.specs.declared.error.ErrorKind.TheVariants.{OutOfMemory, ReadFailed, WriteFailed, WrongElementSize, WrongPointerKind}
 use Rattle.capnp_schema.specs.Schema.{Schemas, TypedField, VoidValue, default_of, field_at, fields_of, is_member, node_of}
@@ -12,15 +13,15 @@ use Rattle.capnp_records.specs.Default.{read_of}
 use Rattle.capnp_records.specs.Reading.{element_type, value_of}
 use Rattle.capnp_records.specs.Record as value
 use Rattle.capnp_records.specs.Record.{Active, Left, MoreValues, NoUnion, NoValues, Parts, Record, Union, Unknown, Value, Values, is_there}
-use Rattle.capnp_records.specs.Text.{Inner, Layout, Member, Out, after, before, bracketed, decimals, deeper, element_texts, entering_fault, fault_kind, is_entered, item, item_if, later, line, list_text, member, more_text, part_text, record_text, rest_of, said, separator, shown, stands_before, struct_text, text_of, text_within, value_text, quoted}
+use Rattle.capnp_records.specs.Text.{Inner, Layout, Member, Out, after, before, bracketed, decimals, deeper, element_texts, entering_fault, fault_kind, is_entered, item, item_if, later, line, list_text, member, more_text, part_text, record_text, rest_of, said, separator, shown, stands_before, struct_text, text_within, value_text, quoted}
 use Rattle.capnp_show.specs.Show.{IsOfRead, as_printed, root_text, root_type, root_value, shown_text}
-use Rattle.capnp_show.proofs.ReadFaults.{AllSound, RecordSound, Sound, UnionSound, deep, read_of-sound, value_of-sound}
+use Rattle.capnp_records.specs.Facts.ReadFaults.{AllSound, IsReadKind, RecordSound, Sound, UnionSound, is_read_kind, read_of-sound, value_of-sound}
 use Rattle.std.specs.Str.{is_utf8}
 use Rattle.std.specs.Fmt.{debug_str}
 
 abbrev pub OutSound : Out → Type 0
 OutSound (Ok text) = ⊤
-OutSound (Err kind) = IsOfRead kind
+OutSound (Err kind) = IsReadKind kind
 
 abbrev AllOut : List Out → Type 0
 AllOut [] = ⊤
@@ -123,15 +124,15 @@ module _ (set : Schemas) (inner : Inner) (sound : InnerSound inner) where
 
 -- ---- a value, by the text of what stands further in ----
 
-entering-sound : (kind : ErrorKind) → IsOfRead kind → IsOfRead (entering_fault kind)
-entering-sound WrongPointerKind h = deep
-entering-sound WrongElementSize h = deep
+entering-sound : (kind : ErrorKind) → IsReadKind kind → IsReadKind (entering_fault kind)
+entering-sound WrongPointerKind h = refl
+entering-sound WrongElementSize h = refl
 entering-sound kind h = h
 
-fault-sound : (inner : Option Inner) (t : SchemaType) (kind : ErrorKind) → IsOfRead kind → IsOfRead (fault_kind inner t kind)
+fault-sound : (inner : Option Inner) (t : SchemaType) (kind : ErrorKind) → IsReadKind kind → IsReadKind (fault_kind inner t kind)
 fault-sound None t kind h = go (is_entered t)
   where
-    go : (q : Bool) → IsOfRead (cond q (entering_fault kind) kind)
+    go : (q : Bool) → IsReadKind (cond q (entering_fault kind) kind)
     go true = entering-sound kind h
     go false = h
 fault-sound (Some inner) t kind h = h
@@ -154,10 +155,10 @@ value-sound set inner h at t (value.Number n) s = tt
 value-sound set inner h at t (value.Enum n) s = tt
 value-sound set inner h at t (value.Text bs) s = quoted-sound bs
 value-sound set inner h at t (value.Data bs) s = tt
-value-sound set None h at t (value.Struct r) s = deep
+value-sound set None h at t (value.Struct r) s = refl
 value-sound set (Some inner) h at t (value.Struct r) s = record-sound set inner h at (struct_number t) r s
 value-sound set inner h at t (value.Group r) s = tt
-value-sound set None h at t (value.Elements vs) s = deep
+value-sound set None h at t (value.Elements vs) s = refl
 value-sound set (Some inner) h at t (value.Elements vs) s = list-sound at _ (elements-sound set inner h (deeper at) (element_type t) vs s)
 value-sound set inner h at t (value.Untyped x) s = tt
 value-sound set inner h at t (value.Fault kind) s = fault-sound inner t kind s
@@ -192,6 +193,6 @@ no_room e = cc
 -- who is refused for memory, or where there is no text
 pub of_no_device : (o : Out) (kind : ErrorKind) → OutSound o → (kind ≢ OutOfMemory → o ≡ Err kind) → IsOfRead kind
 of_no_device o kind sound h = (
-  (λ e. (subst OutSound (h (λ m. no_memory (sym m ∙ e))) sound).0 e),
-  (λ e. (subst OutSound (h (λ m. no_room (sym m ∙ e))) sound).1 e),
+  (λ e. true≢false (sym (subst OutSound (h (λ m. no_memory (sym m ∙ e))) sound) ∙ ap is_read_kind e)),
+  (λ e. true≢false (sym (subst OutSound (h (λ m. no_room (sym m ∙ e))) sound) ∙ ap is_read_kind e)),
 )

@@ -11,7 +11,7 @@ use Rattle.capnp_wire.specs.KeptLists.{struct_left, struct_of_list}
 use Rattle.capnp_wire.specs.Lends.{with_element, with_object}
 use Rattle.capnp_wire.specs.Objects.{list_object_tree, object_tree, struct_object_tree}
 use Rattle.capnp_wire.specs.Reading.{cut_pointer, element_pointer, element_struct, is_null_tree}
-use Rattle.capnp_wire.specs.Sizes.{fitted_size}
+use Rattle.capnp_wire.specs.Sizes.{KeepsSize, fitted_size}
 use Rattle.capnp_wire.specs.WellFormed.{IsWellFormed, IsWellFormedStruct}
 use Rattle.capnp_wire.specs.declared.object.ListObject.{ListObject}
 use Rattle.capnp_wire.specs.declared.object.Object.{Object}
@@ -55,11 +55,13 @@ object_left l j o t e = object_written l j o ∙ ap (λ (y : Tree). with_pointer
 pub object_kept : (l : ListObject) (j : ℕ) (o : Object) → HasPointer (list_object_tree l) j → object_tree o ≡ element_pointer (list_object_tree l) j 1 → list_object_tree (with_object l j o) ≡ list_object_tree l
 object_kept l j o h e = object_left l j o _ e ∙ pointer-same (list_object_tree l) j h
 
-pub element_left : (l : ListObject) (j : ℕ) (s : StructObject) (x : StructTree) → struct_object_tree s ≡ x → list_object_tree (with_element l j s) ≡ with_struct_element j x (list_object_tree l)
-element_left l j s x e = element_written l j s ∙ ap (λ (y : StructTree). with_struct_element j y (list_object_tree l)) e
+pub element_left : (l : ListObject) (j : ℕ) (s : StructObject) (x : StructTree) → KeepsSize (element_struct (list_object_tree l) j) x → struct_object_tree s ≡ x → list_object_tree (with_element l j s) ≡ with_struct_element j x (list_object_tree l)
+element_left l j s x k e =
+    element_written l j s (ap (λ (y : StructTree). length y.bytes) e ∙ k.bytes) (ap (λ (y : StructTree). tree_count y.pointers) e ∙ k.pointers)
+    ∙ ap (λ (y : StructTree). with_struct_element j y (list_object_tree l)) e
 
 pub element_kept : (l : ListObject) (j : ℕ) (s : StructObject) → HasStruct (list_object_tree l) j → struct_object_tree s ≡ element_struct (list_object_tree l) j → list_object_tree (with_element l j s) ≡ list_object_tree l
-element_kept l j s h e = element_left l j s _ e ∙ struct-same (list_object_tree l) j h
+element_kept l j s h e = element_left l j s _ (record { bytes = refl; pointers = refl }) e ∙ struct-same (list_object_tree l) j h
 
 -- ---- what fits of a struct ----
 

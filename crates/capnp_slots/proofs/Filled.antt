@@ -15,7 +15,6 @@ use Rattle.capnp_base.specs.declared.introspect.TypeVariant.{TypeVariant}
 use Rattle.capnp_base.specs.declared.introspect.TypeVariant.TheVariants as variant
 use Rattle.capnp_base.specs.declared.text.Reader.{Reader as TextReader}
 use Rattle.capnp_schema.specs.Facts.Layers.{seen_which}
-use Rattle.capnp_schema.specs.Tests.{seen_variant}
 use Rattle.capnp_schema.specs.Views.{IsViewOf}
 use Rattle.capnp_schema.specs.declared.value.Value.{Value as View}
 use Rattle.capnp_schema.specs.declared.value.Value.TheVariants as view
@@ -32,16 +31,16 @@ use Rattle.capnp_schema.specs.Accepted.{Decodes, IsDefaultOf, IsStructOrNull, Ki
 use Rattle.capnp_schema.specs.Defaults.{default_tree}
 use Rattle.capnp_schema.specs.FieldLists.{typed_of}
 use Rattle.capnp_schema.specs.Schema.{FieldKind, Group, Schemas, Slot, Value, TextValue, DataValue, StructValue, ListValue, AnyPointerValue, VoidValue, default_of, kind_default}
-use Rattle.capnp_schema.specs.Types.{SchemaType, StructType, ListType, seen_type}
+use Rattle.capnp_schema.specs.Types.{SchemaType, StructType, ListType, seen_type, seen_variant}
 use Rattle.capnp_schema.specs.declared.schema.fields.Field.{Field}
 use Rattle.capnp_records.specs.Facts.Frame.{second-of}
 use Rattle.capnp_records.specs.Facts.Pointers.{with_tree-same}
 use Rattle.capnp_records.specs.Writes.TreeCopy.{or_else}
 use Rattle.capnp_records.specs.Step.{is_group_field}
-use Rattle.capnp_records.specs.Writes.Fill.{default_struct, entered_list, filled_struct, or_default}
+use Rattle.capnp_records.specs.Writes.Fill.{IsAtRest, default_struct, entered_list, filled_struct, or_default}
 use Rattle.capnp_records.specs.Writes.Slots.{brand_size}
 use Rattle.capnp_slots.specs.Fields.{IsSlot}
-use Rattle.capnp_slots.specs.Fills.{IsAtRest, IsDefaultPointer, ListRests, data_filled, fill_due, list_due, text_filled}
+use Rattle.capnp_slots.specs.Fills.{ElementRests, IsDefaultPointer, ListRests, data_filled, fill_due, list_due, text_filled}
 
 -- ---- the pointer of a default ----
 
@@ -189,26 +188,27 @@ pub record IsPlain (set : Schemas) (e : SchemaType) (size : ElementSize) : Type 
   pub rests : (D x : Tree) → ListRests set e D x → (wire.takes_default D x ≡ false) × (wire.filled_list_refusal D size x ≡ None)
   pub fills : (x : Tree) → fill_due set VoidValue (ListType e) x ≡ wire.list_refusal size x
   pub still : (x : Tree) → IsAtRest set VoidValue (ListType e) x → wire.list_refusal size x ≡ None
+  pub elements : (x : Tree) → ElementRests set (ListType e) x → wire.list_refusal size x ≡ None
   pub simple : size ≢ InlineComposite
 
 module _ (set : Schemas) where
   by_variant : (v : TypeVariant) → ((x : RawBrandedStructSchema) → v ≡ variant.Struct x → ⊥) → IsPlain set (seen_variant v) (size_of_variant v)
   by_variant (variant.Struct x) other = absurd (other x refl)
-  by_variant variant.Void other = record { enters = λ x. refl; due = λ D x. refl; rests = λ D x h. h; fills = λ x. refl; still = λ x h. h.1; simple = λ e. cc }
-  by_variant variant.Bool other = record { enters = λ x. refl; due = λ D x. refl; rests = λ D x h. h; fills = λ x. refl; still = λ x h. h.1; simple = λ e. cc }
-  by_variant variant.Int8 other = record { enters = λ x. refl; due = λ D x. refl; rests = λ D x h. h; fills = λ x. refl; still = λ x h. h.1; simple = λ e. cc }
-  by_variant variant.Int16 other = record { enters = λ x. refl; due = λ D x. refl; rests = λ D x h. h; fills = λ x. refl; still = λ x h. h.1; simple = λ e. cc }
-  by_variant variant.Int32 other = record { enters = λ x. refl; due = λ D x. refl; rests = λ D x h. h; fills = λ x. refl; still = λ x h. h.1; simple = λ e. cc }
-  by_variant variant.Int64 other = record { enters = λ x. refl; due = λ D x. refl; rests = λ D x h. h; fills = λ x. refl; still = λ x h. h.1; simple = λ e. cc }
-  by_variant variant.UInt8 other = record { enters = λ x. refl; due = λ D x. refl; rests = λ D x h. h; fills = λ x. refl; still = λ x h. h.1; simple = λ e. cc }
-  by_variant variant.UInt16 other = record { enters = λ x. refl; due = λ D x. refl; rests = λ D x h. h; fills = λ x. refl; still = λ x h. h.1; simple = λ e. cc }
-  by_variant variant.UInt32 other = record { enters = λ x. refl; due = λ D x. refl; rests = λ D x h. h; fills = λ x. refl; still = λ x h. h.1; simple = λ e. cc }
-  by_variant variant.UInt64 other = record { enters = λ x. refl; due = λ D x. refl; rests = λ D x h. h; fills = λ x. refl; still = λ x h. h.1; simple = λ e. cc }
-  by_variant variant.Text other = record { enters = λ x. refl; due = λ D x. refl; rests = λ D x h. h; fills = λ x. refl; still = λ x h. h.1; simple = λ e. cc }
-  by_variant variant.«Data» other = record { enters = λ x. refl; due = λ D x. refl; rests = λ D x h. h; fills = λ x. refl; still = λ x h. h.1; simple = λ e. cc }
-  by_variant variant.AnyPointer other = record { enters = λ x. refl; due = λ D x. refl; rests = λ D x h. h; fills = λ x. refl; still = λ x h. h.1; simple = λ e. cc }
-  by_variant (variant.Enum e) other = record { enters = λ x. refl; due = λ D x. refl; rests = λ D x h. h; fills = λ x. refl; still = λ x h. h.1; simple = λ e. cc }
-  by_variant (variant.List t) other = record { enters = λ x. refl; due = λ D x. refl; rests = λ D x h. h; fills = λ x. refl; still = λ x h. h.1; simple = λ e. cc }
+  by_variant variant.Void other = record { enters = λ x. refl; due = λ D x. refl; rests = λ D x h. h; fills = λ x. refl; still = λ x h. h.1; elements = λ x h. h; simple = λ e. cc }
+  by_variant variant.Bool other = record { enters = λ x. refl; due = λ D x. refl; rests = λ D x h. h; fills = λ x. refl; still = λ x h. h.1; elements = λ x h. h; simple = λ e. cc }
+  by_variant variant.Int8 other = record { enters = λ x. refl; due = λ D x. refl; rests = λ D x h. h; fills = λ x. refl; still = λ x h. h.1; elements = λ x h. h; simple = λ e. cc }
+  by_variant variant.Int16 other = record { enters = λ x. refl; due = λ D x. refl; rests = λ D x h. h; fills = λ x. refl; still = λ x h. h.1; elements = λ x h. h; simple = λ e. cc }
+  by_variant variant.Int32 other = record { enters = λ x. refl; due = λ D x. refl; rests = λ D x h. h; fills = λ x. refl; still = λ x h. h.1; elements = λ x h. h; simple = λ e. cc }
+  by_variant variant.Int64 other = record { enters = λ x. refl; due = λ D x. refl; rests = λ D x h. h; fills = λ x. refl; still = λ x h. h.1; elements = λ x h. h; simple = λ e. cc }
+  by_variant variant.UInt8 other = record { enters = λ x. refl; due = λ D x. refl; rests = λ D x h. h; fills = λ x. refl; still = λ x h. h.1; elements = λ x h. h; simple = λ e. cc }
+  by_variant variant.UInt16 other = record { enters = λ x. refl; due = λ D x. refl; rests = λ D x h. h; fills = λ x. refl; still = λ x h. h.1; elements = λ x h. h; simple = λ e. cc }
+  by_variant variant.UInt32 other = record { enters = λ x. refl; due = λ D x. refl; rests = λ D x h. h; fills = λ x. refl; still = λ x h. h.1; elements = λ x h. h; simple = λ e. cc }
+  by_variant variant.UInt64 other = record { enters = λ x. refl; due = λ D x. refl; rests = λ D x h. h; fills = λ x. refl; still = λ x h. h.1; elements = λ x h. h; simple = λ e. cc }
+  by_variant variant.Text other = record { enters = λ x. refl; due = λ D x. refl; rests = λ D x h. h; fills = λ x. refl; still = λ x h. h.1; elements = λ x h. h; simple = λ e. cc }
+  by_variant variant.«Data» other = record { enters = λ x. refl; due = λ D x. refl; rests = λ D x h. h; fills = λ x. refl; still = λ x h. h.1; elements = λ x h. h; simple = λ e. cc }
+  by_variant variant.AnyPointer other = record { enters = λ x. refl; due = λ D x. refl; rests = λ D x h. h; fills = λ x. refl; still = λ x h. h.1; elements = λ x h. h; simple = λ e. cc }
+  by_variant (variant.Enum e) other = record { enters = λ x. refl; due = λ D x. refl; rests = λ D x h. h; fills = λ x. refl; still = λ x h. h.1; elements = λ x h. h; simple = λ e. cc }
+  by_variant (variant.List t) other = record { enters = λ x. refl; due = λ D x. refl; rests = λ D x h. h; fills = λ x. refl; still = λ x h. h.1; elements = λ x h. h; simple = λ e. cc }
 
   pub is_plain : (t : TypeHandle) (v : TypeVariant) (size : ElementSize) → v ≡ variant_of t → size ≡ size_of_variant (variant_of t) → ((x : RawBrandedStructSchema) → v ≡ variant.Struct x → ⊥) →
       IsPlain set (seen_type t) size

@@ -8,7 +8,6 @@ use Rattle.capnp_base.specs.declared.introspect.«Type».{«Type» as TypeHandle
 use Rattle.capnp_base.specs.declared.introspect.TypeVariant.{TypeVariant}
 use Rattle.capnp_base.specs.declared.introspect.TypeVariant.TheVariants as variant
 use Rattle.capnp_schema.specs.FieldLists.{typed_of}
-use Rattle.capnp_schema.specs.Tests.{seen_variant}
 use Rattle.capnp_schema.specs.declared.schema.fields.Field.{Field}
 use Rattle.capnp_wire.specs.Defaults as wire
 use Rattle.capnp_wire.specs.StructLists.{struct_list_refusal}
@@ -16,10 +15,10 @@ use Rattle.capnp_wire.specs.Words.{first_fault}
 use Rattle.capnp_schema.specs.Accepted.{Decodes, IsDefaultOf}
 use Rattle.capnp_schema.specs.Defaults.{IsReadAs, default_tree}
 use Rattle.capnp_schema.specs.Schema.{Schemas, Value, default_of}
-use Rattle.capnp_schema.specs.Types.{SchemaType, VoidType, BoolType, IntType, UIntType, EnumType, TextType, DataType, StructType, ListType, AnyPointerType, element_size, seen_type}
-use Rattle.capnp_records.specs.Writes.Fill.{entered_list}
+use Rattle.capnp_schema.specs.Types.{SchemaType, VoidType, BoolType, IntType, UIntType, EnumType, TextType, DataType, StructType, ListType, AnyPointerType, element_size, seen_type, seen_variant}
+use Rattle.capnp_records.specs.Writes.Fill.{IsAtRest, entered_list}
 use Rattle.capnp_records.specs.Writes.Slots.{brand_size}
-use Rattle.capnp_slots.specs.Fills.{IsAtRest, IsDefaultPointer, ListRests, RestsIn, due_in, fill_due, filled_in, filled_tree, list_due, pointer_in}
+use Rattle.capnp_slots.specs.Fills.{IsDefaultPointer, ListRests, RestsIn, due_in, fill_due, filled_in, filled_tree, list_due, pointer_in}
 use Rattle.capnp_slots.specs.Fields.{IsSlot, field_set, pointer_index}
 use Rattle.capnp_slots.proofs.Filled.{default-is, list-due, list-filled, struct-due, structs-due}
 

@@ -14,3 +14,4 @@ pub mod SetElements
 pub mod ElementParts
 pub mod ElementFills
 pub mod GroupCopies
+pub mod ReadBack

@@ -11,8 +11,7 @@ use Rattle.capnp_base.specs.declared.introspect.TypeVariant.{TypeVariant}
 use Rattle.capnp_base.specs.declared.introspect.TypeVariant.TheVariants as variant
 use Rattle.capnp_schema.specs.Facts.Layers.{seen_which}
 use Rattle.capnp_schema.specs.Schema.{Schemas}
-use Rattle.capnp_schema.specs.Tests.{seen_variant}
-use Rattle.capnp_schema.specs.Types.{SchemaType, seen_type}
+use Rattle.capnp_schema.specs.Types.{SchemaType, seen_type, seen_variant}
 use Rattle.capnp_records.specs.Operation.{elements_past}
 use Rattle.capnp_records.specs.Writes.Contents.{new_list}
 

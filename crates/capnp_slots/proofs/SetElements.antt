@@ -10,8 +10,7 @@ use Rattle.capnp_wire.specs.WellFormed.{IsWellFormed}
 use Rattle.capnp_base.specs.declared.introspect.TypeVariant.{TypeVariant}
 use Rattle.capnp_base.specs.declared.introspect.TypeVariant.TheVariants as variant
 use Rattle.capnp_schema.specs.Schema.{Schemas}
-use Rattle.capnp_schema.specs.Tests.{seen_variant}
-use Rattle.capnp_schema.specs.Types.{SchemaType, VoidType, BoolType, IntType, UIntType, EnumType, TextType, DataType, StructType, ListType, AnyPointerType, width}
+use Rattle.capnp_schema.specs.Types.{SchemaType, VoidType, BoolType, IntType, UIntType, EnumType, TextType, DataType, StructType, ListType, AnyPointerType, width, seen_variant}
 use Rattle.capnp_records.specs.Call.{Source, BoolSource, IntSource, UIntSource, EnumSource, TextSource, DataSource, StructSource, ListSource}
 use Rattle.capnp_records.specs.Given.{Given, Gives, Copies, CopiesGroup, Fails, given_element, given_slot}
 use Rattle.capnp_records.specs.Writes.Contents.{SourceFits}

@@ -7,8 +7,7 @@ use Rattle.capnp_base.specs.declared.introspect.TypeVariant.{TypeVariant}
 use Rattle.capnp_schema.specs.FieldLists.{typed_of}
 use Rattle.capnp_schema.specs.Schema.{Schemas, default_of}
 use Rattle.capnp_schema.specs.SlotValue.{default_bits}
-use Rattle.capnp_schema.specs.Tests.{seen_variant}
-use Rattle.capnp_schema.specs.Types.{SchemaType, is_pointer}
+use Rattle.capnp_schema.specs.Types.{SchemaType, is_pointer, seen_variant}
 use Rattle.capnp_schema.specs.declared.plan.SlotPlan.{SlotPlan}
 use Rattle.capnp_schema.specs.declared.schema.fields.Field.{Field}
 use Rattle.capnp_records.specs.Call.{Source}

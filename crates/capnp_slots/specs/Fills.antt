@@ -9,7 +9,7 @@ use Rattle.capnp_wire.specs.Reading.{as_data, as_text}
 use Rattle.capnp_wire.specs.Defaults.{error_of, filled_list_refusal, filled_structs_refusal, list_refusal, takes_default}
 use Rattle.capnp_wire.specs.Defaults.{default_tree as reader_tree}
 use Rattle.capnp_wire.specs.declared.pointer_reader.PointerReader.{PointerReader}
-use Rattle.capnp_wire.specs.Edits.{HoldsStruct, struct_refusal, with_pointer_tree}
+use Rattle.capnp_wire.specs.Edits.{struct_refusal, with_pointer_tree}
 use Rattle.capnp_wire.specs.StructLists.{HoldsStructs, struct_list_refusal}
 use Rattle.capnp_schema.specs.Defaults.{DefaultFits, default_tree}
 use Rattle.capnp_schema.specs.FieldLists.{typed_of}
@@ -17,7 +17,7 @@ use Rattle.capnp_schema.specs.Schema.{Schemas, VoidValue, TextValue, DataValue, 
 use Rattle.capnp_schema.specs.Types.{SchemaType, TextType, DataType, StructType, ListType, AnyPointerType, element_size}
 use Rattle.capnp_schema.specs.declared.schema.fields.Field.{Field}
 use Rattle.capnp_records.specs.Given.{data_tree, text_tree}
-use Rattle.capnp_records.specs.Writes.Fill.{filled_list, filled_struct, or_default}
+use Rattle.capnp_records.specs.Writes.Fill.{IsAtRest, filled_list, filled_struct, or_default}
 use Rattle.capnp_records.specs.Writes.Slots.{brand_size}
 use Rattle.capnp_records.specs.Writes.TreeCopy.{or_else}
 use Rattle.capnp_slots.specs.Fields.{field_set, pointer_index}
@@ -39,13 +39,6 @@ fill_due set d (ListType e) x = list_refusal (element_size e) x
 fill_due set d TextType x = error_of (as_text x)
 fill_due set d DataType x = error_of (as_data x)
 fill_due set d t x = None
-
--- nothing has to be filled or extended there
-abbrev pub IsAtRest : Schemas → Value → SchemaType → Tree → Type 0
-IsAtRest set d (StructType b g) x = HoldsStruct (brand_size set b) x
-IsAtRest set d (ListType (StructType b g)) x = (takes_default (default_tree d) x ≡ false) × HoldsStructs (brand_size set b) x
-IsAtRest set d (ListType e) x = (takes_default (default_tree d) x ≡ false) × (list_refusal (element_size e) x ≡ None)
-IsAtRest set d t x = ⊥
 
 -- ---- by a field ----
 

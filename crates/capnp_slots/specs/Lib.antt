@@ -9,3 +9,4 @@ pub mod Fills
 pub mod Lending
 pub mod ElementSets
 pub mod GroupSets
+pub mod ReadBack

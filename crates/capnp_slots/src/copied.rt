@@ -8,8 +8,7 @@ ghost use Rattle.capnp_wire.specs.Standing.{levels_of, struct_levels, struct_of,
 ghost use Rattle.capnp_wire.specs.Words.{first_fault};
 ghost use Rattle.capnp_schema.specs.Defaults.{DefaultFits};
 ghost use Rattle.capnp_schema.specs.FieldLists.{typed_of};
-ghost use Rattle.capnp_schema.specs.Tests.{seen_variant};
-ghost use Rattle.capnp_schema.specs.Types.{AnyPointerType, is_pointer};
+ghost use Rattle.capnp_schema.specs.Types.{AnyPointerType, is_pointer, seen_variant};
 ghost use Rattle.capnp_records.specs.Record.{Left};
 ghost use Rattle.capnp_records.specs.Writes.Slots.{At};
 ghost use Rattle.capnp_slots.specs.Copied.{IsCopied, IsCopiedFrom, IsGivenCopy, copy_given, default_in, empty_tree, pointer_content, pointer_given, read_due, refusal_of};
@@ -89,7 +88,8 @@ fn put_empty(object: &mut StructObject, field: Field<'_>) -> Result<()>
     requires pointer { IsPointer field }
     requires room { IsRoomFor field (struct_object_tree object.old) }
     requires typed { AnyPointerType ≢ (typed_of field).type }
-    ensures written { OnOk result (struct_object_tree object.new ≡ slot_with field.entry (At (empty_tree (typed_of field.entry).type)) (struct_object_tree object.old)) }
+    ensures written { OnOk result (struct_object_tree object.new
+        ≡ slot_with field.entry (At (empty_tree (typed_of field.entry).type)) (struct_object_tree object.old)) }
     ensures kept { OnOk result (Keeps (names_of field.entry) (struct_object_tree object.old) (struct_object_tree object.new)) }
     ensures refused { OnErr result (struct_object_tree object.new ≡ struct_object_tree object.old) }
     ensures cause { IfErr result (λ e. e.kind ≡ OutOfMemory) }
@@ -108,7 +108,8 @@ fn put_words(object: &mut StructObject, field: Field<'_>, pointer: PointerReader
     requires room { IsRoomFor field (struct_object_tree object.old) }
     requires typed { AnyPointerType ≢ (typed_of field).type }
     requires sound { first_fault (tree_of pointer) ≡ None }
-    ensures written { OnOk result (struct_object_tree object.new ≡ slot_with field.entry (At (or_else (tree_of pointer.entry) (empty_tree (typed_of field.entry).type))) (struct_object_tree object.old)) }
+    ensures written { OnOk result (struct_object_tree object.new
+        ≡ slot_with field.entry (At (or_else (tree_of pointer.entry) (empty_tree (typed_of field.entry).type))) (struct_object_tree object.old)) }
     ensures kept { OnOk result (Keeps (names_of field.entry) (struct_object_tree object.old) (struct_object_tree object.new)) }
     ensures refused { OnErr result (struct_object_tree object.new ≡ struct_object_tree object.old) }
     ensures cause { IfErr result (λ e. e.kind ≡ OutOfMemory) }
@@ -167,7 +168,8 @@ fn copy_pointer(
     requires slot { IsSlot field }
     requires pointer { IsPointer field }
     requires room { IsRoomFor field (struct_object_tree object.old) }
-    ensures copied { OnOk result (IsCopied field.entry (pointer_given field.entry (levels_of pointer.entry) (tree_of pointer.entry)) (pointer_content field.entry (tree_of pointer.entry)) (struct_object_tree object.old) (struct_object_tree object.new)) }
+    ensures copied { OnOk result (IsCopied field.entry (pointer_given field.entry (levels_of pointer.entry) (tree_of pointer.entry))
+        (pointer_content field.entry (tree_of pointer.entry)) (struct_object_tree object.old) (struct_object_tree object.new)) }
     ensures refused { OnErr result (struct_object_tree object.new ≡ struct_object_tree object.old) }
     ensures cause { IfErr result (λ e. IsSetRefusal (pointer_given field.entry (levels_of pointer.entry) (tree_of pointer.entry)) e.kind) }
 {
@@ -190,7 +192,8 @@ fn copy_behind(
     requires pointer { IsPointer field }
     requires is { index ≡ pointer_index field }
     requires room { IsRoomFor field (struct_object_tree object.old) }
-    ensures copied { OnOk result (IsCopiedFrom field.entry (struct_levels source.now) (struct_of source.now) (struct_object_tree object.old) (struct_object_tree object.new)) }
+    ensures copied { OnOk result (IsCopiedFrom field.entry (struct_levels source.now) (struct_of source.now) (struct_object_tree object.old)
+        (struct_object_tree object.new)) }
     ensures refused { OnErr result (struct_object_tree object.new ≡ struct_object_tree object.old) }
     ensures cause { IfErr result (λ e. IsSetRefusal (copy_given field.entry (Left (struct_levels source.now)) (struct_of source.now)) e.kind) }
 {
@@ -230,7 +233,8 @@ pub(crate) fn is_behind(variant: TypeVariant) -> bool
 pub fn copy(object: &mut StructObject, field: Field<'_>, source: StructReader<'_>) -> Result<()>
     requires slot { IsSlot field }
     requires room { IsRoomFor field (struct_object_tree object.old) }
-    ensures copied { OnOk result (IsCopiedFrom field.entry (struct_levels source.entry) (struct_of source.entry) (struct_object_tree object.old) (struct_object_tree object.new)) }
+    ensures copied { OnOk result (IsCopiedFrom field.entry (struct_levels source.entry) (struct_of source.entry) (struct_object_tree object.old)
+        (struct_object_tree object.new)) }
     ensures refused { OnErr result (struct_object_tree object.new ≡ struct_object_tree object.old) }
     ensures cause { IfErr result (λ e. IsSetRefusal (copy_given field.entry (Left (struct_levels source.entry)) (struct_of source.entry)) e.kind) }
 {

@@ -3,8 +3,7 @@ ghost use Rattle.std.specs.Prelude.{ℕ, List, ◌≡◌, IfErr, IfOk, OnErr, On
 ghost use Rattle.capnp_wire.specs.Objects.{struct_object_tree};
 ghost use Rattle.capnp_wire.specs.Tree.{StructTree, Tree};
 ghost use Rattle.capnp_schema.specs.Schema.{Schemas};
-ghost use Rattle.capnp_schema.specs.Tests.{seen_variant};
-ghost use Rattle.capnp_schema.specs.Types.{SchemaType};
+ghost use Rattle.capnp_schema.specs.Types.{SchemaType, seen_variant};
 ghost use Rattle.capnp_records.specs.Call.{AnyPointerSource, DataSource, ListSource, StructSource, TextSource};
 ghost use Rattle.capnp_records.specs.Given.{Fails, given_slot};
 ghost use Rattle.capnp_records.specs.Record.{Levels};
@@ -49,7 +48,8 @@ fn copies_data(variant: TypeVariant) -> Result<bool>
 
 /// Whether it takes one of a struct, whatever its schema.
 fn copies_struct(variant: TypeVariant) -> Result<bool>
-    ensures { (set : Schemas) (l : Levels) (s : StructTree) (b : ℕ) → GivesCopy (StructSource l s b) (given_slot set (seen_variant variant) (StructSource l s b)) result }
+    ensures { (set : Schemas) (l : Levels) (s : StructTree) (b : ℕ)
+        → GivesCopy (StructSource l s b) (given_slot set (seen_variant variant) (StructSource l s b)) result }
 {
     match variant {
         TypeVariant::Void => Ok(false),
@@ -61,7 +61,8 @@ fn copies_struct(variant: TypeVariant) -> Result<bool>
 
 /// Whether it takes one of a list, whatever its elements' type.
 fn copies_list(variant: TypeVariant) -> Result<bool>
-    ensures { (set : Schemas) (l : Levels) (t : Tree) (e : SchemaType) → GivesCopy (ListSource l t e) (given_slot set (seen_variant variant) (ListSource l t e)) result }
+    ensures { (set : Schemas) (l : Levels) (t : Tree) (e : SchemaType)
+        → GivesCopy (ListSource l t e) (given_slot set (seen_variant variant) (ListSource l t e)) result }
 {
     match variant {
         TypeVariant::Void => Ok(false),
@@ -119,7 +120,8 @@ pub(crate) fn copy_to(object: &mut StructObject, field: Field<'_>, source: Sourc
     requires pointer { IsPointer field }
     requires room { IsRoomFor field (struct_object_tree object.old) }
     requires copy { IsCopy (source_seen source) }
-    ensures written { OnOk result (struct_object_tree object.new ≡ slot_with field.entry (At (source_tree (source_seen source.entry))) (struct_object_tree object.old)) }
+    ensures written { OnOk result (struct_object_tree object.new
+        ≡ slot_with field.entry (At (source_tree (source_seen source.entry))) (struct_object_tree object.old)) }
     ensures kept { OnOk result (Keeps (names_of field.entry) (struct_object_tree object.old) (struct_object_tree object.new)) }
     ensures sound { OnOk result (IsSoundCopy (source_seen source.entry)) }
     ensures refused { OnErr result (struct_object_tree object.new ≡ struct_object_tree object.old) }

@@ -9,20 +9,19 @@ ghost use Rattle.capnp_wire.specs.Standing.{struct_levels, struct_of};
 ghost use Rattle.capnp_wire.specs.Tree.{tree_count};
 ghost use Rattle.capnp_wire.specs.Words.{first_fault, first_fault_of_all};
 ghost use Rattle.capnp_schema.specs.Entries.{lists_seen};
-ghost use Rattle.capnp_schema.specs.Tests.{seen_variant};
 ghost use Rattle.capnp_schema.specs.Schema.{VoidValue};
-ghost use Rattle.capnp_schema.specs.Types.{ListType, seen_type, width};
+ghost use Rattle.capnp_schema.specs.Types.{ListType, seen_type, width, seen_variant};
 ghost use Rattle.capnp_records.specs.Call.{StructSource};
 ghost use Rattle.capnp_records.specs.Record.{Left};
 ghost use Rattle.capnp_schema.specs.StructHandles.{number_of};
 ghost use Rattle.capnp_records.specs.Given.{Fails, given_element, given_slot};
 ghost use Rattle.capnp_records.specs.Writes.ElementEnds.{HasRoom, InitnContent, element_written, with_element_number};
 ghost use Rattle.capnp_slots.specs.ElementSets.{IsBlobOrList, IsElementInitRefusal, IsElementSet, NoStruct, TakesInto};
-ghost use Rattle.capnp_slots.specs.Fills.{ElementRests, IsAtRest, element_due, element_filled, fill_due, is_behind};
+ghost use Rattle.capnp_slots.specs.Fills.{ElementRests, element_due, element_filled, fill_due, is_behind};
 ghost use Rattle.capnp_slots.specs.Primitives.{IsGivenAs, primitive_source};
 ghost use Rattle.capnp_slots.specs.Sources.{IsCopyDue, IsPointed, IsSetRefusal, IsSoundCopy, source_seen};
 ghost use Rattle.capnp_records.specs.Writes.Contents.{initn_tree, source_tree};
-ghost use Rattle.capnp_records.specs.Writes.Fill.{entered_list};
+ghost use Rattle.capnp_records.specs.Writes.Fill.{IsAtRest, entered_list};
 ghost use Rattle.capnp_records.specs.Writes.Slots.{At};
 ghost use Rattle.capnp_slots.specs.Inits.{IsInitnRefusal, is_sized};
 
@@ -78,7 +77,8 @@ fn store_element(list: &mut ListObject, variant: TypeVariant, index: u32, number
 /// another kind than the value.
 fn number_in(set: &SchemaSet, element: Type, value: Primitive) -> Result<u64>
     ensures number { IfOk result (IsGivenAs (lists_seen set.now) (seen_type element) (primitive_source value)) }
-    ensures given { OnOk result (given_element (lists_seen set.now) (seen_type element) (primitive_source value) ≡ given_slot (lists_seen set.now) (seen_type element) (primitive_source value)) }
+    ensures given { OnOk result (given_element (lists_seen set.now) (seen_type element) (primitive_source value)
+        ≡ given_slot (lists_seen set.now) (seen_type element) (primitive_source value)) }
     ensures refused { IfErr result (λ e. given_element (lists_seen set.now) (seen_type element) (primitive_source value) ≡ Fails e.kind) }
 {
     number_fits(value);
@@ -101,7 +101,8 @@ pub fn set_primitive(
     value: Primitive,
 ) -> Result<()>
     requires { HasRoom (seen_type element) (list_object_tree list.old) index }
-    ensures set { OnOk result (IsElementSet (lists_seen set.now) (seen_type element) (primitive_source value) index (list_object_tree list.old) (list_object_tree list.new)) }
+    ensures set { OnOk result (IsElementSet (lists_seen set.now) (seen_type element) (primitive_source value) index (list_object_tree list.old)
+        (list_object_tree list.new)) }
     ensures refused { OnErr result (list.new ≡ list.old) }
     ensures cause { IfErr result (λ e. given_element (lists_seen set.now) (seen_type element) (primitive_source value) ≡ Fails e.kind) }
 {
@@ -127,7 +128,9 @@ fn set_at<R, S: SetterInput<R>>(list: &mut ListObject, index: u32, input: S) -> 
 /// Copies what fits of a struct into an element of a list of structs; the rest of the element is zero and null.
 fn copy_at(list: &mut ListObject, index: u32, source: &StructReader<'_>) -> Result<()>
     requires { HasStruct (list_object_tree list.old) index }
-    ensures written { OnOk result (list_object_tree list.new ≡ with_struct_element index (fitted (length (element_struct (list_object_tree list.old) index).bytes) (tree_count (element_struct (list_object_tree list.old) index).pointers) (struct_of source.now)) (list_object_tree list.old)) }
+    ensures written { OnOk result (list_object_tree list.new
+        ≡ with_struct_element index (fitted (length (element_struct (list_object_tree list.old) index).bytes)
+        (tree_count (element_struct (list_object_tree list.old) index).pointers) (struct_of source.now)) (list_object_tree list.old)) }
     ensures formed { OnOk result (IsWellFormed (list_object_tree list.old) → IsWellFormed (list_object_tree list.new)) }
     ensures sound { OnOk result (first_fault_of_all (struct_of source.now).pointers ≡ None) }
     ensures refused { OnErr result (list_object_tree list.new ≡ list_object_tree list.old) }
@@ -141,7 +144,8 @@ fn copy_at(list: &mut ListObject, index: u32, source: &StructReader<'_>) -> Resu
 fn set_copied(list: &mut ListObject, index: u32, source: Source<'_>) -> Result<()>
     requires pointer { HasPointer (list_object_tree list.old) index }
     requires copy { IsBlobOrList (source_seen source) }
-    ensures written { OnOk result (list_object_tree list.new ≡ with_pointer_element index (source_tree (source_seen source.entry)) (list_object_tree list.old)) }
+    ensures written { OnOk result (list_object_tree list.new
+        ≡ with_pointer_element index (source_tree (source_seen source.entry)) (list_object_tree list.old)) }
     ensures formed { OnOk result (IsWellFormed (list_object_tree list.old) → IsWellFormed (list_object_tree list.new)) }
     ensures sound { OnOk result (IsSoundCopy (source_seen source.entry)) }
     ensures refused { OnErr result (list_object_tree list.new ≡ list_object_tree list.old) }
@@ -172,7 +176,8 @@ fn set_pointed(
     requires room { HasRoom (seen_type element) (list_object_tree list.old) index }
     requires pointed { IsPointed (source_seen source) }
     requires no_struct { NoStruct (source_seen source) }
-    ensures set { OnOk result (IsElementSet (lists_seen set.now) (seen_type element) (source_seen source.entry) index (list_object_tree list.old) (list_object_tree list.new)) }
+    ensures set { OnOk result (IsElementSet (lists_seen set.now) (seen_type element) (source_seen source.entry) index (list_object_tree list.old)
+        (list_object_tree list.new)) }
     ensures refused { OnErr result (list_object_tree list.new ≡ list_object_tree list.old) }
     ensures cause { IfErr result (λ e. IsSetRefusal (given_element (lists_seen set.now) (seen_type element) (source_seen source.entry)) e.kind) }
 {
@@ -206,9 +211,12 @@ fn set_struct(
     schema: StructSchema<'_>,
 ) -> Result<()>
     requires room { HasRoom (seen_type element) (list_object_tree list.old) index }
-    ensures set { OnOk result (IsElementSet (lists_seen set.now) (seen_type element) (StructSource (Left (struct_levels reader.entry)) (struct_of reader.entry) (number_of schema.entry)) index (list_object_tree list.old) (list_object_tree list.new)) }
+    ensures set { OnOk result (IsElementSet (lists_seen set.now) (seen_type element)
+        (StructSource (Left (struct_levels reader.entry)) (struct_of reader.entry) (number_of schema.entry)) index (list_object_tree list.old)
+        (list_object_tree list.new)) }
     ensures refused { OnErr result (list_object_tree list.new ≡ list_object_tree list.old) }
-    ensures cause { IfErr result (λ e. IsSetRefusal (given_element (lists_seen set.now) (seen_type element) (StructSource (Left (struct_levels reader.entry)) (struct_of reader.entry) (number_of schema.entry))) e.kind) }
+    ensures cause { IfErr result (λ e. IsSetRefusal (given_element (lists_seen set.now) (seen_type element)
+        (StructSource (Left (struct_levels reader.entry)) (struct_of reader.entry) (number_of schema.entry))) e.kind) }
 {
     match element.which() {
         TypeVariant::Void => set_primitive(list, set, element, index, Primitive::Void),
@@ -239,7 +247,8 @@ pub fn set(
     source: Source<'_>,
 ) -> Result<()>
     requires { HasRoom (seen_type element) (list_object_tree list.old) index }
-    ensures set { OnOk result (IsElementSet (lists_seen set.now) (seen_type element) (source_seen source.entry) index (list_object_tree list.old) (list_object_tree list.new)) }
+    ensures set { OnOk result (IsElementSet (lists_seen set.now) (seen_type element) (source_seen source.entry) index (list_object_tree list.old)
+        (list_object_tree list.new)) }
     ensures refused { OnErr result (list_object_tree list.new ≡ list_object_tree list.old) }
     ensures cause { IfErr result (λ e. IsSetRefusal (given_element (lists_seen set.now) (seen_type element) (source_seen source.entry)) e.kind) }
 {
@@ -262,8 +271,10 @@ fn init_at(
 ) -> Result<()>
     requires inside { HasPointer (list_object_tree list.old) index }
     requires is_sized { is_sized (seen_variant variant) ≡ true }
-    ensures written { OnOk result (list_object_tree list.new ≡ with_pointer_element index (initn_tree (lists_seen set.now) (seen_variant variant) count) (list_object_tree list.old)) }
-    ensures within { OnOk result (InitnContent (lists_seen set.now) count (seen_variant variant) (At (initn_tree (lists_seen set.now) (seen_variant variant) count))) }
+    ensures written { OnOk result (list_object_tree list.new
+        ≡ with_pointer_element index (initn_tree (lists_seen set.now) (seen_variant variant) count) (list_object_tree list.old)) }
+    ensures within { OnOk result (InitnContent (lists_seen set.now) count (seen_variant variant)
+        (At (initn_tree (lists_seen set.now) (seen_variant variant) count))) }
     ensures formed { OnOk result (IsWellFormed (list_object_tree list.old) → IsWellFormed (list_object_tree list.new)) }
     ensures refused { OnErr result (list_object_tree list.new ≡ list_object_tree list.old) }
     ensures cause { IfErr result (λ e. IsInitnRefusal (lists_seen set.now) count (seen_variant variant) e.kind) }
@@ -286,7 +297,8 @@ pub fn init(
     count: u32,
 ) -> Result<()>
     requires { HasRoom (seen_type element) (list_object_tree list.old) index }
-    ensures written { OnOk result (list_object_tree list.new ≡ element_written (seen_type element) (list_object_tree list.old) index (At (initn_tree (lists_seen set.now) (seen_type element) count))) }
+    ensures written { OnOk result (list_object_tree list.new
+        ≡ element_written (seen_type element) (list_object_tree list.old) index (At (initn_tree (lists_seen set.now) (seen_type element) count))) }
     ensures has { OnOk result (InitnContent (lists_seen set.now) count (seen_type element) (At (initn_tree (lists_seen set.now) (seen_type element) count))) }
     ensures formed { OnOk result (IsWellFormed (list_object_tree list.old) → IsWellFormed (list_object_tree list.new)) }
     ensures refused { OnErr result (list_object_tree list.new ≡ list_object_tree list.old) }
@@ -313,11 +325,14 @@ pub fn fill(list: &mut ListObject, set: &SchemaSet, element: Type, index: u32) -
     requires behind { is_behind (seen_type element) ≡ true }
     requires pointer { HasPointer (list_object_tree list.old) index }
     requires formed { IsWellFormed (list_object_tree list.old) }
-    ensures filled { OnOk result (list_object_tree list.new ≡ with_pointer_element index (element_filled (lists_seen set.now) (seen_type element) (element_pointer (list_object_tree list.old) index 1)) (list_object_tree list.old)) }
+    ensures filled { OnOk result (list_object_tree list.new
+        ≡ with_pointer_element index (element_filled (lists_seen set.now) (seen_type element) (element_pointer (list_object_tree list.old) index 1))
+        (list_object_tree list.old)) }
     ensures within { OnOk result (element_due (lists_seen set.now) (seen_type element) (element_pointer (list_object_tree list.old) index 1) ≡ None) }
     ensures kept { OnOk result (IsWellFormed (list_object_tree list.new)) }
     ensures refused { OnErr result (list_object_tree list.new ≡ list_object_tree list.old) }
-    ensures cause { IfErr result (λ e. IsDueRefusal e (element_due (lists_seen set.now) (seen_type element) (element_pointer (list_object_tree list.old) index 1))) }
+    ensures cause { IfErr result (λ e. IsDueRefusal e (element_due (lists_seen set.now) (seen_type element)
+        (element_pointer (list_object_tree list.old) index 1))) }
     ensures rests { ElementRests (lists_seen set.now) (seen_type element) (element_pointer (list_object_tree list.old) index 1) → IsOk result }
 {
     fill_at(list, set, element.which(), index)
@@ -328,11 +343,14 @@ fn fill_at(list: &mut ListObject, set: &SchemaSet, variant: TypeVariant, index: 
     requires behind { is_behind (seen_variant variant) ≡ true }
     requires pointer { HasPointer (list_object_tree list.old) index }
     requires formed { IsWellFormed (list_object_tree list.old) }
-    ensures filled { OnOk result (list_object_tree list.new ≡ with_pointer_element index (element_filled (lists_seen set.now) (seen_variant variant) (element_pointer (list_object_tree list.old) index 1)) (list_object_tree list.old)) }
+    ensures filled { OnOk result (list_object_tree list.new
+        ≡ with_pointer_element index (element_filled (lists_seen set.now) (seen_variant variant) (element_pointer (list_object_tree list.old) index 1))
+        (list_object_tree list.old)) }
     ensures within { OnOk result (element_due (lists_seen set.now) (seen_variant variant) (element_pointer (list_object_tree list.old) index 1) ≡ None) }
     ensures kept { OnOk result (IsWellFormed (list_object_tree list.new)) }
     ensures refused { OnErr result (list_object_tree list.new ≡ list_object_tree list.old) }
-    ensures cause { IfErr result (λ e. IsDueRefusal e (element_due (lists_seen set.now) (seen_variant variant) (element_pointer (list_object_tree list.old) index 1))) }
+    ensures cause { IfErr result (λ e. IsDueRefusal e (element_due (lists_seen set.now) (seen_variant variant)
+        (element_pointer (list_object_tree list.old) index 1))) }
     ensures rests { ElementRests (lists_seen set.now) (seen_variant variant) (element_pointer (list_object_tree list.old) index 1) → IsOk result }
 {
     pointers_of_lists_are_well_formed();

@@ -40,8 +40,10 @@ pub(crate) fn fill_struct(
     default: Option<PointerReader<'_>>,
 ) -> Result<()>
     requires { IsThere object.old index }
-    ensures ok { OnOk result (HoldsThere object.old index object.new (struct_tree (filled_struct (default_tree default.entry) size (tree_there object.old index)))) }
-    ensures formed { IsWellFormed (tree_there object.old index) → IsWellFormed (struct_tree (filled_struct (default_tree default.entry) size (tree_there object.old index))) }
+    ensures ok { OnOk result (HoldsThere object.old index object.new
+        (struct_tree (filled_struct (default_tree default.entry) size (tree_there object.old index)))) }
+    ensures formed { IsWellFormed (tree_there object.old index)
+        → IsWellFormed (struct_tree (filled_struct (default_tree default.entry) size (tree_there object.old index))) }
     ensures within { OnOk result (filled_struct_refusal (default_tree default.entry) (tree_there object.old index) ≡ None) }
     ensures refused { OnErr result (struct_object_tree object.new ≡ struct_object_tree object.old) }
     ensures cause { IfErr result (λ e. IsDueRefusal e (filled_struct_refusal (default_tree default.entry) (tree_there object.old index))) }
@@ -70,7 +72,8 @@ pub(crate) fn fill_list(
     ensures within { OnOk result (filled_list_refusal (default_tree default.entry) size (tree_there object.old index) ≡ None) }
     ensures refused { OnErr result (struct_object_tree object.new ≡ struct_object_tree object.old) }
     ensures cause { IfErr result (λ e. IsDueRefusal e (filled_list_refusal (default_tree default.entry) size (tree_there object.old index))) }
-    ensures succeeds { takes_default (default_tree default.entry) (tree_there object.old index) ≡ false → filled_list_refusal (default_tree default.entry) size (tree_there object.old index) ≡ None → IsOk result }
+    ensures succeeds { takes_default (default_tree default.entry) (tree_there object.old index) ≡ false
+        → filled_list_refusal (default_tree default.entry) size (tree_there object.old index) ≡ None → IsOk result }
 {
     default_is_well_formed(default);
     filled_lists_are_well_formed();
@@ -95,7 +98,8 @@ pub(crate) fn fill_structs(
     ensures within { OnOk result (filled_structs_refusal (default_tree default.entry) size (tree_there object.old index) ≡ None) }
     ensures refused { OnErr result (struct_object_tree object.new ≡ struct_object_tree object.old) }
     ensures cause { IfErr result (λ e. IsDueRefusal e (filled_structs_refusal (default_tree default.entry) size (tree_there object.old index))) }
-    ensures succeeds { takes_default (default_tree default.entry) (tree_there object.old index) ≡ false → HoldsStructs size (tree_there object.old index) → IsOk result }
+    ensures succeeds { takes_default (default_tree default.entry) (tree_there object.old index) ≡ false → HoldsStructs size (tree_there object.old index)
+        → IsOk result }
 {
     default_is_well_formed(default);
     filled_struct_lists_are_well_formed();

@@ -7,8 +7,7 @@ ghost use Rattle.capnp_wire.specs.Reading.{as_data, as_text};
 ghost use Rattle.capnp_wire.specs.StructLists.{HoldsStructs, struct_list, struct_list_refusal};
 ghost use Rattle.capnp_wire.specs.WellFormed.{IsWellFormed};
 ghost use Rattle.capnp_schema.specs.Entries.{lists_seen};
-ghost use Rattle.capnp_schema.specs.Tests.{seen_variant};
-ghost use Rattle.capnp_schema.specs.Types.{ListType, seen_type};
+ghost use Rattle.capnp_schema.specs.Types.{ListType, seen_type, seen_variant};
 ghost use Rattle.capnp_slots.specs.Copied.{refusal_of};
 ghost use Rattle.capnp_slots.specs.Fills.{ElementRests, element_due, element_filled, is_behind};
 

@@ -40,7 +40,8 @@ pub fn group_of<'s>(field: Field<'s>) -> Option<StructSchema<'s>>
 #[cycle(clear)]
 fn clear_field(object: &mut StructObject, field: Field<'_>, groups: usize)
     requires { IsRoomFor field (struct_object_tree object.old) }
-    ensures cleared { struct_object_tree object.new ≡ clear_by groups (field_set field.entry) (field_brand field.entry) (typed_of field.entry) (struct_object_tree object.old) }
+    ensures cleared { struct_object_tree object.new ≡ clear_by groups (field_set field.entry) (field_brand field.entry) (typed_of field.entry)
+        (struct_object_tree object.old) }
     ensures kept { KeepsSize (struct_object_tree object.old) (struct_object_tree object.new) }
 {
     match group_of(field) {
@@ -56,7 +57,8 @@ fn clear_field(object: &mut StructObject, field: Field<'_>, groups: usize)
 #[cycle(clear)]
 fn clear_member(object: &mut StructObject, schema: StructSchema<'_>, groups: usize)
     requires { Fits (set_of schema) (number_of schema) (struct_object_tree object.old) }
-    ensures cleared { struct_object_tree object.new ≡ cleared_option (clear_index groups (set_of schema.entry) (number_of schema.entry)) (member_of (struct_records schema.entry) 0) (struct_object_tree object.old) }
+    ensures cleared { struct_object_tree object.new ≡ cleared_option (clear_index groups (set_of schema.entry) (number_of schema.entry))
+        (member_of (struct_records schema.entry) 0) (struct_object_tree object.old) }
     ensures kept { KeepsSize (struct_object_tree object.old) (struct_object_tree object.new) }
 {
     let Ok(found) = schema.get_field_by_discriminant(0) else {
@@ -72,7 +74,8 @@ fn clear_member(object: &mut StructObject, schema: StructSchema<'_>, groups: usi
 #[cycle(clear)]
 fn clear_plain(object: &mut StructObject, schema: StructSchema<'_>, groups: usize)
     requires { Fits (set_of schema) (number_of schema) (struct_object_tree object.old) }
-    ensures cleared { struct_object_tree object.new ≡ cleared_indices (clear_index groups (set_of schema.entry) (number_of schema.entry)) (plain_fields (struct_records schema.entry)) (struct_object_tree object.old) }
+    ensures cleared { struct_object_tree object.new ≡ cleared_indices (clear_index groups (set_of schema.entry) (number_of schema.entry))
+        (plain_fields (struct_records schema.entry)) (struct_object_tree object.old) }
     ensures kept { KeepsSize (struct_object_tree object.old) (struct_object_tree object.new) }
 {
     let Ok(fields) = schema.get_non_union_fields() else {
@@ -158,7 +161,8 @@ fn copy(
 pub fn set(object: &mut StructObject, field: Field<'_>, source: Source<'_>) -> Result<()>
     requires group { IsGroup field }
     requires room { IsRoomFor field (struct_object_tree object.old) }
-    ensures set { IsGroupSet field.entry (given_to_group field.entry (source_seen source.entry)) (struct_object_tree object.old) (refusal_of result) (struct_object_tree object.new) }
+    ensures set { IsGroupSet field.entry (given_to_group field.entry (source_seen source.entry)) (struct_object_tree object.old) (refusal_of result)
+        (struct_object_tree object.new) }
     ensures kept { Keeps (names_of field.entry) (struct_object_tree object.old) (struct_object_tree object.new) }
 {
     let Source::Struct(reader, schema) = source else {

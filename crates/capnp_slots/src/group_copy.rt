@@ -60,7 +60,8 @@ fn copy_field(
 ) -> Result<()>
     requires room { IsRoomFor field (struct_object_tree object.old) }
     requires height { group_height (field_set field) (field_brand field) ≤ groups }
-    ensures copied { AreCopied groups (schema_of field.entry) source.entry (index_of field.entry ∷ []) (struct_object_tree object.old) (refusal_of result) (struct_object_tree object.new) }
+    ensures copied { AreCopied groups (schema_of field.entry) source.entry (index_of field.entry ∷ []) (struct_object_tree object.old) (refusal_of result)
+        (struct_object_tree object.new) }
     ensures kept { KeepsSize (struct_object_tree object.old) (struct_object_tree object.new) }
 {
     match group_of(field) {
@@ -82,7 +83,8 @@ fn copy_present(
 ) -> Result<()>
     requires room { IsRoomFor field (struct_object_tree object.old) }
     requires height { group_height (field_set field) (field_brand field) ≤ groups }
-    ensures copied { AreCopied groups (schema_of field.entry) source.entry (keep_index (has_field field.entry source.entry) (index_of field.entry) []) (struct_object_tree object.old) (refusal_of result) (struct_object_tree object.new) }
+    ensures copied { AreCopied groups (schema_of field.entry) source.entry (keep_index (has_field field.entry source.entry) (index_of field.entry) [])
+        (struct_object_tree object.old) (refusal_of result) (struct_object_tree object.new) }
     ensures kept { KeepsSize (struct_object_tree object.old) (struct_object_tree object.new) }
 {
     if has(field, &source) {
@@ -102,7 +104,8 @@ fn copy_member(
 ) -> Result<()>
     requires room { Fits (set_of schema) (number_of schema) (struct_object_tree object.old) }
     requires height { group_height (set_of schema) (number_of schema) ≤ groups }
-    ensures copied { AreCopied groups schema.entry source.entry (member_indices (active_field schema.entry source.entry)) (struct_object_tree object.old) (refusal_of result) (struct_object_tree object.new) }
+    ensures copied { AreCopied groups schema.entry source.entry (member_indices (active_field schema.entry source.entry)) (struct_object_tree object.old)
+        (refusal_of result) (struct_object_tree object.new) }
     ensures kept { KeepsSize (struct_object_tree object.old) (struct_object_tree object.new) }
 {
     match active_member(schema, &source) {
@@ -121,7 +124,8 @@ fn copy_plain(
 ) -> Result<()>
     requires room { Fits (set_of schema) (number_of schema) (struct_object_tree object.old) }
     requires height { group_height (set_of schema) (number_of schema) ≤ groups }
-    ensures copied { AreCopied groups schema.entry source.entry (plain_in_source schema.entry source.entry) (struct_object_tree object.old) (refusal_of result) (struct_object_tree object.new) }
+    ensures copied { AreCopied groups schema.entry source.entry (plain_in_source schema.entry source.entry) (struct_object_tree object.old) (refusal_of result)
+        (struct_object_tree object.new) }
     ensures kept { KeepsSize (struct_object_tree object.old) (struct_object_tree object.new) }
 {
     let Ok(fields) = schema.get_non_union_fields() else {

@@ -11,6 +11,7 @@ mod fill;
 mod fill_element;
 pub mod group;
 mod group_copy;
+pub mod laws;
 mod loaded;
 mod make;
 pub mod part;

@@ -8,8 +8,7 @@ ghost use Rattle.capnp_wire.specs.Reading.{empty_list};
 ghost use Rattle.capnp_wire.specs.WellFormed.{IsWellFormed};
 ghost use Rattle.capnp_schema.specs.Entries.{lists_seen};
 ghost use Rattle.capnp_schema.specs.StructHandles.{number_of, set_of};
-ghost use Rattle.capnp_schema.specs.Tests.{seen_variant};
-ghost use Rattle.capnp_schema.specs.Types.{AnyPointerType, is_pointer, seen_type};
+ghost use Rattle.capnp_schema.specs.Types.{AnyPointerType, is_pointer, seen_type, seen_variant};
 ghost use Rattle.capnp_records.specs.Given.{text_tree};
 ghost use Rattle.capnp_records.specs.Operation.{elements_past};
 ghost use Rattle.capnp_records.specs.Writes.Contents.{initn_tree, new_list};
@@ -145,7 +144,8 @@ pub(crate) fn make_sized(
 ) -> Result<()>
     requires { is_sized (seen_variant variant) ≡ true }
     ensures ok { OnOk result (object_tree pointer.new ≡ initn_tree (lists_seen set.now) (seen_variant variant) count) }
-    ensures within { OnOk result (InitnContent (lists_seen set.now) count (seen_variant variant) (At (initn_tree (lists_seen set.now) (seen_variant variant) count))) }
+    ensures within { OnOk result (InitnContent (lists_seen set.now) count (seen_variant variant)
+        (At (initn_tree (lists_seen set.now) (seen_variant variant) count))) }
     ensures formed { OnOk result (IsWellFormed (initn_tree (lists_seen set.now) (seen_variant variant) count)) }
     ensures refused { OnErr result (object_tree pointer.new ≡ object_tree pointer.old) }
     ensures cause { IfErr result (λ e. IsInitnRefusal (lists_seen set.now) count (seen_variant variant) e.kind) }

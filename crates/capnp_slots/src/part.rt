@@ -55,11 +55,14 @@ fn fill_elements(
 ) -> Result<()>
     requires inside { IsThere object.old index }
     requires formed { IsWellFormed (tree_there object.old index) }
-    ensures ok { OnOk result (HoldsThere object.old index object.new (entered_list (lists_seen set.now) (seen_type element) (or_default (reader_tree default.entry) (tree_there object.old index)))) }
-    ensures kept { OnOk result (IsWellFormed (entered_list (lists_seen set.now) (seen_type element) (or_default (reader_tree default.entry) (tree_there object.old index)))) }
+    ensures ok { OnOk result (HoldsThere object.old index object.new
+        (entered_list (lists_seen set.now) (seen_type element) (or_default (reader_tree default.entry) (tree_there object.old index)))) }
+    ensures kept { OnOk result (IsWellFormed (entered_list (lists_seen set.now) (seen_type element)
+        (or_default (reader_tree default.entry) (tree_there object.old index)))) }
     ensures within { OnOk result (list_due (lists_seen set.now) (seen_type element) (reader_tree default.entry) (tree_there object.old index) ≡ None) }
     ensures refused { OnErr result (struct_object_tree object.new ≡ struct_object_tree object.old) }
-    ensures cause { IfErr result (λ e. IsDueRefusal e (list_due (lists_seen set.now) (seen_type element) (reader_tree default.entry) (tree_there object.old index))) }
+    ensures cause { IfErr result (λ e. IsDueRefusal e (list_due (lists_seen set.now) (seen_type element) (reader_tree default.entry)
+        (tree_there object.old index))) }
     ensures rests { ListRests (lists_seen set.now) (seen_type element) (reader_tree default.entry) (tree_there object.old index) → IsOk result }
 {
     match element.which() {
@@ -106,7 +109,8 @@ fn fill_slot(object: &mut StructObject, field: Field<'_>, index: u16) -> Result<
 fn fill_text(object: &mut StructObject, index: u16, field: Field<'_>) -> Result<()>
     requires { IsThere object.old index }
     ensures ok { OnOk result (HoldsThere object.old index object.new (text_filled (default_of (typed_of field.entry).field) (tree_there object.old index))) }
-    ensures kept { OnOk result (IsWellFormed (tree_there object.old index) → IsWellFormed (text_filled (default_of (typed_of field.entry).field) (tree_there object.old index))) }
+    ensures kept { OnOk result (IsWellFormed (tree_there object.old index)
+        → IsWellFormed (text_filled (default_of (typed_of field.entry).field) (tree_there object.old index))) }
     ensures within { OnOk result (error_of (as_text (tree_there object.old index)) ≡ None) }
     ensures refused { OnErr result (struct_object_tree object.new ≡ struct_object_tree object.old) }
     ensures cause { IfErr result (λ e. IsDueRefusal e (error_of (as_text (tree_there object.old index)))) }
@@ -123,7 +127,8 @@ fn put_text(object: &mut StructObject, index: u16, text: text::Reader<'_>) -> Re
     requires inside { IsThere object.old index }
     requires small { length text.0.now ≤ 2 ^ 29 - 2 }
     ensures ok { OnOk result (HoldsThere object.old index object.new (or_else (tree_there object.old index) (text_tree text.entry.0.now))) }
-    ensures kept { OnOk result (IsWellFormed (tree_there object.old index) → IsWellFormed (or_else (tree_there object.old index) (text_tree text.entry.0.now))) }
+    ensures kept { OnOk result (IsWellFormed (tree_there object.old index)
+        → IsWellFormed (or_else (tree_there object.old index) (text_tree text.entry.0.now))) }
     ensures refused { OnErr result (struct_object_tree object.new ≡ struct_object_tree object.old) }
     ensures null { OnErr result (is_null_tree (tree_there object.old index) ≡ true) }
     ensures cause { IfErr result (λ e. e.kind ≡ OutOfMemory) }
@@ -138,7 +143,8 @@ fn put_text(object: &mut StructObject, index: u16, text: text::Reader<'_>) -> Re
 fn fill_data(object: &mut StructObject, index: u16, field: Field<'_>) -> Result<()>
     requires { IsThere object.old index }
     ensures ok { OnOk result (HoldsThere object.old index object.new (data_filled (default_of (typed_of field.entry).field) (tree_there object.old index))) }
-    ensures kept { OnOk result (IsWellFormed (tree_there object.old index) → IsWellFormed (data_filled (default_of (typed_of field.entry).field) (tree_there object.old index))) }
+    ensures kept { OnOk result (IsWellFormed (tree_there object.old index)
+        → IsWellFormed (data_filled (default_of (typed_of field.entry).field) (tree_there object.old index))) }
     ensures within { OnOk result (error_of (as_data (tree_there object.old index)) ≡ None) }
     ensures refused { OnErr result (struct_object_tree object.new ≡ struct_object_tree object.old) }
     ensures cause { IfErr result (λ e. IsDueRefusal e (error_of (as_data (tree_there object.old index)))) }
@@ -180,7 +186,8 @@ pub fn fill(object: &mut StructObject, field: Field<'_>) -> Result<()>
     requires pointer { IsPointer field }
     requires room { IsRoomFor field (struct_object_tree object.old) }
     requires formed { IsWellFormed (struct_tree (struct_object_tree object.old)) }
-    ensures filled { OnOk result (struct_object_tree object.new ≡ with_pointer_tree (struct_object_tree object.old) (pointer_index field.entry) (filled_in field.entry (struct_object_tree object.old))) }
+    ensures filled { OnOk result (struct_object_tree object.new
+        ≡ with_pointer_tree (struct_object_tree object.old) (pointer_index field.entry) (filled_in field.entry (struct_object_tree object.old))) }
     ensures here { OnOk result (pointer_in field.entry (struct_object_tree object.new) ≡ filled_in field.entry (struct_object_tree object.old)) }
     ensures within { OnOk result (due_in field.entry (struct_object_tree object.old) ≡ None) }
     ensures kept { OnOk result (KeepsSize (struct_object_tree object.old) (struct_object_tree object.new)) }

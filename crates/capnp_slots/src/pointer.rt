@@ -4,11 +4,10 @@ ghost use Rattle.capnp_device.specs.declared.error.ErrorKind.TheVariants.{OutOfM
 ghost use Rattle.capnp_wire.specs.Edits.{with_pointer_tree, zero_struct};
 ghost use Rattle.capnp_wire.specs.Place.{struct_tree};
 ghost use Rattle.capnp_schema.specs.Entries.{lists_seen};
-ghost use Rattle.capnp_schema.specs.Tests.{seen_variant};
 ghost use Rattle.capnp_records.specs.Writes.Contents.{initn_tree};
 ghost use Rattle.capnp_records.specs.Writes.ElementEnds.{InitnContent};
 ghost use Rattle.capnp_records.specs.Writes.Slots.{At};
-ghost use Rattle.capnp_schema.specs.Types.{AnyPointerType, is_pointer};
+ghost use Rattle.capnp_schema.specs.Types.{AnyPointerType, is_pointer, seen_variant};
 ghost use Rattle.capnp_slots.specs.Copied.{empty_tree};
 ghost use Rattle.capnp_slots.specs.Inits.{IsInitnRefusal, is_sized};
 ghost use Rattle.capnp_wire.specs.Objects.{struct_object_tree};
@@ -82,8 +81,10 @@ pub(crate) fn make_sized_at(
 ) -> Result<()>
     requires inside { index < tree_count (struct_object_tree object.old).pointers }
     requires is_sized { is_sized (seen_variant variant) ≡ true }
-    ensures ok { OnOk result (struct_object_tree object.new ≡ with_pointer_tree (struct_object_tree object.old) index (initn_tree (lists_seen set.now) (seen_variant variant) count)) }
-    ensures within { OnOk result (InitnContent (lists_seen set.now) count (seen_variant variant) (At (initn_tree (lists_seen set.now) (seen_variant variant) count))) }
+    ensures ok { OnOk result (struct_object_tree object.new
+        ≡ with_pointer_tree (struct_object_tree object.old) index (initn_tree (lists_seen set.now) (seen_variant variant) count)) }
+    ensures within { OnOk result (InitnContent (lists_seen set.now) count (seen_variant variant)
+        (At (initn_tree (lists_seen set.now) (seen_variant variant) count))) }
     ensures formed { OnOk result (IsWellFormed (initn_tree (lists_seen set.now) (seen_variant variant) count)) }
     ensures refused { OnErr result (struct_object_tree object.new ≡ struct_object_tree object.old) }
     ensures cause { IfErr result (λ e. IsInitnRefusal (lists_seen set.now) count (seen_variant variant) e.kind) }

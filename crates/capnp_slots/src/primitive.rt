@@ -2,8 +2,7 @@
 ghost use Rattle.std.specs.Prelude.{◌≡◌};
 ghost use Rattle.capnp_device.specs.declared.error.ErrorKind.TheVariants.{TypeMismatch};
 ghost use Rattle.capnp_schema.specs.Schema.{Schemas};
-ghost use Rattle.capnp_schema.specs.Tests.{seen_variant};
-ghost use Rattle.capnp_schema.specs.Types.{IntType, UIntType};
+ghost use Rattle.capnp_schema.specs.Types.{IntType, UIntType, seen_variant};
 ghost use Rattle.capnp_records.specs.Given.{given_slot};
 ghost use Rattle.capnp_records.specs.Writes.Contents.{SourceFits};
 ghost use Rattle.capnp_slots.specs.Primitives.{GivesNumber, primitive_source};

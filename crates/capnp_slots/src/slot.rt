@@ -73,7 +73,8 @@ fn number_for(field: Field<'_>, value: Primitive) -> Result<u64>
 pub fn set_primitive(object: &mut StructObject, field: Field<'_>, value: Primitive) -> Result<()>
     requires slot { IsSlot field }
     requires room { IsRoomFor field (struct_object_tree object.old) }
-    ensures written { OnOk result (struct_object_tree object.new ≡ slot_with field.entry (set_content field.entry (primitive_source value)) (struct_object_tree object.old)) }
+    ensures written { OnOk result (struct_object_tree object.new
+        ≡ slot_with field.entry (set_content field.entry (primitive_source value)) (struct_object_tree object.old)) }
     ensures given { OnOk result (IsGiven (given_to field.entry (primitive_source value))) }
     ensures kept { OnOk result (Keeps (names_of field.entry) (struct_object_tree object.old) (struct_object_tree object.new)) }
     ensures refused { OnErr result (object.new ≡ object.old) }
@@ -181,7 +182,8 @@ fn init_struct(object: &mut StructObject, field: Field<'_>, size: StructSize) ->
     requires slot { IsSlot field }
     requires pointer { IsPointer field }
     requires room { IsRoomFor field (struct_object_tree object.old) }
-    ensures written { OnOk result (struct_object_tree object.new ≡ slot_with field.entry (At (struct_tree (zero_struct size))) (struct_object_tree object.old)) }
+    ensures written { OnOk result (struct_object_tree object.new
+        ≡ slot_with field.entry (At (struct_tree (zero_struct size))) (struct_object_tree object.old)) }
     ensures kept { OnOk result (Keeps (names_of field.entry) (struct_object_tree object.old) (struct_object_tree object.new)) }
     ensures refused { OnErr result (struct_object_tree object.new ≡ struct_object_tree object.old) }
     ensures cause { IfErr result (λ e. e.kind ≡ OutOfMemory) }

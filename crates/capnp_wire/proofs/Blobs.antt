@@ -58,6 +58,7 @@ left_at l (layer.Numbers width bytes) old left e h =
     ∙ ap (λ n. tree.Numbers n (left ++ drop (length left) bytes.items)) w ∙ ap (λ bs. tree.Numbers 1 (left ++ drop (length left) bs)) b
 left_at l (layer.Pointers os) old left e h = absurd (omega (arith, ap width_of e))
 left_at l (layer.Composite size es) old left e h = absurd (omega (arith, ap width_of e))
+left_at l (layer.EmptyStructs count lent) old left e h = absurd (omega (arith, ap width_of e))
 
 null_at : (l : ListObject) (y : Layer) (left : List ℕ) → layer_tree y ≡ tree.Null → object_tree (object.List (with_blob_at l y left)) ≡ tree.Null
 null_at l (layer.Missing bytes size) left e = tree-missing (with_items_from bytes 0 left) size
@@ -66,6 +67,7 @@ null_at l (layer.Bits row) left e = absurd (false≢true (ap is_null_tree e))
 null_at l (layer.Numbers width bytes) left e = absurd (false≢true (ap is_null_tree e))
 null_at l (layer.Pointers os) left e = absurd (false≢true (ap is_null_tree e))
 null_at l (layer.Composite size es) left e = absurd (false≢true (ap is_null_tree e))
+null_at l (layer.EmptyStructs count lent) left e = absurd (false≢true (ap is_null_tree e))
 
 pub data_are_left : DataAreLeft
 data_are_left l old left e h =

@@ -7,14 +7,15 @@ use Rattle.capnp_wire.specs.Tree as tree
 use Rattle.capnp_wire.specs.Tree.{Tree, StructTree, nth_struct, nth_tree, struct_count, tree_count}
 use Rattle.capnp_wire.specs.Objects.{list_object_tree, object_tree, object_trees, struct_object_tree, struct_object_trees}
 use Rattle.capnp_wire.specs.Reading.{cut_pointer, element_pointer, element_struct, is_null_tree}
-use Rattle.capnp_wire.specs.Elements.{HasPointer, HasStruct, built_list, built_list_at}
-use Rattle.capnp_wire.specs.Lends.{Layer, HasObjects, HasStructs, with_objects_at, with_structs_at, with_element, with_element_at, with_first_pointer, with_object, with_object_at, with_pointer}
+use Rattle.capnp_wire.specs.Elements.{HasPointer, HasStruct, is_composite, built_list, built_list_at}
+use Rattle.capnp_wire.specs.Lends.{Layer, HasObjects, HasStructs, with_objects_at, with_structs_at, with_element, with_element_at, with_first_pointer, with_object, with_object_at, with_pointer, is_counted}
 use Rattle.capnp_wire.specs.declared.object.Object.{Object}
 use Rattle.capnp_wire.specs.declared.object.ListObject.{ListObject, out-ListObject}
 use Rattle.capnp_wire.specs.declared.object.ListObject.TheOpen as layer
 use Rattle.capnp_wire.specs.declared.object.StructObject.{StructObject}
 use Rattle.capnp_wire.specs.declared.size.StructSize.{StructSize}
 use Rattle.capnp_wire.proofs.Lists.{nth_struct-of, nth_tree-of, struct_count-of, tree_count-of}
+use Rattle.capnp_wire.specs.Facts.EmptyStructs.{nth-empty_structs}
 pub use Rattle.capnp_wire.specs.Facts.Objects.{layer_tree, tree-layer}
 
 -- ---- structs ----
@@ -26,6 +27,7 @@ structs_layer (layer.Bits row) ss e = elim e [ ]
 structs_layer (layer.Numbers width bytes) ss e = elim e [ ]
 structs_layer (layer.Pointers ps) ss e = elim e [ ]
 structs_layer (layer.Composite size es) ss e = (size, ap (layer.Composite size) (sym e))
+structs_layer (layer.EmptyStructs count lent) ss e = elim e [ ]
 
 -- the list is one of these structs
 structs_tree : (l : ListObject) (ss : Vec StructObject Global) → HasStructs (out-ListObject l) ss → (size : StructSize) × (list_object_tree l ≡ tree.Composite size.data_words size.pointers (struct_object_trees ss.items))
@@ -56,6 +58,7 @@ objects_layer (layer.Bits row) os e = elim e [ ]
 objects_layer (layer.Numbers width bytes) os e = elim e [ ]
 objects_layer (layer.Pointers ps) os e = ap layer.Pointers (sym e)
 objects_layer (layer.Composite size es) os e = elim e [ ]
+objects_layer (layer.EmptyStructs count lent) os e = elim e [ ]
 
 -- the list is one of these pointers
 objects_tree : (l : ListObject) (os : Vec Object Global) → HasObjects (out-ListObject l) os → list_object_tree l ≡ tree.Pointers (object_trees os.items)
@@ -76,6 +79,17 @@ object_lent l os i o e =
 
 -- ---- the first pointer of a struct ----
 
+-- it stands in a struct
+of_pointer : (t : Tree) (i : ℕ) → HasPointer t i → is_composite t ≡ true → HasStruct t i
+of_pointer tree.Null i h e = absurd (true≢false (sym e))
+of_pointer (tree.Struct bytes ps) i h e = absurd (true≢false (sym e))
+of_pointer (tree.Voids n) i h e = absurd (true≢false (sym e))
+of_pointer (tree.Bits bs) i h e = absurd (true≢false (sym e))
+of_pointer (tree.Numbers w bytes) i h e = absurd (true≢false (sym e))
+of_pointer (tree.Pointers ps) i h e = absurd (true≢false (sym e))
+of_pointer (tree.Composite d p es) i h e = h.0
+of_pointer (tree.FaultLeaf k) i h e = absurd (true≢false (sym e))
+
 -- with a level left no pointer is too deep
 cut-none : (t : Tree) → cut_pointer 1 t ≡ t
 cut-none tree.Null = refl
@@ -86,6 +100,9 @@ cut-none (tree.Numbers w bytes) = refl
 cut-none (tree.Pointers ps) = refl
 cut-none (tree.Composite d p es) = refl
 cut-none (tree.FaultLeaf k) = refl
+
+pub pointer_there : (l : ListObject) (i : ℕ) → HasPointer (list_object_tree l) i → is_composite (list_object_tree l) ≡ true → HasStruct (list_object_tree l) i
+pointer_there l i h e = of_pointer (list_object_tree l) i h e
 
 pub struct_of_pointer : (l : ListObject) (ss : Vec StructObject Global) (i : ℕ) → HasStructs (out-ListObject l) ss → HasPointer (list_object_tree l) i → HasStruct (list_object_tree l) i
 struct_of_pointer l ss i e h =
@@ -108,6 +125,35 @@ first_lent l ss i s o e h is =
     ap (λ y. with_structs_at l y (with_item ss i (with_pointer s 0 o))) found.1
     ∙ sym (ap (λ y. with_object_at l y i o) found.1 ∙ ap (with_first_pointer found.0 ss i o) (slice_get_read ss.items (length ss.items) i s refl h is))
 
+-- ---- structs of size zero, of which there is the count alone ----
+
+counted_layer : (y : Layer) (i : ℕ) → is_counted y ≡ true → element_struct (layer_tree y) i ≡ tree.empty_struct
+counted_layer (layer.Missing alloc size) i h = absurd (true≢false (sym h))
+counted_layer (layer.Voids alloc count) i h = absurd (true≢false (sym h))
+counted_layer (layer.Bits row) i h = absurd (true≢false (sym h))
+counted_layer (layer.Numbers width bytes) i h = absurd (true≢false (sym h))
+counted_layer (layer.Pointers ps) i h = absurd (true≢false (sym h))
+counted_layer (layer.Composite size es) i h = absurd (true≢false (sym h))
+counted_layer (layer.EmptyStructs count lent) i h = nth-empty_structs count i
+
+pub counted_element : (l : ListObject) (i : ℕ) → is_counted (out-ListObject l) ≡ true → element_struct (list_object_tree l) i ≡ tree.empty_struct
+counted_element l i h = ap (λ t. element_struct t i) (tree-layer l) ∙ counted_layer (out-ListObject l) i h
+
+-- none of them has a pointer
+pointer_layer : (y : Layer) (i : ℕ) → HasPointer (layer_tree y) i → is_counted y ≡ false
+pointer_layer (layer.Missing alloc size) i h = refl
+pointer_layer (layer.Voids alloc count) i h = refl
+pointer_layer (layer.Bits row) i h = refl
+pointer_layer (layer.Numbers width bytes) i h = refl
+pointer_layer (layer.Pointers ps) i h = refl
+pointer_layer (layer.Composite size es) i h = refl
+pointer_layer (layer.EmptyStructs count lent) i h =
+    let none : tree_count (nth_struct (tree.empty_structs count) i).pointers ≡ 0 = ap (λ (s : StructTree). tree_count s.pointers) (nth-empty_structs count i) in
+    absurd (omega (arith, none, h.1))
+
+pub pointer_not_counted : (l : ListObject) (i : ℕ) → HasPointer (list_object_tree l) i → is_counted (out-ListObject l) ≡ false
+pointer_not_counted l i h = pointer_layer (out-ListObject l) i (subst (λ t. HasPointer t i) (tree-layer l) h)
+
 -- ---- a list that is there reads as it stands ----
 
 read_layer : (l : ListObject) (y : Layer) → list_object_tree l ≡ layer_tree y → is_null_tree (list_object_tree l) ≡ false → built_list_at l y ≡ list_object_tree l
@@ -119,6 +165,7 @@ read_layer l (layer.Bits row) e h = refl
 read_layer l (layer.Numbers width bytes) e h = refl
 read_layer l (layer.Pointers ps) e h = refl
 read_layer l (layer.Composite size es) e h = refl
+read_layer l (layer.EmptyStructs count lent) e h = refl
 
 pub reads_as_it_stands : (l : ListObject) → is_null_tree (list_object_tree l) ≡ false → built_list l ≡ list_object_tree l
 reads_as_it_stands l h = read_layer l (out-ListObject l) (tree-layer l) h

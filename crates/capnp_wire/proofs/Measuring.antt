@@ -2,7 +2,7 @@
 use Rattle.std.proofs.Common.{◌≡◌, ℕ, suc, ◌+◌, ◌*◌, ◌/◌, ◌<◌, ◌≤◌, ◌^◌, List, length, drop, get_or, refl, sym, ap, ◌∙◌, arith, subst, Bool}
 use Rattle.std.specs.Prelude.{Option, Some, None, ⊤}
 use Rattle.std.proofs.lemmas.List.{drop_more}
-use Rattle.capnp_wire.specs.Tree.{Tree, Trees, Structs, StructTree, Struct, Bits, Pointers, Composite, MoreTrees, MoreStructs, tree_count, struct_count}
+use Rattle.capnp_wire.specs.Tree.{Tree, Trees, Structs, StructTree, Struct, Bits, Pointers, Composite, MoreTrees, MoreStructs, empty_structs, tree_count, struct_count}
 use Rattle.capnp_wire.specs.Place.{struct_tree}
 use Rattle.capnp_wire.specs.Objects.{object_tree, struct_object_tree, object_trees, struct_object_trees}
 use Rattle.capnp_wire.specs.Words.{byte_words, words_of, words_of_all, words_below_all, words_of_struct}
@@ -10,6 +10,7 @@ use Rattle.capnp_wire.specs.WellFormed.{AreBytes, AreElements, AreWellFormed, Is
 use Rattle.capnp_wire.specs.declared.object.Object.{Object}
 use Rattle.capnp_wire.specs.declared.object.StructObject.{StructObject}
 use Rattle.capnp_wire.specs.Measured.{IsData, IsElement, Measured}
+use Rattle.capnp_wire.specs.Facts.EmptyStructs.{IsWellFormed-empty_structs, struct_count-empty_structs, words_below-empty_structs}
 
 -- the same fact and number told otherwise
 pub measured_to : (r : Option ℕ) (F G : Type 0) (m n : ℕ) → (F → G) → (G → F) → m ≡ n → Measured r F m → Measured r G n
@@ -51,6 +52,15 @@ bits_held t bits e h = subst IsWellFormed e h
 pub measured_pointers : (t : Tree) (ps : Trees) (r : Option ℕ) (count below : ℕ) → t ≡ Pointers ps → count ≡ tree_count ps → count < 2 ^ 29 → AreWellFormed ps → below ≡ words_of_all ps → Measured r ⊤ (count + below) → Measured r (IsWellFormed t) (words_of t)
 measured_pointers t ps r count below e n l w b h =
     subst (λ (x : Tree). Measured r (IsWellFormed x) (words_of x)) (sym e) (measured_sum r (IsWellFormed (Pointers ps)) (count + below) (words_of (Pointers ps)) (omega arith, w) (omega arith) h)
+
+-- a list of structs of size zero, which is its tag
+pub measured_empty_structs : (t : Tree) (count : ℕ) → t ≡ Composite 0 0 (empty_structs count) → count < 2 ^ 29 → IsWellFormed t × (1 ≡ words_of t) × (1 < 2 ^ 29)
+measured_empty_structs t count e h =
+    subst (λ (x : Tree). IsWellFormed x × (1 ≡ words_of x) × (1 < 2 ^ 29)) (sym e) (IsWellFormed-empty_structs count h, omega (arith, words_below-empty_structs count), omega arith)
+
+-- as many of them as the format holds
+pub empty_structs_held : (t : Tree) (count : ℕ) → t ≡ Composite 0 0 (empty_structs count) → IsWellFormed t → count < 2 ^ 29
+empty_structs_held t count e h = omega (arith, (subst IsWellFormed e h).2, struct_count-empty_structs count)
 
 -- as many pointers as the format holds
 pub pointers_held : (t : Tree) (ps : Trees) → t ≡ Pointers ps → IsWellFormed t → tree_count ps < 2 ^ 29

@@ -16,6 +16,7 @@ use Rattle.capnp_wire.specs.declared.object.Object.TheVariants as object
 use Rattle.capnp_wire.specs.declared.object.ListObject.TheOpen as layer
 use Rattle.capnp_wire.specs.declared.object.ListObject.TheOpen.{Object-F, ListObject-F, StructObject-F}
 use Rattle.capnp_wire.specs.declared.object.ListObject.TheFolds.{ind-Object, map-Object, map-ListObject, fold-roll-Object, fold-roll-ListObject, fold-roll-StructObject, the_lemmas}
+use Rattle.capnp_wire.specs.Facts.EmptyStructs.{first_fault-empty_structs}
 use Rattle.capnp_device.specs.declared.error.Error.{Error}
 use Rattle.capnp_device.specs.declared.error.ErrorKind.{ErrorKind}
 use Rattle.capnp_device.specs.declared.error.ErrorKind.TheVariants.{TooLarge}
@@ -58,6 +59,7 @@ whole_list (layer.Bits row) = refl
 whole_list (layer.Numbers width bytes) = refl
 whole_list (layer.Pointers ps) = whole_row ps.items
 whole_list (layer.Composite size es) = whole_structs es.items
+whole_list (layer.EmptyStructs count lent) = first_fault-empty_structs count
 
 -- an object of whole parts
 whole_object : (y : Object-F WholeList WholeObject WholeStruct) → first_fault (object_layer (map-Object ListObject Object StructObject Tree Tree StructTree list_object_tree object_tree struct_object_tree (map-Object WholeList WholeObject WholeStruct ListObject Object StructObject (λ e. e.0) (λ e. e.0) (λ e. e.0) y))) ≡ None

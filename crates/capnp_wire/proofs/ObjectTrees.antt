@@ -5,7 +5,7 @@ use Rattle.capnp_wire.specs.Objects.{object_tree, struct_object_tree, object_tre
 use Rattle.capnp_wire.specs.declared.object.Object.{Object}
 use Rattle.capnp_wire.specs.declared.object.StructObject.{StructObject}
 use Rattle.capnp_wire.proofs.Lists.{nth_tree-of, nth_struct-of, tree_count-of}
-pub use Rattle.capnp_wire.specs.Facts.Objects.{tree-bits, tree-composite, tree-null, tree-of_list, tree-of_struct, tree-pointers, tree-struct}
+pub use Rattle.capnp_wire.specs.Facts.Objects.{tree-bits, tree-composite, tree-empty_structs, tree-null, tree-of_list, tree-of_struct, tree-pointers, tree-struct}
 
 -- an object of a row, by its index
 pub object_tree-at : (objects : List Object) (i : ℕ) (object : Object) → i < length objects → object ≡ get_or objects i object → nth_tree (object_trees objects) i ≡ object_tree object

@@ -1,7 +1,7 @@
 -- What a call that enters a list answers, by the refusal that is due.
 use Rattle.std.proofs.Common.{◌≡◌, refl, sym, ap, ◌∙◌, Bool, true, false, MutBor}
 use Rattle.std.specs.Prelude.{Option, Some, None, Result, Ok, Err, IfErr, IfOk, IsOk, OnOk}
-use Rattle.capnp_wire.specs.Tree.{Tree, Null, Struct, Voids, Bits, Numbers, Pointers, Composite, FaultLeaf}
+use Rattle.capnp_wire.specs.Tree.{Tree, Null, Voids, Bits, Numbers, Pointers, Composite}
 use Rattle.capnp_wire.specs.Reading.{as_list, is_null_tree, list_if, reads_bits, reads_numbers, reads_pointers, reads_structs, reads_voids}
 use Rattle.capnp_wire.specs.Edits.{IsDueRefusal}
 use Rattle.capnp_wire.specs.Elements.{built_list, built_read, or_empty}

@@ -1,7 +1,10 @@
 -- Trees that are the same, by their parts and by index; and heights, by which a walk down two trees ends.
-use Rattle.std.proofs.Common.{ℕ, zero, suc, ◌+◌, ◌<◌, ◌≤◌, ◌≡◌, ◌↔◌, refl, List, [], ◌∷◌, Bool, true, false, not, get_or, length, arith, ap, ap₂, sym, ◌∙◌}
-use Rattle.capnp_wire.specs.Tree.{Tree, Null, Struct, Voids, Bits, Numbers, Pointers, Composite, FaultLeaf, Trees, NoTrees, MoreTrees, Structs, NoStructs, MoreStructs, StructTree, nth_tree, nth_struct, tree_count, struct_count}
+use Rattle.std.proofs.Common.{ℕ, zero, suc, ◌+◌, ◌<◌, ◌≤◌, ◌≡◌, ◌↔◌, refl, List, ◌∷◌, Bool, true, false, not, get_or, length, arith, ap, ap₂, sym, ◌∙◌}
+use Rattle.capnp_wire.specs.Tree.{Tree, Null, Struct, Voids, Bits, Numbers, Pointers, Composite, FaultLeaf, Trees, NoTrees, MoreTrees, Structs, NoStructs, MoreStructs, StructTree, empty_structs, nth_tree, nth_struct, tree_count, struct_count}
 use mathlib.Core.Bool.{beq}
+use Rattle.std.specs.Prelude.{IsTrue, ◌==◌}
+use Rattle.std.proofs.lemmas.Bool.Decides.{nat_tests}
+use Rattle.capnp_wire.specs.Facts.EmptyStructs.{struct_count-empty_structs}
 use Rattle.capnp_wire.specs.Slot.{bit_at}
 use Rattle.capnp_wire.specs.Place.{bits_from}
 use Rattle.capnp_wire.proofs.Lists.{bit-start, length-bits_from}
@@ -62,6 +65,17 @@ same_structs NoStructs (MoreStructs bytes ps fs) e h = absurd (omega (arith, e))
 same_structs (MoreStructs bytes ps es) NoStructs e h = absurd (omega (arith, e))
 same_structs (MoreStructs x ps es) (MoreStructs y qs fs) e h =
     with_first (record { bytes = x; pointers = ps }) (record { bytes = y; pointers = qs }) es fs (h 0 (omega arith)) (same_structs es fs (omega (arith, e)) (λ k below. h (suc k) (omega (arith, below))))
+
+-- structs of size zero are the same where they are as many
+pub same_counts : (es fs : Structs) (m n : ℕ) → es ≡ empty_structs m → fs ≡ empty_structs n → IsTrue (m == n) ↔ (es ≡ fs)
+same_counts es fs m n e f = (
+  λ yes.
+      let as_many : m ≡ n = grind (arith, nat_tests, yes) in
+      e ∙ ap empty_structs as_many ∙ sym f,
+  λ same.
+      let as_many : m ≡ n = sym (struct_count-empty_structs m) ∙ ap struct_count (sym e ∙ same ∙ f) ∙ struct_count-empty_structs n in
+      grind (arith, nat_tests, as_many),
+)
 
 -- ---- bits ----
 

@@ -1,10 +1,11 @@
 -- Lists that become lists of structs.
 use mathlib.Core.Bool.{true≢false}
-use Rattle.std.proofs.Common.{◌≡◌, ℕ, zero, suc, ◌+◌, ◌*◌, ◌<◌, ◌≤◌, ◌^◌, length, refl, sym, ap, ◌∙◌, arith, true, false, nat_lt}
+use Rattle.std.proofs.Common.{◌≡◌, ℕ, zero, suc, ◌+◌, ◌*◌, ◌<◌, ◌≤◌, ◌^◌, [], length, refl, sym, ap, ◌∙◌, arith, true, false, nat_lt}
 use Rattle.std.specs.Prelude.{Option, Some, None, cond, is_some, unwrap_or}
+use Rattle.std.proofs.Math.Nat.{le-max_right}
 use Rattle.std.proofs.lemmas.Bool.Decides.{nat_tests}
-use Rattle.capnp_wire.specs.Tree.{Tree, Null, Struct, Voids, Bits, Numbers, Pointers, Composite, FaultLeaf, Structs, NoStructs, MoreStructs, StructTree, nth_struct, structs_from, struct_count, tree_count}
-use Rattle.capnp_wire.specs.Reading.{is_list, list_length}
+use Rattle.capnp_wire.specs.Tree.{Tree, Null, Struct, Voids, Bits, Numbers, Pointers, Composite, FaultLeaf, NoTrees, Structs, NoStructs, MoreStructs, StructTree, empty_struct, empty_structs, nth_struct, structs_from, struct_count, tree_count}
+use Rattle.capnp_wire.specs.Reading.{element_struct, is_list, list_length}
 use Rattle.capnp_wire.specs.WellFormed.{AreElements, IsWellFormed}
 use Rattle.capnp_wire.specs.Edits.{IsCopyRefusal, extended}
 use Rattle.capnp_wire.specs.StructLists.{IsDueRefusal, as_structs, grown, has_size, is_bits, past_format, struct_list, struct_list_refusal}
@@ -96,3 +97,36 @@ same_list size (Composite d p es) h e =
     let pointers : p ≡ size.pointers = grind (arith, nat_tests, e) in
     same_structs size d p es h.4 words pointers
 same_list size (FaultLeaf k) h e = absurd (true≢false (sym e))
+
+-- ---- structs of size zero ----
+
+-- of a list that is none of structs of size zero, they were elements of nothing
+none_made : (size : StructSize) (t : Tree) (i : ℕ) → is_list t ≡ true → is_bits t ≡ false → has_size (grown size t) t ≡ false → (grown size t).data_words ≡ 0 → (grown size t).pointers ≡ 0 → element_struct t i ≡ empty_struct
+none_made size Null i l b h d p = refl
+none_made size (Struct bytes ps) i l b h d p = refl
+none_made size (Voids n) i l b h d p = refl
+none_made size (Bits bs) i l b h d p = refl
+none_made size (Numbers w bytes) i l b h d p = absurd (omega (arith, le-max_right size.data_words 1, d))
+none_made size (Pointers ps) i l b h d p = absurd (omega (arith, le-max_right size.pointers 1, p))
+none_made size (Composite e q es) i l b h d p =
+    let words : e ≡ 0 = omega (arith, le-max_right size.data_words e, d) in
+    let pointers : q ≡ 0 = omega (arith, le-max_right size.pointers q, p) in
+    absurd (true≢false (sym (grind (arith, nat_tests, words, pointers, d, p)) ∙ h))
+none_made size (FaultLeaf k) i l b h d p = refl
+
+extended_none : (size : StructSize) (s : StructTree) → s ≡ empty_struct → size.data_words ≡ 0 → size.pointers ≡ 0 → extended size s ≡ empty_struct
+extended_none size s e d p =
+    let bytes : length s.bytes ≡ 0 = ap (λ (x : StructTree). length x.bytes) e in
+    let pointers : tree_count s.pointers ≡ 0 = ap (λ (x : StructTree). tree_count x.pointers) e in
+    sym (extended_same size s (omega (arith, bytes, d)) (omega (arith, pointers, p))) ∙ e
+
+all_none : (f : ℕ → StructTree) (first count : ℕ) → ((i : ℕ) → f i ≡ empty_struct) → structs_from f first count ≡ structs_from (λ _. empty_struct) first count
+all_none f first zero h = refl
+all_none f first (suc count) h =
+    ap (λ (s : StructTree). MoreStructs s.bytes s.pointers (structs_from f (suc first) count)) (h first) ∙ ap (MoreStructs [] NoTrees) (all_none f (suc first) count h)
+
+pub empty_list_made : (size : StructSize) (t : Tree) → is_list t ≡ true → is_bits t ≡ false → has_size (grown size t) t ≡ false → (grown size t).data_words ≡ 0 → (grown size t).pointers ≡ 0 → as_structs (grown size t) t ≡ Composite 0 0 (empty_structs (list_length t))
+empty_list_made size t l b h d p =
+    ap (λ n. Composite n (grown size t).pointers (structs_from (λ i. extended (grown size t) (element_struct t i)) 0 (list_length t))) d
+    ∙ ap (λ n. Composite 0 n (structs_from (λ i. extended (grown size t) (element_struct t i)) 0 (list_length t))) p
+    ∙ ap (Composite 0 0) (all_none (λ i. extended (grown size t) (element_struct t i)) 0 (list_length t) (λ i. extended_none (grown size t) (element_struct t i) (none_made size t i l b h d p) d p))

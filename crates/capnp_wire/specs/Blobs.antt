@@ -34,6 +34,7 @@ KeepsBytes (layer.Bits row) = ⊥
 KeepsBytes (layer.Numbers width bytes) = ⊤
 KeepsBytes (layer.Pointers os) = ⊥
 KeepsBytes (layer.Composite size es) = ⊥
+KeepsBytes (layer.EmptyStructs count lent) = ⊥
 
 -- these bytes
 abbrev pub bytes_kept : Layer → List ℕ
@@ -43,6 +44,7 @@ bytes_kept (layer.Bits row) = []
 bytes_kept (layer.Numbers width bytes) = bytes.items
 bytes_kept (layer.Pointers os) = []
 bytes_kept (layer.Composite size es) = []
+bytes_kept (layer.EmptyStructs count lent) = []
 
 abbrev pub IsKept : Layer → Vec ℕ Global → Type 0
 IsKept (layer.Missing bytes size) v = v ≡ bytes
@@ -51,6 +53,7 @@ IsKept (layer.Bits row) v = ⊥
 IsKept (layer.Numbers width bytes) v = v ≡ bytes
 IsKept (layer.Pointers os) v = ⊥
 IsKept (layer.Composite size es) v = ⊥
+IsKept (layer.EmptyStructs count lent) v = ⊥
 
 -- a list with another vector for them
 abbrev pub with_vector_at : ListObject → Layer → Vec ℕ Global → ListObject
@@ -60,6 +63,7 @@ with_vector_at l (layer.Bits row) v = l
 with_vector_at l (layer.Numbers width bytes) v = list.Numbers width v
 with_vector_at l (layer.Pointers os) v = l
 with_vector_at l (layer.Composite size es) v = l
+with_vector_at l (layer.EmptyStructs count lent) v = l
 
 abbrev pub LendsVector : MutBor ListObject → MutBor (Vec ℕ Global) → Fml
 LendsVector l r = Lends list_row bytes_row l r (with_vector_at l.now (out-ListObject l.now))
@@ -72,6 +76,7 @@ with_blob_at l (layer.Bits row) left = l
 with_blob_at l (layer.Numbers width bytes) left = list.Numbers width (with_items_from bytes 0 left)
 with_blob_at l (layer.Pointers os) left = l
 with_blob_at l (layer.Composite size es) left = l
+with_blob_at l (layer.EmptyStructs count lent) left = l
 
 abbrev pub with_blob : ListObject → List ℕ → ListObject
 with_blob l = with_blob_at l (out-ListObject l)

@@ -23,6 +23,7 @@ built_list_at l (layer.Bits row) = list_object_tree l
 built_list_at l (layer.Numbers width bytes) = list_object_tree l
 built_list_at l (layer.Pointers ps) = list_object_tree l
 built_list_at l (layer.Composite size es) = list_object_tree l
+built_list_at l (layer.EmptyStructs count lent) = list_object_tree l
 
 -- at a null, the empty list of the size that was asked
 abbrev pub built_list : ListObject → Tree

@@ -1,6 +1,7 @@
 -- Facts of the definitions, with their proofs: what lemmas of crates above cite.
 pub mod Bytes
 pub mod Rows
+pub mod EmptyStructs
 pub mod Parts
 pub mod Structs
 pub mod Lists

@@ -1,11 +1,12 @@
 -- What code found at a place, one level of it, as a tree.
-use Rattle.std.specs.Prelude.{ℕ, Bool, ◌+◌, ◌*◌, ◌<◌, ⊤}
+use Rattle.std.specs.Prelude.{ℕ, Bool, ◌+◌, ◌*◌, ◌<◌, ◌≡◌, ⊤, Option, Some, None}
 use Rattle.capnp_wire.specs.Tree as tree
-use Rattle.capnp_wire.specs.Tree.{Tree, Trees, Structs, StructTree, trees_from, structs_from}
+use Rattle.capnp_wire.specs.Tree.{Tree, Trees, Structs, StructTree, empty_structs, trees_from, structs_from}
 use Rattle.capnp_wire.specs.Place.{tree_below, struct_at, struct_tree, bits_from}
 use Rattle.capnp_wire.specs.Backing.{segments_in}
 use Rattle.capnp_wire.specs.Objects.{object_tree, object_trees, struct_object_trees}
 use Rattle.capnp_wire.specs.declared.row.Block.{Block}
+use Rattle.capnp_wire.specs.declared.size.StructSize.{StructSize}
 use Rattle.capnp_wire.specs.declared.row.PointerRow.{PointerRow}
 use Rattle.capnp_wire.specs.declared.look.Place.{Place}
 use Rattle.capnp_wire.specs.declared.look.Place.TheVariants as place
@@ -54,6 +55,11 @@ found_tree (found.Bits bytes count) = tree.Bits (bits_from bytes.now 0 count)
 found_tree (found.Numbers width bytes) = tree.Numbers width bytes.now
 found_tree (found.Pointers ps) = tree.Pointers (pointer_trees ps)
 found_tree (found.Composite size es) = tree.Composite size.data_words size.pointers (element_structs size.data_words size.pointers es)
+
+-- these elements of a size are so many structs of size zero, where it is said how many
+abbrev pub AreEmptyStructs : Option ℕ → StructSize → Structs → Type 0
+AreEmptyStructs (Some count) size es = (size.data_words ≡ 0) × (size.pointers ≡ 0) × (es ≡ empty_structs count)
+AreEmptyStructs None size es = ⊤
 
 -- ---- the levels that words have left, for what goes down them ----
 

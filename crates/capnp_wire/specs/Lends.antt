@@ -70,6 +70,7 @@ with_objects_at l (layer.Bits row) os = l
 with_objects_at l (layer.Numbers width bytes) os = l
 with_objects_at l (layer.Pointers ps) os = list.Pointers os
 with_objects_at l (layer.Composite size es) os = l
+with_objects_at l (layer.EmptyStructs count lent) os = l
 
 abbrev pub with_structs_at : ListObject → Layer → Vec StructObject Global → ListObject
 with_structs_at l (layer.Missing alloc size) ss = l
@@ -78,6 +79,7 @@ with_structs_at l (layer.Bits row) ss = l
 with_structs_at l (layer.Numbers width bytes) ss = l
 with_structs_at l (layer.Pointers ps) ss = l
 with_structs_at l (layer.Composite size es) ss = list.Composite size ss
+with_structs_at l (layer.EmptyStructs count lent) ss = l
 
 abbrev pub LendsObjects : MutBor ListObject → MutBor (Vec Object Global) → Fml
 LendsObjects l r = Lends list_row objects_row l r (with_objects_at l.now (out-ListObject l.now))
@@ -93,6 +95,7 @@ HasObjects (layer.Bits row) os = ⊥
 HasObjects (layer.Numbers width bytes) os = ⊥
 HasObjects (layer.Pointers ps) os = os ≡ ps
 HasObjects (layer.Composite size es) os = ⊥
+HasObjects (layer.EmptyStructs count lent) os = ⊥
 
 abbrev pub HasStructs : Layer → Vec StructObject Global → Type 0
 HasStructs (layer.Missing alloc size) ss = ⊥
@@ -101,8 +104,19 @@ HasStructs (layer.Bits row) ss = ⊥
 HasStructs (layer.Numbers width bytes) ss = ⊥
 HasStructs (layer.Pointers ps) ss = ⊥
 HasStructs (layer.Composite size es) ss = ss ≡ es
+HasStructs (layer.EmptyStructs count lent) ss = ⊥
 
--- a list of structs with another one at an index
+-- whether it is a list of structs of size zero that has their count alone
+abbrev pub is_counted : Layer → Bool
+is_counted (layer.Missing alloc size) = false
+is_counted (layer.Voids alloc count) = false
+is_counted (layer.Bits row) = false
+is_counted (layer.Numbers width bytes) = false
+is_counted (layer.Pointers ps) = false
+is_counted (layer.Composite size es) = false
+is_counted (layer.EmptyStructs count lent) = true
+
+-- a list of structs with another one at an index; structs of size zero stay as many, whatever one of them was left as
 abbrev pub with_element_at : ListObject → Layer → ℕ → StructObject → ListObject
 with_element_at l (layer.Missing alloc size) i s = l
 with_element_at l (layer.Voids alloc count) i s = l
@@ -110,6 +124,7 @@ with_element_at l (layer.Bits row) i s = l
 with_element_at l (layer.Numbers width bytes) i s = l
 with_element_at l (layer.Pointers ps) i s = l
 with_element_at l (layer.Composite size es) i s = list.Composite size (with_item es i s)
+with_element_at l (layer.EmptyStructs count lent) i s = list.EmptyStructs count s
 
 abbrev pub with_element : ListObject → ℕ → StructObject → ListObject
 with_element l = with_element_at l (out-ListObject l)
@@ -129,6 +144,7 @@ with_object_at l (layer.Bits row) i o = l
 with_object_at l (layer.Numbers width bytes) i o = l
 with_object_at l (layer.Pointers ps) i o = list.Pointers (with_item ps i o)
 with_object_at l (layer.Composite size es) i o = with_first_pointer size es i o (slice_get es.items i)
+with_object_at l (layer.EmptyStructs count lent) i o = l
 
 abbrev pub with_object : ListObject → ℕ → Object → ListObject
 with_object l = with_object_at l (out-ListObject l)

@@ -1,6 +1,6 @@
 -- The tree of an owned object.
 use Rattle.std.specs.Prelude.{List, [], ◌∷◌, map}
-use Rattle.capnp_wire.specs.Tree.{Tree, Null, Voids, Bits, Numbers, Pointers, Composite, Trees, NoTrees, MoreTrees, Structs, NoStructs, MoreStructs, StructTree}
+use Rattle.capnp_wire.specs.Tree.{Tree, Null, Voids, Bits, Numbers, Pointers, Composite, Trees, NoTrees, MoreTrees, Structs, NoStructs, MoreStructs, StructTree, empty_structs}
 use Rattle.capnp_wire.specs.Place.{struct_tree}
 use Rattle.capnp_wire.specs.Bits.{row_bits}
 use Rattle.capnp_wire.specs.declared.object.Object.{Object}
@@ -31,6 +31,7 @@ list_layer (layer.Bits row) = Bits (row_bits row)
 list_layer (layer.Numbers width bytes) = Numbers width bytes.items
 list_layer (layer.Pointers ps) = Pointers (trees_of ps.items)
 list_layer (layer.Composite size es) = Composite size.data_words size.pointers (structs_of es.items)
+list_layer (layer.EmptyStructs count lent) = Composite 0 0 (empty_structs count)
 
 abbrev pub struct_layer : StructObject-F Tree Tree StructTree → StructTree
 struct_layer s = record { bytes = s.«data».items; pointers = trees_of s.pointers.items }

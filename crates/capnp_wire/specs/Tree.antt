@@ -69,3 +69,7 @@ trees_from f first (suc count) = MoreTrees (f first) (trees_from f (suc first) c
 abbrev pub structs_from : (ℕ → StructTree) → ℕ → ℕ → Structs
 structs_from f first zero = NoStructs
 structs_from f first (suc count) = MoreStructs (f first).bytes (f first).pointers (structs_from f (suc first) count)
+
+-- so many structs of size zero
+abbrev pub empty_structs : ℕ → Structs
+empty_structs count = structs_from (λ _. empty_struct) 0 count

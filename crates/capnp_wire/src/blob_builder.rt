@@ -36,6 +36,7 @@ impl ListObject {
             ListObject::Numbers(_, bytes) => bytes,
             ListObject::Pointers(_) => unreachable!(),
             ListObject::Composite(_, _) => unreachable!(),
+            ListObject::EmptyStructs(_, _) => unreachable!(),
         }
     }
 
@@ -64,6 +65,7 @@ impl ListObject {
             ListObject::Numbers(_, bytes) => bytes.len(),
             ListObject::Pointers(_) => unreachable!(),
             ListObject::Composite(_, _) => unreachable!(),
+            ListObject::EmptyStructs(_, _) => unreachable!(),
         }
     }
 
@@ -91,6 +93,7 @@ impl ListObject {
             ListObject::Numbers(_, bytes) => bytes.len() - 1,
             ListObject::Pointers(_) => unreachable!(),
             ListObject::Composite(_, _) => unreachable!(),
+            ListObject::EmptyStructs(_, _) => unreachable!(),
         }
     }
 

@@ -2,8 +2,8 @@
 ghost use Rattle.std.specs.Prelude.{◌≡◌, ◌-◌, None, IfErr, IfOk, OnOk};
 ghost use Rattle.capnp_wire.specs.Edits.{IsCopyRefusal, append_trees, first_trees, fitted, nulls, rounded, whole_words};
 ghost use Rattle.capnp_wire.specs.Found.{element_structs, found_tree, parts_tree, place_tree, pointer_trees};
-ghost use Rattle.capnp_wire.specs.Objects.{object_tree, object_trees, struct_object_tree, struct_object_trees};
-ghost use Rattle.capnp_wire.specs.Tree.{tree_count};
+ghost use Rattle.capnp_wire.specs.Objects.{list_object_tree, object_tree, object_trees, struct_object_tree, struct_object_trees};
+ghost use Rattle.capnp_wire.specs.Tree.{Composite, tree_count};
 ghost use Rattle.capnp_wire.specs.WellFormed.{IsWellFormed};
 ghost use Rattle.capnp_wire.specs.Words.{first_fault, first_fault_of_all, first_fault_of_elements};
 ghost use Rattle.capnp_device.specs.declared.error.ErrorKind.TheVariants.{OutOfMemory};
@@ -11,10 +11,10 @@ ghost use Rattle.capnp_device.specs.declared.error.ErrorKind.TheVariants.{OutOfM
 use crate::bits::BitRow;
 use crate::fault::refuse;
 use crate::look::{
-    Elements, Found, Place, Pointers, StructParts, count_elements, count_pointers, get_element,
-    get_pointer, look,
+    Elements, Found, Place, Pointers, StructParts, count_elements, count_empty_structs,
+    count_pointers, get_element, get_pointer, look,
 };
-use crate::make::{make_nulls, make_room};
+use crate::make::{make_empty_structs, make_nulls};
 use crate::object::{ListObject, Object, StructObject};
 use crate::size::StructSize;
 use capnp_device::error::Result;
@@ -35,9 +35,8 @@ pub fn copy_place(alloc: Global, place: Place<'_>) -> Result<Object>
 
 /// The object of what was found. Each section and each list takes its memory once.
 ///
-/// Refused with `OutOfMemory` where memory is refused, or a list has more than 2^20 structs of size zero, and with
-/// `BadPointer`, `TooDeep` or `CapabilityPointer` where a pointer in it can't be followed, by the first of these in
-/// preorder; with either where both hold.
+/// Refused with `OutOfMemory` where memory is refused, and with `BadPointer`, `TooDeep` or `CapabilityPointer` where a
+/// pointer in it can't be followed, by the first of these in preorder; with either where both hold.
 #[cycle(copy)]
 #[inline(always)]
 pub fn copy_found(alloc: Global, found: Found<'_>) -> Result<Object>
@@ -53,9 +52,7 @@ pub fn copy_found(alloc: Global, found: Found<'_>) -> Result<Object>
         Found::Bits(bytes, count) => ListObject::Bits(BitRow::copy(alloc, bytes, count)?),
         Found::Numbers(width, bytes) => ListObject::Numbers(width, Vec::from_slice(alloc, bytes)?),
         Found::Pointers(pointers) => ListObject::Pointers(copy_pointers(alloc, pointers)?),
-        Found::Composite(size, elements) => {
-            ListObject::Composite(size, copy_elements(alloc, size, elements)?)
-        }
+        Found::Composite(size, elements) => copy_composite(alloc, size, elements)?,
     };
     Ok(Object::List(list))
 }
@@ -89,6 +86,22 @@ fn copy_pointers(alloc: Global, pointers: Pointers<'_>) -> Result<Vec<Object>>
     Ok(objects)
 }
 
+/// The object of a composite list. Of structs of size zero that a message says by their count it has the count alone, and
+/// takes no memory.
+#[cycle(copy)]
+#[inline(always)]
+fn copy_composite(alloc: Global, size: StructSize, elements: Elements<'_>) -> Result<ListObject>
+    ensures copy { IfOk result (λ list. list_object_tree list ≡
+        Composite size.data_words size.pointers (element_structs size.data_words size.pointers elements.entry)) }
+    ensures sound { IfOk result (λ _. first_fault_of_elements (element_structs size.data_words size.pointers elements.entry) ≡ None) }
+    ensures refused { IfErr result (λ error. IsCopyRefusal error (first_fault_of_elements (element_structs size.data_words size.pointers elements.entry))) }
+{
+    if let Some(count) = count_empty_structs(size, elements) {
+        return Ok(make_empty_structs(alloc, count));
+    }
+    Ok(ListObject::Composite(size, copy_elements(alloc, size, elements)?))
+}
+
 /// The objects of a composite list's elements.
 #[cycle(copy)]
 #[inline(never)]
@@ -102,7 +115,7 @@ fn copy_elements(
     ensures refused { IfErr result (λ error. IsCopyRefusal error (first_fault_of_elements (element_structs size.data_words size.pointers elements.entry))) }
 {
     let count = count_elements(size, elements);
-    let mut objects = make_room(alloc, size, count)?;
+    let mut objects = Vec::with_capacity(alloc, count)?;
     for i in 0..count {
         let object = copy_struct(alloc, get_element(size, elements, i))?;
         objects.push(object)?;
@@ -140,7 +153,8 @@ pub fn copy_parts(alloc: Global, parts: StructParts<'_>) -> Result<StructObject>
 ///
 /// Refused with `OutOfMemory`, and then some may be cut off already.
 fn fit_pointers(pointers: &mut Vec<Object>, count: usize) -> Result<()>
-    ensures fitted { OnOk result (object_trees pointers.new.items ≡ append_trees (first_trees count (object_trees pointers.old.items)) (nulls (count - tree_count (object_trees pointers.old.items)))) }
+    ensures fitted { OnOk result (object_trees pointers.new.items ≡
+        append_trees (first_trees count (object_trees pointers.old.items)) (nulls (count - tree_count (object_trees pointers.old.items)))) }
     ensures refused { IfErr result (λ error. error.kind ≡ OutOfMemory) }
 {
     let missing = count.saturating_sub(pointers.len());

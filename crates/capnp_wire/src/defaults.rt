@@ -237,7 +237,8 @@ impl Object {
         ensures reads { IfOk result (λ l. built_list l.now ≡ or_empty size (or_default (default_tree default.entry) (object_tree self.old))) }
         ensures within { OnOk result (filled_list_refusal (default_tree default.entry) size (object_tree self.old) ≡ None) }
         ensures refused { IfErr result (λ e. IsDueRefusal e (filled_list_refusal (default_tree default.entry) size (object_tree self.old))) }
-        ensures succeeds { takes_default (default_tree default.entry) (object_tree self.old) ≡ false → filled_list_refusal (default_tree default.entry) size (object_tree self.old) ≡ None → IsOk result }
+        ensures succeeds { takes_default (default_tree default.entry) (object_tree self.old) ≡ false →
+            filled_list_refusal (default_tree default.entry) size (object_tree self.old) ≡ None → IsOk result }
     {
         match self.take_default(default) {
             Some(reader) => self.put_list(size, reader),
@@ -280,7 +281,8 @@ impl Object {
         requires { is_null_tree (object_tree self.old) ≡ false → IsWellFormed (object_tree self.old) }
         ensures* lends { sem 𝓛 (LendsList self.entry result) }
         ensures now { IfOk result (λ l. list_object_tree l.now ≡ filled_structs (default_tree default.entry) size (object_tree self.old)) }
-        ensures reads { IfOk result (λ l. built_list l.now ≡ or_empty ElementSize.InlineComposite (filled_structs (default_tree default.entry) size (object_tree self.old))) }
+        ensures reads { IfOk result (λ l. built_list l.now ≡
+            or_empty ElementSize.InlineComposite (filled_structs (default_tree default.entry) size (object_tree self.old))) }
         ensures within { OnOk result (filled_structs_refusal (default_tree default.entry) size (object_tree self.old) ≡ None) }
         ensures refused { IfErr result (λ e. IsDueRefusal e (filled_structs_refusal (default_tree default.entry) size (object_tree self.old))) }
         ensures succeeds { takes_default (default_tree default.entry) (object_tree self.old) ≡ false → HoldsStructs size (object_tree self.old) → IsOk result }

@@ -1,7 +1,7 @@
 //! The bytes of owned objects: each object before what its pointers lead to, in their order. Room is left for a row of
 //! pointers, and each of them is put there when its target is due, so that nothing is measured for its offset.
 ghost use Rattle.std.specs.Prelude.{◌≡◌, ◌≢◌, ◌≤◌, ◌<◌, ◌^◌, ◌+◌, ◌*◌, ◌++◌, IfOk, IfErr, List, ℕ, Ok, suc, length, replicate, take, drop};
-ghost use Rattle.capnp_wire.specs.Tree.{Composite, struct_count, tree_count};
+ghost use Rattle.capnp_wire.specs.Tree.{Composite, empty_structs, struct_count, tree_count};
 ghost use Rattle.capnp_wire.specs.Place.{bits_from, struct_tree};
 ghost use Rattle.capnp_wire.specs.Locate.{list_words};
 ghost use Rattle.capnp_wire.specs.Objects.{list_object_tree, object_tree, object_trees, struct_object_tree, struct_object_trees};
@@ -90,6 +90,7 @@ fn get_list_pointer(gap: u64, object: &ListObject) -> u64
             let words = get_composite_words(*size, elements.len() as u32) - 1;
             make_list_word(gap, 7, words)
         }
+        ListObject::EmptyStructs(_, _) => make_list_word(gap, 7, 0),
     }
 }
 
@@ -195,6 +196,15 @@ fn append_room(out: &mut Vec<u8>, words: usize) -> Appended
     out.resize(out.len() + 8 * words, 0)
 }
 
+/// A composite list of structs of size zero: its tag.
+fn append_empty_structs(out: &mut Vec<u8>, count: u32) -> Appended
+    requires { count < 2 ^ 29 }
+    ensures { IfOk result (λ _. out.new.items ≡ out.old.items ++ bytes_of (Composite 0 0 (empty_structs count))) }
+{
+    append_word(out, make_struct_word(count as u64, 0, 0))?;
+    Ok(())
+}
+
 /// An object, and then what its pointers lead to.
 #[cycle(append)]
 #[inline(always)]
@@ -241,6 +251,10 @@ fn append_list(out: &mut Vec<u8>, object: &ListObject) -> Appended
         ListObject::Numbers(_, bytes) => append_padded(out, bytes.as_slice()),
         ListObject::Pointers(pointers) => append_pointers(out, pointers.as_slice()),
         ListObject::Composite(size, elements) => append_composite(out, *size, elements.as_slice()),
+        ListObject::EmptyStructs(count, _) => {
+            append_empty_structs(out, *count)?;
+            Ok(())
+        }
     }
 }
 

@@ -8,8 +8,8 @@ ghost use Rattle.capnp_wire.specs.Tree as tree;
 use crate::bytes::get_bit;
 use crate::fault::Fault;
 use crate::look::{
-    Elements, Found, Place, Pointers, StructParts, count_elements, count_pointers, get_element,
-    get_pointer, look,
+    Elements, Found, Place, Pointers, StructParts, count_elements, count_empty_structs,
+    count_pointers, get_element, get_pointer, look,
 };
 use crate::pointer_reader::PointerReader;
 use crate::size::StructSize;
@@ -118,7 +118,8 @@ fn is_pointers(pointers: Pointers<'_>, found: Found<'_>) -> bool
 
 #[cycle(equal)]
 fn is_composite(size: StructSize, elements: Elements<'_>, found: Found<'_>) -> bool
-    ensures { IsTrue result ↔ (tree.Composite size.data_words size.pointers (element_structs size.data_words size.pointers elements.entry) ≡ found_tree found.entry) }
+    ensures { IsTrue result ↔ (tree.Composite size.data_words size.pointers
+        (element_structs size.data_words size.pointers elements.entry) ≡ found_tree found.entry) }
 {
     match found {
         Found::Composite(other_size, others) => {
@@ -160,6 +161,11 @@ fn are_pointers_same(one: Pointers<'_>, other: Pointers<'_>) -> bool
 fn are_elements_same(size: StructSize, one: Elements<'_>, other: Elements<'_>) -> bool
     ensures { IsTrue result ↔ (element_structs size.data_words size.pointers one.entry ≡ element_structs size.data_words size.pointers other.entry) }
 {
+    if let Some(empty) = count_empty_structs(size, one) {
+        if let Some(others) = count_empty_structs(size, other) {
+            return empty == others;
+        }
+    }
     let count = count_elements(size, one);
     if count != count_elements(size, other) {
         return false;

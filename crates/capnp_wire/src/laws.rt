@@ -66,7 +66,8 @@ pub fn pointers_are_written()
     ensures { PointersAreWritten }
 {}
 
-/// A list of which an element was lent as a struct is its tree with another one at that index.
+/// A list of which an element was lent as a struct is its tree with another one at that index, where the sections of the
+/// struct that was left are as long as those of the one that was lent, as every call on it leaves them.
 pub fn struct_elements_are_written()
     ensures { StructElementsAreWritten }
 {}

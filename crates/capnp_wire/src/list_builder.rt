@@ -2,7 +2,7 @@
 ghost use Rattle.std.specs.Prelude.{◌≡◌, ◌<◌, ◌^◌, ◌==◌, true, false};
 ghost use Rattle.std.specs.Borrow.{sem};
 ghost use Rattle.capnp_wire.specs.declared.object.ListObject.{out-ListObject};
-ghost use Rattle.capnp_wire.specs.Tree.{nth_struct, struct_count};
+ghost use Rattle.capnp_wire.specs.Tree.{empty_struct, nth_struct, struct_count};
 ghost use Rattle.capnp_wire.specs.Objects.{list_object_tree, object_tree, struct_object_tree};
 ghost use Rattle.capnp_wire.specs.Reading.{element_bit, element_number, element_pointer, element_struct, list_length};
 ghost use Rattle.capnp_wire.specs.Standing.{list_levels, list_of};
@@ -10,7 +10,7 @@ ghost use Rattle.capnp_wire.specs.WellFormed.{IsWellFormed};
 ghost use Rattle.capnp_wire.specs.Elements.{HasBit, HasNumber, HasPointer, HasStruct, built_list, is_composite, reads_list, with_bit_element, with_number_element};
 ghost use Rattle.capnp_wire.specs.ElementSizes.{element_size_of};
 ghost use Rattle.capnp_wire.specs.Unchanged.{ListEndsUnchanged};
-ghost use Rattle.capnp_wire.specs.Lends.{HasObjects, HasStructs, LendsElement, LendsObject, LendsObjects, LendsStructs};
+ghost use Rattle.capnp_wire.specs.Lends.{HasObjects, HasStructs, LendsElement, LendsObject, LendsObjects, LendsStructs, is_counted};
 
 use crate::bytes::divide;
 use crate::elements::{bit_at, number_at};
@@ -18,6 +18,7 @@ use crate::list_reader::{ListReader, reads_list_as};
 use crate::look::{
     ROOT_LEVELS, count_list, look_at_built_list, look_at_list_object, size_of_elements,
 };
+use crate::make::make_empty_struct;
 use crate::object::{ListObject, Object, StructObject};
 use crate::pointer_builder::{ListBuilder, PointerBuilder, StructBuilder};
 use crate::primitive::PrimitiveElement;
@@ -78,6 +79,7 @@ impl ListObject {
             ListObject::Numbers(width, bytes) => *width == 0 || divide(bytes.len(), *width) == 0,
             ListObject::Pointers(objects) => objects.is_empty(),
             ListObject::Composite(_, structs) => structs.is_empty(),
+            ListObject::EmptyStructs(count, _) => *count == 0,
         }
     }
 
@@ -108,6 +110,7 @@ impl ListObject {
             ListObject::Numbers(_, _) => unreachable!(),
             ListObject::Pointers(_) => unreachable!(),
             ListObject::Composite(_, _) => unreachable!(),
+            ListObject::EmptyStructs(_, _) => unreachable!(),
         }
     }
 
@@ -144,12 +147,14 @@ impl ListObject {
             ListObject::Numbers(_, bytes) => T::write(bytes.as_mut_slice(), index, value),
             ListObject::Pointers(_) => unreachable!(),
             ListObject::Composite(_, _) => unreachable!(),
+            ListObject::EmptyStructs(_, _) => unreachable!(),
         }
     }
 
-    /// The structs of a list of structs.
+    /// The structs of a list of structs that has each of them.
     fn structs_here(&mut self, index: u32) -> &mut Vec<StructObject>
-        requires { HasStruct (list_object_tree self.old) index }
+        requires there { HasStruct (list_object_tree self.old) index }
+        requires each { is_counted (out-ListObject self.old) ≡ false }
         ensures* lends { sem 𝓛 (LendsStructs self.entry result) }
         ensures has { HasStructs (out-ListObject self.old) result.now }
     {
@@ -160,12 +165,14 @@ impl ListObject {
             ListObject::Numbers(_, _) => unreachable!(),
             ListObject::Pointers(_) => unreachable!(),
             ListObject::Composite(_, structs) => structs,
+            ListObject::EmptyStructs(_, _) => unreachable!(),
         }
     }
 
-    /// The struct at `index` of a list of structs.
-    pub fn get_struct_element(&mut self, index: u32) -> StructBuilder<'_>
-        requires { HasStruct (list_object_tree self.old) index }
+    /// The struct at `index` of a list of structs that has each of them.
+    fn struct_at(&mut self, index: u32) -> StructBuilder<'_>
+        requires there { HasStruct (list_object_tree self.old) index }
+        requires each { is_counted (out-ListObject self.old) ≡ false }
         ensures* lends { sem 𝓛 (LendsElement self.entry index result) }
         ensures now { struct_object_tree result.now ≡ element_struct (list_object_tree self.old) index }
     {
@@ -173,11 +180,58 @@ impl ListObject {
         &mut structs[index as usize]
     }
 
+    /// Whether this is a list of structs of size zero that has their count alone.
+    fn is_counted(&self) -> bool
+        ensures { result ≡ is_counted (out-ListObject self.now) }
+    {
+        matches!(self, ListObject::EmptyStructs(_, _))
+    }
+
+    /// A struct of size zero, as any of such a list. What was left in the one that was lent before is dropped.
+    fn empty_struct_at(&mut self, index: u32) -> StructBuilder<'_>
+        requires { is_counted (out-ListObject self.old) ≡ true }
+        ensures* lends { sem 𝓛 (LendsElement self.entry index result) }
+        ensures now { struct_object_tree result.now ≡ empty_struct }
+    {
+        match self {
+            ListObject::Missing(_, _) => unreachable!(),
+            ListObject::Voids(_, _) => unreachable!(),
+            ListObject::Bits(_) => unreachable!(),
+            ListObject::Numbers(_, _) => unreachable!(),
+            ListObject::Pointers(_) => unreachable!(),
+            ListObject::Composite(_, _) => unreachable!(),
+            ListObject::EmptyStructs(_, lent) => {
+                *lent = make_empty_struct(*lent.data.allocator());
+                lent
+            }
+        }
+    }
+
+    /// The struct at `index` of a list of structs.
+    ///
+    /// What is left in it is kept as long as its sections have the lengths that they had, and no call on a struct in a list
+    /// changes these. A list of structs of size zero is their count alone: where another struct was put in the place of one
+    /// of them (`std::mem::swap`), that struct is lost.
+    pub fn get_struct_element(&mut self, index: u32) -> StructBuilder<'_>
+        requires { HasStruct (list_object_tree self.old) index }
+        ensures* lends { sem 𝓛 (LendsElement self.entry index result) }
+        ensures now { struct_object_tree result.now ≡ element_struct (list_object_tree self.old) index }
+    {
+        if self.is_counted() {
+            self.empty_struct_at(index)
+        } else {
+            self.struct_at(index)
+        }
+    }
+
     /// Whether this is a list of structs.
     fn is_composite(&self) -> bool
         ensures { result ≡ is_composite (list_object_tree self.now) }
     {
-        matches!(self, ListObject::Composite(_, _))
+        matches!(
+            self,
+            ListObject::Composite(_, _) | ListObject::EmptyStructs(_, _)
+        )
     }
 
     /// The pointers of a list of pointers.
@@ -194,6 +248,7 @@ impl ListObject {
             ListObject::Numbers(_, _) => unreachable!(),
             ListObject::Pointers(objects) => objects,
             ListObject::Composite(_, _) => unreachable!(),
+            ListObject::EmptyStructs(_, _) => unreachable!(),
         }
     }
 

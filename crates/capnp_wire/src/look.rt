@@ -1,6 +1,6 @@
 //! One level of what stands at a place, wherever it lies: in the bytes of a message or in a builder's objects.
 ghost use Rattle.std.specs.Prelude.{◌≡◌, ◌-◌, ◌/◌, ◌<◌, ◌≤◌, ◌^◌, length, min};
-ghost use Rattle.capnp_wire.specs.Tree.{empty_struct, nth_struct, nth_tree, only_tree, struct_count, tree_count};
+ghost use Rattle.capnp_wire.specs.Tree.{Composite, empty_struct, empty_structs, nth_struct, nth_tree, only_tree, struct_count, tree_count};
 ghost use Rattle.capnp_wire.specs.Place.{bytes_at, root_tree, struct_at, tree_below};
 ghost use Rattle.capnp_wire.specs.Level.{list_at_depth, tree_at_depth};
 ghost use Rattle.capnp_wire.specs.Backing.{StartFits, segment_list, target_of};
@@ -9,7 +9,7 @@ ghost use Rattle.capnp_wire.specs.Elements.{built_list};
 ghost use Rattle.capnp_wire.specs.ElementSizes.{element_size_of, size_of_width};
 ghost use Rattle.capnp_wire.specs.Reading.{element_struct, empty_list, list_length};
 ghost use Rattle.capnp_wire.specs.WellFormed.{IsWellFormed};
-ghost use Rattle.capnp_wire.specs.Found.{ArePointersBelow, IsBelow, element_structs, found_tree, parts_tree, place_tree, pointer_trees};
+ghost use Rattle.capnp_wire.specs.Found.{AreEmptyStructs, ArePointersBelow, IsBelow, element_structs, found_tree, parts_tree, place_tree, pointer_trees};
 
 use crate::bytes::{divide, part};
 use crate::fault::Fault;
@@ -106,7 +106,8 @@ fn look_at_struct<'a>(
 ) -> StructParts<'a>
     requires start { start ≤ 2 ^ 60 }
     requires level { 0 < depth }
-    ensures value { parts_tree result ≡ struct_at (tree_below (depth - 1) (segment_list segments.entry) segment.now) segment.now size.data_words size.pointers start }
+    ensures value { parts_tree result ≡
+        struct_at (tree_below (depth - 1) (segment_list segments.entry) segment.now) segment.now size.data_words size.pointers start }
     ensures below { ArePointersBelow depth result.pointers }
 {
     let row = PointerRow {
@@ -171,7 +172,9 @@ fn look_at_list<'a>(
 #[inline(always)]
 fn look_at_target<'a>(segments: Segments<'a>, target: Target<'a>, depth: u8) -> Found<'a>
     requires { StartFits target }
-    ensures value { found_tree result ≡ tree_at_depth depth (tree_below (depth - 1) (segment_list segments.entry)) (tree_below (depth - 2) (segment_list segments.entry)) (target_of target.entry) }
+    ensures value { found_tree result ≡
+        tree_at_depth depth (tree_below (depth - 1) (segment_list segments.entry))
+        (tree_below (depth - 2) (segment_list segments.entry)) (target_of target.entry) }
     ensures below { IsBelow depth result }
 {
     match target {
@@ -303,7 +306,32 @@ pub fn look_at_built_list(object: &ListObject) -> Found<'_>
         ListObject::Numbers(_, _) => look_at_list_object(object),
         ListObject::Pointers(_) => look_at_list_object(object),
         ListObject::Composite(_, _) => look_at_list_object(object),
+        ListObject::EmptyStructs(_, _) => look_at_list_object(object),
     }
+}
+
+/// A list of so many structs of size zero: elements in no words.
+fn look_at_empty_structs<'a>(count: u32) -> Found<'a>
+    ensures { found_tree result ≡ Composite 0 0 (empty_structs count) }
+{
+    let size = StructSize {
+        data_words: 0,
+        pointers: 0,
+    };
+    let block = Block {
+        bytes: &[],
+        segment: &[],
+        first: 0,
+    };
+    Found::Composite(
+        size,
+        Elements::Words {
+            depth: 0,
+            is_stream: false,
+            count,
+            block,
+        },
+    )
 }
 
 pub fn look_at_list_object(object: &ListObject) -> Found<'_>
@@ -319,6 +347,7 @@ pub fn look_at_list_object(object: &ListObject) -> Found<'_>
             *size,
             Elements::Objects(elements.as_slice()),
         ),
+        ListObject::EmptyStructs(count, _) => look_at_empty_structs(*count),
     }
 }
 
@@ -493,6 +522,23 @@ pub fn count_elements(size: StructSize, elements: Elements<'_>) -> usize
     match elements {
         Elements::Words { count, .. } => count as usize,
         Elements::Objects(objects) => objects.len(),
+    }
+}
+
+/// How many structs of size zero the elements of a composite list are, where their count is all that there is of them.
+#[inline(always)]
+pub fn count_empty_structs(size: StructSize, elements: Elements<'_>) -> Option<u32>
+    ensures { AreEmptyStructs result size (element_structs size.data_words size.pointers elements.entry) }
+{
+    match elements {
+        Elements::Words { count, .. } => {
+            if size.data_words == 0 && size.pointers == 0 {
+                Some(count)
+            } else {
+                None
+            }
+        }
+        Elements::Objects(_) => None,
     }
 }
 

@@ -1,5 +1,6 @@
 //! New objects, all zero and null.
-ghost use Rattle.std.specs.Prelude.{◌≡◌, ◌≤◌, ◌^◌, [], IfErr, IfOk, ℕ, replicate};
+ghost use Rattle.std.specs.Prelude.{◌≡◌, IfOk, IsOk, ℕ, replicate};
+ghost use Rattle.capnp_wire.specs.Tree.{Composite, empty_struct, empty_structs};
 ghost use Rattle.capnp_wire.specs.Edits.{nulls, zero_list, zero_struct, zero_structs};
 ghost use Rattle.capnp_wire.specs.Objects.{list_object_tree, object_trees, struct_object_tree};
 
@@ -35,32 +36,32 @@ pub fn make_struct(alloc: Global, size: StructSize) -> Result<StructObject, Allo
     Ok(StructObject { data, pointers })
 }
 
-/// The most structs of size zero in a list in memory. A message has no word for any of them, and each takes a place here.
-const MOST_EMPTY_STRUCTS: usize = 1 << 20;
-
-/// Room for so many structs of a size.
-///
-/// For more than 2^20 structs of size zero it is refused without asking for memory: two words of a message can say 2^29 - 1
-/// of them.
-pub fn make_room(
-    alloc: Global,
-    size: StructSize,
-    count: usize,
-) -> Result<Vec<StructObject>, AllocError>
-    ensures items { IfOk result (λ structs. structs.items ≡ []) }
-    ensures few { IfOk result (λ _. size.data_words ≡ 0 → size.pointers ≡ 0 → count ≤ 2 ^ 20) }
+/// A struct of size zero. It takes no memory.
+pub fn make_empty_struct(alloc: Global) -> StructObject
+    ensures { struct_object_tree result ≡ empty_struct }
 {
-    if size.data_words == 0 && size.pointers == 0 && count > MOST_EMPTY_STRUCTS {
-        return Err(AllocError);
+    StructObject {
+        data: Vec::new(alloc),
+        pointers: Vec::new(alloc),
     }
-    Vec::with_capacity(alloc, count)
 }
 
-/// A list of so many structs of a size.
-pub fn make_structs(alloc: Global, size: StructSize, count: u32) -> Result<ListObject, AllocError>
-    ensures { IfOk result (λ object. list_object_tree object ≡ zero_structs size count) }
+/// A list of so many structs of size zero. It takes no memory: two words of a message can say 2^29 - 1 of them.
+pub fn make_empty_structs(alloc: Global, count: u32) -> ListObject
+    ensures { list_object_tree result ≡ Composite 0 0 (empty_structs count) }
 {
-    let mut elements = make_room(alloc, size, count as usize)?;
+    ListObject::EmptyStructs(count, make_empty_struct(alloc))
+}
+
+/// A list of so many structs of a size. Structs of size zero take no memory, and are never refused.
+pub fn make_structs(alloc: Global, size: StructSize, count: u32) -> Result<ListObject, AllocError>
+    ensures list { IfOk result (λ object. list_object_tree object ≡ zero_structs size count) }
+    ensures free { size.data_words ≡ 0 → size.pointers ≡ 0 → IsOk result }
+{
+    if size.data_words == 0 && size.pointers == 0 {
+        return Ok(make_empty_structs(alloc, count));
+    }
+    let mut elements = Vec::with_capacity(alloc, count as usize)?;
     for _ in 0..count {
         elements.push(make_struct(alloc, size)?)?;
     }

@@ -123,6 +123,7 @@ fn measure_list(object: &ListObject) -> Option<u64>
             let below = measure_elements(*size, elements.as_slice())?;
             add(get_composite_words(*size, count as u32), below)
         }
+        ListObject::EmptyStructs(count, _) => { if *count < 1 << 29 { Some(1) } else { None } }
     }
 }
 
@@ -151,7 +152,8 @@ fn measure_objects(objects: &[Object]) -> Option<u64>
 /// The words of all that the pointers of a composite list's elements lead to.
 #[cycle(measure)]
 fn measure_elements(size: StructSize, elements: &[StructObject]) -> Option<u64>
-    ensures { Measured result (AreElements size.data_words size.pointers (struct_object_trees elements.now)) (words_below_all (struct_object_trees elements.now)) }
+    ensures { Measured result (AreElements size.data_words size.pointers (struct_object_trees elements.now))
+        (words_below_all (struct_object_trees elements.now)) }
 {
     let mut sum: u64 = 0;
     for element in elements {
@@ -165,7 +167,8 @@ fn measure_elements(size: StructSize, elements: &[StructObject]) -> Option<u64>
 #[cycle(measure)]
 #[inline(always)]
 fn measure_element(size: StructSize, element: &StructObject) -> Option<u64>
-    ensures { Measured result (IsElement size.data_words size.pointers (struct_object_tree element.now)) (words_of_all (struct_object_tree element.now).pointers) }
+    ensures { Measured result (IsElement size.data_words size.pointers (struct_object_tree element.now))
+        (words_of_all (struct_object_tree element.now).pointers) }
 {
     if count_bytes(element.data.as_slice()) != 8 * size.data_words as usize {
         return None;

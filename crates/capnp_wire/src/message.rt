@@ -168,7 +168,8 @@ impl Builder {
         ensures written { OnOk result (IsWritten (builder_tree self.now) (W.written sink.old) (W.written sink.new)) }
         ensures worked { OnOk result (HasWorked (W.failures sink.old) (W.failures sink.new)) }
         ensures held { OnOk result (IsWellFormed (builder_tree self.now) × (suc (words_of (builder_tree self.now)) < 2 ^ 29)) }
-        ensures read { OnOk result (IsShallow (builder_tree self.now) → (rest : List ℕ) → message_tree_of (message_of (builder_tree self.now) ++ rest) ≡ Ok (builder_tree self.now)) }
+        ensures read { OnOk result (IsShallow (builder_tree self.now) → (rest : List ℕ) →
+            message_tree_of (message_of (builder_tree self.now) ++ rest) ≡ Ok (builder_tree self.now)) }
         ensures kinds { IfErr result (λ e. e.kind ≢ TooLarge → e.kind ≢ OutOfMemory → e.kind ≡ WriteFailed) }
         ensures refused { IfErr result (λ e. e.kind ≡ TooLarge → IsWellFormed (builder_tree self.now) → 2 ^ 29 ≤ suc (words_of (builder_tree self.now))) }
         ensures fits { IfErr result (λ e. e.kind ≢ TooLarge → IsWellFormed (builder_tree self.now) × (suc (words_of (builder_tree self.now)) < 2 ^ 29)) }

@@ -39,6 +39,9 @@ pub enum ListObject {
     Pointers(Vec<Object>),
     /// The size of each struct, and the structs.
     Composite(StructSize, Vec<StructObject>),
+    /// How many structs of size zero there are, and the place of the one that is lent: an empty struct is put there before,
+    /// and what is left there is no part of the list.
+    EmptyStructs(u32, StructObject),
 }
 
 impl Object {

@@ -251,12 +251,13 @@ impl Object {
     /// Replaces what stands here by a list of so many structs of a size, all zero and null.
     ///
     /// Refused with `SizePastFormat` for 2^29 elements or more, or where they take 2^29 words or more, and else with
-    /// `OutOfMemory`, always for more than 2^20 structs of size zero; then nothing has changed.
+    /// `OutOfMemory`; then nothing has changed. Structs of size zero take no memory, however many they are.
     pub fn init_struct_list(&mut self, count: u32, size: StructSize) -> Result<ListBuilder<'_>>
         ensures* lends { sem 𝓛 (LendsList self.entry result) }
         ensures now { IfOk result (λ l. list_object_tree l.now ≡ zero_structs size count) }
         ensures within { OnOk result ((count < 2 ^ 29) × (count * (size.data_words + size.pointers) < 2 ^ 29)) }
         ensures refused { IfErr result (λ e. IsRoomRefusal e ((2 ^ 29 ≤ count) ⊎ (2 ^ 29 ≤ count * (size.data_words + size.pointers)))) }
+        ensures free { size.data_words ≡ 0 → size.pointers ≡ 0 → count < 2 ^ 29 → IsOk result }
     {
         let words = count as u64 * (size.data_words as u64 + size.pointers as u64);
         if count > MOST_ELEMENTS {
@@ -363,6 +364,7 @@ impl ListObject {
             ListObject::Numbers(_, bytes) => *bytes.allocator(),
             ListObject::Pointers(objects) => *objects.allocator(),
             ListObject::Composite(_, objects) => *objects.allocator(),
+            ListObject::EmptyStructs(_, lent) => *lent.data.allocator(),
         }
     }
 }

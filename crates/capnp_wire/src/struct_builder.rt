@@ -128,7 +128,8 @@ impl StructObject {
     /// Stores a number at `offset`, in units of its own size.
     pub fn set_data_field<T: PrimitiveElement>(&mut self, offset: u32, value: T)
         requires { (offset + 1) * T.width ≤ length (struct_object_tree self.old).bytes }
-        ensures { struct_object_tree self.new ≡ with_bytes (struct_object_tree self.old) (with_number T.width offset (T.to_number value) (struct_object_tree self.old).bytes) }
+        ensures { struct_object_tree self.new ≡
+            with_bytes (struct_object_tree self.old) (with_number T.width offset (T.to_number value) (struct_object_tree self.old).bytes) }
     {
         T::write(self.data.as_mut_slice(), offset, value);
     }
@@ -136,7 +137,9 @@ impl StructObject {
     /// Stores a number at `offset`, XORed with its default `mask`.
     pub fn set_data_field_mask<T: PrimitiveElement>(&mut self, offset: u32, value: T, mask: T)
         requires { (offset + 1) * T.width ≤ length (struct_object_tree self.old).bytes }
-        ensures { struct_object_tree self.new ≡ with_bytes (struct_object_tree self.old) (with_number T.width offset (bit_xor (T.to_number value) (T.to_number mask)) (struct_object_tree self.old).bytes) }
+        ensures { struct_object_tree self.new ≡
+            with_bytes (struct_object_tree self.old)
+            (with_number T.width offset (bit_xor (T.to_number value) (T.to_number mask)) (struct_object_tree self.old).bytes) }
     {
         T::write_masked(self.data.as_mut_slice(), offset, value, mask);
     }
@@ -152,7 +155,8 @@ impl StructObject {
     /// Stores a bit at `offset`, XORed with its default `mask`.
     pub fn set_bool_field_mask(&mut self, offset: u32, value: bool, mask: bool)
         requires { offset < 8 * length (struct_object_tree self.old).bytes }
-        ensures { struct_object_tree self.new ≡ with_bytes (struct_object_tree self.old) (with_bit offset (masked_bit value mask) (struct_object_tree self.old).bytes) }
+        ensures { struct_object_tree self.new ≡
+            with_bytes (struct_object_tree self.old) (with_bit offset (masked_bit value mask) (struct_object_tree self.old).bytes) }
     {
         self.set_bool_field(offset, value != mask);
     }
@@ -175,7 +179,8 @@ impl StructObject {
     /// the first of these in preorder, also where it would not fit, and with `OutOfMemory`; then nothing has changed.
     #[tactic(auto, unfolding(crate::specs::Standing::struct_of))]
     pub fn copy_content_from(&mut self, source: &StructReader<'_>) -> Result<()>
-        ensures ok { OnOk result (struct_object_tree self.new ≡ fitted (length (struct_object_tree self.old).bytes) (tree_count (struct_object_tree self.old).pointers) (struct_of source.now)) }
+        ensures ok { OnOk result (struct_object_tree self.new ≡
+            fitted (length (struct_object_tree self.old).bytes) (tree_count (struct_object_tree self.old).pointers) (struct_of source.now)) }
         ensures sound { OnOk result (first_fault_of_all (struct_of source.now).pointers ≡ None) }
         ensures refused { OnErr result (self.new ≡ self.old) }
         ensures cause { IfErr result (λ e. IsCopyRefusal e (first_fault_of_all (struct_of source.now).pointers)) }

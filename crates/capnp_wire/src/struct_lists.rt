@@ -13,7 +13,7 @@ ghost use Rattle.capnp_wire.specs.Lends.{LendsList, holds_list};
 
 use crate::copy::copy_struct;
 use crate::look::{Found, get_element_parts, look_at_list_object};
-use crate::make::make_room;
+use crate::make::make_empty_structs;
 use crate::object::{ListObject, Object, StructObject};
 use crate::pointer_builder::ListBuilder;
 use crate::size::{ElementSize, StructSize};
@@ -54,10 +54,11 @@ fn copy_as_structs(
     list: &ListObject,
     count: u32,
 ) -> Result<Vec<StructObject>>
-    ensures copy { IfOk result (λ structs. struct_object_trees structs.items ≡ structs_from (λ i. extended size (element_struct (list_object_tree list.now) i)) 0 count) }
+    ensures copy { IfOk result (λ structs. struct_object_trees structs.items ≡
+        structs_from (λ i. extended size (element_struct (list_object_tree list.now) i)) 0 count) }
     ensures refused { IfErr result (λ error. IsCopyRefusal error None) }
 {
-    let mut structs = make_room(alloc, size, count as usize)?;
+    let mut structs = Vec::with_capacity(alloc, count as usize)?;
     for i in 0..count {
         let mut element = copy_struct(alloc, get_element_parts(look_at_list_object(list), i))?;
         element.extend(size)?;
@@ -81,6 +82,7 @@ impl ListObject {
         match self {
             ListObject::Composite(own, _) => own.data_words == size.data_words
                 && own.pointers == size.pointers,
+            ListObject::EmptyStructs(_, _) => size.data_words == 0 && size.pointers == 0,
             _ => false,
         }
     }
@@ -111,6 +113,10 @@ impl ListObject {
             return Err(Error::from(ErrorKind::SizePastFormat));
         }
         if self.has_size(size) {
+            return Ok(());
+        }
+        if size.data_words == 0 && size.pointers == 0 {
+            *self = make_empty_structs(self.allocator(), count);
             return Ok(());
         }
         let structs = copy_as_structs(self.allocator(), size, self, count)?;

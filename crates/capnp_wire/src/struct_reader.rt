@@ -134,7 +134,8 @@ impl<'a> StructReader<'a> {
     #[tactic(auto, unfolding(crate::specs::Standing::struct_of))]
     pub fn total_size(&self) -> Result<MessageSize>
         ensures size { IfOk result (λ size. IsSize size (first_fault_of_all (struct_of self.now).pointers) (words_of_struct (struct_of self.now))) }
-        ensures refused { IfErr result (λ error. IsSizeRefusal error (first_fault_of_all (struct_of self.now).pointers) (words_of_struct (struct_of self.now))) }
+        ensures refused { IfErr result
+            (λ error. IsSizeRefusal error (first_fault_of_all (struct_of self.now).pointers) (words_of_struct (struct_of self.now))) }
     {
         size_of_parts(self.parts)
     }

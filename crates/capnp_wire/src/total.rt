@@ -46,7 +46,8 @@ fn is_null_word(segments: Segments<'_>, segment: &[u8], w: usize) -> bool
 #[cycle(total)]
 #[inline(always)]
 fn total_word(segments: Segments<'_>, segment: &[u8], index: usize, depth: u8) -> Total
-    ensures { Totals result (first_fault (tree_below depth (segment_list segments.entry) segment.now index)) (words_of (tree_below depth (segment_list segments.entry) segment.now index)) }
+    ensures { Totals result (first_fault (tree_below depth (segment_list segments.entry) segment.now index))
+        (words_of (tree_below depth (segment_list segments.entry) segment.now index)) }
 {
     if is_null_word(segments, segment, index) {
         return Ok(0);
@@ -58,7 +59,8 @@ fn total_word(segments: Segments<'_>, segment: &[u8], index: usize, depth: u8) -
 #[cycle(total)]
 #[inline(never)]
 fn total_target(segments: Segments<'_>, segment: &[u8], index: usize, depth: u8) -> Total
-    ensures { Totals result (first_fault (tree_below depth (segment_list segments.entry) segment.now index)) (words_of (tree_below depth (segment_list segments.entry) segment.now index)) }
+    ensures { Totals result (first_fault (tree_below depth (segment_list segments.entry) segment.now index))
+        (words_of (tree_below depth (segment_list segments.entry) segment.now index)) }
 {
     match look_at_word(segments, segment, index, depth) {
         Found::Null => Ok(0),
@@ -193,6 +195,7 @@ fn total_list_object(object: &ListObject) -> Total
             let own = total_own_words(*size, elements.len())?;
             add(own, total_struct_objects(elements.as_slice())?)
         }
+        ListObject::EmptyStructs(_, _) => Ok(1),
     }
 }
 
@@ -286,7 +289,8 @@ fn total_parts(parts: StructParts<'_>) -> Total
 /// The size of a struct, whose data is rounded up to whole words.
 pub fn size_of_parts(parts: StructParts<'_>) -> Result<MessageSize>
     ensures size { IfOk result (λ size. IsSize size (first_fault_of_all (parts_tree parts.entry).pointers) (words_of_struct (parts_tree parts.entry))) }
-    ensures refused { IfErr result (λ error. IsSizeRefusal error (first_fault_of_all (parts_tree parts.entry).pointers) (words_of_struct (parts_tree parts.entry))) }
+    ensures refused { IfErr result
+        (λ error. IsSizeRefusal error (first_fault_of_all (parts_tree parts.entry).pointers) (words_of_struct (parts_tree parts.entry))) }
 {
     make_size(total_parts(parts))
 }

@@ -1,5 +1,5 @@
 -- A list of items stays one while they are filled.
-use Rattle.std.proofs.Common.{◌≡◌, ℕ, ◌<◌, ◌*◌, ◌^◌, ap, arith, subst, sym, ◌∙◌}
+use Rattle.std.proofs.Common.{◌≡◌, ℕ, ◌<◌, ◌*◌, ◌^◌, ap, arith, refl, subst, sym, ◌∙◌}
 use Rattle.capnp_wire.specs.Tree.{Tree, Composite, StructTree, nth_struct, struct_count}
 use Rattle.capnp_wire.specs.Edits.{zero_struct, zero_structs}
 use Rattle.capnp_wire.specs.Elements.{with_struct_element}
@@ -30,8 +30,10 @@ kept_at count (Composite d p es) i s h k =
     (IsWellFormed-with_struct d p es i s h.0 (λ a. element d p s h.1 h.2 k), h.1, h.2, struct_count-with_struct es i s ∙ h.3)
 kept_at count t i s h k = absurd h
 
-pub kept : (count : ℕ) (l : ListObject) (i : ℕ) (s : StructObject) → AreItems count (list_object_tree l) → IsItem (struct_object_tree s) → AreItems count (list_object_tree (with_element l i s))
-kept count l i s h k = subst (AreItems count) (sym (element_written l i s)) (kept_at count (list_object_tree l) i (struct_object_tree s) h k)
+pub kept : (count : ℕ) (l : ListObject) (i : ℕ) (s : StructObject) → AreItems count (list_object_tree l) → i < count → IsItem (struct_object_tree s) → AreItems count (list_object_tree (with_element l i s))
+kept count l i s h a k =
+    let lent : IsItem (element_struct (list_object_tree l) i) = item count (list_object_tree l) i _ refl h a in
+    subst (AreItems count) (sym (element_written l i s (k.1 ∙ sym lent.1) (k.2 ∙ sym lent.2))) (kept_at count (list_object_tree l) i (struct_object_tree s) h k)
 
 pub new : (count : ℕ) (size : StructSize) (t : Tree) → t ≡ zero_structs size count → size.data_words ≡ 2 → size.pointers ≡ 2 → count * 4 < 2 ^ 29 → AreItems count t
 new count size t e a b c =

@@ -71,6 +71,29 @@ fn a_pointer_of_a_list_takes_a_text(rt: HostRuntime) -> std::result::Result<(), 
 }
 
 #[test]
+fn what_comes_in_the_place_of_an_empty_struct_is_lost(
+    rt: HostRuntime,
+) -> std::result::Result<(), Fail> {
+    let mut other = Builder::new(rt.alloc());
+    let larger = other.root().init_struct(TWO_EACH)?;
+    let mut message = Builder::new(rt.alloc());
+    let nothing = StructSize {
+        data_words: 0,
+        pointers: 0,
+    };
+    let list = message.root().init_struct_list(3, nothing)?;
+    std::mem::swap(larger, list.get_struct_element(1));
+    let want = [
+        0, 0, 0, 0, 2, 0, 0, 0, //
+        1, 0, 0, 0, 7, 0, 0, 0, //
+        0x0c, 0, 0, 0, 0, 0, 0, 0,
+    ];
+    let bytes = message.write_message()?;
+    assert_eq!(rt; bytes.as_slice(), want.as_slice());
+    Ok(())
+}
+
+#[test]
 fn a_struct_of_a_list_is_written(rt: HostRuntime) -> std::result::Result<(), Fail> {
     let mut message = Builder::new(rt.alloc());
     let root = message.root();

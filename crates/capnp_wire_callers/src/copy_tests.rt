@@ -11,6 +11,11 @@ use std::test::Fail;
 
 const VOIDS: [u8; 8] = [1, 0, 0, 0, 0x18, 0, 0, 0];
 
+/// As many elements of nothing as the structs of size zero below.
+const MANY_VOIDS: [u8; 8] = [1, 0, 0, 0, 8, 0, 0x80, 0];
+
+const MOST_VOIDS: [u8; 8] = [1, 0, 0, 0, 0xf8, 0xff, 0xff, 0xff];
+
 const BITS: [u8; 16] = [1, 0, 0, 0, 0x49, 0, 0, 0, 0x81, 1, 0, 0, 0, 0, 0, 0];
 
 const BYTES: [u8; 16] = [1, 0, 0, 0, 0x1a, 0, 0, 0, 1, 2, 3, 0, 0, 0, 0, 0];
@@ -31,7 +36,7 @@ const STRUCTS: [u8; 56] = [
     0, 6, 0, 0, 0, 0, 0, 0, 0, 1, 0, 0, 0, 0x1a, 0, 0, 0, b'h', b'i', 0, 0, 0, 0, 0, 0,
 ];
 
-/// Lists of structs of size zero: three of them, 2^20 + 1 and 2^29 - 1.
+/// Lists of structs of size zero: three of them, 2^20 + 1, and 2^29 - 1, the most that a list has.
 const THREE_EMPTY: [u8; 16] = [1, 0, 0, 0, 7, 0, 0, 0, 0x0c, 0, 0, 0, 0, 0, 0, 0];
 
 const MANY_EMPTY: [u8; 16] = [1, 0, 0, 0, 7, 0, 0, 0, 4, 0, 0x40, 0, 0, 0, 0, 0];
@@ -103,38 +108,45 @@ fn structs_are_copied(rt: HostRuntime) -> std::result::Result<(), Fail> {
     Ok(())
 }
 
+// Two words say as many of them as the format has, and neither a copy of them nor its message takes more.
 #[test]
-fn few_structs_of_size_zero_are_copied(rt: HostRuntime) -> std::result::Result<(), Fail> {
-    let copied = copy_list(rt.alloc(), &THREE_EMPTY, ElementSize::InlineComposite)?;
-    assert_eq!(rt; words_of_message(copied.as_slice()), THREE_EMPTY.as_slice());
-    let root = Reader::new(rt.alloc(), copied.as_slice())?.get_root();
-    assert_eq!(rt; root.get_list(ElementSize::InlineComposite)?.len(), 3);
-    Ok(())
-}
-
-// These would take 48 bytes each: 50 megabytes and 26 gigabytes.
-#[test]
-fn many_structs_of_size_zero_are_read_alone(rt: HostRuntime) -> std::result::Result<(), Fail> {
+fn structs_of_size_zero_are_copied(rt: HostRuntime) -> std::result::Result<(), Fail> {
     let size = StructSize {
         data_words: 0,
         pointers: 0,
     };
-    for (words, count) in [(MANY_EMPTY, (1 << 20) + 1), (MOST_EMPTY, (1 << 29) - 1)] {
+    let lists = [
+        (THREE_EMPTY, VOIDS, 3),
+        (MANY_EMPTY, MANY_VOIDS, (1 << 20) + 1),
+        (MOST_EMPTY, MOST_VOIDS, (1 << 29) - 1),
+    ];
+    for (words, voids, count) in lists {
         let source = PointerReader::from_words(&words);
-        let list = source.get_list(ElementSize::InlineComposite)?;
-        assert_eq!(rt; list.len(), count);
+        let copied = copy_list(rt.alloc(), &words, ElementSize::InlineComposite)?;
+        assert_eq!(rt; words_of_message(copied.as_slice()), words.as_slice());
+        let root = Reader::new(rt.alloc(), copied.as_slice())?.get_root();
+        assert_eq!(rt; root.get_list(ElementSize::InlineComposite)?.len(), count);
+        pointer_is_well_formed(&source);
+        let elements = PointerReader::from_words(&voids);
+        pointer_is_well_formed(&elements);
         let mut message = Builder::new(rt.alloc());
-        message.root().set_text(b"before")?;
-        let before = message.write_message()?;
-        let refused = [
-            message.set_root(source).err(),
-            message.root().set_list(&list).err(),
-            message.root().init_struct_list(count, size).err(),
-        ];
-        for error in refused {
-            assert_eq!(rt; error.map(|e| e.kind), Some(ErrorKind::OutOfMemory));
-        }
-        assert_eq!(rt; message.write_message()?, before);
+        message.set_root(source)?;
+        assert!(rt; message.root().as_reader().has_same_tree(&source));
+        assert_eq!(rt;
+            words_of_message(message.write_message()?.as_slice()),
+            words.as_slice()
+        );
+        message.root().init_struct_list(count, size)?;
+        assert_eq!(rt;
+            words_of_message(message.write_message()?.as_slice()),
+            words.as_slice()
+        );
+        message.set_root(elements)?;
+        message.root().get_struct_list(size)?;
+        assert_eq!(rt;
+            words_of_message(message.write_message()?.as_slice()),
+            words.as_slice()
+        );
     }
     Ok(())
 }

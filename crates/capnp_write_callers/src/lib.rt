@@ -13,6 +13,7 @@ mod memory_tests;
 #[cfg(test)]
 mod older_tests;
 pub mod parts;
+pub mod read_back;
 #[cfg(test)]
 mod row_tests;
 #[cfg(test)]

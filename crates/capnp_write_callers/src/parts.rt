@@ -38,7 +38,8 @@ pub fn open<'a>(
     requires { IsWellFormed (object_tree pointer.old) }
     ensures ready { IfOk result IsReady }
     ensures schema { IfOk result (λ b. built_schema b ≡ schema.entry) }
-    ensures now { IfOk result (λ b. built_struct b ≡ extended (brand_size (set_of schema.entry) (number_of schema.entry)) (struct_in (object_tree pointer.old))) }
+    ensures now { IfOk result (λ b. built_struct b ≡
+        extended (brand_size (set_of schema.entry) (number_of schema.entry)) (struct_in (object_tree pointer.old))) }
     ensures cause { IfErr result (λ e. IsStructRefusal e (object_tree pointer.old)) }
 {
     entered_structs_are_well_formed();

@@ -7,7 +7,9 @@ use crate::fixtures::{
 use capnp_base::any_pointer;
 use capnp_dynamic::dynamic_value::Reader as Value;
 use capnp_schema_callers::built_in::new_set;
-use capnp_wire::PointerReader;
+use capnp_wire::laws::pointer_is_well_formed;
+use capnp_wire::size::StructSize;
+use capnp_wire::{PointerReader, message};
 use std::test::Fail;
 
 /// A `Mixed` whose `a` is 5, with `y` active and 9, and `b` is `hi`.
@@ -27,6 +29,17 @@ static ITEMS: [u8; 72] = [
     0, 0, 0, 0, 8, 0, 0, 0, 0, 0, 0, 0, 0, 0, 4, 0, 0, 0, 0, 0, 0, 0, 0, 0, 0, 0, 0, 0, 0, 0, 0, 0,
     0, 0, 0, 0, 0, 0, 0, 0, 1, 0, 0, 0, 0x17, 0, 0, 0, 8, 0, 0, 0, 1, 0, 0, 0, 5, 0, 0, 0, 0, 0, 0,
     0, 0xff, 0, 0, 0, 0, 0, 0, 0,
+];
+
+/// A message whose root is a list of the numbers 1, 2 and 3, of two bytes each.
+static NUMBERS: [u8; 24] = [
+    0, 0, 0, 0, 2, 0, 0, 0, 1, 0, 0, 0, 0x1b, 0, 0, 0, 1, 0, 2, 0, 3, 0, 0, 0,
+];
+
+/// The same as structs of a data word.
+static NUMBER_STRUCTS: [u8; 48] = [
+    0, 0, 0, 0, 5, 0, 0, 0, 1, 0, 0, 0, 0x1f, 0, 0, 0, 0x0c, 0, 0, 0, 1, 0, 0, 0, 1, 0, 0, 0, 0, 0,
+    0, 0, 2, 0, 0, 0, 0, 0, 0, 0, 3, 0, 0, 0, 0, 0, 0, 0,
 ];
 
 const MANY_EMPTY: &str = "(flag = true, s = -1, n = 7, w = 0, q = 0, z = ())";
@@ -298,5 +311,21 @@ fn what_is_written_is_the_messages_bytes(rt: HostRuntime) -> std::result::Result
     )?;
     let sections = root(rt.alloc(), &set, MANY, bytes.as_slice())?.get_sections();
     assert_eq!(rt; sections.get_data_field::<u16>(1), 2);
+    Ok(())
+}
+
+#[test]
+fn numbers_become_structs_of_a_word(rt: HostRuntime) -> std::result::Result<(), Fail> {
+    let source = message::Reader::new(rt.alloc(), &NUMBERS)?.get_root();
+    pointer_is_well_formed(&source);
+    let mut message = message::Builder::new(rt.alloc());
+    message.set_root(source)?;
+    message.root().get_struct_list(StructSize {
+        data_words: 1,
+        pointers: 0,
+    })?;
+    assert_eq!(rt; message.size_in_words()?, 5);
+    let bytes = message.write_message()?;
+    assert_eq!(rt; bytes.as_slice(), NUMBER_STRUCTS.as_slice());
     Ok(())
 }

@@ -120,7 +120,8 @@ impl<'a> Builder<'a> {
         ensures same { (list_behind self.new).ghost_name ≡ (list_behind self.old).ghost_name }
         ensures element { built_type self.new ≡ built_type self.old }
         ensures lists { built_set self.new ≡ built_set self.old }
-        ensures set { OnOk result (IsElementSet (built_set self.old) (built_element self.old) (source_of value.entry) index (built_elements self.old) (built_elements self.new)) }
+        ensures set { OnOk result (IsElementSet (built_set self.old) (built_element self.old) (source_of value.entry) index (built_elements self.old)
+            (built_elements self.new)) }
         ensures refused { OnErr result (built_elements self.new ≡ built_elements self.old) }
         ensures cause { IfErr result (λ e. IsSetRefusal (given_element (built_set self.old) (built_element self.old) (source_of value.entry)) e.kind) }
         ensures ready { IsListReady self.new }

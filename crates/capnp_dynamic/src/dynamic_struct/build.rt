@@ -118,7 +118,8 @@ impl<'a> Builder<'a> {
     /// Whether the field of a name is there, as `has`. Refused with `FieldNotFound` where there is none of that name.
     pub fn has_named(&self, field_name: &str) -> Result<bool>
         requires { IsReady self.now }
-        ensures is { (f : Field) → IsNamed (built_schema self.now) field_name.now f → result ≡ Ok (has_of (built_record self.now) (struct_field (built_schema self.now) (index_of f)).field (index_of f)) }
+        ensures is { (f : Field) → IsNamed (built_schema self.now) field_name.now f
+            → result ≡ Ok (has_of (built_record self.now) (struct_field (built_schema self.now) (index_of f)).field (index_of f)) }
         ensures refused { IfErr result (λ e. (e.kind ≡ FieldNotFound) × (field_named (struct_records (built_schema self.now)) field_name.now ≡ None)) }
         ensures none { OnOk result (field_named (struct_records (built_schema self.now)) field_name.now ≢ None) }
     {
@@ -166,8 +167,10 @@ impl<'a> Builder<'a> {
         requires { IsReady self.old }
         ensures same { (struct_behind self.new).ghost_name ≡ (struct_behind self.old).ghost_name }
         ensures schema { built_schema self.new ≡ built_schema self.old }
-        ensures set { (f : Field) → IsNamed (built_schema self.old) field_name.now f → IsFieldSet f (source_of value.entry) (built_struct self.old) (refusal_of result) (built_struct self.new) }
-        ensures refused { (f : Field) → IsNamed (built_schema self.old) field_name.now f → IsSlot f → OnErr result (built_struct self.new ≡ built_struct self.old) }
+        ensures set { (f : Field) → IsNamed (built_schema self.old) field_name.now f
+            → IsFieldSet f (source_of value.entry) (built_struct self.old) (refusal_of result) (built_struct self.new) }
+        ensures refused { (f : Field) → IsNamed (built_schema self.old) field_name.now f → IsSlot f
+            → OnErr result (built_struct self.new ≡ built_struct self.old) }
         ensures none { field_named (struct_records (built_schema self.old)) field_name.now ≡ None → IsErrAnd result (λ e. e.kind ≡ FieldNotFound) }
         ensures stays { field_named (struct_records (built_schema self.old)) field_name.now ≡ None → built_struct self.new ≡ built_struct self.old }
         ensures ready { IsReady self.new }

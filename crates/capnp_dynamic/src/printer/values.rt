@@ -166,7 +166,9 @@ fn print_field<'a, O: Out>(
     requires field { IsFieldOf (schema_of reader) (index_of field) field }
     requires pending { IsPending reader progress.pending }
     ensures put { IfOk result (FieldPut left at reader.entry field.entry progress.entry (O.text out.old) (O.text out.new)) }
-    ensures stopped { IfErr result (AreStopped at progress.entry.first (field_items left at reader.entry (field_in reader.entry field.entry) (index_of field.entry) (pending_member left at reader.entry progress.entry.pending)) (O.text out.old)) }
+    ensures stopped { IfErr result (AreStopped at progress.entry.first
+        (field_items left at reader.entry (field_in reader.entry field.entry) (index_of field.entry)
+        (pending_member left at reader.entry progress.entry.pending)) (O.text out.old)) }
 {
     if field.get_proto().discriminant_value != 65535 {
         return Ok(progress);
@@ -199,7 +201,8 @@ fn print_before<'a, O: Out>(
 ) -> Result<Progress<'a>, Stop<O::Fault>>
     requires pending { IsPending reader progress.pending }
     ensures put { IfOk result (MemberPut left at reader.entry field.entry progress.entry (O.text out.old) (O.text out.new)) }
-    ensures stopped { IfErr result (AreStopped at progress.entry.first (before (pending_member left at reader.entry progress.entry.pending) (index_of field.entry)) (O.text out.old)) }
+    ensures stopped { IfErr result (AreStopped at progress.entry.first
+        (before (pending_member left at reader.entry progress.entry.pending) (index_of field.entry)) (O.text out.old)) }
 {
     let Some(member) = progress.pending else {
         return Ok(progress);
@@ -227,7 +230,8 @@ fn print_member<'a, O: Out>(
     out: &mut O,
 ) -> Result<bool, Stop<O::Fault>>
     requires pending { IsPending reader (Some member) }
-    ensures put { IfOk result (λ still. ArePut at first (member_items left at reader.entry (field_in reader.entry member.entry)) still (O.text out.old) (O.text out.new)) }
+    ensures put { IfOk result (λ still. ArePut at first (member_items left at reader.entry (field_in reader.entry member.entry)) still (O.text out.old)
+        (O.text out.new)) }
     ensures stopped { IfErr result (AreStopped at first (member_items left at reader.entry (field_in reader.entry member.entry)) (O.text out.old)) }
 {
     if !is_shown(reader, member) {
@@ -250,7 +254,8 @@ fn print_item<O: Out>(
     out: &mut O,
 ) -> Result<(), Stop<O::Fault>>
     requires field { IsFieldOf (schema_of reader) (index_of field) field }
-    ensures put { OnOk result (ArePut at first (field_item left at reader.entry (field_in reader.entry field.entry) ∷ []) false (O.text out.old) (O.text out.new)) }
+    ensures put { OnOk result (ArePut at first (field_item left at reader.entry (field_in reader.entry field.entry) ∷ []) false (O.text out.old)
+        (O.text out.new)) }
     ensures stopped { IfErr result (AreStopped at first (field_item left at reader.entry (field_in reader.entry field.entry) ∷ []) (O.text out.old)) }
 {
     put_separator(at, first, out)?;

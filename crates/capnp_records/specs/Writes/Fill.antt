@@ -1,10 +1,12 @@
--- What a builder's get of a struct or list slot leaves there.
-use Rattle.std.specs.Prelude.{ℕ, true, false}
+-- What a builder's get of a struct or list slot leaves there, and where it takes no memory.
+use Rattle.std.specs.Prelude.{ℕ, ◌≡◌, true, false, None}
 use Rattle.capnp_wire.specs.Tree.{Tree, Null, StructTree, empty_struct}
 use Rattle.capnp_wire.specs.Reading.{is_null_tree}
-use Rattle.capnp_wire.specs.Edits.{extended, struct_in}
-use Rattle.capnp_wire.specs.StructLists.{struct_list}
-use Rattle.capnp_schema.specs.Types.{SchemaType, StructType}
+use Rattle.capnp_wire.specs.Defaults.{list_refusal, takes_default}
+use Rattle.capnp_wire.specs.Edits.{HoldsStruct, extended, struct_in}
+use Rattle.capnp_wire.specs.StructLists.{HoldsStructs, struct_list}
+use Rattle.capnp_schema.specs.Defaults.{default_tree}
+use Rattle.capnp_schema.specs.Types.{SchemaType, StructType, ListType, element_size}
 use Rattle.capnp_schema.specs.Schema.{Schemas, StructValue, ListValue}
 use Rattle.capnp_schema.specs.Schema.{Value as SchemaValue}
 use Rattle.capnp_schema.specs.Accepted.{root_of}
@@ -31,3 +33,10 @@ or_default d x = x
 
 abbrev pub filled_list : Schemas → SchemaType → SchemaValue → Tree → Tree
 filled_list set element d x = entered_list set element (or_default d x)
+
+-- nothing has to be filled or extended there
+abbrev pub IsAtRest : Schemas → SchemaValue → SchemaType → Tree → Type 0
+IsAtRest set d (StructType b g) x = HoldsStruct (brand_size set b) x
+IsAtRest set d (ListType (StructType b g)) x = (takes_default (default_tree d) x ≡ false) × HoldsStructs (brand_size set b) x
+IsAtRest set d (ListType e) x = (takes_default (default_tree d) x ≡ false) × (list_refusal (element_size e) x ≡ None)
+IsAtRest set d t x = ⊥

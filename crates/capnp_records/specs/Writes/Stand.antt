@@ -18,7 +18,7 @@ use Rattle.capnp_records.specs.Record.{Endless, Value}
 use Rattle.capnp_records.specs.Reading.{number_value, value_of, reads}
 use Rattle.capnp_records.specs.Call.{PathStep, FieldNumber, FieldNamed, ElementAt}
 use Rattle.capnp_records.specs.Writes.Slots.{At, with_content, Writes, Fits, brand_size}
-use Rattle.capnp_records.specs.Writes.Fill.{filled_struct, or_default, filled_list}
+use Rattle.capnp_records.specs.Writes.Fill.{IsAtRest, filled_struct, or_default, filled_list}
 
 -- a struct, the struct of a group, or a list
 pub data Stand : Type 0 where
@@ -161,3 +161,24 @@ IsWithin set (StructType b g) (OnStruct s) step = FieldWithin set (step_field se
 IsWithin set (StructType b g) (OnGroup s) step = FieldWithin set (step_field set b step) s
 IsWithin set (ListType e) (OnList x) step = SlotWithin set e VoidValue (element_pointer x (step_index set 0 step) 1)
 IsWithin set t old step = ⊤
+
+-- ---- steps that take no memory ----
+
+-- a group is the same struct, and behind a slot nothing has to be filled or extended
+abbrev pub KindRests : Schemas → FieldKind → SchemaType → StructTree → Type 0
+KindRests set (Slot offset d) t s = IsAtRest set d t (nth_tree s.pointers offset)
+KindRests set (Group node) t s = ⊤
+
+abbrev pub FieldRests : Schemas → TypedField → StructTree → Type 0
+FieldRests set f s = KindRests set f.field.kind f.type s
+
+-- the structs of a list are there, and of a list that is an element nothing has to be extended
+abbrev pub InnerRests : Schemas → SchemaType → Tree → ℕ → Type 0
+InnerRests set (ListType e) x j = IsAtRest set VoidValue (ListType e) (element_pointer x j 1)
+InnerRests set t x j = ⊤
+
+abbrev pub StepRests : Schemas → SchemaType → Stand → PathStep → Type 0
+StepRests set (StructType b g) (OnStruct s) step = FieldRests set (step_field set b step) s
+StepRests set (StructType b g) (OnGroup s) step = FieldRests set (step_field set b step) s
+StepRests set (ListType e) (OnList x) step = InnerRests set e x (step_index set 0 step)
+StepRests set t old step = ⊤

@@ -9,7 +9,7 @@ use Rattle.std.proofs.lemmas.Map.Keys.{IsDistinct-cons}
 use Rattle.std.specs.List.{IsDistinct, AllByRecursion, list_any}
 use Rattle.capnp_schema.specs.Schema.{Schemas, node_of}
 use Rattle.capnp_schema.specs.Accepted.{EndsAtStruct, HasOneParent}
-use Rattle.capnp_schema.specs.Parents.{group_target, TargetsAreGroups, IsParentTable, entry_in, StandsInStruct, AreKnown}
+use Rattle.capnp_schema.specs.Checking.Parents.{group_target, TargetsAreGroups, IsParentTable, entry_in, StandsInStruct, AreKnown}
 use Rattle.capnp_schema.proofs.GroupTargets.{is_parent, from_parent, within_brands}
 
 abbrev pub is_group : Schemas → ℕ → Bool

@@ -2,7 +2,7 @@
 use Rattle.std.specs.Prelude.{ℕ, ◌+◌, ◌<◌, ◌≤◌, ◌≡◌, ⊤, List, [], ◌∷◌, ◌++◌, Bool, true, false, length, get_or, slice_get, Some}
 use Rattle.capnp_schema.specs.Schema.{Schemas, node_of, fields_of, field_at, is_member}
 use Rattle.capnp_schema.specs.Footprint.{Place, DataBit, PointerAt, is_in, discriminant_names}
-use Rattle.capnp_schema.specs.Parents.{group_target}
+use Rattle.capnp_schema.specs.Checking.Parents.{group_target}
 use Rattle.capnp_schema.specs.Checking.Spans.{span_names, entry_names}
 use Rattle.capnp_schema.specs.declared.check.claims.Claims.{Claims}
 use Rattle.capnp_schema.specs.declared.check.claims.Level.{Level}

@@ -4,8 +4,7 @@ use Rattle.capnp_base.specs.Types.{base_variant, element_size as size_of_variant
 use Rattle.capnp_base.specs.declared.introspect.«Type».{«Type» as TypeHandle}
 use Rattle.capnp_base.specs.declared.introspect.BaseType.{BaseType}
 use Rattle.capnp_base.specs.declared.introspect.BaseType.TheVariants as base
-use Rattle.capnp_schema.specs.Types.{element_size, lists_of, seen_base, seen_type}
-use Rattle.capnp_schema.specs.Tests.{seen_variant}
+use Rattle.capnp_schema.specs.Types.{element_size, lists_of, seen_base, seen_type, seen_variant}
 
 pub seen_at_base : (b : BaseType) → seen_variant (base_variant b) ≡ seen_base b
 seen_at_base base.Void = refl

@@ -6,6 +6,7 @@ ghost use Rattle.capnp_schema.specs.Accepted.{HasFewAnnotations, HasFewEnumerant
 ghost use Rattle.capnp_schema.specs.Broken.{IsRefusalOf};
 ghost use Rattle.capnp_schema.specs.Checking.Entry.{IsSoAt, AllOrBroken};
 
+use crate::check::entries::{Asked, broken_entry};
 use crate::check::refusal::{WHOLE, refusal};
 use crate::lists::Lists;
 use crate::record::{AnnotationRecord, EnumerantRecord, FieldRecord};
@@ -21,28 +22,37 @@ fn are_few(annotations: &[AnnotationRecord]) -> bool
     annotations.len() < 1 << 29
 }
 
+/// That there are few annotations.
+struct FewAnnotations;
+
+impl Asked<FewAnnotations> for FieldRecord {
+    ghost is_met = { λ r. HasFewAnnotations (seen_annotations r.annotations.items) };
+
+    fn is_met(&self) -> bool {
+        are_few(&self.annotations)
+    }
+}
+
+impl Asked<FewAnnotations> for EnumerantRecord {
+    ghost is_met = { λ r. HasFewAnnotations (seen_annotations r.annotations.items) };
+
+    fn is_met(&self) -> bool {
+        are_few(&self.annotations)
+    }
+}
+
 /// A field with too many annotations.
 fn crowded_field(fields: &[FieldRecord]) -> Option<usize>
     ensures { AllOrBroken (map seen_field fields.now) (λ (f : Field). HasFewAnnotations f.annotations) result }
 {
-    for i in 0..fields.len() {
-        if !are_few(&fields[i].annotations) {
-            return Some(i);
-        }
-    }
-    None
+    broken_entry::<FewAnnotations, FieldRecord>(fields)
 }
 
 /// An enumerant with too many annotations.
 fn crowded_enumerant(enumerants: &[EnumerantRecord]) -> Option<usize>
     ensures { AllOrBroken (map seen_enumerant enumerants.now) (λ (x : Enumerant). HasFewAnnotations x.annotations) result }
 {
-    for i in 0..enumerants.len() {
-        if !are_few(&enumerants[i].annotations) {
-            return Some(i);
-        }
-    }
-    None
+    broken_entry::<FewAnnotations, EnumerantRecord>(enumerants)
 }
 
 fn check_node_counts(lists: &Lists, entry: usize) -> Result<()>

@@ -1,12 +1,13 @@
 //! Rules 1, 4, 5 and 7 of fields: a field's type names an existing entry, its slot lies inside its section, its default is
 //! of its type's kind, and groups are named by group fields alone.
-ghost use Rattle.std.specs.Prelude.{◌≡◌, ◌<◌, length, MatchResult};
-ghost use Rattle.capnp_schema.specs.Types.{seen_type};
-ghost use Rattle.capnp_schema.specs.Schema.{seen_node, seen_kind, seen_value, fields_of};
-ghost use Rattle.capnp_schema.specs.Entries.{lists_seen, brand_entry};
-ghost use Rattle.capnp_schema.specs.Accepted.{Rule3};
+ghost use Rattle.std.specs.Prelude.{◌<◌, length, MatchResult};
+ghost use Rattle.std.specs.Bool.{Decides};
+ghost use Rattle.capnp_schema.specs.Types.{StructType, seen_type, seen_variant};
+ghost use Rattle.capnp_schema.specs.Schema.{Value, Slot, Group, seen_node, seen_kind, seen_value, fields_of};
+ghost use Rattle.capnp_schema.specs.Entries.{lists_seen};
+ghost use Rattle.capnp_schema.specs.Accepted.{NamesEntries, LiesInside, IsDefaultOf, KindDefault, NamesNoGroup, GroupFits, Rule3};
 ghost use Rattle.capnp_schema.specs.Broken.{IsRefusalOf};
-ghost use Rattle.capnp_schema.specs.Tests.{seen_variant, variant_is_named, variant_is_no_group, slot_is_inside, brand_is, is_named, is_inside, is_default, kind_is_default, names_no_group, is_group_type, group_fits, FieldsStand, FieldStandsAt, FieldsStandIn};
+ghost use Rattle.capnp_schema.specs.Checking.Fields.{FieldsStand, FieldStandsAt, FieldsStandIn};
 
 use crate::check::groups::is_group;
 use crate::check::refusal::refusal;
@@ -18,7 +19,7 @@ use capnp_device::error::{Result, SchemaTable};
 
 /// Whether there is a brand, of this node.
 fn brand_is(lists: &Lists, brand: u32, node: u32) -> bool
-    ensures { result ≡ brand_is (brand_entry (lists_seen lists.now) brand) node }
+    ensures { Decides result (NamesEntries (lists_seen lists.now) (StructType brand node)) }
 {
     match lists.brand_at(brand as usize) {
         Some(record) => record.node == node,
@@ -26,28 +27,21 @@ fn brand_is(lists: &Lists, brand: u32, node: u32) -> bool
     }
 }
 
-fn is_named(lists: &Lists, variant: TypeVariant) -> bool
-    ensures { result ≡ variant_is_named (lists_seen lists.now) variant }
+/// Whether a type, or what its lists hold, names an existing entry of the right kind.
+pub(crate) fn names_entry(lists: &Lists, of: &Type) -> bool
+    ensures { Decides result (NamesEntries (lists_seen lists.now) (seen_type of.now)) }
 {
-    match variant {
+    match of.innermost() {
         TypeVariant::Struct(schema) => brand_is(lists, schema.number, schema.generic),
         TypeVariant::Enum(schema) => (schema.number as usize) < lists.enums.len(),
         _ => true,
     }
 }
 
-/// Whether a type, or what its lists hold, names an existing entry of the right kind.
-#[tactic(auto, using(crate::proofs::Decided::named_innermost))]
-pub(crate) fn names_entry(lists: &Lists, of: &Type) -> bool
-    ensures { result ≡ is_named (lists_seen lists.now) (seen_type of.now) }
-{
-    is_named(lists, of.innermost())
-}
-
 /// Whether a slot lies inside its section.
 #[tactic(auto, using(crate::specs::Facts::Layers::seen_which))]
 fn is_inside(node: &NodeRecord, kind: &FieldKind, of: &Type) -> bool
-    ensures { result ≡ is_inside (seen_node node.now) (seen_kind kind.now) (seen_type of.now) }
+    ensures { Decides result (LiesInside (seen_node node.now) (seen_kind kind.now) (seen_type of.now)) }
 {
     match kind {
         FieldKind::Slot { offset, default: _ } => slot_is_inside(node, *offset, of.which()),
@@ -56,7 +50,7 @@ fn is_inside(node: &NodeRecord, kind: &FieldKind, of: &Type) -> bool
 }
 
 fn slot_is_inside(node: &NodeRecord, offset: u32, variant: TypeVariant) -> bool
-    ensures { result ≡ slot_is_inside (seen_node node.now) offset (seen_variant variant) }
+    ensures { (default : Value) → Decides result (LiesInside (seen_node node.now) (Slot offset default) (seen_variant variant)) }
 {
     let end = (offset as u64 + 1) * width(variant) as u64;
     end <= 64 * node.body.data_word_count as u64
@@ -65,7 +59,7 @@ fn slot_is_inside(node: &NodeRecord, offset: u32, variant: TypeVariant) -> bool
 
 /// Whether a value is of a type's kind, or an untyped pointer for a pointer type.
 fn is_default(value: &ValueRecord, variant: TypeVariant) -> bool
-    ensures { result ≡ is_default (seen_value value.now) (seen_variant variant) }
+    ensures { Decides result (IsDefaultOf (seen_value value.now) (seen_variant variant)) }
 {
     match (value, variant) {
         (ValueRecord::Void, TypeVariant::Void) => true,
@@ -91,7 +85,7 @@ fn is_default(value: &ValueRecord, variant: TypeVariant) -> bool
 /// Whether a field's default is of its type's kind; a group has none.
 #[tactic(auto, using(crate::specs::Facts::Layers::seen_which))]
 fn has_default(kind: &FieldKind, of: &Type) -> bool
-    ensures { result ≡ kind_is_default (seen_kind kind.now) (seen_type of.now) }
+    ensures { Decides result (KindDefault IsDefaultOf (seen_kind kind.now) (seen_type of.now)) }
 {
     match kind {
         FieldKind::Slot { offset: _, default } => is_default(default, of.which()),
@@ -99,26 +93,19 @@ fn has_default(kind: &FieldKind, of: &Type) -> bool
     }
 }
 
-fn is_no_group(lists: &Lists, variant: TypeVariant) -> bool
-    ensures { result ≡ variant_is_no_group (lists_seen lists.now) variant }
+/// Whether neither a type nor what its lists hold is a group.
+fn names_no_group(lists: &Lists, of: &Type) -> bool
+    ensures { Decides result (NamesNoGroup (lists_seen lists.now) (seen_type of.now)) }
 {
-    match variant {
+    match of.innermost() {
         TypeVariant::Struct(schema) => !is_group(lists, schema.number as usize),
         _ => true,
     }
 }
 
-/// Whether neither a type nor what its lists hold is a group.
-#[tactic(auto, using(crate::proofs::Decided::no_group_innermost))]
-fn names_no_group(lists: &Lists, of: &Type) -> bool
-    ensures { result ≡ names_no_group (lists_seen lists.now) (seen_type of.now) }
-{
-    is_no_group(lists, of.innermost())
-}
-
 /// Whether a type is the struct of a group node.
 fn is_group_type(lists: &Lists, node: u32, variant: TypeVariant) -> bool
-    ensures { result ≡ is_group_type (lists_seen lists.now) node (seen_variant variant) }
+    ensures { Decides result (GroupFits (lists_seen lists.now) (Group node) (seen_variant variant)) }
 {
     match variant {
         TypeVariant::Struct(schema) => brand_is(lists, schema.number, node)
@@ -130,7 +117,7 @@ fn is_group_type(lists: &Lists, node: u32, variant: TypeVariant) -> bool
 /// Whether groups are named by group fields alone, and each by the type of its node.
 #[tactic(auto, using(crate::specs::Facts::Layers::seen_which))]
 fn group_fits(lists: &Lists, kind: &FieldKind, of: &Type) -> bool
-    ensures { result ≡ group_fits (lists_seen lists.now) (seen_kind kind.now) (seen_type of.now) }
+    ensures { Decides result (GroupFits (lists_seen lists.now) (seen_kind kind.now) (seen_type of.now)) }
 {
     match kind {
         FieldKind::Slot { .. } => names_no_group(lists, of),

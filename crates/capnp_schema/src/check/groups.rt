@@ -2,11 +2,10 @@
 ghost use Rattle.std.specs.Prelude.{true, false, ◌≡◌, ◌<◌, ◌↔◌, IsTrue, IfOk, IfErr, length, get_or, slice_get, MatchResult};
 ghost use Rattle.capnp_device.specs.declared.error.ErrorKind.TheVariants.{OutOfMemory};
 ghost use Rattle.capnp_schema.specs.Schema.{node_of};
-ghost use Rattle.capnp_schema.specs.Entries.{brand_node, lists_seen};
+ghost use Rattle.capnp_schema.specs.Entries.{lists_seen};
 ghost use Rattle.capnp_schema.specs.Accepted.{Rule1, Rule7, Rule8, GroupStands, IsGroupBrand};
 ghost use Rattle.capnp_schema.specs.Broken.{IsRefusalOf};
-ghost use Rattle.capnp_schema.specs.Parents.{group_target, TargetsAreGroups, HasNoParents, IsParentTable, entry_in, StandsInStruct, AreKnown, HaveSameSizes};
-ghost use Rattle.capnp_schema.specs.Tests.{node_is_group};
+ghost use Rattle.capnp_schema.specs.Checking.Parents.{group_target, TargetsAreGroups, HasNoParents, IsParentTable, entry_in, StandsInStruct, AreKnown, HaveSameSizes};
 
 use crate::check::refusal::{WHOLE, refusal};
 use crate::check::unions::no_marks;
@@ -41,9 +40,9 @@ pub(crate) fn group_target(lists: &Lists, brand: usize, field: usize) -> Option<
 }
 
 /// Whether there is a brand, of a node that is marked as a group.
+#[tactic(auto, using(crate::proofs::FieldWalk::found_node, crate::proofs::GroupTargets::node_missing))]
 pub(crate) fn is_group(lists: &Lists, brand: usize) -> bool
-    ensures entry { result ≡ node_is_group (brand_node (lists_seen lists.now) brand) }
-    ensures within { brand < length (lists_seen lists.now).brands → result ≡ (node_of (lists_seen lists.now) brand).is_group }
+    ensures { result ≡ (node_of (lists_seen lists.now) brand).is_group }
 {
     match lists.node_of(brand) {
         Some(node) => node.body.is_group,

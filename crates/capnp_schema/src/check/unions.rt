@@ -4,10 +4,9 @@ ghost use Rattle.std.specs.Prelude.{ℕ, true, false, ◌≡◌, ◌≤◌, ◌<
 ghost use Rattle.std.specs.Bool.{Decides};
 ghost use Rattle.capnp_schema.specs.Schema.{Node, seen_node, seen_field};
 ghost use Rattle.capnp_schema.specs.Entries.{lists_seen};
-ghost use Rattle.capnp_schema.specs.Accepted.{HasEachMember, Rule9, Rule10};
+ghost use Rattle.capnp_schema.specs.Accepted.{DiscriminantFits, HasEachMember, Rule9, Rule10};
 ghost use Rattle.capnp_schema.specs.Broken.{IsRefusalOf};
 ghost use Rattle.capnp_schema.specs.Checking.Marks.{Marked};
-ghost use Rattle.capnp_schema.specs.Tests.{is_discriminant_inside};
 
 use crate::check::refusal::{WHOLE, refusal};
 use crate::lists::Lists;
@@ -17,7 +16,7 @@ use std::alloc::{AllocError, Global};
 
 /// Whether the discriminant, if there is one, lies inside the data section.
 fn is_discriminant_inside(node: &NodeRecord) -> bool
-    ensures { result ≡ is_discriminant_inside (seen_node node.now) }
+    ensures { Decides result (DiscriminantFits (seen_node node.now)) }
 {
     node.body.discriminant_count == 0
         || 16 * (node.body.discriminant_offset as u64 + 1) <= 64 * node.body.data_word_count as u64
@@ -48,7 +47,8 @@ pub(crate) fn no_marks(alloc: Global, count: usize) -> std::result::Result<Vec<b
 /// Sets the mark of a discriminant value; false, and nothing is set, where there is none or it was
 /// set before.
 fn mark(marks: &mut [bool], value: usize) -> bool
-    ensures free { result ≡ true → (value < length marks.old) × (get_or marks.old value false ≡ false) × (marks.new ≡ slice_set marks.old value true) }
+    ensures free { result ≡ true → (value < length marks.old) × (get_or marks.old value false ≡ false)
+        × (marks.new ≡ slice_set marks.old value true) }
     ensures taken { result ≡ false → get_or marks.old value false ≡ false → length marks.old ≤ value }
     ensures unchanged { result ≡ false → marks.new ≡ marks.old }
 {
@@ -77,7 +77,8 @@ pub(crate) fn all_set(marks: &[bool]) -> bool
 fn mark_members(marks: &mut [bool], fields: &[FieldRecord]) -> bool
     requires { marks.old ≡ replicate (length marks.old) false }
     ensures yes { result ≡ true → (length marks.new ≡ length marks.old) × Marked (map seen_field fields.now) (length fields.now) marks.new }
-    ensures not_so { result ≡ false → (n : Node) → n.fields ≡ map seen_field fields.now → n.discriminant_count ≡ length marks.old → HasEachMember n → ⊥ }
+    ensures not_so { result ≡ false → (n : Node) → n.fields ≡ map seen_field fields.now → n.discriminant_count ≡ length marks.old
+        → HasEachMember n → ⊥ }
 {
     for field in fields {
         if field.is_member() && !mark(marks, field.discriminant_value as usize) {

@@ -8,6 +8,7 @@ ghost use Rattle.capnp_schema.specs.Accepted.{AreWords, Decodes, DefaultStands, 
 ghost use Rattle.capnp_schema.specs.Broken.{IsRefusalOf};
 ghost use Rattle.capnp_schema.specs.Checking.Entry.{IsSoAt, AllOrBroken};
 
+use crate::check::entries::{Asked, broken_entry};
 use crate::check::list_defaults::check_list_defaults;
 use crate::check::refusal::{WHOLE, refusal};
 use crate::lists::Lists;
@@ -107,40 +108,55 @@ fn default_stands(field: &FieldRecord) -> bool
     }
 }
 
+/// That a default stands.
+struct StandingDefault;
+
+impl Asked<StandingDefault> for FieldRecord {
+    ghost is_met = { λ r. DefaultStands (seen_field r) };
+
+    fn is_met(&self) -> bool {
+        default_stands(self)
+    }
+}
+
+/// That the words of each annotation's value are whole.
+struct WholeWords;
+
+impl Asked<WholeWords> for FieldRecord {
+    ghost is_met = { λ r. HaveWords (seen_annotations r.annotations.items) };
+
+    fn is_met(&self) -> bool {
+        have_words(&self.annotations)
+    }
+}
+
+impl Asked<WholeWords> for EnumerantRecord {
+    ghost is_met = { λ r. HaveWords (seen_annotations r.annotations.items) };
+
+    fn is_met(&self) -> bool {
+        have_words(&self.annotations)
+    }
+}
+
 /// A field whose default does not stand.
 fn broken_default(fields: &[FieldRecord]) -> Option<usize>
     ensures { AllOrBroken (map seen_field fields.now) DefaultStands result }
 {
-    for i in 0..fields.len() {
-        if !default_stands(&fields[i]) {
-            return Some(i);
-        }
-    }
-    None
+    broken_entry::<StandingDefault, FieldRecord>(fields)
 }
 
 /// A field with an annotation whose words are not whole.
 fn wordless_field(fields: &[FieldRecord]) -> Option<usize>
     ensures { AllOrBroken (map seen_field fields.now) (λ (f : Field). HaveWords f.annotations) result }
 {
-    for i in 0..fields.len() {
-        if !have_words(&fields[i].annotations) {
-            return Some(i);
-        }
-    }
-    None
+    broken_entry::<WholeWords, FieldRecord>(fields)
 }
 
 /// An enumerant with an annotation whose words are not whole.
 fn wordless_enumerant(enumerants: &[EnumerantRecord]) -> Option<usize>
     ensures { AllOrBroken (map seen_enumerant enumerants.now) (λ (x : Enumerant). HaveWords x.annotations) result }
 {
-    for i in 0..enumerants.len() {
-        if !have_words(&enumerants[i].annotations) {
-            return Some(i);
-        }
-    }
-    None
+    broken_entry::<WholeWords, EnumerantRecord>(enumerants)
 }
 
 fn check_node_words(lists: &Lists, entry: usize) -> Result<()>

@@ -37,14 +37,13 @@ impl<'s> Field<'s> {
     ghost use Rattle.capnp_wire.specs.Standing.{levels_of, tree_of};
     ghost use Rattle.capnp_wire.specs.Tree.{Null};
     ghost use Rattle.std.specs.Option.{option_map};
-    ghost use Rattle.capnp_schema.specs.Defaults.{DefaultFits, default_tree};
+    ghost use Rattle.capnp_schema.specs.Defaults.{DefaultFits};
     ghost use Rattle.capnp_schema.specs.GroupsDown.{IfGroup, IsGroupIn, LeadsToGroup};
-    ghost use Rattle.capnp_schema.specs.Parents.{kind_target};
     ghost use Rattle.capnp_schema.specs.Plan.{IsPlan, plan_of};
-    ghost use Rattle.capnp_schema.specs.Schema.{default_of};
+    ghost use Rattle.capnp_schema.specs.Schema.{default_of, kind_target};
     ghost use Rattle.capnp_schema.specs.Views.{IsViewOf};
     ghost use Rattle.capnp_schema.specs.StructHandles.{IsStruct, number_of};
-    ghost use Rattle.capnp_schema.specs.Annotated.{annotations_of, field_annotations};
+    ghost use Rattle.capnp_schema.specs.Annotated.{annotations_of};
     ghost use Rattle.capnp_schema.specs.AnnotationLists.{annotations_in, annotations_set};
     ghost use Rattle.capnp_schema.specs.FieldLists.{IsFieldOf, index_of, schema_of, typed_of, default_behind, field_annotated};
 
@@ -118,7 +117,8 @@ impl<'s> Field<'s> {
     #[tactic(auto, using(crate::proofs::Defaults::struct_view, crate::proofs::Defaults::list_view, crate::proofs::Defaults::untyped_view))]
     #[inline(always)]
     pub fn get_default_pointer(&self) -> Option<PointerReader<'s>>
-        ensures pointer { MatchOption result (default_behind self.now ≡ Null) (λ reader. (tree_of reader ≡ default_behind self.now) × (levels_of reader ≡ 64)) }
+        ensures pointer { MatchOption result (default_behind self.now ≡ Null)
+            (λ reader. (tree_of reader ≡ default_behind self.now) × (levels_of reader ≡ 64)) }
         ensures fits { DefaultFits (typed_of self.now) }
     {
         match self.get_default() {

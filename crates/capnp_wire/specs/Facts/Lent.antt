@@ -43,7 +43,7 @@ IsWellFormed-with_pointer s i o h k =
 
 pub IsWellFormed-with_element : (l : ListObject) (i : ℕ) (s : StructObject) → length (struct_object_tree s).bytes ≡ length (element_struct (list_object_tree l) i).bytes → tree_count (struct_object_tree s).pointers ≡ tree_count (element_struct (list_object_tree l) i).pointers → IsWellFormedStruct (struct_object_tree s) → IsWellFormed (list_object_tree l) → IsWellFormed (list_object_tree (with_element l i s))
 IsWellFormed-with_element l i s a b k h =
-    subst IsWellFormed (sym (element_written l i s)) (IsWellFormed-with_struct_element i (struct_object_tree s) (list_object_tree l) a b k h)
+    subst IsWellFormed (sym (element_written l i s a b)) (IsWellFormed-with_struct_element i (struct_object_tree s) (list_object_tree l) a b k h)
 
 pub IsWellFormed-with_object : (l : ListObject) (i : ℕ) (o : Object) → IsWellFormed (object_tree o) → IsWellFormed (list_object_tree l) → IsWellFormed (list_object_tree (with_object l i o))
 IsWellFormed-with_object l i o k h =
@@ -71,6 +71,7 @@ IsWellFormed-with_blob_at l (layer.Numbers width bytes) left e n b h =
     subst IsWellFormed (sym (tree-numbers width (with_items_from bytes 0 left) ∙ ap (tree.Numbers width) (front_items bytes left n))) held
 IsWellFormed-with_blob_at l (layer.Pointers os) left e n b h = subst IsWellFormed (sym e) h
 IsWellFormed-with_blob_at l (layer.Composite size es) left e n b h = subst IsWellFormed (sym e) h
+IsWellFormed-with_blob_at l (layer.EmptyStructs count lent) left e n b h = subst IsWellFormed (sym e) h
 
 IsWellFormed-with_blob : (l : ListObject) (left : List ℕ) → length left ≤ length (bytes_kept (out-ListObject l)) → AreBytes left → IsWellFormed (list_object_tree l) → IsWellFormed (list_object_tree (with_blob l left))
 IsWellFormed-with_blob l left n b h = IsWellFormed-with_blob_at l (out-ListObject l) left (tree-layer l) n b (subst IsWellFormed (tree-layer l) h)
@@ -87,6 +88,7 @@ data_kept (layer.Bits row) old e = cc
 data_kept (layer.Numbers width bytes) old e = data_inside (width == 1) bytes.items old e
 data_kept (layer.Pointers os) old e = cc
 data_kept (layer.Composite size es) old e = cc
+data_kept (layer.EmptyStructs count lent) old e = cc
 
 text_inside : (last test : Bool) (bytes old : List ℕ) → cond test (cond last (Ok (take (length bytes - 1) bytes)) (Err kind.TextNotTerminated)) (Err kind.WrongElementSize) ≡ Ok old → length old ≤ length bytes
 text_inside true true bytes old e = let same : take (length bytes - 1) bytes ≡ old = cc in omega (arith, ap length same, length-take (length bytes - 1) bytes)
@@ -100,6 +102,7 @@ text_kept (layer.Bits row) old e = cc
 text_kept (layer.Numbers width bytes) old e = text_inside (get_or bytes.items (length bytes.items - 1) 1 == 0) (width == 1) bytes.items old e
 text_kept (layer.Pointers os) old e = cc
 text_kept (layer.Composite size es) old e = cc
+text_kept (layer.EmptyStructs count lent) old e = cc
 
 pub IsWellFormed-with_data : (l : ListObject) (old left : List ℕ) → as_data (list_object_tree l) ≡ Ok old → length left ≡ length old → AreBytes left → IsWellFormed (list_object_tree l) → IsWellFormed (list_object_tree (with_blob l left))
 IsWellFormed-with_data l old left e n b h =

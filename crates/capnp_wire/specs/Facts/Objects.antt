@@ -11,7 +11,7 @@ use Rattle.capnp_wire.specs.declared.object.Object.{Object}
 use Rattle.capnp_wire.specs.declared.object.Object.TheVariants as object
 use Rattle.capnp_wire.specs.declared.object.StructObject.{StructObject}
 use Rattle.capnp_wire.specs.declared.object.ListObject.{ListObject, out-ListObject}
-use Rattle.capnp_wire.specs.declared.object.ListObject.TheVariants.{Bits, Missing, Numbers, Pointers, Composite}
+use Rattle.capnp_wire.specs.declared.object.ListObject.TheVariants.{Bits, Missing, Numbers, Pointers, Composite, EmptyStructs}
 use Rattle.capnp_wire.specs.declared.object.ListObject.TheFolds.{fold_out-ListObject, map-ListObject, the_lemmas}
 use Rattle.capnp_wire.specs.declared.size.ElementSize.{ElementSize}
 use Rattle.capnp_wire.specs.declared.size.StructSize.{StructSize}
@@ -40,6 +40,10 @@ tree-pointers objects = search (rules, the_lemmas)
 -- a list of structs
 pub tree-composite : (size : StructSize) (objects : Vec StructObject Global) → list_object_tree (Composite size objects) ≡ tree.Composite size.data_words size.pointers (struct_object_trees objects.items)
 tree-composite size objects = search (rules, the_lemmas)
+
+-- a list of structs of size zero, whatever is lent of it
+pub tree-empty_structs : (count : ℕ) (lent : StructObject) → list_object_tree (EmptyStructs count lent) ≡ tree.Composite 0 0 (tree.empty_structs count)
+tree-empty_structs count lent = search (rules, the_lemmas)
 
 -- a struct
 pub tree-struct : (object : StructObject) → struct_object_tree object ≡ record { bytes = object.«data».items; pointers = object_trees object.pointers.items }

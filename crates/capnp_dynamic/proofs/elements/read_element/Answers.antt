@@ -7,8 +7,7 @@ use Rattle.capnp_wire.specs.Reading.{element_levels, element_pointer}
 use Rattle.capnp_wire.specs.Standing.{list_levels, list_of, tree_of}
 use Rattle.capnp_schema.specs.Entries.{lists_seen}
 use Rattle.capnp_schema.specs.Schema.{VoidValue}
-use Rattle.capnp_schema.specs.Tests.{seen_variant}
-use Rattle.capnp_schema.specs.Types.{ListType, seen_type}
+use Rattle.capnp_schema.specs.Types.{ListType, seen_type, seen_variant}
 use Rattle.capnp_schema.specs.Facts.Layers.{elements_sized}
 use Rattle.capnp_records.specs.Facts.Readers.{element_read}
 use Rattle.capnp_records.specs.Default.{read_of}

@@ -9,8 +9,7 @@ use Rattle.capnp_wire.specs.Words.{first_fault}
 use Rattle.capnp_schema.specs.Entries.{lists_seen}
 use Rattle.capnp_schema.specs.Facts.Layers.{seen_which}
 use Rattle.capnp_schema.specs.Schema.{VoidValue}
-use Rattle.capnp_schema.specs.Tests.{seen_variant}
-use Rattle.capnp_schema.specs.Types.{seen_type}
+use Rattle.capnp_schema.specs.Types.{seen_type, seen_variant}
 use Rattle.capnp_slots.specs.Fills.{element_filled}
 use Rattle.capnp_dynamic.proofs.ElementsHanded.{no_default, pointer_there}
 use Rattle.capnp_dynamic.proofs.ElementsStarted.{pointer-here, pointer-there}

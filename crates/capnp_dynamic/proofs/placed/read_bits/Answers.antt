@@ -5,8 +5,7 @@ use Rattle.std.proofs.lemmas.Int.{of_z-to_z}
 use Rattle.capnp_base.specs.declared.introspect.TypeVariant.{TypeVariant}
 use Rattle.capnp_wire.specs.Standing.{struct_of}
 use Rattle.capnp_schema.specs.SlotValue.{bits_at}
-use Rattle.capnp_schema.specs.Tests.{seen_variant}
-use Rattle.capnp_schema.specs.Types.{width}
+use Rattle.capnp_schema.specs.Types.{width, seen_variant}
 use Rattle.capnp_records.specs.Reading.{number_value}
 use Rattle.capnp_records.specs.Record as value
 use Rattle.capnp_dynamic.proofs.placed.read_bits.Goals as goal

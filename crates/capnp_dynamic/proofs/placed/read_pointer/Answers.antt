@@ -4,8 +4,7 @@ use Rattle.capnp_base.specs.declared.introspect.TypeVariant.{TypeVariant}
 use Rattle.capnp_wire.specs.Standing.{levels_of, tree_of}
 use Rattle.capnp_schema.specs.Entries.{lists_seen}
 use Rattle.capnp_schema.specs.Schema.{kind_default, seen_kind}
-use Rattle.capnp_schema.specs.Tests.{seen_variant}
-use Rattle.capnp_schema.specs.Types.{seen_type}
+use Rattle.capnp_schema.specs.Types.{seen_type, seen_variant}
 use Rattle.capnp_schema.specs.Facts.Layers.{elements_sized}
 use Rattle.capnp_records.specs.Record as value
 use Rattle.capnp_records.specs.Record.{Left}

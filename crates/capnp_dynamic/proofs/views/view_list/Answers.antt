@@ -2,8 +2,7 @@
 use Rattle.std.proofs.Common.{ap, sym, ◌∙◌}
 use Rattle.capnp_base.specs.declared.introspect.TypeVariant.{TypeVariant}
 use Rattle.capnp_schema.specs.Entries.{lists_seen}
-use Rattle.capnp_schema.specs.Tests.{seen_variant}
-use Rattle.capnp_schema.specs.Types.{seen_type}
+use Rattle.capnp_schema.specs.Types.{seen_type, seen_variant}
 use Rattle.capnp_schema.specs.declared.value.Value.TheVariants as view
 use Rattle.capnp_schema.specs.Facts.Layers.{elements_sized}
 use Rattle.capnp_dynamic.specs.Viewed.{view_read}

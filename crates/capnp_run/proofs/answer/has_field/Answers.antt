@@ -5,7 +5,7 @@ use Rattle.capnp_wire.specs.Standing.{struct_levels, struct_of}
 use Rattle.capnp_schema.specs.Facts.Layers.{seen_which}
 use Rattle.capnp_schema.specs.FieldLists.{schema_of}
 use Rattle.capnp_schema.specs.StructHandles.{IsStruct}
-use Rattle.capnp_schema.specs.Tests.{seen_variant}
+use Rattle.capnp_schema.specs.Types.{seen_variant}
 use Rattle.capnp_records.specs.Call.{Flag}
 use Rattle.capnp_dynamic.proofs.ItemsShown.{ok_same}
 use Rattle.capnp_run.proofs.FieldReads.{StandsOn, has_reads}

@@ -1,5 +1,5 @@
 -- The last step names an element that is there, or one past the end, or a field.
-use Rattle.std.proofs.Common.{arith, ap, sym, ◌∙◌}
+use Rattle.std.proofs.Common.{arith, ap}
 use Rattle.capnp_wire.specs.Objects.{list_object_tree}
 use Rattle.capnp_schema.specs.Entries.{lists_seen}
 use Rattle.capnp_schema.specs.Types.{seen_type}

@@ -1,5 +1,5 @@
 -- The element has what is given, or the refusal is the machine's.
-use Rattle.std.proofs.Common.{refl, subst}
+use Rattle.std.proofs.Common.{subst}
 use Rattle.capnp_wire.specs.Objects.{list_object_tree}
 use Rattle.capnp_schema.specs.Entries.{lists_seen}
 use Rattle.capnp_schema.specs.Types.{ListType, seen_type}

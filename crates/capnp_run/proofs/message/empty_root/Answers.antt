@@ -6,9 +6,8 @@ use Rattle.capnp_wire.specs.declared.object.Object.TheVariants as object
 use Rattle.capnp_run.proofs.Starts.{empty_root}
 use Rattle.capnp_run.proofs.message.empty_root.Goals as goal
 
-pub returns : goal.returns
+pub returns-clause-root : goal.returns-clause-root
 unfolding builder_tree
-returns c = record {
-  root = empty_root c.args.schema c.size_of-size.result (struct_object_tree c.in_ok-message.field-0.now) (object_tree (object.Struct c.in_ok-message.field-0.now)) c.size_of-size.ensures
-      c.in_ok-message.ensures.now (c.objects_are_what_they_hold.ensures.structs c.in_ok-message.field-0.now) (omega arith) (omega arith);
-}
+returns-clause-root c =
+    empty_root c.args.schema c.size_of-size.result (struct_object_tree c.in_ok-message.field-0.now) (object_tree (object.Struct c.in_ok-message.field-0.now)) c.size_of-size.ensures
+    c.in_ok-message.ensures.now (c.objects_are_what_they_hold.ensures.structs c.in_ok-message.field-0.now) (omega arith) (omega arith)

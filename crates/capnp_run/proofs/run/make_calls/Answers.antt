@@ -1,7 +1,6 @@
 -- Each call has one reply, in order.
-use Rattle.std.proofs.Common.{◌<◌, ◌≤◌, ◌+◌, ◌++◌, ◌∷◌, ◌≡◌, ◌∙◌, [], List, ap, get_or, sym, subst, arith, length, take, vec_len}
+use Rattle.std.proofs.Common.{◌<◌, ◌+◌, ◌++◌, ◌∷◌, ◌≡◌, ◌∙◌, [], List, ap, get_or, sym, subst, arith, length, take}
 use Rattle.std.proofs.lemmas.List.{take_more}
-use Rattle.std.specs.Vec.{vec_capacity}
 use Rattle.capnp_wire.specs.Objects.{struct_object_tree}
 use Rattle.capnp_schema.specs.StructHandles.{number_of, set_of}
 use Rattle.capnp_run.specs.Runs.{Makes}

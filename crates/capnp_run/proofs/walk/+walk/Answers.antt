@@ -1,39 +1,36 @@
 -- Each step goes on in the part that it enters, and the owner has what is left of that.
-use Rattle.std.proofs.Common.{◌≡◌, ◌<◌, ◌≤◌, ◌∷◌, List, ℕ, refl, ap, sym, subst, arith, None, ◌∙◌}
+use Rattle.std.proofs.Common.{◌≡◌, List, ℕ, refl, ap, sym, subst, arith, None, ◌∙◌}
 use Rattle.std.proofs.lemmas.Bool.{true≢false}
 use Rattle.std.proofs.lemmas.List.{nil_from_length}
 use Rattle.std.specs.Borrow.{Bor}
 use Rattle.capnp_device.specs.declared.error.ErrorKind.TheVariants.{NotAContainer}
 use Rattle.capnp_wire.specs.Edits.{IsDueRefusal, struct_in}
 use Rattle.capnp_wire.specs.Elements.{HasPointer, HasStruct}
-use Rattle.capnp_wire.specs.Facts.Written.{element_written, object_written}
+use Rattle.capnp_wire.specs.Facts.Written.{object_written}
 use Rattle.capnp_wire.specs.KeptLists as kept_lists
-use Rattle.capnp_wire.specs.Kept as kept
-use Rattle.capnp_wire.specs.Lends.{with_element, with_object}
+use Rattle.capnp_wire.specs.Lends.{with_object}
 use Rattle.capnp_wire.specs.Objects.{list_object_tree, object_tree, struct_object_tree}
 use Rattle.capnp_wire.specs.Place.{struct_tree}
-use Rattle.capnp_wire.specs.Reading.{element_pointer, element_struct, is_null_tree, list_length}
 use Rattle.capnp_wire.specs.Tree.{StructTree, Tree}
 use Rattle.capnp_wire.specs.WellFormed.{IsWellFormed}
 use Rattle.capnp_wire.specs.Words.{first_fault}
 use Rattle.capnp_schema.specs.Entries.{lists_seen}
 use Rattle.capnp_schema.specs.Facts.Layers.{seen_which}
-use Rattle.capnp_schema.specs.Ranges.{HasRanges}
 use Rattle.capnp_schema.specs.Schema.{Schemas, VoidValue, brand_at}
 use Rattle.capnp_schema.specs.StructHandles.{generic_of, number_of, set_of}
-use Rattle.capnp_schema.specs.Tests.{seen_variant}
-use Rattle.capnp_schema.specs.Types.{ListType, SchemaType, StructType, seen_type}
-use Rattle.capnp_records.specs.Writes.Fill.{entered_list}
+use Rattle.capnp_schema.specs.Types.{ListType, SchemaType, StructType, seen_type, seen_variant}
+use Rattle.capnp_records.specs.Writes.Fill.{IsAtRest, entered_list}
 use Rattle.capnp_records.specs.Writes.Slots.{Fits}
 use Rattle.capnp_slots.specs.Fields.{field_set, pointer_index}
-use Rattle.capnp_slots.specs.Fills.{IsAtRest, fill_due, filled_in}
-use Rattle.capnp_slots.specs.Groups.{KeepsSize}
-use Rattle.capnp_run.proofs.ListWalks.{element_in_list, element_in_struct, element_list_stops, element_past, element_there, filled_there, fits_at, has_pointer, has_struct, list_end, names_none, other_stops, untyped_stops}
-use Rattle.capnp_run.proofs.Parts.{IsStructHere, element_formed, inner_stands, object_kept, pointer_formed, struct_here}
+use Rattle.capnp_slots.specs.Fills.{fill_due, filled_in}
+use Rattle.capnp_run.proofs.ListWalks.{element_in_list, element_in_struct, element_list_stops, element_past, element_there, fits_at, has_pointer, has_struct, list_end, names_none, other_stops, untyped_stops}
+use Rattle.capnp_run.proofs.NoMemory.{path_rests}
+use Rattle.capnp_run.proofs.Parts.{IsStructHere, element_formed, element_walked, inner_stands, object_kept, pointer_formed, struct_here}
 use Rattle.capnp_run.proofs.Walking.{field_group, field_list, field_refused, field_stops, field_struct, pointer_again, pointer_keeps, step_found, step_missing, walks_end}
-use Rattle.capnp_run.specs.Lists.{ElementWalks, IsListStand, ListWalks}
+use Rattle.capnp_run.specs.Lists.{ElementWalks, ListWalks}
 use Rattle.capnp_run.specs.Walks.{FieldWalks, StructWalks}
 use Rattle.capnp_run.specs.declared.calls.Reply.TheVariants as reply
+use Rattle.capnp_run.specs.declared.calls.Step.{Step}
 use Rattle.capnp_run.specs.declared.calls.Step.TheVariants as step
 use Rattle.capnp_run.proofs.walk.+walk.Goals as goal
 
@@ -49,6 +46,19 @@ pub walk-returns-in_default-clause-walks : goal.walk-returns-in_default-clause-w
 walk-returns-in_default-clause-walks t c =
     walks_end (set_of c.args.schema) (number_of c.args.schema) c.args.path.now c.args.end (struct_object_tree c.args.object.now) c.end_at_struct.result (struct_object_tree c.end_at_struct.new.object)
     (nil_from_length c.args.path.now c.in_default.ensures.cases) c.end_at_struct.ensures.ends
+
+pub walk-returns-in_default-clause-rests : goal.walk-returns-in_default-clause-rests
+walk-returns-in_default-clause-rests t c =
+    path_rests c.args.schema c.args.path.now c.args.end (struct_object_tree c.args.object.now) c.end_at_struct.result (struct_object_tree c.end_at_struct.new.object)
+    (walks_end (set_of c.args.schema) (number_of c.args.schema) c.args.path.now c.args.end (struct_object_tree c.args.object.now) c.end_at_struct.result (struct_object_tree c.end_at_struct.new.object)
+    (nil_from_length c.args.path.now c.in_default.ensures.cases) c.end_at_struct.ensures.ends)
+
+pub walk-returns-clause-rests : goal.walk-returns-clause-rests
+walk-returns-clause-rests t c =
+    let s = struct_object_tree c.args.object.now in
+    let s' = struct_object_tree c.walk_step.new.object in
+    path_rests c.args.schema c.args.path.now c.args.end s c.walk_step.result s'
+    (subst (λ (path : List Step). StructWalks (set_of c.args.schema) (number_of c.args.schema) path c.args.end s c.walk_step.result s') (sym c.in-Some.ensures.cases.0) c.walk_step.ensures.walks)
 
 pub walk_step-returns-in-Err-clause-walks : goal.walk_step-returns-in-Err-clause-walks
 walk_step-returns-in-Err-clause-walks t c = step_missing c.args.schema c.args.step c.args.rest.now c.args.end (struct_object_tree c.args.object.now) c.in-Err.error c.in-Err.ensures.found
@@ -186,7 +196,7 @@ walk_struct_in-returns-clause-walks t c =
     let g = generic_of c.args.schema in
     let x = list_object_tree c.args.list.now in
     let y : StructTree = struct_object_tree c.walk.new.object in
-    subst (λ (z : Tree). ElementWalks set (StructType b g) c.args.index c.args.rest.now c.args.end x c.walk.result z) (sym (element_written c.args.list.now c.args.index c.walk.new.object))
+    subst (λ (z : Tree). ElementWalks set (StructType b g) c.args.index c.args.rest.now c.args.end x c.walk.result z) (sym (element_walked c.args.list.now c.args.index c.walk.new.object _ c.get_struct_element-inner.ensures.now c.walk.ensures.kept))
     (element_in_struct set x c.args.index c.args.rest.now c.args.end c.requires.inside b g c.walk.result y
     (subst (λ (s : StructTree). StructWalks set b c.args.rest.now c.args.end s c.walk.result y) c.get_struct_element-inner.ensures.now c.walk.ensures.walks))
 

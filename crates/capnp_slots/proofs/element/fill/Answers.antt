@@ -6,8 +6,7 @@ use Rattle.capnp_wire.specs.Objects.{list_object_tree}
 use Rattle.capnp_wire.specs.Reading.{element_pointer}
 use Rattle.capnp_schema.specs.Entries.{lists_seen}
 use Rattle.capnp_schema.specs.Facts.Layers.{seen_which}
-use Rattle.capnp_schema.specs.Tests.{seen_variant}
-use Rattle.capnp_schema.specs.Types.{SchemaType}
+use Rattle.capnp_schema.specs.Types.{SchemaType, seen_variant}
 use Rattle.capnp_slots.specs.Fills.{element_due, element_filled}
 use Rattle.capnp_slots.proofs.element.fill.Goals as goal
 

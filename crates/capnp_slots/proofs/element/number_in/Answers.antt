@@ -2,8 +2,7 @@
 use Rattle.std.proofs.Common.{◌≡◌, ap, ◌∙◌}
 use Rattle.capnp_schema.specs.Entries.{lists_seen}
 use Rattle.capnp_schema.specs.Facts.Layers.{seen_which}
-use Rattle.capnp_schema.specs.Tests.{seen_variant}
-use Rattle.capnp_schema.specs.Types.{seen_type}
+use Rattle.capnp_schema.specs.Types.{seen_type, seen_variant}
 use Rattle.capnp_slots.proofs.SetElements.{number-err, number-ok, same-ok}
 use Rattle.capnp_slots.proofs.element.number_in.Goals as goal
 

@@ -3,8 +3,7 @@ use Rattle.std.proofs.Common.{◌≡◌, ap, subst, sym, ◌∙◌}
 use Rattle.capnp_wire.specs.Objects.{list_object_tree}
 use Rattle.capnp_schema.specs.Entries.{lists_seen}
 use Rattle.capnp_schema.specs.Facts.Layers.{seen_which}
-use Rattle.capnp_schema.specs.Tests.{seen_variant}
-use Rattle.capnp_schema.specs.Types.{SchemaType, seen_type}
+use Rattle.capnp_schema.specs.Types.{SchemaType, seen_type, seen_variant}
 use Rattle.capnp_records.specs.Writes.ElementEnds.{HasRoom}
 use Rattle.capnp_slots.proofs.SetElements.{number-set, number-small}
 use Rattle.capnp_slots.proofs.element.set_primitive.Goals as goal

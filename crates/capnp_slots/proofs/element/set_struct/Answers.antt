@@ -4,8 +4,7 @@ use Rattle.capnp_wire.specs.Standing.{struct_levels, struct_of}
 use Rattle.capnp_schema.specs.Entries.{lists_seen}
 use Rattle.capnp_schema.specs.Facts.Layers.{seen_which}
 use Rattle.capnp_schema.specs.StructHandles.{number_of}
-use Rattle.capnp_schema.specs.Tests.{seen_variant}
-use Rattle.capnp_schema.specs.Types.{seen_type}
+use Rattle.capnp_schema.specs.Types.{seen_type, seen_variant}
 use Rattle.capnp_records.specs.Record.{Left}
 use Rattle.capnp_slots.proofs.SetElements.{struct-refused}
 use Rattle.capnp_slots.proofs.element.set_struct.Goals as goal

@@ -4,7 +4,7 @@ use Rattle.capnp_device.specs.declared.error.Error.{Error}
 use Rattle.capnp_base.specs.declared.introspect.TypeVariant.{TypeVariant}
 use Rattle.capnp_base.specs.declared.introspect.TypeVariant.TheVariants as variant
 use Rattle.capnp_schema.specs.Schema.{Schemas}
-use Rattle.capnp_schema.specs.Tests.{seen_variant}
+use Rattle.capnp_schema.specs.Types.{seen_variant}
 use Rattle.capnp_records.specs.Call.{Source}
 use Rattle.capnp_records.specs.Given.{given_slot}
 use Rattle.capnp_slots.specs.Primitives.{GivesNumber}

@@ -1,7 +1,7 @@
 -- The field's type is the variant that is matched.
 use Rattle.std.proofs.Common.{ap, ◌∙◌}
 use Rattle.capnp_schema.specs.Facts.Layers.{seen_which}
-use Rattle.capnp_schema.specs.Tests.{seen_variant}
+use Rattle.capnp_schema.specs.Types.{seen_variant}
 use Rattle.capnp_slots.proofs.Stored.{field_given-err, field_given-ok}
 use Rattle.capnp_slots.proofs.slot.number_for.Goals as goal
 

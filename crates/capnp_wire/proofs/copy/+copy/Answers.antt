@@ -1,7 +1,9 @@
-use Rattle.std.proofs.Common.{rules, arith, ◌≡◌, ◌≤◌, ◌<◌, ap}
+use Rattle.std.proofs.Common.{rules, arith, ◌≡◌, ◌≤◌, ◌<◌, ap, ◌∙◌}
 use Rattle.std.proofs.lemmas.Result.{err_from_is_err_and}
 use Rattle.capnp_wire.specs.Tree.{StructTree, nth_struct, nth_tree, struct_count, tree_count}
 use Rattle.capnp_wire.specs.Found.{element_structs, parts_tree, place_tree, pointer_trees}
+use Rattle.capnp_wire.specs.Words.{first_fault_of_elements}
+use Rattle.capnp_wire.specs.Facts.EmptyStructs.{first_fault-empty_structs}
 use Rattle.capnp_wire.proofs.TreeSizes.{nth_struct-smaller, nth_tree-smaller, tree_size, trees_size}
 use Rattle.capnp_wire.proofs.Copies.{all_copied, all_sound, one_refused, one_copied, all_elements_copied, all_elements_sound, element_refused, element_copied}
 use Rattle.capnp_wire.proofs.copy.+copy.Goals as goal
@@ -34,6 +36,9 @@ pub copy_pointers-returns-clause-sound : goal.copy_pointers-returns-clause-sound
 copy_pointers-returns-clause-sound t c =
     let all : tree_count (pointer_trees c.args.pointers) ≤ c.loop-i.i = omega arith in
     all_sound _ _ _ c.loop-i.invariant all
+
+pub copy_composite-returns-in-Some-clause-sound : goal.copy_composite-returns-in-Some-clause-sound
+copy_composite-returns-in-Some-clause-sound t c = ap first_fault_of_elements c.in-Some.ensures.2 ∙ first_fault-empty_structs c.in-Some.count
 
 pub copy_elements-copy_struct-requires : goal.copy_elements-copy_struct-requires
 copy_elements-copy_struct-requires t c =

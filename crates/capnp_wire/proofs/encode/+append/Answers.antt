@@ -7,8 +7,8 @@ use Rattle.capnp_wire.specs.Objects.{object_tree, object_trees, list_object_tree
 use Rattle.capnp_wire.specs.Encoding.{pointer_word, packed, bytes_of}
 use Rattle.capnp_wire.specs.Filling.{put, words_from, with_pointers}
 use Rattle.capnp_wire.proofs.Lists.{length-bits_from, tree_count-of, struct_count-of}
-use Rattle.capnp_wire.proofs.ObjectTrees.{tree-bits, tree-struct}
-use Rattle.capnp_wire.proofs.Measuring.{objects-next, structs-next}
+use Rattle.capnp_wire.proofs.ObjectTrees.{tree-bits, tree-empty_structs, tree-struct}
+use Rattle.capnp_wire.proofs.Measuring.{empty_structs_held, objects-next, structs-next}
 use Rattle.capnp_wire.proofs.Filling.{pointer_filled, element_put, element_filled, row_room, row_last, elements_room, composite_last}
 use Rattle.capnp_wire.proofs.encode.+append.Goals as goal
 
@@ -79,3 +79,12 @@ fill_pointers-loop-object-preserved t c =
     let w : c.get_pointer.result ≡ pointer_word (words_from c.loop-object.at c.loop-object.out.items - 1) (object_tree c.object-item.result) = c.get_pointer.ensures ∙ ap (λ k. pointer_word k (object_tree c.object-item.result)) (omega (arith, c.len.ensures)) in
     let f = pointer_filled _ _ _ _ _ _ _ room w c.put_word.ensures c.in_ok-append_object.ensures in
     record { room = f.0; done = f.1 ∙ done }
+
+pub append_list-append_empty_structs-requires : goal.append_list-append_empty_structs-requires
+append_list-append_empty_structs-requires t c = empty_structs_held _ _ (ap list_object_tree c.in-EmptyStructs.is ∙ tree-empty_structs c.in-EmptyStructs.count _) c.requires.held
+
+pub append_list-returns-in_ok-append_empty_structs-in-EmptyStructs :
+    goal.append_list-returns-in_ok-append_empty_structs-in-EmptyStructs
+append_list-returns-in_ok-append_empty_structs-in-EmptyStructs t c =
+    c.in_ok-append_empty_structs-in-EmptyStructs.ensures
+    ∙ ap (λ x. c.args.out.now.items ++ bytes_of x) (sym (ap list_object_tree c.in-EmptyStructs.is ∙ tree-empty_structs c.in-EmptyStructs.count _))

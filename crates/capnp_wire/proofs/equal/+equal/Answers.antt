@@ -1,7 +1,6 @@
-use Rattle.std.proofs.Common.{ap, arith, refl, subst, sym, ◌∙◌}
-use Rattle.capnp_wire.specs.Found.{element_structs, parts_tree, pointer_trees}
-use Rattle.capnp_wire.specs.Tree.{Trees, Structs, nth_struct, nth_tree}
-use Rattle.capnp_wire.proofs.SameTrees.{SameStructs, SameTrees, height, heights, nth_element_height, nth_height, same_structs, same_trees}
+use Rattle.std.proofs.Common.{ap, arith, refl, sym, ◌∙◌}
+use Rattle.capnp_wire.specs.Found.{element_structs, pointer_trees}
+use Rattle.capnp_wire.proofs.SameTrees.{height, heights, nth_element_height, nth_height, same_counts, same_structs, same_trees}
 use Rattle.capnp_wire.proofs.equal.+equal.Goals as goal
 
 pub are_pointers_same-are_places_same-requires : goal.are_pointers_same-are_places_same-requires
@@ -9,6 +8,10 @@ are_pointers_same-are_places_same-requires t c =
     let low = nth_height (pointer_trees c.args.one) c.loop-i.i in
     let at = ap height c.get_pointer.ensures in
     (omega (arith, low, at, c.decreases), tt)
+
+pub are_elements_same-returns-in-Some-count_empty_structs :
+    goal.are_elements_same-returns-in-Some-count_empty_structs
+are_elements_same-returns-in-Some-count_empty_structs t c = same_counts _ _ _ _ c.in-Some.ensures.2 c.in-Some-count_empty_structs.ensures.2
 
 pub are_elements_same-are_parts_same-requires : goal.are_elements_same-are_parts_same-requires
 are_elements_same-are_parts_same-requires t c =

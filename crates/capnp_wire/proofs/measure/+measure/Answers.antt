@@ -1,9 +1,9 @@
 use Rattle.std.proofs.Common.{arith, ap, ◌∙◌}
 use Rattle.capnp_wire.specs.Objects.{object_tree}
 use Rattle.capnp_wire.proofs.Lists.{length-bits_from, tree_count-of, struct_count-of}
-use Rattle.capnp_wire.proofs.ObjectTrees.{tree-bits, tree-pointers, tree-composite, tree-struct}
+use Rattle.capnp_wire.proofs.ObjectTrees.{tree-bits, tree-empty_structs, tree-pointers, tree-composite, tree-struct}
 use Rattle.capnp_wire.specs.Objects.{list_object_tree, struct_object_tree}
-use Rattle.capnp_wire.proofs.Measuring.{measured_struct, struct_held, measured_element, element_held, measured_bits, bits_held, measured_pointers, pointers_held, measured_composite, composite_held}
+use Rattle.capnp_wire.proofs.Measuring.{empty_structs_held, measured_empty_structs, measured_struct, struct_held, measured_element, element_held, measured_bits, bits_held, measured_pointers, pointers_held, measured_composite, composite_held}
 use Rattle.capnp_wire.proofs.measure.+measure.Goals as goal
 
 pub measure_element-returns-then-len-size : goal.measure_element-returns-then-len-size
@@ -57,3 +57,11 @@ measure_struct-returns t c =
     let d = rw c.as_slice.ensures.value at c.in_ok-own.ensures in
     let h = rw c.as_slice-2.ensures.value at c.in_ok-below.ensures in
     measured_struct _ _ _ _ _ _ _ (tree-struct c.args.object.now) d.0 d.1 (omega (arith, tree_count-of object_tree c.args.object.now.pointers.items, c.len-count.ensures)) (omega (arith, c.if-count-gt65535.false)) h.0 h.1 c.add.ensures
+
+pub measure_list-returns-then-count-5 : goal.measure_list-returns-then-count-5
+measure_list-returns-then-count-5 t c = measured_empty_structs _ _ (ap list_object_tree c.in-EmptyStructs.is ∙ tree-empty_structs c.in-EmptyStructs.count _) c.if-count-5.true
+
+pub measure_list-returns-else-count-5 : goal.measure_list-returns-else-count-5
+measure_list-returns-else-count-5 t c = λ h.
+    let n = empty_structs_held _ _ (ap list_object_tree c.in-EmptyStructs.is ∙ tree-empty_structs c.in-EmptyStructs.count _) h in
+    absurd (omega (arith, n, c.if-count-5.false))

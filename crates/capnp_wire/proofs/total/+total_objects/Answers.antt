@@ -1,7 +1,8 @@
 use Rattle.std.proofs.Common.{arith, ◌≡◌, refl, length}
 use Rattle.std.proofs.lemmas.Result.{err_from_is_err_and}
+use Rattle.capnp_wire.specs.Facts.EmptyStructs.{first_fault-empty_structs, words_below-empty_structs}
 use Rattle.capnp_wire.proofs.Lists.{length-bits_from, tree_count-of, struct_count-of}
-use Rattle.capnp_wire.proofs.ObjectTrees.{tree-bits, tree-pointers, tree-composite, tree-struct, object_tree-at, struct_object_tree-at}
+use Rattle.capnp_wire.proofs.ObjectTrees.{tree-bits, tree-empty_structs, tree-pointers, tree-composite, tree-struct, object_tree-at, struct_object_tree-at}
 use Rattle.capnp_wire.proofs.Sums.{none_summed, all_summed, one_stops, one_sum_stops, one_summed, no_elements_summed, all_elements_summed, element_stops, element_sum_stops, element_summed, totals_at, sum_stops}
 use Rattle.capnp_wire.proofs.total.+total_objects.Goals as goal
 
@@ -81,3 +82,7 @@ total_struct_objects-loop-object-preserved t c =
     let h = rw c.as_slice.ensures.value at c.in_ok-words.ensures in
     let at = struct_object_tree-at c.args.objects.now c.loop-object.object-index c.object-item.result c.loop-object-test.true c.object-item.is in
     element_summed _ _ _ _ c.loop-object.invariant (rw struct_count-of c.loop-object-test.true) at _ _ _ h.0 h.1 c.in_ok-sum.ensures.1 refl
+
+pub total_list_object-returns-in-EmptyStructs : goal.total_list_object-returns-in-EmptyStructs
+total_list_object-returns-in-EmptyStructs t c =
+    rw (c.in-EmptyStructs.is, tree-empty_structs) (first_fault-empty_structs c.in-EmptyStructs.field-0, omega (arith, words_below-empty_structs c.in-EmptyStructs.field-0))

@@ -6,8 +6,7 @@ use Rattle.capnp_schema.specs.FieldLists.{index_of, schema_of as field_schema, t
 use Rattle.capnp_schema.specs.Plan.{IsSlotPlace}
 use Rattle.capnp_schema.specs.Schema.{Field, Schemas, TypedField, default_of, kind_default, seen_kind}
 use Rattle.capnp_schema.specs.StructHandles.{IsStruct, number_of, set_of}
-use Rattle.capnp_schema.specs.Tests.{seen_variant}
-use Rattle.capnp_schema.specs.Types.{SchemaType}
+use Rattle.capnp_schema.specs.Types.{SchemaType, seen_variant}
 use Rattle.capnp_schema.specs.declared.plan.Place.{Place}
 use Rattle.capnp_schema.specs.declared.plan.SlotPlan.{SlotPlan}
 use Rattle.capnp_schema.specs.declared.schema.structs.StructSchema.{StructSchema}

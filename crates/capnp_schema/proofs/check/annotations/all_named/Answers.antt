@@ -1,21 +1,20 @@
-use Rattle.std.proofs.Common.{map, sym, arith}
+use Rattle.std.proofs.Common.{false, map, refl, arith}
 use Rattle.std.proofs.lemmas.List.{length-map}
 use Rattle.std.proofs.lemmas.Bool.Decides.{not_from_Decides}
 use Rattle.capnp_schema.specs.Types.{seen_type}
 use Rattle.capnp_schema.specs.Accepted.{NamesEntries}
 use Rattle.capnp_schema.specs.Entries.{lists_seen}
-use Rattle.capnp_schema.proofs.Decided.{named_decides}
 use Rattle.capnp_schema.proofs.EntryWalk.{one_stands, all_stand}
 use Rattle.capnp_schema.proofs.Checking.AnnotationTypes.{not_all, all_hold}
 use Rattle.capnp_schema.proofs.check.annotations.all_named.Goals as goal
 
 pub returns-then-not-names_entry : goal.returns-then-not-names_entry
 returns-then-not-names_entry c = not_all (map seen_type c.args.types.now) (NamesEntries (lists_seen c.args.lists.now)) c.loop-i.i (seen_type c.in-Some.of.now) c.in-Some.ensures
-    (not_from_Decides _ (named_decides (lists_seen c.args.lists.now) (seen_type c.in-Some.of.now)) (sym c.if-not-names_entry.ensures))
+    (not_from_Decides false c.if-not-names_entry.ensures refl)
 
 pub loop-i-preserved : goal.loop-i-preserved
 loop-i-preserved c = one_stands (map seen_type c.args.types.now) (NamesEntries (lists_seen c.args.lists.now)) c.loop-i.i (seen_type c.in-Some.of.now) c.in-Some.ensures
-    ((named_decides (lists_seen c.args.lists.now) (seen_type c.in-Some.of.now)).0 (sym c.if-not-names_entry.ensures)) c.loop-i.invariant
+    (c.if-not-names_entry.ensures.0 refl) c.loop-i.invariant
 
 pub returns : goal.returns
 returns c = all_hold (map seen_type c.args.types.now) (NamesEntries (lists_seen c.args.lists.now))

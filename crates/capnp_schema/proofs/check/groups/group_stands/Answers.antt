@@ -4,13 +4,13 @@ use Rattle.capnp_schema.proofs.Checking.GroupChains.{one_parent, sizes_differ, p
 use Rattle.capnp_schema.proofs.check.groups.group_stands.Goals as goal
 
 pub returns-in_default-clause-no : goal.returns-in_default-clause-no
-returns-in_default-clause-no c = λ _ stands. without_parent (lists_seen c.args.lists.now) c.requires.targets c.args.parents.now c.requires.table c.args.group (sym (c.if-not-is_group.ensures.within c.requires.within)) c.in_default.ensures (stands (sym (c.if-not-is_group.ensures.within c.requires.within))).0
+returns-in_default-clause-no c = λ _ stands. without_parent (lists_seen c.args.lists.now) c.requires.targets c.args.parents.now c.requires.table c.args.group (sym c.if-not-is_group.ensures) c.in_default.ensures (stands (sym c.if-not-is_group.ensures)).0
 
 pub has_same_sizes-requires-clause-b_in : goal.has_same_sizes-requires-clause-b_in
 has_same_sizes-requires-clause-b_in c = parent_within (lists_seen c.args.lists.now) c.requires.targets c.args.parents.now c.requires.table c.args.group c.in-Some.brand _ c.in-Some.ensures
 
 pub returns-then-not-has_same_sizes-clause-no : goal.returns-then-not-has_same_sizes-clause-no
-returns-then-not-has_same_sizes-clause-no c = λ _ stands. sizes_differ (lists_seen c.args.lists.now) c.requires.targets c.args.parents.now c.requires.table c.args.group c.in-Some.brand _ c.in-Some.ensures (stands (sym (c.if-not-is_group.ensures.within c.requires.within))).0
+returns-then-not-has_same_sizes-clause-no c = λ _ stands. sizes_differ (lists_seen c.args.lists.now) c.requires.targets c.args.parents.now c.requires.table c.args.group c.in-Some.brand _ c.in-Some.ensures (stands (sym c.if-not-is_group.ensures)).0
     (λ same. let e = c.if-not-has_same_sizes.ensures.1 same in cc)
 
 pub returns-clause-yes : goal.returns-clause-yes

@@ -7,14 +7,14 @@ use Rattle.capnp_schema.proofs.check.groups.stands_in_struct.Goals as goal
 
 pub returns-then-not-is_group : goal.returns-then-not-is_group
 returns-then-not-is_group c = let l = length-map c.args.lists.now.brands.items seen_brand in
-    (λ _. walk_ends (lists_seen c.args.lists.now) c.requires.targets c.args.parents.now c.requires.table c.loop.counter c.args.group c.loop.at (omega arith) c.loop.invariant.steps (sym (c.if-not-is_group.ensures.within c.loop.invariant.within)), λ _. refl)
+    (λ _. walk_ends (lists_seen c.args.lists.now) c.requires.targets c.args.parents.now c.requires.table c.loop.counter c.args.group c.loop.at (omega arith) c.loop.invariant.steps (sym c.if-not-is_group.ensures), λ _. refl)
 
 pub returns-in-None : goal.returns-in-None
-returns-in-None c = (λ e. cc, λ stands. absurd (walk_broken (lists_seen c.args.lists.now) c.requires.targets c.args.parents.now c.requires.table c.loop.counter c.args.group c.loop.at c.loop.invariant.steps (sym (c.if-not-is_group.ensures.within c.loop.invariant.within)) c.in-None.ensures stands))
+returns-in-None c = (λ e. cc, λ stands. absurd (walk_broken (lists_seen c.args.lists.now) c.requires.targets c.args.parents.now c.requires.table c.loop.counter c.args.group c.loop.at c.loop.invariant.steps (sym c.if-not-is_group.ensures) c.in-None.ensures stands))
 
 pub loop-preserved : goal.loop-preserved
 loop-preserved c = record {
-  steps = walk_more (lists_seen c.args.lists.now) c.requires.targets c.args.parents.now c.requires.table c.loop.counter c.args.group c.loop.at c.in-Some.brand _ c.loop.invariant.steps (sym (c.if-not-is_group.ensures.within c.loop.invariant.within)) c.in-Some.ensures;
+  steps = walk_more (lists_seen c.args.lists.now) c.requires.targets c.args.parents.now c.requires.table c.loop.counter c.args.group c.loop.at c.in-Some.brand _ c.loop.invariant.steps (sym c.if-not-is_group.ensures) c.in-Some.ensures;
   within = parent_within (lists_seen c.args.lists.now) c.requires.targets c.args.parents.now c.requires.table c.loop.at c.in-Some.brand _ c.in-Some.ensures;
 }
 

@@ -1,7 +1,6 @@
 use Rattle.std.proofs.Common.{ap, ◌∙◌}
-use Rattle.capnp_schema.specs.Types.{struct_brand}
+use Rattle.capnp_schema.specs.Types.{struct_brand, seen_variant}
 use Rattle.capnp_schema.specs.Entries.{lists_seen}
-use Rattle.capnp_schema.specs.Tests.{seen_variant}
 use Rattle.capnp_schema.specs.Facts.Layers.{seen_which}
 use Rattle.capnp_schema.proofs.Checking.SpanLemmas.{group_added, slot_added}
 use Rattle.capnp_schema.proofs.check.spans.add_field.Goals as goal

@@ -1,8 +1,11 @@
 use Rattle.std.proofs.Common.{◌<◌, arith, refl, sym, ap, ◌∙◌, subst}
 use Rattle.capnp_wire.specs.Tree.{nth_tree, tree_count}
 use Rattle.capnp_wire.specs.Objects.{struct_object_tree}
-use Rattle.capnp_wire.proofs.ListObjects.{first_lent, first_seen, first_there, struct_of_pointer, struct_inside}
+use Rattle.capnp_wire.proofs.ListObjects.{first_lent, first_seen, first_there, pointer_not_counted, pointer_there, struct_of_pointer, struct_inside}
 use Rattle.capnp_wire.proofs.object.ListObject.first_pointer_at.Goals as goal
+
+pub structs_here-structs-requires : goal.structs_here-structs-requires
+structs_here-structs-requires c = record { there = pointer_there c.args.self.now c.args.index c.requires.pointer c.requires.composite; each = pointer_not_counted c.args.self.now c.args.index c.requires.pointer }
 
 pub index_mut-element-requires : goal.index_mut-element-requires
 index_mut-element-requires c =

@@ -1,4 +1,4 @@
-use Rattle.std.proofs.Common.{◌≡◌, ◌<◌, arith, refl, length}
+use Rattle.std.proofs.Common.{◌<◌, arith, refl, length}
 use Rattle.capnp_wire.proofs.ObjectTrees.{pointer-at, pointers-counted}
 use Rattle.capnp_wire.proofs.object.StructObject.get_pointer_field.Goals as goal
 

@@ -2,8 +2,7 @@
 use Rattle.std.specs.Prelude.{refl, true}
 use Rattle.std.proofs.Common.{ap, ◌∙◌}
 use Rattle.capnp_schema.specs.Facts.Layers.{seen_which}
-use Rattle.capnp_schema.specs.Tests.{seen_variant}
-use Rattle.capnp_schema.specs.Types.{is_pointer}
+use Rattle.capnp_schema.specs.Types.{is_pointer, seen_variant}
 use Rattle.capnp_records.specs.Writes.Contents.{initn_tree}
 use Rattle.capnp_dynamic.specs.Built.{built_element, built_elements, built_set}
 use Rattle.capnp_dynamic.proofs.ElementsStarted.{element_started}

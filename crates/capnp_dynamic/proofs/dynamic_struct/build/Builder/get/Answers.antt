@@ -1,8 +1,7 @@
 -- A slot of no pointer has its number.
 use Rattle.std.proofs.Common.{ap, sym, ◌∙◌}
 use Rattle.capnp_schema.specs.Facts.Layers.{seen_which}
-use Rattle.capnp_schema.specs.Tests.{seen_variant}
-use Rattle.capnp_schema.specs.Types.{is_pointer}
+use Rattle.capnp_schema.specs.Types.{is_pointer, seen_variant}
 use Rattle.capnp_dynamic.specs.Built.{built_struct}
 use Rattle.capnp_dynamic.proofs.HandedOut.{hands_number}
 use Rattle.capnp_dynamic.proofs.dynamic_struct.build.Builder.get.Goals as goal

@@ -1,0 +1,21 @@
+-- The laws are lemmas over the definitions.
+use Rattle.capnp_records.proofs.ReadBack.{content-read, copy-read, data-read, number-read, text-read, written-active}
+use Rattle.capnp_records.proofs.laws.written_slots_are_read.Goals as goal
+
+pub returns-clause-content : goal.returns-clause-content
+returns-clause-content c = content-read
+
+pub returns-clause-numbers : goal.returns-clause-numbers
+returns-clause-numbers c = number-read
+
+pub returns-clause-copies : goal.returns-clause-copies
+returns-clause-copies c = copy-read
+
+pub returns-clause-texts : goal.returns-clause-texts
+returns-clause-texts c = text-read
+
+pub returns-clause-data : goal.returns-clause-data
+returns-clause-data c = data-read
+
+pub returns-clause-active : goal.returns-clause-active
+returns-clause-active c = written-active

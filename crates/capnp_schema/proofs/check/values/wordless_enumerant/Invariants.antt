@@ -1,8 +1,0 @@
-use Rattle.std.proofs.Common.{map}
-use Rattle.capnp_schema.specs.Accepted.{HaveWords}
-use Rattle.capnp_schema.specs.Schema.{Enumerant, seen_enumerant}
-use Rattle.capnp_schema.proofs.EntryWalk.{StandBelow}
-use Rattle.capnp_schema.proofs.check.values.wordless_enumerant.Given as goal
-
-abbrev pub invariant-loop-i : goal.invariant-loop-i
-invariant-loop-i l = StandBelow (map seen_enumerant l.enumerants) (λ (x : Enumerant). HaveWords x.annotations) l.i

@@ -1,0 +1,25 @@
+-- The rules of single fields, of one, of those of a brand and of all.
+use Rattle.std.specs.Prelude.{ℕ, ◌<◌, length}
+use Rattle.capnp_schema.specs.Schema.{Schemas, Node, TypedField, node_of, fields_of, field_at}
+use Rattle.capnp_schema.specs.Accepted.{FieldsName, NamesEntries, LiesInside, KindDefault, IsDefaultOf, GroupFits, Rule4, Rule5, Rule7}
+
+-- rules 1, 4, 5 and 7 of one field of a node
+pub record FieldStands (set : Schemas) (n : Node) (f : TypedField) : Type 0 where
+  pub names : NamesEntries set f.type
+  pub inside : LiesInside n f.field.kind f.type
+  pub default : KindDefault IsDefaultOf f.field.kind f.type
+  pub group : GroupFits set f.field.kind f.type
+
+-- of a field of a brand, and of each
+abbrev pub FieldStandsAt : Schemas → (b i : ℕ) → Type 0
+FieldStandsAt set b i = FieldStands set (node_of set b) (field_at set b i)
+
+abbrev pub FieldsStandIn : Schemas → ℕ → Type 0
+FieldsStandIn set b = (i : ℕ) → i < length (fields_of set b) → FieldStandsAt set b i
+
+-- of each field of a set
+pub record FieldsStand (set : Schemas) : Type 0 where
+  pub types : FieldsName set
+  pub rule4 : Rule4 set
+  pub rule5 : Rule5 set
+  pub rule7 : Rule7 set

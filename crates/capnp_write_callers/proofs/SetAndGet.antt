@@ -1,0 +1,32 @@
+-- A reader of the struct that a set left answers what was set.
+use Rattle.std.specs.Prelude.{◌≡◌, None, Result, Ok, Err, IfOk}
+use Rattle.std.proofs.Common.{ap, ◌∙◌}
+use Rattle.capnp_device.specs.declared.error.Error.{Error}
+use Rattle.capnp_wire.specs.Standing.{struct_levels, struct_of}
+use Rattle.capnp_wire.specs.Tree.{StructTree}
+use Rattle.capnp_schema.specs.FieldLists.{index_of, typed_of}
+use Rattle.capnp_schema.specs.StructHandles.{set_of, struct_field}
+use Rattle.capnp_schema.specs.declared.schema.fields.Field.{Field}
+use Rattle.capnp_schema.specs.declared.schema.structs.StructSchema.{StructSchema}
+use Rattle.capnp_records.specs.Record.{Left}
+use Rattle.capnp_slots.specs.Fields.{IsSlot}
+use Rattle.capnp_slots.specs.ReadBack.{HasKind, IsWhole}
+use Rattle.capnp_dynamic.specs.Built.{IsUnder}
+use Rattle.capnp_dynamic.specs.FieldWrites.{IsFieldSet}
+use Rattle.capnp_dynamic.specs.Handles.{reader_of, schema_of}
+use Rattle.capnp_dynamic.specs.ReadBack.{SetIsGot}
+use Rattle.capnp_dynamic.specs.Reads.{BelongsTo, field_read, field_seen}
+use Rattle.capnp_dynamic.specs.Seen.{answered, value_seen}
+use Rattle.capnp_dynamic.specs.SetValues.{source_of}
+use Rattle.capnp_dynamic.specs.declared.dynamic_struct.Reader.{Reader as StructHandle}
+use Rattle.capnp_dynamic.specs.declared.dynamic_value.Reader.{Reader as DynamicValue}
+
+pub set_is_got : (f : Field) (v : DynamicValue) (schema : StructSchema) (old new : StructTree) (s : StructHandle) (r : Result DynamicValue Error) → SetIsGot f v →
+    BelongsTo f schema → IsUnder schema old → IsSlot f → IsFieldSet f (source_of v) old None new → schema_of s ≡ schema → struct_of (reader_of s) ≡ new → answered r ≡ field_seen s (index_of f) →
+    IsWhole (source_of v) → HasKind (typed_of f).type → IfOk r (λ got. value_seen got ≡ value_seen v)
+set_is_got f v schema old new s (Ok got) law belongs under slot set same_schema same_struct is whole kind =
+    is
+    ∙ (ap (λ (z : StructSchema). field_read (set_of z) (Left (struct_levels (reader_of s))) (struct_of (reader_of s)) (struct_field z (index_of f))) same_schema
+    ∙ (ap (λ (x : StructTree). field_read (set_of schema) (Left (struct_levels (reader_of s))) x (struct_field schema (index_of f))) same_struct
+    ∙ law schema belongs old new under slot set whole kind (Left (struct_levels (reader_of s)))))
+set_is_got f v schema old new s (Err e) law belongs under slot set same_schema same_struct is whole kind = tt
