@@ -2,8 +2,8 @@
 use Rattle.std.specs.Prelude.{ℕ, zero, suc, ◌≡◌, refl, List, Bool, true, false, cond, IsTrue, None, length}
 use Rattle.std.proofs.Common.{ap, sym, subst, ◌∙◌}
 use Rattle.capnp_wire.specs.Edits.{is_struct, struct_in, with_pointer_tree}
-use Rattle.capnp_wire.specs.Elements.{HasPointer, HasStruct, with_pointer_element, with_struct}
-use Rattle.capnp_wire.specs.Facts.Written.{object_written}
+use Rattle.capnp_wire.specs.Elements.{HasPointer, HasStruct, with_pointer_element, with_struct, with_struct_element}
+use Rattle.capnp_wire.specs.Facts.Written.{element_written, object_written}
 use Rattle.capnp_wire.specs.Kept as kept
 use Rattle.capnp_wire.specs.KeptLists as kept_lists
 use Rattle.capnp_wire.specs.Lends.{with_element, with_object}
