@@ -10,6 +10,7 @@ pub mod GroupFields
 pub mod GroupClears
 pub mod Filled
 pub mod FilledSlots
+pub mod StandingSlots
 pub mod SetElements
 pub mod ElementParts
 pub mod ElementFills

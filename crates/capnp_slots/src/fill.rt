@@ -1,7 +1,7 @@
 //! What stands at a struct's pointers, filled from defaults and extended.
 ghost use Rattle.std.specs.Prelude.{None, Some, false, true, ◌≡◌, ◌≢◌, ◌<◌, IfErr, IsOk, OnErr, OnOk};
 ghost use Rattle.capnp_wire.specs.Defaults.{default_tree, error_of, filled_list_refusal, filled_struct, filled_struct_refusal, filled_structs, filled_structs_refusal, or_default, takes_default};
-ghost use Rattle.capnp_wire.specs.Edits.{HoldsStruct, IsDueRefusal, with_pointer_tree};
+ghost use Rattle.capnp_wire.specs.Edits.{HoldsStruct, IsDueRefusal, extended, struct_in, struct_refusal, with_pointer_tree};
 ghost use Rattle.capnp_wire.specs.Objects.{struct_object_tree};
 ghost use Rattle.capnp_wire.specs.Place.{struct_tree};
 ghost use Rattle.capnp_wire.specs.Reading.{as_data, as_text};
@@ -54,6 +54,23 @@ pub(crate) fn fill_struct(
     object
         .get_pointer_field(index)
         .get_struct_or_default(size, default)?;
+    Ok(())
+}
+
+/// Gives the struct at a pointer at least a size; a null becomes a new one.
+#[tactic(auto, using(crate::proofs::Pointers::pointer_kept, crate::proofs::Pointers::pointer_left, crate::proofs::Pointers::struct_stands))]
+#[inline(always)]
+pub(crate) fn extend_struct(object: &mut StructObject, index: u16, size: StructSize) -> Result<()>
+    requires { IsThere object.old index }
+    ensures ok { OnOk result (HoldsThere object.old index object.new (struct_tree (extended size (struct_in (tree_there object.old index))))) }
+    ensures formed { IsWellFormed (tree_there object.old index)
+        → IsWellFormed (struct_tree (extended size (struct_in (tree_there object.old index)))) }
+    ensures within { OnOk result (struct_refusal (tree_there object.old index) ≡ None) }
+    ensures refused { OnErr result (struct_object_tree object.new ≡ struct_object_tree object.old) }
+    ensures cause { IfErr result (λ e. IsDueRefusal e (struct_refusal (tree_there object.old index))) }
+    ensures succeeds { HoldsStruct size (tree_there object.old index) → IsOk result }
+{
+    object.get_pointer_field(index).get_struct(size)?;
     Ok(())
 }
 

@@ -1,5 +1,5 @@
 //! Parts of a struct that is built: what a builder's `get` of a slot fills, and what it lends.
-ghost use Rattle.std.specs.Prelude.{None, true, ◌-◌, ◌^◌, ◌≡◌, ◌<◌, ◌≤◌, IfErr, IfOk, IsOk, OnErr, OnOk, length};
+ghost use Rattle.std.specs.Prelude.{None, false, true, ◌-◌, ◌^◌, ◌≡◌, ◌<◌, ◌≤◌, IfErr, IfOk, IsOk, OnErr, OnOk, length};
 ghost use Rattle.capnp_device.specs.declared.error.ErrorKind.TheVariants.{OutOfMemory};
 ghost use Rattle.capnp_wire.specs.Defaults.{default_tree as reader_tree, error_of, or_default};
 ghost use Rattle.capnp_wire.specs.Reading.{as_data, as_text, is_null_tree};
@@ -23,7 +23,7 @@ ghost use Rattle.capnp_slots.specs.Fields.{IsPointer, IsRoomFor, IsSlot, field_s
 ghost use Rattle.capnp_slots.specs.Groups.{KeepsSize};
 ghost use Rattle.capnp_slots.specs.Fills.{HoldsThere, IsDefaultPointer, IsThere, ListRests, RestsIn, data_filled, due_in, filled_in, list_due, pointer_in, text_filled, tree_there};
 
-use crate::fill::{check_data, check_text, fill_list, fill_struct, fill_structs};
+use crate::fill::{check_data, check_text, extend_struct, fill_list, fill_struct, fill_structs};
 use crate::make::size_of;
 use crate::pointer::{pointer_slot, set_at};
 use capnp_base::introspect::{Type, TypeVariant};
@@ -74,9 +74,8 @@ fn fill_elements(
     }
 }
 
-/// Fills a pointer's slot.
-#[inline(always)]
-fn fill_slot(object: &mut StructObject, field: Field<'_>, index: u16) -> Result<()>
+/// Fills a pointer's slot where it may be null: its default is read.
+fn fill_null(object: &mut StructObject, field: Field<'_>, index: u16) -> Result<()>
     requires slot { IsSlot field }
     requires pointer { IsPointer field }
     requires is { index ≡ pointer_index field }
@@ -103,6 +102,58 @@ fn fill_slot(object: &mut StructObject, field: Field<'_>, index: u16) -> Result<
         TypeVariant::AnyPointer => Ok(()),
         _ => unreachable!(),
     }
+}
+
+/// Fills a pointer's slot that is not null: its default is not read.
+#[inline(always)]
+fn fill_standing(object: &mut StructObject, field: Field<'_>, index: u16) -> Result<()>
+    requires slot { IsSlot field }
+    requires pointer { IsPointer field }
+    requires is { index ≡ pointer_index field }
+    requires inside { IsThere object.old index }
+    requires formed { IsWellFormed (struct_tree (struct_object_tree object.old)) }
+    requires standing { is_null_tree (tree_there object.old index) ≡ false }
+    ensures filled { OnOk result (HoldsThere object.old index object.new (filled_in field.entry (struct_object_tree object.old))) }
+    ensures within { OnOk result (due_in field.entry (struct_object_tree object.old) ≡ None) }
+    ensures kept { OnOk result (IsWellFormed (filled_in field.entry (struct_object_tree object.old))) }
+    ensures refused { OnErr result (struct_object_tree object.new ≡ struct_object_tree object.old) }
+    ensures cause { IfErr result (λ e. IsDueRefusal e (due_in field.entry (struct_object_tree object.old))) }
+    ensures rests { RestsIn field.entry (struct_object_tree object.old) → IsOk result }
+{
+    pointers_of_structs_are_well_formed();
+    let set = field.get_containing_struct().get_set();
+    match field.get_type().which() {
+        TypeVariant::Struct(raw) => {
+            let size = size_of(set.struct_schema(raw.number));
+            extend_struct(object, index, size)
+        }
+        TypeVariant::List(element) => fill_elements(object, index, set, element, None),
+        TypeVariant::Text => check_text(object, index),
+        TypeVariant::Data => check_data(object, index),
+        TypeVariant::AnyPointer => Ok(()),
+        _ => unreachable!(),
+    }
+}
+
+/// Fills a pointer's slot. The default is read where the pointer is null alone.
+#[inline(always)]
+fn fill_slot(object: &mut StructObject, field: Field<'_>, index: u16) -> Result<()>
+    requires slot { IsSlot field }
+    requires pointer { IsPointer field }
+    requires is { index ≡ pointer_index field }
+    requires inside { IsThere object.old index }
+    requires formed { IsWellFormed (struct_tree (struct_object_tree object.old)) }
+    ensures filled { OnOk result (HoldsThere object.old index object.new (filled_in field.entry (struct_object_tree object.old))) }
+    ensures within { OnOk result (due_in field.entry (struct_object_tree object.old) ≡ None) }
+    ensures kept { OnOk result (IsWellFormed (filled_in field.entry (struct_object_tree object.old))) }
+    ensures refused { OnErr result (struct_object_tree object.new ≡ struct_object_tree object.old) }
+    ensures cause { IfErr result (λ e. IsDueRefusal e (due_in field.entry (struct_object_tree object.old))) }
+    ensures rests { RestsIn field.entry (struct_object_tree object.old) → IsOk result }
+{
+    if object.pointer_field(index).is_null() {
+        return fill_null(object, field, index);
+    }
+    fill_standing(object, field, index)
 }
 
 /// Fills the text at a pointer: a null becomes the default of a text's slot, an empty one too.

@@ -10,7 +10,7 @@ use Rattle.capnp_schema.specs.StructHandles.{set_of}
 use Rattle.capnp_schema.specs.Types.{seen_variant}
 use Rattle.capnp_slots.proofs.Filled.{same-there}
 use Rattle.capnp_slots.proofs.FilledSlots.{list-part, struct-part_due, untyped-left}
-use Rattle.capnp_slots.proofs.part.fill_slot.Goals as goal
+use Rattle.capnp_slots.proofs.part.fill_null.Goals as goal
 
 pub returns-in-Struct-clause-cause : goal.returns-in-Struct-clause-cause
 returns-in-Struct-clause-cause c =

@@ -1,0 +1,107 @@
+-- What stands at a slot's pointer, and is not null, takes nothing of the slot's default.
+use Rattle.std.specs.Prelude.{ℕ, ◌≡◌, refl, Bool, true, false, cond, not, ◌&&◌, None}
+use Rattle.std.proofs.Common.{ap, sym, subst, ◌∙◌}
+use Rattle.std.proofs.lemmas.Bool.{true≢false}
+use Rattle.capnp_wire.specs.Tree as tree
+use Rattle.capnp_wire.specs.Tree.{StructTree, Tree, nth_tree}
+use Rattle.capnp_wire.specs.Defaults as wire
+use Rattle.capnp_wire.specs.Reading.{is_null_tree}
+use Rattle.capnp_wire.specs.StructLists.{struct_list_refusal}
+use Rattle.capnp_base.specs.declared.introspect.«Type».{«Type» as TypeHandle}
+use Rattle.capnp_base.specs.declared.introspect.TypeVariant.{TypeVariant}
+use Rattle.capnp_base.specs.declared.introspect.TypeVariant.TheVariants as variant
+use Rattle.capnp_schema.specs.FieldLists.{typed_of}
+use Rattle.capnp_schema.specs.declared.schema.fields.Field.{Field}
+use Rattle.capnp_schema.specs.Schema.{Schemas, Value, ListValue, TextValue, DataValue, default_of}
+use Rattle.capnp_schema.specs.Types.{SchemaType, VoidType, BoolType, IntType, UIntType, EnumType, TextType, DataType, StructType, ListType, AnyPointerType, element_size, seen_type, seen_variant}
+use Rattle.capnp_records.specs.Facts.Frame.{second-of}
+use Rattle.capnp_records.specs.Writes.Fill.{IsAtRest, entered_list, or_default}
+use Rattle.capnp_records.specs.Writes.Slots.{brand_size}
+use Rattle.capnp_records.specs.Given.{data_tree, text_tree}
+use Rattle.capnp_slots.specs.Fills.{ListRests, RestsIn, due_in, fill_due, filled_in, filled_tree, list_due, pointer_in}
+use Rattle.capnp_slots.specs.Fields.{field_set, pointer_index}
+
+second : {A : Type 0} (q : Bool) (a b : A) → q ≡ false → cond q a b ≡ b
+second true a b e = absurd (true≢false e)
+second false a b e = refl
+
+neither : (q r : Bool) → q ≡ false → (q && r) ≡ false
+neither true r e = absurd (true≢false e)
+neither false r e = refl
+
+or-stays : (d : Value) (x : Tree) → is_null_tree x ≡ false → or_default d x ≡ x
+or-stays (ListValue words) tree.Null e = absurd (true≢false e)
+or-stays d x e = refl
+
+-- what is left of a text or data
+pub text-stays : (set : Schemas) (d : Value) (x : Tree) → is_null_tree x ≡ false → x ≡ filled_tree set d TextType x
+text-stays set (TextValue bytes) x e = sym (second-of (is_null_tree x) (text_tree bytes) x e)
+text-stays set d x e = refl
+
+pub data-stays : (set : Schemas) (d : Value) (x : Tree) → is_null_tree x ≡ false → x ≡ filled_tree set d DataType x
+data-stays set (DataValue bytes) x e = sym (second-of (is_null_tree x) (data_tree bytes) x e)
+data-stays set d x e = refl
+
+module _ (set : Schemas) (d : Value) (x : Tree) (there : is_null_tree x ≡ false) where
+  -- a list is filled as if there were no default
+  pub record ListStands (e : SchemaType) (t : SchemaType) : Type 0 where
+    pub filled : entered_list set e (wire.or_default tree.Null x) ≡ filled_tree set d t x
+    pub due : list_due set e tree.Null x ≡ fill_due set d t x
+    pub rests : IsAtRest set d t x → ListRests set e tree.Null x
+
+  list-entered : (e : SchemaType) → entered_list set e (wire.or_default tree.Null x) ≡ filled_tree set d (ListType e) x
+  list-entered e = ap (entered_list set e) (second (is_null_tree x) tree.Null x there ∙ sym (or-stays d x there))
+
+  takes-none : wire.takes_default tree.Null x ≡ false
+  takes-none = neither (is_null_tree x) (not (is_null_tree tree.Null)) there
+
+  plain-due : (e : SchemaType) → wire.filled_list_refusal tree.Null (element_size e) x ≡ wire.list_refusal (element_size e) x
+  plain-due e = second (is_null_tree x) _ (wire.list_refusal (element_size e) x) there
+
+  plain-rests : (e : SchemaType) → {P : Type 0} → P × (wire.list_refusal (element_size e) x ≡ None) → (wire.takes_default tree.Null x ≡ false) × (wire.filled_list_refusal tree.Null (element_size e) x ≡ None)
+  plain-rests e h = (takes-none, plain-due e ∙ h.1)
+
+  stands : (e : SchemaType) → ListStands e (ListType e)
+  stands (StructType b g) = record {
+    filled = list-entered (StructType b g);
+    due = second (is_null_tree x) _ (struct_list_refusal (brand_size set b) x) there ∙ ap (struct_list_refusal (brand_size set b)) (sym (or-stays d x there));
+    rests = λ h. (takes-none, h.1);
+  }
+  stands VoidType = record { filled = list-entered VoidType; due = plain-due VoidType; rests = plain-rests VoidType }
+  stands BoolType = record { filled = list-entered BoolType; due = plain-due BoolType; rests = plain-rests BoolType }
+  stands (IntType k) = record { filled = list-entered (IntType k); due = plain-due (IntType k); rests = plain-rests (IntType k) }
+  stands (UIntType k) = record { filled = list-entered (UIntType k); due = plain-due (UIntType k); rests = plain-rests (UIntType k) }
+  stands (EnumType m) = record { filled = list-entered (EnumType m); due = plain-due (EnumType m); rests = plain-rests (EnumType m) }
+  stands TextType = record { filled = list-entered TextType; due = plain-due TextType; rests = plain-rests TextType }
+  stands DataType = record { filled = list-entered DataType; due = plain-due DataType; rests = plain-rests DataType }
+  stands (ListType s) = record { filled = list-entered (ListType s); due = plain-due (ListType s); rests = plain-rests (ListType s) }
+  stands AnyPointerType = record { filled = list-entered AnyPointerType; due = plain-due AnyPointerType; rests = plain-rests AnyPointerType }
+
+  pub list-stands : (e t : SchemaType) → ListType e ≡ t → ListStands e t
+  list-stands e t h = subst (ListStands e) h (stands e)
+
+-- ---- by a field ----
+
+module _ (f : Field) (v : TypeVariant) (i : ℕ) (s : StructTree) (at : i ≡ pointer_index f) (h : seen_variant v ≡ (typed_of f).type) (there : is_null_tree (nth_tree s.pointers i) ≡ false) where
+  stands-there : is_null_tree (pointer_in f s) ≡ false
+  stands-there = subst (λ j. is_null_tree (nth_tree s.pointers j) ≡ false) at there
+
+  pub text-in : v ≡ variant.Text → nth_tree s.pointers i ≡ filled_in f s
+  text-in e = ap (nth_tree s.pointers) at ∙ subst (λ u. pointer_in f s ≡ filled_tree (field_set f) (default_of (typed_of f).field) u (pointer_in f s)) (ap seen_variant (sym e) ∙ h)
+      (text-stays (field_set f) (default_of (typed_of f).field) (pointer_in f s) stands-there)
+
+  pub data-in : v ≡ variant.«Data» → nth_tree s.pointers i ≡ filled_in f s
+  data-in e = ap (nth_tree s.pointers) at ∙ subst (λ u. pointer_in f s ≡ filled_tree (field_set f) (default_of (typed_of f).field) u (pointer_in f s)) (ap seen_variant (sym e) ∙ h)
+      (data-stays (field_set f) (default_of (typed_of f).field) (pointer_in f s) stands-there)
+
+  -- what stands at a list's slot, by the set and the index that the code has
+  pub record StandingList (set : Schemas) (e : SchemaType) (j : ℕ) : Type 0 where
+    pub filled : entered_list set e (wire.or_default tree.Null (nth_tree s.pointers j)) ≡ filled_in f s
+    pub due : list_due set e tree.Null (nth_tree s.pointers j) ≡ due_in f s
+    pub rests : RestsIn f s → ListRests set e tree.Null (nth_tree s.pointers j)
+
+  pub list-in : (set : Schemas) (element : TypeHandle) → set ≡ field_set f → v ≡ variant.List element → StandingList set (seen_type element) i
+  list-in set element same e =
+      let part = list-stands (field_set f) (default_of (typed_of f).field) (pointer_in f s) stands-there (seen_type element) (typed_of f).type (ap seen_variant (sym e) ∙ h) in
+      subst (λ (z : Schemas). StandingList z (seen_type element) i) (sym same)
+      (subst (λ j. StandingList (field_set f) (seen_type element) j) (sym at) (record { filled = part.filled; due = part.due; rests = part.rests }))
