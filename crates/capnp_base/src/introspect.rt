@@ -7,8 +7,6 @@ ghost use Rattle.capnp_base.specs.declared.introspect.TypeVariant.TheVariants as
 ghost use Rattle.capnp_base.specs.Types.{base_type, element_size, innermost, is_pointer, list_type, loosely_equal_types, type_from, variant_of};
 
 pub mod laws;
-#[cfg(test)]
-mod tests;
 
 use capnp_wire::size::ElementSize;
 

@@ -1,5 +1,5 @@
 -- A field that belongs to a struct's schema is read as that schema's.
-use Rattle.std.specs.Prelude.{ℕ, ◌≡◌}
+use Rattle.std.specs.Prelude.{ℕ, ◌≡◌, not}
 use Rattle.std.proofs.Common.{ap, ◌∙◌}
 use Rattle.capnp_wire.specs.Standing.{struct_levels, struct_of}
 use Rattle.capnp_schema.specs.FieldLists.{index_of, schema_of as field_schema, typed_of}
@@ -7,7 +7,7 @@ use Rattle.capnp_schema.specs.Schema.{Schemas, TypedField, field_at}
 use Rattle.capnp_schema.specs.StructHandles.{number_of, set_of, struct_field}
 use Rattle.capnp_schema.specs.declared.schema.fields.Field.{Field}
 use Rattle.capnp_schema.specs.declared.schema.structs.StructSchema.{StructSchema}
-use Rattle.capnp_records.specs.Part.{has_of}
+use Rattle.capnp_records.specs.Part.{has_of, is_inactive}
 use Rattle.capnp_records.specs.Reading.{struct_record}
 use Rattle.capnp_records.specs.Record.{Left}
 use Rattle.capnp_dynamic.specs.Handles.{reader_of, schema_of}
@@ -33,3 +33,11 @@ same_has f r belongs =
     ap (λ (z : Schemas). has_of (struct_record z (Left (struct_levels (reader_of r))) (struct_of (reader_of r)) (number_of (field_schema f))) (typed_of f).field (index_of f)) belongs.set
     ∙ (ap (λ (b : ℕ). has_of (struct_record (set_of (schema_of r)) (Left (struct_levels (reader_of r))) (struct_of (reader_of r)) b) (typed_of f).field (index_of f)) belongs.number
     ∙ ap (λ (t : TypedField). has_of (record_seen r) t.field (index_of f)) (same_field f (schema_of r) belongs))
+
+pub same_active : (f : Field) (r : StructHandle) → BelongsTo f (schema_of r) →
+    not (is_inactive (struct_record (set_of (field_schema f)) (Left (struct_levels (reader_of r))) (struct_of (reader_of r)) (number_of (field_schema f))) (typed_of f).field (index_of f))
+    ≡ not (is_inactive (record_seen r) (struct_field (schema_of r) (index_of f)).field (index_of f))
+same_active f r belongs =
+    ap (λ (z : Schemas). not (is_inactive (struct_record z (Left (struct_levels (reader_of r))) (struct_of (reader_of r)) (number_of (field_schema f))) (typed_of f).field (index_of f))) belongs.set
+    ∙ (ap (λ (b : ℕ). not (is_inactive (struct_record (set_of (schema_of r)) (Left (struct_levels (reader_of r))) (struct_of (reader_of r)) b) (typed_of f).field (index_of f))) belongs.number
+    ∙ ap (λ (t : TypedField). not (is_inactive (record_seen r) t.field (index_of f))) (same_field f (schema_of r) belongs))

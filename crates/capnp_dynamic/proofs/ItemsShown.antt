@@ -1,10 +1,9 @@
 -- The items of a struct, from a field on.
-use Rattle.std.specs.Prelude.{ℕ, zero, suc, ◌+◌, ◌<◌, ◌≤◌, ◌≡◌, ◌==◌, refl, List, [], ◌∷◌, ◌++◌, Bool, true, false, not, ◌&&◌, ◌||◌, nat_lt, cond, length, drop, slice_get, Option, Some, None, Result, Ok}
+use Rattle.std.specs.Prelude.{ℕ, zero, suc, ◌+◌, ◌<◌, ◌≤◌, ◌≡◌, ◌==◌, refl, List, [], ◌∷◌, ◌++◌, Bool, true, false, not, ◌&&◌, ◌||◌, nat_lt, cond, length, drop, slice_get, Option, Some, None}
 use Rattle.std.proofs.Common.{ap, sym, subst, ◌∙◌, arith}
 use Rattle.std.proofs.lemmas.Bool.{eq-eqb}
 use Rattle.std.specs.Option.{unwrap_or}
 use Rattle.capnp_schema.specs.FieldLists.{IsFieldOf, IsFound, index_of, typed_of}
-use Rattle.capnp_device.specs.declared.error.Error.{Error}
 use Rattle.capnp_schema.specs.Schema.{Field as FieldRecord}
 use Rattle.capnp_schema.specs.Schema.{Schemas, TypedField, default_of, is_member, no_field, node_of}
 use Rattle.capnp_schema.specs.StructHandles.{number_of, set_of, struct_field, struct_fields}
@@ -18,7 +17,7 @@ use Rattle.capnp_records.specs.Record as value
 use Rattle.capnp_records.specs.Record.{Active, MoreValues, NoUnion, Parts, Union, Unknown, Value, Values, is_there}
 use Rattle.capnp_records.specs.Text.{Layout, Member, Out, before, item, item_if, later, member, part_text, rest_of, shown}
 use Rattle.capnp_wire.specs.Standing.{struct_of}
-use Rattle.capnp_dynamic.proofs.HasWhich.{not_zero}
+use Rattle.capnp_dynamic.specs.Facts.HasWhich.{not_zero}
 use Rattle.capnp_dynamic.specs.Handles.{reader_of, schema_of}
 use Rattle.capnp_dynamic.specs.PartsRead.{field_in}
 use Rattle.capnp_dynamic.specs.Reads.{BelongsTo}
@@ -235,9 +234,6 @@ plain_from r f d e h = ap (λ n. not (n == 65535)) (sym e) ∙ ap (λ n. not (n 
 -- the name of a field's record
 pub name_in : (r : StructHandle) (f : Field) → IsFieldOf (schema_of r) (index_of f) f → (p : FieldRecord) → p ≡ (typed_of f).field → p.name ≡ (field_in r f).field.name
 name_in r f field p e = ap (λ (x : FieldRecord). x.name) (e ∙ ap (λ (s : StructSchema). (struct_field s (index_of f)).field) field.schema)
-
-pub ok_same : (answer : Result Bool Error) (x y : Bool) → answer ≡ Ok x → answer ≡ Ok y → x ≡ y
-ok_same answer x y e h = cc
 
 -- the discriminant value of a field's record
 pub discriminant_in : (r : StructHandle) (f : Field) → IsFieldOf (schema_of r) (index_of f) f → (p : FieldRecord) → p ≡ (typed_of f).field → p.discriminant_value ≡ (field_in r f).field.discriminant_value

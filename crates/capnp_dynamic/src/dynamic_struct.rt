@@ -3,7 +3,7 @@ mod build;
 
 use crate::bits::discriminant_at;
 use crate::dynamic_value;
-use crate::placed::{has_planned, read_placed};
+use crate::placed::{has_planned, is_member_active, read_placed};
 use crate::printer::print_debug;
 pub use build::Builder;
 use capnp_base::any_pointer;
@@ -23,7 +23,7 @@ pub struct Reader<'a> {
 }
 
 impl<'a> Reader<'a> {
-    ghost use Rattle.std.specs.Prelude.{Ok, IfErr, IfOk, IsOkAnd, ◌≡◌};
+    ghost use Rattle.std.specs.Prelude.{Ok, not, IfErr, IfOk, IsOkAnd, ◌≡◌};
     ghost use Rattle.capnp_wire.specs.Standing.{struct_levels, struct_of};
     ghost use Rattle.capnp_wire.specs.Total.{IsSize, IsSizeRefusal};
     ghost use Rattle.capnp_wire.specs.Words.{first_fault_of_all, words_of_struct};
@@ -31,7 +31,7 @@ impl<'a> Reader<'a> {
     ghost use Rattle.capnp_schema.specs.Query.{field_named};
     ghost use Rattle.capnp_schema.specs.StructHandles.{set_of, struct_field, struct_records};
     ghost use Rattle.capnp_schema.specs.Types.{seen_type};
-    ghost use Rattle.capnp_records.specs.Part.{has_of, which_of};
+    ghost use Rattle.capnp_records.specs.Part.{has_of, is_inactive, which_of};
     ghost use Rattle.capnp_dynamic.specs.Handles.{reader_of, schema_of};
     ghost use Rattle.capnp_dynamic.specs.Reads.{BelongsTo, field_seen, found_has, found_seen, kind_read};
     ghost use Rattle.capnp_dynamic.specs.Seen.{answered, record_seen};
@@ -111,6 +111,18 @@ impl<'a> Reader<'a> {
         }
         let value = discriminant_at(&self.reader, body.discriminant_offset);
         self.schema.get_field_by_discriminant(value)
+    }
+
+    /// False for a member of the union that is not active, else true: it is what `get` asks first.
+    #[inline(always)]
+    pub fn is_active(&self, field: Field<'a>) -> bool
+        requires { BelongsTo field (schema_of self.now) }
+        ensures { result ≡ not (is_inactive (record_seen self.now) (struct_field (schema_of self.now) (index_of field.entry)).field (index_of field.entry)) }
+    {
+        // What every set is known to meet is known of it here.
+        let _schema = field.get_containing_struct();
+        let plan = field.plan();
+        is_member_active(&self.reader, plan.member)
     }
 
     /// False for a member that is not active and for a null pointer, else true. The answer is always Ok.

@@ -8,7 +8,7 @@ ghost use Rattle.capnp_schema.specs.SlotValue.{bits_at};
 ghost use Rattle.capnp_schema.specs.Types.{is_pointer, width, seen_variant};
 ghost use Rattle.capnp_records.specs.Reading.{number_value};
 ghost use Rattle.capnp_records.specs.Record.{Left};
-ghost use Rattle.capnp_dynamic.specs.Planned.{IsSound, placed_read, planned_has};
+ghost use Rattle.capnp_dynamic.specs.Planned.{IsSound, member_there, placed_read, planned_has};
 ghost use Rattle.capnp_dynamic.specs.Reads.{pointer_read};
 ghost use Rattle.capnp_dynamic.specs.Seen.{answered};
 ghost use Rattle.capnp_dynamic.specs.Typed.{IsOf};
@@ -118,16 +118,26 @@ pub(crate) fn read_placed<'a>(
     }
 }
 
+/// Whether a member of a plan is active; a field that is no member always is.
+#[inline(always)]
+pub(crate) fn is_member_active(reader: &StructReader<'_>, member: Option<(u32, u16)>) -> bool
+    requires { IfSome member (λ m. m.0 % 16 ≡ 0) }
+    ensures { result ≡ member_there (struct_of reader.now).bytes member }
+{
+    match member {
+        Some((start, value)) => plain_at(reader, start) == value,
+        None => true,
+    }
+}
+
 /// Whether a member is active by its plan, and what stands at its place is no null.
 #[inline(always)]
 pub(crate) fn has_planned(reader: &StructReader<'_>, plan: SlotPlan) -> bool
     requires { IfSome plan.member (λ m. m.0 % 16 ≡ 0) }
     ensures { result ≡ planned_has (struct_of reader.now) plan }
 {
-    if let Some((start, value)) = plan.member {
-        if plain_at(reader, start) != value {
-            return false;
-        }
+    if !is_member_active(reader, plan.member) {
+        return false;
     }
     match plan.place {
         Place::Nothing => true,

@@ -18,7 +18,7 @@ use Rattle.capnp_records.specs.Facts.FieldWrite.{and-false, field_write, fits-af
 use Rattle.capnp_records.specs.Facts.Frame.{first-of, flip-false, part_of-same, record_of-plain_write, second-of}
 use Rattle.capnp_records.specs.Facts.NewTrees.{copied-given, text-closed}
 use Rattle.capnp_records.specs.Facts.Numbers.{IsStored, number-content, stored-given, suits-number}
-use Rattle.capnp_records.specs.Facts.PartRead.{nth-plain_parts}
+use Rattle.capnp_records.specs.Facts.PartRead.{nth-plain_parts, slot-part}
 use Rattle.capnp_records.specs.Default.{default_record, default_value, read_of}
 use Rattle.capnp_records.specs.Laws.{IsFieldAt, SameOutside}
 use Rattle.capnp_records.specs.Part.{active_value, has_of, is_active, is_inactive, nth_value, part_at, which_of, with_part, with_value}
@@ -36,7 +36,7 @@ use Rattle.capnp_records.proofs.Cut.{RecordCuts, UnionCuts, struct_record-cuts}
 use Rattle.capnp_records.proofs.DefaultParts.{first-active}
 use Rattle.capnp_records.proofs.GroupClear.{fits-group, turns-cleared_group, within-cleared}
 use Rattle.capnp_records.proofs.GroupCopy.{within-copied}
-use Rattle.capnp_records.proofs.SlotWrite.{slot-inside, slot-part, turns-with_slot}
+use Rattle.capnp_records.proofs.SlotWrite.{slot-inside, turns-with_slot}
 
 -- ---- slots ----
 

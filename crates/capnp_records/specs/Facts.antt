@@ -2,6 +2,7 @@
 pub mod DefaultTree
 pub mod Extension
 pub mod FieldWrite
+pub mod FormedSets
 pub mod Frame
 pub mod GroupWrite
 pub mod Groups
@@ -13,3 +14,4 @@ pub mod PartRead
 pub mod Pointers
 pub mod ReadFaults
 pub mod Readers
+pub mod Refusals

@@ -15,11 +15,10 @@ use Rattle.capnp_schema.specs.Schema.{FieldKind, Group, Schemas, Slot, default_o
 use Rattle.capnp_schema.specs.Schema.{Value as SchemaValue}
 use Rattle.capnp_schema.specs.Types.{SchemaType, StructType, is_pointer}
 use Rattle.capnp_schema.specs.declared.schema.fields.Field.{Field}
-use Rattle.capnp_records.proofs.Refusals.{struct-refused}
-use Rattle.capnp_records.proofs.SlotWrite.{part_of-slot}
+use Rattle.capnp_records.specs.Facts.Refusals.{struct-refused}
 use Rattle.capnp_records.specs.Call.{Refused}
 use Rattle.capnp_records.specs.Facts.Frame.{first-of}
-use Rattle.capnp_records.specs.Facts.PartRead.{CanEnter, can-enter}
+use Rattle.capnp_records.specs.Facts.PartRead.{CanEnter, can-enter, slot-part}
 use Rattle.capnp_records.specs.Facts.Pointers.{values_of-nth}
 use Rattle.capnp_records.specs.Part.{is_inactive}
 use Rattle.capnp_records.specs.Reading.{Reading, kind_value, reads, record_within, value_of, values_of}
@@ -97,7 +96,7 @@ pointed f s slot pointer walks = go (typed_of f).field.kind refl
 
     go : (k : FieldKind) → (typed_of f).field.kind ≡ k → part_in f s ≡ value_of set (nth_tree s.pointers (offset_of k)) Endless t
     go (Slot offset d) e =
-        enter.part ∙ (part_of-slot set s (typed_of f) offset d e
+        enter.part ∙ (slot-part set Endless s (typed_of f) offset d e
         ∙ (first-of (is_pointer t) _ _ pointer
         ∙ ap (λ (r : Reading). r Endless t) (values_of-nth set s.pointers offset)))
     go (Group node) e = absurd (true≢false (sym (ap is_group_field e) ∙ slot))

@@ -1,5 +1,5 @@
 -- What is read at the end of a path is what the machine of records says.
-use Rattle.std.specs.Prelude.{ℕ, ◌<◌, ◌≡◌, refl, true, false, length, IsTrue, Option, None, Result, Ok, IfOk}
+use Rattle.std.specs.Prelude.{ℕ, ◌<◌, ◌≡◌, refl, Bool, true, false, not, length, IsTrue, Option, None, Result, Ok, IfOk}
 use Rattle.std.proofs.Common.{ap, inl, inr, sym, subst, ◌∙◌}
 use Rattle.capnp_device.specs.declared.error.Error.{Error}
 use Rattle.capnp_device.specs.declared.error.ErrorKind.{ErrorKind}
@@ -14,9 +14,9 @@ use Rattle.capnp_schema.specs.StructHandles.{IsStruct, number_of, set_of, struct
 use Rattle.capnp_schema.specs.Types.{SchemaType, seen_variant}
 use Rattle.capnp_schema.specs.declared.schema.fields.Field.{Field}
 use Rattle.capnp_schema.specs.declared.schema.structs.StructSchema.{StructSchema}
-use Rattle.capnp_records.proofs.OpContents.{choose-false, choose-true}
 use Rattle.capnp_records.specs.Call.{Get, GivesValue, Plain, Reply, Refused}
 use Rattle.capnp_records.specs.Default.{read_of}
+use Rattle.capnp_records.specs.Facts.Frame.{choose-false, choose-true}
 use Rattle.capnp_records.specs.Facts.PartRead.{CanEnter, can-enter}
 use Rattle.capnp_records.specs.Operation.{Answers, Does, plain, takes_memory}
 use Rattle.capnp_records.specs.Part.{has_of, is_inactive}
@@ -32,7 +32,7 @@ use Rattle.capnp_dynamic.specs.declared.dynamic_value.Reader.{Reader as DynamicV
 use Rattle.capnp_dynamic.specs.declared.dynamic_value.Reader.TheVariants as dynamic
 use Rattle.capnp_slots.specs.Fields.{field_brand, field_set}
 use Rattle.capnp_run.specs.Ways.{target_in}
-use Rattle.capnp_run.proofs.Levels.{answers_same, field_same, has_levels, same_from, same_then}
+use Rattle.capnp_run.proofs.Levels.{active_levels, answers_same, field_same, has_levels, same_from, same_then}
 
 -- ---- a struct's reader ----
 
@@ -55,6 +55,19 @@ has_reads r f s on is inside v e =
     ap (λ (x : Record). has_of x (struct_field (schema_of r) (index_of f)).field (index_of f)) (record_is r (field_schema f) s on)
     ∙ ap (λ (z : StructSchema). has_of (struct_record (field_set f) (Left 64) s (field_brand f)) (struct_field z (index_of f)).field (index_of f)) on.schema_is
     ∙ has_levels (field_set f) (Left 64) s is.accepted (field_brand f) (index_of f) is.number inside v e
+
+not-not : (x : Bool) → not (not x) ≡ x
+not-not true = refl
+not-not false = refl
+
+pub active_reads : (r : StructHandle) (f : Field) (s : StructTree) → schema_of r ≡ field_schema f → struct_of (reader_of r) ≡ s → IsStruct (field_schema f) → index_of f < length (struct_fields (field_schema f)) → (q : Bool) →
+    q ≡ not (is_inactive (record_seen r) (struct_field (schema_of r) (index_of f)).field (index_of f)) → not q ≡ is_inactive (reads (field_set f) s (field_brand f)) (typed_of f).field (index_of f)
+active_reads r f s schema struct is inside q answered =
+    ap not (answered
+    ∙ (ap (λ (z : StructSchema). not (is_inactive (struct_record (set_of z) (Left (struct_levels (reader_of r))) (struct_of (reader_of r)) (number_of z)) (struct_field z (index_of f)).field (index_of f))) schema
+    ∙ (ap (λ (x : StructTree). not (is_inactive (struct_record (field_set f) (Left (struct_levels (reader_of r))) x (field_brand f)) (typed_of f).field (index_of f))) struct
+    ∙ active_levels (field_set f) (Left (struct_levels (reader_of r))) s is.accepted (field_brand f) (index_of f) is.number inside)))
+    ∙ not-not _
 
 -- ---- get ----
 

@@ -1,5 +1,5 @@
 -- What a reader with 64 levels is answered is what the whole record says.
-use Rattle.std.specs.Prelude.{ℕ, ◌≡◌, ◌⊎◌, ◌<◌, refl, List, Bool, true, false, cond, length, IsTrue, ◌==◌, Result, Option, Some, None, Ok, Err}
+use Rattle.std.specs.Prelude.{ℕ, ◌≡◌, ◌⊎◌, ◌<◌, refl, List, Bool, true, false, not, cond, length, IsTrue, ◌==◌, Result, Option, Some, None, Ok, Err}
 use Rattle.std.proofs.Common.{ap, sym, subst, ◌∙◌}
 use Rattle.std.proofs.lemmas.Bool.{true≢false}
 use Rattle.capnp_wire.specs.Tree as tree
@@ -19,13 +19,13 @@ use Rattle.capnp_records.specs.Facts.Readers.{null-is, value-there}
 use Rattle.capnp_records.specs.Facts.ListValues.{below_of, count-values_from}
 use Rattle.capnp_records.specs.Facts.Pointers.{values_of-nth}
 use Rattle.capnp_records.specs.Operation.{Answers, plain, takes_memory}
-use Rattle.capnp_records.specs.Part.{has_of}
+use Rattle.capnp_records.specs.Part.{has_of, is_inactive}
 use Rattle.capnp_records.specs.Reading.{Below, Reading, element_value, elements_value, kind_value, nth_reading, of_read, part_of, record_of, record_within, struct_record, tree_value, value_of, values_of}
 use Rattle.capnp_records.specs.Record as value
 use Rattle.capnp_records.specs.Record.{Endless, Left, Levels, NoUnion, Parts, Record, Value, one_less, values_from}
 use Rattle.capnp_records.specs.Call.{GivesValue, ListPlain, Reply}
 use Rattle.capnp_records.specs.Step.{IsRefused, fault_of}
-use Rattle.capnp_dynamic.proofs.HasWhich.{has_by_plan}
+use Rattle.capnp_dynamic.specs.Facts.HasWhich.{active_by_plan, has_by_plan}
 use Rattle.capnp_dynamic.specs.Reads.{field_read, handed_out}
 
 -- ---- has ----
@@ -34,6 +34,13 @@ pub has_levels : (set : Schemas) (l : Levels) (s : StructTree) → IsAccepted se
     has_of (struct_record set l s b) (field_at set b i).field i ≡ has_of (struct_record set Endless s b) (field_at set b i).field i
 has_levels set l s accepted b i b_in i_in v e =
     sym (has_by_plan set l s accepted b i b_in i_in v e) ∙ has_by_plan set Endless s accepted b i b_in i_in v e
+
+-- ---- whether a field can be read as it stands ----
+
+pub active_levels : (set : Schemas) (l : Levels) (s : StructTree) → IsAccepted set → (b i : ℕ) → b < length set.brands → i < length (fields_of set b) →
+    not (is_inactive (struct_record set l s b) (field_at set b i).field i) ≡ not (is_inactive (struct_record set Endless s b) (field_at set b i).field i)
+active_levels set l s accepted b i b_in i_in =
+    sym (active_by_plan set l s accepted b i b_in i_in) ∙ active_by_plan set Endless s accepted b i b_in i_in
 
 -- ---- get ----
 

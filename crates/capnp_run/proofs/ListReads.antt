@@ -18,7 +18,7 @@ use Rattle.capnp_wire.specs.declared.size.StructSize.{StructSize}
 use Rattle.capnp_schema.specs.Accepted.{root_of}
 use Rattle.capnp_schema.specs.Schema.{ListValue, Schemas, Value as SchemaValue}
 use Rattle.capnp_schema.specs.Types.{ListType, SchemaType, StructType, element_size}
-use Rattle.capnp_records.proofs.Refusals.{list-answered, list-refused, past-greatest}
+use Rattle.capnp_records.specs.Facts.Refusals.{list-answered, list-refused, past-greatest}
 use Rattle.capnp_records.specs.Facts.ListValues.{count-values_from, elements_seen, list-from}
 use Rattle.capnp_records.specs.Facts.Readers.{null-is}
 use Rattle.capnp_records.specs.Reading.{value_of}

@@ -121,34 +121,34 @@ module _ (set : Schemas) (e : SchemaType) (x : Tree) where
     ends_by op.Which last r x' names does = absurd (names refl)
     ends_by o last r x' names does = does
 
-    pub ends_element : (end : Ending) (i : ℕ) (r : Reply) (x' : Tree) → (end.op ≡ op.Which → ⊥) → step_seen end.last ≡ ElementAt i → i < list_length x → ElementDoes set e i end.op x r x' → ListEnds set e end x r x'
+    pub ends_element : (end : Ending) (i : ℕ) (r : Reply) (x' : Tree) → (end.call.now.op ≡ op.Which → ⊥) → step_seen end.call.now.last ≡ ElementAt i → i < list_length x → ElementDoes set e i end.call.now.op x r x' → ListEnds set e end x r x'
     ends_element end i r x' names last inside does =
-        subst (λ (s : PathStep). TreeEnds set s (op_seen end.op) (ListType e) (OnList x) (reply_seen r) (OnList x')) (sym last)
-        (ends_by end.op (ElementAt i) (reply_seen r) x' names
-        (subst (λ (y : Found). TreeDoesAt set (op_seen end.op) y (ListType e) (OnList x) (ElementAt i) (reply_seen r) (OnList x')) (sym (target_is (ElementAt i) (Ok (element_at set e x i)) (found_in i inside))) does))
+        subst (λ (s : PathStep). TreeEnds set s (op_seen end.call.now.op) (ListType e) (OnList x) (reply_seen r) (OnList x')) (sym last)
+        (ends_by end.call.now.op (ElementAt i) (reply_seen r) x' names
+        (subst (λ (y : Found). TreeDoesAt set (op_seen end.call.now.op) y (ListType e) (OnList x) (ElementAt i) (reply_seen r) (OnList x')) (sym (target_is (ElementAt i) (Ok (element_at set e x i)) (found_in i inside))) does))
 
-    ends_refused : (end : Ending) (s : PathStep) (kind : ErrorKind) → (end.op ≡ op.Which → ⊥) → step_seen end.last ≡ s → in_list e vs s ≡ Err kind → ListEnds set e end x (reply.Refused kind) x
+    ends_refused : (end : Ending) (s : PathStep) (kind : ErrorKind) → (end.call.now.op ≡ op.Which → ⊥) → step_seen end.call.now.last ≡ s → in_list e vs s ≡ Err kind → ListEnds set e end x (reply.Refused kind) x
     ends_refused end s kind names last found =
-        subst (λ (y : PathStep). TreeEnds set y (op_seen end.op) (ListType e) (OnList x) (Refused kind) (OnList x)) (sym last)
-        (ends_by end.op s (Refused kind) x names
-        (subst (λ (y : Found). TreeDoesAt set (op_seen end.op) y (ListType e) (OnList x) s (Refused kind) (OnList x)) (sym (target_is s (Err kind) found)) (refl, refl)))
+        subst (λ (y : PathStep). TreeEnds set y (op_seen end.call.now.op) (ListType e) (OnList x) (Refused kind) (OnList x)) (sym last)
+        (ends_by end.call.now.op s (Refused kind) x names
+        (subst (λ (y : Found). TreeDoesAt set (op_seen end.call.now.op) y (ListType e) (OnList x) s (Refused kind) (OnList x)) (sym (target_is s (Err kind) found)) (refl, refl)))
 
-    pub ends_past : (end : Ending) (i : ℕ) → (end.op ≡ op.Which → ⊥) → end.last ≡ step.Element i → list_length x ≤ i → ListEnds set e end x (reply.Refused NoSuchElement) x
+    pub ends_past : (end : Ending) (i : ℕ) → (end.call.now.op ≡ op.Which → ⊥) → end.call.now.last ≡ step.Element i → list_length x ≤ i → ListEnds set e end x (reply.Refused NoSuchElement) x
     ends_past end i names last h = ends_refused end (ElementAt i) NoSuchElement names (ap step_seen last) (found_past i h)
 
     -- the last step names a field
-    pub ends_at_field : (end : Ending) → (end.op ≡ op.Which → ⊥) → ((i : ℕ) → end.last ≡ step.Element i → ⊥) → ListEnds set e end x (reply.Refused NotAContainer) x
-    ends_at_field end names other = go end.last refl
+    pub ends_at_field : (end : Ending) → (end.call.now.op ≡ op.Which → ⊥) → ((i : ℕ) → end.call.now.last ≡ step.Element i → ⊥) → ListEnds set e end x (reply.Refused NotAContainer) x
+    ends_at_field end names other = go end.call.now.last refl
       where
-        go : (l : Step) → end.last ≡ l → ListEnds set e end x (reply.Refused NotAContainer) x
+        go : (l : Step) → end.call.now.last ≡ l → ListEnds set e end x (reply.Refused NotAContainer) x
         go (step.Field i) is = ends_refused end (FieldNumber i) NotAContainer names (ap step_seen is) refl
         go (step.Named name) is = ends_refused end (FieldNamed name.now) NotAContainer names (ap step_seen is) refl
         go (step.Element i) is = absurd (other i is)
 
     -- a list has no members
-    pub ends_which : (end : Ending) → end.op ≡ op.Which → ListEnds set e end x (reply.Refused NotAContainer) x
+    pub ends_which : (end : Ending) → end.call.now.op ≡ op.Which → ListEnds set e end x (reply.Refused NotAContainer) x
     ends_which end is =
-        subst (λ (o : Op). TreeEnds set (step_seen end.last) (op_seen o) (ListType e) (OnList x) (Refused NotAContainer) (OnList x)) (sym is)
+        subst (λ (o : Op). TreeEnds set (step_seen end.call.now.last) (op_seen o) (ListType e) (OnList x) (Refused NotAContainer) (OnList x)) (sym is)
         (subst (λ (v : Value). Asks v (Refused NotAContainer) v) (sym value_is) (refl, refl), refl)
 
 -- ---- a null that no default filled ----
@@ -168,11 +168,11 @@ nothing_steps path s rest end kind is same set e =
     nothing_at : (set : Schemas) (e : SchemaType) (s : PathStep) → target_at set (ListType e) (value.Missing Endless) s ≡ Err (refusal_at_nothing s)
     nothing_at set e s = nothing_found e s
 
-pub nothing_which : (path : List Step) (end : Ending) → path ≡ [] → end.op ≡ op.Which → (set : Schemas) (e : SchemaType) → ListWalks set e path end tree.Null (reply.Refused NotAContainer) tree.Null
+pub nothing_which : (path : List Step) (end : Ending) → path ≡ [] → end.call.now.op ≡ op.Which → (set : Schemas) (e : SchemaType) → ListWalks set e path end tree.Null (reply.Refused NotAContainer) tree.Null
 unfolding ListWalks
 nothing_which path end is which set e =
     subst (λ (p : List Step). ListWalks set e p end tree.Null (reply.Refused NotAContainer) tree.Null) (sym is)
-    (subst (λ (o : Op). TreeEnds set (step_seen end.last) (op_seen o) (ListType e) (OnList tree.Null) (Refused NotAContainer) (OnList tree.Null)) (sym which) ((refl, refl), refl))
+    (subst (λ (o : Op). TreeEnds set (step_seen end.call.now.last) (op_seen o) (ListType e) (OnList tree.Null) (Refused NotAContainer) (OnList tree.Null)) (sym which) ((refl, refl), refl))
 
 nothing_by : (o : Op) (set : Schemas) (e : SchemaType) (last : PathStep) (kind : ErrorKind) → (o ≡ op.Which → ⊥) → kind ≡ refusal_at_nothing last →
     TreeEnds set last (op_seen o) (ListType e) (OnList tree.Null) (Refused kind) (OnList tree.Null)
@@ -180,11 +180,11 @@ nothing_by op.Which set e last kind names same = absurd (names refl)
 nothing_by o set e last kind names same =
     subst (λ (y : Found). TreeDoesAt set (op_seen o) y (ListType e) (OnList tree.Null) last (Refused kind) (OnList tree.Null)) (sym (nothing_found e last)) (ap Refused same, refl)
 
-pub nothing_ends : (path : List Step) (end : Ending) (kind : ErrorKind) → path ≡ [] → (end.op ≡ op.Which → ⊥) → kind ≡ refusal_at_nothing (step_seen end.last) →
+pub nothing_ends : (path : List Step) (end : Ending) (kind : ErrorKind) → path ≡ [] → (end.call.now.op ≡ op.Which → ⊥) → kind ≡ refusal_at_nothing (step_seen end.call.now.last) →
     (set : Schemas) (e : SchemaType) → ListWalks set e path end tree.Null (reply.Refused kind) tree.Null
 unfolding ListWalks
 nothing_ends path end kind is names same set e =
-    subst (λ (p : List Step). ListWalks set e p end tree.Null (reply.Refused kind) tree.Null) (sym is) (nothing_by end.op set e (step_seen end.last) kind names same)
+    subst (λ (p : List Step). ListWalks set e p end tree.Null (reply.Refused kind) tree.Null) (sym is) (nothing_by end.call.now.op set e (step_seen end.call.now.last) kind names same)
 
 -- ---- into an element ----
 

@@ -22,8 +22,6 @@ use Rattle.capnp_run.specs.Ends.{AsStruct}
 use Rattle.capnp_run.specs.Walks.{StructWalks}
 use Rattle.capnp_run.specs.declared.calls.Call.{Call}
 use Rattle.capnp_run.specs.declared.calls.Ending.{Ending}
-use Rattle.capnp_run.specs.declared.calls.Op.{Op}
-use Rattle.capnp_run.specs.declared.calls.Step.{Step}
 use Rattle.capnp_run.specs.declared.calls.Reply.{Reply}
 
 pub makes_none : (set : Schemas) (b : ℕ) (s : StructTree) → Makes set b s [] [] s
@@ -65,9 +63,9 @@ pub fits_on : (set : Schemas) (b : ℕ) (s s' : StructTree) → Fits set b s →
 fits_on set b s s' h k = (subst (λ n. 8 * (brand_size set b).data_words ≤ n) (sym k.writes.data_size) h.0, subst (λ n. (brand_size set b).pointers ≤ n) (sym k.writes.pointer_count) h.1)
 
 -- one call, by the walk of its path
-pub call_made : (set : Schemas) (b : ℕ) (call : Call) (end : Ending) (s : StructTree) (r : Reply) (s' : StructTree) → end.last ≡ call.last → end.op ≡ call.op → StructWalks set b call.path.now end s r s' →
+pub call_made : (set : Schemas) (b : ℕ) (call : Call) (end : Ending) (s : StructTree) (r : Reply) (s' : StructTree) → end.call.now ≡ call → StructWalks set b call.path.now end s r s' →
     TreeStep set b s (call_seen call) (reply_seen r) s'
 unfolding StructWalks
-call_made set b call end s r s' last op walks =
-    subst (λ (o : Op). TreeWalks set (TreeEnds set (step_seen call.last) (op_seen o)) (path_seen call.path.now) (StructType b (brand_at set b).node) (OnStruct s) (reply_seen r) (OnStruct s')) op
-    (subst (λ (l : Step). TreeWalks set (TreeEnds set (step_seen l) (op_seen end.op)) (path_seen call.path.now) (StructType b (brand_at set b).node) (OnStruct s) (reply_seen r) (OnStruct s')) last (walks AsStruct (brand_at set b).node))
+call_made set b call end s r s' same walks =
+    subst (λ (c : Call). TreeWalks set (TreeEnds set (step_seen c.last) (op_seen c.op)) (path_seen call.path.now) (StructType b (brand_at set b).node) (OnStruct s) (reply_seen r) (OnStruct s')) same
+    (walks AsStruct (brand_at set b).node)

@@ -288,7 +288,7 @@ pub path_rests : (schema : StructSchema) (path : List Step) (end : Ending) (s : 
     r ≢ reply.Refused OutOfMemory
 unfolding StructWalks
 path_rests schema path end s r s' walks rests same =
-    walk_rests (set_of schema) (step_seen end.last) (op_seen end.op) (path_seen path) (root_type (set_of schema) (number_of schema)) (OnStruct s) (reply_seen r) (OnStruct s') rests
+    walk_rests (set_of schema) (step_seen end.call.now.last) (op_seen end.call.now.op) (path_seen path) (root_type (set_of schema) (number_of schema)) (OnStruct s) (reply_seen r) (OnStruct s') rests
     (walks AsStruct (brand_at (set_of schema) (number_of schema)).node) (ap reply_seen same)
 
 made_rests : (schema : StructSchema) (old new : StructTree) (calls : List Call) (replies : List ReplyOf) → Makes (set_of schema) (number_of schema) old calls replies new → RunRests schema old calls →

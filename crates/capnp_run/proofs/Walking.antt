@@ -50,7 +50,7 @@ use Rattle.capnp_run.specs.declared.calls.Step.{Step}
 
 -- it ends
 pub walks_end : (set : Schemas) (b : ℕ) (path : List Step) (end : Ending) (s : StructTree) (r : Reply) (s' : StructTree) → path ≡ [] →
-    StructEnds set b (step_seen end.last) (op_seen end.op) s (reply_seen r) s' → StructWalks set b path end s r s'
+    StructEnds set b (step_seen end.call.now.last) (op_seen end.call.now.op) s (reply_seen r) s' → StructWalks set b path end s r s'
 unfolding StructWalks
 walks_end set b path end s r s' is ends = subst (λ (p : List Step). StructWalks set b p end s r s') (sym is) ends
 
@@ -122,7 +122,7 @@ module _ (f : Field) (rest : List Step) (end : Ending) (s : StructTree) where
   -- what stands there is refused
   pub field_refused : (kind : ErrorKind) (s' : StructTree) → s' ≡ s → StepStops f s kind → FieldWalks f rest end s (reply.Refused kind) s'
   unfolding FieldWalks
-  field_refused kind s' same h = subst (λ (y : StructTree). FieldWalks f rest end s (reply.Refused kind) y) (sym same) (h (path_seen rest) (step_seen end.last) (op_seen end.op))
+  field_refused kind s' same h = subst (λ (y : StructTree). FieldWalks f rest end s (reply.Refused kind) y) (sym same) (h (path_seen rest) (step_seen end.call.now.last) (op_seen end.call.now.op))
 
   -- a group goes on in the same struct
   group_inner : (set : Schemas) (k : FieldKind) (t : SchemaType) (b : ℕ) (at : TreeEnd) (path : List PathStep) (r : record_call.Reply) (s' : StructTree) → IsGroupOf k t b →
@@ -143,7 +143,7 @@ module _ (f : Field) (rest : List Step) (end : Ending) (s : StructTree) where
   field_group group r s' leads goes walks =
       let inner = group_inner (field_set f) (typed_of f).field.kind (typed_of f).type (number_of group) (EndsAt (field_set f) end) (path_seen rest) (reply_seen r) s' leads.names
       (subst (λ (set : Schemas). (w : Whole) (g : ℕ) → TreeWalks set (EndsAt set end) (path_seen rest) (StructType (number_of group) g) (stand_of w s) (reply_seen r) (stand_of w s')) leads.set walks) in
-      subst (λ (y : StructTree). FieldWalks f rest end s r y) inner.1 (goes (path_seen rest) (step_seen end.last) (op_seen end.op) (reply_seen r) (OnGroup s') inner.0)
+      subst (λ (y : StructTree). FieldWalks f rest end s r y) inner.1 (goes (path_seen rest) (step_seen end.call.now.last) (op_seen end.call.now.op) (reply_seen r) (OnGroup s') inner.0)
 
   -- a struct behind a slot goes on in what was filled
   struct_inner : (set : Schemas) (k : FieldKind) (t : SchemaType) (b g : ℕ) (at : TreeEnd) (path : List PathStep) (r : record_call.Reply) (y : StructTree) → is_group_field k ≡ false → StructType b g ≡ t →
@@ -162,7 +162,7 @@ module _ (f : Field) (rest : List Step) (end : Ending) (s : StructTree) where
   field_struct schema r y leads goes walks =
       let inner = struct_inner (field_set f) (typed_of f).field.kind (typed_of f).type (number_of schema) (generic_of schema) (EndsAt (field_set f) end) (path_seen rest) (reply_seen r) y leads.slot leads.type_is
       (subst (λ (set : Schemas). (w : Whole) (g : ℕ) → TreeWalks set (EndsAt set end) (path_seen rest) (StructType (number_of schema) g) (stand_of w (struct_in (filled_in f s))) (reply_seen r) (stand_of w y)) leads.set walks) in
-      subst (λ (z : StructTree). FieldWalks f rest end s r z) inner.1 (goes (path_seen rest) (step_seen end.last) (op_seen end.op) (reply_seen r) (OnStruct y) inner.0)
+      subst (λ (z : StructTree). FieldWalks f rest end s r z) inner.1 (goes (path_seen rest) (step_seen end.call.now.last) (op_seen end.call.now.op) (reply_seen r) (OnStruct y) inner.0)
 
   -- and so does a list
   list_inner : (set : Schemas) (k : FieldKind) (t e : SchemaType) (at : TreeEnd) (path : List PathStep) (r : record_call.Reply) (y : Tree) → is_group_field k ≡ false → ListType e ≡ t →
@@ -180,7 +180,7 @@ module _ (f : Field) (rest : List Step) (end : Ending) (s : StructTree) where
   unfolding ListWalks FieldWalks
   field_list element r y leads goes walks =
       let inner = list_inner (field_set f) (typed_of f).field.kind (typed_of f).type (seen_type element) (EndsAt (field_set f) end) (path_seen rest) (reply_seen r) y leads.slot leads.type_is walks in
-      subst (λ (z : StructTree). FieldWalks f rest end s r z) inner.1 (goes (path_seen rest) (step_seen end.last) (op_seen end.op) (reply_seen r) (OnList y) inner.0)
+      subst (λ (z : StructTree). FieldWalks f rest end s r z) inner.1 (goes (path_seen rest) (step_seen end.call.now.last) (op_seen end.call.now.op) (reply_seen r) (OnList y) inner.0)
 
 -- ---- what is left in the owner ----
 

@@ -10,7 +10,7 @@ use Rattle.capnp_records.specs.Facts.Frame.{first-of}
 use Rattle.capnp_records.specs.Part.{which_of}
 use Rattle.capnp_records.specs.Reading.{active_among, discriminant, part_of, plain_parts, reads, struct_record, values_of}
 use Rattle.capnp_records.specs.Record.{Endless, Left, Levels, NoUnion, Parts, Value}
-use Rattle.capnp_dynamic.proofs.HasWhich.{which_counted}
+use Rattle.capnp_dynamic.specs.Facts.HasWhich.{which_counted}
 use Rattle.capnp_dynamic.specs.Handles.{reader_of, schema_of}
 use Rattle.capnp_dynamic.specs.Seen.{record_seen}
 use Rattle.capnp_dynamic.specs.declared.dynamic_struct.Reader.{Reader as StructHandle}

@@ -64,7 +64,7 @@ IsNotForMemory reply = reply ≢ Refused OutOfMemory
 
 -- a call along a path from a struct of a schema takes no memory
 abbrev pub PathRests : StructSchema → List Step → Ending → StructTree → Type 0
-PathRests schema path end s = CallRests (set_of schema) (step_seen end.last) (op_seen end.op) (path_seen path) (root_type (set_of schema) (number_of schema)) (OnStruct s)
+PathRests schema path end s = CallRests (set_of schema) (step_seen end.call.now.last) (op_seen end.call.now.op) (path_seen path) (root_type (set_of schema) (number_of schema)) (OnStruct s)
 
 -- no call of a list does, each on whatever the one before it may leave
 abbrev pub RunRests : StructSchema → StructTree → List CallOf → Type 0

@@ -51,7 +51,7 @@ StepStops f s kind = (path : List PathStep) (last : PathStep) (op : Op) → Fiel
 
 -- the end of its path
 abbrev pub EndsAt : Schemas → Ending → TreeEnd
-EndsAt set end = TreeEnds set (step_seen end.last) (op_seen end.op)
+EndsAt set end = TreeEnds set (step_seen end.call.now.last) (op_seen end.call.now.op)
 
 -- a path is walked from a struct of a brand, or the struct of a group, and the operation is done at its end
 unfoldable pub StructWalks : Schemas → ℕ → List Step → Ending → StructTree → ReplyOf → StructTree → Type 0

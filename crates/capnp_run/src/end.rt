@@ -14,7 +14,7 @@ ghost use Rattle.capnp_run.specs.Ends.{FieldDoes, NamedDoes, StructEnds};
 ghost use Rattle.capnp_run.specs.Seen.{op_seen, reply_seen, step_seen};
 
 use crate::answer::{get_field, has_field, which_member};
-use crate::calls::{Op, Reply, Step};
+use crate::calls::{Ending, Op, Reply};
 use crate::way::find_field;
 use capnp_dynamic::dynamic_value::Reader as Value;
 use capnp_schema::schema::{Field, StructSchema};
@@ -22,7 +22,6 @@ use capnp_slots::source::{Source, source_fits};
 use capnp_slots::{group, slot};
 use capnp_wire::error::ErrorKind;
 use capnp_wire::object::StructObject;
-use std::alloc::Global;
 
 /// Sets a slot to a source, as `slot::set`.
 #[inline(always)]
@@ -128,15 +127,15 @@ fn clear_field(object: &mut StructObject, field: Field<'_>) -> Reply
 
 /// Does an operation to a field of a struct.
 #[inline(always)]
-fn do_field(alloc: Global, object: &mut StructObject, field: Field<'_>, op: Op<'_>) -> Reply
+fn do_field(object: &mut StructObject, field: Field<'_>, end: Ending<'_>) -> Reply
     requires room { IsRoomFor field (struct_object_tree object.old) }
     requires formed { IsWellFormed (struct_tree (struct_object_tree object.old)) }
-    requires names { op ≢ Op.Which }
-    ensures does { FieldDoes field.entry (op_seen op.entry) (struct_object_tree object.old) (reply_seen result) (struct_object_tree object.new) }
+    requires names { end.call.now.op ≢ Op.Which }
+    ensures does { FieldDoes field.entry (op_seen end.entry.call.now.op) (struct_object_tree object.old) (reply_seen result) (struct_object_tree object.new) }
     ensures kept { KeepsSize (struct_object_tree object.old) (struct_object_tree object.new) }
 {
-    match op {
-        Op::Get => get_field(alloc, object, field),
+    match end.call.op {
+        Op::Get => get_field(end.alloc, object, field),
         Op::Has => has_field(object, field),
         Op::Which => unreachable!(),
         Op::Set(value) => set_field(object, field, value),
@@ -148,23 +147,17 @@ fn do_field(alloc: Global, object: &mut StructObject, field: Field<'_>, op: Op<'
 
 /// Does an operation to the field that a step names.
 #[inline(always)]
-fn do_named(
-    alloc: Global,
-    object: &mut StructObject,
-    schema: StructSchema<'_>,
-    last: Step<'_>,
-    op: Op<'_>,
-) -> Reply
+fn do_named(object: &mut StructObject, schema: StructSchema<'_>, end: Ending<'_>) -> Reply
     requires fits { Fits (set_of schema) (number_of schema) (struct_object_tree object.old) }
     requires formed { IsWellFormed (struct_tree (struct_object_tree object.old)) }
-    requires names { op ≢ Op.Which }
-    ensures does { NamedDoes (set_of schema.entry) (number_of schema.entry) (step_seen last.entry) (op_seen op.entry) (struct_object_tree object.old)
-        (reply_seen result) (struct_object_tree object.new) }
+    requires names { end.call.now.op ≢ Op.Which }
+    ensures does { NamedDoes (set_of schema.entry) (number_of schema.entry) (step_seen end.entry.call.now.last) (op_seen end.entry.call.now.op)
+        (struct_object_tree object.old) (reply_seen result) (struct_object_tree object.new) }
     ensures kept { KeepsSize (struct_object_tree object.old) (struct_object_tree object.new) }
 {
-    match find_field(schema, last) {
+    match find_field(schema, end.call.last) {
         Err(error) => Reply::Refused(error.kind),
-        Ok(field) => do_field(alloc, object, field, op),
+        Ok(field) => do_field(object, field, end),
     }
 }
 
@@ -175,22 +168,16 @@ fn do_named(
 /// is written is the field and, of a member, the union; after a refusal nothing has changed, but for the set of a group that is
 /// cut short, which keeps what was copied by then.
 #[inline(never)]
-pub fn end_at_struct(
-    alloc: Global,
-    object: &mut StructObject,
-    schema: StructSchema<'_>,
-    last: Step<'_>,
-    op: Op<'_>,
-) -> Reply
+pub fn end_at_struct(object: &mut StructObject, schema: StructSchema<'_>, end: Ending<'_>) -> Reply
     requires stands { IsStruct schema }
     requires fits { Fits (set_of schema) (number_of schema) (struct_object_tree object.old) }
     requires formed { IsWellFormed (struct_tree (struct_object_tree object.old)) }
-    ensures ends { StructEnds (set_of schema.entry) (number_of schema.entry) (step_seen last.entry) (op_seen op.entry) (struct_object_tree object.old)
-        (reply_seen result) (struct_object_tree object.new) }
+    ensures ends { StructEnds (set_of schema.entry) (number_of schema.entry) (step_seen end.entry.call.now.last) (op_seen end.entry.call.now.op)
+        (struct_object_tree object.old) (reply_seen result) (struct_object_tree object.new) }
     ensures kept { KeepsSize (struct_object_tree object.old) (struct_object_tree object.new) }
 {
-    match op {
+    match end.call.op {
         Op::Which => which_member(object, schema),
-        _ => do_named(alloc, object, schema, last, op),
+        _ => do_named(object, schema, end),
     }
 }

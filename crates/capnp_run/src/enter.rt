@@ -16,12 +16,12 @@ ghost use Rattle.capnp_run.specs.Walks.{IsWalked, StepGoes, StepStops};
 ghost use Rattle.capnp_run.specs.Ways.{IsListSlot, IsStructSlot};
 
 use capnp_base::introspect::Type;
-use capnp_schema::laws::numbers_fit;
+use capnp_schema::laws::{defaults_fit, numbers_fit};
 use capnp_schema::schema::{Field, StructSchema};
 use capnp_slots::part;
 use capnp_wire::error::Result;
 use capnp_wire::laws::kept::pointers_of_structs_are_well_formed;
-use capnp_wire::laws::{objects_hold_no_fault, pointer_is_well_formed};
+use capnp_wire::laws::objects_hold_no_fault;
 use capnp_wire::object::StructObject;
 
 /// Steps into the struct behind a slot: a null becomes the default's struct or an empty one, and a struct that is smaller than
@@ -49,7 +49,7 @@ pub fn enter_struct(
     ensures cause { IfErr result (λ e. StepStops field.entry (struct_object_tree object.old) e.kind) }
 {
     objects_hold_no_fault();
-    part::fill(object, field)
+    part::fill_struct_slot(object, field, schema)
 }
 
 /// Steps into a group: it is the same struct under the group's schema. Nothing is filled and nothing is refused.
@@ -60,14 +60,14 @@ pub fn enter_group(object: &StructObject, field: Field<'_>)
     ensures { StepGoes field.entry (struct_object_tree object.now) }
 {}
 
-/// What the default of a field leads to is well-formed, and is what the field's type reads.
+/// What the default of a field leads to is well-formed, and is what the field's type reads. The default is not read.
+#[inline(always)]
 fn default_is_sound(field: Field<'_>)
     ensures formed { IsWellFormed (default_tree (default_of (typed_of field.entry).field)) }
     ensures fits { DefaultFits (typed_of field.entry) }
 {
-    if let Some(reader) = field.get_default_pointer() {
-        pointer_is_well_formed(&reader);
-    }
+    defaults_fit();
+    numbers_fit(field.get_containing_struct().get_set());
 }
 
 /// Steps into the list behind a slot: a null becomes the default where that is a list and not null, and structs of a list get
@@ -97,5 +97,5 @@ pub fn enter_list(object: &mut StructObject, field: Field<'_>, element: Type) ->
     pointers_of_structs_are_well_formed();
     default_is_sound(field);
     numbers_fit(field.get_containing_struct().get_set());
-    part::fill(object, field)
+    part::fill_list_slot(object, field, element)
 }

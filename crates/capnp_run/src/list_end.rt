@@ -99,11 +99,11 @@ fn do_element(
     requires entries { NamesEntries (lists_seen set.now) (seen_type element) }
     requires stands { IsListStand (lists_seen set.now) (seen_type element) (list_object_tree list.old) }
     requires inside { index < list_length (list_object_tree list.old) }
-    requires names { end.op ≢ Op.Which }
-    ensures does { ElementDoes (lists_seen set.now) (seen_type element) index end.entry.op (list_object_tree list.old) result (list_object_tree list.new) }
+    requires names { end.call.now.op ≢ Op.Which }
+    ensures does { ElementDoes (lists_seen set.now) (seen_type element) index end.entry.call.now.op (list_object_tree list.old) result (list_object_tree list.new) }
     ensures formed { IsWellFormed (list_object_tree list.new) }
 {
-    match end.op {
+    match end.call.op {
         Op::Get => get_element(end.alloc, list, set, element, index),
         Op::Has => Reply::Refused(ErrorKind::NotAContainer),
         Op::Which => unreachable!(),
@@ -119,11 +119,11 @@ fn do_last(list: &mut ListObject, set: &SchemaSet, element: Type, end: Ending<'_
     requires entries { NamesEntries (lists_seen set.now) (seen_type element) }
     requires stands { IsListStand (lists_seen set.now) (seen_type element) (list_object_tree list.old) }
     requires there { is_null_tree (list_object_tree list.old) ≡ false }
-    requires names { end.op ≢ Op.Which }
+    requires names { end.call.now.op ≢ Op.Which }
     ensures ends { ListEnds (lists_seen set.now) (seen_type element) end.entry (list_object_tree list.old) result (list_object_tree list.new) }
     ensures formed { IsWellFormed (list_object_tree list.new) }
 {
-    let Step::Element(index) = end.last else {
+    let Step::Element(index) = end.call.last else {
         return Reply::Refused(ErrorKind::NotAContainer);
     };
     if index >= list.len() {
@@ -143,7 +143,7 @@ pub fn end_at_list(list: &mut ListObject, set: &SchemaSet, element: Type, end: E
     ensures ends { ListEnds (lists_seen set.now) (seen_type element) end.entry (list_object_tree list.old) result (list_object_tree list.new) }
     ensures formed { IsWellFormed (list_object_tree list.new) }
 {
-    match end.op {
+    match end.call.op {
         Op::Which => Reply::Refused(ErrorKind::NotAContainer),
         _ => do_last(list, set, element, end),
     }

@@ -37,12 +37,7 @@ fn call_at(
         (struct_object_tree object.new) }
     ensures kept { KeepsSize (struct_object_tree object.old) (struct_object_tree object.new) }
 {
-    let end = Ending {
-        alloc,
-        last: call.last,
-        op: call.op,
-    };
-    walk(object, schema, call.path, end)
+    walk(object, schema, call.path, Ending { alloc, call })
 }
 
 /// Makes calls one after another; there is room for the replies.

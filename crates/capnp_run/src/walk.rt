@@ -43,7 +43,6 @@ use capnp_wire::object::{ListObject, Object, StructObject};
 /// `NotAContainer` into another one that is no struct or list. The end is refused as `end::end_at_struct` and
 /// `list_end::end_at_list`. What the steps before a refusal filled stays. Where nothing has to be filled or extended behind a
 /// step and the operation takes no memory, nothing is refused with `OutOfMemory`.
-#[cycle(walk)]
 pub fn walk(
     object: &mut StructObject,
     schema: StructSchema<'_>,
@@ -58,10 +57,33 @@ pub fn walk(
     ensures rests { PathRests schema.entry path.now end.entry (struct_object_tree object.old) → result ≢ Reply.Refused OutOfMemory }
     ensures kept { KeepsSize (struct_object_tree object.old) (struct_object_tree object.new) }
 {
+    let mut reply = Reply::Done;
+    walk_from(object, schema, path, end, &mut reply);
+    reply
+}
+
+/// Walks a path and leaves the reply in its place: replies are large, and would be copied at each step.
+#[cycle(walk)]
+fn walk_from(
+    object: &mut StructObject,
+    schema: StructSchema<'_>,
+    path: &[Step<'_>],
+    end: Ending<'_>,
+    reply: &mut Reply,
+)
+    requires stands { IsStruct schema }
+    requires fits { Fits (set_of schema) (number_of schema) (struct_object_tree object.old) }
+    requires formed { IsWellFormed (struct_tree (struct_object_tree object.old)) }
+    ensures walks { StructWalks (set_of schema.entry) (number_of schema.entry) path.now end.entry (struct_object_tree object.old) reply.new
+        (struct_object_tree object.new) }
+    ensures rests { PathRests schema.entry path.now end.entry (struct_object_tree object.old) → reply.new ≢ Reply.Refused OutOfMemory }
+    ensures kept { KeepsSize (struct_object_tree object.old) (struct_object_tree object.new) }
+{
     let Some((step, rest)) = path.split_first() else {
-        return end_at_struct(end.alloc, object, schema, end.last, end.op);
+        *reply = end_at_struct(object, schema, end);
+        return;
     };
-    walk_step(object, schema, *step, rest, end)
+    walk_step(object, schema, *step, rest, end, reply);
 }
 
 /// Goes on into the field that a step names.
@@ -73,17 +95,18 @@ fn walk_step(
     step: Step<'_>,
     rest: &[Step<'_>],
     end: Ending<'_>,
-) -> Reply
+    reply: &mut Reply,
+)
     requires stands { IsStruct schema }
     requires fits { Fits (set_of schema) (number_of schema) (struct_object_tree object.old) }
     requires formed { IsWellFormed (struct_tree (struct_object_tree object.old)) }
-    ensures walks { StructWalks (set_of schema.entry) (number_of schema.entry) (step.entry ∷ rest.now) end.entry (struct_object_tree object.old) result
+    ensures walks { StructWalks (set_of schema.entry) (number_of schema.entry) (step.entry ∷ rest.now) end.entry (struct_object_tree object.old) reply.new
         (struct_object_tree object.new) }
     ensures kept { KeepsSize (struct_object_tree object.old) (struct_object_tree object.new) }
 {
     match find_field(schema, step) {
-        Err(error) => Reply::Refused(error.kind),
-        Ok(field) => walk_field(object, field, &*rest, end),
+        Err(error) => *reply = Reply::Refused(error.kind),
+        Ok(field) => walk_field(object, field, &*rest, end, reply),
     }
 }
 
@@ -95,15 +118,16 @@ fn walk_field(
     field: Field<'_>,
     rest: &[Step<'_>],
     end: Ending<'_>,
-) -> Reply
+    reply: &mut Reply,
+)
     requires room { IsRoomFor field (struct_object_tree object.old) }
     requires formed { IsWellFormed (struct_tree (struct_object_tree object.old)) }
-    ensures walks { FieldWalks field.entry rest.now end.entry (struct_object_tree object.old) result (struct_object_tree object.new) }
+    ensures walks { FieldWalks field.entry rest.now end.entry (struct_object_tree object.old) reply.new (struct_object_tree object.new) }
     ensures kept { KeepsSize (struct_object_tree object.old) (struct_object_tree object.new) }
 {
     match way_of(object, field) {
-        Err(error) => Reply::Refused(error.kind),
-        Ok(way) => walk_way(object, field, way, &*rest, end),
+        Err(error) => *reply = Reply::Refused(error.kind),
+        Ok(way) => walk_way(object, field, way, &*rest, end, reply),
     }
 }
 
@@ -116,18 +140,19 @@ fn walk_way(
     way: Way<'_>,
     rest: &[Step<'_>],
     end: Ending<'_>,
-) -> Reply
+    reply: &mut Reply,
+)
     requires leads { LeadsTo field way }
     requires walked { IsWalked field (struct_object_tree object.old) }
     requires room { IsRoomFor field (struct_object_tree object.old) }
     requires formed { IsWellFormed (struct_tree (struct_object_tree object.old)) }
-    ensures walks { FieldWalks field.entry rest.now end.entry (struct_object_tree object.old) result (struct_object_tree object.new) }
+    ensures walks { FieldWalks field.entry rest.now end.entry (struct_object_tree object.old) reply.new (struct_object_tree object.new) }
     ensures kept { KeepsSize (struct_object_tree object.old) (struct_object_tree object.new) }
 {
     match way {
-        Way::Group(group) => walk_group(object, field, group, &*rest, end),
-        Way::Struct(schema) => walk_struct(object, field, schema, &*rest, end),
-        Way::List(element) => walk_list_slot(object, field, element, &*rest, end),
+        Way::Group(group) => walk_group(object, field, group, &*rest, end, reply),
+        Way::Struct(schema) => walk_struct(object, field, schema, &*rest, end, reply),
+        Way::List(element) => walk_list_slot(object, field, element, &*rest, end, reply),
     }
 }
 
@@ -140,16 +165,17 @@ fn walk_group(
     group: StructSchema<'_>,
     rest: &[Step<'_>],
     end: Ending<'_>,
-) -> Reply
+    reply: &mut Reply,
+)
     requires leads { IsGroupAt field group }
     requires walked { IsWalked field (struct_object_tree object.old) }
     requires room { IsRoomFor field (struct_object_tree object.old) }
     requires formed { IsWellFormed (struct_tree (struct_object_tree object.old)) }
-    ensures walks { FieldWalks field.entry rest.now end.entry (struct_object_tree object.old) result (struct_object_tree object.new) }
+    ensures walks { FieldWalks field.entry rest.now end.entry (struct_object_tree object.old) reply.new (struct_object_tree object.new) }
     ensures kept { KeepsSize (struct_object_tree object.old) (struct_object_tree object.new) }
 {
     enter_group(object, field);
-    walk(object, group, &*rest, end)
+    walk_from(object, group, &*rest, end, reply)
 }
 
 /// Goes on in the struct behind a slot.
@@ -161,19 +187,21 @@ fn walk_struct(
     schema: StructSchema<'_>,
     rest: &[Step<'_>],
     end: Ending<'_>,
-) -> Reply
+    reply: &mut Reply,
+)
     requires leads { IsStructSlot field schema }
     requires walked { IsWalked field (struct_object_tree object.old) }
     requires room { IsRoomFor field (struct_object_tree object.old) }
     requires formed { IsWellFormed (struct_tree (struct_object_tree object.old)) }
-    ensures walks { FieldWalks field.entry rest.now end.entry (struct_object_tree object.old) result (struct_object_tree object.new) }
+    ensures walks { FieldWalks field.entry rest.now end.entry (struct_object_tree object.old) reply.new (struct_object_tree object.new) }
     ensures kept { KeepsSize (struct_object_tree object.old) (struct_object_tree object.new) }
 {
     if let Err(error) = enter_struct(object, field, schema) {
-        return Reply::Refused(error.kind);
+        *reply = Reply::Refused(error.kind);
+        return;
     }
     let pointer = part::pointer(object, field);
-    walk_struct_here(pointer, schema, &*rest, end)
+    walk_struct_here(pointer, schema, &*rest, end, reply)
 }
 
 /// Goes on in the struct that stands at a pointer.
@@ -184,18 +212,19 @@ fn walk_struct_here(
     schema: StructSchema<'_>,
     rest: &[Step<'_>],
     end: Ending<'_>,
-) -> Reply
+    reply: &mut Reply,
+)
     requires stands { IsStruct schema }
     requires here { IsTrue (is_struct (object_tree pointer.old)) }
     requires fits { Fits (set_of schema) (number_of schema) (struct_in (object_tree pointer.old)) }
     requires formed { IsWellFormed (object_tree pointer.old) }
-    ensures walks { StructWalks (set_of schema.entry) (number_of schema.entry) rest.now end.entry (struct_in (object_tree pointer.old)) result
+    ensures walks { StructWalks (set_of schema.entry) (number_of schema.entry) rest.now end.entry (struct_in (object_tree pointer.old)) reply.new
         (struct_in (object_tree pointer.new)) }
     ensures here { object_tree pointer.new ≡ struct_tree (struct_in (object_tree pointer.new)) }
     ensures formed { IsWellFormed (object_tree pointer.new) }
 {
     let inner = pointer.struct_here();
-    walk(inner, schema, &*rest, end)
+    walk_from(inner, schema, &*rest, end, reply)
 }
 
 /// Goes on in the list behind a slot.
@@ -207,20 +236,22 @@ fn walk_list_slot(
     element: Type,
     rest: &[Step<'_>],
     end: Ending<'_>,
-) -> Reply
+    reply: &mut Reply,
+)
     requires leads { IsListSlot field element }
     requires walked { IsWalked field (struct_object_tree object.old) }
     requires room { IsRoomFor field (struct_object_tree object.old) }
     requires formed { IsWellFormed (struct_tree (struct_object_tree object.old)) }
-    ensures walks { FieldWalks field.entry rest.now end.entry (struct_object_tree object.old) result (struct_object_tree object.new) }
+    ensures walks { FieldWalks field.entry rest.now end.entry (struct_object_tree object.old) reply.new (struct_object_tree object.new) }
     ensures kept { KeepsSize (struct_object_tree object.old) (struct_object_tree object.new) }
 {
     if let Err(error) = enter_list(object, field, element) {
-        return Reply::Refused(error.kind);
+        *reply = Reply::Refused(error.kind);
+        return;
     }
     let set = field.get_containing_struct().get_set();
     let pointer = part::pointer(object, field);
-    walk_list_here(pointer, set, element, &*rest, end)
+    walk_list_here(pointer, set, element, &*rest, end, reply)
 }
 
 /// Goes on in the list that stands at a pointer, or in the list of nothing that a null is.
@@ -232,17 +263,18 @@ fn walk_list_here(
     element: Type,
     path: &[Step<'_>],
     end: Ending<'_>,
-) -> Reply
+    reply: &mut Reply,
+)
     requires entries { NamesEntries (lists_seen set.now) (seen_type element) }
     requires stands { IsListStand (lists_seen set.now) (seen_type element) (object_tree pointer.old) }
-    ensures walks { ListWalks (lists_seen set.now) (seen_type element) path.now end.entry (object_tree pointer.old) result (object_tree pointer.new) }
+    ensures walks { ListWalks (lists_seen set.now) (seen_type element) path.now end.entry (object_tree pointer.old) reply.new (object_tree pointer.new) }
     ensures formed { IsWellFormed (object_tree pointer.new) }
 {
     if pointer.is_list() {
         let list = pointer.list_here();
-        walk_list(list, set, element, &*path, end)
+        walk_list(list, set, element, &*path, end, reply)
     } else {
-        walk_nothing(path, end)
+        walk_nothing(path, end, reply)
     }
 }
 
@@ -258,15 +290,16 @@ fn refusal_at_nothing(step: Step<'_>) -> ErrorKind
 }
 
 /// Refuses what is left of a path at a null that no default filled: it has no elements.
-fn walk_nothing(path: &[Step<'_>], end: Ending<'_>) -> Reply
-    ensures { (set : Schemas) (e : SchemaType) → ListWalks set e path.now end.entry Null result Null }
+fn walk_nothing(path: &[Step<'_>], end: Ending<'_>, reply: &mut Reply)
+    ensures { (set : Schemas) (e : SchemaType) → ListWalks set e path.now end.entry Null reply.new Null }
 {
     if let Some((step, _)) = path.split_first() {
-        return Reply::Refused(refusal_at_nothing(*step));
+        *reply = Reply::Refused(refusal_at_nothing(*step));
+        return;
     }
-    match end.op {
-        Op::Which => Reply::Refused(ErrorKind::NotAContainer),
-        _ => Reply::Refused(refusal_at_nothing(end.last)),
+    match end.call.op {
+        Op::Which => *reply = Reply::Refused(ErrorKind::NotAContainer),
+        _ => *reply = Reply::Refused(refusal_at_nothing(end.call.last)),
     }
 }
 
@@ -278,20 +311,22 @@ fn walk_list(
     element: Type,
     path: &[Step<'_>],
     end: Ending<'_>,
-) -> Reply
+    reply: &mut Reply,
+)
     requires entries { NamesEntries (lists_seen set.now) (seen_type element) }
     requires stands { IsListStand (lists_seen set.now) (seen_type element) (list_object_tree list.old) }
     requires there { is_null_tree (list_object_tree list.old) ≡ false }
-    ensures walks { ListWalks (lists_seen set.now) (seen_type element) path.now end.entry (list_object_tree list.old) result (list_object_tree list.new) }
+    ensures walks { ListWalks (lists_seen set.now) (seen_type element) path.now end.entry (list_object_tree list.old) reply.new (list_object_tree list.new) }
     ensures formed { IsWellFormed (list_object_tree list.new) }
 {
     let Some((step, rest)) = path.split_first() else {
-        return end_at_list(list, set, element, end);
+        *reply = end_at_list(list, set, element, end);
+        return;
     };
     match *step {
-        Step::Element(index) => walk_element(list, set, element, index, rest, end),
-        Step::Field(_) => Reply::Refused(ErrorKind::NotAContainer),
-        Step::Named(_) => Reply::Refused(ErrorKind::NotAContainer),
+        Step::Element(index) => walk_element(list, set, element, index, rest, end, reply),
+        Step::Field(_) => *reply = Reply::Refused(ErrorKind::NotAContainer),
+        Step::Named(_) => *reply = Reply::Refused(ErrorKind::NotAContainer),
     }
 }
 
@@ -305,18 +340,20 @@ fn walk_element(
     index: u32,
     rest: &[Step<'_>],
     end: Ending<'_>,
-) -> Reply
+    reply: &mut Reply,
+)
     requires entries { NamesEntries (lists_seen set.now) (seen_type element) }
     requires stands { IsListStand (lists_seen set.now) (seen_type element) (list_object_tree list.old) }
     requires there { is_null_tree (list_object_tree list.old) ≡ false }
-    ensures walks { ListWalks (lists_seen set.now) (seen_type element) (Step.Element index ∷ rest.now) end.entry (list_object_tree list.old) result
+    ensures walks { ListWalks (lists_seen set.now) (seen_type element) (Step.Element index ∷ rest.now) end.entry (list_object_tree list.old) reply.new
         (list_object_tree list.new) }
     ensures formed { IsWellFormed (list_object_tree list.new) }
 {
     if index >= list.len() {
-        return Reply::Refused(ErrorKind::NoSuchElement);
+        *reply = Reply::Refused(ErrorKind::NoSuchElement);
+        return;
     }
-    walk_part(list, set, element, index, &*rest, end)
+    walk_part(list, set, element, index, &*rest, end, reply)
 }
 
 /// Goes on in an element of a list, by its type.
@@ -329,22 +366,23 @@ fn walk_part(
     index: u32,
     rest: &[Step<'_>],
     end: Ending<'_>,
-) -> Reply
+    reply: &mut Reply,
+)
     requires entries { NamesEntries (lists_seen set.now) (seen_type element) }
     requires stands { IsListStand (lists_seen set.now) (seen_type element) (list_object_tree list.old) }
     requires inside { index < list_length (list_object_tree list.old) }
-    ensures walks { ElementWalks (lists_seen set.now) (seen_type element) index rest.now end.entry (list_object_tree list.old) result
+    ensures walks { ElementWalks (lists_seen set.now) (seen_type element) index rest.now end.entry (list_object_tree list.old) reply.new
         (list_object_tree list.new) }
     ensures formed { IsWellFormed (list_object_tree list.new) }
 {
     match element.which() {
         TypeVariant::Struct(raw) => {
             let schema = set.struct_schema(raw.number);
-            walk_struct_in(list, schema, index, &*rest, end)
+            walk_struct_in(list, schema, index, &*rest, end, reply)
         }
-        TypeVariant::List(inner) => walk_list_in(list, set, inner, index, &*rest, end),
-        TypeVariant::AnyPointer => Reply::Refused(ErrorKind::UntypedStep),
-        _ => Reply::Refused(ErrorKind::NotAContainer),
+        TypeVariant::List(inner) => walk_list_in(list, set, inner, index, &*rest, end, reply),
+        TypeVariant::AnyPointer => *reply = Reply::Refused(ErrorKind::UntypedStep),
+        _ => *reply = Reply::Refused(ErrorKind::NotAContainer),
     }
 }
 
@@ -357,16 +395,17 @@ fn walk_struct_in(
     index: u32,
     rest: &[Step<'_>],
     end: Ending<'_>,
-) -> Reply
+    reply: &mut Reply,
+)
     requires struct_stands { IsStruct schema }
     requires stands { IsListStand (set_of schema) (StructType (number_of schema) (generic_of schema)) (list_object_tree list.old) }
     requires inside { index < list_length (list_object_tree list.old) }
     ensures walks { ElementWalks (set_of schema.entry) (StructType (number_of schema.entry) (generic_of schema.entry)) index rest.now end.entry
-        (list_object_tree list.old) result (list_object_tree list.new) }
+        (list_object_tree list.old) reply.new (list_object_tree list.new) }
     ensures formed { IsWellFormed (list_object_tree list.new) }
 {
     let inner = list.get_struct_element(index);
-    walk(inner, schema, &*rest, end)
+    walk_from(inner, schema, &*rest, end, reply)
 }
 
 /// Goes on in a list of a list of lists.
@@ -378,11 +417,12 @@ fn walk_list_in(
     index: u32,
     rest: &[Step<'_>],
     end: Ending<'_>,
-) -> Reply
+    reply: &mut Reply,
+)
     requires entries { NamesEntries (lists_seen set.now) (seen_type inner) }
     requires stands { IsListStand (lists_seen set.now) (ListType (seen_type inner)) (list_object_tree list.old) }
     requires inside { index < list_length (list_object_tree list.old) }
-    ensures walks { ElementWalks (lists_seen set.now) (ListType (seen_type inner)) index rest.now end.entry (list_object_tree list.old) result
+    ensures walks { ElementWalks (lists_seen set.now) (ListType (seen_type inner)) index rest.now end.entry (list_object_tree list.old) reply.new
         (list_object_tree list.new) }
     ensures formed { IsWellFormed (list_object_tree list.new) }
 {
@@ -390,7 +430,8 @@ fn walk_list_in(
     numbers_fit(set);
     let pointer = list.get_pointer_element(index);
     if let Err(error) = element::fill_list(pointer, set, inner) {
-        return Reply::Refused(error.kind);
+        *reply = Reply::Refused(error.kind);
+        return;
     }
-    walk_list_here(pointer, set, inner, &*rest, end)
+    walk_list_here(pointer, set, inner, &*rest, end, reply)
 }

@@ -7,7 +7,6 @@ ghost use Rattle.capnp_schema.specs.FieldLists.{index_of, typed_of};
 ghost use Rattle.capnp_schema.specs.StructHandles.{IsStruct, generic_of, number_of, set_of};
 ghost use Rattle.capnp_schema.specs.Types.{ListType, StructType, seen_type};
 ghost use Rattle.capnp_schema.specs.Accepted.{NamesEntries};
-ghost use Rattle.capnp_schema.specs.Schema.{is_member};
 ghost use Rattle.capnp_records.specs.Part.{is_inactive};
 ghost use Rattle.capnp_records.specs.Reading.{reads};
 ghost use Rattle.capnp_records.specs.Record.{Record, Value};
@@ -67,17 +66,6 @@ fn find_numbered(schema: StructSchema<'_>, index: u16) -> Result<Field<'_>>
     Ok(fields.get(index))
 }
 
-/// Whether a field is a member of its struct's union.
-#[inline(always)]
-fn is_member(field: Field<'_>) -> bool
-    ensures { result ≡ is_member (typed_of field.entry).field }
-{
-    match field.plan().member {
-        Some(_) => true,
-        None => false,
-    }
-}
-
 /// Whether a field is a member of its struct's union that isn't active.
 #[inline(always)]
 pub fn is_inactive(object: &StructObject, field: Field<'_>) -> bool
@@ -85,16 +73,9 @@ pub fn is_inactive(object: &StructObject, field: Field<'_>) -> bool
     ensures { result ≡ is_inactive (reads (field_set field.entry) (struct_object_tree object.now) (field_brand field.entry)) (typed_of field.entry).field
         (index_of field.entry) }
 {
-    if !is_member(field) {
-        return false;
-    }
     structs_can_be_read();
     let reader = dynamic_struct::Reader::new(object.as_reader(), field.get_containing_struct());
-    match reader.which() {
-        Ok(Some(active)) => field.get_index() != active.get_index(),
-        Ok(None) => true,
-        Err(_) => true,
-    }
+    !reader.is_active(field)
 }
 
 /// Where a step into a field leads that the struct has.

@@ -29,6 +29,7 @@ use capnp_wire::object::Object;
 use capnp_wire::size::{ElementSize, StructSize};
 
 /// The sections of a schema's structs.
+#[inline(always)]
 pub(crate) fn size_of(schema: StructSchema<'_>) -> StructSize
     ensures { result ≡ brand_size (set_of schema.entry) (number_of schema.entry) }
 {

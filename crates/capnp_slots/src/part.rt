@@ -18,6 +18,7 @@ ghost use Rattle.capnp_schema.specs.Defaults.{default_tree};
 ghost use Rattle.capnp_schema.specs.Entries.{lists_seen};
 ghost use Rattle.capnp_schema.specs.FieldLists.{typed_of};
 ghost use Rattle.capnp_schema.specs.Schema.{default_of};
+ghost use Rattle.capnp_schema.specs.StructHandles.{generic_of, number_of, set_of};
 ghost use Rattle.capnp_schema.specs.Types.{ListType, StructType, seen_type};
 ghost use Rattle.capnp_slots.specs.Fields.{IsPointer, IsRoomFor, IsSlot, field_set, pointer_index};
 ghost use Rattle.capnp_slots.specs.Groups.{KeepsSize};
@@ -28,7 +29,7 @@ use crate::make::size_of;
 use crate::pointer::{pointer_slot, set_at};
 use capnp_base::introspect::{Type, TypeVariant};
 use capnp_base::{data, text};
-use capnp_schema::schema::Field;
+use capnp_schema::schema::{Field, StructSchema};
 use capnp_schema::set::SchemaSet;
 use capnp_schema::value::Value;
 use capnp_wire::error::Result;
@@ -250,7 +251,115 @@ pub fn fill(object: &mut StructObject, field: Field<'_>) -> Result<()>
     fill_slot(object, field, index)
 }
 
+/// Fills the pointer of a slot of a struct's type, by the type's schema.
+#[inline(always)]
+fn fill_struct_at(
+    object: &mut StructObject,
+    field: Field<'_>,
+    schema: StructSchema<'_>,
+    index: u16,
+) -> Result<()>
+    requires slot { IsSlot field }
+    requires pointer { IsPointer field }
+    requires set { set_of schema ≡ field_set field }
+    requires type_is { StructType (number_of schema) (generic_of schema) ≡ (typed_of field).type }
+    requires is { index ≡ pointer_index field }
+    requires inside { IsThere object.old index }
+    requires formed { IsWellFormed (struct_tree (struct_object_tree object.old)) }
+    ensures filled { OnOk result (HoldsThere object.old index object.new (filled_in field.entry (struct_object_tree object.old))) }
+    ensures within { OnOk result (due_in field.entry (struct_object_tree object.old) ≡ None) }
+    ensures kept { OnOk result (IsWellFormed (filled_in field.entry (struct_object_tree object.old))) }
+    ensures refused { OnErr result (struct_object_tree object.new ≡ struct_object_tree object.old) }
+    ensures cause { IfErr result (λ e. IsDueRefusal e (due_in field.entry (struct_object_tree object.old))) }
+    ensures rests { RestsIn field.entry (struct_object_tree object.old) → IsOk result }
+{
+    if object.pointer_field(index).is_null() {
+        return fill_null(object, field, index);
+    }
+    pointers_of_structs_are_well_formed();
+    extend_struct(object, index, size_of(schema))
+}
+
+/// Fills what stands behind the pointer of a slot of a struct's type, as `fill`: for a caller that has the type's schema.
+///
+/// Refused as `fill`.
+#[inline(always)]
+pub fn fill_struct_slot(
+    object: &mut StructObject,
+    field: Field<'_>,
+    schema: StructSchema<'_>,
+) -> Result<()>
+    requires slot { IsSlot field }
+    requires set { set_of schema ≡ field_set field }
+    requires type_is { StructType (number_of schema) (generic_of schema) ≡ (typed_of field).type }
+    requires room { IsRoomFor field (struct_object_tree object.old) }
+    requires formed { IsWellFormed (struct_tree (struct_object_tree object.old)) }
+    ensures filled { OnOk result (struct_object_tree object.new
+        ≡ with_pointer_tree (struct_object_tree object.old) (pointer_index field.entry) (filled_in field.entry (struct_object_tree object.old))) }
+    ensures here { OnOk result (pointer_in field.entry (struct_object_tree object.new) ≡ filled_in field.entry (struct_object_tree object.old)) }
+    ensures within { OnOk result (due_in field.entry (struct_object_tree object.old) ≡ None) }
+    ensures kept { OnOk result (KeepsSize (struct_object_tree object.old) (struct_object_tree object.new)) }
+    ensures refused { OnErr result (struct_object_tree object.new ≡ struct_object_tree object.old) }
+    ensures cause { IfErr result (λ e. IsDueRefusal e (due_in field.entry (struct_object_tree object.old))) }
+    ensures rests { RestsIn field.entry (struct_object_tree object.old) → IsOk result }
+{
+    let (index, _) = pointer_slot(field);
+    fill_struct_at(object, field, schema, index)
+}
+
+/// Fills the pointer of a slot of a list's type, by the type of the elements.
+#[inline(always)]
+fn fill_list_at(
+    object: &mut StructObject,
+    field: Field<'_>,
+    element: Type,
+    index: u16,
+) -> Result<()>
+    requires slot { IsSlot field }
+    requires pointer { IsPointer field }
+    requires type_is { ListType (seen_type element) ≡ (typed_of field).type }
+    requires is { index ≡ pointer_index field }
+    requires inside { IsThere object.old index }
+    requires formed { IsWellFormed (struct_tree (struct_object_tree object.old)) }
+    ensures filled { OnOk result (HoldsThere object.old index object.new (filled_in field.entry (struct_object_tree object.old))) }
+    ensures within { OnOk result (due_in field.entry (struct_object_tree object.old) ≡ None) }
+    ensures kept { OnOk result (IsWellFormed (filled_in field.entry (struct_object_tree object.old))) }
+    ensures refused { OnErr result (struct_object_tree object.new ≡ struct_object_tree object.old) }
+    ensures cause { IfErr result (λ e. IsDueRefusal e (due_in field.entry (struct_object_tree object.old))) }
+    ensures rests { RestsIn field.entry (struct_object_tree object.old) → IsOk result }
+{
+    if object.pointer_field(index).is_null() {
+        return fill_null(object, field, index);
+    }
+    pointers_of_structs_are_well_formed();
+    let set = field.get_containing_struct().get_set();
+    fill_elements(object, index, set, element, None)
+}
+
+/// Fills what stands behind the pointer of a slot of a list's type, as `fill`: for a caller that has the type of the elements.
+///
+/// Refused as `fill`.
+#[inline(always)]
+pub fn fill_list_slot(object: &mut StructObject, field: Field<'_>, element: Type) -> Result<()>
+    requires slot { IsSlot field }
+    requires type_is { ListType (seen_type element) ≡ (typed_of field).type }
+    requires room { IsRoomFor field (struct_object_tree object.old) }
+    requires formed { IsWellFormed (struct_tree (struct_object_tree object.old)) }
+    ensures filled { OnOk result (struct_object_tree object.new
+        ≡ with_pointer_tree (struct_object_tree object.old) (pointer_index field.entry) (filled_in field.entry (struct_object_tree object.old))) }
+    ensures here { OnOk result (pointer_in field.entry (struct_object_tree object.new) ≡ filled_in field.entry (struct_object_tree object.old)) }
+    ensures within { OnOk result (due_in field.entry (struct_object_tree object.old) ≡ None) }
+    ensures kept { OnOk result (KeepsSize (struct_object_tree object.old) (struct_object_tree object.new)) }
+    ensures refused { OnErr result (struct_object_tree object.new ≡ struct_object_tree object.old) }
+    ensures cause { IfErr result (λ e. IsDueRefusal e (due_in field.entry (struct_object_tree object.old))) }
+    ensures rests { RestsIn field.entry (struct_object_tree object.old) → IsOk result }
+{
+    let (index, _) = pointer_slot(field);
+    fill_list_at(object, field, element, index)
+}
+
 /// The pointer of a slot, as it stands.
+#[inline(always)]
 pub fn pointer<'a>(object: &'a mut StructObject, field: Field<'_>) -> PointerBuilder<'a>
     requires slot { IsSlot field }
     requires pointer { IsPointer field }

@@ -29,6 +29,7 @@ use capnp_wire::object::StructObject;
 use capnp_wire::size::StructSize;
 
 /// The pointer of a slot, and the discriminant of its field.
+#[inline(always)]
 pub(crate) fn pointer_slot(field: Field<'_>) -> (u16, Option<(u32, u16)>)
     requires slot { IsSlot field }
     requires pointer { IsPointer field }

@@ -1,14 +1,27 @@
 //! Texts and data.
 
-use crate::fixtures::{answer, bytes_of};
+use crate::fixtures::{answer, bytes_of, refusal};
 use capnp_wire::PointerReader;
 use capnp_wire::error::ErrorKind::{
-    BadPointer, CapabilityPointer, TextNotTerminated, WrongElementSize, WrongPointerKind,
+    self, BadPointer, CapabilityPointer, TextNotTerminated, WrongElementSize, WrongPointerKind,
 };
-use std::test::Fail;
+use capnp_wire::error::Result;
+use std::alloc::Global;
+
+/// Whether the root of these words is read as these bytes, and as this text, or as none that ends with a zero.
+fn are_read(alloc: Global, words: &str, bytes: &str, text: Option<&str>) -> Result<(bool, bool)> {
+    let message = bytes_of(alloc, words)?;
+    let root = PointerReader::from_words(&message);
+    let is_text = match (root.get_text(), text) {
+        (Ok(read), Some(text)) => read == text.as_bytes(),
+        (Err(error), None) => error.kind == TextNotTerminated,
+        _ => false,
+    };
+    Ok((root.get_data()? == bytes.as_bytes(), is_text))
+}
 
 #[test]
-fn byte_lists_read_as_data_and_as_text(rt: HostRuntime) -> Result<(), Fail> {
+fn byte_lists_read_as_data_and_as_text(rt: HostRuntime) {
     let table = [
         (
             "01 00 00 00 42 00 00 00 | 61 62 63 64 65 66 67 00",
@@ -34,22 +47,41 @@ fn byte_lists_read_as_data_and_as_text(rt: HostRuntime) -> Result<(), Fail> {
             None,
         ),
         ("01 00 00 00 02 00 00 00", "", None),
+        // data and a text that were written through
+        (
+            "01 00 00 00 1a 00 00 00 | 03 02 01 00 00 00 00 00",
+            "\x03\x02\x01",
+            None,
+        ),
+        (
+            "01 00 00 00 1a 00 00 00 | 69 68 00 00 00 00 00 00",
+            "ih\0",
+            Some("ih"),
+        ),
+        (
+            "01 00 00 00 1a 00 00 00 | 01 02 03 00 00 00 00 00",
+            "\x01\x02\x03",
+            None,
+        ),
     ];
     for (words, bytes, text) in table {
-        let message = bytes_of(rt.alloc(), words)?;
-        let root = PointerReader::from_words(message.as_slice());
-        assert_eq!(rt; root.get_data()?, bytes.as_bytes(), "{words}");
-        let expected = match text {
-            Some(text) => Ok(text.as_bytes()),
-            None => Err(TextNotTerminated),
-        };
-        assert_eq!(rt; answer(root.get_text()), expected, "{words}");
+        assert_eq!(rt;
+            answer(are_read(rt.alloc(), words, bytes, text)),
+            Ok((true, true)),
+            "{words}"
+        );
     }
-    Ok(())
+}
+
+/// Why the root of these words is no data and no text.
+fn refusals_in(alloc: Global, words: &str) -> Result<[Option<ErrorKind>; 2]> {
+    let message = bytes_of(alloc, words)?;
+    let root = PointerReader::from_words(&message);
+    Ok([refusal(root.get_data()), refusal(root.get_text())])
 }
 
 #[test]
-fn other_pointers_are_no_text(rt: HostRuntime) -> Result<(), Fail> {
+fn other_pointers_are_no_text(rt: HostRuntime) {
     let table = [
         ("00 00 00 00 01 00 00 00 | 0", WrongPointerKind),
         ("fc ff ff ff 00 00 00 00", WrongPointerKind),
@@ -67,10 +99,10 @@ fn other_pointers_are_no_text(rt: HostRuntime) -> Result<(), Fail> {
         ("01 00 00 00 4a 00 00 00 | 0", BadPointer),
     ];
     for (words, kind) in table {
-        let message = bytes_of(rt.alloc(), words)?;
-        let root = PointerReader::from_words(message.as_slice());
-        assert_eq!(rt; answer(root.get_data()), Err(kind), "{words}");
-        assert_eq!(rt; answer(root.get_text()), Err(kind), "{words}");
+        assert_eq!(rt;
+            answer(refusals_in(rt.alloc(), words)),
+            Ok([Some(kind); 2]),
+            "{words}"
+        );
     }
-    Ok(())
 }

@@ -1,7 +1,7 @@
 //! What the tests share: messages as text, a size, and what a refused read answers.
 
 use capnp_wire::error::{ErrorKind, Result};
-use capnp_wire::message::Reader;
+use capnp_wire::message::{Builder, Reader};
 use capnp_wire::size::StructSize;
 use capnp_wire::{PointerReader, StructReader};
 use std::alloc::Global;
@@ -64,12 +64,10 @@ pub fn root_of(alloc: Global, bytes: &[u8]) -> Result<PointerReader<'_>> {
     Ok(Reader::new(alloc, bytes)?.get_root())
 }
 
-/// The words of a message of one segment, without the table before them.
-pub fn words_of_message(bytes: &[u8]) -> &[u8] {
-    if bytes.len() < 8 {
-        return &[];
-    }
-    &bytes[8..]
+/// Whether a message is written as the bytes that a text spells.
+pub fn is_written_as(alloc: Global, message: &Builder, text: &str) -> Result<bool> {
+    let want = bytes_of(alloc, text)?;
+    Ok(message.write_message()?.as_slice() == want.as_slice())
 }
 
 /// What a read answered, or the kind of its refusal.
@@ -77,6 +75,14 @@ pub fn answer<T: Copy>(read: Result<T>) -> std::result::Result<T, ErrorKind> {
     match read {
         Ok(value) => Ok(value),
         Err(error) => Err(error.kind),
+    }
+}
+
+/// Why a call was refused.
+pub fn refusal<T: Copy>(answer: Result<T>) -> Option<ErrorKind> {
+    match answer {
+        Ok(_) => None,
+        Err(error) => Some(error.kind),
     }
 }
 
@@ -92,4 +98,10 @@ pub fn struct_after<'a>(root: PointerReader<'a>, structs: u32) -> Result<StructR
         pointer = pointer.get_struct()?.get_pointer_field(0);
     }
     pointer.get_struct()
+}
+
+/// The 16 bit number at the start of the root of a message.
+pub fn number_in_message(alloc: Global, text: &str) -> Result<u16> {
+    let bytes = bytes_of(alloc, text)?;
+    first_number(root_of(alloc, &bytes)?)
 }

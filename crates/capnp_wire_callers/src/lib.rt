@@ -8,13 +8,13 @@
 #[cfg(test)]
 mod blob_tests;
 #[cfg(test)]
-mod builder_tests;
-#[cfg(test)]
-mod built_blob_tests;
-#[cfg(test)]
-mod built_list_tests;
-#[cfg(test)]
 mod built_tests;
+#[cfg(test)]
+mod call_tests;
+#[cfg(test)]
+mod calls;
+#[cfg(test)]
+mod copied_rows;
 #[cfg(test)]
 mod copy_tests;
 #[cfg(test)]
@@ -28,8 +28,6 @@ pub mod kept;
 mod level_tests;
 #[cfg(test)]
 mod list_tests;
-#[cfg(test)]
-mod made_list_tests;
 #[cfg(test)]
 mod message_tests;
 #[cfg(test)]

@@ -1,12 +1,19 @@
 //! Where pointers lead: bounds, far pointers and landing pads.
 
-use crate::fixtures::{answer, bytes_of, first_number, root_of};
+use crate::fixtures::{answer, bytes_of, first_number, number_in_message};
 use capnp_wire::PointerReader;
 use capnp_wire::error::ErrorKind::{BadPointer, CapabilityPointer, WrongPointerKind};
-use std::test::Fail;
+use capnp_wire::error::Result;
+use std::alloc::Global;
+
+/// The 16 bit number at the start of the struct at the root of these words.
+fn number_in_words(alloc: Global, text: &str) -> Result<u16> {
+    let words = bytes_of(alloc, text)?;
+    first_number(PointerReader::from_words(&words))
+}
 
 #[test]
-fn structs_lie_inside_their_segment(rt: HostRuntime) -> Result<(), Fail> {
+fn structs_lie_inside_their_segment(rt: HostRuntime) {
     let table = [
         ("00 00 00 00 01 00 00 00 | 05 00 00 00 00 00 00 00", Ok(5)),
         (
@@ -44,110 +51,117 @@ fn structs_lie_inside_their_segment(rt: HostRuntime) -> Result<(), Fail> {
         ("0", Ok(0)),
     ];
     for (text, expected) in table {
-        let bytes = bytes_of(rt.alloc(), text)?;
-        let root = PointerReader::from_words(bytes.as_slice());
-        assert_eq!(rt; answer(first_number(root)), expected, "{text}");
+        assert_eq!(rt;
+            answer(number_in_words(rt.alloc(), text)),
+            expected,
+            "{text}"
+        );
     }
-    Ok(())
 }
 
 #[test]
-fn far_pointers_lead_to_other_segments(rt: HostRuntime) -> Result<(), Fail> {
+fn far_pointers_and_landing_pads_lead_to_other_segments(rt: HostRuntime) {
+    // a message of two segments, whose root is a pointer to the second one
     let table = [
         (
-            "02 00 00 00 01 00 00 00 | 00 00 00 00 01 00 00 00 | 05 00 00 00 00 00 00 00",
+            "01 00 00 00 01 00 00 00 | 02 00 00 00 00 00 00 00 | \
+             02 00 00 00 01 00 00 00 | 00 00 00 00 01 00 00 00 | 05 00 00 00 00 00 00 00",
             Ok(5),
         ),
         // a landing pad of nothing is a struct of size zero
         (
-            "02 00 00 00 01 00 00 00 | 0 | 05 00 00 00 00 00 00 00",
+            "01 00 00 00 01 00 00 00 | 02 00 00 00 00 00 00 00 | \
+             02 00 00 00 01 00 00 00 | 0 | 05 00 00 00 00 00 00 00",
             Ok(0),
         ),
         // a landing pad at the second word, whose struct starts before it
         (
-            "0a 00 00 00 01 00 00 00 | 05 00 00 00 00 00 00 00 | f8 ff ff ff 01 00 00 00",
+            "01 00 00 00 01 00 00 00 | 02 00 00 00 00 00 00 00 | \
+             0a 00 00 00 01 00 00 00 | 05 00 00 00 00 00 00 00 | f8 ff ff ff 01 00 00 00",
             Ok(5),
         ),
         (
-            "12 00 00 00 01 00 00 00 | 00 00 00 00 01 00 00 00 | 05 00 00 00 00 00 00 00",
+            "01 00 00 00 01 00 00 00 | 02 00 00 00 00 00 00 00 | \
+             12 00 00 00 01 00 00 00 | 00 00 00 00 01 00 00 00 | 05 00 00 00 00 00 00 00",
             Err(BadPointer),
         ),
         (
-            "02 00 00 00 02 00 00 00 | 00 00 00 00 01 00 00 00 | 05 00 00 00 00 00 00 00",
+            "01 00 00 00 01 00 00 00 | 02 00 00 00 00 00 00 00 | \
+             02 00 00 00 02 00 00 00 | 00 00 00 00 01 00 00 00 | 05 00 00 00 00 00 00 00",
             Err(BadPointer),
         ),
         (
-            "02 00 00 00 01 00 00 00 | 04 00 00 00 01 00 00 00 | 05 00 00 00 00 00 00 00",
+            "01 00 00 00 01 00 00 00 | 02 00 00 00 00 00 00 00 | \
+             02 00 00 00 01 00 00 00 | 04 00 00 00 01 00 00 00 | 05 00 00 00 00 00 00 00",
             Err(BadPointer),
         ),
         (
-            "02 00 00 00 01 00 00 00 | 0a 00 00 00 01 00 00 00 | 00 00 00 00 00 00 00 00",
+            "01 00 00 00 01 00 00 00 | 02 00 00 00 00 00 00 00 | \
+             02 00 00 00 01 00 00 00 | 0a 00 00 00 01 00 00 00 | 00 00 00 00 00 00 00 00",
             Err(BadPointer),
         ),
         (
-            "02 00 00 00 01 00 00 00 | 03 00 00 00 00 00 00 00 | 05 00 00 00 00 00 00 00",
+            "01 00 00 00 01 00 00 00 | 02 00 00 00 00 00 00 00 | \
+             02 00 00 00 01 00 00 00 | 03 00 00 00 00 00 00 00 | 05 00 00 00 00 00 00 00",
             Err(CapabilityPointer),
         ),
-    ];
-    for (text, expected) in table {
-        let bytes = bytes_of(rt.alloc(), text)?;
-        let mut message = bytes_of(
-            rt.alloc(),
-            "01 00 00 00 01 00 00 00 | 02 00 00 00 00 00 00 00",
-        )?;
-        message.extend_from_slice(bytes.as_slice())?;
-        let root = root_of(rt.alloc(), message.as_slice())?;
-        assert_eq!(rt; answer(first_number(root)), expected, "{text}");
-    }
-    Ok(())
-}
-
-#[test]
-fn landing_pads_of_two_words_name_the_content(rt: HostRuntime) -> Result<(), Fail> {
-    // the pad, two words of the second segment; the content is a word of the third
-    let table = [
-        ("02 00 00 00 02 00 00 00 | 00 00 00 00 01 00 00 00", Ok(5)),
-        ("02 00 00 00 02 00 00 00 | fc ff ff 7f 01 00 00 00", Ok(5)),
-        ("02 00 00 00 02 00 00 00 | 0", Ok(0)),
+        // landing pads of two words, in the second segment: the content is a word of the third
         (
-            "06 00 00 00 02 00 00 00 | 00 00 00 00 01 00 00 00",
+            "02 00 00 00 01 00 00 00 | 02 00 00 00 01 00 00 00 | 06 00 00 00 01 00 00 00 | \
+             02 00 00 00 02 00 00 00 | 00 00 00 00 01 00 00 00 | 05 00 00 00 00 00 00 00",
+            Ok(5),
+        ),
+        (
+            "02 00 00 00 01 00 00 00 | 02 00 00 00 01 00 00 00 | 06 00 00 00 01 00 00 00 | \
+             02 00 00 00 02 00 00 00 | fc ff ff 7f 01 00 00 00 | 05 00 00 00 00 00 00 00",
+            Ok(5),
+        ),
+        (
+            "02 00 00 00 01 00 00 00 | 02 00 00 00 01 00 00 00 | 06 00 00 00 01 00 00 00 | \
+             02 00 00 00 02 00 00 00 | 0 | 05 00 00 00 00 00 00 00",
+            Ok(0),
+        ),
+        (
+            "02 00 00 00 01 00 00 00 | 02 00 00 00 01 00 00 00 | 06 00 00 00 01 00 00 00 | \
+             06 00 00 00 02 00 00 00 | 00 00 00 00 01 00 00 00 | 05 00 00 00 00 00 00 00",
             Err(BadPointer),
         ),
         (
-            "00 00 00 00 01 00 00 00 | 00 00 00 00 01 00 00 00",
+            "02 00 00 00 01 00 00 00 | 02 00 00 00 01 00 00 00 | 06 00 00 00 01 00 00 00 | \
+             00 00 00 00 01 00 00 00 | 00 00 00 00 01 00 00 00 | 05 00 00 00 00 00 00 00",
             Err(BadPointer),
         ),
         (
-            "02 00 00 00 03 00 00 00 | 00 00 00 00 01 00 00 00",
+            "02 00 00 00 01 00 00 00 | 02 00 00 00 01 00 00 00 | 06 00 00 00 01 00 00 00 | \
+             02 00 00 00 03 00 00 00 | 00 00 00 00 01 00 00 00 | 05 00 00 00 00 00 00 00",
             Err(BadPointer),
         ),
         (
-            "02 00 00 00 02 00 00 00 | 00 00 00 00 02 00 00 00",
+            "02 00 00 00 01 00 00 00 | 02 00 00 00 01 00 00 00 | 06 00 00 00 01 00 00 00 | \
+             02 00 00 00 02 00 00 00 | 00 00 00 00 02 00 00 00 | 05 00 00 00 00 00 00 00",
             Err(BadPointer),
         ),
         (
-            "02 00 00 00 02 00 00 00 | 02 00 00 00 01 00 00 00",
+            "02 00 00 00 01 00 00 00 | 02 00 00 00 01 00 00 00 | 06 00 00 00 01 00 00 00 | \
+             02 00 00 00 02 00 00 00 | 02 00 00 00 01 00 00 00 | 05 00 00 00 00 00 00 00",
             Err(BadPointer),
         ),
         (
-            "02 00 00 00 02 00 00 00 | 03 00 00 00 00 00 00 00",
+            "02 00 00 00 01 00 00 00 | 02 00 00 00 01 00 00 00 | 06 00 00 00 01 00 00 00 | \
+             02 00 00 00 02 00 00 00 | 03 00 00 00 00 00 00 00 | 05 00 00 00 00 00 00 00",
             Err(CapabilityPointer),
         ),
         (
-            "02 00 00 00 02 00 00 00 | 01 00 00 00 0c 00 00 00",
+            "02 00 00 00 01 00 00 00 | 02 00 00 00 01 00 00 00 | 06 00 00 00 01 00 00 00 | \
+             02 00 00 00 02 00 00 00 | 01 00 00 00 0c 00 00 00 | 05 00 00 00 00 00 00 00",
             Err(WrongPointerKind),
         ),
     ];
     for (text, expected) in table {
-        let pad = bytes_of(rt.alloc(), text)?;
-        let mut message = bytes_of(
-            rt.alloc(),
-            "02 00 00 00 01 00 00 00 | 02 00 00 00 01 00 00 00 | 06 00 00 00 01 00 00 00",
-        )?;
-        message.extend_from_slice(pad.as_slice())?;
-        message.extend_from_slice(&[5, 0, 0, 0, 0, 0, 0, 0])?;
-        let root = root_of(rt.alloc(), message.as_slice())?;
-        assert_eq!(rt; answer(first_number(root)), expected, "{text}");
+        assert_eq!(rt;
+            answer(number_in_message(rt.alloc(), text)),
+            expected,
+            "{text}"
+        );
     }
-    Ok(())
 }

@@ -1,14 +1,16 @@
 //! Whether two messages hold the same tree.
 
-use crate::fixtures::{bytes_of, root_of};
+use crate::fixtures::{answer, bytes_of, root_of};
 use capnp_wire::error::Result;
 use std::alloc::Global;
-use std::test::Fail;
 
-fn are_same(alloc: Global, one: &str, other: &str) -> Result<bool> {
+/// Whether one message holds the tree of another, and the other way.
+fn are_same(alloc: Global, one: &str, other: &str) -> Result<(bool, bool)> {
     let one = bytes_of(alloc, one)?;
     let other = bytes_of(alloc, other)?;
-    Ok(root_of(alloc, &one)?.has_same_tree(&root_of(alloc, &other)?))
+    let one = root_of(alloc, &one)?;
+    let other = root_of(alloc, &other)?;
+    Ok((one.has_same_tree(&other), other.has_same_tree(&one)))
 }
 
 const SEVEN: &str = "00 00 00 00 02 00 00 00 | 00 00 00 00 01 00 00 00 | 07 00 00 00 00 00 00 00";
@@ -25,7 +27,7 @@ const TWO_BYTES: &str =
 const NOWHERE: &str = "00 00 00 00 01 00 00 00 | fc ff ff 7f 01 00 00 00";
 
 #[test]
-fn where_things_lie_makes_no_difference(rt: HostRuntime) -> std::result::Result<(), Fail> {
+fn where_things_lie_makes_no_difference(rt: HostRuntime) {
     let table = [
         // through a far pointer to another segment
         (
@@ -57,14 +59,16 @@ fn where_things_lie_makes_no_difference(rt: HostRuntime) -> std::result::Result<
         (NOWHERE, "00 00 00 00 01 00 00 00 | 00 00 00 01 00 00 00 00"),
     ];
     for (one, other) in table {
-        assert!(rt; are_same(rt.alloc(), one, other)?, "{one}, {other}");
-        assert!(rt; are_same(rt.alloc(), other, one)?, "{other}, {one}");
+        assert_eq!(rt;
+            answer(are_same(rt.alloc(), one, other)),
+            Ok((true, true)),
+            "{one}, {other}"
+        );
     }
-    Ok(())
 }
 
 #[test]
-fn what_is_there_makes_one(rt: HostRuntime) -> std::result::Result<(), Fail> {
+fn what_is_there_makes_one(rt: HostRuntime) {
     let table = [
         (
             SEVEN,
@@ -103,8 +107,10 @@ fn what_is_there_makes_one(rt: HostRuntime) -> std::result::Result<(), Fail> {
         ),
     ];
     for (one, other) in table {
-        assert!(rt; !are_same(rt.alloc(), one, other)?, "{one}, {other}");
-        assert!(rt; !are_same(rt.alloc(), other, one)?, "{other}, {one}");
+        assert_eq!(rt;
+            answer(are_same(rt.alloc(), one, other)),
+            Ok((false, false)),
+            "{one}, {other}"
+        );
     }
-    Ok(())
 }

@@ -1,17 +1,28 @@
 //! Lists of structs, and the fields beside them.
 
-use crate::fixtures::{answer, bytes_of, first_number, root_of};
+use crate::fixtures::{answer, bytes_of, first_number, refusal, root_of};
 use capnp_wire::error::ErrorKind::{
-    BadPointer, CapabilityPointer, TextNotTerminated, WrongElementSize,
+    self, BadPointer, CapabilityPointer, TextNotTerminated, WrongElementSize,
 };
 use capnp_wire::error::Result;
 use capnp_wire::size::ElementSize;
 use std::alloc::Global;
-use std::test::Fail;
 
-// In a struct of four pointers: the length of the list at the last, and the numbers of its first two structs.
-fn items_in(alloc: Global, bytes: &[u8]) -> Result<(u32, u16, u16)> {
-    let fields = root_of(alloc, bytes)?.get_struct()?;
+/// A message of a struct of four pointers, of which the last is the list at the root of these words.
+fn message_of(alloc: Global, text: &str) -> Result<Vec<u8>> {
+    let words = bytes_of(alloc, text)?;
+    let mut message = bytes_of(
+        alloc,
+        "00 00 00 00 08 00 00 00 | 00 00 00 00 00 00 04 00 | 0 | 0 | 0",
+    )?;
+    message.extend_from_slice(words.as_slice())?;
+    Ok(message)
+}
+
+/// The length of that list, and the numbers of its first two structs.
+fn items_in(alloc: Global, text: &str) -> Result<(u32, u16, u16)> {
+    let message = message_of(alloc, text)?;
+    let fields = root_of(alloc, &message)?.get_struct()?;
     let items = fields
         .get_pointer_field(3)
         .get_list(ElementSize::InlineComposite)?;
@@ -21,7 +32,7 @@ fn items_in(alloc: Global, bytes: &[u8]) -> Result<(u32, u16, u16)> {
 }
 
 #[test]
-fn lists_of_structs_keep_to_their_words(rt: HostRuntime) -> std::result::Result<(), Fail> {
+fn lists_of_structs_keep_to_their_words(rt: HostRuntime) {
     let table = [
         // as structs, as 16 bit numbers, as bits, as bytes
         (
@@ -74,64 +85,64 @@ fn lists_of_structs_keep_to_their_words(rt: HostRuntime) -> std::result::Result<
         ("0 | 0 | 0 | 0", Ok((0, 0, 0))),
     ];
     for (text, expected) in table {
-        let words = bytes_of(rt.alloc(), text)?;
-        let mut message = bytes_of(
-            rt.alloc(),
-            "00 00 00 00 08 00 00 00 | 00 00 00 00 00 00 04 00 | 0 | 0 | 0",
-        )?;
-        message.extend_from_slice(words.as_slice())?;
-        assert_eq!(rt;
-            answer(items_in(rt.alloc(), message.as_slice())),
-            expected,
-            "{text}"
-        );
+        assert_eq!(rt; answer(items_in(rt.alloc(), text)), expected, "{text}");
     }
-    Ok(())
+}
+
+/// The length of the first pointer's list of bytes, whether the second is null, how many bytes it has or why it is no data,
+/// why the third is no text, and the number of the fourth.
+fn fields_in(
+    alloc: Global,
+    text: &str,
+) -> Result<
+    (
+        u32,
+        bool,
+        std::result::Result<usize, ErrorKind>,
+        Option<ErrorKind>,
+        u16,
+    ),
+> {
+    let bytes = bytes_of(alloc, text)?;
+    let fields = root_of(alloc, &bytes)?.get_struct()?;
+    let raw = fields.get_pointer_field(1);
+    let length = match raw.get_data() {
+        Ok(data) => Ok(data.len()),
+        Err(error) => Err(error.kind),
+    };
+    Ok((
+        fields
+            .get_pointer_field(0)
+            .get_list(ElementSize::Byte)?
+            .len(),
+        raw.is_null(),
+        length,
+        refusal(fields.get_pointer_field(2).get_text()),
+        first_number(fields.get_pointer_field(3))?,
+    ))
 }
 
 #[test]
-fn each_field_is_refused_alone(rt: HostRuntime) -> std::result::Result<(), Fail> {
+fn each_field_is_refused_alone(rt: HostRuntime) {
     // a null, a capability, a text without its zero, a null; then a null in place of the capability
-    for (text, raw, has_raw) in [
+    for (text, is_null, length) in [
         (
             "00 00 00 00 06 00 00 00 | 00 00 00 00 00 00 04 00 | 0 | 03 00 00 00 00 00 00 00 | \
              05 00 00 00 12 00 00 00 | 0 | 61 62 00 00 00 00 00 00",
+            false,
             Err(CapabilityPointer),
-            true,
         ),
         (
             "00 00 00 00 06 00 00 00 | 00 00 00 00 00 00 04 00 | 0 | 0 | \
              05 00 00 00 12 00 00 00 | 0 | 61 62 00 00 00 00 00 00",
-            Ok(b"".as_slice()),
-            false,
+            true,
+            Ok(0),
         ),
     ] {
-        let bytes = bytes_of(rt.alloc(), text)?;
-        let fields = root_of(rt.alloc(), bytes.as_slice())?.get_struct()?;
         assert_eq!(rt;
-            fields
-                .get_pointer_field(0)
-                .get_list(ElementSize::Byte)?
-                .len(),
-            0,
-            "{text}"
-        );
-        assert_eq!(rt; fields.get_pointer_field(1).is_null(), !has_raw, "{text}");
-        assert_eq!(rt;
-            answer(fields.get_pointer_field(1).get_data()),
-            raw,
-            "{text}"
-        );
-        assert_eq!(rt;
-            answer(fields.get_pointer_field(2).get_text()),
-            Err(TextNotTerminated),
-            "{text}"
-        );
-        assert_eq!(rt;
-            answer(first_number(fields.get_pointer_field(3))),
-            Ok(0),
+            answer(fields_in(rt.alloc(), text)),
+            Ok((0, is_null, length, Some(TextNotTerminated), 0)),
             "{text}"
         );
     }
-    Ok(())
 }

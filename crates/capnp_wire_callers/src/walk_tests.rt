@@ -5,9 +5,10 @@ use crate::path::{get_by_path, get_text_by_path, read_by_path};
 use crate::sum::sum_of_list;
 use capnp_wire::PointerReader;
 use capnp_wire::error::ErrorKind::{
-    BadPointer, TooDeep, Truncated, WrongElementSize, WrongPointerKind,
+    self, BadPointer, TooDeep, Truncated, WrongElementSize, WrongPointerKind,
 };
-use std::test::Fail;
+use capnp_wire::error::Result;
+use std::alloc::Global;
 
 // A struct whose pointers are null, to a struct of one word, to the text hi, and to itself.
 const PARTS: &str =
@@ -15,10 +16,20 @@ const PARTS: &str =
      08 00 00 00 01 00 00 00 | 09 00 00 00 1a 00 00 00 | ec ff ff ff 01 00 04 00 | \
      09 00 00 00 00 00 00 00 | 68 69 00 00 00 00 00 00 | 0";
 
+/// The number at the end of a path in these parts, from their root and from their bytes.
+fn numbers_at(alloc: Global, path: &[u16], offset: u32) -> Result<[Answer; 2]> {
+    let bytes = bytes_of(alloc, PARTS)?;
+    let root = root_of(alloc, &bytes)?;
+    Ok([
+        answer(get_by_path(root, path, offset)),
+        answer(read_by_path(alloc, &bytes, path, offset)),
+    ])
+}
+
+type Answer = std::result::Result<u64, ErrorKind>;
+
 #[test]
-fn a_path_leads_to_a_number(rt: HostRuntime) -> Result<(), Fail> {
-    let bytes = bytes_of(rt.alloc(), PARTS)?;
-    let root = root_of(rt.alloc(), bytes.as_slice())?;
+fn a_path_leads_to_a_number(rt: HostRuntime) {
     let table = [
         ([].as_slice(), 0, Ok(5)),
         ([].as_slice(), 1, Ok(0)),
@@ -34,13 +45,8 @@ fn a_path_leads_to_a_number(rt: HostRuntime) -> Result<(), Fail> {
     ];
     for (path, offset, expected) in table {
         assert_eq!(rt;
-            answer(get_by_path(root, path, offset)),
-            expected,
-            "at {path:?}"
-        );
-        assert_eq!(rt;
-            answer(read_by_path(rt.alloc(), bytes.as_slice(), path, offset)),
-            expected,
+            answer(numbers_at(rt.alloc(), path, offset)),
+            Ok([expected; 2]),
             "at {path:?}"
         );
     }
@@ -48,31 +54,39 @@ fn a_path_leads_to_a_number(rt: HostRuntime) -> Result<(), Fail> {
         answer(read_by_path(rt.alloc(), &[0, 0, 0, 0], &[], 0)),
         Err(Truncated)
     );
-    Ok(())
+}
+
+/// Whether a text stands at the end of a path in these parts.
+fn is_text_at(alloc: Global, path: &[u16], text: &str) -> Result<bool> {
+    let bytes = bytes_of(alloc, PARTS)?;
+    Ok(get_text_by_path(root_of(alloc, &bytes)?, path)? == text.as_bytes())
 }
 
 #[test]
-fn a_path_leads_to_a_text(rt: HostRuntime) -> Result<(), Fail> {
-    let bytes = bytes_of(rt.alloc(), PARTS)?;
-    let root = root_of(rt.alloc(), bytes.as_slice())?;
-    for (path, expected) in [
-        ([2].as_slice(), Ok(b"hi".as_slice())),
-        ([0, 4].as_slice(), Ok(b"".as_slice())),
-        ([].as_slice(), Err(WrongPointerKind)),
-        ([2, 2].as_slice(), Err(WrongPointerKind)),
-        ([3u16; 65].as_slice(), Err(TooDeep)),
+fn a_path_leads_to_a_text(rt: HostRuntime) {
+    for (path, text, expected) in [
+        ([2].as_slice(), "hi", Ok(true)),
+        ([0, 4].as_slice(), "", Ok(true)),
+        ([].as_slice(), "", Err(WrongPointerKind)),
+        ([2, 2].as_slice(), "", Err(WrongPointerKind)),
+        ([3u16; 65].as_slice(), "", Err(TooDeep)),
     ] {
         assert_eq!(rt;
-            answer(get_text_by_path(root, path)),
+            answer(is_text_at(rt.alloc(), path, text)),
             expected,
             "at {path:?}"
         );
     }
-    Ok(())
+}
+
+/// The sum of the list at the root of these words.
+fn sum_in(alloc: Global, text: &str) -> Result<u64> {
+    let words = bytes_of(alloc, text)?;
+    sum_of_list(PointerReader::from_words(&words))
 }
 
 #[test]
-fn a_list_is_summed(rt: HostRuntime) -> Result<(), Fail> {
+fn a_list_is_summed(rt: HostRuntime) {
     for (text, expected) in [
         (
             "01 00 00 00 1c 00 00 00 | ff ff ff ff ff ff ff ff | 02 00 00 00 09 00 00 00",
@@ -87,12 +101,6 @@ fn a_list_is_summed(rt: HostRuntime) -> Result<(), Fail> {
         ("01 00 00 00 0b 00 00 00 | 0", Err(WrongElementSize)),
         ("01 00 00 00 1c 00 00 00 | 0", Err(BadPointer)),
     ] {
-        let words = bytes_of(rt.alloc(), text)?;
-        assert_eq!(rt;
-            answer(sum_of_list(PointerReader::from_words(words.as_slice()))),
-            expected,
-            "{text}"
-        );
+        assert_eq!(rt; answer(sum_in(rt.alloc(), text)), expected, "{text}");
     }
-    Ok(())
 }

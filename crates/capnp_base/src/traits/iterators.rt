@@ -6,8 +6,6 @@ ghost use Rattle.capnp_base.specs.Taking.{indices, TakesFirst, TakesLast, TakesN
 
 pub mod laws;
 mod short;
-#[cfg(test)]
-mod tests;
 
 pub use short::ShortListIter;
 use std::marker::PhantomData;

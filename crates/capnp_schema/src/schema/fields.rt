@@ -164,6 +164,6 @@ impl<'s> Field<'s> {
         ensures stands { IsPlan (set_of (schema_of self.now)) (number_of (schema_of self.now)) (struct_field (schema_of self.now) (index_of self.now)) result }
         ensures group { IfGroup result.place (LeadsToGroup (set_of (schema_of self.now)) (number_of (schema_of self.now))) }
     {
-        self.schema.set.plan(self.schema.number, self.index)
+        *self.schema.set.plan(self.schema.number, self.index)
     }
 }

@@ -41,12 +41,12 @@ fn plans_at(tables: &[Vec<SlotPlan>], table: usize) -> &[SlotPlan]
 
 /// The plan of a number, that of a slot without room past the end.
 #[inline(always)]
-fn plan_at(plans: &[SlotPlan], i: usize) -> SlotPlan
-    ensures { result ≡ unwrap_or (slice_get plans.now i) no_plan }
+fn plan_at(plans: &[SlotPlan], i: usize) -> &SlotPlan
+    ensures { result.now ≡ unwrap_or (slice_get plans.now i) no_plan }
 {
     match plans.get(i) {
-        Some(plan) => *plan,
-        None => NO_PLAN,
+        Some(plan) => plan,
+        None => &NO_PLAN,
     }
 }
 
@@ -161,11 +161,11 @@ impl SchemaSet {
     /// The plan of a field, that of a slot without room where there is no such field.
     #[tactic(auto, using(crate::proofs::LookUps::plan_here))]
     #[inline(always)]
-    pub(crate) fn plan(&self, brand: u32, field: u16) -> SlotPlan
-        ensures is { result ≡ plan_of (lists_seen self.now) brand (field_at (lists_seen self.now) brand field) }
+    pub(crate) fn plan(&self, brand: u32, field: u16) -> &SlotPlan
+        ensures is { result.now ≡ plan_of (lists_seen self.now) brand (field_at (lists_seen self.now) brand field) }
         ensures stands { field < length (fields_of (lists_seen self.now) brand)
-            → IsPlan (lists_seen self.now) brand (field_at (lists_seen self.now) brand field) result }
-        ensures group { field < length (fields_of (lists_seen self.now) brand) → IfGroup result.place (LeadsToGroup (lists_seen self.now) brand) }
+            → IsPlan (lists_seen self.now) brand (field_at (lists_seen self.now) brand field) result.now }
+        ensures group { field < length (fields_of (lists_seen self.now) brand) → IfGroup result.now.place (LeadsToGroup (lists_seen self.now) brand) }
     {
         plan_at(plans_at(&self.tables.plans, brand as usize), field as usize)
     }

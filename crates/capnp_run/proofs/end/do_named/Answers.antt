@@ -6,5 +6,5 @@ use Rattle.capnp_run.proofs.end.do_named.Goals as goal
 
 pub returns-in-Ok-clause-does : goal.returns-in-Ok-clause-does
 returns-in-Ok-clause-does c =
-    names_found c.args.schema c.in-Ok.field c.args.last (op_seen c.args.op) (struct_object_tree c.args.object.now) (reply_seen c.do_field.result) (struct_object_tree c.do_field.new.object)
+    names_found c.args.schema c.in-Ok.field c.args.end.call.now.last (op_seen c.args.end.call.now.op) (struct_object_tree c.args.object.now) (reply_seen c.do_field.result) (struct_object_tree c.do_field.new.object)
     c.in-Ok.ensures.named c.in-Ok.ensures.found c.do_field.ensures.does

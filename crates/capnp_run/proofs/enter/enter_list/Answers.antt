@@ -15,7 +15,7 @@ returns-clause-goes c =
     let leads = c.requires.leads in
     let pointer : IsPointer f = subst (λ (t : SchemaType). is_pointer t ≡ true) leads.type_is refl in
     list_entered f (struct_object_tree c.args.object.now) (seen_type c.args.element) leads.slot pointer leads.type_is c.requires.walked
-    (c.objects_hold_no_fault.ensures.structs c.args.object.now) c.default_is_sound.ensures.fits c.default_is_sound.ensures.formed c.fill.result c.fill.ensures.within
+    (c.objects_hold_no_fault.ensures.structs c.args.object.now) c.default_is_sound.ensures.fits c.default_is_sound.ensures.formed c.fill_list_slot.result c.fill_list_slot.ensures.within
 
 well : {A E : Type 0} {P Q R : Type 0} (r : Result A E) → (P → Q → R) → OnOk r P → OnOk r Q → OnOk r R
 well (Ok a) f p q = f p q
@@ -28,8 +28,8 @@ returns-clause-stands c =
     let leads = c.requires.leads in
     let pointer : IsPointer f = subst (λ (t : SchemaType). is_pointer t ≡ true) leads.type_is refl in
     list_left f s (seen_type c.args.element) leads.slot pointer leads.type_is c.requires.walked
-    (c.objects_hold_no_fault.ensures.structs c.args.object.now) c.default_is_sound.ensures.fits c.default_is_sound.ensures.formed c.fill.result c.fill.ensures.within
-    (well c.fill.result (λ here kept. c.pointers_of_structs_are_well_formed.ensures (struct_object_tree c.fill.new.object) _ (filled_in f s) (sym here) (kept.formed c.requires.formed)) c.fill.ensures.here c.fill.ensures.kept)
+    (c.objects_hold_no_fault.ensures.structs c.args.object.now) c.default_is_sound.ensures.fits c.default_is_sound.ensures.formed c.fill_list_slot.result c.fill_list_slot.ensures.within
+    (well c.fill_list_slot.result (λ here kept. c.pointers_of_structs_are_well_formed.ensures (struct_object_tree c.fill_list_slot.new.object) _ (filled_in f s) (sym here) (kept.formed c.requires.formed)) c.fill_list_slot.ensures.here c.fill_list_slot.ensures.kept)
 
 pub returns-clause-cause : goal.returns-clause-cause
 returns-clause-cause c =
@@ -40,4 +40,4 @@ returns-clause-cause c =
     let ranges : HasRanges (field_set f) = subst HasRanges (c.get_set.ensures ∙ ap set_of c.get_containing_struct.ensures.is) c.numbers_fit.ensures in
     list_stopped f s (seen_type c.args.element) leads.slot pointer leads.type_is c.requires.walked
     (c.objects_hold_no_fault.ensures.structs c.args.object.now) c.default_is_sound.ensures.fits c.default_is_sound.ensures.formed ranges
-    (c.pointers_of_structs_are_well_formed.ensures s _ _ refl c.requires.formed) c.fill.result c.fill.ensures.cause c.fill.ensures.rests
+    (c.pointers_of_structs_are_well_formed.ensures s _ _ refl c.requires.formed) c.fill_list_slot.result c.fill_list_slot.ensures.cause c.fill_list_slot.ensures.rests

@@ -13,7 +13,7 @@ returns-clause-goes c =
     let leads = c.requires.leads in
     let pointer : IsPointer f = subst (λ (t : SchemaType). is_pointer t ≡ true) leads.type_is refl in
     struct_entered f (struct_object_tree c.args.object.now) (number_of c.args.schema) (generic_of c.args.schema) leads.slot pointer leads.type_is c.requires.walked
-    (c.objects_hold_no_fault.ensures.structs c.args.object.now) c.fill.result c.fill.ensures.within
+    (c.objects_hold_no_fault.ensures.structs c.args.object.now) c.fill_struct_slot.result c.fill_struct_slot.ensures.within
 
 pub returns-clause-cause : goal.returns-clause-cause
 returns-clause-cause c =
@@ -21,4 +21,4 @@ returns-clause-cause c =
     let leads = c.requires.leads in
     let pointer : IsPointer f = subst (λ (t : SchemaType). is_pointer t ≡ true) leads.type_is refl in
     struct_stopped f (struct_object_tree c.args.object.now) (number_of c.args.schema) (generic_of c.args.schema) leads.slot pointer leads.type_is c.requires.walked
-    (c.objects_hold_no_fault.ensures.structs c.args.object.now) c.fill.result c.fill.ensures.cause c.fill.ensures.rests
+    (c.objects_hold_no_fault.ensures.structs c.args.object.now) c.fill_struct_slot.result c.fill_struct_slot.ensures.cause c.fill_struct_slot.ensures.rests

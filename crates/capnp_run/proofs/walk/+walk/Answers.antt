@@ -42,30 +42,30 @@ name_element e = cc
 
 -- ---- structs ----
 
-pub walk-returns-in_default-clause-walks : goal.walk-returns-in_default-clause-walks
-walk-returns-in_default-clause-walks t c =
+pub walk_from-returns-in_default-clause-walks : goal.walk_from-returns-in_default-clause-walks
+walk_from-returns-in_default-clause-walks t c =
     walks_end (set_of c.args.schema) (number_of c.args.schema) c.args.path.now c.args.end (struct_object_tree c.args.object.now) c.end_at_struct.result (struct_object_tree c.end_at_struct.new.object)
     (nil_from_length c.args.path.now c.in_default.ensures.cases) c.end_at_struct.ensures.ends
 
-pub walk-returns-in_default-clause-rests : goal.walk-returns-in_default-clause-rests
-walk-returns-in_default-clause-rests t c =
+pub walk_from-returns-in_default-clause-rests : goal.walk_from-returns-in_default-clause-rests
+walk_from-returns-in_default-clause-rests t c =
     path_rests c.args.schema c.args.path.now c.args.end (struct_object_tree c.args.object.now) c.end_at_struct.result (struct_object_tree c.end_at_struct.new.object)
     (walks_end (set_of c.args.schema) (number_of c.args.schema) c.args.path.now c.args.end (struct_object_tree c.args.object.now) c.end_at_struct.result (struct_object_tree c.end_at_struct.new.object)
     (nil_from_length c.args.path.now c.in_default.ensures.cases) c.end_at_struct.ensures.ends)
 
-pub walk-returns-clause-rests : goal.walk-returns-clause-rests
-walk-returns-clause-rests t c =
+pub walk_from-returns-clause-rests : goal.walk_from-returns-clause-rests
+walk_from-returns-clause-rests t c =
     let s = struct_object_tree c.args.object.now in
     let s' = struct_object_tree c.walk_step.new.object in
-    path_rests c.args.schema c.args.path.now c.args.end s c.walk_step.result s'
-    (subst (λ (path : List Step). StructWalks (set_of c.args.schema) (number_of c.args.schema) path c.args.end s c.walk_step.result s') (sym c.in-Some.ensures.cases.0) c.walk_step.ensures.walks)
+    path_rests c.args.schema c.args.path.now c.args.end s c.walk_step.new.reply s'
+    (subst (λ (path : List Step). StructWalks (set_of c.args.schema) (number_of c.args.schema) path c.args.end s c.walk_step.new.reply s') (sym c.in-Some.ensures.cases.0) c.walk_step.ensures.walks)
 
 pub walk_step-returns-in-Err-clause-walks : goal.walk_step-returns-in-Err-clause-walks
 walk_step-returns-in-Err-clause-walks t c = step_missing c.args.schema c.args.step c.args.rest.now c.args.end (struct_object_tree c.args.object.now) c.in-Err.error c.in-Err.ensures.found
 
 pub walk_step-returns-in-Ok-clause-walks : goal.walk_step-returns-in-Ok-clause-walks
 walk_step-returns-in-Ok-clause-walks t c =
-    step_found c.args.schema c.in-Ok.field c.args.step c.args.rest.now c.args.end (struct_object_tree c.args.object.now) c.walk_field.result (struct_object_tree c.walk_field.new.object)
+    step_found c.args.schema c.in-Ok.field c.args.step c.args.rest.now c.args.end (struct_object_tree c.args.object.now) c.walk_field.new.reply (struct_object_tree c.walk_field.new.object)
     c.in-Ok.ensures.named c.in-Ok.ensures.found c.walk_field.ensures.walks
 
 pub walk_field-returns-in-Err-clause-walks : goal.walk_field-returns-in-Err-clause-walks
@@ -73,7 +73,7 @@ walk_field-returns-in-Err-clause-walks t c = field_stops c.args.field c.args.res
 
 pub walk_group-returns-clause-walks : goal.walk_group-returns-clause-walks
 walk_group-returns-clause-walks t c =
-    field_group c.args.field c.args.rest.now c.args.end (struct_object_tree c.args.object.now) c.args.group c.walk.result (struct_object_tree c.walk.new.object) c.requires.leads c.enter_group.ensures c.walk.ensures.walks
+    field_group c.args.field c.args.rest.now c.args.end (struct_object_tree c.args.object.now) c.args.group c.walk_from.new.reply (struct_object_tree c.walk_from.new.object) c.requires.leads c.enter_group.ensures c.walk_from.ensures.walks
 
 pub walk_struct-returns-in-Err-clause-walks : goal.walk_struct-returns-in-Err-clause-walks
 walk_struct-returns-in-Err-clause-walks t c =
@@ -93,10 +93,10 @@ walk_struct-returns-clause-walks t c =
     let s = struct_object_tree c.args.object.now in
     let o = c.walk_struct_here.new.pointer in
     let y : StructTree = struct_in (object_tree o) in
-    let walks = subst (λ (x : Tree). StructWalks (set_of c.args.schema) (number_of c.args.schema) c.args.rest.now c.args.end (struct_in x) c.walk_struct_here.result y) (c.pointer-pointer.ensures.now ∙ c.in_default.ensures.here) c.walk_struct_here.ensures.walks in
-    subst (λ (z : StructTree). FieldWalks f c.args.rest.now c.args.end s c.walk_struct_here.result z)
+    let walks = subst (λ (x : Tree). StructWalks (set_of c.args.schema) (number_of c.args.schema) c.args.rest.now c.args.end (struct_in x) c.walk_struct_here.new.reply y) (c.pointer-pointer.ensures.now ∙ c.in_default.ensures.here) c.walk_struct_here.ensures.walks in
+    subst (λ (z : StructTree). FieldWalks f c.args.rest.now c.args.end s c.walk_struct_here.new.reply z)
     (sym (pointer_again s (pointer_index f) c.enter_struct.new.object (filled_in f s) o (struct_tree y) c.in_default.ensures.filled c.walk_struct_here.ensures.here))
-    (field_struct f c.args.rest.now c.args.end s c.args.schema c.walk_struct_here.result y c.requires.leads c.in_default.ensures.goes walks)
+    (field_struct f c.args.rest.now c.args.end s c.args.schema c.walk_struct_here.new.reply y c.requires.leads c.in_default.ensures.goes walks)
 
 pub walk_struct-returns-clause-kept : goal.walk_struct-returns-clause-kept
 walk_struct-returns-clause-kept t c =
@@ -117,11 +117,11 @@ walk_list_slot-returns-clause-walks t c =
     let s = struct_object_tree c.args.object.now in
     let o = c.walk_list_here.new.pointer in
     let e = seen_type c.args.element in
-    let walks = subst (λ (x : Tree). ListWalks (field_set f) e c.args.rest.now c.args.end x c.walk_list_here.result (object_tree o)) (c.pointer-pointer.ensures.now ∙ c.in_default.ensures.here)
-    (subst (λ (z : Schemas). ListWalks z e c.args.rest.now c.args.end (object_tree c.pointer-pointer.result.now) c.walk_list_here.result (object_tree o)) (c.get_set-set.ensures ∙ ap set_of c.get_containing_struct.ensures.is) c.walk_list_here.ensures.walks) in
-    subst (λ (z : StructTree). FieldWalks f c.args.rest.now c.args.end s c.walk_list_here.result z)
+    let walks = subst (λ (x : Tree). ListWalks (field_set f) e c.args.rest.now c.args.end x c.walk_list_here.new.reply (object_tree o)) (c.pointer-pointer.ensures.now ∙ c.in_default.ensures.here)
+    (subst (λ (z : Schemas). ListWalks z e c.args.rest.now c.args.end (object_tree c.pointer-pointer.result.now) c.walk_list_here.new.reply (object_tree o)) (c.get_set-set.ensures ∙ ap set_of c.get_containing_struct.ensures.is) c.walk_list_here.ensures.walks) in
+    subst (λ (z : StructTree). FieldWalks f c.args.rest.now c.args.end s c.walk_list_here.new.reply z)
     (sym (pointer_again s (pointer_index f) c.enter_list.new.object (filled_in f s) o (object_tree o) c.in_default.ensures.filled refl))
-    (field_list f c.args.rest.now c.args.end s c.args.element c.walk_list_here.result (object_tree o) c.requires.leads c.in_default.ensures.goes walks)
+    (field_list f c.args.rest.now c.args.end s c.args.element c.walk_list_here.new.reply (object_tree o) c.requires.leads c.in_default.ensures.goes walks)
 
 pub walk_list_slot-returns-clause-kept : goal.walk_list_slot-returns-clause-kept
 walk_list_slot-returns-clause-kept t c =
@@ -154,7 +154,7 @@ walk_element-returns-then-index-len-clause-walks t c =
 
 pub walk_element-returns-clause-walks : goal.walk_element-returns-clause-walks
 walk_element-returns-clause-walks t c =
-    element_there (lists_seen c.args.set.now) (seen_type c.args.element) (list_object_tree c.args.list.now) c.requires.stands c.requires.there c.args.index c.args.rest.now c.args.end c.walk_part.result (list_object_tree c.walk_part.new.list)
+    element_there (lists_seen c.args.set.now) (seen_type c.args.element) (list_object_tree c.args.list.now) c.requires.stands c.requires.there c.args.index c.args.rest.now c.args.end c.walk_part.new.reply (list_object_tree c.walk_part.new.list)
     (omega (arith, c.if-index-len.false, c.len.ensures.length)) c.walk_part.ensures.walks
 
 pub walk_part-returns-in-AnyPointer-clause-walks : goal.walk_part-returns-in-AnyPointer-clause-walks
@@ -172,8 +172,8 @@ walk_part-returns-in_default t c = record {
 
 -- ---- structs of lists ----
 
-pub walk_struct_in-walk-requires : goal.walk_struct_in-walk-requires
-walk_struct_in-walk-requires t c =
+pub walk_struct_in-walk_from-requires : goal.walk_struct_in-walk_from-requires
+walk_struct_in-walk_from-requires t c =
     let set = set_of c.args.schema in
     let b = number_of c.args.schema in
     let x = list_object_tree c.args.list.now in
@@ -195,16 +195,16 @@ walk_struct_in-returns-clause-walks t c =
     let b = number_of c.args.schema in
     let g = generic_of c.args.schema in
     let x = list_object_tree c.args.list.now in
-    let y : StructTree = struct_object_tree c.walk.new.object in
-    subst (λ (z : Tree). ElementWalks set (StructType b g) c.args.index c.args.rest.now c.args.end x c.walk.result z) (sym (element_walked c.args.list.now c.args.index c.walk.new.object _ c.get_struct_element-inner.ensures.now c.walk.ensures.kept))
-    (element_in_struct set x c.args.index c.args.rest.now c.args.end c.requires.inside b g c.walk.result y
-    (subst (λ (s : StructTree). StructWalks set b c.args.rest.now c.args.end s c.walk.result y) c.get_struct_element-inner.ensures.now c.walk.ensures.walks))
+    let y : StructTree = struct_object_tree c.walk_from.new.object in
+    subst (λ (z : Tree). ElementWalks set (StructType b g) c.args.index c.args.rest.now c.args.end x c.walk_from.new.reply z) (sym (element_walked c.args.list.now c.args.index c.walk_from.new.object _ c.get_struct_element-inner.ensures.now c.walk_from.ensures.kept))
+    (element_in_struct set x c.args.index c.args.rest.now c.args.end c.requires.inside b g c.walk_from.new.reply y
+    (subst (λ (s : StructTree). StructWalks set b c.args.rest.now c.args.end s c.walk_from.new.reply y) c.get_struct_element-inner.ensures.now c.walk_from.ensures.walks))
 
 pub walk_struct_in-returns-clause-formed : goal.walk_struct_in-returns-clause-formed
 walk_struct_in-returns-clause-formed t c =
     let x = list_object_tree c.args.list.now in
-    element_formed c.args.list.now c.args.index c.walk.new.object _ (has_struct (set_of c.args.schema) (number_of c.args.schema) (generic_of c.args.schema) x c.args.index c.requires.stands c.requires.inside)
-    c.get_struct_element-inner.ensures.now c.requires.stands.formed c.walk.ensures.kept
+    element_formed c.args.list.now c.args.index c.walk_from.new.object _ (has_struct (set_of c.args.schema) (number_of c.args.schema) (generic_of c.args.schema) x c.args.index c.requires.stands c.requires.inside)
+    c.get_struct_element-inner.ensures.now c.requires.stands.formed c.walk_from.ensures.kept
 
 -- ---- lists of lists ----
 
@@ -256,12 +256,12 @@ walk_list_in-returns-clause-walks t c =
     let i = c.args.index in
     let o = c.walk_list_here.new.pointer in
     let now = c.get_pointer_element-pointer.ensures.now in
-    subst (λ (z : Tree). ElementWalks set (ListType e) i c.args.rest.now c.args.end x c.walk_list_here.result z) (sym (object_written c.args.list.now i o))
-    (element_in_list set x i c.args.rest.now c.args.end c.requires.inside e c.walk_list_here.result (object_tree o)
+    subst (λ (z : Tree). ElementWalks set (ListType e) i c.args.rest.now c.args.end x c.walk_list_here.new.reply z) (sym (object_written c.args.list.now i o))
+    (element_in_list set x i c.args.rest.now c.args.end c.requires.inside e c.walk_list_here.new.reply (object_tree o)
     (has_pointer set e x i c.requires.stands c.requires.inside)
     (subst (λ (y : Tree). fill_due set VoidValue (ListType e) y ≡ None) now c.in_default.ensures.within)
     (subst (λ (y : Tree). first_fault y ≡ None) now (c.objects_hold_no_fault.ensures.objects c.get_pointer_element-pointer.result.now))
-    (subst (λ (y : Tree). ListWalks set e c.args.rest.now c.args.end y c.walk_list_here.result (object_tree o)) (c.in_default.ensures.filled ∙ ap (entered_list set e) now) c.walk_list_here.ensures.walks))
+    (subst (λ (y : Tree). ListWalks set e c.args.rest.now c.args.end y c.walk_list_here.new.reply (object_tree o)) (c.in_default.ensures.filled ∙ ap (entered_list set e) now) c.walk_list_here.ensures.walks))
 
 pub walk_list_in-returns-clause-formed : goal.walk_list_in-returns-clause-formed
 walk_list_in-returns-clause-formed t c = kept_lists.pointer_left c.args.list.now c.args.index c.walk_list_here.new.pointer c.walk_list_here.ensures.formed c.requires.stands.formed

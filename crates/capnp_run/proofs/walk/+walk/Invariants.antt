@@ -2,8 +2,8 @@
 use Rattle.std.proofs.Common.{◌+◌, ◌*◌, length}
 use Rattle.capnp_run.proofs.walk.+walk.Given as goal
 
-abbrev pub decreases-walk : goal.decreases-walk
-decreases-walk l = 8 * length l.path.now
+abbrev pub decreases-walk_from : goal.decreases-walk_from
+decreases-walk_from l = 8 * length l.path.now
 
 abbrev pub decreases-walk_step : goal.decreases-walk_step
 decreases-walk_step l = 8 * length l.rest.now + 7

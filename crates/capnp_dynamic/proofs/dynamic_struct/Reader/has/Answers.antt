@@ -10,7 +10,7 @@ use Rattle.capnp_records.specs.Record.{Left}
 use Rattle.capnp_dynamic.specs.Handles.{reader_of}
 use Rattle.capnp_dynamic.specs.Planned.{planned_has}
 use Rattle.capnp_dynamic.proofs.FieldHandles.{same_has}
-use Rattle.capnp_dynamic.proofs.HasWhich.{has_by_plan}
+use Rattle.capnp_dynamic.specs.Facts.HasWhich.{has_by_plan}
 use Rattle.capnp_dynamic.proofs.dynamic_struct.Reader.has.Goals as goal
 
 pub returns : goal.returns

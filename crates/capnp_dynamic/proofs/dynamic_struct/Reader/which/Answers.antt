@@ -8,7 +8,7 @@ use Rattle.capnp_schema.specs.StructHandles.{number_of, set_of}
 use Rattle.capnp_schema.specs.declared.schema.structs.StructSchema.{StructSchema}
 use Rattle.capnp_records.specs.Record.{Left}
 use Rattle.capnp_dynamic.specs.Handles.{reader_of, schema_of}
-use Rattle.capnp_dynamic.proofs.HasWhich.{not_zero, which_counted}
+use Rattle.capnp_dynamic.specs.Facts.HasWhich.{not_zero, which_counted}
 use Rattle.capnp_dynamic.proofs.dynamic_struct.Reader.which.Goals as goal
 
 pub returns : goal.returns

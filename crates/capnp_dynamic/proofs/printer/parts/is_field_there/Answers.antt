@@ -1,6 +1,7 @@
 use Rattle.std.proofs.Common.{◌∙◌}
 use Rattle.capnp_schema.specs.FieldLists.{index_of}
-use Rattle.capnp_dynamic.proofs.ItemsShown.{ok_same, plain_has}
+use Rattle.capnp_dynamic.proofs.ItemsShown.{plain_has}
+use Rattle.capnp_dynamic.specs.Facts.HasWhich.{ok_same}
 use Rattle.capnp_dynamic.proofs.printer.parts.is_field_there.Goals as goal
 
 pub returns : goal.returns

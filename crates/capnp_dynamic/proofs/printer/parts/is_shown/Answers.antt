@@ -1,6 +1,7 @@
 use Rattle.std.proofs.Common.{◌∙◌, arith}
 use Rattle.capnp_schema.specs.FieldLists.{index_of}
-use Rattle.capnp_dynamic.proofs.ItemsShown.{discriminant_in, member_has, ok_same, shown_of_another, shown_of_first}
+use Rattle.capnp_dynamic.proofs.ItemsShown.{discriminant_in, member_has, shown_of_another, shown_of_first}
+use Rattle.capnp_dynamic.specs.Facts.HasWhich.{ok_same}
 use Rattle.capnp_dynamic.proofs.printer.parts.is_shown.Goals as goal
 
 pub returns-then-get_proto-ne0 : goal.returns-then-get_proto-ne0

@@ -16,7 +16,7 @@ returns-clause-is c =
     c.plan_at.ensures ∙ plan_here (lists_seen c.args.self.now) c.args.brand c.args.field c.plans_at.result.now plans
 
 pub returns-clause-stands : goal.returns-clause-stands
-returns-clause-stands c = plan_stands (lists_seen c.args.self.now) (accepted_seen c.self.view_is c.self.invariant.0) (ranges_seen c.self.view_is c.self.invariant.2) c.args.brand c.args.field c.plan_at.result (returns-clause-is c)
+returns-clause-stands c = plan_stands (lists_seen c.args.self.now) (accepted_seen c.self.view_is c.self.invariant.0) (ranges_seen c.self.view_is c.self.invariant.2) c.args.brand c.args.field c.plan_at.result.now (returns-clause-is c)
 
 pub returns-clause-group : goal.returns-clause-group
-returns-clause-group c = plan_leads (lists_seen c.args.self.now) (accepted_seen c.self.view_is c.self.invariant.0) c.args.brand c.args.field c.plan_at.result (returns-clause-is c)
+returns-clause-group c = plan_leads (lists_seen c.args.self.now) (accepted_seen c.self.view_is c.self.invariant.0) c.args.brand c.args.field c.plan_at.result.now (returns-clause-is c)

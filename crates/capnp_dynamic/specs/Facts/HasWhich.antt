@@ -1,8 +1,9 @@
 -- Has and which by a plan are the record's.
-use Rattle.std.specs.Prelude.{ℕ, suc, ◌+◌, ◌%◌, ◌<◌, ◌≡◌, refl, List, [], ◌∷◌, Bool, true, false, not, ◌&&◌, ◌==◌, nat_lt, cond, length, map, position, Option, Some, None, option_map, IfSome}
+use Rattle.std.specs.Prelude.{ℕ, suc, ◌+◌, ◌<◌, ◌≡◌, refl, List, [], ◌∷◌, Bool, true, false, not, ◌&&◌, ◌==◌, nat_lt, cond, length, map, position, Option, Some, None, option_map, Result, Ok}
 use Rattle.std.specs.List.{position_or_len}
 use Rattle.std.proofs.Common.{arith, ap, sym, subst, ◌∙◌}
 use Rattle.std.proofs.lemmas.Bool.{eq-eqb, eqb-true, true≢false}
+use Rattle.capnp_device.specs.declared.error.Error.{Error}
 use Rattle.capnp_wire.specs.Tree.{StructTree, Tree, nth_tree}
 use Rattle.capnp_wire.specs.Reading.{is_null_tree}
 use Rattle.capnp_base.specs.declared.introspect.TypeVariant.{TypeVariant}
@@ -21,12 +22,8 @@ use Rattle.capnp_records.specs.Facts.Readers.{null-is, value-there}
 use Rattle.capnp_records.specs.Reading.{part_of}
 use Rattle.capnp_records.specs.Reading.{Reading, active_among, discriminant, kind_value, plain_parts, record_within, slot_value, struct_record, union_of, value_of, values_of}
 use Rattle.capnp_records.specs.Record.{Active, Levels, NoUnion, Parts, Union, Value, Values, is_there}
-use Rattle.capnp_records.specs.Part.{active_value, has_of, is_active, nth_value, which_of}
+use Rattle.capnp_records.specs.Part.{active_value, has_of, is_active, is_inactive, nth_value, which_of}
 use Rattle.capnp_dynamic.specs.Planned.{member_there, place_there, planned_has}
-
-pub member_even : (q : Bool) (n : Node) (f : Field) → IfSome (member_plan q n f) (λ m. m.0 % 16 ≡ 0)
-member_even true n f = omega arith
-member_even false n f = tt {0}
 
 not-null : (set : Schemas) (x : Tree) (l : Levels) (t : SchemaType) → is_there (value_of set x l t) ≡ not (is_null_tree x)
 not-null set x l t = go (is_null_tree x) refl
@@ -65,68 +62,97 @@ module _ (set : Schemas) (l : Levels) (s : StructTree) where
       go (Slot o d) t e = subst (λ t. is_there (slot_value l s.bytes (values_of set s.pointers) o d t) ≡ place_there s (place_of (Slot o d) t)) e (slot-there v o d)
       go (Group n) t e = refl
 
-  pub has_by_plan : IsAccepted set → (b i : ℕ) → b < length set.brands → i < length (fields_of set b) → (v : TypeVariant) → seen_variant v ≡ (field_at set b i).type →
-      planned_has s (plan_of set b (field_at set b i)) ≡ has_of (struct_record set l s b) (field_at set b i).field i
-  has_by_plan accepted b i b_in i_in v e = go (is_member f.field) refl
-    where
-      f : TypedField
-      f = field_at set b i
+  module _ (accepted : IsAccepted set) (b i : ℕ) (b_in : b < length set.brands) (i_in : i < length (fields_of set b)) where
+    abbrev f : TypedField
+    f = field_at set b i
 
-      part : TypedField → Value
-      part = part_of set l s.bytes (values_of set s.pointers)
+    abbrev part : TypedField → Value
+    part = part_of set l s.bytes (values_of set s.pointers)
 
-      fs : List TypedField
-      fs = fields_of set b
+    abbrev union : Union
+    union = union_of part (node_of set b) (fields_of set b) s.bytes
 
-      union : Union
-      union = union_of part (node_of set b) (fields_of set b) s.bytes
+    abbrev number : ℕ
+    number = discriminant (node_of set b) s.bytes
 
-      vs : Values
-      vs = plain_parts part (fields_of set b)
+    -- where a struct has a member, its union is the one of the number that stands there
+    counted-union : is_member f.field ≡ true → union ≡ active_among part (fields_of set b) 0 number
+    counted-union member =
+        second-of ((node_of set b).discriminant_count == 0) _ _ (counted-not_zero _ _ (counted-from_member set accepted b i b_in i_in member))
 
-      number : ℕ
-      number = discriminant (node_of set b) s.bytes
+    -- a member whose number stands there is active
+    member-active : is_member f.field ≡ true → (number == f.field.discriminant_value) ≡ true → union ≡ Active i (part f)
+    member-active member is =
+        counted-union member
+        ∙ (active_among-found part (fields_of set b) 0 i number i_in member (sym (eqb-true _ _ is)) (λ j a m n. once-from_members set accepted b i j b_in i_in a m (n ∙ eqb-true _ _ is))
+        ∙ ap (λ n. Active n (part f)) (omega arith))
 
-      there : is_there (part (field_at set b i)) ≡ place_there s (place_of (field_at set b i).field.kind (field_at set b i).type)
-      there = part-there b i v e
+    -- and another isn't
+    member-inactive : is_member f.field ≡ true → (number == f.field.discriminant_value) ≡ false → is_active union i ≡ false
+    member-inactive member is = go (is_active union i) refl
+      where
+        go : (q : Bool) → is_active union i ≡ q → is_active union i ≡ false
+        go false h = h
+        go true h =
+            let found = found-active part (fields_of set b) 0 i number (subst (λ n. is_active (active_among part (fields_of set b) 0 number) n ≡ true) (omega arith) (sym (ap (λ u. is_active u i) (counted-union member)) ∙ h)) in
+            absurd (true≢false (sym (eq-eqb _ _ (sym found.value_is)) ∙ is))
 
-      both : Bool → Bool → Value → Value → Bool
-      both q active x y = not (q && not active) && is_there (elim q as (λ _. Value) [ true ↦ x | false ↦ y ])
+    -- whether a field can be read as it stands
+    pub active_by_plan : member_there s.bytes (plan_of set b (field_at set b i)).member ≡ not (is_inactive (struct_record set l s b) (field_at set b i).field i)
+    active_by_plan = go (is_member f.field) refl
+      where
+        go : (q : Bool) → is_member f.field ≡ q → member_there s.bytes (member_plan (is_member f.field) (node_of set b) f.field) ≡ not (is_member f.field && not (is_active union i))
+        go false plain =
+            ap (λ q. member_there s.bytes (member_plan q (node_of set b) f.field)) plain
+            ∙ sym (ap (λ q. not (q && not (is_active union i))) plain)
+        go true member = at (number == f.field.discriminant_value) refl
+          where
+            at : (q : Bool) → (number == f.field.discriminant_value) ≡ q → member_there s.bytes (member_plan (is_member f.field) (node_of set b) f.field) ≡ not (is_member f.field && not (is_active union i))
+            at true is =
+                ap (λ q. member_there s.bytes (member_plan q (node_of set b) f.field)) member
+                ∙ (is
+                ∙ (sym (ap (λ q. not (true && not q)) (ap (λ u. is_active u i) (member-active member is) ∙ eq-eqb i i refl))
+                ∙ sym (ap (λ q. not (q && not (is_active union i))) member)))
+            at false is =
+                ap (λ q. member_there s.bytes (member_plan q (node_of set b) f.field)) member
+                ∙ (is
+                ∙ (sym (ap (λ q. not (true && not q)) (member-inactive member is))
+                ∙ sym (ap (λ q. not (q && not (is_active union i))) member)))
 
-      go : (q : Bool) → is_member f.field ≡ q → planned_has s (plan_of set b (field_at set b i)) ≡ has_of (struct_record set l s b) (field_at set b i).field i
-      go false plain =
-          ap (λ q. member_there s.bytes (member_plan q (node_of set b) f.field) && place_there s (place_of f.field.kind f.type)) plain
-          ∙ (sym there
-          ∙ (sym (ap is_there (nth-plain_parts part (fields_of set b) i i_in plain))
-          ∙ sym (ap (λ q. both q (is_active union i) (active_value union) (nth_value vs i)) plain)))
-      go true member = at (number == f.field.discriminant_value) refl
-        where
-          counted : ((node_of set b).discriminant_count == 0) ≡ false
-          counted = counted-not_zero _ _ (counted-from_member set accepted b i b_in i_in member)
+    pub has_by_plan : (v : TypeVariant) → seen_variant v ≡ (field_at set b i).type →
+        planned_has s (plan_of set b (field_at set b i)) ≡ has_of (struct_record set l s b) (field_at set b i).field i
+    has_by_plan v e = go (is_member f.field) refl
+      where
+        vs : Values
+        vs = plain_parts part (fields_of set b)
 
-          same : union ≡ active_among part (fields_of set b) 0 number
-          same = second-of ((node_of set b).discriminant_count == 0) _ _ counted
+        there : is_there (part (field_at set b i)) ≡ place_there s (place_of (field_at set b i).field.kind (field_at set b i).type)
+        there = part-there b i v e
 
-          at : (q : Bool) → (number == f.field.discriminant_value) ≡ q → planned_has s (plan_of set b (field_at set b i)) ≡ has_of (struct_record set l s b) (field_at set b i).field i
-          at true is =
-              let active : union ≡ Active i (part f) = same ∙ (active_among-found part (fields_of set b) 0 i number i_in member (sym (eqb-true _ _ is)) (λ j a m n. once-from_members set accepted b i j b_in i_in a m (n ∙ eqb-true _ _ is)) ∙ ap (λ n. Active n (part f)) (omega arith)) in
-              ap (λ q. member_there s.bytes (member_plan q (node_of set b) f.field) && place_there s (place_of f.field.kind f.type)) member
-              ∙ (ap (λ q. q && place_there s (place_of f.field.kind f.type)) is
-              ∙ (sym there
-              ∙ (sym (ap (λ q. not (true && not q) && is_there (part f)) (eq-eqb i i refl))
-              ∙ (sym (ap (λ u. both true (is_active u i) (active_value u) (nth_value vs i)) active)
-              ∙ sym (ap (λ q. both q (is_active union i) (active_value union) (nth_value vs i)) member)))))
-          at false is =
-              ap (λ q. member_there s.bytes (member_plan q (node_of set b) f.field) && place_there s (place_of f.field.kind f.type)) member
-              ∙ (ap (λ q. q && place_there s (place_of f.field.kind f.type)) is
-              ∙ (sym (ap (λ q. both true q (active_value union) (nth_value vs i)) (inactive (is_active union i) refl))
-              ∙ sym (ap (λ q. both q (is_active union i) (active_value union) (nth_value vs i)) member)))
-            where
-              inactive : (q : Bool) → is_active union i ≡ q → is_active union i ≡ false
-              inactive false h = h
-              inactive true h =
-                  let found = found-active part (fields_of set b) 0 i number (subst (λ n. is_active (active_among part (fields_of set b) 0 number) n ≡ true) (omega arith) (sym (ap (λ u. is_active u i) same) ∙ h)) in
-                  absurd (true≢false (sym (eq-eqb _ _ (sym found.value_is)) ∙ is))
+        both : Bool → Bool → Value → Value → Bool
+        both q active x y = not (q && not active) && is_there (elim q as (λ _. Value) [ true ↦ x | false ↦ y ])
+
+        go : (q : Bool) → is_member f.field ≡ q → planned_has s (plan_of set b (field_at set b i)) ≡ has_of (struct_record set l s b) (field_at set b i).field i
+        go false plain =
+            ap (λ q. member_there s.bytes (member_plan q (node_of set b) f.field) && place_there s (place_of f.field.kind f.type)) plain
+            ∙ (sym there
+            ∙ (sym (ap is_there (nth-plain_parts part (fields_of set b) i i_in plain))
+            ∙ sym (ap (λ q. both q (is_active union i) (active_value union) (nth_value vs i)) plain)))
+        go true member = at (number == f.field.discriminant_value) refl
+          where
+            at : (q : Bool) → (number == f.field.discriminant_value) ≡ q → planned_has s (plan_of set b (field_at set b i)) ≡ has_of (struct_record set l s b) (field_at set b i).field i
+            at true is =
+                ap (λ q. member_there s.bytes (member_plan q (node_of set b) f.field) && place_there s (place_of f.field.kind f.type)) member
+                ∙ (ap (λ q. q && place_there s (place_of f.field.kind f.type)) is
+                ∙ (sym there
+                ∙ (sym (ap (λ q. not (true && not q) && is_there (part f)) (eq-eqb i i refl))
+                ∙ (sym (ap (λ u. both true (is_active u i) (active_value u) (nth_value vs i)) (member-active member is))
+                ∙ sym (ap (λ q. both q (is_active union i) (active_value union) (nth_value vs i)) member)))))
+            at false is =
+                ap (λ q. member_there s.bytes (member_plan q (node_of set b) f.field) && place_there s (place_of f.field.kind f.type)) member
+                ∙ (ap (λ q. q && place_there s (place_of f.field.kind f.type)) is
+                ∙ (sym (ap (λ q. both true q (active_value union) (nth_value vs i)) (member-inactive member is))
+                ∙ sym (ap (λ q. both q (is_active union i) (active_value union) (nth_value vs i)) member)))
 
 -- ---- which ----
 
@@ -173,3 +199,7 @@ which_counted set l s b d counted is =
   where
     part : TypedField → Value
     part = part_of set l s.bytes (values_of set s.pointers)
+
+-- what an answer is, it is alone
+pub ok_same : (answer : Result Bool Error) (x y : Bool) → answer ≡ Ok x → answer ≡ Ok y → x ≡ y
+ok_same answer x y e h = cc

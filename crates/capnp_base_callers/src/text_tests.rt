@@ -1,6 +1,6 @@
 //! Texts, against what the public crate's documentation and std's printed forms say.
 
-use crate::text::{Builder, Reader};
+use capnp_base::text::{Builder, Reader};
 use std::cmp::Ordering;
 use std::test::Fail;
 

@@ -6,8 +6,8 @@ ghost use Rattle.capnp_wire.specs.Words.{first_fault_of_all};
 ghost use Rattle.capnp_base.specs.Types.{type_from};
 ghost use Rattle.capnp_base.specs.declared.introspect.TypeVariant.TheVariants as variant;
 
-use crate::introspect::{Introspect, RawBrandedStructSchema, Type, TypeVariant};
-use crate::traits::{
+use capnp_base::introspect::{Introspect, RawBrandedStructSchema, Type, TypeVariant};
+use capnp_base::traits::{
     HasStructSize, HasTypeId, IntoInternalListReader, IntoInternalStructReader, OwnedStruct,
     SetterInput,
 };

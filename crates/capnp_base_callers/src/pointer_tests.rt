@@ -1,7 +1,7 @@
 //! Texts, data and untyped pointers at the root of a message, against bytes that the encoding says.
 
-use crate::traits::{FromPointerBuilder, FromPointerReader, set_and_get};
-use crate::{any_pointer, data, text};
+use capnp_base::traits::{FromPointerBuilder, FromPointerReader, set_and_get};
+use capnp_base::{any_pointer, data, text};
 use capnp_wire::PointerReader;
 use capnp_wire::error::{ErrorKind, Result};
 use capnp_wire::message::{Builder, Reader};

@@ -25,7 +25,7 @@ pub record HasFormedParts (set : Schemas) : Type 0 where
   pub pointers : (b : ℕ) → (node_of set b).pointer_count < 2 ^ 16
   pub defaults : EachField set (λ b i f. KindDefault (λ d t. DefaultFormed d) f.field.kind f.type)
 
-formed-words : (words : List ℕ) → AreBytes words → IsWellFormed (root_of words)
+pub formed-words : (words : List ℕ) → AreBytes words → IsWellFormed (root_of words)
 formed-words words h = IsWellFormed-tree_at 64 (words ∷ []) (slice_index_or (words ∷ []) 0 []) 0 segments h
   where
     segments : AreSegments (words ∷ [])

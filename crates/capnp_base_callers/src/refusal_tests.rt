@@ -2,8 +2,8 @@
 //! is handed out by value, so that these tests do.
 
 use crate::pointer_tests::{HI, kind_of};
-use crate::traits::{FromPointerBuilder, set_and_get};
-use crate::{any_pointer, data, text};
+use capnp_base::traits::{FromPointerBuilder, set_and_get};
+use capnp_base::{any_pointer, data, text};
 use capnp_wire::PointerReader;
 use capnp_wire::error::ErrorKind;
 use capnp_wire::message::Builder;

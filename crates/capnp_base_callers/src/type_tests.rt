@@ -1,6 +1,6 @@
 //! Types of Rust types, equality of types, and their hashes.
 
-use crate::introspect::{
+use capnp_base::introspect::{
     Introspect, RawBrandedStructSchema, RawEnumSchema, Type, TypeVariant, laws,
 };
 use capnp_wire::size::ElementSize;

@@ -1,7 +1,7 @@
 //! Iterators over a small list: items of five, from the front, from the back, and from both ends.
 ghost use Rattle.std.specs.Prelude.{◌≡◌, ◌+◌, ◌<◌};
 
-use crate::traits::{Index, IndexMove, ListIter, ShortListIter};
+use capnp_base::traits::{Index, IndexMove, ListIter, ShortListIter};
 use std::test::Fail;
 
 /// The tens: index 3 answers 30.

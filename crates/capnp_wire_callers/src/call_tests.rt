@@ -1,0 +1,453 @@
+//! Messages that are built, copied and entered, call by call: what each call answers, and what the message is then.
+//! With memory at hand each call succeeds; one that memory is refused to changes nothing.
+
+use crate::calls::Call::{
+    self, Clear, Copy, GetList, GetStruct, InitList, InitStruct, InitStructs, Lend, NewStruct,
+    SetData, SetText,
+};
+use crate::calls::Copied::Message;
+use crate::calls::Lent::{
+    GetData, GetText, InitData, InitText, NewData, NewText, ReverseData, ReverseText,
+};
+use crate::calls::{EMPTY_STRUCT, FIVE_AND_TEXT, NEW_STRUCT, NO_SIZE, Row, TWO_EACH, make};
+use crate::copied_rows::{BECOME_STRUCTS, COPIED, TAKEN_OVER};
+use crate::fixtures::{ONE_EACH, answer, bytes_of, is_written_as};
+use capnp_wire::error::ErrorKind::{
+    self, SizePastFormat, TextNotTerminated, WrongElementSize, WrongPointerKind,
+};
+use capnp_wire::error::Result;
+use capnp_wire::message::Builder;
+use capnp_wire::size::ElementSize::{Bit, Byte, EightBytes, FourBytes, Pointer, TwoBytes, Void};
+use capnp_wire::size::StructSize;
+use std::alloc::Global;
+use std::process::Abort;
+
+const ONE_WORD: StructSize = StructSize {
+    data_words: 1,
+    pointers: 0,
+};
+
+const TWO_WORDS: StructSize = StructSize {
+    data_words: 2,
+    pointers: 0,
+};
+
+const READING: StructSize = StructSize {
+    data_words: 2,
+    pointers: 4,
+};
+
+/// A struct of that size, with 5 and the text "hello there".
+const NINE_WORDS: &str =
+    "00 00 00 00 09 00 00 00 | 00 00 00 00 02 00 04 00 | 05 00 00 00 00 00 00 00 | 0 | \
+     0d 00 00 00 62 00 00 00 | 0 | 0 | 0 | 68 65 6c 6c 6f 20 74 68 | 65 72 65 00 00 00 00 00";
+
+const NULL: &str = "00 00 00 00 01 00 00 00 | 0";
+
+const EXTENDED: &str =
+    "00 00 00 00 06 00 00 00 | 00 00 00 00 02 00 02 00 | 05 00 00 00 00 00 00 00 | 0 | \
+     05 00 00 00 1a 00 00 00 | 0 | 68 69 00 00 00 00 00 00";
+
+const HELLO: &str =
+    "00 00 00 00 03 00 00 00 | 01 00 00 00 72 00 00 00 | 48 65 6c 6c 6f 2c 20 57 | 6f 72 6c 64 21 00 00 00";
+
+const SEVEN: &str = "00 00 00 00 02 00 00 00 | 01 00 00 00 0a 00 00 00 | 07 00 00 00 00 00 00 00";
+
+const ONE_AND_TWO: &str =
+    "00 00 00 00 02 00 00 00 | 01 00 00 00 12 00 00 00 | 01 02 00 00 00 00 00 00";
+
+const NO_BYTES: &str = "00 00 00 00 01 00 00 00 | 01 00 00 00 02 00 00 00";
+
+const TWO_NUMBERS: &str = "00 00 00 00 02 00 00 00 | 01 00 00 00 13 00 00 00 | 0";
+
+const ONE_WORD_OF_ZEROS: &str = "00 00 00 00 02 00 00 00 | 00 00 00 00 01 00 00 00 | 0";
+
+/// Texts, data, structs and lists are made, each in the place of the one before.
+static MADE: [Row; 28] = [
+    ("a null has no data", Lend(GetData), Ok(""), NULL),
+    ("a null has no text", Lend(GetText), Ok(""), NULL),
+    ("a null is an empty list", GetList(TwoBytes), Ok(""), NULL),
+    (
+        "a list is too long for the format",
+        InitList(Byte, 1 << 29),
+        Err(SizePastFormat),
+        NULL,
+    ),
+    (
+        "the structs of a list are too long for the format",
+        InitStructs(268_435_456, TWO_WORDS),
+        Err(SizePastFormat),
+        NULL,
+    ),
+    (
+        "a null becomes a struct",
+        GetStruct(ONE_EACH),
+        Ok(""),
+        NEW_STRUCT,
+    ),
+    (
+        "a struct of size zero",
+        InitStruct(NO_SIZE),
+        Ok(""),
+        EMPTY_STRUCT,
+    ),
+    ("a text", SetText("Hello, World!"), Ok(""), HELLO),
+    ("what is cleared is null", Clear, Ok(""), NULL),
+    (
+        "a struct with a number",
+        NewStruct(0x0000_0009_0001_0005, "hi"),
+        Ok(""),
+        "00 00 00 00 04 00 00 00 | 00 00 00 00 01 00 01 00 | 05 00 01 00 09 00 00 00 | \
+         01 00 00 00 1a 00 00 00 | 68 69 00 00 00 00 00 00",
+    ),
+    (
+        "a struct with a text",
+        NewStruct(5, "hi"),
+        Ok(""),
+        FIVE_AND_TEXT,
+    ),
+    (
+        "a smaller struct is extended",
+        GetStruct(TWO_EACH),
+        Ok(""),
+        EXTENDED,
+    ),
+    (
+        "a larger struct stays as it is",
+        GetStruct(ONE_EACH),
+        Ok(""),
+        EXTENDED,
+    ),
+    (
+        "a list of nothing",
+        InitList(Void, 3),
+        Ok(""),
+        "00 00 00 00 01 00 00 00 | 01 00 00 00 18 00 00 00",
+    ),
+    (
+        "a list of bits",
+        InitList(Bit, 3),
+        Ok(""),
+        "00 00 00 00 02 00 00 00 | 01 00 00 00 19 00 00 00 | 0",
+    ),
+    (
+        "a list of nine bits",
+        InitList(Bit, 9),
+        Ok(""),
+        "00 00 00 00 02 00 00 00 | 01 00 00 00 49 00 00 00 | 0",
+    ),
+    (
+        "a list of bytes",
+        InitList(Byte, 3),
+        Ok(""),
+        "00 00 00 00 02 00 00 00 | 01 00 00 00 1a 00 00 00 | 0",
+    ),
+    (
+        "a list of numbers of two bytes",
+        InitList(TwoBytes, 3),
+        Ok(""),
+        "00 00 00 00 02 00 00 00 | 01 00 00 00 1b 00 00 00 | 0",
+    ),
+    (
+        "a list of numbers of four bytes",
+        InitList(FourBytes, 3),
+        Ok(""),
+        "00 00 00 00 03 00 00 00 | 01 00 00 00 1c 00 00 00 | 0 | 0",
+    ),
+    (
+        "a list of numbers of eight bytes",
+        InitList(EightBytes, 3),
+        Ok(""),
+        "00 00 00 00 04 00 00 00 | 01 00 00 00 1d 00 00 00 | 0 | 0 | 0",
+    ),
+    (
+        "a list of pointers",
+        InitList(Pointer, 3),
+        Ok(""),
+        "00 00 00 00 04 00 00 00 | 01 00 00 00 1e 00 00 00 | 0 | 0 | 0",
+    ),
+    (
+        "a list of structs",
+        InitStructs(3, ONE_EACH),
+        Ok(""),
+        "00 00 00 00 08 00 00 00 | 01 00 00 00 37 00 00 00 | 0c 00 00 00 01 00 01 00 | 0 | 0 | 0 | 0 | 0 | 0",
+    ),
+    ("data", SetData("\x01\x02"), Ok(""), ONE_AND_TWO),
+    (
+        "a list of four words",
+        InitList(TwoBytes, 10),
+        Ok(""),
+        "00 00 00 00 04 00 00 00 | 01 00 00 00 53 00 00 00 | 0 | 0 | 0",
+    ),
+    ("a cleared list leaves nothing", Clear, Ok(""), NULL),
+    (
+        "structs of size zero",
+        InitStructs(3, NO_SIZE),
+        Ok(""),
+        "00 00 00 00 02 00 00 00 | 01 00 00 00 07 00 00 00 | 0c 00 00 00 00 00 00 00",
+    ),
+    (
+        "2^20 + 1 structs of size zero",
+        InitStructs((1 << 20) + 1, NO_SIZE),
+        Ok(""),
+        "00 00 00 00 02 00 00 00 | 01 00 00 00 07 00 00 00 | 04 00 40 00 00 00 00 00",
+    ),
+    (
+        "as many structs of size zero as a list has",
+        InitStructs((1 << 29) - 1, NO_SIZE),
+        Ok(""),
+        "00 00 00 00 02 00 00 00 | 01 00 00 00 07 00 00 00 | fc ff ff 7f 00 00 00 00",
+    ),
+];
+
+/// Bytes are lent, and refused where there are none.
+static LENT: [Row; 28] = [
+    (
+        "new data",
+        Lend(NewData(3, "\x01\x02\x03")),
+        Ok("\0\0\0"),
+        "00 00 00 00 02 00 00 00 | 01 00 00 00 1a 00 00 00 | 01 02 03 00 00 00 00 00",
+    ),
+    (
+        "data as it was written",
+        Lend(GetData),
+        Ok("\x01\x02\x03"),
+        "00 00 00 00 02 00 00 00 | 01 00 00 00 1a 00 00 00 | 01 02 03 00 00 00 00 00",
+    ),
+    (
+        "data is written through",
+        Lend(ReverseData),
+        Ok(""),
+        "00 00 00 00 02 00 00 00 | 01 00 00 00 1a 00 00 00 | 03 02 01 00 00 00 00 00",
+    ),
+    (
+        "a new text keeps its zero",
+        Lend(NewText(2, "hi")),
+        Ok("\0\0"),
+        "00 00 00 00 02 00 00 00 | 01 00 00 00 1a 00 00 00 | 68 69 00 00 00 00 00 00",
+    ),
+    (
+        "a text as it was written",
+        Lend(GetText),
+        Ok("hi"),
+        "00 00 00 00 02 00 00 00 | 01 00 00 00 1a 00 00 00 | 68 69 00 00 00 00 00 00",
+    ),
+    (
+        "a text as data",
+        Lend(GetData),
+        Ok("hi\0"),
+        "00 00 00 00 02 00 00 00 | 01 00 00 00 1a 00 00 00 | 68 69 00 00 00 00 00 00",
+    ),
+    (
+        "a text is written through",
+        Lend(ReverseText),
+        Ok(""),
+        "00 00 00 00 02 00 00 00 | 01 00 00 00 1a 00 00 00 | 69 68 00 00 00 00 00 00",
+    ),
+    ("a byte", SetData("\x07"), Ok(""), SEVEN),
+    (
+        "data are too long for the format",
+        Lend(InitData(1 << 29)),
+        Err(SizePastFormat),
+        SEVEN,
+    ),
+    ("what was there stays", Lend(GetData), Ok("\x07"), SEVEN),
+    (
+        "a text is too long with its zero",
+        Lend(InitText((1 << 29) - 1)),
+        Err(SizePastFormat),
+        SEVEN,
+    ),
+    (
+        "what was there stays again",
+        Lend(GetData),
+        Ok("\x07"),
+        SEVEN,
+    ),
+    (
+        "a struct of one word",
+        InitStruct(ONE_WORD),
+        Ok(""),
+        ONE_WORD_OF_ZEROS,
+    ),
+    (
+        "a struct is no data",
+        Lend(GetData),
+        Err(WrongPointerKind),
+        ONE_WORD_OF_ZEROS,
+    ),
+    (
+        "a struct is no text",
+        Lend(GetText),
+        Err(WrongPointerKind),
+        ONE_WORD_OF_ZEROS,
+    ),
+    (
+        "two numbers of two bytes",
+        InitList(TwoBytes, 2),
+        Ok(""),
+        TWO_NUMBERS,
+    ),
+    (
+        "numbers of two bytes are no data",
+        Lend(GetData),
+        Err(WrongElementSize),
+        TWO_NUMBERS,
+    ),
+    (
+        "numbers of two bytes are no text",
+        Lend(GetText),
+        Err(WrongElementSize),
+        TWO_NUMBERS,
+    ),
+    (
+        "nor are they numbers of four bytes",
+        GetList(FourBytes),
+        Err(WrongElementSize),
+        TWO_NUMBERS,
+    ),
+    (
+        "a list is no struct",
+        GetStruct(ONE_EACH),
+        Err(WrongPointerKind),
+        TWO_NUMBERS,
+    ),
+    (
+        "data without a zero",
+        SetData("\x01\x02"),
+        Ok(""),
+        ONE_AND_TWO,
+    ),
+    (
+        "data without a zero is no text",
+        Lend(GetText),
+        Err(TextNotTerminated),
+        ONE_AND_TWO,
+    ),
+    (
+        "it is still data",
+        Lend(GetData),
+        Ok("\x01\x02"),
+        ONE_AND_TWO,
+    ),
+    ("no bytes", Lend(InitData(0)), Ok(""), NO_BYTES),
+    (
+        "no bytes are no text",
+        Lend(GetText),
+        Err(TextNotTerminated),
+        NO_BYTES,
+    ),
+    ("they are still data", Lend(GetData), Ok(""), NO_BYTES),
+    ("a struct", InitStruct(ONE_EACH), Ok(""), NEW_STRUCT),
+    (
+        "a struct is no list",
+        GetList(Byte),
+        Err(WrongPointerKind),
+        NEW_STRUCT,
+    ),
+];
+
+/// The words of a message's segment, and whether the root is a null, a struct or a list.
+fn parts_of(message: &mut Builder) -> Result<(u64, [bool; 3])> {
+    let words = message.size_in_words()?;
+    let root = message.root();
+    Ok((words, [root.is_null(), root.is_struct(), root.is_list()]))
+}
+
+/// The same, as the bytes of a message of one segment have them.
+fn parts_in(bytes: &[u8]) -> (u64, [bool; 3]) {
+    if bytes.len() < 16 {
+        return (0, [false; 3]);
+    }
+    let is_null = bytes[8..16] == [0; 8];
+    (
+        (bytes.len() / 8) as u64 - 1,
+        [is_null, !is_null && bytes[8] % 4 == 0, bytes[8] % 4 == 1],
+    )
+}
+
+/// Whether a message is written as the bytes that a text spells, and is measured and looked at as they say.
+fn stands_as(alloc: Global, message: &mut Builder, text: &str) -> Result<(bool, bool)> {
+    let bytes = bytes_of(alloc, text)?;
+    let is_measured = parts_of(message)? == parts_in(&bytes);
+    Ok((is_written_as(alloc, message, text)?, is_measured))
+}
+
+/// Whether a call answers these bytes, or is refused so.
+fn answers(made: Result<Vec<u8>>, expected: std::result::Result<&str, ErrorKind>) -> bool {
+    match (made, expected) {
+        (Ok(bytes), Ok(text)) => bytes.as_slice() == text.as_bytes(),
+        (Err(error), Err(kind)) => error.kind == kind,
+        _ => false,
+    }
+}
+
+/// Makes the calls of these rows on one message.
+fn follow(rt: &impl Abort, alloc: Global, rows: &[Row]) {
+    let mut message = Builder::new(alloc);
+    for (name, call, expected, then) in rows {
+        let made = make(alloc, &mut message, *call);
+        assert!(rt; answers(made, *expected), "{name}");
+        let stands = answer(stands_as(alloc, &mut message, then));
+        assert_eq!(rt; stands, Ok((true, true)), "{name}");
+    }
+}
+
+#[test]
+fn texts_structs_and_lists_are_made(rt: HostRuntime) {
+    follow(&rt, rt.alloc(), &MADE);
+}
+
+#[test]
+fn what_is_copied_is_written_as_it_was(rt: HostRuntime) {
+    follow(&rt, rt.alloc(), &COPIED);
+}
+
+#[test]
+fn elements_and_contents_are_taken_over(rt: HostRuntime) {
+    follow(&rt, rt.alloc(), &TAKEN_OVER);
+}
+
+#[test]
+fn bytes_are_lent_and_written_through(rt: HostRuntime) {
+    follow(&rt, rt.alloc(), &LENT);
+}
+
+#[test]
+fn lists_of_each_kind_become_lists_of_structs(rt: HostRuntime) {
+    follow(&rt, rt.alloc(), &BECOME_STRUCTS);
+}
+
+const IS_NULL: [bool; 3] = [true, false, false];
+
+const IS_STRUCT: [bool; 3] = [false, true, false];
+
+const IS_LIST: [bool; 3] = [false, false, true];
+
+/// Calls that take memory, and the words and the root of the message then.
+const TAKING_MEMORY: [(Call, (u64, [bool; 3])); 6] = [
+    (InitStruct(ONE_EACH), (3, IS_STRUCT)),
+    (NewStruct(5, "hello there"), (5, IS_STRUCT)),
+    (GetStruct(READING), (9, IS_STRUCT)),
+    (Clear, (1, IS_NULL)),
+    (Copy(Message(NINE_WORDS)), (9, IS_STRUCT)),
+    (SetText("short"), (2, IS_LIST)),
+];
+
+// Of each call that memory is refused to, the message stays as it was: its words are counted, which takes no memory.
+#[test]
+fn a_refused_call_changes_nothing(rt: HostRuntime) {
+    let mut message = Builder::new(rt.alloc());
+    let mut parts = (1, IS_NULL);
+    for (call, then) in TAKING_MEMORY {
+        let works = make(rt.alloc(), &mut message, call).is_ok();
+        if works {
+            parts = then;
+        }
+        let is_written = message.write_message().is_ok();
+        assert_eq!(rt; answer(parts_of(&mut message)), Ok(parts));
+        if !works || !is_written {
+            return;
+        }
+    }
+}
