@@ -52,18 +52,40 @@ fn set_group(object: &mut StructObject, field: Field<'_>, source: Source<'_>) ->
     }
 }
 
-/// Sets a field to a value.
+/// Sets a field to a source.
 #[inline(always)]
-fn set_field(object: &mut StructObject, field: Field<'_>, value: Value<'_>) -> Reply
+fn set_to(object: &mut StructObject, field: Field<'_>, source: Source<'_>) -> Reply
     requires { IsRoomFor field (struct_object_tree object.old) }
-    ensures does { FieldDoes field.entry (Set (source_of value.entry)) (struct_object_tree object.old) (reply_seen result) (struct_object_tree object.new) }
+    ensures does { FieldDoes field.entry (Set (source_seen source.entry)) (struct_object_tree object.old) (reply_seen result) (struct_object_tree object.new) }
     ensures kept { KeepsSize (struct_object_tree object.old) (struct_object_tree object.new) }
 {
-    let source = value.into_source();
     if slot::is_slot(field) {
         set_slot(object, field, source)
     } else {
         set_group(object, field, source)
+    }
+}
+
+/// Sets a field to a value of any kind, which is copied to be a source.
+#[inline(never)]
+fn set_pointed(object: &mut StructObject, field: Field<'_>, value: &Value<'_>) -> Reply
+    requires { IsRoomFor field (struct_object_tree object.old) }
+    ensures does { FieldDoes field.entry (Set (source_of value.now)) (struct_object_tree object.old) (reply_seen result) (struct_object_tree object.new) }
+    ensures kept { KeepsSize (struct_object_tree object.old) (struct_object_tree object.new) }
+{
+    set_to(object, field, value.into_source())
+}
+
+/// Sets a field to a value. Of a value that no pointer stands for the number alone is read.
+#[inline(always)]
+fn set_field(object: &mut StructObject, field: Field<'_>, value: &Value<'_>) -> Reply
+    requires { IsRoomFor field (struct_object_tree object.old) }
+    ensures does { FieldDoes field.entry (Set (source_of value.now)) (struct_object_tree object.old) (reply_seen result) (struct_object_tree object.new) }
+    ensures kept { KeepsSize (struct_object_tree object.old) (struct_object_tree object.new) }
+{
+    match value.as_primitive() {
+        Some(number) => set_to(object, field, Source::Primitive(number)),
+        None => set_pointed(object, field, value),
     }
 }
 
@@ -134,13 +156,13 @@ fn do_field(object: &mut StructObject, field: Field<'_>, end: Ending<'_>) -> Rep
     ensures does { FieldDoes field.entry (op_seen end.entry.call.now.op) (struct_object_tree object.old) (reply_seen result) (struct_object_tree object.new) }
     ensures kept { KeepsSize (struct_object_tree object.old) (struct_object_tree object.new) }
 {
-    match end.call.op {
+    match &end.call.op {
         Op::Get => get_field(end.alloc, object, field),
         Op::Has => has_field(object, field),
         Op::Which => unreachable!(),
         Op::Set(value) => set_field(object, field, value),
         Op::Init => init_field(object, field),
-        Op::Initn(count) => initn_field(object, field, count),
+        Op::Initn(count) => initn_field(object, field, *count),
         Op::Clear => clear_field(object, field),
     }
 }

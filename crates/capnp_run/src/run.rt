@@ -24,6 +24,7 @@ use capnp_wire::object::StructObject;
 use std::alloc::Global;
 
 /// Makes one call.
+#[inline(always)]
 fn call_at(
     alloc: Global,
     object: &mut StructObject,

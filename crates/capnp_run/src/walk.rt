@@ -43,6 +43,7 @@ use capnp_wire::object::{ListObject, Object, StructObject};
 /// `NotAContainer` into another one that is no struct or list. The end is refused as `end::end_at_struct` and
 /// `list_end::end_at_list`. What the steps before a refusal filled stays. Where nothing has to be filled or extended behind a
 /// step and the operation takes no memory, nothing is refused with `OutOfMemory`.
+#[inline(always)]
 pub fn walk(
     object: &mut StructObject,
     schema: StructSchema<'_>,

@@ -38,6 +38,7 @@ pub fn group_of<'s>(field: Field<'s>) -> Option<StructSchema<'s>>
 
 /// Clears a field, through at most so many groups.
 #[cycle(clear)]
+#[inline(always)]
 fn clear_field(object: &mut StructObject, field: Field<'_>, groups: usize)
     requires { IsRoomFor field (struct_object_tree object.old) }
     ensures cleared { struct_object_tree object.new ≡ clear_by groups (field_set field.entry) (field_brand field.entry) (typed_of field.entry)

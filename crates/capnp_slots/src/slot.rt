@@ -46,6 +46,7 @@ pub fn is_slot(field: Field<'_>) -> bool
 
 /// Makes a field active, where it is a member of its struct's union: its number stands in the discriminant. A plain field
 /// changes nothing. What stands in the field stays, and no memory is taken.
+#[inline(always)]
 pub fn switch(object: &mut StructObject, field: Field<'_>)
     requires { IsRoomFor field (struct_object_tree object.old) }
     ensures switched { struct_object_tree object.new ≡ switched_to field.entry (struct_object_tree object.old) }
@@ -222,6 +223,7 @@ pub fn initn(object: &mut StructObject, field: Field<'_>, count: u32) -> Result<
 
 /// Clears a slot: its bits are zero, which reads as its default, or its pointer is null. A member becomes active. No
 /// memory is taken.
+#[inline(always)]
 pub fn clear(object: &mut StructObject, field: Field<'_>)
     requires slot { IsSlot field }
     requires room { IsRoomFor field (struct_object_tree object.old) }

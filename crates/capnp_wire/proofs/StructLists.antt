@@ -1,7 +1,7 @@
 -- Lists that become lists of structs.
 use mathlib.Core.Bool.{true≢false}
-use Rattle.std.proofs.Common.{◌≡◌, ℕ, zero, suc, ◌+◌, ◌*◌, ◌<◌, ◌≤◌, ◌^◌, [], length, refl, sym, ap, ◌∙◌, arith, true, false, nat_lt}
-use Rattle.std.specs.Prelude.{Option, Some, None, cond, is_some, unwrap_or}
+use Rattle.std.proofs.Common.{◌≡◌, ℕ, zero, suc, ◌+◌, ◌*◌, ◌<◌, ◌≤◌, ◌^◌, [], length, refl, sym, ap, subst, ◌∙◌, arith, true, false, nat_lt}
+use Rattle.std.specs.Prelude.{Option, Some, None, cond, is_some, max, unwrap_or}
 use Rattle.std.proofs.Math.Nat.{le-max_right}
 use Rattle.std.proofs.lemmas.Bool.Decides.{nat_tests}
 use Rattle.capnp_wire.specs.Tree.{Tree, Null, Struct, Voids, Bits, Numbers, Pointers, Composite, FaultLeaf, NoTrees, Structs, NoStructs, MoreStructs, StructTree, empty_struct, empty_structs, nth_struct, structs_from, struct_count, tree_count}
@@ -97,6 +97,32 @@ same_list size (Composite d p es) h e =
     let pointers : p ≡ size.pointers = grind (arith, nat_tests, e) in
     same_structs size d p es h.4 words pointers
 same_list size (FaultLeaf k) h e = absurd (true≢false (sym e))
+
+-- ---- a list of structs that have at least a size stays ----
+
+pub holding_stays : (size : StructSize) (t : Tree) → IsWellFormed t → has_size (grown size t) t ≡ true → struct_list size t ≡ t
+holding_stays size Null h e = refl
+holding_stays size (Struct bytes ps) h e = refl
+holding_stays size (Voids n) h e = absurd (true≢false (sym e))
+holding_stays size (Bits bs) h e = refl
+holding_stays size (Numbers w bytes) h e = absurd (true≢false (sym e))
+holding_stays size (Pointers ps) h e = absurd (true≢false (sym e))
+holding_stays size (Composite d p es) h e = same_list (grown size (Composite d p es)) (Composite d p es) h e
+holding_stays size (FaultLeaf k) h e = refl
+
+pub holding_within : (size : StructSize) (t : Tree) → IsWellFormed t → has_size (grown size t) t ≡ true → struct_list_refusal size t ≡ None
+holding_within size Null h e = refl
+holding_within size (Struct bytes ps) h e = absurd (true≢false (sym e))
+holding_within size (Voids n) h e = absurd (true≢false (sym e))
+holding_within size (Bits bs) h e = absurd (true≢false (sym e))
+holding_within size (Numbers w bytes) h e = absurd (true≢false (sym e))
+holding_within size (Pointers ps) h e = absurd (true≢false (sym e))
+holding_within size (Composite d p es) h e =
+    let words : d ≡ max size.data_words d = grind (arith, nat_tests, e) in
+    let pointers : p ≡ max size.pointers p = grind (arith, nat_tests, e) in
+    let small : struct_count es * (d + max size.pointers p) < 2 ^ 29 = subst (λ q. struct_count es * (d + q) < 2 ^ 29) pointers h.3 in
+    within_format (struct_count es) (grown size (Composite d p es)) (subst (λ w. struct_count es * (w + max size.pointers p) < 2 ^ 29) words small)
+holding_within size (FaultLeaf k) h e = refl
 
 -- ---- structs of size zero ----
 

@@ -154,6 +154,7 @@ fn copy_structs_default(
 
 impl Object {
     /// The default that is copied: where it is not null itself, and a null stands here.
+    #[inline(always)]
     fn take_default<'d>(&self, default: Option<PointerReader<'d>>) -> Option<PointerReader<'d>>
         ensures { result ≡ taken_default default.entry (object_tree self.now) }
     {
@@ -247,6 +248,7 @@ impl Object {
     }
 
     /// Puts a copy of a default in the place of a null, as a list of structs of at least a size.
+    #[inline(never)]
     fn put_structs(
         &mut self,
         size: StructSize,
@@ -273,6 +275,7 @@ impl Object {
     /// also with `BadPointer`, `TooDeep` or `CapabilityPointer` where a pointer in the default can't be followed, by the
     /// first of these in preorder; and else with `OutOfMemory`. Then nothing has changed. A null without a default, and a
     /// list of structs that have at least the size, take no memory and are never refused.
+    #[inline(always)]
     pub fn get_struct_list_or_default(
         &mut self,
         size: StructSize,

@@ -87,6 +87,18 @@ impl ListObject {
         }
     }
 
+    /// Whether the elements are structs that have at least this size: then the list is one of such structs as it stands.
+    #[inline(always)]
+    fn holds_structs(&self, size: StructSize) -> bool
+        ensures { IsTrue result → has_size (grown size (list_object_tree self.now)) (list_object_tree self.now) ≡ true }
+    {
+        match self {
+            ListObject::Composite(own, _) => size.data_words <= own.data_words
+                && size.pointers <= own.pointers,
+            _ => false,
+        }
+    }
+
     /// At least a size, and what an element takes as a struct.
     fn grow(&self, size: StructSize) -> StructSize
         ensures { result ≡ grown size (list_object_tree self.now) }
@@ -94,8 +106,8 @@ impl ListObject {
         grow(size, look_at_list_object(self))
     }
 
-    /// Makes the list one of structs of at least a size.
-    fn become_structs(&mut self, size: StructSize) -> Result<()>
+    /// Makes the list one of structs of at least a size, where it may have to be made anew.
+    fn make_structs(&mut self, size: StructSize) -> Result<()>
         requires held { IsWellFormed (list_object_tree self.old) }
         requires there { is_list (list_object_tree self.old) ≡ true }
         ensures ok { OnOk result (list_object_tree self.new ≡ struct_list size (list_object_tree self.old)) }
@@ -123,10 +135,28 @@ impl ListObject {
         *self = ListObject::Composite(size, structs);
         Ok(())
     }
+
+    /// Makes the list one of structs of at least a size.
+    #[inline(always)]
+    fn become_structs(&mut self, size: StructSize) -> Result<()>
+        requires held { IsWellFormed (list_object_tree self.old) }
+        requires there { is_list (list_object_tree self.old) ≡ true }
+        ensures ok { OnOk result (list_object_tree self.new ≡ struct_list size (list_object_tree self.old)) }
+        ensures refused { OnErr result (self.new ≡ self.old) }
+        ensures within { OnOk result (struct_list_refusal size (list_object_tree self.old) ≡ None) }
+        ensures cause { IfErr result (λ e. IsDueRefusal e (struct_list_refusal size (list_object_tree self.old))) }
+        ensures succeeds { HoldsStructs size (list_object_tree self.old) → IsOk result }
+    {
+        if self.holds_structs(size) {
+            return Ok(());
+        }
+        self.make_structs(size)
+    }
 }
 
 impl Object {
     /// Makes what stands here, which is not null, a list of structs of at least a size.
+    #[inline(always)]
     pub(crate) fn make_struct_list(&mut self, size: StructSize) -> Result<()>
         requires held { IsWellFormed (object_tree self.old) }
         requires there { is_null_tree (object_tree self.old) ≡ false }
@@ -151,6 +181,7 @@ impl Object {
     /// Refused with `WrongPointerKind` for a struct, with `WrongElementSize` for a list of bits, with `SizePastFormat`
     /// where the structs would take 2^29 words or more, and else with `OutOfMemory`; then nothing has changed. A null, and
     /// a list of structs that have at least the size, take no memory and are never refused.
+    #[inline(always)]
     pub fn get_struct_list(&mut self, size: StructSize) -> Result<ListBuilder<'_>>
         requires { is_null_tree (object_tree self.old) ≡ false → IsWellFormed (object_tree self.old) }
         ensures* lends { sem 𝓛 (LendsList self.entry result) }
