@@ -34,6 +34,9 @@ pointer_kept s i o e =
     let x : StructTree = struct_object_tree s in
     pointer_left s i o _ e ∙ ap (λ (ts : Trees). record { bytes = x.bytes; pointers = ts }) (with_tree-same x.pointers i)
 
+pub pointer_same : (s : StructTree) (i : ℕ) → s ≡ with_pointer_tree s i (nth_tree s.pointers i)
+pointer_same s i = sym (ap (λ (ts : Trees). record { bytes = s.bytes; pointers = ts }) (with_tree-same s.pointers i))
+
 -- a struct, and a list, at a pointer
 pub struct_stands : (s : StructObject) → object_tree (object.Struct s) ≡ struct_tree (struct_object_tree s)
 struct_stands s = search (rules, the_lemmas)

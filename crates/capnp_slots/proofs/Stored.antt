@@ -1,5 +1,5 @@
 -- What is given at once is stored as its number.
-use Rattle.std.specs.Prelude.{ℕ, ◌≡◌, refl, Bool, true, false, Result, Ok, Err, IfOk, IfErr, bit_xor}
+use Rattle.std.specs.Prelude.{ℕ, ◌≡◌, refl, Bool, true, false, Option, Some, None, Result, Ok, Err, IfOk, IfErr, IfSome, bit_xor}
 use Rattle.std.proofs.Common.{ap, sym, subst, ◌∙◌}
 use Rattle.capnp_device.specs.declared.error.Error.{Error}
 use Rattle.capnp_wire.specs.Tree.{StructTree, Null}
@@ -19,7 +19,7 @@ use Rattle.capnp_records.specs.Writes.Overlay.{cleared_content, number_content}
 use Rattle.capnp_records.specs.Writes.Slots.{Bits, At, Content, Suits}
 use Rattle.capnp_slots.specs.Fields.{IsFormed, IsRoomFor, IsSlotPlan, Keeps, field_set, names_of, slot_with}
 use Rattle.capnp_slots.specs.Planned.{HoldsNumber, place_mask, plan_written}
-use Rattle.capnp_slots.specs.Primitives.{GivesNumber, IsGiven, IsGivenAs, given_content, given_to, set_content}
+use Rattle.capnp_slots.specs.Primitives.{GivesAtOnce, GivesNumber, IsGiven, IsGivenAs, given_content, given_to, refusal_at, set_content}
 
 module _ (set : Schemas) (t : SchemaType) (s : Source) where
   pub given-ok : (r : Result ℕ Error) → SourceFits s → GivesNumber t (given_slot set t s) r → IfOk r (IsGivenAs set t s)
@@ -52,6 +52,30 @@ field_given-ok f s v r e fits h = given-ok (field_set f) (typed_of f).type s r f
 pub field_given-err : (f : Field) (s : Source) (v : TypeVariant) (r : Result ℕ Error) → seen_variant v ≡ (typed_of f).type →
     ((set : Schemas) → GivesNumber (seen_variant v) (given_slot set (seen_variant v) s) r) → IfErr r (λ e. given_to f s ≡ Fails e.kind)
 field_given-err f s v r e h = given-err (field_set f) (typed_of f).type s r (subst (λ t. GivesNumber t (given_slot (field_set f) t s) r) e (h (field_set f)))
+
+-- ---- what is given as a number or none ----
+
+pub some_given : (t : SchemaType) (g : Given) (n : ℕ) → GivesAtOnce t g (Some n) → GivesNumber t g (Ok n)
+some_given t (Gives v) n h = h
+some_given t (Copies source past v) n h = absurd h
+some_given t (CopiesGroup l x b) n h = absurd h
+some_given t (Fails kind) n h = absurd h
+
+pub none_given : (t : SchemaType) (g : Given) (e : Error) → e.kind ≡ refusal_at t → GivesAtOnce t g None → GivesNumber t g (Err e)
+none_given t (Gives v) e k h = absurd h
+none_given t (Copies source past v) e k h = absurd h
+none_given t (CopiesGroup l x b) e k h = absurd h
+none_given t (Fails kind) e k h = k ∙ sym h
+
+module _ (f : Field) (s : Source) (v : TypeVariant) (e : seen_variant v ≡ (typed_of f).type) where
+  pub field_given-some : (o : Option ℕ) → SourceFits s → ((set : Schemas) → GivesAtOnce (seen_variant v) (given_slot set (seen_variant v) s) o) → IfSome o (IsGivenAs (field_set f) (typed_of f).type s)
+  field_given-some None fits h = tt
+  field_given-some (Some n) fits h = field_given-ok f s v (Ok n) e fits (λ set. some_given (seen_variant v) _ n (h set))
+
+  pub field_given-none : (o : Option ℕ) → ((set : Schemas) → GivesAtOnce (seen_variant v) (given_slot set (seen_variant v) s) o) → o ≡ None → given_to f s ≡ Fails (refusal_at (typed_of f).type)
+  field_given-none o h n =
+      let x : Error = record { kind = refusal_at (seen_variant v) } in
+      field_given-err f s v (Err x) e (λ set. none_given (seen_variant v) _ x refl (subst (GivesAtOnce (seen_variant v) (given_slot set (seen_variant v) s)) n (h set))) ∙ ap (λ t. Fails (refusal_at t)) e
 
 -- ---- what is stored ----
 

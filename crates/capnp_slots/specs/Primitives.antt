@@ -1,10 +1,12 @@
 -- Values that stand in a data section, and what a slot takes of them.
-use Rattle.std.specs.Prelude.{ℕ, ◌≡◌, ⊤, Result, Ok, Err}
+use Rattle.std.specs.Prelude.{ℕ, ◌≡◌, ⊤, Option, Some, None, Result, Ok, Err}
 use Rattle.capnp_device.specs.declared.error.Error.{Error}
+use Rattle.capnp_device.specs.declared.error.ErrorKind.{ErrorKind}
+use Rattle.capnp_device.specs.declared.error.ErrorKind.TheVariants.{CannotSetAnyPointerFieldToAPrimitiveValue, TypeMismatch}
 use Rattle.capnp_schema.specs.FieldLists.{typed_of}
 use Rattle.capnp_schema.specs.Schema.{Schemas, default_of}
 use Rattle.capnp_schema.specs.Schema.{Value as SchemaValue}
-use Rattle.capnp_schema.specs.Types.{SchemaType}
+use Rattle.capnp_schema.specs.Types.{SchemaType, AnyPointerType}
 use Rattle.capnp_schema.specs.declared.schema.fields.Field.{Field}
 use Rattle.capnp_records.specs.Call.{Source, VoidSource, BoolSource, IntSource, UIntSource, EnumSource}
 use Rattle.capnp_records.specs.Given.{Given, Gives, Copies, CopiesGroup, Fails, given_slot}
@@ -53,6 +55,20 @@ GivesNumber t (Copies source past v) r = ⊥
 GivesNumber t (CopiesGroup l x b) r = ⊥
 GivesNumber t (Fails kind) (Ok n) = ⊥
 GivesNumber t (Fails kind) (Err e) = e.kind ≡ kind
+
+-- what a slot of a type refuses a value of another kind with that no pointer stands for
+abbrev pub refusal_at : SchemaType → ErrorKind
+refusal_at AnyPointerType = CannotSetAnyPointerFieldToAPrimitiveValue
+refusal_at t = TypeMismatch
+
+-- the same number, or none where the slot refuses the value with that
+abbrev pub GivesAtOnce : SchemaType → Given → Option ℕ → Type 0
+GivesAtOnce t (Gives v) (Some n) = n ≡ stored t v
+GivesAtOnce t (Gives v) None = ⊥
+GivesAtOnce t (Copies source past v) r = ⊥
+GivesAtOnce t (CopiesGroup l x b) r = ⊥
+GivesAtOnce t (Fails kind) (Some n) = ⊥
+GivesAtOnce t (Fails kind) None = kind ≡ refusal_at t
 
 -- a value is given at once, and a slot of the type stores it as that number but for its default
 pub record IsGivenAs (set : Schemas) (t : SchemaType) (s : Source) (n : ℕ) : Type 0 where

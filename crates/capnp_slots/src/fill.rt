@@ -100,9 +100,10 @@ pub(crate) fn fill_list(
     Ok(())
 }
 
-/// Fills the list of structs at a pointer.
+/// Fills the list of structs at a pointer, where it may have to be made anew.
 #[tactic(auto, using(crate::proofs::Pointers::pointer_kept, crate::proofs::Pointers::pointer_left, crate::proofs::Pointers::list_stands))]
-pub(crate) fn fill_structs(
+#[inline(never)]
+fn make_structs(
     object: &mut StructObject,
     index: u16,
     size: StructSize,
@@ -124,6 +125,30 @@ pub(crate) fn fill_structs(
         .get_pointer_field(index)
         .get_struct_list_or_default(size, default)?;
     Ok(())
+}
+
+/// Fills the list of structs at a pointer. One of structs of enough size is seen at once, and stays.
+#[inline(always)]
+pub(crate) fn fill_structs(
+    object: &mut StructObject,
+    index: u16,
+    size: StructSize,
+    default: Option<PointerReader<'_>>,
+) -> Result<()>
+    requires inside { IsThere object.old index }
+    requires formed { IsWellFormed (tree_there object.old index) }
+    ensures ok { OnOk result (HoldsThere object.old index object.new (filled_structs (default_tree default.entry) size (tree_there object.old index))) }
+    ensures kept { OnOk result (IsWellFormed (filled_structs (default_tree default.entry) size (tree_there object.old index))) }
+    ensures within { OnOk result (filled_structs_refusal (default_tree default.entry) size (tree_there object.old index) ≡ None) }
+    ensures refused { OnErr result (struct_object_tree object.new ≡ struct_object_tree object.old) }
+    ensures cause { IfErr result (λ e. IsDueRefusal e (filled_structs_refusal (default_tree default.entry) size (tree_there object.old index))) }
+    ensures succeeds { takes_default (default_tree default.entry) (tree_there object.old index) ≡ false → HoldsStructs size (tree_there object.old index)
+        → IsOk result }
+{
+    if object.pointer_field(index).holds_structs(size) {
+        return Ok(());
+    }
+    make_structs(object, index, size, default)
 }
 
 /// Refuses what is not read as a text.

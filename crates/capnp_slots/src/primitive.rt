@@ -2,10 +2,10 @@
 ghost use Rattle.std.specs.Prelude.{◌≡◌};
 ghost use Rattle.capnp_device.specs.declared.error.ErrorKind.TheVariants.{TypeMismatch};
 ghost use Rattle.capnp_schema.specs.Schema.{Schemas};
-ghost use Rattle.capnp_schema.specs.Types.{IntType, UIntType, seen_variant};
+ghost use Rattle.capnp_schema.specs.Types.{seen_variant};
 ghost use Rattle.capnp_records.specs.Given.{given_slot};
 ghost use Rattle.capnp_records.specs.Writes.Contents.{SourceFits};
-ghost use Rattle.capnp_slots.specs.Primitives.{GivesNumber, primitive_source};
+ghost use Rattle.capnp_slots.specs.Primitives.{GivesAtOnce, GivesNumber, primitive_source, refusal_at};
 
 use capnp_base::introspect::TypeVariant;
 use capnp_wire::error::{Error, ErrorKind, Result};
@@ -53,31 +53,72 @@ pub(crate) fn number_fits(value: Primitive)
     }
 }
 
-/// A number with a sign of so many bytes, in two's complement.
+/// The number that a slot of a type stores for a value, but for its default. None where the type is another one than the
+/// value's, and for an untyped pointer: what a set is then refused with is `refusal_at`. A void slot takes every value.
 #[inline(always)]
-fn signed_given(bytes: u8, value: Primitive) -> Result<u64>
-    ensures { (set : Schemas) → GivesNumber (IntType bytes) (given_slot set (IntType bytes) (primitive_source value)) result }
+pub(crate) fn number_at_once(variant: TypeVariant, value: Primitive) -> Option<u64>
+    ensures { (set : Schemas) → GivesAtOnce (seen_variant variant) (given_slot set (seen_variant variant) (primitive_source value)) result }
 {
-    match value {
-        Primitive::Int8(x) if bytes == 1 => Ok(x.cast_unsigned() as u64),
-        Primitive::Int16(x) if bytes == 2 => Ok(x.cast_unsigned() as u64),
-        Primitive::Int32(x) if bytes == 4 => Ok(x.cast_unsigned() as u64),
-        Primitive::Int64(x) if bytes == 8 => Ok(x.cast_unsigned()),
-        _ => Err(mismatch()),
+    match variant {
+        TypeVariant::Void => Some(0),
+        TypeVariant::Bool => match value {
+            Primitive::Bool(x) => Some(x as u64),
+            _ => None,
+        },
+        TypeVariant::Int8 => match value {
+            Primitive::Int8(x) => Some(x.cast_unsigned() as u64),
+            _ => None,
+        },
+        TypeVariant::Int16 => match value {
+            Primitive::Int16(x) => Some(x.cast_unsigned() as u64),
+            _ => None,
+        },
+        TypeVariant::Int32 => match value {
+            Primitive::Int32(x) => Some(x.cast_unsigned() as u64),
+            _ => None,
+        },
+        TypeVariant::Int64 => match value {
+            Primitive::Int64(x) => Some(x.cast_unsigned()),
+            _ => None,
+        },
+        TypeVariant::UInt8 => match value {
+            Primitive::UInt8(x) => Some(x as u64),
+            _ => None,
+        },
+        TypeVariant::UInt16 => match value {
+            Primitive::UInt16(x) => Some(x as u64),
+            _ => None,
+        },
+        TypeVariant::UInt32 => match value {
+            Primitive::UInt32(x) => Some(x as u64),
+            _ => None,
+        },
+        TypeVariant::UInt64 => match value {
+            Primitive::UInt64(x) => Some(x),
+            _ => None,
+        },
+        TypeVariant::Enum(_) => match value {
+            Primitive::Enum(x) => Some(x as u64),
+            _ => None,
+        },
+        TypeVariant::AnyPointer => None,
+        TypeVariant::Text => None,
+        TypeVariant::Data => None,
+        TypeVariant::Struct(_) => None,
+        TypeVariant::List(_) => None,
     }
 }
 
-/// A number without a sign of so many bytes.
-#[inline(always)]
-fn unsigned_given(bytes: u8, value: Primitive) -> Result<u64>
-    ensures { (set : Schemas) → GivesNumber (UIntType bytes) (given_slot set (UIntType bytes) (primitive_source value)) result }
+/// What a slot of a type refuses a value of another kind with.
+#[inline(never)]
+pub(crate) fn refusal_at(variant: TypeVariant) -> Error
+    ensures { result.kind ≡ refusal_at (seen_variant variant) }
 {
-    match value {
-        Primitive::UInt8(x) if bytes == 1 => Ok(x as u64),
-        Primitive::UInt16(x) if bytes == 2 => Ok(x as u64),
-        Primitive::UInt32(x) if bytes == 4 => Ok(x as u64),
-        Primitive::UInt64(x) if bytes == 8 => Ok(x),
-        _ => Err(mismatch()),
+    match variant {
+        TypeVariant::AnyPointer => {
+            Error::from(ErrorKind::CannotSetAnyPointerFieldToAPrimitiveValue)
+        }
+        _ => mismatch(),
     }
 }
 
@@ -85,34 +126,11 @@ fn unsigned_given(bytes: u8, value: Primitive) -> Result<u64>
 ///
 /// Refused with `CannotSetAnyPointerFieldToAPrimitiveValue` for an untyped pointer, and with `TypeMismatch` where the
 /// type is another one than the value's. A void slot takes every value.
-#[inline(always)]
 pub(crate) fn number_given(variant: TypeVariant, value: Primitive) -> Result<u64>
     ensures { (set : Schemas) → GivesNumber (seen_variant variant) (given_slot set (seen_variant variant) (primitive_source value)) result }
 {
-    match variant {
-        TypeVariant::Void => Ok(0),
-        TypeVariant::Bool => match value {
-            Primitive::Bool(x) => Ok(x as u64),
-            _ => Err(mismatch()),
-        },
-        TypeVariant::Int8 => signed_given(1, value),
-        TypeVariant::Int16 => signed_given(2, value),
-        TypeVariant::Int32 => signed_given(4, value),
-        TypeVariant::Int64 => signed_given(8, value),
-        TypeVariant::UInt8 => unsigned_given(1, value),
-        TypeVariant::UInt16 => unsigned_given(2, value),
-        TypeVariant::UInt32 => unsigned_given(4, value),
-        TypeVariant::UInt64 => unsigned_given(8, value),
-        TypeVariant::Enum(_) => match value {
-            Primitive::Enum(x) => Ok(x as u64),
-            _ => Err(mismatch()),
-        },
-        TypeVariant::AnyPointer => Err(Error::from(
-            ErrorKind::CannotSetAnyPointerFieldToAPrimitiveValue,
-        )),
-        TypeVariant::Text => Err(mismatch()),
-        TypeVariant::Data => Err(mismatch()),
-        TypeVariant::Struct(_) => Err(mismatch()),
-        TypeVariant::List(_) => Err(mismatch()),
+    match number_at_once(variant, value) {
+        Some(number) => Ok(number),
+        None => Err(refusal_at(variant)),
     }
 }

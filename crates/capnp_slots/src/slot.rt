@@ -1,5 +1,5 @@
 //! Slots of a struct that is built: a union's member becomes active, and then what stands in the slot is written.
-ghost use Rattle.std.specs.Prelude.{None, ◌≡◌, IfErr, IfOk, OnErr, OnOk, not};
+ghost use Rattle.std.specs.Prelude.{None, ◌≡◌, IfErr, IfOk, IfSome, OnErr, OnOk, not};
 ghost use Rattle.capnp_device.specs.declared.error.ErrorKind.TheVariants.{OutOfMemory};
 ghost use Rattle.capnp_wire.specs.Edits.{zero_struct};
 ghost use Rattle.capnp_wire.specs.Objects.{struct_object_tree};
@@ -14,13 +14,13 @@ ghost use Rattle.capnp_records.specs.Writes.Slots.{At};
 ghost use Rattle.capnp_slots.specs.Fields.{field_set, IsPointer, IsRoomFor, IsSlot, Keeps, names_of, slot_with, switch_names, switched_to};
 ghost use Rattle.capnp_slots.specs.Sources.{IsPointed, IsSet, IsSetRefusal, source_seen};
 ghost use Rattle.capnp_slots.specs.Inits.{HasInit, HasInitn, IsInitRefusal, IsInitnRefusal, init_content, initn_content};
-ghost use Rattle.capnp_slots.specs.Primitives.{IsGiven, IsGivenAs, given_to, primitive_source, set_content};
+ghost use Rattle.capnp_slots.specs.Primitives.{IsGiven, IsGivenAs, given_to, primitive_source, refusal_at, set_content};
 
 use crate::copies::{copies_to, copy_to};
 use crate::make::{is_sized, size_of};
 use crate::planned::{clear_plan, field_plan, slot_plan, store_number, switch_member};
 use crate::pointer::{make_sized_at, make_struct_at, pointer_slot, set_at};
-use crate::primitive::{Primitive, number_fits, number_given};
+use crate::primitive::{Primitive, number_at_once, number_fits, refusal_at};
 use crate::source::Source;
 use capnp_base::introspect::TypeVariant;
 use capnp_base::traits::SetterInput;
@@ -55,14 +55,21 @@ pub fn switch(object: &mut StructObject, field: Field<'_>)
     switch_member(object, field_plan(field).member);
 }
 
-/// The number that a field's slot stores for a value, but for its default; refused as the set.
+/// The number that a field's slot stores for a value, but for its default. None where the set is refused.
 #[inline(always)]
-fn number_for(field: Field<'_>, value: Primitive) -> Result<u64>
-    ensures number { IfOk result (IsGivenAs (field_set field.entry) (typed_of field.entry).type (primitive_source value)) }
-    ensures refused { IfErr result (λ e. given_to field.entry (primitive_source value) ≡ Fails e.kind) }
+fn number_for(field: Field<'_>, value: Primitive) -> Option<u64>
+    ensures number { IfSome result (IsGivenAs (field_set field.entry) (typed_of field.entry).type (primitive_source value)) }
+    ensures none { result ≡ None → given_to field.entry (primitive_source value) ≡ Fails (refusal_at (typed_of field.entry).type) }
 {
     number_fits(value);
-    number_given(field.get_type().which(), value)
+    number_at_once(field.get_type().which(), value)
+}
+
+/// What a field's slot refuses a value of another kind with.
+fn refuse_at(field: Field<'_>) -> Error
+    ensures { result.kind ≡ refusal_at (typed_of field.entry).type }
+{
+    refusal_at(field.get_type().which())
 }
 
 /// Sets a slot to a value that no pointer stands for: what is stored is its number, XORed with that of the slot's default.
@@ -81,9 +88,13 @@ pub fn set_primitive(object: &mut StructObject, field: Field<'_>, value: Primiti
     ensures refused { OnErr result (object.new ≡ object.old) }
     ensures cause { IfErr result (λ e. given_to field.entry (primitive_source value) ≡ Fails e.kind) }
 {
-    let number = number_for(field, value)?;
-    store_number(object, slot_plan(field), number);
-    Ok(())
+    match number_for(field, value) {
+        Some(number) => {
+            store_number(object, slot_plan(field), number);
+            Ok(())
+        }
+        None => Err(refuse_at(field)),
+    }
 }
 
 /// Sets a slot to what a pointer can be set to: a text, data, a struct, a list, or what an untyped pointer leads to. The

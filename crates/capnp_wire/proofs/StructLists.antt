@@ -2,13 +2,13 @@
 use mathlib.Core.Bool.{true≢false}
 use Rattle.std.proofs.Common.{◌≡◌, ℕ, zero, suc, ◌+◌, ◌*◌, ◌<◌, ◌≤◌, ◌^◌, [], length, refl, sym, ap, subst, ◌∙◌, arith, true, false, nat_lt}
 use Rattle.std.specs.Prelude.{Option, Some, None, cond, is_some, max, unwrap_or}
-use Rattle.std.proofs.Math.Nat.{le-max_right}
+use Rattle.std.proofs.Math.Nat.{le-max_right, max-eq_right}
 use Rattle.std.proofs.lemmas.Bool.Decides.{nat_tests}
 use Rattle.capnp_wire.specs.Tree.{Tree, Null, Struct, Voids, Bits, Numbers, Pointers, Composite, FaultLeaf, NoTrees, Structs, NoStructs, MoreStructs, StructTree, empty_struct, empty_structs, nth_struct, structs_from, struct_count, tree_count}
-use Rattle.capnp_wire.specs.Reading.{element_struct, is_list, list_length}
+use Rattle.capnp_wire.specs.Reading.{element_struct, is_list, is_null_tree, list_length}
 use Rattle.capnp_wire.specs.WellFormed.{AreElements, IsWellFormed}
 use Rattle.capnp_wire.specs.Edits.{IsCopyRefusal, extended}
-use Rattle.capnp_wire.specs.StructLists.{IsDueRefusal, as_structs, grown, has_size, is_bits, past_format, struct_list, struct_list_refusal}
+use Rattle.capnp_wire.specs.StructLists.{IsDueRefusal, as_structs, grown, has_size, holds_structs, is_bits, past_format, struct_list, struct_list_refusal}
 use Rattle.capnp_wire.specs.declared.size.StructSize.{StructSize}
 use Rattle.capnp_device.specs.declared.error.Error.{Error}
 use Rattle.capnp_device.specs.declared.error.ErrorKind.{ErrorKind}
@@ -100,17 +100,30 @@ same_list size (FaultLeaf k) h e = absurd (true≢false (sym e))
 
 -- ---- a list of structs that have at least a size stays ----
 
-pub holding_stays : (size : StructSize) (t : Tree) → IsWellFormed t → has_size (grown size t) t ≡ true → struct_list size t ≡ t
+pub holding_there : (size : StructSize) (t : Tree) → holds_structs size t ≡ true → is_null_tree t ≡ false
+holding_there size Null e = absurd (true≢false (sym e))
+holding_there size (Struct bytes ps) e = refl
+holding_there size (Voids n) e = refl
+holding_there size (Bits bs) e = refl
+holding_there size (Numbers w bytes) e = refl
+holding_there size (Pointers ps) e = refl
+holding_there size (Composite d p es) e = refl
+holding_there size (FaultLeaf k) e = refl
+
+pub holding_stays : (size : StructSize) (t : Tree) → IsWellFormed t → holds_structs size t ≡ true → struct_list size t ≡ t
 holding_stays size Null h e = refl
 holding_stays size (Struct bytes ps) h e = refl
 holding_stays size (Voids n) h e = absurd (true≢false (sym e))
 holding_stays size (Bits bs) h e = refl
 holding_stays size (Numbers w bytes) h e = absurd (true≢false (sym e))
 holding_stays size (Pointers ps) h e = absurd (true≢false (sym e))
-holding_stays size (Composite d p es) h e = same_list (grown size (Composite d p es)) (Composite d p es) h e
+holding_stays size (Composite d p es) h e =
+    let words : size.data_words ≤ d = grind (arith, nat_tests, e) in
+    let pointers : size.pointers ≤ p = grind (arith, nat_tests, e) in
+    same_structs (grown size (Composite d p es)) d p es h.4 (sym (max-eq_right words)) (sym (max-eq_right pointers))
 holding_stays size (FaultLeaf k) h e = refl
 
-pub holding_within : (size : StructSize) (t : Tree) → IsWellFormed t → has_size (grown size t) t ≡ true → struct_list_refusal size t ≡ None
+pub holding_within : (size : StructSize) (t : Tree) → IsWellFormed t → holds_structs size t ≡ true → struct_list_refusal size t ≡ None
 holding_within size Null h e = refl
 holding_within size (Struct bytes ps) h e = absurd (true≢false (sym e))
 holding_within size (Voids n) h e = absurd (true≢false (sym e))
@@ -118,10 +131,10 @@ holding_within size (Bits bs) h e = absurd (true≢false (sym e))
 holding_within size (Numbers w bytes) h e = absurd (true≢false (sym e))
 holding_within size (Pointers ps) h e = absurd (true≢false (sym e))
 holding_within size (Composite d p es) h e =
-    let words : d ≡ max size.data_words d = grind (arith, nat_tests, e) in
-    let pointers : p ≡ max size.pointers p = grind (arith, nat_tests, e) in
-    let small : struct_count es * (d + max size.pointers p) < 2 ^ 29 = subst (λ q. struct_count es * (d + q) < 2 ^ 29) pointers h.3 in
-    within_format (struct_count es) (grown size (Composite d p es)) (subst (λ w. struct_count es * (w + max size.pointers p) < 2 ^ 29) words small)
+    let words : size.data_words ≤ d = grind (arith, nat_tests, e) in
+    let pointers : size.pointers ≤ p = grind (arith, nat_tests, e) in
+    let small : struct_count es * (d + max size.pointers p) < 2 ^ 29 = subst (λ q. struct_count es * (d + q) < 2 ^ 29) (sym (max-eq_right pointers)) h.3 in
+    within_format (struct_count es) (grown size (Composite d p es)) (subst (λ w. struct_count es * (w + max size.pointers p) < 2 ^ 29) (sym (max-eq_right words)) small)
 holding_within size (FaultLeaf k) h e = refl
 
 -- ---- structs of size zero ----

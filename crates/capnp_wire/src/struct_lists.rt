@@ -8,7 +8,7 @@ ghost use Rattle.capnp_wire.specs.Reading.{element_struct, is_list, is_null_tree
 ghost use Rattle.capnp_wire.specs.WellFormed.{IsWellFormed};
 ghost use Rattle.capnp_wire.specs.Elements.{built_list, or_empty};
 ghost use Rattle.capnp_wire.specs.Edits.{IsCopyRefusal, extended};
-ghost use Rattle.capnp_wire.specs.StructLists.{HoldsStructs, IsDueRefusal, grown, has_size, is_bits, struct_list, struct_list_refusal};
+ghost use Rattle.capnp_wire.specs.StructLists.{HoldsStructs, IsDueRefusal, grown, has_size, holds_structs, is_bits, struct_list, struct_list_refusal};
 ghost use Rattle.capnp_wire.specs.Lends.{LendsList, holds_list};
 
 use crate::copy::copy_struct;
@@ -87,14 +87,16 @@ impl ListObject {
         }
     }
 
-    /// Whether the elements are structs that have at least this size: then the list is one of such structs as it stands.
+    /// Whether the elements are structs that have at least this size.
     #[inline(always)]
     fn holds_structs(&self, size: StructSize) -> bool
-        ensures { IsTrue result → has_size (grown size (list_object_tree self.now)) (list_object_tree self.now) ≡ true }
+        ensures { result ≡ holds_structs size (list_object_tree self.now) }
     {
         match self {
-            ListObject::Composite(own, _) => size.data_words <= own.data_words
-                && size.pointers <= own.pointers,
+            ListObject::Composite(own, _) => {
+                size.data_words <= own.data_words && size.pointers <= own.pointers
+            }
+            ListObject::EmptyStructs(_, _) => size.data_words == 0 && size.pointers == 0,
             _ => false,
         }
     }
@@ -155,6 +157,23 @@ impl ListObject {
 }
 
 impl Object {
+    /// Whether a list of structs that have at least a size stands here. It is one of such structs as it stands:
+    /// `get_struct_list` lends it, changes nothing and is not refused.
+    #[tactic(auto, using(crate::proofs::StructLists::holding_stays, crate::proofs::StructLists::holding_within))]
+    #[inline(always)]
+    pub fn holds_structs(&self, size: StructSize) -> bool
+        requires { IsWellFormed (object_tree self.now) }
+        ensures is { result ≡ holds_structs size (object_tree self.now) }
+        ensures there { IsTrue result → is_null_tree (object_tree self.now) ≡ false }
+        ensures stays { IsTrue result → struct_list size (object_tree self.now) ≡ object_tree self.now }
+        ensures within { IsTrue result → struct_list_refusal size (object_tree self.now) ≡ None }
+    {
+        match self {
+            Object::List(list) => list.holds_structs(size),
+            _ => false,
+        }
+    }
+
     /// Makes what stands here, which is not null, a list of structs of at least a size.
     #[inline(always)]
     pub(crate) fn make_struct_list(&mut self, size: StructSize) -> Result<()>
