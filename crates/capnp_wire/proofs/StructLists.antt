@@ -5,7 +5,7 @@ use Rattle.std.specs.Prelude.{Option, Some, None, cond, is_some, max, unwrap_or}
 use Rattle.std.proofs.Math.Nat.{le-max_right, max-eq_right}
 use Rattle.std.proofs.lemmas.Bool.Decides.{nat_tests}
 use Rattle.capnp_wire.specs.Tree.{Tree, Null, Struct, Voids, Bits, Numbers, Pointers, Composite, FaultLeaf, NoTrees, Structs, NoStructs, MoreStructs, StructTree, empty_struct, empty_structs, nth_struct, structs_from, struct_count, tree_count}
-use Rattle.capnp_wire.specs.Reading.{element_struct, is_list, is_null_tree, list_length}
+use Rattle.capnp_wire.specs.Reading.{element_struct, is_list, list_length}
 use Rattle.capnp_wire.specs.WellFormed.{AreElements, IsWellFormed}
 use Rattle.capnp_wire.specs.Edits.{IsCopyRefusal, extended}
 use Rattle.capnp_wire.specs.StructLists.{IsDueRefusal, as_structs, grown, has_size, holds_structs, is_bits, past_format, struct_list, struct_list_refusal}
@@ -99,16 +99,6 @@ same_list size (Composite d p es) h e =
 same_list size (FaultLeaf k) h e = absurd (true≢false (sym e))
 
 -- ---- a list of structs that have at least a size stays ----
-
-pub holding_there : (size : StructSize) (t : Tree) → holds_structs size t ≡ true → is_null_tree t ≡ false
-holding_there size Null e = absurd (true≢false (sym e))
-holding_there size (Struct bytes ps) e = refl
-holding_there size (Voids n) e = refl
-holding_there size (Bits bs) e = refl
-holding_there size (Numbers w bytes) e = refl
-holding_there size (Pointers ps) e = refl
-holding_there size (Composite d p es) e = refl
-holding_there size (FaultLeaf k) e = refl
 
 pub holding_stays : (size : StructSize) (t : Tree) → IsWellFormed t → holds_structs size t ≡ true → struct_list size t ≡ t
 holding_stays size Null h e = refl
