@@ -95,17 +95,6 @@ HasStruct (Pointers ps) i = ⊥
 HasStruct (Composite d p es) i = i < struct_count es
 HasStruct (FaultLeaf k) i = ⊥
 
--- whether the elements are structs
-abbrev pub is_composite : Tree → Bool
-is_composite Null = false
-is_composite (Struct bytes ps) = false
-is_composite (Voids n) = false
-is_composite (Bits bs) = false
-is_composite (Numbers w bytes) = false
-is_composite (Pointers ps) = false
-is_composite (Composite d p es) = true
-is_composite (FaultLeaf k) = false
-
 -- ---- with another element ----
 
 -- structs in a row with another one at an index

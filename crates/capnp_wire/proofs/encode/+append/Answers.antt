@@ -88,3 +88,28 @@ pub append_list-returns-in_ok-append_empty_structs-in-EmptyStructs :
 append_list-returns-in_ok-append_empty_structs-in-EmptyStructs t c =
     c.in_ok-append_empty_structs-in-EmptyStructs.ensures
     ∙ ap (λ x. c.args.out.now.items ++ bytes_of x) (sym (ap list_object_tree c.in-EmptyStructs.is ∙ tree-empty_structs c.in-EmptyStructs.count _))
+
+pub fill_pointers-overflow_sub-gap-in-loop-object : goal.fill_pointers-overflow_sub-gap-in-loop-object
+fill_pointers-overflow_sub-gap-in-loop-object t c =
+    let room = rw (objects-next _ _ _ c.loop-object-test.true c.object-item.is) at c.loop-object.invariant.room in
+    omega (arith, room.1, c.len.ensures)
+
+pub fill_pointers-overflow_sub-gap : goal.fill_pointers-overflow_sub-gap
+fill_pointers-overflow_sub-gap t c =
+    let room = rw (objects-next _ _ _ c.loop-object-test.true c.object-item.is) at c.loop-object.invariant.room in
+    omega (arith, room.1, c.len.ensures)
+
+pub fill_pointers-put_word-requires : goal.fill_pointers-put_word-requires
+fill_pointers-put_word-requires t c =
+    let room = rw (objects-next _ _ _ c.loop-object-test.true c.object-item.is) at c.loop-object.invariant.room in
+    omega (arith, room.1)
+
+pub fill_pointers-get_pointer-requires-clause-held : goal.fill_pointers-get_pointer-requires-clause-held
+fill_pointers-get_pointer-requires-clause-held t c =
+    let room = rw (objects-next _ _ _ c.loop-object-test.true c.object-item.is) at c.loop-object.invariant.room in
+    room.0.0
+
+pub fill_pointers-get_pointer-requires-clause-near : goal.fill_pointers-get_pointer-requires-clause-near
+fill_pointers-get_pointer-requires-clause-near t c =
+    let room = rw (objects-next _ _ _ c.loop-object-test.true c.object-item.is) at c.loop-object.invariant.room in
+    omega (arith, room.1, room.2, c.len.ensures)
