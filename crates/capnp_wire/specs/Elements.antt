@@ -1,5 +1,5 @@
 -- Elements of a list that is built: where they are, and the list with another one.
-use Rattle.std.specs.Prelude.{ℕ, zero, suc, ◌+◌, ◌*◌, ◌<◌, ◌≤◌, Bool, true, false, cond, Result, Ok, Err, length, slice_set}
+use Rattle.std.specs.Prelude.{ℕ, zero, suc, ◌+◌, ◌*◌, ◌<◌, ◌≤◌, Bool, false, cond, Result, Ok, Err, length, slice_set}
 use Rattle.std.specs.Borrow.{MutBor}
 use Rattle.capnp_wire.specs.Tree.{Tree, Null, Struct, Voids, Bits, Numbers, Pointers, Composite, FaultLeaf, Structs, NoStructs, MoreStructs, StructTree, nth_struct, tree_count, struct_count}
 use Rattle.capnp_wire.specs.Objects.{list_object_tree}
