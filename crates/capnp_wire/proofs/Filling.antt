@@ -5,7 +5,7 @@ use Rattle.capnp_wire.specs.Tree.{Tree, Trees, Composite, MoreTrees, Structs, Mo
 use Rattle.capnp_wire.specs.Words.{words_of, words_of_all, words_below_all}
 use Rattle.capnp_wire.specs.WellFormed.{AreElements, AreWellFormed}
 use Rattle.capnp_wire.specs.Encoding.{spelled, struct_word, pointer_word, pointer_row, element_row, bytes_of, bytes_of_all, bytes_below_all}
-use Rattle.capnp_wire.specs.Filling.{put, words_from, row_end, HasRoom, with_pointers, with_element, elements_end, HaveRoom, with_elements}
+use Rattle.capnp_wire.specs.Filling.{put, words_from, row_end, HasRoom, with_pointers, with_encoded_element, elements_end, HaveRoom, with_encoded_elements}
 use Rattle.capnp_wire.specs.Facts.EmptyStructs.{bytes_below-empty_structs, element_row-empty_structs, struct_count-empty_structs}
 use Rattle.capnp_wire.proofs.Appending.{append_two}
 use Rattle.capnp_wire.proofs.EncodedSizes.{length_bytes_of, length_bytes_of_all, length_pointer_row, length_element, length_element_row}
@@ -66,7 +66,7 @@ pointer_filled at t ts o o1 o2 w room e1 e2 e3 =
 -- ---- elements ----
 
 -- an element's data, and then its pointers with what they lead to
-pub element_put : (at : ℕ) (s : StructTree) (o o1 o2 : List ℕ) → row_end (at + length s.bytes) s.pointers ≤ length o → o1 ≡ put at s.bytes o → o2 ≡ with_pointers (at + length s.bytes) s.pointers o1 → o2 ≡ with_element at s o
+pub element_put : (at : ℕ) (s : StructTree) (o o1 o2 : List ℕ) → row_end (at + length s.bytes) s.pointers ≤ length o → o1 ≡ put at s.bytes o → o2 ≡ with_pointers (at + length s.bytes) s.pointers o1 → o2 ≡ with_encoded_element at s o
 element_put at s o o1 o2 h e1 e2 =
     let g : ℕ = words_from (row_end (at + length s.bytes) s.pointers) o in
     let size : length o1 ≡ length o = ap length e1 ∙ length_put at s.bytes o (omega arith) in
@@ -78,7 +78,7 @@ element_put at s o o1 o2 h e1 e2 =
     ∙ put_next at s.bytes y o [] (bytes_of_all s.pointers) (omega (arith, length_pointer_row g s.pointers))
 
 -- one more element of a composite list
-pub element_filled : (d p at : ℕ) (bytes : List ℕ) (ps : Trees) (es : Structs) (o o2 : List ℕ) → HaveRoom d p at (MoreStructs bytes ps es) o → o2 ≡ with_element at (record { bytes = bytes; pointers = ps }) o → HaveRoom d p (at + 8 * (d + p)) es o2 × (with_elements (d + p) (at + 8 * (d + p)) es o2 ≡ with_elements (d + p) at (MoreStructs bytes ps es) o)
+pub element_filled : (d p at : ℕ) (bytes : List ℕ) (ps : Trees) (es : Structs) (o o2 : List ℕ) → HaveRoom d p at (MoreStructs bytes ps es) o → o2 ≡ with_encoded_element at (record { bytes = bytes; pointers = ps }) o → HaveRoom d p (at + 8 * (d + p)) es o2 × (with_encoded_elements (d + p) (at + 8 * (d + p)) es o2 ≡ with_encoded_elements (d + p) at (MoreStructs bytes ps es) o)
 element_filled d p at bytes ps es o o2 room e =
     let h = room.0 in
     let g : ℕ = words_from (elements_end (d + p) at (MoreStructs bytes ps es)) o in
@@ -126,20 +126,20 @@ elements_room d p at n es b o a e q held near =
     (held, omega (arith, a, size), omega (arith, a, size, near))
 
 -- and what is made of it: the elements, and what they lead to
-pub elements_last : (d p at n : ℕ) (es : Structs) (b o o2 : List ℕ) → at ≡ length b → n ≡ struct_count es → o ≡ b ++ replicate (8 * (n * (d + p))) 0 → AreElements d p es → o2 ≡ with_elements (d + p) at es o → o2 ≡ b ++ (element_row (d + p) 0 es ++ bytes_below_all es)
+pub elements_last : (d p at n : ℕ) (es : Structs) (b o o2 : List ℕ) → at ≡ length b → n ≡ struct_count es → o ≡ b ++ replicate (8 * (n * (d + p))) 0 → AreElements d p es → o2 ≡ with_encoded_elements (d + p) at es o → o2 ≡ b ++ (element_row (d + p) 0 es ++ bytes_below_all es)
 elements_last d p at n es b o o2 a e q held h =
     let zeros : List ℕ = replicate (8 * (n * (d + p))) 0 in
     let many : length zeros ≡ 8 * (struct_count es * (d + p)) = length-replicate {A = ℕ} (8 * (n * (d + p))) 0 ∙ ap (λ k. 8 * (k * (d + p))) e in
     let none : words_from (elements_end (d + p) (length b) es) (b ++ zeros) ≡ 0 = omega (arith, many, length-append b zeros) in
     h
-    ∙ ap (λ k. with_elements (d + p) k es o) a
-    ∙ ap (with_elements (d + p) (length b) es) q
+    ∙ ap (λ k. with_encoded_elements (d + p) k es o) a
+    ∙ ap (with_encoded_elements (d + p) (length b) es) q
     ∙ ap (λ k. put (length b) (element_row (d + p) k es) (b ++ zeros) ++ bytes_below_all es) none
     ∙ ap (λ z. z ++ bytes_below_all es) (put_last b zeros (element_row (d + p) 0 es) (omega (arith, many, length_element_row d p 0 es held)))
     ∙ append_assoc b (element_row (d + p) 0 es) (bytes_below_all es)
 
 -- the whole list, with its tag before them
-pub composite_last : (d p at n : ℕ) (es : Structs) (old b o o2 : List ℕ) (tag : ℕ) → tag ≡ struct_word n d p → b ≡ old ++ spelled 8 tag → at ≡ length b → n ≡ struct_count es → o ≡ b ++ replicate (8 * (n * (d + p))) 0 → AreElements d p es → o2 ≡ with_elements (d + p) at es o → o2 ≡ old ++ bytes_of (Composite d p es)
+pub composite_last : (d p at n : ℕ) (es : Structs) (old b o o2 : List ℕ) (tag : ℕ) → tag ≡ struct_word n d p → b ≡ old ++ spelled 8 tag → at ≡ length b → n ≡ struct_count es → o ≡ b ++ replicate (8 * (n * (d + p))) 0 → AreElements d p es → o2 ≡ with_encoded_elements (d + p) at es o → o2 ≡ old ++ bytes_of (Composite d p es)
 composite_last d p at n es old b o o2 tag w f a e q held h =
     let x : List ℕ = spelled 8 (struct_word (struct_count es) d p) in
     let first : b ≡ old ++ x = f ∙ ap (λ k. old ++ spelled 8 k) (w ∙ ap (λ k. struct_word k d p) e) in

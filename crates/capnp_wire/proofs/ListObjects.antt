@@ -7,7 +7,8 @@ use Rattle.capnp_wire.specs.Tree as tree
 use Rattle.capnp_wire.specs.Tree.{Tree, StructTree, nth_struct, nth_tree, struct_count, tree_count}
 use Rattle.capnp_wire.specs.Objects.{list_object_tree, object_tree, object_trees, struct_object_tree, struct_object_trees}
 use Rattle.capnp_wire.specs.Reading.{cut_pointer, element_pointer, element_struct, is_null_tree}
-use Rattle.capnp_wire.specs.Elements.{HasPointer, HasStruct, is_composite, built_list, built_list_at}
+use Rattle.capnp_wire.specs.Kinds.{is_composite}
+use Rattle.capnp_wire.specs.Elements.{HasPointer, HasStruct, built_list, built_list_at}
 use Rattle.capnp_wire.specs.Lends.{Layer, HasObjects, HasStructs, with_objects_at, with_structs_at, with_element, with_element_at, with_first_pointer, with_object, with_object_at, with_pointer, is_counted}
 use Rattle.capnp_wire.specs.declared.object.Object.{Object}
 use Rattle.capnp_wire.specs.declared.object.ListObject.{ListObject, out-ListObject}

@@ -8,7 +8,8 @@ use Rattle.capnp_wire.specs.Tree.{Tree, Null, Struct, Voids, Bits, Numbers, Poin
 use Rattle.capnp_wire.specs.Reading.{element_struct, is_list, list_length}
 use Rattle.capnp_wire.specs.WellFormed.{AreElements, IsWellFormed}
 use Rattle.capnp_wire.specs.Edits.{IsCopyRefusal, extended}
-use Rattle.capnp_wire.specs.StructLists.{IsDueRefusal, as_structs, grown, has_size, holds_structs, is_bits, past_format, struct_list, struct_list_refusal}
+use Rattle.capnp_wire.specs.Kinds.{has_size, is_bits}
+use Rattle.capnp_wire.specs.StructLists.{IsDueRefusal, as_structs, grown, holds_structs, past_format, struct_list, struct_list_refusal}
 use Rattle.capnp_wire.specs.declared.size.StructSize.{StructSize}
 use Rattle.capnp_device.specs.declared.error.Error.{Error}
 use Rattle.capnp_device.specs.declared.error.ErrorKind.{ErrorKind}

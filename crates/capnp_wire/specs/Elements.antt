@@ -1,5 +1,5 @@
 -- Elements of a list that is built: where they are, and the list with another one.
-use Rattle.std.specs.Prelude.{ℕ, zero, suc, ◌+◌, ◌*◌, ◌<◌, ◌≤◌, Bool, true, false, cond, Result, Ok, Err, length, slice_set}
+use Rattle.std.specs.Prelude.{ℕ, zero, suc, ◌+◌, ◌*◌, ◌<◌, ◌≤◌, Bool, false, cond, Result, Ok, Err, length, slice_set}
 use Rattle.std.specs.Borrow.{MutBor}
 use Rattle.capnp_wire.specs.Tree.{Tree, Null, Struct, Voids, Bits, Numbers, Pointers, Composite, FaultLeaf, Structs, NoStructs, MoreStructs, StructTree, nth_struct, tree_count, struct_count}
 use Rattle.capnp_wire.specs.Objects.{list_object_tree}
@@ -94,17 +94,6 @@ HasStruct (Numbers w bytes) i = ⊥
 HasStruct (Pointers ps) i = ⊥
 HasStruct (Composite d p es) i = i < struct_count es
 HasStruct (FaultLeaf k) i = ⊥
-
--- whether the elements are structs
-abbrev pub is_composite : Tree → Bool
-is_composite Null = false
-is_composite (Struct bytes ps) = false
-is_composite (Voids n) = false
-is_composite (Bits bs) = false
-is_composite (Numbers w bytes) = false
-is_composite (Pointers ps) = false
-is_composite (Composite d p es) = true
-is_composite (FaultLeaf k) = false
 
 -- ---- with another element ----
 

@@ -31,8 +31,8 @@ with_pointers at ts bytes = put at (pointer_row (words_from (row_end at ts) byte
 -- ---- elements of a composite list ----
 
 -- an element there, its data and its pointers in a row, and what these lead to at the end
-abbrev pub with_element : ℕ → StructTree → List ℕ → List ℕ
-with_element at s bytes =
+abbrev pub with_encoded_element : ℕ → StructTree → List ℕ → List ℕ
+with_encoded_element at s bytes =
     put at (s.bytes ++ pointer_row (words_from (row_end (at + length s.bytes) s.pointers) bytes) s.pointers) bytes ++ bytes_of_all s.pointers
 
 -- where elements of so many words each end
@@ -45,5 +45,5 @@ HaveRoom d p at es bytes =
     AreElements d p es × (elements_end (d + p) at es ≤ length bytes) × (struct_count es * (d + p) + words_from (elements_end (d + p) at es) bytes + words_below_all es < 2 ^ 29)
 
 -- the elements there, and what they lead to at the end
-abbrev pub with_elements : ℕ → ℕ → Structs → List ℕ → List ℕ
-with_elements size at es bytes = put at (element_row size (words_from (elements_end size at es) bytes) es) bytes ++ bytes_below_all es
+abbrev pub with_encoded_elements : ℕ → ℕ → Structs → List ℕ → List ℕ
+with_encoded_elements size at es bytes = put at (element_row size (words_from (elements_end size at es) bytes) es) bytes ++ bytes_below_all es

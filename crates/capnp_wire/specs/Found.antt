@@ -8,22 +8,22 @@ use Rattle.capnp_wire.specs.Objects.{object_tree, object_trees, struct_object_tr
 use Rattle.capnp_wire.specs.declared.row.Block.{Block}
 use Rattle.capnp_wire.specs.declared.size.StructSize.{StructSize}
 use Rattle.capnp_wire.specs.declared.row.PointerRow.{PointerRow}
-use Rattle.capnp_wire.specs.declared.look.Place.{Place}
-use Rattle.capnp_wire.specs.declared.look.Place.TheVariants as place
-use Rattle.capnp_wire.specs.declared.look.Pointers.{Pointers}
-use Rattle.capnp_wire.specs.declared.look.Pointers.TheVariants as pointers
-use Rattle.capnp_wire.specs.declared.look.Elements.{Elements}
-use Rattle.capnp_wire.specs.declared.look.Elements.TheVariants as elements
-use Rattle.capnp_wire.specs.declared.look.StructParts.{StructParts}
-use Rattle.capnp_wire.specs.declared.look.Found.{Found}
-use Rattle.capnp_wire.specs.declared.look.Found.TheVariants as found
+use Rattle.capnp_wire.specs.declared.pointer.Pointer.{Pointer}
+use Rattle.capnp_wire.specs.declared.pointer.Pointer.TheVariants as pointer
+use Rattle.capnp_wire.specs.declared.pointers.Pointers.{Pointers}
+use Rattle.capnp_wire.specs.declared.pointers.Pointers.TheVariants as pointers
+use Rattle.capnp_wire.specs.declared.block.Elements.{Elements}
+use Rattle.capnp_wire.specs.declared.block.Elements.TheVariants as elements
+use Rattle.capnp_wire.specs.declared.found.StructParts.{StructParts}
+use Rattle.capnp_wire.specs.declared.found.Found.{Found}
+use Rattle.capnp_wire.specs.declared.found.Found.TheVariants as found
 
 -- the tree at a place; a word's has one level less than its depth
-abbrev pub place_tree : Place → Tree
-place_tree place.Null = tree.Null
-place_tree (place.Bad fault) = tree.FaultLeaf fault
-place_tree (place.Word depth is_stream bytes segment index) = tree_below depth (segments_in is_stream bytes.now) segment.now index
-place_tree (place.Object object) = object_tree object.now
+abbrev pub pointer_tree : Pointer → Tree
+pointer_tree pointer.Null = tree.Null
+pointer_tree (pointer.Bad fault) = tree.FaultLeaf fault
+pointer_tree (pointer.Word depth is_stream bytes segment index) = tree_below depth (segments_in is_stream bytes.now) segment.now index
+pointer_tree (pointer.Object object) = object_tree object.now
 
 abbrev pub row_trees : ℕ → Bool → ℕ → PointerRow → Trees
 row_trees depth is_stream count row = trees_from (tree_below depth (segments_in is_stream row.bytes.now) row.segment.now) row.first count

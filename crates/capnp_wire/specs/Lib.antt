@@ -23,6 +23,7 @@ pub mod Edits
 pub mod Elements
 pub mod ElementSizes
 pub mod StructLists
+pub mod Kinds
 pub mod Lends
 pub mod Measured
 pub mod Blobs

@@ -1,9 +1,11 @@
 -- The tree of a message that is read or built, and what is written of one.
-use Rattle.std.specs.Prelude.{ℕ, ◌<◌, List, length, take, Option, Result, Ok, Err}
+use Rattle.std.specs.Prelude.{ℕ, ◌≡◌, ◌<◌, List, ◌++◌, length, take, Option, Result, Ok, Err}
 use Rattle.std.specs.Borrow.{Lends, MutBor, Fml}
 use Rattle.std.specs.Io.KnownBytes.{Appends}
 use Rattle.capnp_wire.specs.Tree.{Tree}
 use Rattle.capnp_wire.specs.Encoding.{message_of}
+use Rattle.capnp_wire.specs.Depth.{IsShallow}
+use Rattle.capnp_wire.specs.Stream.{message_tree_of}
 use Rattle.capnp_wire.specs.Objects.{object_tree}
 use Rattle.capnp_wire.specs.declared.object.Object.{Object}
 use Rattle.capnp_wire.specs.declared.message.Builder.{Builder}
@@ -29,6 +31,10 @@ builder_tree builder = object_tree builder.root
 -- the root is lent: the message ends with what was left there
 abbrev pub LendsRoot : MutBor Builder → MutBor Object → Fml
 LendsRoot builder r = Lends builder_row object_row builder r (λ o. record { root = o })
+
+-- where a tree is shallow, these bytes are read as it, whatever follows them
+abbrev pub IsReadAs : Tree → List ℕ → Type 0
+IsReadAs t bytes = IsShallow t → (rest : List ℕ) → message_tree_of (bytes ++ rest) ≡ Ok t
 
 -- ---- what a sink has got of a tree's message, by what was written to it before and after ----
 

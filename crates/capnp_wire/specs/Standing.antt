@@ -2,7 +2,7 @@
 use Rattle.std.specs.Prelude.{ℕ, List, Result, Ok, Err}
 use Rattle.std.specs.Borrow.{Bor}
 use Rattle.capnp_wire.specs.Tree.{Tree, StructTree}
-use Rattle.capnp_wire.specs.Found.{place_tree, parts_tree, found_tree}
+use Rattle.capnp_wire.specs.Found.{pointer_tree, parts_tree, found_tree}
 use Rattle.capnp_wire.specs.declared.pointer_reader.PointerReader.{PointerReader}
 use Rattle.capnp_wire.specs.declared.struct_reader.StructReader.{StructReader}
 use Rattle.capnp_wire.specs.declared.list_reader.ListReader.{ListReader}
@@ -10,7 +10,7 @@ use Rattle.capnp_device.specs.declared.error.Error.{Error}
 use Rattle.capnp_device.specs.declared.error.ErrorKind.{ErrorKind}
 
 unfoldable pub tree_of : PointerReader → Tree
-tree_of reader = place_tree reader.place
+tree_of reader = pointer_tree reader.pointer
 
 unfoldable pub levels_of : PointerReader → ℕ
 levels_of reader = reader.levels

@@ -1,5 +1,5 @@
 -- A list that becomes one of structs of at least a size.
-use Rattle.std.specs.Prelude.{ℕ, ◌+◌, ◌*◌, ◌^◌, ◌≤◌, ⊤, Bool, true, false, cond, ◌==◌, ◌&&◌, nat_le, nat_lt, max, Option, Some, None}
+use Rattle.std.specs.Prelude.{ℕ, ◌+◌, ◌*◌, ◌^◌, ◌≤◌, ⊤, Bool, false, cond, ◌&&◌, nat_le, nat_lt, max, Option, Some, None}
 use Rattle.capnp_wire.specs.Tree.{Tree, Null, Struct, Voids, Bits, Numbers, Pointers, Composite, FaultLeaf, structs_from}
 use Rattle.capnp_wire.specs.Reading.{element_struct, list_length}
 pub use Rattle.capnp_wire.specs.Edits.{IsDueRefusal}
@@ -63,17 +63,6 @@ struct_list_refusal size (Pointers ps) = past_format (list_length (Pointers ps))
 struct_list_refusal size (Composite d p es) = past_format (list_length (Composite d p es)) (grown size (Composite d p es))
 struct_list_refusal size (FaultLeaf k) = None
 
--- whether the elements are structs of just this size
-abbrev pub has_size : StructSize → Tree → Bool
-has_size size Null = false
-has_size size (Struct bytes ps) = false
-has_size size (Voids n) = false
-has_size size (Bits bs) = false
-has_size size (Numbers w bytes) = false
-has_size size (Pointers ps) = false
-has_size size (Composite d p es) = (d == size.data_words) && (p == size.pointers)
-has_size size (FaultLeaf k) = false
-
 -- a list of structs that have at least a size, or the list of nothing that a null is read as: no element has to grow
 abbrev pub HoldsStructs : StructSize → Tree → Type 0
 HoldsStructs size Null = ⊤
@@ -95,14 +84,3 @@ holds_structs size (Numbers w bytes) = false
 holds_structs size (Pointers ps) = false
 holds_structs size (Composite d p es) = nat_le size.data_words d && nat_le size.pointers p
 holds_structs size (FaultLeaf k) = false
-
--- whether the elements are bits
-abbrev pub is_bits : Tree → Bool
-is_bits Null = false
-is_bits (Struct bytes ps) = false
-is_bits (Voids n) = false
-is_bits (Bits bs) = true
-is_bits (Numbers w bytes) = false
-is_bits (Pointers ps) = false
-is_bits (Composite d p es) = false
-is_bits (FaultLeaf k) = false

@@ -20,6 +20,8 @@ impl BitRow {
     ghost use Rattle.capnp_wire.specs.Bits.{row_bits};
 
     /// So many bits, all false.
+    ///
+    /// Refused where memory is.
     pub(crate) fn zeros(alloc: Global, count: u32) -> Result<BitRow, AllocError>
         ensures { IfOk result (λ row. row_bits row ≡ replicate count false) }
     {
@@ -28,6 +30,8 @@ impl BitRow {
     }
 
     /// A copy of the first bits of some bytes, false where these end.
+    ///
+    /// Refused where memory is.
     pub(crate) fn copy(alloc: Global, bytes: &[u8], count: u32) -> Result<BitRow, AllocError>
         ensures { IfOk result (λ row. row_bits row ≡ bits_from bytes.now 0 count) }
     {

@@ -16,7 +16,7 @@ ghost use Rattle.capnp_wire.specs.Lends.{LendsList, LendsOwnList};
 ghost use Rattle.capnp_wire.specs.Blobs.{IsKept, KeepsBytes, LendsBlob, LendsVector, bytes_kept, bytes_lent};
 
 use crate::elements::{data_of, text_of};
-use crate::look::look_at_object;
+use crate::look_objects::look_at_object;
 use crate::object::{ListObject, Object};
 use crate::pointer_builder::{ListBuilder, MOST_ELEMENTS};
 use crate::size::ElementSize;
@@ -70,6 +70,7 @@ impl ListObject {
     }
 
     /// The bytes of a list that is read as data: those of a list of bytes, and none of the list that a null is read as.
+    /// It has to be read so, as after `get_data_list`.
     pub fn data_mut(&mut self) -> &mut [u8]
         requires { IsOk (as_data (list_object_tree self.old)) }
         ensures* lends { sem 𝓛 (LendsBlob self.entry result) }
@@ -98,7 +99,7 @@ impl ListObject {
     }
 
     /// The bytes of a list that is read as a text, without the zero that ends it; none of the list that a null is read
-    /// as.
+    /// as. It has to be read so, as after `get_text_list`.
     pub fn text_mut(&mut self) -> &mut [u8]
         requires { IsOk (as_text (list_object_tree self.old)) }
         ensures* lends { sem 𝓛 (LendsBlob self.entry result) }

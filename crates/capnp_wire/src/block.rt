@@ -1,9 +1,28 @@
-//! Where the pointers of a composite list's elements stand.
+//! The elements of a composite list, and where their pointers stand.
 ghost use Rattle.std.specs.Prelude.{Bool, ℕ, ◌≡◌};
-ghost use Rattle.capnp_wire.specs.Found.{block_struct, row_trees};
+ghost use Rattle.capnp_wire.specs.Tree.{nth_struct, struct_count};
+ghost use Rattle.capnp_wire.specs.Found.{AreEmptyStructs, block_struct, element_structs, parts_tree, row_trees};
 
+use crate::found::{StructParts, empty_parts};
+use crate::look::bytes_from;
+use crate::look_objects::look_at_struct_object;
+use crate::object::StructObject;
+use crate::pointers::Pointers;
 use crate::row::{Block, PointerRow};
 use crate::size::StructSize;
+
+/// The elements of a composite list.
+#[derive(Clone, Copy)]
+pub enum Elements<'a> {
+    /// So many elements, whose pointers' trees have one level less than `depth`.
+    Words {
+        depth: u8,
+        is_stream: bool,
+        count: u32,
+        block: Block<'a>,
+    },
+    Objects(&'a [StructObject]),
+}
 
 impl<'a> Block<'a> {
     /// Where the pointers of an element stand.
@@ -18,5 +37,66 @@ impl<'a> Block<'a> {
             segment: self.segment,
             first: self.first + index as usize * words + size.data_words as usize,
         }
+    }
+}
+
+/// The struct at `index` of a composite list, of size zero past its end.
+#[inline(always)]
+pub fn get_element<'a>(size: StructSize, elements: Elements<'a>, index: usize) -> StructParts<'a>
+    ensures { parts_tree result ≡ nth_struct (element_structs size.data_words size.pointers elements.entry) index }
+{
+    match elements {
+        Elements::Words {
+            depth,
+            is_stream,
+            count,
+            block,
+        } => {
+            if index >= count as usize {
+                return empty_parts();
+            }
+            let start = block.first + index * (size.data_words as usize + size.pointers as usize);
+            StructParts {
+                data: bytes_from(block.segment, start, 8 * size.data_words as usize),
+                pointers: Pointers::Words {
+                    depth,
+                    is_stream,
+                    count: size.pointers as u32,
+                    row: block.pointers_of(size, index as u32),
+                },
+            }
+        }
+        Elements::Objects(objects) => match objects.get(index) {
+            Some(object) => look_at_struct_object(object),
+            None => empty_parts(),
+        },
+    }
+}
+
+/// How many elements there are.
+#[inline(always)]
+pub fn count_elements(size: StructSize, elements: Elements<'_>) -> usize
+    ensures { result ≡ struct_count (element_structs size.data_words size.pointers elements.entry) }
+{
+    match elements {
+        Elements::Words { count, .. } => count as usize,
+        Elements::Objects(objects) => objects.len(),
+    }
+}
+
+/// How many structs of size zero the elements of a composite list are, where their count is all that there is of them.
+#[inline(always)]
+pub fn count_empty_structs(size: StructSize, elements: Elements<'_>) -> Option<u32>
+    ensures { AreEmptyStructs result size (element_structs size.data_words size.pointers elements.entry) }
+{
+    match elements {
+        Elements::Words { count, .. } => {
+            if size.data_words == 0 && size.pointers == 0 {
+                Some(count)
+            } else {
+                None
+            }
+        }
+        Elements::Objects(_) => None,
     }
 }

@@ -1,7 +1,7 @@
 //! Copies what stands at a place into owned objects. A message in memory holds no fault leaf, so what has one is refused.
 ghost use Rattle.std.specs.Prelude.{◌≡◌, ◌-◌, None, IfErr, IfOk, OnOk};
 ghost use Rattle.capnp_wire.specs.Edits.{IsCopyRefusal, append_trees, first_trees, fitted, nulls, rounded, whole_words};
-ghost use Rattle.capnp_wire.specs.Found.{element_structs, found_tree, parts_tree, place_tree, pointer_trees};
+ghost use Rattle.capnp_wire.specs.Found.{element_structs, found_tree, parts_tree, pointer_tree, pointer_trees};
 ghost use Rattle.capnp_wire.specs.Objects.{list_object_tree, object_tree, object_trees, struct_object_tree, struct_object_trees};
 ghost use Rattle.capnp_wire.specs.Tree.{Composite, tree_count};
 ghost use Rattle.capnp_wire.specs.WellFormed.{IsWellFormed};
@@ -9,13 +9,13 @@ ghost use Rattle.capnp_wire.specs.Words.{first_fault, first_fault_of_all, first_
 ghost use Rattle.capnp_device.specs.declared.error.ErrorKind.TheVariants.{OutOfMemory};
 
 use crate::bits::BitRow;
+use crate::block::{Elements, count_elements, count_empty_structs, get_element};
 use crate::fault::refuse;
-use crate::look::{
-    Elements, Found, Place, Pointers, StructParts, count_elements, count_empty_structs,
-    count_pointers, get_element, get_pointer, look,
-};
+use crate::found::{Found, StructParts};
 use crate::make::{make_empty_structs, make_nulls};
 use crate::object::{ListObject, Object, StructObject};
+use crate::pointer::{Pointer, look};
+use crate::pointers::{Pointers, count_pointers, get_pointer};
 use crate::size::StructSize;
 use capnp_device::error::Result;
 use std::alloc::Global;
@@ -25,12 +25,12 @@ use std::alloc::Global;
 /// Refused as `copy_found`.
 #[cycle(copy)]
 #[inline(always)]
-pub fn copy_place(alloc: Global, place: Place<'_>) -> Result<Object>
-    ensures copy { IfOk result (λ object. object_tree object ≡ place_tree place.entry) }
-    ensures sound { IfOk result (λ _. first_fault (place_tree place.entry) ≡ None) }
-    ensures refused { IfErr result (λ error. IsCopyRefusal error (first_fault (place_tree place.entry))) }
+pub fn copy_pointer(alloc: Global, pointer: Pointer<'_>) -> Result<Object>
+    ensures copy { IfOk result (λ object. object_tree object ≡ pointer_tree pointer.entry) }
+    ensures sound { IfOk result (λ _. first_fault (pointer_tree pointer.entry) ≡ None) }
+    ensures refused { IfErr result (λ error. IsCopyRefusal error (first_fault (pointer_tree pointer.entry))) }
 {
-    copy_found(alloc, look(place))
+    copy_found(alloc, look(pointer))
 }
 
 /// The object of what was found. Each section and each list takes its memory once.
@@ -58,6 +58,8 @@ pub fn copy_found(alloc: Global, found: Found<'_>) -> Result<Object>
 }
 
 /// The object of a struct, with its data as it is.
+///
+/// Refused as `copy_found`.
 #[cycle(copy)]
 #[inline(always)]
 pub fn copy_struct(alloc: Global, parts: StructParts<'_>) -> Result<StructObject>
@@ -80,7 +82,7 @@ fn copy_pointers(alloc: Global, pointers: Pointers<'_>) -> Result<Vec<Object>>
     let count = count_pointers(pointers);
     let mut objects = Vec::with_capacity(alloc, count)?;
     for i in 0..count {
-        let object = copy_place(alloc, get_pointer(pointers, i))?;
+        let object = copy_pointer(alloc, get_pointer(pointers, i))?;
         objects.push(object)?;
     }
     Ok(objects)

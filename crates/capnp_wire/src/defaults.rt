@@ -15,12 +15,13 @@ ghost use Rattle.capnp_wire.specs.Lends.{LendsList, LendsStruct};
 ghost use Rattle.capnp_wire.specs.StructLists.{HoldsStructs, struct_list, struct_list_refusal};
 ghost use Rattle.capnp_wire.specs.Defaults.{default_tree, fault_refusal, filled_list_refusal, filled_struct, filled_struct_refusal, filled_structs, filled_structs_refusal, list_default_refusal, list_refusal, or_default, struct_default_refusal, structs_default_refusal, taken_default, takes_default};
 
-use crate::copy::copy_place;
+use crate::copy::copy_pointer;
 use crate::fault::refuse;
+use crate::found::{Found, count_list};
 use crate::laws::pointer_is_well_formed;
 use crate::list_reader::reads_list_as;
-use crate::look::{Found, count_list, look};
 use crate::object::Object;
+use crate::pointer::look;
 use crate::pointer_builder::{ListBuilder, StructBuilder};
 use crate::pointer_reader::PointerReader;
 use crate::size::{ElementSize, StructSize};
@@ -69,9 +70,9 @@ fn refuse_as_structs(size: StructSize, found: Found<'_>) -> Option<ErrorKind>
         Found::Struct(_) => Some(ErrorKind::WrongPointerKind),
         Found::Bits(_, _) => Some(ErrorKind::WrongElementSize),
         list => {
-            let count = count_list(list);
+            let count = count_list(list) as u32;
             let size = grow(size, list);
-            if count as u64 * (size.data_words as u64 + size.pointers as u64) >= 1 << 29 {
+            if size.is_past_format(count) {
                 Some(ErrorKind::SizePastFormat)
             } else {
                 None
@@ -91,7 +92,7 @@ fn copy_sound(alloc: Global, default: PointerReader<'_>) -> Result<Object>
     if let Some(fault) = default.first_fault() {
         return Err(refuse(fault));
     }
-    copy_place(alloc, default.place())
+    copy_pointer(alloc, default.pointer())
 }
 
 /// A copy of a default as a struct of at least a size.
@@ -106,7 +107,7 @@ fn copy_struct_default(
     ensures within { OnOk result (struct_default_refusal (tree_of default.entry) ≡ None) }
     ensures cause { IfErr result (λ e. IsDueRefusal e (struct_default_refusal (tree_of default.entry))) }
 {
-    if let Some(kind) = refuse_as_struct(look(default.place())) {
+    if let Some(kind) = refuse_as_struct(look(default.pointer())) {
         return Err(Error::from(kind));
     }
     let mut made = copy_sound(alloc, default)?;
@@ -123,7 +124,7 @@ fn copy_list_default(alloc: Global, size: ElementSize, default: PointerReader<'_
     ensures within { OnOk result (list_default_refusal size (tree_of default.entry) ≡ None) }
     ensures cause { IfErr result (λ e. IsDueRefusal e (list_default_refusal size (tree_of default.entry))) }
 {
-    if let Some(kind) = refuse_as_list(size, look(default.place())) {
+    if let Some(kind) = refuse_as_list(size, look(default.pointer())) {
         return Err(Error::from(kind));
     }
     copy_sound(alloc, default)
@@ -144,7 +145,7 @@ fn copy_structs_default(
     ensures cause { IfErr result (λ e. IsDueRefusal e (structs_default_refusal size (tree_of default.entry))) }
 {
     pointer_is_well_formed(&default);
-    if let Some(kind) = refuse_as_structs(size, look(default.place())) {
+    if let Some(kind) = refuse_as_structs(size, look(default.pointer())) {
         return Err(Error::from(kind));
     }
     let mut made = copy_sound(alloc, default)?;
@@ -220,13 +221,13 @@ impl Object {
         Ok(self.list_here())
     }
 
-    /// The list that stands here, as one of elements of a size: a null becomes a copy of the default first, where there is
-    /// one, or else is a list without elements, and stays null.
+    /// The list that stands here, as one of elements of a size: a null becomes a copy of the default first, where there
+    /// is one, or else is a list without elements, and stays null. `size` must not be `InlineComposite`.
     ///
-    /// Refused with `WrongPointerKind` for a struct, and with `WrongElementSize` for a list that is not read so, which of
-    /// a null the default may be; of a null also with `BadPointer`, `TooDeep` or `CapabilityPointer` where a pointer in
-    /// the default can't be followed, by the first of these in preorder; and else with `OutOfMemory`. Then nothing has
-    /// changed. Where no default is copied no memory is taken.
+    /// Refused with `WrongPointerKind` for a struct, and with `WrongElementSize` for a list that is not read so, which
+    /// of a null the default may be; of a null also with `BadPointer`, `TooDeep` or `CapabilityPointer` where a pointer
+    /// in the default can't be followed, by the first of these in preorder; and else with `OutOfMemory`. Then nothing
+    /// has changed. Where no default is copied no memory is taken.
     pub fn get_list_or_default(
         &mut self,
         size: ElementSize,
@@ -266,15 +267,15 @@ impl Object {
         Ok(self.list_here())
     }
 
-    /// The list that stands here, as one of structs of at least a size: a null becomes a copy of the default first, where
-    /// there is one, or else is a list without elements, and stays null. A list becomes one of structs as by
-    /// `get_struct_list`.
+    /// The list that stands here, as one of structs of at least a size: a null becomes a copy of the default first,
+    /// where there is one, or else is a list without elements, and stays null. A list becomes one of structs as by
+    /// `get_struct_list`. What stands here has to be null or well-formed.
     ///
     /// Refused with `WrongPointerKind` for a struct, with `WrongElementSize` for a list of bits, and with
     /// `SizePastFormat` where the structs would take 2^29 words or more, which of a null the default may be; of a null
-    /// also with `BadPointer`, `TooDeep` or `CapabilityPointer` where a pointer in the default can't be followed, by the
-    /// first of these in preorder; and else with `OutOfMemory`. Then nothing has changed. A null without a default, and a
-    /// list of structs that have at least the size, take no memory and are never refused.
+    /// also with `BadPointer`, `TooDeep` or `CapabilityPointer` where a pointer in the default can't be followed, by
+    /// the first of these in preorder; and else with `OutOfMemory`. Then nothing has changed. A null without a default,
+    /// and a list of structs that have at least the size, take no memory and are never refused.
     #[inline(always)]
     pub fn get_struct_list_or_default(
         &mut self,

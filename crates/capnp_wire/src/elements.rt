@@ -4,9 +4,10 @@ ghost use Rattle.capnp_wire.specs.Found.{found_tree};
 ghost use Rattle.capnp_wire.specs.Reading.{as_data, as_text, element_bit, element_number};
 ghost use Rattle.capnp_wire.specs.Standing.{bytes_read};
 
+use crate::block::get_element;
 use crate::bytes::get_bit;
 use crate::fault::refuse;
-use crate::look::{Found, get_element};
+use crate::found::Found;
 use crate::primitive::PrimitiveElement;
 use capnp_device::error::{Error, ErrorKind, Result};
 
@@ -37,6 +38,8 @@ pub(crate) fn number_at<T: PrimitiveElement>(list: Found<'_>, index: u32) -> T
 }
 
 /// The bytes of what is read as data, none for a null.
+///
+/// Refused as `get_data`.
 #[inline(always)]
 pub(crate) fn data_of(found: Found<'_>) -> Result<&[u8]>
     ensures { bytes_read result ≡ as_data (found_tree found.entry) }
@@ -57,6 +60,8 @@ pub(crate) fn data_of(found: Found<'_>) -> Result<&[u8]>
 }
 
 /// The bytes of what is read as a text, without the zero that ends it; none for a null.
+///
+/// Refused as `get_text`.
 #[inline(always)]
 pub(crate) fn text_of(found: Found<'_>) -> Result<&[u8]>
     ensures { bytes_read result ≡ as_text (found_tree found.entry) }

@@ -11,7 +11,7 @@ ghost use Rattle.capnp_wire.specs.Depth.{IsShallow};
 ghost use Rattle.capnp_wire.specs.Stream.{message_tree_of};
 ghost use Rattle.capnp_device.specs.declared.error.ErrorKind.TheVariants.{OutOfMemory, TooLarge};
 ghost use Rattle.capnp_wire.specs.Encoding.{bits_number, bytes_of, bytes_of_all, list_word, message_of, number_size, packed, padded, pointer_row, pointer_word, spelled, struct_word};
-ghost use Rattle.capnp_wire.specs.Filling.{HasRoom, HaveRoom, put, with_element, with_elements, with_pointers};
+ghost use Rattle.capnp_wire.specs.Filling.{HasRoom, HaveRoom, put, with_encoded_element, with_encoded_elements, with_pointers};
 
 use crate::bytes::divide;
 use crate::measure::{get_composite_words, measure};
@@ -313,7 +313,7 @@ fn fill_pointers(out: &mut Vec<u8>, at: usize, objects: &[Object]) -> Appended
 #[inline(always)]
 fn fill_element(out: &mut Vec<u8>, at: usize, element: &StructObject) -> Appended
     requires { HasRoom (at + length (struct_object_tree element.now).bytes) (struct_object_tree element.now).pointers out.old.items }
-    ensures { IfOk result (λ _. out.new.items ≡ with_element at (struct_object_tree element.now) out.old.items) }
+    ensures { IfOk result (λ _. out.new.items ≡ with_encoded_element at (struct_object_tree element.now) out.old.items) }
 {
     let data = element.data.as_slice();
     put_bytes(out, at, data);
@@ -330,7 +330,7 @@ fn fill_elements(
     elements: &[StructObject],
 ) -> Appended
     requires { HaveRoom size.data_words size.pointers at (struct_object_trees elements.now) out.old.items }
-    ensures { IfOk result (λ _. out.new.items ≡ with_elements (size.data_words + size.pointers) at (struct_object_trees elements.now) out.old.items) }
+    ensures { IfOk result (λ _. out.new.items ≡ with_encoded_elements (size.data_words + size.pointers) at (struct_object_trees elements.now) out.old.items) }
 {
     let element_size = 8 * (size.data_words as usize + size.pointers as usize);
     let mut at = at;

@@ -1,17 +1,17 @@
 //! Whether the same tree stands at two places, wherever they lie.
 ghost use Rattle.std.specs.Prelude.{◌≡◌, ◌↔◌, IsTrue};
-ghost use Rattle.capnp_wire.specs.Found.{element_structs, found_tree, parts_tree, place_tree, pointer_trees};
+ghost use Rattle.capnp_wire.specs.Found.{element_structs, found_tree, parts_tree, pointer_tree, pointer_trees};
 ghost use Rattle.capnp_wire.specs.Place.{bits_from, struct_tree};
 ghost use Rattle.capnp_wire.specs.Standing.{tree_of};
 ghost use Rattle.capnp_wire.specs.Tree as tree;
 
+use crate::block::{Elements, count_elements, count_empty_structs, get_element};
 use crate::bytes::get_bit;
 use crate::fault::Fault;
-use crate::look::{
-    Elements, Found, Place, Pointers, StructParts, count_elements, count_empty_structs,
-    count_pointers, get_element, get_pointer, look,
-};
+use crate::found::{Found, StructParts};
+use crate::pointer::{Pointer, look};
 use crate::pointer_reader::PointerReader;
+use crate::pointers::{Pointers, count_pointers, get_pointer};
 use crate::size::StructSize;
 
 fn is_null(found: Found<'_>) -> bool
@@ -73,8 +73,8 @@ fn is_numbers(width: u8, bytes: &[u8], found: Found<'_>) -> bool
 
 /// Whether the same stands at two places.
 #[cycle(equal)]
-fn are_places_same(one: Place<'_>, other: Place<'_>) -> bool
-    ensures { IsTrue result ↔ (place_tree one.entry ≡ place_tree other.entry) }
+fn is_pointer_same(one: Pointer<'_>, other: Pointer<'_>) -> bool
+    ensures { IsTrue result ↔ (pointer_tree one.entry ≡ pointer_tree other.entry) }
 {
     is_found(look(one), look(other))
 }
@@ -149,7 +149,7 @@ fn are_pointers_same(one: Pointers<'_>, other: Pointers<'_>) -> bool
         return false;
     }
     for i in 0..count {
-        if !are_places_same(get_pointer(one, i), get_pointer(other, i)) {
+        if !is_pointer_same(get_pointer(one, i), get_pointer(other, i)) {
             return false;
         }
     }
@@ -185,6 +185,6 @@ impl<'a> PointerReader<'a> {
     pub fn has_same_tree(&self, other: &PointerReader<'_>) -> bool
         ensures { IsTrue result ↔ (tree_of self.now ≡ tree_of other.now) }
     {
-        are_places_same(self.place(), other.place())
+        is_pointer_same(self.pointer(), other.pointer())
     }
 }

@@ -1,14 +1,18 @@
 //! Looks for the first fault leaf of what stands at a place.
 ghost use Rattle.std.specs.Prelude.{◌≡◌};
 ghost use Rattle.capnp_wire.specs.Backing.{segment_list};
-ghost use Rattle.capnp_wire.specs.Found.{block_structs, place_tree, row_trees};
+ghost use Rattle.capnp_wire.specs.Found.{block_structs, pointer_tree, row_trees};
 ghost use Rattle.capnp_wire.specs.Place.{tree_below};
 ghost use Rattle.capnp_wire.specs.Standing.{tree_of};
 ghost use Rattle.capnp_wire.specs.Words.{first_fault, first_fault_of_all, first_fault_of_elements};
 
+use crate::block::Elements;
 use crate::fault::Fault;
-use crate::look::{Elements, Found, Place, Pointers, look_at_word};
+use crate::found::Found;
+use crate::look::look_at_word;
+use crate::pointer::Pointer;
 use crate::pointer_reader::PointerReader;
+use crate::pointers::Pointers;
 use crate::row::{Block, PointerRow};
 use crate::segments::Segments;
 use crate::size::StructSize;
@@ -100,20 +104,20 @@ fn fault_of_block(
 
 /// The first fault leaf of what stands at a place. Objects have none.
 #[tactic(auto, using(crate::proofs::ObjectFaults::object_whole))]
-fn fault_of_place(place: Place<'_>) -> Option<Fault>
-    ensures { result ≡ first_fault (place_tree place.entry) }
+fn fault_of_pointer(pointer: Pointer<'_>) -> Option<Fault>
+    ensures { result ≡ first_fault (pointer_tree pointer.entry) }
 {
-    match place {
-        Place::Null => None,
-        Place::Bad(fault) => Some(fault),
-        Place::Word {
+    match pointer {
+        Pointer::Null => None,
+        Pointer::Bad(fault) => Some(fault),
+        Pointer::Word {
             depth,
             is_stream,
             bytes,
             segment,
             index,
         } => fault_of_word(Segments { bytes, is_stream }, segment, index, depth),
-        Place::Object(_) => None,
+        Pointer::Object(_) => None,
     }
 }
 
@@ -123,6 +127,6 @@ impl<'a> PointerReader<'a> {
     pub fn first_fault(&self) -> Option<Fault>
         ensures { result ≡ first_fault (tree_of self.now) }
     {
-        fault_of_place(self.place())
+        fault_of_pointer(self.pointer())
     }
 }

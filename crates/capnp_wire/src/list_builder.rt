@@ -7,19 +7,20 @@ ghost use Rattle.capnp_wire.specs.Objects.{list_object_tree, object_tree, struct
 ghost use Rattle.capnp_wire.specs.Reading.{element_bit, element_number, element_pointer, element_struct, list_length};
 ghost use Rattle.capnp_wire.specs.Standing.{list_levels, list_of};
 ghost use Rattle.capnp_wire.specs.WellFormed.{IsWellFormed};
-ghost use Rattle.capnp_wire.specs.Elements.{HasBit, HasNumber, HasPointer, HasStruct, built_list, is_composite, reads_list, with_bit_element, with_number_element};
+ghost use Rattle.capnp_wire.specs.Elements.{HasBit, HasNumber, HasPointer, HasStruct, built_list, reads_list, with_bit_element, with_number_element};
+ghost use Rattle.capnp_wire.specs.Kinds.{is_composite};
 ghost use Rattle.capnp_wire.specs.ElementSizes.{element_size_of};
 ghost use Rattle.capnp_wire.specs.Unchanged.{ListEndsUnchanged};
 ghost use Rattle.capnp_wire.specs.Lends.{HasObjects, HasStructs, LendsElement, LendsObject, LendsObjects, LendsStructs, is_counted};
 
 use crate::bytes::divide;
 use crate::elements::{bit_at, number_at};
+use crate::found::{count_list, size_of_elements};
 use crate::list_reader::{ListReader, reads_list_as};
-use crate::look::{
-    ROOT_LEVELS, count_list, look_at_built_list, look_at_list_object, size_of_elements,
-};
+use crate::look_objects::{look_at_built_list, look_at_list_object};
 use crate::make::make_empty_struct;
 use crate::object::{ListObject, Object, StructObject};
+use crate::pointer::ROOT_LEVELS;
 use crate::pointer_builder::{ListBuilder, PointerBuilder, StructBuilder};
 use crate::primitive::PrimitiveElement;
 use crate::size::ElementSize;
@@ -33,7 +34,7 @@ impl ListObject {
         self
     }
 
-    /// A reader of the list, with 64 levels.
+    /// A reader of the list, with 64 levels. What is built has to be well-formed (`laws::kept`).
     pub fn as_reader(&self) -> ListReader<'_>
         requires { IsWellFormed (list_object_tree self.now) }
         ensures list { list_of result ≡ built_list self.now }
@@ -42,7 +43,8 @@ impl ListObject {
         ListReader::new(look_at_built_list(self), ROOT_LEVELS)
     }
 
-    /// A reader of the list for as long as the builder would be there, with 64 levels. The list stays as it is.
+    /// A reader of the list for as long as the builder would be there, with 64 levels. The list stays as it is. What is
+    /// built has to be well-formed (`laws::kept`).
     pub fn into_reader(&mut self) -> ListReader<'_>
         requires { IsWellFormed (list_object_tree self.old) }
         ensures* ends { sem 𝓛 (ListEndsUnchanged self.entry) }
@@ -59,7 +61,7 @@ impl ListObject {
         reads_list_as(size, look_at_list_object(self))
     }
 
-    /// How many elements there are, below 2^29.
+    /// How many elements there are, below 2^29. What is built has to be well-formed (`laws::kept`).
     pub fn len(&self) -> u32
         requires { IsWellFormed (list_object_tree self.now) }
         ensures length { result ≡ list_length (list_object_tree self.now) }
@@ -91,14 +93,14 @@ impl ListObject {
         size_of_elements(look_at_built_list(self))
     }
 
-    /// The bit at `index`; false where the elements are no bits.
+    /// The bit at `index`; false where the elements are no bits, and past the end.
     pub fn get_bool_element(&self, index: u32) -> bool
         ensures { result ≡ element_bit (list_object_tree self.now) index }
     {
         bit_at(look_at_list_object(self), index)
     }
 
-    /// Stores the bit at `index`.
+    /// Stores the bit at `index`. There has to be a bit at `index`: `laws::room`.
     pub fn set_bool_element(&mut self, index: u32, value: bool)
         requires { HasBit (list_object_tree self.old) index }
         ensures { list_object_tree self.new ≡ with_bit_element index value (list_object_tree self.old) }
@@ -121,7 +123,8 @@ impl ListObject {
         number_at(look_at_list_object(self), index)
     }
 
-    /// Stores the number at `index`: in a struct, at its start.
+    /// Stores the number at `index`: in a struct, at its start. There has to be a number of that width at `index`:
+    /// `laws::room`.
     pub fn set_data_element<T: PrimitiveElement>(&mut self, index: u32, value: T)
         requires { HasNumber T.width (list_object_tree self.old) index }
         ensures { list_object_tree self.new ≡ with_number_element T.width index (T.to_number value) (list_object_tree self.old) }
@@ -207,11 +210,11 @@ impl ListObject {
         }
     }
 
-    /// The struct at `index` of a list of structs.
+    /// The struct at `index` of a list of structs. There has to be a struct at `index`: `laws::room`.
     ///
-    /// What is left in it is kept as long as its sections have the lengths that they had, and no call on a struct in a list
-    /// changes these. A list of structs of size zero is their count alone: where another struct was put in the place of one
-    /// of them (`std::mem::swap`), that struct is lost.
+    /// What is left in it is kept as long as its sections have the lengths that they had, and no call on a struct in a
+    /// list changes these. A list of structs of size zero is their count alone: where another struct was put in the
+    /// place of one of them (`std::mem::swap`), that struct is lost.
     pub fn get_struct_element(&mut self, index: u32) -> StructBuilder<'_>
         requires { HasStruct (list_object_tree self.old) index }
         ensures* lends { sem 𝓛 (LendsElement self.entry index result) }
@@ -275,7 +278,8 @@ impl ListObject {
         element.get_pointer_field(0)
     }
 
-    /// The pointer at `index`: of a list of structs, the first of the struct.
+    /// The pointer at `index`: of a list of structs, the first of the struct. There has to be a pointer at `index`:
+    /// `laws::room`.
     pub fn get_pointer_element(&mut self, index: u32) -> PointerBuilder<'_>
         requires { HasPointer (list_object_tree self.old) index }
         ensures* lends { sem 𝓛 (LendsObject self.entry index result) }

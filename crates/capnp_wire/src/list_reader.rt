@@ -5,13 +5,14 @@ ghost use Rattle.capnp_wire.specs.Elements.{reads_list};
 ghost use Rattle.capnp_wire.specs.Reading.{reads_numbers, reads_structs};
 ghost use Rattle.capnp_wire.specs.WellFormed.{IsWellFormed, IsWellFormed-prop};
 
+use crate::block::get_element;
 use crate::elements::{bit_at, number_at};
 use crate::fault::Fault;
-use crate::look::{
-    Found, Place, count_list, get_element, get_element_parts, get_pointer, look, look_at_nothing,
-    size_of_elements,
-};
+use crate::found::{Found, count_list, get_element_parts, size_of_elements};
+use crate::look_objects::look_at_nothing;
+use crate::pointer::{Pointer, look};
 use crate::pointer_reader::PointerReader;
+use crate::pointers::get_pointer;
 use crate::primitive::PrimitiveElement;
 use crate::size::{ElementSize, StructSize};
 use crate::struct_reader::StructReader;
@@ -206,16 +207,16 @@ impl<'a> ListReader<'a> {
                 self.levels,
             ),
             Found::Composite(size, elements) => {
-                let place = get_pointer(get_element(size, elements, index as usize).pointers, 0);
+                let pointer = get_pointer(get_element(size, elements, index as usize).pointers, 0);
                 if self.levels > 0 {
-                    return PointerReader::new(place, self.levels - 1);
+                    return PointerReader::new(pointer, self.levels - 1);
                 }
-                match look(place) {
-                    Found::Null => PointerReader::new(Place::Null, 0),
-                    _ => PointerReader::new(Place::Bad(Fault::TooDeep), 0),
+                match look(pointer) {
+                    Found::Null => PointerReader::new(Pointer::Null, 0),
+                    _ => PointerReader::new(Pointer::Bad(Fault::TooDeep), 0),
                 }
             }
-            _ => PointerReader::new(Place::Null, self.levels),
+            _ => PointerReader::new(Pointer::Null, self.levels),
         }
     }
 }

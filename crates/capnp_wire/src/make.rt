@@ -10,6 +10,8 @@ use crate::size::{ElementSize, StructSize};
 use std::alloc::{AllocError, Global};
 
 /// So many zero bytes.
+///
+/// Refused where memory is.
 pub fn make_zeros(alloc: Global, count: usize) -> Result<Vec<u8>, AllocError>
     ensures { IfOk result (λ bytes. bytes.items ≡ replicate count 0) }
 {
@@ -17,6 +19,8 @@ pub fn make_zeros(alloc: Global, count: usize) -> Result<Vec<u8>, AllocError>
 }
 
 /// So many null pointers.
+///
+/// Refused where memory is.
 pub fn make_nulls(alloc: Global, count: usize) -> Result<Vec<Object>, AllocError>
     ensures { IfOk result (λ objects. object_trees objects.items ≡ nulls count) }
 {
@@ -28,6 +32,8 @@ pub fn make_nulls(alloc: Global, count: usize) -> Result<Vec<Object>, AllocError
 }
 
 /// A struct of a size.
+///
+/// Refused where memory is.
 pub fn make_struct(alloc: Global, size: StructSize) -> Result<StructObject, AllocError>
     ensures { IfOk result (λ object. struct_object_tree object ≡ zero_struct size) }
 {
@@ -54,6 +60,8 @@ pub fn make_empty_structs(alloc: Global, count: u32) -> ListObject
 }
 
 /// A list of so many structs of a size. Structs of size zero take no memory, and are never refused.
+///
+/// Refused where memory is.
 pub fn make_structs(alloc: Global, size: StructSize, count: u32) -> Result<ListObject, AllocError>
     ensures list { IfOk result (λ object. list_object_tree object ≡ zero_structs size count) }
     ensures free { size.data_words ≡ 0 → size.pointers ≡ 0 → IsOk result }
@@ -69,6 +77,8 @@ pub fn make_structs(alloc: Global, size: StructSize, count: u32) -> Result<ListO
 }
 
 /// A list of so many elements of a size.
+///
+/// Refused where memory is.
 pub fn make_list(alloc: Global, size: ElementSize, count: u32) -> Result<ListObject, AllocError>
     ensures { IfOk result (λ object. list_object_tree object ≡ zero_list size count) }
 {

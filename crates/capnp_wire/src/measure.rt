@@ -133,7 +133,7 @@ pub(crate) fn get_composite_words(size: StructSize, count: u32) -> u64
     ensures sizes { (size.data_words < 2 ^ 16) × (size.pointers < 2 ^ 16) }
     ensures small { result < 2 ^ 61 }
 {
-    count as u64 * (size.data_words as u64 + size.pointers as u64) + 1
+    count as u64 * size.total() as u64 + 1
 }
 
 /// The words of all that pointers in a row lead to.

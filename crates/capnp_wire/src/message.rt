@@ -4,12 +4,12 @@ ghost use Rattle.capnp_wire.specs.WellFormed.{AreSegments, AreSegments-prop};
 
 use crate::bytes::{half_at, part};
 use crate::encode::write_object;
-use crate::look::{Place, ROOT_LEVELS, get_root_place};
 use crate::object::Object;
+use crate::pointer::{Pointer, ROOT_LEVELS, get_root_pointer};
 use crate::pointer_builder::PointerBuilder;
 use crate::pointer_reader::PointerReader;
 use crate::segments::{Segments, count_words, get_header_bytes};
-use crate::total::size_of_place;
+use crate::total::size_of_pointer;
 use capnp_device::device::Sink;
 use capnp_device::error::{Error, ErrorKind, Result};
 use capnp_device::transfer::write_all;
@@ -67,7 +67,7 @@ impl<'a> Reader<'a> {
         ensures tree { tree_of result ≡ message_tree self.now }
         ensures levels { levels_of result ≡ 64 }
     {
-        PointerReader::new(get_root_place(self.segments), ROOT_LEVELS)
+        PointerReader::new(get_root_pointer(self.segments), ROOT_LEVELS)
     }
 }
 
@@ -78,7 +78,7 @@ pub struct Builder {
 }
 
 impl Builder {
-    ghost use Rattle.std.specs.Prelude.{ℕ, suc, List, None, Ok, ◌++◌, ◌≡◌, ◌≢◌, ◌<◌, ◌≤◌, ◌^◌, IfErr, IfOk, OnErr, OnOk};
+    ghost use Rattle.std.specs.Prelude.{suc, None, ◌≡◌, ◌≢◌, ◌<◌, ◌≤◌, ◌^◌, IfErr, IfOk, OnErr, OnOk};
     ghost use Rattle.std.specs.Borrow.{sem};
     ghost use Rattle.capnp_wire.specs.Tree.{Null};
     ghost use Rattle.capnp_wire.specs.Objects.{object_tree};
@@ -86,10 +86,8 @@ impl Builder {
     ghost use Rattle.capnp_wire.specs.Words.{first_fault, words_of};
     ghost use Rattle.capnp_wire.specs.Edits.{IsCopyRefusal};
     ghost use Rattle.capnp_device.specs.Device.{HasFailed, HasWorked};
-    ghost use Rattle.capnp_wire.specs.Message.{IsCutShort, IsWritten, LendsRoot, builder_tree};
+    ghost use Rattle.capnp_wire.specs.Message.{IsCutShort, IsReadAs, IsWritten, LendsRoot, builder_tree};
     ghost use Rattle.capnp_wire.specs.Encoding.{message_of};
-    ghost use Rattle.capnp_wire.specs.Depth.{IsShallow};
-    ghost use Rattle.capnp_wire.specs.Stream.{message_tree_of};
     ghost use Rattle.capnp_wire.specs.WellFormed.{IsWellFormed};
     ghost use Rattle.capnp_device.specs.declared.error.ErrorKind.TheVariants.{OutOfMemory, TooLarge, WriteFailed};
 
@@ -135,7 +133,7 @@ impl Builder {
         ensures words { IfOk result (λ words. words ≡ suc (words_of (builder_tree self.now))) }
         ensures refused { IfErr result (λ e. (e.kind ≡ TooLarge) × (2 ^ 64 ≤ suc (words_of (builder_tree self.now)))) }
     {
-        let size = size_of_place(Place::Object(&self.root))?;
+        let size = size_of_pointer(Pointer::Object(&self.root))?;
         size.word_count
             .checked_add(1)
             .ok_or(Error::from(ErrorKind::TooLarge))
@@ -150,7 +148,7 @@ impl Builder {
     pub fn write_message(&self) -> Result<Vec<u8>>
         ensures bytes { IfOk result (λ v. v.items ≡ message_of (builder_tree self.now)) }
         ensures held { IfOk result (λ _. IsWellFormed (builder_tree self.now) × (suc (words_of (builder_tree self.now)) < 2 ^ 29)) }
-        ensures read { IfOk result (λ v. IsShallow (builder_tree self.now) → (rest : List ℕ) → message_tree_of (v.items ++ rest) ≡ Ok (builder_tree self.now)) }
+        ensures read { IfOk result (λ v. IsReadAs (builder_tree self.now) v.items) }
         ensures kinds { IfErr result (λ e. e.kind ≢ TooLarge → e.kind ≡ OutOfMemory) }
         ensures refused { IfErr result (λ e. e.kind ≡ TooLarge → IsWellFormed (builder_tree self.now) → 2 ^ 29 ≤ suc (words_of (builder_tree self.now))) }
         ensures memory { IfErr result (λ e. e.kind ≡ OutOfMemory → IsWellFormed (builder_tree self.now) × (suc (words_of (builder_tree self.now)) < 2 ^ 29)) }
@@ -168,8 +166,7 @@ impl Builder {
         ensures written { OnOk result (IsWritten (builder_tree self.now) (W.written sink.old) (W.written sink.new)) }
         ensures worked { OnOk result (HasWorked (W.failures sink.old) (W.failures sink.new)) }
         ensures held { OnOk result (IsWellFormed (builder_tree self.now) × (suc (words_of (builder_tree self.now)) < 2 ^ 29)) }
-        ensures read { OnOk result (IsShallow (builder_tree self.now) → (rest : List ℕ) →
-            message_tree_of (message_of (builder_tree self.now) ++ rest) ≡ Ok (builder_tree self.now)) }
+        ensures read { OnOk result (IsReadAs (builder_tree self.now) (message_of (builder_tree self.now))) }
         ensures kinds { IfErr result (λ e. e.kind ≢ TooLarge → e.kind ≢ OutOfMemory → e.kind ≡ WriteFailed) }
         ensures refused { IfErr result (λ e. e.kind ≡ TooLarge → IsWellFormed (builder_tree self.now) → 2 ^ 29 ≤ suc (words_of (builder_tree self.now))) }
         ensures fits { IfErr result (λ e. e.kind ≢ TooLarge → IsWellFormed (builder_tree self.now) × (suc (words_of (builder_tree self.now)) < 2 ^ 29)) }

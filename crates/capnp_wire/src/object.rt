@@ -1,7 +1,7 @@
 //! The owned objects that a message in memory is made of.
 
 use crate::bits::BitRow;
-use crate::look::{Place, ROOT_LEVELS};
+use crate::pointer::{Pointer, ROOT_LEVELS};
 use crate::pointer_reader::PointerReader;
 use crate::size::{ElementSize, StructSize};
 use std::alloc::Global;
@@ -52,17 +52,17 @@ impl Object {
     ghost use Rattle.capnp_wire.specs.Standing.{levels_of, tree_of};
     ghost use Rattle.capnp_wire.specs.WellFormed.{IsWellFormed};
 
-    /// A reader of what stands at this pointer, with 64 levels.
+    /// A reader of what stands at this pointer, with 64 levels. What is built has to be well-formed (`laws::kept`).
     pub fn as_reader(&self) -> PointerReader<'_>
         requires { IsWellFormed (object_tree self.now) }
         ensures tree { tree_of result ≡ object_tree self.now }
         ensures levels { levels_of result ≡ 64 }
     {
-        PointerReader::new(Place::Object(self), ROOT_LEVELS)
+        PointerReader::new(Pointer::Object(self), ROOT_LEVELS)
     }
 
-    /// A reader of what stands at this pointer for as long as the builder would be there, with 64 levels. The pointer stays
-    /// as it is.
+    /// A reader of what stands at this pointer for as long as the builder would be there, with 64 levels. The pointer
+    /// stays as it is. What is built has to be well-formed (`laws::kept`).
     pub fn into_reader(&mut self) -> PointerReader<'_>
         requires { IsWellFormed (object_tree self.old) }
         ensures* ends { sem 𝓛 (EndsUnchanged self.entry) }

@@ -12,7 +12,7 @@ ghost use Rattle.capnp_wire.specs.Elements.{built_list, built_read};
 ghost use Rattle.capnp_wire.specs.Lends.{holds_list, LendsList, LendsOwnList, LendsOwnStruct, LendsStruct};
 ghost use Rattle.capnp_device.specs.declared.error.ErrorKind.TheVariants.{OutOfMemory, SizePastFormat};
 
-use crate::copy::{copy_found, copy_parts, copy_place};
+use crate::copy::{copy_found, copy_parts, copy_pointer};
 use crate::list_reader::ListReader;
 use crate::make::{make_list, make_struct, make_structs};
 use crate::object::{ListObject, Object, StructObject};
@@ -85,7 +85,7 @@ impl Object {
         }
     }
 
-    /// Makes the pointer null.
+    /// Makes the pointer null. What stood there is dropped; no memory is taken.
     pub fn clear(&mut self)
         ensures { object_tree self.new ≡ Null }
     {
@@ -93,7 +93,7 @@ impl Object {
         *self = Object::Null(alloc);
     }
 
-    /// The struct that stands here, as it is.
+    /// The struct that stands here, as it is. A struct has to stand there: `is_struct` says so.
     pub fn struct_here(&mut self) -> StructBuilder<'_>
         requires { IsTrue (is_struct (object_tree self.old)) }
         ensures* lends { sem 𝓛 (LendsOwnStruct self.entry result) }
@@ -107,7 +107,7 @@ impl Object {
         }
     }
 
-    /// The list that stands here, as it is.
+    /// The list that stands here, as it is. A list has to stand there: `is_list` says so.
     pub fn list_here(&mut self) -> ListBuilder<'_>
         requires { IsTrue (is_list (object_tree self.old)) }
         ensures* lends { sem 𝓛 (LendsOwnList self.entry result) }
@@ -201,6 +201,7 @@ impl Object {
     }
 
     /// The list that stands here, as one of elements of a size. A null is a list without elements, and stays null.
+    /// `size` must not be `InlineComposite`.
     ///
     /// Refused with `WrongPointerKind` for a struct, and with `WrongElementSize` for a list that is not read so; then
     /// nothing has changed. No memory is taken.
@@ -230,7 +231,8 @@ impl Object {
         Ok(self.struct_here())
     }
 
-    /// Replaces what stands here by a list of so many elements of a size, all zero, false or null.
+    /// Replaces what stands here by a list of so many elements of a size, all zero, false or null. `size` must not be
+    /// `InlineComposite`.
     ///
     /// Refused with `SizePastFormat` for 2^29 elements or more, and else with `OutOfMemory`; then nothing has changed.
     pub fn init_list(&mut self, size: ElementSize, count: u32) -> Result<ListBuilder<'_>>
@@ -259,11 +261,10 @@ impl Object {
         ensures refused { IfErr result (λ e. IsRoomRefusal e ((2 ^ 29 ≤ count) ⊎ (2 ^ 29 ≤ count * (size.data_words + size.pointers)))) }
         ensures free { size.data_words ≡ 0 → size.pointers ≡ 0 → count < 2 ^ 29 → IsOk result }
     {
-        let words = count as u64 * (size.data_words as u64 + size.pointers as u64);
         if count > MOST_ELEMENTS {
             return Err(Error::from(ErrorKind::SizePastFormat));
         }
-        if words >= 1 << 29 {
+        if size.is_past_format(count) {
             return Err(Error::from(ErrorKind::SizePastFormat));
         }
         let made = make_structs(self.allocator(), size, count)?;
@@ -319,7 +320,7 @@ impl Object {
         ensures refused { OnErr result (self.new ≡ self.old) }
         ensures cause { IfErr result (λ e. IsCopyRefusal e (first_fault (tree_of source.entry))) }
     {
-        let copied = copy_place(self.allocator(), source.place())?;
+        let copied = copy_pointer(self.allocator(), source.pointer())?;
         *self = copied;
         Ok(())
     }

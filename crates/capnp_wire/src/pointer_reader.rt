@@ -1,15 +1,16 @@
 //! Readers of pointers.
-ghost use Rattle.capnp_wire.specs.Found.{place_tree};
+ghost use Rattle.capnp_wire.specs.Found.{pointer_tree};
 ghost use Rattle.capnp_wire.specs.WellFormed.{IsWellFormed, IsWellFormed-prop};
 
 use crate::elements::{data_of, text_of};
 use crate::fault::refuse;
+use crate::found::Found;
 use crate::list_reader::ListReader;
-use crate::look::{Found, Place, ROOT_LEVELS, get_root_place, look};
+use crate::pointer::{Pointer, ROOT_LEVELS, get_root_pointer, look};
 use crate::segments::Segments;
 use crate::size::{ElementSize, MessageSize};
 use crate::struct_reader::StructReader;
-use crate::total::size_of_place;
+use crate::total::size_of_pointer;
 use capnp_device::error::{Error, ErrorKind, Result};
 use std::mem::size_of;
 
@@ -17,9 +18,9 @@ use std::mem::size_of;
 /// Every call answers for any message, takes no memory and leaves the reader as it was.
 #[derive(Clone, Copy)]
 pub struct PointerReader<'a> {
-    place: Place<'a>,
+    pointer: Pointer<'a>,
     levels: u8,
-    ghost well_formed: { IsWellFormed (place_tree place) } by { IsWellFormed-prop (place_tree place) },
+    ghost well_formed: { IsWellFormed (pointer_tree pointer) } by { IsWellFormed-prop (pointer_tree pointer) },
 }
 
 // A reader is copied at each step, so it is kept small.
@@ -28,7 +29,8 @@ const _: () = prove!(size_of::<PointerReader<'static>>() <= 56);
 impl<'a> PointerReader<'a> {
     ghost use Rattle.std.specs.Prelude.{[], ◌∷◌, ◌≡◌, ◌+◌, IfErr, IfOk};
     ghost use Rattle.capnp_wire.specs.Place.{root_tree};
-    ghost use Rattle.capnp_wire.specs.Reading.{as_data, as_list, as_struct, as_text, is_null_tree};
+    ghost use Rattle.capnp_wire.specs.Reading.{as_data, as_list, as_struct, as_text, is_list, is_null_tree};
+    ghost use Rattle.capnp_wire.specs.Edits.{is_struct};
     ghost use Rattle.capnp_wire.specs.Standing.{bytes_read, levels_of, list_levels, list_read, struct_levels, struct_read, tree_of};
     ghost use Rattle.capnp_wire.specs.Total.{IsSize, IsSizeRefusal};
     ghost use Rattle.capnp_wire.specs.Words.{first_fault, words_of};
@@ -36,20 +38,20 @@ impl<'a> PointerReader<'a> {
     /// A reader of a place.
     #[tactic(auto, unfolding(crate::specs::Standing::tree_of, crate::specs::Standing::levels_of))]
     #[inline(always)]
-    pub(crate) fn new(place: Place<'a>, levels: u8) -> PointerReader<'a>
-        requires { IsWellFormed (place_tree place) }
-        ensures tree { tree_of result ≡ place_tree place.entry }
+    pub(crate) fn new(pointer: Pointer<'a>, levels: u8) -> PointerReader<'a>
+        requires { IsWellFormed (pointer_tree pointer) }
+        ensures tree { tree_of result ≡ pointer_tree pointer.entry }
         ensures levels { levels_of result ≡ levels }
     {
-        PointerReader { place, levels }
+        PointerReader { pointer, levels }
     }
 
     /// Where the pointer stands.
     #[tactic(auto, unfolding(crate::specs::Standing::tree_of))]
-    pub(crate) fn place(&self) -> Place<'a>
-        ensures { place_tree result ≡ tree_of self.now }
+    pub(crate) fn pointer(&self) -> Pointer<'a>
+        ensures { pointer_tree result ≡ tree_of self.now }
     {
-        self.place
+        self.pointer
     }
 
     /// A reader of the root pointer of one segment that stands alone, without a table before it, as a default or an
@@ -63,7 +65,7 @@ impl<'a> PointerReader<'a> {
             bytes: words,
             is_stream: false,
         };
-        PointerReader::new(get_root_place(segments), ROOT_LEVELS)
+        PointerReader::new(get_root_pointer(segments), ROOT_LEVELS)
     }
 
     /// Whether the pointer is null. A pointer that can't be followed is not.
@@ -71,9 +73,33 @@ impl<'a> PointerReader<'a> {
     pub fn is_null(&self) -> bool
         ensures { result ≡ is_null_tree (tree_of self.now) }
     {
-        match look(self.place) {
+        match look(self.pointer) {
             Found::Null => true,
             _ => false,
+        }
+    }
+
+    /// Whether the pointer leads to a struct, whatever levels are left. A null does not.
+    #[tactic(auto, unfolding(crate::specs::Standing::tree_of))]
+    pub fn is_struct(&self) -> bool
+        ensures { result ≡ is_struct (tree_of self.now) }
+    {
+        match look(self.pointer) {
+            Found::Struct(_) => true,
+            _ => false,
+        }
+    }
+
+    /// Whether the pointer leads to a list, whatever levels are left. A null does not.
+    #[tactic(auto, unfolding(crate::specs::Standing::tree_of))]
+    pub fn is_list(&self) -> bool
+        ensures { result ≡ is_list (tree_of self.now) }
+    {
+        match look(self.pointer) {
+            Found::Null => false,
+            Found::Bad(_) => false,
+            Found::Struct(_) => false,
+            _ => true,
         }
     }
 
@@ -87,7 +113,7 @@ impl<'a> PointerReader<'a> {
         ensures read { struct_read result ≡ as_struct (tree_of self.now) (levels_of self.now) }
         ensures levels { IfOk result (λ s. struct_levels s + 1 ≡ levels_of self.now) }
     {
-        let found = look(self.place);
+        let found = look(self.pointer);
         if let Found::Bad(fault) = found {
             return Err(refuse(fault));
         }
@@ -117,7 +143,7 @@ impl<'a> PointerReader<'a> {
         ensures read { list_read result ≡ as_list size (tree_of self.now) (levels_of self.now) }
         ensures levels { IfOk result (λ l. list_levels l + 1 ≡ levels_of self.now) }
     {
-        let found = look(self.place);
+        let found = look(self.pointer);
         if let Found::Bad(fault) = found {
             return Err(refuse(fault));
         }
@@ -137,7 +163,7 @@ impl<'a> PointerReader<'a> {
     pub fn get_data(&self) -> Result<&'a [u8]>
         ensures { bytes_read result ≡ as_data (tree_of self.now) }
     {
-        data_of(look(self.place))
+        data_of(look(self.pointer))
     }
 
     /// The bytes of the text that the pointer leads to, without the zero that ends it; none for a null. They take no
@@ -150,7 +176,7 @@ impl<'a> PointerReader<'a> {
     pub fn get_text(&self) -> Result<&'a [u8]>
         ensures { bytes_read result ≡ as_text (tree_of self.now) }
     {
-        text_of(look(self.place))
+        text_of(look(self.pointer))
     }
 
     /// The size of all that the pointer leads to, without the pointer itself: 0 words for a null. A target that several
@@ -165,6 +191,6 @@ impl<'a> PointerReader<'a> {
         ensures size { IfOk result (λ size. IsSize size (first_fault (tree_of self.now)) (words_of (tree_of self.now))) }
         ensures refused { IfErr result (λ error. IsSizeRefusal error (first_fault (tree_of self.now)) (words_of (tree_of self.now))) }
     {
-        size_of_place(self.place)
+        size_of_pointer(self.pointer)
     }
 }

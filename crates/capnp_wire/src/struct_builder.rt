@@ -15,9 +15,10 @@ ghost use Rattle.capnp_wire.specs.Unchanged.{StructEndsUnchanged};
 
 use crate::bytes::{get_bit, set_bit};
 use crate::copy::copy_fitted;
-use crate::look::{ROOT_LEVELS, look_at_struct_object};
+use crate::look_objects::look_at_struct_object;
 use crate::make::make_nulls;
 use crate::object::{Object, StructObject};
+use crate::pointer::ROOT_LEVELS;
 use crate::pointer_builder::{PointerBuilder, StructBuilder};
 use crate::primitive::PrimitiveElement;
 use crate::size::{MessageSize, StructSize};
@@ -34,7 +35,7 @@ impl StructObject {
         self
     }
 
-    /// A reader of the struct, with 64 levels.
+    /// A reader of the struct, with 64 levels. What is built has to be well-formed (`laws::kept`).
     pub fn as_reader(&self) -> StructReader<'_>
         requires { IsWellFormedStruct (struct_object_tree self.now) }
         ensures parts { struct_of result ≡ struct_object_tree self.now }
@@ -43,17 +44,14 @@ impl StructObject {
         StructReader::new(look_at_struct_object(self), ROOT_LEVELS)
     }
 
-    /// How many words its data section has and how many pointers there are (encoding, "Structs").
+    /// How many words its data section has and how many pointers there are (encoding, "Structs"). What is built has to
+    /// be well-formed (`laws::kept`).
     pub fn get_size(&self) -> StructSize
         requires { IsWellFormedStruct (struct_object_tree self.now) }
         ensures data { result.data_words ≡ length (struct_object_tree self.now).bytes / 8 }
         ensures pointers { result.pointers ≡ tree_count (struct_object_tree self.now).pointers }
     {
-        let reader = self.as_reader();
-        StructSize {
-            data_words: (reader.get_data_section().len() / 8) as u16,
-            pointers: reader.get_pointer_count(),
-        }
+        self.as_reader().get_size()
     }
 
     /// Whether the struct has at least a size.
@@ -104,28 +102,30 @@ impl StructObject {
         T::read(self.data.as_slice(), offset)
     }
 
-    /// The number at `offset`, where it is stored XORed with its default `mask`.
+    /// The number at `offset`, in units of its own size, where it is stored XORed with its default `mask`; past the end
+    /// it is `mask`.
     pub fn get_data_field_mask<T: PrimitiveElement>(&self, offset: u32, mask: T) -> T
         ensures { result ≡ T.of_number (bit_xor (number_at T.width offset (struct_object_tree self.now).bytes) (T.to_number mask)) }
     {
         T::read_masked(self.data.as_slice(), offset, mask)
     }
 
-    /// The bit at `offset`, as it is stored; false past the end.
+    /// The bit at `offset`, counted from the lowest of the first byte, as it is stored; false past the end.
     pub fn get_bool_field(&self, offset: u32) -> bool
         ensures { result ≡ bit_at (struct_object_tree self.now).bytes offset }
     {
         get_bit(self.data.as_slice(), offset as usize)
     }
 
-    /// The bit at `offset`, where it is stored XORed with its default `mask`.
+    /// The bit at `offset`, counted from the lowest of the first byte, where it is stored XORed with its default
+    /// `mask`; past the end it is `mask`.
     pub fn get_bool_field_mask(&self, offset: u32, mask: bool) -> bool
         ensures { result ≡ masked_bit (bit_at (struct_object_tree self.now).bytes offset) mask }
     {
         self.get_bool_field(offset) != mask
     }
 
-    /// Stores a number at `offset`, in units of its own size.
+    /// Stores a number at `offset`, in units of its own size; it has to lie inside the data section.
     pub fn set_data_field<T: PrimitiveElement>(&mut self, offset: u32, value: T)
         requires { (offset + 1) * T.width ≤ length (struct_object_tree self.old).bytes }
         ensures { struct_object_tree self.new ≡
@@ -134,7 +134,8 @@ impl StructObject {
         T::write(self.data.as_mut_slice(), offset, value);
     }
 
-    /// Stores a number at `offset`, XORed with its default `mask`.
+    /// Stores a number at `offset`, in units of its own size, XORed with its default `mask`; it has to lie inside the
+    /// data section.
     pub fn set_data_field_mask<T: PrimitiveElement>(&mut self, offset: u32, value: T, mask: T)
         requires { (offset + 1) * T.width ≤ length (struct_object_tree self.old).bytes }
         ensures { struct_object_tree self.new ≡
@@ -144,7 +145,8 @@ impl StructObject {
         T::write_masked(self.data.as_mut_slice(), offset, value, mask);
     }
 
-    /// Stores a bit at `offset`.
+    /// Stores a bit at `offset`. `offset` is counted in bits from the lowest of the first byte; it has to lie inside
+    /// the data section.
     pub fn set_bool_field(&mut self, offset: u32, value: bool)
         requires { offset < 8 * length (struct_object_tree self.old).bytes }
         ensures { struct_object_tree self.new ≡ with_bytes (struct_object_tree self.old) (with_bit offset value (struct_object_tree self.old).bytes) }
@@ -152,7 +154,8 @@ impl StructObject {
         set_bit(self.data.as_mut_slice(), offset as usize, value);
     }
 
-    /// Stores a bit at `offset`, XORed with its default `mask`.
+    /// Stores a bit at `offset`, XORed with its default `mask`. `offset` is counted in bits from the lowest of the
+    /// first byte; it has to lie inside the data section.
     pub fn set_bool_field_mask(&mut self, offset: u32, value: bool, mask: bool)
         requires { offset < 8 * length (struct_object_tree self.old).bytes }
         ensures { struct_object_tree self.new ≡
@@ -193,6 +196,7 @@ impl StructObject {
     }
 
     /// A reader of the struct for as long as the builder would be there, with 64 levels. The struct stays as it is.
+    /// What is built has to be well-formed (`laws::kept`).
     pub fn into_reader(&mut self) -> StructReader<'_>
         requires { IsWellFormedStruct (struct_object_tree self.old) }
         ensures* ends { sem 𝓛 (StructEndsUnchanged self.entry) }
@@ -202,7 +206,8 @@ impl StructObject {
         StructReader::new(look_at_struct_object(self), ROOT_LEVELS)
     }
 
-    /// The pointer at `index`, to look at: whether it is null, a struct or a list, and a reader of it.
+    /// The pointer at `index`, to look at: whether it is null, a struct or a list, and a reader of it. `index` has to
+    /// be below the number of pointers.
     pub fn pointer_field(&self, index: u16) -> &Object
         requires { index < tree_count (struct_object_tree self.now).pointers }
         ensures { object_tree result.now ≡ nth_tree (struct_object_tree self.now).pointers index }
@@ -210,7 +215,7 @@ impl StructObject {
         &self.pointers[index as usize]
     }
 
-    /// The pointer at `index`.
+    /// The pointer at `index`. `index` has to be below the number of pointers.
     pub fn get_pointer_field(&mut self, index: u16) -> PointerBuilder<'_>
         requires { index < tree_count (struct_object_tree self.old).pointers }
         ensures* lends { sem 𝓛 (LendsPointer self.entry index result) }

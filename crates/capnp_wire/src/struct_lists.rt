@@ -8,11 +8,13 @@ ghost use Rattle.capnp_wire.specs.Reading.{element_struct, is_list, is_null_tree
 ghost use Rattle.capnp_wire.specs.WellFormed.{IsWellFormed};
 ghost use Rattle.capnp_wire.specs.Elements.{built_list, or_empty};
 ghost use Rattle.capnp_wire.specs.Edits.{IsCopyRefusal, extended};
-ghost use Rattle.capnp_wire.specs.StructLists.{HoldsStructs, IsDueRefusal, grown, has_size, holds_structs, is_bits, struct_list, struct_list_refusal};
+ghost use Rattle.capnp_wire.specs.StructLists.{HoldsStructs, IsDueRefusal, grown, holds_structs, struct_list, struct_list_refusal};
+ghost use Rattle.capnp_wire.specs.Kinds.{has_size, is_bits};
 ghost use Rattle.capnp_wire.specs.Lends.{LendsList, holds_list};
 
 use crate::copy::copy_struct;
-use crate::look::{Found, get_element_parts, look_at_list_object};
+use crate::found::{Found, get_element_parts};
+use crate::look_objects::look_at_list_object;
 use crate::make::make_empty_structs;
 use crate::object::{ListObject, Object, StructObject};
 use crate::pointer_builder::ListBuilder;
@@ -123,7 +125,7 @@ impl ListObject {
         }
         let count = self.len();
         let size = self.grow(size);
-        if count as u64 * (size.data_words as u64 + size.pointers as u64) >= 1 << 29 {
+        if size.is_past_format(count) {
             return Err(Error::from(ErrorKind::SizePastFormat));
         }
         if self.has_size(size) {
@@ -158,7 +160,8 @@ impl ListObject {
 
 impl Object {
     /// Whether a list of structs that have at least a size stands here. It is one of such structs as it stands:
-    /// `get_struct_list` lends it, changes nothing and is not refused.
+    /// `get_struct_list` lends it, changes nothing and is not refused. What is built has to be well-formed
+    /// (`laws::kept`).
     #[tactic(auto, using(crate::proofs::StructLists::holding_stays, crate::proofs::StructLists::holding_within))]
     #[inline(always)]
     pub fn holds_structs(&self, size: StructSize) -> bool
@@ -194,12 +197,13 @@ impl Object {
     }
 
     /// The list that stands here, as one of structs of at least a size. A null is a list without elements, and stays
-    /// null. A list of other elements becomes one of structs, and structs that are smaller are extended: each element then
-    /// has at least the size, with zeros and nulls after what it had, and has lost nothing.
+    /// null. A list of other elements becomes one of structs, and structs that are smaller are extended: each element
+    /// then has at least the size, with zeros and nulls after what it had, and has lost nothing. What stands here has
+    /// to be null or well-formed.
     ///
     /// Refused with `WrongPointerKind` for a struct, with `WrongElementSize` for a list of bits, with `SizePastFormat`
-    /// where the structs would take 2^29 words or more, and else with `OutOfMemory`; then nothing has changed. A null, and
-    /// a list of structs that have at least the size, take no memory and are never refused.
+    /// where the structs would take 2^29 words or more, and else with `OutOfMemory`; then nothing has changed. A null,
+    /// and a list of structs that have at least the size, take no memory and are never refused.
     #[inline(always)]
     pub fn get_struct_list(&mut self, size: StructSize) -> Result<ListBuilder<'_>>
         requires { is_null_tree (object_tree self.old) ≡ false → IsWellFormed (object_tree self.old) }

@@ -3,10 +3,11 @@ ghost use Rattle.capnp_wire.specs.Found.{parts_tree};
 ghost use Rattle.capnp_wire.specs.WellFormed.{IsWellFormedStruct, IsWellFormedStruct-prop};
 
 use crate::bytes::get_bit;
-use crate::look::{StructParts, count_pointers, empty_parts, get_pointer};
+use crate::found::{StructParts, empty_parts};
 use crate::pointer_reader::PointerReader;
+use crate::pointers::{count_pointers, get_pointer};
 use crate::primitive::PrimitiveElement;
-use crate::size::MessageSize;
+use crate::size::{MessageSize, StructSize};
 use crate::total::size_of_parts;
 use capnp_device::error::Result;
 use std::mem::size_of;
@@ -24,7 +25,7 @@ pub struct StructReader<'a> {
 const _: () = prove!(size_of::<StructReader<'static>>() <= 72);
 
 impl<'a> StructReader<'a> {
-    ghost use Rattle.std.specs.Prelude.{◌≡◌, bit_xor, IfErr, IfOk};
+    ghost use Rattle.std.specs.Prelude.{◌≡◌, ◌/◌, bit_xor, length, IfErr, IfOk};
     ghost use Rattle.capnp_wire.specs.Tree.{empty_struct, nth_tree, tree_count};
     ghost use Rattle.capnp_wire.specs.Slot.{bit_at, masked_bit, number_at};
     ghost use Rattle.capnp_wire.specs.Standing.{levels_of, struct_levels, struct_of, tree_of};
@@ -76,6 +77,19 @@ impl<'a> StructReader<'a> {
         count_pointers(self.parts.pointers) as u16
     }
 
+    /// How many words its data section has and how many pointers there are (encoding, "Structs"). An element of a list of
+    /// numbers below 8 bytes has no whole word.
+    #[tactic(auto, unfolding(crate::specs::Standing::struct_of))]
+    pub fn get_size(&self) -> StructSize
+        ensures data { result.data_words ≡ length (struct_of self.now).bytes / 8 }
+        ensures pointers { result.pointers ≡ tree_count (struct_of self.now).pointers }
+    {
+        StructSize {
+            data_words: (self.get_data_section().len() / 8) as u16,
+            pointers: self.get_pointer_count(),
+        }
+    }
+
     /// The number at `offset`, in units of its own size, as it is stored (encoding, "Structs").
     #[tactic(auto, unfolding(crate::specs::Standing::struct_of))]
     #[inline(always)]
@@ -94,7 +108,7 @@ impl<'a> StructReader<'a> {
         T::read_masked(self.parts.data, offset, mask)
     }
 
-    /// The bit at `offset`, as it is stored.
+    /// The bit at `offset`, counted from the lowest of the first byte, as it is stored; false past the end.
     #[tactic(auto, unfolding(crate::specs::Standing::struct_of))]
     #[inline(always)]
     pub fn get_bool_field(&self, offset: u32) -> bool
@@ -103,7 +117,8 @@ impl<'a> StructReader<'a> {
         get_bit(self.parts.data, offset as usize)
     }
 
-    /// The bit at `offset`, where it is stored XORed with its default `mask`.
+    /// The bit at `offset`, counted from the lowest of the first byte, where it is stored XORed with its default
+    /// `mask`; past the end it is `mask`.
     #[tactic(auto, unfolding(crate::specs::Standing::struct_of))]
     pub fn get_bool_field_mask(&self, offset: u32, mask: bool) -> bool
         ensures { result ≡ masked_bit (bit_at (struct_of self.now).bytes offset) mask }

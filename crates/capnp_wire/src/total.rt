@@ -4,14 +4,19 @@ ghost use Rattle.capnp_wire.specs.Locate.{NoTarget, target_at};
 ghost use Rattle.capnp_wire.specs.Place.{tree_below};
 ghost use Rattle.capnp_wire.specs.Backing.{segment_list};
 ghost use Rattle.capnp_wire.specs.Objects.{object_tree, object_trees, list_object_tree, struct_object_tree, struct_object_trees};
-ghost use Rattle.capnp_wire.specs.Found.{block_structs, parts_tree, place_tree, pointer_trees, row_trees};
+ghost use Rattle.capnp_wire.specs.Found.{block_structs, parts_tree, pointer_tree, pointer_trees, row_trees};
 ghost use Rattle.capnp_wire.specs.Words.{first_fault, first_fault_of_all, first_fault_of_elements, words_below_all, words_of, words_of_all, words_of_struct};
 ghost use Rattle.capnp_wire.specs.Total.{IsSize, IsSizeRefusal, Totals, TotalsBelow, TotalsOfAll, size_of_total, size_read};
 
+use crate::block::Elements;
 use crate::bytes::get_word;
 use crate::fault::{Fault, refuse};
-use crate::look::{Elements, Found, Place, Pointers, StructParts, look_at_word};
+use crate::found::{Found, StructParts};
+use crate::look::look_at_word;
+use crate::measure::get_composite_words;
 use crate::object::{ListObject, Object, StructObject};
+use crate::pointer::Pointer;
+use crate::pointers::Pointers;
 use crate::row::{Block, PointerRow};
 use crate::segments::Segments;
 use crate::size::{MessageSize, StructSize};
@@ -98,7 +103,7 @@ fn total_target(segments: Segments<'_>, segment: &[u8], index: usize, depth: u8)
                 block,
             },
         ) => {
-            let own = count as u64 * (size.data_words as u64 + size.pointers as u64) + 1;
+            let own = get_composite_words(size, count);
             add(own, total_block(size, depth, is_stream, count, block)?)
         }
         _ => unreachable!(),
@@ -143,8 +148,7 @@ fn total_block(size: StructSize, depth: u8, is_stream: bool, count: u32, block: 
 fn total_own_words(size: StructSize, count: usize) -> Total
     ensures { Totals result None (count * (size.data_words + size.pointers) + 1) }
 {
-    let element = size.data_words as u64 + size.pointers as u64;
-    match (count as u64).checked_mul(element) {
+    match (count as u64).checked_mul(size.total() as u64) {
         Some(words) => add(words, 1),
         None => Err(Stop::TooLarge),
     }
@@ -249,21 +253,23 @@ fn make_size(total: Total) -> Result<MessageSize>
 }
 
 /// The size of what stands at a place.
-pub fn size_of_place(place: Place<'_>) -> Result<MessageSize>
-    ensures size { IfOk result (λ size. IsSize size (first_fault (place_tree place.entry)) (words_of (place_tree place.entry))) }
-    ensures refused { IfErr result (λ error. IsSizeRefusal error (first_fault (place_tree place.entry)) (words_of (place_tree place.entry))) }
+///
+/// Refused as `total_size`.
+pub fn size_of_pointer(pointer: Pointer<'_>) -> Result<MessageSize>
+    ensures size { IfOk result (λ size. IsSize size (first_fault (pointer_tree pointer.entry)) (words_of (pointer_tree pointer.entry))) }
+    ensures refused { IfErr result (λ error. IsSizeRefusal error (first_fault (pointer_tree pointer.entry)) (words_of (pointer_tree pointer.entry))) }
 {
-    let total = match place {
-        Place::Null => Ok(0),
-        Place::Bad(fault) => Err(Stop::Fault(fault)),
-        Place::Word {
+    let total = match pointer {
+        Pointer::Null => Ok(0),
+        Pointer::Bad(fault) => Err(Stop::Fault(fault)),
+        Pointer::Word {
             depth,
             is_stream,
             bytes,
             segment,
             index,
         } => total_word(Segments { bytes, is_stream }, segment, index, depth),
-        Place::Object(object) => total_object(object),
+        Pointer::Object(object) => total_object(object),
     };
     make_size(total)
 }
@@ -281,6 +287,8 @@ fn total_parts(parts: StructParts<'_>) -> Total
 }
 
 /// The size of a struct, whose data is rounded up to whole words.
+///
+/// Refused as `total_size`.
 pub fn size_of_parts(parts: StructParts<'_>) -> Result<MessageSize>
     ensures size { IfOk result (λ size. IsSize size (first_fault_of_all (parts_tree parts.entry).pointers) (words_of_struct (parts_tree parts.entry))) }
     ensures refused { IfErr result

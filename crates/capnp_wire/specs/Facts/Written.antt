@@ -7,7 +7,8 @@ use Rattle.capnp_wire.specs.Tree.{Tree, StructTree, MoreTrees, MoreStructs, nth_
 use Rattle.capnp_wire.specs.Objects.{list_object_tree, object_tree, object_trees, struct_object_tree, struct_object_trees}
 use Rattle.capnp_wire.specs.Reading.{element_struct}
 use Rattle.capnp_wire.specs.Edits.{with_bytes, with_number, with_pointer_tree, with_tree}
-use Rattle.capnp_wire.specs.Elements.{HasNumber, is_composite, with_number_element, with_pointer_element, with_struct, with_struct_element}
+use Rattle.capnp_wire.specs.Kinds.{is_composite}
+use Rattle.capnp_wire.specs.Elements.{HasNumber, with_number_element, with_pointer_element, with_struct, with_struct_element}
 use Rattle.capnp_wire.specs.Lends.{Layer, with_element, with_element_at, with_first_pointer, with_object, with_object_at, with_pointer}
 use Rattle.capnp_wire.specs.declared.object.Object.{Object}
 use Rattle.capnp_wire.specs.declared.object.StructObject.{StructObject}

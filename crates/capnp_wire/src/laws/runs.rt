@@ -22,7 +22,7 @@ pub fn one_segment_is_of_bytes()
     ensures { OneSegmentIsOfBytes }
 {}
 
-/// A number is spelled in as many bytes as are asked for, and these are that number where it has room in them.
+/// A number is encoded by as many bytes as are asked for, and these are that number where it has room in them.
 pub fn numbers_are_spelled()
     ensures { NumbersAreSpelled }
 {}

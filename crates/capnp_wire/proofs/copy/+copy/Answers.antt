@@ -1,18 +1,18 @@
 use Rattle.std.proofs.Common.{rules, arith, ◌≡◌, ◌≤◌, ◌<◌, ap, ◌∙◌}
 use Rattle.std.proofs.lemmas.Result.{err_from_is_err_and}
 use Rattle.capnp_wire.specs.Tree.{StructTree, nth_struct, nth_tree, struct_count, tree_count}
-use Rattle.capnp_wire.specs.Found.{element_structs, parts_tree, place_tree, pointer_trees}
+use Rattle.capnp_wire.specs.Found.{element_structs, parts_tree, pointer_tree, pointer_trees}
 use Rattle.capnp_wire.specs.Words.{first_fault_of_elements}
 use Rattle.capnp_wire.specs.Facts.EmptyStructs.{first_fault-empty_structs}
 use Rattle.capnp_wire.proofs.TreeSizes.{nth_struct-smaller, nth_tree-smaller, tree_size, trees_size}
 use Rattle.capnp_wire.proofs.Copies.{all_copied, all_sound, one_refused, one_copied, all_elements_copied, all_elements_sound, element_refused, element_copied}
 use Rattle.capnp_wire.proofs.copy.+copy.Goals as goal
 
-pub copy_pointers-copy_place-requires : goal.copy_pointers-copy_place-requires
-copy_pointers-copy_place-requires t c =
+pub copy_pointers-copy_pointer-requires : goal.copy_pointers-copy_pointer-requires
+copy_pointers-copy_pointer-requires t c =
     let here : c.loop-i.i < tree_count (pointer_trees c.args.pointers) = omega arith in
     let below = nth_tree-smaller c.loop-i.i (pointer_trees c.args.pointers) here in
-    let at : tree_size (place_tree c.get_pointer.result) ≡ tree_size (nth_tree (pointer_trees c.args.pointers) c.loop-i.i) = ap tree_size c.get_pointer.ensures in
+    let at : tree_size (pointer_tree c.get_pointer.result) ≡ tree_size (nth_tree (pointer_trees c.args.pointers) c.loop-i.i) = ap tree_size c.get_pointer.ensures in
     search (rules, arith, below, at)
 
 pub copy_pointers-returns-in_err-object-clause-refused :

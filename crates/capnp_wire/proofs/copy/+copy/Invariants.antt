@@ -1,11 +1,11 @@
 use Rattle.std.proofs.Common.{◌+◌, ◌*◌}
-use Rattle.capnp_wire.specs.Found.{element_structs, found_tree, place_tree, pointer_trees}
+use Rattle.capnp_wire.specs.Found.{element_structs, found_tree, pointer_tree, pointer_trees}
 use Rattle.capnp_wire.proofs.TreeSizes.{tree_size, trees_size, structs_size}
 use Rattle.capnp_wire.proofs.Copies.{AreCopied, ElementsAreCopied}
 use Rattle.capnp_wire.proofs.copy.+copy.Given as goal
 
-abbrev pub decreases-copy_place : goal.decreases-copy_place
-decreases-copy_place l = 5 * tree_size (place_tree l.place) + 4
+abbrev pub decreases-copy_pointer : goal.decreases-copy_pointer
+decreases-copy_pointer l = 5 * tree_size (pointer_tree l.pointer) + 4
 
 abbrev pub decreases-copy_found : goal.decreases-copy_found
 decreases-copy_found l = 5 * tree_size (found_tree l.found) + 3

@@ -1,5 +1,6 @@
 use Rattle.std.proofs.Common.{rules, arith, ◌≡◌, ◌-◌, ◌+◌, ◌*◌, ◌<◌, ◌^◌, ◌++◌, length, sym, ap, ◌∙◌, subst}
 use Rattle.std.proofs.lemmas.List.{append-nil}
+use Rattle.std.specs.Prelude.{IfOk}
 use Rattle.capnp_wire.specs.Tree.{Tree, StructTree, Bits}
 use Rattle.capnp_wire.specs.Place.{bits_from}
 use Rattle.capnp_wire.specs.Locate.{list_words}
@@ -7,7 +8,7 @@ use Rattle.capnp_wire.specs.Objects.{object_tree, object_trees, list_object_tree
 use Rattle.capnp_wire.specs.Encoding.{pointer_word, packed, bytes_of}
 use Rattle.capnp_wire.specs.Filling.{put, words_from, with_pointers}
 use Rattle.capnp_wire.proofs.Lists.{length-bits_from, tree_count-of, struct_count-of}
-use Rattle.capnp_wire.proofs.ObjectTrees.{tree-bits, tree-empty_structs, tree-struct}
+use Rattle.capnp_wire.proofs.ObjectTrees.{tree-bits, tree-composite, tree-empty_structs, tree-pointers, tree-struct}
 use Rattle.capnp_wire.proofs.Measuring.{empty_structs_held, objects-next, structs-next}
 use Rattle.capnp_wire.proofs.Filling.{pointer_filled, element_put, element_filled, row_room, row_last, elements_room, composite_last}
 use Rattle.capnp_wire.proofs.encode.+append.Goals as goal
@@ -88,3 +89,46 @@ pub append_list-returns-in_ok-append_empty_structs-in-EmptyStructs :
 append_list-returns-in_ok-append_empty_structs-in-EmptyStructs t c =
     c.in_ok-append_empty_structs-in-EmptyStructs.ensures
     ∙ ap (λ x. c.args.out.now.items ++ bytes_of x) (sym (ap list_object_tree c.in-EmptyStructs.is ∙ tree-empty_structs c.in-EmptyStructs.count _))
+
+pub fill_pointers-overflow_sub-gap-in-loop-object : goal.fill_pointers-overflow_sub-gap-in-loop-object
+fill_pointers-overflow_sub-gap-in-loop-object t c =
+    let room = rw (objects-next _ _ _ c.loop-object-test.true c.object-item.is) at c.loop-object.invariant.room in
+    omega (arith, room.1, c.len.ensures)
+
+pub fill_pointers-overflow_sub-gap : goal.fill_pointers-overflow_sub-gap
+fill_pointers-overflow_sub-gap t c =
+    let room = rw (objects-next _ _ _ c.loop-object-test.true c.object-item.is) at c.loop-object.invariant.room in
+    omega (arith, room.1, c.len.ensures)
+
+pub fill_pointers-put_word-requires : goal.fill_pointers-put_word-requires
+fill_pointers-put_word-requires t c =
+    let room = rw (objects-next _ _ _ c.loop-object-test.true c.object-item.is) at c.loop-object.invariant.room in
+    omega (arith, room.1)
+
+pub fill_pointers-get_pointer-requires-clause-held : goal.fill_pointers-get_pointer-requires-clause-held
+fill_pointers-get_pointer-requires-clause-held t c =
+    let room = rw (objects-next _ _ _ c.loop-object-test.true c.object-item.is) at c.loop-object.invariant.room in
+    room.0.0
+
+pub fill_pointers-get_pointer-requires-clause-near : goal.fill_pointers-get_pointer-requires-clause-near
+fill_pointers-get_pointer-requires-clause-near t c =
+    let room = rw (objects-next _ _ _ c.loop-object-test.true c.object-item.is) at c.loop-object.invariant.room in
+    omega (arith, room.1, room.2, c.len.ensures)
+
+pub fill_element-put_bytes-requires : goal.fill_element-put_bytes-requires
+fill_element-put_bytes-requires t c =
+    let e = tree-struct c.args.element.now in
+    let d : length c.as_slice-data.result.now ≡ length (struct_object_tree c.args.element.now).bytes = ap length (c.as_slice-data.ensures.value ∙ sym (ap (λ (x : StructTree). x.bytes) e)) in
+    omega (arith, d, c.requires.1)
+
+pub append_list-returns-in-Pointers : goal.append_list-returns-in-Pointers
+append_list-returns-in-Pointers t c =
+    let e = ap list_object_tree c.in-Pointers.is ∙ tree-pointers c.in-Pointers.pointers in
+    let h = rw c.as_slice-in-Pointers.ensures.value at c.append_pointers.ensures in
+    subst (λ (x : Tree). IfOk c.append_pointers.result (λ _. c.append_pointers.new.out.items ≡ c.args.out.now.items ++ bytes_of x)) (sym e) h
+
+pub append_list-returns-in-Composite : goal.append_list-returns-in-Composite
+append_list-returns-in-Composite t c =
+    let e = ap list_object_tree c.in-Composite.is ∙ tree-composite c.in-Composite.size c.in-Composite.elements in
+    let h = rw c.as_slice-in-Composite.ensures.value at c.append_composite.ensures in
+    subst (λ (x : Tree). IfOk c.append_composite.result (λ _. c.append_composite.new.out.items ≡ c.args.out.now.items ++ bytes_of x)) (sym e) h

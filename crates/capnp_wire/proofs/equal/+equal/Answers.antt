@@ -3,8 +3,8 @@ use Rattle.capnp_wire.specs.Found.{element_structs, pointer_trees}
 use Rattle.capnp_wire.proofs.SameTrees.{height, heights, nth_element_height, nth_height, same_counts, same_structs, same_trees}
 use Rattle.capnp_wire.proofs.equal.+equal.Goals as goal
 
-pub are_pointers_same-are_places_same-requires : goal.are_pointers_same-are_places_same-requires
-are_pointers_same-are_places_same-requires t c =
+pub are_pointers_same-is_pointer_same-requires : goal.are_pointers_same-is_pointer_same-requires
+are_pointers_same-is_pointer_same-requires t c =
     let low = nth_height (pointer_trees c.args.one) c.loop-i.i in
     let at = ap height c.get_pointer.ensures in
     (omega (arith, low, at, c.decreases), tt)

@@ -1,10 +1,10 @@
 use Rattle.std.proofs.Common.{◌+◌, ◌*◌}
-use Rattle.capnp_wire.specs.Found.{element_structs, found_tree, parts_tree, place_tree, pointer_trees}
+use Rattle.capnp_wire.specs.Found.{element_structs, found_tree, parts_tree, pointer_tree, pointer_trees}
 use Rattle.capnp_wire.proofs.SameTrees.{SameStructs, SameTrees, element_heights, height, heights}
 use Rattle.capnp_wire.proofs.equal.+equal.Given as goal
 
-abbrev pub decreases-are_places_same : goal.decreases-are_places_same
-decreases-are_places_same l = 8 * height (place_tree l.one) + 1
+abbrev pub decreases-is_pointer_same : goal.decreases-is_pointer_same
+decreases-is_pointer_same l = 8 * height (pointer_tree l.one) + 1
 
 abbrev pub decreases-is_found : goal.decreases-is_found
 decreases-is_found l = 8 * height (found_tree l.one)

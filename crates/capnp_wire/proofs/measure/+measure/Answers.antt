@@ -1,9 +1,11 @@
-use Rattle.std.proofs.Common.{arith, ap, ◌∙◌}
+use Rattle.std.proofs.Common.{arith, ap, subst, sym, ◌∙◌}
 use Rattle.capnp_wire.specs.Objects.{object_tree}
+use Rattle.capnp_wire.specs.WellFormed.{AreElements, AreWellFormed}
+use Rattle.capnp_wire.specs.Words.{words_below_all, words_of_all}
 use Rattle.capnp_wire.proofs.Lists.{length-bits_from, tree_count-of, struct_count-of}
 use Rattle.capnp_wire.proofs.ObjectTrees.{tree-bits, tree-empty_structs, tree-pointers, tree-composite, tree-struct}
 use Rattle.capnp_wire.specs.Objects.{list_object_tree, struct_object_tree}
-use Rattle.capnp_wire.proofs.Measuring.{empty_structs_held, measured_empty_structs, measured_struct, struct_held, measured_element, element_held, measured_bits, bits_held, measured_pointers, pointers_held, measured_composite, composite_held}
+use Rattle.capnp_wire.proofs.Measuring.{empty_structs_held, measured_empty_structs, measured_struct, struct_held, measured_element, element_held, measured_bits, bits_held, measured_pointers, pointers_held, measured_composite, composite_held, objects-next, structs-next}
 use Rattle.capnp_wire.proofs.measure.+measure.Goals as goal
 
 pub measure_element-returns-then-len-size : goal.measure_element-returns-then-len-size
@@ -65,3 +67,29 @@ pub measure_list-returns-else-count-5 : goal.measure_list-returns-else-count-5
 measure_list-returns-else-count-5 t c = λ h.
     let n = empty_structs_held _ _ (ap list_object_tree c.in-EmptyStructs.is ∙ tree-empty_structs c.in-EmptyStructs.count _) h in
     absurd (omega (arith, n, c.if-count-5.false))
+
+pub measure_objects-loop-object-preserved : goal.measure_objects-loop-object-preserved
+measure_objects-loop-object-preserved t c =
+    let r = objects-next _ _ _ c.loop-object-test.true c.object-item.is in
+    let so_far = c.loop-object.invariant in
+    let item = c.in_ok-words.ensures in
+    let sum = c.in_ok-sum.ensures in
+    record {
+      left = omega (arith, ap words_of_all r, so_far.left, item.1, sum.1);
+      small = sum.2;
+      up = λ h. so_far.up (subst AreWellFormed (sym r) (item.0, h));
+      down = λ h. (subst AreWellFormed r (so_far.down h)).1;
+    }
+
+pub measure_elements-loop-element-preserved : goal.measure_elements-loop-element-preserved
+measure_elements-loop-element-preserved t c =
+    let r = structs-next _ _ _ c.loop-element-test.true c.element-item.is in
+    let so_far = c.loop-element.invariant in
+    let item = c.in_ok-words.ensures in
+    let sum = c.in_ok-sum.ensures in
+    record {
+      left = omega (arith, ap words_below_all r, so_far.left, item.1, sum.1);
+      small = sum.2;
+      up = λ h. so_far.up (subst (AreElements c.args.size.data_words c.args.size.pointers) (sym r) (item.0.0, item.0.1, item.0.2, item.0.3, h));
+      down = λ h. (subst (AreElements c.args.size.data_words c.args.size.pointers) r (so_far.down h)).4;
+    }

@@ -3,8 +3,8 @@ use Rattle.std.proofs.lemmas.Result.{err_from_is_err_and}
 use Rattle.capnp_wire.specs.Tree.{Bits}
 use Rattle.capnp_wire.specs.Place.{tree_below, bits_from}
 use Rattle.capnp_wire.specs.Backing.{segment_list}
-use Rattle.capnp_wire.specs.Found.{ArePointersBelow, AreElementsBelow, pointer_trees, row_trees}
-use Rattle.capnp_wire.specs.Words.{first_fault, first_fault_of_all, words_of, words_of_all}
+use Rattle.capnp_wire.specs.Found.{ArePointersBelow, AreElementsBelow, block_structs, pointer_trees, row_trees}
+use Rattle.capnp_wire.specs.Words.{first_fault, first_fault_of_all, first_fault_of_elements, words_of, words_of_all}
 use Rattle.capnp_wire.proofs.Lists.{length-bits_from, tree_count-from, struct_count-from, nth_tree-from, nth_struct-start}
 use Rattle.capnp_wire.proofs.NullWords.{null_below}
 use Rattle.capnp_wire.proofs.NoPointers.{no_faults_below, no_words_below}
@@ -80,19 +80,19 @@ pub total_target-returns-in_ok-total_row-in-Pointers-Words :
     goal.total_target-returns-in_ok-total_row-in-Pointers-Words
 total_target-returns-in_ok-total_row-in-Pointers-Words t c =
     let h = c.in_ok-total_row-in-Pointers-Words.ensures in
-    rw (← c.in-Pointers-Words.ensures.value, c.in-Pointers-Words.field-0-is) (totals_at _ _ _ _ h.0 (rw tree_count-from (omega (arith, h.1))) c.add-in-Pointers-Words.ensures)
+    rw (← c.in-Pointers-Words.ensures.value, c.in-Pointers-Words.field-0-is) (totals_at _ (first_fault_of_all (row_trees c.in-Pointers-Words.depth c.in-Pointers-Words.is_stream c.in-Pointers-Words.count c.in-Pointers-Words.row)) _ _ h.0 (rw tree_count-from (omega (arith, h.1))) c.add-in-Pointers-Words.ensures)
 
 pub total_target-returns-in_ok-total_block-in-Composite-default-Words :
     goal.total_target-returns-in_ok-total_block-in-Composite-default-Words
 total_target-returns-in_ok-total_block-in-Composite-default-Words t c =
     let h = c.in_ok-total_block-in-Composite-default-Words.ensures in
-    rw (← c.in-Composite-default-Words.ensures.value, c.in-Composite-default-Words.field-1-is) (totals_at _ _ _ _ h.0 (rw struct_count-from (omega (arith, h.1))) c.add-in-Composite-default-Words.ensures)
+    rw (← c.in-Composite-default-Words.ensures.value, c.in-Composite-default-Words.field-1-is) (totals_at _ (first_fault_of_elements (block_structs c.in-Composite-default-Words.size.data_words c.in-Composite-default-Words.size.pointers c.in-Composite-default-Words.depth c.in-Composite-default-Words.is_stream c.in-Composite-default-Words.count c.in-Composite-default-Words.block)) _ _ h.0 (rw struct_count-from (omega (arith, h.1))) c.add-in-Composite-default-Words.ensures)
 
 pub total_target-returns-in_ok-total_row-in-Struct : goal.total_target-returns-in_ok-total_row-in-Struct
 total_target-returns-in_ok-total_row-in-Struct t c =
     let h = c.in_ok-total_row-in-Struct.ensures in
     let e : pointer_trees c.in-Struct.parts.pointers ≡ row_trees c.in-Words.depth c.in-Words.is_stream c.in-Words.count c.in-Words.row = ap pointer_trees c.in-Words.is in
-    rw (← c.in-Struct.ensures.value, e) (totals_at _ _ _ _ h.0 (rw tree_count-from (omega (arith, h.1))) c.add.ensures)
+    rw (← c.in-Struct.ensures.value, e) (totals_at _ (first_fault_of_all (row_trees c.in-Words.depth c.in-Words.is_stream c.in-Words.count c.in-Words.row)) _ _ h.0 (rw tree_count-from (omega (arith, h.1))) c.add.ensures)
 
 pub total_word-returns-then-is_null_word : goal.total_word-returns-then-is_null_word
 total_word-returns-then-is_null_word t c =

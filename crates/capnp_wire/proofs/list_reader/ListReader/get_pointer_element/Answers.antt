@@ -13,4 +13,4 @@ pub new-requires-then-self-gt0 : goal.new-requires-then-self-gt0
 new-requires-then-self-gt0 c =
     let list = rw c.in-Composite.is at c.args.self.now.well_formed in
     let element : IsWellFormedStruct (parts_tree c.get_element.result) = subst IsWellFormedStruct (sym c.get_element.ensures) (IsWellFormedStruct-nth_struct _ _ (element_structs c.in-Composite.size.data_words c.in-Composite.size.pointers c.in-Composite.elements) c.args.index list.4 list.0 list.1) in
-    rw c.get_pointer-place.ensures (IsWellFormed-nth_tree (pointer_trees c.get_element.result.pointers) 0 element.3)
+    rw c.get_pointer-pointer.ensures (IsWellFormed-nth_tree (pointer_trees c.get_element.result.pointers) 0 element.3)

@@ -4,19 +4,20 @@ use Rattle.capnp_wire.specs.Tree.{Composite, empty_structs, structs_from}
 use Rattle.capnp_wire.specs.Objects.{list_object_tree}
 use Rattle.capnp_wire.specs.Reading.{element_struct, list_length}
 use Rattle.capnp_wire.specs.Edits.{extended}
-use Rattle.capnp_wire.specs.StructLists.{as_structs, grown, has_size, is_bits, struct_list_refusal}
+use Rattle.capnp_wire.specs.StructLists.{as_structs, grown, struct_list_refusal}
+use Rattle.capnp_wire.specs.Kinds.{has_size, is_bits}
 use Rattle.capnp_device.specs.declared.error.ErrorKind.TheVariants.{SizePastFormat}
 use Rattle.capnp_wire.proofs.ObjectTrees.{tree-composite}
 use Rattle.capnp_wire.proofs.StructLists.{due_refused, empty_list_made, outside_format, refusal_is, same_list, struct_list_is}
 use Rattle.capnp_wire.proofs.object.ListObject.make_structs.Goals as goal
 
-pub returns-then-count-size-clause-cause : goal.returns-then-count-size-clause-cause
-returns-then-count-size-clause-cause c =
+pub returns-then-is_past_format-clause-cause : goal.returns-then-is_past_format-clause-cause
+returns-then-is_past_format-clause-cause c =
     let list = list_object_tree c.args.self.now in
     let no_bits : is_bits list ≡ false = sym c.is_bits.ensures ∙ c.if-is_bits.false in
-    let past : 2 ^ 29 ≤ list_length list * ((grown c.args.size list).data_words + (grown c.args.size list).pointers) = rw (c.len-count.ensures.length, c.grow-size.ensures) at c.if-count-size.true in
+    let past : 2 ^ 29 ≤ list_length list * ((grown c.args.size list).data_words + (grown c.args.size list).pointers) = rw (c.len-count.ensures.length, c.grow-size.ensures) at (c.is_past_format.ensures.0 c.if-is_past_format.true) in
     let due : struct_list_refusal c.args.size list ≡ Some SizePastFormat = refusal_is c.args.size list c.requires.there no_bits ∙ outside_format (list_length list) (grown c.args.size list) past in
-    due_refused c.from-then-count-size.result _ SizePastFormat due c.from-then-count-size.ensures
+    due_refused c.from-then-is_past_format.result _ SizePastFormat due c.from-then-is_past_format.ensures
 
 pub returns-then-has_size-clause-ok : goal.returns-then-has_size-clause-ok
 returns-then-has_size-clause-ok c =

@@ -1,7 +1,7 @@
 use Rattle.std.proofs.Common.{sym, ap, ◌∙◌}
 use Rattle.capnp_wire.specs.Objects.{object_tree}
 use Rattle.capnp_wire.proofs.Lists.{nth_tree-from, nth_tree-past, nth_tree-of, nth_tree-of_past}
-use Rattle.capnp_wire.proofs.look.get_pointer.Goals as goal
+use Rattle.capnp_wire.proofs.pointers.get_pointer.Goals as goal
 
 pub returns-then-index-count : goal.returns-then-index-count
 returns-then-index-count c = rw c.in-Words.is (sym (nth_tree-past _ _ _ _ c.if-index-count.true))

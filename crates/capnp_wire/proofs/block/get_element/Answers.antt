@@ -1,7 +1,7 @@
 use Rattle.std.proofs.Common.{sym, ap, ◌∙◌}
 use Rattle.capnp_wire.specs.Objects.{struct_object_tree}
 use Rattle.capnp_wire.proofs.Lists.{nth_struct-start, nth_struct-past, nth_struct-of, nth_struct-of_past}
-use Rattle.capnp_wire.proofs.look.get_element.Goals as goal
+use Rattle.capnp_wire.proofs.block.get_element.Goals as goal
 
 pub returns-then-index-count : goal.returns-then-index-count
 returns-then-index-count c = rw c.in-Words.is (c.empty_parts.ensures ∙ sym (nth_struct-past _ _ _ _ c.if-index-count.true))

@@ -3,7 +3,7 @@ use Rattle.capnp_wire.specs.Objects.{object_tree, object_trees}
 use Rattle.capnp_wire.specs.Backing.{segments_in}
 use Rattle.capnp_wire.proofs.Levels.{alone_capped}
 use Rattle.capnp_wire.proofs.Lists.{only_tree-from, only_tree-past, only_tree-of, only_tree-of_past}
-use Rattle.capnp_wire.proofs.look.get_only_pointer.Goals as goal
+use Rattle.capnp_wire.proofs.pointers.get_only_pointer.Goals as goal
 
 pub returns-then-index-count : goal.returns-then-index-count
 returns-then-index-count c = rw c.in-Words.is (sym (only_tree-past _ _ _ _ c.if-index-count.true))

@@ -1,7 +1,7 @@
 use Rattle.std.proofs.Common.{sym}
 use Rattle.capnp_wire.specs.Objects.{struct_object_tree}
 use Rattle.capnp_wire.proofs.Lists.{struct_count-from, struct_count-of}
-use Rattle.capnp_wire.proofs.look.count_elements.Goals as goal
+use Rattle.capnp_wire.proofs.block.count_elements.Goals as goal
 
 pub returns-in-Words : goal.returns-in-Words
 returns-in-Words c = rw c.in-Words.is (sym (struct_count-from _ _ _))

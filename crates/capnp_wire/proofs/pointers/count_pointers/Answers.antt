@@ -1,7 +1,7 @@
 use Rattle.std.proofs.Common.{sym}
 use Rattle.capnp_wire.specs.Objects.{object_tree}
 use Rattle.capnp_wire.proofs.Lists.{tree_count-from, tree_count-of}
-use Rattle.capnp_wire.proofs.look.count_pointers.Goals as goal
+use Rattle.capnp_wire.proofs.pointers.count_pointers.Goals as goal
 
 pub returns-in-Words : goal.returns-in-Words
 returns-in-Words c = rw c.in-Words.is (sym (tree_count-from _ _ _))

@@ -1,0 +1,67 @@
+//! Where one pointer stands, and what it stands for.
+ghost use Rattle.std.specs.Prelude.{◌≡◌};
+ghost use Rattle.capnp_wire.specs.Place.{root_tree};
+ghost use Rattle.capnp_wire.specs.Backing.{segment_list};
+ghost use Rattle.capnp_wire.specs.Found.{found_tree, pointer_tree};
+
+use crate::fault::Fault;
+use crate::found::Found;
+use crate::look::look_at_word;
+use crate::look_objects::look_at_object;
+use crate::object::Object;
+use crate::segments::{Segments, get_first_segment};
+
+// A reader is copied by each step of a read. So the parts of `Segments` stand one by one below, and the small ones first,
+// where they take no room beside the number of the variant.
+
+/// Where a pointer stands.
+#[derive(Clone, Copy)]
+pub enum Pointer<'a> {
+    Null,
+    Bad(Fault),
+    /// A word of a segment, whose tree has one level less than `depth`.
+    Word {
+        depth: u8,
+        is_stream: bool,
+        bytes: &'a [u8],
+        segment: &'a [u8],
+        index: usize,
+    },
+    Object(&'a Object),
+}
+
+/// What stands at a place.
+#[inline(always)]
+pub fn look(pointer: Pointer<'_>) -> Found<'_>
+    ensures { found_tree result ≡ pointer_tree pointer.entry }
+{
+    match pointer {
+        Pointer::Null => Found::Null,
+        Pointer::Bad(fault) => Found::Bad(fault),
+        Pointer::Word {
+            depth,
+            is_stream,
+            bytes,
+            segment,
+            index,
+        } => look_at_word(Segments { bytes, is_stream }, segment, index, depth),
+        Pointer::Object(object) => look_at_object(object),
+    }
+}
+
+/// The levels of a message's root pointer.
+pub const ROOT_LEVELS: u8 = 64;
+
+/// The place of a message's root pointer: the first word of its first segment.
+#[tactic(auto, unfolding(crate::specs::Place::tree_below))]
+pub fn get_root_pointer(segments: Segments<'_>) -> Pointer<'_>
+    ensures { pointer_tree result ≡ root_tree (segment_list segments.entry) }
+{
+    Pointer::Word {
+        depth: ROOT_LEVELS + 1,
+        is_stream: segments.is_stream,
+        bytes: segments.bytes,
+        segment: get_first_segment(segments),
+        index: 0,
+    }
+}
