@@ -2,6 +2,8 @@
 #![tactic(auto)]
 
 #[cfg(test)]
+mod calls;
+#[cfg(test)]
 mod iterator_tests;
 #[cfg(test)]
 mod pointer_tests;

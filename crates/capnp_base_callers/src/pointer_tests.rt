@@ -1,181 +1,279 @@
 //! Texts, data and untyped pointers at the root of a message, against bytes that the encoding says.
 
-use capnp_base::traits::{FromPointerBuilder, FromPointerReader, set_and_get};
+use crate::calls::Call::{Clear, GetData, GetText, InitNumbers, ReadData, SetAndGet, Untyped};
+use crate::calls::Input::{Data, String, Text, Untyped as Pointer};
+use crate::calls::UntypedCall::{
+    FillNew, GetData as DataAt, GetText as TextAt, GetUntyped, InitNoText, InitUntyped, PushToNew,
+    Set,
+};
+use crate::calls::{NULL, Row, data_is, default_of, follow, is_wanted, text_is, untyped_is};
+use capnp_base::traits::FromPointerReader;
 use capnp_base::{any_pointer, data, text};
 use capnp_wire::PointerReader;
-use capnp_wire::error::{ErrorKind, Result};
-use capnp_wire::message::{Builder, Reader};
-use capnp_wire::size::ElementSize;
-use std::test::Fail;
+use capnp_wire::error::ErrorKind::CapabilityPointer;
+use capnp_wire::error::Result;
+use capnp_wire::message::Reader;
+use std::alloc::Global;
 
-const HELLO: [u8; 32] = [
-    0, 0, 0, 0, 3, 0, 0, 0, //
+/// The text `hi`.
+pub const HI: &[u8] = &[
+    1, 0, 0, 0, 0x1a, 0, 0, 0, //
+    0x68, 0x69, 0, 0, 0, 0, 0, 0,
+];
+
+/// A capability.
+pub const CAPABILITY: &[u8] = &[3, 0, 0, 0, 0, 0, 0, 0];
+
+/// The text `Hello, World!`.
+const HELLO: &[u8] = &[
     1, 0, 0, 0, 0x72, 0, 0, 0, //
     0x48, 0x65, 0x6c, 0x6c, 0x6f, 0x2c, 0x20, 0x57, //
     0x6f, 0x72, 0x6c, 0x64, 0x21, 0, 0, 0,
 ];
 
-const LETTERS: [u8; 24] = [
+/// The text `ab` and a zero.
+const AB_ZERO: &[u8] = &[1, 0, 0, 0, 0x22, 0, 0, 0, 0x61, 0x62, 0, 0, 0, 0, 0, 0];
+
+/// The text `ab`.
+const AB: &[u8] = &[1, 0, 0, 0, 0x1a, 0, 0, 0, 0x61, 0x62, 0, 0, 0, 0, 0, 0];
+
+/// The data `ab`.
+const AB_DATA: &[u8] = &[1, 0, 0, 0, 0x12, 0, 0, 0, 0x61, 0x62, 0, 0, 0, 0, 0, 0];
+
+/// Data of two sevens.
+const SEVENS: &[u8] = &[1, 0, 0, 0, 0x12, 0, 0, 0, 7, 7, 0, 0, 0, 0, 0, 0];
+
+/// A text of nothing.
+const NO_TEXT: &[u8] = &[1, 0, 0, 0, 0x0a, 0, 0, 0, 0, 0, 0, 0, 0, 0, 0, 0];
+
+/// The text of an h, an i and a byte that is not in UTF-8.
+const HI_255: &[u8] = &[
+    1, 0, 0, 0, 0x22, 0, 0, 0, //
+    0x68, 0x69, 0xff, 0, 0, 0, 0, 0,
+];
+
+/// The data 1, 2, 3.
+const ONE_TWO_THREE: &[u8] = &[1, 0, 0, 0, 0x1a, 0, 0, 0, 1, 2, 3, 0, 0, 0, 0, 0];
+
+/// The numbers from 0 to 9, of two bytes each.
+const TEN_NUMBERS: &[u8] = &[
+    1, 0, 0, 0, 0x53, 0, 0, 0, //
+    0, 0, 1, 0, 2, 0, 3, 0, //
+    4, 0, 5, 0, 6, 0, 7, 0, //
+    8, 0, 9, 0, 0, 0, 0, 0,
+];
+
+static SET: [Row; 2] = [
+    (
+        "a message starts as a null",
+        Untyped(GetUntyped),
+        Ok(b"null"),
+        NULL,
+    ),
+    (
+        "a text is set by a string",
+        Untyped(Set(String("Hello, World!"))),
+        Ok(b""),
+        HELLO,
+    ),
+];
+
+static DEFAULTS: [Row; 6] = [
+    ("a null text is empty", GetText(None), Ok(b""), NULL),
+    ("the default is copied", GetText(Some(HI)), Ok(b"hi"), HI),
+    ("a null again", Clear, Ok(b""), NULL),
+    (
+        "data takes the text's bytes",
+        GetData(Some(HI)),
+        Ok(b"hi\0"),
+        HI,
+    ),
+    ("and another null", Clear, Ok(b""), NULL),
+    (
+        "a capability is no default",
+        GetText(Some(CAPABILITY)),
+        Err(CapabilityPointer),
+        NULL,
+    ),
+];
+
+static BUILT: [Row; 8] = [
+    (
+        "a string is pushed to a new text",
+        Untyped(PushToNew(3, "ab")),
+        Ok(b"ab\0"),
+        AB_ZERO,
+    ),
+    ("it stands there", Untyped(TextAt), Ok(b"ab\0"), AB_ZERO),
+    (
+        "as data it has its zero",
+        Untyped(DataAt),
+        Ok(b"ab\0\0"),
+        AB_ZERO,
+    ),
+    (
+        "new data is zeros, and then sevens",
+        Untyped(FillNew(2, 7)),
+        Ok(b"\0\0"),
+        SEVENS,
+    ),
+    (
+        "an untyped pointer leads there",
+        Untyped(GetUntyped),
+        Ok(b"not null"),
+        SEVENS,
+    ),
+    ("the sevens", Untyped(DataAt), Ok(b"\x07\x07"), SEVENS),
+    (
+        "a text of no length is not null",
+        Untyped(InitNoText),
+        Ok(b""),
+        NO_TEXT,
+    ),
+    ("what is cleared is null", Clear, Ok(b""), NULL),
+];
+
+static STARTED: [Row; 2] = [
+    ("a list of numbers", InitNumbers(10), Ok(b""), TEN_NUMBERS),
+    (
+        "an untyped pointer in its place",
+        Untyped(InitUntyped),
+        Ok(b"null"),
+        NULL,
+    ),
+];
+
+static SET_AND_READ: [Row; 8] = [
+    (
+        "a text that is not UTF-8",
+        SetAndGet(Text(b"hi\xff")),
+        Ok(b"hi\xff"),
+        HI_255,
+    ),
+    ("a string", SetAndGet(String("hi")), Ok(b"hi"), HI),
+    (
+        "data",
+        SetAndGet(Data(&[1, 2, 3])),
+        Ok(b"\x01\x02\x03"),
+        ONE_TWO_THREE,
+    ),
+    (
+        "what another pointer leads to",
+        SetAndGet(Pointer(HI)),
+        Ok(b"hi\0"),
+        HI,
+    ),
+    (
+        "the same in the place of it",
+        Untyped(Set(Pointer(HI))),
+        Ok(b""),
+        HI,
+    ),
+    ("a text", Untyped(Set(Text(b"ab"))), Ok(b""), AB),
+    (
+        "data of its bytes",
+        Untyped(Set(Data(b"ab"))),
+        Ok(b""),
+        AB_DATA,
+    ),
+    ("the data is read", ReadData, Ok(b"ab"), AB_DATA),
+];
+
+/// A message whose root is null.
+const NULL_MESSAGE: &[u8] = &[0, 0, 0, 0, 1, 0, 0, 0, 0, 0, 0, 0, 0, 0, 0, 0];
+
+/// A message of the text `hi`.
+const HI_MESSAGE: &[u8] = &[
+    0, 0, 0, 0, 2, 0, 0, 0, //
+    1, 0, 0, 0, 0x1a, 0, 0, 0, //
+    0x68, 0x69, 0, 0, 0, 0, 0, 0,
+];
+
+/// A message of the text `abcdefg`.
+const LETTERS: &[u8] = &[
     0, 0, 0, 0, 2, 0, 0, 0, //
     1, 0, 0, 0, 0x42, 0, 0, 0, //
     0x61, 0x62, 0x63, 0x64, 0x65, 0x66, 0x67, 0,
 ];
 
-// a null, and the text `hi`, each as the words of one segment
-const NULL: [u8; 8] = [0; 8];
+/// How the root of a message is read: as a text or as data with a default, or by type through an untyped pointer.
+#[derive(Clone, Copy)]
+enum Read {
+    TextOr(Option<&'static [u8]>),
+    DataOr(Option<&'static [u8]>),
+    UntypedText,
+    UntypedData,
+    Untyped,
+}
 
-pub(crate) const HI: [u8; 16] = [
-    1, 0, 0, 0, 0x1a, 0, 0, 0, //
-    0x68, 0x69, 0, 0, 0, 0, 0, 0,
+static READ: [(&[u8], Read, &[u8]); 7] = [
+    (LETTERS, Read::UntypedText, b"abcdefg"),
+    (LETTERS, Read::UntypedData, b"abcdefg\0"),
+    (LETTERS, Read::Untyped, b"abcdefg\0"),
+    (NULL_MESSAGE, Read::TextOr(None), b""),
+    (NULL_MESSAGE, Read::TextOr(Some(HI)), b"hi"),
+    (HI_MESSAGE, Read::TextOr(Some(NULL)), b"hi"),
+    (NULL_MESSAGE, Read::DataOr(Some(HI)), b"hi\0"),
 ];
 
-pub(crate) fn kind_of<T: Drop>(answer: Result<T>) -> Option<ErrorKind> {
-    match answer {
-        Ok(_) => None,
-        Err(error) => Some(error.kind),
+fn read_root(root: PointerReader<'_>, read: Read, want: &[u8]) -> Result<bool> {
+    let untyped = any_pointer::Reader::new(root);
+    match read {
+        Read::TextOr(default) => text_is(
+            text::Reader::get_from_pointer(&root, default_of(default)),
+            want,
+        ),
+        Read::DataOr(default) => data_is(
+            FromPointerReader::get_from_pointer(&root, default_of(default)),
+            want,
+        ),
+        Read::UntypedText => text_is(untyped.get_as::<text::Reader<'_>>(), want),
+        Read::UntypedData => data_is(untyped.get_as::<data::Reader<'_>>(), want),
+        Read::Untyped => untyped_is(untyped.get_as::<any_pointer::Reader<'_>>(), want),
+    }
+}
+
+/// Whether the root is as wanted, and all the words that follow its pointer are its own.
+fn reads_as(alloc: Global, message: &[u8], read: Read, want: &[u8]) -> Result<bool> {
+    let root = Reader::new(alloc, message)?.get_root();
+    let untyped = any_pointer::Reader::new(root);
+    let words = untyped.target_size()?.word_count;
+    Ok(
+        words.saturating_add(2) == (message.len() / 8) as u64
+            && untyped.is_null() == (words == 0)
+            && read_root(root, read, want)?,
+    )
+}
+
+#[test]
+fn a_text_is_set_and_written(rt: HostRuntime) {
+    follow(&rt, rt.alloc(), &SET);
+}
+
+#[test]
+fn messages_are_read_by_type_and_with_defaults(rt: HostRuntime) {
+    for (index, (message, read, want)) in READ.iter().enumerate() {
+        let answer = reads_as(rt.alloc(), message, *read, want);
+        assert!(rt; is_wanted(answer, Ok(&[])), "row {index}");
     }
 }
 
 #[test]
-fn a_text_is_set_and_written(rt: HostRuntime) -> std::result::Result<(), Fail> {
-    let mut message = Builder::new(rt.alloc());
-    let mut root = any_pointer::Builder::new(message.root());
-    assert!(rt; root.is_null());
-    root.set_as::<text::Owned, &str>("Hello, World!")?;
-    assert!(rt; !root.is_null());
-    assert_eq!(rt; root.target_size()?.word_count, 2);
-    assert_eq!(rt; message.size_in_words()?, 3);
-    assert_eq!(rt; message.write_message()?.as_slice(), HELLO.as_slice());
-    Ok(())
+fn a_builder_copies_its_default(rt: HostRuntime) {
+    follow(&rt, rt.alloc(), &DEFAULTS);
 }
 
 #[test]
-fn a_message_is_read_by_type(rt: HostRuntime) -> std::result::Result<(), Fail> {
-    let root = any_pointer::Reader::new(Reader::new(rt.alloc(), &LETTERS)?.get_root());
-    assert!(rt; !root.is_null());
-    assert_eq!(rt; root.target_size()?.word_count, 1);
-    assert!(rt; root.get_as::<text::Reader<'_>>()?.eq_str("abcdefg"));
-    assert_eq!(rt; root.get_as::<data::Reader<'_>>()?, b"abcdefg\0".as_slice());
-    assert!(rt; !root.get_as::<any_pointer::Reader<'_>>()?.is_null());
-    Ok(())
+fn pointers_are_built_by_type(rt: HostRuntime) {
+    follow(&rt, rt.alloc(), &BUILT);
 }
 
 #[test]
-fn a_null_reads_as_its_default(rt: HostRuntime) -> std::result::Result<(), Fail> {
-    let null = PointerReader::from_words(&NULL);
-    let hi = PointerReader::from_words(&HI);
-    assert!(rt; text::Reader::get_from_pointer(&null, None)?.is_empty());
-    assert!(rt; text::Reader::get_from_pointer(&null, Some(hi))?.eq_str("hi"));
-    assert!(rt; text::Reader::get_from_pointer(&hi, Some(null))?.eq_str("hi"));
-    let bytes: data::Reader<'_> = FromPointerReader::get_from_pointer(&null, Some(hi))?;
-    assert_eq!(rt; bytes, b"hi\0".as_slice());
-    Ok(())
+fn an_untyped_pointer_starts_as_a_null(rt: HostRuntime) {
+    follow(&rt, rt.alloc(), &STARTED);
 }
 
 #[test]
-fn a_builder_copies_its_default(rt: HostRuntime) -> std::result::Result<(), Fail> {
-    let hi = PointerReader::from_words(&HI);
-    let mut message = Builder::new(rt.alloc());
-    assert!(rt; text::Builder::get_from_pointer(message.root(), None)?.is_empty());
-    assert!(rt; message.root().is_null());
-    let text = text::Builder::get_from_pointer(message.root(), Some(hi))?;
-    assert!(rt; text.eq_str("hi"));
-    assert_eq!(rt; message.size_in_words()?, 2);
-    message.root().clear();
-    let bytes: data::Builder<'_> = FromPointerBuilder::get_from_pointer(message.root(), Some(hi))?;
-    assert_eq!(rt; &*bytes, b"hi\0".as_slice());
-    let bytes = [3, 0, 0, 0, 0, 0, 0, 0];
-    let capability = PointerReader::from_words(&bytes);
-    message.root().clear();
-    let refused = kind_of(text::Builder::get_from_pointer(message.root(), Some(capability)));
-    assert_eq!(rt; refused, Some(ErrorKind::CapabilityPointer));
-    assert!(rt; message.root().is_null());
-    Ok(())
-}
-
-#[test]
-fn pointers_are_built_by_type(rt: HostRuntime) -> std::result::Result<(), Fail> {
-    let mut message = Builder::new(rt.alloc());
-    let mut root = any_pointer::Builder::new(message.root());
-    let mut text = root.reborrow().initn_as::<text::Builder<'_>>(3)?;
-    text.push_str("ab");
-    assert!(rt; text.eq_str("ab\0"));
-    assert!(rt;
-        root.reborrow()
-            .get_as::<text::Builder<'_>>()?
-            .eq_str("ab\0")
-    );
-    let bytes = root.reborrow().get_as::<data::Builder<'_>>()?;
-    assert_eq!(rt; &*bytes, b"ab\0\0".as_slice());
-    let bytes = root.reborrow().initn_as::<data::Builder<'_>>(2)?;
-    assert_eq!(rt; &*bytes, [0, 0].as_slice());
-    bytes.fill(7);
-    assert!(rt;
-        !root
-            .reborrow()
-            .get_as::<any_pointer::Builder<'_>>()?
-            .is_null()
-    );
-    assert_eq!(rt;
-        &*root.reborrow().get_as::<data::Builder<'_>>()?,
-        [7, 7].as_slice()
-    );
-    assert!(rt; root.reborrow().init_as::<text::Builder<'_>>()?.is_empty());
-    assert!(rt; !root.is_null());
-    root.clear();
-    assert!(rt; root.is_null());
-    Ok(())
-}
-
-#[test]
-fn an_untyped_pointer_starts_as_a_null(rt: HostRuntime) -> std::result::Result<(), Fail> {
-    let mut message = Builder::new(rt.alloc());
-    let list = message.root().init_list(ElementSize::TwoBytes, 10)?;
-    list.set_data_element::<u16>(1, 1);
-    list.set_data_element::<u16>(2, 2);
-    list.set_data_element::<u16>(3, 3);
-    list.set_data_element::<u16>(4, 4);
-    list.set_data_element::<u16>(5, 5);
-    list.set_data_element::<u16>(6, 6);
-    list.set_data_element::<u16>(7, 7);
-    list.set_data_element::<u16>(8, 8);
-    list.set_data_element::<u16>(9, 9);
-    assert_eq!(rt; message.size_in_words()?, 4);
-    let root = any_pointer::Builder::new(message.root());
-    assert!(rt; root.init_as::<any_pointer::Builder<'_>>()?.is_null());
-    let bytes = message.write_message()?;
-    assert_eq!(rt;
-        bytes.as_slice(),
-        [0, 0, 0, 0, 1, 0, 0, 0, 0, 0, 0, 0, 0, 0, 0, 0].as_slice()
-    );
-    Ok(())
-}
-
-#[test]
-fn what_is_set_is_read(rt: HostRuntime) -> std::result::Result<(), Fail> {
-    let mut message = Builder::new(rt.alloc());
-    let text = set_and_get::<text::Owned, text::Reader<'_>>(
-        message.root(),
-        text::Reader(b"hi\xff"),
-    )?;
-    assert_eq!(rt; text, text::Reader(b"hi\xff"));
-    let text = set_and_get::<text::Owned, &str>(message.root(), "hi")?;
-    assert!(rt; text.eq_str("hi"));
-    let bytes = set_and_get::<data::Owned, data::Reader<'_>>(message.root(), &[1, 2, 3])?;
-    assert_eq!(rt; bytes, [1, 2, 3].as_slice());
-    let source = any_pointer::Reader::new(PointerReader::from_words(&HI));
-    let pointer = set_and_get::<any_pointer::Owned, any_pointer::Reader<'_>>(
-        message.root(),
-        source,
-    )?;
-    assert!(rt; pointer.get_as::<text::Reader<'_>>()?.eq_str("hi"));
-    let mut root = any_pointer::Builder::new(message.root());
-    root.set_as::<any_pointer::Owned, any_pointer::Reader<'_>>(source)?;
-    root.set_as::<text::Owned, text::Reader<'_>>(text::Reader(b"ab"))?;
-    root.set_as::<data::Owned, data::Reader<'_>>(b"ab")?;
-    assert_eq!(rt;
-        root.into_reader().get_as::<data::Reader<'_>>()?,
-        b"ab".as_slice()
-    );
-    Ok(())
+fn what_is_set_is_read(rt: HostRuntime) {
+    follow(&rt, rt.alloc(), &SET_AND_READ);
 }

@@ -16,7 +16,6 @@ use capnp_wire::laws::{copied_structs_are_well_formed, struct_is_well_formed};
 use capnp_wire::message::Builder;
 use capnp_wire::size::{ElementSize, StructSize};
 use capnp_wire::{ListReader, PointerBuilder, PointerReader, StructBuilder, StructReader};
-use std::test::Fail;
 
 #[derive(Clone, Copy)]
 struct Flat<'a> {
@@ -136,35 +135,56 @@ fn length_of<'a, T: IntoInternalListReader<'a>>(list: T) -> u32 {
     list.into_internal_list_reader().len()
 }
 
-#[test]
-fn a_struct_type_is_set_and_built(rt: HostRuntime) -> std::result::Result<(), Fail> {
-    let words = [0, 0, 0, 0, 1, 0, 0, 0, 5, 0, 0, 0, 0, 0, 0, 0];
-    let source = PointerReader::from_words(&words).get_struct()?;
-    let mut message = Builder::new(rt.alloc());
-    let flat = set_and_build::<FlatType>(message.root(), source)?;
-    assert_eq!(rt; flat.builder.get_data_field::<u16>(0), 5);
-    assert_eq!(rt; FlatType::introspect().which(), TypeVariant::Struct(FLAT));
-    Ok(())
+/// A struct of one word, with 5.
+const FIVE: &[u8] = &[0, 0, 0, 0, 1, 0, 0, 0, 5, 0, 0, 0, 0, 0, 0, 0];
+
+/// A list of three bytes.
+const THREE_BYTES: &[u8] = &[1, 0, 0, 0, 0x1a, 0, 0, 0, 1, 2, 3, 0, 0, 0, 0, 0];
+
+/// The number of a struct of one word that the root of a message is set to.
+fn number_set(message: &mut Builder, words: &[u8]) -> Option<u16> {
+    let Ok(source) = PointerReader::from_words(words).get_struct() else {
+        return None;
+    };
+    match set_and_build::<FlatType>(message.root(), source) {
+        Ok(flat) => Some(flat.builder.get_data_field::<u16>(0)),
+        Err(_) => None,
+    }
+}
+
+/// The data words that its builder's type says of a new struct.
+fn words_of_new(message: &mut Builder) -> Option<u16> {
+    match message.root().init_struct(FlatBuilder::STRUCT_SIZE) {
+        Ok(builder) => Some(size_of_builder(&FlatBuilder { builder }).data_words),
+        Err(_) => None,
+    }
+}
+
+fn number_read(words: &[u8]) -> Option<u16> {
+    match PointerReader::from_words(words).get_struct() {
+        Ok(reader) => Some(number_in::<Flat<'_>>(reader)),
+        Err(_) => None,
+    }
+}
+
+fn length_read(words: &[u8]) -> Option<u32> {
+    match PointerReader::from_words(words).get_list(ElementSize::Byte) {
+        Ok(reader) => Some(length_of(Numbers { reader })),
+        Err(_) => None,
+    }
 }
 
 #[test]
-fn struct_types_have_sizes_and_readers(rt: HostRuntime) -> std::result::Result<(), Fail> {
-    assert_eq!(rt; Flat::TYPE_ID, 100);
+fn a_struct_type_is_set_and_built(rt: HostRuntime) {
     let mut message = Builder::new(rt.alloc());
-    let builder = FlatBuilder {
-        builder: message.root().init_struct(StructSize {
-            data_words: 1,
-            pointers: 0,
-        })?,
-    };
-    builder.builder.set_data_field::<u16>(0, 7);
-    assert_eq!(rt; size_of_builder(&builder).data_words, 1);
-    let words = [0, 0, 0, 0, 1, 0, 0, 0, 5, 0, 0, 0, 0, 0, 0, 0];
-    let root = PointerReader::from_words(&words);
-    assert_eq!(rt; number_in::<Flat<'_>>(root.get_struct()?), 5);
-    let words = [1, 0, 0, 0, 0x1a, 0, 0, 0, 1, 2, 3, 0, 0, 0, 0, 0];
-    let root = PointerReader::from_words(&words);
-    let reader = root.get_list(ElementSize::Byte)?;
-    assert_eq!(rt; length_of(Numbers { reader }), 3);
-    Ok(())
+    assert_eq!(rt; number_set(&mut message, FIVE), Some(5));
+    assert_eq!(rt; words_of_new(&mut message), Some(1));
+    assert_eq!(rt; FlatType::introspect().which(), TypeVariant::Struct(FLAT));
+}
+
+#[test]
+fn struct_types_have_sizes_and_readers(rt: HostRuntime) {
+    assert_eq!(rt; Flat::TYPE_ID, 100);
+    assert_eq!(rt; number_read(FIVE), Some(5));
+    assert_eq!(rt; length_read(THREE_BYTES), Some(3));
 }
