@@ -77,6 +77,8 @@ impl<'a> Reader<'a> {
     /// default is entered on levels of its own. Refused with `TooDeep` where none is left, with the number of a pointer
     /// that can't be followed, and with `WrongPointerKind`, `WrongElementSize` or `TextNotTerminated` where what stands
     /// there is not read as the field's type.
+    ///
+    /// The field has to belong to the schema.
     #[inline(always)]
     pub fn get(self, field: Field<'a>) -> Result<dynamic_value::Reader<'a>>
         requires { BelongsTo field (schema_of self) }
@@ -113,7 +115,8 @@ impl<'a> Reader<'a> {
         self.schema.get_field_by_discriminant(value)
     }
 
-    /// False for a member of the union that is not active, else true: it is what `get` asks first.
+    /// Whether a field may be read as it stands: false for a member that is not active, else true. `get` does not ask it.
+    /// The field has to belong to the schema.
     #[inline(always)]
     pub fn is_active(&self, field: Field<'a>) -> bool
         requires { BelongsTo field (schema_of self.now) }
@@ -126,6 +129,7 @@ impl<'a> Reader<'a> {
     }
 
     /// False for a member that is not active and for a null pointer, else true. The answer is always Ok.
+    /// The field has to belong to the schema.
     #[inline(always)]
     pub fn has(&self, field: Field<'a>) -> Result<bool>
         requires { BelongsTo field (schema_of self.now) }

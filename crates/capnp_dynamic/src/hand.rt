@@ -1,4 +1,4 @@
-//! Parts of a struct that is built: what `get`, `init` and `initn` hand out of a field.
+//! Parts of a struct that is built: what `get` hands out of a field.
 //!
 //! A part is handed out by value, so these contracts say what it stands on at the return. That the struct ends as it was but
 //! for that part, and that a refusal changed nothing, is said by the calls of `part`, `slot` and `group`.
@@ -133,6 +133,8 @@ impl<'a> Builder<'a> {
     /// Refused with `WrongPointerKind`, `WrongElementSize` or `TextNotTerminated` where what stands there is not read as the
     /// field's type, with `SizePastFormat` where the structs of a list would take 2^29 words or more, and else with
     /// `OutOfMemory`; then nothing has changed, as `part::fill` says. Where nothing has to be filled or extended it is not refused.
+    ///
+    /// The field has to belong to the schema; the struct has to have its schema's sections and be well-formed (`IsReady`).
     #[tactic(auto, using(crate::proofs::Builders::room_for, crate::proofs::HandedOut::hands_group, crate::proofs::HandedOut::hands_pointed, crate::proofs::HandedOut::hands_number))]
     pub fn get(self, field: Field<'a>) -> Result<dynamic_value::Builder<'a>>
         requires belongs { BelongsTo field (built_schema self) }
@@ -153,6 +155,7 @@ impl<'a> Builder<'a> {
     }
 
     /// What the field of a name has, as `get`. Refused with `FieldNotFound` where there is none of that name.
+    /// The struct has to have its schema's sections and be well-formed (`IsReady`).
     #[tactic(auto, using(crate::proofs::Builders::found_belongs, crate::proofs::HandedOut::same_handed, crate::proofs::HandedOut::same_due))]
     pub fn get_named(self, field_name: &str) -> Result<dynamic_value::Builder<'a>>
         requires { IsReady self }

@@ -117,6 +117,8 @@ impl<'a> Builder<'a> {
     /// elements' type, with `SizePastFormat` where the structs of a list would take 2^29 words or more, and else with
     /// `OutOfMemory`; then nothing has changed, as `element::fill` says. A struct and a number are not refused, and where
     /// nothing has to be extended nothing is refused for memory.
+    ///
+    /// The list has to be ready (`IsListReady`).
     pub fn get(self, index: u32) -> Result<dynamic_value::Builder<'a>>
         requires ready { IsListReady self }
         requires inside { IsIn index self }

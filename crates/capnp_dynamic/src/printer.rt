@@ -20,10 +20,10 @@ use std::fmt;
 
 /// Appends the text of a value, on one line or on lines indented by two spaces for each bracket around them.
 ///
-/// A struct is `(name = value, ..)`: the fields that are there by index, and the active member before the first plain field
-/// of greater index, a member of discriminant value 0 where it is there and every other one always. A list is `[value, ..]`,
-/// a text is quoted, data is in hexadecimal, an enum is its enumerant's name or its number, and an untyped pointer is
-/// `<opaque pointer>`.
+/// A struct is `(name = value, ..)`: the fields that are there by index, and the active member before the first non-union
+/// field of greater index, a member of discriminant value 0 where it is there and every other one always. A list is
+/// `[value, ..]`, a text is quoted, data is in hexadecimal, an enum is its enumerant's name or its number, and an untyped
+/// pointer is `<opaque pointer>`.
 ///
 /// A struct or list takes a level of 64, a group none. Refused with the number of the first value in the text's order that
 /// can't be read, with `TooDeep` where no level is left, and with `OutOfMemory`; the string is then as it was.

@@ -90,6 +90,8 @@ impl<'a> Builder<'a> {
     ///
     /// Refused with `InitIsOnlyValidForStructAndAnyPointerFields` for another slot, and with `OutOfMemory` for a struct; then
     /// nothing has changed, as `slot::init` says.
+    ///
+    /// The field has to belong to the schema; the struct has to have its schema's sections and be well-formed (`IsReady`).
     #[tactic(auto, using(crate::proofs::Builders::room_for, crate::proofs::Started::init_group, crate::proofs::Started::init_slot))]
     pub fn init(self, field: Field<'a>) -> Result<dynamic_value::Builder<'a>>
         requires belongs { BelongsTo field (built_schema self) }
@@ -107,6 +109,7 @@ impl<'a> Builder<'a> {
     }
 
     /// Starts the field of a name anew, as `init`. Refused first with `FieldNotFound` where there is none of that name.
+    /// The struct has to have its schema's sections and be well-formed (`IsReady`).
     #[tactic(auto, using(crate::proofs::Builders::found_belongs, crate::proofs::Started::same_init, crate::proofs::Started::same_start_refusal))]
     pub fn init_named(self, field_name: &str) -> Result<dynamic_value::Builder<'a>>
         requires { IsReady self }
@@ -126,6 +129,8 @@ impl<'a> Builder<'a> {
     /// Refused with `InitnIsOnlyValidForListTextOrDataFields` for another slot and for a group; with `SizePastFormat` for a
     /// text of more than 2^29 - 2 bytes, data of more than 2^29 - 1, 2^29 elements or more, or structs that take 2^29 words or
     /// more; and with `OutOfMemory`. Then nothing has changed, as `slot::initn` says.
+    ///
+    /// The field has to belong to the schema; the struct has to have its schema's sections and be well-formed (`IsReady`).
     #[tactic(auto, using(crate::proofs::Builders::room_for, crate::proofs::Started::no_sized_group))]
     pub fn initn(self, field: Field<'a>, size: u32) -> Result<dynamic_value::Builder<'a>>
         requires belongs { BelongsTo field (built_schema self) }
@@ -143,6 +148,7 @@ impl<'a> Builder<'a> {
 
     /// Starts the field of a name anew with a size, as `initn`. Refused first with `FieldNotFound` where there is none of that
     /// name.
+    /// The struct has to have its schema's sections and be well-formed (`IsReady`).
     #[tactic(auto, using(crate::proofs::Builders::found_belongs, crate::proofs::Started::same_initn, crate::proofs::Started::same_sized_refusal))]
     pub fn initn_named(self, field_name: &str, size: u32) -> Result<dynamic_value::Builder<'a>>
         requires { IsReady self }

@@ -1,26 +1,49 @@
 -- What is filled into a slot, by the slot's type.
-use Rattle.std.specs.Prelude.{ℕ, ◌≡◌, refl, false, Option, None}
+use Rattle.std.specs.Prelude.{ℕ, ◌≡◌, refl, false, ⊤, Option, Some, None, Result, Ok, Err, IfErr, IsOk, OnErr, OnOk}
 use Rattle.std.proofs.Common.{ap, sym, subst, ◌∙◌}
+use Rattle.capnp_device.specs.declared.error.Error.{Error}
+use Rattle.capnp_device.specs.declared.error.ErrorKind.{ErrorKind}
+use Rattle.capnp_wire.specs.Defaults as wire
+use Rattle.capnp_wire.specs.Defaults.{error_of}
+use Rattle.capnp_wire.specs.Edits.{HoldsStruct, IsDueRefusal}
+use Rattle.capnp_wire.specs.Objects.{struct_object_tree}
+use Rattle.capnp_wire.specs.Place.{struct_tree}
+use Rattle.capnp_wire.specs.Reading.{as_data, as_text}
+use Rattle.capnp_wire.specs.StructLists.{struct_list_refusal}
 use Rattle.capnp_wire.specs.Tree.{StructTree, Tree, nth_tree}
+use Rattle.capnp_wire.specs.WellFormed.{IsWellFormed}
+use Rattle.capnp_wire.specs.Words.{first_fault}
+use Rattle.capnp_wire.specs.declared.object.StructObject.{StructObject}
 use Rattle.capnp_wire.specs.declared.pointer_reader.PointerReader.{PointerReader}
+use Rattle.capnp_wire.specs.declared.size.StructSize.{StructSize}
 use Rattle.capnp_base.specs.declared.introspect.RawBrandedStructSchema.{RawBrandedStructSchema}
 use Rattle.capnp_base.specs.declared.introspect.«Type».{«Type» as TypeHandle}
 use Rattle.capnp_base.specs.declared.introspect.TypeVariant.{TypeVariant}
 use Rattle.capnp_base.specs.declared.introspect.TypeVariant.TheVariants as variant
 use Rattle.capnp_schema.specs.FieldLists.{typed_of}
 use Rattle.capnp_schema.specs.declared.schema.fields.Field.{Field}
-use Rattle.capnp_wire.specs.Defaults as wire
-use Rattle.capnp_wire.specs.StructLists.{struct_list_refusal}
-use Rattle.capnp_wire.specs.Words.{first_fault}
 use Rattle.capnp_schema.specs.Accepted.{Decodes, IsDefaultOf}
 use Rattle.capnp_schema.specs.Defaults.{IsReadAs, default_tree}
-use Rattle.capnp_schema.specs.Schema.{Schemas, Value, default_of}
+use Rattle.capnp_schema.specs.Schema.{Schemas, Value, TextValue, DataValue, default_of}
 use Rattle.capnp_schema.specs.Types.{SchemaType, VoidType, BoolType, IntType, UIntType, EnumType, TextType, DataType, StructType, ListType, AnyPointerType, element_size, seen_type, seen_variant}
 use Rattle.capnp_records.specs.Writes.Fill.{IsAtRest, entered_list}
 use Rattle.capnp_records.specs.Writes.Slots.{brand_size}
-use Rattle.capnp_slots.specs.Fills.{IsDefaultPointer, ListRests, RestsIn, due_in, fill_due, filled_in, filled_tree, list_due, pointer_in}
+use Rattle.capnp_slots.specs.Fills.{HoldsThere, IsDefaultPointer, IsFilled, IsSlotFilled, ListRests, RestsIn, data_filled, due_in, fill_due, filled_in, filled_tree, list_due, pointer_in, text_filled}
 use Rattle.capnp_slots.specs.Fields.{IsSlot, field_set, pointer_index}
-use Rattle.capnp_slots.proofs.Filled.{default-is, list-due, list-filled, struct-due, structs-due}
+use Rattle.capnp_slots.proofs.Filled.{default-is, list-due, list-filled, same-there, struct-due, struct-filled, structs-due}
+
+-- a clause of what was accepted
+pub always : {A E : Type 0} {P : Type 0} (r : Result A E) → P → OnOk r P
+always (Ok a) p = p
+always (Err e) p = tt
+
+always-err : {A E : Type 0} {P : Type 0} (r : Result A E) → P → OnErr r P
+always-err (Ok a) p = tt
+always-err (Err e) p = p
+
+due-cause : (d : Option ErrorKind) (r : Result ⊤ Error) → IfErr r (λ n. d ≡ Some n.kind) → IfErr r (λ n. IsDueRefusal n d)
+due-cause d (Ok a) h = tt
+due-cause d (Err e) h = (λ no. h, λ kind q. cc)
 
 -- a default of a type, and the tree of its pointer
 pub record IsOwnDefault (d : Value) (t : SchemaType) (D : Tree) : Type 0 where
@@ -33,10 +56,19 @@ pub record IsOwnDefault (d : Value) (t : SchemaType) (D : Tree) : Type 0 where
 module _ (set : Schemas) (d : Value) (D x : Tree) where
   -- ---- structs ----
 
-  pub struct-slot_due : (b g : ℕ) (t : SchemaType) → StructType b g ≡ t → IsOwnDefault d t D → wire.filled_struct_refusal D x ≡ fill_due set d t x
-  struct-slot_due b g t e own =
-      subst (λ u. IsOwnDefault d u D → wire.filled_struct_refusal D x ≡ fill_due set d u x) e
-      (λ own. ap (λ y. wire.filled_struct_refusal y x) own.is ∙ struct-due (default_tree d) own.sound x own.read) own
+  pub record StructFills (size : StructSize) (t : SchemaType) : Type 0 where
+    pub filled : struct_tree (wire.filled_struct D size x) ≡ filled_tree set d t x
+    pub due : wire.filled_struct_refusal D x ≡ fill_due set d t x
+    pub rests : IsAtRest set d t x → HoldsStruct size x
+
+  pub struct-fills : (b g : ℕ) (t : SchemaType) → StructType b g ≡ t → IsOwnDefault d t D → StructFills (brand_size set b) t
+  struct-fills b g t e own =
+      subst (λ u. IsOwnDefault d u D → StructFills (brand_size set b) u) e
+      (λ own. record {
+        filled = ap struct_tree (ap (λ y. wire.filled_struct y (brand_size set b) x) own.is ∙ struct-filled d own.decodes set b g x own.kind);
+        due = ap (λ y. wire.filled_struct_refusal y x) own.is ∙ struct-due (default_tree d) own.sound x own.read;
+        rests = λ h. h;
+      }) own
 
   -- ---- lists ----
 
@@ -77,41 +109,119 @@ module _ (set : Schemas) (d : Value) (D x : Tree) where
 
 -- ---- by a field ----
 
+-- what a call leaves at a pointer, refuses and lets rest is what the field's slot asks
+pub record IsPart (f : Field) (s : StructTree) (x : Tree) (d : Option ErrorKind) (P : Type 0) : Type 0 where
+  pub filled : x ≡ filled_in f s
+  pub due : d ≡ due_in f s
+  pub rests : RestsIn f s → P
+
+-- a text is its default where it is null, and so is data; they never rest
+text-fills : (set : Schemas) (d : Value) (x : Tree) → text_filled d x ≡ filled_tree set d TextType x
+text-fills set (TextValue bytes) x = refl
+text-fills set d x = refl
+
+data-fills : (set : Schemas) (d : Value) (x : Tree) → data_filled d x ≡ filled_tree set d DataType x
+data-fills set (DataValue bytes) x = refl
+data-fills set d x = refl
+
+module _ (f : Field) (v : TypeVariant) (i : ℕ) (s : StructTree) (at : i ≡ pointer_index f) (h : seen_variant v ≡ (typed_of f).type) where
+  pub text-part : v ≡ variant.Text → IsPart f s (text_filled (default_of (typed_of f).field) (nth_tree s.pointers i)) (error_of (as_text (nth_tree s.pointers i))) ⊥
+  text-part e =
+      let d : Value = default_of (typed_of f).field in
+      subst (λ j. IsPart f s (text_filled d (nth_tree s.pointers j)) (error_of (as_text (nth_tree s.pointers j))) ⊥) (sym at)
+      (let t : TextType ≡ (typed_of f).type = ap seen_variant (sym e) ∙ h in
+      record {
+        filled = subst (λ u. text_filled d (pointer_in f s) ≡ filled_tree (field_set f) d u (pointer_in f s)) t (text-fills (field_set f) d (pointer_in f s));
+        due = subst (λ u. error_of (as_text (pointer_in f s)) ≡ fill_due (field_set f) d u (pointer_in f s)) t refl;
+        rests = λ r. subst (λ u. IsAtRest (field_set f) d u (pointer_in f s)) (sym t) r;
+      })
+
+  pub data-part : v ≡ variant.«Data» → IsPart f s (data_filled (default_of (typed_of f).field) (nth_tree s.pointers i)) (error_of (as_data (nth_tree s.pointers i))) ⊥
+  data-part e =
+      let d : Value = default_of (typed_of f).field in
+      subst (λ j. IsPart f s (data_filled d (nth_tree s.pointers j)) (error_of (as_data (nth_tree s.pointers j))) ⊥) (sym at)
+      (let t : DataType ≡ (typed_of f).type = ap seen_variant (sym e) ∙ h in
+      record {
+        filled = subst (λ u. data_filled d (pointer_in f s) ≡ filled_tree (field_set f) d u (pointer_in f s)) t (data-fills (field_set f) d (pointer_in f s));
+        due = subst (λ u. error_of (as_data (pointer_in f s)) ≡ fill_due (field_set f) d u (pointer_in f s)) t refl;
+        rests = λ r. subst (λ u. IsAtRest (field_set f) d u (pointer_in f s)) (sym t) r;
+      })
+
+  -- an untyped pointer is left as it is
+  pub untyped-part : v ≡ variant.AnyPointer → IsPart f s (nth_tree s.pointers i) None ⊥
+  untyped-part e =
+      let d : Value = default_of (typed_of f).field in
+      subst (λ j. IsPart f s (nth_tree s.pointers j) None ⊥) (sym at)
+      (let t : AnyPointerType ≡ (typed_of f).type = ap seen_variant (sym e) ∙ h in
+      record {
+        filled = subst (λ u. pointer_in f s ≡ filled_tree (field_set f) d u (pointer_in f s)) t refl;
+        due = subst (λ u. None ≡ fill_due (field_set f) d u (pointer_in f s)) t refl;
+        rests = λ r. subst (λ u. IsAtRest (field_set f) d u (pointer_in f s)) (sym t) r;
+      })
+
 module _ (f : Field) (r : Option PointerReader) (slot : IsSlot f) (is : IsDefaultPointer f r) where
   own-default : IsOwnDefault (default_of (typed_of f).field) (typed_of f).type (wire.default_tree r)
   own-default = record { is = is.tree; kind = default-is f r slot is; decodes = is.fits.decodes; sound = is.fits.sound; read = is.fits.read }
 
-  pub struct-part_due : (raw : RawBrandedStructSchema) (v : TypeVariant) (i : ℕ) (s : StructTree) → i ≡ pointer_index f → v ≡ variant.Struct raw → seen_variant v ≡ (typed_of f).type →
-      wire.filled_struct_refusal (wire.default_tree r) (nth_tree s.pointers i) ≡ due_in f s
-  struct-part_due raw v i s at e h =
-      ap (λ j. wire.filled_struct_refusal (wire.default_tree r) (nth_tree s.pointers j)) at
-      ∙ struct-slot_due (field_set f) (default_of (typed_of f).field) (wire.default_tree r) (pointer_in f s) raw.number raw.generic (typed_of f).type (ap seen_variant (sym e) ∙ h) own-default
+  -- a struct's slot, by the size that the code has
+  abbrev pub StructPart : StructTree → StructSize → ℕ → Type 0
+  StructPart s size i = IsPart f s (struct_tree (wire.filled_struct (wire.default_tree r) size (nth_tree s.pointers i))) (wire.filled_struct_refusal (wire.default_tree r) (nth_tree s.pointers i))
+      (HoldsStruct size (nth_tree s.pointers i))
 
-  -- what a list's slot is filled with, by the set and the index that the code has
-  pub record ListPart (set : Schemas) (e : SchemaType) (i : ℕ) (s : StructTree) : Type 0 where
-    pub filled : entered_list set e (wire.or_default (wire.default_tree r) (nth_tree s.pointers i)) ≡ filled_in f s
-    pub due : list_due set e (wire.default_tree r) (nth_tree s.pointers i) ≡ due_in f s
-    pub rests : RestsIn f s → ListRests set e (wire.default_tree r) (nth_tree s.pointers i)
+  pub struct-part : (raw : RawBrandedStructSchema) (v : TypeVariant) (size : StructSize) (i : ℕ) (s : StructTree) → size ≡ brand_size (field_set f) raw.number → i ≡ pointer_index f →
+      v ≡ variant.Struct raw → seen_variant v ≡ (typed_of f).type → StructPart s size i
+  struct-part raw v size i s same at e h =
+      let fills = struct-fills (field_set f) (default_of (typed_of f).field) (wire.default_tree r) (pointer_in f s) raw.number raw.generic (typed_of f).type (ap seen_variant (sym e) ∙ h) own-default in
+      subst (λ (z : StructSize). StructPart s z i) (sym same)
+      (subst (StructPart s (brand_size (field_set f) raw.number)) (sym at) (record { filled = fills.filled; due = fills.due; rests = fills.rests }))
+
+  -- a list's slot, by the set that the code has
+  abbrev pub ListPart : StructTree → SchemaType → Schemas → ℕ → Type 0
+  ListPart s e set i = IsPart f s (entered_list set e (wire.or_default (wire.default_tree r) (nth_tree s.pointers i))) (list_due set e (wire.default_tree r) (nth_tree s.pointers i))
+      (ListRests set e (wire.default_tree r) (nth_tree s.pointers i))
 
   pub list-part : (set : Schemas) (element : TypeHandle) (v : TypeVariant) (i : ℕ) (s : StructTree) → set ≡ field_set f → i ≡ pointer_index f → v ≡ variant.List element → seen_variant v ≡ (typed_of f).type →
-      ListPart set (seen_type element) i s
+      ListPart s (seen_type element) set i
   list-part set element v i s same at e h =
       let fills = list_fills (field_set f) (default_of (typed_of f).field) (wire.default_tree r) (pointer_in f s) (seen_type element) (typed_of f).type (ap seen_variant (sym e) ∙ h) own-default in
-      subst (λ (z : Schemas). ListPart z (seen_type element) i s) (sym same)
-      (subst (λ j. ListPart (field_set f) (seen_type element) j s) (sym at) (record { filled = fills.filled; due = fills.due; rests = fills.rests }))
+      subst (λ (z : Schemas). ListPart s (seen_type element) z i) (sym same)
+      (subst (ListPart s (seen_type element) (field_set f)) (sym at) (record { filled = fills.filled; due = fills.due; rests = fills.rests }))
 
--- an untyped pointer is left as it is
-pub record IsLeft (f : Field) (s : StructTree) : Type 0 where
-  pub filled : pointer_in f s ≡ filled_in f s
-  pub due : due_in f s ≡ None
-  pub rests : RestsIn f s → ⊥
+-- ---- by an object ----
 
-pub untyped-left : (f : Field) (v : TypeVariant) (s : StructTree) → v ≡ variant.AnyPointer → seen_variant v ≡ (typed_of f).type → IsLeft f s
-untyped-left f v s e h =
-    let t : AnyPointerType ≡ (typed_of f).type = ap seen_variant (sym e) ∙ h in
-    let x : Tree = pointer_in f s in
-    record {
-      filled = subst (λ u. x ≡ filled_tree (field_set f) (default_of (typed_of f).field) u x) t refl;
-      due = subst (λ u. fill_due (field_set f) (default_of (typed_of f).field) u x ≡ None) t refl;
-      rests = λ r. subst (λ u. IsAtRest (field_set f) (default_of (typed_of f).field) u x) (sym t) r;
-    }
+-- a call left something at a pointer, refuses it or lets it rest: so a slot was filled
+module _ (s s' : StructObject) (i : ℕ) (r : Result ⊤ Error) where
+  pub made-filled : (x y : Tree) (d e : Option ErrorKind) (P Q : Type 0) → x ≡ y → d ≡ e → (Q → P) → OnOk r (IsWellFormed x) →
+      OnOk r (HoldsThere s i s' x) → OnOk r (d ≡ None) → OnErr r (struct_object_tree s' ≡ struct_object_tree s) → IfErr r (λ n. IsDueRefusal n d) → (P → IsOk r) → IsFilled y e Q s i r s'
+  made-filled x y d e P Q left due rests formed ok within refused cause still = record {
+    filled = subst (λ t. OnOk r (HoldsThere s i s' t)) left ok;
+    within = subst (λ o. OnOk r (o ≡ None)) due within;
+    kept = subst (λ t. OnOk r (IsWellFormed t)) left formed;
+    refused = refused;
+    cause = subst (λ o. IfErr r (λ n. IsDueRefusal n o)) due cause;
+    rests = λ q. still (rests q);
+  }
+
+  pub filled-as : (x y : Tree) (d e : Option ErrorKind) (P Q : Type 0) → x ≡ y → d ≡ e → (Q → P) → IsFilled x d P s i r s' → IsFilled y e Q s i r s'
+  filled-as x y d e P Q left due rests h = record {
+    filled = subst (λ t. OnOk r (HoldsThere s i s' t)) left h.filled;
+    within = subst (λ o. OnOk r (o ≡ None)) due h.within;
+    kept = subst (λ t. OnOk r (IsWellFormed t)) left h.kept;
+    refused = h.refused;
+    cause = subst (λ o. IfErr r (λ n. IsDueRefusal n o)) due h.cause;
+    rests = λ q. h.rests (rests q);
+  }
+
+  -- a part that was filled so is a slot that was filled
+  pub part-filled : (f : Field) (x : Tree) (d : Option ErrorKind) (P : Type 0) → IsPart f (struct_object_tree s) x d P → IsFilled x d P s i r s' → IsSlotFilled f s i r s'
+  part-filled f x d P part = filled-as x (filled_in f (struct_object_tree s)) d (due_in f (struct_object_tree s)) P (RestsIn f (struct_object_tree s)) part.filled part.due part.rests
+
+  pub part-made : (f : Field) (x : Tree) (d : Option ErrorKind) (P : Type 0) → IsPart f (struct_object_tree s) x d P → OnOk r (IsWellFormed x) →
+      OnOk r (HoldsThere s i s' x) → OnOk r (d ≡ None) → OnErr r (struct_object_tree s' ≡ struct_object_tree s) → IfErr r (λ n. IsDueRefusal n d) → (P → IsOk r) → IsSlotFilled f s i r s'
+  part-made f x d P part = made-filled x (filled_in f (struct_object_tree s)) d (due_in f (struct_object_tree s)) P (RestsIn f (struct_object_tree s)) part.filled part.due part.rests
+
+  -- what is read as the slot's type stays there
+  pub part-stayed : (f : Field) (d : Option ErrorKind) → IsPart f (struct_object_tree s) (nth_tree (struct_object_tree s).pointers i) d ⊥ → IsWellFormed (nth_tree (struct_object_tree s).pointers i) →
+      struct_object_tree s' ≡ struct_object_tree s → OnOk r (d ≡ None) → IfErr r (λ n. d ≡ Some n.kind) → IsSlotFilled f s i r s'
+  part-stayed f d part formed stays within cause =
+      part-made f (nth_tree (struct_object_tree s).pointers i) d ⊥ part (always r formed) (always r (same-there (struct_object_tree s) (struct_object_tree s') i _ stays refl)) within (always-err r stays) (due-cause d r cause) (λ h. absurd h)

@@ -5,8 +5,13 @@ use Rattle.std.proofs.lemmas.Bool.{true≢false}
 use Rattle.capnp_wire.specs.Tree as tree
 use Rattle.capnp_wire.specs.Tree.{StructTree, Tree, nth_tree}
 use Rattle.capnp_wire.specs.Defaults as wire
-use Rattle.capnp_wire.specs.Reading.{is_null_tree}
+use Rattle.capnp_wire.specs.Defaults.{error_of}
+use Rattle.capnp_wire.specs.Edits.{HoldsStruct, extended, struct_in, struct_refusal}
+use Rattle.capnp_wire.specs.Place.{struct_tree}
+use Rattle.capnp_wire.specs.Reading.{as_data, as_text, is_null_tree}
 use Rattle.capnp_wire.specs.StructLists.{struct_list_refusal}
+use Rattle.capnp_wire.specs.declared.size.StructSize.{StructSize}
+use Rattle.capnp_base.specs.declared.introspect.RawBrandedStructSchema.{RawBrandedStructSchema}
 use Rattle.capnp_base.specs.declared.introspect.«Type».{«Type» as TypeHandle}
 use Rattle.capnp_base.specs.declared.introspect.TypeVariant.{TypeVariant}
 use Rattle.capnp_base.specs.declared.introspect.TypeVariant.TheVariants as variant
@@ -15,11 +20,12 @@ use Rattle.capnp_schema.specs.declared.schema.fields.Field.{Field}
 use Rattle.capnp_schema.specs.Schema.{Schemas, Value, ListValue, TextValue, DataValue, default_of}
 use Rattle.capnp_schema.specs.Types.{SchemaType, VoidType, BoolType, IntType, UIntType, EnumType, TextType, DataType, StructType, ListType, AnyPointerType, element_size, seen_type, seen_variant}
 use Rattle.capnp_records.specs.Facts.Frame.{second-of}
-use Rattle.capnp_records.specs.Writes.Fill.{IsAtRest, entered_list, or_default}
-use Rattle.capnp_records.specs.Writes.Slots.{brand_size}
 use Rattle.capnp_records.specs.Given.{data_tree, text_tree}
-use Rattle.capnp_slots.specs.Fills.{ListRests, RestsIn, due_in, fill_due, filled_in, filled_tree, list_due, pointer_in}
+use Rattle.capnp_records.specs.Writes.Fill.{IsAtRest, default_struct, entered_list, or_default}
+use Rattle.capnp_records.specs.Writes.Slots.{brand_size}
+use Rattle.capnp_slots.specs.Fills.{ListRests, fill_due, filled_tree, list_due, pointer_in}
 use Rattle.capnp_slots.specs.Fields.{field_set, pointer_index}
+use Rattle.capnp_slots.proofs.FilledSlots.{IsPart}
 
 second : {A : Type 0} (q : Bool) (a b : A) → q ≡ false → cond q a b ≡ b
 second true a b e = absurd (true≢false e)
@@ -82,26 +88,62 @@ module _ (set : Schemas) (d : Value) (x : Tree) (there : is_null_tree x ≡ fals
 
 -- ---- by a field ----
 
+pub struct-at : (f : Field) (i : ℕ) (s : StructTree) → i ≡ pointer_index f → is_null_tree (nth_tree s.pointers i) ≡ false → (b g : ℕ) (size : StructSize) → size ≡ brand_size (field_set f) b → StructType b g ≡ (typed_of f).type →
+    IsPart f s (struct_tree (extended size (struct_in (nth_tree s.pointers i)))) (struct_refusal (nth_tree s.pointers i)) (HoldsStruct size (nth_tree s.pointers i))
+struct-at f i s at there b g size same t =
+    let set : Schemas = field_set f in
+    let d : Value = default_of (typed_of f).field in
+    let x : Tree = pointer_in f s in
+    let stands : is_null_tree x ≡ false = subst (λ j. is_null_tree (nth_tree s.pointers j) ≡ false) at there in
+    subst (λ (z : StructSize). IsPart f s (struct_tree (extended z (struct_in (nth_tree s.pointers i)))) (struct_refusal (nth_tree s.pointers i)) (HoldsStruct z (nth_tree s.pointers i))) (sym same)
+    (subst (λ j. IsPart f s (struct_tree (extended (brand_size set b) (struct_in (nth_tree s.pointers j)))) (struct_refusal (nth_tree s.pointers j)) (HoldsStruct (brand_size set b) (nth_tree s.pointers j))) (sym at)
+    (record {
+      filled = subst (λ u. struct_tree (extended (brand_size set b) (struct_in x)) ≡ filled_tree set d u x) t
+          (ap (λ y. struct_tree (extended (brand_size set b) y)) (sym (second-of (is_null_tree x) (default_struct d) (struct_in x) stands)));
+      due = subst (λ u. struct_refusal x ≡ fill_due set d u x) t refl;
+      rests = λ r. subst (λ u. IsAtRest set d u x) (sym t) r;
+    }))
+
 module _ (f : Field) (v : TypeVariant) (i : ℕ) (s : StructTree) (at : i ≡ pointer_index f) (h : seen_variant v ≡ (typed_of f).type) (there : is_null_tree (nth_tree s.pointers i) ≡ false) where
   stands-there : is_null_tree (pointer_in f s) ≡ false
   stands-there = subst (λ j. is_null_tree (nth_tree s.pointers j) ≡ false) at there
 
-  pub text-in : v ≡ variant.Text → nth_tree s.pointers i ≡ filled_in f s
-  text-in e = ap (nth_tree s.pointers) at ∙ subst (λ u. pointer_in f s ≡ filled_tree (field_set f) (default_of (typed_of f).field) u (pointer_in f s)) (ap seen_variant (sym e) ∙ h)
-      (text-stays (field_set f) (default_of (typed_of f).field) (pointer_in f s) stands-there)
+  pub struct-in : (raw : RawBrandedStructSchema) (size : StructSize) → size ≡ brand_size (field_set f) raw.number → v ≡ variant.Struct raw →
+      IsPart f s (struct_tree (extended size (struct_in (nth_tree s.pointers i)))) (struct_refusal (nth_tree s.pointers i)) (HoldsStruct size (nth_tree s.pointers i))
+  struct-in raw size same e = struct-at f i s at there raw.number raw.generic size same (ap seen_variant (sym e) ∙ h)
 
-  pub data-in : v ≡ variant.«Data» → nth_tree s.pointers i ≡ filled_in f s
-  data-in e = ap (nth_tree s.pointers) at ∙ subst (λ u. pointer_in f s ≡ filled_tree (field_set f) (default_of (typed_of f).field) u (pointer_in f s)) (ap seen_variant (sym e) ∙ h)
-      (data-stays (field_set f) (default_of (typed_of f).field) (pointer_in f s) stands-there)
+  pub text-in : v ≡ variant.Text → IsPart f s (nth_tree s.pointers i) (error_of (as_text (nth_tree s.pointers i))) ⊥
+  text-in e =
+      let d : Value = default_of (typed_of f).field in
+      let x : Tree = pointer_in f s in
+      let t : TextType ≡ (typed_of f).type = ap seen_variant (sym e) ∙ h in
+      subst (λ j. IsPart f s (nth_tree s.pointers j) (error_of (as_text (nth_tree s.pointers j))) ⊥) (sym at)
+      (record {
+        filled = subst (λ u. x ≡ filled_tree (field_set f) d u x) t (text-stays (field_set f) d x stands-there);
+        due = subst (λ u. error_of (as_text x) ≡ fill_due (field_set f) d u x) t refl;
+        rests = λ r. subst (λ u. IsAtRest (field_set f) d u x) (sym t) r;
+      })
 
-  -- what stands at a list's slot, by the set and the index that the code has
-  pub record StandingList (set : Schemas) (e : SchemaType) (j : ℕ) : Type 0 where
-    pub filled : entered_list set e (wire.or_default tree.Null (nth_tree s.pointers j)) ≡ filled_in f s
-    pub due : list_due set e tree.Null (nth_tree s.pointers j) ≡ due_in f s
-    pub rests : RestsIn f s → ListRests set e tree.Null (nth_tree s.pointers j)
+  pub data-in : v ≡ variant.«Data» → IsPart f s (nth_tree s.pointers i) (error_of (as_data (nth_tree s.pointers i))) ⊥
+  data-in e =
+      let d : Value = default_of (typed_of f).field in
+      let x : Tree = pointer_in f s in
+      let t : DataType ≡ (typed_of f).type = ap seen_variant (sym e) ∙ h in
+      subst (λ j. IsPart f s (nth_tree s.pointers j) (error_of (as_data (nth_tree s.pointers j))) ⊥) (sym at)
+      (record {
+        filled = subst (λ u. x ≡ filled_tree (field_set f) d u x) t (data-stays (field_set f) d x stands-there);
+        due = subst (λ u. error_of (as_data x) ≡ fill_due (field_set f) d u x) t refl;
+        rests = λ r. subst (λ u. IsAtRest (field_set f) d u x) (sym t) r;
+      })
 
-  pub list-in : (set : Schemas) (element : TypeHandle) → set ≡ field_set f → v ≡ variant.List element → StandingList set (seen_type element) i
+  -- what stands at a list's slot, by the set that the code has
+  pub list-in : (set : Schemas) (element : TypeHandle) → set ≡ field_set f → v ≡ variant.List element →
+      IsPart f s (entered_list set (seen_type element) (wire.or_default tree.Null (nth_tree s.pointers i))) (list_due set (seen_type element) tree.Null (nth_tree s.pointers i))
+      (ListRests set (seen_type element) tree.Null (nth_tree s.pointers i))
   list-in set element same e =
       let part = list-stands (field_set f) (default_of (typed_of f).field) (pointer_in f s) stands-there (seen_type element) (typed_of f).type (ap seen_variant (sym e) ∙ h) in
-      subst (λ (z : Schemas). StandingList z (seen_type element) i) (sym same)
-      (subst (λ j. StandingList (field_set f) (seen_type element) j) (sym at) (record { filled = part.filled; due = part.due; rests = part.rests }))
+      subst (λ (z : Schemas). IsPart f s (entered_list z (seen_type element) (wire.or_default tree.Null (nth_tree s.pointers i))) (list_due z (seen_type element) tree.Null (nth_tree s.pointers i))
+      (ListRests z (seen_type element) tree.Null (nth_tree s.pointers i))) (sym same)
+      (subst (λ j. IsPart f s (entered_list (field_set f) (seen_type element) (wire.or_default tree.Null (nth_tree s.pointers j))) (list_due (field_set f) (seen_type element) tree.Null (nth_tree s.pointers j))
+      (ListRests (field_set f) (seen_type element) tree.Null (nth_tree s.pointers j))) (sym at)
+      (record { filled = part.filled; due = part.due; rests = part.rests }))

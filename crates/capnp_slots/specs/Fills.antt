@@ -1,5 +1,6 @@
 -- What a builder's get of a slot leaves at its pointer, and why it is refused.
-use Rattle.std.specs.Prelude.{ℕ, ◌<◌, ◌≡◌, Bool, true, false, Option, None}
+use Rattle.std.specs.Prelude.{ℕ, ◌<◌, ◌≡◌, ⊤, Bool, true, false, Option, None, Result, IfErr, IsOk, OnErr, OnOk}
+use Rattle.capnp_device.specs.declared.error.Error.{Error}
 use Rattle.capnp_device.specs.declared.error.ErrorKind.{ErrorKind}
 use Rattle.capnp_wire.specs.Tree.{StructTree, Tree, nth_tree, tree_count}
 use Rattle.capnp_wire.specs.Objects.{struct_object_tree}
@@ -7,17 +8,18 @@ use Rattle.capnp_wire.specs.declared.object.StructObject.{StructObject}
 use Rattle.capnp_wire.specs.Place.{struct_tree}
 use Rattle.capnp_wire.specs.Reading.{as_data, as_text}
 use Rattle.capnp_wire.specs.Defaults.{error_of, filled_list_refusal, filled_structs_refusal, list_refusal, takes_default}
-use Rattle.capnp_wire.specs.Defaults.{default_tree as reader_tree}
+use Rattle.capnp_wire.specs.Defaults.{default_tree as reader_tree, or_default as tree_or_default}
 use Rattle.capnp_wire.specs.declared.pointer_reader.PointerReader.{PointerReader}
-use Rattle.capnp_wire.specs.Edits.{struct_refusal, with_pointer_tree}
+use Rattle.capnp_wire.specs.Edits.{IsDueRefusal, struct_refusal, with_pointer_tree}
 use Rattle.capnp_wire.specs.StructLists.{HoldsStructs, struct_list_refusal}
+use Rattle.capnp_wire.specs.WellFormed.{IsWellFormed}
 use Rattle.capnp_schema.specs.Defaults.{DefaultFits, default_tree}
 use Rattle.capnp_schema.specs.FieldLists.{typed_of}
 use Rattle.capnp_schema.specs.Schema.{Schemas, VoidValue, TextValue, DataValue, Value, default_of}
 use Rattle.capnp_schema.specs.Types.{SchemaType, TextType, DataType, StructType, ListType, AnyPointerType, element_size}
 use Rattle.capnp_schema.specs.declared.schema.fields.Field.{Field}
 use Rattle.capnp_records.specs.Given.{data_tree, text_tree}
-use Rattle.capnp_records.specs.Writes.Fill.{IsAtRest, filled_list, filled_struct, or_default}
+use Rattle.capnp_records.specs.Writes.Fill.{IsAtRest, entered_list, filled_list, filled_struct, or_default}
 use Rattle.capnp_records.specs.Writes.Slots.{brand_size}
 use Rattle.capnp_records.specs.Writes.TreeCopy.{or_else}
 use Rattle.capnp_slots.specs.Fields.{field_set, pointer_index}
@@ -94,6 +96,23 @@ tree_there s i = nth_tree (struct_object_tree s).pointers i
 
 abbrev pub HoldsThere : StructObject → ℕ → StructObject → Tree → Type 0
 HoldsThere s i s' t = struct_object_tree s' ≡ with_pointer_tree (struct_object_tree s) i t
+
+-- that pointer was filled: what is left there is well-formed, a refusal has its cause and changed nothing, and where the
+-- pointer rests nothing is refused
+pub record IsFilled (left : Tree) (due : Option ErrorKind) (Quiet : Type 0) (s : StructObject) (i : ℕ) (r : Result ⊤ Error) (s' : StructObject) : Type 0 where
+  pub filled : OnOk r (HoldsThere s i s' left)
+  pub within : OnOk r (due ≡ None)
+  pub kept : OnOk r (IsWellFormed left)
+  pub refused : OnErr r (struct_object_tree s' ≡ struct_object_tree s)
+  pub cause : IfErr r (λ e. IsDueRefusal e due)
+  pub rests : Quiet → IsOk r
+
+-- as a field's slot, and as a list of elements of a type with the tree of a default
+abbrev pub IsSlotFilled : Field → StructObject → ℕ → Result ⊤ Error → StructObject → Type 0
+IsSlotFilled f s i r s' = IsFilled (filled_in f (struct_object_tree s)) (due_in f (struct_object_tree s)) (RestsIn f (struct_object_tree s)) s i r s'
+
+abbrev pub IsListFilled : Schemas → SchemaType → Tree → StructObject → ℕ → Result ⊤ Error → StructObject → Type 0
+IsListFilled set e D s i r s' = IsFilled (entered_list set e (tree_or_default D (tree_there s i))) (list_due set e D (tree_there s i)) (ListRests set e D (tree_there s i)) s i r s'
 
 -- ---- elements of a list ----
 

@@ -8,12 +8,13 @@ use Rattle.capnp_wire.specs.Tree.{StructTree, Tree, Null}
 use Rattle.capnp_base.specs.AnyPointer.{pointer_of}
 use Rattle.capnp_schema.specs.FieldLists.{typed_of}
 use Rattle.capnp_schema.specs.declared.schema.fields.Field.{Field}
+use Rattle.capnp_schema.specs.Schema.{Schemas}
 use Rattle.capnp_schema.specs.StructHandles.{number_of}
-use Rattle.capnp_schema.specs.Types.{VoidType, seen_type}
+use Rattle.capnp_schema.specs.Types.{SchemaType, VoidType, seen_type}
 use Rattle.capnp_records.specs.Call.{TextSource, DataSource, StructSource, ListSource, AnyPointerSource}
 use Rattle.capnp_records.specs.Call.{Source as GivenSource}
-use Rattle.capnp_records.specs.Given.{Given, Gives, Copies, CopiesGroup, Fails, copied_struct, copy_refusal, data_past, text_past}
-use Rattle.capnp_records.specs.Record.{Left, Value}
+use Rattle.capnp_records.specs.Given.{Given, Gives, Copies, CopiesGroup, Fails, copied_struct, copy_refusal, data_past, given_slot, text_past}
+use Rattle.capnp_records.specs.Record.{Left, Levels, Value}
 use Rattle.capnp_slots.specs.Primitives.{given_to, primitive_source, set_content}
 use Rattle.capnp_slots.specs.Fields.{Keeps, names_of, slot_with}
 use Rattle.capnp_slots.specs.declared.source.Source.{Source}
@@ -76,6 +77,10 @@ GivesCopy s (Copies x past v) (Err e) = ⊥
 GivesCopy s (CopiesGroup l x b) r = ⊥
 GivesCopy s (Fails kind) (Ok copied) = ⊥
 GivesCopy s (Fails kind) (Err e) = e.kind ≡ kind
+
+-- the same of an untyped pointer, whatever it leads to
+abbrev pub GivesUntyped : SchemaType → Result Bool Error → Type 0
+GivesUntyped t r = (set : Schemas) (l : Levels) (x : Tree) → GivesCopy (AnyPointerSource l x) (given_slot set t (AnyPointerSource l x)) r
 
 -- a source that is copied
 abbrev pub IsCopy : GivenSource → Type 0

@@ -34,27 +34,27 @@ pub(crate) fn variant_of(field: Field<'_>) -> TypeVariant
     field.get_type().which()
 }
 
+/// What a read is refused with, without what it answers.
+fn refusal_alone<T: Drop>(read: Result<T>) -> Result<()>
+    ensures { refusal_of result ≡ refusal_of read }
+{
+    match read {
+        Ok(_) => Ok(()),
+        Err(error) => Err(error),
+    }
+}
+
 /// Refuses a pointer that is not read as a value of a type, as its read does; an untyped one is never copied.
 fn check_read(variant: TypeVariant, pointer: &PointerReader<'_>) -> Result<()>
     requires { is_pointer (seen_variant variant) ≡ true }
     ensures { refusal_of result ≡ read_due (seen_variant variant) (tree_of pointer.now) (levels_of pointer.now) }
 {
     match variant {
-        TypeVariant::Text => {
-            pointer.get_text()?;
-            Ok(())
-        }
-        TypeVariant::Data => {
-            pointer.get_data()?;
-            Ok(())
-        }
-        TypeVariant::Struct(_) => {
-            pointer.get_struct()?;
-            Ok(())
-        }
+        TypeVariant::Text => refusal_alone(pointer.get_text()),
+        TypeVariant::Data => refusal_alone(pointer.get_data()),
+        TypeVariant::Struct(_) => refusal_alone(pointer.get_struct()),
         TypeVariant::List(element) => {
-            pointer.get_list(element.expected_element_size())?;
-            Ok(())
+            refusal_alone(pointer.get_list(element.expected_element_size()))
         }
         TypeVariant::AnyPointer => Err(Error::from(
             ErrorKind::CannotSetAnyPointerFieldToAPrimitiveValue,
@@ -211,7 +211,7 @@ fn copy_number(object: &mut StructObject, field: Field<'_>, source: &StructReade
 }
 
 /// Whether a type's values stand behind a pointer.
-pub(crate) fn is_behind(variant: TypeVariant) -> bool
+pub fn is_behind(variant: TypeVariant) -> bool
     ensures { result ≡ is_pointer (seen_variant variant) }
 {
     match variant {
@@ -230,6 +230,8 @@ pub(crate) fn is_behind(variant: TypeVariant) -> bool
 /// Refused, in this order: for an untyped slot with `CannotSetAnyPointerFieldToAPrimitiveValue`, even where it is null; as the
 /// read of the source's pointer under the slot's type; with `BadPointer`, `TooDeep` or `CapabilityPointer` where a pointer in
 /// what it leads to can't be followed, by the first of these in preorder; and with `OutOfMemory`. Then nothing has changed.
+///
+/// The field has to be a slot, and the struct to have the sections of the field's schema.
 pub fn copy(object: &mut StructObject, field: Field<'_>, source: StructReader<'_>) -> Result<()>
     requires slot { IsSlot field }
     requires room { IsRoomFor field (struct_object_tree object.old) }

@@ -4,14 +4,14 @@ ghost use Rattle.capnp_wire.specs.Objects.{struct_object_tree};
 ghost use Rattle.capnp_wire.specs.Tree.{StructTree, Tree};
 ghost use Rattle.capnp_schema.specs.Schema.{Schemas};
 ghost use Rattle.capnp_schema.specs.Types.{SchemaType, seen_variant};
-ghost use Rattle.capnp_records.specs.Call.{AnyPointerSource, DataSource, ListSource, StructSource, TextSource};
+ghost use Rattle.capnp_records.specs.Call.{DataSource, ListSource, StructSource, TextSource};
 ghost use Rattle.capnp_records.specs.Given.{Fails, given_slot};
 ghost use Rattle.capnp_records.specs.Record.{Levels};
 ghost use Rattle.capnp_records.specs.Writes.Contents.{source_tree};
 ghost use Rattle.capnp_records.specs.Writes.Slots.{At};
 ghost use Rattle.capnp_slots.specs.Fields.{IsPointer, IsRoomFor, IsSlot, Keeps, names_of, slot_with};
 ghost use Rattle.capnp_slots.specs.Primitives.{given_to};
-ghost use Rattle.capnp_slots.specs.Sources.{GivesCopy, IsCopy, IsCopyDue, IsPointed, IsSoundCopy, TakesSource, source_seen};
+ghost use Rattle.capnp_slots.specs.Sources.{GivesCopy, GivesUntyped, IsCopy, IsCopyDue, IsPointed, IsSoundCopy, TakesSource, source_seen};
 
 use crate::primitive::mismatch;
 use crate::slot::set_pointer;
@@ -74,7 +74,7 @@ fn copies_list(variant: TypeVariant) -> Result<bool>
 
 /// An untyped pointer is taken by no slot but a void one, which takes nothing of it.
 fn copies_untyped(variant: TypeVariant) -> Result<bool>
-    ensures { (set : Schemas) (l : Levels) (t : Tree) → GivesCopy (AnyPointerSource l t) (given_slot set (seen_variant variant) (AnyPointerSource l t)) result }
+    ensures { GivesUntyped (seen_variant variant) result }
 {
     match variant {
         TypeVariant::Void => Ok(false),

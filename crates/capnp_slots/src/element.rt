@@ -92,7 +92,7 @@ fn number_in(set: &SchemaSet, element: Type, value: Primitive) -> Result<u64>
 /// number alone. No memory is taken.
 ///
 /// Refused with `ListAnyPointerNotSupported` for an untyped element, and with `TypeMismatch` where the element is of
-/// another kind than the value; then nothing has changed.
+/// another kind than the value; then nothing has changed. An element of that type has to be there.
 pub fn set_primitive(
     list: &mut ListObject,
     set: &SchemaSet,
@@ -239,6 +239,8 @@ fn set_struct(
 /// a struct of another schema; then with `BadPointer`, `TooDeep` or `CapabilityPointer` where a pointer in the source can't
 /// be followed, by the first of these in preorder, also where it would not fit; with `SizePastFormat` for a text of more than
 /// 2^29 - 2 bytes or data of more than 2^29 - 1; and with `OutOfMemory`. Then nothing has changed.
+///
+/// An element of that type has to be there.
 pub fn set(
     list: &mut ListObject,
     set: &SchemaSet,
@@ -289,6 +291,8 @@ fn init_at(
 /// Refused with `ListAnyPointerNotSupported` for an untyped element and `ExpectedAListOrBlob` for another one that is no
 /// list, text or data; with `SizePastFormat` for a text of more than 2^29 - 2 bytes, data of more than 2^29 - 1, 2^29
 /// elements or more, or structs that take 2^29 words or more; and with `OutOfMemory`. Then nothing has changed.
+///
+/// An element of that type has to be there.
 pub fn init(
     list: &mut ListObject,
     set: &SchemaSet,
@@ -321,6 +325,8 @@ pub fn init(
 /// Refused with `WrongPointerKind`, `WrongElementSize` or `TextNotTerminated` where what stands there is not read as the
 /// element's type, with `SizePastFormat` where the structs of a list would take 2^29 words or more, and else with
 /// `OutOfMemory`; then nothing has changed. Where nothing has to be extended no memory is taken.
+///
+/// The list has to be well-formed, and the element to stand behind a pointer.
 pub fn fill(list: &mut ListObject, set: &SchemaSet, element: Type, index: u32) -> Result<()>
     requires behind { is_behind (seen_type element) ≡ true }
     requires pointer { HasPointer (list_object_tree list.old) index }
@@ -365,6 +371,8 @@ fn fill_at(list: &mut ListObject, set: &SchemaSet, variant: TypeVariant, index: 
 /// Refused with `WrongPointerKind` or `WrongElementSize` where what stands there is not read as such a list, with
 /// `SizePastFormat` where the structs would take 2^29 words or more, and else with `OutOfMemory`; then nothing has changed.
 /// Where no struct has to be extended no memory is taken.
+///
+/// What the pointer leads to has to be well-formed.
 pub fn fill_list(pointer: &mut Object, set: &SchemaSet, element: Type) -> Result<()>
     requires { IsWellFormed (object_tree pointer.old) }
     ensures filled { OnOk result (object_tree pointer.new ≡ entered_list (lists_seen set.now) (seen_type element) (object_tree pointer.old)) }

@@ -1,16 +1,13 @@
 //! What stands at a struct's pointers, filled from defaults and extended.
-ghost use Rattle.std.specs.Prelude.{None, Some, false, true, ◌≡◌, ◌≢◌, ◌<◌, IfErr, IsOk, OnErr, OnOk};
+ghost use Rattle.std.specs.Prelude.{None, Some, false, ◌≡◌, ◌≢◌, ◌<◌, IfErr, IsOk, OnErr, OnOk};
 ghost use Rattle.capnp_wire.specs.Defaults.{default_tree, error_of, filled_list_refusal, filled_struct, filled_struct_refusal, filled_structs, filled_structs_refusal, or_default, takes_default};
-ghost use Rattle.capnp_wire.specs.Edits.{HoldsStruct, IsDueRefusal, extended, struct_in, struct_refusal, with_pointer_tree};
+ghost use Rattle.capnp_wire.specs.Edits.{HoldsStruct, IsDueRefusal, extended, struct_in, struct_refusal};
 ghost use Rattle.capnp_wire.specs.Objects.{struct_object_tree};
 ghost use Rattle.capnp_wire.specs.Place.{struct_tree};
 ghost use Rattle.capnp_wire.specs.Reading.{as_data, as_text};
 ghost use Rattle.capnp_wire.specs.StructLists.{HoldsStructs};
-ghost use Rattle.capnp_wire.specs.Tree.{nth_tree, tree_count};
 ghost use Rattle.capnp_wire.specs.WellFormed.{IsWellFormed};
 ghost use Rattle.capnp_slots.specs.Fills.{HoldsThere, IsThere, tree_there};
-ghost use Rattle.capnp_records.specs.Given.{data_tree, text_tree};
-ghost use Rattle.capnp_records.specs.Writes.TreeCopy.{or_else};
 
 use capnp_wire::PointerReader;
 use capnp_wire::error::Result;

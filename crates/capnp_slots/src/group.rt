@@ -71,7 +71,7 @@ fn clear_member(object: &mut StructObject, schema: StructSchema<'_>, groups: usi
     }
 }
 
-/// Clears the plain fields by index.
+/// Clears the non-union fields by index.
 #[cycle(clear)]
 fn clear_plain(object: &mut StructObject, schema: StructSchema<'_>, groups: usize)
     requires { Fits (set_of schema) (number_of schema) (struct_object_tree object.old) }
@@ -88,7 +88,7 @@ fn clear_plain(object: &mut StructObject, schema: StructSchema<'_>, groups: usiz
     }
 }
 
-/// Clears a group of a struct: its member of discriminant value 0, and then its plain fields by index.
+/// Clears a group of a struct: its member of discriminant value 0, and then its non-union fields by index.
 #[cycle(clear)]
 pub(crate) fn clear_group(object: &mut StructObject, schema: StructSchema<'_>, groups: usize)
     requires { Fits (set_of schema) (number_of schema) (struct_object_tree object.old) }
@@ -103,8 +103,10 @@ pub(crate) fn clear_group(object: &mut StructObject, schema: StructSchema<'_>, g
 }
 
 /// Clears a group: a member of its struct's union becomes active, and then the group's member of discriminant value 0 and
-/// its plain fields by index are cleared, groups in the same way. The group then reads as its default record. No memory is
-/// taken.
+/// its non-union fields by index are cleared, groups in the same way. The group then reads as its default record. No memory
+/// is taken.
+///
+/// The field has to be a group, and the struct to have the sections of the field's schema.
 pub fn clear(object: &mut StructObject, field: Field<'_>)
     requires group { IsGroup field }
     requires room { IsRoomFor field (struct_object_tree object.old) }
@@ -121,7 +123,8 @@ pub fn clear(object: &mut StructObject, field: Field<'_>)
     clear_group(object, group, set.brands().len());
 }
 
-/// Initializes a group, as `clear` does.
+/// Initializes a group, as `clear` does. The field has to be a group, and the struct to have the sections of the field's
+/// schema.
 pub fn init(object: &mut StructObject, field: Field<'_>)
     requires group { IsGroup field }
     requires room { IsRoomFor field (struct_object_tree object.old) }
@@ -152,12 +155,14 @@ fn copy(
 }
 
 /// Sets a group to a struct of its schema: it is cleared, as by `clear`, and then the source's fields are copied: first its
-/// active member, a null one as its default, and then its plain fields by index, but for null pointers. Groups in it are
+/// active member, a null one as its default, and then its non-union fields by index, but for null pointers. Groups in it are
 /// copied in the same way. A member is not copied where the source's discriminant is that of none.
 ///
 /// Refused with `NotAStruct` for a source that is no struct, and with `TypeMismatch` for a struct of another schema; then
 /// nothing has changed. The first slot whose copy is refused, as by `copied::copy`, ends the whole with that refusal: the
 /// group stays as it is by then, cleared and with what was copied before.
+///
+/// The field has to be a group, and the struct to have the sections of the field's schema.
 #[inline(never)]
 pub fn set(object: &mut StructObject, field: Field<'_>, source: Source<'_>) -> Result<()>
     requires group { IsGroup field }

@@ -114,7 +114,7 @@ fn copy_member(
     }
 }
 
-/// Copies the plain fields that the source has, by index, up to the first that is refused.
+/// Copies the non-union fields that the source has, by index, up to the first that is refused.
 #[cycle(copy)]
 fn copy_plain(
     object: &mut StructObject,
@@ -139,8 +139,8 @@ fn copy_plain(
     Ok(())
 }
 
-/// Copies a group: it is cleared, and then the source's active member and the plain fields that the source has are copied
-/// up to the first that is refused.
+/// Copies a group: it is cleared, and then the source's active member and the non-union fields that the source has are
+/// copied up to the first that is refused.
 #[cycle(copy)]
 pub(crate) fn copy_group(
     object: &mut StructObject,

@@ -62,7 +62,7 @@ pub fn groups_are_started(field: Field<'_>)
 }
 
 /// A write of a field changes nothing of what another one of the struct is read as, nor of whether it is there, unless both
-/// are members; that of a plain field leaves the active member.
+/// are members; that of a non-union field leaves the active member.
 pub fn others_are_read(field: Field<'_>, other: Field<'_>)
     ensures read { OtherIsGot field.entry other.entry }
     ensures there { OtherIsThere field.entry other.entry }

@@ -12,7 +12,7 @@ mod fill_element;
 pub mod group;
 mod group_copy;
 pub mod laws;
-mod loaded;
+pub mod loaded;
 mod make;
 pub mod part;
 mod planned;
@@ -20,3 +20,5 @@ mod pointer;
 pub mod primitive;
 pub mod slot;
 pub mod source;
+
+pub use make::size_of;

@@ -25,14 +25,15 @@ fn load_byte(reader: &StructReader<'_>, start: u32) -> u64
     reader.get_data_field::<u8>(start / 8) as u64
 }
 
-/// The number of two bytes at `start`.
+/// The number of two bytes at `start`, which has to be a multiple of 16; zero past the end of the section.
+#[inline(always)]
 #[tactic(auto, using(crate::proofs::LoadedBits::load_16))]
-fn load_pair(reader: &StructReader<'_>, start: u32) -> u64
+pub fn load_pair(reader: &StructReader<'_>, start: u32) -> u16
     requires { start % 16 ≡ 0 }
     ensures { result ≡ bits_at (struct_of reader.now).bytes start 16 }
 {
     struct_is_well_formed(reader);
-    reader.get_data_field::<u16>(start / 16) as u64
+    reader.get_data_field::<u16>(start / 16)
 }
 
 /// The number of four bytes at `start`.
@@ -66,7 +67,7 @@ pub(crate) fn load_bits(reader: &StructReader<'_>, start: u32, width: u8) -> u64
     match width {
         1 => load_bit(reader, start),
         8 => load_byte(reader, start),
-        16 => load_pair(reader, start),
+        16 => load_pair(reader, start) as u64,
         32 => load_half(reader, start),
         64 => load_word(reader, start),
         _ => unreachable!(),
@@ -74,8 +75,9 @@ pub(crate) fn load_bits(reader: &StructReader<'_>, start: u32, width: u8) -> u64
 }
 
 /// The number of two bytes at an offset in units of them, as a discriminant stands there; zero past the end of the section.
+#[inline(always)]
 #[tactic(auto, using(crate::proofs::LoadedBits::load_discriminant))]
-pub(crate) fn load_discriminant(reader: &StructReader<'_>, offset: u32) -> u16
+pub fn load_discriminant(reader: &StructReader<'_>, offset: u32) -> u16
     ensures { result ≡ bits_at (struct_of reader.now).bytes (16 * offset) 16 }
 {
     struct_is_well_formed(reader);

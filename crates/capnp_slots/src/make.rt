@@ -30,7 +30,7 @@ use capnp_wire::size::{ElementSize, StructSize};
 
 /// The sections of a schema's structs.
 #[inline(always)]
-pub(crate) fn size_of(schema: StructSchema<'_>) -> StructSize
+pub fn size_of(schema: StructSchema<'_>) -> StructSize
     ensures { result ≡ brand_size (set_of schema.entry) (number_of schema.entry) }
 {
     let body = &schema.get_proto().body;

@@ -1,10 +1,8 @@
 //! Parts of a struct that is built: what a builder's `get` of a slot fills, and what it lends.
-ghost use Rattle.std.specs.Prelude.{None, false, true, ◌-◌, ◌^◌, ◌≡◌, ◌<◌, ◌≤◌, IfErr, IfOk, IsOk, OnErr, OnOk, length};
+ghost use Rattle.std.specs.Prelude.{None, false, true, ◌-◌, ◌^◌, ◌≡◌, ◌<◌, IfErr, IfOk, IsOk, OnErr, OnOk};
 ghost use Rattle.capnp_device.specs.declared.error.ErrorKind.TheVariants.{OutOfMemory};
-ghost use Rattle.capnp_wire.specs.Defaults.{default_tree as reader_tree, error_of, or_default};
+ghost use Rattle.capnp_wire.specs.Defaults.{default_tree as reader_tree, error_of};
 ghost use Rattle.capnp_wire.specs.Reading.{as_data, as_text, is_null_tree};
-ghost use Rattle.capnp_records.specs.Given.{data_tree, text_tree};
-ghost use Rattle.capnp_records.specs.Writes.Fill.{entered_list};
 ghost use Rattle.capnp_records.specs.Writes.TreeCopy.{or_else};
 ghost use Rattle.capnp_wire.specs.Edits.{IsDueRefusal, with_pointer_tree};
 ghost use Rattle.std.specs.Borrow.{sem};
@@ -12,9 +10,7 @@ ghost use Rattle.capnp_slots.specs.Lending.{LendsFilled};
 ghost use Rattle.capnp_wire.specs.Lends.{LendsPointer};
 ghost use Rattle.capnp_wire.specs.Objects.{object_tree, struct_object_tree};
 ghost use Rattle.capnp_wire.specs.Place.{struct_tree};
-ghost use Rattle.capnp_wire.specs.Tree.{nth_tree, tree_count};
 ghost use Rattle.capnp_wire.specs.WellFormed.{IsWellFormed};
-ghost use Rattle.capnp_schema.specs.Defaults.{default_tree};
 ghost use Rattle.capnp_schema.specs.Entries.{lists_seen};
 ghost use Rattle.capnp_schema.specs.FieldLists.{typed_of};
 ghost use Rattle.capnp_schema.specs.Schema.{default_of};
@@ -22,12 +18,13 @@ ghost use Rattle.capnp_schema.specs.StructHandles.{generic_of, number_of, set_of
 ghost use Rattle.capnp_schema.specs.Types.{ListType, StructType, seen_type};
 ghost use Rattle.capnp_slots.specs.Fields.{IsPointer, IsRoomFor, IsSlot, field_set, pointer_index};
 ghost use Rattle.capnp_slots.specs.Groups.{KeepsSize};
-ghost use Rattle.capnp_slots.specs.Fills.{HoldsThere, IsDefaultPointer, IsThere, ListRests, RestsIn, data_filled, due_in, filled_in, list_due, pointer_in, text_filled, tree_there};
+ghost use Rattle.capnp_slots.specs.Fills.{HoldsThere, IsDefaultPointer, IsListFilled, IsSlotFilled, IsThere, RestsIn, data_filled, due_in, filled_in, pointer_in, text_filled, tree_there};
 
 use crate::fill::{check_data, check_text, extend_struct, fill_list, fill_struct, fill_structs};
 use crate::make::size_of;
 use crate::pointer::{pointer_slot, set_at};
 use capnp_base::introspect::{Type, TypeVariant};
+use capnp_base::traits::SetterInput;
 use capnp_base::{data, text};
 use capnp_schema::schema::{Field, StructSchema};
 use capnp_schema::set::SchemaSet;
@@ -56,15 +53,7 @@ fn fill_elements(
 ) -> Result<()>
     requires inside { IsThere object.old index }
     requires formed { IsWellFormed (tree_there object.old index) }
-    ensures ok { OnOk result (HoldsThere object.old index object.new
-        (entered_list (lists_seen set.now) (seen_type element) (or_default (reader_tree default.entry) (tree_there object.old index)))) }
-    ensures kept { OnOk result (IsWellFormed (entered_list (lists_seen set.now) (seen_type element)
-        (or_default (reader_tree default.entry) (tree_there object.old index)))) }
-    ensures within { OnOk result (list_due (lists_seen set.now) (seen_type element) (reader_tree default.entry) (tree_there object.old index) ≡ None) }
-    ensures refused { OnErr result (struct_object_tree object.new ≡ struct_object_tree object.old) }
-    ensures cause { IfErr result (λ e. IsDueRefusal e (list_due (lists_seen set.now) (seen_type element) (reader_tree default.entry)
-        (tree_there object.old index))) }
-    ensures rests { ListRests (lists_seen set.now) (seen_type element) (reader_tree default.entry) (tree_there object.old index) → IsOk result }
+    ensures { IsListFilled (lists_seen set.now) (seen_type element) (reader_tree default.entry) object.old index result object.new }
 {
     match element.which() {
         TypeVariant::Struct(raw) => {
@@ -82,12 +71,7 @@ fn fill_null(object: &mut StructObject, field: Field<'_>, index: u16) -> Result<
     requires is { index ≡ pointer_index field }
     requires inside { IsThere object.old index }
     requires formed { IsWellFormed (struct_tree (struct_object_tree object.old)) }
-    ensures filled { OnOk result (HoldsThere object.old index object.new (filled_in field.entry (struct_object_tree object.old))) }
-    ensures within { OnOk result (due_in field.entry (struct_object_tree object.old) ≡ None) }
-    ensures kept { OnOk result (IsWellFormed (filled_in field.entry (struct_object_tree object.old))) }
-    ensures refused { OnErr result (struct_object_tree object.new ≡ struct_object_tree object.old) }
-    ensures cause { IfErr result (λ e. IsDueRefusal e (due_in field.entry (struct_object_tree object.old))) }
-    ensures rests { RestsIn field.entry (struct_object_tree object.old) → IsOk result }
+    ensures { IsSlotFilled field.entry object.old index result object.new }
 {
     pointers_of_structs_are_well_formed();
     let set = field.get_containing_struct().get_set();
@@ -114,12 +98,7 @@ fn fill_standing(object: &mut StructObject, field: Field<'_>, index: u16) -> Res
     requires inside { IsThere object.old index }
     requires formed { IsWellFormed (struct_tree (struct_object_tree object.old)) }
     requires standing { is_null_tree (tree_there object.old index) ≡ false }
-    ensures filled { OnOk result (HoldsThere object.old index object.new (filled_in field.entry (struct_object_tree object.old))) }
-    ensures within { OnOk result (due_in field.entry (struct_object_tree object.old) ≡ None) }
-    ensures kept { OnOk result (IsWellFormed (filled_in field.entry (struct_object_tree object.old))) }
-    ensures refused { OnErr result (struct_object_tree object.new ≡ struct_object_tree object.old) }
-    ensures cause { IfErr result (λ e. IsDueRefusal e (due_in field.entry (struct_object_tree object.old))) }
-    ensures rests { RestsIn field.entry (struct_object_tree object.old) → IsOk result }
+    ensures { IsSlotFilled field.entry object.old index result object.new }
 {
     pointers_of_structs_are_well_formed();
     let set = field.get_containing_struct().get_set();
@@ -144,12 +123,7 @@ fn fill_slot(object: &mut StructObject, field: Field<'_>, index: u16) -> Result<
     requires is { index ≡ pointer_index field }
     requires inside { IsThere object.old index }
     requires formed { IsWellFormed (struct_tree (struct_object_tree object.old)) }
-    ensures filled { OnOk result (HoldsThere object.old index object.new (filled_in field.entry (struct_object_tree object.old))) }
-    ensures within { OnOk result (due_in field.entry (struct_object_tree object.old) ≡ None) }
-    ensures kept { OnOk result (IsWellFormed (filled_in field.entry (struct_object_tree object.old))) }
-    ensures refused { OnErr result (struct_object_tree object.new ≡ struct_object_tree object.old) }
-    ensures cause { IfErr result (λ e. IsDueRefusal e (due_in field.entry (struct_object_tree object.old))) }
-    ensures rests { RestsIn field.entry (struct_object_tree object.old) → IsOk result }
+    ensures { IsSlotFilled field.entry object.old index result object.new }
 {
     if object.pointer_field(index).is_null() {
         return fill_null(object, field, index);
@@ -169,26 +143,24 @@ fn fill_text(object: &mut StructObject, index: u16, field: Field<'_>) -> Result<
 {
     check_text(object, index)?;
     match field.get_default() {
-        Value::Text(text) => put_text(object, index, text),
+        Value::Text(text) => put::<text::Owned, text::Reader<'_>>(object, index, text),
         _ => Ok(()),
     }
 }
 
-/// Puts a text in the place of a null.
-fn put_text(object: &mut StructObject, index: u16, text: text::Reader<'_>) -> Result<()>
-    requires inside { IsThere object.old index }
-    requires small { length text.0.now ≤ 2 ^ 29 - 2 }
-    ensures ok { OnOk result (HoldsThere object.old index object.new (or_else (tree_there object.old index) (text_tree text.entry.0.now))) }
-    ensures kept { OnOk result (IsWellFormed (tree_there object.old index)
-        → IsWellFormed (or_else (tree_there object.old index) (text_tree text.entry.0.now))) }
+/// Puts a default in the place of a null.
+fn put<R, S: SetterInput<R> + Copy>(object: &mut StructObject, index: u16, input: S) -> Result<()>
+    requires { IsThere object.old index }
+    ensures ok { OnOk result (HoldsThere object.old index object.new (or_else (tree_there object.old index) (S.set_tree input))) }
+    ensures kept { OnOk result (IsWellFormed (tree_there object.old index) → IsWellFormed (or_else (tree_there object.old index) (S.set_tree input))) }
     ensures refused { OnErr result (struct_object_tree object.new ≡ struct_object_tree object.old) }
     ensures null { OnErr result (is_null_tree (tree_there object.old index) ≡ true) }
-    ensures cause { IfErr result (λ e. e.kind ≡ OutOfMemory) }
+    ensures cause { IfErr result (S.set_refusal input) }
 {
     if !object.pointer_field(index).is_null() {
         return Ok(());
     }
-    set_at::<text::Owned, text::Reader<'_>>(object, index, text)
+    set_at(object, index, input)
 }
 
 /// Fills the data at a pointer, likewise.
@@ -203,25 +175,9 @@ fn fill_data(object: &mut StructObject, index: u16, field: Field<'_>) -> Result<
 {
     check_data(object, index)?;
     match field.get_default() {
-        Value::Data(bytes) => put_data(object, index, bytes),
+        Value::Data(bytes) => put::<data::Owned, data::Reader<'_>>(object, index, bytes),
         _ => Ok(()),
     }
-}
-
-/// Puts data in the place of a null.
-fn put_data(object: &mut StructObject, index: u16, bytes: data::Reader<'_>) -> Result<()>
-    requires inside { IsThere object.old index }
-    requires small { length bytes.now ≤ 2 ^ 29 - 1 }
-    ensures ok { OnOk result (HoldsThere object.old index object.new (or_else (tree_there object.old index) (data_tree bytes.now))) }
-    ensures kept { OnOk result (IsWellFormed (tree_there object.old index) → IsWellFormed (or_else (tree_there object.old index) (data_tree bytes.now))) }
-    ensures refused { OnErr result (struct_object_tree object.new ≡ struct_object_tree object.old) }
-    ensures null { OnErr result (is_null_tree (tree_there object.old index) ≡ true) }
-    ensures cause { IfErr result (λ e. e.kind ≡ OutOfMemory) }
-{
-    if !object.pointer_field(index).is_null() {
-        return Ok(());
-    }
-    set_at::<data::Owned, data::Reader<'_>>(object, index, bytes)
 }
 
 /// Fills what stands behind the pointer of a slot, as a builder's `get` does: a null text or data becomes a default of its
@@ -233,6 +189,9 @@ fn put_data(object: &mut StructObject, index: u16, bytes: data::Reader<'_>) -> R
 /// Refused with `WrongPointerKind`, `WrongElementSize` or `TextNotTerminated` where what stands there is not read as the
 /// slot's type, with `SizePastFormat` where the structs of a list would take 2^29 words or more, and else with `OutOfMemory`;
 /// then nothing has changed. Where nothing has to be filled or extended no memory is taken.
+///
+/// The field has to be a slot of a pointer type, and the struct to have the sections of the field's schema and to be
+/// well-formed.
 pub fn fill(object: &mut StructObject, field: Field<'_>) -> Result<()>
     requires slot { IsSlot field }
     requires pointer { IsPointer field }
@@ -266,12 +225,7 @@ fn fill_struct_at(
     requires is { index ≡ pointer_index field }
     requires inside { IsThere object.old index }
     requires formed { IsWellFormed (struct_tree (struct_object_tree object.old)) }
-    ensures filled { OnOk result (HoldsThere object.old index object.new (filled_in field.entry (struct_object_tree object.old))) }
-    ensures within { OnOk result (due_in field.entry (struct_object_tree object.old) ≡ None) }
-    ensures kept { OnOk result (IsWellFormed (filled_in field.entry (struct_object_tree object.old))) }
-    ensures refused { OnErr result (struct_object_tree object.new ≡ struct_object_tree object.old) }
-    ensures cause { IfErr result (λ e. IsDueRefusal e (due_in field.entry (struct_object_tree object.old))) }
-    ensures rests { RestsIn field.entry (struct_object_tree object.old) → IsOk result }
+    ensures { IsSlotFilled field.entry object.old index result object.new }
 {
     if object.pointer_field(index).is_null() {
         return fill_null(object, field, index);
@@ -282,7 +236,7 @@ fn fill_struct_at(
 
 /// Fills what stands behind the pointer of a slot of a struct's type, as `fill`: for a caller that has the type's schema.
 ///
-/// Refused as `fill`.
+/// Refused as `fill`. The schema has to be that of the slot's type, and the struct as `fill` asks.
 #[inline(always)]
 pub fn fill_struct_slot(
     object: &mut StructObject,
@@ -321,12 +275,7 @@ fn fill_list_at(
     requires is { index ≡ pointer_index field }
     requires inside { IsThere object.old index }
     requires formed { IsWellFormed (struct_tree (struct_object_tree object.old)) }
-    ensures filled { OnOk result (HoldsThere object.old index object.new (filled_in field.entry (struct_object_tree object.old))) }
-    ensures within { OnOk result (due_in field.entry (struct_object_tree object.old) ≡ None) }
-    ensures kept { OnOk result (IsWellFormed (filled_in field.entry (struct_object_tree object.old))) }
-    ensures refused { OnErr result (struct_object_tree object.new ≡ struct_object_tree object.old) }
-    ensures cause { IfErr result (λ e. IsDueRefusal e (due_in field.entry (struct_object_tree object.old))) }
-    ensures rests { RestsIn field.entry (struct_object_tree object.old) → IsOk result }
+    ensures { IsSlotFilled field.entry object.old index result object.new }
 {
     if object.pointer_field(index).is_null() {
         return fill_null(object, field, index);
@@ -338,7 +287,7 @@ fn fill_list_at(
 
 /// Fills what stands behind the pointer of a slot of a list's type, as `fill`: for a caller that has the type of the elements.
 ///
-/// Refused as `fill`.
+/// Refused as `fill`. The type has to be that of the slot's elements, and the struct as `fill` asks.
 #[inline(always)]
 pub fn fill_list_slot(object: &mut StructObject, field: Field<'_>, element: Type) -> Result<()>
     requires slot { IsSlot field }
@@ -358,7 +307,8 @@ pub fn fill_list_slot(object: &mut StructObject, field: Field<'_>, element: Type
     fill_list_at(object, field, element, index)
 }
 
-/// The pointer of a slot, as it stands.
+/// The pointer of a slot, as it stands. The slot has to be of a pointer type, and the struct to have the sections of the
+/// field's schema.
 #[inline(always)]
 pub fn pointer<'a>(object: &'a mut StructObject, field: Field<'_>) -> PointerBuilder<'a>
     requires slot { IsSlot field }
@@ -374,7 +324,7 @@ pub fn pointer<'a>(object: &'a mut StructObject, field: Field<'_>) -> PointerBui
 /// Fills what stands behind the pointer of a slot, as `fill`, and lends the pointer: `struct_here` of it then lends the
 /// struct, and `get_list` or `list_here` the list.
 ///
-/// Refused as `fill`.
+/// Refused as `fill`, and asks what `fill` does.
 pub fn get<'a>(object: &'a mut StructObject, field: Field<'_>) -> Result<PointerBuilder<'a>>
     requires slot { IsSlot field }
     requires pointer { IsPointer field }

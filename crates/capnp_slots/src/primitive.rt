@@ -27,7 +27,7 @@ pub enum Primitive {
 }
 
 /// A value of another kind than the field's.
-pub(crate) fn mismatch() -> Error
+pub fn mismatch() -> Error
     ensures { result.kind ≡ TypeMismatch }
 {
     Error::from(ErrorKind::TypeMismatch)

@@ -44,8 +44,9 @@ pub fn is_slot(field: Field<'_>) -> bool
     )
 }
 
-/// Makes a field active, where it is a member of its struct's union: its number stands in the discriminant. A plain field
-/// changes nothing. What stands in the field stays, and no memory is taken.
+/// Makes a field active, where it is a member of its struct's union: its number stands in the discriminant. A non-union
+/// field changes nothing. What stands in the field stays, and no memory is taken. The struct has to have the sections of the
+/// field's schema.
 #[inline(always)]
 pub fn switch(object: &mut StructObject, field: Field<'_>)
     requires { IsRoomFor field (struct_object_tree object.old) }
@@ -77,6 +78,8 @@ fn refuse_at(field: Field<'_>) -> Error
 ///
 /// Refused with `CannotSetAnyPointerFieldToAPrimitiveValue` for an untyped slot, and with `TypeMismatch` for a slot of
 /// another kind than the value's; then nothing has changed.
+///
+/// The field has to be a slot, and the struct to have the sections of the field's schema.
 #[inline(always)]
 pub fn set_primitive(object: &mut StructObject, field: Field<'_>, value: Primitive) -> Result<()>
     requires slot { IsSlot field }
@@ -101,6 +104,8 @@ pub fn set_primitive(object: &mut StructObject, field: Field<'_>, value: Primiti
 /// copy is made first, and then a member becomes active.
 ///
 /// Refused as the input's set of a pointer, and then nothing has changed.
+///
+/// The field has to be a slot of a pointer type, and the struct to have the sections of the field's schema.
 pub fn set_pointer<R, S: SetterInput<R>>(
     object: &mut StructObject,
     field: Field<'_>,
@@ -131,6 +136,8 @@ pub fn set_pointer<R, S: SetterInput<R>>(
 /// `TooDeep` or `CapabilityPointer` where a pointer in the source can't be followed, by the first of these in preorder;
 /// with `SizePastFormat` for a text of more than 2^29 - 2 bytes or data of more than 2^29 - 1; and with `OutOfMemory`. Then
 /// nothing has changed.
+///
+/// The field has to be a slot, and the struct to have the sections of the field's schema.
 #[inline(always)]
 pub fn set(object: &mut StructObject, field: Field<'_>, source: Source<'_>) -> Result<()>
     requires slot { IsSlot field }
@@ -167,6 +174,8 @@ fn set_pointed(object: &mut StructObject, field: Field<'_>, source: Source<'_>) 
 ///
 /// Refused with `InitIsOnlyValidForStructAndAnyPointerFields` for another slot, and with `OutOfMemory` for a struct; then
 /// nothing has changed.
+///
+/// The field has to be a slot, and the struct to have the sections of the field's schema.
 pub fn init(object: &mut StructObject, field: Field<'_>) -> Result<()>
     requires slot { IsSlot field }
     requires room { IsRoomFor field (struct_object_tree object.old) }
@@ -212,6 +221,8 @@ fn init_struct(object: &mut StructObject, field: Field<'_>, size: StructSize) ->
 /// Refused with `InitnIsOnlyValidForListTextOrDataFields` for another slot; with `SizePastFormat` for a text of more than
 /// 2^29 - 2 bytes, data of more than 2^29 - 1, 2^29 elements or more, or structs that take 2^29 words or more; and with
 /// `OutOfMemory`. Then nothing has changed.
+///
+/// The field has to be a slot, and the struct to have the sections of the field's schema.
 pub fn initn(object: &mut StructObject, field: Field<'_>, count: u32) -> Result<()>
     requires slot { IsSlot field }
     requires room { IsRoomFor field (struct_object_tree object.old) }
@@ -234,6 +245,8 @@ pub fn initn(object: &mut StructObject, field: Field<'_>, count: u32) -> Result<
 
 /// Clears a slot: its bits are zero, which reads as its default, or its pointer is null. A member becomes active. No
 /// memory is taken.
+///
+/// The field has to be a slot, and the struct to have the sections of the field's schema.
 #[inline(always)]
 pub fn clear(object: &mut StructObject, field: Field<'_>)
     requires slot { IsSlot field }

@@ -66,7 +66,7 @@ impl<'a> Builder<'a> {
     }
 
     /// A reader of the list for as long as the builder would be there, with 64 levels. The list stays as it is; the one of
-    /// nothing that a null was got as reads as an empty list.
+    /// nothing that a null was got as reads as an empty list. The list has to be well-formed.
     pub fn into_reader(self) -> Reader<'a>
         requires { IsWellFormed (built_elements self) }
         ensures list { list_of (list_reader_of result) ≡ built_reading self.entry }
@@ -82,7 +82,7 @@ impl<'a> Builder<'a> {
         Reader::new(builder.into_reader(), element_type, set)
     }
 
-    /// How many elements there are, below 2^29.
+    /// How many elements there are, below 2^29. The list has to be well-formed.
     pub fn len(&self) -> u32
         requires { IsWellFormed (built_elements self.now) }
         ensures length { result ≡ list_length (built_elements self.now) }
@@ -113,6 +113,8 @@ impl<'a> Builder<'a> {
     /// and a struct of another schema; then with `BadPointer`, `TooDeep` or `CapabilityPointer` where a pointer in the value
     /// can't be followed, by the first of these in preorder, also where it would not fit; with `SizePastFormat` for a text of
     /// more than 2^29 - 2 bytes or data of more than 2^29 - 1; and with `OutOfMemory`. Then nothing has changed.
+    ///
+    /// The list has to be ready (`IsListReady`).
     #[tactic(auto, using(crate::proofs::ListElements::room_in, crate::proofs::ListElements::set_ready))]
     pub fn set(&mut self, index: u32, value: dynamic_value::Reader<'_>) -> Result<()>
         requires ready { IsListReady self.old }
@@ -138,6 +140,8 @@ impl<'a> Builder<'a> {
     /// list, text or data; with `SizePastFormat` for a text of more than 2^29 - 2 bytes, data of more than 2^29 - 1, 2^29
     /// elements or more, or structs that take 2^29 words or more; and with `OutOfMemory`. Then nothing has changed, as
     /// `element::init` says.
+    ///
+    /// The list has to be ready (`IsListReady`).
     #[tactic(auto, using(crate::proofs::ListElements::room_in))]
     pub fn init(self, index: u32, size: u32) -> Result<dynamic_value::Builder<'a>>
         requires ready { IsListReady self }

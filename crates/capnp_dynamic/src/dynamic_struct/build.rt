@@ -41,7 +41,7 @@ pub struct Builder<'a> {
 }
 
 impl<'a> Builder<'a> {
-    /// A builder of a struct under a schema, of which the struct has at least the sections.
+    /// A builder of a struct under a schema, of which the struct has to have at least the sections.
     pub fn new(builder: StructBuilder<'a>, schema: StructSchema<'a>) -> Builder<'a>
         requires { Fits (set_of schema) (number_of schema) (struct_object_tree builder.old) }
         ensures builder { struct_behind result ≡ builder.entry }
@@ -61,6 +61,7 @@ impl<'a> Builder<'a> {
     }
 
     /// A reader of the struct, with 64 levels.
+    /// The struct has to have its schema's sections and be well-formed (`IsReady`).
     pub fn reborrow_as_reader(&self) -> Reader<'_>
         requires { IsReady self.now }
         ensures parts { struct_of (reader_of result) ≡ built_struct self.now }
@@ -72,6 +73,7 @@ impl<'a> Builder<'a> {
     }
 
     /// A reader of the struct for as long as the builder would be there, with 64 levels. The struct stays as it is.
+    /// The struct has to have its schema's sections and be well-formed (`IsReady`).
     pub fn into_reader(self) -> Reader<'a>
         requires { IsReady self }
         ensures parts { struct_of (reader_of result) ≡ built_struct self.entry }
@@ -92,6 +94,7 @@ impl<'a> Builder<'a> {
 
     /// The member whose discriminant value stands in the struct; none without a union or for an unknown number. The
     /// answer is always Ok.
+    /// The struct has to have its schema's sections and be well-formed (`IsReady`).
     pub fn which(&self) -> Result<Option<Field<'a>>>
         requires { IsReady self.now }
         ensures { IsOkAnd result (IsFound (built_schema self.now) (which_of (built_record self.now))) }
@@ -107,6 +110,7 @@ impl<'a> Builder<'a> {
     }
 
     /// False for a member that is not active and for a null pointer, else true. The answer is always Ok.
+    /// The field has to belong to the schema; the struct has to have its schema's sections and be well-formed (`IsReady`).
     pub fn has(&self, field: Field<'a>) -> Result<bool>
         requires belongs { BelongsTo field (built_schema self.now) }
         requires ready { IsReady self.now }
@@ -116,6 +120,7 @@ impl<'a> Builder<'a> {
     }
 
     /// Whether the field of a name is there, as `has`. Refused with `FieldNotFound` where there is none of that name.
+    /// The struct has to have its schema's sections and be well-formed (`IsReady`).
     pub fn has_named(&self, field_name: &str) -> Result<bool>
         requires { IsReady self.now }
         ensures is { (f : Field) → IsNamed (built_schema self.now) field_name.now f
@@ -131,7 +136,7 @@ impl<'a> Builder<'a> {
     /// Sets a field. A slot takes a value that no pointer stands for, or a copy of a text, data, struct or list of its kind,
     /// whatever the struct's schema or the list's elements are; an untyped slot takes these four, and a void one every value.
     /// The copy is made first, and then a member becomes active. A group takes a struct of its schema: it is cleared, and
-    /// then the source's fields are copied, first its active member, a null one as its default, and then its plain fields
+    /// then the source's fields are copied, first its active member, a null one as its default, and then its non-union fields
     /// by index, but for null pointers.
     ///
     /// A slot is refused, in this order: with `CannotSetAnyPointerFieldToAPrimitiveValue` for an untyped one and a value of
@@ -141,6 +146,8 @@ impl<'a> Builder<'a> {
     /// `OutOfMemory`. Then nothing has changed. A group is refused with `NotAStruct` for a value that is no struct and with
     /// `TypeMismatch` for a struct of another schema, and then nothing has changed; and as the first of its copies that is
     /// refused, where the group stays as it is by then, cleared and with what was copied before.
+    ///
+    /// The field has to belong to the schema; the struct has to have its schema's sections and be well-formed (`IsReady`).
     #[tactic(auto, using(crate::proofs::Builders::room_for, crate::proofs::Builders::under_kept, crate::proofs::Builders::under_same, crate::proofs::Builders::slot_was_set, crate::proofs::Builders::group_was_set, crate::proofs::Builders::slot_set_keeps))]
     #[inline(always)]
     pub fn set(&mut self, field: Field<'a>, value: dynamic_value::Reader<'_>) -> Result<()>
@@ -162,6 +169,7 @@ impl<'a> Builder<'a> {
 
     /// Sets the field of a name, as `set`. Refused first with `FieldNotFound` where there is none of that name, and then
     /// nothing has changed.
+    /// The struct has to have its schema's sections and be well-formed (`IsReady`).
     #[tactic(auto, using(crate::proofs::Builders::same_field_set, crate::proofs::Builders::same_slot, crate::proofs::Builders::found_belongs))]
     pub fn set_named(&mut self, field_name: &str, value: dynamic_value::Reader<'_>) -> Result<()>
         requires { IsReady self.old }
@@ -181,8 +189,9 @@ impl<'a> Builder<'a> {
     }
 
     /// Clears a field. The bits of a slot become zero, which reads as its default, or its pointer null; of a group the member
-    /// of discriminant value 0 is cleared and then its plain fields by index. A member becomes active first. No memory is
-    /// taken, and the answer is always Ok.
+    /// of discriminant value 0 is cleared and then its non-union fields by index. A member becomes active first. No memory
+    /// is taken, and the answer is always Ok.
+    /// The field has to belong to the schema; the struct has to have its schema's sections and be well-formed (`IsReady`).
     #[tactic(auto, using(crate::proofs::Builders::room_for, crate::proofs::Builders::under_kept, crate::proofs::Builders::cleared_slot, crate::proofs::Builders::cleared_group))]
     pub fn clear(&mut self, field: Field<'a>) -> Result<()>
         requires belongs { BelongsTo field (built_schema self.old) }
@@ -204,6 +213,7 @@ impl<'a> Builder<'a> {
 
     /// Clears the field of a name, as `clear`. Refused with `FieldNotFound` where there is none of that name, and then
     /// nothing has changed.
+    /// The struct has to have its schema's sections and be well-formed (`IsReady`).
     #[tactic(auto, using(crate::proofs::Builders::same_cleared, crate::proofs::Builders::found_belongs))]
     pub fn clear_named(&mut self, field_name: &str) -> Result<()>
         requires { IsReady self.old }

@@ -67,7 +67,7 @@ pub(crate) fn active_member<'a>(reader: dynamic_struct::Reader<'a>) -> Option<Fi
     }
 }
 
-/// Whether a plain field is there.
+/// Whether a non-union field is there.
 pub(crate) fn is_field_there<'a>(reader: dynamic_struct::Reader<'a>, field: Field<'a>) -> bool
     requires field { IsFieldOf (schema_of reader) (index_of field) field }
     requires plain { is_member (field_in reader field).field ≡ false }

@@ -153,7 +153,7 @@ fn print_items<O: Out>(
     }
 }
 
-/// Appends a field where it is plain and there, after the member where that stands before it.
+/// Appends a field where it is no member and there, after the member where that stands before it.
 #[cycle(print)]
 fn print_field<'a, O: Out>(
     reader: dynamic_struct::Reader<'a>,
@@ -189,7 +189,7 @@ fn print_field<'a, O: Out>(
     })
 }
 
-/// Appends the member, where it is still to come and stands before a plain field.
+/// Appends the member, where it is still to come and stands before a non-union field.
 #[cycle(print)]
 fn print_before<'a, O: Out>(
     reader: dynamic_struct::Reader<'a>,
