@@ -75,7 +75,7 @@ impl<'a> Reader<'a> {
         self.reader.total_size()
     }
 
-    /// What the pointer leads to, read as a `T`, without a default.
+    /// What the pointer leads to, read as a `T`, without a default. Refused as `T`'s read.
     pub fn get_as<T: FromPointerReader<'a>>(&self) -> Result<T>
         ensures { T.reads (tree_of (pointer_of self.now)) (levels_of (pointer_of self.now)) result }
     {
@@ -141,7 +141,8 @@ impl<'a> Builder<'a> {
         self.builder.is_null()
     }
 
-    /// The size of all that the pointer leads to, as `PointerReader::total_size`, and refused as that is.
+    /// The size of all that the pointer leads to, as `PointerReader::total_size`, and refused as that is. What stands
+    /// there has to be well-formed.
     pub fn target_size(&self) -> Result<MessageSize>
         requires { IsWellFormed (pointer_tree self.now) }
         ensures size { IfOk result (λ size. IsSize size (first_fault (pointer_tree self.now)) (words_of (pointer_tree self.now))) }
@@ -150,7 +151,7 @@ impl<'a> Builder<'a> {
         self.builder.as_reader().total_size()
     }
 
-    /// What stands at the pointer, built as a `T`, without a default.
+    /// What stands at the pointer, built as a `T`, without a default. Refused as `T`'s get.
     pub fn get_as<T: FromPointerBuilder<'a>>(self) -> Result<T>
         ensures now { IfOk result (T.stands (pointer_tree self.entry)) }
         ensures refused { IfErr result (T.refuses (pointer_tree self.entry) None) }
@@ -158,7 +159,7 @@ impl<'a> Builder<'a> {
         T::get_from_pointer(self.builder, None)
     }
 
-    /// Starts the pointer anew as a `T` of no elements.
+    /// Starts the pointer anew as a `T` of no elements. Refused as `T`'s start.
     pub fn init_as<T: FromPointerBuilder<'a>>(self) -> Result<T>
         ensures now { IfOk result (T.starts 0) }
         ensures refused { IfErr result (T.new_refusal 0) }
@@ -166,7 +167,7 @@ impl<'a> Builder<'a> {
         T::init_pointer(self.builder, 0)
     }
 
-    /// Starts the pointer anew as a `T` of so many elements.
+    /// Starts the pointer anew as a `T` of so many elements. Refused as `T`'s start.
     pub fn initn_as<T: FromPointerBuilder<'a>>(self, size: u32) -> Result<T>
         ensures now { IfOk result (T.starts size) }
         ensures refused { IfErr result (T.new_refusal size) }
@@ -174,7 +175,7 @@ impl<'a> Builder<'a> {
         T::init_pointer(self.builder, size)
     }
 
-    /// Sets the pointer. A refusal changes nothing.
+    /// Sets the pointer. A refusal changes nothing. Refused as the set of `T`.
     pub fn set_as<R, T: SetterInput<R>>(&mut self, value: T) -> Result<()>
         ensures same { (pointer_behind self.new).ghost_name ≡ (pointer_behind self.old).ghost_name }
         ensures ok { OnOk result (pointer_tree self.new ≡ T.set_tree value) }
@@ -193,7 +194,8 @@ impl<'a> Builder<'a> {
         self.builder.clear();
     }
 
-    /// A reader of the pointer for as long as the builder would be there, with 64 levels.
+    /// A reader of the pointer for as long as the builder would be there, with 64 levels. What stands there has to be
+    /// well-formed.
     pub fn into_reader(self) -> Reader<'a>
         requires { IsWellFormed (pointer_tree self) }
         ensures tree { tree_of (pointer_of result) ≡ pointer_tree self.entry }

@@ -253,7 +253,7 @@ impl<'a> Builder<'a> {
         Builder { bytes, pos: 0 }
     }
 
-    /// A builder of these bytes that writes at a position.
+    /// A builder of these bytes that writes at a position: `pos`, in bytes, is at most the length.
     pub fn with_pos(bytes: &'a mut [u8], pos: usize) -> Builder<'a>
         requires { pos ≤ length bytes.old }
         ensures bytes { text_behind result ≡ bytes.entry }
@@ -316,7 +316,7 @@ impl<'a> Builder<'a> {
         self.into_reader().to_string(alloc)
     }
 
-    /// Writes an ASCII character at the position, which moves past it.
+    /// Writes an ASCII character at the position, which moves past it. There has to be room for it, and it is below 128.
     pub fn push_ascii(&mut self, ascii: u8)
         requires room { position self.old < length (text_bytes self.old) }
         requires ascii { ascii < 128 }
@@ -328,7 +328,7 @@ impl<'a> Builder<'a> {
         self.pos += 1;
     }
 
-    /// Writes a string at the position, which moves past it.
+    /// Writes a string at the position, which moves past it. There has to be room for its bytes.
     pub fn push_str(&mut self, string: &str)
         requires room { position self.old + length string.now ≤ length (text_bytes self.old) }
         ensures same { (text_behind self.new).ghost_name ≡ (text_behind self.old).ghost_name }

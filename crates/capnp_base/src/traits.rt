@@ -36,6 +36,7 @@ pub trait IntoInternalStructReader<'a> {
     // The reader that the handle stands on.
     ghost inner_struct: { Self → StructReader };
 
+    /// The reader that the handle stands on.
     fn into_internal_struct_reader(self) -> StructReader<'a>
         ensures { result ≡ inner_struct self };
 }
@@ -45,6 +46,7 @@ pub trait IntoInternalListReader<'a> {
     // The reader that the handle stands on.
     ghost inner_list: { Self → ListReader };
 
+    /// The reader that the handle stands on.
     fn into_internal_list_reader(self) -> ListReader<'a>
         ensures { result ≡ inner_list self };
 }
@@ -57,7 +59,8 @@ pub trait FromPointerReader<'a>: Sized {
     // Whether a default can be read in place of a null.
     ghost has_defaults: { Type 0 } = { Unit {0} };
 
-    /// Reads what the pointer leads to, or the default where the pointer is null and a default is given.
+    /// Reads what the pointer leads to, or the default where the pointer is null and a default is given. A default may be
+    /// given only where the type has some.
     fn get_from_pointer(
         reader: &PointerReader<'a>,
         default: Option<PointerReader<'a>>,
@@ -91,6 +94,7 @@ pub trait FromPointerBuilder<'a>: Sized {
 
     /// Hands out what stands at the pointer. Where the pointer is null and a default is given, the default is copied
     /// there first; a null without one is to stay null, and a refusal is to change nothing, as with `init_pointer`.
+    /// A default may be given only where the type has some.
     fn get_from_pointer(
         builder: PointerBuilder<'a>,
         default: Option<PointerReader<'a>>,
@@ -144,7 +148,7 @@ pub trait SetterInput<R> {
     // Why it is not set.
     ghost set_refusal: { Self → Error → Type 0 };
 
-    /// Sets the pointer. A refusal changes nothing.
+    /// Sets the pointer. A refusal changes nothing. `canonicalize` has to be false.
     fn set_pointer_builder(
         builder: PointerBuilder<'_>,
         input: Self,

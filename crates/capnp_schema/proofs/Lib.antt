@@ -2,7 +2,6 @@ pub mod AnnotatedLemmas
 pub mod AnnotatedPlaces
 pub mod BrokenSets
 pub mod BuiltinAccepted
-pub mod BuiltinLemmas
 pub mod ByNumber
 pub mod Computed
 pub mod ComputedEntries

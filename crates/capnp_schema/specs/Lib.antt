@@ -4,6 +4,7 @@ pub mod AnnotationLists
 pub mod Broken
 pub mod BrokenLaw
 pub mod Builtin
+pub mod BuiltinRows
 pub mod Checking
 pub mod Defaults
 pub mod Discriminant

@@ -13,14 +13,14 @@ pub use crate::laws::bits::{
 };
 use crate::set::SchemaSet;
 
-/// Two fields of a struct or group name the same data bit or pointer only where both are members
+/// Two fields of a struct or group occupy the same data bit or pointer only where both are members
 /// of its union.
 #[tactic(auto, using(crate::specs::Facts::Groups::only_members_meet))]
 pub fn only_members_meet()
     ensures { OnlyMembersMeet }
 {}
 
-/// No field of a struct or group names a bit of its discriminant.
+/// No field of a struct or group occupies a bit of its discriminant.
 #[tactic(auto, using(crate::specs::Facts::Groups::none_names_discriminant))]
 pub fn none_names_discriminant()
     ensures { NoneNamesDiscriminant }

@@ -17,7 +17,7 @@ use capnp_base::introspect::Type;
 pub struct SlotPlan {
     pub place: Place,
     /// Of a member: the first of the discriminant's 16 bits in the data section, and the value that stands there while
-    /// the member is active. None for a plain field.
+    /// the member is active. None for a non-union field.
     pub member: Option<(u32, u16)>,
 }
 
@@ -123,8 +123,8 @@ fn member_of(node: &NodeRecord, field: &FieldRecord) -> Option<(u32, u16)>
     Some((node.body.discriminant_offset * 16, field.discriminant_value))
 }
 
-/// The plan of each field of an accepted set names what the field's footprint names and holds the number of the field's
-/// slot; of a member it names the discriminant. It lies inside each struct that has the sections of the field's brand, and
+/// The plan of each field of an accepted set occupies what the field's footprint occupies and holds the number of the field's
+/// slot; of a member it occupies the discriminant. It lies inside each struct that has the sections of the field's brand, and
 /// a data slot has 1, 8, 16, 32 or 64 bits, starts at a multiple of these, and has a mask of no more. Its numbers fit.
 #[tactic(auto, using(crate::proofs::Plans::plans_stand))]
 pub fn plans_stand()

@@ -17,6 +17,7 @@ impl<'s> FieldList<'s> {
     ghost use Rattle.capnp_schema.specs.StructHandles.{struct_fields};
     ghost use Rattle.capnp_schema.specs.FieldLists.{IsFieldOf, list_schema};
 
+    /// All fields of a schema.
     pub(crate) fn new(schema: StructSchema<'s>) -> FieldList<'s>
         ensures { list_schema result ≡ schema.entry }
     {
@@ -37,7 +38,7 @@ impl<'s> FieldList<'s> {
         self.len() == 0
     }
 
-    /// The field of an index, which is below `len`.
+    /// The field of an index, which has to be below `len`.
     pub fn get(self, index: u16) -> Field<'s>
         requires { index < length (struct_fields (list_schema self)) }
         ensures { IsFieldOf (list_schema self.entry) index result }

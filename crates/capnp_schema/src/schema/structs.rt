@@ -30,7 +30,7 @@ impl<'s> StructSchema<'s> {
     ghost use Rattle.capnp_schema.specs.AnnotationLists.{annotations_in, annotations_set};
     ghost use Rattle.capnp_schema.specs.FieldLists.{IsFound, list_schema, subset_indices, subset_schema};
 
-    /// The schema of those numbers, which are a brand of the set and its node.
+    /// The schema of those numbers, which have to be a brand of the set and its node.
     pub fn new(set: &'s SchemaSet, raw: RawBrandedStructSchema) -> StructSchema<'s>
         requires number { raw.number < length (lists_seen set.now).brands }
         requires generic { raw.generic ≡ (brand_at (lists_seen set.now) raw.number).node }
