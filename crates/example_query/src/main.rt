@@ -4,7 +4,6 @@
 use capnp_schema::builtin;
 use capnp_schema::plan::Place;
 use capnp_schema::schema::{Field, StructSchema};
-use capnp_schema::set::SchemaSet;
 use capnp_wire::error::Result;
 use std::alloc::Global;
 use std::process::ExitCode;
@@ -36,8 +35,7 @@ fn describe_all(alloc: Global, schema: StructSchema<'_>) -> Result<String> {
 
 /// The lines of `Mixed`.
 fn mixed(alloc: Global) -> Result<String> {
-    let (nodes, brands, enums) = builtin::records(alloc)?;
-    let set = SchemaSet::new(alloc, nodes, brands, enums)?;
+    let set = builtin::new_set(alloc)?;
     describe_all(alloc, set.struct_schema(MIXED))
 }
 

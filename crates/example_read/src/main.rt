@@ -11,7 +11,6 @@ ghost use Rattle.capnp_dynamic.specs.Reads.{found_seen};
 
 use capnp_dynamic::{dynamic_struct, dynamic_value};
 use capnp_schema::builtin;
-use capnp_schema::set::SchemaSet;
 use capnp_wire::device::ReadSource;
 use capnp_wire::error::{Error, ErrorKind, Result};
 use capnp_wire::message::Reader;
@@ -35,8 +34,7 @@ fn get_number(reader: dynamic_struct::Reader<'_>, name: &str) -> Result<u16>
 
 /// The field `n` of the message's root.
 fn read(alloc: Global, bytes: &[u8]) -> Result<u16> {
-    let (nodes, brands, enums) = builtin::records(alloc)?;
-    let set = SchemaSet::new(alloc, nodes, brands, enums)?;
+    let set = builtin::new_set(alloc)?;
     let message = Reader::new(alloc, bytes)?;
     let root = message.get_root().get_struct()?;
     get_number(
