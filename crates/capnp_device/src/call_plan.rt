@@ -18,7 +18,7 @@ pub struct CallPlan {
 
 impl CallPlan {
     /// Each call may move `chunk` bytes. Where `calls_before_failure` is some n, the first n calls
-    /// work, the next one fails, and those after it work again.
+    /// work, the next one fails, and those after it work again. `chunk` is not 0.
     pub fn new(chunk: usize, calls_before_failure: Option<u64>) -> Self
         requires { 0 < chunk }
         ensures chunk { result.chunk ≡ chunk }
@@ -33,6 +33,8 @@ impl CallPlan {
     }
 
     /// Begins a call, and answers how many bytes it may move.
+    ///
+    /// Refused where the chosen call is due or the count stands at its last value; the failure is counted.
     pub fn begin(&mut self) -> Result<usize, DeviceFault>
         ensures room { IfOk result (λ n. n ≡ self.old.chunk) }
         ensures chosen { self.old.calls_before_failure ≡ Some 0 → IsErr result }
