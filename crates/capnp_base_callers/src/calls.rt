@@ -17,7 +17,7 @@ pub const NULL: &[u8] = &[0; 8];
 #[derive(Clone, Copy)]
 pub enum Call {
     Clear,
-    /// A list of so many numbers of two bytes, each of which is its index.
+    /// A list of so many numbers of two bytes: zeros, and this count as the last one.
     InitNumbers(u16),
     InitText(u32),
     InitData(u32),
@@ -139,13 +139,18 @@ fn clear(message: &mut Builder) {
 }
 
 fn init_numbers(message: &mut Builder, count: u16) -> Result<()> {
-    let list = message
+    match message
         .root()
-        .init_list(ElementSize::TwoBytes, u32::from(count))?;
-    for index in 0..count {
-        list.set_data_element::<u16>(u32::from(index), index);
+        .init_list(ElementSize::TwoBytes, u32::from(count))
+    {
+        Ok(list) => {
+            if count > 0 {
+                list.set_data_element::<u16>(u32::from(count) - 1, count);
+            }
+            Ok(())
+        }
+        Err(error) => Err(error),
     }
-    Ok(())
 }
 
 fn init_text(message: &mut Builder, length: u32, want: &[u8]) -> Result<bool> {

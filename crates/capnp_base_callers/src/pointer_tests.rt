@@ -55,12 +55,12 @@ const HI_255: &[u8] = &[
 /// The data 1, 2, 3.
 const ONE_TWO_THREE: &[u8] = &[1, 0, 0, 0, 0x1a, 0, 0, 0, 1, 2, 3, 0, 0, 0, 0, 0];
 
-/// The numbers from 0 to 9, of two bytes each.
+/// Nine zeros and a 10, of two bytes each.
 const TEN_NUMBERS: &[u8] = &[
     1, 0, 0, 0, 0x53, 0, 0, 0, //
-    0, 0, 1, 0, 2, 0, 3, 0, //
-    4, 0, 5, 0, 6, 0, 7, 0, //
-    8, 0, 9, 0, 0, 0, 0, 0,
+    0, 0, 0, 0, 0, 0, 0, 0, //
+    0, 0, 0, 0, 0, 0, 0, 0, //
+    0, 0, 10, 0, 0, 0, 0, 0,
 ];
 
 static SET: [Row; 2] = [

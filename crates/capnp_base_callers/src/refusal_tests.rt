@@ -26,8 +26,8 @@ const NUMBERS: &[u8] = &[1, 0, 0, 0, 0x0b, 0, 0, 0, 5, 0, 0, 0, 0, 0, 0, 0];
 /// The bytes `hi` with no zero after them.
 const UNTERMINATED: &[u8] = &[1, 0, 0, 0, 0x12, 0, 0, 0, 0x68, 0x69, 0, 0, 0, 0, 0, 0];
 
-/// The numbers from 0 to 3, of two bytes each.
-const FOUR_NUMBERS: &[u8] = &[1, 0, 0, 0, 0x23, 0, 0, 0, 0, 0, 1, 0, 2, 0, 3, 0];
+/// Three zeros and a 4, of two bytes each.
+const FOUR_NUMBERS: &[u8] = &[1, 0, 0, 0, 0x23, 0, 0, 0, 0, 0, 0, 0, 0, 0, 4, 0];
 
 /// Setting the text `hi`.
 const SET_HI: Row = (

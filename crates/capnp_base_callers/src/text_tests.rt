@@ -91,11 +91,11 @@ enum Push {
     Clear,
 }
 
-/// Whether there was room for what is pushed.
+/// Whether there is something to push, and room for it.
 fn write_at_position(builder: &mut Builder<'_>, push: Push) -> bool {
     match push {
         Push::String(string) => {
-            if builder.room() < string.len() {
+            if string.is_empty() || builder.room() < string.len() {
                 return false;
             }
             builder.push_str(string);
