@@ -23,7 +23,7 @@ use Rattle.capnp_slots.specs.Fields.{field_brand, field_set}
 use Rattle.capnp_slots.specs.Inits.{IsInitRefusal, IsInitnRefusal}
 use Rattle.capnp_records.specs.Writes.Contents.{init_tree, initn_tree}
 use Rattle.capnp_records.specs.Writes.ElementEnds.{InitnContent}
-use Rattle.capnp_slots.specs.Fills.{ElementRests, element_due, element_filled, fill_due, filled_tree, is_behind}
+use Rattle.capnp_slots.specs.Fills.{ElementRests, element_due, element_filled, fill_due, filled_in, filled_tree, is_behind}
 use Rattle.capnp_records.specs.Writes.TreeEnds.{InitContent, group_cleared, offset_of}
 use Rattle.capnp_dynamic.specs.Built.{HoldsElements, built_element, built_elements, built_reading, built_schema, built_set, built_struct}
 use Rattle.capnp_dynamic.specs.BuiltValues.{IsReaderOf}
@@ -66,6 +66,10 @@ HandsNumber set f s v = (r : DynamicValue) × IsReaderOf v r × (value_seen r �
 abbrev pub HandsGroup : Schemas → TypedField → StructTree → BuiltValue → Type 0
 HandsGroup set f s (built.Struct g) = (set_of (built_schema g) ≡ set) × (number_of (built_schema g) ≡ struct_number f.type) × (built_struct g ≡ s)
 HandsGroup set f s v = ⊥
+
+-- the value at the pointer of a slot that was filled
+abbrev pub HandsFilled : Field → StructTree → BuiltValue → Type 0
+HandsFilled f s v = HandsOut false (field_set f) (typed_of f).type (filled_in f s) v
 
 -- what stands at the pointer of a slot once it was filled
 abbrev pub field_filled : Schemas → TypedField → StructTree → Tree

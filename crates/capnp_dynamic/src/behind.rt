@@ -1,23 +1,15 @@
 //! What stands behind a pointer, or in its default where it is null.
 ghost use Rattle.std.specs.Prelude.{ℕ, ◌≡◌};
 ghost use Rattle.std.specs.Option.{option_copied};
-ghost use Rattle.capnp_device.specs.declared.error.ErrorKind.TheVariants.{TypeMismatch};
 ghost use Rattle.capnp_schema.specs.Schema.{Schemas, VoidValue, kind_default, seen_kind};
 ghost use Rattle.capnp_schema.specs.Types.{DataType, ListType, SchemaType, StructType, TextType, element_size};
 ghost use Rattle.capnp_dynamic.specs.Reads.{pointer_read};
 ghost use Rattle.capnp_dynamic.specs.Behind.{data_answered, data_of, list_answered, list_words, struct_answered, struct_words, text_answered, text_of};
 
 use capnp_schema::record::{FieldKind, ValueRecord};
-use capnp_wire::error::{Error, ErrorKind, Result};
+use capnp_wire::error::Result;
 use capnp_wire::size::ElementSize;
 use capnp_wire::{ListReader, PointerReader, StructReader};
-
-/// What no set that was accepted leads to.
-pub(crate) fn mismatch() -> Error
-    ensures { result.kind ≡ TypeMismatch }
-{
-    Error::from(ErrorKind::TypeMismatch)
-}
 
 /// The bytes of a text's default.
 fn text_default(kind: &FieldKind) -> &[u8]

@@ -1,7 +1,6 @@
 //! Structs whose schemas are known only at run time.
 mod build;
 
-use crate::bits::discriminant_at;
 use crate::dynamic_value;
 use crate::placed::{has_planned, is_member_active, read_placed};
 use crate::printer::print_debug;
@@ -9,6 +8,7 @@ pub use build::Builder;
 use capnp_base::any_pointer;
 use capnp_base::traits::{OwnedStruct, SetterInput};
 use capnp_schema::schema::{Field, StructSchema};
+use capnp_slots::loaded::load_discriminant;
 use capnp_wire::error::Result;
 use capnp_wire::laws::{copied_structs_are_well_formed, struct_is_well_formed};
 use capnp_wire::size::MessageSize;
@@ -24,7 +24,7 @@ pub struct Reader<'a> {
 
 impl<'a> Reader<'a> {
     ghost use Rattle.std.specs.Prelude.{Ok, not, IfErr, IfOk, IsOkAnd, ◌≡◌};
-    ghost use Rattle.capnp_wire.specs.Standing.{struct_levels, struct_of};
+    ghost use Rattle.capnp_wire.specs.Standing.{struct_of};
     ghost use Rattle.capnp_wire.specs.Total.{IsSize, IsSizeRefusal};
     ghost use Rattle.capnp_wire.specs.Words.{first_fault_of_all, words_of_struct};
     ghost use Rattle.capnp_schema.specs.FieldLists.{IsFound, index_of};
@@ -111,7 +111,7 @@ impl<'a> Reader<'a> {
         if body.discriminant_count == 0 {
             return Ok(None);
         }
-        let value = discriminant_at(&self.reader, body.discriminant_offset);
+        let value = load_discriminant(&self.reader, body.discriminant_offset);
         self.schema.get_field_by_discriminant(value)
     }
 

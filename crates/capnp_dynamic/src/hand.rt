@@ -2,7 +2,7 @@
 //!
 //! A part is handed out by value, so these contracts say what it stands on at the return. That the struct ends as it was but
 //! for that part, and that a refusal changed nothing, is said by the calls of `part`, `slot` and `group`.
-ghost use Rattle.std.specs.Prelude.{None, false, true, IfErr, IfOk, IsErrAnd, IsOk, ◌<◌, ◌≡◌};
+ghost use Rattle.std.specs.Prelude.{None, false, IfErr, IfOk, IsErrAnd, IsOk, ◌<◌, ◌≡◌};
 ghost use Rattle.capnp_device.specs.declared.error.ErrorKind.TheVariants.{FieldNotFound};
 ghost use Rattle.capnp_wire.specs.Edits.{IsDueRefusal};
 ghost use Rattle.capnp_wire.specs.Objects.{struct_object_tree};
@@ -10,45 +10,31 @@ ghost use Rattle.capnp_wire.specs.Place.{struct_tree};
 ghost use Rattle.capnp_wire.specs.Tree.{StructTree, tree_count};
 ghost use Rattle.capnp_wire.specs.WellFormed.{IsWellFormed};
 ghost use Rattle.capnp_schema.specs.FieldLists.{typed_of};
-ghost use Rattle.capnp_schema.specs.Types.{is_pointer, seen_variant};
+ghost use Rattle.capnp_schema.specs.Types.{is_pointer};
 ghost use Rattle.capnp_slots.specs.Fields.{IsPointer, IsRoomFor, IsSlot, field_set, pointer_index};
 ghost use Rattle.capnp_schema.specs.Query.{field_named};
 ghost use Rattle.capnp_schema.specs.StructHandles.{struct_records};
 ghost use Rattle.capnp_schema.specs.declared.schema.fields.Field.{Field};
-ghost use Rattle.capnp_slots.specs.Fills.{RestsIn, due_in, filled_in};
+ghost use Rattle.capnp_slots.specs.Fills.{RestsIn, due_in};
 ghost use Rattle.capnp_dynamic.specs.Built.{IsReady, built_schema, built_struct};
 ghost use Rattle.capnp_dynamic.specs.BuiltValues.{CanBeRead, IsReaderOf};
 ghost use Rattle.capnp_dynamic.specs.FieldWrites.{IsNamed};
-ghost use Rattle.capnp_dynamic.specs.Handed.{HandsField, HandsNumber, HandsOut, IsPartRefusal};
+ghost use Rattle.capnp_dynamic.specs.Handed.{HandsField, HandsFilled, HandsNumber, IsPartRefusal};
 ghost use Rattle.capnp_dynamic.specs.Leaf.{IsNumber};
 ghost use Rattle.capnp_dynamic.specs.Reads.{BelongsTo};
 
 use crate::dynamic_struct::{Builder, Reader};
 use crate::dynamic_value;
 use crate::handed::hand_out;
-use capnp_base::introspect::TypeVariant;
 use capnp_schema::laws::numbers_fit;
 use capnp_schema::plan::plans_stand;
 use capnp_schema::schema::Field;
+use capnp_slots::copied::is_behind;
 use capnp_slots::{group, part};
 use capnp_wire::StructBuilder;
 use capnp_wire::error::Result;
 use capnp_wire::laws::kept::{pointers_of_structs_are_well_formed, structs_can_be_read};
 use capnp_wire::laws::objects_hold_no_fault;
-
-/// Whether values of a type stand behind pointers.
-fn is_pointer_variant(variant: TypeVariant) -> bool
-    ensures { result ≡ is_pointer (seen_variant variant) }
-{
-    match variant {
-        TypeVariant::Text => true,
-        TypeVariant::Data => true,
-        TypeVariant::Struct(_) => true,
-        TypeVariant::List(_) => true,
-        TypeVariant::AnyPointer => true,
-        _ => false,
-    }
-}
 
 /// A value that no pointer stands for, as one that is built.
 pub(crate) fn built_number<'a>(value: dynamic_value::Reader<'a>) -> dynamic_value::Builder<'a>
@@ -97,7 +83,7 @@ fn pointed_of<'a>(
     requires pointer { IsPointer field }
     requires room { IsRoomFor field (struct_object_tree builder.old) }
     requires formed { IsWellFormed (struct_tree (struct_object_tree builder.old)) }
-    ensures stands { IfOk result (HandsOut false (field_set field.entry) (typed_of field.entry).type (filled_in field.entry (struct_object_tree builder.old))) }
+    ensures stands { IfOk result (HandsFilled field.entry (struct_object_tree builder.old)) }
     ensures ready { IfOk result CanBeRead }
     ensures cause { IfErr result (λ e. IsDueRefusal e (due_in field.entry (struct_object_tree builder.old))) }
     ensures rests { RestsIn field.entry (struct_object_tree builder.old) → IsOk result }
@@ -148,7 +134,7 @@ impl<'a> Builder<'a> {
         if let Some(schema) = group::group_of(field) {
             return Ok(dynamic_value::Builder::Struct(Builder { builder, schema }));
         }
-        if is_pointer_variant(field.get_type().which()) {
+        if is_behind(field.get_type().which()) {
             return pointed_of(builder, field);
         }
         Ok(number_of(builder, field))

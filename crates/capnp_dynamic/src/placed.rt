@@ -13,8 +13,8 @@ ghost use Rattle.capnp_dynamic.specs.Reads.{pointer_read};
 ghost use Rattle.capnp_dynamic.specs.Seen.{answered};
 ghost use Rattle.capnp_dynamic.specs.Typed.{IsOf};
 
-use crate::behind::{mismatch, read_data, read_list, read_struct, read_text};
-use crate::bits::{bit_at, byte_at, half_at, pair_at, plain_at, word_at};
+use crate::behind::{read_data, read_list, read_struct, read_text};
+use crate::bits::{bit_at, byte_at, half_at, pair_at, word_at};
 use crate::dynamic_value::{Enum, Reader as Value};
 use crate::{dynamic_list, dynamic_struct};
 use capnp_base::introspect::TypeVariant;
@@ -22,6 +22,8 @@ use capnp_base::{any_pointer, text};
 use capnp_schema::plan::{Place, SlotPlan};
 use capnp_schema::record::FieldKind;
 use capnp_schema::set::SchemaSet;
+use capnp_slots::loaded::load_pair;
+use capnp_slots::primitive::mismatch;
 use capnp_wire::error::Result;
 use capnp_wire::{PointerReader, StructReader};
 
@@ -125,7 +127,7 @@ pub(crate) fn is_member_active(reader: &StructReader<'_>, member: Option<(u32, u
     ensures { result ≡ member_there (struct_of reader.now).bytes member }
 {
     match member {
-        Some((start, value)) => plain_at(reader, start) == value,
+        Some((start, value)) => load_pair(reader, start) == value,
         None => true,
     }
 }

@@ -57,7 +57,7 @@ fn print_root<O: Out>(
     value: Value<'_>,
     at: Option<u64>,
     out: &mut O,
-) -> std::result::Result<(), Stop<O::Fault>>
+) -> std::result::Result<(), Stop<O::Error>>
     ensures put { OnOk result (IsPut (O.text out.old) (root_shown at value.entry) (O.text out.new)) }
     ensures stopped { IfErr result (IsStopped (O.text out.old) (root_shown at value.entry)) }
 {

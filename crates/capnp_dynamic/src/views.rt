@@ -8,13 +8,14 @@ ghost use Rattle.capnp_dynamic.specs.Seen.{answered};
 ghost use Rattle.capnp_dynamic.specs.Typed.{IsOf};
 ghost use Rattle.capnp_dynamic.specs.Viewed.{view_read, view_type};
 
-use crate::behind::{mismatch, plain_list, plain_struct};
+use crate::behind::{plain_list, plain_struct};
 use crate::dynamic_value::{Enum, Reader};
 use crate::{dynamic_list, dynamic_struct};
 use capnp_base::any_pointer;
 use capnp_base::introspect::TypeVariant;
 use capnp_schema::set::SchemaSet;
 use capnp_schema::value::Value;
+use capnp_slots::primitive::mismatch;
 use capnp_wire::PointerReader;
 use capnp_wire::error::Result;
 

@@ -5,14 +5,16 @@
 //! sections; both are conditions.
 ghost use Rattle.std.specs.Prelude.{None, Ok, IfErr, IsErrAnd, IsOk, IsOkAnd, OnErr, OnOk, ◌≡◌, ◌≢◌};
 ghost use Rattle.capnp_device.specs.declared.error.ErrorKind.TheVariants.{FieldNotFound};
-ghost use Rattle.capnp_wire.specs.Objects.{struct_object_tree};
+ghost use Rattle.capnp_wire.specs.Edits.{IsStructRefusal, extended, struct_in};
+ghost use Rattle.capnp_wire.specs.Objects.{object_tree, struct_object_tree};
 ghost use Rattle.capnp_wire.specs.Standing.{struct_levels, struct_of};
+ghost use Rattle.capnp_wire.specs.WellFormed.{IsWellFormed};
 ghost use Rattle.capnp_schema.specs.FieldLists.{IsFound, index_of};
 ghost use Rattle.capnp_schema.specs.Query.{field_named};
 ghost use Rattle.capnp_schema.specs.StructHandles.{number_of, set_of, struct_field, struct_records};
 ghost use Rattle.capnp_schema.specs.declared.schema.fields.Field.{Field};
 ghost use Rattle.capnp_records.specs.Part.{has_of, which_of};
-ghost use Rattle.capnp_records.specs.Writes.Slots.{Fits};
+ghost use Rattle.capnp_records.specs.Writes.Slots.{Fits, brand_size};
 ghost use Rattle.capnp_slots.specs.Copied.{refusal_of};
 ghost use Rattle.capnp_slots.specs.Fields.{IsSlot, Keeps, names_of};
 ghost use Rattle.capnp_dynamic.specs.Built.{IsReady, built_record, built_schema, built_struct, struct_behind};
@@ -23,15 +25,15 @@ ghost use Rattle.capnp_dynamic.specs.SetValues.{source_of};
 ghost use Rattle.capnp_dynamic.specs.Typed.{struct_type};
 ghost use Rattle.capnp_schema.specs.Types.{seen_type};
 
-use crate::bits::discriminant_at;
 use crate::dynamic_struct::Reader;
 use crate::dynamic_value;
 use capnp_base::traits::OwnedStruct;
 use capnp_schema::schema::{Field, StructSchema};
-use capnp_slots::{group, slot};
-use capnp_wire::StructBuilder;
+use capnp_slots::loaded::load_discriminant;
+use capnp_slots::{group, size_of, slot};
 use capnp_wire::error::Result;
-use capnp_wire::laws::kept::structs_can_be_read;
+use capnp_wire::laws::kept::{entered_structs_are_well_formed, structs_can_be_read};
+use capnp_wire::{PointerBuilder, StructBuilder};
 
 /// A struct that is built: its object, and its schema.
 #[derive(Drop)]
@@ -48,6 +50,25 @@ impl<'a> Builder<'a> {
         ensures schema { built_schema result ≡ schema.entry }
     {
         Builder { builder, schema }
+    }
+
+    /// The struct at a pointer, under a schema: a null becomes one of the schema's sections, all zero and null, and a smaller
+    /// struct gets zeros and nulls after what it has. What the pointer leads to has to be well-formed.
+    ///
+    /// Refused with `WrongPointerKind` where a list stands there, and else with `OutOfMemory`.
+    #[tactic(auto, using(crate::proofs::Opened::entered_fits))]
+    pub fn open(pointer: PointerBuilder<'a>, schema: StructSchema<'a>) -> Result<Builder<'a>>
+        requires { IsWellFormed (object_tree pointer.old) }
+        ensures ready { IfOk result IsReady }
+        ensures schema { IfOk result (λ b. built_schema b ≡ schema.entry) }
+        ensures now { IfOk result (λ b. built_struct b ≡
+            extended (brand_size (set_of schema.entry) (number_of schema.entry)) (struct_in (object_tree pointer.old))) }
+        ensures cause { IfErr result (λ e. IsStructRefusal e (object_tree pointer.old)) }
+    {
+        entered_structs_are_well_formed();
+        let size = size_of(schema);
+        let builder = pointer.get_struct(size)?;
+        Ok(Builder::new(builder, schema))
     }
 
     /// The same struct for a shorter time.
@@ -105,7 +126,7 @@ impl<'a> Builder<'a> {
         if body.discriminant_count == 0 {
             return Ok(None);
         }
-        let value = discriminant_at(&self.builder.as_reader(), body.discriminant_offset);
+        let value = load_discriminant(&self.builder.as_reader(), body.discriminant_offset);
         schema.get_field_by_discriminant(value)
     }
 

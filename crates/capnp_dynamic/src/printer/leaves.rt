@@ -8,7 +8,7 @@ use super::out::Out;
 use crate::dynamic_value::{Enum, Reader};
 
 /// Appends bytes in decimal, with a comma and a space between them.
-fn put_decimals<O: Out>(bytes: &[u8], out: &mut O) -> Result<(), O::Fault>
+fn put_decimals<O: Out>(bytes: &[u8], out: &mut O) -> Result<(), O::Error>
     ensures { OnOk result (after (Ok (O.text out.old)) (said (decimals bytes.now)) ≡ Ok (O.text out.new)) }
 {
     if bytes.is_empty() {
@@ -24,7 +24,7 @@ fn put_decimals<O: Out>(bytes: &[u8], out: &mut O) -> Result<(), O::Fault>
 
 /// Appends a text in quotes, or the bytes of one that is no UTF-8.
 #[tactic(auto, using(crate::proofs::Pieces::three_put))]
-fn put_text<O: Out>(bytes: &[u8], out: &mut O) -> Result<(), O::Fault>
+fn put_text<O: Out>(bytes: &[u8], out: &mut O) -> Result<(), O::Error>
     ensures { OnOk result (after (Ok (O.text out.old)) (quoted bytes.now) ≡ Ok (O.text out.new)) }
 {
     if let Ok(string) = std::str::from_utf8(bytes) {
@@ -63,7 +63,7 @@ fn digit(value: u8) -> &'static str
 }
 
 /// Appends bytes, each by two digits.
-fn put_digits<O: Out>(bytes: &[u8], out: &mut O) -> Result<(), O::Fault>
+fn put_digits<O: Out>(bytes: &[u8], out: &mut O) -> Result<(), O::Error>
     ensures { OnOk result (after (Ok (O.text out.old)) (said (flat_map two_digits bytes.now)) ≡ Ok (O.text out.new)) }
 {
     for i in 0..bytes.len() {
@@ -76,7 +76,7 @@ fn put_digits<O: Out>(bytes: &[u8], out: &mut O) -> Result<(), O::Fault>
 
 /// Appends data in hexadecimal.
 #[tactic(auto, using(crate::proofs::Pieces::three_put))]
-fn put_data<O: Out>(bytes: &[u8], out: &mut O) -> Result<(), O::Fault>
+fn put_data<O: Out>(bytes: &[u8], out: &mut O) -> Result<(), O::Error>
     ensures { OnOk result (after (Ok (O.text out.old)) (said (data_text bytes.now)) ≡ Ok (O.text out.new)) }
 {
     out.put("0x\"")?;
@@ -86,7 +86,7 @@ fn put_data<O: Out>(bytes: &[u8], out: &mut O) -> Result<(), O::Fault>
 }
 
 /// Appends an enum by its enumerant's name, and past the enumerants by its number.
-fn put_enum<O: Out>(value: Enum<'_>, out: &mut O) -> Result<(), O::Fault>
+fn put_enum<O: Out>(value: Enum<'_>, out: &mut O) -> Result<(), O::Error>
     ensures { OnOk result (after (Ok (O.text out.old)) (said (enum_name value.entry)) ≡ Ok (O.text out.new)) }
 {
     match value.get_enumerant() {
@@ -97,7 +97,7 @@ fn put_enum<O: Out>(value: Enum<'_>, out: &mut O) -> Result<(), O::Fault>
 }
 
 /// Appends the text of a value that is no struct and no list.
-pub(super) fn put_leaf<O: Out>(value: Reader<'_>, out: &mut O) -> Result<(), O::Fault>
+pub(super) fn put_leaf<O: Out>(value: Reader<'_>, out: &mut O) -> Result<(), O::Error>
     requires { IsLeaf value }
     ensures { OnOk result (after (Ok (O.text out.old)) (leaf_text value.entry) ≡ Ok (O.text out.new)) }
 {

@@ -12,25 +12,25 @@ use std::fmt;
 /// A place that takes a text piece by piece.
 pub(crate) trait Out {
     /// Why it takes no more.
-    type Fault: Drop;
+    type Error: Drop;
 
     // What it has taken, where that is said.
     ghost text: { Self → Option (List ℕ) };
 
     /// Appends a piece.
-    fn put(&mut self, piece: &str) -> Result<(), Self::Fault>
+    fn put(&mut self, piece: &str) -> Result<(), Self::Error>
         ensures { OnOk result (after (Ok (text self.old)) (said piece.now) ≡ Ok (text self.new)) };
 
     /// Appends the debug form of a string.
-    fn put_debug(&mut self, piece: &str) -> Result<(), Self::Fault>
+    fn put_debug(&mut self, piece: &str) -> Result<(), Self::Error>
         ensures { OnOk result (after (Ok (text self.old)) (Ok (debug_str piece.now)) ≡ Ok (text self.new)) };
 
     /// Appends a number in decimal.
-    fn put_unsigned(&mut self, number: u64) -> Result<(), Self::Fault>
+    fn put_unsigned(&mut self, number: u64) -> Result<(), Self::Error>
         ensures { OnOk result (after (Ok (text self.old)) (said (decimal number)) ≡ Ok (text self.new)) };
 
     /// Appends a number in decimal, with its sign where it is negative.
-    fn put_signed(&mut self, number: i64) -> Result<(), Self::Fault>
+    fn put_signed(&mut self, number: i64) -> Result<(), Self::Error>
         ensures { OnOk result (after (Ok (text self.old)) (said (signed_decimal number)) ≡ Ok (text self.new)) };
 }
 
@@ -70,7 +70,7 @@ impl Made {
 }
 
 impl Out for Made {
-    type Fault = AllocError;
+    type Error = AllocError;
 
     ghost text = { made_text };
 
@@ -95,7 +95,7 @@ impl Out for Made {
 }
 
 impl<W: fmt::Write> Out for fmt::Formatter<W> {
-    type Fault = fmt::Error;
+    type Error = fmt::Error;
 
     ghost text = { λ _. None };
 

@@ -18,7 +18,7 @@ pub(crate) fn layout(indented: bool) -> Option<u64>
 }
 
 /// Appends a piece.
-pub(crate) fn put<O: Out>(piece: &str, out: &mut O) -> Result<(), Stop<O::Fault>>
+pub(crate) fn put<O: Out>(piece: &str, out: &mut O) -> Result<(), Stop<O::Error>>
     ensures put { OnOk result (IsPut (O.text out.old) (said piece.now) (O.text out.new)) }
     ensures full { IfErr result IsFull }
 {
@@ -29,7 +29,7 @@ pub(crate) fn put<O: Out>(piece: &str, out: &mut O) -> Result<(), Stop<O::Fault>
 }
 
 /// Appends the text of a value that is no struct and no list.
-pub(crate) fn print_leaf<O: Out>(value: Value<'_>, out: &mut O) -> Result<(), Stop<O::Fault>>
+pub(crate) fn print_leaf<O: Out>(value: Value<'_>, out: &mut O) -> Result<(), Stop<O::Error>>
     requires { IsLeaf value }
     ensures put { OnOk result (IsPut (O.text out.old) (leaf_text value.entry) (O.text out.new)) }
     ensures full { IfErr result IsFull }
@@ -54,7 +54,7 @@ pub(crate) fn one_deeper<F>(at: Option<u64>) -> Result<Option<u64>, Stop<F>>
 }
 
 /// A line break, where lines are broken.
-pub(crate) fn put_line<O: Out>(at: Option<u64>, out: &mut O) -> Result<(), Stop<O::Fault>>
+pub(crate) fn put_line<O: Out>(at: Option<u64>, out: &mut O) -> Result<(), Stop<O::Error>>
     ensures put { OnOk result (IsPut (O.text out.old) (said (line at)) (O.text out.new)) }
     ensures full { IfErr result IsFull }
 {
@@ -73,7 +73,7 @@ pub(crate) fn put_separator<O: Out>(
     at: Option<u64>,
     first: bool,
     out: &mut O,
-) -> Result<(), Stop<O::Fault>>
+) -> Result<(), Stop<O::Error>>
     ensures put { OnOk result (IsPut (O.text out.old) (said (separator at first)) (O.text out.new)) }
     ensures full { IfErr result IsFull }
 {

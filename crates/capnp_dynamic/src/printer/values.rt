@@ -25,7 +25,7 @@ pub(crate) fn print_value<O: Out>(
     left: u32,
     at: Option<u64>,
     out: &mut O,
-) -> Result<(), Stop<O::Fault>>
+) -> Result<(), Stop<O::Error>>
     ensures put { OnOk result (IsPut (O.text out.old) (value_shown left at value.entry) (O.text out.new)) }
     ensures stopped { IfErr result (IsStopped (O.text out.old) (value_shown left at value.entry)) }
 {
@@ -53,7 +53,7 @@ fn print_list<O: Out>(
     left: u32,
     at: Option<u64>,
     out: &mut O,
-) -> Result<(), Stop<O::Fault>>
+) -> Result<(), Stop<O::Error>>
     ensures put { OnOk result (IsPut (O.text out.old) (list_shown left at list.entry) (O.text out.new)) }
     ensures stopped { IfErr result (IsStopped (O.text out.old) (list_shown left at list.entry)) }
 {
@@ -76,7 +76,7 @@ fn print_elements<O: Out>(
     left: u32,
     at: Option<u64>,
     out: &mut O,
-) -> Result<(), Stop<O::Fault>>
+) -> Result<(), Stop<O::Error>>
     ensures put { OnOk result (IsPut (O.text out.old) (more_text at true (element_items left at list.entry 0 (count_of list.entry))) (O.text out.new)) }
     ensures stopped { IfErr result (IsStopped (O.text out.old) (more_text at true (element_items left at list.entry 0 (count_of list.entry)))) }
 {
@@ -101,7 +101,7 @@ pub(crate) fn print_record<O: Out>(
     left: u32,
     at: Option<u64>,
     out: &mut O,
-) -> Result<(), Stop<O::Fault>>
+) -> Result<(), Stop<O::Error>>
     ensures put { OnOk result (IsPut (O.text out.old) (record_shown left at reader.entry) (O.text out.new)) }
     ensures stopped { IfErr result (IsStopped (O.text out.old) (record_shown left at reader.entry)) }
 {
@@ -127,7 +127,7 @@ fn print_items<O: Out>(
     left: u32,
     at: Option<u64>,
     out: &mut O,
-) -> Result<(), Stop<O::Fault>>
+) -> Result<(), Stop<O::Error>>
     ensures put { OnOk result (IsPut (O.text out.old) (more_text at true (record_items left at reader.entry)) (O.text out.new)) }
     ensures stopped { IfErr result (IsStopped (O.text out.old) (more_text at true (record_items left at reader.entry))) }
 {
@@ -162,7 +162,7 @@ fn print_field<'a, O: Out>(
     left: u32,
     at: Option<u64>,
     out: &mut O,
-) -> Result<Progress<'a>, Stop<O::Fault>>
+) -> Result<Progress<'a>, Stop<O::Error>>
     requires field { IsFieldOf (schema_of reader) (index_of field) field }
     requires pending { IsPending reader progress.pending }
     ensures put { IfOk result (FieldPut left at reader.entry field.entry progress.entry (O.text out.old) (O.text out.new)) }
@@ -198,7 +198,7 @@ fn print_before<'a, O: Out>(
     left: u32,
     at: Option<u64>,
     out: &mut O,
-) -> Result<Progress<'a>, Stop<O::Fault>>
+) -> Result<Progress<'a>, Stop<O::Error>>
     requires pending { IsPending reader progress.pending }
     ensures put { IfOk result (MemberPut left at reader.entry field.entry progress.entry (O.text out.old) (O.text out.new)) }
     ensures stopped { IfErr result (AreStopped at progress.entry.first
@@ -228,7 +228,7 @@ fn print_member<'a, O: Out>(
     left: u32,
     at: Option<u64>,
     out: &mut O,
-) -> Result<bool, Stop<O::Fault>>
+) -> Result<bool, Stop<O::Error>>
     requires pending { IsPending reader (Some member) }
     ensures put { IfOk result (λ still. ArePut at first (member_items left at reader.entry (field_in reader.entry member.entry)) still (O.text out.old)
         (O.text out.new)) }
@@ -252,7 +252,7 @@ fn print_item<O: Out>(
     left: u32,
     at: Option<u64>,
     out: &mut O,
-) -> Result<(), Stop<O::Fault>>
+) -> Result<(), Stop<O::Error>>
     requires field { IsFieldOf (schema_of reader) (index_of field) field }
     ensures put { OnOk result (ArePut at first (field_item left at reader.entry (field_in reader.entry field.entry) ∷ []) false (O.text out.old)
         (O.text out.new)) }
@@ -272,7 +272,7 @@ fn print_part<O: Out>(
     left: u32,
     at: Option<u64>,
     out: &mut O,
-) -> Result<(), Stop<O::Fault>>
+) -> Result<(), Stop<O::Error>>
     requires field { IsFieldOf (schema_of reader) (index_of field) field }
     ensures put { OnOk result (IsPut (O.text out.old) (field_shown left at reader.entry (field_in reader.entry field.entry)) (O.text out.new)) }
     ensures stopped { IfErr result (IsStopped (O.text out.old) (field_shown left at reader.entry (field_in reader.entry field.entry))) }

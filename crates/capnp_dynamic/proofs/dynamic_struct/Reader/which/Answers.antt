@@ -15,7 +15,7 @@ pub returns : goal.returns
 returns c =
     let s : StructSchema = schema_of c.args.self.now in
     subst (λ (o : Option ℕ). IsOkAnd c.get_field_by_discriminant.result (IsFound s o))
-    (which_counted (set_of s) (Left (struct_levels (reader_of c.args.self.now))) (struct_of (reader_of c.args.self.now)) (number_of s) c.discriminant_at-value.result
+    (which_counted (set_of s) (Left (struct_levels (reader_of c.args.self.now))) (struct_of (reader_of c.args.self.now)) (number_of s) c.load_discriminant-value.result
     (sym (ap (λ (n : Node). n.discriminant_count == 0) c.get_proto.ensures) ∙ not_zero c.get_proto.result.now.body.discriminant_count c.if-body-eq0.false)
-    (c.discriminant_at-value.ensures ∙ ap (λ (n : Node). bits_at (struct_of (reader_of c.args.self.now)).bytes (16 * n.discriminant_offset) 16) c.get_proto.ensures))
+    (c.load_discriminant-value.ensures ∙ ap (λ (n : Node). bits_at (struct_of (reader_of c.args.self.now)).bytes (16 * n.discriminant_offset) 16) c.get_proto.ensures))
     c.get_field_by_discriminant.ensures

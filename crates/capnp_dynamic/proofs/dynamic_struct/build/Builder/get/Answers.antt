@@ -9,5 +9,5 @@ use Rattle.capnp_dynamic.proofs.dynamic_struct.build.Builder.get.Goals as goal
 pub returns-clause-stands : goal.returns-clause-stands
 returns-clause-stands c =
     hands_number c.args.field (built_struct c.args.self) c.number_of.result c.in_default.ensures
-    (ap is_pointer (sym (ap seen_variant c.which.ensures ∙ (seen_which c.get_type.result ∙ c.get_type.ensures.is))) ∙ sym c.if-is_pointer_variant.ensures)
+    (ap is_pointer (sym (ap seen_variant c.which.ensures ∙ (seen_which c.get_type.result ∙ c.get_type.ensures.is))) ∙ sym c.if-is_behind.ensures)
     c.number_of.ensures.stands

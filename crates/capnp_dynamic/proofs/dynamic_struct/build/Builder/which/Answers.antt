@@ -16,9 +16,9 @@ returns c =
     let s : StructSchema = built_schema c.args.self.now in
     let x : StructTree = built_struct c.args.self.now in
     subst (λ (o : Option ℕ). IsOkAnd c.get_field_by_discriminant.result (IsFound s o))
-    (which_counted (set_of s) (Left 64) x (number_of s) c.discriminant_at-value.result
+    (which_counted (set_of s) (Left 64) x (number_of s) c.load_discriminant-value.result
     (sym (ap (λ (n : Node). n.discriminant_count == 0) c.get_proto.ensures) ∙ not_zero c.get_proto.result.now.body.discriminant_count c.if-body-eq0.false)
-    (c.discriminant_at-value.ensures
+    (c.load_discriminant-value.ensures
     ∙ (ap (λ (y : StructTree). bits_at y.bytes (16 * c.get_proto.result.now.body.discriminant_offset) 16) c.as_reader.ensures.parts
     ∙ ap (λ (n : Node). bits_at x.bytes (16 * n.discriminant_offset) 16) c.get_proto.ensures)))
     c.get_field_by_discriminant.ensures
