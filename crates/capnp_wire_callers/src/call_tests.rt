@@ -9,18 +9,17 @@ use crate::calls::Copied::Message;
 use crate::calls::Lent::{
     GetData, GetText, InitData, InitText, NewData, NewText, ReverseData, ReverseText,
 };
-use crate::calls::{EMPTY_STRUCT, FIVE_AND_TEXT, NEW_STRUCT, NO_SIZE, Row, TWO_EACH, make};
-use crate::copied_rows::{BECOME_STRUCTS, COPIED, TAKEN_OVER};
-use crate::fixtures::{ONE_EACH, answer, bytes_of, is_written_as};
-use capnp_wire::error::ErrorKind::{
-    self, SizePastFormat, TextNotTerminated, WrongElementSize, WrongPointerKind,
+use crate::calls::{
+    EMPTY_STRUCT, FIVE_AND_TEXT, NEW_STRUCT, NO_SIZE, Row, TWO_EACH, follow, make, parts_of,
 };
-use capnp_wire::error::Result;
+use crate::copied_rows::{BECOME_STRUCTS, COPIED, TAKEN_OVER};
+use crate::fixtures::{ONE_EACH, answer};
+use capnp_wire::error::ErrorKind::{
+    SizePastFormat, TextNotTerminated, WrongElementSize, WrongPointerKind,
+};
 use capnp_wire::message::Builder;
 use capnp_wire::size::ElementSize::{Bit, Byte, EightBytes, FourBytes, Pointer, TwoBytes, Void};
 use capnp_wire::size::StructSize;
-use std::alloc::Global;
-use std::process::Abort;
 
 const ONE_WORD: StructSize = StructSize {
     data_words: 1,
@@ -346,52 +345,6 @@ static LENT: [Row; 28] = [
         NEW_STRUCT,
     ),
 ];
-
-/// The words of a message's segment, and whether the root is a null, a struct or a list.
-fn parts_of(message: &mut Builder) -> Result<(u64, [bool; 3])> {
-    let words = message.size_in_words()?;
-    let root = message.root();
-    Ok((words, [root.is_null(), root.is_struct(), root.is_list()]))
-}
-
-/// The same, as the bytes of a message of one segment have them.
-fn parts_in(bytes: &[u8]) -> (u64, [bool; 3]) {
-    if bytes.len() < 16 {
-        return (0, [false; 3]);
-    }
-    let is_null = bytes[8..16] == [0; 8];
-    (
-        (bytes.len() / 8) as u64 - 1,
-        [is_null, !is_null && bytes[8] % 4 == 0, bytes[8] % 4 == 1],
-    )
-}
-
-/// Whether a message is written as the bytes that a text spells, and is measured and looked at as they say.
-fn stands_as(alloc: Global, message: &mut Builder, text: &str) -> Result<(bool, bool)> {
-    let bytes = bytes_of(alloc, text)?;
-    let is_measured = parts_of(message)? == parts_in(&bytes);
-    Ok((is_written_as(alloc, message, text)?, is_measured))
-}
-
-/// Whether a call answers these bytes, or is refused so.
-fn answers(made: Result<Vec<u8>>, expected: std::result::Result<&str, ErrorKind>) -> bool {
-    match (made, expected) {
-        (Ok(bytes), Ok(text)) => bytes.as_slice() == text.as_bytes(),
-        (Err(error), Err(kind)) => error.kind == kind,
-        _ => false,
-    }
-}
-
-/// Makes the calls of these rows on one message.
-fn follow(rt: &impl Abort, alloc: Global, rows: &[Row]) {
-    let mut message = Builder::new(alloc);
-    for (name, call, expected, then) in rows {
-        let made = make(alloc, &mut message, *call);
-        assert!(rt; answers(made, *expected), "{name}");
-        let stands = answer(stands_as(alloc, &mut message, then));
-        assert_eq!(rt; stands, Ok((true, true)), "{name}");
-    }
-}
 
 #[test]
 fn texts_structs_and_lists_are_made(rt: HostRuntime) {

@@ -1,13 +1,17 @@
 //! Calls on a message that is built, as values: a row of a table says what is called, what that answers, and what the
-//! message is then.
+//! message is then. Each call of the builders stands in a function of its own, and `follow` makes those of the rows on one
+//! message.
+ghost use Rattle.capnp_wire.specs.Objects.{object_tree};
+ghost use Rattle.capnp_wire.specs.WellFormed.{IsWellFormed};
 
-use crate::fixtures::{ONE_EACH, bytes_of, root_of};
-use capnp_wire::PointerReader;
+use crate::fixtures::{ONE_EACH, answer, bytes_of, is_written_as, root_of};
 use capnp_wire::error::{ErrorKind, Result};
 use capnp_wire::message::Builder;
 use capnp_wire::object::Object;
 use capnp_wire::size::{ElementSize, StructSize};
+use capnp_wire::{PointerReader, StructReader};
 use std::alloc::Global;
+use std::process::Abort;
 
 pub const TWO_EACH: StructSize = StructSize {
     data_words: 2,
@@ -38,6 +42,19 @@ pub enum Call {
     NewFilled(u16),
     Copy(Copied),
     Lend(Lent),
+    /// What is asked is got, and a null is filled from the default at the root of these words, if there are any.
+    Fill(Asked, &'static str),
+}
+
+/// What a pointer is asked for, with a default.
+#[derive(Clone, Copy)]
+pub enum Asked {
+    /// A struct of at least a data word and a pointer.
+    Struct,
+    /// A list of numbers of two bytes.
+    Numbers,
+    /// A list of structs of at least a data word and a pointer.
+    Structs,
 }
 
 /// What is copied.
@@ -126,94 +143,155 @@ fn new_filled(root: &mut Object, count: u16) -> Result<()> {
     }
 }
 
-fn copy(alloc: Global, message: &mut Builder, copied: Copied) -> Result<()> {
+/// The text that spells what is copied.
+fn source_of(copied: Copied) -> &'static str {
     match copied {
-        Copied::Message(text) => {
-            let bytes = bytes_of(alloc, text)?;
-            message.set_root(root_of(alloc, &bytes)?)
-        }
-        Copied::List(text, size) => {
-            let words = bytes_of(alloc, text)?;
-            let list = PointerReader::from_words(&words).get_list(size)?;
-            message.root().set_list(&list)
-        }
-        Copied::FirstStruct(text, size) => {
-            let words = bytes_of(alloc, text)?;
-            let list = PointerReader::from_words(&words).get_list(size)?;
-            message.root().set_struct(&list.get_struct_element(0)?)
-        }
-        Copied::Content(text) => {
-            let words = bytes_of(alloc, text)?;
-            let source = PointerReader::from_words(&words).get_struct()?;
-            message
-                .root()
-                .get_struct(ONE_EACH)?
-                .copy_content_from(&source)
-        }
-        Copied::ContentOfByte(text) => {
-            let words = bytes_of(alloc, text)?;
-            let list = PointerReader::from_words(&words).get_list(ElementSize::Byte)?;
-            let source = list.get_struct_element(1)?;
-            message
-                .root()
-                .get_struct(ONE_EACH)?
-                .copy_content_from(&source)
-        }
+        Copied::Message(text) => text,
+        Copied::List(text, _) => text,
+        Copied::FirstStruct(text, _) => text,
+        Copied::Content(text) => text,
+        Copied::ContentOfByte(text) => text,
     }
 }
 
-/// Writes bytes into what is lent, and answers what stood there.
-fn write_into(alloc: Global, lent: &mut [u8], bytes: &str) -> Result<Vec<u8>> {
-    let was = Vec::from_slice(alloc, lent)?;
-    if lent.len() == bytes.len() {
-        lent.copy_from_slice(bytes.as_bytes());
-    }
-    Ok(was)
+fn copy_message(alloc: Global, message: &mut Builder, bytes: &[u8]) -> Result<()> {
+    message.set_root(root_of(alloc, bytes)?)
 }
 
-fn lend(alloc: Global, root: &mut Object, lent: Lent) -> Result<Vec<u8>> {
+fn copy_list(root: &mut Object, words: &[u8], size: ElementSize) -> Result<()> {
+    root.set_list(&PointerReader::from_words(words).get_list(size)?)
+}
+
+fn copy_first_struct(root: &mut Object, words: &[u8], size: ElementSize) -> Result<()> {
+    let list = PointerReader::from_words(words).get_list(size)?;
+    root.set_struct(&list.get_struct_element(0)?)
+}
+
+fn copy_content(root: &mut Object, source: &StructReader<'_>) -> Result<()> {
+    root.get_struct(ONE_EACH)?.copy_content_from(source)
+}
+
+fn copy_content_of(root: &mut Object, words: &[u8]) -> Result<()> {
+    copy_content(root, &PointerReader::from_words(words).get_struct()?)
+}
+
+fn copy_content_of_byte(root: &mut Object, words: &[u8]) -> Result<()> {
+    let list = PointerReader::from_words(words).get_list(ElementSize::Byte)?;
+    copy_content(root, &list.get_struct_element(1)?)
+}
+
+fn copy(alloc: Global, message: &mut Builder, copied: Copied) -> Result<()> {
+    let bytes = bytes_of(alloc, source_of(copied))?;
+    match copied {
+        Copied::Message(_) => copy_message(alloc, message, &bytes),
+        Copied::List(_, size) => copy_list(message.root(), &bytes, size),
+        Copied::FirstStruct(_, size) => copy_first_struct(message.root(), &bytes, size),
+        Copied::Content(_) => copy_content_of(message.root(), &bytes),
+        Copied::ContentOfByte(_) => copy_content_of_byte(message.root(), &bytes),
+    }
+}
+
+fn lent_bytes(root: &mut Object, lent: Lent) -> Result<&mut [u8]> {
     match lent {
-        Lent::GetData => Ok(Vec::from_slice(alloc, root.get_data()?)?),
-        Lent::GetText => Ok(Vec::from_slice(alloc, root.get_text()?)?),
-        Lent::InitData(count) => Ok(Vec::from_slice(alloc, root.init_data(count)?)?),
-        Lent::InitText(count) => Ok(Vec::from_slice(alloc, root.init_text(count)?)?),
-        Lent::NewData(count, bytes) => write_into(alloc, root.init_data(count)?, bytes),
-        Lent::NewText(count, bytes) => write_into(alloc, root.init_text(count)?, bytes),
-        Lent::ReverseData => {
-            root.get_data()?.reverse();
+        Lent::GetData | Lent::ReverseData => root.get_data(),
+        Lent::GetText | Lent::ReverseText => root.get_text(),
+        Lent::InitData(count) | Lent::NewData(count, _) => root.init_data(count),
+        Lent::InitText(count) | Lent::NewText(count, _) => root.init_text(count),
+    }
+}
+
+/// What is written into the bytes that are lent.
+fn text_of(lent: Lent) -> &'static str {
+    match lent {
+        Lent::NewData(_, bytes) => bytes,
+        Lent::NewText(_, text) => text,
+        _ => "",
+    }
+}
+
+fn write_into(bytes: &mut [u8], text: &str) {
+    if bytes.len() == text.len() {
+        bytes.copy_from_slice(text.as_bytes());
+    }
+}
+
+/// Writes into the bytes that are lent, and answers what stood there, or nothing where they are reversed.
+fn lend(alloc: Global, root: &mut Object, lent: Lent) -> Result<Vec<u8>> {
+    let bytes = lent_bytes(root, lent)?;
+    match lent {
+        Lent::ReverseData | Lent::ReverseText => {
+            bytes.reverse();
             Ok(Vec::new(alloc))
         }
-        Lent::ReverseText => {
-            root.get_text()?.reverse();
-            Ok(Vec::new(alloc))
+        _ => {
+            let was = Vec::from_slice(alloc, bytes)?;
+            write_into(bytes, text_of(lent));
+            Ok(was)
         }
+    }
+}
+
+/// A default of these words; none where there are none.
+fn default_of(words: &[u8]) -> Option<PointerReader<'_>> {
+    if words.is_empty() {
+        None
+    } else {
+        Some(PointerReader::from_words(words))
+    }
+}
+
+fn ask(pointer: &mut Object, asked: Asked, default: Option<PointerReader<'_>>) -> Result<()>
+    requires { IsWellFormed (object_tree pointer.old) }
+{
+    match asked {
+        Asked::Struct => done(pointer.get_struct_or_default(ONE_EACH, default)),
+        Asked::Numbers => done(pointer.get_list_or_default(ElementSize::TwoBytes, default)),
+        Asked::Structs => done(pointer.get_struct_list_or_default(ONE_EACH, default)),
+    }
+}
+
+fn fill(alloc: Global, message: &mut Builder, asked: Asked, default: &str) -> Result<()> {
+    let words = bytes_of(alloc, default)?;
+    // what can be written is well-formed, as the call asks
+    message.write_message()?;
+    ask(message.root(), asked, default_of(&words))
+}
+
+fn get_structs(message: &mut Builder, size: StructSize) -> Result<()> {
+    // what can be written is well-formed, as the call asks
+    message.write_message()?;
+    done(message.root().get_struct_list(size))
+}
+
+fn clear(root: &mut Object) -> Result<()> {
+    root.clear();
+    Ok(())
+}
+
+fn init(root: &mut Object, call: Call) -> Result<()> {
+    match call {
+        Call::InitStruct(size) => done(root.init_struct(size)),
+        Call::InitList(ElementSize::InlineComposite, _) => Ok(()),
+        Call::InitList(size, count) => done(root.init_list(size, count)),
+        Call::InitStructs(count, size) => done(root.init_struct_list(count, size)),
+        Call::GetStruct(size) => done(root.get_struct(size)),
+        Call::GetList(ElementSize::InlineComposite) => Ok(()),
+        Call::GetList(size) => done(root.get_list(size)),
+        _ => Ok(()),
     }
 }
 
 fn set(alloc: Global, message: &mut Builder, call: Call) -> Result<()> {
     match call {
-        Call::Clear => {
-            message.root().clear();
-            Ok(())
-        }
+        Call::Clear => clear(message.root()),
         Call::SetText(text) => message.root().set_text(text.as_bytes()),
         Call::SetData(bytes) => message.root().set_data(bytes.as_bytes()),
-        Call::InitStruct(size) => done(message.root().init_struct(size)),
-        Call::InitList(ElementSize::InlineComposite, _) => Ok(()),
-        Call::InitList(size, count) => done(message.root().init_list(size, count)),
-        Call::InitStructs(count, size) => done(message.root().init_struct_list(count, size)),
-        Call::GetStruct(size) => done(message.root().get_struct(size)),
-        Call::GetList(ElementSize::InlineComposite) => Ok(()),
-        Call::GetList(size) => done(message.root().get_list(size)),
-        Call::GetStructs(size) => {
-            // what can be written is well-formed, as the call asks
-            message.write_message()?;
-            done(message.root().get_struct_list(size))
-        }
+        Call::GetStructs(size) => get_structs(message, size),
         Call::NewStruct(number, text) => new_struct(message.root(), number, text),
         Call::NewFilled(count) => new_filled(message.root(), count),
         Call::Copy(copied) => copy(alloc, message, copied),
-        Call::Lend(_) => Ok(()),
+        Call::Fill(asked, default) => fill(alloc, message, asked, default),
+        other => init(message.root(), other),
     }
 }
 
@@ -221,9 +299,55 @@ fn set(alloc: Global, message: &mut Builder, call: Call) -> Result<()> {
 pub fn make(alloc: Global, message: &mut Builder, call: Call) -> Result<Vec<u8>> {
     match call {
         Call::Lend(lent) => lend(alloc, message.root(), lent),
-        other => {
-            set(alloc, message, other)?;
-            Ok(Vec::new(alloc))
-        }
+        other => match set(alloc, message, other) {
+            Ok(()) => Ok(Vec::new(alloc)),
+            Err(error) => Err(error),
+        },
+    }
+}
+
+/// The words of a message's segment, and whether the root is a null, a struct or a list.
+pub fn parts_of(message: &mut Builder) -> Result<(u64, [bool; 3])> {
+    let words = message.size_in_words()?;
+    let root = message.root();
+    Ok((words, [root.is_null(), root.is_struct(), root.is_list()]))
+}
+
+/// The same, as the bytes of a message of one segment have them.
+fn parts_in(bytes: &[u8]) -> (u64, [bool; 3]) {
+    if bytes.len() < 16 {
+        return (0, [false; 3]);
+    }
+    let is_null = bytes[8..16] == [0; 8];
+    (
+        (bytes.len() / 8) as u64 - 1,
+        [is_null, !is_null && bytes[8] % 4 == 0, bytes[8] % 4 == 1],
+    )
+}
+
+/// Whether a message is written as the bytes that a text spells, and is measured and looked at as they say.
+fn stands_as(alloc: Global, message: &mut Builder, text: &str) -> Result<(bool, bool)> {
+    let bytes = bytes_of(alloc, text)?;
+    let is_measured = parts_of(message)? == parts_in(&bytes);
+    Ok((is_written_as(alloc, message, text)?, is_measured))
+}
+
+/// Whether a call answers these bytes, or is refused so.
+fn answers(made: Result<Vec<u8>>, expected: std::result::Result<&str, ErrorKind>) -> bool {
+    match (made, expected) {
+        (Ok(bytes), Ok(text)) => bytes.as_slice() == text.as_bytes(),
+        (Err(error), Err(kind)) => error.kind == kind,
+        _ => false,
+    }
+}
+
+/// Makes the calls of these rows on one message.
+pub fn follow(rt: &impl Abort, alloc: Global, rows: &[Row]) {
+    let mut message = Builder::new(alloc);
+    for (name, call, expected, then) in rows {
+        let made = make(alloc, &mut message, *call);
+        assert!(rt; answers(made, *expected), "{name}");
+        let stands = answer(stands_as(alloc, &mut message, then));
+        assert_eq!(rt; stands, Ok((true, true)), "{name}");
     }
 }

@@ -1,9 +1,9 @@
 //! What the tests share: messages as text, a size, and what a refused read answers.
 
+use capnp_wire::PointerReader;
 use capnp_wire::error::{ErrorKind, Result};
 use capnp_wire::message::{Builder, Reader};
 use capnp_wire::size::StructSize;
-use capnp_wire::{PointerReader, StructReader};
 use std::alloc::Global;
 
 // A message that the public `capnp` tool, version 0.9.2, wrote:
@@ -84,24 +84,4 @@ pub fn refusal<T: Copy>(answer: Result<T>) -> Option<ErrorKind> {
         Ok(_) => None,
         Err(error) => Some(error.kind),
     }
-}
-
-/// The 16 bit number at the start of the struct at a pointer.
-pub fn first_number(pointer: PointerReader<'_>) -> Result<u16> {
-    Ok(pointer.get_struct()?.get_data_field::<u16>(0))
-}
-
-/// The struct that so many structs, each at pointer 0 of the one before, lead to.
-pub fn struct_after<'a>(root: PointerReader<'a>, structs: u32) -> Result<StructReader<'a>> {
-    let mut pointer = root;
-    for _ in 1..structs {
-        pointer = pointer.get_struct()?.get_pointer_field(0);
-    }
-    pointer.get_struct()
-}
-
-/// The 16 bit number at the start of the root of a message.
-pub fn number_in_message(alloc: Global, text: &str) -> Result<u16> {
-    let bytes = bytes_of(alloc, text)?;
-    first_number(root_of(alloc, &bytes)?)
 }

@@ -36,6 +36,8 @@ pub mod path;
 #[cfg(test)]
 mod pointer_tests;
 #[cfg(test)]
+mod reads;
+#[cfg(test)]
 mod same_tree_tests;
 #[cfg(test)]
 mod size_tests;

@@ -1,178 +1,105 @@
 //! Lists: which are read as which, and their elements.
 
-use crate::fixtures::{answer, bytes_of};
-use capnp_wire::error::ErrorKind::{WrongElementSize, WrongPointerKind};
-use capnp_wire::error::Result;
-use capnp_wire::size::ElementSize;
-use capnp_wire::{ListReader, PointerReader};
-use std::alloc::Global;
+use crate::reads::{messages_answer, rows_hold, scripts_are_answered};
 
-// y where a list is read as this size, n where it has another
-fn is_read(list: PointerReader<'_>, size: ElementSize) -> u8 {
-    match answer(list.get_list(size)) {
-        Ok(_) => b'y',
-        Err(WrongElementSize) => b'n',
-        Err(_) => b'?',
-    }
-}
+/// The list as one of each size, its length, and whether it is empty.
+const EACH_SIZE: &str = "words: voids; bits; bytes; twos; fours; eights; pointers; structs; \
+     voids.length; voids.empty";
 
-fn sizes_read(list: PointerReader<'_>) -> [u8; 8] {
-    [
-        is_read(list, ElementSize::Void),
-        is_read(list, ElementSize::Bit),
-        is_read(list, ElementSize::Byte),
-        is_read(list, ElementSize::TwoBytes),
-        is_read(list, ElementSize::FourBytes),
-        is_read(list, ElementSize::EightBytes),
-        is_read(list, ElementSize::Pointer),
-        is_read(list, ElementSize::InlineComposite),
-    ]
-}
-
-/// The sizes that the list at the root of these words is read as, its length, and whether it is empty.
-fn sizes_in(alloc: Global, text: &str) -> Result<([u8; 8], u32, bool)> {
-    let words = bytes_of(alloc, text)?;
-    let root = PointerReader::from_words(&words);
-    let list = root.get_list(ElementSize::Void)?;
-    Ok((sizes_read(root), list.len(), list.is_empty()))
-}
+/// Words, and what the list at their root is read as.
+static SIZES: [(&str, &str); 13] = [
+    // of nothing, bits, 1, 2, 4 and 8 bytes, pointers
+    (
+        "01 00 00 00 18 00 00 00",
+        "list; refused 6; refused 6; refused 6; refused 6; refused 6; refused 6; list; 3; false",
+    ),
+    (
+        "01 00 00 00 19 00 00 00 | 05 00 00 00 00 00 00 00",
+        "list; list; refused 6; refused 6; refused 6; refused 6; refused 6; refused 6; 3; false",
+    ),
+    (
+        "01 00 00 00 1a 00 00 00 | 01 02 03 00 00 00 00 00",
+        "list; refused 6; list; refused 6; refused 6; refused 6; refused 6; list; 3; false",
+    ),
+    (
+        "01 00 00 00 13 00 00 00 | 01 00 02 00 00 00 00 00",
+        "list; refused 6; refused 6; list; refused 6; refused 6; refused 6; list; 2; false",
+    ),
+    (
+        "01 00 00 00 14 00 00 00 | 01 00 00 00 02 00 00 00",
+        "list; refused 6; refused 6; refused 6; list; refused 6; refused 6; list; 2; false",
+    ),
+    (
+        "01 00 00 00 0d 00 00 00 | 01 00 00 00 00 00 00 00",
+        "list; refused 6; refused 6; refused 6; refused 6; list; refused 6; list; 1; false",
+    ),
+    (
+        "01 00 00 00 15 00 00 00 | 09 00 00 00 00 00 00 80 | 07 00 00 00 00 00 00 00",
+        "list; refused 6; refused 6; refused 6; refused 6; list; refused 6; list; 2; false",
+    ),
+    (
+        "01 00 00 00 0e 00 00 00 | 0",
+        "list; refused 6; refused 6; refused 6; refused 6; refused 6; list; list; 1; false",
+    ),
+    // structs of no size, of a data word, of a pointer, of both
+    (
+        "01 00 00 00 07 00 00 00 | 14 00 00 00 00 00 00 00",
+        "list; refused 6; refused 6; refused 6; refused 6; refused 6; refused 6; list; 5; false",
+    ),
+    (
+        "01 00 00 00 0f 00 00 00 | 04 00 00 00 01 00 00 00 | 0",
+        "list; refused 6; list; list; list; list; refused 6; list; 1; false",
+    ),
+    (
+        "01 00 00 00 0f 00 00 00 | 04 00 00 00 00 00 01 00 | 0",
+        "list; refused 6; refused 6; refused 6; refused 6; refused 6; list; list; 1; false",
+    ),
+    (
+        "01 00 00 00 17 00 00 00 | 04 00 00 00 01 00 01 00 | 0 | 0",
+        "list; refused 6; list; list; list; list; list; list; 1; false",
+    ),
+    // null
+    (
+        "0",
+        "list; list; list; list; list; list; list; list; 0; true",
+    ),
+];
 
 #[test]
 fn lists_are_read_as_these_sizes(rt: HostRuntime) {
-    // of nothing, bits, 1, 2, 4 and 8 bytes, pointers, structs
-    let table = [
-        ("01 00 00 00 18 00 00 00", 3, *b"ynnnnnny"),
-        (
-            "01 00 00 00 19 00 00 00 | 05 00 00 00 00 00 00 00",
-            3,
-            *b"yynnnnnn",
-        ),
-        (
-            "01 00 00 00 1a 00 00 00 | 01 02 03 00 00 00 00 00",
-            3,
-            *b"ynynnnny",
-        ),
-        (
-            "01 00 00 00 13 00 00 00 | 01 00 02 00 00 00 00 00",
-            2,
-            *b"ynnynnny",
-        ),
-        (
-            "01 00 00 00 14 00 00 00 | 01 00 00 00 02 00 00 00",
-            2,
-            *b"ynnnynny",
-        ),
-        (
-            "01 00 00 00 0d 00 00 00 | 01 00 00 00 00 00 00 00",
-            1,
-            *b"ynnnnyny",
-        ),
-        (
-            "01 00 00 00 15 00 00 00 | 09 00 00 00 00 00 00 80 | 07 00 00 00 00 00 00 00",
-            2,
-            *b"ynnnnyny",
-        ),
-        ("01 00 00 00 0e 00 00 00 | 0", 1, *b"ynnnnnyy"),
-        // structs of no size, of a data word, of a pointer, of both
-        (
-            "01 00 00 00 07 00 00 00 | 14 00 00 00 00 00 00 00",
-            5,
-            *b"ynnnnnny",
-        ),
-        (
-            "01 00 00 00 0f 00 00 00 | 04 00 00 00 01 00 00 00 | 0",
-            1,
-            *b"ynyyyyny",
-        ),
-        (
-            "01 00 00 00 0f 00 00 00 | 04 00 00 00 00 00 01 00 | 0",
-            1,
-            *b"ynnnnnyy",
-        ),
-        (
-            "01 00 00 00 17 00 00 00 | 04 00 00 00 01 00 01 00 | 0 | 0",
-            1,
-            *b"ynyyyyyy",
-        ),
-        // null
-        ("0", 0, *b"yyyyyyyy"),
-    ];
-    for (text, length, sizes) in table {
-        assert_eq!(rt;
-            answer(sizes_in(rt.alloc(), text)),
-            Ok((sizes, length, length == 0)),
-            "{text}"
-        );
-    }
+    messages_answer(&rt, rt.alloc(), EACH_SIZE, &SIZES);
 }
 
-fn list_in(words: &[u8], size: ElementSize) -> Result<ListReader<'_>> {
-    PointerReader::from_words(words).get_list(size)
-}
+/// Three bytes, and others behind them.
+const BYTES: &str = "01 00 00 00 1a 00 00 00 | 01 fe ff 04 05 06 07 08";
 
-/// An element of a list that is read as bytes: as it is, as a signed number, as a bit, and whether it is null as a pointer.
-fn byte_at(alloc: Global, text: &str, index: u32) -> Result<(u8, i8, bool, bool)> {
-    let words = bytes_of(alloc, text)?;
-    let list = list_in(&words, ElementSize::Byte)?;
-    Ok((
-        list.get_data_element::<u8>(index),
-        list.get_data_element::<i8>(index),
-        list.get_bool_element(index),
-        list.get_pointer_element(index).is_null(),
-    ))
-}
+/// A byte as it is, as a signed number, as a bit, and whether it is null as a pointer.
+static BYTE_ROWS: [(&str, &str); 5] = [
+    (
+        "words.bytes: u8 0; i8 0; bool 0; pointer 0.null",
+        "1; 1; false; true",
+    ),
+    (
+        "words.bytes: u8 1; i8 1; bool 1; pointer 1.null",
+        "254; -2; false; true",
+    ),
+    (
+        "words.bytes: u8 2; i8 2; bool 2; pointer 2.null",
+        "255; -1; false; true",
+    ),
+    (
+        "words.bytes: u8 3; i8 3; bool 3; pointer 3.null",
+        "0; 0; false; true",
+    ),
+    (
+        "words.bytes: u8 4294967295; i8 4294967295; bool 4294967295; pointer 4294967295.null",
+        "0; 0; false; true",
+    ),
+];
 
 #[test]
 fn bytes_read_until_the_end_and_zero_after(rt: HostRuntime) {
-    let text = "01 00 00 00 1a 00 00 00 | 01 fe ff 04 05 06 07 08";
-    for (index, unsigned, signed) in [
-        (0, 1, 1),
-        (1, 254, -2),
-        (2, 255, -1),
-        (3, 0, 0),
-        (4294967295, 0, 0),
-    ] {
-        assert_eq!(rt;
-            answer(byte_at(rt.alloc(), text, index)),
-            Ok((unsigned, signed, false, true)),
-            "at {index}"
-        );
-    }
-}
-
-/// Three elements of the list at the root of these words, read as numbers of a size: the unsigned one, and the signed one
-/// of at most four bytes.
-fn numbers_in(
-    alloc: Global,
-    text: &str,
-    size: ElementSize,
-    indexes: [u32; 3],
-) -> Result<[(u64, i32); 3]> {
-    let words = bytes_of(alloc, text)?;
-    let list = list_in(&words, size)?;
-    Ok([
-        number_at(list, size, indexes[0]),
-        number_at(list, size, indexes[1]),
-        number_at(list, size, indexes[2]),
-    ])
-}
-
-fn number_at(list: ListReader<'_>, size: ElementSize, index: u32) -> (u64, i32) {
-    match size {
-        ElementSize::Byte => (
-            list.get_data_element::<u8>(index) as u64,
-            list.get_data_element::<i8>(index) as i32,
-        ),
-        ElementSize::TwoBytes => (
-            list.get_data_element::<u16>(index) as u64,
-            list.get_data_element::<i16>(index) as i32,
-        ),
-        ElementSize::FourBytes => (
-            list.get_data_element::<u32>(index) as u64,
-            list.get_data_element::<i32>(index),
-        ),
-        _ => (list.get_data_element::<u64>(index), 0),
-    }
+    scripts_are_answered(&rt, rt.alloc(), BYTES, &BYTE_ROWS);
 }
 
 /// Two structs of a data word and a pointer to an empty struct or null.
@@ -180,237 +107,166 @@ const TWO_STRUCTS: &str =
     "01 00 00 00 27 00 00 00 | 08 00 00 00 01 00 01 00 | 09 01 00 00 00 00 00 80 | 0 | \
      08 00 00 00 00 00 00 00 | fc ff ff ff 00 00 00 00";
 
+/// Words, the numbers of the list at their root, unsigned and signed, and what they are.
+static NUMBERS: [(&str, &str, &str); 7] = [
+    (
+        "01 00 00 00 1b 00 00 00 | 01 00 2c 01 ff ff 08 00",
+        "words.twos: u16 0; i16 0; u16 1; i16 1; u16 2; i16 2; u16 3; i16 3",
+        "1; 1; 300; 300; 65535; -1; 0; 0",
+    ),
+    (
+        "01 00 00 00 0c 00 00 00 | fe ff ff ff 01 00 00 00",
+        "words.fours: u32 0; i32 0; u32 1; i32 1; u32 2; i32 2",
+        "4294967294; -2; 0; 0; 0; 0",
+    ),
+    (
+        "01 00 00 00 0d 00 00 00 | fe ff ff ff ff ff ff ff",
+        "words.eights: u64 0; u64 1; u64 2",
+        "18446744073709551614; 0; 0",
+    ),
+    (
+        "01 00 00 00 15 00 00 00 | 09 00 00 00 00 00 00 80 | 07 00 00 00 00 00 00 00",
+        "words.eights: u64 0; u64 1; u64 2",
+        "9223372036854775817; 7; 0",
+    ),
+    // the numbers at the starts of structs
+    (
+        TWO_STRUCTS,
+        "words.bytes: u8 0; i8 0; u8 1; i8 1; u8 2; i8 2",
+        "9; 9; 8; 8; 0; 0",
+    ),
+    (
+        TWO_STRUCTS,
+        "words.twos: u16 0; i16 0; u16 1; i16 1; u16 2; i16 2",
+        "265; 265; 8; 8; 0; 0",
+    ),
+    (
+        TWO_STRUCTS,
+        "words.eights: u64 0; u64 1; u64 2",
+        "9223372036854776073; 8; 0",
+    ),
+];
+
 #[test]
 fn numbers_read_until_the_end_and_zero_after(rt: HostRuntime) {
-    let table = [
-        (
-            "01 00 00 00 1b 00 00 00 | 01 00 2c 01 ff ff 08 00",
-            ElementSize::TwoBytes,
-            [0, 1, 2],
-            [(1, 1), (300, 300), (65535, -1)],
-        ),
-        (
-            "01 00 00 00 1b 00 00 00 | 01 00 2c 01 ff ff 08 00",
-            ElementSize::TwoBytes,
-            [1, 2, 3],
-            [(300, 300), (65535, -1), (0, 0)],
-        ),
-        (
-            "01 00 00 00 0c 00 00 00 | fe ff ff ff 01 00 00 00",
-            ElementSize::FourBytes,
-            [0, 1, 2],
-            [(0xffff_fffe, -2), (0, 0), (0, 0)],
-        ),
-        (
-            "01 00 00 00 0d 00 00 00 | fe ff ff ff ff ff ff ff",
-            ElementSize::EightBytes,
-            [0, 1, 2],
-            [(18446744073709551614, 0), (0, 0), (0, 0)],
-        ),
-        (
-            "01 00 00 00 15 00 00 00 | 09 00 00 00 00 00 00 80 | 07 00 00 00 00 00 00 00",
-            ElementSize::EightBytes,
-            [0, 1, 2],
-            [(0x8000_0000_0000_0009, 0), (7, 0), (0, 0)],
-        ),
-        // the numbers at the starts of structs
-        (
-            TWO_STRUCTS,
-            ElementSize::Byte,
-            [0, 1, 2],
-            [(9, 9), (8, 8), (0, 0)],
-        ),
-        (
-            TWO_STRUCTS,
-            ElementSize::TwoBytes,
-            [0, 1, 2],
-            [(265, 265), (8, 8), (0, 0)],
-        ),
-        (
-            TWO_STRUCTS,
-            ElementSize::EightBytes,
-            [0, 1, 2],
-            [(9223372036854776073, 0), (8, 0), (0, 0)],
-        ),
-    ];
-    for (text, size, indexes, numbers) in table {
-        assert_eq!(rt;
-            answer(numbers_in(rt.alloc(), text, size, indexes)),
-            Ok(numbers),
-            "{text}"
-        );
-    }
+    rows_hold(&rt, rt.alloc(), &NUMBERS);
 }
 
-/// An element of a list of bits: the length of the list, the bit, and the element as a byte.
-fn bit_at(alloc: Global, text: &str, index: u32) -> Result<(u32, bool, u8)> {
-    let words = bytes_of(alloc, text)?;
-    let list = list_in(&words, ElementSize::Bit)?;
-    Ok((
-        list.len(),
-        list.get_bool_element(index),
-        list.get_data_element::<u8>(index),
-    ))
-}
+/// Words, the length of the list of bits at their root, elements of it as bits and as bytes, and what they are.
+static BITS: [(&str, &str, &str); 2] = [
+    // ten bits, lowest first in each byte; a set bit behind them is no element
+    (
+        "01 00 00 00 51 00 00 00 | 05 06 00 00 00 00 00 00",
+        "words.bits: length; bool 0; u8 0; bool 1; u8 1; bool 2; u8 2; bool 3; u8 3; bool 8; u8 8; bool 9; \
+     u8 9; bool 10; u8 10; bool 99; u8 99",
+        "10; true; 0; false; 0; true; 0; false; 0; false; 0; true; 0; false; 0; false; 0",
+    ),
+    // nine bits
+    (
+        "01 00 00 00 49 00 00 00 | 81 01 00 00 00 00 00 00",
+        "words.bits: length; bool 0; u8 0; bool 6; u8 6; bool 7; u8 7; bool 8; u8 8",
+        "9; true; 0; false; 0; true; 0; true; 0",
+    ),
+];
 
 #[test]
 fn bits_read_until_the_end_and_false_after(rt: HostRuntime) {
-    // ten bits, lowest first in each byte; a set bit behind them is no element
-    let ten = "01 00 00 00 51 00 00 00 | 05 06 00 00 00 00 00 00";
-    let nine = "01 00 00 00 49 00 00 00 | 81 01 00 00 00 00 00 00";
-    for (text, length, index, bit) in [
-        (ten, 10, 0, true),
-        (ten, 10, 1, false),
-        (ten, 10, 2, true),
-        (ten, 10, 3, false),
-        (ten, 10, 8, false),
-        (ten, 10, 9, true),
-        (ten, 10, 10, false),
-        (ten, 10, 99, false),
-        (nine, 9, 0, true),
-        (nine, 9, 6, false),
-        (nine, 9, 7, true),
-        (nine, 9, 8, true),
-    ] {
-        assert_eq!(rt;
-            answer(bit_at(rt.alloc(), text, index)),
-            Ok((length, bit, 0)),
-            "at {index}"
-        );
-    }
+    rows_hold(&rt, rt.alloc(), &BITS);
 }
 
-// The length of a list that is read as structs, and of its first three elements the number at the start and whether the
-// first pointer is null.
-fn structs_in(alloc: Global, text: &str) -> Result<(u32, [(u32, bool); 3])> {
-    let words = bytes_of(alloc, text)?;
-    let list = list_in(&words, ElementSize::InlineComposite)?;
-    let mut elements = [(0, true); 3];
-    for index in 0..3usize {
-        let element = list.get_struct_element(index as u32)?;
-        elements[index] = (
-            element.get_data_field::<u32>(0),
-            element.get_pointer_field(0).is_null(),
-        );
-    }
-    Ok((list.len(), elements))
-}
+/// The length, and of the first three elements the number at the start and whether the first pointer is null.
+const THREE_STRUCTS: &str = "words.structs: length; element 0.u32 0; element 0.field 0.null; \
+     element 1.u32 0; element 1.field 0.null; element 2.u32 0; element 2.field 0.null";
+
+/// Words, and what is read of the list at their root as structs.
+static STRUCTS: [(&str, &str); 14] = [
+    ("01 00 00 00 18 00 00 00", "3; 0; true; 0; true; 0; true"),
+    (
+        "01 00 00 00 12 00 00 00 | 05 ff 07 00 00 00 00 00",
+        "2; 5; true; 255; true; 0; true",
+    ),
+    (
+        "01 00 00 00 13 00 00 00 | 01 00 02 01 07 00 00 00",
+        "2; 1; true; 258; true; 0; true",
+    ),
+    (
+        "01 00 00 00 14 00 00 00 | 01 00 00 00 02 00 00 01",
+        "2; 1; true; 16777218; true; 0; true",
+    ),
+    (
+        "01 00 00 00 0d 00 00 00 | 01 00 00 00 02 00 00 01",
+        "1; 1; true; 0; true; 0; true",
+    ),
+    (
+        "01 00 00 00 16 00 00 00 | fc ff ff ff 00 00 00 00 | 0",
+        "2; 0; false; 0; true; 0; true",
+    ),
+    (
+        "01 00 00 00 27 00 00 00 | 08 00 00 00 01 00 01 00 | 09 00 00 00 00 00 00 00 | 0 | \
+     08 00 00 00 00 00 00 00 | fc ff ff ff 00 00 00 00",
+        "2; 9; true; 8; false; 0; true",
+    ),
+    (
+        "01 00 00 00 27 00 00 00 | 08 00 00 00 01 00 01 00 | 05 00 00 00 00 00 00 00 | 0 | \
+     06 00 00 00 00 00 00 00 | 01 00 00 00 1a 00 00 00 | 68 69 00 00 00 00 00 00",
+        "2; 5; true; 6; false; 0; true",
+    ),
+    // structs of size zero: three, 2^20 + 1, and 2^29 - 1, the most that a list has
+    (
+        "01 00 00 00 07 00 00 00 | 0c 00 00 00 00 00 00 00",
+        "3; 0; true; 0; true; 0; true",
+    ),
+    (
+        "01 00 00 00 07 00 00 00 | 04 00 40 00 00 00 00 00",
+        "1048577; 0; true; 0; true; 0; true",
+    ),
+    (
+        "01 00 00 00 07 00 00 00 | fc ff ff 7f 00 00 00 00",
+        "536870911; 0; true; 0; true; 0; true",
+    ),
+    (
+        "01 00 00 00 11 00 00 00 | 05 00 00 00 00 00 00 00",
+        "refused 6",
+    ),
+    (
+        "00 00 00 00 01 00 00 00 | 05 00 00 00 00 00 00 00",
+        "refused 5",
+    ),
+    ("0", "0; 0; true; 0; true; 0; true"),
+];
 
 #[test]
 fn lists_read_as_structs(rt: HostRuntime) {
-    let table = [
-        (
-            "01 00 00 00 18 00 00 00",
-            Ok((3, [(0, true), (0, true), (0, true)])),
-        ),
-        (
-            "01 00 00 00 12 00 00 00 | 05 ff 07 00 00 00 00 00",
-            Ok((2, [(5, true), (255, true), (0, true)])),
-        ),
-        (
-            "01 00 00 00 13 00 00 00 | 01 00 02 01 07 00 00 00",
-            Ok((2, [(1, true), (258, true), (0, true)])),
-        ),
-        (
-            "01 00 00 00 14 00 00 00 | 01 00 00 00 02 00 00 01",
-            Ok((2, [(1, true), (16777218, true), (0, true)])),
-        ),
-        (
-            "01 00 00 00 0d 00 00 00 | 01 00 00 00 02 00 00 01",
-            Ok((1, [(1, true), (0, true), (0, true)])),
-        ),
-        (
-            "01 00 00 00 16 00 00 00 | fc ff ff ff 00 00 00 00 | 0",
-            Ok((2, [(0, false), (0, true), (0, true)])),
-        ),
-        (
-            "01 00 00 00 27 00 00 00 | 08 00 00 00 01 00 01 00 | 09 00 00 00 00 00 00 00 | 0 | \
-             08 00 00 00 00 00 00 00 | fc ff ff ff 00 00 00 00",
-            Ok((2, [(9, true), (8, false), (0, true)])),
-        ),
-        (
-            "01 00 00 00 27 00 00 00 | 08 00 00 00 01 00 01 00 | 05 00 00 00 00 00 00 00 | 0 | \
-             06 00 00 00 00 00 00 00 | 01 00 00 00 1a 00 00 00 | 68 69 00 00 00 00 00 00",
-            Ok((2, [(5, true), (6, false), (0, true)])),
-        ),
-        // structs of size zero: three, 2^20 + 1, and 2^29 - 1, the most that a list has
-        (
-            "01 00 00 00 07 00 00 00 | 0c 00 00 00 00 00 00 00",
-            Ok((3, [(0, true); 3])),
-        ),
-        (
-            "01 00 00 00 07 00 00 00 | 04 00 40 00 00 00 00 00",
-            Ok(((1 << 20) + 1, [(0, true); 3])),
-        ),
-        (
-            "01 00 00 00 07 00 00 00 | fc ff ff 7f 00 00 00 00",
-            Ok(((1 << 29) - 1, [(0, true); 3])),
-        ),
-        (
-            "01 00 00 00 11 00 00 00 | 05 00 00 00 00 00 00 00",
-            Err(WrongElementSize),
-        ),
-        (
-            "00 00 00 00 01 00 00 00 | 05 00 00 00 00 00 00 00",
-            Err(WrongPointerKind),
-        ),
-        ("0", Ok((0, [(0, true), (0, true), (0, true)]))),
-    ];
-    for (text, expected) in table {
-        assert_eq!(rt; answer(structs_in(rt.alloc(), text)), expected, "{text}");
-    }
+    messages_answer(&rt, rt.alloc(), THREE_STRUCTS, &STRUCTS);
 }
 
-/// The length of a list that is read as pointers, which of its first three pointers are null, and which are the text
-/// "hi", also as the first pointer of the element read as a struct.
-fn pointers_in(alloc: Global, text: &str) -> Result<(u32, [bool; 3], [bool; 3])> {
-    let words = bytes_of(alloc, text)?;
-    let list = list_in(&words, ElementSize::Pointer)?;
-    Ok((
-        list.len(),
-        [
-            list.get_pointer_element(0).is_null(),
-            list.get_pointer_element(1).is_null(),
-            list.get_pointer_element(2).is_null(),
-        ],
-        [is_hi_at(list, 0), is_hi_at(list, 1), is_hi_at(list, 2)],
-    ))
-}
+/// The length, and of the first three elements whether they are null as pointers, and their texts, also as the first
+/// pointers of structs.
+const THREE_POINTERS: &str =
+    "words.pointers: length; pointer 0.null; pointer 1.null; pointer 2.null; \
+     pointer 0.text; element 0.field 0.text; pointer 1.text; element 1.field 0.text; \
+     pointer 2.text; element 2.field 0.text";
 
-fn is_hi_at(list: ListReader<'_>, index: u32) -> bool {
-    match list.get_struct_element(index) {
-        Ok(element) => is_hi(list.get_pointer_element(index))
-            && is_hi(element.get_pointer_field(0)),
-        Err(_) => false,
-    }
-}
-
-fn is_hi(pointer: PointerReader<'_>) -> bool {
-    match pointer.get_text() {
-        Ok(text) => text == b"hi".as_slice(),
-        Err(_) => false,
-    }
-}
+/// Words, and what is read of the list at their root as pointers.
+static POINTERS: [(&str, &str); 3] = [
+    // a null is an empty text, and a struct is none
+    (
+        TWO_STRUCTS,
+        "2; true; false; true; ''; ''; refused 5; refused 5; ''; ''",
+    ),
+    // the text "hi" and a null, and structs with a null and with that text
+    (
+        "01 00 00 00 16 00 00 00 | 05 00 00 00 1a 00 00 00 | 0 | 68 69 00 00 00 00 00 00",
+        "2; false; true; true; 'hi'; 'hi'; ''; ''; ''; ''",
+    ),
+    (
+        "01 00 00 00 27 00 00 00 | 08 00 00 00 01 00 01 00 | 05 00 00 00 00 00 00 00 | 0 | \
+     06 00 00 00 00 00 00 00 | 01 00 00 00 1a 00 00 00 | 68 69 00 00 00 00 00 00",
+        "2; true; false; true; ''; ''; 'hi'; 'hi'; ''; ''",
+    ),
+];
 
 #[test]
 fn pointers_read_until_the_end_and_null_after(rt: HostRuntime) {
-    let table = [
-        (
-            TWO_STRUCTS,
-            Ok((2, [true, false, true], [false, false, false])),
-        ),
-        // the text "hi" and a null, and structs with a null and with that text
-        (
-            "01 00 00 00 16 00 00 00 | 05 00 00 00 1a 00 00 00 | 0 | 68 69 00 00 00 00 00 00",
-            Ok((2, [false, true, true], [true, false, false])),
-        ),
-        (
-            "01 00 00 00 27 00 00 00 | 08 00 00 00 01 00 01 00 | 05 00 00 00 00 00 00 00 | 0 | \
-             06 00 00 00 00 00 00 00 | 01 00 00 00 1a 00 00 00 | 68 69 00 00 00 00 00 00",
-            Ok((2, [true, false, true], [false, true, false])),
-        ),
-    ];
-    for (text, expected) in table {
-        assert_eq!(rt; answer(pointers_in(rt.alloc(), text)), expected, "{text}");
-    }
+    messages_answer(&rt, rt.alloc(), THREE_POINTERS, &POINTERS);
 }

@@ -2,11 +2,8 @@
 
 use crate::fixtures::{answer, bytes_of, root_of};
 use crate::path::{get_by_path, get_text_by_path, read_by_path};
-use crate::sum::sum_of_list;
-use capnp_wire::PointerReader;
-use capnp_wire::error::ErrorKind::{
-    self, BadPointer, TooDeep, Truncated, WrongElementSize, WrongPointerKind,
-};
+use crate::reads::messages_answer;
+use capnp_wire::error::ErrorKind::{self, TooDeep, Truncated, WrongPointerKind};
 use capnp_wire::error::Result;
 use std::alloc::Global;
 
@@ -28,25 +25,27 @@ fn numbers_at(alloc: Global, path: &[u16], offset: u32) -> Result<[Answer; 2]> {
 
 type Answer = std::result::Result<u64, ErrorKind>;
 
+/// Paths, offsets, and the number there.
+static NUMBERS: [(&[u16], u32, Answer); 11] = [
+    (&[], 0, Ok(5)),
+    (&[], 1, Ok(0)),
+    (&[0], 0, Ok(0)),
+    (&[0, 0, 7], 0, Ok(0)),
+    (&[1], 0, Ok(9)),
+    (&[3, 3, 1], 0, Ok(9)),
+    (&[9], 0, Ok(0)),
+    (&[2], 0, Err(WrongPointerKind)),
+    (&[2, 0], 0, Err(WrongPointerKind)),
+    (&[3; 63], 0, Ok(5)),
+    (&[3; 64], 0, Err(TooDeep)),
+];
+
 #[test]
 fn a_path_leads_to_a_number(rt: HostRuntime) {
-    let table = [
-        ([].as_slice(), 0, Ok(5)),
-        ([].as_slice(), 1, Ok(0)),
-        ([0].as_slice(), 0, Ok(0)),
-        ([0, 0, 7].as_slice(), 0, Ok(0)),
-        ([1].as_slice(), 0, Ok(9)),
-        ([3, 3, 1].as_slice(), 0, Ok(9)),
-        ([9].as_slice(), 0, Ok(0)),
-        ([2].as_slice(), 0, Err(WrongPointerKind)),
-        ([2, 0].as_slice(), 0, Err(WrongPointerKind)),
-        ([3u16; 63].as_slice(), 0, Ok(5)),
-        ([3u16; 64].as_slice(), 0, Err(TooDeep)),
-    ];
-    for (path, offset, expected) in table {
+    for (path, offset, expected) in &NUMBERS {
         assert_eq!(rt;
-            answer(numbers_at(rt.alloc(), path, offset)),
-            Ok([expected; 2]),
+            answer(numbers_at(rt.alloc(), path, *offset)),
+            Ok([*expected; 2]),
             "at {path:?}"
         );
     }
@@ -62,45 +61,43 @@ fn is_text_at(alloc: Global, path: &[u16], text: &str) -> Result<bool> {
     Ok(get_text_by_path(root_of(alloc, &bytes)?, path)? == text.as_bytes())
 }
 
+/// Paths, and the text there.
+static TEXTS: [(&[u16], &str, std::result::Result<bool, ErrorKind>); 5] = [
+    (&[2], "hi", Ok(true)),
+    (&[0, 4], "", Ok(true)),
+    (&[], "", Err(WrongPointerKind)),
+    (&[2, 2], "", Err(WrongPointerKind)),
+    (&[3; 65], "", Err(TooDeep)),
+];
+
 #[test]
 fn a_path_leads_to_a_text(rt: HostRuntime) {
-    for (path, text, expected) in [
-        ([2].as_slice(), "hi", Ok(true)),
-        ([0, 4].as_slice(), "", Ok(true)),
-        ([].as_slice(), "", Err(WrongPointerKind)),
-        ([2, 2].as_slice(), "", Err(WrongPointerKind)),
-        ([3u16; 65].as_slice(), "", Err(TooDeep)),
-    ] {
+    for (path, text, expected) in &TEXTS {
         assert_eq!(rt;
             answer(is_text_at(rt.alloc(), path, text)),
-            expected,
+            *expected,
             "at {path:?}"
         );
     }
 }
 
-/// The sum of the list at the root of these words.
-fn sum_in(alloc: Global, text: &str) -> Result<u64> {
-    let words = bytes_of(alloc, text)?;
-    sum_of_list(PointerReader::from_words(&words))
-}
+/// Words, and the sum of the list at their root.
+static SUMS: [(&str, &str); 5] = [
+    (
+        "01 00 00 00 1c 00 00 00 | ff ff ff ff ff ff ff ff | 02 00 00 00 09 00 00 00",
+        "8589934592",
+    ),
+    (
+        "01 00 00 00 17 00 00 00 | 08 00 00 00 01 00 00 00 | 01 00 00 00 09 00 00 00 | \
+     02 00 00 00 00 00 00 00",
+        "3",
+    ),
+    ("0", "0"),
+    ("01 00 00 00 0b 00 00 00 | 0", "refused 6"),
+    ("01 00 00 00 1c 00 00 00 | 0", "refused 4"),
+];
 
 #[test]
 fn a_list_is_summed(rt: HostRuntime) {
-    for (text, expected) in [
-        (
-            "01 00 00 00 1c 00 00 00 | ff ff ff ff ff ff ff ff | 02 00 00 00 09 00 00 00",
-            Ok(8589934592),
-        ),
-        (
-            "01 00 00 00 17 00 00 00 | 08 00 00 00 01 00 00 00 | 01 00 00 00 09 00 00 00 | \
-             02 00 00 00 00 00 00 00",
-            Ok(3),
-        ),
-        ("0", Ok(0)),
-        ("01 00 00 00 0b 00 00 00 | 0", Err(WrongElementSize)),
-        ("01 00 00 00 1c 00 00 00 | 0", Err(BadPointer)),
-    ] {
-        assert_eq!(rt; answer(sum_in(rt.alloc(), text)), expected, "{text}");
-    }
+    messages_answer(&rt, rt.alloc(), "words.sum", &SUMS);
 }
