@@ -52,7 +52,7 @@ impl<'s> Compatible<'s> {
     /// has no fewer members. Names are not compared.
     ///
     /// A list of integers, texts, data or lists may have become a list of structs, too, where field 0 of the struct stands
-    /// where an element stood: it is plain, at offset 0, of a related type, and its default is zero, empty or null.
+    /// where an element stood: it is non-union, at offset 0, of a related type, and its default is zero, empty or null.
     ///
     /// Refused with `OutOfMemory` where there is no memory for the list of pairs, and with nothing else.
     pub fn check(
@@ -152,7 +152,7 @@ impl<'s> Compatible<'s> {
 
     /// A struct of the newer schema as the older one reads it. Fields that were added are not seen, an active member that
     /// was added is an unknown one, and a union that was added is none. Nothing is copied, no memory is taken, and the
-    /// levels stay.
+    /// levels stay. The struct has to be read under the newer schema.
     ///
     /// Where a list became one of structs, this holds of a message in which each such list has elements of a size that the
     /// older type reads, and of which no part inside such a list is too deep for the reader. The levels that missing parts
@@ -177,7 +177,7 @@ impl<'s> Compatible<'s> {
 
     /// A struct of the older schema as the newer one reads it, where fields that were added have what stands at their
     /// place: their default in a struct that was written under the older schema. Nothing is copied, no memory is taken, and
-    /// the levels stay.
+    /// the levels stay. The struct has to be read under the older schema.
     ///
     /// Where a list became one of structs, this holds as of `narrow`.
     #[tactic(auto, using(crate::proofs::Sees::widened, crate::proofs::Sees::widened_upgrade))]

@@ -11,7 +11,7 @@ use capnp_schema::record::{FieldKind, ValueRecord};
 use capnp_schema::set::SchemaSet;
 use capnp_wire::PointerReader;
 
-/// The discriminant value of a plain field.
+/// The discriminant value of a non-union field.
 const PLAIN: u16 = 65_535;
 
 /// Whether the words of a value are those of a null pointer.

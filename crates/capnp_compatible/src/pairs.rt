@@ -54,6 +54,7 @@ impl Pairs {
         }
     }
 
+    /// How many pairs there are.
     pub(crate) fn len(&self) -> usize
         ensures { result ≡ length self.now }
     {

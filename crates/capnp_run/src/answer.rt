@@ -72,7 +72,7 @@ pub(crate) fn answer(alloc: Global, read: Result<Value<'_>>) -> Reply
     }
 }
 
-/// What a field of a struct has, or its default where that is missing.
+/// What a field of a struct has, or its default where that is missing. The struct has to be well-formed.
 ///
 /// Refused with `InactiveMember` for a member that isn't active; with `WrongPointerKind`, `WrongElementSize` or
 /// `TextNotTerminated` where what stands there is not read as the field's type; and with `OutOfMemory` for the copy of a text
@@ -90,7 +90,8 @@ pub fn get_field(alloc: Global, object: &StructObject, field: Field<'_>) -> Repl
     answer(alloc, reader.get(field))
 }
 
-/// Whether a field of a struct is there: false for a member that isn't active and for a null pointer.
+/// Whether a field of a struct is there: false for a member that isn't active and for a null pointer. The struct has to be
+/// well-formed.
 pub fn has_field(object: &StructObject, field: Field<'_>) -> Reply
     requires { IsWellFormed (struct_tree (struct_object_tree object.now)) }
     ensures { (whole : Record → RecordValue) (old : RecordValue)
@@ -106,7 +107,8 @@ pub fn has_field(object: &StructObject, field: Field<'_>) -> Reply
     Reply::Flag(there)
 }
 
-/// The active member of a struct, by its index; none without a union and for an unknown number.
+/// The active member of a struct, by its index; none without a union and for an unknown number. The struct has to be
+/// well-formed, and the schema one of an accepted set.
 pub fn which_member(object: &StructObject, schema: StructSchema<'_>) -> Reply
     requires stands { IsStruct schema }
     requires formed { IsWellFormed (struct_tree (struct_object_tree object.now)) }

@@ -183,7 +183,8 @@ fn do_named(object: &mut StructObject, schema: StructSchema<'_>, end: Ending<'_>
     }
 }
 
-/// Does an operation at a struct or group at which a path ends. `Which` asks the struct and doesn't look at the last step.
+/// Does an operation at a struct or group at which a path ends. `Which` asks the struct and doesn't look at the last step. The
+/// schema is one of an accepted set; the struct has its sections and is well-formed.
 ///
 /// Refused with `NotAContainer` where the last step names an element, with `FieldNotFound` where there is no such field, and
 /// else as the operation. Only a `Get` asks whether a member is active: it is refused with `InactiveMember` where not. What

@@ -28,6 +28,9 @@ use capnp_wire::object::StructObject;
 /// its schema gets zeros and nulls after what it has. What is filled stays, whatever the rest of the call does, and no union
 /// is switched. `part::pointer` of `capnp_slots` and `struct_here` of `capnp_wire` then lend the struct.
 ///
+/// The field is such a slot, the tests of `way_of` have passed, and the struct has the sections of the field's schema and is
+/// well-formed.
+///
 /// Refused with `WrongPointerKind` where something else than a struct stands there, and else with `OutOfMemory`; then nothing
 /// has changed.
 #[inline(always)]
@@ -52,7 +55,8 @@ pub fn enter_struct(
     part::fill_struct_slot(object, field, schema)
 }
 
-/// Steps into a group: it is the same struct under the group's schema. Nothing is filled and nothing is refused.
+/// Steps into a group: it is the same struct under the group's schema. Nothing is filled and nothing is refused. The field is
+/// a group, and the tests of `way_of` have passed.
 #[inline(always)]
 pub fn enter_group(object: &StructObject, field: Field<'_>)
     requires group { IsGroup field }
@@ -74,6 +78,9 @@ fn default_is_sound(field: Field<'_>)
 /// at least their schema's sections. A null without a default stays null, and has no elements. What is filled stays, whatever
 /// the rest of the call does, and no union is switched. `part::pointer` of `capnp_slots` and `list_here` of `capnp_wire` then
 /// lend the list.
+///
+/// The field is such a slot, the tests of `way_of` have passed, and the struct has the sections of the field's schema and is
+/// well-formed.
 ///
 /// Refused with `WrongPointerKind` or `WrongElementSize` where what stands there is not read as a list of the slot's type,
 /// with `SizePastFormat` where the structs of a list would take 2^29 words or more, and else with `OutOfMemory`; then nothing

@@ -132,7 +132,8 @@ fn do_last(list: &mut ListObject, set: &SchemaSet, element: Type, end: Ending<'_
     do_element(list, set, element, index, end)
 }
 
-/// Does an operation at a list at which a path ends.
+/// Does an operation at a list at which a path ends. The list is not null and reads as one of the type, which names entries of
+/// the set.
 ///
 /// Refused with `NotAContainer` for `Which` and where the last step names a field, with `NoSuchElement` past the end, with
 /// `NotAContainer` for `Has`, `Init` and `Clear`, and else as the operation. After a refusal nothing has changed.

@@ -101,7 +101,7 @@ fn run_root(
 
 /// Makes calls on an empty root of a message: the root becomes a struct of the schema, all zero and null, and what it reads as
 /// after the calls is what the machine of records makes of the schema's default record. What stood in the message before is
-/// given up.
+/// given up. The schema is one of an accepted set.
 ///
 /// Refused with `OutOfMemory` alone, where there is no room for the root or the replies; then no call was made, and the
 /// message is as it was. A call that is refused has its reply, and doesn't refuse the run.
@@ -124,7 +124,8 @@ pub fn run_new(
 }
 
 /// Makes calls on a copy of a message's root, which is a struct: what it reads as after the calls is what the machine of
-/// records makes of the record that the source reads as. What stood in the message before is given up.
+/// records makes of the record that the source reads as. What stood in the message before is given up. The schema is one of an
+/// accepted set.
 ///
 /// Refused with `BadPointer`, `TooDeep` or `CapabilityPointer` where a pointer in the source can't be followed, by the first
 /// of these in preorder; else with `WrongPointerKind` where the source is a list; and with `OutOfMemory`. Then no call was
@@ -190,7 +191,7 @@ fn print_root(
 
 /// Makes calls on an empty root of a new message, writes the message and prints its root: the promise of this crate, whole.
 /// The replies and the record that the bytes are read back as are related by the machine of records to the default record,
-/// and what is printed is the text of that record.
+/// and what is printed is the text of that record. The schema is one of an accepted set.
 ///
 /// Refused with `OutOfMemory`; with `TooLarge` where the calls left a message of 2^29 words or more; and else as the print of
 /// the root that they left. Then the string is as it was. A call that is refused has its reply, and doesn't refuse the whole.
@@ -214,7 +215,7 @@ pub fn whole_new(
     Ok((replies, bytes))
 }
 
-/// The same on a copy of a message's root, which is a struct.
+/// The same on a copy of a message's root, which is a struct. The schema is one of an accepted set.
 ///
 /// Refused as `run_copied`, and then as `whole_new`. Then the string is as it was.
 pub fn whole_copied(

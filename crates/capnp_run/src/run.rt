@@ -68,7 +68,8 @@ fn make_calls(
 }
 
 /// Makes calls along paths of a struct, one after another, and gives one reply to each, in order. A refused call doesn't end
-/// the run, and leaves the nulls filled that the steps before the refusal filled.
+/// the run, and leaves the nulls filled that the steps before the refusal filled. The schema is one of an accepted set; the
+/// struct has its sections and is well-formed.
 ///
 /// Refused with `OutOfMemory` where there is no room for the replies, and then nothing has changed. Once there is, no reply is
 /// `OutOfMemory` where no call takes memory.
@@ -94,7 +95,8 @@ pub fn run_on(
 }
 
 /// Makes calls along paths of the struct that a builder stands on, as `run_on`, whose contract also says what the struct ends
-/// as: a builder is given by value.
+/// as: a builder is given by value. The builder's schema is one of an accepted set; its struct has the schema's sections and
+/// is well-formed.
 ///
 /// Refused with `OutOfMemory` where there is no room for the replies, and then nothing has changed.
 pub fn run(

@@ -35,7 +35,8 @@ use capnp_wire::error::ErrorKind;
 use capnp_wire::laws::objects_hold_no_fault;
 use capnp_wire::object::{ListObject, Object, StructObject};
 
-/// Walks a path from a struct or group, and does what a call does at its end.
+/// Walks a path from a struct or group, and does what a call does at its end. The schema is one of an accepted set; the struct
+/// has its sections and is well-formed.
 ///
 /// A step is refused with `NotAContainer` where it names an element, then with `FieldNotFound` where there is no such field,
 /// then as `way::way_of`, and then as `enter::enter_struct` and `enter::enter_list`; at a list with `NotAContainer` where it

@@ -66,7 +66,7 @@ fn find_numbered(schema: StructSchema<'_>, index: u16) -> Result<Field<'_>>
     Ok(fields.get(index))
 }
 
-/// Whether a field is a member of its struct's union that isn't active.
+/// Whether a field is a member of its struct's union that isn't active. The struct has to be well-formed.
 #[inline(always)]
 pub fn is_inactive(object: &StructObject, field: Field<'_>) -> bool
     requires { IsWellFormed (struct_tree (struct_object_tree object.now)) }
@@ -78,7 +78,7 @@ pub fn is_inactive(object: &StructObject, field: Field<'_>) -> bool
     !reader.is_active(field)
 }
 
-/// Where a step into a field leads that the struct has.
+/// Where a step into a field leads that the struct has. The struct has to be well-formed.
 ///
 /// Refused with `InactiveMember` for a member that isn't active, then with `UntypedStep` for an untyped pointer, and with
 /// `NotAContainer` for another field that is no struct, group or list.

@@ -2,6 +2,8 @@
 #![tactic(auto)]
 
 #[cfg(test)]
+mod cases;
+#[cfg(test)]
 mod fixtures;
 #[cfg(test)]
 mod kind_tests;
@@ -9,6 +11,8 @@ mod kind_tests;
 mod memory_tests;
 #[cfg(test)]
 mod row_tests;
+#[cfg(test)]
+mod rows;
 pub mod streams;
 #[cfg(test)]
 mod walk_tests;

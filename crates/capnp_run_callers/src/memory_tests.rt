@@ -1,12 +1,16 @@
 //! Runs that memory is refused to: `rt try --test --fail-alloc N` refuses the N-th growth of each test. Where a run meets it,
 //! the run is refused and the message is as it was, or one reply says so and the calls after it are answered as the machine of
 //! records says from there; what comes before and after the run is not looked at.
+ghost use Rattle.capnp_schema.specs.StructHandles.{IsStruct};
 
-use crate::fixtures::{Act, Answer, LISTS, LOOP, Row, SHAPES, calls_of, count_as_said, root};
+use crate::cases::root;
+use crate::fixtures::{ENTERED, LISTED, LISTS, LOOP, NUMBERS, SHAPES};
+use crate::rows::{asked_in, calls_of, first_wrong};
 use capnp_dynamic::dynamic_value::Reader as Value;
 use capnp_dynamic::printer::print;
-use capnp_run::calls::{Reply, Step};
+use capnp_run::calls::{Call, Reply};
 use capnp_run::run::run;
+use capnp_schema::schema::StructSchema;
 use capnp_schema::set::SchemaSet;
 use capnp_schema_callers::built_in::new_set;
 use capnp_schema_callers::fixtures::schema_of;
@@ -15,25 +19,34 @@ use capnp_wire::laws::pointer_is_well_formed;
 use capnp_wire::message::{Builder, Reader};
 use capnp_write_callers::parts::open;
 use std::alloc::Global;
+use std::process::Abort;
 use std::test::Fail;
 
 /// A root of size zero.
-static SHORT: [u8; 16] = [0, 0, 0, 0, 1, 0, 0, 0, 0xfc, 0xff, 0xff, 0xff, 0, 0, 0, 0];
-
-/// A `Lists` whose `items` are the numbers 1 and 2, of two bytes each.
-static NUMBERS: [u8; 56] = [
-    0, 0, 0, 0, 6, 0, 0, 0, 0, 0, 0, 0, 0, 0, 4, 0, 0, 0, 0, 0, 0, 0, 0, 0, 0, 0, 0, 0, 0, 0, 0, 0,
-    0, 0, 0, 0, 0, 0, 0, 0, 1, 0, 0, 0, 0x13, 0, 0, 0, 1, 0, 2, 0, 0, 0, 0, 0,
-];
+const SHORT: &[u8] = &[0, 0, 0, 0, 1, 0, 0, 0, 0xfc, 0xff, 0xff, 0xff, 0, 0, 0, 0];
 
 /// A `Lists` whose `t` is `hi`.
-static WORD: [u8; 56] = [
+const WORD: &[u8] = &[
     0, 0, 0, 0, 6, 0, 0, 0, 0, 0, 0, 0, 0, 0, 4, 0, 0, 0, 0, 0, 0, 0, 0, 0, 0, 0, 0, 0, 0, 0, 0, 0,
     5, 0, 0, 0, 0x1a, 0, 0, 0, 0, 0, 0, 0, 0, 0, 0, 0, 0x68, 0x69, 0, 0, 0, 0, 0, 0,
 ];
 
 /// The text of a tag whose copy may be cut before `q`.
 const WHOLE_TAG: &str = "(id = 0, tag = (n = 3, u1 = 9, q = \"z\"))";
+
+/// Calls on a copy of a message, and what they leave where memory is refused to none or to one of them.
+#[derive(Clone, Copy)]
+struct Meeting<'c> {
+    /// The struct, by number.
+    brand: u32,
+    start: &'c [u8],
+    rows: &'c str,
+    /// The text of the root then.
+    text: &'c str,
+    /// The answers, and the text, where memory was refused to a call.
+    refused: &'c str,
+    left: &'c str,
+}
 
 /// What a run met: its replies, and none where it was refused; the message before it and after it; and the text then.
 #[derive(Drop)]
@@ -53,8 +66,8 @@ fn written(message: &Builder) -> Result<Vec<u8>> {
 }
 
 /// The text of a message's root; where memory is refused to that, the string is as it was.
-fn printed(alloc: Global, set: &SchemaSet, brand: u32, bytes: &[u8]) -> Result<String> {
-    let value = Value::Struct(root(alloc, set, brand, bytes)?);
+fn printed(alloc: Global, schema: StructSchema<'_>, bytes: &[u8]) -> Result<String> {
+    let value = Value::Struct(root(alloc, schema, bytes)?);
     let mut out = String::new(alloc);
     if print(value, &mut out, false).is_err() && out.is_empty() {
         print(value, &mut out, false)?;
@@ -62,17 +75,19 @@ fn printed(alloc: Global, set: &SchemaSet, brand: u32, bytes: &[u8]) -> Result<S
     Ok(out)
 }
 
-/// The calls of rows on a copy of a message.
-fn meet(
-    alloc: Global,
-    set: &SchemaSet,
-    brand: u32,
-    start: &[u8],
-    rows: &[Row<'_>],
-    given: Value<'_>,
-) -> Result<Met> {
-    let schema = schema_of(set, brand)?;
-    let calls = calls_of(alloc, rows, given)?;
+/// The replies of a run, and none where it was refused for memory.
+fn replies_of(replies: Result<Vec<Reply>>) -> Result<Option<Vec<Reply>>> {
+    match replies {
+        Ok(replies) => Ok(Some(replies)),
+        Err(error) if error.kind == ErrorKind::OutOfMemory => Ok(None),
+        Err(error) => Err(error),
+    }
+}
+
+/// Calls on a copy of a message.
+fn meet(alloc: Global, schema: StructSchema<'_>, start: &[u8], calls: &[Call<'_>]) -> Result<Met>
+    requires { IsStruct schema }
+{
     let source = Reader::new(alloc, start)?.get_root();
     pointer_is_well_formed(&source);
     let mut message = Builder::new(alloc);
@@ -80,13 +95,9 @@ fn meet(
     open(message.root(), schema)?;
     let before = message.write_message()?;
     let builder = open(message.root(), schema)?;
-    let replies = match run(alloc, builder, calls.as_slice()) {
-        Ok(replies) => Some(replies),
-        Err(error) if error.kind == ErrorKind::OutOfMemory => None,
-        Err(error) => return Err(error),
-    };
+    let replies = replies_of(run(alloc, builder, calls))?;
     let after = written(&message)?;
-    let text = printed(alloc, set, brand, after.as_slice())?;
+    let text = printed(alloc, schema, after.as_slice())?;
     Ok(Met {
         replies,
         before,
@@ -95,386 +106,237 @@ fn meet(
     })
 }
 
+/// The calls of a meeting on a copy of its message. `SetGiven` sets what is given.
+fn met_by(alloc: Global, set: &SchemaSet, given: Value<'_>, meeting: &Meeting<'_>) -> Result<Met> {
+    let schema = schema_of(set, meeting.brand)?;
+    let asked = asked_in(alloc, meeting.rows, given)?;
+    let calls = calls_of(alloc, asked.as_slice())?;
+    meet(alloc, schema, meeting.start, calls.as_slice())
+}
+
+/// Whether replies are as rows say; where memory is refused to their texts, these are made again.
+fn are_as_said(alloc: Global, rows: &str, replies: &[Reply]) -> bool {
+    match first_wrong(alloc, rows, replies) {
+        Ok(wrong) => wrong.is_empty(),
+        Err(_) => match first_wrong(alloc, rows, replies) {
+            Ok(wrong) => wrong.is_empty(),
+            Err(_) => false,
+        },
+    }
+}
+
 /// Whether a run is as rows and a text say; or it was refused, and the message is as it was.
-fn is_as_said(met: &Met, rows: &[Row<'_>], text: &str) -> bool {
+fn is_as_said(alloc: Global, met: &Met, rows: &str, text: &str) -> bool {
     match &met.replies {
-        Some(replies) => {
-            count_as_said(rows, replies.as_slice()) == rows.len() && met.text.as_str() == text
-        }
+        Some(replies) => met.text.as_str() == text && are_as_said(alloc, rows, replies.as_slice()),
         None => met.after == met.before,
     }
 }
 
-static ENTERED: [Row<'static>; 7] = [
-    (
-        &[Step::Named("tag")],
-        Step::Named("n"),
-        Act::SetUInt16(3),
-        Answer::Refused(30),
-    ),
-    (&[], Step::Named("tag"), Act::Init, Answer::Done),
-    (
-        &[Step::Named("tag")],
-        Step::Named("n"),
-        Act::SetUInt16(3),
-        Answer::Done,
-    ),
-    (
-        &[Step::Named("tag")],
-        Step::Named("n"),
-        Act::Which,
-        Answer::Member(Some(1)),
-    ),
-    (&[], Step::Named("n"), Act::Which, Answer::Member(Some(2))),
-    (
-        &[Step::Named("tag")],
-        Step::Named("u1"),
-        Act::Get,
-        Answer::Refused(30),
-    ),
-    (&[], Step::Named("word"), Act::Has, Answer::Flag(false)),
-];
+/// Whether a run is as its meeting says.
+fn is_met(alloc: Global, met: &Met, meeting: &Meeting<'_>) -> bool {
+    is_as_said(alloc, met, meeting.rows, meeting.text)
+        || is_as_said(alloc, met, meeting.refused, meeting.left)
+}
 
-static MADE: [Row<'static>; 14] = [
-    (
-        &[Step::Named("circle")],
-        Step::Named("r"),
-        Act::SetUInt32(4_294_967_295),
-        Answer::Done,
-    ),
-    (&[], Step::Named("tag"), Act::Init, Answer::Done),
-    (
-        &[Step::Named("tag")],
-        Step::Named("n"),
-        Act::Get,
-        Answer::UInt16(0),
-    ),
-    (
-        &[Step::Named("tag")],
-        Step::Named("n"),
-        Act::Which,
-        Answer::Member(Some(1)),
-    ),
-    (&[], Step::Named("circle"), Act::Init, Answer::Done),
-    (
-        &[Step::Named("circle")],
-        Step::Named("r"),
-        Act::Get,
-        Answer::UInt32(0),
-    ),
-    (&[], Step::Field(9), Act::Get, Answer::Refused(20)),
-    (
-        &[],
-        Step::Named("any"),
-        Act::SetUInt16(1),
-        Answer::Refused(20),
-    ),
-    (&[], Step::Named("tag"), Act::Init, Answer::Done),
-    (
-        &[Step::Named("tag"), Step::Named("any")],
-        Step::Field(0),
-        Act::Get,
-        Answer::Refused(31),
-    ),
-    (
-        &[Step::Named("tag")],
-        Step::Named("any"),
-        Act::Init,
-        Answer::Done,
-    ),
-    (
-        &[Step::Named("tag")],
-        Step::Named("q"),
-        Act::Clear,
-        Answer::Done,
-    ),
-    (
-        &[Step::Named("tag")],
-        Step::Named("n"),
-        Act::SetUInt16(3),
-        Answer::Done,
-    ),
-    (&[], Step::Named("tag"), Act::Clear, Answer::Done),
+/// Asserts that runs are as their meetings say; what is refused before or after a run is not looked at.
+fn meetings_hold(
+    rt: &impl Abort,
+    alloc: Global,
+    set: &SchemaSet,
+    given: Value<'_>,
+    meetings: &[Meeting<'_>],
+) {
+    for meeting in meetings {
+        if let Ok(met) = met_by(alloc, set, given, meeting) {
+            assert!(rt; is_met(alloc, &met, meeting), "{}", meeting.text);
+        }
+    }
+}
+
+const MADE: &str = "\
+circle.r set UInt32 4294967295 -> Done
+tag init -> Done
+tag.n get -> UInt16(0)
+tag.n which -> Member(Some(1))
+circle init -> Done
+circle.r get -> UInt32(0)
+@9 get -> Refused(20)
+any set UInt16 1 -> Refused(20)
+tag init -> Done
+tag.any.@0 get -> Refused(31)
+tag.any init -> Done
+tag.q clear -> Done
+tag.n set UInt16 3 -> Done
+tag clear -> Done";
+
+/// No call takes memory, and so none is refused.
+static TAKING_NONE: [Meeting<'static>; 2] = [
+    Meeting {
+        brand: SHAPES,
+        start: SHORT,
+        rows: ENTERED,
+        text: "(id = 0, tag = (n = 3, u0 = ()))",
+        refused: ENTERED,
+        left: "(id = 0, tag = (n = 3, u0 = ()))",
+    },
+    Meeting {
+        brand: SHAPES,
+        start: SHORT,
+        rows: MADE,
+        text: "(id = 0, tag = (n = 0, u0 = ()))",
+        refused: MADE,
+        left: "(id = 0, tag = (n = 0, u0 = ()))",
+    },
 ];
 
 #[test]
-fn calls_that_take_no_memory(rt: HostRuntime) -> std::result::Result<(), Fail> {
-    let Ok(set) = new_set(rt.alloc()) else {
-        return Ok(());
-    };
-    let table = [
-        (ENTERED.as_slice(), "(id = 0, tag = (n = 3, u0 = ()))"),
-        (MADE.as_slice(), "(id = 0, tag = (n = 0, u0 = ()))"),
-    ];
-    for (rows, text) in table {
-        if let Ok(met) = meet(rt.alloc(), &set, SHAPES, &SHORT, rows, Value::Void) {
-            assert!(rt; is_as_said(&met, rows, text));
-        }
+fn calls_that_take_no_memory(rt: HostRuntime) {
+    if let Ok(set) = new_set(rt.alloc()) {
+        meetings_hold(&rt, rt.alloc(), &set, Value::Void, &TAKING_NONE);
     }
-    Ok(())
 }
 
-static LISTED: [Row<'static>; 11] = [
-    (&[], Step::Named("items"), Act::Initn(2), Answer::Done),
-    (
-        &[Step::Named("items"), Step::Element(1)],
-        Step::Named("a"),
-        Act::SetUInt16(7),
-        Answer::Done,
-    ),
-    (
-        &[Step::Named("items")],
-        Step::Element(1),
-        Act::Get,
-        Answer::Struct,
-    ),
-    (&[], Step::Named("items"), Act::Get, Answer::List(2)),
-    (
-        &[Step::Named("items"), Step::Element(2)],
-        Step::Named("a"),
-        Act::SetUInt16(1),
-        Answer::Refused(32),
-    ),
-    (
-        &[Step::Named("items")],
-        Step::Named("t"),
-        Act::Which,
-        Answer::Refused(33),
-    ),
-    (
-        &[Step::Named("raw")],
-        Step::Element(0),
-        Act::Get,
-        Answer::Refused(33),
-    ),
-    (
-        &[Step::Named("bytes")],
-        Step::Element(0),
-        Act::Get,
-        Answer::Refused(32),
-    ),
-    (&[], Step::Named("t"), Act::Get, Answer::Text(b"")),
-    (&[], Step::Named("t"), Act::Has, Answer::Flag(false)),
-    (&[], Step::Named("zz"), Act::Clear, Answer::Refused(20)),
-];
+const NOT_LISTED: &str = "\
+items initn 2 -> Refused(1)
+items.1.a set UInt16 7 -> Refused(32)
+items.1 get -> Refused(32)
+items get -> List(0)
+items.2.a set UInt16 1 -> Refused(32)
+items.t which -> Refused(33)
+raw.0 get -> Refused(33)
+bytes.0 get -> Refused(32)
+t get -> Text()
+t has -> Flag(false)
+zz clear -> Refused(20)";
 
-static NOT_LISTED: [Row<'static>; 11] = [
-    (&[], Step::Named("items"), Act::Initn(2), Answer::Refused(1)),
-    (
-        &[Step::Named("items"), Step::Element(1)],
-        Step::Named("a"),
-        Act::SetUInt16(7),
-        Answer::Refused(32),
-    ),
-    (
-        &[Step::Named("items")],
-        Step::Element(1),
-        Act::Get,
-        Answer::Refused(32),
-    ),
-    (&[], Step::Named("items"), Act::Get, Answer::List(0)),
-    (
-        &[Step::Named("items"), Step::Element(2)],
-        Step::Named("a"),
-        Act::SetUInt16(1),
-        Answer::Refused(32),
-    ),
-    (
-        &[Step::Named("items")],
-        Step::Named("t"),
-        Act::Which,
-        Answer::Refused(33),
-    ),
-    (
-        &[Step::Named("raw")],
-        Step::Element(0),
-        Act::Get,
-        Answer::Refused(33),
-    ),
-    (
-        &[Step::Named("bytes")],
-        Step::Element(0),
-        Act::Get,
-        Answer::Refused(32),
-    ),
-    (&[], Step::Named("t"), Act::Get, Answer::Text(b"")),
-    (&[], Step::Named("t"), Act::Has, Answer::Flag(false)),
-    (&[], Step::Named("zz"), Act::Clear, Answer::Refused(20)),
-];
+const EXTENDED: &str = "\
+items.1.a set UInt16 7 -> Done";
 
-static EXTENDED: [Row<'static>; 1] = [(
-    &[Step::Named("items"), Step::Element(1)],
-    Step::Named("a"),
-    Act::SetUInt16(7),
-    Answer::Done,
-)];
+const NOT_EXTENDED: &str = "\
+items.1.a set UInt16 7 -> Refused(1)";
 
-static NOT_EXTENDED: [Row<'static>; 1] = [(
-    &[Step::Named("items"), Step::Element(1)],
-    Step::Named("a"),
-    Act::SetUInt16(7),
-    Answer::Refused(1),
-)];
+const WRITTEN: &str = "\
+t set Text hi -> Done
+t has -> Flag(true)";
 
-static WRITTEN: [Row<'static>; 2] = [
-    (&[], Step::Named("t"), Act::SetText(b"hi"), Answer::Done),
-    (&[], Step::Named("t"), Act::Has, Answer::Flag(true)),
-];
+const NOT_WRITTEN: &str = "\
+t set Text hi -> Refused(1)
+t has -> Flag(false)";
 
-static NOT_WRITTEN: [Row<'static>; 2] = [
-    (
-        &[],
-        Step::Named("t"),
-        Act::SetText(b"hi"),
-        Answer::Refused(1),
-    ),
-    (&[], Step::Named("t"), Act::Has, Answer::Flag(false)),
-];
+const READ: &str = "\
+t get -> Text(hi)";
 
-static READ: [Row<'static>; 1] = [(&[], Step::Named("t"), Act::Get, Answer::Text(b"hi"))];
+const NOT_READ: &str = "\
+t get -> Refused(1)";
 
-static NOT_READ: [Row<'static>; 1] = [(&[], Step::Named("t"), Act::Get, Answer::Refused(1))];
+const FILLED: &str = "\
+again clear -> Done
+again.end set Void -> Done
+again has -> Flag(true)
+end set Void -> Done";
 
-static FILLED: [Row<'static>; 4] = [
-    (&[], Step::Named("again"), Act::Clear, Answer::Done),
-    (
-        &[Step::Named("again")],
-        Step::Named("end"),
-        Act::SetVoid,
-        Answer::Done,
-    ),
-    (&[], Step::Named("again"), Act::Has, Answer::Flag(true)),
-    (&[], Step::Named("end"), Act::SetVoid, Answer::Done),
-];
+const NOT_FILLED: &str = "\
+again clear -> Done
+again.end set Void -> Refused(1)
+again has -> Flag(false)
+end set Void -> Done";
 
-static NOT_FILLED: [Row<'static>; 4] = [
-    (&[], Step::Named("again"), Act::Clear, Answer::Done),
-    (
-        &[Step::Named("again")],
-        Step::Named("end"),
-        Act::SetVoid,
-        Answer::Refused(1),
-    ),
-    (&[], Step::Named("again"), Act::Has, Answer::Flag(false)),
-    (&[], Step::Named("end"), Act::SetVoid, Answer::Done),
+static TAKING_SOME: [Meeting<'static>; 5] = [
+    Meeting {
+        brand: LISTS,
+        start: SHORT,
+        rows: LISTED,
+        text: "(items = [(a = 0), (a = 7)])",
+        refused: NOT_LISTED,
+        left: "()",
+    },
+    Meeting {
+        brand: LISTS,
+        start: NUMBERS,
+        rows: EXTENDED,
+        text: "(items = [(a = 1), (a = 7)])",
+        refused: NOT_EXTENDED,
+        left: "(items = [(a = 1), (a = 2)])",
+    },
+    Meeting {
+        brand: LISTS,
+        start: SHORT,
+        rows: WRITTEN,
+        text: "(t = \"hi\")",
+        refused: NOT_WRITTEN,
+        left: "()",
+    },
+    Meeting {
+        brand: LISTS,
+        start: WORD,
+        rows: READ,
+        text: "(t = \"hi\")",
+        refused: NOT_READ,
+        left: "(t = \"hi\")",
+    },
+    Meeting {
+        brand: LOOP,
+        start: SHORT,
+        rows: FILLED,
+        text: "(end = ())",
+        refused: NOT_FILLED,
+        left: "(end = ())",
+    },
 ];
 
 #[test]
-fn what_a_refused_call_leaves(rt: HostRuntime) -> std::result::Result<(), Fail> {
-    let Ok(set) = new_set(rt.alloc()) else {
-        return Ok(());
-    };
-    let (short, numbers, word) = (SHORT.as_slice(), NUMBERS.as_slice(), WORD.as_slice());
-    // the struct, its message, the calls with the text then, and the same where a call is refused
-    let table = [
-        (
-            LISTS,
-            short,
-            LISTED.as_slice(),
-            "(items = [(a = 0), (a = 7)])",
-            NOT_LISTED.as_slice(),
-            "()",
-        ),
-        (
-            LISTS,
-            numbers,
-            EXTENDED.as_slice(),
-            "(items = [(a = 1), (a = 7)])",
-            NOT_EXTENDED.as_slice(),
-            "(items = [(a = 1), (a = 2)])",
-        ),
-        (
-            LISTS,
-            short,
-            WRITTEN.as_slice(),
-            "(t = \"hi\")",
-            NOT_WRITTEN.as_slice(),
-            "()",
-        ),
-        (
-            LISTS,
-            word,
-            READ.as_slice(),
-            "(t = \"hi\")",
-            NOT_READ.as_slice(),
-            "(t = \"hi\")",
-        ),
-        (
-            LOOP,
-            short,
-            FILLED.as_slice(),
-            "(end = ())",
-            NOT_FILLED.as_slice(),
-            "(end = ())",
-        ),
-    ];
-    for (brand, start, rows, text, refused, left) in table {
-        if let Ok(met) = meet(rt.alloc(), &set, brand, start, rows, Value::Void) {
-            let is_met = is_as_said(&met, rows, text) || is_as_said(&met, refused, left);
-            assert!(rt; is_met);
-        }
+fn what_a_refused_call_leaves(rt: HostRuntime) {
+    if let Ok(set) = new_set(rt.alloc()) {
+        meetings_hold(&rt, rt.alloc(), &set, Value::Void, &TAKING_SOME);
     }
-    Ok(())
 }
 
-static TAG: [Row<'static>; 4] = [
-    (&[], Step::Named("tag"), Act::Init, Answer::Done),
-    (
-        &[Step::Named("tag")],
-        Step::Named("u1"),
-        Act::SetUInt8(9),
-        Answer::Done,
-    ),
-    (
-        &[Step::Named("tag")],
-        Step::Named("n"),
-        Act::SetUInt16(3),
-        Answer::Done,
-    ),
-    (
-        &[Step::Named("tag")],
-        Step::Named("q"),
-        Act::SetText(b"z"),
-        Answer::Done,
-    ),
-];
+const TAG: &str = "\
+tag init -> Done
+tag.u1 set UInt8 9 -> Done
+tag.n set UInt16 3 -> Done
+tag.q set Text z -> Done";
 
-static COPIED: [Row<'static>; 2] = [
-    (&[], Step::Named("tag"), Act::SetGiven, Answer::Done),
-    (
-        &[Step::Named("tag")],
-        Step::Named("q"),
-        Act::Has,
-        Answer::Flag(true),
-    ),
-];
+static SOURCE: Meeting<'static> = Meeting {
+    brand: SHAPES,
+    start: SHORT,
+    rows: TAG,
+    text: WHOLE_TAG,
+    refused: TAG,
+    left: WHOLE_TAG,
+};
 
-static CUT: [Row<'static>; 2] = [
-    (&[], Step::Named("tag"), Act::SetGiven, Answer::Refused(1)),
-    (
-        &[Step::Named("tag")],
-        Step::Named("q"),
-        Act::Has,
-        Answer::Flag(false),
-    ),
-];
+const COPIED: &str = "\
+tag set Given -> Done
+tag.q has -> Flag(true)";
+
+const CUT: &str = "\
+tag set Given -> Refused(1)
+tag.q has -> Flag(false)";
+
+static TAG_COPIED: [Meeting<'static>; 1] = [Meeting {
+    brand: SHAPES,
+    start: SHORT,
+    rows: COPIED,
+    text: WHOLE_TAG,
+    refused: CUT,
+    left: "(id = 0, tag = (n = 3, u1 = 9))",
+}];
 
 #[test]
 fn a_group_that_is_cut_by_memory(rt: HostRuntime) -> std::result::Result<(), Fail> {
     let Ok(set) = new_set(rt.alloc()) else {
         return Ok(());
     };
-    let Ok(source) = meet(rt.alloc(), &set, SHAPES, &SHORT, &TAG, Value::Void) else {
+    let Ok(source) = met_by(rt.alloc(), &set, Value::Void, &SOURCE) else {
         return Ok(());
     };
     if source.text.as_str() != WHOLE_TAG {
         return Ok(());
     }
-    let tag = root(rt.alloc(), &set, SHAPES, source.after.as_slice())?.get_named("tag")?;
-    if let Ok(met) = meet(rt.alloc(), &set, SHAPES, &SHORT, &COPIED, tag) {
-        let is_met = is_as_said(&met, &COPIED, WHOLE_TAG)
-            || is_as_said(&met, &CUT, "(id = 0, tag = (n = 3, u1 = 9))");
-        assert!(rt; is_met);
-    }
+    let schema = schema_of(&set, SHAPES)?;
+    let tag = root(rt.alloc(), schema, source.after.as_slice())?.get_named("tag")?;
+    meetings_hold(&rt, rt.alloc(), &set, tag, &TAG_COPIED);
     Ok(())
 }

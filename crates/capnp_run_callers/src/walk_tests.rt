@@ -1,9 +1,9 @@
 //! Walks: the order of the tests of a step, steps through defaults and past faults, and what a refused call leaves filled.
 
-use crate::fixtures::{Act, Answer, LISTS, LOOP, Row, SHAPES, on_copy, on_empty};
+use crate::cases::{Case, cases_hold, left_by};
+use crate::fixtures::{LISTS, LOOP, NONE, SHAPES};
 use capnp_base::introspect::{Type, TypeVariant};
 use capnp_dynamic::dynamic_value::Reader as Value;
-use capnp_run::calls::Step;
 use capnp_schema::set::SchemaSet;
 use capnp_schema_callers::built_in::new_set;
 use capnp_schema_callers::fixtures::{
@@ -13,247 +13,110 @@ use capnp_wire::error::Result;
 use std::alloc::Global;
 use std::test::Fail;
 
-static ORDER: [Row<'static>; 20] = [
-    (&[], Step::Element(0), Act::Get, Answer::Refused(33)),
-    (
-        &[Step::Element(0)],
-        Step::Named("n"),
-        Act::Get,
-        Answer::Refused(33),
-    ),
-    (
-        &[Step::Named("nothing")],
-        Step::Named("n"),
-        Act::Get,
-        Answer::Refused(20),
-    ),
-    (
-        &[Step::Named("word")],
-        Step::Named("n"),
-        Act::Get,
-        Answer::Refused(30),
-    ),
-    (
-        &[Step::Named("tag"), Step::Named("any")],
-        Step::Named("n"),
-        Act::Get,
-        Answer::Refused(30),
-    ),
-    (
-        &[Step::Named("id")],
-        Step::Named("n"),
-        Act::Get,
-        Answer::Refused(33),
-    ),
-    (
-        &[Step::Named("tag")],
-        Step::Named("n"),
-        Act::Has,
-        Answer::Refused(30),
-    ),
-    (
-        &[Step::Named("circle")],
-        Step::Named("n"),
-        Act::SetUInt8(1),
-        Answer::Refused(20),
-    ),
-    (
-        &[Step::Named("circle")],
-        Step::Element(0),
-        Act::SetUInt8(1),
-        Answer::Refused(33),
-    ),
-    (
-        &[Step::Named("circle")],
-        Step::Named("r"),
-        Act::SetUInt8(1),
-        Answer::Refused(21),
-    ),
-    (
-        &[Step::Named("circle")],
-        Step::Element(0),
-        Act::Which,
-        Answer::Member(None),
-    ),
-    (&[], Step::Named("circle"), Act::Has, Answer::Flag(true)),
-    (&[], Step::Named("circle"), Act::Get, Answer::Struct),
-    (
-        &[],
-        Step::Named("circle"),
-        Act::SetUInt8(1),
-        Answer::Refused(22),
-    ),
-    (
-        &[],
-        Step::Named("circle"),
-        Act::Initn(1),
-        Answer::Refused(26),
-    ),
-    (&[], Step::Named("tag"), Act::Has, Answer::Flag(false)),
-    (&[], Step::Named("tag"), Act::Get, Answer::Refused(30)),
-    (&[], Step::Named("word"), Act::Get, Answer::Refused(30)),
-    (&[], Step::Named("word"), Act::Init, Answer::Refused(25)),
-    (
-        &[],
-        Step::Named("nothing"),
-        Act::Which,
-        Answer::Member(Some(1)),
-    ),
-];
+const ORDER: &str = "\
+0 get -> Refused(33)
+0.n get -> Refused(33)
+nothing.n get -> Refused(20)
+word.n get -> Refused(30)
+tag.any.n get -> Refused(30)
+id.n get -> Refused(33)
+tag.n has -> Refused(30)
+circle.n set UInt8 1 -> Refused(20)
+circle.0 set UInt8 1 -> Refused(33)
+circle.r set UInt8 1 -> Refused(21)
+circle.0 which -> Member(None)
+circle has -> Flag(true)
+circle get -> Struct
+circle set UInt8 1 -> Refused(22)
+circle initn 1 -> Refused(26)
+tag has -> Flag(false)
+tag get -> Refused(30)
+word get -> Refused(30)
+word init -> Refused(25)
+nothing which -> Member(Some(1))";
 
-static UNTYPED: [Row<'static>; 11] = [
-    (&[], Step::Named("tag"), Act::Init, Answer::Done),
-    (
-        &[Step::Named("tag")],
-        Step::Named("any"),
-        Act::Get,
-        Answer::AnyPointer(true),
-    ),
-    (
-        &[Step::Named("tag")],
-        Step::Named("any"),
-        Act::SetText(b"k"),
-        Answer::Done,
-    ),
-    (
-        &[Step::Named("tag")],
-        Step::Named("any"),
-        Act::Get,
-        Answer::AnyPointer(false),
-    ),
-    (
-        &[Step::Named("tag")],
-        Step::Named("any"),
-        Act::SetVoid,
-        Answer::Refused(27),
-    ),
-    (
-        &[Step::Named("tag"), Step::Named("any")],
-        Step::Named("n"),
-        Act::Get,
-        Answer::Refused(31),
-    ),
-    (
-        &[Step::Named("tag")],
-        Step::Named("any"),
-        Act::Has,
-        Answer::Flag(true),
-    ),
-    (
-        &[Step::Named("tag")],
-        Step::Named("any"),
-        Act::Init,
-        Answer::Done,
-    ),
-    (
-        &[Step::Named("tag")],
-        Step::Named("any"),
-        Act::Has,
-        Answer::Flag(false),
-    ),
-    (
-        &[Step::Named("tag")],
-        Step::Named("q"),
-        Act::Initn(2),
-        Answer::Done,
-    ),
-    (
-        &[Step::Named("tag")],
-        Step::Named("q"),
-        Act::Get,
-        Answer::Text(&[0, 0]),
-    ),
-];
+const UNTYPED: &str = "\
+tag init -> Done
+tag.any get -> AnyPointer(true)
+tag.any set Text k -> Done
+tag.any get -> AnyPointer(false)
+tag.any set Void -> Refused(27)
+tag.any.n get -> Refused(31)
+tag.any has -> Flag(true)
+tag.any init -> Done
+tag.any has -> Flag(false)
+tag.q initn 2 -> Done
+tag.q get -> Text(\0\0)";
 
 /// Three `Loop` structs, one in the other; the last has `end` active.
-static THREE: [u8; 64] = [
+const THREE: &[u8] = &[
     0, 0, 0, 0, 7, 0, 0, 0, 0, 0, 0, 0, 1, 0, 1, 0, 1, 0, 0, 0, 0, 0, 0, 0, 0, 0, 0, 0, 1, 0, 1, 0,
     1, 0, 0, 0, 0, 0, 0, 0, 0, 0, 0, 0, 1, 0, 1, 0, 0, 0, 0, 0, 0, 0, 0, 0, 0, 0, 0, 0, 0, 0, 0, 0,
 ];
 
 /// Nulls on the way are filled, and stay so where the call is refused; a `Get` at the end fills none. The default has the
 /// second member active.
-static FILLED: [Row<'static>; 13] = [
-    (
-        &[Step::Named("again")],
-        Step::Named("end"),
-        Act::Get,
-        Answer::Refused(30),
-    ),
-    (&[], Step::Named("again"), Act::Has, Answer::Flag(false)),
-    (&[], Step::Named("again"), Act::Clear, Answer::Done),
-    (&[], Step::Named("end"), Act::Which, Answer::Member(Some(1))),
-    (&[], Step::Named("again"), Act::Get, Answer::Struct),
-    (&[], Step::Named("again"), Act::Has, Answer::Flag(false)),
-    (
-        &[Step::Named("again")],
-        Step::Named("end"),
-        Act::Which,
-        Answer::Member(Some(1)),
-    ),
-    (&[], Step::Named("again"), Act::Has, Answer::Flag(true)),
-    (
-        &[Step::Named("again")],
-        Step::Named("again"),
-        Act::Has,
-        Answer::Flag(false),
-    ),
-    (
-        &[Step::Named("again"), Step::Named("again")],
-        Step::Named("nothing"),
-        Act::Get,
-        Answer::Refused(20),
-    ),
-    (
-        &[Step::Named("again")],
-        Step::Named("again"),
-        Act::Has,
-        Answer::Flag(true),
-    ),
-    (
-        &[Step::Named("again"), Step::Named("again")],
-        Step::Named("end"),
-        Act::Get,
-        Answer::Refused(30),
-    ),
-    (
-        &[Step::Named("again"), Step::Named("again")],
-        Step::Named("end"),
-        Act::SetVoid,
-        Answer::Done,
-    ),
+const FILLED: &str = "\
+again.end get -> Refused(30)
+again has -> Flag(false)
+again clear -> Done
+end which -> Member(Some(1))
+again get -> Struct
+again has -> Flag(false)
+again.end which -> Member(Some(1))
+again has -> Flag(true)
+again.again has -> Flag(false)
+again.again.nothing get -> Refused(20)
+again.again has -> Flag(true)
+again.again.end get -> Refused(30)
+again.again.end set Void -> Done";
+
+static STEPS: [Case<'static>; 3] = [
+    Case {
+        brand: SHAPES,
+        start: NONE,
+        rows: ORDER,
+        text: "(id = 0, circle = (r = 0))",
+        message: NONE,
+    },
+    Case {
+        brand: SHAPES,
+        start: NONE,
+        rows: UNTYPED,
+        text: "(id = 0, tag = (n = 0, u0 = (), q = \"\\0\\0\"))",
+        message: NONE,
+    },
+    Case {
+        brand: LOOP,
+        start: NONE,
+        rows: FILLED,
+        text: "(again = (again = (end = ())))",
+        message: THREE,
+    },
 ];
 
 #[test]
 fn steps_are_tested_and_fill_nulls(rt: HostRuntime) -> std::result::Result<(), Fail> {
     let set = new_set(rt.alloc())?;
-    // the struct, the calls on an empty root of it, and what is printed then
-    let table = [
-        (SHAPES, ORDER.as_slice(), "(id = 0, circle = (r = 0))"),
-        (
-            SHAPES,
-            UNTYPED.as_slice(),
-            "(id = 0, tag = (n = 0, u0 = (), q = \"\\0\\0\"))",
-        ),
-        (LOOP, FILLED.as_slice(), "(again = (again = (end = ())))"),
-    ];
-    for (brand, rows, printed) in table {
-        let left = on_empty(rt.alloc(), &set, brand, rows, Value::Void)?;
-        assert_eq!(rt; left.as_said, rows.len());
-        assert_eq!(rt; left.text.as_str(), printed);
-        assert!(rt; left.is_same);
-    }
-    let left = on_empty(rt.alloc(), &set, LOOP, &FILLED, Value::Void)?;
-    assert_eq!(rt; left.bytes.as_slice(), THREE.as_slice());
+    cases_hold(&rt, rt.alloc(), &set, Value::Void, &STEPS);
     Ok(())
 }
 
-static CLEARED: [Row<'static>; 1] = [(&[], Step::Named("again"), Act::Clear, Answer::Done)];
+const CLEARED: &str = "\
+again clear -> Done";
+
+static SELF_FED: Case<'static> = Case {
+    brand: LOOP,
+    start: NONE,
+    rows: CLEARED,
+    text: "",
+    message: NONE,
+};
 
 #[test]
 fn a_default_that_feeds_itself_has_no_text(rt: HostRuntime) -> std::result::Result<(), Fail> {
     let set = new_set(rt.alloc())?;
-    match on_empty(rt.alloc(), &set, LOOP, &CLEARED, Value::Void) {
+    match left_by(rt.alloc(), &set, Value::Void, &SELF_FED) {
         Ok(_) => assert!(rt; false, "it is printed"),
         Err(error) => assert_eq!(rt; error.kind.number(), 8),
     }
@@ -304,126 +167,73 @@ fn new_default_set(alloc: Global) -> Result<SchemaSet> {
     SchemaSet::new(alloc, records.nodes, records.brands, records.enums)
 }
 
-static DEFAULTS: [Row<'static>; 13] = [
-    (&[], Step::Named("text"), Act::Get, Answer::Text(b"hi")),
-    (
-        &[Step::Named("text")],
-        Step::Named("x"),
-        Act::Get,
-        Answer::Refused(33),
-    ),
-    (&[], Step::Named("text"), Act::Has, Answer::Flag(false)),
-    (&[], Step::Named("numbers"), Act::Get, Answer::List(3)),
-    (&[], Step::Named("points"), Act::Get, Answer::List(2)),
-    (&[], Step::Named("inner"), Act::Get, Answer::Struct),
-    (&[], Step::Named("numbers"), Act::Has, Answer::Flag(false)),
-    (
-        &[Step::Named("numbers")],
-        Step::Element(1),
-        Act::Get,
-        Answer::UInt16(2),
-    ),
-    (&[], Step::Named("numbers"), Act::Has, Answer::Flag(true)),
-    (
-        &[Step::Named("inner")],
-        Step::Named("x"),
-        Act::Get,
-        Answer::UInt16(3),
-    ),
-    (
-        &[Step::Named("inner")],
-        Step::Named("y"),
-        Act::SetUInt16(9),
-        Answer::Done,
-    ),
-    (
-        &[Step::Named("points"), Step::Element(1)],
-        Step::Named("x"),
-        Act::Get,
-        Answer::UInt16(5),
-    ),
-    (
-        &[Step::Named("points"), Step::Element(1)],
-        Step::Named("y"),
-        Act::Clear,
-        Answer::Done,
-    ),
-];
+const DEFAULTS: &str = "\
+text get -> Text(hi)
+text.x get -> Refused(33)
+text has -> Flag(false)
+numbers get -> List(3)
+points get -> List(2)
+inner get -> Struct
+numbers has -> Flag(false)
+numbers.1 get -> UInt16(2)
+numbers has -> Flag(true)
+inner.x get -> UInt16(3)
+inner.y set UInt16 9 -> Done
+points.1.x get -> UInt16(5)
+points.1.y clear -> Done";
+
+static INTO_DEFAULTS: [Case<'static>; 1] = [Case {
+    brand: 0,
+    start: NONE,
+    rows: DEFAULTS,
+    text: "(numbers = [1, 2, 3], inner = (x = 3, y = 9), points = [(x = 1, y = 2), (x = 5, y = 0)])",
+    message: NONE,
+}];
 
 #[test]
 fn steps_go_into_defaults(rt: HostRuntime) -> std::result::Result<(), Fail> {
     let set = new_default_set(rt.alloc())?;
-    let left = on_empty(rt.alloc(), &set, 0, &DEFAULTS, Value::Void)?;
-    assert_eq!(rt; left.as_said, DEFAULTS.len());
-    assert_eq!(rt;
-        left.text.as_str(),
-        "(numbers = [1, 2, 3], inner = (x = 3, y = 9), points = [(x = 1, y = 2), (x = 5, y = 0)])"
-    );
-    assert!(rt; left.is_same);
+    cases_hold(&rt, rt.alloc(), &set, Value::Void, &INTO_DEFAULTS);
     Ok(())
 }
 
 /// A `Lists` in which nothing reads: `bytes` is a struct, `raw` has numbers of two bytes, `t` does not end in a zero byte,
 /// and `items` are bits.
-static UNREADABLE: [u8; 72] = [
+const UNREADABLE: &[u8] = &[
     0, 0, 0, 0, 8, 0, 0, 0, 0, 0, 0, 0, 0, 0, 4, 0, 0xfc, 0xff, 0xff, 0xff, 0, 0, 0, 0, 9, 0, 0, 0,
     0x13, 0, 0, 0, 9, 0, 0, 0, 0x12, 0, 0, 0, 9, 0, 0, 0, 0x11, 0, 0, 0, 1, 0, 2, 0, 0, 0, 0, 0,
     0x61, 0x62, 0, 0, 0, 0, 0, 0, 1, 0, 0, 0, 0, 0, 0, 0,
 ];
 
 /// After the last row all can be printed.
-static FAULTS: [Row<'static>; 15] = [
-    (&[], Step::Named("bytes"), Act::Get, Answer::Refused(5)),
-    (&[], Step::Named("raw"), Act::Get, Answer::Refused(6)),
-    (&[], Step::Named("t"), Act::Get, Answer::Refused(7)),
-    (&[], Step::Named("items"), Act::Get, Answer::Refused(6)),
-    (&[], Step::Named("t"), Act::Has, Answer::Flag(true)),
-    (
-        &[Step::Named("bytes")],
-        Step::Element(9),
-        Act::SetUInt8(7),
-        Answer::Refused(5),
-    ),
-    (
-        &[Step::Named("t")],
-        Step::Named("a"),
-        Act::Get,
-        Answer::Refused(33),
-    ),
-    (
-        &[Step::Named("items")],
-        Step::Element(0),
-        Act::Which,
-        Answer::Refused(6),
-    ),
-    (
-        &[Step::Named("items"), Step::Element(0)],
-        Step::Named("a"),
-        Act::Has,
-        Answer::Refused(6),
-    ),
-    (&[], Step::Named("raw"), Act::Clear, Answer::Done),
-    (&[], Step::Named("raw"), Act::Get, Answer::Data(b"")),
-    (&[], Step::Named("t"), Act::SetText(b"ok"), Answer::Done),
-    (&[], Step::Named("bytes"), Act::Initn(2), Answer::Done),
-    (
-        &[Step::Named("bytes")],
-        Step::Element(1),
-        Act::SetUInt8(7),
-        Answer::Done,
-    ),
-    (&[], Step::Named("items"), Act::Initn(1), Answer::Done),
-];
+const FAULTS: &str = "\
+bytes get -> Refused(5)
+raw get -> Refused(6)
+t get -> Refused(7)
+items get -> Refused(6)
+t has -> Flag(true)
+bytes.9 set UInt8 7 -> Refused(5)
+t.a get -> Refused(33)
+items.0 which -> Refused(6)
+items.0.a has -> Refused(6)
+raw clear -> Done
+raw get -> Data([])
+t set Text ok -> Done
+bytes initn 2 -> Done
+bytes.1 set UInt8 7 -> Done
+items initn 1 -> Done";
+
+static PAST_FAULTS: [Case<'static>; 1] = [Case {
+    brand: LISTS,
+    start: UNREADABLE,
+    rows: FAULTS,
+    text: "(bytes = [0, 7], t = \"ok\", items = [(a = 0)])",
+    message: NONE,
+}];
 
 #[test]
 fn faults_refuse_what_reads_them_alone(rt: HostRuntime) -> std::result::Result<(), Fail> {
     let set = new_set(rt.alloc())?;
-    let left = on_copy(rt.alloc(), &set, LISTS, &UNREADABLE, &FAULTS, Value::Void)?;
-    assert_eq!(rt; left.as_said, FAULTS.len());
-    assert_eq!(rt;
-        left.text.as_str(),
-        "(bytes = [0, 7], t = \"ok\", items = [(a = 0)])"
-    );
-    assert!(rt; left.is_same);
+    cases_hold(&rt, rt.alloc(), &set, Value::Void, &PAST_FAULTS);
     Ok(())
 }

@@ -1,5 +1,5 @@
 -- What the program's words say.
-use Rattle.std.specs.Prelude.{ℕ, suc, List, [], ◌∷◌, Bool, true, false, not, ◌&&◌, Option, Some, None, Result, Ok, Err, String, string_bytes, ◌++◌, ◌<◌, ◌⊎◌, length, take, drop, codes, decimal, bytes_eq, if◌then◌else◌}
+use Rattle.std.specs.Prelude.{ℕ, suc, ◌≡◌, List, [], ◌∷◌, Bool, true, false, not, ◌&&◌, Option, Some, None, Result, Ok, Err, String, string_bytes, ◌++◌, ◌<◌, ◌⊎◌, length, take, drop, codes, decimal, bytes_eq, if◌then◌else◌}
 use Rattle.std.specs.Io.KnownBytes.{Appends}
 use Rattle.std.specs.Option.{option_map}
 use Rattle.std.specs.Vec.Iter.{into_iter_items}
@@ -7,8 +7,10 @@ use Rattle.std.specs.declared.vec.IntoIter.{IntoIter}
 use Rattle.capnp_device.specs.Device.{HasFailed}
 use Rattle.capnp_device.specs.ErrorNumber.{error_number}
 use Rattle.capnp_device.specs.declared.error.ErrorKind.{ErrorKind}
+use Rattle.capnp_device.specs.declared.error.ErrorKind.TheVariants.{ReadFailed, WriteFailed}
 use Rattle.capnp_schema.specs.Builtin.{builtin}
 use Rattle.capnp_schema.specs.Schema.{Schemas, Brand, node_of}
+use Rattle.capnp_show.specs.Show.{IsCutShort, IsOfMessage, IsRefused}
 use Rattle.capnp_show.specs.declared.command.Request.{Request}
 
 -- the words after the program's name, none where the system answered no words
@@ -53,3 +55,12 @@ refusal_line kind = codes "refused: " ++ decimal (error_number kind) ++ 10 ∷ [
 abbrev pub IsTold : List ℕ → Option (List ℕ) → Option (List ℕ) → ℕ → ℕ → Type 0
 IsTold line written written' failures failures' =
     Appends written written' line ⊎ (HasFailed failures failures' × ((n : ℕ) × (n < length line) × Appends written written' (take n line)))
+
+-- a request that was refused with a kind; by what the source had left before and after, what was written, and the counts of
+-- failures of source and sink
+abbrev pub IsRefusedRun : Request → ErrorKind → (left left' written written' : Option (List ℕ)) → (reads reads' writes writes' : ℕ) → Type 0
+IsRefusedRun r kind left left' written written' reads reads' writes writes' =
+    (IsOfMessage kind → IsRefused builtin r.brand r.indented kind left left')
+    × (kind ≡ ReadFailed → HasFailed reads reads')
+    × (kind ≡ WriteFailed → HasFailed writes writes')
+    × (kind ≡ WriteFailed → IsCutShort builtin r.brand r.indented left left' written written')

@@ -53,10 +53,6 @@ IsLineOf o line = (text : List ℕ) × IsText o text × (line ≡ text ++ 10 ∷
 abbrev pub IsOfMessage : ErrorKind → Type 0
 IsOfMessage kind = (kind ≢ OutOfMemory) × (kind ≢ ReadFailed) × (kind ≢ WriteFailed)
 
--- a refusal that is no device's failure
-abbrev pub IsOfRead : ErrorKind → Type 0
-IsOfRead kind = (kind ≢ ReadFailed) × (kind ≢ WriteFailed)
-
 -- ---- what a show did to its source and sink, by what was left before and after, and what was written ----
 
 -- these bytes were read, to the end

@@ -6,7 +6,7 @@ ghost use Rattle.capnp_device.specs.Device.{HasFailed};
 ghost use Rattle.capnp_device.specs.declared.error.ErrorKind.TheVariants.{OutOfMemory, ReadFailed, WriteFailed};
 ghost use Rattle.capnp_schema.specs.Builtin.{builtin};
 ghost use Rattle.capnp_schema.specs.Entries.{lists_seen};
-ghost use Rattle.capnp_show.specs.Command.{IsTold, asked, brand_named, refusal_line, usage_line, words_after_name};
+ghost use Rattle.capnp_show.specs.Command.{IsRefusedRun, IsTold, asked, brand_named, refusal_line, usage_line, words_after_name};
 ghost use Rattle.capnp_show.specs.Show.{IsCutShort, IsOfMessage, IsRefused, IsShown};
 
 use crate::engine::show;
@@ -110,63 +110,60 @@ fn show_built_in<R: Source, W: Sink>(
 }
 
 /// Runs the program on its words, and answers its exit status: 0 where the text was written, 1 where `show` was refused,
-/// with its number on `faults`, and 2 for other words, with the usage on `faults` and before any input is read. Where a
-/// line can't be written to `faults`, the status is the same.
+/// with its number on `errors`, and 2 for other words, with the usage on `errors` and before any input is read. Where a
+/// line can't be written to `errors`, the status is the same.
 pub fn command<R: Source, W: Sink, F: Sink>(
     alloc: Global,
     words: &[String],
     source: &mut R,
     sink: &mut W,
-    faults: &mut F,
+    errors: &mut F,
 ) -> u8
     ensures statuses { result ≤ 2 }
     ensures other_words { asked words.now ≡ None → result ≡ 2 }
     ensures known_words { result ≡ 2 → asked words.now ≡ None }
     ensures unread { result ≡ 2 → source.new ≡ source.old }
     ensures unwritten { result ≡ 2 → sink.new ≡ sink.old }
-    ensures usage { result ≡ 2 → IsTold usage_line (F.written faults.old) (F.written faults.new)
-        (F.failures faults.old) (F.failures faults.new) }
+    ensures usage { result ≡ 2 → IsTold usage_line (F.written errors.old) (F.written errors.new)
+        (F.failures errors.old) (F.failures errors.new) }
     ensures shown { result ≡ 0 → (r : Request) × (asked words.now ≡ Some r)
         × IsShown builtin r.brand r.indented (R.left source.old) (R.left source.new) (W.written sink.old) (W.written sink.new) }
-    ensures quiet { result ≡ 0 → faults.new ≡ faults.old }
+    ensures quiet { result ≡ 0 → errors.new ≡ errors.old }
     ensures refused { result ≡ 1 → (r : Request) × (kind : ErrorKind) × (asked words.now ≡ Some r)
-        × (IsTold (refusal_line kind) (F.written faults.old) (F.written faults.new)
-        (F.failures faults.old) (F.failures faults.new) ⊎ (faults.new ≡ faults.old))
-        × (IsOfMessage kind → IsRefused builtin r.brand r.indented kind (R.left source.old) (R.left source.new))
-        × (kind ≡ ReadFailed → HasFailed (R.failures source.old) (R.failures source.new))
-        × (kind ≡ WriteFailed → HasFailed (W.failures sink.old) (W.failures sink.new))
-        × (kind ≡ WriteFailed → IsCutShort builtin r.brand r.indented (R.left source.old) (R.left source.new)
-        (W.written sink.old) (W.written sink.new))
+        × (IsTold (refusal_line kind) (F.written errors.old) (F.written errors.new)
+        (F.failures errors.old) (F.failures errors.new) ⊎ (errors.new ≡ errors.old))
+        × IsRefusedRun r kind (R.left source.old) (R.left source.new) (W.written sink.old) (W.written sink.new)
+        (R.failures source.old) (R.failures source.new) (W.failures sink.old) (W.failures sink.new)
         × (kind ≢ WriteFailed → sink.new ≡ sink.old) }
 {
     let Some(request) = read_words(words) else {
-        tell(USAGE.as_bytes(), faults);
+        tell(USAGE.as_bytes(), errors);
         return 2;
     };
     match show_built_in(alloc, request, source, sink) {
         Ok(()) => 0,
         Err(error) => {
-            report(alloc, error.kind, faults);
+            report(alloc, error.kind, errors);
             1
         }
     }
 }
 
 /// Writes a refusal's number, where there is memory for the line.
-pub fn report<F: Sink>(alloc: Global, kind: ErrorKind, faults: &mut F)
-    ensures { IsTold (refusal_line kind) (F.written faults.old) (F.written faults.new)
-        (F.failures faults.old) (F.failures faults.new) ⊎ (faults.new ≡ faults.old) }
+pub fn report<F: Sink>(alloc: Global, kind: ErrorKind, errors: &mut F)
+    ensures { IsTold (refusal_line kind) (F.written errors.old) (F.written errors.new)
+        (F.failures errors.old) (F.failures errors.new) ⊎ (errors.new ≡ errors.old) }
 {
     let number = kind.number();
     if let Ok(line) = format!(in alloc; "refused: {number}\n") {
-        tell(line.as_bytes(), faults);
+        tell(line.as_bytes(), errors);
     }
 }
 
 /// Writes a line, as far as the sink takes it.
-fn tell<F: Sink>(line: &[u8], faults: &mut F)
-    ensures { IsTold line.now (F.written faults.old) (F.written faults.new)
-        (F.failures faults.old) (F.failures faults.new) }
+fn tell<F: Sink>(line: &[u8], errors: &mut F)
+    ensures { IsTold line.now (F.written errors.old) (F.written errors.new)
+        (F.failures errors.old) (F.failures errors.new) }
 {
-    let _ = write_all(faults, line);
+    let _ = write_all(errors, line);
 }

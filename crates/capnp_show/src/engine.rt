@@ -3,7 +3,8 @@ ghost use Rattle.std.specs.Prelude.{◌≡◌, ◌≢◌, ◌<◌, ◌++◌, ◌
 ghost use Rattle.capnp_device.specs.Device.{HasFailed};
 ghost use Rattle.capnp_device.specs.declared.error.ErrorKind.TheVariants.{OutOfMemory, ReadFailed, WriteFailed};
 ghost use Rattle.capnp_schema.specs.Entries.{lists_seen};
-ghost use Rattle.capnp_show.specs.Show.{IsCutShort, IsLineOf, IsOfMessage, IsOfRead, IsRefused, IsShown, shown_text};
+ghost use Rattle.capnp_show.specs.Refusals.{IsOfRead};
+ghost use Rattle.capnp_show.specs.Show.{IsCutShort, IsLineOf, IsOfMessage, IsRefused, IsShown, shown_text};
 ghost use Rattle.capnp_dynamic.specs.Pieces.{IsAppended};
 
 use capnp_dynamic::printer::print;
@@ -17,7 +18,8 @@ use std::alloc::Global;
 
 /// Reads the source to its end and writes the text of the first message's root, read as a struct of that brand of the
 /// set, and a line break: on one line, or indented on several. What follows the message is not looked at (encoding,
-/// "Serialization Over a Stream"). The text is made whole before its first byte is written.
+/// "Serialization Over a Stream"). The text is made whole before its first byte is written. `brand` has to be one of the
+/// set's.
 ///
 /// Refused with `ReadFailed` or `WriteFailed` where a call of the source or the sink failed, with `OutOfMemory`, as the
 /// message is (`Truncated`, `TooManySegments`), and with the number of the first value that can't be read, in the text's

@@ -17,11 +17,11 @@ use std::process::ExitCode;
 fn main(rt: HostRuntime) -> ExitCode {
     let mut source = ReadSource::new(rt.stdin());
     let mut sink = WriteSink::new(rt.stdout());
-    let mut faults = WriteSink::new(rt.stderr());
+    let mut errors = WriteSink::new(rt.stderr());
     let status = match command::words(rt.alloc(), env::args(&rt)) {
-        Ok(words) => command::command(rt.alloc(), &words, &mut source, &mut sink, &mut faults),
+        Ok(words) => command::command(rt.alloc(), &words, &mut source, &mut sink, &mut errors),
         Err(error) => {
-            command::report(rt.alloc(), error.kind, &mut faults);
+            command::report(rt.alloc(), error.kind, &mut errors);
             1
         }
     };

@@ -1,5 +1,5 @@
 //! What is shown under a set that is not built in.
-ghost use Rattle.std.specs.Prelude.{◌≡◌, ◌∷◌, [], IfOk, length};
+ghost use Rattle.std.specs.Prelude.{◌≡◌, ◌<◌, IfOk, length};
 ghost use Rattle.capnp_schema.specs.Entries.{lists_seen};
 
 use crate::engine::show;
@@ -9,11 +9,12 @@ use capnp_schema::record::{
     AnnotationTypes, BrandRecord, FieldKind, FieldRecord, NodeRecord, StructRecord, ValueRecord,
 };
 use capnp_schema::set::SchemaSet;
-use capnp_wire::error::{ErrorKind, Result};
+use capnp_wire::error::Result;
 use capnp_wire::memory::{MemorySink, MemorySource};
 use std::alloc::Global;
 use std::test::Fail;
 
+/// A member of the union, without annotations.
 fn member(alloc: Global, number: u16, name: &str, default: ValueRecord) -> Result<FieldRecord> {
     Ok(FieldRecord {
         name: String::from_str(alloc, name)?,
@@ -23,7 +24,7 @@ fn member(alloc: Global, number: u16, name: &str, default: ValueRecord) -> Resul
     })
 }
 
-// A struct that is at its end, or holds a list of such structs; the list's default holds one that has the default again.
+/// A struct that is at its end, or holds a list of such structs; the list's default holds one that has the default again.
 fn nest_node(alloc: Global) -> Result<NodeRecord> {
     let one = vec![in alloc;
         1, 0, 0, 0, 0x17, 0, 0, 0, 4, 0, 0, 0, 1, 0, 1, 0, 1, 0, 0, 0, 0, 0, 0, 0, 0, 0, 0, 0, 0,
@@ -48,6 +49,7 @@ fn nest_node(alloc: Global) -> Result<NodeRecord> {
     })
 }
 
+/// Its only brand.
 fn nest_brand(alloc: Global) -> Result<BrandRecord> {
     let nest = Type::from(TypeVariant::Struct(RawBrandedStructSchema {
         number: 0,
@@ -68,6 +70,7 @@ fn nest_brand(alloc: Global) -> Result<BrandRecord> {
     })
 }
 
+/// The set of that struct.
 fn nest_set(alloc: Global) -> Result<SchemaSet>
     ensures { IfOk result (λ set. length (lists_seen set).brands ≡ 1) }
 {
@@ -76,27 +79,54 @@ fn nest_set(alloc: Global) -> Result<SchemaSet>
     SchemaSet::new(alloc, nodes, brands, Vec::new(alloc))
 }
 
+/// A message, whether its text is indented, the number of its refusal, and what is written. The number is 0 where it is not
+/// refused.
+static NESTS: [(&str, bool, u32, &str); 3] = [
+    (
+        "0000000003000000 0000000001000100 0000000000000000 0000000000000000",
+        false,
+        0,
+        "(end = ())\n",
+    ),
+    (
+        "0000000003000000 0000000001000100 0100000000000000 0000000000000000",
+        false,
+        8,
+        "",
+    ),
+    (
+        "0000000003000000 0000000001000100 0100000000000000 0000000000000000",
+        true,
+        8,
+        "",
+    ),
+];
+
+/// The number of a message's refusal, and what is written.
+fn shown(
+    alloc: Global,
+    set: &SchemaSet,
+    message: &str,
+    indented: bool,
+) -> std::result::Result<(u32, MemorySink), Fail>
+    requires { 0 < length (lists_seen set.now).brands }
+{
+    let bytes = bytes_of(alloc, message)?;
+    let mut source = MemorySource::new(&bytes, 4096, None);
+    let mut sink = MemorySink::new(alloc, 4096, None);
+    match show(alloc, set, 0, &mut source, &mut sink, indented) {
+        Ok(()) => Ok((0, sink)),
+        Err(error) => Ok((error.kind.number(), sink)),
+    }
+}
+
 #[test]
 fn a_default_that_feeds_itself_in_a_list(rt: HostRuntime) -> std::result::Result<(), Fail> {
     let set = nest_set(rt.alloc())?;
-    let end = bytes_of(
-        rt.alloc(),
-        "0000000003000000 0000000001000100 0000000000000000 0000000000000000",
-    )?;
-    let mut source = MemorySource::new(&end, 4096, None);
-    let mut sink = MemorySink::new(rt.alloc(), 4096, None);
-    show(rt.alloc(), &set, 0, &mut source, &mut sink, false)?;
-    assert_eq!(rt; sink.as_slice(), b"(end = ())\n".as_slice());
-    let again = bytes_of(
-        rt.alloc(),
-        "0000000003000000 0000000001000100 0100000000000000 0000000000000000",
-    )?;
-    for indented in [false, true] {
-        let mut source = MemorySource::new(&again, 4096, None);
-        let mut sink = MemorySink::new(rt.alloc(), 4096, None);
-        let shown = show(rt.alloc(), &set, 0, &mut source, &mut sink, indented);
-        assert!(rt; shown.is_err_and(|e| e.kind == ErrorKind::TooDeep));
-        assert!(rt; sink.as_slice().is_empty());
+    for (message, indented, number, line) in &NESTS {
+        let (refusal, sink) = shown(rt.alloc(), &set, message, *indented)?;
+        assert_eq!(rt; refusal, *number, "{message}");
+        assert_eq!(rt; sink.as_slice(), line.as_bytes(), "{message}");
     }
     Ok(())
 }

@@ -1,36 +1,76 @@
 //! What the program prints and answers, by its public call, over sources and sinks in memory.
-ghost use Rattle.std.specs.Prelude.{◌<◌, IfSome};
+//!
+//! A setting says what the program is run on, and `comes_to` runs it and compares what comes of it. Rows of messages are texts
+//! (`messages`).
+ghost use Rattle.std.specs.Prelude.{◌<◌};
 
 use crate::command::command;
-use crate::messages::{BEGINNINGS, EXAMPLES, REFUSED, Row, SHOWN};
+use crate::messages::{BEGINNINGS, EXAMPLES, REFUSED, SHOWN, row_of};
 use capnp_wire::memory::{MemorySink, MemorySource};
 use capnp_wire::transfer::read_all;
 use std::alloc::Global;
+use std::process::Abort;
 use std::test::Fail;
 
-const USAGE: &[u8] = b"usage: capnp_show NAME [--indent]\n";
+const USAGE: &str = "usage: capnp_show NAME [--indent]\n";
 
-// The row of which each call of a device is made to fail.
-const LAST: Row = Row {
-    words: &["Mixed", "--indent"],
-    message: "0000000003000000 0000000001000100 0500010009000000 0000000000000000",
-    line: "(\n  a = 5,\n  y = 9\n)\n",
-};
+/// Words, a message and its text, of which each call of a device is made to fail.
+const LAST_WORDS: &str = "Mixed,--indent";
 
-// The status, and what was written to the sink and to the sink of faults.
+const LAST_MESSAGE: &str = "0000000003000000 0000000001000100 0500010009000000 0000000000000000";
+
+const LAST_LINE: &str = "(\n  a = 5,\n  y = 9\n)\n";
+
+/// What the program is run on.
+#[derive(Clone, Copy)]
+struct Setting<'a> {
+    /// The words, each with a comma after it; the last may lack it.
+    words: &'a str,
+    bytes: &'a [u8],
+    /// Whether a call of the source or sink moves a byte, and else up to 4096.
+    slow: bool,
+    /// Which calls fail: of the source, of the sink, and of the sink of errors, which takes a byte a call.
+    failing_read: Option<u64>,
+    failing_write: Option<u64>,
+    failing_error: Option<u64>,
+}
+
+/// What comes of it: the status, and what was written to the sink and to the sink of errors.
+#[derive(Clone, Copy)]
+struct Expected<'a> {
+    status: u8,
+    shown: &'a [u8],
+    told: &'a [u8],
+}
+
+/// The same as it came.
 #[derive(Drop)]
 struct Outcome {
     status: u8,
     sink: MemorySink,
-    faults: MemorySink,
+    errors: MemorySink,
 }
 
-fn words_of(alloc: Global, words: &[&str]) -> Result<Vec<String>, Fail> {
-    let mut list = Vec::new(alloc);
-    for word in words {
-        list.push(String::from_str(alloc, word)?)?;
+/// A setting of which no call fails.
+fn run_on<'a>(words: &'a str, bytes: &'a [u8], slow: bool) -> Setting<'a> {
+    Setting {
+        words,
+        bytes,
+        slow,
+        failing_read: None,
+        failing_write: None,
+        failing_error: None,
     }
-    Ok(list)
+}
+
+/// A line that is written: a text where the status is 0, and else what is told.
+fn written(status: u8, line: &str) -> Expected<'_> {
+    let (shown, told) = if status == 0 { (line, "") } else { ("", line) };
+    Expected {
+        status,
+        shown: shown.as_bytes(),
+        told: told.as_bytes(),
+    }
 }
 
 fn digit(letter: u8) -> Option<u8> {
@@ -41,7 +81,7 @@ fn digit(letter: u8) -> Option<u8> {
     }
 }
 
-// The bytes of hexadecimal digits, two a byte; what is no digit is left out.
+/// The bytes of hexadecimal digits, two a byte; what is no digit is left out.
 pub fn bytes_of(alloc: Global, text: &str) -> Result<Vec<u8>, Fail> {
     let mut bytes = Vec::new(alloc);
     let mut high = None;
@@ -60,82 +100,125 @@ pub fn bytes_of(alloc: Global, text: &str) -> Result<Vec<u8>, Fail> {
     Ok(bytes)
 }
 
-// The program over a source that gives `chunk` bytes a call.
-fn run(alloc: Global, words: &[&str], bytes: &[u8], chunk: usize) -> Result<Outcome, Fail>
-    requires { 0 < chunk }
-{
-    let mut source = MemorySource::new(bytes, chunk, None);
-    let sink = MemorySink::new(alloc, 4096, None);
-    run_over(alloc, words, &mut source, sink, None)
+fn words_of(alloc: Global, words: &str) -> Result<Vec<String>, Fail> {
+    let mut list = Vec::new(alloc);
+    for word in words.split_terminator(',') {
+        list.push(String::from_str(alloc, word)?)?;
+    }
+    Ok(list)
 }
 
-// The program over this source and sink, where the chosen call of the sink of faults fails.
-fn run_over(
+fn chunk(slow: bool) -> usize
+    ensures { 0 < result }
+{
+    if slow { 1 } else { 4096 }
+}
+
+fn source_of<'a>(on: &Setting<'a>) -> MemorySource<'a> {
+    MemorySource::new(on.bytes, chunk(on.slow), on.failing_read)
+}
+
+/// The program over a source.
+fn outcome_over(
     alloc: Global,
-    words: &[&str],
     source: &mut MemorySource<'_>,
-    mut sink: MemorySink,
-    failing_fault: Option<u64>,
+    on: &Setting<'_>,
 ) -> Result<Outcome, Fail> {
-    let words = words_of(alloc, words)?;
-    let mut faults = MemorySink::new(alloc, 1, failing_fault);
-    let status = command(alloc, &words, source, &mut sink, &mut faults);
+    let words = words_of(alloc, on.words)?;
+    let mut sink = MemorySink::new(alloc, chunk(on.slow), on.failing_write);
+    let mut errors = MemorySink::new(alloc, 1, on.failing_error);
+    let status = command(alloc, &words, source, &mut sink, &mut errors);
     Ok(Outcome {
         status,
         sink,
-        faults,
+        errors,
     })
 }
 
-#[test]
-fn prints_each_message(rt: HostRuntime) -> Result<(), Fail> {
-    for chunk in [1, 4096] {
-        for row in SHOWN.iter().chain(EXAMPLES.iter()) {
-            let bytes = bytes_of(rt.alloc(), row.message)?;
-            let outcome = run(rt.alloc(), row.words, &bytes, chunk)?;
-            let line = row.line;
-            assert_eq!(rt; outcome.sink.as_slice(), line.as_bytes(), "{line}");
-            assert!(rt; outcome.faults.as_slice().is_empty(), "{line}");
-            assert_eq!(rt; outcome.status, 0, "{line}");
-        }
+/// Asserts that this is what came of a setting's words.
+fn is_so(rt: &impl Abort, outcome: &Outcome, expected: &Expected<'_>, words: &str) {
+    assert_eq!(rt; outcome.status, expected.status, "{words}");
+    assert_eq!(rt; outcome.sink.as_slice(), expected.shown, "{words}");
+    assert_eq!(rt; outcome.errors.as_slice(), expected.told, "{words}");
+}
+
+/// Asserts that a setting comes to this over a source.
+fn comes_over(
+    rt: &impl Abort,
+    alloc: Global,
+    source: &mut MemorySource<'_>,
+    on: &Setting<'_>,
+    expected: &Expected<'_>,
+) -> Result<(), Fail> {
+    let outcome = outcome_over(alloc, source, on)?;
+    is_so(rt, &outcome, expected, on.words);
+    Ok(())
+}
+
+/// Asserts that a setting comes to this.
+fn comes_to(
+    rt: &impl Abort,
+    alloc: Global,
+    on: &Setting<'_>,
+    expected: &Expected<'_>,
+) -> Result<(), Fail> {
+    let mut source = source_of(on);
+    comes_over(rt, alloc, &mut source, on, expected)
+}
+
+/// Asserts that a row has its line, whatever a call moves.
+fn row_comes(rt: &impl Abort, alloc: Global, text: &str, status: u8) -> Result<(), Fail> {
+    let row = row_of(text);
+    let bytes = bytes_of(alloc, row.message)?;
+    let expected = written(status, row.line);
+    comes_to(rt, alloc, &run_on(row.words, &bytes, true), &expected)?;
+    comes_to(rt, alloc, &run_on(row.words, &bytes, false), &expected)
+}
+
+/// Asserts that each row has its line.
+fn rows_come(rt: &impl Abort, alloc: Global, rows: &str, status: u8) -> Result<(), Fail> {
+    for text in rows.split_inclusive("\n\n") {
+        row_comes(rt, alloc, text, status)?;
     }
     Ok(())
 }
 
 #[test]
+fn prints_each_message(rt: HostRuntime) -> Result<(), Fail> {
+    rows_come(&rt, rt.alloc(), SHOWN, 0)?;
+    rows_come(&rt, rt.alloc(), EXAMPLES, 0)
+}
+
+#[test]
 fn refuses_each_broken_message(rt: HostRuntime) -> Result<(), Fail> {
-    for chunk in [1, 4096] {
-        for (i, row) in REFUSED.iter().enumerate() {
-            let bytes = bytes_of(rt.alloc(), row.message)?;
-            let outcome = run(rt.alloc(), row.words, &bytes, chunk)?;
-            assert_eq!(rt; outcome.faults.as_slice(), row.line.as_bytes(), "row {i}");
-            assert!(rt; outcome.sink.as_slice().is_empty(), "row {i}");
-            assert_eq!(rt; outcome.status, 1, "row {i}");
-        }
+    rows_come(&rt, rt.alloc(), REFUSED, 1)
+}
+
+fn beginnings_are_refused(rt: &impl Abort, alloc: Global, text: &str) -> Result<(), Fail> {
+    let row = row_of(text);
+    let whole = bytes_of(alloc, row.message)?;
+    let refused = written(1, "refused: 2\n");
+    for len in 0..whole.len() {
+        comes_to(
+            rt,
+            alloc,
+            &run_on(row.words, &whole[..len], false),
+            &refused,
+        )?;
     }
     Ok(())
 }
 
 #[test]
 fn refuses_each_proper_beginning(rt: HostRuntime) -> Result<(), Fail> {
-    for row in &BEGINNINGS {
-        let whole = bytes_of(rt.alloc(), row.message)?;
-        for len in 0..whole.len() {
-            let outcome = run(rt.alloc(), row.words, &whole[..len], 4096)?;
-            assert_eq!(rt;
-                outcome.faults.as_slice(),
-                b"refused: 2\n".as_slice(),
-                "of {len} bytes"
-            );
-            assert!(rt; outcome.sink.as_slice().is_empty(), "of {len} bytes");
-            assert_eq!(rt; outcome.status, 1, "of {len} bytes");
-        }
+    for text in BEGINNINGS.split_inclusive("\n\n") {
+        beginnings_are_refused(&rt, rt.alloc(), text)?;
     }
     Ok(())
 }
 
-// A chain of so many structs, each the `again` of the one before, and the last of them with `end`; each is the next two
-// words after the pointer to it.
+/// A chain of so many structs, each the `again` of the one before, and the last of them with `end`; each is the next two
+/// words after the pointer to it.
 fn chain(alloc: Global, count: u32) -> Result<Vec<u8>, Fail> {
     let words = count.saturating_mul(2).saturating_add(1);
     let mut bytes = Vec::new(alloc);
@@ -144,136 +227,176 @@ fn chain(alloc: Global, count: u32) -> Result<Vec<u8>, Fail> {
     for _ in 1..count {
         bytes.extend_from_slice(&[0, 0, 0, 0, 1, 0, 1, 0, 1, 0, 0, 0, 0, 0, 0, 0])?;
     }
-    bytes.extend_from_slice(&[0, 0, 0, 0, 1, 0, 1, 0])?;
-    bytes.extend_from_slice(&[0; 16])?;
+    bytes.extend_from_slice(&[
+        0, 0, 0, 0, 1, 0, 1, 0, 0, 0, 0, 0, 0, 0, 0, 0, 0, 0, 0, 0, 0, 0, 0, 0,
+    ])?;
     Ok(bytes)
+}
+
+/// Its text and a line break.
+fn chain_line(alloc: Global, count: u32) -> Result<String, Fail> {
+    let mut line = String::new(alloc);
+    for _ in 1..count {
+        line.push_str("(again = ")?;
+    }
+    line.push_str("(end = ())")?;
+    for _ in 1..count {
+        line.push_str(")")?;
+    }
+    line.push_str("\n")?;
+    Ok(line)
 }
 
 #[test]
 fn a_chain_is_printed_as_far_as_levels_reach(rt: HostRuntime) -> Result<(), Fail> {
-    let whole = run(rt.alloc(), &["Loop"], &chain(rt.alloc(), 64)?, 4096)?;
-    assert_eq!(rt; whole.status, 0);
-    let mut line = String::new(rt.alloc());
-    for _ in 1..64 {
-        line.push_str("(again = ")?;
-    }
-    line.push_str("(end = ())")?;
-    for _ in 1..64 {
-        line.push_str(")")?;
-    }
-    line.push_str("\n")?;
-    assert_eq!(rt; whole.sink.as_slice(), line.as_bytes());
-    let deeper = run(rt.alloc(), &["Loop"], &chain(rt.alloc(), 65)?, 4096)?;
-    assert_eq!(rt; deeper.faults.as_slice(), b"refused: 8\n".as_slice());
-    assert!(rt; deeper.sink.as_slice().is_empty());
-    assert_eq!(rt; deeper.status, 1);
-    Ok(())
+    let bytes = chain(rt.alloc(), 64)?;
+    let line = chain_line(rt.alloc(), 64)?;
+    comes_to(
+        &rt,
+        rt.alloc(),
+        &run_on("Loop", &bytes, false),
+        &written(0, &line),
+    )
+}
+
+#[test]
+fn a_chain_past_the_levels_is_refused(rt: HostRuntime) -> Result<(), Fail> {
+    let bytes = chain(rt.alloc(), 65)?;
+    let refused = written(1, "refused: 8\n");
+    comes_to(&rt, rt.alloc(), &run_on("Loop", &bytes, false), &refused)
+}
+
+/// The last setting, of which a call of the source fails, comes to this.
+fn read_comes_to(
+    rt: &impl Abort,
+    alloc: Global,
+    bytes: &[u8],
+    call: u64,
+    expected: &Expected<'_>,
+) -> Result<(), Fail> {
+    let on = Setting {
+        failing_read: Some(call),
+        ..run_on(LAST_WORDS, bytes, true)
+    };
+    comes_to(rt, alloc, &on, expected)
 }
 
 #[test]
 fn tells_of_each_failed_read(rt: HostRuntime) -> Result<(), Fail> {
-    let bytes = bytes_of(rt.alloc(), LAST.message)?;
+    let bytes = bytes_of(rt.alloc(), LAST_MESSAGE)?;
+    let refused = written(1, "refused: 12\n");
     // one call a byte, and one that finds the end
-    for calls in 0..33u64 {
-        let mut source = MemorySource::new(&bytes, 1, Some(calls));
-        let sink = MemorySink::new(rt.alloc(), 4096, None);
-        let outcome = run_over(rt.alloc(), LAST.words, &mut source, sink, None)?;
-        assert_eq!(rt;
-            outcome.faults.as_slice(),
-            b"refused: 12\n".as_slice(),
-            "at call {calls}"
-        );
-        assert!(rt; outcome.sink.as_slice().is_empty(), "at call {calls}");
-        assert_eq!(rt; outcome.status, 1, "at call {calls}");
+    for call in 0..33 {
+        read_comes_to(&rt, rt.alloc(), &bytes, call, &refused)?;
     }
-    let mut source = MemorySource::new(&bytes, 1, Some(33));
-    let sink = MemorySink::new(rt.alloc(), 4096, None);
-    let outcome = run_over(rt.alloc(), LAST.words, &mut source, sink, None)?;
-    assert_eq!(rt; outcome.sink.as_slice(), LAST.line.as_bytes());
-    assert_eq!(rt; outcome.status, 0);
-    Ok(())
+    read_comes_to(&rt, rt.alloc(), &bytes, 33, &written(0, LAST_LINE))
+}
+
+/// The same, of which a call of the sink fails.
+fn write_comes_to(
+    rt: &impl Abort,
+    alloc: Global,
+    bytes: &[u8],
+    call: u64,
+    expected: &Expected<'_>,
+) -> Result<(), Fail> {
+    let on = Setting {
+        failing_write: Some(call),
+        ..run_on(LAST_WORDS, bytes, true)
+    };
+    comes_to(rt, alloc, &on, expected)
 }
 
 #[test]
 fn tells_of_each_failed_write(rt: HostRuntime) -> Result<(), Fail> {
-    let bytes = bytes_of(rt.alloc(), LAST.message)?;
-    let line = LAST.line.as_bytes();
-    for calls in 0..line.len() {
-        let mut source = MemorySource::new(&bytes, 4096, None);
-        let sink = MemorySink::new(rt.alloc(), 1, Some(calls as u64));
-        let outcome = run_over(rt.alloc(), LAST.words, &mut source, sink, None)?;
-        assert_eq!(rt;
-            outcome.faults.as_slice(),
-            b"refused: 13\n".as_slice(),
-            "at call {calls}"
-        );
-        assert_eq!(rt; outcome.sink.as_slice(), &line[..calls], "at call {calls}");
-        assert_eq!(rt; outcome.status, 1, "at call {calls}");
+    let bytes = bytes_of(rt.alloc(), LAST_MESSAGE)?;
+    let line = LAST_LINE.as_bytes();
+    // one call a byte
+    for call in 0..line.len() {
+        let expected = Expected {
+            status: 1,
+            shown: &line[..call],
+            told: b"refused: 13\n",
+        };
+        write_comes_to(&rt, rt.alloc(), &bytes, call as u64, &expected)?;
     }
-    let mut source = MemorySource::new(&bytes, 4096, None);
-    let sink = MemorySink::new(rt.alloc(), 1, Some(line.len() as u64));
-    let outcome = run_over(rt.alloc(), LAST.words, &mut source, sink, None)?;
-    assert_eq!(rt; outcome.sink.as_slice(), line);
-    assert_eq!(rt; outcome.status, 0);
+    write_comes_to(
+        &rt,
+        rt.alloc(),
+        &bytes,
+        line.len() as u64,
+        &written(0, LAST_LINE),
+    )
+}
+
+/// Asserts that each call that writes a line of errors may fail, and the status stays.
+fn status_stays(
+    rt: &impl Abort,
+    alloc: Global,
+    name: &str,
+    status: u8,
+    line: &[u8],
+) -> Result<(), Fail> {
+    for call in 0..line.len() {
+        let on = Setting {
+            failing_error: Some(call as u64),
+            ..run_on(name, &[], true)
+        };
+        let expected = Expected {
+            status,
+            shown: &[],
+            told: &line[..call],
+        };
+        comes_to(rt, alloc, &on, &expected)?;
+    }
     Ok(())
 }
 
 #[test]
-fn failing_faults_change_no_status(rt: HostRuntime) -> Result<(), Fail> {
-    let cases: [(&str, u8, &[u8]); 2] = [("Flat", 1, b"refused: 2\n"), ("Nope", 2, USAGE)];
-    for (name, status, line) in cases {
-        for calls in 0..line.len() {
-            let mut source = MemorySource::new(&[], 1, None);
-            let sink = MemorySink::new(rt.alloc(), 1, None);
-            let outcome = run_over(rt.alloc(), &[name], &mut source, sink, Some(calls as u64))?;
-            assert_eq!(rt; outcome.status, status, "{name} at call {calls}");
-            assert_eq!(rt;
-                outcome.faults.as_slice(),
-                &line[..calls],
-                "{name} at call {calls}"
-            );
-            assert!(rt;
-                outcome.sink.as_slice().is_empty(),
-                "{name} at call {calls}"
-            );
-        }
-    }
+fn failing_errors_change_no_status(rt: HostRuntime) -> Result<(), Fail> {
+    status_stays(&rt, rt.alloc(), "Flat", 1, b"refused: 2\n")?;
+    status_stays(&rt, rt.alloc(), "Nope", 2, USAGE.as_bytes())
+}
+
+/// Words that ask for nothing, on lines: none, an empty one, and others. Each word has a comma after it.
+const OTHER_WORDS: &str = "
+,
+many,
+Many ,
+Nope,
+Shapes.circle,
+ElementSize,
+--indent,
+--indent,Many,
+Many,--Indent,
+Many,--indent,--indent,
+Nope,--indent,
+Flat,Many,
+Flat,Flat,";
+
+/// Asserts that a source still has all its bytes.
+fn is_unread(
+    rt: &impl Abort,
+    alloc: Global,
+    source: &mut MemorySource<'_>,
+    bytes: &[u8],
+) -> Result<(), Fail> {
+    let left = read_all(alloc, source)?;
+    assert_eq!(rt; left.as_slice(), bytes);
     Ok(())
+}
+
+fn usage_is_told(rt: &impl Abort, alloc: Global, on: &Setting<'_>) -> Result<(), Fail> {
+    let mut source = source_of(on);
+    comes_over(rt, alloc, &mut source, on, &written(2, USAGE))?;
+    is_unread(rt, alloc, &mut source, on.bytes)
 }
 
 #[test]
 fn other_words_tell_the_usage_and_read_nothing(rt: HostRuntime) -> Result<(), Fail> {
-    let lists: [&[&str]; 14] = [
-        &[],
-        &[""],
-        &["many"],
-        &["Many "],
-        &["Nope"],
-        &["Shapes.circle"],
-        &["ElementSize"],
-        &["--indent"],
-        &["--indent", "Many"],
-        &["Many", "--Indent"],
-        &["Many", "--indent", "--indent"],
-        &["Nope", "--indent"],
-        &["Flat", "Many"],
-        &["Flat", "Flat"],
-    ];
-    let message: &[u8] = &[0, 0, 0, 0, 1, 0, 0, 0, 0, 0, 0, 0, 0, 0, 0, 0];
-    for (i, list) in lists.iter().enumerate() {
-        let words = words_of(rt.alloc(), list)?;
-        let mut source = MemorySource::new(message, 1, None);
-        let mut sink = MemorySink::new(rt.alloc(), 1, None);
-        let mut faults = MemorySink::new(rt.alloc(), 1, None);
-        let status = command(rt.alloc(), &words, &mut source, &mut sink, &mut faults);
-        assert_eq!(rt; status, 2, "list {i}");
-        assert_eq!(rt; faults.as_slice(), USAGE, "list {i}");
-        assert!(rt; sink.as_slice().is_empty(), "list {i}");
-        assert_eq!(rt;
-            read_all(rt.alloc(), &mut source)?.as_slice(),
-            message,
-            "list {i}"
-        );
+    let message = [0, 0, 0, 0, 1, 0, 0, 0, 0, 0, 0, 0, 0, 0, 0, 0];
+    for words in OTHER_WORDS.split('\n') {
+        usage_is_told(&rt, rt.alloc(), &run_on(words, &message, true))?;
     }
     Ok(())
 }
