@@ -5,13 +5,11 @@ ghost use Rattle.std.specs.declared.io.ErrorKind.TheVariants.{OutOfMemory as NoM
 ghost use Rattle.capnp_device.specs.Device.{HasFailed};
 ghost use Rattle.capnp_device.specs.declared.error.ErrorKind.TheVariants.{OutOfMemory, ReadFailed, WriteFailed};
 ghost use Rattle.capnp_schema.specs.Builtin.{builtin};
-ghost use Rattle.capnp_schema.specs.Entries.{lists_seen};
 ghost use Rattle.capnp_show.specs.Command.{IsRefusedRun, IsTold, asked, brand_named, refusal_line, usage_line, words_after_name};
 ghost use Rattle.capnp_show.specs.Show.{IsCutShort, IsOfMessage, IsRefused, IsShown};
 
 use crate::engine::show;
 use capnp_schema::builtin;
-use capnp_schema::set::SchemaSet;
 use capnp_wire::device::{Sink, Source};
 use capnp_wire::error::{Error, ErrorKind, Result};
 use capnp_wire::transfer::write_all;
@@ -75,15 +73,6 @@ fn read_words(words: &[String]) -> Option<Request>
     Some(Request { brand, indented })
 }
 
-/// The built-in set, whose lists meet the twelve rules. Refused with `OutOfMemory` alone.
-fn built_in_set(alloc: Global) -> Result<SchemaSet>
-    ensures set { IfOk result (λ set. lists_seen set ≡ builtin) }
-    ensures refused { IfErr result (λ e. e.kind ≡ OutOfMemory) }
-{
-    let (nodes, brands, enums) = builtin::records(alloc)?;
-    SchemaSet::new(alloc, nodes, brands, enums)
-}
-
 /// `show` under the built-in set, which is made before any input is read.
 fn show_built_in<R: Source, W: Sink>(
     alloc: Global,
@@ -105,7 +94,7 @@ fn show_built_in<R: Source, W: Sink>(
         (W.written sink.old) (W.written sink.new)) }
     ensures nothing { IfErr result (λ e. e.kind ≢ WriteFailed → sink.new ≡ sink.old) }
 {
-    let set = built_in_set(alloc)?;
+    let set = builtin::new_set(alloc)?;
     show(alloc, &set, request.brand, source, sink, request.indented)
 }
 
