@@ -1,78 +1,124 @@
-//! Annotations of the built-in set, and its enum.
+//! Annotations of structs, fields, enums and enumerants, and the views of their values.
 
-use crate::built_in::new_set;
-use crate::fixtures::schema_of;
-use capnp_base::introspect::{RawEnumSchema, Type, TypeVariant};
-use capnp_schema::value::Value;
+use crate::queries::{Row, answers_hold};
 use std::test::Fail;
 
-/// The struct with annotations.
-const NODE: u32 = 8;
+/// A set of one enum: `red`, and `blue` with an annotation. It has three annotations itself, two of one id.
+const TINTS: &str =
+    "enum red blue; note enum 7 Text(hue) Text; note enum 9 AnyPointer(struct_1) AnyPointer; \
+    note enum 7 UInt16(300) UInt16; note enumerant:1 4 Bool(true) Bool";
+
+static OF_STRUCTS: [Row; 4] = [
+    ("built-in", "notes struct 8", "7 Text Text(note)"),
+    ("built-in", "find 7 struct 8", "7 Text Text(note)"),
+    ("built-in", "find 8 struct 8", "none"),
+    ("built-in", "notes struct 0", ""),
+];
 
 #[test]
-fn a_struct_has_annotations(rt: HostRuntime) -> std::result::Result<(), Fail> {
-    let set = new_set(rt.alloc())?;
-    let annotations = schema_of(&set, NODE)?.get_annotations()?;
-    assert_eq!(rt; annotations.len(), 1);
-    let Some(note) = annotations.find(7) else {
-        assert!(rt; false, "the struct has annotation 7");
-        return Ok(());
-    };
-    assert_eq!(rt; note.get_id(), 7);
-    assert_eq!(rt; note.get_type(), Type::from(TypeVariant::Text));
-    match note.get_value_view() {
-        Value::Text(text) => assert!(rt; text.eq_str("note")),
-        _ => assert!(rt; false, "its value is a text"),
-    }
-    assert!(rt; annotations.find(8).is_none());
-    assert!(rt; schema_of(&set, 0)?.get_annotations()?.is_empty());
-    Ok(())
+fn a_struct_has_annotations(rt: HostRuntime) -> Result<(), Fail> {
+    answers_hold(&rt, rt.alloc(), &OF_STRUCTS)
 }
 
-#[test]
-fn a_field_has_annotations(rt: HostRuntime) -> std::result::Result<(), Fail> {
-    let set = new_set(rt.alloc())?;
-    let id = schema_of(&set, NODE)?.get_field_by_name("id")?;
-    let annotations = id.get_annotations()?;
-    assert_eq!(rt; annotations.len(), 3);
-    let text = Type::from(TypeVariant::Text);
-    let size = Type::from(TypeVariant::Enum(RawEnumSchema { number: 0 }));
-    // the id, the type, and the value as a number of 16 bits or of an enumerant
-    let table = [
-        (8, text, Some(5), None),
-        (9, size, None, Some(2)),
-        (10, text, None, Some(2)),
-    ];
-    for (number, annotation_type, short, enumerant) in table {
-        let Some(found) = annotations.find(number) else {
-            assert!(rt; false, "the field has annotation {number}");
-            return Ok(());
-        };
-        assert_eq!(rt; found.get_id(), number);
-        assert_eq!(rt; found.get_type(), annotation_type);
-        let value = match found.get_value_view() {
-            Value::UInt16(x) => (Some(x), None),
-            Value::Enum(x) => (None, Some(x)),
-            _ => (None, None),
-        };
-        assert_eq!(rt; value, (short, enumerant), "{number}");
-    }
-    assert!(rt; annotations.find(7).is_none());
-    assert!(rt; annotations.find(11).is_none());
-    Ok(())
-}
+static OF_FIELDS: [Row; 7] = [
+    (
+        "built-in",
+        "notes field 8 id",
+        "8 Text UInt16(5); 9 Enum(0) Enum(2); 10 Text Enum(2)",
+    ),
+    ("built-in", "find 8 field 8 id", "8 Text UInt16(5)"),
+    ("built-in", "find 9 field 8 id", "9 Enum(0) Enum(2)"),
+    ("built-in", "find 10 field 8 id", "10 Text Enum(2)"),
+    ("built-in", "find 7 field 8 id", "none"),
+    ("built-in", "find 11 field 8 id", "none"),
+    ("built-in", "notes field 8 displayName", ""),
+];
 
 #[test]
-fn annotations_come_in_order(rt: HostRuntime) -> std::result::Result<(), Fail> {
-    let set = new_set(rt.alloc())?;
-    let node = schema_of(&set, NODE)?;
-    let mut expected = 8;
-    for annotation in node.get_field_by_name("id")?.get_annotations()?.iter() {
-        assert_eq!(rt; annotation.get_id(), expected);
-        expected = annotation.get_id().wrapping_add(1);
-    }
-    assert_eq!(rt; expected, 11);
-    let name = node.get_field_by_name("displayName")?;
-    assert!(rt; name.get_annotations()?.is_empty());
-    Ok(())
+fn a_field_has_annotations(rt: HostRuntime) -> Result<(), Fail> {
+    answers_hold(&rt, rt.alloc(), &OF_FIELDS)
+}
+
+static OF_ENUMS: [Row; 5] = [
+    ("built-in", "notes enum 0", ""),
+    (
+        TINTS,
+        "notes enum 0",
+        "7 Text Text(hue); 9 AnyPointer AnyPointer(1); 7 UInt16 UInt16(300)",
+    ),
+    (TINTS, "find 7 enum 0", "7 Text Text(hue)"),
+    (TINTS, "find 8 enum 0", "none"),
+    (TINTS, "find 9 enum 0", "9 AnyPointer AnyPointer(1)"),
+];
+
+#[test]
+fn an_enum_has_annotations(rt: HostRuntime) -> Result<(), Fail> {
+    answers_hold(&rt, rt.alloc(), &OF_ENUMS)
+}
+
+static OF_ENUMERANTS: [Row; 11] = [
+    (TINTS, "notes enumerant 0 0", ""),
+    (TINTS, "notes enumerant 0 1", "4 Bool Bool(1)"),
+    (TINTS, "find 4 enumerant 0 1", "4 Bool Bool(1)"),
+    ("built-in", "notes enumerant 0 0", ""),
+    ("built-in", "notes enumerant 0 1", ""),
+    ("built-in", "notes enumerant 0 2", ""),
+    ("built-in", "notes enumerant 0 3", ""),
+    ("built-in", "notes enumerant 0 4", ""),
+    ("built-in", "notes enumerant 0 5", ""),
+    ("built-in", "notes enumerant 0 6", ""),
+    ("built-in", "notes enumerant 0 7", ""),
+];
+
+#[test]
+fn an_enumerant_has_annotations_of_its_own(rt: HostRuntime) -> Result<(), Fail> {
+    answers_hold(&rt, rt.alloc(), &OF_ENUMERANTS)
+}
+
+static VALUES: [Row; 8] = [
+    (
+        "struct 1 0; note struct 3 Void Void",
+        "notes struct 0",
+        "3 Void Void(0)",
+    ),
+    (
+        "struct 1 0; note struct 3 Bool(true) Bool",
+        "notes struct 0",
+        "3 Bool Bool(1)",
+    ),
+    (
+        "struct 1 0; note struct 3 Int16(-300) Int16",
+        "notes struct 0",
+        "3 Int16 Int16(-300)",
+    ),
+    (
+        "struct 1 0; note struct 3 UInt32(70000) UInt32",
+        "notes struct 0",
+        "3 UInt32 UInt32(70000)",
+    ),
+    (
+        "struct 1 0; note struct 3 Data(hi) Data",
+        "notes struct 0",
+        "3 Data Data(2)",
+    ),
+    (
+        "struct 1 0; note struct 3 Struct(struct_258) Struct(0)",
+        "notes struct 0",
+        "3 Struct(0) Struct(258)",
+    ),
+    (
+        "struct 1 0; note struct 3 List(bytes_1_2_3) List(UInt8)",
+        "notes struct 0",
+        "3 List(UInt8) List(3)",
+    ),
+    (
+        "struct 1 0; note struct 3 AnyPointer(null) AnyPointer",
+        "notes struct 0",
+        "3 AnyPointer AnyPointer(-1)",
+    ),
+];
+
+#[test]
+fn values_are_read_where_they_lie(rt: HostRuntime) -> Result<(), Fail> {
+    answers_hold(&rt, rt.alloc(), &VALUES)
 }

@@ -1,4 +1,5 @@
-//! What tests share, those of crates above too: small sets of schemas, and what the check says of them.
+//! Small sets of schemas, put together by code: what tests of this crate and of those above share. `set_text.rt` reads sets
+//! from texts, by these.
 ghost use Rattle.std.specs.Prelude.{IfOk};
 ghost use Rattle.capnp_schema.specs.StructHandles.{IsStruct};
 
@@ -9,9 +10,8 @@ use capnp_schema::record::{
 };
 use capnp_schema::schema::StructSchema;
 use capnp_schema::set::SchemaSet;
-use capnp_wire::error::{Error, ErrorKind, Result, SchemaTable};
+use capnp_wire::error::{Error, ErrorKind, Result};
 use std::alloc::Global;
-use std::hash::{DefaultHasher, Hash, Hasher};
 
 /// In a refusal: the whole entry.
 pub const WHOLE: u16 = 65_535;
@@ -236,7 +236,7 @@ fn field_record(alloc: Global, field: &FieldOf) -> Result<FieldRecord> {
 }
 
 /// The node of a struct.
-pub fn node_record(alloc: Global, of: &StructOf<'_>) -> Result<NodeRecord> {
+fn node_record(alloc: Global, of: &StructOf<'_>) -> Result<NodeRecord> {
     let mut fields = Vec::new(alloc);
     for field in of.fields {
         fields.push(field_record(alloc, field)?)?;
@@ -257,7 +257,7 @@ pub fn node_record(alloc: Global, of: &StructOf<'_>) -> Result<NodeRecord> {
 }
 
 /// A brand of a node, with the types of a struct's fields.
-pub fn brand_record(alloc: Global, node: u32, of: &StructOf<'_>) -> Result<BrandRecord> {
+fn brand_record(alloc: Global, node: u32, of: &StructOf<'_>) -> Result<BrandRecord> {
     let mut field_types = Vec::new(alloc);
     for field in of.fields {
         field_types.push(field.field_type)?;
@@ -371,44 +371,82 @@ pub fn annotate(
     value: ValueRecord,
     annotation_type: Type,
 ) -> Result<()> {
-    annotate_record(records, spot, value)?;
+    annotate_record(records, spot, AnnotationRecord { id: 3, value })?;
     annotate_type(records, spot, annotation_type)
 }
 
-/// Adds an annotation without a type for it; none where there is no such spot.
-pub fn annotate_record(records: &mut Records, spot: Spot, value: ValueRecord) -> Result<()> {
-    let annotation = AnnotationRecord { id: 3, value };
-    match spot {
-        Spot::Struct => {
-            if let Some(node) = records.nodes.get_mut(0) {
-                node.annotations.push(annotation)?;
-            }
-        }
-        Spot::Field(i) => {
-            if let Some(node) = records.nodes.get_mut(0) {
-                if let Some(field) = node.body.fields.get_mut(i) {
-                    field.annotations.push(annotation)?;
-                }
-            }
-        }
-        Spot::Enum => {
-            if let Some(entry) = records.enums.get_mut(0) {
-                entry.annotations.push(annotation)?;
-            }
-        }
-        Spot::Enumerant(i) => {
-            if let Some(entry) = records.enums.get_mut(0) {
-                if let Some(enumerant) = entry.enumerants.get_mut(i) {
-                    enumerant.annotations.push(annotation)?;
-                }
-            }
-        }
+fn annotate_field(
+    fields: &mut Vec<FieldRecord>,
+    index: usize,
+    annotation: AnnotationRecord,
+) -> Result<()> {
+    if let Some(field) = fields.get_mut(index) {
+        field.annotations.push(annotation)?;
     }
     Ok(())
 }
 
+fn annotate_enumerant(
+    enumerants: &mut Vec<EnumerantRecord>,
+    index: usize,
+    annotation: AnnotationRecord,
+) -> Result<()> {
+    if let Some(enumerant) = enumerants.get_mut(index) {
+        enumerant.annotations.push(annotation)?;
+    }
+    Ok(())
+}
+
+/// Adds an annotation to the first node, or to a field of it.
+fn annotate_node(
+    nodes: &mut Vec<NodeRecord>,
+    field: Option<usize>,
+    annotation: AnnotationRecord,
+) -> Result<()> {
+    let Some(node) = nodes.get_mut(0) else {
+        return Ok(());
+    };
+    match field {
+        Some(index) => annotate_field(&mut node.body.fields, index, annotation),
+        None => Ok(node.annotations.push(annotation)?),
+    }
+}
+
+/// Adds an annotation to the first enum, or to an enumerant of it.
+fn annotate_enum(
+    enums: &mut Vec<EnumRecord>,
+    enumerant: Option<usize>,
+    annotation: AnnotationRecord,
+) -> Result<()> {
+    let Some(entry) = enums.get_mut(0) else {
+        return Ok(());
+    };
+    match enumerant {
+        Some(index) => annotate_enumerant(&mut entry.enumerants, index, annotation),
+        None => Ok(entry.annotations.push(annotation)?),
+    }
+}
+
+/// Adds an annotation without a type for it; none where there is no such spot.
+pub(crate) fn annotate_record(
+    records: &mut Records,
+    spot: Spot,
+    annotation: AnnotationRecord,
+) -> Result<()> {
+    match spot {
+        Spot::Struct => annotate_node(&mut records.nodes, None, annotation),
+        Spot::Field(index) => annotate_node(&mut records.nodes, Some(index), annotation),
+        Spot::Enum => annotate_enum(&mut records.enums, None, annotation),
+        Spot::Enumerant(index) => annotate_enum(&mut records.enums, Some(index), annotation),
+    }
+}
+
 /// Adds a type for an annotation; none where there is no such spot.
-pub fn annotate_type(records: &mut Records, spot: Spot, annotation_type: Type) -> Result<()> {
+pub(crate) fn annotate_type(
+    records: &mut Records,
+    spot: Spot,
+    annotation_type: Type,
+) -> Result<()> {
     match spot {
         Spot::Struct | Spot::Field(_) => {
             if let Some(brand) = records.brands.get_mut(0) {
@@ -434,70 +472,4 @@ fn push_type(types: &mut AnnotationTypes, spot: Spot, annotation_type: Type) -> 
         }
     }
     Ok(())
-}
-
-/// What the check says of the lists: nothing, or the rule that is broken and where. Want of memory is passed on.
-pub fn refusal(alloc: Global, records: Records) -> Result<Option<ErrorKind>> {
-    let Records {
-        nodes,
-        brands,
-        enums,
-    } = records;
-    match SchemaSet::new(alloc, nodes, brands, enums) {
-        Ok(_) => Ok(None),
-        Err(
-            Error {
-                kind: ErrorKind::OutOfMemory,
-            },
-        ) => Err(Error {
-            kind: ErrorKind::OutOfMemory,
-        }),
-        Err(Error { kind }) => Ok(Some(kind)),
-    }
-}
-
-/// What the check says of a struct with one brand.
-pub fn refusal_of(alloc: Global, of: StructOf<'_>) -> Result<Option<ErrorKind>> {
-    refusal(alloc, records_of(alloc, of)?)
-}
-
-/// What the check says of two structs, each with one brand of its own number.
-pub fn refusal_of_two(
-    alloc: Global,
-    first: StructOf<'_>,
-    second: StructOf<'_>,
-) -> Result<Option<ErrorKind>> {
-    let mut records = records_of(alloc, first)?;
-    add_struct(alloc, &mut records, 1, &second)?;
-    refusal(alloc, records)
-}
-
-/// The same of three.
-pub fn refusal_of_three(
-    alloc: Global,
-    first: StructOf<'_>,
-    second: StructOf<'_>,
-    third: StructOf<'_>,
-) -> Result<Option<ErrorKind>> {
-    let mut records = records_of(alloc, first)?;
-    add_struct(alloc, &mut records, 1, &second)?;
-    add_struct(alloc, &mut records, 2, &third)?;
-    refusal(alloc, records)
-}
-
-/// That a rule is broken, at an entry of a list: in a field or enumerant of it, or in all of it.
-pub fn broken(rule: u32, table: SchemaTable, entry: usize, field: u16) -> Option<ErrorKind> {
-    Some(ErrorKind::Schema {
-        rule,
-        table,
-        entry,
-        field,
-    })
-}
-
-/// The hash of a value, by std's hasher.
-pub fn hash_of<T: Hash>(value: &T) -> u64 {
-    let mut state = DefaultHasher::new();
-    value.hash(&mut state);
-    state.finish()
 }

@@ -4,12 +4,9 @@
 #[cfg(test)]
 mod accepted_tests;
 #[cfg(test)]
-mod annotated_enum_tests;
-#[cfg(test)]
 mod annotation_tests;
 pub mod built_in;
-#[cfg(test)]
-mod enum_tests;
+mod changes;
 pub mod fixtures;
 #[cfg(test)]
 mod footprint_tests;
@@ -24,7 +21,10 @@ mod name_tests;
 #[cfg(test)]
 mod plan_tests;
 #[cfg(test)]
+mod queries;
+#[cfg(test)]
 mod query_tests;
+pub mod set_text;
 #[cfg(test)]
 mod slot_tests;
 #[cfg(test)]
@@ -34,4 +34,5 @@ mod union_tests;
 #[cfg(test)]
 mod value_tests;
 #[cfg(test)]
-mod view_tests;
+mod verdicts;
+mod words;

@@ -1,11 +1,13 @@
-//! Queries of structs: fields by name, by discriminant and by kind.
+//! Queries of structs and enums: records, types, fields by name, by discriminant and by kind.
 
 use crate::built_in::new_set;
-use crate::fixtures::{hash_of, one_word, records_of, schema_of};
-use capnp_schema::schema::{FieldList, FieldSubset};
-use capnp_schema::set::SchemaSet;
+use crate::fixtures::schema_of;
+use crate::queries::{Row, answers_hold, field_of, index_of};
+use crate::set_text::read_set;
+use crate::words::read_type;
+use capnp_base::introspect::RawBrandedStructSchema;
+use capnp_schema::schema::StructSchema;
 use capnp_wire::error::{ErrorKind, Result};
-use std::alloc::Global;
 use std::test::Fail;
 
 /// The built-in structs, by number.
@@ -13,173 +15,180 @@ const FLAT: u32 = 0;
 
 const SHAPES: u32 = 3;
 
+const TAG: u32 = 5;
+
 const LISTS: u32 = 7;
 
 const NODE: u32 = 8;
 
-/// A set of one struct, which has no fields.
-fn empty_struct(alloc: Global) -> Result<SchemaSet> {
-    let records = records_of(alloc, one_word(&[]))?;
-    SchemaSet::new(alloc, records.nodes, records.brands, records.enums)
-}
-
-fn all_names(alloc: Global, fields: FieldList<'_>) -> Result<String> {
-    let mut names = String::new(alloc);
-    for field in fields.iter() {
-        names.push_str(field.get_proto().name.as_str())?;
-        names.push_str(" ")?;
-    }
-    Ok(names)
-}
-
-fn some_names(alloc: Global, fields: FieldSubset<'_>) -> Result<String> {
-    let mut names = String::new(alloc);
-    for field in fields.iter() {
-        names.push_str(field.get_proto().name.as_str())?;
-        names.push_str(" ")?;
-    }
-    Ok(names)
-}
+/// The struct, its id, its name, how many fields it has, and whether it is a group.
+static RECORDS: [(u32, u64, &str, u16, bool); 5] = [
+    (FLAT, 100, "Flat", 1, false),
+    (SHAPES, 103, "Shapes", 4, false),
+    (TAG, 105, "Shapes.tag", 5, true),
+    (LISTS, 107, "Lists", 4, false),
+    (NODE, 108, "Node", 3, false),
+];
 
 #[test]
-fn fields_are_found_by_name(rt: HostRuntime) -> std::result::Result<(), Fail> {
+fn schemas_hand_out_their_records(rt: HostRuntime) -> std::result::Result<(), Fail> {
     let set = new_set(rt.alloc())?;
-    let table = [
-        (FLAT, "a", Ok(0)),
-        (SHAPES, "id", Ok(0)),
-        (SHAPES, "tag", Ok(2)),
-        (SHAPES, "word", Ok(3)),
-        (SHAPES, "ID", Err(ErrorKind::FieldNotFound)),
-        (SHAPES, "wor", Err(ErrorKind::FieldNotFound)),
-        (SHAPES, "", Err(ErrorKind::FieldNotFound)),
-        (NODE, "displayName", Ok(1)),
-        (NODE, "displayname", Err(ErrorKind::FieldNotFound)),
-    ];
-    for (number, name, expected) in table {
-        let schema = schema_of(&set, number)?;
-        let found = match schema.get_field_by_name(name) {
-            Ok(field) => Ok(field.get_index()),
-            Err(error) => Err(error.kind),
-        };
-        assert_eq!(rt; found, expected, "{name}");
-        let index = schema
-            .find_field_by_name(name)?
-            .map(|field| field.get_index());
-        assert_eq!(rt; index, expected.ok(), "{name}");
+    for (number, id, name, fields, is_group) in &RECORDS {
+        let schema = schema_of(&set, *number)?;
+        let record = schema.get_proto();
+        assert!(rt;
+            record.id == *id && record.body.is_group == *is_group,
+            "{name}"
+        );
+        assert_eq!(rt; record.display_name.as_str(), *name);
+        assert_eq!(rt; schema.get_fields()?.len(), *fields, "{name}");
     }
     Ok(())
 }
 
 #[test]
+fn a_schema_gives_its_numbers(rt: HostRuntime) -> std::result::Result<(), Fail> {
+    let set = new_set(rt.alloc())?;
+    for number in 0..9 {
+        let schema = schema_of(&set, number)?;
+        let raw = RawBrandedStructSchema::from(schema);
+        assert!(rt; raw.number == number && raw.generic == number, "{number}");
+        assert!(rt; schema_of(schema.get_set(), number)? == schema, "{number}");
+        assert!(rt; set.struct_schema(number) == schema, "{number}");
+    }
+    assert!(rt; set.get_struct(9).is_none());
+    assert!(rt; set.get_enum(1).is_none());
+    Ok(())
+}
+
+static TYPES: [(u32, &str, &str); 4] = [
+    (LISTS, "raw", "Data"),
+    (LISTS, "items", "List(Struct(0))"),
+    (SHAPES, "tag", "Struct(5)"),
+    (NODE, "size", "Enum(0)"),
+];
+
+#[test]
+fn fields_have_types(rt: HostRuntime) -> std::result::Result<(), Fail> {
+    let set = new_set(rt.alloc())?;
+    for (number, name, expected) in &TYPES {
+        let field = field_of(&set, *number, name)?;
+        assert_eq!(rt; field.get_type(), read_type(expected)?, "{name}");
+    }
+    Ok(())
+}
+
+/// A struct, a name, and the index of the field of that name.
+static NAMED: [(u32, &str, Option<u16>); 9] = [
+    (FLAT, "a", Some(0)),
+    (SHAPES, "id", Some(0)),
+    (SHAPES, "tag", Some(2)),
+    (SHAPES, "word", Some(3)),
+    (SHAPES, "ID", None),
+    (SHAPES, "wor", None),
+    (SHAPES, "", None),
+    (NODE, "displayName", Some(1)),
+    (NODE, "displayname", None),
+];
+
+/// The index of the field of a name, where the query says that no field has the name.
+fn index_named(schema: StructSchema<'_>, name: &str) -> Result<Option<u16>> {
+    match schema.get_field_by_name(name) {
+        Ok(field) => Ok(Some(field.get_index())),
+        Err(error) if error.kind == ErrorKind::FieldNotFound => Ok(None),
+        Err(error) => Err(error),
+    }
+}
+
+#[test]
+fn fields_are_found_by_name(rt: HostRuntime) -> std::result::Result<(), Fail> {
+    let set = new_set(rt.alloc())?;
+    for (number, name, expected) in &NAMED {
+        let schema = schema_of(&set, *number)?;
+        assert_eq!(rt; index_named(schema, name)?, *expected, "{name}");
+        let found = schema.find_field_by_name(name)?;
+        assert_eq!(rt; index_of(found), *expected, "{name}");
+    }
+    Ok(())
+}
+
+static NAMES: [&str; 17] = [
+    "",
+    "A",
+    "a",
+    "b",
+    "bytes",
+    "d",
+    "displayName",
+    "e",
+    "id",
+    "items",
+    "j",
+    "raw",
+    "s",
+    "size",
+    "t",
+    "z",
+    "zz",
+];
+
+/// How many names a struct compares to find one of a name.
+fn compared(schema: StructSchema<'_>, name: &str) -> u32 {
+    let (_, count) = schema.find_field_by_name_counted(name);
+    count
+}
+
+#[test]
 fn few_names_are_compared(rt: HostRuntime) -> std::result::Result<(), Fail> {
     let set = new_set(rt.alloc())?;
-    let names = [
-        "",
-        "A",
-        "a",
-        "b",
-        "bytes",
-        "d",
-        "displayName",
-        "e",
-        "id",
-        "items",
-        "j",
-        "raw",
-        "s",
-        "size",
-        "t",
-        "z",
-        "zz",
-    ];
     // the struct, and how many names are compared at most
     for (number, most) in [(FLAT, 1), (NODE, 2), (LISTS, 3)] {
         let schema = schema_of(&set, number)?;
-        for name in names {
-            let (_, count) = schema.find_field_by_name_counted(name);
-            assert!(rt; count <= most, "{number} {name}: {count}");
+        for name in &NAMES {
+            assert!(rt; compared(schema, name) <= most, "{number} {name}");
         }
     }
     // among bytes, items, raw and t, half of what is left is passed over each time
+    let lists = schema_of(&set, LISTS)?;
     for (name, exact) in [("bytes", 3), ("items", 2), ("raw", 1), ("t", 2), ("zz", 2)] {
-        let (_, count) = schema_of(&set, LISTS)?.find_field_by_name_counted(name);
-        assert_eq!(rt; count, exact, "{name}");
+        assert_eq!(rt; compared(lists, name), exact, "{name}");
     }
-    let empty = empty_struct(rt.alloc())?;
+    let empty = read_set(rt.alloc(), "struct 1 0")?;
     let (found, count) = schema_of(&empty, 0)?.find_field_by_name_counted("a");
     assert!(rt; found.is_none());
     assert_eq!(rt; count, 0);
     Ok(())
 }
 
+static KINDS_OF_FIELDS: [Row; 5] = [
+    ("built-in", "fields 3", "id circle tag word"),
+    ("built-in", "members 3", "circle tag word"),
+    ("built-in", "plain 3", "id"),
+    ("built-in", "members 8", ""),
+    ("built-in", "plain 8", "id displayName size"),
+];
+
 #[test]
 fn members_are_told_from_plain_fields(rt: HostRuntime) -> std::result::Result<(), Fail> {
-    let alloc = rt.alloc();
-    let set = new_set(alloc)?;
-    let shapes = schema_of(&set, SHAPES)?;
-    let all = all_names(alloc, shapes.get_fields()?)?;
-    assert_eq!(rt; all.as_str(), "id circle tag word ");
-    let members = some_names(alloc, shapes.get_union_fields()?)?;
-    assert_eq!(rt; members.as_str(), "circle tag word ");
-    let plain = some_names(alloc, shapes.get_non_union_fields()?)?;
-    assert_eq!(rt; plain.as_str(), "id ");
-    let node = schema_of(&set, NODE)?;
-    assert!(rt; node.get_union_fields()?.is_empty());
-    assert_eq!(rt; node.get_non_union_fields()?.len(), 3);
-    Ok(())
+    answers_hold(&rt, rt.alloc(), &KINDS_OF_FIELDS)
 }
+
+/// A discriminant, and the index of the member of it.
+static MEMBERS: [(u16, Option<u16>); 5] = [
+    (0, Some(1)),
+    (1, Some(2)),
+    (2, Some(3)),
+    (3, None),
+    (65_535, None),
+];
 
 #[test]
 fn members_are_found_by_discriminant(rt: HostRuntime) -> std::result::Result<(), Fail> {
     let set = new_set(rt.alloc())?;
     let shapes = schema_of(&set, SHAPES)?;
-    let table = [
-        (0, Some(1)),
-        (1, Some(2)),
-        (2, Some(3)),
-        (3, None),
-        (65_535, None),
-    ];
-    for (discriminant, expected) in table {
-        let found = shapes.get_field_by_discriminant(discriminant)?;
-        let index = found.map(|field| field.get_index());
-        assert_eq!(rt; index, expected, "{discriminant}");
-    }
-    Ok(())
-}
-
-#[test]
-fn a_field_is_its_struct_and_index(rt: HostRuntime) -> std::result::Result<(), Fail> {
-    let set = new_set(rt.alloc())?;
-    let node = schema_of(&set, NODE)?;
-    let one = node.get_field_by_name("displayName")?;
-    let another = schema_of(&set, NODE)?.get_field_by_name("displayName")?;
-    let id = node.get_field_by_name("id")?;
-    assert!(rt; one == another);
-    assert_eq!(rt; hash_of(&one), hash_of(&another));
-    assert!(rt; one != id);
-    let other_id = schema_of(&set, SHAPES)?.get_field_by_name("id")?;
-    assert!(rt; id != other_id);
-    assert!(rt; node == schema_of(&set, NODE)?);
-    assert_eq!(rt; hash_of(&node), hash_of(&schema_of(&set, NODE)?));
-    assert!(rt; node != schema_of(&set, SHAPES)?);
-    Ok(())
-}
-
-#[test]
-fn schemas_hand_out_their_records(rt: HostRuntime) -> std::result::Result<(), Fail> {
-    let set = new_set(rt.alloc())?;
-    let table = [
-        (FLAT, 100, "Flat", 1),
-        (SHAPES, 103, "Shapes", 4),
-        (LISTS, 107, "Lists", 4),
-        (NODE, 108, "Node", 3),
-    ];
-    for (number, id, name, fields) in table {
-        let schema = schema_of(&set, number)?;
-        assert_eq!(rt; schema.get_proto().id, id);
-        assert_eq!(rt; schema.get_proto().display_name.as_str(), name);
-        assert_eq!(rt; schema.get_fields()?.len(), fields);
+    for (discriminant, expected) in &MEMBERS {
+        let found = shapes.get_field_by_discriminant(*discriminant)?;
+        assert_eq!(rt; index_of(found), *expected, "{discriminant}");
     }
     Ok(())
 }

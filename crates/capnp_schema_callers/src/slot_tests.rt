@@ -1,125 +1,110 @@
 //! Rules 4 and 5: slots lie inside their section, and defaults are of their type's kind.
 
-use crate::fixtures::{
-    FieldOf, NULL, ValueOf, broken, enum_record, enum_type, list_type, one_each, records_of,
-    refusal, refusal_of, slot, slot_with, struct_type, typed_slot,
-};
-use capnp_base::introspect::{Type, TypeVariant};
-use capnp_wire::error::{ErrorKind, Result, SchemaTable};
-use std::alloc::Global;
+use crate::verdicts::{Row, verdicts_hold};
 use std::test::Fail;
 
-/// What the check says of a struct of a data word and a pointer with one field.
-fn refusal_of_slot(alloc: Global, field: FieldOf) -> Result<Option<ErrorKind>> {
-    let fields = [field];
-    refusal_of(alloc, one_each(&fields))
-}
+static INSIDE: [Row; 11] = [
+    ("struct 1 1, a UInt32 @2", "rule 4 brand 0 field 0"),
+    ("struct 1 1, a UInt32 @1", "accepted"),
+    ("struct 1 1, a UInt32 @4294967295", "rule 4 brand 0 field 0"),
+    ("struct 1 1, a UInt16 @4", "rule 4 brand 0 field 0"),
+    ("struct 1 1, a UInt16 @3", "accepted"),
+    ("struct 1 1, a Bool @64", "rule 4 brand 0 field 0"),
+    ("struct 1 1, a Bool @63", "accepted"),
+    ("struct 1 1, a Text @1", "rule 4 brand 0 field 0"),
+    ("struct 1 1, a Text @0", "accepted"),
+    ("struct 1 1, a AnyPointer @1", "rule 4 brand 0 field 0"),
+    ("struct 1 1, a Void @4294967295", "accepted"),
+];
 
 #[test]
-fn slots_lie_inside(rt: HostRuntime) -> std::result::Result<(), Fail> {
-    let table = [
-        (TypeVariant::UInt32, 2, false),
-        (TypeVariant::UInt32, 1, true),
-        (TypeVariant::UInt32, 4_294_967_295, false),
-        (TypeVariant::UInt16, 4, false),
-        (TypeVariant::UInt16, 3, true),
-        (TypeVariant::Bool, 64, false),
-        (TypeVariant::Bool, 63, true),
-        (TypeVariant::Text, 1, false),
-        (TypeVariant::Text, 0, true),
-        (TypeVariant::AnyPointer, 1, false),
-        (TypeVariant::Void, 4_294_967_295, true),
-    ];
-    for (variant, offset, inside) in table {
-        let expected = if inside {
-            None
-        } else {
-            broken(4, SchemaTable::Brand, 0, 0)
-        };
-        let answer = refusal_of_slot(rt.alloc(), slot("a", offset, variant))?;
-        assert_eq!(rt; answer, expected, "{variant:?} at {offset}");
-    }
-    Ok(())
+fn slots_lie_inside(rt: HostRuntime) -> Result<(), Fail> {
+    verdicts_hold(&rt, rt.alloc(), &INSIDE)
 }
 
-#[test]
-fn list_slots_are_pointers(rt: HostRuntime) -> std::result::Result<(), Fail> {
-    let voids = list_type(Type::from(TypeVariant::Void));
-    assert_eq!(rt;
-        refusal_of_slot(rt.alloc(), typed_slot("a", 1, voids))?,
-        broken(4, SchemaTable::Brand, 0, 0)
-    );
-    assert_eq!(rt;
-        refusal_of_slot(rt.alloc(), typed_slot("a", 0, voids))?,
-        None
-    );
-    Ok(())
-}
+static LISTS: [Row; 2] = [
+    ("struct 1 1, a List(Void) @1", "rule 4 brand 0 field 0"),
+    ("struct 1 1, a List(Void) @0", "accepted"),
+];
 
 #[test]
-fn defaults_are_of_their_kind(rt: HostRuntime) -> std::result::Result<(), Fail> {
-    let table = [
-        (TypeVariant::UInt16, ValueOf::Int16(0), false),
-        (TypeVariant::UInt16, ValueOf::UInt16(9), true),
-        (TypeVariant::UInt16, ValueOf::UInt32(0), false),
-        (TypeVariant::UInt16, ValueOf::Enum(0), false),
-        (TypeVariant::UInt16, ValueOf::AnyPointer(&NULL), false),
-        (TypeVariant::Int16, ValueOf::Int16(-1), true),
-        (TypeVariant::Void, ValueOf::Bool(false), false),
-        (TypeVariant::Bool, ValueOf::Void, false),
-        (TypeVariant::Text, ValueOf::AnyPointer(&NULL), true),
-        (TypeVariant::Text, ValueOf::Data(b"hi"), false),
-        (TypeVariant::Text, ValueOf::Text(b"hi"), true),
-        (TypeVariant::Data, ValueOf::Text(b"hi"), false),
-        (TypeVariant::AnyPointer, ValueOf::Text(b""), false),
-        (TypeVariant::AnyPointer, ValueOf::AnyPointer(&NULL), true),
-    ];
-    for (variant, default, is_kind) in table {
-        let expected = if is_kind {
-            None
-        } else {
-            broken(5, SchemaTable::Brand, 0, 0)
-        };
-        let field = slot_with("a", 0, Type::from(variant), default);
-        let answer = refusal_of_slot(rt.alloc(), field)?;
-        assert_eq!(rt; answer, expected, "{variant:?}");
-    }
-    Ok(())
+fn list_slots_are_pointers(rt: HostRuntime) -> Result<(), Fail> {
+    verdicts_hold(&rt, rt.alloc(), &LISTS)
 }
 
-#[test]
-fn struct_and_list_defaults_are_of_their_kind(rt: HostRuntime) -> std::result::Result<(), Fail> {
-    let list = list_type(Type::from(TypeVariant::UInt8));
-    let wrong = broken(5, SchemaTable::Brand, 0, 0);
-    let table = [
-        (struct_type(0), ValueOf::Struct(&NULL), None),
-        (struct_type(0), ValueOf::AnyPointer(&NULL), None),
-        (struct_type(0), ValueOf::List(&NULL), wrong),
-        (list, ValueOf::List(&NULL), None),
-        (list, ValueOf::AnyPointer(&NULL), None),
-        (list, ValueOf::Struct(&NULL), wrong),
-        (list, ValueOf::Data(b""), wrong),
-    ];
-    for (field_type, default, expected) in table {
-        let field = slot_with("a", 0, field_type, default);
-        assert_eq!(rt; refusal_of_slot(rt.alloc(), field)?, expected);
-    }
-    Ok(())
-}
+static DEFAULTS: [Row; 14] = [
+    (
+        "struct 1 1, a UInt16 @0 =Int16(0)",
+        "rule 5 brand 0 field 0",
+    ),
+    ("struct 1 1, a UInt16 @0 =UInt16(9)", "accepted"),
+    (
+        "struct 1 1, a UInt16 @0 =UInt32(0)",
+        "rule 5 brand 0 field 0",
+    ),
+    ("struct 1 1, a UInt16 @0 =Enum(0)", "rule 5 brand 0 field 0"),
+    (
+        "struct 1 1, a UInt16 @0 =AnyPointer(null)",
+        "rule 5 brand 0 field 0",
+    ),
+    ("struct 1 1, a Int16 @0 =Int16(-1)", "accepted"),
+    (
+        "struct 1 1, a Void @0 =Bool(false)",
+        "rule 5 brand 0 field 0",
+    ),
+    ("struct 1 1, a Bool @0 =Void", "rule 5 brand 0 field 0"),
+    ("struct 1 1, a Text @0 =AnyPointer(null)", "accepted"),
+    ("struct 1 1, a Text @0 =Data(hi)", "rule 5 brand 0 field 0"),
+    ("struct 1 1, a Text @0 =Text(hi)", "accepted"),
+    ("struct 1 1, a Data @0 =Text(hi)", "rule 5 brand 0 field 0"),
+    (
+        "struct 1 1, a AnyPointer @0 =Text()",
+        "rule 5 brand 0 field 0",
+    ),
+    ("struct 1 1, a AnyPointer @0 =AnyPointer(null)", "accepted"),
+];
 
 #[test]
-fn enum_defaults_may_be_past_the_enumerants(rt: HostRuntime) -> std::result::Result<(), Fail> {
-    let alloc = rt.alloc();
-    let fields = [slot_with("a", 0, enum_type(0), ValueOf::Enum(9))];
-    let mut records = records_of(alloc, one_each(&fields))?;
-    records.enums.push(enum_record(alloc, &["red", "blue"])?)?;
-    assert_eq!(rt; refusal(alloc, records)?, None);
-    let fields = [slot_with("a", 0, enum_type(0), ValueOf::UInt16(0))];
-    let mut records = records_of(alloc, one_each(&fields))?;
-    records.enums.push(enum_record(alloc, &["red", "blue"])?)?;
-    assert_eq!(rt;
-        refusal(alloc, records)?,
-        broken(5, SchemaTable::Brand, 0, 0)
-    );
-    Ok(())
+fn defaults_are_of_their_kind(rt: HostRuntime) -> Result<(), Fail> {
+    verdicts_hold(&rt, rt.alloc(), &DEFAULTS)
+}
+
+static STRUCTS_AND_LISTS: [Row; 7] = [
+    ("struct 1 1, a Struct(0) @0 =Struct(null)", "accepted"),
+    ("struct 1 1, a Struct(0) @0 =AnyPointer(null)", "accepted"),
+    (
+        "struct 1 1, a Struct(0) @0 =List(null)",
+        "rule 5 brand 0 field 0",
+    ),
+    ("struct 1 1, a List(UInt8) @0 =List(null)", "accepted"),
+    ("struct 1 1, a List(UInt8) @0 =AnyPointer(null)", "accepted"),
+    (
+        "struct 1 1, a List(UInt8) @0 =Struct(null)",
+        "rule 5 brand 0 field 0",
+    ),
+    (
+        "struct 1 1, a List(UInt8) @0 =Data()",
+        "rule 5 brand 0 field 0",
+    ),
+];
+
+#[test]
+fn struct_and_list_defaults_are_of_their_kind(rt: HostRuntime) -> Result<(), Fail> {
+    verdicts_hold(&rt, rt.alloc(), &STRUCTS_AND_LISTS)
+}
+
+static ENUMS: [Row; 2] = [
+    (
+        "struct 1 1, a Enum(0) @0 =Enum(9); enum red blue",
+        "accepted",
+    ),
+    (
+        "struct 1 1, a Enum(0) @0 =UInt16(0); enum red blue",
+        "rule 5 brand 0 field 0",
+    ),
+];
+
+#[test]
+fn enum_defaults_may_be_past_the_enumerants(rt: HostRuntime) -> Result<(), Fail> {
+    verdicts_hold(&rt, rt.alloc(), &ENUMS)
 }
