@@ -4,7 +4,7 @@
 //! `run::run` on a builder or `message::run_copied`. Both times the replies and the message have to be the same.
 ghost use Rattle.capnp_schema.specs.StructHandles.{IsStruct};
 
-use crate::rows::{asked_in, calls_of, first_wrong};
+use crate::rows::{Asked, asked_in, calls_of, first_wrong};
 use crate::streams::run_on_stream;
 use capnp_dynamic::dynamic_struct;
 use capnp_dynamic::dynamic_value::Reader as Value;
@@ -133,12 +133,24 @@ fn left_under(
     })
 }
 
-/// What the calls of a case leave. `SetGiven` sets what is given.
+/// What the calls that are asked leave.
+fn left_of(
+    alloc: Global,
+    schema: StructSchema<'_>,
+    case: &Case<'_>,
+    asked: &[Asked<'_>],
+) -> Result<Left>
+    requires { IsStruct schema }
+{
+    let calls = calls_of(alloc, asked)?;
+    left_under(alloc, schema, case, calls.as_slice())
+}
+
+/// What the calls of a case leave. `Given` is what is given.
 pub fn left_by(alloc: Global, set: &SchemaSet, given: Value<'_>, case: &Case<'_>) -> Result<Left> {
     let schema = schema_of(set, case.brand)?;
     let asked = asked_in(alloc, case.rows, given)?;
-    let calls = calls_of(alloc, asked.as_slice())?;
-    left_under(alloc, schema, case, calls.as_slice())
+    left_of(alloc, schema, case, asked.as_slice())
 }
 
 fn is_left(rt: &impl Abort, case: &Case<'_>, left: &Left) {

@@ -5,7 +5,7 @@ ghost use Rattle.capnp_schema.specs.StructHandles.{IsStruct};
 
 use crate::cases::root;
 use crate::fixtures::{ENTERED, LISTED, LISTS, LOOP, NUMBERS, SHAPES};
-use crate::rows::{asked_in, calls_of, first_wrong};
+use crate::rows::{Asked, asked_in, calls_of, first_wrong};
 use capnp_dynamic::dynamic_value::Reader as Value;
 use capnp_dynamic::printer::print;
 use capnp_run::calls::{Call, Reply};
@@ -106,12 +106,19 @@ fn meet(alloc: Global, schema: StructSchema<'_>, start: &[u8], calls: &[Call<'_>
     })
 }
 
-/// The calls of a meeting on a copy of its message. `SetGiven` sets what is given.
+/// The calls that are asked, on a copy of a meeting's message.
+fn met_of(alloc: Global, schema: StructSchema<'_>, start: &[u8], asked: &[Asked<'_>]) -> Result<Met>
+    requires { IsStruct schema }
+{
+    let calls = calls_of(alloc, asked)?;
+    meet(alloc, schema, start, calls.as_slice())
+}
+
+/// The calls of a meeting on a copy of its message. `Given` is what is given.
 fn met_by(alloc: Global, set: &SchemaSet, given: Value<'_>, meeting: &Meeting<'_>) -> Result<Met> {
     let schema = schema_of(set, meeting.brand)?;
     let asked = asked_in(alloc, meeting.rows, given)?;
-    let calls = calls_of(alloc, asked.as_slice())?;
-    meet(alloc, schema, meeting.start, calls.as_slice())
+    met_of(alloc, schema, meeting.start, asked.as_slice())
 }
 
 /// Whether replies are as rows say; where memory is refused to their texts, these are made again.
