@@ -1,268 +1,159 @@
 //! Defaults that are the same, and their nearest neighbours that aren't.
 
-use crate::fixtures::{follows, two_pointers, two_structs};
-use capnp_base::introspect::{Type, TypeVariant};
-use capnp_schema_callers::fixtures::{
-    NULL, ValueOf, add_struct, enum_type, list_type, one_word, slot, slot_with, struct_type,
-};
-use capnp_wire::error::Result;
-use std::alloc::Global;
-use std::test::Fail;
+use crate::script::{pairs_hold, rows_hold};
 
-/// A struct of one data word, which is 3.
-static THREE: [u8; 16] = [0, 0, 0, 0, 1, 0, 0, 0, 3, 0, 0, 0, 0, 0, 0, 0];
+/// The struct 2, which defaults are of, and the enum.
+const OTHERS: &str = "1 0: n u16 0 | enum red blue";
 
-/// The same struct a word further on, with a word after it.
-static THREE_APART: [u8; 32] = [
-    4, 0, 0, 0, 1, 0, 0, 0, 255, 255, 255, 255, 255, 255, 255, 255, 3, 0, 0, 0, 0, 0, 0, 0, 7, 0,
-    0, 0, 0, 0, 0, 0,
+/// A field with a default, and with the default that it has now.
+static TYPE_ROWS: [(&str, &str, bool); 20] = [
+    ("1 2: f bool 0 = true", "1 2: f bool 0 = true", true),
+    ("1 2: f bool 0 = true", "1 2: f bool 0 = false", false),
+    ("1 2: f i8 0 = -1", "1 2: f i8 0 = -1", true),
+    ("1 2: f i8 0 = -1", "1 2: f i8 0 = 1", false),
+    ("1 2: f u64 0 = 7", "1 2: f u64 0 = 8", false),
+    ("1 2: f enum#0 0 = 1", "1 2: f enum#0 0 = 1", true),
+    ("1 2: f enum#0 0 = 1", "1 2: f enum#0 0 = 0", false),
+    ("1 2: f text 0 = ab", "1 2: f text 0 = ab", true),
+    ("1 2: f text 0 = ab", "1 2: f text 0 = ac", false),
+    ("1 2: f text 0", "1 2: f text 0 = untyped", false),
+    ("1 2: f data 0 = ab", "1 2: f data 0 = a", false),
+    (
+        "1 2: f struct#2 0 = three",
+        "1 2: f struct#2 0 = three_apart",
+        true,
+    ),
+    (
+        "1 2: f struct#2 0 = three",
+        "1 2: f struct#2 0 = four",
+        false,
+    ),
+    ("1 2: f struct#2 0 = three", "1 2: f struct#2 0", false),
+    ("1 2: f struct#2 0", "1 2: f struct#2 0 = null_apart", true),
+    ("1 2: f struct#2 0", "1 2: f struct#2 0 = untyped", false),
+    ("1 2: f u8*1 0 = bytes", "1 2: f u8*1 0 = bytes_apart", true),
+    ("1 2: f u8*1 0 = bytes", "1 2: f u8*1 0 = byte", false),
+    (
+        "1 2: f u8*1 0 = untyped",
+        "1 2: f u8*1 0 = untyped null_apart",
+        true,
+    ),
+    ("1 2: f u8*1 0 = untyped", "1 2: f u8*1 0", false),
 ];
-
-/// A struct of one data word, which is 4.
-static FOUR: [u8; 16] = [0, 0, 0, 0, 1, 0, 0, 0, 4, 0, 0, 0, 0, 0, 0, 0];
-
-/// A list of the bytes 5 and 6.
-static BYTES: [u8; 16] = [1, 0, 0, 0, 18, 0, 0, 0, 5, 6, 0, 0, 0, 0, 0, 0];
-
-/// The same list, with bits after its last byte, a word further on.
-static BYTES_APART: [u8; 24] = [
-    5, 0, 0, 0, 18, 0, 0, 0, 9, 9, 9, 9, 9, 9, 9, 9, 5, 6, 0, 0, 0, 0, 0, 0,
-];
-
-/// A list of the byte 5.
-static BYTE: [u8; 16] = [1, 0, 0, 0, 10, 0, 0, 0, 5, 0, 0, 0, 0, 0, 0, 0];
-
-/// A null pointer, with a word after it.
-static NULL_APART: [u8; 16] = [0, 0, 0, 0, 0, 0, 0, 0, 1, 0, 0, 0, 0, 0, 0, 0];
-
-/// A struct of a pointer to a struct of one word, which is 3.
-static NESTED: [u8; 24] = [
-    0, 0, 0, 0, 0, 0, 1, 0, 0, 0, 0, 0, 1, 0, 0, 0, 3, 0, 0, 0, 0, 0, 0, 0,
-];
-
-/// The same, where the inner struct is 4.
-static NESTED_FOUR: [u8; 24] = [
-    0, 0, 0, 0, 0, 0, 1, 0, 0, 0, 0, 0, 1, 0, 0, 0, 4, 0, 0, 0, 0, 0, 0, 0,
-];
-
-/// The same, where the inner pointer is null.
-static NESTED_NULL: [u8; 16] = [0, 0, 0, 0, 0, 0, 1, 0, 0, 0, 0, 0, 0, 0, 0, 0];
-
-/// A struct of two pointers to one struct of one word, which is 3.
-static SHARED: [u8; 32] = [
-    0, 0, 0, 0, 0, 0, 2, 0, 4, 0, 0, 0, 1, 0, 0, 0, 0, 0, 0, 0, 1, 0, 0, 0, 3, 0, 0, 0, 0, 0, 0, 0,
-];
-
-/// A struct of two pointers to two such structs.
-static COPIES: [u8; 40] = [
-    0, 0, 0, 0, 0, 0, 2, 0, 4, 0, 0, 0, 1, 0, 0, 0, 4, 0, 0, 0, 1, 0, 0, 0, 3, 0, 0, 0, 0, 0, 0, 0,
-    3, 0, 0, 0, 0, 0, 0, 0,
-];
-
-/// The same, where the second is 4.
-static COPIES_FOUR: [u8; 40] = [
-    0, 0, 0, 0, 0, 0, 2, 0, 4, 0, 0, 0, 1, 0, 0, 0, 4, 0, 0, 0, 1, 0, 0, 0, 3, 0, 0, 0, 0, 0, 0, 0,
-    4, 0, 0, 0, 0, 0, 0, 0,
-];
-
-/// Whether a struct with a field of a default has a successor whose field has another.
-fn default_follows(alloc: Global, of: Type, older: ValueOf, newer: ValueOf) -> Result<bool> {
-    let number = [slot("n", 0, TypeVariant::UInt16)];
-    let one = [slot_with("f", 0, of, older)];
-    let other = [slot_with("f", 0, of, newer)];
-    let mut records = two_structs(alloc, two_pointers(1, &one), two_pointers(1, &other))?;
-    add_struct(alloc, &mut records, 2, &one_word(&number))?;
-    follows(alloc, records)
-}
 
 #[test]
-fn defaults_of_one_type(rt: HostRuntime) -> std::result::Result<(), Fail> {
-    let simple = |variant| Type::from(variant);
-    let bytes = list_type(Type::from(TypeVariant::UInt8));
-    let inner = struct_type(2);
-    let table = [
-        (
-            simple(TypeVariant::Bool),
-            ValueOf::Bool(true),
-            ValueOf::Bool(true),
-            true,
-        ),
-        (
-            simple(TypeVariant::Bool),
-            ValueOf::Bool(true),
-            ValueOf::Bool(false),
-            false,
-        ),
-        (
-            simple(TypeVariant::Int8),
-            ValueOf::Int8(-1),
-            ValueOf::Int8(-1),
-            true,
-        ),
-        (
-            simple(TypeVariant::Int8),
-            ValueOf::Int8(-1),
-            ValueOf::Int8(1),
-            false,
-        ),
-        (
-            simple(TypeVariant::UInt64),
-            ValueOf::UInt64(7),
-            ValueOf::UInt64(8),
-            false,
-        ),
-        (enum_type(0), ValueOf::Enum(1), ValueOf::Enum(1), true),
-        (enum_type(0), ValueOf::Enum(1), ValueOf::Enum(0), false),
-        (
-            simple(TypeVariant::Text),
-            ValueOf::Text(b"ab"),
-            ValueOf::Text(b"ab"),
-            true,
-        ),
-        (
-            simple(TypeVariant::Text),
-            ValueOf::Text(b"ab"),
-            ValueOf::Text(b"ac"),
-            false,
-        ),
-        (
-            simple(TypeVariant::Text),
-            ValueOf::Text(b""),
-            ValueOf::AnyPointer(&NULL),
-            false,
-        ),
-        (
-            simple(TypeVariant::Data),
-            ValueOf::Data(b"ab"),
-            ValueOf::Data(b"a"),
-            false,
-        ),
-        (
-            inner,
-            ValueOf::Struct(&THREE),
-            ValueOf::Struct(&THREE_APART),
-            true,
-        ),
-        (
-            inner,
-            ValueOf::Struct(&THREE),
-            ValueOf::Struct(&FOUR),
-            false,
-        ),
-        (
-            inner,
-            ValueOf::Struct(&THREE),
-            ValueOf::Struct(&NULL),
-            false,
-        ),
-        (
-            inner,
-            ValueOf::Struct(&NULL),
-            ValueOf::Struct(&NULL_APART),
-            true,
-        ),
-        (
-            inner,
-            ValueOf::Struct(&NULL),
-            ValueOf::AnyPointer(&NULL),
-            false,
-        ),
-        (
-            bytes,
-            ValueOf::List(&BYTES),
-            ValueOf::List(&BYTES_APART),
-            true,
-        ),
-        (bytes, ValueOf::List(&BYTES), ValueOf::List(&BYTE), false),
-        (
-            bytes,
-            ValueOf::AnyPointer(&NULL),
-            ValueOf::AnyPointer(&NULL_APART),
-            true,
-        ),
-        (
-            bytes,
-            ValueOf::AnyPointer(&NULL),
-            ValueOf::List(&NULL),
-            false,
-        ),
-    ];
-    for ((of, older, newer, answer), row) in table.into_iter().zip(0u32..) {
-        let found = default_follows(rt.alloc(), of, older, newer)?;
-        assert_eq!(rt; found, answer, "{row}");
-    }
-    Ok(())
+fn defaults_of_one_type(rt: HostRuntime) {
+    pairs_hold(&rt, rt.alloc(), OTHERS, &TYPE_ROWS);
 }
 
-#[test]
-fn defaults_that_are_integers(rt: HostRuntime) -> std::result::Result<(), Fail> {
-    // of each kind two numbers that differ in one bit, the highest or the lowest
-    let table = [
-        (TypeVariant::Int8, ValueOf::Int8(1), ValueOf::Int8(-127)),
-        (
-            TypeVariant::Int16,
-            ValueOf::Int16(1),
-            ValueOf::Int16(-32767),
-        ),
-        (
-            TypeVariant::Int32,
-            ValueOf::Int32(1),
-            ValueOf::Int32(-2_147_483_647),
-        ),
-        (
-            TypeVariant::Int64,
-            ValueOf::Int64(1),
-            ValueOf::Int64(-9_223_372_036_854_775_807),
-        ),
-        (TypeVariant::UInt8, ValueOf::UInt8(255), ValueOf::UInt8(254)),
-        (
-            TypeVariant::UInt16,
-            ValueOf::UInt16(65_535),
-            ValueOf::UInt16(65_534),
-        ),
-        (
-            TypeVariant::UInt32,
-            ValueOf::UInt32(0),
-            ValueOf::UInt32(2_147_483_648),
-        ),
-        (
-            TypeVariant::UInt64,
-            ValueOf::UInt64(0),
-            ValueOf::UInt64(9_223_372_036_854_775_808),
-        ),
-    ];
-    let alloc = rt.alloc();
-    for ((variant, one, other), row) in table.into_iter().zip(0u32..) {
-        let of = Type::from(variant);
-        assert!(rt; default_follows(alloc, of, one, one)?, "{row}");
-        assert!(rt; default_follows(alloc, of, other, other)?, "{row}");
-        assert!(rt; !default_follows(alloc, of, one, other)?, "{row}");
-        assert!(rt; !default_follows(alloc, of, other, one)?, "{row}");
-    }
-    let void = Type::from(TypeVariant::Void);
-    assert!(rt; default_follows(alloc, void, ValueOf::Void, ValueOf::Void)?);
-    Ok(())
-}
+/// Of structs of which the first two have one default, and the last two another.
+const EACH_AND_BOTH: &str = "follows 0 1; follows 2 3; follows 0 2; follows 2 0";
+
+/// Of each kind of integer two numbers that differ in one bit, the highest or the lowest.
+static INTEGER_ROWS: [(&str, &str, &str); 9] = [
+    (
+        "1 2: f i8 0 = 1 | 1 2: f i8 0 = 1 | 1 2: f i8 0 = -127 | 1 2: f i8 0 = -127",
+        EACH_AND_BOTH,
+        "true; true; false; false",
+    ),
+    (
+        "1 2: f i16 0 = 1 | 1 2: f i16 0 = 1 | 1 2: f i16 0 = -32767 | 1 2: f i16 0 = -32767",
+        EACH_AND_BOTH,
+        "true; true; false; false",
+    ),
+    (
+        "1 2: f i32 0 = 1 | 1 2: f i32 0 = 1 | 1 2: f i32 0 = -2147483647 | 1 2: f i32 0 = -2147483647",
+        EACH_AND_BOTH,
+        "true; true; false; false",
+    ),
+    (
+        "1 2: f i64 0 = 1 | 1 2: f i64 0 = 1 | 1 2: f i64 0 = -9223372036854775807 | 1 2: f i64 0 = -9223372036854775807",
+        EACH_AND_BOTH,
+        "true; true; false; false",
+    ),
+    (
+        "1 2: f u8 0 = 255 | 1 2: f u8 0 = 255 | 1 2: f u8 0 = 254 | 1 2: f u8 0 = 254",
+        EACH_AND_BOTH,
+        "true; true; false; false",
+    ),
+    (
+        "1 2: f u16 0 = 65535 | 1 2: f u16 0 = 65535 | 1 2: f u16 0 = 65534 | 1 2: f u16 0 = 65534",
+        EACH_AND_BOTH,
+        "true; true; false; false",
+    ),
+    (
+        "1 2: f u32 0 = 0 | 1 2: f u32 0 = 0 | 1 2: f u32 0 = 2147483648 | 1 2: f u32 0 = 2147483648",
+        EACH_AND_BOTH,
+        "true; true; false; false",
+    ),
+    (
+        "1 2: f u64 0 = 0 | 1 2: f u64 0 = 0 | 1 2: f u64 0 = 9223372036854775808 | 1 2: f u64 0 = 9223372036854775808",
+        EACH_AND_BOTH,
+        "true; true; false; false",
+    ),
+    ("1 2: f void 0 | 1 2: f void 0", "follows 0 1", "true"),
+];
 
 #[test]
-fn defaults_with_parts(rt: HostRuntime) -> std::result::Result<(), Fail> {
-    let table = [
-        (NESTED.as_slice(), NESTED.as_slice(), true),
-        (NESTED.as_slice(), NESTED_FOUR.as_slice(), false),
-        (NESTED.as_slice(), NESTED_NULL.as_slice(), false),
-        (NESTED_NULL.as_slice(), NESTED_NULL.as_slice(), true),
-        (SHARED.as_slice(), SHARED.as_slice(), true),
-        (SHARED.as_slice(), COPIES.as_slice(), true),
-        (COPIES.as_slice(), SHARED.as_slice(), true),
-        (SHARED.as_slice(), COPIES_FOUR.as_slice(), false),
-        (COPIES.as_slice(), COPIES_FOUR.as_slice(), false),
-        (SHARED.as_slice(), NESTED.as_slice(), false),
-    ];
-    for ((older, newer, answer), row) in table.into_iter().zip(0u32..) {
-        let older = ValueOf::Struct(older);
-        let newer = ValueOf::Struct(newer);
-        let found = default_follows(rt.alloc(), struct_type(2), older, newer)?;
-        assert_eq!(rt; found, answer, "{row}");
-    }
-    Ok(())
+fn defaults_that_are_integers(rt: HostRuntime) {
+    rows_hold(&rt, rt.alloc(), &INTEGER_ROWS);
+}
+
+/// Defaults that have pointers of their own.
+static PART_ROWS: [(&str, &str, bool); 10] = [
+    (
+        "1 2: f struct#2 0 = nested",
+        "1 2: f struct#2 0 = nested",
+        true,
+    ),
+    (
+        "1 2: f struct#2 0 = nested",
+        "1 2: f struct#2 0 = nested_four",
+        false,
+    ),
+    (
+        "1 2: f struct#2 0 = nested",
+        "1 2: f struct#2 0 = nested_null",
+        false,
+    ),
+    (
+        "1 2: f struct#2 0 = nested_null",
+        "1 2: f struct#2 0 = nested_null",
+        true,
+    ),
+    (
+        "1 2: f struct#2 0 = shared",
+        "1 2: f struct#2 0 = shared",
+        true,
+    ),
+    (
+        "1 2: f struct#2 0 = shared",
+        "1 2: f struct#2 0 = copies",
+        true,
+    ),
+    (
+        "1 2: f struct#2 0 = copies",
+        "1 2: f struct#2 0 = shared",
+        true,
+    ),
+    (
+        "1 2: f struct#2 0 = shared",
+        "1 2: f struct#2 0 = copies_four",
+        false,
+    ),
+    (
+        "1 2: f struct#2 0 = copies",
+        "1 2: f struct#2 0 = copies_four",
+        false,
+    ),
+    (
+        "1 2: f struct#2 0 = shared",
+        "1 2: f struct#2 0 = nested",
+        false,
+    ),
+];
+
+#[test]
+fn defaults_with_parts(rt: HostRuntime) {
+    pairs_hold(&rt, rt.alloc(), OTHERS, &PART_ROWS);
 }

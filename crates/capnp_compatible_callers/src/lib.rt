@@ -7,9 +7,13 @@ mod default_tests;
 #[cfg(test)]
 mod evolution_tests;
 #[cfg(test)]
-mod fixtures;
-#[cfg(test)]
 mod memory_tests;
+#[cfg(test)]
+mod messages;
+#[cfg(test)]
+mod schemas;
+#[cfg(test)]
+mod script;
 #[cfg(test)]
 mod shape_tests;
 #[cfg(test)]

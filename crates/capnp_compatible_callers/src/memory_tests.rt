@@ -1,22 +1,24 @@
 //! The memory that is taken, and sets that are large.
 
 use crate::brands::{between, is_successor};
-use crate::fixtures::{ADDED, MIXED, grown_fields, sections, set_with, two_pointers};
+use crate::evolution_tests::GROWN;
+use crate::messages::root_of;
+use crate::schemas::set_of;
 use capnp_base::introspect::TypeVariant;
 use capnp_dynamic::dynamic_struct;
 use capnp_dynamic::dynamic_value::Reader as Value;
 use capnp_schema::set::SchemaSet;
 use capnp_schema_callers::fixtures::{
-    FieldOf, add_struct, list_type, records_of, slot, struct_type, typed_slot,
+    FieldOf, StructOf, add_struct, list_type, one_word, records_of, slot, struct_type, typed_slot,
 };
 use capnp_wire::error::{ErrorKind, Result};
 use std::alloc::Global;
 use std::test::Fail;
 
-/// A `Mixed` whose `a` is 5, with `y` active and 9.
-static NINE: [u8; 32] = [
-    0, 0, 0, 0, 3, 0, 0, 0, 0, 0, 0, 0, 1, 0, 1, 0, 5, 0, 1, 0, 9, 0, 0, 0, 0, 0, 0, 0, 0, 0, 0, 0,
-];
+/// A struct of the built-in set, and the one that it became in `GROWN`.
+const MIXED: u32 = 1;
+
+const GROWN_MIXED: u32 = 9;
 
 /// The number of a field by its name; nothing where it is no number of 16 or 8 bits.
 fn number(reader: dynamic_struct::Reader<'_>, name: &str) -> Result<Option<u16>> {
@@ -31,14 +33,13 @@ fn number(reader: dynamic_struct::Reader<'_>, name: &str) -> Result<Option<u16>>
 // refused for memory alone, and once there is a pair both reads succeed.
 #[test]
 fn narrow_and_widen_take_no_memory(rt: HostRuntime) -> std::result::Result<(), Fail> {
-    let fields = grown_fields();
-    let made = set_with(rt.alloc(), two_pointers(1, &fields).union(3, 1));
+    let made = set_of(rt.alloc(), &[GROWN]);
     let Ok(set) = made else {
         assert!(rt; made.is_err_and(|error| error.kind == ErrorKind::OutOfMemory));
         return Ok(());
     };
-    let part = sections(rt.alloc(), &NINE)?;
-    let found = between(rt.alloc(), &set, MIXED, ADDED);
+    let part = root_of(rt.alloc(), "nine")?;
+    let found = between(rt.alloc(), &set, MIXED, GROWN_MIXED);
     let Ok(Some(pair)) = found else {
         assert!(rt; found.is_err_and(|error| error.kind == ErrorKind::OutOfMemory));
         return Ok(());
@@ -46,10 +47,15 @@ fn narrow_and_widen_take_no_memory(rt: HostRuntime) -> std::result::Result<(), F
     let older = dynamic_struct::Reader::new(part, set.struct_schema(MIXED));
     let newer = pair.widen(older);
     let again = pair.narrow(newer);
-    assert_eq!(rt; number(newer, "y")?, Some(9));
-    assert_eq!(rt; number(newer, "c")?, Some(0));
-    assert_eq!(rt; number(again, "a")?, Some(5));
-    assert_eq!(rt; number(again, "y")?, Some(9));
+    let numbers = [
+        (newer, "y", 9),
+        (newer, "c", 0),
+        (again, "a", 5),
+        (again, "y", 9),
+    ];
+    for (reader, name, value) in numbers {
+        assert_eq!(rt; number(reader, name)?, Some(value), "{name}");
+    }
     Ok(())
 }
 
@@ -62,13 +68,21 @@ fn link(next: u32, other: u32) -> [FieldOf; 3] {
     ]
 }
 
+/// A struct of a data word and two pointers.
+fn two_pointers<'a>(fields: &'a [FieldOf]) -> StructOf<'a> {
+    StructOf {
+        pointers: 2,
+        ..one_word(fields)
+    }
+}
+
 /// A set of so many structs. Each names the next one, and another, and from each all are named at last.
 fn ring(alloc: Global, count: u32) -> Result<SchemaSet> {
     let at = |number: u32| number.checked_rem(count).unwrap_or(0);
-    let mut records = records_of(alloc, two_pointers(1, &link(at(1), at(3))))?;
+    let mut records = records_of(alloc, two_pointers(&link(at(1), at(3))))?;
     for number in 1..count {
         let fields = link(at(number + 1), at(number.wrapping_mul(7).wrapping_add(3)));
-        add_struct(alloc, &mut records, number, &two_pointers(1, &fields))?;
+        add_struct(alloc, &mut records, number, &two_pointers(&fields))?;
     }
     SchemaSet::new(alloc, records.nodes, records.brands, records.enums)
 }
