@@ -1,153 +1,107 @@
 //! Annotations under their types, and enumerants.
 
-use crate::fixtures::{Seen, answer_of};
+use crate::messages::message_of;
+use crate::script::{answers_about, rows_hold};
 use capnp_base::introspect::{Type, TypeVariant};
-use capnp_dynamic::dynamic_value::{AnnotationValue, Enum, Reader};
 use capnp_schema::set::SchemaSet;
-use capnp_schema_callers::built_in::new_set;
 use capnp_schema_callers::fixtures::{
-    NULL, Spot, ValueOf, annotate, enum_type, list_type, struct_type, two_of_each, value_record,
+    Spot, ValueOf, annotate, enum_type, list_type, struct_type, two_of_each, value_record,
 };
 use capnp_wire::error::Result;
 use std::alloc::Global;
 use std::test::Fail;
 
-/// The struct with annotations, and the enum, by their numbers.
-const NODE: u32 = 8;
-
-const ELEMENT_SIZE: u32 = 0;
+static NOTE_ROWS: [(&str, &str, &str); 2] = [
+    ("node", "note 7", "text 'note'"),
+    // a number is answered whatever the type, an enum under its type alone
+    (
+        "node",
+        "note id 8; note id 9; note id 10; note id 11",
+        "u16 5; enum 2; refused 21; none",
+    ),
+];
 
 #[test]
-fn annotations_are_read_under_their_types(rt: HostRuntime) -> std::result::Result<(), Fail> {
-    let set = new_set(rt.alloc())?;
-    let schema = set.struct_schema(NODE);
-    let Some(note) = schema.get_annotations()?.find(7) else {
-        assert!(rt; false, "the struct has annotation 7");
-        return Ok(());
-    };
-    assert_eq!(rt; answer_of(note.get_value()), Seen::Text(4, b'n'));
-    let annotations = schema.get_field_by_name("id")?.get_annotations()?;
-    // a number is answered whatever the type, an enum under its type alone
-    let table = [
-        (8, Seen::Unsigned(5)),
-        (9, Seen::Enum(2)),
-        (10, Seen::Refused(21)),
-    ];
-    for (id, value) in table {
-        match annotations.find(id) {
-            Some(found) => assert_eq!(rt; answer_of(found.get_value()), value, "{id}"),
-            None => assert!(rt; false, "the field has annotation {id}"),
-        }
-    }
-    assert!(rt; annotations.find(11).is_none());
-    Ok(())
+fn annotations_are_read_under_their_types(rt: HostRuntime) {
+    rows_hold(&rt, rt.alloc(), &NOTE_ROWS);
 }
 
+static ENUM_ROWS: [(&str, &str, &str); 1] = [(
+    "node",
+    "enumerant 2; enumerant 9; enum 9",
+    "byte; none; enum 9",
+)];
+
 #[test]
-fn numbers_of_enums(rt: HostRuntime) -> std::result::Result<(), Fail> {
-    let set = new_set(rt.alloc())?;
-    let schema = set.enum_schema(ELEMENT_SIZE);
-    match Enum::new(2, schema).get_enumerant()? {
-        Some(enumerant) => assert_eq!(rt; enumerant.get_proto().name.as_str(), "byte"),
-        None => assert!(rt; false, "the enum has enumerant 2"),
+fn numbers_of_enums(rt: HostRuntime) {
+    rows_hold(&rt, rt.alloc(), &ENUM_ROWS);
+}
+
+/// A value, its type, and what is read under it; then what is read under the type of texts.
+static VALUE_ROWS: [(ValueOf, &str, &str, &str); 10] = [
+    (ValueOf::Bool(true), "bool", "true", "true"),
+    (ValueOf::Int8(-7), "i8", "i8 -7", "i8 -7"),
+    (ValueOf::Int64(-9), "i64", "i64 -9", "i64 -9"),
+    (ValueOf::UInt32(6), "u32", "u32 6", "u32 6"),
+    (ValueOf::Text(b"ab"), "text", "text 'ab'", "text 'ab'"),
+    (ValueOf::Data(b"c"), "data", "data [99]", "data [99]"),
+    (ValueOf::Enum(1), "enum", "enum 1", "refused 21"),
+    (ValueOf::Struct(&[0; 8]), "struct", "struct", "refused 21"),
+    // a list of the bytes 7 and 8
+    (
+        ValueOf::List(&[1, 0, 0, 0, 0x12, 0, 0, 0, 7, 8, 0, 0, 0, 0, 0, 0]),
+        "list",
+        "list 2",
+        "refused 21",
+    ),
+    (ValueOf::AnyPointer(&[0; 8]), "any", "null", "refused 21"),
+];
+
+static VARIANTS: [(&str, TypeVariant); 7] = [
+    ("bool", TypeVariant::Bool),
+    ("i8", TypeVariant::Int8),
+    ("i64", TypeVariant::Int64),
+    ("u32", TypeVariant::UInt32),
+    ("text", TypeVariant::Text),
+    ("data", TypeVariant::Data),
+    ("any", TypeVariant::AnyPointer),
+];
+
+/// The type that a row names: the first struct or enum, a list of bytes, or a type that is a word alone.
+fn type_named(name: &str) -> Type {
+    for (text, variant) in &VARIANTS {
+        if *text == name {
+            return Type::from(*variant);
+        }
     }
-    let past = Enum::new(9, schema);
-    assert!(rt; past.get_enumerant()?.is_none());
-    assert_eq!(rt; answer_of(Ok(Reader::from(past))), Seen::Enum(9));
-    Ok(())
+    match name {
+        "enum" => enum_type(0),
+        "struct" => struct_type(0),
+        _ => list_type(Type::from(TypeVariant::UInt8)),
+    }
+}
+
+/// A set whose first struct has an annotation of a value and a type.
+fn annotated_set(alloc: Global, value: ValueOf, value_type: Type) -> Result<SchemaSet> {
+    let mut records = two_of_each(alloc)?;
+    let record = value_record(alloc, value)?;
+    annotate(&mut records, Spot::Struct, record, value_type)?;
+    SchemaSet::new(alloc, records.nodes, records.brands, records.enums)
 }
 
 /// What the annotation of a struct is read as, whose value and type are these.
-fn annotated(alloc: Global, value: ValueOf, value_type: Type) -> Result<Seen> {
-    let mut records = two_of_each(alloc)?;
-    annotate(
-        &mut records,
-        Spot::Struct,
-        value_record(alloc, value)?,
-        value_type,
-    )?;
-    let set = SchemaSet::new(alloc, records.nodes, records.brands, records.enums)?;
-    Ok(match set.struct_schema(0).get_annotations()?.find(3) {
-        Some(annotation) => answer_of(annotation.get_value()),
-        None => Seen::Void,
-    })
+fn annotated(alloc: Global, value: ValueOf, value_type: Type) -> Result<String> {
+    let set = annotated_set(alloc, value, value_type)?;
+    answers_about(alloc, &set, 0, message_of("null_root"), "note 3")
 }
 
 #[test]
 fn values_of_every_kind(rt: HostRuntime) -> std::result::Result<(), Fail> {
-    let bytes = list_type(Type::from(TypeVariant::UInt8));
-    // a list of the bytes 7 and 8
-    let words = &[1, 0, 0, 0, 0x12, 0, 0, 0, 7, 8, 0, 0, 0, 0, 0, 0];
-    let any = Type::from(TypeVariant::AnyPointer);
-    // the value, its type, and what is read under it; then what is read under the type of texts
-    let table = [
-        (
-            ValueOf::Bool(true),
-            Type::from(TypeVariant::Bool),
-            Seen::Truth(true),
-            Seen::Truth(true),
-        ),
-        (
-            ValueOf::Int8(-7),
-            Type::from(TypeVariant::Int8),
-            Seen::Signed(-7),
-            Seen::Signed(-7),
-        ),
-        (
-            ValueOf::Int64(-9),
-            Type::from(TypeVariant::Int64),
-            Seen::Signed(-9),
-            Seen::Signed(-9),
-        ),
-        (
-            ValueOf::UInt32(6),
-            Type::from(TypeVariant::UInt32),
-            Seen::Unsigned(6),
-            Seen::Unsigned(6),
-        ),
-        (
-            ValueOf::Text(b"ab"),
-            Type::from(TypeVariant::Text),
-            Seen::Text(2, b'a'),
-            Seen::Text(2, b'a'),
-        ),
-        (
-            ValueOf::Data(b"c"),
-            Type::from(TypeVariant::Data),
-            Seen::Data(1, b'c'),
-            Seen::Data(1, b'c'),
-        ),
-        (
-            ValueOf::Enum(1),
-            enum_type(0),
-            Seen::Enum(1),
-            Seen::Refused(21),
-        ),
-        (
-            ValueOf::Struct(&NULL),
-            struct_type(0),
-            Seen::Struct,
-            Seen::Refused(21),
-        ),
-        (
-            ValueOf::List(words),
-            bytes,
-            Seen::List(2),
-            Seen::Refused(21),
-        ),
-        (
-            ValueOf::AnyPointer(&NULL),
-            any,
-            Seen::Untyped(true),
-            Seen::Refused(21),
-        ),
-    ];
-    for (value, value_type, seen, as_text) in table {
-        assert_eq!(rt; annotated(rt.alloc(), value, value_type)?, seen);
-        assert_eq!(rt;
-            annotated(rt.alloc(), value, Type::from(TypeVariant::Text))?,
-            as_text
-        );
+    for (value, of, seen, as_text) in &VALUE_ROWS {
+        for (name, answer) in [(*of, *seen), ("text", *as_text)] {
+            let found = annotated(rt.alloc(), *value, type_named(name))?;
+            assert_eq!(rt; found.as_str(), answer, "{of} as {name}");
+        }
     }
     Ok(())
 }

@@ -1,125 +1,86 @@
 //! A struct with a field of every kind, as it is read: of messages that the public `capnp` tool made.
 
-use crate::fixtures::{Seen, answer_of, root};
-use crate::parts::{list_named, struct_at, struct_named};
-use capnp_dynamic::dynamic_value::Reader as Value;
-use capnp_schema_callers::kinds::{EMPTY, FULL, KINDS, SEGMENTS, new_set};
-use std::test::Fail;
+use crate::script::rows_hold;
 
-/// The index of the member that is a group.
-const NAMED: u16 = 28;
+const EACH_FIELD: &str =
+    "get void; get truth; get lie; get int8; get int16; get int32; get int64; get uint8; \
+    get uint16; get uint32; get uint64; get color; get text; get bytes; get point; \
+    get plain; get numbers; get flags; get voids; get wide; get colors; get texts; \
+    get blobs; get points; get rows; get any; get named";
+
+/// What each field has where a value stands.
+const VALUES: &str =
+    "void; true; false; i8 -128; i16 -32768; i32 -2147483648; i64 -9223372036854775808; \
+    u8 255; u16 65535; u32 4294967295; u64 18446744073709551615; enum 2; text 'word'; \
+    data [1, 2, 3]; struct; struct; list 3; list 3; list 2; list 2; list 2; list 2; \
+    list 2; list 2; list 3; null; struct";
+
+static FIELD_ROWS: [(&str, &str, &str); 4] = [
+    ("kinds full", EACH_FIELD, VALUES),
+    ("kinds segments", EACH_FIELD, VALUES),
+    // the defaults
+    (
+        "kinds empty",
+        EACH_FIELD,
+        "void; false; true; i8 -8; i16 -16; i32 -32; i64 -64; u8 8; u16 16; u32 32; u64 64; \
+         enum 1; text 'none'; data [0, 255]; struct; struct; list 3; list 0; list 0; list 0; \
+         list 0; list 0; list 0; list 0; list 0; null; struct",
+    ),
+    // the group is the active member
+    (
+        "kinds full",
+        "has text; has any; has named; has count; which",
+        "true; false; true; false; 28",
+    ),
+];
 
 #[test]
-fn every_kind_of_field(rt: HostRuntime) -> std::result::Result<(), Fail> {
-    let set = new_set(rt.alloc())?;
-    let full = root(rt.alloc(), &set, KINDS, &FULL)?;
-    let segments = root(rt.alloc(), &set, KINDS, &SEGMENTS)?;
-    let empty = root(rt.alloc(), &set, KINDS, &EMPTY)?;
-    // the name, the value that stands, and the default
-    let table = [
-        ("void", Seen::Void, Seen::Void),
-        ("truth", Seen::Truth(true), Seen::Truth(false)),
-        ("lie", Seen::Truth(false), Seen::Truth(true)),
-        ("int8", Seen::Signed(-128), Seen::Signed(-8)),
-        ("int16", Seen::Signed(-32_768), Seen::Signed(-16)),
-        ("int32", Seen::Signed(-2_147_483_648), Seen::Signed(-32)),
-        ("int64", Seen::Signed(i64::MIN), Seen::Signed(-64)),
-        ("uint8", Seen::Unsigned(255), Seen::Unsigned(8)),
-        ("uint16", Seen::Unsigned(65_535), Seen::Unsigned(16)),
-        ("uint32", Seen::Unsigned(4_294_967_295), Seen::Unsigned(32)),
-        ("uint64", Seen::Unsigned(u64::MAX), Seen::Unsigned(64)),
-        ("color", Seen::Enum(2), Seen::Enum(1)),
-        ("text", Seen::Text(4, b'w'), Seen::Text(4, b'n')),
-        ("bytes", Seen::Data(3, 1), Seen::Data(2, 0)),
-        ("point", Seen::Struct, Seen::Struct),
-        ("plain", Seen::Struct, Seen::Struct),
-        ("numbers", Seen::List(3), Seen::List(3)),
-        ("flags", Seen::List(3), Seen::List(0)),
-        ("voids", Seen::List(2), Seen::List(0)),
-        ("wide", Seen::List(2), Seen::List(0)),
-        ("colors", Seen::List(2), Seen::List(0)),
-        ("texts", Seen::List(2), Seen::List(0)),
-        ("blobs", Seen::List(2), Seen::List(0)),
-        ("points", Seen::List(2), Seen::List(0)),
-        ("rows", Seen::List(3), Seen::List(0)),
-        ("any", Seen::Untyped(true), Seen::Untyped(true)),
-        ("named", Seen::Struct, Seen::Struct),
-    ];
-    for (name, value, default) in table {
-        assert_eq!(rt; answer_of(full.get_named(name)), value, "{name}");
-        assert_eq!(rt; answer_of(segments.get_named(name)), value, "{name}");
-        assert_eq!(rt; answer_of(empty.get_named(name)), default, "{name}");
-    }
-    for (name, there) in [
-        ("text", true),
-        ("any", false),
-        ("named", true),
-        ("count", false),
-    ] {
-        assert_eq!(rt; full.has_named(name)?, there, "{name}");
-    }
-    match full.which()? {
-        Some(member) => assert_eq!(rt; member.get_index(), NAMED),
-        None => assert!(rt; false, "a member is active"),
-    }
-    Ok(())
+fn every_kind_of_field(rt: HostRuntime) {
+    rows_hold(&rt, rt.alloc(), &FIELD_ROWS);
 }
 
-#[test]
-fn every_kind_of_element(rt: HostRuntime) -> std::result::Result<(), Fail> {
-    let set = new_set(rt.alloc())?;
-    let full = root(rt.alloc(), &set, KINDS, &FULL)?;
-    let empty = root(rt.alloc(), &set, KINDS, &EMPTY)?;
-    let table = [
-        ("numbers", 0, Seen::Unsigned(65_535)),
-        ("numbers", 2, Seen::Unsigned(9)),
-        ("flags", 0, Seen::Truth(true)),
-        ("flags", 1, Seen::Truth(false)),
-        ("voids", 1, Seen::Void),
-        ("wide", 0, Seen::Signed(-1)),
-        ("colors", 1, Seen::Enum(2)),
-        ("texts", 0, Seen::Text(0, 0)),
-        ("texts", 1, Seen::Text(2, b'a')),
-        ("blobs", 1, Seen::Data(1, 7)),
-        ("points", 1, Seen::Struct),
-        ("rows", 0, Seen::List(2)),
-        ("rows", 1, Seen::List(0)),
-    ];
-    for (name, index, value) in table {
-        let list = list_named(full, name)?;
-        assert_eq!(rt; answer_of(list.get(index)), value, "{name}");
-    }
+static ELEMENT_ROWS: [(&str, &str, &str); 3] = [
+    (
+        "kinds full",
+        "get numbers/0; get numbers/2; get flags/0; get flags/1; get voids/1; get wide/0; \
+         get colors/1; get texts/0; get texts/1; get blobs/1; get points/1; get rows/0; \
+         get rows/1",
+        "u16 65535; u16 9; true; false; void; i64 -1; enum 2; text ''; text 'ab'; data [7]; \
+         struct; list 2; list 0",
+    ),
     // a null list is the default
-    for (index, value) in [(0, 1), (1, 2), (2, 3)] {
-        let list = list_named(empty, "numbers")?;
-        assert_eq!(rt; answer_of(list.get(index)), Seen::Unsigned(value));
-    }
-    match list_named(full, "rows")?.get(0)? {
-        Value::List(row) => assert_eq!(rt; answer_of(row.get(1)), Seen::Signed(-1)),
-        _ => assert!(rt; false, "a row is a list"),
-    }
-    Ok(())
-}
+    (
+        "kinds empty",
+        "get numbers/0; get numbers/1; get numbers/2",
+        "u16 1; u16 2; u16 3",
+    ),
+    ("kinds full", "get rows/0/1", "i8 -1"),
+];
 
 #[test]
-fn structs_behind_pointers(rt: HostRuntime) -> std::result::Result<(), Fail> {
-    let set = new_set(rt.alloc())?;
-    let full = root(rt.alloc(), &set, KINDS, &FULL)?;
-    let empty = root(rt.alloc(), &set, KINDS, &EMPTY)?;
-    let table = [
-        (struct_named(full, "point")?, -5, 6),
-        (struct_named(full, "plain")?, 7, -1),
-        (struct_at(list_named(full, "points")?, 1)?, 3, -1),
-        (struct_named(empty, "point")?, 3, 4),
-        (struct_named(empty, "plain")?, 0, -1),
-    ];
-    for (point, x, y) in table {
-        assert_eq!(rt; answer_of(point.get_named("x")), Seen::Signed(x));
-        assert_eq!(rt; answer_of(point.get_named("y")), Seen::Signed(y));
-    }
-    let named = struct_named(full, "named")?;
-    assert_eq!(rt; answer_of(named.get_named("name")), Seen::Text(2, b'm'));
-    assert_eq!(rt; answer_of(named.get_named("times")), Seen::Unsigned(4));
-    assert!(rt; !named.has_named("once")?);
-    Ok(())
+fn every_kind_of_element(rt: HostRuntime) {
+    rows_hold(&rt, rt.alloc(), &ELEMENT_ROWS);
+}
+
+static STRUCT_ROWS: [(&str, &str, &str); 3] = [
+    (
+        "kinds full",
+        "get point/x; get point/y; get plain/x; get plain/y; get points/1/x; get points/1/y",
+        "i16 -5; i16 6; i16 7; i16 -1; i16 3; i16 -1",
+    ),
+    (
+        "kinds empty",
+        "get point/x; get point/y; get plain/x; get plain/y",
+        "i16 3; i16 4; i16 0; i16 -1",
+    ),
+    (
+        "kinds full",
+        "get named/name; get named/times; has named/once",
+        "text 'me'; u8 4; false",
+    ),
+];
+
+#[test]
+fn structs_behind_pointers(rt: HostRuntime) {
+    rows_hold(&rt, rt.alloc(), &STRUCT_ROWS);
 }

@@ -8,14 +8,16 @@ mod default_tests;
 #[cfg(test)]
 mod fault_tests;
 #[cfg(test)]
-mod fixtures;
-#[cfg(test)]
 mod kind_tests;
 #[cfg(test)]
 mod list_tests;
+#[cfg(test)]
+mod messages;
 pub mod parts;
 #[cfg(test)]
 mod print_tests;
 pub mod round_trips;
+#[cfg(test)]
+mod script;
 #[cfg(test)]
 mod struct_tests;

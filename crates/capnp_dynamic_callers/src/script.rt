@@ -1,0 +1,296 @@
+//! Questions about the root of a message, as text: one interpreter, in which each call stands once.
+//!
+//! A question is a word and, mostly, a path of names and indices with slashes between them; `next*63` is 63 times `next`, and
+//! a question without a path is about the root itself.
+//!
+//! | question | what is answered |
+//! |---|---|
+//! | `get points/1/x` | what is read, as a kind and a value |
+//! | `has named/once` | whether the field is there |
+//! | `which` | the index of the active member, or `none` |
+//! | `size` | the words and the capabilities of the struct |
+//! | `length items` | the elements of a list |
+//! | `last items` | how many elements an iterator has to come, its last one, and how many are to come then |
+//! | `print`, `lines` | what a print leaves, on one line or on lines, of a text that is `:` before |
+//! | `debug`, `debug_lines` | the debug form of the struct or list, and the one on lines |
+//! | `value_lines` | the one on lines of the value that has the struct or list |
+//! | `note 7`, `note id 8` | the annotation of an id, of the struct or of a field; `none` where there is none |
+//! | `enum 2`, `enumerant 2` | an enumerant of the set's first enum as a value, and its name |
+//!
+//! Questions have semicolons between them, and so have the answers, in the same order. A refusal is `refused` and its number
+//! (`ErrorKind::number`).
+
+use crate::messages::{brand_of, message_of, set_of};
+use capnp_dynamic::dynamic_struct;
+use capnp_dynamic::dynamic_value::{AnnotationValue, Enum, Reader as Value};
+use capnp_dynamic::printer::print;
+use capnp_schema::schema::StructSchema;
+use capnp_schema::set::SchemaSet;
+use capnp_wire::error::{Error, ErrorKind, Result};
+use capnp_wire::message;
+use std::alloc::Global;
+use std::fmt;
+use std::process::Abort;
+
+/// A value as it is shown: its kind, and what it is; of a struct the kind alone, of a list the count of its elements.
+#[derive(Clone, Copy)]
+struct Shown<'a>(Value<'a>);
+
+impl fmt::Display for Shown<'_> {
+    fn fmt<W: fmt::Write>(&self, f: &mut fmt::Formatter<W>) -> fmt::Result {
+        match self.0 {
+            Value::Void => f.write_str("void"),
+            Value::Bool(x) => write!(f, "{x}"),
+            Value::Int8(x) => write!(f, "i8 {x}"),
+            Value::Int16(x) => write!(f, "i16 {x}"),
+            Value::Int32(x) => write!(f, "i32 {x}"),
+            Value::Int64(x) => write!(f, "i64 {x}"),
+            Value::UInt8(x) => write!(f, "u8 {x}"),
+            Value::UInt16(x) => write!(f, "u16 {x}"),
+            Value::UInt32(x) => write!(f, "u32 {x}"),
+            Value::UInt64(x) => write!(f, "u64 {x}"),
+            Value::Enum(x) => write!(f, "enum {}", x.get_value()),
+            Value::Text(x) => write!(f, "text '{}'", str::from_utf8(x.as_bytes()).unwrap_or("?")),
+            Value::Data(x) => write!(f, "data {x:?}"),
+            Value::Struct(_) => f.write_str("struct"),
+            Value::List(x) => write!(f, "list {}", x.len()),
+            Value::AnyPointer(x) => f.write_str(if x.is_null() { "null" } else { "pointer" }),
+        }
+    }
+}
+
+/// What a question is answered.
+#[derive(Drop)]
+enum Answer<'a> {
+    Value(Value<'a>),
+    Truth(bool),
+    Number(u64),
+    Nothing,
+    Size(u64, u32),
+    Last(usize, Value<'a>, usize),
+    Text(String),
+    RefusedPrint(u32, String),
+    NoQuestion,
+}
+
+impl fmt::Display for Answer<'_> {
+    fn fmt<W: fmt::Write>(&self, f: &mut fmt::Formatter<W>) -> fmt::Result {
+        match self {
+            Answer::Value(value) => write!(f, "{}", Shown(*value)),
+            Answer::Truth(truth) => write!(f, "{truth}"),
+            Answer::Number(number) => write!(f, "{number}"),
+            Answer::Nothing => f.write_str("none"),
+            Answer::Size(words, capabilities) => write!(f, "{words} {capabilities}"),
+            Answer::Last(before, last, after) => write!(f, "{before} {} {after}", Shown(*last)),
+            Answer::Text(text) => f.write_str(text.as_str()),
+            Answer::RefusedPrint(number, text) => write!(f, "refused {number} {}", text.as_str()),
+            Answer::NoQuestion => f.write_str("no question"),
+        }
+    }
+}
+
+/// The root of a message under the struct of a brand.
+fn root_of<'a>(
+    alloc: Global,
+    set: &'a SchemaSet,
+    brand: u32,
+    bytes: &'a [u8],
+) -> Result<dynamic_struct::Reader<'a>> {
+    let reader = message::Reader::new(alloc, bytes)?.get_root().get_struct()?;
+    Ok(dynamic_struct::Reader::new(reader, set.struct_schema(brand)))
+}
+
+fn number(text: &str) -> u32 {
+    text.parse::<u32>().unwrap_or(0)
+}
+
+/// The field of a name, or the element of an index. Refused with `NotAContainer` where a value has neither.
+fn part_of<'a>(value: Value<'a>, name: &str) -> Result<Value<'a>> {
+    match value {
+        Value::Struct(reader) => reader.get_named(name),
+        Value::List(list) => list.get(number(name)),
+        _ => Err(Error::from(ErrorKind::NotAContainer)),
+    }
+}
+
+/// What a path leads to. Refused as the reads on it.
+fn follow<'a>(root: Value<'a>, path: &str) -> Result<Value<'a>> {
+    let mut value = root;
+    if path.is_empty() {
+        return Ok(value);
+    }
+    for step in path.split('/') {
+        let (name, count) = step.split_once('*').unwrap_or((step, "1"));
+        for _ in 0..number(count) {
+            value = part_of(value, name)?;
+        }
+    }
+    Ok(value)
+}
+
+fn has<'a>(root: Value<'a>, path: &str) -> Result<Answer<'a>> {
+    let (before, name) = path.rsplit_once('/').unwrap_or(("", path));
+    match follow(root, before)? {
+        Value::Struct(reader) => Ok(Answer::Truth(reader.has_named(name)?)),
+        _ => Ok(Answer::NoQuestion),
+    }
+}
+
+fn which<'a>(reader: dynamic_struct::Reader<'a>) -> Result<Answer<'a>> {
+    Ok(match reader.which()? {
+        Some(member) => Answer::Number(u64::from(member.get_index())),
+        None => Answer::Nothing,
+    })
+}
+
+fn size<'a>(reader: dynamic_struct::Reader<'a>) -> Result<Answer<'a>> {
+    let size = reader.total_size()?;
+    Ok(Answer::Size(size.word_count, size.cap_count))
+}
+
+/// The last item of an iterator, and how many are to come before and after it is taken.
+fn last<'a>(value: Value<'a>) -> Result<Answer<'a>> {
+    let Value::List(list) = value else {
+        return Ok(Answer::NoQuestion);
+    };
+    let mut items = list.iter();
+    let before = items.len();
+    match items.next_back() {
+        Some(last) => Ok(Answer::Last(before, last?, items.len())),
+        None => Ok(Answer::Nothing),
+    }
+}
+
+fn printed<'a>(alloc: Global, value: Value<'_>, is_indented: bool) -> Result<Answer<'a>> {
+    let mut out = String::from_str(alloc, ":")?;
+    match print(value, &mut out, is_indented) {
+        Ok(()) => Ok(Answer::Text(out)),
+        Err(error) => Ok(Answer::RefusedPrint(error.kind.number(), out)),
+    }
+}
+
+fn debug<'a>(alloc: Global, value: Value<'_>) -> Result<Answer<'a>> {
+    Ok(Answer::Text(match value {
+        Value::Struct(reader) => format!(in alloc; "{reader:?}")?,
+        Value::List(list) => format!(in alloc; "{list:?}")?,
+        other => format!(in alloc; "{other:?}")?,
+    }))
+}
+
+fn debug_lines<'a>(alloc: Global, value: Value<'_>) -> Result<Answer<'a>> {
+    Ok(Answer::Text(match value {
+        Value::Struct(reader) => format!(in alloc; "{reader:#?}")?,
+        Value::List(list) => format!(in alloc; "{list:#?}")?,
+        other => format!(in alloc; "{other:#?}")?,
+    }))
+}
+
+fn value_lines<'a>(alloc: Global, value: Value<'_>) -> Result<Answer<'a>> {
+    Ok(Answer::Text(format!(in alloc; "{value:#?}")?))
+}
+
+/// The value of an annotation of a struct, or of a field where it is named before the id.
+fn note<'a>(schema: StructSchema<'a>, rest: &str) -> Result<Answer<'a>> {
+    let (annotations, id) = match rest.split_once(' ') {
+        Some((name, id)) => (schema.get_field_by_name(name)?.get_annotations()?, id),
+        None => (schema.get_annotations()?, rest),
+    };
+    match annotations.find(u64::from(number(id))) {
+        Some(annotation) => Ok(Answer::Value(annotation.get_value()?)),
+        None => Ok(Answer::Nothing),
+    }
+}
+
+fn enumerant<'a>(alloc: Global, of: Enum<'a>) -> Result<Answer<'a>> {
+    match of.get_enumerant()? {
+        Some(enumerant) => {
+            let name = enumerant.get_proto().name.as_str();
+            Ok(Answer::Text(String::from_str(alloc, name)?))
+        }
+        None => Ok(Answer::Nothing),
+    }
+}
+
+/// What is answered about a value.
+fn about<'a>(alloc: Global, value: Value<'a>, word: &str) -> Result<Answer<'a>> {
+    match (word, value) {
+        ("get", value) => Ok(Answer::Value(value)),
+        ("which", Value::Struct(reader)) => which(reader),
+        ("size", Value::Struct(reader)) => size(reader),
+        ("length", Value::List(list)) => Ok(Answer::Number(u64::from(list.len()))),
+        ("last", value) => last(value),
+        ("print", value) => printed(alloc, value, false),
+        ("lines", value) => printed(alloc, value, true),
+        ("debug", value) => debug(alloc, value),
+        ("debug_lines", value) => debug_lines(alloc, value),
+        ("value_lines", value) => value_lines(alloc, value),
+        _ => Ok(Answer::NoQuestion),
+    }
+}
+
+/// What a question is answered about a root.
+fn answer_of<'a>(
+    alloc: Global,
+    set: &'a SchemaSet,
+    root: dynamic_struct::Reader<'a>,
+    question: &str,
+) -> Result<Answer<'a>> {
+    let (word, rest) = question.split_once(' ').unwrap_or((question, ""));
+    let of_number = Enum::new(rest.parse::<u16>().unwrap_or(0), set.enum_schema(0));
+    match word {
+        "has" => has(Value::Struct(root), rest),
+        "note" => note(root.get_schema(), rest),
+        "enum" => Ok(Answer::Value(Value::from(of_number))),
+        "enumerant" => enumerant(alloc, of_number),
+        _ => about(alloc, follow(Value::Struct(root), rest)?, word),
+    }
+}
+
+/// The answers to questions about the root of a message under the struct of a brand.
+pub fn answers_about(
+    alloc: Global,
+    set: &SchemaSet,
+    brand: u32,
+    bytes: &[u8],
+    questions: &str,
+) -> Result<String> {
+    let root = root_of(alloc, set, brand, bytes)?;
+    let mut out = String::new(alloc);
+    for question in questions.split(';') {
+        let between = if out.is_empty() { "" } else { "; " };
+        match answer_of(alloc, set, root, question.trim()) {
+            Ok(answer) => write!(out, "{between}{answer}")?,
+            Err(error) => write!(out, "{between}refused {}", error.kind.number())?,
+        }
+    }
+    Ok(out)
+}
+
+/// The answers to questions about the root of a message, which is a struct of `messages`.
+fn answers_of(alloc: Global, name: &str, bytes: &[u8], questions: &str) -> Result<String> {
+    let set = set_of(alloc, name)?;
+    answers_about(alloc, &set, brand_of(name), bytes, questions)
+}
+
+/// Asserts that questions about a message are answered so.
+pub fn are_answers(
+    rt: &impl Abort,
+    alloc: Global,
+    name: &str,
+    bytes: &[u8],
+    questions: &str,
+    answers: &str,
+) {
+    match answers_of(alloc, name, bytes, questions) {
+        Ok(answered) => assert_eq!(rt; answered.as_str(), answers, "{name}: {questions}"),
+        Err(error) => assert!(rt; false, "{name}: {questions}: {error}"),
+    }
+}
+
+/// Asserts that each of these holds: a struct and a message of `messages`, as `mixed nine`, questions, and their answers.
+pub fn rows_hold(rt: &impl Abort, alloc: Global, rows: &[(&str, &str, &str)]) {
+    for (read, questions, answers) in rows {
+        let (name, message) = read.split_once(' ').unwrap_or((read, ""));
+        are_answers(rt, alloc, name, message_of(message), questions, answers);
+    }
+}
