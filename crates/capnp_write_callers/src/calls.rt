@@ -96,27 +96,79 @@ fn write_element(list: dynamic_list::Builder<'_>, index: u32, write: Write<'_>) 
     }
 }
 
+/// Makes a call at a field of a struct in a list.
+fn write_in_struct(
+    list: &mut dynamic_list::Builder<'_>,
+    index: u32,
+    name: &str,
+    write: Write<'_>,
+) -> Result<()>
+    requires { IsListReady list.old }
+{
+    let inner = struct_at(list.reborrow(), index)?;
+    write_field(inner, name, write)
+}
+
+/// Makes a call at an element of a list in a list.
+fn write_in_row(
+    list: &mut dynamic_list::Builder<'_>,
+    row: u32,
+    index: u32,
+    write: Write<'_>,
+) -> Result<()>
+    requires { IsListReady list.old }
+{
+    let inner = list_at(list.reborrow(), row)?;
+    write_element(inner, index, write)
+}
+
 /// Makes a call in the list that a field of the root has. Refused as the `get` calls that lead there and as the call itself.
-fn write_in_list(list: dynamic_list::Builder<'_>, at: At<'_>, write: Write<'_>) -> Result<()>
-    requires { IsListReady list }
+fn write_in_list(list: &mut dynamic_list::Builder<'_>, at: At<'_>, write: Write<'_>) -> Result<()>
+    requires { IsListReady list.old }
 {
     match at {
-        At::Of(_, index, name) => write_field(struct_at(list, index)?, name, write),
-        At::Cell(_, row, index) => write_element(list_at(list, row)?, index, write),
-        At::Element(_, index) => write_element(list, index, write),
+        At::Of(_, index, name) => write_in_struct(list, index, name, write),
+        At::Cell(_, row, index) => write_in_row(list, row, index, write),
+        At::Element(_, index) => write_element(list.reborrow(), index, write),
         At::Field(_) | At::Inner(_, _) => Err(Error::from(ErrorKind::NotAContainer)),
     }
 }
 
+/// Makes a call at a field of the struct or group that a field of the root has.
+fn write_inside(
+    root: &mut dynamic_struct::Builder<'_>,
+    part: &str,
+    name: &str,
+    write: Write<'_>,
+) -> Result<()>
+    requires { IsReady root.old }
+{
+    let inner = struct_in(root.reborrow(), part)?;
+    write_field(inner, name, write)
+}
+
+/// Makes a call in the list that a field of the root has.
+fn write_listed(
+    root: &mut dynamic_struct::Builder<'_>,
+    name: &str,
+    at: At<'_>,
+    write: Write<'_>,
+) -> Result<()>
+    requires { IsReady root.old }
+{
+    let mut list = list_in(root.reborrow(), name)?;
+    write_in_list(&mut list, at, write)
+}
+
 /// Makes a call. Refused as the `get` calls that lead there and as the call itself.
-pub fn write_at(root: dynamic_struct::Builder<'_>, at: At<'_>, write: Write<'_>) -> Result<()>
-    requires { IsReady root }
+pub fn write_at(root: &mut dynamic_struct::Builder<'_>, at: At<'_>, write: Write<'_>) -> Result<()>
+    requires { IsReady root.old }
 {
     match at {
-        At::Field(name) => write_field(root, name, write),
-        At::Inner(part, name) => write_field(struct_in(root, part)?, name, write),
-        At::Of(name, _, _) | At::Element(name, _) | At::Cell(name, _, _) => {
-            write_in_list(list_in(root, name)?, at, write)
-        }
+        At::Field(name) => write_field(root.reborrow(), name, write),
+        At::Inner(part, name) => write_inside(root, part, name, write),
+        At::Of(name, _, _) => write_listed(root, name, at, write),
+        At::Element(name, _) => write_listed(root, name, at, write),
+        At::Cell(name, _, _) => write_listed(root, name, at, write),
     }
 }

@@ -185,16 +185,20 @@ fn root_of<'a>(
     Ok(dynamic_struct::Reader::new(reader, set.struct_schema(brand)))
 }
 
+/// What a struct, or where one is named a field of it, reads as.
+fn part_of<'a>(root: dynamic_struct::Reader<'a>, field: &str) -> Result<Value<'a>> {
+    if field.is_empty() {
+        return Ok(Value::Struct(root));
+    }
+    root.get_named(field)
+}
+
 /// What a message's root, or a field of it, reads as: a struct, a message, and the field's name.
 fn read_value<'a>(alloc: Global, set: &'a SchemaSet, text: &str) -> Result<Value<'a>> {
     let (name, rest) = words_of(text);
     let (message, field) = words_of(rest);
     let root = root_of(alloc, set, brand_of(name), message_of(message))?;
-    if field.is_empty() {
-        Ok(Value::Struct(root))
-    } else {
-        root.get_named(field)
-    }
+    part_of(root, field)
 }
 
 /// The value that a text says.
@@ -263,22 +267,31 @@ fn value_in(alloc: Global, root: dynamic_struct::Builder<'_>, name: &str) -> Res
     text_of(alloc, root.get_named(name)?.into_reader())
 }
 
+fn write_on(root: dynamic_struct::Builder<'_>, path: &str, write: Write<'_>) -> Result<Answer>
+    requires { IsReady root }
+{
+    let mut root = root;
+    Ok(answer_of(write_at(&mut root, place_of(path), write)))
+}
+
 /// Makes a call on the root of what is built.
 fn make(alloc: Global, root: dynamic_struct::Builder<'_>, call: Call<'_>) -> Result<Answer>
     requires { IsReady root }
 {
-    let write = match call.word {
-        Word::Get => Write::Get,
-        Word::Set => Write::Set(call.value),
-        Word::Init => Write::Init,
-        Word::Initn => Write::Initn(call.rest.parse::<u32>().unwrap_or(0)),
-        Word::Clear => Write::Clear,
-        Word::Which => return active_member(root),
-        Word::Has => return Ok(Answer::Truth(root.has_named(call.path)?)),
-        Word::Value => return value_in(alloc, root, call.path),
-        Word::Open | Word::Print | Word::Is => return Ok(Answer::Done),
-    };
-    Ok(answer_of(write_at(root, place_of(call.path), write)))
+    match call.word {
+        Word::Get => write_on(root, call.path, Write::Get),
+        Word::Set => write_on(root, call.path, Write::Set(call.value)),
+        Word::Init => write_on(root, call.path, Write::Init),
+        Word::Initn => {
+            let size = call.rest.parse::<u32>().unwrap_or(0);
+            write_on(root, call.path, Write::Initn(size))
+        }
+        Word::Clear => write_on(root, call.path, Write::Clear),
+        Word::Which => active_member(root),
+        Word::Has => Ok(Answer::Truth(root.has_named(call.path)?)),
+        Word::Value => value_in(alloc, root, call.path),
+        Word::Open | Word::Print | Word::Is => Ok(Answer::Done),
+    }
 }
 
 /// What a call on the root of a message answers, and the message after it.
