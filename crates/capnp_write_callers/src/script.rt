@@ -185,6 +185,11 @@ fn root_of<'a>(
     Ok(dynamic_struct::Reader::new(reader, set.struct_schema(brand)))
 }
 
+/// The message of a name, for as long as its name.
+fn bytes_named<'a>(name: &'a str) -> &'a [u8] {
+    message_of(name)
+}
+
 /// What a struct, or where one is named a field of it, reads as.
 fn part_of<'a>(root: dynamic_struct::Reader<'a>, field: &str) -> Result<Value<'a>> {
     if field.is_empty() {
@@ -194,10 +199,10 @@ fn part_of<'a>(root: dynamic_struct::Reader<'a>, field: &str) -> Result<Value<'a
 }
 
 /// What a message's root, or a field of it, reads as: a struct, a message, and the field's name.
-fn read_value<'a>(alloc: Global, set: &'a SchemaSet, text: &str) -> Result<Value<'a>> {
+fn read_value<'a>(alloc: Global, set: &'a SchemaSet, text: &'a str) -> Result<Value<'a>> {
     let (name, rest) = words_of(text);
     let (message, field) = words_of(rest);
-    let root = root_of(alloc, set, brand_of(name), message_of(message))?;
+    let root = root_of(alloc, set, brand_of(name), bytes_named(message))?;
     part_of(root, field)
 }
 
