@@ -206,28 +206,51 @@ fn read_value<'a>(alloc: Global, set: &'a SchemaSet, text: &'a str) -> Result<Va
     part_of(root, field)
 }
 
+/// The signed number that a text says.
+fn signed_of<'a>(kind: Kind, digits: &str) -> Value<'a> {
+    match kind {
+        Kind::Int8 => Value::Int8(digits.parse::<i8>().unwrap_or(0)),
+        Kind::Int16 => Value::Int16(digits.parse::<i16>().unwrap_or(0)),
+        Kind::Int32 => Value::Int32(digits.parse::<i32>().unwrap_or(0)),
+        _ => Value::Int64(digits.parse::<i64>().unwrap_or(0)),
+    }
+}
+
+/// The unsigned number that a text says.
+fn unsigned_of<'a>(kind: Kind, digits: &str) -> Value<'a> {
+    match kind {
+        Kind::UInt8 => Value::UInt8(digits.parse::<u8>().unwrap_or(0)),
+        Kind::UInt16 => Value::UInt16(digits.parse::<u16>().unwrap_or(0)),
+        Kind::UInt32 => Value::UInt32(digits.parse::<u32>().unwrap_or(0)),
+        _ => Value::UInt64(digits.parse::<u64>().unwrap_or(0)),
+    }
+}
+
+/// The enum of the set's first type with the number that a text says.
+fn enum_of<'a>(set: &'a SchemaSet, digits: &str) -> Value<'a> {
+    Value::Enum(Enum::new(digits.parse::<u16>().unwrap_or(0), set.enum_schema(0)))
+}
+
+/// A null, untyped.
+fn untyped_null<'a>() -> Value<'a> {
+    Value::AnyPointer(any_pointer::Reader::new(PointerReader::from_words(&[0; 8])))
+}
+
 /// The value that a text says.
 fn value_of<'a>(alloc: Global, set: &'a SchemaSet, text: &'a str) -> Result<Value<'a>> {
-    let (kind, rest) = words_of(text);
-    Ok(match kind_of(kind) {
-        Kind::Void => Value::Void,
-        Kind::Null => Value::AnyPointer(any_pointer::Reader::new(PointerReader::from_words(
-            &[0; 8],
-        ))),
-        Kind::Bool => Value::Bool(rest == "true"),
-        Kind::Int8 => Value::Int8(rest.parse::<i8>().unwrap_or(0)),
-        Kind::Int16 => Value::Int16(rest.parse::<i16>().unwrap_or(0)),
-        Kind::Int32 => Value::Int32(rest.parse::<i32>().unwrap_or(0)),
-        Kind::Int64 => Value::Int64(rest.parse::<i64>().unwrap_or(0)),
-        Kind::UInt8 => Value::UInt8(rest.parse::<u8>().unwrap_or(0)),
-        Kind::UInt16 => Value::UInt16(rest.parse::<u16>().unwrap_or(0)),
-        Kind::UInt32 => Value::UInt32(rest.parse::<u32>().unwrap_or(0)),
-        Kind::UInt64 => Value::UInt64(rest.parse::<u64>().unwrap_or(0)),
-        Kind::Enum => Value::Enum(Enum::new(rest.parse::<u16>().unwrap_or(0), set.enum_schema(0))),
-        Kind::Text => Value::from(rest),
-        Kind::Data => Value::Data(rest.as_bytes()),
-        Kind::Read => read_value(alloc, set, rest)?,
-    })
+    let (name, rest) = words_of(text);
+    let kind = kind_of(name);
+    match kind {
+        Kind::Void => Ok(Value::Void),
+        Kind::Null => Ok(untyped_null()),
+        Kind::Bool => Ok(Value::Bool(rest == "true")),
+        Kind::Int8 | Kind::Int16 | Kind::Int32 | Kind::Int64 => Ok(signed_of(kind, rest)),
+        Kind::UInt8 | Kind::UInt16 | Kind::UInt32 | Kind::UInt64 => Ok(unsigned_of(kind, rest)),
+        Kind::Enum => Ok(enum_of(set, rest)),
+        Kind::Text => Ok(Value::from(rest)),
+        Kind::Data => Ok(Value::Data(rest.as_bytes())),
+        Kind::Read => read_value(alloc, set, rest),
+    }
 }
 
 /// The call that a text says. The value is the given one where the text says so.
