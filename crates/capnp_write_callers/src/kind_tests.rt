@@ -1,220 +1,465 @@
 //! Each kind of call at each kind of field and element, of a struct with a field of every kind.
 
-use crate::calls::{At, Write};
-use crate::fixtures::{after, root, state, text};
-use capnp_dynamic::dynamic_value::Reader as Value;
-use capnp_schema_callers::kinds::{EMPTY, FULL, KINDS, new_set};
-use std::test::Fail;
+use crate::script::rows_hold;
 
-/// Fields of all kinds of values, by which a kind has its number; the last is untyped.
-const SOURCES: [&str; 16] = [
-    "void", "truth", "int8", "int16", "int32", "int64", "uint8", "uint16", "uint32", "uint64",
-    "color", "text", "bytes", "point", "numbers", "any",
+/// The set of each field to the value that is given, each in a new message.
+const SET_FIELDS: &str = "set void given | set truth given | set lie given | set int8 given | \
+    set int16 given | set int32 given | set int64 given | set uint8 given | \
+    set uint16 given | set uint32 given | set uint64 given | set color given | \
+    set text given | set bytes given | set point given | set plain given | \
+    set numbers given | set flags given | set voids given | set wide given | \
+    set colors given | set texts given | set blobs given | set points given | \
+    set rows given | set any given | set none given | set count given | set named given";
+
+/// The same of an element of each list.
+const SET_ELEMENTS: &str =
+    "set numbers/1 given | set flags/1 given | set voids/1 given | set wide/1 given | \
+    set colors/1 given | set texts/1 given | set blobs/1 given | set points/1 given | \
+    set rows/1 given";
+
+/// A value of each kind for each field. A field of a kind takes its own kind, a `Void` takes all, and an untyped pointer
+/// what stands behind a pointer. Where a set is refused, nothing changes.
+static FIELD_ROWS: [(&str, &str, &str); 16] = [
+    (
+        "kinds from empty given read kinds full void",
+        SET_FIELDS,
+        "ok; 21; 21; 21; 21; 21; 21; 21; 21; 21; 21; 21; 21; 21; 21; 21; 21; 21; 21; 21; 21; \
+         21; 21; 21; 21; 27; ok; 21; 22",
+    ),
+    (
+        "kinds from empty given read kinds full truth",
+        SET_FIELDS,
+        "ok; ok; ok; 21; 21; 21; 21; 21; 21; 21; 21; 21; 21; 21; 21; 21; 21; 21; 21; 21; 21; \
+         21; 21; 21; 21; 27; ok; 21; 22",
+    ),
+    (
+        "kinds from empty given read kinds full int8",
+        SET_FIELDS,
+        "ok; 21; 21; ok; 21; 21; 21; 21; 21; 21; 21; 21; 21; 21; 21; 21; 21; 21; 21; 21; 21; \
+         21; 21; 21; 21; 27; ok; 21; 22",
+    ),
+    (
+        "kinds from empty given read kinds full int16",
+        SET_FIELDS,
+        "ok; 21; 21; 21; ok; 21; 21; 21; 21; 21; 21; 21; 21; 21; 21; 21; 21; 21; 21; 21; 21; \
+         21; 21; 21; 21; 27; ok; 21; 22",
+    ),
+    (
+        "kinds from empty given read kinds full int32",
+        SET_FIELDS,
+        "ok; 21; 21; 21; 21; ok; 21; 21; 21; 21; 21; 21; 21; 21; 21; 21; 21; 21; 21; 21; 21; \
+         21; 21; 21; 21; 27; ok; 21; 22",
+    ),
+    (
+        "kinds from empty given read kinds full int64",
+        SET_FIELDS,
+        "ok; 21; 21; 21; 21; 21; ok; 21; 21; 21; 21; 21; 21; 21; 21; 21; 21; 21; 21; 21; 21; \
+         21; 21; 21; 21; 27; ok; 21; 22",
+    ),
+    (
+        "kinds from empty given read kinds full uint8",
+        SET_FIELDS,
+        "ok; 21; 21; 21; 21; 21; 21; ok; 21; 21; 21; 21; 21; 21; 21; 21; 21; 21; 21; 21; 21; \
+         21; 21; 21; 21; 27; ok; 21; 22",
+    ),
+    (
+        "kinds from empty given read kinds full uint16",
+        SET_FIELDS,
+        "ok; 21; 21; 21; 21; 21; 21; 21; ok; 21; 21; 21; 21; 21; 21; 21; 21; 21; 21; 21; 21; \
+         21; 21; 21; 21; 27; ok; 21; 22",
+    ),
+    (
+        "kinds from empty given read kinds full uint32",
+        SET_FIELDS,
+        "ok; 21; 21; 21; 21; 21; 21; 21; 21; ok; 21; 21; 21; 21; 21; 21; 21; 21; 21; 21; 21; \
+         21; 21; 21; 21; 27; ok; ok; 22",
+    ),
+    (
+        "kinds from empty given read kinds full uint64",
+        SET_FIELDS,
+        "ok; 21; 21; 21; 21; 21; 21; 21; 21; 21; ok; 21; 21; 21; 21; 21; 21; 21; 21; 21; 21; \
+         21; 21; 21; 21; 27; ok; 21; 22",
+    ),
+    (
+        "kinds from empty given read kinds full color",
+        SET_FIELDS,
+        "ok; 21; 21; 21; 21; 21; 21; 21; 21; 21; 21; ok; 21; 21; 21; 21; 21; 21; 21; 21; 21; \
+         21; 21; 21; 21; 27; ok; 21; 22",
+    ),
+    (
+        "kinds from empty given read kinds full text",
+        SET_FIELDS,
+        "ok; 21; 21; 21; 21; 21; 21; 21; 21; 21; 21; 21; ok; 21; 21; 21; 21; 21; 21; 21; 21; \
+         21; 21; 21; 21; ok; ok; 21; 22",
+    ),
+    (
+        "kinds from empty given read kinds full bytes",
+        SET_FIELDS,
+        "ok; 21; 21; 21; 21; 21; 21; 21; 21; 21; 21; 21; 21; ok; 21; 21; 21; 21; 21; 21; 21; \
+         21; 21; 21; 21; ok; ok; 21; 22",
+    ),
+    (
+        "kinds from empty given read kinds full point",
+        SET_FIELDS,
+        "ok; 21; 21; 21; 21; 21; 21; 21; 21; 21; 21; 21; 21; 21; ok; ok; 21; 21; 21; 21; 21; \
+         21; 21; 21; 21; ok; ok; 21; 21",
+    ),
+    (
+        "kinds from empty given read kinds full numbers",
+        SET_FIELDS,
+        "ok; 21; 21; 21; 21; 21; 21; 21; 21; 21; 21; 21; 21; 21; 21; 21; ok; ok; ok; ok; ok; \
+         ok; ok; ok; ok; ok; ok; 21; 22",
+    ),
+    (
+        "kinds from empty given read kinds full any",
+        SET_FIELDS,
+        "ok; 21; 21; 21; 21; 21; 21; 21; 21; 21; 21; 21; 21; 21; 21; 21; 21; 21; 21; 21; 21; \
+         21; 21; 21; 21; 27; ok; 21; 22",
+    ),
 ];
 
-const TEXT: usize = 11;
-
-const STRUCT: usize = 13;
-
-const LIST: usize = 14;
-
-const UNTYPED: usize = 15;
-
-/// A field that is a group.
-const GROUP: usize = 16;
-
-/// The fields, each with its kind.
-const FIELDS: [(&str, usize); 29] = [
-    ("void", 0),
-    ("truth", 1),
-    ("lie", 1),
-    ("int8", 2),
-    ("int16", 3),
-    ("int32", 4),
-    ("int64", 5),
-    ("uint8", 6),
-    ("uint16", 7),
-    ("uint32", 8),
-    ("uint64", 9),
-    ("color", 10),
-    ("text", 11),
-    ("bytes", 12),
-    ("point", 13),
-    ("plain", 13),
-    ("numbers", 14),
-    ("flags", 14),
-    ("voids", 14),
-    ("wide", 14),
-    ("colors", 14),
-    ("texts", 14),
-    ("blobs", 14),
-    ("points", 14),
-    ("rows", 14),
-    ("any", 15),
-    ("none", 0),
-    ("count", 8),
-    ("named", 16),
+/// The same for each element, in a message with a value in each field.
+static ELEMENT_ROWS: [(&str, &str, &str); 16] = [
+    (
+        "kinds from full given read kinds full void",
+        SET_ELEMENTS,
+        "21; 21; ok; 21; 21; 21; 21; 21; 21",
+    ),
+    (
+        "kinds from full given read kinds full truth",
+        SET_ELEMENTS,
+        "21; ok; ok; 21; 21; 21; 21; 21; 21",
+    ),
+    (
+        "kinds from full given read kinds full int8",
+        SET_ELEMENTS,
+        "21; 21; ok; 21; 21; 21; 21; 21; 21",
+    ),
+    (
+        "kinds from full given read kinds full int16",
+        SET_ELEMENTS,
+        "21; 21; ok; 21; 21; 21; 21; 21; 21",
+    ),
+    (
+        "kinds from full given read kinds full int32",
+        SET_ELEMENTS,
+        "21; 21; ok; 21; 21; 21; 21; 21; 21",
+    ),
+    (
+        "kinds from full given read kinds full int64",
+        SET_ELEMENTS,
+        "21; 21; ok; ok; 21; 21; 21; 21; 21",
+    ),
+    (
+        "kinds from full given read kinds full uint8",
+        SET_ELEMENTS,
+        "21; 21; ok; 21; 21; 21; 21; 21; 21",
+    ),
+    (
+        "kinds from full given read kinds full uint16",
+        SET_ELEMENTS,
+        "ok; 21; ok; 21; 21; 21; 21; 21; 21",
+    ),
+    (
+        "kinds from full given read kinds full uint32",
+        SET_ELEMENTS,
+        "21; 21; ok; 21; 21; 21; 21; 21; 21",
+    ),
+    (
+        "kinds from full given read kinds full uint64",
+        SET_ELEMENTS,
+        "21; 21; ok; 21; 21; 21; 21; 21; 21",
+    ),
+    (
+        "kinds from full given read kinds full color",
+        SET_ELEMENTS,
+        "21; 21; ok; 21; ok; 21; 21; 21; 21",
+    ),
+    (
+        "kinds from full given read kinds full text",
+        SET_ELEMENTS,
+        "21; 21; ok; 21; 21; ok; 21; 21; 21",
+    ),
+    (
+        "kinds from full given read kinds full bytes",
+        SET_ELEMENTS,
+        "21; 21; ok; 21; 21; 21; ok; 21; 21",
+    ),
+    (
+        "kinds from full given read kinds full point",
+        SET_ELEMENTS,
+        "21; 21; ok; 21; 21; 21; 21; ok; 21",
+    ),
+    (
+        "kinds from full given read kinds full numbers",
+        SET_ELEMENTS,
+        "21; 21; ok; 21; 21; 21; 21; 21; ok",
+    ),
+    (
+        "kinds from full given read kinds full any",
+        SET_ELEMENTS,
+        "21; 21; ok; 21; 21; 21; 21; 21; 21",
+    ),
 ];
 
-/// The lists, each with the kind of its elements.
-const ELEMENTS: [(&str, usize); 9] = [
-    ("numbers", 7),
-    ("flags", 1),
-    ("voids", 0),
-    ("wide", 5),
-    ("colors", 10),
-    ("texts", 11),
-    ("blobs", 12),
-    ("points", 13),
-    ("rows", 14),
+/// What a field has that was set to the value of this field in another message.
+static SET_ROWS: [(&str, &str, &str); 15] = [
+    (
+        "kinds from empty given read kinds full void",
+        "set void given; value void",
+        "ok; ()",
+    ),
+    (
+        "kinds from empty given read kinds full truth",
+        "set truth given; value truth",
+        "ok; true",
+    ),
+    (
+        "kinds from empty given read kinds full int8",
+        "set int8 given; value int8",
+        "ok; -128",
+    ),
+    (
+        "kinds from empty given read kinds full int16",
+        "set int16 given; value int16",
+        "ok; -32768",
+    ),
+    (
+        "kinds from empty given read kinds full int32",
+        "set int32 given; value int32",
+        "ok; -2147483648",
+    ),
+    (
+        "kinds from empty given read kinds full int64",
+        "set int64 given; value int64",
+        "ok; -9223372036854775808",
+    ),
+    (
+        "kinds from empty given read kinds full uint8",
+        "set uint8 given; value uint8",
+        "ok; 255",
+    ),
+    (
+        "kinds from empty given read kinds full uint16",
+        "set uint16 given; value uint16",
+        "ok; 65535",
+    ),
+    (
+        "kinds from empty given read kinds full uint32",
+        "set uint32 given; value uint32",
+        "ok; 4294967295",
+    ),
+    (
+        "kinds from empty given read kinds full uint64",
+        "set uint64 given; value uint64",
+        "ok; 18446744073709551615",
+    ),
+    (
+        "kinds from empty given read kinds full color",
+        "set color given; value color",
+        "ok; blue",
+    ),
+    (
+        "kinds from empty given read kinds full text",
+        "set text given; value text",
+        "ok; \"word\"",
+    ),
+    (
+        "kinds from empty given read kinds full bytes",
+        "set bytes given; value bytes",
+        "ok; 0x\"010203\"",
+    ),
+    (
+        "kinds from empty given read kinds full point",
+        "set point given; value point",
+        "ok; (x = -5, y = 6)",
+    ),
+    (
+        "kinds from empty given read kinds full numbers",
+        "set numbers given; value numbers",
+        "ok; [65535, 0, 9]",
+    ),
 ];
 
-/// What the set of a field is refused with, by its kind and the value's; 0 where it is not.
-fn set_refusal(kind: usize, value: usize) -> u32 {
-    if kind == 0 || (kind == value && kind != UNTYPED) {
-        return 0;
-    }
-    if kind == UNTYPED {
-        return if value >= TEXT && value <= LIST {
-            0
-        } else {
-            27
-        };
-    }
-    if kind == GROUP && value != STRUCT {
-        return 22;
-    }
-    21
+#[test]
+fn every_value_for_every_field(rt: HostRuntime) {
+    rows_hold(&rt, rt.alloc(), &FIELD_ROWS);
+    rows_hold(&rt, rt.alloc(), &SET_ROWS);
 }
 
 #[test]
-fn every_value_for_every_field(rt: HostRuntime) -> std::result::Result<(), Fail> {
-    let set = new_set(rt.alloc())?;
-    let full = root(rt.alloc(), &set, KINDS, &FULL)?;
-    for value in 0..SOURCES.len() {
-        let source = SOURCES[value];
-        let given = full.get_named(source)?;
-        for (name, kind) in FIELDS {
-            let at = At::Field(name);
-            let (answer, bytes) = after(rt.alloc(), &set, KINDS, &EMPTY, at, Write::Set(given))?;
-            assert_eq!(rt; answer, set_refusal(kind, value));
-            assert!(rt; answer == 0 || bytes.as_slice() == EMPTY.as_slice());
-            if name == source && value != UNTYPED {
-                let (_, _, printed) = state(rt.alloc(), &set, KINDS, bytes.as_slice(), name)?;
-                let wanted = text(rt.alloc(), given)?;
-                assert_eq!(rt; printed.as_str(), wanted.as_str());
-            }
-        }
-    }
-    Ok(())
+fn every_value_for_every_element(rt: HostRuntime) {
+    rows_hold(&rt, rt.alloc(), &ELEMENT_ROWS);
+}
+
+/// Each call but the set at each field, and at each element, of a message with a value in each field.
+static START_ROWS: [(&str, &str, &str); 6] = [
+    // a struct, group or untyped pointer is started
+    (
+        "kinds from full",
+        "init void | init truth | init lie | init int8 | init int16 | init int32 | \
+         init int64 | init uint8 | init uint16 | init uint32 | init uint64 | init color | \
+         init text | init bytes | init point | init plain | init numbers | init flags | \
+         init voids | init wide | init colors | init texts | init blobs | init points | \
+         init rows | init any | init none | init count | init named",
+        "25; 25; 25; 25; 25; 25; 25; 25; 25; 25; 25; 25; 25; 25; ok; ok; 25; 25; 25; 25; 25; \
+         25; 25; 25; 25; ok; 25; 25; ok",
+    ),
+    // a list, text or data is started with a length
+    (
+        "kinds from full",
+        "initn void 3 | initn truth 3 | initn lie 3 | initn int8 3 | initn int16 3 | \
+         initn int32 3 | initn int64 3 | initn uint8 3 | initn uint16 3 | initn uint32 3 | \
+         initn uint64 3 | initn color 3 | initn text 3 | initn bytes 3 | initn point 3 | \
+         initn plain 3 | initn numbers 3 | initn flags 3 | initn voids 3 | initn wide 3 | \
+         initn colors 3 | initn texts 3 | initn blobs 3 | initn points 3 | initn rows 3 | \
+         initn any 3 | initn none 3 | initn count 3 | initn named 3",
+        "26; 26; 26; 26; 26; 26; 26; 26; 26; 26; 26; 26; ok; ok; 26; 26; ok; ok; ok; ok; ok; \
+         ok; ok; ok; ok; 26; 26; 26; 26",
+    ),
+    // every field is cleared
+    (
+        "kinds from full",
+        "clear void | clear truth | clear lie | clear int8 | clear int16 | clear int32 | \
+         clear int64 | clear uint8 | clear uint16 | clear uint32 | clear uint64 | \
+         clear color | clear text | clear bytes | clear point | clear plain | \
+         clear numbers | clear flags | clear voids | clear wide | clear colors | \
+         clear texts | clear blobs | clear points | clear rows | clear any | clear none | \
+         clear count | clear named",
+        "ok; ok; ok; ok; ok; ok; ok; ok; ok; ok; ok; ok; ok; ok; ok; ok; ok; ok; ok; ok; ok; \
+         ok; ok; ok; ok; ok; ok; ok; ok",
+    ),
+    // every field is handed out
+    (
+        "kinds from full",
+        "get void | get truth | get lie | get int8 | get int16 | get int32 | get int64 | \
+         get uint8 | get uint16 | get uint32 | get uint64 | get color | get text | \
+         get bytes | get point | get plain | get numbers | get flags | get voids | \
+         get wide | get colors | get texts | get blobs | get points | get rows | get any | \
+         get none | get count | get named",
+        "ok; ok; ok; ok; ok; ok; ok; ok; ok; ok; ok; ok; ok; ok; ok; ok; ok; ok; ok; ok; ok; \
+         ok; ok; ok; ok; ok; ok; ok; ok",
+    ),
+    // an element that is a list, text or data is started with a length
+    (
+        "kinds from full",
+        "initn numbers/1 3 | initn flags/1 3 | initn voids/1 3 | initn wide/1 3 | \
+         initn colors/1 3 | initn texts/1 3 | initn blobs/1 3 | initn points/1 3 | \
+         initn rows/1 3",
+        "23; 23; 23; 23; 23; ok; ok; 23; ok",
+    ),
+    // every element is handed out
+    (
+        "kinds from full",
+        "get numbers/1 | get flags/1 | get voids/1 | get wide/1 | get colors/1 | \
+         get texts/1 | get blobs/1 | get points/1 | get rows/1",
+        "ok; ok; ok; ok; ok; ok; ok; ok; ok",
+    ),
+];
+
+/// What a field has after such a call.
+static STARTED_ROWS: [(&str, &str, &str); 25] = [
+    (
+        "kinds from full",
+        "init point; value point",
+        "ok; (x = 0, y = -1)",
+    ),
+    (
+        "kinds from full",
+        "init any; value any",
+        "ok; <opaque pointer>",
+    ),
+    (
+        "kinds from full",
+        "init named; value named",
+        "ok; (once = ())",
+    ),
+    (
+        "kinds from full",
+        "initn text 2; value text",
+        "ok; \"\\0\\0\"",
+    ),
+    (
+        "kinds from full",
+        "initn bytes 2; value bytes",
+        "ok; 0x\"0000\"",
+    ),
+    (
+        "kinds from full",
+        "initn numbers 2; value numbers",
+        "ok; [0, 0]",
+    ),
+    (
+        "kinds from full",
+        "initn flags 2; value flags",
+        "ok; [false, false]",
+    ),
+    (
+        "kinds from full",
+        "initn voids 2; value voids",
+        "ok; [(), ()]",
+    ),
+    ("kinds from full", "initn wide 2; value wide", "ok; [0, 0]"),
+    (
+        "kinds from full",
+        "initn colors 2; value colors",
+        "ok; [red, red]",
+    ),
+    (
+        "kinds from full",
+        "initn texts 2; value texts",
+        "ok; [\"\", \"\"]",
+    ),
+    (
+        "kinds from full",
+        "initn blobs 2; value blobs",
+        "ok; [0x\"\", 0x\"\"]",
+    ),
+    (
+        "kinds from full",
+        "initn points 2; value points",
+        "ok; [(x = 0, y = -1), (x = 0, y = -1)]",
+    ),
+    (
+        "kinds from full",
+        "initn rows 2; value rows",
+        "ok; [[], []]",
+    ),
+    ("kinds from full", "clear lie; value lie", "ok; true"),
+    ("kinds from full", "clear int8; value int8", "ok; -8"),
+    ("kinds from full", "clear uint64; value uint64", "ok; 64"),
+    ("kinds from full", "clear color; value color", "ok; green"),
+    ("kinds from full", "clear text; value text", "ok; \"none\""),
+    (
+        "kinds from full",
+        "clear bytes; value bytes",
+        "ok; 0x\"00ff\"",
+    ),
+    (
+        "kinds from full",
+        "clear point; value point",
+        "ok; (x = 3, y = 4)",
+    ),
+    (
+        "kinds from full",
+        "clear numbers; value numbers",
+        "ok; [1, 2, 3]",
+    ),
+    ("kinds from full", "clear points; value points", "ok; []"),
+    ("kinds from full", "clear count; value count", "ok; 0"),
+    (
+        "kinds from full",
+        "clear named; value named",
+        "ok; (once = ())",
+    ),
+];
+
+#[test]
+fn every_field_is_started_and_cleared(rt: HostRuntime) {
+    rows_hold(&rt, rt.alloc(), &START_ROWS);
 }
 
 #[test]
-fn every_value_for_every_element(rt: HostRuntime) -> std::result::Result<(), Fail> {
-    let set = new_set(rt.alloc())?;
-    let full = root(rt.alloc(), &set, KINDS, &FULL)?;
-    for value in 0..SOURCES.len() {
-        let source = SOURCES[value];
-        let given = Write::Set(full.get_named(source)?);
-        for (list, kind) in ELEMENTS {
-            let at = At::Element(list, 1);
-            let (answer, bytes) = after(rt.alloc(), &set, KINDS, &FULL, at, given)?;
-            let refused = if kind == 0 || kind == value { 0 } else { 21 };
-            assert_eq!(rt; answer, refused, "{list} {source}");
-            assert!(rt;
-                answer == 0 || bytes.as_slice() == FULL.as_slice(),
-                "{list} {source}"
-            );
-        }
-    }
-    Ok(())
-}
-
-#[test]
-fn every_field_is_started_and_cleared(rt: HostRuntime) -> std::result::Result<(), Fail> {
-    let set = new_set(rt.alloc())?;
-    for (name, kind) in FIELDS {
-        let init = if kind == STRUCT || kind >= UNTYPED {
-            0
-        } else {
-            25
-        };
-        let initn = if kind == LIST || kind == TEXT || kind == TEXT + 1 {
-            0
-        } else {
-            26
-        };
-        let table = [
-            (Write::Init, init),
-            (Write::Initn(3), initn),
-            (Write::Clear, 0),
-            (Write::Get, 0),
-        ];
-        for (write, refused) in table {
-            let at = At::Field(name);
-            let (answer, bytes) = after(rt.alloc(), &set, KINDS, &FULL, at, write)?;
-            assert_eq!(rt; answer, refused, "{name}");
-            assert!(rt;
-                answer == 0 || bytes.as_slice() == FULL.as_slice(),
-                "{name}"
-            );
-        }
-    }
-    for (list, kind) in ELEMENTS {
-        let initn = if kind == LIST || kind == TEXT || kind == TEXT + 1 {
-            0
-        } else {
-            23
-        };
-        for (write, refused) in [(Write::Initn(3), initn), (Write::Get, 0)] {
-            let at = At::Element(list, 1);
-            let (answer, bytes) = after(rt.alloc(), &set, KINDS, &FULL, at, write)?;
-            assert_eq!(rt; answer, refused, "{list}");
-            assert!(rt;
-                answer == 0 || bytes.as_slice() == FULL.as_slice(),
-                "{list}"
-            );
-        }
-    }
-    Ok(())
-}
-
-#[test]
-fn what_is_started_and_cleared(rt: HostRuntime) -> std::result::Result<(), Fail> {
-    let set = new_set(rt.alloc())?;
-    let two = Write::Initn(2);
-    // the field, the call, and what the field has then
-    let table = [
-        ("point", Write::Init, "(x = 0, y = -1)"),
-        ("any", Write::Init, "<opaque pointer>"),
-        ("named", Write::Init, "(once = ())"),
-        ("text", two, "\"\\0\\0\""),
-        ("bytes", two, "0x\"0000\""),
-        ("numbers", two, "[0, 0]"),
-        ("flags", two, "[false, false]"),
-        ("voids", two, "[(), ()]"),
-        ("wide", two, "[0, 0]"),
-        ("colors", two, "[red, red]"),
-        ("texts", two, "[\"\", \"\"]"),
-        ("blobs", two, "[0x\"\", 0x\"\"]"),
-        ("points", two, "[(x = 0, y = -1), (x = 0, y = -1)]"),
-        ("rows", two, "[[], []]"),
-        ("lie", Write::Clear, "true"),
-        ("int8", Write::Clear, "-8"),
-        ("uint64", Write::Clear, "64"),
-        ("color", Write::Clear, "green"),
-        ("text", Write::Clear, "\"none\""),
-        ("bytes", Write::Clear, "0x\"00ff\""),
-        ("point", Write::Clear, "(x = 3, y = 4)"),
-        ("numbers", Write::Clear, "[1, 2, 3]"),
-        ("points", Write::Clear, "[]"),
-        ("count", Write::Clear, "0"),
-        ("named", Write::Clear, "(once = ())"),
-    ];
-    for (name, write, printed) in table {
-        let (_, bytes) = after(rt.alloc(), &set, KINDS, &FULL, At::Field(name), write)?;
-        let (_, _, value) = state(rt.alloc(), &set, KINDS, bytes.as_slice(), name)?;
-        assert_eq!(rt; value.as_str(), printed, "{name}");
-    }
-    Ok(())
+fn what_is_started_and_cleared(rt: HostRuntime) {
+    rows_hold(&rt, rt.alloc(), &STARTED_ROWS);
 }

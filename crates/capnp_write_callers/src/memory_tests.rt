@@ -1,119 +1,71 @@
 //! Calls that memory is refused to: `rt try --test --fail-alloc N` refuses the N-th growth of each test. Where a call meets it,
 //! it answers so and the message is as it was; what comes before and after it is not looked at.
 
-use crate::calls::{At, Write};
-use crate::fixtures::{SHAPES, after, after_all, empty, root, root_text};
-use capnp_dynamic::dynamic_value::Reader as Value;
-use capnp_schema_callers::built_in::new_set as new_built_in_set;
-use capnp_schema_callers::kinds::{EMPTY, FULL, KINDS, new_set};
-use std::test::Fail;
+use crate::script::answers_of;
+use std::alloc::Global;
+use std::process::Abort;
 
-#[test]
-fn a_refused_call_changes_nothing(rt: HostRuntime) -> std::result::Result<(), Fail> {
-    let Ok(set) = new_set(rt.alloc()) else {
-        return Ok(());
-    };
-    let full = root(rt.alloc(), &set, KINDS, &FULL)?;
-    // the call, the message before it, and the number that it answers at most
-    let table = [
-        (
-            At::Field("text"),
-            Write::Set(Value::from("longer than a word")),
-            FULL.as_slice(),
-            1,
-        ),
-        (
-            At::Field("bytes"),
-            Write::Set(Value::Data(&[9; 20])),
-            FULL.as_slice(),
-            1,
-        ),
-        (
-            At::Field("plain"),
-            Write::Set(full.get_named("point")?),
-            FULL.as_slice(),
-            1,
-        ),
-        (
-            At::Field("any"),
-            Write::Set(full.get_named("rows")?),
-            FULL.as_slice(),
-            1,
-        ),
-        (At::Field("point"), Write::Init, FULL.as_slice(), 1),
-        (At::Field("texts"), Write::Initn(5), FULL.as_slice(), 1),
-        (At::Field("points"), Write::Initn(5), FULL.as_slice(), 1),
-        (
-            At::Element("texts", 0),
-            Write::Set(Value::from("more")),
-            FULL.as_slice(),
-            1,
-        ),
-        (At::Element("rows", 1), Write::Initn(40), FULL.as_slice(), 1),
-        (At::Field("text"), Write::Get, EMPTY.as_slice(), 1),
-        (At::Field("point"), Write::Get, EMPTY.as_slice(), 1),
-        (At::Field("numbers"), Write::Get, EMPTY.as_slice(), 1),
-        (
-            At::Field("count"),
-            Write::Set(Value::UInt32(5)),
-            FULL.as_slice(),
-            0,
-        ),
-        (At::Field("named"), Write::Init, FULL.as_slice(), 0),
-        (At::Field("point"), Write::Clear, FULL.as_slice(), 0),
-        (At::Field("any"), Write::Init, FULL.as_slice(), 0),
-        (
-            At::Element("wide", 0),
-            Write::Set(Value::Int64(5)),
-            FULL.as_slice(),
-            0,
-        ),
-        (At::Element("points", 0), Write::Get, FULL.as_slice(), 0),
-    ];
-    for (at, write, before, most) in table {
-        if let Ok((answer, bytes)) = after(rt.alloc(), &set, KINDS, before, at, write) {
-            assert!(rt; answer <= most);
-            assert!(rt; answer == 0 || bytes.as_slice() == before);
+/// Asserts that each script is answered so, or as the last text says, where a call in it met the refusal.
+fn rows_hold_or_want_memory(rt: &impl Abort, alloc: Global, rows: &[(&str, &str, &str, &str)]) {
+    for (built, calls, answers, short) in rows {
+        if let Ok(answered) = answers_of(alloc, built, calls) {
+            let is_expected = answered.as_str() == *answers || answered.as_str() == *short;
+            assert!(rt; is_expected, "{built}: {calls}: {answered}");
         }
     }
-    Ok(())
 }
 
+static CALL_ROWS: [(&str, &str, &str, &str); 18] = [
+    (
+        "kinds from full",
+        "set text text longer than a word",
+        "ok",
+        "1",
+    ),
+    (
+        "kinds from full",
+        "set bytes data twenty bytes of data",
+        "ok",
+        "1",
+    ),
+    (
+        "kinds from full",
+        "set plain read kinds full point",
+        "ok",
+        "1",
+    ),
+    ("kinds from full", "set any read kinds full rows", "ok", "1"),
+    ("kinds from full", "init point", "ok", "1"),
+    ("kinds from full", "initn texts 5", "ok", "1"),
+    ("kinds from full", "initn points 5", "ok", "1"),
+    ("kinds from full", "set texts/0 text more", "ok", "1"),
+    ("kinds from full", "initn rows/1 40", "ok", "1"),
+    ("kinds from empty", "get text", "ok", "1"),
+    ("kinds from empty", "get point", "ok", "1"),
+    ("kinds from empty", "get numbers", "ok", "1"),
+    // these take no memory
+    ("kinds from full", "set count u32 5", "ok", "ok"),
+    ("kinds from full", "init named", "ok", "ok"),
+    ("kinds from full", "clear point", "ok", "ok"),
+    ("kinds from full", "init any", "ok", "ok"),
+    ("kinds from full", "set wide/0 i64 5", "ok", "ok"),
+    ("kinds from full", "get points/0", "ok", "ok"),
+];
+
 #[test]
-fn a_group_that_is_cut_by_memory(rt: HostRuntime) -> std::result::Result<(), Fail> {
-    let Ok(set) = new_built_in_set(rt.alloc()) else {
-        return Ok(());
-    };
-    let Ok(start) = empty(rt.alloc(), &set, SHAPES) else {
-        return Ok(());
-    };
-    let tag = [
-        (At::Field("tag"), Write::Init, 0),
-        (At::Inner("tag", "u1"), Write::Set(Value::UInt8(9)), 0),
-        (At::Inner("tag", "n"), Write::Set(Value::UInt16(3)), 0),
-        (At::Inner("tag", "q"), Write::Set(Value::from("z")), 0),
-    ];
-    let Ok((true, source)) = after_all(rt.alloc(), &set, SHAPES, start.as_slice(), &tag) else {
-        return Ok(());
-    };
-    let value = root(rt.alloc(), &set, SHAPES, source.as_slice())?.get_named("tag")?;
-    let copied = after(
-        rt.alloc(),
-        &set,
-        SHAPES,
-        start.as_slice(),
-        At::Field("tag"),
-        Write::Set(value),
-    );
-    if let Ok((answer, bytes)) = copied {
-        let wanted = match answer {
-            0 => "(id = 0, tag = (n = 3, u1 = 9, q = \"z\"))",
-            _ => "(id = 0, tag = (n = 3, u1 = 9))",
-        };
-        assert!(rt; answer <= 1);
-        if let Ok(printed) = root_text(rt.alloc(), &set, SHAPES, bytes.as_slice()) {
-            assert_eq!(rt; printed.as_str(), wanted);
-        }
-    }
-    Ok(())
+fn a_refused_call_changes_nothing(rt: HostRuntime) {
+    rows_hold_or_want_memory(&rt, rt.alloc(), &CALL_ROWS);
+}
+
+/// The text of the group is copied last.
+static GROUP_ROWS: [(&str, &str, &str, &str); 1] = [(
+    "shapes",
+    "set tag read shapes tagged tag; print",
+    "ok; (id = 0, tag = (n = 3, u1 = 9, q = \"z\"))",
+    "1 changed; (id = 0, tag = (n = 3, u1 = 9))",
+)];
+
+#[test]
+fn a_group_that_is_cut_by_memory(rt: HostRuntime) {
+    rows_hold_or_want_memory(&rt, rt.alloc(), &GROUP_ROWS);
 }

@@ -1,0 +1,243 @@
+//! What the scripts of `script` name: structs of three sets, and messages.
+
+use capnp_base::introspect::{Type, TypeVariant};
+use capnp_schema::set::SchemaSet;
+use capnp_schema_callers::fixtures::{
+    StructOf, add_struct, group_field, list_type, one_each, records_of, slot, typed_slot,
+};
+use capnp_schema_callers::{built_in, kinds};
+use capnp_wire::error::Result;
+use std::alloc::Global;
+
+/// The sets: the built-in one, that of a struct with a field of every kind, and `grouped_set`.
+#[derive(Clone, Copy)]
+enum Set {
+    BuiltIn,
+    Kinds,
+    Grouped,
+}
+
+/// The structs, each with its set and its number there.
+static STRUCTS: [(&str, Set, u32); 9] = [
+    ("flat", Set::BuiltIn, 0),
+    ("mixed", Set::BuiltIn, 1),
+    ("many", Set::BuiltIn, 2),
+    ("shapes", Set::BuiltIn, 3),
+    ("loop", Set::BuiltIn, 6),
+    ("lists", Set::BuiltIn, 7),
+    ("kinds", Set::Kinds, 0),
+    ("grouped", Set::Grouped, 0),
+    ("untyped", Set::Grouped, 2),
+];
+
+/// A message whose root is null.
+static NULL_ROOT: [u8; 16] = [0, 0, 0, 0, 1, 0, 0, 0, 0, 0, 0, 0, 0, 0, 0, 0];
+
+/// The messages. A name that is not here, nor `full` or `empty` of the struct of every kind, is a null root.
+static MESSAGES: [(&str, &[u8]); 18] = [
+    // a root of size zero
+    (
+        "short",
+        &[0, 0, 0, 0, 1, 0, 0, 0, 0xfc, 0xff, 0xff, 0xff, 0, 0, 0, 0],
+    ),
+    // a `Flat` whose `a` is 5
+    (
+        "five",
+        &[
+            0, 0, 0, 0, 2, 0, 0, 0, 0, 0, 0, 0, 1, 0, 0, 0, 5, 0, 0, 0, 0, 0, 0, 0,
+        ],
+    ),
+    // a `Mixed` whose `a` is 5, with `y` active and 9, and `b` is `hi`
+    (
+        "mixed_hi",
+        &[
+            0, 0, 0, 0, 4, 0, 0, 0, 0, 0, 0, 0, 1, 0, 1, 0, 5, 0, 1, 0, 9, 0, 0, 0, 1, 0, 0, 0,
+            0x1a, 0, 0, 0, 0x68, 0x69, 0, 0, 0, 0, 0, 0,
+        ],
+    ),
+    // a `Many` whose `n` is 5, which is stored as 2 with the default 7
+    (
+        "many_five",
+        &[
+            0, 0, 0, 0, 3, 0, 0, 0, 0, 0, 0, 0, 2, 0, 0, 0, 0, 0, 2, 0, 0, 0, 0, 0, 0, 0, 0, 0, 0,
+            0, 0, 0,
+        ],
+    ),
+    // a `Shapes` with `tag` active, in it `u1` and 9, and `n` 3, and `q` is `z`
+    (
+        "tagged",
+        &[
+            0, 0, 0, 0, 6, 0, 0, 0, 0, 0, 0, 0, 2, 0, 2, 0, 0, 0, 1, 0, 3, 0, 1, 0, 9, 0, 0, 0, 0,
+            0, 0, 0, 0, 0, 0, 0, 0, 0, 0, 0, 1, 0, 0, 0, 0x12, 0, 0, 0, 0x7a, 0, 0, 0, 0, 0, 0, 0,
+        ],
+    ),
+    // the same, whose `any` is the text `k`
+    (
+        "tagged_any",
+        &[
+            0, 0, 0, 0, 7, 0, 0, 0, 0, 0, 0, 0, 2, 0, 2, 0, 0, 0, 1, 0, 3, 0, 1, 0, 9, 0, 0, 0, 0,
+            0, 0, 0, 5, 0, 0, 0, 0x12, 0, 0, 0, 5, 0, 0, 0, 0x12, 0, 0, 0, 0x6b, 0, 0, 0, 0, 0, 0,
+            0, 0x7a, 0, 0, 0, 0, 0, 0, 0,
+        ],
+    ),
+    // the one before it, whose `q` does not end in a zero
+    (
+        "tagged_unended",
+        &[
+            0, 0, 0, 0, 6, 0, 0, 0, 0, 0, 0, 0, 2, 0, 2, 0, 0, 0, 1, 0, 3, 0, 1, 0, 9, 0, 0, 0, 0,
+            0, 0, 0, 0, 0, 0, 0, 0, 0, 0, 0, 1, 0, 0, 0, 0x0a, 0, 0, 0, 0x7a, 0, 0, 0, 0, 0, 0, 0,
+        ],
+    ),
+    // a struct whose group has `k` 4 and the member `m` active, which does not end in a zero
+    (
+        "member_unended",
+        &[
+            0, 0, 0, 0, 4, 0, 0, 0, 0, 0, 0, 0, 1, 0, 1, 0, 4, 0, 1, 0, 0, 0, 0, 0, 1, 0, 0, 0,
+            0x0a, 0, 0, 0, 0x7a, 0, 0, 0, 0, 0, 0, 0,
+        ],
+    ),
+    // a `Loop` with `again` active, a struct of size zero
+    (
+        "short_again",
+        &[
+            0, 0, 0, 0, 3, 0, 0, 0, 0, 0, 0, 0, 1, 0, 1, 0, 1, 0, 0, 0, 0, 0, 0, 0, 0xfc, 0xff,
+            0xff, 0xff, 0, 0, 0, 0,
+        ],
+    ),
+    // a `Lists` whose `bytes` are 5 and 255
+    (
+        "bytes",
+        &[
+            0, 0, 0, 0, 6, 0, 0, 0, 0, 0, 0, 0, 0, 0, 4, 0, 0x0d, 0, 0, 0, 0x12, 0, 0, 0, 0, 0, 0,
+            0, 0, 0, 0, 0, 0, 0, 0, 0, 0, 0, 0, 0, 0, 0, 0, 0, 0, 0, 0, 0, 5, 0xff, 0, 0, 0, 0, 0,
+            0,
+        ],
+    ),
+    // a `Lists` whose `items` are the bytes 5 and 255
+    (
+        "items_as_bytes",
+        &[
+            0, 0, 0, 0, 6, 0, 0, 0, 0, 0, 0, 0, 0, 0, 4, 0, 0, 0, 0, 0, 0, 0, 0, 0, 0, 0, 0, 0, 0,
+            0, 0, 0, 0, 0, 0, 0, 0, 0, 0, 0, 1, 0, 0, 0, 0x12, 0, 0, 0, 5, 0xff, 0, 0, 0, 0, 0, 0,
+        ],
+    ),
+    // the same as structs
+    (
+        "items",
+        &[
+            0, 0, 0, 0, 8, 0, 0, 0, 0, 0, 0, 0, 0, 0, 4, 0, 0, 0, 0, 0, 0, 0, 0, 0, 0, 0, 0, 0, 0,
+            0, 0, 0, 0, 0, 0, 0, 0, 0, 0, 0, 1, 0, 0, 0, 0x17, 0, 0, 0, 8, 0, 0, 0, 1, 0, 0, 0, 5,
+            0, 0, 0, 0, 0, 0, 0, 0xff, 0, 0, 0, 0, 0, 0, 0,
+        ],
+    ),
+    // a `Lists` whose `items` are the numbers 1 and 2, of two bytes each
+    (
+        "items_as_numbers",
+        &[
+            0, 0, 0, 0, 6, 0, 0, 0, 0, 0, 0, 0, 0, 0, 4, 0, 0, 0, 0, 0, 0, 0, 0, 0, 0, 0, 0, 0, 0,
+            0, 0, 0, 0, 0, 0, 0, 0, 0, 0, 0, 1, 0, 0, 0, 0x13, 0, 0, 0, 1, 0, 2, 0, 0, 0, 0, 0,
+        ],
+    ),
+    // a `Lists` whose `items` are two structs of size zero
+    (
+        "short_items",
+        &[
+            0, 0, 0, 0, 6, 0, 0, 0, 0, 0, 0, 0, 0, 0, 4, 0, 0, 0, 0, 0, 0, 0, 0, 0, 0, 0, 0, 0, 0,
+            0, 0, 0, 0, 0, 0, 0, 0, 0, 0, 0, 1, 0, 0, 0, 7, 0, 0, 0, 8, 0, 0, 0, 0, 0, 0, 0,
+        ],
+    ),
+    // a `Lists` whose `items` are a struct of two words, 1 and 9
+    (
+        "long_items",
+        &[
+            0, 0, 0, 0, 8, 0, 0, 0, 0, 0, 0, 0, 0, 0, 4, 0, 0, 0, 0, 0, 0, 0, 0, 0, 0, 0, 0, 0, 0,
+            0, 0, 0, 0, 0, 0, 0, 0, 0, 0, 0, 1, 0, 0, 0, 0x17, 0, 0, 0, 4, 0, 0, 0, 2, 0, 0, 0, 1,
+            0, 0, 0, 0, 0, 0, 0, 9, 0, 0, 0, 0, 0, 0, 0,
+        ],
+    ),
+    // the same of the words 5 and 9
+    (
+        "long_items_five",
+        &[
+            0, 0, 0, 0, 8, 0, 0, 0, 0, 0, 0, 0, 0, 0, 4, 0, 0, 0, 0, 0, 0, 0, 0, 0, 0, 0, 0, 0, 0,
+            0, 0, 0, 0, 0, 0, 0, 0, 0, 0, 0, 1, 0, 0, 0, 0x17, 0, 0, 0, 4, 0, 0, 0, 2, 0, 0, 0, 5,
+            0, 0, 0, 0, 0, 0, 0, 9, 0, 0, 0, 0, 0, 0, 0,
+        ],
+    ),
+    // the same of the words 5 and 0
+    (
+        "long_items_filled",
+        &[
+            0, 0, 0, 0, 8, 0, 0, 0, 0, 0, 0, 0, 0, 0, 4, 0, 0, 0, 0, 0, 0, 0, 0, 0, 0, 0, 0, 0, 0,
+            0, 0, 0, 0, 0, 0, 0, 0, 0, 0, 0, 1, 0, 0, 0, 0x17, 0, 0, 0, 4, 0, 0, 0, 2, 0, 0, 0, 5,
+            0, 0, 0, 0, 0, 0, 0, 0, 0, 0, 0, 0, 0, 0, 0,
+        ],
+    ),
+    // a `Lists` whose `items` are bits
+    (
+        "items_as_bits",
+        &[
+            0, 0, 0, 0, 6, 0, 0, 0, 0, 0, 0, 0, 0, 0, 4, 0, 0, 0, 0, 0, 0, 0, 0, 0, 0, 0, 0, 0, 0,
+            0, 0, 0, 0, 0, 0, 0, 0, 0, 0, 0, 1, 0, 0, 0, 0x11, 0, 0, 0, 1, 0, 0, 0, 0, 0, 0, 0,
+        ],
+    ),
+];
+
+/// A set of a struct with the group `g` alone, the group of `k` and the members `e` and `m`, and a struct with a list of
+/// untyped pointers.
+fn grouped_set(alloc: Global) -> Result<SchemaSet> {
+    let outer = [group_field("g", 1)];
+    let group = [
+        slot("k", 0, TypeVariant::UInt16),
+        slot("e", 0, TypeVariant::Void).member(0),
+        slot("m", 0, TypeVariant::Text).member(1),
+    ];
+    let untyped = [typed_slot(
+        "pointers",
+        0,
+        list_type(Type::from(TypeVariant::AnyPointer)),
+    )];
+    let mut records = records_of(alloc, one_each(&outer))?;
+    let inner: StructOf<'_> = one_each(&group).union(2, 1).group();
+    add_struct(alloc, &mut records, 1, &inner)?;
+    add_struct(alloc, &mut records, 2, &one_each(&untyped))?;
+    SchemaSet::new(alloc, records.nodes, records.brands, records.enums)
+}
+
+/// The set and the number of a struct.
+fn entry_of(name: &str) -> (Set, u32) {
+    for (text, set, number) in &STRUCTS {
+        if *text == name {
+            return (*set, *number);
+        }
+    }
+    (Set::BuiltIn, 0)
+}
+
+/// The number of a struct in its set.
+pub fn brand_of(name: &str) -> u32 {
+    entry_of(name).1
+}
+
+/// The set that has a struct.
+pub fn set_of(alloc: Global, name: &str) -> Result<SchemaSet> {
+    match entry_of(name).0 {
+        Set::BuiltIn => built_in::new_set(alloc),
+        Set::Kinds => kinds::new_set(alloc),
+        Set::Grouped => grouped_set(alloc),
+    }
+}
+
+/// The message of a name.
+pub fn message_of(name: &str) -> &'static [u8] {
+    for (text, message) in &MESSAGES {
+        if *text == name {
+            return message;
+        }
+    }
+    match name {
+        "full" => &kinds::FULL,
+        "empty" => &kinds::EMPTY,
+        _ => &NULL_ROOT,
+    }
+}
