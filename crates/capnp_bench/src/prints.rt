@@ -3,7 +3,7 @@
 use crate::reads::root_of;
 use capnp_dynamic::dynamic_value::Reader as Value;
 use capnp_dynamic::printer::print;
-use capnp_schema_callers::built_in::new_set;
+use capnp_schema::builtin::new_set;
 use capnp_wire::error::Result;
 use std::alloc::Global;
 

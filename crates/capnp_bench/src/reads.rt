@@ -5,8 +5,8 @@ ghost use Rattle.capnp_dynamic.specs.Reads.{BelongsTo};
 
 use capnp_dynamic::dynamic_struct::Reader;
 use capnp_dynamic::dynamic_value::Reader as Value;
+use capnp_schema::builtin::new_set;
 use capnp_schema::schema::{Field, StructSchema};
-use capnp_schema_callers::built_in::new_set;
 use capnp_wire::error::Result;
 use capnp_wire::message;
 use std::alloc::Global;

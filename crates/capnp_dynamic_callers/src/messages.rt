@@ -1,12 +1,13 @@
 //! What scripts name: structs of several sets, and messages.
 
 use capnp_base::introspect::{Type, TypeVariant};
+use capnp_schema::builtin;
 use capnp_schema::set::SchemaSet;
 use capnp_schema_callers::fixtures::{
     FieldOf, NULL, StructOf, ValueOf, add_struct, group_field, list_type, one_each, records_of,
     slot, slot_with, struct_type, typed_slot,
 };
-use capnp_schema_callers::{built_in, kinds};
+use capnp_schema_callers::kinds;
 use capnp_wire::error::Result;
 use std::alloc::Global;
 
@@ -325,7 +326,7 @@ pub fn brand_of(name: &str) -> u32 {
 /// The set that has a struct.
 pub fn set_of(alloc: Global, name: &str) -> Result<SchemaSet> {
     match entry_of(name).0 {
-        Set::BuiltIn => built_in::new_set(alloc),
+        Set::BuiltIn => builtin::new_set(alloc),
         Set::Kinds => kinds::new_set(alloc),
         Set::Untyped => untyped_set(alloc),
         Set::Shared => one_struct(alloc, one_each(&shared_fields()).union(5, 1)),

@@ -3,7 +3,7 @@
 use crate::cases::{Case, cases_hold, left_by, root};
 use crate::fixtures::{ENTERED, LISTED, LISTS, MIXED, NONE, NUMBERS, SHAPES};
 use capnp_dynamic::dynamic_value::Reader as Value;
-use capnp_schema_callers::built_in::new_set;
+use capnp_schema::builtin::new_set;
 use capnp_schema_callers::fixtures::schema_of;
 use std::test::Fail;
 

@@ -4,8 +4,8 @@ use crate::cases::{Case, cases_hold, left_by};
 use crate::fixtures::{LISTS, LOOP, NONE, SHAPES};
 use capnp_base::introspect::{Type, TypeVariant};
 use capnp_dynamic::dynamic_value::Reader as Value;
+use capnp_schema::builtin::new_set;
 use capnp_schema::set::SchemaSet;
-use capnp_schema_callers::built_in::new_set;
 use capnp_schema_callers::fixtures::{
     StructOf, ValueOf, add_struct, list_type, one_word, records_of, slot, slot_with, struct_type,
 };

@@ -1,7 +1,7 @@
 //! Sets that are accepted, and want of memory.
 
-use crate::built_in::new_set;
 use crate::set_text::read_set;
+use capnp_schema::builtin::new_set;
 use capnp_wire::error::ErrorKind;
 use std::test::Fail;
 

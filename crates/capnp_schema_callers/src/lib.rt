@@ -5,7 +5,6 @@
 mod accepted_tests;
 #[cfg(test)]
 mod annotation_tests;
-pub mod built_in;
 mod changes;
 pub mod fixtures;
 #[cfg(test)]

@@ -1,8 +1,8 @@
 //! Plans of the fields of the built-in set.
 
-use crate::built_in::new_set;
 use crate::fixtures::schema_of;
 use crate::lookup::plan_of_named;
+use capnp_schema::builtin::new_set;
 use capnp_schema::plan::{Place, SlotPlan};
 use capnp_wire::error::ErrorKind;
 use std::test::Fail;

@@ -1,11 +1,12 @@
 //! What the scripts of `script` name: structs of three sets, and messages.
 
 use capnp_base::introspect::{Type, TypeVariant};
+use capnp_schema::builtin;
 use capnp_schema::set::SchemaSet;
 use capnp_schema_callers::fixtures::{
     StructOf, add_struct, group_field, list_type, one_each, records_of, slot, typed_slot,
 };
-use capnp_schema_callers::{built_in, kinds};
+use capnp_schema_callers::kinds;
 use capnp_wire::error::Result;
 use std::alloc::Global;
 
@@ -222,7 +223,7 @@ pub fn brand_of(name: &str) -> u32 {
 /// The set that has a struct.
 pub fn set_of(alloc: Global, name: &str) -> Result<SchemaSet> {
     match entry_of(name).0 {
-        Set::BuiltIn => built_in::new_set(alloc),
+        Set::BuiltIn => builtin::new_set(alloc),
         Set::Kinds => kinds::new_set(alloc),
         Set::Grouped => grouped_set(alloc),
     }
