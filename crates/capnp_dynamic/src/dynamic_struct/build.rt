@@ -3,7 +3,7 @@
 //! A builder is thin: its calls are those of `slot` and `group` on its object, and their contracts say what the struct
 //! becomes. A field that is given to a call belongs to the builder's schema, and the struct has at least the schema's
 //! sections; both are conditions.
-ghost use Rattle.std.specs.Prelude.{None, Ok, IfErr, IsErrAnd, IsOk, IsOkAnd, OnErr, OnOk, ◌≡◌, ◌≢◌};
+ghost use Rattle.std.specs.Prelude.{None, Ok, IfErr, IsErrAnd, IsOk, IsOkAnd, OnErr, OnOk, ◌≡◌, ◌≢◌, IfOk};
 ghost use Rattle.capnp_device.specs.declared.error.ErrorKind.TheVariants.{FieldNotFound};
 ghost use Rattle.capnp_wire.specs.Edits.{IsStructRefusal, extended, struct_in};
 ghost use Rattle.capnp_wire.specs.Objects.{object_tree, struct_object_tree};
