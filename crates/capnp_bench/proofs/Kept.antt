@@ -10,7 +10,6 @@ use Rattle.capnp_schema.specs.declared.schema.structs.StructSchema.{StructSchema
 use Rattle.capnp_records.specs.Writes.Slots.{Fits, brand_size}
 use Rattle.capnp_slots.specs.Fields.{Keeps}
 use Rattle.capnp_slots.specs.Groups.{IsGroupAt}
-use Rattle.capnp_dynamic.specs.Built.{IsUnder}
 use Rattle.capnp_bench.specs.Room.{LiesIn, StaysUnder}
 
 pub kept_under : (inside : Place → Bool) (s s' : StructTree) → Keeps inside s s' → StaysUnder s s'

@@ -1,6 +1,5 @@
 -- A compatible successor is one where lists may have become lists of structs, too.
-use Rattle.std.specs.Prelude.{ℕ, ◌≡◌, refl, Bool, true, false, IsTrue}
-use Rattle.std.specs.Bool.{Decides}
+use Rattle.std.specs.Prelude.{ℕ, ◌≡◌, true, false}
 use Rattle.capnp_schema.specs.StructHandles.{IsStruct, number_of, set_of}
 use Rattle.capnp_schema.specs.declared.schema.structs.StructSchema.{StructSchema}
 use Rattle.capnp_schema.specs.Schema.{Schemas, field_at}

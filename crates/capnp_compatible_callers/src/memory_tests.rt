@@ -8,7 +8,7 @@ use capnp_base::introspect::TypeVariant;
 use capnp_dynamic::dynamic_struct;
 use capnp_dynamic::dynamic_value::Reader as Value;
 use capnp_schema::set::SchemaSet;
-use capnp_schema_callers::fixtures::{
+use capnp_schema_fixtures::fixtures::{
     FieldOf, StructOf, add_struct, list_type, one_word, records_of, slot, struct_type, typed_slot,
 };
 use capnp_wire::error::{ErrorKind, Result};

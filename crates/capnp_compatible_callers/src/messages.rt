@@ -1,6 +1,6 @@
 //! What scripts and schemas name: messages, and the words of defaults.
 
-use capnp_schema_callers::fixtures::NULL;
+use capnp_schema_fixtures::fixtures::NULL;
 use capnp_wire::error::Result;
 use capnp_wire::{StructReader, message};
 use std::alloc::Global;

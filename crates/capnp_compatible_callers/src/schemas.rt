@@ -15,7 +15,7 @@ use crate::messages::words_named;
 use capnp_base::introspect::{Type, TypeVariant};
 use capnp_schema::builtin;
 use capnp_schema::set::SchemaSet;
-use capnp_schema_callers::fixtures::{
+use capnp_schema_fixtures::fixtures::{
     FieldOf, Records, StructOf, ValueOf, add_struct, enum_record, enum_type, group_field,
     list_type, slot_with, struct_type, typed_slot,
 };

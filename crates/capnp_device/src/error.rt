@@ -19,11 +19,11 @@ pub enum SchemaTable {
 
 impl fmt::Display for SchemaTable {
     fn fmt<W: fmt::Write>(&self, f: &mut fmt::Formatter<W>) -> fmt::Result {
-        f.write_str(match self {
-            SchemaTable::Node => "node",
-            SchemaTable::Brand => "brand",
-            SchemaTable::Enum => "enum",
-        })
+        match self {
+            SchemaTable::Node => f.write_str("node"),
+            SchemaTable::Brand => f.write_str("brand"),
+            SchemaTable::Enum => f.write_str("enum"),
+        }
     }
 }
 
@@ -195,70 +195,5 @@ impl<T: Drop> From<AllocFailed<T>> for Error {
         Error {
             kind: ErrorKind::OutOfMemory,
         }
-    }
-}
-
-#[cfg(test)]
-mod tests {
-    use super::*;
-    use std::test::Fail;
-
-    #[test]
-    fn each_kind_has_its_number(rt: HostRuntime) {
-        let table = [
-            (ErrorKind::OutOfMemory, 1),
-            (ErrorKind::Truncated, 2),
-            (ErrorKind::TooManySegments, 3),
-            (ErrorKind::BadPointer, 4),
-            (ErrorKind::WrongPointerKind, 5),
-            (ErrorKind::WrongElementSize, 6),
-            (ErrorKind::TextNotTerminated, 7),
-            (ErrorKind::TooDeep, 8),
-            (ErrorKind::CapabilityPointer, 9),
-            (ErrorKind::SizePastFormat, 10),
-            (ErrorKind::TooLarge, 11),
-            (ErrorKind::ReadFailed, 12),
-            (ErrorKind::WriteFailed, 13),
-            (ErrorKind::FieldNotFound, 20),
-            (ErrorKind::TypeMismatch, 21),
-            (ErrorKind::NotAStruct, 22),
-            (ErrorKind::ExpectedAListOrBlob, 23),
-            (ErrorKind::ListAnyPointerNotSupported, 24),
-            (ErrorKind::InitIsOnlyValidForStructAndAnyPointerFields, 25),
-            (ErrorKind::InitnIsOnlyValidForListTextOrDataFields, 26),
-            (ErrorKind::CannotSetAnyPointerFieldToAPrimitiveValue, 27),
-            (ErrorKind::InactiveMember, 30),
-            (ErrorKind::UntypedStep, 31),
-            (ErrorKind::NoSuchElement, 32),
-            (ErrorKind::NotAContainer, 33),
-            (broken_rule(1), 41),
-            (broken_rule(12), 52),
-            (broken_rule(u32::MAX - 40), u32::MAX),
-            (broken_rule(u32::MAX), u32::MAX),
-        ];
-        for (kind, number) in &table {
-            assert_eq!(rt; kind.number(), *number, "{kind:?}");
-        }
-    }
-
-    fn broken_rule(rule: u32) -> ErrorKind {
-        ErrorKind::Schema {
-            rule,
-            table: SchemaTable::Brand,
-            entry: 7,
-            field: 3,
-        }
-    }
-
-    #[test]
-    fn shows_what_is_broken(rt: HostRuntime) -> std::result::Result<(), Fail> {
-        let shown = format!(in rt.alloc(); "{}", Error::from(broken_rule(12)))?;
-        assert_eq!(rt;
-            shown.as_str(),
-            "schema rule 12 is broken in brand 7, field 3"
-        );
-        let tables = format!(in rt.alloc(); "{} {}", SchemaTable::Node, SchemaTable::Enum)?;
-        assert_eq!(rt; tables.as_str(), "node enum");
-        Ok(())
     }
 }

@@ -4,7 +4,7 @@ use crate::messages::message_of;
 use crate::script::{answers_about, rows_hold};
 use capnp_base::introspect::{Type, TypeVariant};
 use capnp_schema::set::SchemaSet;
-use capnp_schema_callers::fixtures::{
+use capnp_schema_fixtures::fixtures::{
     Spot, ValueOf, annotate, enum_type, list_type, struct_type, two_of_each, value_record,
 };
 use capnp_wire::error::Result;

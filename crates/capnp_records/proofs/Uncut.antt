@@ -14,7 +14,7 @@ use Rattle.capnp_schema.specs.SlotValue.{slot_number}
 use Rattle.capnp_schema.specs.Types.{AnyPointerType, BoolType, DataType, EnumType, IntType, ListType, SchemaType, StructType, TextType, UIntType, VoidType, element_size, is_pointer, struct_brand}
 use Rattle.capnp_records.specs.Facts.Frame.{and-left, and-right, second-of}
 use Rattle.capnp_records.specs.Reading.{Below, Body, Reading, active_among, discriminant, element_value, elements_value, entered, first_pointer, group_record, kind_value, nth_reading, null, number_value, of_read, plain_parts, record_of, record_within, slot_value, struct_below, tree_value, union_of, value_of, values_of}
-use Rattle.capnp_records.specs.Record.{Active, MoreValues, Left, Levels, NoValues, NoUnion, Parts, Record, Union, Unknown, Value, Values, asked, is_there, one_less, values_from}
+use Rattle.capnp_records.specs.Record.{Active, MoreValues, Left, Levels, NoValues, NoUnion, Parts, Record, Union, Unknown, Value, Values, is_there, one_less, values_from}
 use Rattle.capnp_records.specs.Record as value
 use Rattle.capnp_records.specs.Upgrades.{are_uncut, is_uncut, is_uncut_record, is_uncut_union, unleveled, unleveled_record, unleveled_union, unleveled_values}
 use Rattle.capnp_wire.specs.declared.fault.Fault.TheVariants as fault

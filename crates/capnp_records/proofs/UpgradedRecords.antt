@@ -12,7 +12,7 @@ use Rattle.capnp_schema.specs.Types.{BoolType, EnumType, IntType, SchemaType, St
 use Rattle.capnp_records.specs.Compatible.{Pairs, Related, SameDefault, SameKind, SharedStruct, projected, projected_fields, projected_union, projection_of}
 use Rattle.capnp_records.specs.Facts.Frame.{and-left, and-right, first-of, second-of}
 use Rattle.capnp_records.specs.Reading.{Reading, active_among, discriminant, kind_value, null, number_value, plain_parts, record_within, slot_value, union_of}
-use Rattle.capnp_records.specs.Record.{Active, MoreValues, Levels, NoValues, NoUnion, Parts, Record, Union, Unknown, Value}
+use Rattle.capnp_records.specs.Record.{Active, MoreValues, Levels, NoValues, NoUnion, Parts, Record, Union, Value}
 use Rattle.capnp_records.specs.Record as value
 use Rattle.capnp_records.specs.Upgrades.{field_lists_read, lists_read, record_lists_read, union_lists_read, unleveled, unleveled_record, unleveled_union, unleveled_values}
 use Rattle.capnp_records.proofs.Projects.{late-unknown, projected-number}

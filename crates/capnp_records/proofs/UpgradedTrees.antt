@@ -21,7 +21,7 @@ use Rattle.capnp_records.specs.Compatible.{Pairs, Related, SharedStruct, became_
 use Rattle.capnp_records.specs.Facts.Frame.{and-left, and-right, second-of}
 use Rattle.capnp_records.specs.Facts.ListValues.{below-body, below_of, nth_body-is}
 use Rattle.capnp_records.specs.Reading.{Below, Body, Reading, bodies_of, element_value, elements_value, entered, first_pointer, kind_value, nth_body, nth_reading, null, number_value, of_read, only_reading, plain_parts, record_of, record_within, slot_value, struct_below, tree_value, union_of, value_of, values_of}
-use Rattle.capnp_records.specs.Record.{MoreValues, Endless, Left, Levels, NoValues, Parts, Record, Union, Value, Values, asked, is_there, one_less, values_from}
+use Rattle.capnp_records.specs.Record.{MoreValues, Endless, Left, Levels, NoValues, Parts, Union, Value, Values, asked, is_there, one_less, values_from}
 use Rattle.capnp_records.specs.Record as value
 use Rattle.capnp_records.specs.Laws.{UpgradeLaw}
 use Rattle.capnp_schema.specs.Facts.Fields.{brand_there}

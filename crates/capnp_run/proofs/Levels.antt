@@ -22,7 +22,7 @@ use Rattle.capnp_records.specs.Operation.{Answers, plain, takes_memory}
 use Rattle.capnp_records.specs.Part.{has_of, is_inactive}
 use Rattle.capnp_records.specs.Reading.{Below, Reading, element_value, elements_value, kind_value, nth_reading, of_read, part_of, record_of, record_within, struct_record, tree_value, value_of, values_of}
 use Rattle.capnp_records.specs.Record as value
-use Rattle.capnp_records.specs.Record.{Endless, Left, Levels, NoUnion, Parts, Record, Value, one_less, values_from}
+use Rattle.capnp_records.specs.Record.{Endless, Left, Levels, Record, Value, one_less, values_from}
 use Rattle.capnp_records.specs.Call.{GivesValue, ListPlain, Reply}
 use Rattle.capnp_records.specs.Step.{IsRefused, fault_of}
 use Rattle.capnp_dynamic.specs.Facts.HasWhich.{active_by_plan, has_by_plan}

@@ -1,22 +1,21 @@
 -- Parts that a walk enters: what is known of them, and what is left of their owner.
-use Rattle.std.specs.Prelude.{ℕ, zero, suc, ◌≡◌, refl, List, Bool, true, false, cond, IsTrue, None, length}
+use Rattle.std.specs.Prelude.{ℕ, ◌≡◌, refl, List, IsTrue, None, length}
 use Rattle.std.proofs.Common.{ap, sym, subst, ◌∙◌}
-use Rattle.capnp_wire.specs.Edits.{is_struct, struct_in, with_pointer_tree}
-use Rattle.capnp_wire.specs.Elements.{HasPointer, HasStruct, with_pointer_element, with_struct, with_struct_element}
-use Rattle.capnp_wire.specs.Facts.Written.{element_written, object_written}
+use Rattle.capnp_wire.specs.Edits.{is_struct, struct_in}
+use Rattle.capnp_wire.specs.Elements.{HasStruct, with_struct_element}
+use Rattle.capnp_wire.specs.Facts.Written.{element_written}
 use Rattle.capnp_wire.specs.Kept as kept
 use Rattle.capnp_wire.specs.KeptLists as kept_lists
-use Rattle.capnp_wire.specs.Lends.{with_element, with_object}
-use Rattle.capnp_wire.specs.Objects.{list_object_tree, object_tree, struct_object_tree}
+use Rattle.capnp_wire.specs.Lends.{with_element}
+use Rattle.capnp_wire.specs.Objects.{list_object_tree, struct_object_tree}
 use Rattle.capnp_wire.specs.Place.{struct_tree}
-use Rattle.capnp_wire.specs.Reading.{cut_pointer, element_pointer, element_struct, is_null_tree}
+use Rattle.capnp_wire.specs.Reading.{element_struct}
 use Rattle.capnp_wire.specs.Sizes as sizes
 use Rattle.capnp_wire.specs.Tree as tree
-use Rattle.capnp_wire.specs.Tree.{MoreStructs, NoStructs, Null, StructTree, Structs, Tree, Trees, nth_struct, nth_tree, tree_count}
+use Rattle.capnp_wire.specs.Tree.{StructTree, Tree, tree_count}
 use Rattle.capnp_wire.specs.WellFormed.{IsWellFormed}
 use Rattle.capnp_wire.specs.Words.{first_fault}
 use Rattle.capnp_wire.specs.declared.object.ListObject.{ListObject}
-use Rattle.capnp_wire.specs.declared.object.Object.{Object}
 use Rattle.capnp_wire.specs.declared.object.StructObject.{StructObject}
 use Rattle.capnp_schema.specs.FieldLists.{typed_of}
 use Rattle.capnp_schema.specs.Schema.{ListValue, Schemas, VoidValue, default_of}
@@ -25,8 +24,6 @@ use Rattle.capnp_schema.specs.Types.{ListType, SchemaType, StructType}
 use Rattle.capnp_schema.specs.declared.schema.fields.Field.{Field}
 use Rattle.capnp_schema.specs.declared.schema.structs.StructSchema.{StructSchema}
 use Rattle.capnp_records.specs.Facts.Extension.{fits-extended}
-use Rattle.capnp_records.specs.Facts.Pointers.{with_tree-same}
-use Rattle.capnp_records.specs.Facts.Readers.{null-is}
 use Rattle.capnp_records.specs.Writes.Fill.{entered_list}
 use Rattle.capnp_records.specs.Writes.Slots.{Fits}
 use Rattle.capnp_slots.specs.Fields.{field_set, pointer_index}
@@ -54,32 +51,6 @@ pub pointer_formed : (f : Field) (s : StructTree) (t : Tree) → t ≡ pointer_i
 pointer_formed f s t e h = kept.pointer_of_struct s (pointer_index f) t e h
 
 -- ---- elements ----
-
-with_struct-same : (es : Structs) (i : ℕ) → with_struct es i (nth_struct es i) ≡ es
-with_struct-same NoStructs i = refl
-with_struct-same (MoreStructs bytes ps es) zero = refl
-with_struct-same (MoreStructs bytes ps es) (suc i) = ap (MoreStructs bytes ps) (with_struct-same es i)
-
-uncut : (y : Tree) → cut_pointer 1 y ≡ y
-uncut y = go (is_null_tree y) refl
-  where
-    go : (q : Bool) → is_null_tree y ≡ q → cond q Null y ≡ y
-    go true e = sym (null-is y e)
-    go false e = refl
-
-same-pointer : (s : StructTree) (i : ℕ) → with_pointer_tree s i (nth_tree s.pointers i) ≡ s
-same-pointer s i = ap (λ (ts : Trees). record { bytes = s.bytes; pointers = ts }) (with_tree-same s.pointers i)
-
-pointer-same : (x : Tree) (j : ℕ) → HasPointer x j → with_pointer_element j (element_pointer x j 1) x ≡ x
-pointer-same (tree.Pointers ps) j h = ap tree.Pointers (with_tree-same ps j)
-pointer-same (tree.Composite d p es) j h =
-    ap (tree.Composite d p) (ap (λ (y : Tree). with_struct es j (with_pointer_tree (nth_struct es j) 0 y)) (uncut (nth_tree (nth_struct es j).pointers 0))
-    ∙ (ap (with_struct es j) (same-pointer (nth_struct es j) 0) ∙ with_struct-same es j))
-pointer-same x j h = absurd h
-
--- a pointer that is an element, as it was
-pub object_kept : (l : ListObject) (j : ℕ) (o : Object) → HasPointer (list_object_tree l) j → object_tree o ≡ element_pointer (list_object_tree l) j 1 → list_object_tree (with_object l j o) ≡ list_object_tree l
-object_kept l j o h e = object_written l j o ∙ (ap (λ (y : Tree). with_pointer_element j y (list_object_tree l)) e ∙ pointer-same (list_object_tree l) j h)
 
 -- the list behind it
 pub inner_stands : (set : Schemas) (e : SchemaType) (t now : Tree) → now ≡ entered_list set e t → fill_due set VoidValue (ListType e) t ≡ None → first_fault t ≡ None → IsWellFormed now → IsListStand set e now

@@ -10,7 +10,7 @@ use Rattle.capnp_schema.specs.Schema.{Value as SchemaValue}
 use Rattle.capnp_schema.specs.StructHandles.{struct_node}
 use Rattle.capnp_schema.specs.Types.{ListType, SchemaType, StructType}
 use Rattle.capnp_schema.specs.declared.schema.fields.Field.{Field}
-use Rattle.capnp_records.specs.Call.{ElementAt, PathStep, Refused, Set, Source}
+use Rattle.capnp_records.specs.Call.{ElementAt, Refused, Set, Source}
 use Rattle.capnp_records.specs.Call as record_call
 use Rattle.capnp_records.specs.Given.{Copies, CopiesGroup, Fails, Given, Gives, copy_refusal, given, given_element, given_group, given_slot}
 use Rattle.capnp_records.specs.Operation.{CopiesWhole, Sets}

@@ -13,7 +13,7 @@ use capnp_run::message::{run_copied, whole_new};
 use capnp_run::run::run;
 use capnp_schema::schema::StructSchema;
 use capnp_schema::set::SchemaSet;
-use capnp_schema_callers::fixtures::schema_of;
+use capnp_schema_fixtures::fixtures::schema_of;
 use capnp_wire::error::Result;
 use capnp_wire::message::{Builder, Reader};
 use capnp_write_callers::parts::open;

@@ -4,7 +4,7 @@ use crate::cases::{Case, cases_hold};
 use crate::fixtures::{MANY, NODE, NONE};
 use capnp_dynamic::dynamic_value::{Enum as EnumValue, Reader as Value};
 use capnp_schema::builtin::new_set as new_built_in_set;
-use capnp_schema_callers::kinds::{FULL, KINDS, new_set};
+use capnp_schema_fixtures::kinds::{FULL, KINDS, new_set};
 use std::test::Fail;
 
 /// The text of `FULL`.

@@ -13,7 +13,7 @@ use capnp_run::run::run;
 use capnp_schema::builtin::new_set;
 use capnp_schema::schema::StructSchema;
 use capnp_schema::set::SchemaSet;
-use capnp_schema_callers::fixtures::schema_of;
+use capnp_schema_fixtures::fixtures::schema_of;
 use capnp_wire::error::{ErrorKind, Result};
 use capnp_wire::laws::pointer_is_well_formed;
 use capnp_wire::message::{Builder, Reader};

@@ -4,7 +4,7 @@ use crate::cases::{Case, cases_hold, left_by, root};
 use crate::fixtures::{ENTERED, LISTED, LISTS, MIXED, NONE, NUMBERS, SHAPES};
 use capnp_dynamic::dynamic_value::Reader as Value;
 use capnp_schema::builtin::new_set;
-use capnp_schema_callers::fixtures::schema_of;
+use capnp_schema_fixtures::fixtures::schema_of;
 use std::test::Fail;
 
 /// A `Mixed` whose `a` is 5, with `y` active and 9, and `b` is `hi`.

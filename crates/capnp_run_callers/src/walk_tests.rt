@@ -6,7 +6,7 @@ use capnp_base::introspect::{Type, TypeVariant};
 use capnp_dynamic::dynamic_value::Reader as Value;
 use capnp_schema::builtin::new_set;
 use capnp_schema::set::SchemaSet;
-use capnp_schema_callers::fixtures::{
+use capnp_schema_fixtures::fixtures::{
     StructOf, ValueOf, add_struct, list_type, one_word, records_of, slot, slot_with, struct_type,
 };
 use capnp_wire::error::Result;

@@ -1,19 +1,16 @@
-//! Sets of schemas made by the public calls of `capnp_schema` alone, and its tests.
+//! Callers of `capnp_schema` by its public calls alone, and its tests.
 #![tactic(auto)]
 
 #[cfg(test)]
 mod accepted_tests;
 #[cfg(test)]
 mod annotation_tests;
-mod changes;
-pub mod fixtures;
 #[cfg(test)]
 mod footprint_tests;
 #[cfg(test)]
 mod group_tests;
 #[cfg(test)]
 mod handle_tests;
-pub mod kinds;
 pub mod lookup;
 #[cfg(test)]
 mod name_tests;
@@ -23,7 +20,6 @@ mod plan_tests;
 mod queries;
 #[cfg(test)]
 mod query_tests;
-pub mod set_text;
 #[cfg(test)]
 mod slot_tests;
 #[cfg(test)]
@@ -34,4 +30,3 @@ mod union_tests;
 mod value_tests;
 #[cfg(test)]
 mod verdicts;
-mod words;

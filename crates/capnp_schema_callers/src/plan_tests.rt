@@ -1,6 +1,6 @@
 //! Plans of the fields of the built-in set.
 
-use crate::fixtures::schema_of;
+use capnp_schema_fixtures::fixtures::schema_of;
 use crate::lookup::plan_of_named;
 use capnp_schema::builtin::new_set;
 use capnp_schema::plan::{Place, SlotPlan};

@@ -1,9 +1,9 @@
 //! Queries of structs and enums: records, types, fields by name, by discriminant and by kind.
 
-use crate::fixtures::schema_of;
+use capnp_schema_fixtures::fixtures::schema_of;
 use crate::queries::{Row, answers_hold, field_of, index_of};
-use crate::set_text::read_set;
-use crate::words::read_type;
+use capnp_schema_fixtures::set_text::read_set;
+use capnp_schema_fixtures::words::read_type;
 use capnp_base::introspect::RawBrandedStructSchema;
 use capnp_schema::builtin::new_set;
 use capnp_schema::schema::StructSchema;

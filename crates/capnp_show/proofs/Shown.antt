@@ -1,5 +1,5 @@
 -- The text of a message's root is that of the record that its struct's reader stands on.
-use Rattle.std.proofs.Common.{arith, ap, ap₂, sym, subst, ◌∙◌, ◌≡◌, refl, ℕ, ◌+◌, Bool, List, true, false, [], ◌∷◌, ◌++◌, Some, None, Result, Ok, Err}
+use Rattle.std.proofs.Common.{arith, ap, ap₂, ◌∙◌, ◌≡◌, ℕ, ◌+◌, Bool, List, true, false, [], ◌∷◌, ◌++◌, Some, None, Result, Ok, Err}
 use Rattle.capnp_device.specs.declared.error.ErrorKind.{ErrorKind}
 use Rattle.capnp_wire.specs.Reading.{as_struct}
 use Rattle.capnp_wire.specs.Tree as tree
@@ -16,11 +16,11 @@ use Rattle.capnp_dynamic.specs.Seen.{record_seen}
 use Rattle.capnp_dynamic.specs.Typed.{struct_type}
 use Rattle.capnp_dynamic.specs.declared.dynamic_struct.Reader.{Reader as StructHandle}
 use Rattle.capnp_dynamic.specs.declared.dynamic_value.Reader.TheVariants as dynamic
-use Rattle.capnp_records.specs.Reading.{struct_record, value_of}
+use Rattle.capnp_records.specs.Reading.{struct_record}
 use Rattle.capnp_records.specs.Record as value
 use Rattle.capnp_records.specs.Record.{Left, Record}
 use Rattle.capnp_records.specs.Text.{Out, text_of}
-use Rattle.capnp_show.specs.Show.{IsLineOf, IsText, root_text, root_type, shown_text, struct_or_group}
+use Rattle.capnp_show.specs.Show.{IsLineOf, root_text, root_type, shown_text, struct_or_group}
 use Rattle.capnp_dynamic.specs.Pieces.{IsAppended}
 use Rattle.capnp_dynamic.specs.Shown.{printed_text, struct_printed, value_printed}
 

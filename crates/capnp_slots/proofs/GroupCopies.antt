@@ -28,7 +28,7 @@ use Rattle.capnp_records.specs.Laws.{GroupCopyStaysInside}
 use Rattle.capnp_records.specs.Part.{nth_value, which_of}
 use Rattle.capnp_records.specs.Reading.{Reading, active_among, discriminant, kind_value, part_of, plain_parts, record_within, slot_value, struct_record, union_of, value_of, values_of}
 use Rattle.capnp_records.specs.Record as value
-use Rattle.capnp_records.specs.Record.{Active, Levels, MoreValues, NoUnion, Parts, Union, Unknown, Value, Values, is_there}
+use Rattle.capnp_records.specs.Record.{Active, Levels, NoUnion, Parts, Union, Unknown, Value, Values, is_there}
 use Rattle.capnp_records.specs.Step.{is_group_field}
 use Rattle.capnp_records.specs.Writes.Overlay.{cleared_group, switched, with_slot}
 use Rattle.capnp_records.specs.Writes.TreeCopy.{CopiesTreeOr, TreeCopiesFields, TreeCopiesPart, TreeCopiesSlot, TreeCopiesWithin, TreeCopying, copied_content}

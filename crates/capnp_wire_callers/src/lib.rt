@@ -20,6 +20,9 @@ mod copy_tests;
 #[cfg(test)]
 mod default_tests;
 #[cfg(test)]
+mod device_tests;
+pub mod devices;
+#[cfg(test)]
 mod fixtures;
 #[cfg(test)]
 mod hop_tests;

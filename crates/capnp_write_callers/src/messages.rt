@@ -3,10 +3,10 @@
 use capnp_base::introspect::{Type, TypeVariant};
 use capnp_schema::builtin;
 use capnp_schema::set::SchemaSet;
-use capnp_schema_callers::fixtures::{
+use capnp_schema_fixtures::fixtures::{
     StructOf, add_struct, group_field, list_type, one_each, records_of, slot, typed_slot,
 };
-use capnp_schema_callers::kinds;
+use capnp_schema_fixtures::kinds;
 use capnp_wire::error::Result;
 use std::alloc::Global;
 

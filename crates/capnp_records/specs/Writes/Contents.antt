@@ -1,5 +1,5 @@
 -- What the trees are that set, init and initn write.
-use Rattle.std.specs.Prelude.{ℕ, ◌*◌, ◌^◌, ◌<◌, ◌≡◌, ⊤, false, replicate}
+use Rattle.std.specs.Prelude.{ℕ, ◌*◌, ◌^◌, ◌<◌, ⊤, replicate}
 use Rattle.capnp_wire.specs.Tree.{Tree, Null}
 use Rattle.capnp_wire.specs.Place.{struct_tree}
 use Rattle.capnp_wire.specs.Edits.{zero_struct, zero_structs, zero_list}

@@ -1,4 +1,4 @@
-use Rattle.std.proofs.Common.{◌≡◌, Ok, string_bytes}
+use Rattle.std.proofs.Common.{◌≡◌, string_bytes}
 use Rattle.capnp_device.specs.declared.error.ErrorKind.TheVariants.{WriteFailed}
 use Rattle.capnp_schema.specs.Entries.{lists_seen}
 use Rattle.capnp_show.specs.Show.{IsLineOf, shown_text}

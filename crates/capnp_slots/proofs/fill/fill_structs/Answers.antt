@@ -2,7 +2,7 @@
 use Rattle.std.proofs.Common.{◌≡◌, ap, subst, sym, ◌∙◌, cond, None, false}
 use Rattle.capnp_wire.specs.Defaults.{default_tree, filled_structs, filled_structs_refusal, structs_default_refusal}
 use Rattle.capnp_wire.specs.Edits.{with_pointer_tree}
-use Rattle.capnp_wire.specs.Objects.{object_tree, struct_object_tree}
+use Rattle.capnp_wire.specs.Objects.{struct_object_tree}
 use Rattle.capnp_wire.specs.Reading.{is_null_tree}
 use Rattle.capnp_wire.specs.StructLists.{struct_list, struct_list_refusal}
 use Rattle.capnp_wire.specs.Tree.{Tree}
