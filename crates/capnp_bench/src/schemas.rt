@@ -1,6 +1,5 @@
 //! Sets of schemas that are checked: many structs, one struct of many fields, and a chain of groups. A set takes its
 //! records over, so they are made anew for each check.
-ghost use Rattle.std.specs.Prelude.{◌<◌};
 
 use capnp_base::introspect::{RawBrandedStructSchema, Type, TypeVariant};
 use capnp_schema::record::{
@@ -27,6 +26,36 @@ enum Shape {
     Wide,
     /// A struct in which so many groups stand, each in the one before.
     Chain,
+}
+
+/// The slots of a round: where each stands in the first round, how far from there in the next, and its type.
+static TEN: [(u32, u32, TypeVariant); 10] = [
+    (0, 1, TypeVariant::Bool),
+    (1, 1, TypeVariant::UInt8),
+    (2, 1, TypeVariant::Int16),
+    (4, 1, TypeVariant::UInt32),
+    (6, 1, TypeVariant::Int64),
+    (0, 2, TypeVariant::Text),
+    (5, 1, TypeVariant::UInt16),
+    (9, 1, TypeVariant::UInt64),
+    (1, 2, TypeVariant::Data),
+    (0, 0, TypeVariant::Void),
+];
+
+/// Zero, or nothing, as a value of one of these types.
+fn zero_of(alloc: Global, field_type: TypeVariant) -> ValueRecord {
+    match field_type {
+        TypeVariant::Bool => ValueRecord::Bool(false),
+        TypeVariant::UInt8 => ValueRecord::UInt8(0),
+        TypeVariant::Int16 => ValueRecord::Int16(0),
+        TypeVariant::UInt32 => ValueRecord::UInt32(0),
+        TypeVariant::Int64 => ValueRecord::Int64(0),
+        TypeVariant::Text => ValueRecord::Text(Vec::new(alloc)),
+        TypeVariant::UInt16 => ValueRecord::UInt16(0),
+        TypeVariant::UInt64 => ValueRecord::UInt64(0),
+        TypeVariant::Data => ValueRecord::Data(Vec::new(alloc)),
+        _ => ValueRecord::Void,
+    }
 }
 
 /// The lists of a set without enums.
@@ -77,28 +106,13 @@ impl Fields {
     }
 
     /// Adds slots of ten types, which stand behind those of the rounds before.
-    fn push_ten(&mut self, round: u32) -> Result<()>
-        requires { round < 3 }
-    {
+    fn push_ten(&mut self, round: u32) -> Result<()> {
         let alloc = *self.records.allocator();
-        self.push_slot(round, TypeVariant::Bool, ValueRecord::Bool(false))?;
-        self.push_slot(1 + round, TypeVariant::UInt8, ValueRecord::UInt8(0))?;
-        self.push_slot(2 + round, TypeVariant::Int16, ValueRecord::Int16(0))?;
-        self.push_slot(4 + round, TypeVariant::UInt32, ValueRecord::UInt32(0))?;
-        self.push_slot(6 + round, TypeVariant::Int64, ValueRecord::Int64(0))?;
-        self.push_slot(
-            2 * round,
-            TypeVariant::Text,
-            ValueRecord::Text(Vec::new(alloc)),
-        )?;
-        self.push_slot(5 + round, TypeVariant::UInt16, ValueRecord::UInt16(0))?;
-        self.push_slot(9 + round, TypeVariant::UInt64, ValueRecord::UInt64(0))?;
-        self.push_slot(
-            2 * round + 1,
-            TypeVariant::Data,
-            ValueRecord::Data(Vec::new(alloc)),
-        )?;
-        self.push_slot(0, TypeVariant::Void, ValueRecord::Void)
+        for (first, step, field_type) in &TEN {
+            let offset = first.wrapping_add(step.wrapping_mul(round));
+            self.push_slot(offset, *field_type, zero_of(alloc, *field_type))?;
+        }
+        Ok(())
     }
 }
 
