@@ -35,10 +35,6 @@ pub record AreCopied (objects : List Object) (i : ℕ) (ts : Trees) : Type 0 whe
   pub trees : append_trees (object_trees objects) (trees_after i ts) ≡ ts
   pub faults : first_fault_of_all (trees_after i ts) ≡ first_fault_of_all ts
 
--- as the loop begins
-pub none_copied : (objects : List Object) (ts : Trees) → objects ≡ [] → AreCopied objects 0 ts
-none_copied objects ts e = subst (λ (x : List Object). AreCopied x 0 ts) (sym e) (record { trees = refl; faults = refl })
-
 -- as the loop ends
 module _ (objects : List Object) (i : ℕ) (ts : Trees) (so_far : AreCopied objects i ts) (all : tree_count ts ≤ i) where
   pub all_copied : object_trees objects ≡ ts
@@ -91,10 +87,6 @@ and_structs-object (o ∷ os) object fs = ap (more (struct_object_tree o)) (and_
 pub record ElementsAreCopied (objects : List StructObject) (i : ℕ) (es : Structs) : Type 0 where
   pub structs : and_structs (struct_object_trees objects) (structs_after i es) ≡ es
   pub faults : first_fault_of_elements (structs_after i es) ≡ first_fault_of_elements es
-
--- as the loop begins
-pub no_elements_copied : (objects : List StructObject) (es : Structs) → objects ≡ [] → ElementsAreCopied objects 0 es
-no_elements_copied objects es e = subst (λ (x : List StructObject). ElementsAreCopied x 0 es) (sym e) (record { structs = refl; faults = refl })
 
 -- as the loop ends
 module _ (objects : List StructObject) (i : ℕ) (es : Structs) (so_far : ElementsAreCopied objects i es) (all : struct_count es ≤ i) where

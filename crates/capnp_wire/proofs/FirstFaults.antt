@@ -1,5 +1,5 @@
 -- Pointers and elements in a row, as a loop looks for the first fault leaf: what it has left of them.
-use Rattle.std.proofs.Common.{◌≡◌, ℕ, suc, ◌+◌, ◌<◌, ◌≤◌, ap, arith, refl, subst, sym, ◌∙◌}
+use Rattle.std.proofs.Common.{◌≡◌, ℕ, suc, ◌+◌, ◌<◌, ◌≤◌, ap, arith, subst, sym, ◌∙◌}
 use Rattle.std.specs.Prelude.{Some, None}
 use Rattle.capnp_wire.specs.declared.fault.Fault.{Fault}
 use Rattle.capnp_wire.specs.Tree.{Tree, Trees, MoreTrees, Structs, MoreStructs, StructTree, nth_struct, nth_tree, struct_count, tree_count}
@@ -9,9 +9,6 @@ use Rattle.capnp_wire.proofs.Sums.{structs_after, structs_after-end, structs_aft
 -- the first ones have no fault
 pub record HaveNoFault (i : ℕ) (ts : Trees) : Type 0 where
   pub faults : first_fault_of_all (trees_after i ts) ≡ first_fault_of_all ts
-
-pub none_faulty : (ts : Trees) → HaveNoFault 0 ts
-none_faulty ts = record { faults = refl }
 
 pub no_fault : (i : ℕ) (ts : Trees) → HaveNoFault i ts → tree_count ts ≤ i → None ≡ first_fault_of_all ts
 no_fault i ts so_far end = sym (ap first_fault_of_all (trees_after-end i ts end)) ∙ so_far.faults
@@ -35,9 +32,6 @@ module _ (i : ℕ) (ts : Trees) (t : Tree) (so_far : HaveNoFault i ts) (here : i
 -- the first elements have none
 pub record ElementsHaveNoFault (i : ℕ) (es : Structs) : Type 0 where
   pub faults : first_fault_of_elements (structs_after i es) ≡ first_fault_of_elements es
-
-pub no_elements_faulty : (es : Structs) → ElementsHaveNoFault 0 es
-no_elements_faulty es = record { faults = refl }
 
 pub no_element_fault : (i : ℕ) (es : Structs) → ElementsHaveNoFault i es → struct_count es ≤ i → None ≡ first_fault_of_elements es
 no_element_fault i es so_far end = sym (ap first_fault_of_elements (structs_after-end i es end)) ∙ so_far.faults

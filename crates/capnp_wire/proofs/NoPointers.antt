@@ -2,7 +2,7 @@
 use Rattle.std.proofs.Common.{◌≡◌, ℕ, zero, suc, Bool, refl, sym, ap, ◌∙◌, subst, arith}
 use Rattle.std.specs.Prelude.{None}
 use Rattle.capnp_wire.specs.Found.{block_struct, block_structs}
-use Rattle.capnp_wire.specs.Tree.{NoTrees, StructTree, empty_structs, structs_from}
+use Rattle.capnp_wire.specs.Tree.{NoTrees, StructTree, structs_from}
 use Rattle.capnp_wire.specs.Words.{first_fault_of_all, first_fault_of_elements, first_of, words_below_all, words_of_all}
 use Rattle.capnp_wire.specs.declared.row.Block.{Block}
 
@@ -23,8 +23,3 @@ no_words_below d p depth is_stream count block e =
 pub no_faults_below : (d p depth : ℕ) (is_stream : Bool) (count : ℕ) (block : Block) → p ≡ 0 → first_fault_of_elements (block_structs d p depth is_stream count block) ≡ None
 no_faults_below d p depth is_stream count block e =
     subst (λ q. first_fault_of_elements (block_structs d q depth is_stream count block) ≡ None) (sym e) (no_faults (block_struct d 0 depth is_stream block) 0 count (λ i. refl))
-
--- and those of size zero are so many
-pub block_of_none : (d p depth : ℕ) (is_stream : Bool) (count : ℕ) (block : Block) → d ≡ 0 → p ≡ 0 → block_structs d p depth is_stream count block ≡ empty_structs count
-block_of_none d p depth is_stream count block e f =
-    ap (λ n. block_structs n p depth is_stream count block) e ∙ ap (λ n. block_structs 0 n depth is_stream count block) f

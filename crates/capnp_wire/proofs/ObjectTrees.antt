@@ -1,19 +1,15 @@
 -- The trees of owned objects, one layer at a time.
 use Rattle.std.proofs.Common.{◌≡◌, ℕ, ◌<◌, List, length, get_or, ap, sym, ◌∙◌}
-use Rattle.capnp_wire.specs.Tree.{StructTree, nth_tree, nth_struct, tree_count}
-use Rattle.capnp_wire.specs.Objects.{object_tree, struct_object_tree, object_trees, struct_object_trees}
+use Rattle.capnp_wire.specs.Tree.{StructTree, nth_tree, tree_count}
+use Rattle.capnp_wire.specs.Objects.{object_tree, struct_object_tree, object_trees}
 use Rattle.capnp_wire.specs.declared.object.Object.{Object}
 use Rattle.capnp_wire.specs.declared.object.StructObject.{StructObject}
-use Rattle.capnp_wire.proofs.Lists.{nth_tree-of, nth_struct-of, tree_count-of}
+use Rattle.capnp_wire.proofs.Lists.{nth_tree-of, tree_count-of}
 pub use Rattle.capnp_wire.specs.Facts.Objects.{tree-bits, tree-composite, tree-empty_structs, tree-null, tree-of_list, tree-of_struct, tree-pointers, tree-struct}
 
 -- an object of a row, by its index
 pub object_tree-at : (objects : List Object) (i : ℕ) (object : Object) → i < length objects → object ≡ get_or objects i object → nth_tree (object_trees objects) i ≡ object_tree object
 object_tree-at objects i object h e = nth_tree-of object_tree objects i object h ∙ ap object_tree (sym e)
-
--- a struct of a row, by its index
-pub struct_object_tree-at : (objects : List StructObject) (i : ℕ) (object : StructObject) → i < length objects → object ≡ get_or objects i object → nth_struct (struct_object_trees objects) i ≡ record { bytes = object.«data».items; pointers = object_trees object.pointers.items }
-struct_object_tree-at objects i object h e = nth_struct-of struct_object_tree objects i object h ∙ ap struct_object_tree (sym e) ∙ tree-struct object
 
 -- a struct's pointers, counted and by their index
 pub pointers-counted : (s : StructObject) → tree_count (struct_object_tree s).pointers ≡ length s.pointers.items

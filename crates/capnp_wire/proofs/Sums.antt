@@ -1,6 +1,6 @@
 -- Pointers and elements in a row, as a loop sums their words: what it has left of them.
 use Rattle.std.proofs.Common.{◌≡◌, ℕ, zero, suc, ◌+◌, ◌<◌, ◌≤◌, refl, sym, ap, ◌∙◌, subst, arith}
-use Rattle.std.specs.Prelude.{Option, None, Result, Err}
+use Rattle.std.specs.Prelude.{Option, None, Err}
 use Rattle.capnp_wire.specs.declared.fault.Fault.{Fault}
 use Rattle.capnp_wire.specs.declared.total.Stop.{Stop}
 use Rattle.capnp_wire.specs.declared.total.Stop.TheVariants as stop
@@ -8,17 +8,13 @@ use Rattle.capnp_wire.specs.Tree.{Tree, Trees, NoTrees, MoreTrees, Structs, NoSt
 use Rattle.capnp_wire.specs.Words.{first_of, first_fault, first_fault_of_all, first_fault_of_elements, words_of, words_of_all, words_below_all}
 use Rattle.capnp_wire.specs.Total.{Totals}
 
--- a total of a part without a fault, for the whole
-pub totals_at : (r : Result ℕ Stop) (f : Option Fault) (m n : ℕ) → f ≡ None → m ≡ n → Totals r None m → Totals r f n
-totals_at r f m n e q h = subst (λ x. Totals r f x) q (subst (λ x. Totals r x m) (sym e) h)
-
 -- an error at the first of a row
-pub first_stops : (e : Stop) (f g : Option Fault) (m n : ℕ) → m ≤ n → Totals (Err e) f m → Totals (Err e) (first_of f g) n
+first_stops : (e : Stop) (f g : Option Fault) (m n : ℕ) → m ≤ n → Totals (Err e) f m → Totals (Err e) (first_of f g) n
 first_stops (stop.Fault k) f g m n l h = ap (λ x. first_of x g) h
 first_stops stop.TooLarge f g m n l h = omega arith
 
 -- an error at a sum
-pub sum_stops : (e : Stop) (f : Option Fault) (m n : ℕ) → m ≤ n → Totals (Err e) None m → Totals (Err e) f n
+sum_stops : (e : Stop) (f : Option Fault) (m n : ℕ) → m ≤ n → Totals (Err e) None m → Totals (Err e) f n
 sum_stops (stop.Fault k) f m n l h = cc
 sum_stops stop.TooLarge f m n l h = omega arith
 

@@ -1,5 +1,5 @@
 -- What code found at a place, one level of it, as a tree.
-use Rattle.std.specs.Prelude.{ℕ, Bool, ◌+◌, ◌*◌, ◌<◌, ◌≡◌, ⊤, Option, Some, None}
+use Rattle.std.specs.Prelude.{ℕ, Bool, ◌+◌, ◌*◌, ◌≡◌, ⊤, Option, Some, None}
 use Rattle.capnp_wire.specs.Tree as tree
 use Rattle.capnp_wire.specs.Tree.{Tree, Trees, Structs, StructTree, empty_structs, trees_from, structs_from}
 use Rattle.capnp_wire.specs.Place.{tree_below, struct_at, struct_tree, bits_from}
@@ -60,24 +60,3 @@ found_tree (found.Composite size es) = tree.Composite size.data_words size.point
 abbrev pub AreEmptyStructs : Option ℕ → StructSize → Structs → Type 0
 AreEmptyStructs (Some count) size es = (size.data_words ≡ 0) × (size.pointers ≡ 0) × (es ≡ empty_structs count)
 AreEmptyStructs None size es = ⊤
-
--- ---- the levels that words have left, for what goes down them ----
-
--- these are words, with fewer levels than a depth says
-abbrev pub ArePointersBelow : ℕ → Pointers → Type 0
-ArePointersBelow depth (pointers.Words levels is_stream count row) = levels < depth
-ArePointersBelow depth (pointers.Objects objects) = ⊥
-
-abbrev pub AreElementsBelow : ℕ → Elements → Type 0
-AreElementsBelow depth (elements.Words levels is_stream count block) = levels < depth
-AreElementsBelow depth (elements.Objects objects) = ⊥
-
-abbrev pub IsBelow : ℕ → Found → Type 0
-IsBelow depth found.Null = ⊤
-IsBelow depth (found.Bad fault) = ⊤
-IsBelow depth (found.Struct parts) = ArePointersBelow depth parts.pointers
-IsBelow depth (found.Voids count) = ⊤
-IsBelow depth (found.Bits bytes count) = ⊤
-IsBelow depth (found.Numbers width bytes) = ⊤
-IsBelow depth (found.Pointers ps) = ArePointersBelow depth ps
-IsBelow depth (found.Composite size es) = AreElementsBelow depth es

@@ -1,8 +1,6 @@
 -- What a walk over a tree answers for its words.
 use Rattle.std.specs.Prelude.{ℕ, ◌^◌, ◌≤◌, ◌≡◌, Option, Some, None, Result, Ok, Err, option_map, ◌≢◌}
 use Rattle.capnp_wire.specs.Reading.{refusal}
-use Rattle.capnp_wire.specs.Tree.{Structs, Trees}
-use Rattle.capnp_wire.specs.Words.{first_fault_of_all, first_fault_of_elements, words_below_all, words_of_all}
 use Rattle.capnp_wire.specs.declared.fault.Fault.{Fault}
 use Rattle.capnp_wire.specs.declared.size.MessageSize.{MessageSize}
 use Rattle.capnp_wire.specs.declared.total.Stop.{Stop}
@@ -16,13 +14,6 @@ abbrev pub Totals : Result ℕ Stop → Option Fault → ℕ → Type 0
 Totals (Ok n) fault words = (fault ≡ None) × (n ≡ words)
 Totals (Err (stop.Fault k)) fault words = fault ≡ Some k
 Totals (Err stop.TooLarge) fault words = 2 ^ 64 ≤ words
-
--- the same of what pointers in a row lead to, and of what the pointers of structs in a row do
-abbrev pub TotalsOfAll : Result ℕ Stop → Trees → Type 0
-TotalsOfAll total ts = Totals total (first_fault_of_all ts) (words_of_all ts)
-
-abbrev pub TotalsBelow : Result ℕ Stop → Structs → Type 0
-TotalsBelow total ss = Totals total (first_fault_of_elements ss) (words_below_all ss)
 
 -- a size, of what has this first fault and so many words: it is counted where there is no fault, and refused with the
 -- first fault or because it is too large, with either where both hold

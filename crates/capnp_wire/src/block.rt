@@ -1,7 +1,8 @@
 //! The elements of a composite list, and where their pointers stand.
-ghost use Rattle.std.specs.Prelude.{Bool, ℕ, ◌≡◌};
+ghost use Rattle.std.specs.Prelude.{◌≡◌, IsTrue, None};
 ghost use Rattle.capnp_wire.specs.Tree.{nth_struct, struct_count};
-ghost use Rattle.capnp_wire.specs.Found.{AreEmptyStructs, block_struct, element_structs, parts_tree, row_trees};
+ghost use Rattle.capnp_wire.specs.Found.{AreEmptyStructs, element_structs, parts_tree};
+ghost use Rattle.capnp_wire.specs.Words.{first_fault_of_elements, words_below_all};
 
 use crate::found::{StructParts, empty_parts};
 use crate::look::bytes_from;
@@ -24,22 +25,6 @@ pub enum Elements<'a> {
     Objects(&'a [StructObject]),
 }
 
-impl<'a> Block<'a> {
-    /// Where the pointers of an element stand.
-    #[inline(always)]
-    pub fn pointers_of(self, size: StructSize, index: u32) -> PointerRow<'a>
-        ensures { (depth : ℕ) (is_stream : Bool) → row_trees depth is_stream size.pointers result ≡
-            (block_struct size.data_words size.pointers depth is_stream self.entry index).pointers }
-    {
-        let words = size.data_words as usize + size.pointers as usize;
-        PointerRow {
-            bytes: self.bytes,
-            segment: self.segment,
-            first: self.first + index as usize * words + size.data_words as usize,
-        }
-    }
-}
-
 /// The struct at `index` of a composite list, of size zero past its end.
 #[inline(always)]
 pub fn get_element<'a>(size: StructSize, elements: Elements<'a>, index: usize) -> StructParts<'a>
@@ -56,13 +41,18 @@ pub fn get_element<'a>(size: StructSize, elements: Elements<'a>, index: usize) -
                 return empty_parts();
             }
             let start = block.first + index * (size.data_words as usize + size.pointers as usize);
+            let row = PointerRow {
+                bytes: block.bytes,
+                segment: block.segment,
+                first: start + size.data_words as usize,
+            };
             StructParts {
                 data: bytes_from(block.segment, start, 8 * size.data_words as usize),
                 pointers: Pointers::Words {
                     depth,
                     is_stream,
                     count: size.pointers as u32,
-                    row: block.pointers_of(size, index as u32),
+                    row,
                 },
             }
         }
@@ -98,5 +88,17 @@ pub fn count_empty_structs(size: StructSize, elements: Elements<'_>) -> Option<u
             }
         }
         Elements::Objects(_) => None,
+    }
+}
+
+/// Whether it is known of the elements of a composite list, before they are gone to, that they have no pointers.
+#[inline(always)]
+pub fn have_no_pointers(size: StructSize, elements: Elements<'_>) -> bool
+    ensures faults { IsTrue result → None ≡ first_fault_of_elements (element_structs size.data_words size.pointers elements.entry) }
+    ensures words { IsTrue result → 0 ≡ words_below_all (element_structs size.data_words size.pointers elements.entry) }
+{
+    match elements {
+        Elements::Words { .. } => size.pointers == 0,
+        Elements::Objects(_) => false,
     }
 }

@@ -2,9 +2,10 @@
 ghost use Rattle.std.specs.Prelude.{◌≡◌, ◌-◌, None, IfErr, IfOk, OnOk};
 ghost use Rattle.capnp_wire.specs.Edits.{IsCopyRefusal, append_trees, first_trees, fitted, nulls, rounded, whole_words};
 ghost use Rattle.capnp_wire.specs.Found.{element_structs, found_tree, parts_tree, pointer_tree, pointer_trees};
-ghost use Rattle.capnp_wire.specs.Objects.{list_object_tree, object_tree, object_trees, struct_object_tree, struct_object_trees};
-ghost use Rattle.capnp_wire.specs.Tree.{Composite, tree_count};
-ghost use Rattle.capnp_wire.specs.WellFormed.{IsWellFormed};
+ghost use Rattle.capnp_wire.specs.Objects.{object_tree, object_trees, struct_object_tree, struct_object_trees};
+ghost use Rattle.capnp_wire.specs.Tree as tree;
+ghost use Rattle.capnp_wire.specs.Tree.{tree_count};
+ghost use Rattle.capnp_wire.specs.Place.{bits_from};
 ghost use Rattle.capnp_wire.specs.Words.{first_fault, first_fault_of_all, first_fault_of_elements};
 ghost use Rattle.capnp_device.specs.declared.error.ErrorKind.TheVariants.{OutOfMemory};
 
@@ -33,6 +34,24 @@ pub fn copy_pointer(alloc: Global, pointer: Pointer<'_>) -> Result<Object>
     copy_found(alloc, look(pointer))
 }
 
+/// The object of a list of bits.
+#[inline(always)]
+fn copy_bits(alloc: Global, bytes: &[u8], count: u32) -> Result<Object>
+    ensures copy { IfOk result (λ object. object_tree object ≡ tree.Bits (bits_from bytes.now 0 count)) }
+    ensures refused { IfErr result (λ error. error.kind ≡ OutOfMemory) }
+{
+    Ok(Object::List(ListObject::Bits(BitRow::copy(alloc, bytes, count)?)))
+}
+
+/// The object of a list of numbers.
+#[inline(always)]
+fn copy_numbers(alloc: Global, width: u8, bytes: &[u8]) -> Result<Object>
+    ensures copy { IfOk result (λ object. object_tree object ≡ tree.Numbers width bytes.now) }
+    ensures refused { IfErr result (λ error. error.kind ≡ OutOfMemory) }
+{
+    Ok(Object::List(ListObject::Numbers(width, Vec::from_slice(alloc, bytes)?)))
+}
+
 /// The object of what was found. Each section and each list takes its memory once.
 ///
 /// Refused with `OutOfMemory` where memory is refused, and with `BadPointer`, `TooDeep` or `CapabilityPointer` where a
@@ -44,17 +63,16 @@ pub fn copy_found(alloc: Global, found: Found<'_>) -> Result<Object>
     ensures sound { IfOk result (λ _. first_fault (found_tree found.entry) ≡ None) }
     ensures refused { IfErr result (λ error. IsCopyRefusal error (first_fault (found_tree found.entry))) }
 {
-    let list = match found {
-        Found::Null => return Ok(Object::Null(alloc)),
-        Found::Bad(fault) => return Err(refuse(fault)),
-        Found::Struct(parts) => return Ok(Object::Struct(copy_struct(alloc, parts)?)),
-        Found::Voids(count) => ListObject::Voids(alloc, count),
-        Found::Bits(bytes, count) => ListObject::Bits(BitRow::copy(alloc, bytes, count)?),
-        Found::Numbers(width, bytes) => ListObject::Numbers(width, Vec::from_slice(alloc, bytes)?),
-        Found::Pointers(pointers) => ListObject::Pointers(copy_pointers(alloc, pointers)?),
-        Found::Composite(size, elements) => copy_composite(alloc, size, elements)?,
-    };
-    Ok(Object::List(list))
+    match found {
+        Found::Null => Ok(Object::Null(alloc)),
+        Found::Bad(fault) => Err(refuse(fault)),
+        Found::Struct(parts) => Ok(Object::Struct(copy_struct(alloc, parts)?)),
+        Found::Voids(count) => Ok(Object::List(ListObject::Voids(alloc, count))),
+        Found::Bits(bytes, count) => copy_bits(alloc, bytes, count),
+        Found::Numbers(width, bytes) => copy_numbers(alloc, width, bytes),
+        Found::Pointers(pointers) => copy_list(alloc, pointers),
+        Found::Composite(size, elements) => copy_composite(alloc, size, elements),
+    }
 }
 
 /// The object of a struct, with its data as it is.
@@ -70,6 +88,18 @@ pub fn copy_struct(alloc: Global, parts: StructParts<'_>) -> Result<StructObject
     let data = Vec::from_slice(alloc, parts.data)?;
     let pointers = copy_pointers(alloc, parts.pointers)?;
     Ok(StructObject { data, pointers })
+}
+
+/// The object of a list of pointers.
+#[cycle(copy)]
+#[inline(always)]
+fn copy_list(alloc: Global, pointers: Pointers<'_>) -> Result<Object>
+    ensures copy { IfOk result (λ object. object_tree object ≡ tree.Pointers (pointer_trees pointers.entry)) }
+    ensures sound { IfOk result (λ _. first_fault_of_all (pointer_trees pointers.entry) ≡ None) }
+    ensures refused { IfErr result (λ error. IsCopyRefusal error (first_fault_of_all (pointer_trees pointers.entry))) }
+{
+    let objects = copy_pointers(alloc, pointers)?;
+    Ok(Object::List(ListObject::Pointers(objects)))
 }
 
 /// The objects of pointers in a row.
@@ -92,16 +122,17 @@ fn copy_pointers(alloc: Global, pointers: Pointers<'_>) -> Result<Vec<Object>>
 /// takes no memory.
 #[cycle(copy)]
 #[inline(always)]
-fn copy_composite(alloc: Global, size: StructSize, elements: Elements<'_>) -> Result<ListObject>
-    ensures copy { IfOk result (λ list. list_object_tree list ≡
-        Composite size.data_words size.pointers (element_structs size.data_words size.pointers elements.entry)) }
+fn copy_composite(alloc: Global, size: StructSize, elements: Elements<'_>) -> Result<Object>
+    ensures copy { IfOk result (λ object. object_tree object ≡
+        tree.Composite size.data_words size.pointers (element_structs size.data_words size.pointers elements.entry)) }
     ensures sound { IfOk result (λ _. first_fault_of_elements (element_structs size.data_words size.pointers elements.entry) ≡ None) }
     ensures refused { IfErr result (λ error. IsCopyRefusal error (first_fault_of_elements (element_structs size.data_words size.pointers elements.entry))) }
 {
     if let Some(count) = count_empty_structs(size, elements) {
-        return Ok(make_empty_structs(alloc, count));
+        return Ok(Object::List(make_empty_structs(alloc, count)));
     }
-    Ok(ListObject::Composite(size, copy_elements(alloc, size, elements)?))
+    let objects = copy_elements(alloc, size, elements)?;
+    Ok(Object::List(ListObject::Composite(size, objects)))
 }
 
 /// The objects of a composite list's elements.

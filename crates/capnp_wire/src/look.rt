@@ -3,7 +3,7 @@ ghost use Rattle.std.specs.Prelude.{◌≡◌, ◌-◌, ◌<◌, ◌≤◌, ◌^
 ghost use Rattle.capnp_wire.specs.Place.{bytes_at, struct_at, tree_below};
 ghost use Rattle.capnp_wire.specs.Level.{list_at_depth, tree_at_depth};
 ghost use Rattle.capnp_wire.specs.Backing.{StartFits, segment_list, target_of};
-ghost use Rattle.capnp_wire.specs.Found.{ArePointersBelow, IsBelow, found_tree, parts_tree};
+ghost use Rattle.capnp_wire.specs.Found.{found_tree, parts_tree};
 
 use crate::block::Elements;
 use crate::bytes::part;
@@ -35,9 +35,8 @@ fn look_at_struct<'a>(
 ) -> StructParts<'a>
     requires start { start ≤ 2 ^ 60 }
     requires level { 0 < depth }
-    ensures value { parts_tree result ≡
+    ensures { parts_tree result ≡
         struct_at (tree_below (depth - 1) (segment_list segments.entry) segment.now) segment.now size.data_words size.pointers start }
-    ensures below { ArePointersBelow depth result.pointers }
 {
     let row = PointerRow {
         bytes: segments.bytes,
@@ -66,8 +65,7 @@ fn look_at_list<'a>(
 ) -> Found<'a>
     requires start { start ≤ 2 ^ 60 }
     requires level { 0 < depth }
-    ensures value { found_tree result ≡ list_at_depth (tree_below (depth - 1) (segment_list segments.entry) segment.now) segment.now start element_size count }
-    ensures below { IsBelow depth result }
+    ensures { found_tree result ≡ list_at_depth (tree_below (depth - 1) (segment_list segments.entry) segment.now) segment.now start element_size count }
 {
     if element_size == 0 {
         Found::Voids(count)
@@ -101,10 +99,9 @@ fn look_at_list<'a>(
 #[inline(always)]
 fn look_at_target<'a>(segments: Segments<'a>, target: Target<'a>, depth: u8) -> Found<'a>
     requires { StartFits target }
-    ensures value { found_tree result ≡
+    ensures { found_tree result ≡
         tree_at_depth depth (tree_below (depth - 1) (segment_list segments.entry))
         (tree_below (depth - 2) (segment_list segments.entry)) (target_of target.entry) }
-    ensures below { IsBelow depth result }
 {
     match target {
         Target::Null => Found::Null,
@@ -187,8 +184,7 @@ pub fn look_at_word<'a>(
     index: usize,
     depth: u8,
 ) -> Found<'a>
-    ensures value { found_tree result ≡ tree_below depth (segment_list segments.entry) segment.now index }
-    ensures below { IsBelow depth result }
+    ensures { found_tree result ≡ tree_below depth (segment_list segments.entry) segment.now index }
 {
     look_at_target(segments, locate(segments, segment, index), depth)
 }

@@ -7,7 +7,7 @@ pub returns-then-index-count : goal.returns-then-index-count
 returns-then-index-count c = rw c.in-Words.is (c.empty_parts.ensures ∙ sym (nth_struct-past _ _ _ _ c.if-index-count.true))
 
 pub returns-else-index-count : goal.returns-else-index-count
-returns-else-index-count c = rw (c.in-Words.is, c.bytes_from.ensures, c.pointers_of.ensures c.in-Words.depth c.in-Words.is_stream) (sym (nth_struct-start _ _ _ c.if-index-count.false))
+returns-else-index-count c = rw (c.in-Words.is, c.bytes_from.ensures) (sym (nth_struct-start _ _ _ c.if-index-count.false))
 
 pub returns-in-Some : goal.returns-in-Some
 returns-in-Some c =

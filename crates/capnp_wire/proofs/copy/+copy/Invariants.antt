@@ -10,6 +10,9 @@ decreases-copy_pointer l = 5 * tree_size (pointer_tree l.pointer) + 4
 abbrev pub decreases-copy_found : goal.decreases-copy_found
 decreases-copy_found l = 5 * tree_size (found_tree l.found) + 3
 
+abbrev pub decreases-copy_list : goal.decreases-copy_list
+decreases-copy_list l = 5 * trees_size (pointer_trees l.pointers) + 1
+
 abbrev pub decreases-copy_composite : goal.decreases-copy_composite
 decreases-copy_composite l = 5 * structs_size (element_structs l.size.data_words l.size.pointers l.elements) + 2
 

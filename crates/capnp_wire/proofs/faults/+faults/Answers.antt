@@ -1,27 +1,55 @@
-use Rattle.std.proofs.Common.{ap, refl, sym, ◌+◌, ◌∙◌}
-use Rattle.capnp_wire.specs.Words.{first_fault_of_all}
-use Rattle.capnp_wire.proofs.Lists.{nth_struct-start, nth_tree-from, struct_count-from, tree_count-from}
+use Rattle.std.proofs.Common.{rules, arith, ◌≡◌, ◌≤◌, ◌<◌, ◌+◌, ap, refl, sym}
+use Rattle.capnp_wire.specs.Tree.{StructTree, nth_struct, nth_tree, struct_count, tree_count}
+use Rattle.capnp_wire.specs.Found.{element_structs, parts_tree, pointer_tree, pointer_trees}
 use Rattle.capnp_wire.proofs.FirstFaults.{element_fault_here, fault_here, no_element_fault, no_fault, one_more, one_more_element}
-use Rattle.capnp_wire.proofs.NoPointers.{no_faults_below}
+use Rattle.capnp_wire.proofs.ObjectFaults.{object_whole}
+use Rattle.capnp_wire.proofs.TreeSizes.{nth_struct-smaller, nth_tree-smaller, tree_size, trees_size}
 use Rattle.capnp_wire.proofs.faults.+faults.Goals as goal
 
-pub fault_of_row-returns-in-Some : goal.fault_of_row-returns-in-Some
-fault_of_row-returns-in-Some t c = fault_here _ _ _ c.loop-i.invariant (rw tree_count-from c.loop-i-test.true) (nth_tree-from _ _ _ _ c.loop-i-test.true) _ c.in-Some.ensures
+pub fault_of_pointer-returns-in-Object : goal.fault_of_pointer-returns-in-Object
+fault_of_pointer-returns-in-Object t c = rw c.in-Object.is (sym (object_whole c.in-Object.field-0.now))
 
-pub fault_of_row-loop-i-preserved : goal.fault_of_row-loop-i-preserved
-fault_of_row-loop-i-preserved t c = one_more _ _ _ c.loop-i.invariant (rw tree_count-from c.loop-i-test.true) (nth_tree-from _ _ _ _ c.loop-i-test.true) _ c.in_default.ensures refl
+pub fault_of_pointers-fault_of_pointer-requires : goal.fault_of_pointers-fault_of_pointer-requires
+fault_of_pointers-fault_of_pointer-requires t c =
+    let here : c.loop-i.i < tree_count (pointer_trees c.args.pointers) = omega arith in
+    let below = nth_tree-smaller c.loop-i.i (pointer_trees c.args.pointers) here in
+    let at : tree_size (pointer_tree c.get_pointer.result) ≡ tree_size (nth_tree (pointer_trees c.args.pointers) c.loop-i.i) = ap tree_size c.get_pointer.ensures in
+    search (rules, arith, below, at)
 
-pub fault_of_row-returns : goal.fault_of_row-returns
-fault_of_row-returns t c = no_fault _ _ c.loop-i.invariant (rw tree_count-from c.loop-i-test.false)
+pub fault_of_pointers-returns-in-Some : goal.fault_of_pointers-returns-in-Some
+fault_of_pointers-returns-in-Some t c =
+    let here : c.loop-i.i < tree_count (pointer_trees c.args.pointers) = omega arith in
+    fault_here _ _ _ c.loop-i.invariant here (sym c.get_pointer.ensures) _ c.in-Some.ensures
 
-pub fault_of_block-returns-then-size-eq0 : goal.fault_of_block-returns-then-size-eq0
-fault_of_block-returns-then-size-eq0 t c = sym (no_faults_below _ _ _ _ _ c.args.block c.if-size-eq0.true)
+pub fault_of_pointers-loop-i-preserved : goal.fault_of_pointers-loop-i-preserved
+fault_of_pointers-loop-i-preserved t c =
+    let here : c.loop-i.i < tree_count (pointer_trees c.args.pointers) = omega arith in
+    one_more _ _ _ c.loop-i.invariant here (sym c.get_pointer.ensures) _ c.in_default.ensures refl
 
-pub fault_of_block-returns-in-Some : goal.fault_of_block-returns-in-Some
-fault_of_block-returns-in-Some t c = element_fault_here _ _ _ c.loop-i.invariant (rw struct_count-from c.loop-i-test.true) (nth_struct-start _ _ _ c.loop-i-test.true) _ (c.in-Some.ensures ∙ ap first_fault_of_all (c.pointers_of-row.ensures _ _))
+pub fault_of_pointers-returns : goal.fault_of_pointers-returns
+fault_of_pointers-returns t c =
+    let all : tree_count (pointer_trees c.args.pointers) ≤ c.loop-i.i = omega arith in
+    no_fault _ _ c.loop-i.invariant all
 
-pub fault_of_block-loop-i-preserved : goal.fault_of_block-loop-i-preserved
-fault_of_block-loop-i-preserved t c = one_more_element _ _ _ c.loop-i.invariant (rw struct_count-from c.loop-i-test.true) (nth_struct-start _ _ _ c.loop-i-test.true) (c.loop-i.i + 1) (c.in_default.ensures ∙ ap first_fault_of_all (c.pointers_of-row.ensures _ _)) refl
+pub fault_of_elements-fault_of_pointers-requires :
+    goal.fault_of_elements-fault_of_pointers-requires
+fault_of_elements-fault_of_pointers-requires t c =
+    let here : c.loop-i.i < struct_count (element_structs c.args.size.data_words c.args.size.pointers c.args.elements) = omega arith in
+    let below = nth_struct-smaller c.loop-i.i (element_structs c.args.size.data_words c.args.size.pointers c.args.elements) here in
+    let at : trees_size (parts_tree c.get_element.result).pointers ≡ trees_size (nth_struct (element_structs c.args.size.data_words c.args.size.pointers c.args.elements) c.loop-i.i).pointers = ap (λ (x : StructTree). trees_size x.pointers) c.get_element.ensures in
+    search (rules, arith, below, at)
 
-pub fault_of_block-returns : goal.fault_of_block-returns
-fault_of_block-returns t c = no_element_fault _ _ c.loop-i.invariant (rw struct_count-from c.loop-i-test.false)
+pub fault_of_elements-returns-in-Some : goal.fault_of_elements-returns-in-Some
+fault_of_elements-returns-in-Some t c =
+    let here : c.loop-i.i < struct_count (element_structs c.args.size.data_words c.args.size.pointers c.args.elements) = omega arith in
+    element_fault_here _ _ _ c.loop-i.invariant here (sym c.get_element.ensures) _ c.in-Some.ensures
+
+pub fault_of_elements-loop-i-preserved : goal.fault_of_elements-loop-i-preserved
+fault_of_elements-loop-i-preserved t c =
+    let here : c.loop-i.i < struct_count (element_structs c.args.size.data_words c.args.size.pointers c.args.elements) = omega arith in
+    one_more_element _ _ _ c.loop-i.invariant here (sym c.get_element.ensures) (c.loop-i.i + 1) c.in_default.ensures refl
+
+pub fault_of_elements-returns : goal.fault_of_elements-returns
+fault_of_elements-returns t c =
+    let all : struct_count (element_structs c.args.size.data_words c.args.size.pointers c.args.elements) ≤ c.loop-i.i = omega arith in
+    no_element_fault _ _ c.loop-i.invariant all

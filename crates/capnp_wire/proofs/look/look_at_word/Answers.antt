@@ -1,5 +1,5 @@
 use Rattle.capnp_wire.proofs.Levels.{below_step}
 use Rattle.capnp_wire.proofs.look.look_at_word.Goals as goal
 
-pub returns-clause-value : goal.returns-clause-value
-returns-clause-value c = rw below_step (rw (← c.locate.ensures.value) c.look_at_target.ensures.value)
+pub returns : goal.returns
+returns c = rw below_step (rw (← c.locate.ensures.value) c.look_at_target.ensures)

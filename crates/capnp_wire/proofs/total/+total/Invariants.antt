@@ -1,22 +1,32 @@
 use Rattle.std.proofs.Common.{◌+◌, ◌*◌}
-use Rattle.capnp_wire.specs.Found.{block_structs, row_trees}
+use Rattle.capnp_wire.specs.Found.{element_structs, found_tree, pointer_tree, pointer_trees}
 use Rattle.capnp_wire.proofs.Sums.{AreSummed, ElementsAreSummed}
+use Rattle.capnp_wire.proofs.TreeSizes.{structs_size, tree_size, trees_size}
 use Rattle.capnp_wire.proofs.total.+total.Given as goal
 
-abbrev pub decreases-total_target : goal.decreases-total_target
-decreases-total_target l = 4 * l.depth
+abbrev pub decreases-total_pointer : goal.decreases-total_pointer
+decreases-total_pointer l = 5 * tree_size (pointer_tree l.pointer) + 4
 
-abbrev pub decreases-total_word : goal.decreases-total_word
-decreases-total_word l = 4 * l.depth + 1
+abbrev pub decreases-total_found : goal.decreases-total_found
+decreases-total_found l = 5 * tree_size (found_tree l.found) + 3
+
+abbrev pub decreases-total_parts : goal.decreases-total_parts
+decreases-total_parts l = 5 * trees_size (pointer_trees l.parts.pointers) + 2
 
 abbrev pub decreases-total_row : goal.decreases-total_row
-decreases-total_row l = 4 * l.depth + 2
+decreases-total_row l = 5 * trees_size (pointer_trees l.pointers) + 1
 
-abbrev pub decreases-total_block : goal.decreases-total_block
-decreases-total_block l = 4 * l.depth + 3
+abbrev pub decreases-total_pointers : goal.decreases-total_pointers
+decreases-total_pointers l = 5 * trees_size (pointer_trees l.pointers)
 
-abbrev pub invariant-total_row-loop-i : goal.invariant-total_row-loop-i
-invariant-total_row-loop-i l = AreSummed l.sum l.i (row_trees l.depth l.is_stream l.count l.row)
+abbrev pub decreases-total_composite : goal.decreases-total_composite
+decreases-total_composite l = 5 * structs_size (element_structs l.size.data_words l.size.pointers l.elements) + 2
 
-abbrev pub invariant-total_block-loop-i : goal.invariant-total_block-loop-i
-invariant-total_block-loop-i l = ElementsAreSummed l.sum l.i (block_structs l.size.data_words l.size.pointers l.depth l.is_stream l.count l.block)
+abbrev pub decreases-total_elements : goal.decreases-total_elements
+decreases-total_elements l = 5 * structs_size (element_structs l.size.data_words l.size.pointers l.elements) + 1
+
+abbrev pub invariant-total_pointers-loop-i : goal.invariant-total_pointers-loop-i
+invariant-total_pointers-loop-i l = AreSummed l.sum l.i (pointer_trees l.pointers)
+
+abbrev pub invariant-total_elements-loop-i : goal.invariant-total_elements-loop-i
+invariant-total_elements-loop-i l = ElementsAreSummed l.sum l.i (element_structs l.size.data_words l.size.pointers l.elements)
