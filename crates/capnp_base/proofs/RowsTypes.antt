@@ -1,22 +1,22 @@
 -- Worked rows of types as values.
 use Rattle.std.specs.Prelude.{◌≡◌, refl, ◌-◌, ◌^◌, ℕ, true, false, List, [], ◌∷◌, map}
 use Rattle.capnp_wire.specs.declared.size.ElementSize.TheVariants as size
-use Rattle.capnp_base.specs.declared.introspect.«Type».{«Type» as SchemaType}
+use Rattle.capnp_base.specs.declared.introspect.«Type».{«Type» as TypeHandle}
 use Rattle.capnp_base.specs.declared.introspect.BaseType.TheVariants as base
 use Rattle.capnp_base.specs.declared.introspect.TypeVariant.{TypeVariant}
 use Rattle.capnp_base.specs.declared.introspect.TypeVariant.TheVariants as variant
 use Rattle.capnp_base.specs.Types.{element_size, equal_types, innermost, is_pointer, kind, list_depth, list_type, loosely_equal_types, type_from, variant_of}
 
-abbrev pub struct_type : ℕ → ℕ → SchemaType
+abbrev pub struct_type : ℕ → ℕ → TypeHandle
 struct_type number generic = type_from (variant.Struct (record { number = number; generic = generic }))
 
-abbrev pub enum_type : ℕ → SchemaType
+abbrev pub enum_type : ℕ → TypeHandle
 enum_type number = type_from (variant.Enum (record { number = number }))
 
-abbrev pub u8 : SchemaType
+abbrev pub u8 : TypeHandle
 u8 = type_from variant.UInt8
 
-abbrev pub u32 : SchemaType
+abbrev pub u32 : TypeHandle
 u32 = type_from variant.UInt32
 
 -- each variant but lists, with schemas of number 5, in the order of their declaration

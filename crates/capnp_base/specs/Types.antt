@@ -2,7 +2,7 @@
 use Rattle.std.specs.Prelude.{ℕ, zero, suc, ◌+◌, ◌-◌, ◌^◌, min, Bool, true, false, ◌==◌, ◌&&◌}
 use Rattle.capnp_wire.specs.declared.size.ElementSize.{ElementSize}
 use Rattle.capnp_wire.specs.declared.size.ElementSize.TheVariants as size
-use Rattle.capnp_base.specs.declared.introspect.«Type».{«Type» as SchemaType}
+use Rattle.capnp_base.specs.declared.introspect.«Type».{«Type» as TypeHandle}
 use Rattle.capnp_base.specs.declared.introspect.TypeVariant.{TypeVariant}
 use Rattle.capnp_base.specs.declared.introspect.TypeVariant.TheVariants as variant
 use Rattle.capnp_base.specs.declared.introspect.BaseType.{BaseType}
@@ -29,18 +29,18 @@ base_variant (base.Enum e) = variant.Enum e
 -- ---- what crates above speak of ----
 
 -- how many lists a type is wrapped in
-abbrev pub list_depth : SchemaType → ℕ
+abbrev pub list_depth : TypeHandle → ℕ
 list_depth t = t.list_count
 
 -- what stands inside all its lists, which is no list
-abbrev pub base_of : SchemaType → BaseType
+abbrev pub base_of : TypeHandle → BaseType
 base_of t = t.base
 
-abbrev pub innermost : SchemaType → TypeVariant
+abbrev pub innermost : TypeHandle → TypeVariant
 innermost t = base_variant t.base
 
 -- the lists of such values; the number of lists stays at its last value
-abbrev pub list_type : SchemaType → SchemaType
+abbrev pub list_type : TypeHandle → TypeHandle
 list_type t = record { base = t.base; list_count = min (t.list_count + 1) (2 ^ 64 - 1) }
 
 -- a type, of which one layer is looked at: a list of a type, or no list
@@ -48,14 +48,14 @@ abbrev pub variant_by : BaseType → ℕ → TypeVariant
 variant_by b zero = base_variant b
 variant_by b (suc n) = variant.List (record { base = b; list_count = n })
 
-abbrev pub variant_of : SchemaType → TypeVariant
+abbrev pub variant_of : TypeHandle → TypeVariant
 variant_of t = variant_by t.base t.list_count
 
-abbrev pub base_type : BaseType → SchemaType
+abbrev pub base_type : BaseType → TypeHandle
 base_type b = record { base = b; list_count = 0 }
 
 -- the type of a layer
-abbrev pub type_from : TypeVariant → SchemaType
+abbrev pub type_from : TypeVariant → TypeHandle
 type_from variant.Void = base_type base.Void
 type_from variant.Bool = base_type base.Bool
 type_from variant.Int8 = base_type base.Int8
@@ -92,7 +92,7 @@ is_pointer_variant variant.AnyPointer = true
 is_pointer_variant (variant.Enum e) = false
 is_pointer_variant (variant.List t) = true
 
-abbrev pub is_pointer : SchemaType → Bool
+abbrev pub is_pointer : TypeHandle → Bool
 is_pointer t = is_pointer_variant (variant_of t)
 
 -- the size of the elements of a list of such values ("Lists" of the encoding)
@@ -146,11 +146,11 @@ generic_number (variant.Enum e) = e.number
 generic_number v = 0
 
 -- whether two types are equal: as many lists of the same variant, structs and enums by their schema's number alone
-abbrev pub equal_types : SchemaType → SchemaType → Bool
+abbrev pub equal_types : TypeHandle → TypeHandle → Bool
 equal_types t u = (list_depth t == list_depth u) && (kind (innermost t) == kind (innermost u))
     && (schema_number (innermost t) == schema_number (innermost u))
 
 -- the same, where structs go by their generic number
-abbrev pub loosely_equal_types : SchemaType → SchemaType → Bool
+abbrev pub loosely_equal_types : TypeHandle → TypeHandle → Bool
 loosely_equal_types t u = (list_depth t == list_depth u) && (kind (innermost t) == kind (innermost u))
     && (generic_number (innermost t) == generic_number (innermost u))

@@ -2,7 +2,7 @@
 //!
 //! A type is a type that is no list, inside a number of lists. It takes no memory of its own and is copied.
 ghost use Rattle.std.specs.Prelude.{◌≡◌};
-ghost use Rattle.capnp_base.specs.declared.introspect.«Type».{«Type» as SchemaType};
+ghost use Rattle.capnp_base.specs.declared.introspect.«Type».{«Type» as TypeHandle};
 ghost use Rattle.capnp_base.specs.declared.introspect.TypeVariant.TheVariants as variant;
 ghost use Rattle.capnp_base.specs.Types.{base_type, element_size, innermost, is_pointer, list_type, loosely_equal_types, type_from, variant_of};
 
@@ -13,7 +13,7 @@ use capnp_wire::size::ElementSize;
 /// A Rust type that stands for a type of the schema.
 pub trait Introspect {
     // The type as a value.
-    ghost type_of: { SchemaType };
+    ghost type_of: { TypeHandle };
 
     /// The type as a value.
     fn introspect() -> Type

@@ -114,7 +114,8 @@ pub trait Owned<'a>: Introspect {
     ghost same: { Self.Reader → Self.Reader → Type 0 };
 
     // What is set is what is read.
-    ghost set_is_read: { (x : Self.Reader) (levels : ℕ) (r : Result Self.Reader Error) → Self.Reader.reads (Self.Reader.set_tree x) levels r → IsOkAnd r (same x) };
+    ghost set_is_read: { (x : Self.Reader) (levels : ℕ) (r : Result Self.Reader Error)
+        → Self.Reader.reads (Self.Reader.set_tree x) levels r → IsOkAnd r (same x) };
 }
 
 /// Sets a pointer, and reads it again: what is set is what is read. Where the pointer's tree is the one that a reader would

@@ -3,16 +3,17 @@ use Rattle.std.specs.Prelude.{◌*◌, ◌≤◌, ◌≡◌, Bool}
 use Rattle.std.proofs.Common.{subst, sym}
 use Rattle.capnp_wire.specs.Tree.{StructTree}
 use Rattle.capnp_schema.specs.FieldLists.{schema_of}
-use Rattle.capnp_schema.specs.Footprint.{Place}
+use Rattle.capnp_schema.specs.Footprint.{Spot}
 use Rattle.capnp_schema.specs.StructHandles.{number_of, set_of}
 use Rattle.capnp_schema.specs.declared.schema.fields.Field.{Field}
 use Rattle.capnp_schema.specs.declared.schema.structs.StructSchema.{StructSchema}
-use Rattle.capnp_records.specs.Writes.Slots.{Fits, brand_size}
+use Rattle.capnp_records.specs.Writes.Slots.{Fits}
+use Rattle.capnp_schema.specs.Plan.{brand_size}
 use Rattle.capnp_slots.specs.Fields.{Keeps}
 use Rattle.capnp_slots.specs.Groups.{IsGroupAt}
 use Rattle.capnp_bench.specs.Room.{LiesIn, StaysUnder}
 
-pub kept_under : (inside : Place → Bool) (s s' : StructTree) → Keeps inside s s' → StaysUnder s s'
+pub kept_under : (inside : Spot → Bool) (s s' : StructTree) → Keeps inside s s' → StaysUnder s s'
 kept_under inside s s' kept schema under = record {
   room = (
     subst (λ n. 8 * (brand_size (set_of schema) (number_of schema)).data_words ≤ n) (sym kept.writes.data_size) under.room.0,

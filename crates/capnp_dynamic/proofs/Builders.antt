@@ -5,14 +5,15 @@ use Rattle.std.proofs.Common.{ap, sym, subst, ◌∙◌}
 use Rattle.std.proofs.lemmas.Bool.{true≢false}
 use Rattle.capnp_wire.specs.Tree.{StructTree}
 use Rattle.capnp_schema.specs.FieldLists.{IsFound, index_of, schema_of as field_schema, typed_of}
-use Rattle.capnp_schema.specs.Footprint.{Place}
+use Rattle.capnp_schema.specs.Footprint.{Spot}
 use Rattle.capnp_schema.specs.Schema.{Schemas}
 use Rattle.capnp_schema.specs.StructHandles.{number_of, set_of, struct_field, struct_node}
 use Rattle.capnp_schema.specs.declared.schema.fields.Field.{Field}
 use Rattle.capnp_schema.specs.declared.schema.structs.StructSchema.{StructSchema}
 use Rattle.capnp_records.specs.Step.{is_group_field}
 use Rattle.capnp_records.specs.Writes.Overlay.{cleared_content}
-use Rattle.capnp_records.specs.Writes.Slots.{Fits, brand_size}
+use Rattle.capnp_records.specs.Writes.Slots.{Fits}
+use Rattle.capnp_schema.specs.Plan.{brand_size}
 use Rattle.capnp_records.specs.Writes.TreeEnds.{group_cleared, slot_written}
 use Rattle.capnp_slots.specs.Copied.{refusal_of}
 use Rattle.capnp_slots.specs.Fields.{IsRoomFor, Keeps, field_brand, names_of}
@@ -36,7 +37,7 @@ room_for f schema s belongs under =
     subst (λ (z : Schemas). Fits z (field_brand f) s) (sym belongs.set) (subst (λ b. Fits (set_of schema) b s) (sym belongs.number) under.room)
 
 -- what a write keeps, the schema keeps
-pub under_kept : (schema : StructSchema) (inside : Place → Bool) (s s' : StructTree) → IsUnder schema s → Keeps inside s s' → IsUnder schema s'
+pub under_kept : (schema : StructSchema) (inside : Spot → Bool) (s s' : StructTree) → IsUnder schema s → Keeps inside s s' → IsUnder schema s'
 under_kept schema inside s s' under kept = record {
   room = (
     subst (λ n. 8 * (brand_size (set_of schema) (number_of schema)).data_words ≤ n) (sym kept.writes.data_size) under.room.0,
@@ -82,7 +83,7 @@ same_set s o f g a b x old new h = record {
   taken = subst IsTaken (same_field (λ (z : StructSchema) i. given_slot (set_of z) (struct_field z i).type x) s o f g a b) h.taken;
   written = h.written ∙ same_field (λ (z : StructSchema) i. slot_written (set_of z) (number_of z) (struct_field z i)
       (given_content (default_of (struct_field z i).field) (struct_field z i).type x (given_slot (set_of z) (struct_field z i).type x)) old) s o f g a b;
-  kept = subst (λ (inside : Place → Bool). Keeps inside old new) (same_field (λ (z : StructSchema) i. field_names (set_of z) (number_of z) (struct_field z i)) s o f g a b) h.kept;
+  kept = subst (λ (inside : Spot → Bool). Keeps inside old new) (same_field (λ (z : StructSchema) i. field_names (set_of z) (number_of z) (struct_field z i)) s o f g a b) h.kept;
 }
 
 pub same_given : (s : StructSchema) (o : Option ℕ) (f g : Field) → IsFound s o (Some f) → IsFound s o (Some g) → (x : Source) → given_to f x ≡ given_to g x
@@ -114,7 +115,7 @@ cleared_group f x e = go (is_group_field (typed_of f).field.kind) e
 
 -- ---- what is set, by its kind ----
 
-kept-same : (inside : Place → Bool) (s s' : StructTree) → s' ≡ s → Keeps inside s s'
+kept-same : (inside : Spot → Bool) (s s' : StructTree) → s' ≡ s → Keeps inside s s'
 kept-same inside s s' e = subst (λ (x : StructTree). Keeps inside s x) (sym e) (record { writes = writes-refl inside s; formed = λ h. h })
 
 slot-kind : (q : Bool) → true ≡ not q → q ≡ false

@@ -19,7 +19,8 @@ use Rattle.capnp_schema.specs.declared.schema.structs.StructSchema.{StructSchema
 use Rattle.capnp_records.specs.Default.{read_of}
 use Rattle.capnp_records.specs.Facts.Readers.{element_read}
 use Rattle.capnp_records.specs.Writes.ElementEnds.{HasRoom}
-use Rattle.capnp_records.specs.Writes.Slots.{Fits, brand_size}
+use Rattle.capnp_records.specs.Writes.Slots.{Fits}
+use Rattle.capnp_schema.specs.Plan.{brand_size}
 use Rattle.capnp_slots.specs.Fills.{is_behind}
 use Rattle.capnp_dynamic.specs.Built.{IsListUnder, IsUnder as IsStructUnder}
 use Rattle.capnp_dynamic.specs.Leaf.{IsNumber}

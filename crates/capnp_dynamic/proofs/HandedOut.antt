@@ -20,10 +20,10 @@ use Rattle.capnp_schema.specs.Accepted.{root_of}
 use Rattle.capnp_schema.specs.Defaults.{IsReadAs, default_tree}
 use Rattle.capnp_schema.specs.Schema.{Schemas, Value, TextValue, DataValue, ListValue}
 use Rattle.capnp_schema.specs.Types.{is_pointer, SchemaType, VoidType, BoolType, IntType, UIntType, EnumType, TextType, DataType, StructType, ListType, AnyPointerType, element_size}
-use Rattle.capnp_records.specs.Given.{text_tree}
+use Rattle.capnp_base.specs.Text.{text_tree}
 use Rattle.capnp_records.specs.Writes.Contents.{new_list}
 use Rattle.capnp_records.specs.Writes.Fill.{or_default}
-use Rattle.capnp_records.specs.Writes.Slots.{brand_size}
+use Rattle.capnp_schema.specs.Plan.{brand_size}
 use Rattle.capnp_slots.specs.Fills.{fill_due, filled_tree}
 use Rattle.capnp_records.specs.Facts.Pointers.{nth_tree-put_same}
 use Rattle.capnp_device.specs.declared.error.Error.{Error}

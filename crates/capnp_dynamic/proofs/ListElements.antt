@@ -26,7 +26,8 @@ use Rattle.capnp_schema.specs.Schema.{Schemas}
 use Rattle.capnp_schema.specs.Types.{SchemaType, VoidType, BoolType, IntType, UIntType, EnumType, TextType, DataType, StructType, ListType, AnyPointerType, element_size, seen_type, seen_variant}
 use Rattle.capnp_records.specs.Call.{Source}
 use Rattle.capnp_records.specs.Writes.ElementEnds.{HasRoom, element_written}
-use Rattle.capnp_records.specs.Writes.Slots.{Bits, At, Content, Fits, brand_size}
+use Rattle.capnp_records.specs.Writes.Slots.{Bits, At, Content, Fits}
+use Rattle.capnp_schema.specs.Plan.{brand_size}
 use Rattle.capnp_slots.specs.ElementSets.{IsElementSet, element_content}
 use Rattle.capnp_dynamic.specs.Built.{HoldsElements, IsListUnder}
 

@@ -7,7 +7,7 @@ use Rattle.capnp_wire.specs.Facts.Lengths.{HasAtLeast-zero_struct}
 use Rattle.capnp_wire.specs.Tree.{StructTree, Tree, Trees, nth_tree, tree_count}
 use Rattle.capnp_schema.specs.Accepted.{IsGroupOf}
 use Rattle.capnp_schema.specs.FieldLists.{IsFound, typed_of}
-use Rattle.capnp_schema.specs.Footprint.{Place}
+use Rattle.capnp_schema.specs.Footprint.{Spot}
 use Rattle.capnp_schema.specs.Schema.{Field as FieldEntry, FieldKind, Group, Node, Schemas, Slot, is_member, node_of}
 use Rattle.capnp_schema.specs.StructHandles.{number_of, set_of, struct_field}
 use Rattle.capnp_schema.specs.Types.{is_pointer, struct_brand, SchemaType, VoidType, BoolType, IntType, UIntType, EnumType, TextType, DataType, StructType, ListType, AnyPointerType}
@@ -18,7 +18,8 @@ use Rattle.capnp_records.specs.Step.{is_group_field}
 use Rattle.capnp_records.specs.Writes.Contents.{init_tree, initn_tree}
 use Rattle.capnp_records.specs.Writes.ElementEnds.{InitnContent}
 use Rattle.capnp_records.specs.Writes.Overlay.{switch, switched}
-use Rattle.capnp_records.specs.Writes.Slots.{At, brand_size}
+use Rattle.capnp_records.specs.Writes.Slots.{At}
+use Rattle.capnp_schema.specs.Plan.{brand_size}
 use Rattle.capnp_records.specs.Writes.TreeEnds.{InitContent}
 use Rattle.capnp_slots.specs.Fields.{IsPointer, IsRoomFor, IsSlot, Keeps, field_brand, field_set, pointer_index, slot_with, switched_to}
 use Rattle.capnp_slots.specs.Fills.{pointer_in}
@@ -47,7 +48,7 @@ slot-there f s s' t inside e =
     ∙ nth_tree-put_same (switched_to f s).pointers (pointer_index f) t
     (subst (λ (ps : Trees). pointer_index f < tree_count ps) (sym (switched-pointers (node_of (field_set f) (field_brand f)) (typed_of f).field s)) inside)
 
-pub room_kept : (f : Field) (inside : Place → Bool) (s s' : StructTree) → IsRoomFor f s → Keeps inside s s' → IsRoomFor f s'
+pub room_kept : (f : Field) (inside : Spot → Bool) (s s' : StructTree) → IsRoomFor f s → Keeps inside s s' → IsRoomFor f s'
 room_kept f inside s s' room kept = (
   subst (λ n. 8 * (brand_size (field_set f) (field_brand f)).data_words ≤ n) (sym kept.writes.data_size) room.0,
   subst (λ n. (brand_size (field_set f) (field_brand f)).pointers ≤ n) (sym kept.writes.pointer_count) room.1,

@@ -114,18 +114,16 @@ impl<'a> IndexMove<u32, Result<dynamic_value::Reader<'a>>> for Reader<'a> {
 }
 
 impl<'a> IntoIterator for Reader<'a> {
-    ghost use Rattle.std.specs.Prelude.{◌≡◌};
     ghost use Rattle.capnp_wire.specs.Standing.{list_of};
     ghost use Rattle.capnp_wire.specs.Reading.{list_length};
-    ghost use Rattle.capnp_base.specs.ListIter.{source, to_come};
-    ghost use Rattle.capnp_base.specs.Taking.{indices};
+    ghost use Rattle.capnp_base.specs.ListIter.{GoesOverAll};
     ghost use Rattle.capnp_dynamic.specs.Handles.{list_reader_of};
 
     type Item = Result<dynamic_value::Reader<'a>>;
 
     type IntoIter = ListIter<Reader<'a>, Result<dynamic_value::Reader<'a>>>;
 
-    ghost into_iter_gives = { λ l items. (source items ≡ l) × (to_come items ≡ indices 0 (list_length (list_of (list_reader_of l)))) };
+    ghost into_iter_gives = { λ l items. GoesOverAll l (list_length (list_of (list_reader_of l))) items };
 
     fn into_iter(self) -> ListIter<Reader<'a>, Result<dynamic_value::Reader<'a>>> {
         self.iter()

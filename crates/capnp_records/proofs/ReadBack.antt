@@ -6,7 +6,7 @@ use Rattle.std.specs.Int.Bits.{xor_zero_l}
 use Rattle.capnp_wire.specs.Tree.{Null, StructTree}
 use Rattle.capnp_schema.specs.Accepted.{IsGroupOf}
 use Rattle.capnp_schema.specs.Facts.Groups.{group_fields_name_brands, group_in_set, group_names_its_parts, is_shallow}
-use Rattle.capnp_schema.specs.Footprint.{Place, discriminant_names, footprint}
+use Rattle.capnp_schema.specs.Footprint.{Spot, discriminant_names, footprint}
 use Rattle.capnp_schema.specs.Laws.{struct_names}
 use Rattle.capnp_schema.specs.Schema.{Field, FieldKind, Group, Schemas, Slot, TypedField, default_of, field_at, fields_of, is_member, kind_default, node_of}
 use Rattle.capnp_schema.specs.Schema.{Value as SchemaValue}
@@ -26,7 +26,8 @@ use Rattle.capnp_records.specs.ReadBack.{AreApart, ClearIsRead, ClearedIsActive,
 use Rattle.capnp_records.specs.Reading.{number_value, part_of, reads, struct_record, value_of, values_of}
 use Rattle.capnp_records.specs.Record.{Active, Endless, Levels, NoUnion, Parts, Record, Union, Unknown, Value, Values, is_there}
 use Rattle.capnp_records.specs.Step.{is_group_field}
-use Rattle.capnp_records.specs.Given.{data_tree, text_tree}
+use Rattle.capnp_records.specs.Given.{data_tree}
+use Rattle.capnp_base.specs.Text.{text_tree}
 use Rattle.capnp_records.specs.Writes.Contents.{source_tree}
 use Rattle.capnp_records.specs.Writes.Overlay.{IsReady, Turns, cleared_content, cleared_group, field_names, number_content, stored, switched, with_slot}
 use Rattle.capnp_records.specs.Writes.Slots.{At, Bits, Content, Suits, Writes, with_content}
@@ -224,7 +225,7 @@ or-neither : (x y : Bool) → x ≡ false → y ≡ false → (x || y) ≡ false
 or-neither x y e f = rw (e, f)
 
 -- what one of two such fields names, the other's write doesn't touch
-apart-names : (set : Schemas) (b i j : ℕ) → AreApart set b i j → (p : Place) → footprint set (field_at set b j) p ≡ true → field_names set b (field_at set b i) p ≡ false
+apart-names : (set : Schemas) (b i j : ℕ) → AreApart set b i j → (p : Spot) → footprint set (field_at set b j) p ≡ true → field_names set b (field_at set b i) p ≡ false
 apart-names set b i j h p named = or-neither (footprint set f p) _ (footprints (is_member f.field) refl) (and-false (is_member f.field) _ discriminant)
   where
     f : TypedField

@@ -1,5 +1,5 @@
 -- What a set gives to a field or an element: the kinds that it takes, and what is copied.
-use Rattle.std.specs.Prelude.{ℕ, ◌-◌, ◌^◌, pos, List, [], ◌∷◌, ◌++◌, Bool, true, false, ◌==◌, nat_lt, cond, length, Option, option_map}
+use Rattle.std.specs.Prelude.{ℕ, ◌-◌, ◌^◌, pos, List, Bool, true, false, ◌==◌, nat_lt, cond, length, Option, option_map}
 use Rattle.capnp_wire.specs.Tree as tree
 use Rattle.capnp_wire.specs.Tree.{Tree, StructTree}
 use Rattle.capnp_wire.specs.Place.{struct_tree}
@@ -8,6 +8,7 @@ use Rattle.capnp_wire.specs.Words.{first_fault}
 use Rattle.capnp_wire.specs.Edits.{rounded}
 use Rattle.capnp_device.specs.declared.error.ErrorKind.{ErrorKind}
 use Rattle.capnp_device.specs.declared.error.ErrorKind.TheVariants.{TypeMismatch, NotAStruct, ListAnyPointerNotSupported, CannotSetAnyPointerFieldToAPrimitiveValue}
+use Rattle.capnp_base.specs.Text.{text_tree}
 use Rattle.capnp_schema.specs.Types.{SchemaType, VoidType, BoolType, IntType, UIntType, EnumType, TextType, DataType, StructType, ListType, AnyPointerType, struct_number}
 use Rattle.capnp_schema.specs.Schema.{Schemas}
 use Rattle.capnp_records.specs.Record as value
@@ -22,10 +23,7 @@ use Rattle.capnp_records.specs.Step.{Target}
 abbrev pub copy_refusal : Tree → Option ErrorKind
 copy_refusal t = option_map refusal (first_fault t)
 
--- the tree of a text is its bytes and a zero, that of data its bytes
-abbrev pub text_tree : List ℕ → Tree
-text_tree bytes = tree.Numbers 1 (bytes ++ 0 ∷ [])
-
+-- the tree of data is its bytes
 abbrev pub data_tree : List ℕ → Tree
 data_tree bytes = tree.Numbers 1 bytes
 

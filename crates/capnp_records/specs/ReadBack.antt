@@ -11,7 +11,8 @@ use Rattle.capnp_records.specs.Reading.{number_value, part_of, struct_record, va
 use Rattle.capnp_records.specs.Default.{default_value, read_field}
 use Rattle.capnp_records.specs.Part.{has_of, which_of}
 use Rattle.capnp_records.specs.Call.{Source}
-use Rattle.capnp_records.specs.Given.{Copies, Gives, data_tree, given_slot, text_tree}
+use Rattle.capnp_records.specs.Given.{Copies, Gives, data_tree, given_slot}
+use Rattle.capnp_base.specs.Text.{text_tree}
 use Rattle.capnp_records.specs.Laws.{IsFieldAt}
 use Rattle.capnp_records.specs.Step.{is_group_field}
 use Rattle.capnp_records.specs.Writes.Contents.{SourceFits, source_tree}

@@ -30,7 +30,7 @@ use Rattle.capnp_records.specs.Record.{Endless, Record, Value}
 use Rattle.capnp_records.specs.Record as value
 use Rattle.capnp_records.specs.Step.{CanRefuse, Target, fault_of, filled, for_memory, for_size, is_group_field, is_list_default, is_struct_list, size_of, takes_room}
 use Rattle.capnp_records.specs.Writes.Fill.{IsAtRest, filled_list, or_default}
-use Rattle.capnp_records.specs.Writes.Slots.{brand_size}
+use Rattle.capnp_schema.specs.Plan.{brand_size}
 use Rattle.capnp_records.specs.Writes.Stand.{KindWithin, SlotWithin, left_field}
 use Rattle.capnp_records.specs.Writes.TreeEnds.{TreeEnds, offset_of}
 use Rattle.capnp_records.specs.Writes.TreeRun.{TreeEnd, TreeWalks}

@@ -25,7 +25,7 @@ use Rattle.capnp_records.specs.Reading.{value_of}
 use Rattle.capnp_records.specs.Record.{Endless}
 use Rattle.capnp_records.specs.Step.{fault_of, filled, is_struct_list, size_of}
 use Rattle.capnp_records.specs.Writes.Fill.{or_default}
-use Rattle.capnp_records.specs.Writes.Slots.{brand_size}
+use Rattle.capnp_schema.specs.Plan.{brand_size}
 use Rattle.capnp_records.specs.Writes.Stand.{seen_element}
 use Rattle.capnp_slots.specs.Fills.{fill_due}
 

@@ -31,7 +31,8 @@ use Rattle.capnp_records.specs.Record.{Endless, NoValues, Value, Values, values_
 use Rattle.capnp_records.specs.Run.{Asks}
 use Rattle.capnp_records.specs.Step.{CanRefuse, Found, Target, fault_of, filled, for_memory, for_size, in_list, size_of, takes_room, target_at, walked_by_type, walked_result, walked_target}
 use Rattle.capnp_records.specs.Writes.Fill.{IsAtRest, entered_list}
-use Rattle.capnp_records.specs.Writes.Slots.{Fits, brand_size}
+use Rattle.capnp_records.specs.Writes.Slots.{Fits}
+use Rattle.capnp_schema.specs.Plan.{brand_size}
 use Rattle.capnp_records.specs.Writes.Stand.{ListSound, OnList, OnStruct, seen_element}
 use Rattle.capnp_records.specs.Writes.TreeEnds.{TreeDoesAt, TreeEnds}
 use Rattle.capnp_records.specs.Writes.TreeRun.{TreeEnd, TreeEnters, TreePasses, TreeWalks}

@@ -11,7 +11,8 @@ use Rattle.capnp_schema.specs.declared.schema.structs.StructSchema.{StructSchema
 use Rattle.capnp_records.specs.Laws.{OverlayLaw}
 use Rattle.capnp_records.specs.Reading.{reads}
 use Rattle.capnp_records.specs.Run.{Run}
-use Rattle.capnp_records.specs.Writes.Slots.{Fits, brand_size}
+use Rattle.capnp_records.specs.Writes.Slots.{Fits}
+use Rattle.capnp_schema.specs.Plan.{brand_size}
 use Rattle.capnp_records.specs.Writes.Stand.{OnStruct}
 use Rattle.capnp_records.specs.Writes.TreeEnds.{TreeEnds, TreeRun, TreeStep}
 use Rattle.capnp_records.specs.Writes.TreeRun.{TreeWalks}

@@ -38,7 +38,8 @@ use Rattle.capnp_schema.specs.StructHandles.{generic_of, number_of, set_of, stru
 use Rattle.capnp_schema.specs.declared.schema.structs.StructSchema.{StructSchema}
 use Rattle.capnp_records.specs.Facts.Extension.{fits-extended, reads-extended, reads-zero_struct}
 use Rattle.capnp_records.specs.Record.{Left, Levels, Record}
-use Rattle.capnp_records.specs.Writes.Slots.{Fits, brand_size}
+use Rattle.capnp_records.specs.Writes.Slots.{Fits}
+use Rattle.capnp_schema.specs.Plan.{brand_size}
 use Rattle.capnp_run.specs.Messages.{HasRoot, IsWhole, IsWholeRefusal, LeavesRun, RunsOn, fault_or, new_record, record_left, root_refusal, root_value, text_in}
 use Rattle.capnp_run.specs.Runs.{IsRunFrom, record_in}
 use Rattle.capnp_run.specs.declared.calls.Call.{Call}

@@ -100,7 +100,8 @@ fn do_element(
     requires stands { IsListStand (lists_seen set.now) (seen_type element) (list_object_tree list.old) }
     requires inside { index < list_length (list_object_tree list.old) }
     requires names { end.call.now.op ≢ Op.Which }
-    ensures does { ElementDoes (lists_seen set.now) (seen_type element) index end.entry.call.now.op (list_object_tree list.old) result (list_object_tree list.new) }
+    ensures does { ElementDoes (lists_seen set.now) (seen_type element) index end.entry.call.now.op (list_object_tree list.old) result
+        (list_object_tree list.new) }
     ensures formed { IsWellFormed (list_object_tree list.new) }
 {
     match end.call.op {

@@ -1,5 +1,4 @@
 -- Lemmas that the steps of the check are proved by.
-pub mod AnnotationTypes
 pub mod BrandRefusals
 pub mod GroupChains
 pub mod GroupTable
@@ -13,4 +12,5 @@ pub mod SpanLemmas
 pub mod SpanTables
 pub mod TourGroups
 pub mod Tours
+pub mod Types
 pub mod WordPlaces

@@ -1,11 +1,11 @@
 -- Groups that stand right below a struct, as a test that computes.
-use Rattle.std.proofs.Common.{ℕ, ◌≡◌, ◌<◌, ◌≤◌, ◌&&◌, ◌==◌, nat_lt, Bool, true, false, not, length, arith, refl, Option, Some, None}
+use Rattle.std.proofs.Common.{ℕ, ◌≡◌, ◌<◌, ◌&&◌, ◌==◌, nat_lt, Bool, true, false, not, length, arith, refl, Option, Some, None}
 use Rattle.std.proofs.lemmas.Bool.{ltb-true}
 use Rattle.std.proofs.lemmas.Bool.Decides.{Decides-eqb}
 use Rattle.std.proofs.lemmas.Option.{same_Some}
 use Rattle.capnp_schema.specs.Types.{SchemaType}
 use Rattle.capnp_schema.specs.Schema.{Schemas, FieldKind, Slot, Group, TypedField, node_of, fields_of, field_at, kind_target}
-use Rattle.capnp_schema.specs.Accepted.{IsGroupBrand, IsGroupOf, IsParent, EndsAtStruct, HasOneParent, Rule8}
+use Rattle.capnp_schema.specs.Accepted.{HasOneParent, IsGroupBrand, IsGroupOf, IsParent, Rule8, StandsInStruct}
 use Rattle.capnp_schema.proofs.Computed.{both, all_below, passes_below, all_fields, each_field}
 
 abbrev pub is_target : Option ℕ → ℕ → Bool
@@ -64,8 +64,7 @@ module _ (set : Schemas) (g p i : ℕ) (group : IsGroupBrand set g) (some : 0 < 
         index = i;
         is_parent = record { brand = ltb-true p (length set.brands) inside.0; field = ltb-true i (length (fields_of set p)) inside.1; names = names_it g (field_at set p i) names.0 };
         only = λ b j parent. each_field set (λ b j f. not (names_group g f && not ((b == p) && (j == i)))) (λ b j f. IsGroupOf f.field.kind f.type g → (b ≡ p) × (j ≡ i)) at_once names.1 b j parent.brand parent.field parent.names;
-        data_words = (Decides-eqb (node_of set g).data_word_count (node_of set p).data_word_count).0 same.0;
-        pointers = (Decides-eqb (node_of set g).pointer_count (node_of set p).pointer_count).0 same.1;
+        sizes = ((Decides-eqb (node_of set g).data_word_count (node_of set p).data_word_count).0 same.0, (Decides-eqb (node_of set g).pointer_count (node_of set p).pointer_count).0 same.1);
       }
     where
       here : (b j : ℕ) (q : Bool) → not (q && not ((b == p) && (j == i))) ≡ true → q ≡ true → ((b == p) && (j == i)) ≡ true
@@ -81,7 +80,7 @@ module _ (set : Schemas) (g p i : ℕ) (group : IsGroupBrand set g) (some : 0 < 
           let same = both (b == p) (j == i) (here b j (names_group g f) e (is_named_by g f named)) in
           ((Decides-eqb b p).0 same.0, (Decides-eqb j i).0 same.1)
 
-  stands : stands_below set g (p, i) ≡ true → HasOneParent set g × ((steps : ℕ) × (steps ≤ length set.brands) × EndsAtStruct steps set g)
+  stands : stands_below set g (p, i) ≡ true → HasOneParent set g × StandsInStruct set g
   stands e =
       let parts = both (names_once set g p i) (has_sizes_of set g p && not (node_of set p).is_group) e in
       let rest = both (has_sizes_of set g p) (not (node_of set p).is_group) parts.1 in
@@ -108,5 +107,5 @@ rule8 set parent e g g_in group =
     holds true false e h = cc
     holds false r e h = cc
 
-    at : (up : ℕ × ℕ) → not ((node_of set g).is_group && not (stands_below set g up)) ≡ true → HasOneParent set g × ((steps : ℕ) × (steps ≤ length set.brands) × EndsAtStruct steps set g)
+    at : (up : ℕ × ℕ) → not ((node_of set g).is_group && not (stands_below set g up)) ≡ true → HasOneParent set g × StandsInStruct set g
     at (p, i) pass = stands set g p i group (omega arith) (holds (node_of set g).is_group (stands_below set g (p, i)) pass group)

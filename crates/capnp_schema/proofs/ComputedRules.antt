@@ -8,7 +8,7 @@ use Rattle.std.proofs.lemmas.Map.Views.{Contains-from_any}
 use Rattle.std.proofs.lemmas.Slice.Eq.{bytes_eq-Decides}
 use Rattle.capnp_schema.specs.Types.{SchemaType}
 use Rattle.capnp_schema.specs.Schema.{Schemas, Node, Brand, Enum, Enumerant, Field, Annotation, AnnotationTypes, brand_at, node_of, is_member}
-use Rattle.capnp_schema.specs.Accepted.{NamesEntries, TypesName, Rule1, HasTypes, BrandHasTypes, EnumHasTypes, Rule2, HasFewAnnotations, HasFewEnumerants, HasFewFields, HasOwnName, EachOfNode, EachOfEnum, Rule3, LiesInside, Rule4, KindDefault, IsDefaultOf, Rule5, GroupFits, Rule7, HasEachMember, Rule9, DiscriminantFits, Rule10}
+use Rattle.capnp_schema.specs.Accepted.{AllName, BrandHasTypes, DefaultIsOfType, DiscriminantFits, EachOfEnum, EachOfNode, EnumHasTypes, HasEachMember, HasFewAnnotations, HasFewEnumerants, HasFewFields, HasNamedType, HasOwnName, HasTypes, NamesEntries, NamesOwnGroup, Rule1, Rule10, Rule2, Rule3, Rule4, Rule5, Rule7, Rule9, SlotLiesInside, TypesName}
 use Rattle.capnp_schema.proofs.ComputedEntries.{is_shown, shown, named, inside, slot_default, group_fits, discriminant_fits}
 use Rattle.capnp_schema.specs.Facts.Fields.{All-entry}
 use Rattle.capnp_schema.proofs.Computed.{both, not_so, not_both, all_below, passes_below, all_pass, all_pairs, each_pair, all_fields, each_field}
@@ -24,20 +24,20 @@ types_name set types = list_all (is_named set) types.own && list_all (list_all (
 abbrev pub meets_rule1 : Schemas → Bool
 meets_rule1 set = all_fields set (λ b i f. is_named set f.type) && (list_all (λ (b : Brand). types_name set b.annotation_types) set.brands && list_all (λ (e : Enum). types_name set e.annotation_types) set.enums)
 
-all_named : (set : Schemas) (types : List SchemaType) → list_all (is_named set) types ≡ true → All (NamesEntries set) types
+all_named : (set : Schemas) (types : List SchemaType) → list_all (is_named set) types ≡ true → AllName set types
 all_named set types = all_pass (is_named set) (NamesEntries set) types (λ t. shown (named set t))
 
 named_types : (set : Schemas) (types : AnnotationTypes) → types_name set types ≡ true → TypesName set types
 named_types set types e =
     let parts = both (list_all (is_named set) types.own) (list_all (list_all (is_named set)) types.children) e in
-    (all_named set types.own parts.0, all_pass (list_all (is_named set)) (All (NamesEntries set)) types.children (all_named set) parts.1)
+    (all_named set types.own parts.0, all_pass (list_all (is_named set)) (AllName set) types.children (all_named set) parts.1)
 
 pub rule1 : (set : Schemas) → meets_rule1 set ≡ true → Rule1 set
 rule1 set e =
     let parts = both _ _ e in
     let lists = both _ _ parts.1 in
     record {
-      fields = each_field set _ (λ b i f. NamesEntries set f.type) (λ b i f. shown (named set f.type)) parts.0;
+      fields = each_field set _ (λ b i f. HasNamedType set f) (λ b i f. shown (named set f.type)) parts.0;
       brands = all_pass _ (λ (b : Brand). TypesName set b.annotation_types) set.brands (λ b. named_types set b.annotation_types) lists.0;
       enums = all_pass _ (λ (x : Enum). TypesName set x.annotation_types) set.enums (λ x. named_types set x.annotation_types) lists.1;
     }
@@ -148,19 +148,19 @@ abbrev pub meets_rule4 : Schemas → Bool
 meets_rule4 set = all_fields set (λ b i f. is_shown (inside (node_of set b) f.field.kind f.type))
 
 pub rule4 : (set : Schemas) → meets_rule4 set ≡ true → Rule4 set
-rule4 set = each_field set _ (λ b i f. LiesInside (node_of set b) f.field.kind f.type) (λ b i f. shown (inside (node_of set b) f.field.kind f.type))
+rule4 set = each_field set _ (λ b i f. SlotLiesInside (node_of set b) f) (λ b i f. shown (inside (node_of set b) f.field.kind f.type))
 
 abbrev pub meets_rule5 : Schemas → Bool
 meets_rule5 set = all_fields set (λ b i f. is_shown (slot_default f.field.kind f.type))
 
 pub rule5 : (set : Schemas) → meets_rule5 set ≡ true → Rule5 set
-rule5 set = each_field set _ (λ b i f. KindDefault IsDefaultOf f.field.kind f.type) (λ b i f. shown (slot_default f.field.kind f.type))
+rule5 set = each_field set _ (λ b i f. DefaultIsOfType f) (λ b i f. shown (slot_default f.field.kind f.type))
 
 abbrev pub meets_rule7 : Schemas → Bool
 meets_rule7 set = all_fields set (λ b i f. is_shown (group_fits set f.field.kind f.type))
 
 pub rule7 : (set : Schemas) → meets_rule7 set ≡ true → Rule7 set
-rule7 set = each_field set _ (λ b i f. GroupFits set f.field.kind f.type) (λ b i f. shown (group_fits set f.field.kind f.type))
+rule7 set = each_field set _ (λ b i f. NamesOwnGroup set f) (λ b i f. shown (group_fits set f.field.kind f.type))
 
 abbrev pub meets_rule10 : Schemas → Bool
 meets_rule10 set = list_all (λ (n : Node). is_shown (discriminant_fits n)) set.nodes

@@ -4,7 +4,7 @@ use Rattle.std.specs.List.{list_all}
 use Rattle.std.proofs.lemmas.Bool.Decides.{nat_tests, Decides-eqb}
 use Rattle.capnp_schema.specs.Types.{SchemaType, is_pointer, struct_brand, width}
 use Rattle.capnp_schema.specs.Schema.{Schemas, Node, FieldKind, Slot, Group, TypedField, node_of, fields_of, field_at, is_member}
-use Rattle.capnp_schema.specs.Footprint.{Place, DataBit, PointerAt, is_in, slot_names, group_names, kind_names, some_field, brand_names, discriminant_names, footprint}
+use Rattle.capnp_schema.specs.Footprint.{Spot, DataBit, PointerAt, is_in, slot_names, group_names, kind_names, some_field, brand_names, discriminant_names, footprint}
 use Rattle.capnp_schema.specs.Accepted.{FieldsApart, DiscriminantApart, Rule11, Rule12}
 use Rattle.capnp_schema.specs.declared.check.spans.Span.{Span}
 use Rattle.capnp_schema.specs.declared.check.spans.Span.TheVariants.{Data, Pointer}
@@ -52,7 +52,7 @@ or_false : (b : Bool) → (b || false) ≡ b
 or_false true = refl
 or_false false = refl
 
-joined : (xs ys : List Span) (p : Place) → some_span (xs ++ ys) p ≡ (some_span xs p || some_span ys p)
+joined : (xs ys : List Span) (p : Spot) → some_span (xs ++ ys) p ≡ (some_span xs p || some_span ys p)
 joined [] ys p = refl
 joined (x ∷ xs) ys p = at (span_names x p) (joined xs ys p)
   where
@@ -60,7 +60,7 @@ joined (x ∷ xs) ys p = at (span_names x p) (joined xs ys p)
     at true e = refl
     at false e = e
 
-slot_named : (offset : ℕ) (t : SchemaType) (p : Place) → some_span (slot_spans offset t) p ≡ slot_names offset t p
+slot_named : (offset : ℕ) (t : SchemaType) (p : Spot) → some_span (slot_spans offset t) p ≡ slot_names offset t p
 slot_named offset t (DataBit i) = at (is_pointer t)
   where
     at : (q : Bool) → (is_in (offset * width t) (width t) i || some_span (pointer_spans q offset) (DataBit i)) ≡ is_in (offset * width t) (width t) i
@@ -72,7 +72,7 @@ slot_named offset t (PointerAt i) = at (is_pointer t)
     at true = or_false (i == offset)
     at false = refl
 
-discriminant_named : (n : Node) (p : Place) → some_span (discriminant_spans n) p ≡ discriminant_names n p
+discriminant_named : (n : Node) (p : Spot) → some_span (discriminant_spans n) p ≡ discriminant_names n p
 discriminant_named n (PointerAt i) = refl
 discriminant_named n (DataBit i) = or_false _ ∙ at (nat_lt 0 n.discriminant_count)
   where
@@ -80,8 +80,8 @@ discriminant_named n (DataBit i) = or_false _ ∙ at (nat_lt 0 n.discriminant_co
     at true = refl
     at false = grind (arith, nat_tests)
 
-module _ (set : Schemas) (spans : ℕ → List Span) (names : ℕ → Place → Bool) (same : (g : ℕ) (p : Place) → some_span (spans g) p ≡ names g p) where
-  kind_named : (k : FieldKind) (t : SchemaType) (p : Place) → some_span (kind_spans spans k t) p ≡ kind_names names k t p
+module _ (set : Schemas) (spans : ℕ → List Span) (names : ℕ → Spot → Bool) (same : (g : ℕ) (p : Spot) → some_span (spans g) p ≡ names g p) where
+  kind_named : (k : FieldKind) (t : SchemaType) (p : Spot) → some_span (kind_spans spans k t) p ≡ kind_names names k t p
   kind_named (Slot offset default) t p = slot_named offset t p
   kind_named (Group node) t p = at (struct_brand t)
     where
@@ -89,17 +89,17 @@ module _ (set : Schemas) (spans : ℕ → List Span) (names : ℕ → Place → 
       at None = refl
       at (Some g) = same g p
 
-  fields_named : (fs : List TypedField) (p : Place) → some_span (spans_of_fields (λ f. kind_spans spans f.field.kind f.type) fs) p ≡ some_field (λ f. kind_names names f.field.kind f.type) fs p
+  fields_named : (fs : List TypedField) (p : Spot) → some_span (spans_of_fields (λ f. kind_spans spans f.field.kind f.type) fs) p ≡ some_field (λ f. kind_names names f.field.kind f.type) fs p
   fields_named [] p = refl
   fields_named (f ∷ fs) p = joined (kind_spans spans f.field.kind f.type) _ p ∙ ap₂ (λ a b. a || b) (kind_named f.field.kind f.type p) (fields_named fs p)
 
-brand_named : (groups : ℕ) (set : Schemas) (b : ℕ) (p : Place) → some_span (brand_spans groups set b) p ≡ brand_names groups set b p
+brand_named : (groups : ℕ) (set : Schemas) (b : ℕ) (p : Spot) → some_span (brand_spans groups set b) p ≡ brand_names groups set b p
 brand_named zero set b p = refl
 brand_named (suc groups) set b p =
     joined (spans_of_fields (λ f. kind_spans (brand_spans groups set) f.field.kind f.type) (fields_of set b)) (discriminant_spans (node_of set b)) p
     ∙ ap₂ (λ x y. x || y) (fields_named set (brand_spans groups set) (brand_names groups set) (brand_named groups set) (fields_of set b) p) (discriminant_named (node_of set b) p)
 
-field_named : (set : Schemas) (f : TypedField) (p : Place) → some_span (field_spans set f) p ≡ footprint set f p
+field_named : (set : Schemas) (f : TypedField) (p : Spot) → some_span (field_spans set f) p ≡ footprint set f p
 field_named set f p = kind_named set (brand_spans (length set.brands) set) (brand_names (length set.brands) set) (brand_named (length set.brands) set) f.field.kind f.type p
 
 -- ---- spans that have no place in common ----
@@ -113,7 +113,7 @@ are_apart (Pointer x) (Pointer y) = not (x == y)
 bits_apart : (first count other size i : ℕ) → are_apart (Data first count) (Data other size) ≡ true → is_in first count i ≡ true → is_in other size i ≡ false
 bits_apart first count other size i e h = grind (arith, nat_tests)
 
-spans_apart : (a b : Span) (p : Place) → are_apart a b ≡ true → span_names a p ≡ true → span_names b p ≡ false
+spans_apart : (a b : Span) (p : Spot) → are_apart a b ≡ true → span_names a p ≡ true → span_names b p ≡ false
 spans_apart (Data first count) (Data other size) (DataBit i) e h = bits_apart first count other size i e h
 spans_apart (Data first count) (Data other size) (PointerAt i) e h = refl
 spans_apart (Data first count) (Pointer y) (DataBit i) e h = refl
@@ -127,13 +127,13 @@ abbrev pub all_apart : List Span → List Span → Bool
 all_apart [] bs = true
 all_apart (a ∷ rest) bs = list_all (are_apart a) bs && all_apart rest bs
 
-one_apart : (a : Span) (bs : List Span) (p : Place) → list_all (are_apart a) bs ≡ true → span_names a p ≡ true → some_span bs p ≡ false
+one_apart : (a : Span) (bs : List Span) (p : Spot) → list_all (are_apart a) bs ≡ true → span_names a p ≡ true → some_span bs p ≡ false
 one_apart a [] p e h = refl
 one_apart a (b ∷ bs) p e h =
     let parts = both (are_apart a b) (list_all (are_apart a) bs) e in
     ap₂ (λ x y. x || y) (spans_apart a b p parts.0 h) (one_apart a bs p parts.1 h)
 
-lists_apart : (xs ys : List Span) (p : Place) → all_apart xs ys ≡ true → some_span xs p ≡ true → some_span ys p ≡ false
+lists_apart : (xs ys : List Span) (p : Spot) → all_apart xs ys ≡ true → some_span xs p ≡ true → some_span ys p ≡ false
 lists_apart [] ys p e h = cc
 lists_apart (x ∷ xs) ys p e h =
     let parts = both (list_all (are_apart x) ys) (all_apart xs ys) e in ⊎_elim

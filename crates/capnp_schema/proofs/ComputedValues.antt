@@ -11,7 +11,7 @@ use Rattle.capnp_wire.specs.Reading.{as_list, is_null_tree}
 use Rattle.capnp_wire.specs.Words.{first_fault}
 use Rattle.capnp_schema.specs.Types.{SchemaType, ListType, element_size}
 use Rattle.capnp_schema.specs.Schema.{Schemas, Node, Field, Annotation, FieldKind, Slot, Group, Value, TextValue, DataValue, StructValue, ListValue, AnyPointerValue, default_of}
-use Rattle.capnp_schema.specs.Accepted.{KindDefault, AreWords, HasWords, HaveWords, IsStructOrNull, IsListOrNull, Decodes, ListReads, DefaultStands, NodeHasWords, root_of, EachOfEnum, Rule6}
+use Rattle.capnp_schema.specs.Accepted.{KindDefault, ReadsDefault, AreWords, HasWords, HaveWords, IsStructOrNull, IsListOrNull, Decodes, ListReads, DefaultStands, NodeHasWords, root_of, EachOfEnum, Rule6}
 use Rattle.capnp_schema.proofs.Computed.{both, all_pass, all_fields, each_field}
 use Rattle.capnp_schema.proofs.ComputedRules.{passes_node, passes_enum, of_node, of_enum}
 
@@ -149,5 +149,5 @@ rule6 set e =
         nodes = all_pass _ NodeHasWords set.nodes node_there words.0;
         enums = all_pass _ (EachOfEnum HaveWords) set.enums (of_enum have_words HaveWords all_words) words.1;
       };
-      lists = each_field set _ (λ b i f. KindDefault ListReads f.field.kind f.type) (λ b i f. kind_read f.field.kind f.type) parts.1;
+      lists = each_field set _ (λ b i f. ReadsDefault f) (λ b i f. kind_read f.field.kind f.type) parts.1;
     }

@@ -11,7 +11,7 @@ use Rattle.capnp_device.specs.declared.error.ErrorKind.{ErrorKind}
 use Rattle.capnp_device.specs.declared.error.ErrorKind.TheVariants as error
 use Rattle.capnp_schema.specs.Schema.{Schemas, Node, Brand, TypedField, no_node, no_brand, no_field, node_of, node_at, fields_of, field_at}
 use Rattle.capnp_schema.specs.Entries.{brand_node, node_of_entry}
-use Rattle.capnp_schema.specs.Accepted.{EachField, NamesEntries, LiesInside, KindDefault, IsDefaultOf, GroupFits}
+use Rattle.capnp_schema.specs.Accepted.{DefaultIsOfType, EachField, HasNamedType, NamesOwnGroup, SlotLiesInside}
 use Rattle.capnp_schema.specs.Broken.{FieldBreaks, IsBroken, field_type, slot_outside, default_kind, group_type, IsKindOf}
 use Rattle.capnp_schema.specs.Checking.Fields.{FieldStands, FieldsStand}
 
@@ -35,19 +35,19 @@ module _ (set : Schemas) (b i : ℕ) (f : TypedField) (in_brands : b < length se
   breaks : (P : TypedField → Type 0) → (P f → ⊥) → FieldBreaks set P b i
   breaks P broken = record { brand = in_brands; field = slice_get_within (fields_of set b) i f (sym found); broken = λ h. broken (subst P (found_field set b i f found) h) }
 
-  pub breaks_names : Decides false (NamesEntries set f.type) → IsBroken set 1 InBrands b i
-  breaks_names d = field_type b i (breaks (λ x. NamesEntries set x.type) (not_from_Decides false d refl))
+  pub breaks_names : Decides false (HasNamedType set f) → IsBroken set 1 InBrands b i
+  breaks_names d = field_type b i (breaks (HasNamedType set) (not_from_Decides false d refl))
 
-  pub breaks_inside : (n : Node) → Some n ≡ brand_node set b → Decides false (LiesInside n f.field.kind f.type) → IsBroken set 4 InBrands b i
-  breaks_inside n is d = slot_outside b i (breaks (λ x. LiesInside (node_of set b) x.field.kind x.type) (λ h. not_from_Decides false d refl (subst (λ (m : Node). LiesInside m f.field.kind f.type) (found_node set b n is) h)))
+  pub breaks_inside : (n : Node) → Some n ≡ brand_node set b → Decides false (SlotLiesInside n f) → IsBroken set 4 InBrands b i
+  breaks_inside n is d = slot_outside b i (breaks (SlotLiesInside (node_of set b)) (λ h. not_from_Decides false d refl (subst (λ (m : Node). SlotLiesInside m f) (found_node set b n is) h)))
 
-  pub breaks_default : Decides false (KindDefault IsDefaultOf f.field.kind f.type) → IsBroken set 5 InBrands b i
-  breaks_default d = default_kind b i (breaks (λ x. KindDefault IsDefaultOf x.field.kind x.type) (not_from_Decides false d refl))
+  pub breaks_default : Decides false (DefaultIsOfType f) → IsBroken set 5 InBrands b i
+  breaks_default d = default_kind b i (breaks DefaultIsOfType (not_from_Decides false d refl))
 
-  pub breaks_group : Decides false (GroupFits set f.field.kind f.type) → IsBroken set 7 InBrands b i
-  breaks_group d = group_type b i (breaks (λ x. GroupFits set x.field.kind x.type) (not_from_Decides false d refl))
+  pub breaks_group : Decides false (NamesOwnGroup set f) → IsBroken set 7 InBrands b i
+  breaks_group d = group_type b i (breaks (NamesOwnGroup set) (not_from_Decides false d refl))
 
-  pub stands : (n : Node) → Some n ≡ brand_node set b → Decides true (NamesEntries set f.type) → Decides true (LiesInside n f.field.kind f.type) → Decides true (KindDefault IsDefaultOf f.field.kind f.type) → Decides true (GroupFits set f.field.kind f.type) → FieldStands set (node_of set b) (field_at set b i)
+  pub stands : (n : Node) → Some n ≡ brand_node set b → Decides true (HasNamedType set f) → Decides true (SlotLiesInside n f) → Decides true (DefaultIsOfType f) → Decides true (NamesOwnGroup set f) → FieldStands set (node_of set b) (field_at set b i)
   stands n is names inside default group = subst (λ m. FieldStands set m (field_at set b i)) (sym (found_node set b n is)) (subst (FieldStands set n) (sym (found_field set b i f found)) (record {
     names = names.0 refl;
     inside = inside.0 refl;

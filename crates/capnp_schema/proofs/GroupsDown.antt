@@ -4,8 +4,8 @@ use Rattle.capnp_schema.specs.Types.{SchemaType, StructType, is_pointer, struct_
 use Rattle.capnp_base.specs.declared.introspect.TypeVariant.{TypeVariant}
 use Rattle.capnp_base.specs.Types.{variant_of}
 use Rattle.capnp_schema.specs.declared.record.FieldKind.TheVariants.{Group as KindOfGroup}
-use Rattle.capnp_schema.specs.Schema.{Schemas, Field, FieldKind, Slot, Group, Value, node_of, fields_of, field_at, seen_kind, kind_target}
-use Rattle.capnp_schema.specs.Accepted.{IsAccepted, IsGroupOf, IsParent, GroupFits, HasOneParent}
+use Rattle.capnp_schema.specs.Schema.{Schemas, Field, FieldKind, Slot, Group, Value, fields_of, field_at, seen_kind, kind_target}
+use Rattle.capnp_schema.specs.Accepted.{GroupFits, HasOneParent, HaveSameSizes, IsAccepted, IsGroupOf, IsParent}
 use Rattle.capnp_schema.specs.Laws.{LeadsDown}
 use Rattle.capnp_schema.specs.Plan.{place_of, plan_of, slot_place}
 use Rattle.capnp_schema.specs.FieldLists.{index_of, schema_of, typed_of}
@@ -22,8 +22,7 @@ pub leads_to_group : (set : Schemas) → IsAccepted set → (b i g : ℕ) → b 
     IsGroupOf (field_at set b i).field.kind (field_at set b i).type g → LeadsToGroup set b g
 leads_to_group set accepted b i g b_in i_in names = record {
   down = down;
-  data_words = one.data_words ∙ ap (λ (p : ℕ). (node_of set p).data_word_count) same;
-  pointers = one.pointers ∙ ap (λ (p : ℕ). (node_of set p).pointer_count) same;
+  sizes = subst (HaveSameSizes set g) same one.sizes;
 }
   where
     down : LeadsDown set b g

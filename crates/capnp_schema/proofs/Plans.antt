@@ -3,7 +3,7 @@ use Rattle.std.specs.Prelude.{ℕ, zero, suc, ◌*◌, ◌<◌, ◌≡◌, refl,
 use Rattle.std.proofs.Common.{arith, ap, sym, ◌∙◌}
 use Rattle.capnp_schema.specs.Types.{SchemaType, VoidType, BoolType, IntType, UIntType, EnumType, TextType, DataType, StructType, ListType, AnyPointerType, is_pointer, width}
 use Rattle.capnp_schema.specs.Schema.{Schemas, Node, Field, FieldKind, Slot, Group, Value, node_of, fields_of, field_at, is_member}
-use Rattle.capnp_schema.specs.Footprint.{Place, DataBit, PointerAt, is_in, slot_names, kind_names, brand_names, discriminant_names, footprint}
+use Rattle.capnp_schema.specs.Footprint.{Spot, DataBit, PointerAt, is_in, slot_names, kind_names, brand_names, discriminant_names, footprint}
 use Rattle.capnp_schema.specs.Accepted.{IsAccepted, DiscriminantFits, GroupFits, IsGroupOf}
 use Rattle.capnp_schema.specs.SlotValue.{bits_at, default_bits}
 use Rattle.capnp_schema.specs.Laws.{struct_names}
@@ -45,13 +45,13 @@ data_names-pointer : (set : Schemas) (bits offset : ℕ) (default : Value) (i : 
 data_names-pointer set zero offset default i = refl
 data_names-pointer set (suc bits) offset default i = refl
 
-slot_place-names : (set : Schemas) (t : SchemaType) (offset : ℕ) (default : Value) (q : Bool) → is_pointer t ≡ q → (p : Place) → place_names set (slot_place q (width t) offset default) p ≡ slot_names offset t p
+slot_place-names : (set : Schemas) (t : SchemaType) (offset : ℕ) (default : Value) (q : Bool) → is_pointer t ≡ q → (p : Spot) → place_names set (slot_place q (width t) offset default) p ≡ slot_names offset t p
 slot_place-names set t offset default true e (DataBit i) = no_bits (offset * 0) i ∙ ap (λ bits. is_in (offset * bits) bits i) (sym (pointer_width t e))
 slot_place-names set t offset default true e (PointerAt i) = ap (λ q. q && (i == offset)) (sym e)
 slot_place-names set t offset default false e (DataBit i) = data_names set (width t) offset default i
 slot_place-names set t offset default false e (PointerAt i) = data_names-pointer set (width t) offset default i ∙ ap (λ q. q && (i == offset)) (sym e)
 
-plan-names : (set : Schemas) → IsAccepted set → (b i : ℕ) → b < length set.brands → i < length (fields_of set b) → (p : Place) →
+plan-names : (set : Schemas) → IsAccepted set → (b i : ℕ) → b < length set.brands → i < length (fields_of set b) → (p : Spot) →
     place_names set (plan_of set b (field_at set b i)).place p ≡ footprint set (field_at set b i) p
 plan-names set accepted b i b_in i_in p = go (field_at set b i).field.kind (field_at set b i).type (accepted.rule7 b i b_in i_in) (λ g h. group_names_its_parts set accepted b i g p b_in i_in h)
   where
@@ -77,7 +77,7 @@ place-number (Slot offset default) t = λ bytes some. go bytes (is_pointer t) re
 counted : (n d : ℕ) → d < n → nat_lt 0 n ≡ true
 counted n d a = grind arith
 
-discriminant-named : (n : Node) (d : ℕ) → d < n.discriminant_count → (p : Place) → discriminant_bits (16 * n.discriminant_offset) p ≡ discriminant_names n p
+discriminant-named : (n : Node) (d : ℕ) → d < n.discriminant_count → (p : Spot) → discriminant_bits (16 * n.discriminant_offset) p ≡ discriminant_names n p
 discriminant-named n d a (DataBit i) = ap (λ q. q && is_in (16 * n.discriminant_offset) 16 i) (sym (counted n.discriminant_count d a))
 discriminant-named n d a (PointerAt i) = refl
 
@@ -105,7 +105,7 @@ plans_stand set accepted ranges b i b_in i_in = (
     f : Field
     f = (field_at set b i).field
 
-    some : (q : Bool) → is_member f ≡ q → IfSome (member_plan q n f) (λ m. IsTrue (is_member f) × (m.1 ≡ f.discriminant_value) × ((p : Place) → discriminant_bits m.0 p ≡ discriminant_names n p))
+    some : (q : Bool) → is_member f ≡ q → IfSome (member_plan q n f) (λ m. IsTrue (is_member f) × (m.1 ≡ f.discriminant_value) × ((p : Spot) → discriminant_bits m.0 p ≡ discriminant_names n p))
     some true e = (e, refl, discriminant-named n f.discriminant_value (member_counted set accepted b i b_in i_in e))
     some false e = tt
 

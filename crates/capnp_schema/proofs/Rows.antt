@@ -5,7 +5,7 @@ use Rattle.capnp_wire.specs.Tree.{NoTrees, MoreTrees}
 use Rattle.capnp_wire.specs.Place.{tree_at, tree_below}
 use Rattle.capnp_schema.specs.Types.{UIntType, TextType, is_pointer, ListType, EnumType, VoidType, lists_of}
 use Rattle.capnp_schema.specs.Schema.{fields_of, field_at, node_of}
-use Rattle.capnp_schema.specs.Footprint.{Place, DataBit, PointerAt, footprint, discriminant_names}
+use Rattle.capnp_schema.specs.Footprint.{Spot, DataBit, PointerAt, footprint, discriminant_names}
 use Rattle.capnp_schema.specs.Accepted.{root_of}
 use Rattle.capnp_schema.specs.Schema.{VoidValue, BoolValue}
 use Rattle.capnp_schema.specs.Query.{member_of, plain_fields, field_named, records_of, annotation_of}
@@ -13,7 +13,7 @@ use Rattle.capnp_schema.specs.Laws.{height_within, group_height}
 use Rattle.capnp_schema.specs.Builtin.{annotation, builtin, loop_words, zero_word}
 
 -- a field of a brand of the built-in set
-abbrev names : ℕ → ℕ → Place → Bool
+abbrev names : ℕ → ℕ → Spot → Bool
 names brand field place = footprint builtin (field_at builtin brand field) place
 
 -- Mixed.y: byte 4

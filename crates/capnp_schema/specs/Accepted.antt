@@ -7,7 +7,7 @@ use Rattle.capnp_wire.specs.Reading.{as_list}
 use Rattle.capnp_wire.specs.Words.{first_fault}
 use Rattle.capnp_schema.specs.Types.{SchemaType, VoidType, BoolType, IntType, UIntType, EnumType, TextType, DataType, StructType, ListType, AnyPointerType, is_pointer, struct_brand, width, element_size}
 use Rattle.capnp_schema.specs.Schema.{Schemas, Node, Brand, Enum, Enumerant, Field, Annotation, AnnotationTypes, FieldKind, Slot, Group, Value, VoidValue, BoolValue, IntValue, UIntValue, EnumValue, TextValue, DataValue, StructValue, ListValue, AnyPointerValue, TypedField, brand_at, node_of, fields_of, field_at, is_member, default_of}
-use Rattle.capnp_schema.specs.Footprint.{Place, footprint, discriminant_names}
+use Rattle.capnp_schema.specs.Footprint.{Spot, footprint, discriminant_names}
 
 -- P of each field of each brand
 abbrev pub EachField : Schemas → (ℕ → ℕ → TypedField → Type 0) → Type 0
@@ -37,12 +37,19 @@ NamesEntries set (StructType number generic) = (number < length set.brands) × (
 NamesEntries set (ListType element) = NamesEntries set element
 NamesEntries set AnyPointerType = ⊤
 
-abbrev pub TypesName : Schemas → AnnotationTypes → Type 0
-TypesName set types = All (NamesEntries set) types.own × All (All (NamesEntries set)) types.children
+-- the type of a field does, and the type of each
+abbrev pub HasNamedType : Schemas → TypedField → Type 0
+HasNamedType set f = NamesEntries set f.type
 
--- the type of each field does
 abbrev pub FieldsName : Schemas → Type 0
-FieldsName set = EachField set (λ b i f. NamesEntries set f.type)
+FieldsName set = EachField set (λ b i f. HasNamedType set f)
+
+-- the types of annotations do
+abbrev pub AllName : Schemas → List SchemaType → Type 0
+AllName set types = All (NamesEntries set) types
+
+abbrev pub TypesName : Schemas → AnnotationTypes → Type 0
+TypesName set types = AllName set types.own × All (AllName set) types.children
 
 -- the types of the annotations of each brand and each enum do
 abbrev pub BrandTypesName : Schemas → Type 0
@@ -69,8 +76,11 @@ BrandHasTypes n b = (length b.field_types ≡ length n.fields) × HasTypes n.ann
 abbrev pub EnumHasTypes : Enum → Type 0
 EnumHasTypes e = HasTypes e.annotations (map (λ (x : Enumerant). x.annotations) e.enumerants) e.annotation_types
 
+abbrev pub NamesNode : Schemas → Brand → Type 0
+NamesNode set b = b.node < length set.nodes
+
 pub record BrandStands (set : Schemas) (b : ℕ) : Type 0 where
-  pub node : (brand_at set b).node < length set.nodes
+  pub node : NamesNode set (brand_at set b)
   pub types : BrandHasTypes (node_of set b) (brand_at set b)
 
 abbrev pub BrandsStand : Schemas → Type 0
@@ -83,6 +93,10 @@ pub record Rule2 (set : Schemas) : Type 0 where
 -- ---- rule 3: field names in a struct are distinct; at most 65,535 fields or enumerants, and 2^29 - 1 annotations at one
 -- place ----
 
+-- fields or enumerants
+abbrev pub AreFew : {A : Type 0} → List A → Type 0
+AreFew entries = length entries ≤ 65535
+
 abbrev pub HasFewAnnotations : List Annotation → Type 0
 HasFewAnnotations annotations = length annotations < 2 ^ 29
 
@@ -91,11 +105,11 @@ abbrev pub HasOwnName : List Field → ℕ → Type 0
 HasOwnName fields i = (j : ℕ) (f g : Field) → slice_get fields i ≡ Some f → slice_get fields j ≡ Some g → f.name ≡ g.name → i ≡ j
 
 pub record HasFewFields (n : Node) : Type 0 where
-  pub fields : length n.fields ≤ 65535
+  pub fields : AreFew n.fields
   pub annotations : EachOfNode HasFewAnnotations n
 
 pub record HasFewEnumerants (e : Enum) : Type 0 where
-  pub enumerants : length e.enumerants ≤ 65535
+  pub enumerants : AreFew e.enumerants
   pub annotations : EachOfEnum HasFewAnnotations e
 
 pub record HasSmallCounts (set : Schemas) : Type 0 where
@@ -112,8 +126,11 @@ abbrev pub LiesInside : Node → FieldKind → SchemaType → Type 0
 LiesInside n (Slot offset default) t = ((offset + 1) * width t ≤ 64 * n.data_word_count) × (is_pointer t ≡ true → offset < n.pointer_count)
 LiesInside n (Group node) t = ⊤
 
+abbrev pub SlotLiesInside : Node → TypedField → Type 0
+SlotLiesInside n f = LiesInside n f.field.kind f.type
+
 abbrev pub Rule4 : Schemas → Type 0
-Rule4 set = EachField set (λ b i f. LiesInside (node_of set b) f.field.kind f.type)
+Rule4 set = EachField set (λ b i f. SlotLiesInside (node_of set b) f)
 
 -- ---- rule 5: a default's kind is its type's, or it is an untyped pointer for a pointer type ----
 
@@ -134,8 +151,11 @@ abbrev pub KindDefault : (Value → SchemaType → Type 0) → FieldKind → Sch
 KindDefault P (Slot offset default) t = P default t
 KindDefault P (Group node) t = ⊤
 
+abbrev pub DefaultIsOfType : TypedField → Type 0
+DefaultIsOfType f = KindDefault IsDefaultOf f.field.kind f.type
+
 abbrev pub Rule5 : Schemas → Type 0
-Rule5 set = EachField set (λ b i f. KindDefault IsDefaultOf f.field.kind f.type)
+Rule5 set = EachField set (λ b i f. DefaultIsOfType f)
 
 -- ---- rule 6: the words of every value are one or more whole words; a struct, list or untyped default decodes without a
 -- fault leaf; an untyped one is null; a struct or list one is null or a struct or list, the list of an element size that
@@ -180,10 +200,17 @@ Decodes (TextValue bytes) = length bytes ≤ 2 ^ 29 - 2
 Decodes (DataValue bytes) = length bytes ≤ 2 ^ 29 - 1
 Decodes value = ⊤
 
+-- a tree is read as a list of such elements
+abbrev pub ReadsElements : SchemaType → Tree → Type 0
+ReadsElements element t = IsOk (as_list (element_size element) t 1)
+
 -- a list default is read as its type's elements
 abbrev pub ListReads : Value → SchemaType → Type 0
-ListReads (ListValue words) (ListType element) = IsOk (as_list (element_size element) (root_of words) 1)
+ListReads (ListValue words) (ListType element) = ReadsElements element (root_of words)
 ListReads value t = ⊤
+
+abbrev pub ReadsDefault : TypedField → Type 0
+ReadsDefault f = KindDefault ListReads f.field.kind f.type
 
 -- a field's default has whole words and decodes
 abbrev pub DefaultStands : Field → Type 0
@@ -198,7 +225,7 @@ pub record HaveAllWords (set : Schemas) : Type 0 where
   pub enums : All (EachOfEnum HaveWords) set.enums
 
 abbrev pub ListDefaultsRead : Schemas → Type 0
-ListDefaultsRead set = EachField set (λ b i f. KindDefault ListReads f.field.kind f.type)
+ListDefaultsRead set = EachField set (λ b i f. ReadsDefault f)
 
 pub record Rule6 (set : Schemas) : Type 0 where
   pub values : HaveAllWords set
@@ -224,8 +251,11 @@ GroupFits set (Slot offset default) t = NamesNoGroup set t
 GroupFits set (Group node) (StructType number generic) = ((brand_at set number).node ≡ node) × IsGroupBrand set number
 GroupFits set (Group node) t = ⊥
 
+abbrev pub NamesOwnGroup : Schemas → TypedField → Type 0
+NamesOwnGroup set f = GroupFits set f.field.kind f.type
+
 abbrev pub Rule7 : Schemas → Type 0
-Rule7 set = EachField set (λ b i f. GroupFits set f.field.kind f.type)
+Rule7 set = EachField set (λ b i f. NamesOwnGroup set f)
 
 -- ---- rule 8: a group brand is named by exactly one group field, has its parent's section sizes, and its chain of parents
 -- ends at a struct that is no group ----
@@ -246,17 +276,23 @@ abbrev pub EndsAtStruct : ℕ → Schemas → ℕ → Type 0
 EndsAtStruct zero set b = IsFalse (node_of set b).is_group
 EndsAtStruct (suc steps) set b = IsTrue (node_of set b).is_group × ((p i : ℕ) × IsParent set b p i × EndsAtStruct steps set p)
 
+-- two brands have sections of the same sizes
+abbrev pub HaveSameSizes : Schemas → (a b : ℕ) → Type 0
+HaveSameSizes set a b = ((node_of set a).data_word_count ≡ (node_of set b).data_word_count) × ((node_of set a).pointer_count ≡ (node_of set b).pointer_count)
+
 pub record HasOneParent (set : Schemas) (g : ℕ) : Type 0 where
   pub parent : ℕ
   pub index : ℕ
   pub is_parent : IsParent set g parent index
   pub only : (b i : ℕ) → IsParent set g b i → (b ≡ parent) × (i ≡ index)
-  pub data_words : (node_of set g).data_word_count ≡ (node_of set parent).data_word_count
-  pub pointers : (node_of set g).pointer_count ≡ (node_of set parent).pointer_count
+  pub sizes : HaveSameSizes set g parent
 
 -- the chain is followed for at most as many steps as there are brands
+abbrev pub StandsInStruct : Schemas → ℕ → Type 0
+StandsInStruct set g = (steps : ℕ) × (steps ≤ length set.brands) × EndsAtStruct steps set g
+
 abbrev pub GroupStands : Schemas → ℕ → Type 0
-GroupStands set g = IsGroupBrand set g → HasOneParent set g × ((steps : ℕ) × (steps ≤ length set.brands) × EndsAtStruct steps set g)
+GroupStands set g = IsGroupBrand set g → HasOneParent set g × StandsInStruct set g
 
 abbrev pub Rule8 : Schemas → Type 0
 Rule8 set = (g : ℕ) → g < length set.brands → GroupStands set g
@@ -286,7 +322,7 @@ Rule10 set = All DiscriminantFits set.nodes
 -- ---- rule 11: a plain field's footprint meets that of no other field of its struct ----
 
 abbrev pub FieldsApart : Schemas → ℕ → ℕ → TypedField → Type 0
-FieldsApart set b i f = (j : ℕ) (p : Place) → j < length (fields_of set b) → i ≢ j → IsFalse (is_member f.field) → IsTrue (footprint set f p) → IsFalse (footprint set (field_at set b j) p)
+FieldsApart set b i f = (j : ℕ) (p : Spot) → j < length (fields_of set b) → i ≢ j → IsFalse (is_member f.field) → IsTrue (footprint set f p) → IsFalse (footprint set (field_at set b j) p)
 
 abbrev pub Rule11 : Schemas → Type 0
 Rule11 set = EachField set (λ b i f. FieldsApart set b i f)
@@ -294,7 +330,7 @@ Rule11 set = EachField set (λ b i f. FieldsApart set b i f)
 -- ---- rule 12: where the count isn't 0 the discriminant's bits meet no field's footprint of its struct ----
 
 abbrev pub DiscriminantApart : Schemas → ℕ → TypedField → Type 0
-DiscriminantApart set b f = (p : Place) → IsTrue (discriminant_names (node_of set b) p) → IsFalse (footprint set f p)
+DiscriminantApart set b f = (p : Spot) → IsTrue (discriminant_names (node_of set b) p) → IsFalse (footprint set f p)
 
 abbrev pub Rule12 : Schemas → Type 0
 Rule12 set = EachField set (λ b i f. DiscriminantApart set b f)

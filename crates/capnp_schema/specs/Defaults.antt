@@ -1,12 +1,11 @@
 -- The defaults of fields: the tree behind a pointer, and what a default is in an accepted set.
-use Rattle.std.specs.Prelude.{◌≡◌, None, IsOk}
+use Rattle.std.specs.Prelude.{◌≡◌, None}
 use Rattle.capnp_wire.specs.Tree as tree
 use Rattle.capnp_wire.specs.Tree.{Tree}
-use Rattle.capnp_wire.specs.Reading.{as_list}
 use Rattle.capnp_wire.specs.Words.{first_fault}
-use Rattle.capnp_schema.specs.Types.{SchemaType, StructType, ListType, element_size}
+use Rattle.capnp_schema.specs.Types.{SchemaType, StructType, ListType}
 use Rattle.capnp_schema.specs.Schema.{Schemas, Value, StructValue, ListValue, AnyPointerValue, TypedField, default_of}
-use Rattle.capnp_schema.specs.Accepted.{IsAccepted, EachField, KindDefault, IsDefaultOf, HasWords, Decodes, IsStructOrNull, IsListOrNull, root_of}
+use Rattle.capnp_schema.specs.Accepted.{Decodes, DefaultIsOfType, EachField, HasWords, IsAccepted, IsListOrNull, IsStructOrNull, ReadsElements, root_of}
 
 -- the tree of a default's words; null for every other default, a text's or data's bytes too
 abbrev pub default_tree : Value → Tree
@@ -19,12 +18,12 @@ default_tree value = tree.Null
 -- type has null
 abbrev pub IsReadAs : SchemaType → Tree → Type 0
 IsReadAs (StructType number generic) d = IsStructOrNull d
-IsReadAs (ListType element) d = IsListOrNull d × IsOk (as_list (element_size element) d 1)
+IsReadAs (ListType element) d = IsListOrNull d × ReadsElements element d
 IsReadAs t d = d ≡ tree.Null
 
 -- a field's default is of its type or an untyped null, has whole words, decodes, and is what the type reads or null
 pub record DefaultFits (f : TypedField) : Type 0 where
-  pub kind : KindDefault IsDefaultOf f.field.kind f.type
+  pub kind : DefaultIsOfType f
   pub words : HasWords (default_of f.field)
   pub decodes : Decodes (default_of f.field)
   pub sound : first_fault (default_tree (default_of f.field)) ≡ None

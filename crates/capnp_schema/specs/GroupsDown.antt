@@ -1,7 +1,7 @@
 -- What a group field leads to.
 use Rattle.std.specs.Prelude.{ℕ, ◌<◌, ◌≡◌, ⊤, length}
-use Rattle.capnp_schema.specs.Schema.{Schemas, node_of, fields_of, field_at}
-use Rattle.capnp_schema.specs.Accepted.{IsAccepted, IsGroupOf}
+use Rattle.capnp_schema.specs.Schema.{Schemas, fields_of, field_at}
+use Rattle.capnp_schema.specs.Accepted.{HaveSameSizes, IsAccepted, IsGroupOf}
 use Rattle.capnp_schema.specs.Laws.{LeadsDown}
 use Rattle.capnp_schema.specs.StructHandles.{IsStruct, number_of, set_of}
 use Rattle.capnp_schema.specs.declared.plan.Place.{Place}
@@ -11,8 +11,7 @@ use Rattle.capnp_schema.specs.declared.schema.structs.StructSchema.{StructSchema
 -- a group of lesser height, in the sections of the brand that it is in
 pub record LeadsToGroup (set : Schemas) (b g : ℕ) : Type 0 where
   pub down : LeadsDown set b g
-  pub data_words : (node_of set g).data_word_count ≡ (node_of set b).data_word_count
-  pub pointers : (node_of set g).pointer_count ≡ (node_of set b).pointer_count
+  pub sizes : HaveSameSizes set g b
 
 -- each group field of an accepted set leads to one
 abbrev pub GroupsLeadDown : Type 0

@@ -2,29 +2,29 @@
 use Rattle.std.specs.Prelude.{ℕ, zero, suc, ◌<◌, ◌≤◌, ◌≡◌, ◌≢◌, List, [], ◌∷◌, Bool, IsTrue, IsFalse, ◌||◌, length, max, Option, Some, None}
 use Rattle.capnp_schema.specs.Types.{SchemaType, struct_brand, struct_number}
 use Rattle.capnp_schema.specs.Schema.{Schemas, FieldKind, Slot, Group, TypedField, node_of, fields_of, field_at, is_member}
-use Rattle.capnp_schema.specs.Footprint.{Place, some_field, discriminant_names, footprint}
+use Rattle.capnp_schema.specs.Footprint.{Spot, some_field, discriminant_names, footprint}
 use Rattle.capnp_schema.specs.Accepted.{IsAccepted, IsGroupBrand, IsGroupOf}
 
--- two fields of a struct or group name the same place only where both are members of its union
+-- two fields of a struct or group name the same spot only where both are members of its union
 abbrev pub OnlyMembersMeet : Type 0
-OnlyMembersMeet = (set : Schemas) → IsAccepted set → (b i j : ℕ) (p : Place) →
+OnlyMembersMeet = (set : Schemas) → IsAccepted set → (b i j : ℕ) (p : Spot) →
     b < length set.brands → i < length (fields_of set b) → j < length (fields_of set b) → i ≢ j →
     IsTrue (footprint set (field_at set b i) p) → IsTrue (footprint set (field_at set b j) p) →
     IsTrue (is_member (field_at set b i).field) × IsTrue (is_member (field_at set b j).field)
 
 -- no field of a struct or group names a bit of its discriminant
 abbrev pub NoneNamesDiscriminant : Type 0
-NoneNamesDiscriminant = (set : Schemas) → IsAccepted set → (b i : ℕ) (p : Place) →
+NoneNamesDiscriminant = (set : Schemas) → IsAccepted set → (b i : ℕ) (p : Spot) →
     b < length set.brands → i < length (fields_of set b) →
     IsTrue (footprint set (field_at set b i) p) → IsFalse (discriminant_names (node_of set b) p)
 
--- whether a struct's fields or discriminant name the place
-abbrev pub struct_names : Schemas → ℕ → Place → Bool
+-- whether a struct's fields or discriminant name the spot
+abbrev pub struct_names : Schemas → ℕ → Spot → Bool
 struct_names set b p = some_field (footprint set) (fields_of set b) p || discriminant_names (node_of set b) p
 
 -- a group field names what its group's fields and discriminant name
 abbrev pub GroupNamesItsParts : Type 0
-GroupNamesItsParts = (set : Schemas) → IsAccepted set → (b i g : ℕ) (p : Place) →
+GroupNamesItsParts = (set : Schemas) → IsAccepted set → (b i g : ℕ) (p : Spot) →
     b < length set.brands → i < length (fields_of set b) → IsGroupOf (field_at set b i).field.kind (field_at set b i).type g →
     footprint set (field_at set b i) p ≡ struct_names set g p
 

@@ -1,9 +1,9 @@
 -- Facts about types that handles keep: each has at most one proof.
-use Rattle.std.specs.Prelude.{◌≡◌, All, List, get_or}
+use Rattle.std.specs.Prelude.{◌≡◌, List, get_or}
 use Rattle.std.specs.Coded.{×_prop, Π_prop, →_prop, Unit-prop, le_prop, Coded-set, coded_ℕ}
 use Rattle.capnp_schema.specs.Types.{SchemaType, SchemaType-is_set, VoidType, BoolType, IntType, UIntType, EnumType, TextType, DataType, StructType, ListType, AnyPointerType}
 use Rattle.capnp_schema.specs.Schema.{Schemas}
-use Rattle.capnp_schema.specs.Accepted.{NamesEntries}
+use Rattle.capnp_schema.specs.Accepted.{AllName, NamesEntries}
 
 -- that two types are equal
 pub same_type-prop : (s t : SchemaType) → IsProp (s ≡ t)
@@ -23,5 +23,5 @@ NamesEntries-prop set (ListType element) = NamesEntries-prop set element
 NamesEntries-prop set AnyPointerType = Unit-prop
 
 -- that each type of a list does
-pub name_entries-prop : (set : Schemas) (types : List SchemaType) → IsProp (All (NamesEntries set) types)
+pub name_entries-prop : (set : Schemas) (types : List SchemaType) → IsProp (AllName set types)
 name_entries-prop set types = Π_prop (λ i. Π_prop (λ d. →_prop (NamesEntries-prop set (get_or types i d))))

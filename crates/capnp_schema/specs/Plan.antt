@@ -5,11 +5,10 @@ use Rattle.capnp_wire.specs.Tree.{StructTree, tree_count}
 use Rattle.capnp_wire.specs.declared.size.StructSize.{StructSize}
 use Rattle.capnp_schema.specs.Types.{SchemaType, is_pointer, struct_number, width}
 use Rattle.capnp_schema.specs.Schema.{Schemas, Node, Field, FieldKind, Slot, Group, Value, TypedField, node_of, fields_of, field_at, is_member}
-use Rattle.capnp_schema.specs.Footprint.{DataBit, PointerAt, is_in, discriminant_names, footprint}
-use Rattle.capnp_schema.specs.Footprint.{Place as NamedPlace}
+use Rattle.capnp_schema.specs.Footprint.{Spot, DataBit, PointerAt, is_in, discriminant_names, footprint}
 use Rattle.capnp_schema.specs.SlotValue.{bits_at, default_bits, slot_number}
 use Rattle.capnp_schema.specs.Laws.{struct_names}
-use Rattle.capnp_schema.specs.Accepted.{IsAccepted, LiesInside}
+use Rattle.capnp_schema.specs.Accepted.{IsAccepted, SlotLiesInside}
 use Rattle.capnp_schema.specs.Ranges.{HasRanges}
 use Rattle.capnp_schema.specs.declared.plan.Place.{Place}
 use Rattle.capnp_schema.specs.declared.plan.Place.TheVariants as place
@@ -45,13 +44,13 @@ plan_of set b f = plan_in (node_of set b) f
 -- what an accepted set gives of a field, and what its plan's numbers fit by: the slot and a member's discriminant lie
 -- inside the sections
 pub record LiesInNode (n : Node) (f : TypedField) : Type 0 where
-  pub slot : LiesInside n f.field.kind f.type
+  pub slot : SlotLiesInside n f
   pub discriminant : IsTrue (is_member f.field) → 16 * (n.discriminant_offset + 1) ≤ 64 * n.data_word_count
 
 -- ---- what plans promise ----
 
 -- the data bits and pointers that a plan's place names
-abbrev pub place_names : Schemas → Place → NamedPlace → Bool
+abbrev pub place_names : Schemas → Place → Spot → Bool
 place_names set place.Nothing p = false
 place_names set (place.Bits start bits mask) (DataBit i) = is_in start bits i
 place_names set (place.Bits start bits mask) (PointerAt i) = false
@@ -72,7 +71,7 @@ HasSlotNumber (Slot offset default) t p = (bytes : List ℕ) → 0 < width t →
 HasSlotNumber (Group node) t p = ⊤
 
 -- the 16 bits from the first on
-abbrev pub discriminant_bits : ℕ → NamedPlace → Bool
+abbrev pub discriminant_bits : ℕ → Spot → Bool
 discriminant_bits first (DataBit i) = is_in first 16 i
 discriminant_bits first (PointerAt i) = false
 
@@ -114,9 +113,9 @@ brand_size set b = node_size (node_of set b)
 -- a plan's place is the field's footprint and has the slot's number; its member is the discriminant with the field's
 -- value, and there is none for a plain field; both lie inside each struct that has the brand's sections
 pub record IsPlan (set : Schemas) (b : ℕ) (f : TypedField) (plan : SlotPlan) : Type 0 where
-  pub names : (p : NamedPlace) → place_names set plan.place p ≡ footprint set f p
+  pub names : (p : Spot) → place_names set plan.place p ≡ footprint set f p
   pub number : HasSlotNumber f.field.kind f.type plan.place
-  pub member : IfSome plan.member (λ m. IsTrue (is_member f.field) × (m.1 ≡ f.field.discriminant_value) × ((p : NamedPlace) → discriminant_bits m.0 p ≡ discriminant_names (node_of set b) p))
+  pub member : IfSome plan.member (λ m. IsTrue (is_member f.field) × (m.1 ≡ f.field.discriminant_value) × ((p : Spot) → discriminant_bits m.0 p ≡ discriminant_names (node_of set b) p))
   pub plain : IfNone plan.member (IsFalse (is_member f.field))
   pub slot : IsSlotPlace plan.place
   pub discriminant : IfSome plan.member (λ m. (m.0 % 16 ≡ 0) × (m.1 < 2 ^ 16))

@@ -11,11 +11,11 @@ mod annotated;
 mod look_up;
 mod records;
 
-use crate::check::annotations::check_types;
 use crate::check::footprints::check_footprints;
 use crate::check::groups::check_groups;
+use crate::check::lengths::check_lengths;
 use crate::check::names::check_names;
-use crate::check::types::check_lengths;
+use crate::check::types::check_types;
 use crate::check::unions::{check_discriminants, check_unions};
 use crate::check::values::check_values;
 use crate::lists::Lists;

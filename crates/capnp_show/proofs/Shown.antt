@@ -20,7 +20,8 @@ use Rattle.capnp_records.specs.Reading.{struct_record}
 use Rattle.capnp_records.specs.Record as value
 use Rattle.capnp_records.specs.Record.{Left, Record}
 use Rattle.capnp_records.specs.Text.{Out, text_of}
-use Rattle.capnp_show.specs.Show.{IsLineOf, root_text, root_type, shown_text, struct_or_group}
+use Rattle.capnp_show.specs.Show.{IsLineOf, root_text, shown_text, struct_or_group}
+use Rattle.capnp_records.specs.Run.{root_type}
 use Rattle.capnp_dynamic.specs.Pieces.{IsAppended}
 use Rattle.capnp_dynamic.specs.Shown.{printed_text, struct_printed, value_printed}
 

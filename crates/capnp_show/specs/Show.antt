@@ -5,17 +5,13 @@ use Rattle.capnp_wire.specs.Tree.{Tree}
 use Rattle.capnp_wire.specs.Stream.{message_tree_of}
 use Rattle.capnp_device.specs.declared.error.ErrorKind.{ErrorKind}
 use Rattle.capnp_device.specs.declared.error.ErrorKind.TheVariants.{OutOfMemory, ReadFailed, WriteFailed}
-use Rattle.capnp_schema.specs.Schema.{Schemas, VoidValue, brand_at, node_of}
-use Rattle.capnp_schema.specs.Types.{SchemaType, StructType}
+use Rattle.capnp_schema.specs.Schema.{Schemas, VoidValue, node_of}
 use Rattle.capnp_records.specs.Reading.{value_of}
 use Rattle.capnp_records.specs.Default.{read_of}
 use Rattle.capnp_records.specs.Record as value
 use Rattle.capnp_records.specs.Record.{Left, Record, Value}
+use Rattle.capnp_records.specs.Run.{root_type}
 use Rattle.capnp_records.specs.Text.{Out, text_of}
-
--- the type of the structs of a brand
-abbrev pub root_type : Schemas → ℕ → SchemaType
-root_type set b = StructType b (brand_at set b).node
 
 -- a struct that is read under a group's brand is a group, whose text takes no level
 abbrev pub struct_or_group : (is_group : Bool) → Record → Value

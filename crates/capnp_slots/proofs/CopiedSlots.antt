@@ -23,7 +23,8 @@ use Rattle.capnp_records.specs.Default.{default_value, read_of, unless_null}
 use Rattle.capnp_records.specs.Facts.DefaultTree.{read-there}
 use Rattle.capnp_records.specs.Facts.ListValues.{below_of}
 use Rattle.capnp_records.specs.Facts.Readers.{data-read, list-value, null-is, struct-read, text-read, value-there}
-use Rattle.capnp_records.specs.Given.{Copies, Fails, Given, data_tree, text_tree}
+use Rattle.capnp_records.specs.Given.{Copies, Fails, Given, data_tree}
+use Rattle.capnp_base.specs.Text.{text_tree}
 use Rattle.capnp_records.specs.GroupCopy.{pointer_copy, read_copy}
 use Rattle.capnp_records.specs.Reading.{elements_value, of_read, struct_record, value_of}
 use Rattle.capnp_records.specs.Record.{Endless, Left, Levels, Value, one_less}

@@ -38,7 +38,7 @@ use Rattle.capnp_records.specs.Facts.Pointers.{with_tree-same}
 use Rattle.capnp_records.specs.Writes.TreeCopy.{or_else}
 use Rattle.capnp_records.specs.Step.{is_group_field}
 use Rattle.capnp_records.specs.Writes.Fill.{IsAtRest, default_struct, entered_list, filled_struct, or_default}
-use Rattle.capnp_records.specs.Writes.Slots.{brand_size}
+use Rattle.capnp_schema.specs.Plan.{brand_size}
 use Rattle.capnp_slots.specs.Fields.{IsSlot}
 use Rattle.capnp_slots.specs.Fills.{ElementRests, IsDefaultPointer, ListRests, data_filled, fill_due, list_due, text_filled}
 

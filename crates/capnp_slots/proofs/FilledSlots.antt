@@ -27,7 +27,7 @@ use Rattle.capnp_schema.specs.Defaults.{IsReadAs, default_tree}
 use Rattle.capnp_schema.specs.Schema.{Schemas, Value, TextValue, DataValue, default_of}
 use Rattle.capnp_schema.specs.Types.{SchemaType, VoidType, BoolType, IntType, UIntType, EnumType, TextType, DataType, StructType, ListType, AnyPointerType, element_size, seen_type, seen_variant}
 use Rattle.capnp_records.specs.Writes.Fill.{IsAtRest, entered_list}
-use Rattle.capnp_records.specs.Writes.Slots.{brand_size}
+use Rattle.capnp_schema.specs.Plan.{brand_size}
 use Rattle.capnp_slots.specs.Fills.{HoldsThere, IsDefaultPointer, IsFilled, IsSlotFilled, ListRests, RestsIn, data_filled, due_in, fill_due, filled_in, filled_tree, list_due, pointer_in, text_filled}
 use Rattle.capnp_slots.specs.Fields.{IsSlot, field_set, pointer_index}
 use Rattle.capnp_slots.proofs.Filled.{default-is, list-due, list-filled, same-there, struct-due, struct-filled, structs-due}

@@ -5,7 +5,7 @@ use Rattle.std.proofs.lemmas.Bool.{true≢false}
 use Rattle.std.specs.List.{position_or_len}
 use Rattle.std.specs.Option.{unwrap_or}
 use Rattle.capnp_wire.specs.Tree.{StructTree}
-use Rattle.capnp_schema.specs.Footprint.{Place}
+use Rattle.capnp_schema.specs.Footprint.{Spot}
 use Rattle.capnp_schema.specs.FieldLists.{index_of, schema_of, typed_of}
 use Rattle.capnp_schema.specs.Query.{indices_from, is_member_of, is_plain, keep_index, member_of, plain_fields, records_of}
 use Rattle.capnp_schema.specs.Accepted.{IsGroupOf}
@@ -24,7 +24,7 @@ use Rattle.capnp_slots.specs.Groups.{IsGroupAt, KeepsSize, clear_index, cleared_
 
 -- ---- sizes ----
 
-pub keeps-size : (inside : Place → Bool) (s s' : StructTree) → Keeps inside s s' → KeepsSize s s'
+pub keeps-size : (inside : Spot → Bool) (s s' : StructTree) → Keeps inside s s' → KeepsSize s s'
 keeps-size inside s s' k = record { writes = writes-wider inside _ s s' (λ p e. refl) k.writes; formed = k.formed }
 
 pub keeps-refl : (s : StructTree) → KeepsSize s s

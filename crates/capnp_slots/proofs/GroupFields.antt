@@ -61,7 +61,7 @@ group-is f p g schema is e h leads set number stands =
       set = set;
       number = number ∙ at.number;
       names = subst (IsGroupOf (typed_of f).field.kind (typed_of f).type) (sym number) at.names;
-      room = λ s room. subst (λ z. Fits z (number_of schema) s) (sym set) (subst (λ n. Fits (field_set f) n s) (sym number) (omega (arith, leads.data_words, room.0), omega (arith, leads.pointers, room.1)));
+      room = λ s room. subst (λ z. Fits z (number_of schema) s) (sym set) (subst (λ n. Fits (field_set f) n s) (sym number) (omega (arith, leads.sizes.0, room.0), omega (arith, leads.sizes.1, room.1)));
       lower = subst (λ z. group_height z (number_of schema) < group_height (field_set f) (field_brand f)) (sym set) (subst (λ n. group_height (field_set f) n < group_height (field_set f) (field_brand f)) (sym number) leads.down.lower);
     }
 

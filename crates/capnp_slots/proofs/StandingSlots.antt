@@ -20,9 +20,10 @@ use Rattle.capnp_schema.specs.declared.schema.fields.Field.{Field}
 use Rattle.capnp_schema.specs.Schema.{Schemas, Value, ListValue, TextValue, DataValue, default_of}
 use Rattle.capnp_schema.specs.Types.{SchemaType, VoidType, BoolType, IntType, UIntType, EnumType, TextType, DataType, StructType, ListType, AnyPointerType, element_size, seen_type, seen_variant}
 use Rattle.capnp_records.specs.Facts.Frame.{second-of}
-use Rattle.capnp_records.specs.Given.{data_tree, text_tree}
+use Rattle.capnp_records.specs.Given.{data_tree}
+use Rattle.capnp_base.specs.Text.{text_tree}
 use Rattle.capnp_records.specs.Writes.Fill.{IsAtRest, default_struct, entered_list, or_default}
-use Rattle.capnp_records.specs.Writes.Slots.{brand_size}
+use Rattle.capnp_schema.specs.Plan.{brand_size}
 use Rattle.capnp_slots.specs.Fills.{ListRests, fill_due, filled_tree, list_due, pointer_in}
 use Rattle.capnp_slots.specs.Fields.{field_set, pointer_index}
 use Rattle.capnp_slots.proofs.FilledSlots.{IsPart}

@@ -11,7 +11,8 @@ use Rattle.capnp_schema.specs.FieldLists.{typed_of}
 use Rattle.capnp_schema.specs.Schema.{default_of}
 use Rattle.capnp_schema.specs.Types.{SchemaType, TextType, DataType, StructType, ListType, element_size}
 use Rattle.capnp_schema.specs.declared.schema.fields.Field.{Field}
-use Rattle.capnp_records.specs.Given.{Given, Copies, data_tree, text_tree}
+use Rattle.capnp_records.specs.Given.{Given, Copies, data_tree}
+use Rattle.capnp_base.specs.Text.{text_tree}
 use Rattle.capnp_records.specs.GroupCopy.{pointer_copy, slot_copy}
 use Rattle.capnp_records.specs.Record.{Levels, Left, Value}
 use Rattle.capnp_records.specs.Writes.Slots.{Content, At}

@@ -5,7 +5,7 @@ use Rattle.capnp_wire.specs.Place.{struct_tree}
 use Rattle.capnp_wire.specs.Edits.{with_pointer_tree}
 use Rattle.capnp_wire.specs.WellFormed.{IsWellFormed}
 use Rattle.capnp_schema.specs.FieldLists.{schema_of, typed_of}
-use Rattle.capnp_schema.specs.Footprint.{Place, discriminant_names}
+use Rattle.capnp_schema.specs.Footprint.{Spot, discriminant_names}
 use Rattle.capnp_schema.specs.Plan.{IsSlotPlace, PlanFits}
 use Rattle.capnp_schema.specs.Schema.{Schemas, default_of, is_member}
 use Rattle.capnp_schema.specs.SlotValue.{bits_at, default_bits}
@@ -55,15 +55,15 @@ pointer_index f = offset_of (typed_of f).field.kind
 -- ---- what stays ----
 
 -- the places of a member's discriminant, of a plain field none
-abbrev pub switch_names : Field → Place → Bool
+abbrev pub switch_names : Field → Spot → Bool
 switch_names f p = is_member (typed_of f).field && discriminant_names (struct_node (schema_of f)) p
 
 -- the places of the field's slot or group, and of a member's discriminant
-abbrev pub names_of : Field → Place → Bool
+abbrev pub names_of : Field → Spot → Bool
 names_of f = field_names (field_set f) (field_brand f) (typed_of f)
 
 -- one struct became another: it is of the same size, the same but for these places, and well-formed where it was
-pub record Keeps (inside : Place → Bool) (s s' : StructTree) : Type 0 where
+pub record Keeps (inside : Spot → Bool) (s s' : StructTree) : Type 0 where
   pub writes : Writes inside s s'
   pub formed : IsWellFormed (struct_tree s) → IsWellFormed (struct_tree s')
 

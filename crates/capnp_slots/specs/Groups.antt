@@ -3,7 +3,7 @@ use Rattle.std.specs.Prelude.{ℕ, ◌<◌, ◌≡◌, true, List, [], ◌∷◌
 use Rattle.capnp_wire.specs.Tree.{StructTree}
 use Rattle.capnp_schema.specs.Accepted.{IsGroupOf}
 use Rattle.capnp_schema.specs.FieldLists.{typed_of}
-use Rattle.capnp_schema.specs.Footprint.{Place}
+use Rattle.capnp_schema.specs.Footprint.{Spot}
 use Rattle.capnp_schema.specs.Laws.{group_height}
 use Rattle.capnp_schema.specs.Schema.{Schemas, TypedField, field_at}
 use Rattle.capnp_schema.specs.StructHandles.{IsStruct, number_of, set_of}
@@ -38,7 +38,7 @@ group_without f s = group_cleared (field_set f) (field_brand f) (typed_of f) s
 
 -- a struct is of the same size, and well-formed where it was
 abbrev pub KeepsSize : StructTree → StructTree → Type 0
-KeepsSize s s' = Keeps (λ (p : Place). true) s s'
+KeepsSize s s' = Keeps (λ (p : Spot). true) s s'
 
 -- a brand's struct cleared through at most so many groups
 unfoldable pub cleared_through : ℕ → Schemas → ℕ → StructTree → StructTree

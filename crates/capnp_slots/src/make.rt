@@ -9,11 +9,12 @@ ghost use Rattle.capnp_wire.specs.WellFormed.{IsWellFormed};
 ghost use Rattle.capnp_schema.specs.Entries.{lists_seen};
 ghost use Rattle.capnp_schema.specs.StructHandles.{number_of, set_of};
 ghost use Rattle.capnp_schema.specs.Types.{AnyPointerType, is_pointer, seen_type, seen_variant};
-ghost use Rattle.capnp_records.specs.Given.{text_tree};
+ghost use Rattle.capnp_base.specs.Text.{text_tree};
 ghost use Rattle.capnp_records.specs.Operation.{elements_past};
 ghost use Rattle.capnp_records.specs.Writes.Contents.{initn_tree, new_list};
 ghost use Rattle.capnp_records.specs.Writes.ElementEnds.{InitnContent};
-ghost use Rattle.capnp_records.specs.Writes.Slots.{At, brand_size};
+ghost use Rattle.capnp_records.specs.Writes.Slots.{At};
+ghost use Rattle.capnp_schema.specs.Plan.{brand_size};
 ghost use Rattle.capnp_slots.specs.Copied.{empty_tree};
 ghost use Rattle.capnp_slots.specs.Inits.{IsInitnRefusal, IsRoomless, is_sized};
 

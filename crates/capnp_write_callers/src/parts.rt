@@ -4,7 +4,7 @@ ghost use Rattle.capnp_wire.specs.Edits.{IsStructRefusal, extended, struct_in};
 ghost use Rattle.capnp_wire.specs.Objects.{object_tree};
 ghost use Rattle.capnp_wire.specs.WellFormed.{IsWellFormed};
 ghost use Rattle.capnp_schema.specs.StructHandles.{number_of, set_of};
-ghost use Rattle.capnp_records.specs.Writes.Slots.{brand_size};
+ghost use Rattle.capnp_schema.specs.Plan.{brand_size};
 ghost use Rattle.capnp_dynamic.specs.Built.{IsListReady, IsReady, built_schema, built_struct};
 
 use capnp_dynamic::dynamic_value::Builder as Value;

@@ -10,7 +10,8 @@ use Rattle.capnp_schema.specs.Types.{SchemaType}
 use Rattle.capnp_schema.specs.Accepted.{Decodes, EachField, IsAccepted, KindDefault, root_of}
 use Rattle.capnp_schema.specs.Ranges.{HasRanges, ValueFits}
 use Rattle.capnp_records.specs.Facts.Members.{default-decodes}
-use Rattle.capnp_records.specs.Given.{data_tree, text_tree}
+use Rattle.capnp_records.specs.Given.{data_tree}
+use Rattle.capnp_base.specs.Text.{text_tree}
 
 -- the tree of a default is well-formed
 abbrev pub DefaultFormed : SchemaValue → Type 0

@@ -7,8 +7,9 @@ use Rattle.capnp_schema.specs.Types.{SchemaType, TextType, DataType, StructType,
 use Rattle.capnp_schema.specs.Ranges.{IsSigned}
 use Rattle.capnp_schema.specs.Schema.{Schemas}
 use Rattle.capnp_records.specs.Call.{Source, IntSource, UIntSource, EnumSource, TextSource, DataSource, StructSource, ListSource}
-use Rattle.capnp_records.specs.Given.{text_tree, data_tree, copied_struct}
-use Rattle.capnp_records.specs.Writes.Slots.{brand_size}
+use Rattle.capnp_records.specs.Given.{data_tree, copied_struct}
+use Rattle.capnp_base.specs.Text.{text_tree}
+use Rattle.capnp_schema.specs.Plan.{brand_size}
 
 -- the tree that the set of a pointer slot or element writes
 abbrev pub source_tree : Source → Tree

@@ -10,7 +10,7 @@ use Rattle.capnp_schema.specs.Types.{SchemaType, StructType, ListType, element_s
 use Rattle.capnp_schema.specs.Schema.{Schemas, StructValue, ListValue}
 use Rattle.capnp_schema.specs.Schema.{Value as SchemaValue}
 use Rattle.capnp_schema.specs.Accepted.{root_of}
-use Rattle.capnp_records.specs.Writes.Slots.{brand_size}
+use Rattle.capnp_schema.specs.Plan.{brand_size}
 
 -- the struct of a default, of size zero where there is none
 abbrev pub default_struct : SchemaValue → StructTree

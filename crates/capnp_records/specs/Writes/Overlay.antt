@@ -6,7 +6,7 @@ use Rattle.capnp_schema.specs.Types.{SchemaType, is_pointer, struct_number, widt
 use Rattle.capnp_schema.specs.Schema.{Schemas, Node, FieldKind, Slot, Group, Field, TypedField, is_member, node_of, fields_of}
 use Rattle.capnp_schema.specs.Schema.{Value as SchemaValue}
 use Rattle.capnp_schema.specs.SlotValue.{bit_number, unsigned, default_bits}
-use Rattle.capnp_schema.specs.Footprint.{Place, discriminant_names, footprint}
+use Rattle.capnp_schema.specs.Footprint.{Spot, discriminant_names, footprint}
 use Rattle.capnp_schema.specs.Laws.{struct_names}
 use Rattle.capnp_records.specs.Record as value
 use Rattle.capnp_records.specs.Record.{Endless, Value, Record}
@@ -79,7 +79,7 @@ cleared_group set = cleared_within (length set.brands) set
 -- ---- what a write on a part does to its whole ----
 
 -- a field's footprint and, for a member, the discriminant beside it
-abbrev pub field_names : Schemas → ℕ → TypedField → Place → Bool
+abbrev pub field_names : Schemas → ℕ → TypedField → Spot → Bool
 field_names set b f p = footprint set f p || (is_member f.field && discriminant_names (node_of set b) p)
 
 -- one struct became another, which reads as a record; nothing was written outside what its brand names

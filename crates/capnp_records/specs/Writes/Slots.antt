@@ -3,17 +3,10 @@ use Rattle.std.specs.Prelude.{ℕ, ◌^◌, ◌<◌, ◌≡◌, List, Bool, true
 use Rattle.capnp_wire.specs.Tree.{Tree, StructTree, nth_tree, tree_count}
 use Rattle.capnp_wire.specs.Slot.{bit_at}
 use Rattle.capnp_wire.specs.Edits.{with_number, with_bit, with_bytes, with_pointer_tree, HasAtLeast}
-use Rattle.capnp_wire.specs.declared.size.StructSize.{StructSize}
 use Rattle.capnp_schema.specs.Types.{SchemaType, VoidType, BoolType, IntType, UIntType, EnumType, TextType, DataType, StructType, ListType, AnyPointerType, is_pointer, width}
-use Rattle.capnp_schema.specs.Schema.{Schemas, Node, node_of}
-use Rattle.capnp_schema.specs.Footprint.{Place, DataBit, PointerAt}
-
--- the sections of a node
-abbrev pub node_size : Node → StructSize
-node_size n = record { data_words = n.data_word_count; pointers = n.pointer_count }
-
-abbrev pub brand_size : Schemas → ℕ → StructSize
-brand_size set b = node_size (node_of set b)
+use Rattle.capnp_schema.specs.Schema.{Schemas}
+use Rattle.capnp_schema.specs.Footprint.{Spot, DataBit, PointerAt}
+use Rattle.capnp_schema.specs.Plan.{brand_size}
 
 -- a struct has at least its schema's sections
 abbrev pub Fits : Schemas → ℕ → StructTree → Type 0
@@ -49,12 +42,12 @@ with_content s offset t (At x) = with_pointer_tree s offset x
 -- ---- what a write leaves as it was ----
 
 -- two structs have the same at a place
-abbrev pub Agree : StructTree → StructTree → Place → Type 0
+abbrev pub Agree : StructTree → StructTree → Spot → Type 0
 Agree s s' (DataBit i) = bit_at s.bytes i ≡ bit_at s'.bytes i
 Agree s s' (PointerAt i) = nth_tree s.pointers i ≡ nth_tree s'.pointers i
 
 -- one became the other: it is the same but for the places that pass, and of the same size
-pub record Writes (inside : Place → Bool) (s s' : StructTree) : Type 0 where
-  pub agree : (p : Place) → inside p ≡ false → Agree s s' p
+pub record Writes (inside : Spot → Bool) (s s' : StructTree) : Type 0 where
+  pub agree : (p : Spot) → inside p ≡ false → Agree s s' p
   pub data_size : length s'.bytes ≡ length s.bytes
   pub pointer_count : tree_count s'.pointers ≡ tree_count s.pointers

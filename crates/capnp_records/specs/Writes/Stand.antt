@@ -17,7 +17,8 @@ use Rattle.capnp_records.specs.Record as value
 use Rattle.capnp_records.specs.Record.{Endless, Value}
 use Rattle.capnp_records.specs.Reading.{number_value, value_of, reads}
 use Rattle.capnp_records.specs.Call.{PathStep, FieldNumber, FieldNamed, ElementAt}
-use Rattle.capnp_records.specs.Writes.Slots.{At, with_content, Writes, Fits, brand_size}
+use Rattle.capnp_records.specs.Writes.Slots.{At, with_content, Writes, Fits}
+use Rattle.capnp_schema.specs.Plan.{brand_size}
 use Rattle.capnp_records.specs.Writes.Fill.{IsAtRest, filled_struct, or_default, filled_list}
 
 -- a struct, the struct of a group, or a list

@@ -12,7 +12,8 @@ use Rattle.capnp_schema.specs.SlotValue.{bits_at}
 use Rattle.capnp_schema.specs.Accepted.{root_of}
 use Rattle.capnp_records.specs.Record.{Levels}
 use Rattle.capnp_records.specs.Reading.{struct_record}
-use Rattle.capnp_records.specs.Given.{copy_refusal, text_tree, data_tree, Given, Gives, Copies, CopiesGroup, Fails}
+use Rattle.capnp_records.specs.Given.{copy_refusal, data_tree, Given, Gives, Copies, CopiesGroup, Fails}
+use Rattle.capnp_base.specs.Text.{text_tree}
 use Rattle.capnp_records.specs.GroupCopy.{slot_copy, copied_fields}
 use Rattle.capnp_records.specs.Writes.Slots.{Content, Bits, At}
 use Rattle.capnp_records.specs.Writes.Overlay.{switched, with_slot, cleared_group}

@@ -8,8 +8,8 @@ use Rattle.std.proofs.lemmas.Map.Steps.{length-le_from_distinct_below}
 use Rattle.std.proofs.lemmas.Map.Keys.{IsDistinct-cons}
 use Rattle.std.specs.List.{IsDistinct, AllByRecursion, list_any}
 use Rattle.capnp_schema.specs.Schema.{Schemas, node_of}
-use Rattle.capnp_schema.specs.Accepted.{EndsAtStruct, HasOneParent}
-use Rattle.capnp_schema.specs.Checking.Parents.{group_target, TargetsAreGroups, IsParentTable, entry_in, StandsInStruct, AreKnown}
+use Rattle.capnp_schema.specs.Accepted.{EndsAtStruct, HasOneParent, HaveSameSizes, StandsInStruct}
+use Rattle.capnp_schema.specs.Checking.Parents.{group_target, TargetsAreGroups, IsParentTable, entry_in, AreKnown}
 use Rattle.capnp_schema.proofs.GroupTargets.{is_parent, from_parent, within_brands}
 
 abbrev pub is_group : Schemas → ℕ → Bool
@@ -149,8 +149,7 @@ module _ (set : Schemas) (targets : TargetsAreGroups set) (table : List (Option 
 
   -- what the rule says of a group, from what was looked at
   pub one_parent : (g b i : ℕ) → Some (b, i) ≡ entry_in (slice_get table g)
-      → ((node_of set g).data_word_count ≡ (node_of set b).data_word_count) × ((node_of set g).pointer_count ≡ (node_of set b).pointer_count)
-      → HasOneParent set g
+      → HaveSameSizes set g b → HasOneParent set g
   one_parent g b i e same = record {
     parent = b;
     index = i;
@@ -162,15 +161,14 @@ module _ (set : Schemas) (targets : TargetsAreGroups set) (table : List (Option 
         let two : slice_get table g ≡ Some (Some (c, j)) = ok.all g c j lt (from_parent set g c j t) in
         let p : ◌≡◌ {A = Option (Option (ℕ × ℕ))} (Some (Some (c, j))) (Some (Some (b, i))) = sym two ∙ one in
         some_pair_parts c b j i (same_Some {A = Option (ℕ × ℕ)} (Some (c, j)) (Some (b, i)) p);
-    data_words = same.0;
-    pointers = same.1;
+    sizes = same;
   }
 
   pub sizes_differ : (g b i : ℕ) → Some (b, i) ≡ entry_in (slice_get table g) → HasOneParent set g
-      → (((node_of set g).data_word_count ≡ (node_of set b).data_word_count) × ((node_of set g).pointer_count ≡ (node_of set b).pointer_count) → ⊥) → ⊥
+      → (HaveSameSizes set g b → ⊥) → ⊥
   sizes_differ g b i e one differ =
       let same : b ≡ one.parent = (one.only b i (is_parent set g b i (parent_is g b i e))).0 in
-      differ (one.data_words ∙ ap (λ x. (node_of set x).data_word_count) (sym same), one.pointers ∙ ap (λ x. (node_of set x).pointer_count) (sym same))
+      differ (subst (HaveSameSizes set g) (sym same) one.sizes)
 
   pub parent_within : (g b i : ℕ) → Some (b, i) ≡ entry_in (slice_get table g) → b < length set.brands
   parent_within g b i e = within_brands set b i g (parent_is g b i e)

@@ -7,7 +7,7 @@ use Rattle.std.proofs.lemmas.List.{get_or-set_same, get_or-set_other}
 use Rattle.std.proofs.lemmas.Option.{slice_get_within, slice_get_read, same_Some}
 use Rattle.std.specs.declared.alloc.Global.{Global}
 use Rattle.capnp_device.specs.declared.error.Error.{Error}
-use Rattle.capnp_schema.specs.Footprint.{Place, DataBit, PointerAt, is_in}
+use Rattle.capnp_schema.specs.Footprint.{Spot, DataBit, PointerAt, is_in}
 use Rattle.capnp_schema.specs.Checking.Spans.{span_names}
 use Rattle.capnp_schema.specs.Checking.Levels.{AreOpen, AreInOrder, AreClaimed, IsClaimed, mark_at}
 use Rattle.capnp_schema.specs.declared.check.claims.Claims.{Claims}
@@ -153,11 +153,11 @@ module _ (levels : List Level) (now : ℕ) (span : Span) where
       new : Claims
       new = record { bits = bits; pointers = old.pointers }
 
-      inside : AreClaimed levels now first count old.bits.items bits.items → (p : Place) → span_names span p ≡ true → AreOpen levels (mark_at old p) × (mark_at new p ≡ now)
+      inside : AreClaimed levels now first count old.bits.items bits.items → (p : Spot) → span_names span p ≡ true → AreOpen levels (mark_at old p) × (mark_at new p ≡ now)
       inside c (DataBit i) named = let e : is_in first count i ≡ true = sym (ap (λ (s : Span). span_names s (DataBit i)) is) ∙ named in c.inside i (grind (arith, nat_tests)) (grind (arith, nat_tests))
       inside c (PointerAt i) named = absurd (let e : false ≡ true = sym (ap (λ (s : Span). span_names s (PointerAt i)) is) ∙ named in cc)
 
-      outside : AreClaimed levels now first count old.bits.items bits.items → (p : Place) → span_names span p ≡ false → mark_at new p ≡ mark_at old p
+      outside : AreClaimed levels now first count old.bits.items bits.items → (p : Spot) → span_names span p ≡ false → mark_at new p ≡ mark_at old p
       outside c (DataBit i) named = c.outside i (sym (ap (λ (s : Span). span_names s (DataBit i)) is) ∙ named)
       outside c (PointerAt i) named = refl
 
@@ -168,10 +168,10 @@ module _ (levels : List Level) (now : ℕ) (span : Span) where
       new : Claims
       new = record { bits = old.bits; pointers = pointers }
 
-      inside : AreClaimed levels now number 1 old.pointers.items pointers.items → (p : Place) → span_names span p ≡ true → AreOpen levels (mark_at old p) × (mark_at new p ≡ now)
+      inside : AreClaimed levels now number 1 old.pointers.items pointers.items → (p : Spot) → span_names span p ≡ true → AreOpen levels (mark_at old p) × (mark_at new p ≡ now)
       inside c (DataBit i) named = absurd (let e : false ≡ true = sym (ap (λ (s : Span). span_names s (DataBit i)) is) ∙ named in cc)
       inside c (PointerAt i) named = let e : (i == number) ≡ true = sym (ap (λ (s : Span). span_names s (PointerAt i)) is) ∙ named in c.inside i (grind (arith, nat_tests)) (grind (arith, nat_tests))
 
-      outside : AreClaimed levels now number 1 old.pointers.items pointers.items → (p : Place) → span_names span p ≡ false → mark_at new p ≡ mark_at old p
+      outside : AreClaimed levels now number 1 old.pointers.items pointers.items → (p : Spot) → span_names span p ≡ false → mark_at new p ≡ mark_at old p
       outside c (DataBit i) named = refl
       outside c (PointerAt i) named = c.outside i (let e : (i == number) ≡ false = sym (ap (λ (s : Span). span_names s (PointerAt i)) is) ∙ named in grind (arith, nat_tests))

@@ -8,7 +8,7 @@ use Rattle.capnp_schema.specs.declared.record.FieldKind.TheVariants as kind
 use Rattle.capnp_schema.specs.declared.lists.TypedField.{TypedField as TypedRecord}
 use Rattle.capnp_schema.specs.Types.{seen_type, struct_brand}
 use Rattle.capnp_schema.specs.Entries.{brand_node, seen_typed}
-use Rattle.capnp_schema.specs.Footprint.{Place, DataBit, PointerAt, is_in, slot_names, group_names, kind_names, some_field, brand_names, discriminant_names}
+use Rattle.capnp_schema.specs.Footprint.{Spot, DataBit, PointerAt, is_in, slot_names, group_names, kind_names, some_field, brand_names, discriminant_names}
 use Rattle.capnp_schema.specs.declared.check.spans.Span.{Span}
 use Rattle.capnp_schema.specs.declared.check.spans.Span.TheVariants.{Data, Pointer}
 use Rattle.capnp_schema.specs.Checking.Spans.{span_names, some_span, field_names, entry_names, some_brand, reached}
@@ -18,16 +18,16 @@ use Rattle.capnp_schema.proofs.GroupTargets.{node_missing}
 in_holds : (first n i : ℕ) → first ≤ i → i < first + n → is_in first n i ≡ true
 in_holds first n i h k = grind (arith, nat_tests)
 
-pub right_meets : (a b : Span) (first count other size : ℕ) → a ≡ Data first count → b ≡ Data other size → 0 < size → first ≤ other → other - first < count → (p : Place) × (span_names a p ≡ true) × (span_names b p ≡ true)
+pub right_meets : (a b : Span) (first count other size : ℕ) → a ≡ Data first count → b ≡ Data other size → 0 < size → first ≤ other → other - first < count → (p : Spot) × (span_names a p ≡ true) × (span_names b p ≡ true)
 right_meets a b first count other size e k some le lt = (DataBit other, rw e (in_holds first count other le (omega arith)), rw k (in_holds other size other (omega arith) (omega arith)))
 
-pub left_meets : (a b : Span) (first count other size : ℕ) → a ≡ Data first count → b ≡ Data other size → 0 < count → other < first → first - other < size → (p : Place) × (span_names a p ≡ true) × (span_names b p ≡ true)
+pub left_meets : (a b : Span) (first count other size : ℕ) → a ≡ Data first count → b ≡ Data other size → 0 < count → other < first → first - other < size → (p : Spot) × (span_names a p ≡ true) × (span_names b p ≡ true)
 left_meets a b first count other size e k some le lt = (DataBit first, rw e (in_holds first count first (omega arith) (omega arith)), rw k (in_holds other size first (omega arith) (omega arith)))
 
-pub pointers_meet : (a b : Span) (x y : ℕ) → a ≡ Pointer x → b ≡ Pointer y → x ≡ y → (p : Place) × (span_names a p ≡ true) × (span_names b p ≡ true)
+pub pointers_meet : (a b : Span) (x y : ℕ) → a ≡ Pointer x → b ≡ Pointer y → x ≡ y → (p : Spot) × (span_names a p ≡ true) × (span_names b p ≡ true)
 pointers_meet a b x y e k same = (PointerAt x, rw e (grind (arith, nat_tests)), rw k (grind (arith, nat_tests)))
 
-pub some_span-append : (xs : List Span) (y : Span) (p : Place) → some_span (xs ++ y ∷ []) p ≡ (some_span xs p || span_names y p)
+pub some_span-append : (xs : List Span) (y : Span) (p : Spot) → some_span (xs ++ y ∷ []) p ≡ (some_span xs p || span_names y p)
 some_span-append [] y p = at (span_names y p)
   where
     at : (b : Bool) → (b || false) ≡ b
@@ -40,7 +40,7 @@ some_span-append (x ∷ xs) y p = at (span_names x p) (some_span-append xs y p)
     at false e = e
 
 -- one of the spans names the place
-pub span_at : (xs : List Span) (p : Place) → some_span xs p ≡ true → (k : ℕ) × (k < length xs) × ((d : Span) → span_names (get_or xs k d) p ≡ true)
+pub span_at : (xs : List Span) (p : Spot) → some_span xs p ≡ true → (k : ℕ) × (k < length xs) × ((d : Span) → span_names (get_or xs k d) p ≡ true)
 span_at [] p e = cc
 span_at (x ∷ xs) p e = at (span_names x p) refl (some_span xs p) (span_at xs p) e
   where
@@ -48,7 +48,7 @@ span_at (x ∷ xs) p e = at (span_names x p) refl (some_span xs p) (span_at xs p
     at true is c rest h = (0, omega arith, λ d. is)
     at false is c rest h = let r = rest h in (suc r.0, omega arith, r.2)
 
-pub some_from_at : (xs : List Span) (k : ℕ) (d : Span) (p : Place) → k < length xs → span_names (get_or xs k d) p ≡ true → some_span xs p ≡ true
+pub some_from_at : (xs : List Span) (k : ℕ) (d : Span) (p : Spot) → k < length xs → span_names (get_or xs k d) p ≡ true → some_span xs p ≡ true
 some_from_at [] k d p h e = absurd (omega arith)
 some_from_at (x ∷ xs) zero d p h e = rw e refl
 some_from_at (x ∷ xs) (suc k) d p h e = at (span_names x p) (some_from_at xs k d p (omega arith) e)
@@ -57,15 +57,15 @@ some_from_at (x ∷ xs) (suc k) d p h e = at (span_names x p) (some_from_at xs k
     at true e = refl
     at false e = e
 
-pub none_from_all : (xs : List Span) (p : Place) → ((k : ℕ) (d : Span) → k < length xs → span_names (get_or xs k d) p ≡ false) → some_span xs p ≡ false
+pub none_from_all : (xs : List Span) (p : Spot) → ((k : ℕ) (d : Span) → k < length xs → span_names (get_or xs k d) p ≡ false) → some_span xs p ≡ false
 none_from_all [] p h = refl
 none_from_all (x ∷ xs) p h = rw (h 0 x (omega arith)) (none_from_all xs p (λ k d lt. h (suc k) d (omega arith)))
 
 -- one more span of a list meets nothing
 pub row_done : (a b : List Span) (i : ℕ) (e : Span) → i < length a
-    → ((k : ℕ) (d : Span) (p : Place) → k < i → span_names (get_or a k d) p ≡ true → some_span b p ≡ false)
-    → ((p : Place) → span_names (get_or a i e) p ≡ true → some_span b p ≡ false)
-    → (k : ℕ) (d : Span) (p : Place) → k < i + 1 → span_names (get_or a k d) p ≡ true → some_span b p ≡ false
+    → ((k : ℕ) (d : Span) (p : Spot) → k < i → span_names (get_or a k d) p ≡ true → some_span b p ≡ false)
+    → ((p : Spot) → span_names (get_or a i e) p ≡ true → some_span b p ≡ false)
+    → (k : ℕ) (d : Span) (p : Spot) → k < i + 1 → span_names (get_or a k d) p ≡ true → some_span b p ≡ false
 row_done a b i e inside before here k d p lt named =
     ⊎_elim
     (λ less. before k d p less named)
@@ -98,17 +98,17 @@ or_none true = refl
 or_none false = refl
 
 -- one more span
-span_reached : (groups : ℕ) (set : Schemas) (out : List Span) (below : List ℕ) (s : Span) (p : Place) → reached groups set (out ++ s ∷ []) below p ≡ (reached groups set out below p || span_names s p)
+span_reached : (groups : ℕ) (set : Schemas) (out : List Span) (below : List ℕ) (s : Span) (p : Spot) → reached groups set (out ++ s ∷ []) below p ≡ (reached groups set out below p || span_names s p)
 span_reached groups set out below s p =
     ap (λ x. x || some_brand groups set below p) (some_span-append out s p) ∙ or_swap (some_span out p) (span_names s p) (some_brand groups set below p)
 
-some_brand-append : (groups : ℕ) (set : Schemas) (bs : List ℕ) (b : ℕ) (p : Place) → some_brand groups set (bs ++ b ∷ []) p ≡ (some_brand groups set bs p || brand_names groups set b p)
+some_brand-append : (groups : ℕ) (set : Schemas) (bs : List ℕ) (b : ℕ) (p : Spot) → some_brand groups set (bs ++ b ∷ []) p ≡ (some_brand groups set bs p || brand_names groups set b p)
 some_brand-append groups set [] b p = or_none (brand_names groups set b p)
 some_brand-append groups set (x ∷ xs) b p =
     ap (λ y. brand_names groups set x p || y) (some_brand-append groups set xs b p) ∙ sym (or_assoc (brand_names groups set x p) (some_brand groups set xs p) (brand_names groups set b p))
 
 -- one field of the loop
-pub field_added : (groups : ℕ) (set : Schemas) (fs : List TypedField) (p : Place) (before after : Bool) (i : ℕ) (whole : Bool)
+pub field_added : (groups : ℕ) (set : Schemas) (fs : List TypedField) (p : Spot) (before after : Bool) (i : ℕ) (whole : Bool)
     → after ≡ (before || entry_names groups set (slice_get fs i) p)
     → (before || some_field (field_names groups set) (drop i fs) p) ≡ whole
     → (after || some_field (field_names groups set) (drop (i + 1) fs) p) ≡ whole
@@ -122,7 +122,7 @@ field_added groups set fs p before after i whole one kept =
     parts (f ∷ fs) (suc i) = parts fs i
 
 -- a struct's fields and its discriminant
-pub brand_added : (set : Schemas) (groups b : ℕ) (p : Place) (before : Bool) (out : List Span) (below : List ℕ) (n : Node) (s : Span)
+pub brand_added : (set : Schemas) (groups b : ℕ) (p : Spot) (before : Bool) (out : List Span) (below : List ℕ) (n : Node) (s : Span)
     → Some n ≡ brand_node set b
     → reached groups set out below p ≡ (before || some_field (field_names groups set) (fields_of set b) p)
     → span_names s p ≡ discriminant_names n p
@@ -134,19 +134,19 @@ brand_added set groups b p before out below n s there fields names =
     ∙ or_assoc before (some_field (field_names groups set) (fields_of set b) p) (discriminant_names (node_of set b) p)
 
 -- a struct whose node isn't there has no discriminant
-pub fields_alone : (set : Schemas) (groups b : ℕ) (p : Place) (before after : Bool)
+pub fields_alone : (set : Schemas) (groups b : ℕ) (p : Spot) (before after : Bool)
     → None ≡ brand_node set b
     → after ≡ (before || some_field (field_names groups set) (fields_of set b) p)
     → after ≡ (before || brand_names (suc groups) set b p)
 fields_alone set groups b p before after missing fields =
     fields ∙ ap (λ x. before || x) (or_false (some_field (field_names groups set) (fields_of set b) p) (discriminant_names (node_of set b) p) (none p))
   where
-    none : (p : Place) → discriminant_names (node_of set b) p ≡ false
+    none : (p : Spot) → discriminant_names (node_of set b) p ≡ false
     none (DataBit i) = rw (node_missing set b missing) refl
     none (PointerAt i) = refl
 
 -- one more slot
-pub slot_added : (groups : ℕ) (set : Schemas) (entry : Option TypedField) (f : TypedRecord) (offset : ℕ) (default : ValueRecord) (out : List Span) (below : List ℕ) (s : Span) (p : Place)
+pub slot_added : (groups : ℕ) (set : Schemas) (entry : Option TypedField) (f : TypedRecord) (offset : ℕ) (default : ValueRecord) (out : List Span) (below : List ℕ) (s : Span) (p : Spot)
     → Some (seen_typed f) ≡ entry → f.field.now.kind ≡ kind.Slot offset default → span_names s p ≡ slot_names offset (seen_type f.field_type.now) p
     → reached groups set (out ++ s ∷ []) below p ≡ (reached groups set out below p || entry_names groups set entry p)
 slot_added groups set entry f offset default out below s p there is names =
@@ -154,7 +154,7 @@ slot_added groups set entry f offset default out below s p there is names =
     ∙ ap (λ x. reached groups set out below p || x) (names ∙ ap (λ k. kind_names (brand_names groups set) (seen_kind k) (seen_type f.field_type.now) p) (sym is) ∙ ap (λ e. entry_names groups set e p) there)
 
 -- one more group
-pub group_added : (groups : ℕ) (set : Schemas) (entry : Option TypedField) (f : TypedRecord) (node g : ℕ) (out : List Span) (below : List ℕ) (p : Place)
+pub group_added : (groups : ℕ) (set : Schemas) (entry : Option TypedField) (f : TypedRecord) (node g : ℕ) (out : List Span) (below : List ℕ) (p : Spot)
     → Some (seen_typed f) ≡ entry → f.field.now.kind ≡ kind.Group node → Some g ≡ struct_brand (seen_type f.field_type.now)
     → reached groups set out (below ++ g ∷ []) p ≡ (reached groups set out below p || entry_names groups set entry p)
 group_added groups set entry f node g out below p there is target =
@@ -163,7 +163,7 @@ group_added groups set entry f node g out below p there is target =
     ∙ ap (λ x. reached groups set out below p || x) (ap (λ t. group_names (brand_names groups set) t p) target ∙ ap (λ k. kind_names (brand_names groups set) (seen_kind k) (seen_type f.field_type.now) p) (sym is) ∙ ap (λ e. entry_names groups set e p) there)
 
 -- nothing is reached below the last depth
-pub reached_all : (set : Schemas) (out : List Span) (brands : List ℕ) (p : Place) → reached 0 set out brands p ≡ some_span out p
+pub reached_all : (set : Schemas) (out : List Span) (brands : List ℕ) (p : Spot) → reached 0 set out brands p ≡ some_span out p
 reached_all set out brands p = ap (λ x. some_span out p || x) (none brands) ∙ or_none (some_span out p)
   where
     none : (bs : List ℕ) → some_brand 0 set bs p ≡ false

@@ -4,7 +4,7 @@ use Rattle.std.proofs.lemmas.Bool.{cases_lt}
 use Rattle.std.proofs.lemmas.Option.{slice_get_within, slice_get_read}
 use Rattle.std.specs.declared.alloc.Global.{Global}
 use Rattle.capnp_schema.specs.Schema.{Schemas, node_of, fields_of, field_at, is_member}
-use Rattle.capnp_schema.specs.Footprint.{Place, footprint, discriminant_names}
+use Rattle.capnp_schema.specs.Footprint.{Spot, footprint, discriminant_names}
 use Rattle.capnp_schema.specs.Accepted.{FieldsApart, DiscriminantApart}
 use Rattle.capnp_schema.specs.Broken.{FieldBreaks}
 use Rattle.capnp_schema.specs.declared.check.spans.Span.{Span}
@@ -14,12 +14,12 @@ use Rattle.capnp_schema.proofs.EntryTables.{EachTable}
 use Rattle.capnp_schema.proofs.FieldWalk.{one_more}
 use Rattle.capnp_schema.proofs.GroupTargets.{field_is}
 
-abbrev pub footprint_at : Schemas → ℕ → ℕ → Place → Bool
+abbrev pub footprint_at : Schemas → ℕ → ℕ → Spot → Bool
 footprint_at set b i p = footprint set (field_at set b i) p
 
 -- spans that name what a field of a brand names
 abbrev pub NameWhatField : Schemas → ℕ → ℕ → List Span → Type 0
-NameWhatField set b i spans = (p : Place) → some_span spans p ≡ entry_names (length set.brands) set (slice_get (fields_of set b) i) p
+NameWhatField set b i spans = (p : Spot) → some_span spans p ≡ entry_names (length set.brands) set (slice_get (fields_of set b) i) p
 
 pub spans_of_all : (set : Schemas) (b : ℕ) (spans : List (Vec Span Global)) (n : ℕ) → EachTable (NameWhatField set b) spans n → n ≡ length (fields_of set b) → AreSpansOf set b spans
 spans_of_all set b spans n each all = record {
@@ -31,13 +31,13 @@ spans_of_all set b spans n each all = record {
 }
 
 -- what is read at a place of the table
-read_at : (set : Schemas) (b : ℕ) (spans : List (Vec Span Global)) (i : ℕ) (x : Vec Span Global) (a : List Span) (p : Place) → AreSpansOf set b spans → i < length spans → x ≡ get_or spans i x → a ≡ x.items → some_span a p ≡ footprint_at set b i p
+read_at : (set : Schemas) (b : ℕ) (spans : List (Vec Span Global)) (i : ℕ) (x : Vec Span Global) (a : List Span) (p : Spot) → AreSpansOf set b spans → i < length spans → x ≡ get_or spans i x → a ≡ x.items → some_span a p ≡ footprint_at set b i p
 read_at set b spans i x a p s h e k = ap (λ l. some_span l p) k ∙ s.each i x p (slice_get_read spans (length spans) i x refl h e)
 
 pub apart_from_spans : (set : Schemas) (b : ℕ) (spans : List (Vec Span Global)) (i j : ℕ) (x y : Vec Span Global) (a c : List Span) → AreSpansOf set b spans
     → i < length spans → j < length spans → x ≡ get_or spans i x → y ≡ get_or spans j y → a ≡ x.items → c ≡ y.items
-    → ((p : Place) → some_span a p ≡ true → some_span c p ≡ false)
-    → (p : Place) → footprint_at set b i p ≡ true → footprint_at set b j p ≡ false
+    → ((p : Spot) → some_span a p ≡ true → some_span c p ≡ false)
+    → (p : Spot) → footprint_at set b i p ≡ true → footprint_at set b j p ≡ false
 apart_from_spans set b spans i j x y a c s hi hj ex ey ea ec apart p named =
     sym (read_at set b spans j y c p s hj ey ec) ∙ apart p (read_at set b spans i x a p s hi ex ea ∙ named)
 
@@ -49,17 +49,17 @@ meet_from_spans set b spans i j x y a c s within hi hj ex ey ea ec plain ne m = 
   brand = within;
   field = (let l = s.counted in omega arith);
   broken = λ apart.
-      let first : footprint_at set b i m.place ≡ true = sym (read_at set b spans i x a m.place s hi ex ea) ∙ m.first in
-      let second : footprint_at set b j m.place ≡ true = sym (read_at set b spans j y c m.place s hj ey ec) ∙ m.second in
-      let none : footprint_at set b j m.place ≡ false = apart j m.place (let l = s.counted in omega arith) ne plain first in
+      let first : footprint_at set b i m.spot ≡ true = sym (read_at set b spans i x a m.spot s hi ex ea) ∙ m.first in
+      let second : footprint_at set b j m.spot ≡ true = sym (read_at set b spans j y c m.spot s hj ey ec) ∙ m.second in
+      let none : footprint_at set b j m.spot ≡ false = apart j m.spot (let l = s.counted in omega arith) ne plain first in
       (cc);
 }
 
 -- one more field of the inner loop
 pub more_apart : (set : Schemas) (b i j : ℕ)
-    → ((k : ℕ) (p : Place) → k < j → i ≢ k → footprint_at set b i p ≡ true → footprint_at set b k p ≡ false)
-    → ((p : Place) → i ≢ j → footprint_at set b i p ≡ true → footprint_at set b j p ≡ false)
-    → (k : ℕ) (p : Place) → k < j + 1 → i ≢ k → footprint_at set b i p ≡ true → footprint_at set b k p ≡ false
+    → ((k : ℕ) (p : Spot) → k < j → i ≢ k → footprint_at set b i p ≡ true → footprint_at set b k p ≡ false)
+    → ((p : Spot) → i ≢ j → footprint_at set b i p ≡ true → footprint_at set b j p ≡ false)
+    → (k : ℕ) (p : Spot) → k < j + 1 → i ≢ k → footprint_at set b i p ≡ true → footprint_at set b k p ≡ false
 more_apart set b i j before here k p h ne named = ⊎_elim
     (λ lt. before k p lt ne named)
     (λ le. let e : k ≡ j = omega arith in ap (λ x. footprint_at set b x p) e ∙ here p (λ q. ne (q ∙ sym e)) named)
@@ -67,21 +67,21 @@ more_apart set b i j before here k p h ne named = ⊎_elim
 
 -- all fields of the inner loop
 pub apart_from_all : (set : Schemas) (b : ℕ) (spans : List (Vec Span Global)) (i n : ℕ) → AreSpansOf set b spans → length spans ≤ n
-    → ((k : ℕ) (p : Place) → k < n → i ≢ k → footprint_at set b i p ≡ true → footprint_at set b k p ≡ false) → FieldsApart set b i (field_at set b i)
+    → ((k : ℕ) (p : Spot) → k < n → i ≢ k → footprint_at set b i p ≡ true → footprint_at set b k p ≡ false) → FieldsApart set b i (field_at set b i)
 apart_from_all set b spans i n s end all j p within ne plain named = all j p (let l = s.counted in omega arith) ne named
 
 -- one more field of the outer loop
 pub more_fields_apart : (set : Schemas) (b i : ℕ) → ((k : ℕ) → k < i → FieldsApart set b k (field_at set b k)) → FieldsApart set b i (field_at set b i) → (k : ℕ) → k < i + 1 → FieldsApart set b k (field_at set b k)
 more_fields_apart set b = one_more (λ (k : ℕ). FieldsApart set b k (field_at set b k))
 
-pub apart_from_same : (set : Schemas) (b i j : ℕ) → i ≡ j → (p : Place) → i ≢ j → footprint_at set b i p ≡ true → footprint_at set b j p ≡ false
+pub apart_from_same : (set : Schemas) (b i j : ℕ) → i ≡ j → (p : Spot) → i ≢ j → footprint_at set b i p ≡ true → footprint_at set b j p ≡ false
 apart_from_same set b i j e p ne named = absurd (ne e)
 
 pub apart_from_member : (set : Schemas) (b i : ℕ) → (is_member (field_at set b i).field ≡ false → ⊥) → FieldsApart set b i (field_at set b i)
 apart_from_member set b i member j p within ne plain named = absurd (member plain)
 
 -- two fields, of which one is plain, that name a place
-pub named_twice : (set : Schemas) (b i j other : ℕ) (p : Place) → b < length set.brands → IsNamedBy set b p other true i → IsNamedBy set b p i false j → FieldBreaks set (FieldsApart set b i) b i
+pub named_twice : (set : Schemas) (b i j other : ℕ) (p : Spot) → b < length set.brands → IsNamedBy set b p other true i → IsNamedBy set b p i false j → FieldBreaks set (FieldsApart set b i) b i
 named_twice set b i j other p within n m = record {
   brand = within;
   field = n.field;
@@ -89,7 +89,7 @@ named_twice set b i j other p within n m = record {
 }
 
 -- a field that names a place of the discriminant
-pub discriminant_named : (set : Schemas) (b i other : ℕ) (plain : Bool) (p : Place) → b < length set.brands → IsNamedBy set b p other plain i → discriminant_names (node_of set b) p ≡ true → FieldBreaks set (DiscriminantApart set b) b i
+pub discriminant_named : (set : Schemas) (b i other : ℕ) (plain : Bool) (p : Spot) → b < length set.brands → IsNamedBy set b p other plain i → discriminant_names (node_of set b) p ≡ true → FieldBreaks set (DiscriminantApart set b) b i
 discriminant_named set b i other plain p within n d = record {
   brand = within;
   field = n.field;

@@ -6,7 +6,7 @@ use Rattle.std.proofs.lemmas.Bool.{cases_lt}
 use Rattle.std.proofs.lemmas.List.{get_or-set_other, length_push}
 use Rattle.capnp_schema.specs.Types.{SchemaType}
 use Rattle.capnp_schema.specs.Schema.{Schemas, Node, FieldKind, Slot, Group, TypedField, node_of, fields_of, field_at, kind_target}
-use Rattle.capnp_schema.specs.Footprint.{Place, kind_names, group_names, brand_names, some_field, discriminant_names, footprint}
+use Rattle.capnp_schema.specs.Footprint.{Spot, kind_names, group_names, brand_names, some_field, discriminant_names, footprint}
 use Rattle.capnp_schema.specs.Accepted.{Rule11, Rule12}
 use Rattle.capnp_schema.specs.Checking.Parents.{group_target, entry_target}
 use Rattle.capnp_schema.specs.Checking.Spans.{span_names, entry_names, field_names}
@@ -22,7 +22,7 @@ use Rattle.capnp_schema.proofs.Checking.Tours.{keeps_from_claim, levels_kept, op
 -- ---- into a group ----
 
 pub group_entered : (set : Schemas) (tour : Tour) (top next : Level) (group : ℕ) (n : Node) (span : Span) (claims : Claims) (below : Vec Level Global) → TourStands set tour top → IsCurrentGroup set top group
-    → IsClaimed (tour.below.items ++ top ∷ []) tour.now span tour.claims claims → ((p : Place) → span_names span p ≡ discriminant_names n p) → node_of set group ≡ n
+    → IsClaimed (tour.below.items ++ top ∷ []) tour.now span tour.claims claims → ((p : Spot) → span_names span p ≡ discriminant_names n p) → node_of set group ≡ n
     → next ≡ record { brand = group; steps = 0; start = tour.now; plain_end = tour.now + 1 } → below.items ≡ tour.below.items ++ top ∷ []
     → TourStands set (record { claims = claims; below = below; done = tour.done; now = tour.now + 1 }) next
 group_entered set tour top next group n span claims below t at c names node is pushed_is = record {
@@ -40,7 +40,7 @@ group_entered set tour top next group n span claims below t at c names node is p
     kept : LevelsStand set (mark_at claims) (tour.now + 1) levels
     kept = levels_kept set (mark_at tour.claims) (mark_at claims) tour.now levels (keeps_from_claim levels tour.now span tour.claims claims c) t.levels
 
-    named : (p : Place) → Done set group 0 p → span_names span p ≡ true
+    named : (p : Spot) → Done set group 0 p → span_names span p ≡ true
     named p (among_plain (by_discriminant e)) = names p ∙ ap (λ (m : Node). discriminant_names m p) (sym node) ∙ e
     named p (among_plain (by_plain i m lt k)) = absurd (omega arith)
     named p (by_member i m lt k) = absurd (omega arith)
@@ -63,7 +63,7 @@ group_entered set tour top next group n span claims below t at c names node is p
 
 -- ---- out of a group ----
 
-some_field_at : (names : TypedField → Place → Bool) (fs : List TypedField) (p : Place) → some_field names fs p ≡ true → (k : ℕ) × (k < length fs) × ((f : TypedField) × (slice_get fs k ≡ Some f) × (names f p ≡ true))
+some_field_at : (names : TypedField → Spot → Bool) (fs : List TypedField) (p : Spot) → some_field names fs p ≡ true → (k : ℕ) × (k < length fs) × ((f : TypedField) × (slice_get fs k ≡ Some f) × (names f p ≡ true))
 some_field_at names [] p e = cc
 some_field_at names (f ∷ fs) p e = at (names f p) refl (some_field names fs p) (some_field_at names fs p) e
   where
@@ -72,7 +72,7 @@ some_field_at names (f ∷ fs) p e = at (names f p) refl (some_field names fs p)
     at false is c rest h = let r = rest h in (suc r.0, omega arith, r.2)
 
 -- what a brand names is done where all of it is past
-names_done : (groups : ℕ) (set : Schemas) (b steps : ℕ) (p : Place) → length (fields_of set b) + length (fields_of set b) ≤ steps → brand_names groups set b p ≡ true → Done set b steps p
+names_done : (groups : ℕ) (set : Schemas) (b steps : ℕ) (p : Spot) → length (fields_of set b) + length (fields_of set b) ≤ steps → brand_names groups set b p ≡ true → Done set b steps p
 names_done zero set b steps p past e = cc
 names_done (suc groups) set b steps p past e = at (some_field (λ f. kind_names (brand_names groups set) f.field.kind f.type) (fields_of set b) p) refl e
   where
@@ -91,7 +91,7 @@ names_done (suc groups) set b steps p past e = at (some_field (λ f. kind_names 
     at false is h = among_plain (by_discriminant h)
 
 -- what a group field names
-group_done : (set : Schemas) (b i g steps : ℕ) (p : Place) → group_target set b i ≡ Some g → length (fields_of set g) + length (fields_of set g) ≤ steps → Names set b i p → Done set g steps p
+group_done : (set : Schemas) (b i g steps : ℕ) (p : Spot) → group_target set b i ≡ Some g → length (fields_of set g) + length (fields_of set g) ≤ steps → Names set b i p → Done set g steps p
 group_done set b i g steps p target past n = at (slice_get (fields_of set b) i) target n.names
   where
     of_kind : (k : FieldKind) (t : SchemaType) → kind_target k t ≡ Some g → kind_names (brand_names n.groups set) k t p ≡ true → Done set g steps p
@@ -109,7 +109,7 @@ pub record IsLeft (set : Schemas) (old new : Tour) : Type 0 where
   pub now : new.now ≡ old.now
   pub done : DoneStand set new.done.items
 
-pub all_clear : (set : Schemas) (mark : Place → ℕ) (now : ℕ) (l : Level) → length (fields_of set l.brand) + length (fields_of set l.brand) ≤ l.steps → LevelStands set mark now l → AreClear set l.brand
+pub all_clear : (set : Schemas) (mark : Spot → ℕ) (now : ℕ) (l : Level) → length (fields_of set l.brand) + length (fields_of set l.brand) ≤ l.steps → LevelStands set mark now l → AreClear set l.brand
 all_clear set mark now l past s i lt = at (member_at set l.brand i) refl
   where
     at : (m : Bool) → member_at set l.brand i ≡ m → IsClear set l.brand i
@@ -157,7 +157,7 @@ module _ (set : Schemas) (old : Tour) (top : Level) (t : TourStands set old top)
       → TourStands set (record { claims = new.claims; below = below; done = new.done; now = new.now }) next
   left_to_level new below level next late left is is_late is_early next_is = record { levels = stands; done = left.done }
     where
-      mark : Place → ℕ
+      mark : Spot → ℕ
       mark = mark_at old.claims
 
       under : List Level
@@ -190,7 +190,7 @@ module _ (set : Schemas) (old : Tour) (top : Level) (t : TourStands set old top)
       at : IsCurrentGroup set level top.brand
       at = all.entered (length below.items) level top (pushed under top level (length below.items) there) (ap (slice_get (under ++ top ∷ [])) (sym long) ∙ slice_get-last under top)
 
-      down : (p : Place) → Names set level.brand at.index p → Done set top.brand top.steps p
+      down : (p : Spot) → Names set level.brand at.index p → Done set top.brand top.steps p
       down p n = group_done set level.brand at.index top.brand top.steps p at.target past n
 
       end : ℕ
@@ -231,10 +231,10 @@ module _ (set : Schemas) (old : Tour) (top : Level) (t : TourStands set old top)
 -- ---- the rules ----
 
 module _ (set : Schemas) (b : ℕ) (clear : AreClear set b) where
-  names_of : (i : ℕ) (p : Place) → i < length (fields_of set b) → footprint set (field_at set b i) p ≡ true → Names set b i p
+  names_of : (i : ℕ) (p : Spot) → i < length (fields_of set b) → footprint set (field_at set b i) p ≡ true → Names set b i p
   names_of i p lt e = record { groups = length set.brands; names = ap (λ o. entry_names (length set.brands) set o p) (field_is set b i lt) ∙ e }
 
-  pub fields_apart : (i j : ℕ) (p : Place) → i < length (fields_of set b) → j < length (fields_of set b) → i ≢ j → member_at set b i ≡ false → footprint set (field_at set b i) p ≡ true → footprint set (field_at set b j) p ≡ true → ⊥
+  pub fields_apart : (i j : ℕ) (p : Spot) → i < length (fields_of set b) → j < length (fields_of set b) → i ≢ j → member_at set b i ≡ false → footprint set (field_at set b i) p ≡ true → footprint set (field_at set b j) p ≡ true → ⊥
   fields_apart i j p hi hj ne m ei ej = at (member_at set b j) refl
     where
       at : (c : Bool) → member_at set b j ≡ c → ⊥
@@ -244,7 +244,7 @@ module _ (set : Schemas) (b : ℕ) (clear : AreClear set b) where
           (λ le. (clear i hi).plain m p (names_of i p hi ei) (by_plain j n (⊎_elim (λ lt. lt) (λ ge. absurd (ne (omega arith))) (cases_lt j i)) (names_of j p hj ej)))
           (cases_lt i j)
 
-  pub discriminant_apart : (i : ℕ) (p : Place) → i < length (fields_of set b) → discriminant_names (node_of set b) p ≡ true → footprint set (field_at set b i) p ≡ true → ⊥
+  pub discriminant_apart : (i : ℕ) (p : Spot) → i < length (fields_of set b) → discriminant_names (node_of set b) p ≡ true → footprint set (field_at set b i) p ≡ true → ⊥
   discriminant_apart i p hi d e = at (member_at set b i) refl
     where
       at : (c : Bool) → member_at set b i ≡ c → ⊥

@@ -5,7 +5,7 @@ use Rattle.std.proofs.lemmas.Bool.{cases_lt}
 use Rattle.std.proofs.lemmas.List.{length_push}
 use Rattle.std.proofs.lemmas.Option.{slice_get_within, same_Some, slice_get_past}
 use Rattle.capnp_schema.specs.Schema.{Schemas, fields_of}
-use Rattle.capnp_schema.specs.Footprint.{Place}
+use Rattle.capnp_schema.specs.Footprint.{Spot}
 use Rattle.capnp_schema.specs.Checking.Spans.{span_names, entry_names}
 use Rattle.capnp_schema.specs.Checking.Levels.{IsOpen, AreOpen, AreInOrder, mark_at, IsClaimed, member_at, Names, PlainDone, by_discriminant, by_plain, Done, among_plain, by_member, IsCurrent, plain, member, IsClear, LevelStands, IsAbove, IsCurrentGroup, LevelsStand, TourStands}
 use Rattle.capnp_schema.specs.declared.check.claims.Claims.{Claims}
@@ -16,7 +16,7 @@ use Rattle.capnp_schema.proofs.Checking.LevelTimes.{slice_get-push, slice_get-la
 
 -- ---- times ----
 
-pub order_of_levels : (set : Schemas) (mark : Place → ℕ) (now : ℕ) (levels : List Level) → LevelsStand set mark now levels → AreInOrder levels
+pub order_of_levels : (set : Schemas) (mark : Spot → ℕ) (now : ℕ) (levels : List Level) → LevelsStand set mark now levels → AreInOrder levels
 order_of_levels set mark now levels s = record {
   each = λ k l e. (s.each k l e).ordered;
   pairs = λ j k l m lt e f. (s.pairs j k l m lt e f).later;
@@ -35,13 +35,13 @@ order_of_one l le = record { each = each; pairs = pairs }
 
 -- ---- what is past, and more of it ----
 
-pub plain_more : (set : Schemas) (b s t : ℕ) (p : Place) → s ≤ t → PlainDone set b s p → PlainDone set b t p
+pub plain_more : (set : Schemas) (b s t : ℕ) (p : Spot) → s ≤ t → PlainDone set b s p → PlainDone set b t p
 plain_more set b s t p le (by_discriminant e) = by_discriminant e
 plain_more set b s t p le (by_plain i m lt n) = by_plain i m (omega arith) n
 
 -- a mark that stays, or one at a place that was open to the levels
-abbrev pub Keeps : List Level → ℕ → (Place → ℕ) → (Place → ℕ) → Type 0
-Keeps levels now old new = (p : Place) → (new p ≡ old p) ⊎ (AreOpen levels (old p) × (new p ≡ now))
+abbrev pub Keeps : List Level → ℕ → (Spot → ℕ) → (Spot → ℕ) → Type 0
+Keeps levels now old new = (p : Spot) → (new p ≡ old p) ⊎ (AreOpen levels (old p) × (new p ≡ now))
 
 pub keeps_from_claim : (levels : List Level) (now : ℕ) (span : Span) (old new : Claims) → IsClaimed levels now span old new → Keeps levels now (mark_at old) (mark_at new)
 keeps_from_claim levels now span old new c p = at (span_names span p) refl
@@ -51,7 +51,7 @@ keeps_from_claim levels now span old new c p = at (span_names span p) refl
     at false e = inl (c.outside p e)
 
 -- a level keeps standing under new marks
-pub level_kept : (set : Schemas) (old new : Place → ℕ) (now : ℕ) (levels : List Level) (k : ℕ) (l : Level) → slice_get levels k ≡ Some l → Keeps levels now old new → LevelStands set old now l → LevelStands set new (now + 1) l
+pub level_kept : (set : Schemas) (old new : Spot → ℕ) (now : ℕ) (levels : List Level) (k : ℕ) (l : Level) → slice_get levels k ≡ Some l → Keeps levels now old new → LevelStands set old now l → LevelStands set new (now + 1) l
 level_kept set old new now levels k l here keeps s = record {
   started = λ p d. ⊎_elim (λ e. let h = s.started p d in subst (λ x. l.start ≤ x) (sym e) h) (λ r. let o = s.ordered in let t = s.ended in subst (λ x. l.start ≤ x) (sym r.1) (omega arith)) (keeps p);
   plain = λ p d. ⊎_elim (λ e. let h = s.plain p d in subst (λ x. x < l.plain_end) (sym e) h) (λ r. absurd (r.0 k l here (s.started p (among_plain d)) (s.plain p d))) (keeps p);
@@ -61,11 +61,11 @@ level_kept set old new now levels k l here keeps s = record {
   ended = (let t = s.ended in omega arith);
 }
 
-pub fresh_kept : (old new : Place → ℕ) (now : ℕ) (levels : List Level) → Keeps levels now old new → ((p : Place) → old p < now) → (p : Place) → new p < now + 1
+pub fresh_kept : (old new : Spot → ℕ) (now : ℕ) (levels : List Level) → Keeps levels now old new → ((p : Spot) → old p < now) → (p : Spot) → new p < now + 1
 fresh_kept old new now levels keeps fresh p = ⊎_elim (λ e. let h = fresh p in subst (λ x. x < now + 1) (sym e) (omega arith)) (λ r. subst (λ x. x < now + 1) (sym r.1) (omega arith)) (keeps p)
 
 -- all levels do
-pub levels_kept : (set : Schemas) (old new : Place → ℕ) (now : ℕ) (levels : List Level) → Keeps levels now old new → LevelsStand set old now levels → LevelsStand set new (now + 1) levels
+pub levels_kept : (set : Schemas) (old new : Spot → ℕ) (now : ℕ) (levels : List Level) → Keeps levels now old new → LevelsStand set old now levels → LevelsStand set new (now + 1) levels
 levels_kept set old new now levels keeps s = record {
   each = λ k l e. level_kept set old new now levels k l e keeps (s.each k l e);
   pairs = s.pairs;
@@ -74,15 +74,15 @@ levels_kept set old new now levels keeps s = record {
 }
 
 -- a place that is open to a level is named by no plain field that it is past
-pub open_is_apart : (set : Schemas) (mark : Place → ℕ) (now : ℕ) (l : Level) (p : Place) → LevelStands set mark now l → IsOpen l (mark p) → PlainDone set l.brand l.steps p → ⊥
+pub open_is_apart : (set : Schemas) (mark : Spot → ℕ) (now : ℕ) (l : Level) (p : Spot) → LevelStands set mark now l → IsOpen l (mark p) → PlainDone set l.brand l.steps p → ⊥
 open_is_apart set mark now l p s o d = o (s.started p (among_plain d)) (s.plain p d)
 
 -- ---- another top ----
 
-abbrev pub AtTop : Schemas → (Place → ℕ) → ℕ → List Level → Level → Type 0
+abbrev pub AtTop : Schemas → (Spot → ℕ) → ℕ → List Level → Level → Type 0
 AtTop set mark now below x = LevelStands set mark now x × ((k : ℕ) (l : Level) → slice_get below k ≡ Some l → IsAbove set l x)
 
-module _ (set : Schemas) (mark : Place → ℕ) (now : ℕ) (below : List Level) (top next : Level) where
+module _ (set : Schemas) (mark : Spot → ℕ) (now : ℕ) (below : List Level) (top next : Level) where
   pub top_stands : LevelsStand set mark now (below ++ top ∷ []) → AtTop set mark now below top
   top_stands s = (s.each (length below) top (slice_get-last below top), λ k l e. s.pairs k (length below) l top (slice_get_within below k l e) (pushed below top l k e) (slice_get-last below top))
 
@@ -111,7 +111,7 @@ module _ (set : Schemas) (mark : Place → ℕ) (now : ℕ) (below : List Level)
       old k l lt e = slice_get-push below top k lt ∙ sym (slice_get-push below next k lt) ∙ e
 
 -- a level on top of the others
-pub push_stands : (set : Schemas) (mark : Place → ℕ) (now : ℕ) (levels : List Level) (last top : Level) (below : List Level) → levels ≡ below ++ last ∷ [] → LevelsStand set mark now levels → AtTop set mark now levels top → IsCurrentGroup set last top.brand → LevelsStand set mark now (levels ++ top ∷ [])
+pub push_stands : (set : Schemas) (mark : Spot → ℕ) (now : ℕ) (levels : List Level) (last top : Level) (below : List Level) → levels ≡ below ++ last ∷ [] → LevelsStand set mark now levels → AtTop set mark now levels top → IsCurrentGroup set last top.brand → LevelsStand set mark now (levels ++ top ∷ [])
 push_stands set mark now levels last top below is s t c = record {
   each = λ k l e. ⊎_elim
       (λ lt. s.each k l (old k l lt e))
@@ -137,7 +137,7 @@ push_stands set mark now levels last top below is s t c = record {
     old k l lt e = sym (slice_get-push levels top k lt) ∙ e
 
 -- without the top
-pub pop_stands : (set : Schemas) (mark : Place → ℕ) (now : ℕ) (levels : List Level) (top : Level) → LevelsStand set mark now (levels ++ top ∷ []) → LevelsStand set mark now levels
+pub pop_stands : (set : Schemas) (mark : Spot → ℕ) (now : ℕ) (levels : List Level) (top : Level) → LevelsStand set mark now (levels ++ top ∷ []) → LevelsStand set mark now levels
 pop_stands set mark now levels top s = record {
   each = λ k l e. s.each k l (pushed levels top l k e);
   pairs = λ j k l m lt e f. s.pairs j k l m lt (pushed levels top l j e) (pushed levels top m k f);
@@ -147,7 +147,7 @@ pop_stands set mark now levels top s = record {
 
 -- ---- one more step ----
 
-no_names : (set : Schemas) (b i : ℕ) (p : Place) → length (fields_of set b) ≤ i → Names set b i p → ⊥
+no_names : (set : Schemas) (b i : ℕ) (p : Spot) → length (fields_of set b) ≤ i → Names set b i p → ⊥
 no_names set b i p past n = let e : slice_get (fields_of set b) i ≡ None = slice_get_past (fields_of set b) i past in
     let f : entry_names n.groups set None p ≡ true = ap (λ o. entry_names n.groups set o p) (sym e) ∙ n.names in (cc)
 
@@ -160,13 +160,13 @@ pub data IsNew (set : Schemas) (b s i : ℕ) : Type 0 where
   new_member : member_at set b i ≡ true → length (fields_of set b) + i ≡ s → IsNew set b s i
 
 -- what has to be known of them
-pub record NewStands (set : Schemas) (mark : Place → ℕ) (below : List Level) (b start plain_end i : ℕ) : Type 0 where
+pub record NewStands (set : Schemas) (mark : Spot → ℕ) (below : List Level) (b start plain_end i : ℕ) : Type 0 where
   pub clear : IsClear set b i
-  pub started : (p : Place) → Names set b i p → start ≤ mark p
-  pub plain : (p : Place) → Names set b i p → member_at set b i ≡ false → mark p < plain_end
-  pub apart : (p : Place) → Names set b i p → (k : ℕ) (l : Level) → slice_get below k ≡ Some l → PlainDone set l.brand l.steps p → ⊥
+  pub started : (p : Spot) → Names set b i p → start ≤ mark p
+  pub plain : (p : Spot) → Names set b i p → member_at set b i ≡ false → mark p < plain_end
+  pub apart : (p : Spot) → Names set b i p → (k : ℕ) (l : Level) → slice_get below k ≡ Some l → PlainDone set l.brand l.steps p → ⊥
 
-nothing_new : (set : Schemas) (mark : Place → ℕ) (below : List Level) (b start plain_end i : ℕ) → length (fields_of set b) ≤ i → NewStands set mark below b start plain_end i
+nothing_new : (set : Schemas) (mark : Spot → ℕ) (below : List Level) (b start plain_end i : ℕ) → length (fields_of set b) ≤ i → NewStands set mark below b start plain_end i
 nothing_new set mark below b start plain_end i past = record {
   clear = clear_past set b i past;
   started = λ p n. absurd (no_names set b i p past n);
@@ -174,16 +174,16 @@ nothing_new set mark below b start plain_end i past = record {
   apart = λ p n k l e d. no_names set b i p past n;
 }
 
-module _ (set : Schemas) (mark : Place → ℕ) (now : ℕ) (below : List Level) (top : Level) (end : ℕ) (stands : AtTop set mark now below top)
+module _ (set : Schemas) (mark : Spot → ℕ) (now : ℕ) (below : List Level) (top : Level) (end : ℕ) (stands : AtTop set mark now below top)
     (new : (i : ℕ) → IsNew set top.brand top.steps i → NewStands set mark below top.brand top.start end i) (later : top.plain_end ≤ end) (ended : end ≤ now) where
   abbrev more : Level
   more = record { brand = top.brand; steps = top.steps + 1; start = top.start; plain_end = end }
 
-  plain_split : (p : Place) → PlainDone set top.brand (top.steps + 1) p → PlainDone set top.brand top.steps p ⊎ ((i : ℕ) × IsNew set top.brand top.steps i × (member_at set top.brand i ≡ false) × Names set top.brand i p)
+  plain_split : (p : Spot) → PlainDone set top.brand (top.steps + 1) p → PlainDone set top.brand top.steps p ⊎ ((i : ℕ) × IsNew set top.brand top.steps i × (member_at set top.brand i ≡ false) × Names set top.brand i p)
   plain_split p (by_discriminant e) = inl (by_discriminant e)
   plain_split p (by_plain i m lt n) = ⊎_elim (λ less. inl (by_plain i m less n)) (λ le. inr (i, new_plain m (omega arith), m, n)) (cases_lt i top.steps)
 
-  split : (p : Place) → Done set top.brand (top.steps + 1) p → Done set top.brand top.steps p ⊎ ((i : ℕ) × IsNew set top.brand top.steps i × Names set top.brand i p)
+  split : (p : Spot) → Done set top.brand (top.steps + 1) p → Done set top.brand top.steps p ⊎ ((i : ℕ) × IsNew set top.brand top.steps i × Names set top.brand i p)
   split p (among_plain d) = ⊎_elim (λ old. inl (among_plain old)) (λ r. inr (r.0, r.1, r.3)) (plain_split p d)
   split p (by_member i m lt n) = ⊎_elim (λ less. inl (by_member i m less n)) (λ le. inr (i, new_member m (omega arith), n)) (cases_lt (length (fields_of set top.brand) + i) top.steps)
 
@@ -205,7 +205,7 @@ module _ (set : Schemas) (mark : Place → ℕ) (now : ℕ) (below : List Level)
 
 -- ---- steps past a field ----
 
-module _ (set : Schemas) (mark : Place → ℕ) (below : List Level) (b s start end : ℕ) where
+module _ (set : Schemas) (mark : Spot → ℕ) (below : List Level) (b s start end : ℕ) where
   -- the field that the step is about is the only one
   pub new_current : (field : ℕ) → IsCurrent set b s field → NewStands set mark below b start end field → (i : ℕ) → IsNew set b s i → NewStands set mark below b start end i
   new_current field (plain m lt e) h i (new_plain n f) = subst (NewStands set mark below b start end) (e ∙ sym f) h
@@ -224,7 +224,7 @@ module _ (set : Schemas) (mark : Place → ℕ) (below : List Level) (b s start 
   new_none_late field le is m i (new_member n f) = absurd (let same : i ≡ field = omega arith in let e : member_at set b i ≡ false = ap (member_at set b) same ∙ m in cc)
 
 -- the field is clear, where it names nothing that the plain part of its level does
-pub clear_current : (set : Schemas) (b s field : ℕ) → IsCurrent set b s field → ((p : Place) → Names set b field p → PlainDone set b s p → ⊥) → IsClear set b field
+pub clear_current : (set : Schemas) (b s field : ℕ) → IsCurrent set b s field → ((p : Spot) → Names set b field p → PlainDone set b s p → ⊥) → IsClear set b field
 clear_current set b s field (plain m lt e) h = record {
   plain = λ n p names d. h p names (plain_more set b field s p (omega arith) d);
   member = λ n. absurd (cc);
@@ -235,7 +235,7 @@ clear_current set b s field (member m e) h = record {
 }
 
 module _ (set : Schemas) (tour : Tour) (top : Level) where
-  abbrev pub mark : Place → ℕ
+  abbrev pub mark : Spot → ℕ
   mark = mark_at tour.claims
 
   abbrev pub levels : List Level
@@ -245,7 +245,7 @@ module _ (set : Schemas) (tour : Tour) (top : Level) where
   abbrev pub after : Claims → Tour
   after claims = record { claims = claims; below = tour.below; done = tour.done; now = tour.now + 1 }
 
-  pub slot_taken : (field : ℕ) (span : Span) (claims : Claims) (next : Level) → TourStands set tour top → IsCurrent set top.brand top.steps field → ((p : Place) → Names set top.brand field p → span_names span p ≡ true) → IsClaimed levels tour.now span tour.claims claims
+  pub slot_taken : (field : ℕ) (span : Span) (claims : Claims) (next : Level) → TourStands set tour top → IsCurrent set top.brand top.steps field → ((p : Spot) → Names set top.brand field p → span_names span p ≡ true) → IsClaimed levels tour.now span tour.claims claims
       → next ≡ record { brand = top.brand; steps = top.steps + 1; start = top.start; plain_end = cond (member_at set top.brand field) top.plain_end (tour.now + 1) } → TourStands set (after claims) next
   slot_taken field span claims next t current names c is = record {
     levels = next_stands set (mark_at claims) (tour.now + 1) tour.below.items top next kept (ap (λ (x : Level). x.brand) is)
@@ -273,7 +273,7 @@ module _ (set : Schemas) (tour : Tour) (top : Level) where
       ends : (top.plain_end ≤ end) × (end ≤ tour.now + 1)
       ends = end_of (member_at set top.brand field)
 
-      all_apart : (p : Place) → Names set top.brand field p → (k : ℕ) (l : Level) → slice_get levels k ≡ Some l → PlainDone set l.brand l.steps p → ⊥
+      all_apart : (p : Spot) → Names set top.brand field p → (k : ℕ) (l : Level) → slice_get levels k ≡ Some l → PlainDone set l.brand l.steps p → ⊥
       all_apart p n k l e d = open_is_apart set mark tour.now l p (t.levels.each k l e) ((c.inside p (names p n)).0 k l e) d
 
       new : NewStands set (mark_at claims) tour.below.items top.brand top.start end field

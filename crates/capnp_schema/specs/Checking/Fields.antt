@@ -1,14 +1,14 @@
 -- The rules of single fields, of one, of those of a brand and of all.
 use Rattle.std.specs.Prelude.{ℕ, ◌<◌, length}
 use Rattle.capnp_schema.specs.Schema.{Schemas, Node, TypedField, node_of, fields_of, field_at}
-use Rattle.capnp_schema.specs.Accepted.{FieldsName, NamesEntries, LiesInside, KindDefault, IsDefaultOf, GroupFits, Rule4, Rule5, Rule7}
+use Rattle.capnp_schema.specs.Accepted.{DefaultIsOfType, FieldsName, HasNamedType, NamesOwnGroup, SlotLiesInside, Rule4, Rule5, Rule7}
 
 -- rules 1, 4, 5 and 7 of one field of a node
 pub record FieldStands (set : Schemas) (n : Node) (f : TypedField) : Type 0 where
-  pub names : NamesEntries set f.type
-  pub inside : LiesInside n f.field.kind f.type
-  pub default : KindDefault IsDefaultOf f.field.kind f.type
-  pub group : GroupFits set f.field.kind f.type
+  pub names : HasNamedType set f
+  pub inside : SlotLiesInside n f
+  pub default : DefaultIsOfType f
+  pub group : NamesOwnGroup set f
 
 -- of a field of a brand, and of each
 abbrev pub FieldStandsAt : Schemas → (b i : ℕ) → Type 0

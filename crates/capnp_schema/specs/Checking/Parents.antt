@@ -1,7 +1,7 @@
 -- Which brand each group field names, and which field names each group brand.
-use Rattle.std.specs.Prelude.{ℕ, ◌<◌, ◌≤◌, ◌≡◌, Bool, true, false, List, length, get_or, slice_get, Option, Some, None}
-use Rattle.capnp_schema.specs.Schema.{Schemas, TypedField, fields_of, node_of, kind_target}
-use Rattle.capnp_schema.specs.Accepted.{EndsAtStruct, IsGroupBrand}
+use Rattle.std.specs.Prelude.{ℕ, ◌<◌, ◌≡◌, Bool, true, false, List, length, get_or, slice_get, Option, Some, None}
+use Rattle.capnp_schema.specs.Schema.{Schemas, TypedField, fields_of, kind_target}
+use Rattle.capnp_schema.specs.Accepted.{IsGroupBrand, StandsInStruct}
 
 abbrev pub entry_target : Option TypedField → Option ℕ
 entry_target None = None
@@ -14,10 +14,6 @@ group_target set b i = entry_target (slice_get (fields_of set b) i)
 -- each group field names a group that is there
 abbrev pub TargetsAreGroups : Schemas → Type 0
 TargetsAreGroups set = (b i g : ℕ) → group_target set b i ≡ Some g → (g < length set.brands) × IsGroupBrand set g
-
--- two brands have sections of the same sizes
-abbrev pub HaveSameSizes : Schemas → (a b : ℕ) → Type 0
-HaveSameSizes set a b = ((node_of set a).data_word_count ≡ (node_of set b).data_word_count) × ((node_of set a).pointer_count ≡ (node_of set b).pointer_count)
 
 -- a table of so many entries that names no parent
 pub record HasNoParents (table : List (Option (ℕ × ℕ))) (count : ℕ) : Type 0 where
@@ -34,10 +30,6 @@ pub record IsParentTable (set : Schemas) (table : List (Option (ℕ × ℕ))) : 
 abbrev pub entry_in : Option (Option (ℕ × ℕ)) → Option (ℕ × ℕ)
 entry_in None = None
 entry_in (Some p) = p
-
--- no more steps than there are brands lead to a struct that is no group
-abbrev pub StandsInStruct : Schemas → ℕ → Type 0
-StandsInStruct set g = (steps : ℕ) × (steps ≤ length set.brands) × EndsAtStruct steps set g
 
 -- marks of brands, each of which stands in a struct
 pub record AreKnown (set : Schemas) (known : List Bool) : Type 0 where

@@ -5,7 +5,7 @@ use Rattle.std.proofs.Common.{arith, ap, ap₂, sym, subst, ◌∙◌}
 use Rattle.std.proofs.lemmas.Option.{same_Some}
 use Rattle.capnp_schema.specs.Types.{SchemaType, StructType, struct_brand, struct_number}
 use Rattle.capnp_schema.specs.Schema.{Schemas, FieldKind, Slot, Group, TypedField, no_field, node_of, fields_of, field_at, is_member}
-use Rattle.capnp_schema.specs.Footprint.{Place, some_field, group_names, kind_names, brand_names, discriminant_names, footprint}
+use Rattle.capnp_schema.specs.Footprint.{Spot, some_field, group_names, kind_names, brand_names, discriminant_names, footprint}
 use Rattle.capnp_schema.specs.Accepted.{IsAccepted, IsGroupBrand, IsGroupOf, IsParent, HasOneParent, EndsAtStruct, GroupFits, NamesEntries}
 use Rattle.capnp_schema.specs.Laws.{struct_names, height_above, kind_height, highest, height_within, group_height, LeadsDown}
 
@@ -82,17 +82,17 @@ is_shallow set accepted b b_in = go (node_of set b).is_group refl
 
 -- ---- footprints ----
 
-some_field-same : (v w : TypedField → Place → Bool) (fs : List TypedField) (p : Place) →
+some_field-same : (v w : TypedField → Spot → Bool) (fs : List TypedField) (p : Spot) →
     ((j : ℕ) → j < length fs → v (unwrap_or (slice_get fs j) no_field) p ≡ w (unwrap_or (slice_get fs j) no_field) p) → some_field v fs p ≡ some_field w fs p
 some_field-same v w [] p h = refl
 some_field-same v w (f ∷ fs) p h = ap₂ (λ a b. a || b) (h 0 (omega arith)) (some_field-same v w fs p (λ j a. h (suc j) (omega arith)))
 
 -- one more group changes nothing
-brand_names-more : (n : ℕ) (set : Schemas) (b : ℕ) (p : Place) → IsShallow n set b → brand_names n set b p ≡ brand_names (suc n) set b p
+brand_names-more : (n : ℕ) (set : Schemas) (b : ℕ) (p : Spot) → IsShallow n set b → brand_names n set b p ≡ brand_names (suc n) set b p
 brand_names-more zero set b p h = absurd h
 brand_names-more (suc n) set b p h = go (brand_names-more n set)
   where
-    go : ((g : ℕ) (p : Place) → IsShallow n set g → brand_names n set g p ≡ brand_names (suc n) set g p) → brand_names (suc n) set b p ≡ brand_names (suc (suc n)) set b p
+    go : ((g : ℕ) (p : Spot) → IsShallow n set g → brand_names n set g p ≡ brand_names (suc n) set g p) → brand_names (suc n) set b p ≡ brand_names (suc (suc n)) set b p
     go ih = ap (λ a. a || discriminant_names (node_of set b) p) (some_field-same _ _ (fields_of set b) p (λ j a. more (field_at set b j).field.kind (field_at set b j).type (h j a)))
       where
         more : (k : FieldKind) (t : SchemaType) → ((g : ℕ) → IsGroupOf k t g → IsShallow n set g) → kind_names (brand_names n set) k t p ≡ kind_names (brand_names (suc n) set) k t p
@@ -112,7 +112,7 @@ group_fields_name_brands set accepted b i node b_in i_in is = go (field_at set b
     go (Group m) (StructType number generic) f e = refl
     go (Group m) t f e = absurd f
 
-pub group_names_its_parts : (set : Schemas) → IsAccepted set → (b i g : ℕ) (p : Place) → b < length set.brands → i < length (fields_of set b) →
+pub group_names_its_parts : (set : Schemas) → IsAccepted set → (b i g : ℕ) (p : Spot) → b < length set.brands → i < length (fields_of set b) →
     IsGroupOf (field_at set b i).field.kind (field_at set b i).type g → footprint set (field_at set b i) p ≡ struct_names set g p
 group_names_its_parts set accepted b i g p b_in i_in h = go (field_at set b i).field.kind (field_at set b i).type h (is_shallow set accepted b b_in i i_in g h)
   where
@@ -121,7 +121,7 @@ group_names_its_parts set accepted b i g p b_in i_in h = go (field_at set b i).f
     go (Group m) t h s = ap (λ o. group_names (brand_names (length set.brands) set) o p) h ∙ brand_names-more (length set.brands) set g p s
 
 -- a plain field's footprint meets no other, so where two meet both are members
-pub only_members_meet : (set : Schemas) → IsAccepted set → (b i j : ℕ) (p : Place) → b < length set.brands → i < length (fields_of set b) → j < length (fields_of set b) → i ≢ j →
+pub only_members_meet : (set : Schemas) → IsAccepted set → (b i j : ℕ) (p : Spot) → b < length set.brands → i < length (fields_of set b) → j < length (fields_of set b) → i ≢ j →
     IsTrue (footprint set (field_at set b i) p) → IsTrue (footprint set (field_at set b j) p) →
     IsTrue (is_member (field_at set b i).field) × IsTrue (is_member (field_at set b j).field)
 only_members_meet set accepted b i j p b_in i_in j_in apart here there = (
@@ -133,7 +133,7 @@ only_members_meet set accepted b i j p b_in i_in j_in apart here there = (
     member true h = refl
     member false h = absurd (h refl)
 
-pub none_names_discriminant : (set : Schemas) → IsAccepted set → (b i : ℕ) (p : Place) → b < length set.brands → i < length (fields_of set b) →
+pub none_names_discriminant : (set : Schemas) → IsAccepted set → (b i : ℕ) (p : Spot) → b < length set.brands → i < length (fields_of set b) →
     IsTrue (footprint set (field_at set b i) p) → IsFalse (discriminant_names (node_of set b) p)
 none_names_discriminant set accepted b i p b_in i_in here = go (discriminant_names (node_of set b) p) refl
   where

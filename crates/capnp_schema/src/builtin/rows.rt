@@ -2,7 +2,8 @@
 ghost use Rattle.std.specs.Prelude.{◌≡◌, map, IfOk};
 ghost use Rattle.capnp_schema.specs.Types.{seen_type};
 ghost use Rattle.capnp_schema.specs.Schema.{seen_annotation, seen_brand, seen_field, seen_kind, seen_node, seen_value};
-ghost use Rattle.capnp_schema.specs.BuiltinRows.{annotation_type, field_annotation_types, field_type, row_annotation, row_brand, row_field, row_kind, row_node, row_type, row_value};
+ghost use Rattle.capnp_schema.specs.BuiltinRows.{annotation_type, field_annotation_types, field_type, row_annotation, row_brand};
+ghost use Rattle.capnp_schema.specs.BuiltinRows.{row_field, row_kind, row_node, row_type, row_value};
 
 use crate::builtin::table::{AnnotationRow, FieldRow, KindRow, NodeRow, TypeRow, ValueRow};
 use crate::record::{

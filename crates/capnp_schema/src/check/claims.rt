@@ -1,4 +1,4 @@
-//! For rules 11 and 12: marks of the places that a tour of a struct's fields has named, and the times that are closed to what comes.
+//! For rules 11 and 12: marks of the spots that a tour of a struct's fields has named, and the times that are closed to what comes.
 ghost use Rattle.std.specs.Prelude.{true, false, ◌≡◌, ◌++◌, ◌∷◌, [], ℕ, ◌≤◌, ◌+◌, ◌^◌, length, get_or, IfOk, OnOk, IfErr};
 ghost use Rattle.capnp_device.specs.declared.error.ErrorKind.TheVariants.{OutOfMemory};
 ghost use Rattle.capnp_schema.specs.Checking.Levels.{AreOpen, AreInOrder, AreClaimed, IsClaimed};
@@ -26,7 +26,7 @@ pub(crate) struct Level {
     pub(crate) plain_end: u32,
 }
 
-/// A place of a brand's struct where two of its fields may meet, or one its discriminant.
+/// A spot of a brand's struct where two of its fields may meet, or one its discriminant.
 #[derive(Clone, Copy)]
 pub(crate) struct Meeting {
     pub(crate) brand: usize,
@@ -132,7 +132,7 @@ fn claim_range(
 }
 
 impl Claims {
-    /// Claims the places of a span; false where one of them was claimed in the plain part of a level.
+    /// Claims the spots of a span; false where one of them was claimed in the plain part of a level.
     pub(crate) fn claim(
         &mut self,
         span: Span,

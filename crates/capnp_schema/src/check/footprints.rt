@@ -64,7 +64,7 @@ fn discriminant_field(lists: &Lists, brand: usize, spans: &[Vec<Span>]) -> Optio
     None
 }
 
-/// A field of a brand other than one that names a place, and is plain where a plain one is asked for.
+/// A field of a brand other than one that names a spot, and is plain where a plain one is asked for.
 fn named_at(
     lists: &Lists,
     brand: usize,
@@ -86,7 +86,7 @@ fn named_at(
     None
 }
 
-/// Refuses where two fields of a brand, of which one is plain, meet at a place, or one the brand's discriminant.
+/// Refuses where two fields of a brand, of which one is plain, meet at a spot, or one the brand's discriminant.
 fn refuse_meeting(alloc: Global, lists: &Lists, brand: usize, spot: Spot) -> Result<()>
     requires rule3 { Rule3 (lists_seen lists.now) }
     requires within { brand < length (lists_seen lists.now).brands }

@@ -3,9 +3,9 @@ ghost use Rattle.std.specs.Prelude.{true, false, ◌≡◌, ◌<◌, ◌↔◌, 
 ghost use Rattle.capnp_device.specs.declared.error.ErrorKind.TheVariants.{OutOfMemory};
 ghost use Rattle.capnp_schema.specs.Schema.{node_of};
 ghost use Rattle.capnp_schema.specs.Entries.{lists_seen};
-ghost use Rattle.capnp_schema.specs.Accepted.{Rule1, Rule7, Rule8, GroupStands, IsGroupBrand};
+ghost use Rattle.capnp_schema.specs.Accepted.{GroupStands, HaveSameSizes, IsGroupBrand, Rule1, Rule7, Rule8, StandsInStruct};
 ghost use Rattle.capnp_schema.specs.Broken.{IsRefusalOf};
-ghost use Rattle.capnp_schema.specs.Checking.Parents.{group_target, TargetsAreGroups, HasNoParents, IsParentTable, entry_in, StandsInStruct, AreKnown, HaveSameSizes};
+ghost use Rattle.capnp_schema.specs.Checking.Parents.{group_target, TargetsAreGroups, HasNoParents, IsParentTable, entry_in, AreKnown};
 
 use crate::check::refusal::{WHOLE, refusal};
 use crate::check::unions::no_marks;

@@ -1,13 +1,11 @@
 //! Rule 6: a list default is read as the elements of its field's type.
-ghost use Rattle.std.specs.Prelude.{◌↔◌, All, IsOk, IsTrue, MatchResult};
-ghost use Rattle.capnp_wire.specs.Reading.{as_list};
-ghost use Rattle.capnp_schema.specs.Types.{element_size, seen_type};
-ghost use Rattle.capnp_schema.specs.Schema.{fields_of, seen_kind, seen_value};
+ghost use Rattle.std.specs.Prelude.{◌↔◌, All, IsTrue, MatchResult};
+ghost use Rattle.capnp_schema.specs.Types.{seen_type, seen_variant};
+ghost use Rattle.capnp_schema.specs.Schema.{ListValue, fields_of, seen_kind, seen_value};
 ghost use Rattle.capnp_schema.specs.Entries.{lists_seen};
-ghost use Rattle.capnp_schema.specs.Accepted.{KindDefault, ListReads, Rule3, root_of, ListDefaultsRead};
+ghost use Rattle.capnp_schema.specs.Accepted.{KindDefault, ListDefaultsRead, ListReads, ReadsDefault, ReadsElements, Rule3, root_of};
 ghost use Rattle.capnp_schema.specs.Broken.{IsRefusalOf};
 ghost use Rattle.capnp_schema.specs.Checking.Entry.{IsSoAt};
-ghost use Rattle.capnp_schema.specs.Checking.ListDefaults.{LayerReads, ReadsDefault};
 
 use crate::check::refusal::refusal;
 use crate::lists::Lists;
@@ -19,7 +17,7 @@ use capnp_wire::PointerReader;
 /// Whether words hold null or a list that is read as such elements.
 #[tactic(auto, using(crate::proofs::Checking::ReadDefaults::one_level, crate::specs::Facts::Layers::elements_sized))]
 fn are_read_as(words: &[u8], element: Type) -> bool
-    ensures { IsTrue result ↔ IsOk (as_list (element_size (seen_type element)) (root_of words.now) 1) }
+    ensures { IsTrue result ↔ ReadsElements (seen_type element) (root_of words.now) }
 {
     let root = PointerReader::from_words(words);
     match root.get_list(element.expected_element_size()) {
@@ -30,7 +28,7 @@ fn are_read_as(words: &[u8], element: Type) -> bool
 
 /// Whether words are read as the elements of a layer, if it is a list.
 fn layer_reads(words: &[u8], layer: TypeVariant) -> bool
-    ensures { IsTrue result ↔ LayerReads words.now layer }
+    ensures { IsTrue result ↔ ListReads (ListValue words.now) (seen_variant layer) }
 {
     match layer {
         TypeVariant::List(element) => are_read_as(words, element),

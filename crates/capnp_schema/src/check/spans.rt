@@ -3,9 +3,10 @@ ghost use Rattle.std.specs.Prelude.{true, false, ◌≡◌, ◌<◌, length, OnO
 ghost use Rattle.capnp_device.specs.declared.error.ErrorKind.TheVariants.{OutOfMemory};
 ghost use Rattle.capnp_schema.specs.Types.{seen_type};
 ghost use Rattle.capnp_schema.specs.Schema.{seen_node};
-ghost use Rattle.capnp_schema.specs.Footprint.{Place, slot_names, discriminant_names};
+ghost use Rattle.capnp_schema.specs.Footprint.{Spot as SeenSpot, slot_names, discriminant_names};
 ghost use Rattle.capnp_schema.specs.Entries.{lists_seen};
-ghost use Rattle.capnp_schema.specs.Checking.Spans.{span_names, some_span, SpansMeet, AreSpansOf, seen_spot, AddsBrand, AddsBrands, AddsField, AddsFields, AreSpansAt};
+ghost use Rattle.capnp_schema.specs.Checking.Spans.{span_names, some_span, SpansMeet, AreSpansOf, seen_spot};
+ghost use Rattle.capnp_schema.specs.Checking.Spans.{AddsBrand, AddsBrands, AddsField, AddsFields, AreSpansAt};
 
 use crate::check::groups::brand_count;
 use crate::layers::{is_pointer, struct_brand, width};
@@ -34,7 +35,7 @@ pub(crate) enum Spot {
 /// What a slot names.
 #[tactic(auto, using(crate::specs::Facts::Layers::seen_which))]
 pub(crate) fn slot_span(offset: u32, field_type: &Type) -> Span
-    ensures { (p : Place) → span_names result p ≡ slot_names offset (seen_type field_type.now) p }
+    ensures { (p : SeenSpot) → span_names result p ≡ slot_names offset (seen_type field_type.now) p }
 {
     let variant = field_type.which();
     if is_pointer(variant) {
@@ -49,7 +50,7 @@ pub(crate) fn slot_span(offset: u32, field_type: &Type) -> Span
 
 /// What the discriminant of a struct or group names: its 16 bits, none without a union.
 pub(crate) fn discriminant_span(node: &NodeRecord) -> Span
-    ensures { (p : Place) → span_names result p ≡ discriminant_names (seen_node node.now) p }
+    ensures { (p : SeenSpot) → span_names result p ≡ discriminant_names (seen_node node.now) p }
 {
     Span::Data {
         first: 16 * node.body.discriminant_offset as u64,
@@ -61,7 +62,7 @@ pub(crate) fn discriminant_span(node: &NodeRecord) -> Span
     }
 }
 
-/// Whether a span holds a place.
+/// Whether a span holds a spot.
 pub(crate) fn holds_spot(span: Span, spot: Spot) -> bool
     ensures { result ≡ true → span_names span (seen_spot spot) ≡ true }
 {
@@ -72,7 +73,7 @@ pub(crate) fn holds_spot(span: Span, spot: Spot) -> bool
     }
 }
 
-/// Whether one of the spans holds a place.
+/// Whether one of the spans holds a spot.
 pub(crate) fn some_holds(spans: &[Span], spot: Spot) -> bool
     ensures { result ≡ true → some_span spans.now (seen_spot spot) ≡ true }
 {
@@ -84,10 +85,10 @@ pub(crate) fn some_holds(spans: &[Span], spot: Spot) -> bool
     false
 }
 
-/// Whether two spans have a place in common.
+/// Whether two spans have a spot in common.
 fn span_meets(a: Span, b: Span) -> bool
-    ensures yes { result ≡ true → (p : Place) × (span_names a p ≡ true) × (span_names b p ≡ true) }
-    ensures not_met { result ≡ false → (p : Place) → span_names a p ≡ true → span_names b p ≡ false }
+    ensures yes { result ≡ true → (p : SeenSpot) × (span_names a p ≡ true) × (span_names b p ≡ true) }
+    ensures not_met { result ≡ false → (p : SeenSpot) → span_names a p ≡ true → span_names b p ≡ false }
 {
     match (a, b) {
         (
@@ -110,10 +111,10 @@ fn span_meets(a: Span, b: Span) -> bool
     }
 }
 
-/// Whether two lists of spans have a place in common.
+/// Whether two lists of spans have a spot in common.
 pub(crate) fn spans_meet(a: &[Span], b: &[Span]) -> bool
     ensures yes { result ≡ true → SpansMeet a.now b.now }
-    ensures not_met { result ≡ false → (p : Place) → some_span a.now p ≡ true → some_span b.now p ≡ false }
+    ensures not_met { result ≡ false → (p : SeenSpot) → some_span a.now p ≡ true → some_span b.now p ≡ false }
 {
     for x in a {
         for y in b {

@@ -2,7 +2,7 @@
 ghost use Rattle.std.specs.Prelude.{true, false, ◌≡◌, [], ◌<◌, ◌≤◌, ◌+◌, ◌^◌, ◌-◌, cond, length, Some, IfOk, IfErr};
 ghost use Rattle.capnp_device.specs.declared.error.ErrorKind.TheVariants.{OutOfMemory};
 ghost use Rattle.capnp_schema.specs.Schema.{fields_of, is_member};
-ghost use Rattle.capnp_schema.specs.Footprint.{Place};
+ghost use Rattle.capnp_schema.specs.Footprint.{Spot};
 ghost use Rattle.capnp_schema.specs.Entries.{lists_seen};
 ghost use Rattle.capnp_schema.specs.Accepted.{Rule11, Rule12};
 ghost use Rattle.capnp_schema.specs.Checking.Parents.{group_target};
@@ -22,7 +22,7 @@ use std::alloc::Global;
 /// A tour through the groups of one struct after another.
 #[derive(Drop)]
 pub(crate) struct Tour {
-    /// When each place was named last, also by structs before.
+    /// When each spot was named last, also by structs before.
     pub(crate) claims: Claims,
     /// The levels below the one that is gone through.
     pub(crate) below: Vec<Level>,
@@ -102,11 +102,11 @@ fn enter(lists: &Lists, tour: &mut Tour, top: Level, group: usize) -> Result<Ste
     Ok(Step::At(entered(group, now)))
 }
 
-/// The tour goes past a slot, whose places are claimed.
+/// The tour goes past a slot, whose spots are claimed.
 fn take_slot(lists: &Lists, tour: &mut Tour, top: Level, field: usize, span: Span) -> Result<Step>
     requires stands { TourStands (lists_seen lists.now) tour.old top }
     requires current { IsCurrent (lists_seen lists.now) top.brand top.steps field }
-    requires names { (p : Place) → Names (lists_seen lists.now) top.brand field p → span_names span p ≡ true }
+    requires names { (p : Spot) → Names (lists_seen lists.now) top.brand field p → span_names span p ≡ true }
     requires small { top.steps < 2 ^ 62 }
     ensures stands { IfOk result (λ step. StepStands (lists_seen lists.now) tour.new step) }
     ensures refused { IfErr result (λ e. e.kind ≡ OutOfMemory) }

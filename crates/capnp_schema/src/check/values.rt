@@ -4,7 +4,8 @@ ghost use Rattle.capnp_wire.specs.Tree.{Null};
 ghost use Rattle.capnp_wire.specs.Words.{first_fault};
 ghost use Rattle.capnp_schema.specs.Schema.{Enumerant, Field, seen_annotations, seen_enumerant, seen_field, seen_value};
 ghost use Rattle.capnp_schema.specs.Entries.{lists_seen};
-ghost use Rattle.capnp_schema.specs.Accepted.{AreWords, Decodes, DefaultStands, EachOfEnum, HasWords, HaveAllWords, HaveWords, IsListOrNull, IsStructOrNull, NodeHasWords, Rule3, Rule6, root_of};
+ghost use Rattle.capnp_schema.specs.Accepted.{AreWords, Decodes, DefaultStands, EachOfEnum, HasWords, HaveAllWords, HaveWords};
+ghost use Rattle.capnp_schema.specs.Accepted.{IsListOrNull, IsStructOrNull, NodeHasWords, Rule3, Rule6, root_of};
 ghost use Rattle.capnp_schema.specs.Broken.{IsRefusalOf};
 ghost use Rattle.capnp_schema.specs.Checking.Entry.{IsSoAt, AllOrBroken};
 

@@ -1,11 +1,11 @@
 //! Annotations: those of a struct, a field, an enum or an enumerant.
-ghost use Rattle.std.specs.Prelude.{◌≡◌, ◌<◌, ◌^◌, All, length, map};
-ghost use Rattle.capnp_schema.specs.Accepted.{NamesEntries};
+ghost use Rattle.std.specs.Prelude.{◌≡◌, ◌<◌, ◌^◌, length, map};
+ghost use Rattle.capnp_schema.specs.Accepted.{AllName, NamesEntries};
 ghost use Rattle.capnp_schema.specs.Entries.{lists_seen};
 ghost use Rattle.capnp_schema.specs.Named.{NamesEntries-prop, name_entries-prop};
 ghost use Rattle.capnp_schema.specs.Types.{seen_type};
 
-use crate::check::types::{child_at, enumerant_in};
+use crate::check::lengths::{child_at, enumerant_in};
 use crate::record::AnnotationRecord;
 use crate::schema::positions::position_of;
 use crate::set::SchemaSet;
@@ -64,7 +64,7 @@ pub struct AnnotationList<'s> {
     types: &'s [Type],
     ghost have_types: { length types.now ≡ length stored.now },
     ghost are_few: { length stored.now < 2 ^ 29 },
-    ghost are_named: { All (NamesEntries (lists_seen set.now)) (map seen_type types.now) } by { name_entries-prop (lists_seen set.now) (map seen_type types.now) },
+    ghost are_named: { AllName (lists_seen set.now) (map seen_type types.now) } by { name_entries-prop (lists_seen set.now) (map seen_type types.now) },
 }
 
 impl<'s> AnnotationList<'s> {
@@ -73,7 +73,8 @@ impl<'s> AnnotationList<'s> {
     ghost use Rattle.capnp_base.specs.Taking.{indices};
     ghost use Rattle.capnp_base.specs.ListIter as list_iter;
     ghost use Rattle.capnp_schema.specs.Schema.{enum_at, field_at, node_of, seen_annotations};
-    ghost use Rattle.capnp_schema.specs.Annotated.{annotations_of, enum_annotations, enumerant_annotations, enumerant_at, field_annotations, first_of_id, struct_annotations, with_types};
+    ghost use Rattle.capnp_schema.specs.Annotated.{annotations_of, enum_annotations, enumerant_annotations, enumerant_at};
+    ghost use Rattle.capnp_schema.specs.Annotated.{field_annotations, first_of_id, struct_annotations, with_types};
     ghost use Rattle.capnp_schema.specs.AnnotationLists.{annotation_in, annotation_set, annotations_in, annotations_set};
 
     fn new(
@@ -83,7 +84,7 @@ impl<'s> AnnotationList<'s> {
     ) -> AnnotationList<'s>
         requires have_types { length types.now ≡ length stored.now }
         requires are_few { length stored.now < 2 ^ 29 }
-        requires are_named { All (NamesEntries (lists_seen set.now)) (map seen_type types.now) }
+        requires are_named { AllName (lists_seen set.now) (map seen_type types.now) }
         ensures entries { annotations_in result ≡ with_types (seen_annotations stored.now) (map seen_type types.now) }
         ensures set { annotations_set result ≡ lists_seen set.now }
     {
@@ -239,15 +240,14 @@ impl<'s> IndexMove<u32, Annotation<'s>> for AnnotationList<'s> {
 }
 
 impl<'s> IntoIterator for AnnotationList<'s> {
-    ghost use Rattle.capnp_base.specs.Taking.{indices};
-    ghost use Rattle.capnp_base.specs.ListIter as list_iter;
+    ghost use Rattle.capnp_base.specs.ListIter.{GoesOverAll};
     ghost use Rattle.capnp_schema.specs.AnnotationLists.{annotations_in};
 
     type Item = Annotation<'s>;
 
     type IntoIter = ListIter<AnnotationList<'s>, Annotation<'s>>;
 
-    ghost into_iter_gives = { λ list items. (list_iter.source items ≡ list) × (list_iter.to_come items ≡ indices 0 (length (annotations_in list))) };
+    ghost into_iter_gives = { λ list items. GoesOverAll list (length (annotations_in list)) items };
 
     fn into_iter(self) -> ListIter<AnnotationList<'s>, Annotation<'s>> {
         self.iter()

@@ -196,15 +196,14 @@ impl<'s> IndexMove<u16, Enumerant<'s>> for EnumerantList<'s> {
 }
 
 impl<'s> IntoIterator for EnumerantList<'s> {
-    ghost use Rattle.capnp_base.specs.Taking.{indices};
-    ghost use Rattle.capnp_base.specs.ShortListIter as short_list_iter;
+    ghost use Rattle.capnp_base.specs.ShortListIter.{GoesOverAll};
     ghost use Rattle.capnp_schema.specs.Enumerants.{enumerants_in};
 
     type Item = Enumerant<'s>;
 
     type IntoIter = ShortListIter<EnumerantList<'s>, Enumerant<'s>>;
 
-    ghost into_iter_gives = { λ list items. (short_list_iter.source items ≡ list) × (short_list_iter.to_come items ≡ indices 0 (length (enumerants_in list))) };
+    ghost into_iter_gives = { λ list items. GoesOverAll list (length (enumerants_in list)) items };
 
     fn into_iter(self) -> ShortListIter<EnumerantList<'s>, Enumerant<'s>> {
         self.iter()

@@ -69,7 +69,7 @@ impl<'s> IndexMove<u16, Field<'s>> for FieldList<'s> {
 }
 
 impl<'s> IntoIterator for FieldList<'s> {
-    ghost use Rattle.capnp_base.specs.ShortListIter.{source, to_come};
+    ghost use Rattle.capnp_base.specs.ShortListIter.{GoesOverAll};
     ghost use Rattle.capnp_schema.specs.StructHandles.{struct_fields};
     ghost use Rattle.capnp_schema.specs.FieldLists.{list_schema};
 
@@ -77,7 +77,7 @@ impl<'s> IntoIterator for FieldList<'s> {
 
     type IntoIter = ShortListIter<FieldList<'s>, Field<'s>>;
 
-    ghost into_iter_gives = { λ l items. (source items ≡ l) × (to_come items ≡ indices 0 (length (struct_fields (list_schema l)))) };
+    ghost into_iter_gives = { λ l items. GoesOverAll l (length (struct_fields (list_schema l))) items };
 
     fn into_iter(self) -> ShortListIter<FieldList<'s>, Field<'s>> {
         self.iter()

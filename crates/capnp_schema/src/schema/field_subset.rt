@@ -74,14 +74,14 @@ impl<'s> IndexMove<u16, Field<'s>> for FieldSubset<'s> {
 }
 
 impl<'s> IntoIterator for FieldSubset<'s> {
-    ghost use Rattle.capnp_base.specs.ShortListIter.{source, to_come};
+    ghost use Rattle.capnp_base.specs.ShortListIter.{GoesOverAll};
     ghost use Rattle.capnp_schema.specs.FieldLists.{subset_indices};
 
     type Item = Field<'s>;
 
     type IntoIter = ShortListIter<FieldSubset<'s>, Field<'s>>;
 
-    ghost into_iter_gives = { λ l items. (source items ≡ l) × (to_come items ≡ indices 0 (length (subset_indices l))) };
+    ghost into_iter_gives = { λ l items. GoesOverAll l (length (subset_indices l)) items };
 
     fn into_iter(self) -> ShortListIter<FieldSubset<'s>, Field<'s>> {
         self.iter()

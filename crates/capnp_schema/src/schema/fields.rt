@@ -160,7 +160,8 @@ impl<'s> Field<'s> {
     /// sections of the field's schema.
     #[inline(always)]
     pub fn plan(&self) -> SlotPlan
-        ensures is { result ≡ plan_of (set_of (schema_of self.now)) (number_of (schema_of self.now)) (struct_field (schema_of self.now) (index_of self.now)) }
+        ensures is { result ≡ plan_of (set_of (schema_of self.now)) (number_of (schema_of self.now))
+            (struct_field (schema_of self.now) (index_of self.now)) }
         ensures stands { IsPlan (set_of (schema_of self.now)) (number_of (schema_of self.now)) (struct_field (schema_of self.now) (index_of self.now)) result }
         ensures group { IfGroup result.place (LeadsToGroup (set_of (schema_of self.now)) (number_of (schema_of self.now))) }
     {

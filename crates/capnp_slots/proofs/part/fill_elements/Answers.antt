@@ -12,7 +12,7 @@ use Rattle.capnp_schema.specs.Facts.Layers.{seen_which}
 use Rattle.capnp_schema.specs.Schema.{Schemas}
 use Rattle.capnp_schema.specs.StructHandles.{number_of}
 use Rattle.capnp_schema.specs.Types.{SchemaType, StructType, seen_type, seen_variant}
-use Rattle.capnp_records.specs.Writes.Slots.{brand_size}
+use Rattle.capnp_schema.specs.Plan.{brand_size}
 use Rattle.capnp_slots.specs.Fills.{HoldsThere, IsListFilled}
 use Rattle.capnp_slots.proofs.Filled.{is_plain}
 use Rattle.capnp_slots.proofs.FilledSlots.{always, made-filled}

@@ -7,7 +7,7 @@ use Rattle.capnp_schema.specs.Entries.{lists_seen}
 use Rattle.capnp_schema.specs.Facts.Layers.{seen_which}
 use Rattle.capnp_schema.specs.StructHandles.{number_of, set_of}
 use Rattle.capnp_schema.specs.Types.{seen_variant}
-use Rattle.capnp_records.specs.Writes.Slots.{brand_size}
+use Rattle.capnp_schema.specs.Plan.{brand_size}
 use Rattle.capnp_slots.specs.Fields.{field_set}
 use Rattle.capnp_slots.proofs.Filled.{same-there}
 use Rattle.capnp_slots.proofs.FilledSlots.{always, data-part, list-part, part-filled, part-made, struct-part, text-part, untyped-part}

@@ -4,7 +4,7 @@ use Rattle.capnp_wire.specs.Objects.{struct_object_tree}
 use Rattle.capnp_wire.specs.Reading.{is_null_tree}
 use Rattle.capnp_wire.specs.Tree.{StructTree}
 use Rattle.capnp_schema.specs.StructHandles.{number_of}
-use Rattle.capnp_records.specs.Writes.Slots.{brand_size}
+use Rattle.capnp_schema.specs.Plan.{brand_size}
 use Rattle.capnp_slots.proofs.FilledSlots.{always, part-made}
 use Rattle.capnp_slots.proofs.StandingSlots.{struct-at}
 use Rattle.capnp_slots.proofs.part.fill_struct_at.Goals as goal

@@ -1,5 +1,5 @@
 use Rattle.std.proofs.Common.{arith}
-use Rattle.capnp_schema.specs.Checking.ListDefaults.{ReadsDefault}
+use Rattle.capnp_schema.specs.Accepted.{ReadsDefault}
 use Rattle.capnp_schema.proofs.EntryWalk.{all_stand, more_stand, none_stand}
 use Rattle.capnp_schema.proofs.check.list_defaults.check_brand_defaults.Goals as goal
 

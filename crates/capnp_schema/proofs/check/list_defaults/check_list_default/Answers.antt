@@ -1,7 +1,7 @@
 use Rattle.std.proofs.Common.{arith, sym}
 use Rattle.capnp_schema.specs.Entries.{lists_seen, seen_typed}
 use Rattle.capnp_schema.specs.Schema.{fields_of}
-use Rattle.capnp_schema.specs.Checking.ListDefaults.{ReadsDefault}
+use Rattle.capnp_schema.specs.Accepted.{ReadsDefault}
 use Rattle.capnp_schema.proofs.EntryWalk.{is_so_here}
 use Rattle.capnp_schema.proofs.FieldCounts.{index_fits}
 use Rattle.capnp_schema.proofs.Checking.ReadDefaults.{field_inside, unread_at}

@@ -2,7 +2,7 @@ use Rattle.std.proofs.Common.{ℕ, ◌<◌}
 use Rattle.std.specs.Prelude.{All}
 use Rattle.capnp_schema.specs.Entries.{lists_seen}
 use Rattle.capnp_schema.specs.Schema.{fields_of}
-use Rattle.capnp_schema.specs.Checking.ListDefaults.{ReadsDefault}
+use Rattle.capnp_schema.specs.Accepted.{ReadsDefault}
 use Rattle.capnp_schema.proofs.check.list_defaults.check_list_defaults.Given as goal
 
 abbrev pub invariant-loop-b : goal.invariant-loop-b

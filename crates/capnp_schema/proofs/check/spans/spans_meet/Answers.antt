@@ -5,7 +5,7 @@ use Rattle.capnp_schema.proofs.check.spans.spans_meet.Goals as goal
 
 pub returns-then-span_meets-clause-yes : goal.returns-then-span_meets-clause-yes
 returns-then-span_meets-clause-yes c = λ h. let m = c.if-span_meets.ensures.yes refl in record {
-  place = m.0;
+  spot = m.0;
   first = some_from_at _ _ _ _ c.loop-x-test.true m.1;
   second = some_from_at _ _ _ _ c.loop-y-test.true m.2;
 }
