@@ -4,6 +4,7 @@ ghost use Rattle.capnp_wire.specs.Locate.{NoTarget, target_at};
 ghost use Rattle.capnp_wire.specs.Backing.{segment_list};
 ghost use Rattle.capnp_wire.specs.Tree.{Composite, Null, tree_count};
 ghost use Rattle.capnp_wire.specs.Found.{element_structs, found_tree, parts_tree, pointer_tree, pointer_trees};
+ghost use Rattle.capnp_wire.specs.Objects.{object_tree};
 ghost use Rattle.capnp_wire.specs.Words.{first_fault, first_fault_of_all, first_fault_of_elements, words_below_all, words_of, words_of_all, words_of_struct};
 ghost use Rattle.capnp_wire.specs.Total.{IsSize, IsSizeRefusal, Totals, size_of_total, size_read};
 
@@ -11,6 +12,8 @@ use crate::block::{Elements, count_elements, get_element, have_no_pointers};
 use crate::bytes::get_word;
 use crate::fault::{Fault, refuse};
 use crate::found::{Found, StructParts};
+use crate::look_objects::look_at_object;
+use crate::object::Object;
 use crate::pointer::{Pointer, look};
 use crate::pointers::{Pointers, count_pointers, get_pointer};
 use crate::segments::Segments;
@@ -68,7 +71,19 @@ fn total_pointer(pointer: Pointer<'_>) -> Total
     if is_null(pointer) {
         return Ok(0);
     }
-    total_found(look(pointer))
+    match pointer {
+        Pointer::Object(object) => total_object(object),
+        _ => total_found(look(pointer)),
+    }
+}
+
+/// The words of an object. It is never inlined, so that a loop over words has the code for words alone.
+#[cycle(total)]
+#[inline(never)]
+fn total_object(object: &Object) -> Total
+    ensures { Totals result (first_fault (object_tree object.now)) (words_of (object_tree object.now)) }
+{
+    total_found(look_at_object(object))
 }
 
 /// The words of what was found.
