@@ -170,27 +170,7 @@ reached_all set out brands p = ap (λ x. some_span out p || x) (none brands) ∙
     none [] = refl
     none (b ∷ bs) = none bs
 
--- ---- brands, by the brands of their groups ----
-
--- before the first of them
-pub no_brand_yet : (groups : ℕ) (set : Schemas) (out : List Span) (brands : List ℕ) (p : Spot)
-    → (reached groups set out [] p || some_brand (suc groups) set brands p) ≡ reached (suc groups) set out brands p
-no_brand_yet groups set out brands p = ap (λ x. x || some_brand (suc groups) set brands p) (or_none (some_span out p))
-
--- one of the loop
-pub one_brand : (groups : ℕ) (set : Schemas) (bs : List ℕ) (i b : ℕ) (p : Spot) (before after whole : Bool) → i < length bs → b ≡ get_or bs i b
-    → after ≡ (before || brand_names (suc groups) set b p)
-    → (before || some_brand (suc groups) set (drop i bs) p) ≡ whole
-    → (after || some_brand (suc groups) set (drop (i + 1) bs) p) ≡ whole
-one_brand groups set bs i b p before after whole inside is one kept =
-    rw (one, or_assoc, add-one) (ap (λ x. before || x) (sym (parts bs i inside is)) ∙ kept)
-  where
-    parts : (bs : List ℕ) (i : ℕ) → i < length bs → b ≡ get_or bs i b → some_brand (suc groups) set (drop i bs) p ≡ (brand_names (suc groups) set b p || some_brand (suc groups) set (drop (suc i) bs) p)
-    parts [] i h e = absurd (omega arith)
-    parts (x ∷ bs) zero h e = ap (λ y. brand_names (suc groups) set y p || some_brand (suc groups) set bs p) (sym e)
-    parts (x ∷ bs) (suc i) h e = parts bs i (omega arith) e
-
--- after the last
+-- brands by the brands of their groups, after the last of them
 pub all_brands : (groups : ℕ) (set : Schemas) (bs : List ℕ) (i : ℕ) (p : Spot) (reaches whole : Bool) → length bs ≤ i
     → (reaches || some_brand (suc groups) set (drop i bs) p) ≡ whole → reaches ≡ whole
 all_brands groups set bs i p reaches whole past kept = sym (or_none reaches) ∙ ap (λ x. reaches || x) (sym (left bs i past)) ∙ kept
