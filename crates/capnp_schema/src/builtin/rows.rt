@@ -53,22 +53,22 @@ fn type_of(row: TypeRow) -> Type
 fn value_of(alloc: Global, row: ValueRow) -> Result<ValueRecord, AllocError>
     ensures { IfOk result (λ v. seen_value v ≡ row_value row) }
 {
-    Ok(match row {
-        ValueRow::Void => ValueRecord::Void,
-        ValueRow::Bool(x) => ValueRecord::Bool(x),
-        ValueRow::Int8(x) => ValueRecord::Int8(x),
-        ValueRow::Int32(x) => ValueRecord::Int32(x),
-        ValueRow::UInt8(x) => ValueRecord::UInt8(x),
-        ValueRow::UInt16(x) => ValueRecord::UInt16(x),
-        ValueRow::UInt32(x) => ValueRecord::UInt32(x),
-        ValueRow::UInt64(x) => ValueRecord::UInt64(x),
-        ValueRow::Enum(x) => ValueRecord::Enum(x),
-        ValueRow::Text(x) => ValueRecord::Text(x.to_vec(alloc)?),
-        ValueRow::Data(x) => ValueRecord::Data(x.to_vec(alloc)?),
-        ValueRow::Struct(x) => ValueRecord::Struct(x.to_vec(alloc)?),
-        ValueRow::List(x) => ValueRecord::List(x.to_vec(alloc)?),
-        ValueRow::AnyPointer(x) => ValueRecord::AnyPointer(x.to_vec(alloc)?),
-    })
+    match row {
+        ValueRow::Void => Ok(ValueRecord::Void),
+        ValueRow::Bool(x) => Ok(ValueRecord::Bool(x)),
+        ValueRow::Int8(x) => Ok(ValueRecord::Int8(x)),
+        ValueRow::Int32(x) => Ok(ValueRecord::Int32(x)),
+        ValueRow::UInt8(x) => Ok(ValueRecord::UInt8(x)),
+        ValueRow::UInt16(x) => Ok(ValueRecord::UInt16(x)),
+        ValueRow::UInt32(x) => Ok(ValueRecord::UInt32(x)),
+        ValueRow::UInt64(x) => Ok(ValueRecord::UInt64(x)),
+        ValueRow::Enum(x) => Ok(ValueRecord::Enum(x)),
+        ValueRow::Text(x) => Ok(ValueRecord::Text(x.to_vec(alloc)?)),
+        ValueRow::Data(x) => Ok(ValueRecord::Data(x.to_vec(alloc)?)),
+        ValueRow::Struct(x) => Ok(ValueRecord::Struct(x.to_vec(alloc)?)),
+        ValueRow::List(x) => Ok(ValueRecord::List(x.to_vec(alloc)?)),
+        ValueRow::AnyPointer(x) => Ok(ValueRecord::AnyPointer(x.to_vec(alloc)?)),
+    }
 }
 
 fn kind_of(alloc: Global, row: KindRow) -> Result<FieldKind, AllocError>
