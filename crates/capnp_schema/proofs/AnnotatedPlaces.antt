@@ -11,7 +11,7 @@ use Rattle.capnp_schema.specs.Schema.{Schemas, Node, Brand, Enum, Enumerant, Fie
 use Rattle.capnp_schema.specs.Accepted.{IsAccepted, EnumHasTypes, HasFewAnnotations, HasFewEnumerants, HasFewFields}
 use Rattle.capnp_schema.specs.Annotated.{with_types, annotations_of, child_types, no_enumerant, enumerant_at, struct_annotations, field_annotations, enum_annotations, enumerant_annotations}
 use Rattle.capnp_schema.proofs.AnnotatedLemmas.{annotations_are}
-use Rattle.capnp_schema.proofs.EntryWalk.{entry_has}
+use Rattle.capnp_schema.proofs.EntryWalk.{entry_has, seen_at}
 use Rattle.capnp_schema.proofs.GroupTargets.{node_past}
 use Rattle.capnp_schema.specs.Facts.Fields.{typed_nothing}
 
@@ -147,7 +147,7 @@ module _ (set : Schemas) (accepted : IsAccepted set) where
 -- ---- as they are found ----
 
 pub child_seen : (children : List (Vec TypeHandle Global)) (types : Vec TypeHandle Global) (i : ℕ) → Some types ≡ slice_get children i → Some (map seen_type types.items) ≡ slice_get (map (λ (ts : Vec TypeHandle Global). map seen_type ts.items) children) i
-child_seen children types i e = ap (option_map (λ (ts : Vec TypeHandle Global). map seen_type ts.items)) e ∙ sym (slice_get-map (λ (ts : Vec TypeHandle Global). map seen_type ts.items) children i)
+child_seen children types i e = seen_at (λ (ts : Vec TypeHandle Global). map seen_type ts.items) children i types e
 
 pub no_child_seen : (children : List (Vec TypeHandle Global)) (i : ℕ) → None ≡ slice_get children i → None ≡ slice_get (map (λ (ts : Vec TypeHandle Global). map seen_type ts.items) children) i
 no_child_seen children i e = ap (option_map (λ (ts : Vec TypeHandle Global). map seen_type ts.items)) e ∙ sym (slice_get-map (λ (ts : Vec TypeHandle Global). map seen_type ts.items) children i)

@@ -9,7 +9,7 @@ use Rattle.capnp_schema.specs.StructHandles.{IsStruct, generic_at, number_of, se
 use Rattle.capnp_schema.specs.declared.schema.structs.StructSchema.{StructSchema}
 use Rattle.capnp_schema.specs.declared.lists.Lists.{Lists}
 use Rattle.capnp_schema.proofs.EntryWalk.{at_node}
-use Rattle.capnp_schema.proofs.FieldWalk.{found_node}
+use Rattle.capnp_schema.proofs.FoundEntries.{found_node}
 use Rattle.capnp_schema.proofs.GroupTargets.{node_missing}
 use Rattle.capnp_schema.proofs.LookUps.{records_inside}
 

@@ -1,5 +1,6 @@
 -- Lemmas that the steps of the check are proved by.
 pub mod BrandRefusals
+pub mod FieldWalk
 pub mod GroupChains
 pub mod GroupTable
 pub mod InnermostTypes

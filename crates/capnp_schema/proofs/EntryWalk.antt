@@ -6,7 +6,7 @@ use Rattle.std.proofs.lemmas.Bool.{cases_lt}
 use Rattle.std.proofs.lemmas.Option.{get_or_from_slice_get, slice_get-get_or, slice_get-map, slice_get_read, slice_get_within, same_Some}
 use Rattle.capnp_schema.specs.Schema.{Schemas, Node, no_node, node_at}
 use Rattle.capnp_schema.specs.Broken.{EntryBreaks}
-use Rattle.capnp_schema.specs.Checking.Entry.{IsSoAt, AllOrBroken}
+use Rattle.capnp_schema.specs.Checking.Entry.{IsSoAt}
 
 -- P of the first so many entries
 abbrev pub StandBelow : {A : Type 0} → List A → (A → Type 0) → ℕ → Type 0
@@ -50,15 +50,10 @@ module _ {A : Type 0} (entries : List A) (P : A → Type 0) where
   pub breaks_all : (n : ℕ) → EntryBreaks entries P n → All P entries → ⊥
   breaks_all n b all = b.broken (entry_has P entries n b.entry all (sym b.is))
 
--- an entry that is read, as specs see it
-pub seen_read : {A B : Type 0} (v : A → B) (xs : List A) (i : ℕ) (x : A) → i < length xs → x ≡ get_or xs i x → Some (v x) ≡ slice_get (map v xs) i
-seen_read v xs i x h e = sym (slice_get-map v xs i ∙ ap (option_map v) (slice_get_read xs (length xs) i x refl h e))
+-- an entry that is found, as specs see it
+pub seen_at : {A B : Type 0} (v : A → B) (xs : List A) (i : ℕ) (x : A) → Some x ≡ slice_get xs i → Some (v x) ≡ slice_get (map v xs) i
+seen_at v xs i x is = ap (option_map v) is ∙ sym (slice_get-map v xs i)
 
--- what an answer says of entries as they are kept, it says of them as specs see them
-pub entries_seen : {A B : Type 0} (v : A → B) (P : B → Type 0) (xs : List A) (r : Option ℕ) → AllOrBroken xs (λ (x : A). P (v x)) r → AllOrBroken (map v xs) P r
-entries_seen {A} v P xs None all = λ k d h. by_entry k d (slice_get xs k) refl (slice_get-get_or (map v xs) k d h)
-  where
-    by_entry : (k : ℕ) (d : _) (o : Option A) → slice_get xs k ≡ o → slice_get (map v xs) k ≡ Some (get_or (map v xs) k d) → P (get_or (map v xs) k d)
-    by_entry k d None e at = let no : None ≡ Some (get_or (map v xs) k d) = ap (option_map v) (sym e) ∙ sym (slice_get-map v xs k) ∙ at in cc
-    by_entry k d (Some x) e at = subst P (same_Some _ _ (ap (option_map v) (sym e) ∙ sym (slice_get-map v xs k) ∙ at)) (entry_has (λ (y : A). P (v y)) xs k x all (sym e))
-entries_seen v P xs (Some i) breaks = record { entry = v breaks.entry; is = slice_get-map v xs i ∙ ap (option_map v) breaks.is; broken = breaks.broken }
+-- and one that is read
+pub seen_read : {A B : Type 0} (v : A → B) (xs : List A) (i : ℕ) (x : A) → i < length xs → x ≡ get_or xs i x → Some (v x) ≡ slice_get (map v xs) i
+seen_read v xs i x h e = seen_at v xs i x (sym (slice_get_read xs (length xs) i x refl h e))

@@ -14,7 +14,7 @@ pub mod EntryTables
 pub mod EntryWalk
 pub mod EnumLemmas
 pub mod FieldCounts
-pub mod FieldWalk
+pub mod FoundEntries
 pub mod GroupRows
 pub mod GroupTargets
 pub mod GroupsDown

@@ -16,7 +16,7 @@ use Rattle.capnp_schema.specs.declared.lists.Lists.{Lists}
 use Rattle.capnp_schema.specs.declared.plan.SlotPlan.{SlotPlan}
 use Rattle.capnp_schema.specs.declared.tables.FieldTables.{FieldTables}
 use Rattle.capnp_schema.specs.Tables.{AreTables, no_plan}
-use Rattle.capnp_schema.proofs.FieldWalk.{found_field, found_node}
+use Rattle.capnp_schema.proofs.FoundEntries.{found_field, found_node}
 use Rattle.capnp_schema.proofs.GroupTargets.{no_fields}
 use Rattle.capnp_schema.proofs.Plans.{lies_in_node, plans_stand}
 use Rattle.capnp_schema.specs.Facts.Fields.{typed_nothing}

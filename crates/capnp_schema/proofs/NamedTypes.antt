@@ -17,7 +17,7 @@ use Rattle.capnp_schema.specs.declared.lists.Lists.{Lists}
 use Rattle.capnp_schema.specs.declared.lists.TypedField.{TypedField as TypedRecord}
 use Rattle.capnp_schema.proofs.AnnotatedPlaces.{child_seen}
 use Rattle.capnp_schema.proofs.EntryWalk.{entry_has}
-use Rattle.capnp_schema.proofs.FieldWalk.{found_field}
+use Rattle.capnp_schema.proofs.FoundEntries.{found_field}
 use Rattle.capnp_schema.proofs.GroupTargets.{no_fields}
 
 -- a brand with a field is there

@@ -3,7 +3,7 @@
 ghost use Rattle.std.specs.Prelude.{[], ◌∷◌, ◌≡◌, length, map, IfErr, IfOk, replicate};
 ghost use Rattle.capnp_device.specs.declared.error.ErrorKind.TheVariants.{OutOfMemory};
 ghost use Rattle.capnp_schema.specs.Types.{seen_type};
-ghost use Rattle.capnp_schema.specs.Schema.{seen_brand, seen_enum, seen_enumerant, seen_node, seen_schemas};
+ghost use Rattle.capnp_schema.specs.Schema.{Enumerant, seen_enum, seen_enumerant, seen_schemas};
 ghost use Rattle.capnp_schema.specs.Accepted.{IsAccepted};
 ghost use Rattle.capnp_schema.specs.Builtin as set;
 ghost use Rattle.capnp_schema.specs.Entries.{lists_seen};
@@ -11,7 +11,7 @@ ghost use Rattle.capnp_schema.specs.Entries.{lists_seen};
 mod rows;
 mod table;
 
-use crate::builtin::rows::{brands_of, nodes_of};
+use crate::builtin::rows::{MadeOf, all_made};
 use crate::builtin::table::{NODES, SIZES};
 use crate::record::{AnnotationTypes, BrandRecord, EnumRecord, EnumerantRecord, NodeRecord};
 use crate::set::SchemaSet;
@@ -19,18 +19,20 @@ use capnp_base::introspect::Type;
 use capnp_wire::error::Error;
 use std::alloc::{AllocError, Global};
 
-fn enumerants_of(alloc: Global, names: &[&str]) -> Result<Vec<EnumerantRecord>, AllocError>
-    ensures { IfOk result (λ v. map seen_enumerant v.items ≡ map (λ name. set.enumerant name.now) names.now) }
-{
-    let mut out = Vec::new(alloc);
-    for name in names {
+impl MadeOf<&'static str> for EnumerantRecord {
+    ghost Seen = { Enumerant };
+
+    ghost seen = { seen_enumerant };
+
+    ghost of_row = { λ name. set.enumerant name.now };
+
+    fn made(alloc: Global, name: &&'static str) -> Result<EnumerantRecord, AllocError> {
         let name = String::from_str(alloc, name)?;
-        out.push(EnumerantRecord {
+        Ok(EnumerantRecord {
             name,
             annotations: Vec::new(alloc),
-        })?;
+        })
     }
-    Ok(out)
 }
 
 /// As many lists of types, without any.
@@ -51,7 +53,7 @@ fn element_size_enum(alloc: Global) -> Result<EnumRecord, AllocError>
         id: 200,
         display_name: String::from_str(alloc, "ElementSize")?,
         annotations: Vec::new(alloc),
-        enumerants: enumerants_of(alloc, &SIZES)?,
+        enumerants: all_made(alloc, &SIZES)?,
         annotation_types: AnnotationTypes {
             own: Vec::new(alloc),
             children: no_types(alloc, 8)?,
@@ -81,8 +83,8 @@ pub fn records(alloc: Global) -> Result<(Vec<NodeRecord>, Vec<BrandRecord>, Vec<
     ensures accepted { IfOk result (λ r. IsAccepted (seen_schemas r.0.items r.1.items r.2.items)) }
     ensures err { IfErr result (λ e. e.kind ≡ OutOfMemory) }
 {
-    let nodes = nodes_of(alloc, &NODES)?;
-    let brands = brands_of(alloc, &NODES)?;
+    let nodes = all_made(alloc, &NODES)?;
+    let brands = all_made(alloc, &NODES)?;
     let enums = enums(alloc)?;
     Ok((nodes, brands, enums))
 }

@@ -97,23 +97,18 @@ fn count_typed(fields: &[FieldRecord], types: &[Type]) -> usize
 fn typed_at<'r>(fields: &'r [FieldRecord], types: &'r [Type], i: usize) -> Option<TypedField<'r>>
     ensures { option_map seen_typed result ≡ slice_get (typed (map seen_field fields.now) (map seen_type types.now)) i }
 {
-    let Some(field) = record_at(fields, i) else {
+    let Some(field) = entry_at(fields, i) else {
         return None;
     };
-    let Some(field_type) = type_at(types, i) else {
+    let Some(field_type) = entry_at(types, i) else {
         return None;
     };
     Some(TypedField { field, field_type })
 }
 
-fn record_at(fields: &[FieldRecord], i: usize) -> Option<&FieldRecord>
-    ensures { option_copied result ≡ slice_get fields.now i }
+/// The entry of a number, none past the last.
+pub(crate) fn entry_at<T>(entries: &[T], i: usize) -> Option<&T>
+    ensures { option_copied result ≡ slice_get entries.now i }
 {
-    fields.get(i)
-}
-
-fn type_at(types: &[Type], i: usize) -> Option<&Type>
-    ensures { option_copied result ≡ slice_get types.now i }
-{
-    types.get(i)
+    entries.get(i)
 }

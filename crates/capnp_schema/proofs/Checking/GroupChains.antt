@@ -6,10 +6,11 @@ use Rattle.std.proofs.lemmas.List.{get_or-set_other}
 use Rattle.std.proofs.lemmas.Option.{same_Some, some_pair_parts}
 use Rattle.std.proofs.lemmas.Map.Steps.{length-le_from_distinct_below}
 use Rattle.std.proofs.lemmas.Map.Keys.{IsDistinct-cons}
+use Rattle.std.specs.Option.{option_flatten}
 use Rattle.std.specs.List.{IsDistinct, AllByRecursion, list_any}
 use Rattle.capnp_schema.specs.Schema.{Schemas, node_of}
 use Rattle.capnp_schema.specs.Accepted.{EndsAtStruct, HasOneParent, HaveSameSizes, StandsInStruct}
-use Rattle.capnp_schema.specs.Checking.Parents.{group_target, TargetsAreGroups, IsParentTable, entry_in, AreKnown}
+use Rattle.capnp_schema.specs.Checking.Parents.{group_target, TargetsAreGroups, IsParentTable, AreKnown}
 use Rattle.capnp_schema.proofs.GroupTargets.{is_parent, from_parent, within_brands}
 
 abbrev pub is_group : Schemas → ℕ → Bool
@@ -112,31 +113,31 @@ module _ (set : Schemas) (targets : TargetsAreGroups set) (unique : (g b i c j :
   pub depth_within : (m b : ℕ) → Depth m set b → m ≤ length set.brands
   depth_within m b d = let l = length-chain m b d in let le = length-le_from_distinct_below (chain m b d) (length set.brands) (chain_distinct m b d) (chain_within m b d) in omega arith
 
-entry_is : (o : Option (Option (ℕ × ℕ))) (p : ℕ × ℕ) → Some p ≡ entry_in o → o ≡ Some (Some p)
+entry_is : (o : Option (Option (ℕ × ℕ))) (p : ℕ × ℕ) → Some p ≡ option_flatten o → o ≡ Some (Some p)
 entry_is None p e = cc
 entry_is (Some None) p e = cc
 entry_is (Some (Some q)) p e = cc
 
 module _ (set : Schemas) (targets : TargetsAreGroups set) (table : List (Option (ℕ × ℕ))) (ok : IsParentTable set table) where
   -- the entry of a parent table is the group field that names the brand
-  pub parent_is : (g : ℕ) (b i : ℕ) → Some (b, i) ≡ entry_in (slice_get table g) → group_target set b i ≡ Some g
+  pub parent_is : (g : ℕ) (b i : ℕ) → Some (b, i) ≡ option_flatten (slice_get table g) → group_target set b i ≡ Some g
   parent_is g b i e = ok.holds g b i (entry_is (slice_get table g) (b, i) e)
 
-  pub no_parent : (g b i : ℕ) → is_group set g ≡ true → None ≡ entry_in (slice_get table g) → group_target set b i ≡ Some g → ⊥
+  pub no_parent : (g b i : ℕ) → is_group set g ≡ true → None ≡ option_flatten (slice_get table g) → group_target set b i ≡ Some g → ⊥
   no_parent g b i h e t =
       let lt : g < length table = (let w = (targets b i g t).0 in let l = ok.same_length in omega arith) in
       let one : slice_get table g ≡ Some (Some (b, i)) = ok.all g b i lt t in
-      let z : entry_in (slice_get table g) ≡ Some (b, i) = ap entry_in one in
+      let z : option_flatten (slice_get table g) ≡ Some (b, i) = ap option_flatten one in
       absurd (clash (e ∙ z))
     where
       clash : ◌≡◌ {A = Option (ℕ × ℕ)} None (Some (b, i)) → ⊥
       clash q = cc
 
-  pub walk_more : (n b c p i : ℕ) → StepsUp n set b c → is_group set c ≡ true → Some (p, i) ≡ entry_in (slice_get table c) → StepsUp (n + 1) set b p
+  pub walk_more : (n b c p i : ℕ) → StepsUp n set b c → is_group set c ≡ true → Some (p, i) ≡ option_flatten (slice_get table c) → StepsUp (n + 1) set b p
   walk_more n b c p i s g e = steps_more n set b c p i s g (parent_is c p i e)
 
   -- a way up that comes to a group with no parent
-  pub walk_stops : (n b c : ℕ) → StepsUp n set b c → is_group set c ≡ true → None ≡ entry_in (slice_get table c) → (m : ℕ) → Depth m set b → ⊥
+  pub walk_stops : (n b c : ℕ) → StepsUp n set b c → is_group set c ≡ true → None ≡ option_flatten (slice_get table c) → (m : ℕ) → Depth m set b → ⊥
   walk_stops n b c s g e m d = at_rest (depth_along set targets (same_parent set targets table ok) n m b c s d)
     where
       at_rest : (k : ℕ) × (m ≡ n + k) × Depth k set c → ⊥
@@ -148,7 +149,7 @@ module _ (set : Schemas) (targets : TargetsAreGroups set) (table : List (Option 
   walk_far n b c s far m d = let r = depth_along set targets (same_parent set targets table ok) n m b c s d in let le = depth_within set targets (same_parent set targets table ok) m b d in let e : m ≡ n + r.0 = r.1 in absurd (omega arith)
 
   -- what the rule says of a group, from what was looked at
-  pub one_parent : (g b i : ℕ) → Some (b, i) ≡ entry_in (slice_get table g)
+  pub one_parent : (g b i : ℕ) → Some (b, i) ≡ option_flatten (slice_get table g)
       → HaveSameSizes set g b → HasOneParent set g
   one_parent g b i e same = record {
     parent = b;
@@ -164,24 +165,24 @@ module _ (set : Schemas) (targets : TargetsAreGroups set) (table : List (Option 
     sizes = same;
   }
 
-  pub sizes_differ : (g b i : ℕ) → Some (b, i) ≡ entry_in (slice_get table g) → HasOneParent set g
+  pub sizes_differ : (g b i : ℕ) → Some (b, i) ≡ option_flatten (slice_get table g) → HasOneParent set g
       → (HaveSameSizes set g b → ⊥) → ⊥
   sizes_differ g b i e one differ =
       let same : b ≡ one.parent = (one.only b i (is_parent set g b i (parent_is g b i e))).0 in
       differ (subst (HaveSameSizes set g) (sym same) one.sizes)
 
-  pub parent_within : (g b i : ℕ) → Some (b, i) ≡ entry_in (slice_get table g) → b < length set.brands
+  pub parent_within : (g b i : ℕ) → Some (b, i) ≡ option_flatten (slice_get table g) → b < length set.brands
   parent_within g b i e = within_brands set b i g (parent_is g b i e)
 
   -- a group with no parent has none in the rule
-  pub without_parent : (g : ℕ) → is_group set g ≡ true → None ≡ entry_in (slice_get table g) → HasOneParent set g → ⊥
+  pub without_parent : (g : ℕ) → is_group set g ≡ true → None ≡ option_flatten (slice_get table g) → HasOneParent set g → ⊥
   without_parent g h e one = no_parent g one.parent one.index h e (from_parent set g one.parent one.index one.is_parent)
 
   -- the walk, as the code takes it
   pub walk_ends : (n b c : ℕ) → n ≤ length set.brands → StepsUp n set b c → is_group set c ≡ false → StandsInStruct set b
   walk_ends n b c le s g = (n, le, ends_from_depth n set b (depth_from_steps n set b c s g))
 
-  pub walk_broken : (n b c : ℕ) → StepsUp n set b c → is_group set c ≡ true → None ≡ entry_in (slice_get table c) → StandsInStruct set b → ⊥
+  pub walk_broken : (n b c : ℕ) → StepsUp n set b c → is_group set c ≡ true → None ≡ option_flatten (slice_get table c) → StandsInStruct set b → ⊥
   walk_broken n b c s g e stands = walk_stops n b c s g e stands.0 (depth_from_ends stands.0 set b stands.2)
 
   pub walk_endless : (n b c : ℕ) → StepsUp n set b c → length set.brands + 1 ≤ n → StandsInStruct set b → ⊥
@@ -198,7 +199,7 @@ module _ (set : Schemas) (targets : TargetsAreGroups set) (table : List (Option 
       join (suc n) b (h, (p, i, t, rest)) d = subst (λ (x : ℕ). Depth x set b) (let e : suc (n + k) ≡ suc n + k = omega arith in e) (h, (p, i, t, join n p rest d))
 
   -- the parent of a group that stands in a struct does too
-  pub parent_stands : (g b i : ℕ) → is_group set g ≡ true → Some (b, i) ≡ entry_in (slice_get table g) → StandsInStruct set g → StandsInStruct set b
+  pub parent_stands : (g b i : ℕ) → is_group set g ≡ true → Some (b, i) ≡ option_flatten (slice_get table g) → StandsInStruct set g → StandsInStruct set b
   parent_stands g b i h e (zero, le, ends) = absurd (let no : is_group set g ≡ false = ends in cc)
   parent_stands g b i h e (suc n, le, (g_is, (p, j, parent, rest))) =
       let same : p ≡ b = same_parent set targets table ok g p j b i h (from_parent set g p j parent) (parent_is g b i e) in

@@ -7,42 +7,31 @@ use Rattle.std.proofs.lemmas.List.{length-map, ext_get_or}
 use Rattle.std.proofs.lemmas.Option.{slice_get_within, slice_get-get_or}
 use Rattle.capnp_base.specs.declared.introspect.«Type».{«Type» as TypeHandle}
 use Rattle.capnp_device.specs.declared.error.SchemaTable.TheVariants.{Brand as InBrands}
-use Rattle.capnp_schema.specs.declared.record.FieldRecord.{FieldRecord}
-use Rattle.capnp_schema.specs.declared.record.EnumerantRecord.{EnumerantRecord}
 use Rattle.capnp_schema.specs.Types.{seen_type}
-use Rattle.capnp_schema.specs.Schema.{Schemas, Node, Brand, no_brand, no_node, brand_at, seen_annotation}
+use Rattle.capnp_schema.specs.Schema.{Schemas, Node, Brand, Annotation, no_brand, no_node, brand_at}
 use Rattle.capnp_schema.specs.Entries.{brand_node, node_of_entry}
 use Rattle.capnp_schema.specs.Accepted.{BrandHasTypes, BrandStands}
 use Rattle.capnp_schema.specs.Broken.{IsBroken, brand_node as broken_node, brand_lengths}
-use Rattle.capnp_schema.specs.Checking.Lengths.{children_counts, field_counts, enumerant_counts, types_count, field_count, enumerant_count}
-use Rattle.capnp_schema.proofs.FieldWalk.{found_node}
+use Rattle.capnp_schema.specs.Checking.Lengths.{annotation_count, annotation_counts, children_counts, types_count}
+use Rattle.capnp_schema.proofs.FoundEntries.{found_node}
 
 pub types_at : (types : List (Vec TypeHandle Global)) (i : ℕ) → get_or (children_counts types) i 0 ≡ types_count (slice_get types i)
 types_at [] i = refl
 types_at (ts ∷ types) zero = length-map ts.items seen_type
 types_at (ts ∷ types) (suc i) = types_at types i
 
-pub fields_at : (fields : List FieldRecord) (i : ℕ) → get_or (field_counts fields) i 0 ≡ field_count (slice_get fields i)
-fields_at [] i = refl
-fields_at (f ∷ fields) zero = length-map f.annotations.items seen_annotation
-fields_at (f ∷ fields) (suc i) = fields_at fields i
-
-pub enumerants_at : (enumerants : List EnumerantRecord) (i : ℕ) → get_or (enumerant_counts enumerants) i 0 ≡ enumerant_count (slice_get enumerants i)
-enumerants_at [] i = refl
-enumerants_at (x ∷ enumerants) zero = length-map x.annotations.items seen_annotation
-enumerants_at (x ∷ enumerants) (suc i) = enumerants_at enumerants i
+pub annotations_at : {A B : Type 0} (seen : A → B) (annotations : B → List Annotation) (xs : List A) (i : ℕ) → get_or (annotation_counts seen annotations xs) i 0 ≡ annotation_count seen annotations (slice_get xs i)
+annotations_at seen annotations [] i = refl
+annotations_at seen annotations (x ∷ xs) zero = refl
+annotations_at seen annotations (x ∷ xs) (suc i) = annotations_at seen annotations xs i
 
 pub children_length : (types : List (Vec TypeHandle Global)) → length (children_counts types) ≡ length types
 children_length [] = refl
 children_length (ts ∷ types) = ap suc (children_length types)
 
-pub fields_length : (fields : List FieldRecord) → length (field_counts fields) ≡ length fields
-fields_length [] = refl
-fields_length (f ∷ fields) = ap suc (fields_length fields)
-
-pub enumerants_length : (enumerants : List EnumerantRecord) → length (enumerant_counts enumerants) ≡ length enumerants
-enumerants_length [] = refl
-enumerants_length (x ∷ enumerants) = ap suc (enumerants_length enumerants)
+pub annotations_length : {A B : Type 0} (seen : A → B) (annotations : B → List Annotation) (xs : List A) → length (annotation_counts seen annotations xs) ≡ length xs
+annotations_length seen annotations [] = refl
+annotations_length seen annotations (x ∷ xs) = ap suc (annotations_length seen annotations xs)
 
 -- two lists of counts that differ in length or at a place
 pub other_length : (xs ys : List ℕ) → length xs ≢ length ys → Decides false (xs ≡ ys)

@@ -12,7 +12,7 @@ use Rattle.capnp_schema.specs.Footprint.{Spot, DataBit, PointerAt, is_in, slot_n
 use Rattle.capnp_schema.specs.declared.check.spans.Span.{Span}
 use Rattle.capnp_schema.specs.declared.check.spans.Span.TheVariants.{Data, Pointer}
 use Rattle.capnp_schema.specs.Checking.Spans.{span_names, some_span, field_names, entry_names, some_brand, reached}
-use Rattle.capnp_schema.proofs.FieldWalk.{found_node}
+use Rattle.capnp_schema.proofs.FoundEntries.{found_node}
 use Rattle.capnp_schema.proofs.GroupTargets.{node_missing}
 
 in_holds : (first n i : ℕ) → first ≤ i → i < first + n → is_in first n i ≡ true
@@ -39,7 +39,7 @@ some_span-append (x ∷ xs) y p = at (span_names x p) (some_span-append xs y p)
     at true e = refl
     at false e = e
 
--- one of the spans names the place
+-- one of the spans names the spot
 pub span_at : (xs : List Span) (p : Spot) → some_span xs p ≡ true → (k : ℕ) × (k < length xs) × ((d : Span) → span_names (get_or xs k d) p ≡ true)
 span_at [] p e = cc
 span_at (x ∷ xs) p e = at (span_names x p) refl (some_span xs p) (span_at xs p) e
@@ -169,3 +169,14 @@ reached_all set out brands p = ap (λ x. some_span out p || x) (none brands) ∙
     none : (bs : List ℕ) → some_brand 0 set bs p ≡ false
     none [] = refl
     none (b ∷ bs) = none bs
+
+-- brands by the brands of their groups, after the last of them
+pub all_brands : (groups : ℕ) (set : Schemas) (bs : List ℕ) (i : ℕ) (p : Spot) (reaches whole : Bool) → length bs ≤ i
+    → (reaches || some_brand (suc groups) set (drop i bs) p) ≡ whole → reaches ≡ whole
+all_brands groups set bs i p reaches whole past kept = sym (or_none reaches) ∙ ap (λ x. reaches || x) (sym (left bs i past)) ∙ kept
+  where
+    left : (bs : List ℕ) (i : ℕ) → length bs ≤ i → some_brand (suc groups) set (drop i bs) p ≡ false
+    left [] zero h = refl
+    left [] (suc i) h = refl
+    left (x ∷ bs) zero h = absurd (omega arith)
+    left (x ∷ bs) (suc i) h = left bs i (omega arith)

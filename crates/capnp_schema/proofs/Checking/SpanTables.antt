@@ -11,7 +11,7 @@ use Rattle.capnp_schema.specs.declared.check.spans.Span.{Span}
 use Rattle.capnp_schema.specs.Checking.Spans.{some_span, entry_names, SpansMeet, AreSpansOf, IsNamedBy}
 use Rattle.capnp_schema.specs.Tables.{items_of, table_at}
 use Rattle.capnp_schema.proofs.EntryTables.{EachTable}
-use Rattle.capnp_schema.proofs.FieldWalk.{one_more}
+use Rattle.capnp_schema.proofs.Checking.FieldWalk.{one_more}
 use Rattle.capnp_schema.proofs.GroupTargets.{field_is}
 
 abbrev pub footprint_at : Schemas → ℕ → ℕ → Spot → Bool

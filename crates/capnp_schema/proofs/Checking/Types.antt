@@ -2,12 +2,12 @@
 use Rattle.std.proofs.Common.{ℕ, ◌≡◌, ◌≤◌, Bool, true, false, List, length, map, slice_get, Option, Some, None, Vec, refl, sym, ap, ◌∙◌, subst, arith}
 use Rattle.std.specs.Prelude.{All, MatchOption}
 use Rattle.std.specs.Bool.{Decides}
-use Rattle.std.specs.Option.{option_map, unwrap_or}
+use Rattle.std.specs.Option.{unwrap_or}
 use Rattle.std.proofs.lemmas.Bool.Decides.{not_from_Decides}
 use Rattle.capnp_device.specs.declared.error.SchemaTable.TheVariants.{Brand as InBrands, Enum as InEnums}
 use Rattle.std.specs.declared.alloc.Global.{Global}
 use Rattle.std.proofs.lemmas.List.{length-map}
-use Rattle.std.proofs.lemmas.Option.{slice_get_within, get_or_from_slice_get, slice_get-map}
+use Rattle.std.proofs.lemmas.Option.{slice_get_within, get_or_from_slice_get}
 use Rattle.capnp_base.specs.declared.introspect.«Type».{«Type» as TypeHandle}
 use Rattle.capnp_schema.specs.Types.{seen_type}
 use Rattle.capnp_schema.specs.Schema.{Schemas, Brand, Enum, Field, Enumerant, AnnotationTypes, no_brand, node_of, brand_at}
@@ -22,9 +22,6 @@ not_all entries P n x is broken = (λ e. cc, λ all. absurd (broken (subst P (ge
 
 pub all_hold : {A : Type 0} (entries : List A) (P : A → Type 0) → All P entries → Decides true (All P entries)
 all_hold entries P all = (λ _. all, λ _. refl)
-
-pub child_seen : (children : List (Vec TypeHandle Global)) (i : ℕ) (types : Vec TypeHandle Global) → Some types ≡ slice_get children i → Some (map seen_type types.items) ≡ slice_get (seen_children children) i
-child_seen children i types is = ap (option_map (λ (ts : Vec TypeHandle Global). map seen_type ts.items)) is ∙ sym (slice_get-map (λ (ts : Vec TypeHandle Global). map seen_type ts.items) children i)
 
 pub own_or_child : (set : Schemas) (types : AnnotationTypes) (r : Option ℕ) → AllName set types.own → MatchOption r (All (AllName set) types.children) (λ i. EntryBreaks types.children (AllName set) i) → MatchOption r (TypesName set types) (IsUnnamed set types)
 own_or_child set types None named h = (named, h)

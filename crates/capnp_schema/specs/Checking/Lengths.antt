@@ -2,28 +2,20 @@
 use Rattle.std.specs.Prelude.{ℕ, List, length, map, Option, Some, None, Vec}
 use Rattle.std.specs.declared.alloc.Global.{Global}
 use Rattle.capnp_base.specs.declared.introspect.«Type».{«Type» as TypeHandle}
-use Rattle.capnp_schema.specs.declared.record.FieldRecord.{FieldRecord}
-use Rattle.capnp_schema.specs.declared.record.EnumerantRecord.{EnumerantRecord}
 use Rattle.capnp_schema.specs.Types.{seen_type}
-use Rattle.capnp_schema.specs.Schema.{Field, Enumerant, seen_field, seen_enumerant}
+use Rattle.capnp_schema.specs.Schema.{Annotation}
 
 abbrev pub children_counts : List (Vec TypeHandle Global) → List ℕ
 children_counts types = map length (map (λ (ts : Vec TypeHandle Global). map seen_type ts.items) types)
 
-abbrev pub field_counts : List FieldRecord → List ℕ
-field_counts fields = map length (map (λ (f : Field). f.annotations) (map seen_field fields))
-
-abbrev pub enumerant_counts : List EnumerantRecord → List ℕ
-enumerant_counts enumerants = map length (map (λ (x : Enumerant). x.annotations) (map seen_enumerant enumerants))
+-- of entries by what they are to definitions, and by the annotations of these
+abbrev pub annotation_counts : {A B : Type 0} → (A → B) → (B → List Annotation) → List A → List ℕ
+annotation_counts seen annotations entries = map length (map annotations (map seen entries))
 
 abbrev pub types_count : Option (Vec TypeHandle Global) → ℕ
 types_count None = 0
 types_count (Some ts) = length ts.items
 
-abbrev pub field_count : Option FieldRecord → ℕ
-field_count None = 0
-field_count (Some f) = length f.annotations.items
-
-abbrev pub enumerant_count : Option EnumerantRecord → ℕ
-enumerant_count None = 0
-enumerant_count (Some x) = length x.annotations.items
+abbrev pub annotation_count : {A B : Type 0} → (A → B) → (B → List Annotation) → Option A → ℕ
+annotation_count seen annotations None = 0
+annotation_count seen annotations (Some x) = length (annotations (seen x))

@@ -26,11 +26,6 @@ pub record IsParentTable (set : Schemas) (table : List (Option (ℕ × ℕ))) : 
   pub holds : (g b i : ℕ) → slice_get table g ≡ Some (Some (b, i)) → group_target set b i ≡ Some g
   pub all : (g b i : ℕ) → g < length table → group_target set b i ≡ Some g → slice_get table g ≡ Some (Some (b, i))
 
--- an entry of such a table, none past its end
-abbrev pub entry_in : Option (Option (ℕ × ℕ)) → Option (ℕ × ℕ)
-entry_in None = None
-entry_in (Some p) = p
-
 -- marks of brands, each of which stands in a struct
 pub record AreKnown (set : Schemas) (known : List Bool) : Type 0 where
   pub counted : length known ≡ length set.brands

@@ -57,6 +57,10 @@ AddsField set b i old new = (groups : ℕ) (p : Spot) → reached groups set new
 abbrev pub AddsBrands : Schemas → List ℕ → (old : List Span) → (new : List Span × List ℕ) → Type 0
 AddsBrands set brands old new = (groups : ℕ) (p : Spot) → reached groups set new.0 new.1 p ≡ reached (suc groups) set old brands p
 
+-- brands, through all their groups
+abbrev pub AddsDepths : Schemas → List ℕ → (old new : List Span) → Type 0
+AddsDepths set brands old new = (p : Spot) → some_span new p ≡ reached (length set.brands) set old brands p
+
 -- the spans of a field that is there or not, through its groups
 abbrev pub AreSpansAt : Schemas → (b i : ℕ) → List Span → Type 0
 AreSpansAt set b i spans = (p : Spot) → some_span spans p ≡ entry_names (length set.brands) set (slice_get (fields_of set b) i) p

@@ -7,8 +7,11 @@ use Rattle.capnp_schema.specs.Schema.{Schemas, AnnotationTypes}
 use Rattle.capnp_schema.specs.Accepted.{AllName, Rule1, Rule4, Rule5, Rule7}
 use Rattle.capnp_schema.specs.Broken.{EntryBreaks}
 
+abbrev pub seen_list : Vec TypeHandle Global → List SchemaType
+seen_list types = map seen_type types.items
+
 abbrev pub seen_children : List (Vec TypeHandle Global) → List (List SchemaType)
-seen_children children = map (λ (types : Vec TypeHandle Global). map seen_type types.items) children
+seen_children children = map seen_list children
 
 -- the place of annotations whose types do not all name entries
 pub data IsUnnamed (set : Schemas) (types : AnnotationTypes) : ℕ → Type 0 where

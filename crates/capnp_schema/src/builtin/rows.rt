@@ -1,7 +1,7 @@
 //! Rows of the built-in set's table as records.
-ghost use Rattle.std.specs.Prelude.{◌≡◌, map, IfOk};
-ghost use Rattle.capnp_schema.specs.Types.{seen_type};
-ghost use Rattle.capnp_schema.specs.Schema.{seen_annotation, seen_brand, seen_field, seen_kind, seen_node, seen_value};
+ghost use Rattle.std.specs.Prelude.{◌≡◌, List, map, IfOk};
+ghost use Rattle.capnp_schema.specs.Types.{SchemaType, seen_type};
+ghost use Rattle.capnp_schema.specs.Schema.{Annotation, Brand, Field, Node, seen_annotation, seen_brand, seen_field, seen_kind, seen_node, seen_value};
 ghost use Rattle.capnp_schema.specs.BuiltinRows.{annotation_type, field_annotation_types, field_type, row_annotation, row_brand};
 ghost use Rattle.capnp_schema.specs.BuiltinRows.{row_field, row_kind, row_node, row_type, row_value};
 
@@ -12,6 +12,34 @@ use crate::record::{
 };
 use capnp_base::introspect::Type;
 use std::alloc::{AllocError, Global};
+
+/// What a row of the table is made into.
+pub(crate) trait MadeOf<Row> {
+    // What it is to definitions, and what a row stands for there.
+    ghost Seen: { Type 0 };
+
+    ghost seen: { Self → Seen };
+
+    ghost of_row: { Row → Seen };
+
+    fn made(alloc: Global, row: &Row) -> Result<Self, AllocError>
+        ensures { IfOk result (λ made. seen made ≡ of_row row.now) };
+}
+
+/// One of each row.
+pub(crate) fn all_made<Row, T: MadeOf<Row> + Drop>(
+    alloc: Global,
+    rows: &[Row],
+) -> Result<Vec<T>, AllocError>
+    ensures { IfOk result (λ v. map T.seen v.items ≡ map T.of_row rows.now) }
+{
+    let mut out = Vec::new(alloc);
+    for row in rows {
+        let made = T::made(alloc, row)?;
+        out.push(made)?;
+    }
+    Ok(out)
+}
 
 fn type_of(row: TypeRow) -> Type
     ensures { result ≡ row_type row }
@@ -25,22 +53,22 @@ fn type_of(row: TypeRow) -> Type
 fn value_of(alloc: Global, row: ValueRow) -> Result<ValueRecord, AllocError>
     ensures { IfOk result (λ v. seen_value v ≡ row_value row) }
 {
-    Ok(match row {
-        ValueRow::Void => ValueRecord::Void,
-        ValueRow::Bool(x) => ValueRecord::Bool(x),
-        ValueRow::Int8(x) => ValueRecord::Int8(x),
-        ValueRow::Int32(x) => ValueRecord::Int32(x),
-        ValueRow::UInt8(x) => ValueRecord::UInt8(x),
-        ValueRow::UInt16(x) => ValueRecord::UInt16(x),
-        ValueRow::UInt32(x) => ValueRecord::UInt32(x),
-        ValueRow::UInt64(x) => ValueRecord::UInt64(x),
-        ValueRow::Enum(x) => ValueRecord::Enum(x),
-        ValueRow::Text(x) => ValueRecord::Text(x.to_vec(alloc)?),
-        ValueRow::Data(x) => ValueRecord::Data(x.to_vec(alloc)?),
-        ValueRow::Struct(x) => ValueRecord::Struct(x.to_vec(alloc)?),
-        ValueRow::List(x) => ValueRecord::List(x.to_vec(alloc)?),
-        ValueRow::AnyPointer(x) => ValueRecord::AnyPointer(x.to_vec(alloc)?),
-    })
+    match row {
+        ValueRow::Void => Ok(ValueRecord::Void),
+        ValueRow::Bool(x) => Ok(ValueRecord::Bool(x)),
+        ValueRow::Int8(x) => Ok(ValueRecord::Int8(x)),
+        ValueRow::Int32(x) => Ok(ValueRecord::Int32(x)),
+        ValueRow::UInt8(x) => Ok(ValueRecord::UInt8(x)),
+        ValueRow::UInt16(x) => Ok(ValueRecord::UInt16(x)),
+        ValueRow::UInt32(x) => Ok(ValueRecord::UInt32(x)),
+        ValueRow::UInt64(x) => Ok(ValueRecord::UInt64(x)),
+        ValueRow::Enum(x) => Ok(ValueRecord::Enum(x)),
+        ValueRow::Text(x) => Ok(ValueRecord::Text(x.to_vec(alloc)?)),
+        ValueRow::Data(x) => Ok(ValueRecord::Data(x.to_vec(alloc)?)),
+        ValueRow::Struct(x) => Ok(ValueRecord::Struct(x.to_vec(alloc)?)),
+        ValueRow::List(x) => Ok(ValueRecord::List(x.to_vec(alloc)?)),
+        ValueRow::AnyPointer(x) => Ok(ValueRecord::AnyPointer(x.to_vec(alloc)?)),
+    }
 }
 
 fn kind_of(alloc: Global, row: KindRow) -> Result<FieldKind, AllocError>
@@ -55,123 +83,114 @@ fn kind_of(alloc: Global, row: KindRow) -> Result<FieldKind, AllocError>
     }
 }
 
-fn annotations_of(
-    alloc: Global,
-    rows: &[AnnotationRow],
-) -> Result<Vec<AnnotationRecord>, AllocError>
-    ensures { IfOk result (λ v. map seen_annotation v.items ≡ map row_annotation rows.now) }
-{
-    let mut out = Vec::new(alloc);
-    for row in rows {
+impl MadeOf<AnnotationRow> for AnnotationRecord {
+    ghost Seen = { Annotation };
+
+    ghost seen = { seen_annotation };
+
+    ghost of_row = { row_annotation };
+
+    fn made(alloc: Global, row: &AnnotationRow) -> Result<AnnotationRecord, AllocError> {
         let value = value_of(alloc, row.2)?;
-        out.push(AnnotationRecord { id: row.0, value })?;
+        Ok(AnnotationRecord { id: row.0, value })
     }
-    Ok(out)
 }
 
-fn annotation_types_of(alloc: Global, rows: &[AnnotationRow]) -> Result<Vec<Type>, AllocError>
-    ensures { IfOk result (λ v. map seen_type v.items ≡ map annotation_type rows.now) }
-{
-    let mut out = Vec::new(alloc);
-    for row in rows {
-        out.push(type_of(row.1))?;
+impl MadeOf<AnnotationRow> for Type {
+    ghost Seen = { SchemaType };
+
+    ghost seen = { seen_type };
+
+    ghost of_row = { annotation_type };
+
+    fn made(alloc: Global, row: &AnnotationRow) -> Result<Type, AllocError> {
+        let _alloc = alloc;
+        Ok(type_of(row.1))
     }
-    Ok(out)
 }
 
-fn field_of(alloc: Global, row: &FieldRow) -> Result<FieldRecord, AllocError>
-    ensures { IfOk result (λ f. seen_field f ≡ row_field row.now) }
-{
-    Ok(FieldRecord {
-        name: String::from_str(alloc, row.0)?,
-        discriminant_value: row.1,
-        annotations: annotations_of(alloc, row.4)?,
-        kind: kind_of(alloc, row.2)?,
-    })
-}
+impl MadeOf<FieldRow> for FieldRecord {
+    ghost Seen = { Field };
 
-fn fields_of(alloc: Global, rows: &[FieldRow]) -> Result<Vec<FieldRecord>, AllocError>
-    ensures { IfOk result (λ v. map seen_field v.items ≡ map row_field rows.now) }
-{
-    let mut out = Vec::new(alloc);
-    for row in rows {
-        let field = field_of(alloc, row)?;
-        out.push(field)?;
+    ghost seen = { seen_field };
+
+    ghost of_row = { row_field };
+
+    fn made(alloc: Global, row: &FieldRow) -> Result<FieldRecord, AllocError> {
+        Ok(FieldRecord {
+            name: String::from_str(alloc, row.0)?,
+            discriminant_value: row.1,
+            annotations: all_made(alloc, row.4)?,
+            kind: kind_of(alloc, row.2)?,
+        })
     }
-    Ok(out)
 }
 
-fn field_types_of(alloc: Global, rows: &[FieldRow]) -> Result<Vec<Type>, AllocError>
-    ensures { IfOk result (λ v. map seen_type v.items ≡ map field_type rows.now) }
-{
-    let mut out = Vec::new(alloc);
-    for row in rows {
-        out.push(type_of(row.3))?;
+impl MadeOf<FieldRow> for Type {
+    ghost Seen = { SchemaType };
+
+    ghost seen = { seen_type };
+
+    ghost of_row = { field_type };
+
+    fn made(alloc: Global, row: &FieldRow) -> Result<Type, AllocError> {
+        let _alloc = alloc;
+        Ok(type_of(row.3))
     }
-    Ok(out)
 }
 
-/// The types of the annotations of each field.
-fn children_of(alloc: Global, rows: &[FieldRow]) -> Result<Vec<Vec<Type>>, AllocError>
-    ensures { IfOk result (λ v. map (λ types. map seen_type types.items) v.items ≡ map field_annotation_types rows.now) }
-{
-    let mut out = Vec::new(alloc);
-    for row in rows {
-        let types = annotation_types_of(alloc, row.4)?;
-        out.push(types)?;
+/// The types of the annotations of a field.
+impl MadeOf<FieldRow> for Vec<Type> {
+    ghost Seen = { List SchemaType };
+
+    ghost seen = { λ types. map seen_type types.items };
+
+    ghost of_row = { field_annotation_types };
+
+    fn made(alloc: Global, row: &FieldRow) -> Result<Vec<Type>, AllocError> {
+        all_made(alloc, row.4)
     }
-    Ok(out)
 }
 
-fn node_of(alloc: Global, row: &NodeRow) -> Result<NodeRecord, AllocError>
-    ensures { IfOk result (λ n. seen_node n ≡ row_node row.now) }
-{
-    Ok(NodeRecord {
-        id: row.id,
-        display_name: String::from_str(alloc, row.name)?,
-        annotations: annotations_of(alloc, row.annotations)?,
-        body: StructRecord {
-            data_word_count: row.data_words,
-            pointer_count: row.pointers,
-            is_group: row.is_group,
-            discriminant_count: row.members,
-            discriminant_offset: row.discriminant_offset,
-            fields: fields_of(alloc, row.fields)?,
-        },
-    })
-}
+impl MadeOf<NodeRow> for NodeRecord {
+    ghost Seen = { Node };
 
-fn brand_of(alloc: Global, row: &NodeRow) -> Result<BrandRecord, AllocError>
-    ensures { IfOk result (λ b. seen_brand b ≡ row_brand row.now) }
-{
-    Ok(BrandRecord {
-        node: row.number,
-        field_types: field_types_of(alloc, row.fields)?,
-        annotation_types: AnnotationTypes {
-            own: annotation_types_of(alloc, row.annotations)?,
-            children: children_of(alloc, row.fields)?,
-        },
-    })
-}
+    ghost seen = { seen_node };
 
-pub(crate) fn nodes_of(alloc: Global, rows: &[NodeRow]) -> Result<Vec<NodeRecord>, AllocError>
-    ensures { IfOk result (λ v. map seen_node v.items ≡ map row_node rows.now) }
-{
-    let mut out = Vec::new(alloc);
-    for row in rows {
-        let node = node_of(alloc, row)?;
-        out.push(node)?;
+    ghost of_row = { row_node };
+
+    fn made(alloc: Global, row: &NodeRow) -> Result<NodeRecord, AllocError> {
+        Ok(NodeRecord {
+            id: row.id,
+            display_name: String::from_str(alloc, row.name)?,
+            annotations: all_made(alloc, row.annotations)?,
+            body: StructRecord {
+                data_word_count: row.data_words,
+                pointer_count: row.pointers,
+                is_group: row.is_group,
+                discriminant_count: row.members,
+                discriminant_offset: row.discriminant_offset,
+                fields: all_made(alloc, row.fields)?,
+            },
+        })
     }
-    Ok(out)
 }
 
-pub(crate) fn brands_of(alloc: Global, rows: &[NodeRow]) -> Result<Vec<BrandRecord>, AllocError>
-    ensures { IfOk result (λ v. map seen_brand v.items ≡ map row_brand rows.now) }
-{
-    let mut out = Vec::new(alloc);
-    for row in rows {
-        let brand = brand_of(alloc, row)?;
-        out.push(brand)?;
+impl MadeOf<NodeRow> for BrandRecord {
+    ghost Seen = { Brand };
+
+    ghost seen = { seen_brand };
+
+    ghost of_row = { row_brand };
+
+    fn made(alloc: Global, row: &NodeRow) -> Result<BrandRecord, AllocError> {
+        Ok(BrandRecord {
+            node: row.number,
+            field_types: all_made(alloc, row.fields)?,
+            annotation_types: AnnotationTypes {
+                own: all_made(alloc, row.annotations)?,
+                children: all_made(alloc, row.fields)?,
+            },
+        })
     }
-    Ok(out)
 }

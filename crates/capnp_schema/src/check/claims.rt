@@ -131,6 +131,31 @@ fn claim_range(
     Ok(claim_marks(marks, first, count, now, below, top))
 }
 
+/// A meeting at a spot, by when it was named last.
+fn meeting_at(marks: &[u32], i: usize, spot: Spot, below: &[Level], top: Level) -> Option<Meeting> {
+    let time = *marks.get(i)?;
+    let brand = closing_brand(below, top, time)?;
+    Some(Meeting { brand, spot })
+}
+
+/// A meeting at one of the first 64 of so many bits.
+fn meeting_bit(
+    marks: &[u32],
+    first: u64,
+    count: u64,
+    below: &[Level],
+    top: Level,
+) -> Option<Meeting> {
+    for i in 0..count.min(64) {
+        let bit = first.wrapping_add(i);
+        let met = meeting_at(marks, bit as usize, Spot::Bit(bit), below, top);
+        if met.is_some() {
+            return met;
+        }
+    }
+    None
+}
+
 impl Claims {
     /// Claims the spots of a span; false where one of them was claimed in the plain part of a level.
     pub(crate) fn claim(
@@ -167,22 +192,10 @@ impl Claims {
     /// A meeting in a span that could not be claimed. It is a hint: who takes it looks at what stands there.
     pub(crate) fn find_meeting(&self, span: Span, below: &[Level], top: Level) -> Option<Meeting> {
         match span {
-            Span::Data { first, count } => {
-                for i in 0..count.min(64) {
-                    let bit = first.wrapping_add(i);
-                    let time = *self.bits.get(bit as usize)?;
-                    if let Some(brand) = closing_brand(below, top, time) {
-                        let spot = Spot::Bit(bit);
-                        return Some(Meeting { brand, spot });
-                    }
-                }
-                None
-            }
+            Span::Data { first, count } => meeting_bit(&self.bits, first, count, below, top),
             Span::Pointer(number) => {
-                let time = *self.pointers.get(number as usize)?;
-                let brand = closing_brand(below, top, time)?;
                 let spot = Spot::Pointer(number);
-                Some(Meeting { brand, spot })
+                meeting_at(&self.pointers, number as usize, spot, below, top)
             }
         }
     }

@@ -1,12 +1,12 @@
 //! Rule 3: how many fields, enumerants and annotations there are, and that the names of a node's fields are distinct.
-ghost use Rattle.std.specs.Prelude.{◌<◌, ◌^◌, ◌↔◌, IsTrue, map, MatchResult};
-ghost use Rattle.capnp_schema.specs.Schema.{Enumerant, Field, seen_enumerant, seen_field, seen_annotations};
+ghost use Rattle.std.specs.Prelude.{◌↔◌, IsTrue, MatchResult};
+ghost use Rattle.capnp_schema.specs.Schema.{seen_annotations};
 ghost use Rattle.capnp_schema.specs.Entries.{lists_seen};
 ghost use Rattle.capnp_schema.specs.Accepted.{HasFewAnnotations, HasFewEnumerants, HasFewFields, HasSmallCounts};
 ghost use Rattle.capnp_schema.specs.Broken.{IsRefusalOf};
-ghost use Rattle.capnp_schema.specs.Checking.Entry.{IsSoAt, AllOrBroken};
+ghost use Rattle.capnp_schema.specs.Checking.Entry.{IsSoAt};
 
-use crate::check::entries::{Asked, broken_entry};
+use crate::check::entries::{Annotated, Asked, broken_entry};
 use crate::check::refusal::{WHOLE, refusal};
 use crate::lists::Lists;
 use crate::record::{AnnotationRecord, EnumerantRecord, FieldRecord};
@@ -25,34 +25,16 @@ fn are_few(annotations: &[AnnotationRecord]) -> bool
 /// That there are few annotations.
 struct FewAnnotations;
 
-impl Asked<FewAnnotations> for FieldRecord {
-    ghost is_met = { λ r. HasFewAnnotations (seen_annotations r.annotations.items) };
+impl<E: Annotated> Asked<FewAnnotations> for E {
+    ghost Seen = { E.Seen };
+
+    ghost seen = { E.seen };
+
+    ghost is_met = { λ x. HasFewAnnotations (E.annotations_of x) };
 
     fn is_met(&self) -> bool {
-        are_few(&self.annotations)
+        are_few(self.annotations())
     }
-}
-
-impl Asked<FewAnnotations> for EnumerantRecord {
-    ghost is_met = { λ r. HasFewAnnotations (seen_annotations r.annotations.items) };
-
-    fn is_met(&self) -> bool {
-        are_few(&self.annotations)
-    }
-}
-
-/// A field with too many annotations.
-fn crowded_field(fields: &[FieldRecord]) -> Option<usize>
-    ensures { AllOrBroken (map seen_field fields.now) (λ (f : Field). HasFewAnnotations f.annotations) result }
-{
-    broken_entry::<FewAnnotations, FieldRecord>(fields)
-}
-
-/// An enumerant with too many annotations.
-fn crowded_enumerant(enumerants: &[EnumerantRecord]) -> Option<usize>
-    ensures { AllOrBroken (map seen_enumerant enumerants.now) (λ (x : Enumerant). HasFewAnnotations x.annotations) result }
-{
-    broken_entry::<FewAnnotations, EnumerantRecord>(enumerants)
 }
 
 fn check_node_counts(lists: &Lists, entry: usize) -> Result<()>
@@ -67,7 +49,7 @@ fn check_node_counts(lists: &Lists, entry: usize) -> Result<()>
     if !are_few(&node.annotations) {
         return Err(refusal(3, SchemaTable::Node, entry, WHOLE));
     }
-    match crowded_field(&node.body.fields) {
+    match broken_entry::<FewAnnotations, FieldRecord>(&node.body.fields) {
         Some(field) => Err(refusal(3, SchemaTable::Node, entry, field as u16)),
         None => Ok(()),
     }
@@ -85,7 +67,7 @@ fn check_enum_counts(lists: &Lists, entry: usize) -> Result<()>
     if !are_few(&schema.annotations) {
         return Err(refusal(3, SchemaTable::Enum, entry, WHOLE));
     }
-    match crowded_enumerant(&schema.enumerants) {
+    match broken_entry::<FewAnnotations, EnumerantRecord>(&schema.enumerants) {
         Some(field) => Err(refusal(3, SchemaTable::Enum, entry, field as u16)),
         None => Ok(()),
     }

@@ -1,11 +1,12 @@
 //! Rule 8: each group stands under one field, has its parent's section sizes, and stands in a struct.
 ghost use Rattle.std.specs.Prelude.{true, false, ◌≡◌, ◌<◌, ◌↔◌, IsTrue, IfOk, IfErr, length, get_or, slice_get, MatchResult};
+ghost use Rattle.std.specs.Option.{option_flatten};
 ghost use Rattle.capnp_device.specs.declared.error.ErrorKind.TheVariants.{OutOfMemory};
 ghost use Rattle.capnp_schema.specs.Schema.{node_of};
 ghost use Rattle.capnp_schema.specs.Entries.{lists_seen};
 ghost use Rattle.capnp_schema.specs.Accepted.{GroupStands, HaveSameSizes, IsGroupBrand, Rule1, Rule7, Rule8, StandsInStruct};
 ghost use Rattle.capnp_schema.specs.Broken.{IsRefusalOf};
-ghost use Rattle.capnp_schema.specs.Checking.Parents.{group_target, TargetsAreGroups, HasNoParents, IsParentTable, entry_in, AreKnown};
+ghost use Rattle.capnp_schema.specs.Checking.Parents.{group_target, TargetsAreGroups, HasNoParents, IsParentTable, AreKnown};
 
 use crate::check::refusal::{WHOLE, refusal};
 use crate::check::unions::no_marks;
@@ -40,7 +41,7 @@ pub(crate) fn group_target(lists: &Lists, brand: usize, field: usize) -> Option<
 }
 
 /// Whether there is a brand, of a node that is marked as a group.
-#[tactic(auto, using(crate::proofs::FieldWalk::found_node, crate::proofs::GroupTargets::node_missing))]
+#[tactic(auto, using(crate::proofs::FoundEntries::found_node, crate::proofs::GroupTargets::node_missing))]
 pub(crate) fn is_group(lists: &Lists, brand: usize) -> bool
     ensures { result ≡ (node_of (lists_seen lists.now) brand).is_group }
 {
@@ -114,7 +115,7 @@ fn parent_table(alloc: Global, lists: &Lists) -> Result<Vec<Option<(usize, usize
 
 /// The group field that names a brand.
 fn parent_at(parents: &[Option<(usize, usize)>], group: usize) -> Option<(usize, usize)>
-    ensures { result ≡ entry_in (slice_get parents.now group) }
+    ensures { result ≡ option_flatten (slice_get parents.now group) }
 {
     match parents.get(group) {
         Some(parent) => *parent,

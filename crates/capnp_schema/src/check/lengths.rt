@@ -1,93 +1,49 @@
 //! Rule 2: each brand names a node; brands and enums have one type for each field and each annotation.
-ghost use Rattle.std.specs.Prelude.{◌≡◌, ◌<◌, length, get_or, slice_get, All, MatchResult};
+ghost use Rattle.std.specs.Prelude.{◌≡◌, ◌<◌, length, get_or, All, MatchResult};
 ghost use Rattle.std.specs.Bool.{Decides};
-ghost use Rattle.std.specs.Option.{option_copied};
 ghost use Rattle.capnp_schema.specs.Schema.{seen_node, seen_brand, seen_enum};
 ghost use Rattle.capnp_schema.specs.Entries.{lists_seen};
 ghost use Rattle.capnp_schema.specs.Accepted.{BrandHasTypes, BrandStands, EnumHasTypes, Rule2, BrandsStand};
 ghost use Rattle.capnp_schema.specs.Broken.{IsRefusalOf};
-ghost use Rattle.capnp_schema.specs.Checking.Lengths.{children_counts, field_counts, enumerant_counts};
+ghost use Rattle.capnp_schema.specs.Checking.Lengths.{annotation_counts, children_counts};
 
+use crate::check::entries::Annotated;
 use crate::check::refusal::{WHOLE, refusal};
-use crate::lists::Lists;
+use crate::lists::{Lists, entry_at};
 use crate::record::{BrandRecord, EnumRecord, EnumerantRecord, FieldRecord, NodeRecord};
 use capnp_base::introspect::Type;
 use capnp_device::error::{Result, SchemaTable};
 
-/// The types of one field or enumerant's annotations.
-pub(crate) fn child_at(types: &[Vec<Type>], i: usize) -> Option<&Vec<Type>>
-    ensures { option_copied result ≡ slice_get types.now i }
-{
-    types.get(i)
-}
-
-fn field_in(fields: &[FieldRecord], i: usize) -> Option<&FieldRecord>
-    ensures { option_copied result ≡ slice_get fields.now i }
-{
-    fields.get(i)
-}
-
-/// The enumerant of an ordinal.
-pub(crate) fn enumerant_in(enumerants: &[EnumerantRecord], i: usize) -> Option<&EnumerantRecord>
-    ensures { option_copied result ≡ slice_get enumerants.now i }
-{
-    enumerants.get(i)
-}
-
+/// How many types a field's or enumerant's annotations have, none past the last.
 #[tactic(auto, using(crate::proofs::Checking::Lengths::types_at))]
 fn types_at(types: &[Vec<Type>], i: usize) -> usize
     ensures { result ≡ get_or (children_counts types.now) i 0 }
 {
-    match child_at(types, i) {
+    match entry_at(types, i) {
         Some(child) => child.len(),
         None => 0,
     }
 }
 
-#[tactic(auto, using(crate::proofs::Checking::Lengths::fields_at))]
-fn field_annotations(fields: &[FieldRecord], i: usize) -> usize
-    ensures { result ≡ get_or (field_counts fields.now) i 0 }
+/// How many annotations a field or enumerant has, none past the last.
+fn annotations_at<E: Annotated>(entries: &[E], i: usize) -> usize
+    ensures { result ≡ get_or (annotation_counts E.seen E.annotations_of entries.now) i 0 }
 {
-    match field_in(fields, i) {
-        Some(field) => field.annotations.len(),
+    match entry_at(entries, i) {
+        Some(entry) => entry.annotations().len(),
         None => 0,
     }
 }
 
-#[tactic(auto, using(crate::proofs::Checking::Lengths::enumerants_at))]
-fn enumerant_annotations(enumerants: &[EnumerantRecord], i: usize) -> usize
-    ensures { result ≡ get_or (enumerant_counts enumerants.now) i 0 }
+/// Whether each field's or enumerant's annotations have one type each.
+fn have_types<E: Annotated>(types: &[Vec<Type>], entries: &[E]) -> bool
+    ensures { Decides result (children_counts types.now ≡ annotation_counts E.seen E.annotations_of entries.now) }
 {
-    match enumerant_in(enumerants, i) {
-        Some(enumerant) => enumerant.annotations.len(),
-        None => 0,
-    }
-}
-
-/// Whether each field's annotations have one type each.
-fn fields_have_types(types: &[Vec<Type>], fields: &[FieldRecord]) -> bool
-    ensures { Decides result (children_counts types.now ≡ field_counts fields.now) }
-{
-    if types.len() != fields.len() {
+    if types.len() != entries.len() {
         return false;
     }
     for i in 0..types.len() {
-        if types_at(types, i) != field_annotations(fields, i) {
-            return false;
-        }
-    }
-    true
-}
-
-/// Whether each enumerant's annotations have one type each.
-fn enumerants_have_types(types: &[Vec<Type>], enumerants: &[EnumerantRecord]) -> bool
-    ensures { Decides result (children_counts types.now ≡ enumerant_counts enumerants.now) }
-{
-    if types.len() != enumerants.len() {
-        return false;
-    }
-    for i in 0..types.len() {
-        if types_at(types, i) != enumerant_annotations(enumerants, i) {
+        if types_at(types, i) != annotations_at(entries, i) {
             return false;
         }
     }
@@ -104,7 +60,7 @@ fn brand_has_types(node: &NodeRecord, brand: &BrandRecord) -> bool
     if brand.annotation_types.own.len() != node.annotations.len() {
         return false;
     }
-    fields_have_types(&brand.annotation_types.children, &node.body.fields)
+    have_types::<FieldRecord>(&brand.annotation_types.children, &node.body.fields)
 }
 
 /// Whether an enum has one type for each annotation.
@@ -114,7 +70,7 @@ fn enum_has_types(entry: &EnumRecord) -> bool
     if entry.annotation_types.own.len() != entry.annotations.len() {
         return false;
     }
-    enumerants_have_types(&entry.annotation_types.children, &entry.enumerants)
+    have_types::<EnumerantRecord>(&entry.annotation_types.children, &entry.enumerants)
 }
 
 /// One brand: it names a node and has a type for each field and each annotation.

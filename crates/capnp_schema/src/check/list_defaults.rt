@@ -15,7 +15,6 @@ use capnp_device::error::{Result, SchemaTable};
 use capnp_wire::PointerReader;
 
 /// Whether words hold null or a list that is read as such elements.
-#[tactic(auto, using(crate::proofs::Checking::ReadDefaults::one_level, crate::specs::Facts::Layers::elements_sized))]
 fn are_read_as(words: &[u8], element: Type) -> bool
     ensures { IsTrue result ↔ ReadsElements (seen_type element) (root_of words.now) }
 {

@@ -6,7 +6,7 @@ ghost use Rattle.capnp_schema.specs.Schema.{seen_node};
 ghost use Rattle.capnp_schema.specs.Footprint.{Spot as SeenSpot, slot_names, discriminant_names};
 ghost use Rattle.capnp_schema.specs.Entries.{lists_seen};
 ghost use Rattle.capnp_schema.specs.Checking.Spans.{span_names, some_span, SpansMeet, AreSpansOf, seen_spot};
-ghost use Rattle.capnp_schema.specs.Checking.Spans.{AddsBrand, AddsBrands, AddsField, AddsFields, AreSpansAt};
+ghost use Rattle.capnp_schema.specs.Checking.Spans.{AddsBrand, AddsBrands, AddsDepths, AddsField, AddsFields, AreSpansAt};
 
 use crate::check::groups::brand_count;
 use crate::layers::{is_pointer, struct_brand, width};
@@ -202,7 +202,23 @@ fn add_brands(
     Ok(below)
 }
 
-/// What a field of a brand names, through its groups: these are gone through one depth after another.
+/// Adds what brands name, through their groups: these are gone through one depth after another.
+fn add_depths(alloc: Global, lists: &Lists, brands: Vec<usize>, out: &mut Vec<Span>) -> Result<()>
+    ensures added { OnOk result (AddsDepths (lists_seen lists.now) brands.items out.old.items out.new.items) }
+    ensures refused { IfErr result (λ e. e.kind ≡ OutOfMemory) }
+{
+    let mut brands = brands;
+    for depth in 0..brand_count(lists) {
+        if brands.is_empty() {
+            return Ok(());
+        }
+        let below = add_brands(alloc, lists, &brands, out)?;
+        brands = below;
+    }
+    Ok(())
+}
+
+/// What a field of a brand names, through its groups.
 fn field_spans(alloc: Global, lists: &Lists, brand: usize, field: usize) -> Result<Vec<Span>>
     ensures spans { IfOk result (λ spans. AreSpansAt (lists_seen lists.now) brand field spans.items) }
     ensures refused { IfErr result (λ e. e.kind ≡ OutOfMemory) }
@@ -210,13 +226,7 @@ fn field_spans(alloc: Global, lists: &Lists, brand: usize, field: usize) -> Resu
     let mut spans = Vec::new(alloc);
     let mut brands = Vec::new(alloc);
     add_field(lists, brand, field, &mut brands, &mut spans)?;
-    for depth in 0..brand_count(lists) {
-        if brands.is_empty() {
-            return Ok(spans);
-        }
-        let below = add_brands(alloc, lists, &brands, &mut spans)?;
-        brands = below;
-    }
+    add_depths(alloc, lists, brands, &mut spans)?;
     Ok(spans)
 }
 

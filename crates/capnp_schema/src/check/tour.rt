@@ -227,18 +227,15 @@ fn tour_struct(lists: &Lists, tour: &mut Tour, brand: usize) -> Result<Step>
     ensures stands { IfOk result (λ step. step ≡ Ended → TourRests (lists_seen lists.now) tour.new) }
     ensures refused { IfErr result (λ e. e.kind ≡ OutOfMemory) }
 {
-    let mut top = match start(lists, tour, brand)? {
-        Step::At(level) => level,
-        _ => return Ok(Step::Met(None)),
-    };
+    let mut step = start(lists, tour, brand)?;
     for _ in 0..u32::MAX {
-        match take_step(lists, tour, top)? {
-            Step::At(level) => top = level,
-            Step::Ended => return Ok(Step::Ended),
-            Step::Met(meeting) => return Ok(Step::Met(meeting)),
-        }
+        let Step::At(top) = step else {
+            return Ok(step);
+        };
+        let next = take_step(lists, tour, top)?;
+        step = next;
     }
-    Ok(Step::Met(None))
+    Ok(step)
 }
 
 /// A tour that has gone through nothing.

@@ -1,7 +1,6 @@
 //! Rule 1 of the types of annotations: they name existing entries.
-ghost use Rattle.std.specs.Prelude.{◌≡◌, ◌≤◌, length, map, slice_get, MatchOption, MatchResult};
+ghost use Rattle.std.specs.Prelude.{◌≤◌, length, map, MatchOption, MatchResult};
 ghost use Rattle.std.specs.Bool.{Decides};
-ghost use Rattle.std.specs.Option.{option_copied, option_map};
 ghost use Rattle.capnp_schema.specs.Types.{seen_type};
 ghost use Rattle.capnp_schema.specs.Schema.{Brand, Enum, seen_types};
 ghost use Rattle.capnp_schema.specs.Entries.{lists_seen};
@@ -11,26 +10,18 @@ ghost use Rattle.capnp_schema.specs.Checking.Types.{seen_children, IsUnnamed, Ty
 ghost use Rattle.capnp_schema.specs.Checking.Entry.{AllOrBroken};
 
 use crate::check::fields::{check_fields, names_entry};
-use crate::check::lengths::child_at;
 use crate::check::refusal::{WHOLE, refusal};
-use crate::lists::Lists;
+use crate::lists::{Lists, entry_at};
 use crate::record::AnnotationTypes;
 use capnp_base::introspect::Type;
 use capnp_device::error::{Result, SchemaTable};
-
-/// The type of a number.
-fn type_in(types: &[Type], i: usize) -> Option<&Type>
-    ensures { option_map seen_type (option_copied result) ≡ slice_get (map seen_type types.now) i }
-{
-    types.get(i)
-}
 
 /// Whether all types name existing entries.
 fn all_named(lists: &Lists, types: &[Type]) -> bool
     ensures { Decides result (AllName (lists_seen lists.now) (map seen_type types.now)) }
 {
     for i in 0..types.len() {
-        let Some(of) = type_in(types, i) else {
+        let Some(of) = entry_at(types, i) else {
             return true;
         };
         if !names_entry(lists, of) {
@@ -46,7 +37,7 @@ fn unnamed_child(lists: &Lists, children: &[Vec<Type>]) -> Option<u16>
     ensures { AllOrBroken (seen_children children.now) (AllName (lists_seen lists.now)) result }
 {
     for i in 0..children.len() {
-        let Some(types) = child_at(children, i) else {
+        let Some(types) = entry_at(children, i) else {
             return None;
         };
         if !all_named(lists, types) {

@@ -1,15 +1,15 @@
 //! Rule 6: the words of defaults and of annotations' values.
-ghost use Rattle.std.specs.Prelude.{◌≡◌, ◌↔◌, IsTrue, MatchResult, None, map};
+ghost use Rattle.std.specs.Prelude.{◌≡◌, ◌↔◌, IsTrue, MatchResult, None};
 ghost use Rattle.capnp_wire.specs.Tree.{Null};
 ghost use Rattle.capnp_wire.specs.Words.{first_fault};
-ghost use Rattle.capnp_schema.specs.Schema.{Enumerant, Field, seen_annotations, seen_enumerant, seen_field, seen_value};
+ghost use Rattle.capnp_schema.specs.Schema.{Field, seen_annotations, seen_field, seen_value};
 ghost use Rattle.capnp_schema.specs.Entries.{lists_seen};
 ghost use Rattle.capnp_schema.specs.Accepted.{AreWords, Decodes, DefaultStands, EachOfEnum, HasWords, HaveAllWords, HaveWords};
 ghost use Rattle.capnp_schema.specs.Accepted.{IsListOrNull, IsStructOrNull, NodeHasWords, Rule3, Rule6, root_of};
 ghost use Rattle.capnp_schema.specs.Broken.{IsRefusalOf};
-ghost use Rattle.capnp_schema.specs.Checking.Entry.{IsSoAt, AllOrBroken};
+ghost use Rattle.capnp_schema.specs.Checking.Entry.{IsSoAt};
 
-use crate::check::entries::{Asked, broken_entry};
+use crate::check::entries::{Annotated, Asked, broken_entry};
 use crate::check::list_defaults::check_list_defaults;
 use crate::check::refusal::{WHOLE, refusal};
 use crate::lists::Lists;
@@ -113,7 +113,11 @@ fn default_stands(field: &FieldRecord) -> bool
 struct StandingDefault;
 
 impl Asked<StandingDefault> for FieldRecord {
-    ghost is_met = { λ r. DefaultStands (seen_field r) };
+    ghost Seen = { Field };
+
+    ghost seen = { seen_field };
+
+    ghost is_met = { DefaultStands };
 
     fn is_met(&self) -> bool {
         default_stands(self)
@@ -123,41 +127,16 @@ impl Asked<StandingDefault> for FieldRecord {
 /// That the words of each annotation's value are whole.
 struct WholeWords;
 
-impl Asked<WholeWords> for FieldRecord {
-    ghost is_met = { λ r. HaveWords (seen_annotations r.annotations.items) };
+impl<E: Annotated> Asked<WholeWords> for E {
+    ghost Seen = { E.Seen };
+
+    ghost seen = { E.seen };
+
+    ghost is_met = { λ x. HaveWords (E.annotations_of x) };
 
     fn is_met(&self) -> bool {
-        have_words(&self.annotations)
+        have_words(self.annotations())
     }
-}
-
-impl Asked<WholeWords> for EnumerantRecord {
-    ghost is_met = { λ r. HaveWords (seen_annotations r.annotations.items) };
-
-    fn is_met(&self) -> bool {
-        have_words(&self.annotations)
-    }
-}
-
-/// A field whose default does not stand.
-fn broken_default(fields: &[FieldRecord]) -> Option<usize>
-    ensures { AllOrBroken (map seen_field fields.now) DefaultStands result }
-{
-    broken_entry::<StandingDefault, FieldRecord>(fields)
-}
-
-/// A field with an annotation whose words are not whole.
-fn wordless_field(fields: &[FieldRecord]) -> Option<usize>
-    ensures { AllOrBroken (map seen_field fields.now) (λ (f : Field). HaveWords f.annotations) result }
-{
-    broken_entry::<WholeWords, FieldRecord>(fields)
-}
-
-/// An enumerant with an annotation whose words are not whole.
-fn wordless_enumerant(enumerants: &[EnumerantRecord]) -> Option<usize>
-    ensures { AllOrBroken (map seen_enumerant enumerants.now) (λ (x : Enumerant). HaveWords x.annotations) result }
-{
-    broken_entry::<WholeWords, EnumerantRecord>(enumerants)
 }
 
 fn check_node_words(lists: &Lists, entry: usize) -> Result<()>
@@ -170,10 +149,10 @@ fn check_node_words(lists: &Lists, entry: usize) -> Result<()>
     if !have_words(&node.annotations) {
         return Err(refusal(6, SchemaTable::Node, entry, WHOLE));
     }
-    if let Some(field) = wordless_field(&node.body.fields) {
+    if let Some(field) = broken_entry::<WholeWords, FieldRecord>(&node.body.fields) {
         return Err(refusal(6, SchemaTable::Node, entry, field as u16));
     }
-    match broken_default(&node.body.fields) {
+    match broken_entry::<StandingDefault, FieldRecord>(&node.body.fields) {
         Some(field) => Err(refusal(6, SchemaTable::Node, entry, field as u16)),
         None => Ok(()),
     }
@@ -189,7 +168,7 @@ fn check_enum_words(lists: &Lists, entry: usize) -> Result<()>
     if !have_words(&schema.annotations) {
         return Err(refusal(6, SchemaTable::Enum, entry, WHOLE));
     }
-    match wordless_enumerant(&schema.enumerants) {
+    match broken_entry::<WholeWords, EnumerantRecord>(&schema.enumerants) {
         Some(field) => Err(refusal(6, SchemaTable::Enum, entry, field as u16)),
         None => Ok(()),
     }

@@ -5,7 +5,7 @@ ghost use Rattle.capnp_schema.specs.Entries.{lists_seen};
 ghost use Rattle.capnp_schema.specs.Named.{NamesEntries-prop, name_entries-prop};
 ghost use Rattle.capnp_schema.specs.Types.{seen_type};
 
-use crate::check::lengths::{child_at, enumerant_in};
+use crate::lists::entry_at;
 use crate::record::AnnotationRecord;
 use crate::schema::positions::position_of;
 use crate::set::SchemaSet;
@@ -129,7 +129,7 @@ impl<'s> AnnotationList<'s> {
         let Some(typed) = lists.field_at(brand as usize, field as usize) else {
             return AnnotationList::empty(set);
         };
-        let Some(types) = child_at(&record.annotation_types.children, field as usize) else {
+        let Some(types) = entry_at(&record.annotation_types.children, field as usize) else {
             return AnnotationList::empty(set);
         };
         AnnotationList::new(set, &typed.field.annotations, types)
@@ -160,10 +160,10 @@ impl<'s> AnnotationList<'s> {
         let Some(record) = set.accepted_lists().enum_at(number as usize) else {
             return AnnotationList::empty(set);
         };
-        let Some(stored) = enumerant_in(&record.enumerants, enumerant as usize) else {
+        let Some(stored) = entry_at(&record.enumerants, enumerant as usize) else {
             return AnnotationList::empty(set);
         };
-        let Some(types) = child_at(&record.annotation_types.children, enumerant as usize) else {
+        let Some(types) = entry_at(&record.annotation_types.children, enumerant as usize) else {
             return AnnotationList::empty(set);
         };
         AnnotationList::new(set, &stored.annotations, types)

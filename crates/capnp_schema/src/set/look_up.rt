@@ -18,23 +18,13 @@ use crate::plan::{NO_PLAN, SlotPlan};
 use crate::record::FieldRecord;
 use crate::set::SchemaSet;
 
-/// The indices in a table of so many, none past the last table.
-fn indices_at(tables: &[Vec<u16>], table: usize) -> &[u16]
-    ensures { result.now ≡ table_at tables.now table }
-{
-    match tables.get(table) {
-        Some(indices) => indices,
-        None => &[],
-    }
-}
-
-/// The plans in a table of so many, none past the last table.
+/// What is in a table of so many, nothing past the last table.
 #[inline(always)]
-fn plans_at(tables: &[Vec<SlotPlan>], table: usize) -> &[SlotPlan]
+fn table_at<T>(tables: &[Vec<T>], table: usize) -> &[T]
     ensures { result.now ≡ table_at tables.now table }
 {
     match tables.get(table) {
-        Some(plans) => plans,
+        Some(entries) => entries,
         None => &[],
     }
 }
@@ -98,14 +88,14 @@ impl SchemaSet {
     fn node_names(&self, node: usize) -> &[u16]
         ensures { IsNameTable (node_at (lists_seen self.now) node).fields result.now }
     {
-        indices_at(&self.tables.by_name, node)
+        table_at(&self.tables.by_name, node)
     }
 
     /// The indices of a node's members, by discriminant value.
     fn node_members(&self, node: usize) -> &[u16]
         ensures { AreMembers (node_at (lists_seen self.now) node).fields result.now }
     {
-        indices_at(&self.tables.members, node)
+        table_at(&self.tables.members, node)
     }
 
     /// The indices of a node's plain fields, by index.
@@ -113,7 +103,7 @@ impl SchemaSet {
         ensures is { result.now ≡ plain_fields (node_at (lists_seen self.now) node).fields }
         ensures few { length result.now ≤ 65535 }
     {
-        indices_at(&self.tables.plain, node)
+        table_at(&self.tables.plain, node)
     }
 
     /// The index of the field of a name, and how many names were compared: none where there are no fields, and otherwise
@@ -167,6 +157,6 @@ impl SchemaSet {
             → IsPlan (lists_seen self.now) brand (field_at (lists_seen self.now) brand field) result.now }
         ensures group { field < length (fields_of (lists_seen self.now) brand) → IfGroup result.now.place (LeadsToGroup (lists_seen self.now) brand) }
     {
-        plan_at(plans_at(&self.tables.plans, brand as usize), field as usize)
+        plan_at(table_at(&self.tables.plans, brand as usize), field as usize)
     }
 }

@@ -5,7 +5,7 @@ use Rattle.capnp_schema.specs.Schema.{Enumerant, seen_enum, seen_enumerant}
 use Rattle.capnp_schema.specs.declared.record.EnumerantRecord.{EnumerantRecord}
 use Rattle.capnp_schema.proofs.EntryWalk.{breaks_within}
 use Rattle.capnp_schema.proofs.Checking.SmallCounts.{crowded_enum, annotated_enum, annotated_enumerant}
-use Rattle.capnp_schema.proofs.FieldWalk.{refused}
+use Rattle.capnp_schema.proofs.Checking.FieldWalk.{refused}
 use Rattle.capnp_schema.proofs.check.counts.check_enum_counts.Goals as goal
 
 pub returns-then-len-gt-MOST_ENTRIES : goal.returns-then-len-gt-MOST_ENTRIES
@@ -19,11 +19,11 @@ returns-then-not-are_few c = refused _ _ _ _ _ _ c.refusal-then-not-are_few.ensu
 pub overflow_cast-field : goal.overflow_cast-field
 overflow_cast-field c =
     let all : c.deref-2.result.now ≡ c.in-Some.schema.now.enumerants.items = c.deref-2.ensures.value in
-    let inside = breaks_within (map seen_enumerant c.deref-2.result.now) (λ (x : Enumerant). HasFewAnnotations x.annotations) c.in-Some-crowded_enumerant.field c.in-Some-crowded_enumerant.ensures in
+    let inside = breaks_within (map seen_enumerant c.deref-2.result.now) (λ (x : Enumerant). HasFewAnnotations x.annotations) c.in-Some-broken_entry.field c.in-Some-broken_entry.ensures in
     let n = length-map c.deref-2.result.now seen_enumerant in
     let m = ap (λ (l : List EnumerantRecord). length l) all in
     omega arith
 
-pub returns-in-Some-crowded_enumerant : goal.returns-in-Some-crowded_enumerant
-returns-in-Some-crowded_enumerant c = refused _ _ _ _ _ _ c.refusal-in-Some-crowded_enumerant.ensures
-    (annotated_enumerant _ _ (seen_enum c.in-Some.schema.now) (sym c.in-Some.ensures) _ (rw c.deref-2.ensures.value at c.in-Some-crowded_enumerant.ensures))
+pub returns-in-Some-broken_entry : goal.returns-in-Some-broken_entry
+returns-in-Some-broken_entry c = refused _ _ _ _ _ _ c.refusal-in-Some-broken_entry.ensures
+    (annotated_enumerant _ _ (seen_enum c.in-Some.schema.now) (sym c.in-Some.ensures) _ (rw c.deref-2.ensures.value at c.in-Some-broken_entry.ensures))

@@ -3,7 +3,7 @@ use Rattle.capnp_schema.specs.Schema.{fields_of, field_at}
 use Rattle.capnp_schema.specs.Accepted.{FieldsApart, DiscriminantApart}
 use Rattle.capnp_schema.specs.Entries.{lists_seen}
 use Rattle.capnp_schema.proofs.Checking.BrandRefusals.{refused_at_field, refused_at_discriminant}
-use Rattle.capnp_schema.proofs.FieldWalk.{one_more}
+use Rattle.capnp_schema.proofs.Checking.FieldWalk.{one_more}
 use Rattle.capnp_schema.proofs.FieldCounts.{index_fits}
 use Rattle.capnp_schema.proofs.check.footprints.find_meeting.Goals as goal
 

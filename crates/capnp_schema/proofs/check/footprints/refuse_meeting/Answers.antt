@@ -5,7 +5,7 @@ use Rattle.capnp_schema.specs.Checking.Spans.{seen_spot}
 use Rattle.capnp_schema.specs.Entries.{lists_seen}
 use Rattle.capnp_schema.proofs.Checking.BrandRefusals.{refused_at_field, refused_at_discriminant}
 use Rattle.capnp_schema.proofs.FieldCounts.{index_fits}
-use Rattle.capnp_schema.proofs.FieldWalk.{found_node}
+use Rattle.capnp_schema.proofs.FoundEntries.{found_node}
 use Rattle.capnp_schema.proofs.Checking.SpanTables.{named_twice, discriminant_named}
 use Rattle.capnp_schema.proofs.check.footprints.refuse_meeting.Goals as goal
 

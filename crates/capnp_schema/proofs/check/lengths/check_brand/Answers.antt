@@ -2,7 +2,7 @@ use Rattle.std.proofs.lemmas.Bool.Decides.{not_from_Decides}
 use Rattle.capnp_device.specs.declared.error.SchemaTable.TheVariants.{Brand as InBrands}
 use Rattle.capnp_schema.specs.Schema.{seen_node, seen_brand}
 use Rattle.capnp_schema.specs.Entries.{lists_seen}
-use Rattle.capnp_schema.proofs.FieldWalk.{refused}
+use Rattle.capnp_schema.proofs.Checking.FieldWalk.{refused}
 use Rattle.capnp_schema.proofs.Checking.Lengths.{names_no_node, brand_stands, lacks_types}
 use Rattle.capnp_schema.proofs.check.lengths.check_brand.Goals as goal
 

@@ -7,7 +7,7 @@ use Rattle.capnp_schema.specs.Entries.{lists_seen}
 use Rattle.capnp_schema.specs.Accepted.{EnumHasTypes}
 use Rattle.capnp_schema.specs.Broken.{enum_lengths}
 use Rattle.capnp_schema.proofs.EntryWalk.{one_stands, all_stand, entry_breaks}
-use Rattle.capnp_schema.proofs.FieldWalk.{refused}
+use Rattle.capnp_schema.proofs.Checking.FieldWalk.{refused}
 use Rattle.capnp_schema.proofs.check.lengths.check_enums.Goals as goal
 
 pub returns-then-not-enum_has_types : goal.returns-then-not-enum_has_types

@@ -5,7 +5,7 @@ use Rattle.capnp_schema.specs.Accepted.{ReadsDefault}
 use Rattle.capnp_schema.proofs.EntryWalk.{is_so_here}
 use Rattle.capnp_schema.proofs.FieldCounts.{index_fits}
 use Rattle.capnp_schema.proofs.Checking.ReadDefaults.{field_inside, unread_at}
-use Rattle.capnp_schema.proofs.FieldWalk.{refused}
+use Rattle.capnp_schema.proofs.Checking.FieldWalk.{refused}
 use Rattle.capnp_schema.proofs.check.list_defaults.check_list_default.Goals as goal
 
 pub overflow_cast-field : goal.overflow_cast-field

@@ -4,7 +4,7 @@ use Rattle.std.proofs.lemmas.List.{length-map}
 use Rattle.capnp_schema.specs.Entries.{lists_seen}
 use Rattle.capnp_schema.specs.Schema.{seen_brand, fields_of}
 use Rattle.capnp_schema.specs.Accepted.{ReadsDefault}
-use Rattle.capnp_schema.proofs.FieldWalk.{one_more}
+use Rattle.capnp_schema.proofs.Checking.FieldWalk.{one_more}
 use Rattle.capnp_schema.proofs.Checking.ReadDefaults.{read_all}
 use Rattle.capnp_schema.proofs.check.list_defaults.check_list_defaults.Goals as goal
 

@@ -5,7 +5,7 @@ use Rattle.capnp_schema.specs.Names.{IsRepeated}
 use Rattle.capnp_schema.specs.Schema.{Field, seen_field}
 use Rattle.capnp_schema.proofs.FieldCounts.{few_fields}
 use Rattle.capnp_schema.proofs.Checking.NameTables.{repeated_at}
-use Rattle.capnp_schema.proofs.FieldWalk.{refused}
+use Rattle.capnp_schema.proofs.Checking.FieldWalk.{refused}
 use Rattle.capnp_schema.proofs.check.names.name_table.Goals as goal
 
 pub name_order-requires : goal.name_order-requires

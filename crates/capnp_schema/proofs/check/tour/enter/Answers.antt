@@ -3,7 +3,7 @@ use Rattle.capnp_schema.specs.Schema.{seen_node}
 use Rattle.capnp_schema.specs.Entries.{lists_seen}
 use Rattle.capnp_schema.specs.Checking.Levels.{IsClaimed}
 use Rattle.capnp_schema.specs.declared.check.claims.Level.{Level}
-use Rattle.capnp_schema.proofs.FieldWalk.{found_node}
+use Rattle.capnp_schema.proofs.FoundEntries.{found_node}
 use Rattle.capnp_schema.proofs.Checking.TourGroups.{group_entered}
 use Rattle.capnp_schema.proofs.check.tour.enter.Goals as goal
 

@@ -5,7 +5,7 @@ use Rattle.capnp_schema.specs.Schema.{Brand, seen_brand}
 use Rattle.capnp_schema.specs.Accepted.{TypesName}
 use Rattle.capnp_schema.specs.Entries.{lists_seen}
 use Rattle.capnp_schema.proofs.EntryWalk.{one_stands, all_stand}
-use Rattle.capnp_schema.proofs.FieldWalk.{refused}
+use Rattle.capnp_schema.proofs.Checking.FieldWalk.{refused}
 use Rattle.capnp_schema.proofs.Checking.Types.{brand_unnamed, few_brand_children, children_length}
 use Rattle.capnp_schema.proofs.check.types.check_brand_types.Goals as goal
 

@@ -5,7 +5,7 @@ use Rattle.capnp_schema.specs.Schema.{Enum, seen_enum}
 use Rattle.capnp_schema.specs.Accepted.{TypesName}
 use Rattle.capnp_schema.specs.Entries.{lists_seen}
 use Rattle.capnp_schema.proofs.EntryWalk.{one_stands, all_stand}
-use Rattle.capnp_schema.proofs.FieldWalk.{refused}
+use Rattle.capnp_schema.proofs.Checking.FieldWalk.{refused}
 use Rattle.capnp_schema.proofs.Checking.Types.{enum_unnamed, few_enum_children, children_length}
 use Rattle.capnp_schema.proofs.check.types.check_enum_types.Goals as goal
 

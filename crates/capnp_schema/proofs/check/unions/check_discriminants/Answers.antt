@@ -7,7 +7,7 @@ use Rattle.capnp_schema.specs.Entries.{lists_seen}
 use Rattle.capnp_schema.specs.Accepted.{DiscriminantFits}
 use Rattle.capnp_schema.specs.Broken.{discriminant_outside}
 use Rattle.capnp_schema.proofs.EntryWalk.{one_stands, all_stand, entry_breaks}
-use Rattle.capnp_schema.proofs.FieldWalk.{refused}
+use Rattle.capnp_schema.proofs.Checking.FieldWalk.{refused}
 use Rattle.capnp_schema.proofs.check.unions.check_discriminants.Goals as goal
 
 pub returns-then-not-is_discriminant_inside : goal.returns-then-not-is_discriminant_inside

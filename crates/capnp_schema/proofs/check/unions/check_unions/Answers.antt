@@ -7,7 +7,7 @@ use Rattle.capnp_schema.specs.Accepted.{HasEachMember}
 use Rattle.capnp_schema.specs.Broken.{members}
 use Rattle.std.proofs.lemmas.Bool.Decides.{not_from_Decides}
 use Rattle.capnp_schema.proofs.EntryWalk.{one_stands, all_stand, entry_breaks}
-use Rattle.capnp_schema.proofs.FieldWalk.{refused}
+use Rattle.capnp_schema.proofs.Checking.FieldWalk.{refused}
 use Rattle.capnp_schema.proofs.check.unions.check_unions.Goals as goal
 
 pub returns-then-not-branch : goal.returns-then-not-branch

@@ -6,7 +6,7 @@ use Rattle.capnp_schema.specs.Entries.{lists_seen}
 use Rattle.capnp_schema.specs.declared.record.EnumerantRecord.{EnumerantRecord}
 use Rattle.capnp_schema.proofs.EntryWalk.{breaks_within}
 use Rattle.capnp_schema.proofs.Checking.WordPlaces.{few_enumerants_at, wordless_enum_at, wordless_enumerant_at}
-use Rattle.capnp_schema.proofs.FieldWalk.{refused}
+use Rattle.capnp_schema.proofs.Checking.FieldWalk.{refused}
 use Rattle.capnp_schema.proofs.check.values.check_enum_words.Goals as goal
 
 pub returns-then-not-have_words : goal.returns-then-not-have_words
@@ -16,13 +16,13 @@ returns-then-not-have_words c = refused _ _ _ _ _ _ c.refusal.ensures
 pub overflow_cast-field : goal.overflow_cast-field
 overflow_cast-field c =
     let all : c.deref-2.result.now ≡ c.in-Some.schema.now.enumerants.items = c.deref-2.ensures.value in
-    let inside = breaks_within (map seen_enumerant c.deref-2.result.now) (λ (x : Enumerant). HaveWords x.annotations) c.in-Some-wordless_enumerant.field c.in-Some-wordless_enumerant.ensures in
+    let inside = breaks_within (map seen_enumerant c.deref-2.result.now) (λ (x : Enumerant). HaveWords x.annotations) c.in-Some-broken_entry.field c.in-Some-broken_entry.ensures in
     let few = few_enumerants_at (lists_seen c.args.lists.now) c.args.entry (seen_enum c.in-Some.schema.now) (sym c.in-Some.ensures) c.requires in
     let n = length-map c.deref-2.result.now seen_enumerant in
     let k = length-map c.in-Some.schema.now.enumerants.items seen_enumerant in
     let m = ap (λ (l : List EnumerantRecord). length l) all in
     omega arith
 
-pub returns-in-Some-wordless_enumerant : goal.returns-in-Some-wordless_enumerant
-returns-in-Some-wordless_enumerant c = refused _ _ _ _ _ _ c.refusal-in-Some-wordless_enumerant.ensures
-    (wordless_enumerant_at _ _ (seen_enum c.in-Some.schema.now) (sym c.in-Some.ensures) _ (rw c.deref-2.ensures.value at c.in-Some-wordless_enumerant.ensures))
+pub returns-in-Some-broken_entry : goal.returns-in-Some-broken_entry
+returns-in-Some-broken_entry c = refused _ _ _ _ _ _ c.refusal-in-Some-broken_entry.ensures
+    (wordless_enumerant_at _ _ (seen_enum c.in-Some.schema.now) (sym c.in-Some.ensures) _ (rw c.deref-2.ensures.value at c.in-Some-broken_entry.ensures))

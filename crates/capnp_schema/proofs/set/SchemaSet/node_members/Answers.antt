@@ -9,7 +9,7 @@ use Rattle.capnp_schema.proofs.set.SchemaSet.node_members.Goals as goal
 
 pub returns : goal.returns
 returns c =
-    let is : c.indices_at.result.now ≡ table_at c.self.inside.tables.members.items c.args.node =
-    c.indices_at.ensures ∙ ap (λ (ts : List (Vec ℕ Global)). table_at ts c.args.node) c.deref.ensures.value in
-    member_found (node_at (lists_seen c.args.self.now) c.args.node) c.indices_at.result.now (has_each (lists_seen c.args.self.now) (accepted_seen c.self.view_is c.self.invariant.0) c.args.node)
+    let is : c.table_at.result.now ≡ table_at c.self.inside.tables.members.items c.args.node =
+    c.table_at.ensures ∙ ap (λ (ts : List (Vec ℕ Global)). table_at ts c.args.node) c.deref.ensures.value in
+    member_found (node_at (lists_seen c.args.self.now) c.args.node) c.table_at.result.now (has_each (lists_seen c.args.self.now) (accepted_seen c.self.view_is c.self.invariant.0) c.args.node)
     (subst (IsMemberTable (node_at (lists_seen c.args.self.now) c.args.node)) (sym is) ((tables_seen c.self.view_is c.self.invariant.1).members c.args.node))

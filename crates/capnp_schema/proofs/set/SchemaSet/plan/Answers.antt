@@ -11,9 +11,9 @@ use Rattle.capnp_schema.proofs.set.SchemaSet.plan.Goals as goal
 
 pub returns-clause-is : goal.returns-clause-is
 returns-clause-is c =
-    let plans : c.plans_at.result.now ≡ map (plan_of (lists_seen c.args.self.now) c.args.brand) (fields_of (lists_seen c.args.self.now) c.args.brand) =
-    c.plans_at.ensures ∙ ap (λ (ts : List (Vec SlotPlan Global)). table_at ts c.args.brand) c.deref.ensures.value ∙ (tables_seen c.self.view_is c.self.invariant.1).plans c.args.brand in
-    c.plan_at.ensures ∙ plan_here (lists_seen c.args.self.now) c.args.brand c.args.field c.plans_at.result.now plans
+    let plans : c.table_at.result.now ≡ map (plan_of (lists_seen c.args.self.now) c.args.brand) (fields_of (lists_seen c.args.self.now) c.args.brand) =
+    c.table_at.ensures ∙ ap (λ (ts : List (Vec SlotPlan Global)). table_at ts c.args.brand) c.deref.ensures.value ∙ (tables_seen c.self.view_is c.self.invariant.1).plans c.args.brand in
+    c.plan_at.ensures ∙ plan_here (lists_seen c.args.self.now) c.args.brand c.args.field c.table_at.result.now plans
 
 pub returns-clause-stands : goal.returns-clause-stands
 returns-clause-stands c = plan_stands (lists_seen c.args.self.now) (accepted_seen c.self.view_is c.self.invariant.0) (ranges_seen c.self.view_is c.self.invariant.2) c.args.brand c.args.field c.plan_at.result.now (returns-clause-is c)

@@ -23,25 +23,25 @@ children xs ys types i same at = child_seen ys types i (subst (λ zs. Some types
 
 pub new-requires-clause-have_types : goal.new-requires-clause-have_types
 new-requires-clause-have_types c =
-    let same = enumerant_has_types (lists_seen c.accepted_lists.result.now) c.accepted_lists.ensures.accepted c.args.number c.args.enumerant (seen_enum c.in-Some.record.now) (seen_enumerant c.in-Some-enumerant_in.stored.now) (map seen_type c.in-Some-child_at.types.now.items)
+    let same = enumerant_has_types (lists_seen c.accepted_lists.result.now) c.accepted_lists.ensures.accepted c.args.number c.args.enumerant (seen_enum c.in-Some.record.now) (seen_enumerant c.in-Some-entry_at.stored.now) (map seen_type c.in-Some-entry_at-2.types.now.items)
     c.in-Some.ensures
-    (named c.deref.result.now c.in-Some.record.now.enumerants.items c.in-Some-enumerant_in.stored.now c.args.enumerant c.deref.ensures.value c.in-Some-enumerant_in.ensures)
-    (children c.deref-2.result.now c.in-Some.record.now.annotation_types.children.items c.in-Some-child_at.types.now c.args.enumerant c.deref-2.ensures.value c.in-Some-child_at.ensures) in
-    ap length c.deref-4.ensures.value ∙ sym (length-map c.in-Some-child_at.types.now.items seen_type) ∙ same ∙ length-map c.in-Some-enumerant_in.stored.now.annotations.items seen_annotation ∙ ap length (sym c.deref-3.ensures.value)
+    (named c.deref.result.now c.in-Some.record.now.enumerants.items c.in-Some-entry_at.stored.now c.args.enumerant c.deref.ensures.value c.in-Some-entry_at.ensures)
+    (children c.deref-2.result.now c.in-Some.record.now.annotation_types.children.items c.in-Some-entry_at-2.types.now c.args.enumerant c.deref-2.ensures.value c.in-Some-entry_at-2.ensures) in
+    ap length c.deref-4.ensures.value ∙ sym (length-map c.in-Some-entry_at-2.types.now.items seen_type) ∙ same ∙ length-map c.in-Some-entry_at.stored.now.annotations.items seen_annotation ∙ ap length (sym c.deref-3.ensures.value)
 
 pub new-requires-clause-are_few : goal.new-requires-clause-are_few
 new-requires-clause-are_few c =
-    let few = few_of_enumerant (lists_seen c.accepted_lists.result.now) c.accepted_lists.ensures.accepted c.args.number c.args.enumerant (seen_enum c.in-Some.record.now) (seen_enumerant c.in-Some-enumerant_in.stored.now) c.in-Some.ensures
-    (named c.deref.result.now c.in-Some.record.now.enumerants.items c.in-Some-enumerant_in.stored.now c.args.enumerant c.deref.ensures.value c.in-Some-enumerant_in.ensures) in
-    let e = ap length c.deref-3.ensures.value ∙ sym (length-map c.in-Some-enumerant_in.stored.now.annotations.items seen_annotation) in
+    let few = few_of_enumerant (lists_seen c.accepted_lists.result.now) c.accepted_lists.ensures.accepted c.args.number c.args.enumerant (seen_enum c.in-Some.record.now) (seen_enumerant c.in-Some-entry_at.stored.now) c.in-Some.ensures
+    (named c.deref.result.now c.in-Some.record.now.enumerants.items c.in-Some-entry_at.stored.now c.args.enumerant c.deref.ensures.value c.in-Some-entry_at.ensures) in
+    let e = ap length c.deref-3.ensures.value ∙ sym (length-map c.in-Some-entry_at.stored.now.annotations.items seen_annotation) in
     subst (λ n. n < 2 ^ 29) (sym e) few
 
 pub returns-clause-typed : goal.returns-clause-typed
-returns-clause-typed c = c.new.ensures.entries ∙ same_parts c.deref-3.result.now c.in-Some-enumerant_in.stored.now.annotations.items c.deref-4.result.now c.in-Some-child_at.types.now.items c.deref-3.ensures.value c.deref-4.ensures.value
-    ∙ enumerant_is (lists_seen c.accepted_lists.result.now) c.args.number c.args.enumerant (seen_enum c.in-Some.record.now) (seen_enumerant c.in-Some-enumerant_in.stored.now) (map seen_type c.in-Some-child_at.types.now.items)
+returns-clause-typed c = c.new.ensures.entries ∙ same_parts c.deref-3.result.now c.in-Some-entry_at.stored.now.annotations.items c.deref-4.result.now c.in-Some-entry_at-2.types.now.items c.deref-3.ensures.value c.deref-4.ensures.value
+    ∙ enumerant_is (lists_seen c.accepted_lists.result.now) c.args.number c.args.enumerant (seen_enum c.in-Some.record.now) (seen_enumerant c.in-Some-entry_at.stored.now) (map seen_type c.in-Some-entry_at-2.types.now.items)
     c.in-Some.ensures
-    (named c.deref.result.now c.in-Some.record.now.enumerants.items c.in-Some-enumerant_in.stored.now c.args.enumerant c.deref.ensures.value c.in-Some-enumerant_in.ensures)
-    (children c.deref-2.result.now c.in-Some.record.now.annotation_types.children.items c.in-Some-child_at.types.now c.args.enumerant c.deref-2.ensures.value c.in-Some-child_at.ensures)
+    (named c.deref.result.now c.in-Some.record.now.enumerants.items c.in-Some-entry_at.stored.now c.args.enumerant c.deref.ensures.value c.in-Some-entry_at.ensures)
+    (children c.deref-2.result.now c.in-Some.record.now.annotation_types.children.items c.in-Some-entry_at-2.types.now c.args.enumerant c.deref-2.ensures.value c.in-Some-entry_at-2.ensures)
     ∙ ap (λ (l : Lists). enumerant_annotations (lists_seen l) c.args.number c.args.enumerant) c.accepted_lists.ensures.is
 
 pub returns-clause-whole : goal.returns-clause-whole
@@ -49,4 +49,4 @@ returns-clause-whole c = ap annotations_of (returns-clause-typed c)
     ∙ enumerant_whole (lists_seen c.args.set.now) (subst (λ (l : Lists). IsAccepted (lists_seen l)) c.accepted_lists.ensures.is c.accepted_lists.ensures.accepted) c.args.number c.args.enumerant
 
 pub new-requires-clause-are_named : goal.new-requires-clause-are_named
-new-requires-clause-are_named c = enum_child_named c.accepted_lists.result.now c.args.set.now c.accepted_lists.ensures.is c.accepted_lists.ensures.accepted c.args.number c.in-Some.record.now c.in-Some.ensures c.deref-2.result.now c.in-Some-child_at.types.now c.args.enumerant c.deref-4.result.now c.deref-2.ensures.value c.in-Some-child_at.ensures c.deref-4.ensures.value
+new-requires-clause-are_named c = enum_child_named c.accepted_lists.result.now c.args.set.now c.accepted_lists.ensures.is c.accepted_lists.ensures.accepted c.args.number c.in-Some.record.now c.in-Some.ensures c.deref-2.result.now c.in-Some-entry_at-2.types.now c.args.enumerant c.deref-4.result.now c.deref-2.ensures.value c.in-Some-entry_at-2.ensures c.deref-4.ensures.value

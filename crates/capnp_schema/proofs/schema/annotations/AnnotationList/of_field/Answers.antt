@@ -25,13 +25,13 @@ returns-in_default-clause-typed c = c.empty.ensures.entries ∙ no_brand_field (
 pub returns-in_default-clause-whole : goal.returns-in_default-clause-whole
 returns-in_default-clause-whole c = whole_of c.accepted_lists-lists.result.now c.args.set.now c.accepted_lists-lists.ensures.is c.accepted_lists-lists.ensures.accepted c.args.brand c.args.field (annotations_in c.empty.result) (returns-in_default-clause-typed c)
 
-pub returns-in_default-child_at-clause-typed : goal.returns-in_default-child_at-clause-typed
-returns-in_default-child_at-clause-typed c = c.empty-in_default-child_at.ensures.entries ∙ no_child_field (lists_seen c.accepted_lists-lists.result.now) c.args.brand c.args.field (seen_brand c.in-Some.record.now) c.in-Some.ensures
-    (no_child_seen c.in-Some.record.now.annotation_types.children.items c.args.field (subst (λ xs. None ≡ slice_get xs c.args.field) c.deref.ensures.value c.in_default-child_at.ensures))
+pub returns-in_default-entry_at-clause-typed : goal.returns-in_default-entry_at-clause-typed
+returns-in_default-entry_at-clause-typed c = c.empty-in_default-entry_at.ensures.entries ∙ no_child_field (lists_seen c.accepted_lists-lists.result.now) c.args.brand c.args.field (seen_brand c.in-Some.record.now) c.in-Some.ensures
+    (no_child_seen c.in-Some.record.now.annotation_types.children.items c.args.field (subst (λ xs. None ≡ slice_get xs c.args.field) c.deref.ensures.value c.in_default-entry_at.ensures))
     ∙ ap (λ (l : Lists). field_annotations (lists_seen l) c.args.brand c.args.field) c.accepted_lists-lists.ensures.is
 
-pub returns-in_default-child_at-clause-whole : goal.returns-in_default-child_at-clause-whole
-returns-in_default-child_at-clause-whole c = whole_of c.accepted_lists-lists.result.now c.args.set.now c.accepted_lists-lists.ensures.is c.accepted_lists-lists.ensures.accepted c.args.brand c.args.field (annotations_in c.empty-in_default-child_at.result) (returns-in_default-child_at-clause-typed c)
+pub returns-in_default-entry_at-clause-whole : goal.returns-in_default-entry_at-clause-whole
+returns-in_default-entry_at-clause-whole c = whole_of c.accepted_lists-lists.result.now c.args.set.now c.accepted_lists-lists.ensures.is c.accepted_lists-lists.ensures.accepted c.args.brand c.args.field (annotations_in c.empty-in_default-entry_at.result) (returns-in_default-entry_at-clause-typed c)
 
 -- what is found of the field's types
 children : (xs ys : List (Vec TypeHandle Global)) (types : Vec TypeHandle Global) (i : ℕ) → xs ≡ ys → Some types ≡ slice_get xs i → Some (map seen_type types.items) ≡ slice_get (map (λ (ts : Vec TypeHandle Global). map seen_type ts.items) ys) i
@@ -39,9 +39,9 @@ children xs ys types i same at = child_seen ys types i (subst (λ zs. Some types
 
 pub new-requires-clause-have_types : goal.new-requires-clause-have_types
 new-requires-clause-have_types c =
-    let same = field_has_types (lists_seen c.accepted_lists-lists.result.now) c.accepted_lists-lists.ensures.accepted c.args.brand c.args.field (seen_brand c.in-Some.record.now) (seen_typed c.in-Some-field_at.typed) (map seen_type c.in-Some-child_at.types.now.items)
-    c.in-Some.ensures c.in-Some-field_at.ensures (children c.deref.result.now c.in-Some.record.now.annotation_types.children.items c.in-Some-child_at.types.now c.args.field c.deref.ensures.value c.in-Some-child_at.ensures) in
-    ap length c.deref-3.ensures.value ∙ sym (length-map c.in-Some-child_at.types.now.items seen_type) ∙ same ∙ length-map c.in-Some-field_at.typed.field.now.annotations.items seen_annotation ∙ ap length (sym c.deref-2.ensures.value)
+    let same = field_has_types (lists_seen c.accepted_lists-lists.result.now) c.accepted_lists-lists.ensures.accepted c.args.brand c.args.field (seen_brand c.in-Some.record.now) (seen_typed c.in-Some-field_at.typed) (map seen_type c.in-Some-entry_at.types.now.items)
+    c.in-Some.ensures c.in-Some-field_at.ensures (children c.deref.result.now c.in-Some.record.now.annotation_types.children.items c.in-Some-entry_at.types.now c.args.field c.deref.ensures.value c.in-Some-entry_at.ensures) in
+    ap length c.deref-3.ensures.value ∙ sym (length-map c.in-Some-entry_at.types.now.items seen_type) ∙ same ∙ length-map c.in-Some-field_at.typed.field.now.annotations.items seen_annotation ∙ ap length (sym c.deref-2.ensures.value)
 
 pub new-requires-clause-are_few : goal.new-requires-clause-are_few
 new-requires-clause-are_few c =
@@ -50,13 +50,13 @@ new-requires-clause-are_few c =
     subst (λ n. n < 2 ^ 29) (sym e) few
 
 pub returns-clause-typed : goal.returns-clause-typed
-returns-clause-typed c = c.new.ensures.entries ∙ same_parts c.deref-2.result.now c.in-Some-field_at.typed.field.now.annotations.items c.deref-3.result.now c.in-Some-child_at.types.now.items c.deref-2.ensures.value c.deref-3.ensures.value
-    ∙ field_is (lists_seen c.accepted_lists-lists.result.now) c.args.brand c.args.field (seen_brand c.in-Some.record.now) (seen_typed c.in-Some-field_at.typed) (map seen_type c.in-Some-child_at.types.now.items)
-    c.in-Some.ensures c.in-Some-field_at.ensures (children c.deref.result.now c.in-Some.record.now.annotation_types.children.items c.in-Some-child_at.types.now c.args.field c.deref.ensures.value c.in-Some-child_at.ensures)
+returns-clause-typed c = c.new.ensures.entries ∙ same_parts c.deref-2.result.now c.in-Some-field_at.typed.field.now.annotations.items c.deref-3.result.now c.in-Some-entry_at.types.now.items c.deref-2.ensures.value c.deref-3.ensures.value
+    ∙ field_is (lists_seen c.accepted_lists-lists.result.now) c.args.brand c.args.field (seen_brand c.in-Some.record.now) (seen_typed c.in-Some-field_at.typed) (map seen_type c.in-Some-entry_at.types.now.items)
+    c.in-Some.ensures c.in-Some-field_at.ensures (children c.deref.result.now c.in-Some.record.now.annotation_types.children.items c.in-Some-entry_at.types.now c.args.field c.deref.ensures.value c.in-Some-entry_at.ensures)
     ∙ ap (λ (l : Lists). field_annotations (lists_seen l) c.args.brand c.args.field) c.accepted_lists-lists.ensures.is
 
 pub returns-clause-whole : goal.returns-clause-whole
 returns-clause-whole c = whole_of c.accepted_lists-lists.result.now c.args.set.now c.accepted_lists-lists.ensures.is c.accepted_lists-lists.ensures.accepted c.args.brand c.args.field (annotations_in c.new.result) (returns-clause-typed c)
 
 pub new-requires-clause-are_named : goal.new-requires-clause-are_named
-new-requires-clause-are_named c = brand_child_named c.accepted_lists-lists.result.now c.args.set.now c.accepted_lists-lists.ensures.is c.accepted_lists-lists.ensures.accepted c.args.brand c.in-Some.record.now c.in-Some.ensures c.deref.result.now c.in-Some-child_at.types.now c.args.field c.deref-3.result.now c.deref.ensures.value c.in-Some-child_at.ensures c.deref-3.ensures.value
+new-requires-clause-are_named c = brand_child_named c.accepted_lists-lists.result.now c.args.set.now c.accepted_lists-lists.ensures.is c.accepted_lists-lists.ensures.accepted c.args.brand c.in-Some.record.now c.in-Some.ensures c.deref.result.now c.in-Some-entry_at.types.now c.args.field c.deref-3.result.now c.deref.ensures.value c.in-Some-entry_at.ensures c.deref-3.ensures.value

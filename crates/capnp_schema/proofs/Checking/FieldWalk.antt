@@ -1,7 +1,6 @@
 -- What the check of one field says of the rules, and all fields of all brands by one after another.
-use Rattle.std.proofs.Common.{ℕ, ◌≡◌, ◌<◌, ◌+◌, ⊎_elim, true, false, length, slice_get, Option, Some, None, refl, sym, ap, subst, arith}
+use Rattle.std.proofs.Common.{ℕ, ◌≡◌, ◌<◌, ◌+◌, ⊎_elim, true, false, length, slice_get, Some, refl, sym, subst, arith}
 use Rattle.std.specs.Bool.{Decides}
-use Rattle.std.specs.Option.{unwrap_or}
 use Rattle.std.proofs.lemmas.Bool.{cases_lt}
 use Rattle.std.proofs.lemmas.Bool.Decides.{not_from_Decides}
 use Rattle.std.proofs.lemmas.Option.{slice_get_within}
@@ -9,27 +8,16 @@ use Rattle.capnp_device.specs.declared.error.SchemaTable.{SchemaTable}
 use Rattle.capnp_device.specs.declared.error.SchemaTable.TheVariants.{Brand as InBrands}
 use Rattle.capnp_device.specs.declared.error.ErrorKind.{ErrorKind}
 use Rattle.capnp_device.specs.declared.error.ErrorKind.TheVariants as error
-use Rattle.capnp_schema.specs.Schema.{Schemas, Node, Brand, TypedField, no_node, no_brand, no_field, node_of, node_at, fields_of, field_at}
-use Rattle.capnp_schema.specs.Entries.{brand_node, node_of_entry}
+use Rattle.capnp_schema.specs.Schema.{Schemas, Node, TypedField, node_of, fields_of, field_at}
+use Rattle.capnp_schema.specs.Entries.{brand_node}
 use Rattle.capnp_schema.specs.Accepted.{DefaultIsOfType, EachField, HasNamedType, NamesOwnGroup, SlotLiesInside}
 use Rattle.capnp_schema.specs.Broken.{FieldBreaks, IsBroken, field_type, slot_outside, default_kind, group_type, IsKindOf}
 use Rattle.capnp_schema.specs.Checking.Fields.{FieldStands, FieldsStand}
+use Rattle.capnp_schema.proofs.FoundEntries.{found_field, found_node}
 
 -- a refusal that names a broken rule
 pub refused : (set : Schemas) (kind : ErrorKind) (rule : ℕ) (table : SchemaTable) (entry field : ℕ) → kind ≡ error.Schema rule table entry field → IsBroken set rule table entry field → IsKindOf set kind
 refused set kind rule table entry field is broken = subst (IsKindOf set) (sym is) broken
-
--- the node of a brand, where it is found
-pub found_node : (set : Schemas) (b : ℕ) (n : Node) → Some n ≡ brand_node set b → node_of set b ≡ n
-found_node set b n e = by_brand (slice_get set.brands b) e
-  where
-    by_brand : (o : Option Brand) → Some n ≡ node_of_entry set o → node_at set (unwrap_or o (no_brand set)).node ≡ n
-    by_brand None q = cc
-    by_brand (Some x) q = ap (λ o. unwrap_or o no_node) (sym q)
-
--- a field, where it is found
-pub found_field : (set : Schemas) (b i : ℕ) (f : TypedField) → Some f ≡ slice_get (fields_of set b) i → field_at set b i ≡ f
-found_field set b i f e = ap (λ o. unwrap_or o no_field) (sym e)
 
 module _ (set : Schemas) (b i : ℕ) (f : TypedField) (in_brands : b < length set.brands) (found : Some f ≡ slice_get (fields_of set b) i) where
   breaks : (P : TypedField → Type 0) → (P f → ⊥) → FieldBreaks set P b i

@@ -1,7 +1,0 @@
-use Rattle.std.proofs.Common.{◌≡◌, map, take}
-use Rattle.capnp_schema.specs.Types.{seen_type}
-use Rattle.capnp_schema.specs.BuiltinRows.{field_type}
-use Rattle.capnp_schema.proofs.builtin.rows.field_types_of.Given as goal
-
-abbrev pub invariant-loop-row : goal.invariant-loop-row
-invariant-loop-row l = map seen_type l.out.items ≡ map field_type (take l.row-index l.rows)
