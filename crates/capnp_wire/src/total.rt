@@ -2,7 +2,8 @@
 ghost use Rattle.std.specs.Prelude.{◌≡◌, ◌+◌, ◌*◌, None, IfErr, IfOk, IsTrue};
 ghost use Rattle.capnp_wire.specs.Locate.{NoTarget, target_at};
 ghost use Rattle.capnp_wire.specs.Backing.{segment_list};
-ghost use Rattle.capnp_wire.specs.Tree.{Composite, Null, tree_count};
+ghost use Rattle.capnp_wire.specs.Place.{tree_below};
+ghost use Rattle.capnp_wire.specs.Tree.{Composite, tree_count};
 ghost use Rattle.capnp_wire.specs.Found.{element_structs, found_tree, parts_tree, pointer_tree, pointer_trees};
 ghost use Rattle.capnp_wire.specs.Objects.{object_tree};
 ghost use Rattle.capnp_wire.specs.Words.{first_fault, first_fault_of_all, first_fault_of_elements, words_below_all, words_of, words_of_all, words_of_struct};
@@ -12,9 +13,10 @@ use crate::block::{Elements, count_elements, get_element, have_no_pointers};
 use crate::bytes::get_word;
 use crate::fault::{Fault, refuse};
 use crate::found::{Found, StructParts};
+use crate::look::look_at_word;
 use crate::look_objects::look_at_object;
 use crate::object::Object;
-use crate::pointer::{Pointer, look};
+use crate::pointer::Pointer;
 use crate::pointers::{Pointers, count_pointers, get_pointer};
 use crate::segments::Segments;
 use crate::size::{MessageSize, StructSize};
@@ -44,37 +46,38 @@ fn is_null_word(segments: Segments<'_>, segment: &[u8], w: usize) -> bool
     w < segment.len() / 8 && get_word(segment, w) == 0
 }
 
-/// Whether a pointer is a word of zeros.
-#[inline(always)]
-fn is_null(pointer: Pointer<'_>) -> bool
-    ensures { IsTrue result → pointer_tree pointer.entry ≡ Null }
-{
-    match pointer {
-        Pointer::Word {
-            depth: _,
-            is_stream,
-            bytes,
-            segment,
-            index,
-        } => is_null_word(Segments { bytes, is_stream }, segment, index),
-        _ => false,
-    }
-}
-
-/// The words of what stands at a place. Most pointers of many messages are null, so these are told apart before they are
-/// looked at.
+/// The words of what stands at a place, which is looked at here and not by `look`: so words and objects meet in no match.
 #[cycle(total)]
 #[inline(always)]
 fn total_pointer(pointer: Pointer<'_>) -> Total
     ensures { Totals result (first_fault (pointer_tree pointer.entry)) (words_of (pointer_tree pointer.entry)) }
 {
-    if is_null(pointer) {
+    match pointer {
+        Pointer::Word {
+            depth,
+            is_stream,
+            bytes,
+            segment,
+            index,
+        } => total_word(Segments { bytes, is_stream }, segment, index, depth),
+        Pointer::Object(object) => total_object(object),
+        Pointer::Null => Ok(0),
+        Pointer::Bad(fault) => Err(Stop::Fault(fault)),
+    }
+}
+
+/// The words of what stands at a word of a message. Most pointers of many messages are null, so these are told apart before
+/// they are looked at.
+#[cycle(total)]
+#[inline(always)]
+fn total_word(segments: Segments<'_>, segment: &[u8], index: usize, depth: u8) -> Total
+    ensures { Totals result (first_fault (tree_below depth (segment_list segments.entry) segment.now index))
+        (words_of (tree_below depth (segment_list segments.entry) segment.now index)) }
+{
+    if is_null_word(segments, segment, index) {
         return Ok(0);
     }
-    match pointer {
-        Pointer::Object(object) => total_object(object),
-        _ => total_found(look(pointer)),
-    }
+    total_found(look_at_word(segments, segment, index, depth))
 }
 
 /// The words of an object. It is never inlined, so that a loop over words has the code for words alone.

@@ -3,14 +3,16 @@ use Rattle.std.proofs.lemmas.Result.{err_from_is_err_and}
 use Rattle.capnp_wire.specs.Tree.{StructTree, nth_struct, nth_tree, struct_count, tree_count}
 use Rattle.capnp_wire.specs.Found.{element_structs, parts_tree, pointer_tree, pointer_trees}
 use Rattle.capnp_wire.specs.Words.{first_fault, words_of}
+use Rattle.capnp_wire.specs.Backing.{segment_list}
+use Rattle.capnp_wire.proofs.NullWords.{null_below}
 use Rattle.capnp_wire.proofs.Lists.{length-bits_from}
 use Rattle.capnp_wire.proofs.TreeSizes.{nth_struct-smaller, nth_tree-smaller, tree_size, trees_size}
 use Rattle.capnp_wire.proofs.Sums.{none_summed, all_summed, one_stops, one_sum_stops, one_summed, no_elements_summed, all_elements_summed, element_stops, element_sum_stops, element_summed}
 use Rattle.capnp_wire.proofs.total.+total.Goals as goal
 
-pub total_pointer-returns-then-is_null : goal.total_pointer-returns-then-is_null
-total_pointer-returns-then-is_null t c =
-    let null = c.if-is_null.ensures refl in
+pub total_word-returns-then-is_null_word : goal.total_word-returns-then-is_null_word
+total_word-returns-then-is_null_word t c =
+    let null = null_below c.args.depth (segment_list c.args.segments) c.args.segment.now c.args.index (c.if-is_null_word.ensures refl) in
     (ap first_fault null, sym (ap words_of null))
 
 pub total_pointers-total_pointer-requires : goal.total_pointers-total_pointer-requires
