@@ -18,11 +18,12 @@ use Rattle.capnp_wire.specs.declared.size.StructSize.{StructSize}
 use Rattle.capnp_base.specs.ReadBack.{as_text-text_tree}
 use Rattle.capnp_schema.specs.Accepted.{root_of}
 use Rattle.capnp_schema.specs.Defaults.{IsReadAs, default_tree}
-use Rattle.capnp_schema.specs.Schema.{Schemas, Value, TextValue, DataValue, ListValue}
+use Rattle.capnp_schema.specs.Schema.{Schemas, Value, TextValue, DataValue, ListValue, default_of}
 use Rattle.capnp_schema.specs.Types.{is_pointer, SchemaType, VoidType, BoolType, IntType, UIntType, EnumType, TextType, DataType, StructType, ListType, AnyPointerType, element_size}
 use Rattle.capnp_base.specs.Text.{text_tree}
 use Rattle.capnp_records.specs.Writes.Contents.{new_list}
-use Rattle.capnp_records.specs.Writes.Fill.{or_default}
+use Rattle.capnp_records.specs.Writes.Fill.{IsAtRest, or_default}
+use Rattle.capnp_records.specs.Writes.TreeEnds.{offset_of}
 use Rattle.capnp_schema.specs.Plan.{brand_size}
 use Rattle.capnp_slots.specs.Fills.{fill_due, filled_tree}
 use Rattle.capnp_records.specs.Facts.Pointers.{nth_tree-put_same}
@@ -33,10 +34,10 @@ use Rattle.capnp_schema.specs.declared.schema.fields.Field.{Field}
 use Rattle.capnp_schema.specs.declared.schema.structs.StructSchema.{StructSchema}
 use Rattle.capnp_records.specs.Step.{is_group_field}
 use Rattle.capnp_slots.specs.Fields.{IsPointer, IsSlot, field_set}
-use Rattle.capnp_slots.specs.Fills.{filled_in}
+use Rattle.capnp_slots.specs.Fills.{RestsIn, due_in, filled_in}
 use Rattle.capnp_slots.specs.Groups.{IsGroupAt}
 use Rattle.capnp_dynamic.specs.Built.{HoldsElements, built_schema, built_struct}
-use Rattle.capnp_dynamic.specs.Handed.{CanBeHanded, HandsField, HandsNumber, HandsOut, IsPartRefusal, IsRefusalAt, part_handed}
+use Rattle.capnp_dynamic.specs.Handed.{CanBeHanded, HandsField, HandsNumber, HandsOut, IsPartRefusal, IsPartWithin, IsRefusalAt, IsWithinAt, part_handed}
 use Rattle.capnp_dynamic.specs.declared.dynamic_struct.build.Builder.{Builder as StructHandle}
 use Rattle.capnp_dynamic.specs.declared.dynamic_value.build.Builder.TheVariants as built
 use Rattle.capnp_dynamic.proofs.Builders.{moved}
@@ -193,3 +194,21 @@ same_handed s o f g a b x v h =
 
 pub same_due : (s : StructSchema) (o : Option ℕ) (f g : Field) → IsFound s o (Some f) → IsFound s o (Some g) → (x : StructTree) (e : Error) → IsPartRefusal f x e → IsPartRefusal g x e
 same_due s o f g a b x e h = moved (λ (z : StructSchema) (i : ℕ). IsRefusalAt (set_of z) (struct_field z i) x e) s o f g a b h
+
+-- ---- what stands there is read as the field's type ----
+
+pub group_within : (f : Field) (g : StructSchema) (s : StructTree) → IsGroupAt f g → IsPartWithin f s
+group_within f g s at slot pointer = absurd (true≢false (sym at.is_group ∙ slot))
+
+pub pointed_within : (f : Field) (s : StructTree) → due_in f s ≡ None → IsPartWithin f s
+pointed_within f s e slot pointer = e
+
+pub number_within : (f : Field) (s : StructTree) → is_pointer (typed_of f).type ≡ false → IsPartWithin f s
+number_within f s e slot pointer = absurd (true≢false (sym pointer ∙ e))
+
+pub same_within : (s : StructSchema) (o : Option ℕ) (f g : Field) → IsFound s o (Some f) → IsFound s o (Some g) → (x : StructTree) → IsPartWithin f x → IsPartWithin g x
+same_within s o f g a b x h = moved (λ (z : StructSchema) (i : ℕ). IsWithinAt (set_of z) (struct_field z i) x) s o f g a b h
+
+pub same_rests : (s : StructSchema) (o : Option ℕ) (f g : Field) → IsFound s o (Some f) → IsFound s o (Some g) → (x : StructTree) → RestsIn f x → RestsIn g x
+same_rests s o f g a b x h =
+    moved (λ (z : StructSchema) (i : ℕ). IsAtRest (set_of z) (default_of (struct_field z i).field) (struct_field z i).type (nth_tree x.pointers (offset_of (struct_field z i).field.kind))) s o f g a b h

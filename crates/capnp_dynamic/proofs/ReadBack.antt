@@ -2,7 +2,6 @@
 use Rattle.std.specs.Prelude.{ℕ, ◌<◌, ◌≡◌, refl, Bool, true, false, ◌==◌, cond, None, Some, length}
 use Rattle.std.proofs.Common.{ap, sym, subst, ◌∙◌}
 use Rattle.std.proofs.lemmas.Bool.{eqb-true, true≢false}
-use Rattle.capnp_device.specs.declared.error.ErrorKind.{ErrorKind}
 use Rattle.capnp_device.specs.declared.error.ErrorKind.TheVariants.{TypeMismatch}
 use Rattle.capnp_wire.specs.Tree.{StructTree}
 use Rattle.capnp_schema.specs.FieldLists.{index_of, typed_of}
@@ -24,14 +23,13 @@ use Rattle.capnp_slots.specs.GroupSets.{IsGroupSet, given_to_group}
 use Rattle.capnp_slots.specs.ReadBack as slots
 use Rattle.capnp_slots.specs.ReadBack.{IsWhole, whole_value}
 use Rattle.capnp_slots.specs.Sources.{IsSet}
-use Rattle.capnp_dynamic.specs.Built.{IsUnder, built_schema, built_struct}
+use Rattle.capnp_dynamic.specs.Built.{built_schema}
 use Rattle.capnp_dynamic.specs.FieldWrites.{IsFieldSet, KindIsSet, cleared_kind, field_cleared}
-use Rattle.capnp_dynamic.specs.Handed.{HandsGroup, HandsInit, start_handed}
+use Rattle.capnp_dynamic.specs.Handed.{HandsGroup, start_handed}
 use Rattle.capnp_dynamic.specs.ReadBack.{AreApart, ClearIsActive, ClearIsGot, GroupStarts, IsActiveUnder, OtherIsGot, OtherIsThere, SetIsActive, SetIsGot}
 use Rattle.capnp_dynamic.specs.Reads.{BelongsTo, field_read, handed_out}
 use Rattle.capnp_dynamic.specs.Seen.{value_seen}
 use Rattle.capnp_dynamic.specs.SetValues.{source_of}
-use Rattle.capnp_dynamic.specs.declared.dynamic_struct.build.Builder.{Builder as StructHandle}
 use Rattle.capnp_dynamic.specs.declared.dynamic_value.Reader.{Reader as DynamicValue}
 use Rattle.capnp_dynamic.specs.declared.dynamic_value.Reader.TheVariants as dynamic
 use Rattle.capnp_dynamic.specs.declared.dynamic_value.build.Builder.TheVariants as built

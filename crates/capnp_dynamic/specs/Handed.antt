@@ -1,5 +1,5 @@
 -- What builders hand out of a pointer, an element or a field, and when it can be.
-use Rattle.std.specs.Prelude.{ℕ, ◌≡◌, ⊤, Bool, true, false, cond, Some, IsOk, Ok, length}
+use Rattle.std.specs.Prelude.{ℕ, ◌≡◌, ⊤, Bool, true, false, cond, None, Some, IsOk, Ok, length}
 use Rattle.capnp_device.specs.declared.error.Error.{Error}
 use Rattle.capnp_wire.specs.Edits.{IsDueRefusal, is_struct, struct_in}
 use Rattle.capnp_wire.specs.Elements.{or_empty}
@@ -93,6 +93,14 @@ IsRefusalAt set f s e =
 abbrev pub IsPartRefusal : Field → StructTree → Error → Type 0
 IsPartRefusal f s e = IsRefusalAt (field_set f) (typed_of f) s e
 
+-- what stands at the pointer of a field's slot is read as its type, and the format has room for it
+abbrev pub IsWithinAt : Schemas → TypedField → StructTree → Type 0
+IsWithinAt set f s =
+    is_group_field f.field.kind ≡ false → is_pointer f.type ≡ true → fill_due set (default_of f.field) f.type (nth_tree s.pointers (offset_of f.field.kind)) ≡ None
+
+abbrev pub IsPartWithin : Field → StructTree → Type 0
+IsPartWithin f s = IsWithinAt (field_set f) (typed_of f) s
+
 -- ---- elements ----
 
 -- what a reader of a list, with 64 levels, reads of an element
@@ -119,6 +127,10 @@ HandsElement l j v = element_handed (built_set l) (built_element l) (built_eleme
 -- why it is refused: what stands behind the element's pointer is not read as its type, or the format or memory has no room
 abbrev pub IsElementPartRefusal : ListHandle → ℕ → Error → Type 0
 IsElementPartRefusal l j e = (is_behind (built_element l) ≡ true) × IsDueRefusal e (element_due (built_set l) (built_element l) (element_pointer (built_elements l) j 1))
+
+-- what stands behind the element's pointer is read as its type, and the format has room for it
+abbrev pub IsElementWithin : ListHandle → ℕ → Type 0
+IsElementWithin l j = is_behind (built_element l) ≡ true → element_due (built_set l) (built_element l) (element_pointer (built_elements l) j 1) ≡ None
 
 -- nothing has to be extended there
 abbrev pub RestsAt : ListHandle → ℕ → Type 0

@@ -2,7 +2,7 @@
 //!
 //! A part is handed out by value, so these contracts say what it stands on at the return. That the struct ends as it was but
 //! for that part, and that a refusal changed nothing, is said by the calls of `part`, `slot` and `group`.
-ghost use Rattle.std.specs.Prelude.{None, false, IfErr, IfOk, IsErrAnd, IsOk, ◌<◌, ◌≡◌};
+ghost use Rattle.std.specs.Prelude.{None, false, IfErr, IfOk, IsErrAnd, IsOk, OnOk, ◌<◌, ◌≡◌};
 ghost use Rattle.capnp_device.specs.declared.error.ErrorKind.TheVariants.{FieldNotFound};
 ghost use Rattle.capnp_wire.specs.Edits.{IsDueRefusal};
 ghost use Rattle.capnp_wire.specs.Objects.{struct_object_tree};
@@ -19,7 +19,7 @@ ghost use Rattle.capnp_slots.specs.Fills.{RestsIn, due_in};
 ghost use Rattle.capnp_dynamic.specs.Built.{IsReady, built_schema, built_struct};
 ghost use Rattle.capnp_dynamic.specs.BuiltValues.{CanBeRead, IsReaderOf};
 ghost use Rattle.capnp_dynamic.specs.FieldWrites.{IsNamed};
-ghost use Rattle.capnp_dynamic.specs.Handed.{HandsField, HandsFilled, HandsNumber, IsPartRefusal};
+ghost use Rattle.capnp_dynamic.specs.Handed.{HandsField, HandsFilled, HandsNumber, IsPartRefusal, IsPartWithin};
 ghost use Rattle.capnp_dynamic.specs.Leaf.{IsNumber};
 ghost use Rattle.capnp_dynamic.specs.Reads.{BelongsTo};
 
@@ -85,6 +85,7 @@ fn pointed_of<'a>(
     requires formed { IsWellFormed (struct_tree (struct_object_tree builder.old)) }
     ensures stands { IfOk result (HandsFilled field.entry (struct_object_tree builder.old)) }
     ensures ready { IfOk result CanBeRead }
+    ensures within { OnOk result (due_in field.entry (struct_object_tree builder.old) ≡ None) }
     ensures cause { IfErr result (λ e. IsDueRefusal e (due_in field.entry (struct_object_tree builder.old))) }
     ensures rests { RestsIn field.entry (struct_object_tree builder.old) → IsOk result }
 {
@@ -121,12 +122,13 @@ impl<'a> Builder<'a> {
     /// `OutOfMemory`; then nothing has changed, as `part::fill` says. Where nothing has to be filled or extended it is not refused.
     ///
     /// The field has to belong to the schema; the struct has to have its schema's sections and be well-formed (`IsReady`).
-    #[tactic(auto, using(crate::proofs::Builders::room_for, crate::proofs::HandedOut::hands_group, crate::proofs::HandedOut::hands_pointed, crate::proofs::HandedOut::hands_number))]
+    #[tactic(auto, using(crate::proofs::Builders::room_for, crate::proofs::HandedOut::hands_group, crate::proofs::HandedOut::hands_pointed, crate::proofs::HandedOut::hands_number, crate::proofs::HandedOut::group_within, crate::proofs::HandedOut::pointed_within))]
     pub fn get(self, field: Field<'a>) -> Result<dynamic_value::Builder<'a>>
         requires belongs { BelongsTo field (built_schema self) }
         requires ready { IsReady self }
         ensures stands { IfOk result (HandsField field.entry (built_struct self.entry)) }
         ensures ready { IfOk result CanBeRead }
+        ensures within { OnOk result (IsPartWithin field.entry (built_struct self.entry)) }
         ensures cause { IfErr result (IsPartRefusal field.entry (built_struct self.entry)) }
         ensures rests { RestsIn field.entry (built_struct self.entry) → IsOk result }
     {
@@ -142,12 +144,14 @@ impl<'a> Builder<'a> {
 
     /// What the field of a name has, as `get`. Refused with `FieldNotFound` where there is none of that name.
     /// The struct has to have its schema's sections and be well-formed (`IsReady`).
-    #[tactic(auto, using(crate::proofs::Builders::found_belongs, crate::proofs::HandedOut::same_handed, crate::proofs::HandedOut::same_due))]
+    #[tactic(auto, using(crate::proofs::Builders::found_belongs))]
     pub fn get_named(self, field_name: &str) -> Result<dynamic_value::Builder<'a>>
         requires { IsReady self }
         ensures stands { (f : Field) → IsNamed (built_schema self.entry) field_name.now f → IfOk result (HandsField f (built_struct self.entry)) }
         ensures ready { IfOk result CanBeRead }
+        ensures within { (f : Field) → IsNamed (built_schema self.entry) field_name.now f → OnOk result (IsPartWithin f (built_struct self.entry)) }
         ensures cause { (f : Field) → IsNamed (built_schema self.entry) field_name.now f → IfErr result (IsPartRefusal f (built_struct self.entry)) }
+        ensures rests { (f : Field) → IsNamed (built_schema self.entry) field_name.now f → RestsIn f (built_struct self.entry) → IsOk result }
         ensures none { field_named (struct_records (built_schema self.entry)) field_name.now ≡ None → IsErrAnd result (λ e. e.kind ≡ FieldNotFound) }
     {
         let schema = self.schema;

@@ -2,7 +2,7 @@
 //!
 //! An element is handed out by value, so these contracts say what it stands on at the return. That the list ends as it was but
 //! for what was extended behind that element, and that a refusal changed nothing, is said by `element::fill`.
-ghost use Rattle.std.specs.Prelude.{false, true, IfErr, IfOk, IsOk, ◌<◌, ◌≡◌};
+ghost use Rattle.std.specs.Prelude.{None, false, true, IfErr, IfOk, IsOk, OnOk, ◌<◌, ◌≡◌};
 ghost use Rattle.capnp_wire.specs.Edits.{IsDueRefusal};
 ghost use Rattle.capnp_wire.specs.Elements.{built_list};
 ghost use Rattle.capnp_wire.specs.Objects.{list_object_tree};
@@ -14,7 +14,7 @@ ghost use Rattle.capnp_schema.specs.Types.{StructType, is_pointer, seen_type, se
 ghost use Rattle.capnp_slots.specs.Fills.{ElementRests, element_due, element_filled, is_behind};
 ghost use Rattle.capnp_dynamic.specs.Built.{IsIn, IsListReady, IsListUnder};
 ghost use Rattle.capnp_dynamic.specs.BuiltValues.{CanBeRead};
-ghost use Rattle.capnp_dynamic.specs.Handed.{HandsElement, HandsElementNumber, HandsOut, IsElementPartRefusal, RestsAt};
+ghost use Rattle.capnp_dynamic.specs.Handed.{HandsElement, HandsElementNumber, HandsOut, IsElementPartRefusal, IsElementWithin, RestsAt};
 
 use crate::dynamic_list::Builder;
 use crate::elements::read_element;
@@ -84,6 +84,8 @@ fn pointed_at<'a>(
     ensures stands { IfOk result (HandsOut false (lists_seen set.now) (seen_type element_type)
         (element_filled (lists_seen set.now) (seen_type element_type) (element_pointer (list_object_tree builder.old) index 1))) }
     ensures ready { IfOk result CanBeRead }
+    ensures within { OnOk result (element_due (lists_seen set.now) (seen_type element_type)
+        (element_pointer (list_object_tree builder.old) index 1) ≡ None) }
     ensures cause { IfErr result (λ e. IsDueRefusal e (element_due (lists_seen set.now) (seen_type element_type)
         (element_pointer (list_object_tree builder.old) index 1))) }
     ensures rests { ElementRests (lists_seen set.now) (seen_type element_type) (element_pointer (list_object_tree builder.old) index 1) → IsOk result }
@@ -124,6 +126,7 @@ impl<'a> Builder<'a> {
         requires inside { IsIn index self }
         ensures stands { IfOk result (HandsElement self.entry index) }
         ensures ready { IfOk result CanBeRead }
+        ensures within { OnOk result (IsElementWithin self.entry index) }
         ensures cause { IfErr result (IsElementPartRefusal self.entry index) }
         ensures rests { RestsAt self.entry index → IsOk result }
     {

@@ -11,7 +11,7 @@ use Rattle.capnp_base.specs.declared.introspect.TypeVariant.TheVariants as varia
 use Rattle.capnp_schema.specs.Accepted.{IsAccepted}
 use Rattle.capnp_schema.specs.Plan.{member_plan, place_of, plan_of}
 use Rattle.capnp_schema.specs.Query.{is_member_of, member_of, records_of}
-use Rattle.capnp_schema.specs.Schema.{Field, FieldKind, Group, Node, Schemas, Slot, TypedField, field_at, fields_of, is_member, node_of}
+use Rattle.capnp_schema.specs.Schema.{FieldKind, Group, Schemas, Slot, TypedField, field_at, fields_of, is_member, node_of}
 use Rattle.capnp_schema.specs.Types.{SchemaType, seen_variant}
 use Rattle.capnp_schema.specs.Schema.{Value as SchemaValue}
 use Rattle.capnp_records.specs.Facts.Frame.{active_among-found, second-of}

@@ -1,0 +1,29 @@
+-- What stands behind an element's pointer is read as its type where it was filled, and a number has no pointer.
+use Rattle.std.specs.Prelude.{◌≡◌, None}
+use Rattle.std.proofs.Common.{ap, sym, ◌∙◌}
+use Rattle.std.proofs.lemmas.Bool.{true≢false}
+use Rattle.std.proofs.lemmas.Result.{IfErr-weaker, IfOk-weaker}
+use Rattle.capnp_wire.specs.Edits.{IsDueRefusal}
+use Rattle.capnp_wire.specs.Reading.{element_pointer}
+use Rattle.capnp_schema.specs.Facts.Layers.{seen_which}
+use Rattle.capnp_schema.specs.Types.{seen_variant}
+use Rattle.capnp_slots.specs.Fills.{element_due, is_behind}
+use Rattle.capnp_dynamic.specs.Built.{built_element, built_elements, built_set}
+use Rattle.capnp_dynamic.specs.Handed.{IsElementPartRefusal, IsElementWithin}
+use Rattle.capnp_dynamic.proofs.dynamic_list.build.Builder.get.Goals as goal
+
+pub returns-then-is_behind_pointer-clause-within : goal.returns-then-is_behind_pointer-clause-within
+returns-then-is_behind_pointer-clause-within c =
+    let l = c.args.self in
+    IfOk-weaker c.pointed_at.result (λ v. element_due (built_set l) (built_element l) (element_pointer (built_elements l) c.args.index 1) ≡ None) (λ v. IsElementWithin l c.args.index) (λ v due behind. due)
+    c.pointed_at.ensures.within
+
+pub returns-then-is_behind_pointer-clause-cause : goal.returns-then-is_behind_pointer-clause-cause
+returns-then-is_behind_pointer-clause-cause c =
+    let l = c.args.self in
+    IfErr-weaker c.pointed_at.result (λ e. IsDueRefusal e (element_due (built_set l) (built_element l) (element_pointer (built_elements l) c.args.index 1))) (IsElementPartRefusal l c.args.index)
+    (λ e h. (ap is_behind (sym (ap seen_variant c.which-variant.ensures ∙ seen_which l.element_type)) ∙ sym c.if-is_behind_pointer.ensures, h)) c.pointed_at.ensures.cause
+
+pub returns-clause-within : goal.returns-clause-within
+returns-clause-within c = λ behind.
+    absurd (true≢false (sym behind ∙ (ap is_behind (sym (ap seen_variant c.which-variant.ensures ∙ seen_which c.args.self.element_type)) ∙ sym c.if-is_behind_pointer.ensures)))

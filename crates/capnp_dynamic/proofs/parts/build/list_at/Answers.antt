@@ -1,0 +1,27 @@
+-- What get hands out of the element, taken as one of a kind.
+use Rattle.std.proofs.Common.{inl}
+use Rattle.std.proofs.lemmas.Result.{err_from_is_err_and}
+use Rattle.capnp_dynamic.specs.Built.{built_element}
+use Rattle.capnp_dynamic.specs.Handed.{HandsElement, IsElementPartRefusal, IsElementWithin}
+use Rattle.capnp_dynamic.specs.Taken.{IsNoList, is_list_type}
+use Rattle.capnp_dynamic.specs.declared.dynamic_value.build.Builder.TheVariants as built
+use Rattle.capnp_dynamic.proofs.Taken.{is_taken, mismatched, no_list_there, taken}
+use Rattle.capnp_dynamic.proofs.parts.build.list_at.Goals as goal
+
+pub returns-in_err-part-clause-cause : goal.returns-in_err-part-clause-cause
+returns-in_err-part-clause-cause c = λ inside.
+    let p = err_from_is_err_and c.from_residual.result c.from_residual.ensures.1 in
+    rw (p.1, p.2) (inl c.in_err-part.ensures.cause)
+
+pub returns-clause-stands : goal.returns-clause-stands
+returns-clause-stands c = taken built.List c.in_ok-part.part (HandsElement c.args.list c.args.index) c.list_of.result c.list_of.ensures.is c.in_ok-part.ensures.stands
+
+pub returns-clause-cause : goal.returns-clause-cause
+returns-clause-cause c = λ inside.
+    mismatched (IsNoList c.in_ok-part.part) (is_list_type (built_element c.args.list)) (no_list_there c.args.list c.args.index c.in_ok-part.part c.in_ok-part.ensures.stands)
+    (IsElementPartRefusal c.args.list c.args.index) (IsElementWithin c.args.list c.args.index) c.list_of.result c.in_ok-part.ensures.within c.list_of.ensures.refused
+
+pub returns-clause-rests : goal.returns-clause-rests
+returns-clause-rests c = λ inside rests kind.
+    is_taken (IsNoList c.in_ok-part.part) (is_list_type (built_element c.args.list)) (no_list_there c.args.list c.args.index c.in_ok-part.part c.in_ok-part.ensures.stands)
+    c.list_of.result c.list_of.ensures.refused kind

@@ -1,0 +1,79 @@
+-- Parts that are taken as a struct or as a list alone: where a reader or a builder hands out something else, it is a mismatch.
+use Rattle.std.specs.Prelude.{ℕ, ◌≡◌, ◌⊎◌, ⊤, Bool, true, false, not, ◌&&◌, ◌||◌}
+use Rattle.capnp_device.specs.declared.error.Error.{Error}
+use Rattle.capnp_device.specs.declared.error.ErrorKind.TheVariants.{TypeMismatch}
+use Rattle.capnp_wire.specs.Tree.{StructTree}
+use Rattle.capnp_schema.specs.FieldLists.{typed_of}
+use Rattle.capnp_schema.specs.Schema.{TypedField}
+use Rattle.capnp_schema.specs.Types.{SchemaType, StructType, ListType}
+use Rattle.capnp_schema.specs.declared.schema.fields.Field.{Field}
+use Rattle.capnp_records.specs.Record as value
+use Rattle.capnp_records.specs.Record.{Value}
+use Rattle.capnp_records.specs.Step.{is_group_field}
+use Rattle.capnp_dynamic.specs.Built.{built_element}
+use Rattle.capnp_dynamic.specs.Handed.{IsElementPartRefusal, IsElementWithin, IsPartRefusal, IsPartWithin}
+use Rattle.capnp_dynamic.specs.declared.dynamic_list.build.Builder.{Builder as ListHandle}
+use Rattle.capnp_dynamic.specs.declared.dynamic_value.build.Builder.{Builder as BuiltValue}
+use Rattle.capnp_dynamic.specs.declared.dynamic_value.build.Builder.TheVariants as built
+
+-- ---- of readers ----
+
+-- what is read, taken as a struct: a refusal stays, and every other value is a mismatch
+abbrev pub only_struct : Value → Value
+only_struct (value.Struct r) = value.Struct r
+only_struct (value.Fault kind) = value.Fault kind
+only_struct v = value.Fault TypeMismatch
+
+-- the same taken as a list
+abbrev pub only_list : Value → Value
+only_list (value.Elements vs) = value.Elements vs
+only_list (value.Fault kind) = value.Fault kind
+only_list v = value.Fault TypeMismatch
+
+-- ---- of builders ----
+
+-- a value is no struct, and no list
+abbrev pub IsNoStruct : BuiltValue → Type 0
+IsNoStruct (built.Struct s) = ⊥
+IsNoStruct v = ⊤
+
+abbrev pub IsNoList : BuiltValue → Type 0
+IsNoList (built.List l) = ⊥
+IsNoList v = ⊤
+
+-- whether a type is a struct's, and a list's
+abbrev pub is_struct_type : SchemaType → Bool
+is_struct_type (StructType b g) = true
+is_struct_type t = false
+
+abbrev pub is_list_type : SchemaType → Bool
+is_list_type (ListType e) = true
+is_list_type t = false
+
+-- whether a builder's get of a field hands out a struct, as it does of every group, and a list
+abbrev pub hands_struct : TypedField → Bool
+hands_struct f = is_group_field f.field.kind || is_struct_type f.type
+
+abbrev pub hands_list : TypedField → Bool
+hands_list f = not (is_group_field f.field.kind) && is_list_type f.type
+
+-- why a field is not handed out as one of a kind: as the get of it is refused, or it is of another kind, where the get would
+-- not be refused for what stands there
+abbrev pub IsKindRefusal : (is_kind : Bool) → Field → StructTree → Error → Type 0
+IsKindRefusal q f s e = IsPartRefusal f s e ⊎ ((e.kind ≡ TypeMismatch) × (q ≡ false) × IsPartWithin f s)
+
+abbrev pub IsStructPartRefusal : Field → StructTree → Error → Type 0
+IsStructPartRefusal f s e = IsKindRefusal (hands_struct (typed_of f)) f s e
+
+abbrev pub IsListPartRefusal : Field → StructTree → Error → Type 0
+IsListPartRefusal f s e = IsKindRefusal (hands_list (typed_of f)) f s e
+
+-- why an element is not
+abbrev pub IsElementKindRefusal : (is_kind : Bool) → ListHandle → ℕ → Error → Type 0
+IsElementKindRefusal q l j e = IsElementPartRefusal l j e ⊎ ((e.kind ≡ TypeMismatch) × (q ≡ false) × IsElementWithin l j)
+
+abbrev pub IsStructElementRefusal : ListHandle → ℕ → Error → Type 0
+IsStructElementRefusal l j e = IsElementKindRefusal (is_struct_type (built_element l)) l j e
+
+abbrev pub IsListElementRefusal : ListHandle → ℕ → Error → Type 0
+IsListElementRefusal l j e = IsElementKindRefusal (is_list_type (built_element l)) l j e
