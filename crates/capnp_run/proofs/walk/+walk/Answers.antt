@@ -25,7 +25,7 @@ use Rattle.capnp_slots.specs.Fields.{field_set, pointer_index}
 use Rattle.capnp_slots.specs.Fills.{fill_due, filled_in}
 use Rattle.capnp_run.proofs.ListWalks.{element_in_list, element_in_struct, element_list_stops, element_past, element_there, fits_at, has_pointer, has_struct, list_end, names_none, other_stops, untyped_stops}
 use Rattle.capnp_run.proofs.NoMemory.{path_rests}
-use Rattle.capnp_slots.proofs.ElementParts.{object_kept}
+use Rattle.capnp_records.specs.Facts.LentElements.{object_kept}
 use Rattle.capnp_run.proofs.Parts.{IsStructHere, element_formed, element_walked, inner_stands, pointer_formed, struct_here}
 use Rattle.capnp_run.proofs.Walking.{field_group, field_list, field_refused, field_stops, field_struct, pointer_again, pointer_keeps, step_found, step_missing, walks_end}
 use Rattle.capnp_run.specs.Lists.{ElementWalks, ListWalks}

@@ -3,7 +3,8 @@ use Rattle.std.proofs.Common.{ap, refl, ◌∙◌}
 use Rattle.capnp_wire.specs.Objects.{struct_object_tree}
 use Rattle.capnp_wire.specs.Sizes.{fitted_size}
 use Rattle.capnp_wire.specs.Standing.{struct_of}
-use Rattle.capnp_slots.proofs.ElementParts.{element_formed, element_kept, element_left, element_fitted}
+use Rattle.capnp_records.specs.Facts.LentElements.{element_kept, element_left}
+use Rattle.capnp_slots.proofs.ElementParts.{element_formed, element_fitted}
 use Rattle.capnp_slots.proofs.Pointers.{on_err, on_ok}
 use Rattle.capnp_slots.proofs.element.copy_at.Goals as goal
 

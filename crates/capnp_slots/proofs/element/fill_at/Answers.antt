@@ -6,7 +6,7 @@ use Rattle.capnp_wire.specs.Tree.{Tree}
 use Rattle.capnp_schema.specs.Entries.{lists_seen}
 use Rattle.capnp_schema.specs.Types.{seen_variant}
 use Rattle.capnp_slots.specs.Fills.{element_filled}
-use Rattle.capnp_slots.proofs.ElementParts.{object_kept, object_left}
+use Rattle.capnp_records.specs.Facts.LentElements.{object_kept, object_left}
 use Rattle.capnp_slots.proofs.Pointers.{on_err, on_ok}
 use Rattle.capnp_slots.proofs.element.fill_at.Goals as goal
 

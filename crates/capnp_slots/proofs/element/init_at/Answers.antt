@@ -1,6 +1,6 @@
 -- The pointer that was lent leads to what is new, or is as it was.
 use Rattle.std.proofs.Common.{◌∙◌, Result, Ok, Err, OnOk}
-use Rattle.capnp_slots.proofs.ElementParts.{object_kept, object_left}
+use Rattle.capnp_records.specs.Facts.LentElements.{object_kept, object_left}
 use Rattle.capnp_slots.proofs.Pointers.{on_err, on_ok}
 use Rattle.capnp_slots.proofs.element.init_at.Goals as goal
 

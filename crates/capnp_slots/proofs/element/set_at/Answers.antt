@@ -1,7 +1,7 @@
 -- The pointer that was lent is set, or as it was.
 use Rattle.std.proofs.Common.{ap, ◌∙◌}
 use Rattle.capnp_wire.specs.Objects.{object_tree}
-use Rattle.capnp_slots.proofs.ElementParts.{object_kept, object_left}
+use Rattle.capnp_records.specs.Facts.LentElements.{object_kept, object_left}
 use Rattle.capnp_slots.proofs.Pointers.{on_err, on_ok}
 use Rattle.capnp_slots.proofs.element.set_at.Goals as goal
 
