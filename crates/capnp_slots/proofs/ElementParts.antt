@@ -1,7 +1,6 @@
 -- Structs of a list that were lent, and what fits of another one in them.
 use Rattle.std.specs.Prelude.{ℕ, ◌≡◌, refl, length}
 use Rattle.std.proofs.Common.{ap, ◌∙◌}
-
 use Rattle.capnp_wire.specs.Tree.{StructTree, tree_count}
 use Rattle.capnp_wire.specs.Edits.{fitted}
 use Rattle.capnp_wire.specs.Elements.{HasStruct}
