@@ -110,7 +110,7 @@ impl<'a> Builder<'a> {
 
     /// Starts the field of a name anew, as `init`. Refused first with `FieldNotFound` where there is none of that name.
     /// The struct has to have its schema's sections and be well-formed (`IsReady`).
-    #[tactic(auto, using(crate::proofs::Builders::found_belongs, crate::proofs::Started::same_init, crate::proofs::Started::same_start_refusal))]
+    #[tactic(auto, using(crate::proofs::Builders::found_belongs))]
     pub fn init_named(self, field_name: &str) -> Result<dynamic_value::Builder<'a>>
         requires { IsReady self }
         ensures stands { (f : Field) → IsNamed (built_schema self.entry) field_name.now f → IfOk result (HandsInit f (built_struct self.entry)) }

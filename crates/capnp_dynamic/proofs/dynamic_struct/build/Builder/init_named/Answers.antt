@@ -1,0 +1,21 @@
+-- What is said of the field that was found is said of each of its name.
+use Rattle.std.proofs.lemmas.Result.{IfErr-weaker, IfOk-weaker}
+use Rattle.capnp_schema.specs.Query.{field_named}
+use Rattle.capnp_schema.specs.StructHandles.{struct_records}
+use Rattle.capnp_dynamic.specs.Built.{built_schema, built_struct}
+use Rattle.capnp_dynamic.specs.Handed.{HandsInit, IsStartRefusal}
+use Rattle.capnp_dynamic.proofs.Started.{same_init, same_start_refusal}
+use Rattle.capnp_dynamic.proofs.dynamic_struct.build.Builder.init_named.Goals as goal
+
+pub returns-clause-stands : goal.returns-clause-stands
+returns-clause-stands c = λ f named.
+    let s = built_schema c.args.self in
+    let x = built_struct c.args.self in
+    let g = c.in_ok-field.field in
+    IfOk-weaker c.init.result (HandsInit g x) (HandsInit f x) (λ v h. same_init s (field_named (struct_records s) c.args.field_name.now) g f c.in_ok-field.ensures.field named x v h) c.init.ensures.stands
+
+pub returns-clause-cause : goal.returns-clause-cause
+returns-clause-cause c = λ f named.
+    let s = built_schema c.args.self in
+    let g = c.in_ok-field.field in
+    IfErr-weaker c.init.result (IsStartRefusal g) (IsStartRefusal f) (λ e h. same_start_refusal s (field_named (struct_records s) c.args.field_name.now) g f c.in_ok-field.ensures.field named e h) c.init.ensures.cause
