@@ -14,7 +14,6 @@ use capnp_wire::error::Result;
 use capnp_wire::laws::kept::nulls_are_well_formed;
 use capnp_wire::message;
 use capnp_wire::object::StructObject;
-use capnp_write_callers::parts::open;
 use std::alloc::Global;
 
 /// The number of the struct that may hold another one of it among the built-in brands.
@@ -83,7 +82,7 @@ fn make_after(
     };
     nulls_are_well_formed();
     let mut message = message::Builder::new(alloc);
-    let Builder { builder, schema: _ } = open(message.root(), schema)?;
+    let Builder { builder, schema: _ } = Builder::open(message.root(), schema)?;
     make(alloc, builder, schema, first, 1)?;
     make(alloc, builder, schema, calls, rounds)
 }

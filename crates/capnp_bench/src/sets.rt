@@ -16,7 +16,6 @@ use capnp_wire::error::{Error, ErrorKind, Result};
 use capnp_wire::laws::kept::{nulls_are_well_formed, structs_can_be_read};
 use capnp_wire::message;
 use capnp_wire::object::StructObject;
-use capnp_write_callers::parts::open;
 use std::alloc::Global;
 
 /// The number of the struct with groups among the built-in brands.
@@ -193,7 +192,7 @@ fn numbers(alloc: Global, rounds: u64) -> Result<u64> {
     let fields = shapes_of(schema)?;
     nulls_are_well_formed();
     let mut message = message::Builder::new(alloc);
-    let Builder { builder, schema: _ } = open(message.root(), schema)?;
+    let Builder { builder, schema: _ } = Builder::open(message.root(), schema)?;
     set_all(builder, schema, &fields, rounds)
 }
 
@@ -216,7 +215,7 @@ fn build(alloc: Global, schema: StructSchema<'_>, fields: &Shapes<'_>) -> Result
 {
     nulls_are_well_formed();
     let mut message = message::Builder::new(alloc);
-    let Builder { builder, schema: _ } = open(message.root(), schema)?;
+    let Builder { builder, schema: _ } = Builder::open(message.root(), schema)?;
     fill(builder, schema, fields)?;
     Ok(message.write_message()?.len() as u64)
 }

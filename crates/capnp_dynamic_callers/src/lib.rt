@@ -13,7 +13,6 @@ mod kind_tests;
 mod list_tests;
 #[cfg(test)]
 mod messages;
-pub mod parts;
 #[cfg(test)]
 mod print_tests;
 pub mod round_trips;

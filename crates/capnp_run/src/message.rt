@@ -6,8 +6,7 @@ ghost use Rattle.capnp_wire.specs.Message.{builder_tree};
 ghost use Rattle.capnp_wire.specs.Objects.{object_tree};
 ghost use Rattle.capnp_wire.specs.Standing.{tree_of};
 ghost use Rattle.capnp_wire.specs.WellFormed.{IsWellFormed};
-ghost use Rattle.capnp_schema.specs.StructHandles.{IsStruct, number_of, set_of};
-ghost use Rattle.capnp_records.specs.Writes.Slots.{brand_size};
+ghost use Rattle.capnp_schema.specs.StructHandles.{IsStruct};
 ghost use Rattle.capnp_dynamic.specs.Pieces.{IsAppended};
 ghost use Rattle.capnp_run.specs.Messages.{HasRoot, IsCopiedRefusal, IsRoot, IsWhole, IsWholeRefusal, LeavesRun, RunsOn, copied_record, new_record, read_text, root_refusal, root_text};
 
@@ -18,24 +17,13 @@ use capnp_dynamic::dynamic_value::Reader as Value;
 use capnp_dynamic::printer::print;
 use capnp_records::laws::print_law;
 use capnp_schema::schema::StructSchema;
+use capnp_slots::size_of;
 use capnp_wire::PointerReader;
 use capnp_wire::error::Result;
 use capnp_wire::laws::{objects_are_what_they_hold, pointer_is_well_formed};
 use capnp_wire::message::Builder;
 use capnp_wire::object::Object;
-use capnp_wire::size::StructSize;
 use std::alloc::Global;
-
-/// The sections of a schema's structs.
-fn size_of(schema: StructSchema<'_>) -> StructSize
-    ensures { result ≡ brand_size (set_of schema.entry) (number_of schema.entry) }
-{
-    let body = &schema.get_proto().body;
-    StructSize {
-        data_words: body.data_word_count,
-        pointers: body.pointer_count,
-    }
-}
 
 /// Makes the root a struct of a schema, all zero and null. Refused with `OutOfMemory`.
 fn empty_root(message: &mut Builder, schema: StructSchema<'_>) -> Result<()>

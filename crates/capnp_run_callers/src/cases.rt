@@ -16,7 +16,6 @@ use capnp_schema::set::SchemaSet;
 use capnp_schema_callers::fixtures::schema_of;
 use capnp_wire::error::Result;
 use capnp_wire::message::{Builder, Reader};
-use capnp_write_callers::parts::open;
 use std::alloc::Global;
 use std::process::Abort;
 
@@ -79,7 +78,11 @@ fn run_on_empty(
     requires { IsStruct schema }
 {
     let mut message = Builder::new(alloc);
-    let replies = run(alloc, open(message.root(), schema)?, calls)?;
+    let replies = run(
+        alloc,
+        dynamic_struct::Builder::open(message.root(), schema)?,
+        calls,
+    )?;
     let bytes = message.write_message()?;
     Ok((replies, bytes))
 }

@@ -1,8 +1,8 @@
 //! Calls as values: a write, and where it is made.
 ghost use Rattle.capnp_dynamic.specs.Built.{IsListReady, IsReady};
 
-use crate::parts::{list_at, list_in, struct_at, struct_in};
 use capnp_dynamic::dynamic_value::Reader as Value;
+use capnp_dynamic::parts::build::{list_at, list_in, struct_at, struct_in};
 use capnp_dynamic::{dynamic_list, dynamic_struct};
 use capnp_wire::error::{Error, ErrorKind, Result};
 

@@ -13,7 +13,6 @@ mod memory_tests;
 mod messages;
 #[cfg(test)]
 mod older_tests;
-pub mod parts;
 pub mod read_back;
 #[cfg(test)]
 mod row_tests;

@@ -28,7 +28,6 @@ ghost use Rattle.capnp_dynamic.specs.Built.{IsReady};
 
 use crate::calls::{Write, place_of, write_at};
 use crate::messages::{brand_of, message_of, set_of};
-use crate::parts::open;
 use capnp_base::any_pointer;
 use capnp_dynamic::dynamic_struct;
 use capnp_dynamic::dynamic_value::{Enum, Reader as Value};
@@ -333,7 +332,10 @@ fn after(
     pointer_is_well_formed(&source);
     let mut message = message::Builder::new(alloc);
     message.set_root(source)?;
-    let made = match open(message.root(), start.set.struct_schema(start.brand)) {
+    let made = match dynamic_struct::Builder::open(
+        message.root(),
+        start.set.struct_schema(start.brand),
+    ) {
         Ok(root) => make(alloc, root, call),
         Err(error) => Err(error),
     };
