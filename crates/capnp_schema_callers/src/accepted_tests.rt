@@ -1,7 +1,7 @@
 //! Sets that are accepted, and want of memory.
 
-use capnp_schema_fixtures::set_text::read_set;
 use capnp_schema::builtin::new_set;
+use capnp_schema_fixtures::set_text::read_set;
 use capnp_wire::error::ErrorKind;
 use std::test::Fail;
 

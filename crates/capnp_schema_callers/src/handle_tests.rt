@@ -1,10 +1,10 @@
 //! Handles of structs, fields, enums and enumerants: what they are compared by, and their lists from both ends.
 
-use capnp_schema_fixtures::fixtures::schema_of;
 use crate::queries::{Row, answers_hold, enum_of, enumerant_of, field_of, index_of};
 use capnp_base::introspect::RawEnumSchema;
 use capnp_base::traits::IndexMove;
 use capnp_schema::builtin::new_set;
+use capnp_schema_fixtures::fixtures::schema_of;
 use std::alloc::{AllocError, Global};
 use std::fmt::Debug;
 use std::hash::{DefaultHasher, Hash, Hasher};

@@ -1,9 +1,9 @@
 //! Plans of the fields of the built-in set.
 
-use capnp_schema_fixtures::fixtures::schema_of;
 use crate::lookup::plan_of_named;
 use capnp_schema::builtin::new_set;
 use capnp_schema::plan::{Place, SlotPlan};
+use capnp_schema_fixtures::fixtures::schema_of;
 use capnp_wire::error::ErrorKind;
 use std::test::Fail;
 

@@ -10,15 +10,15 @@
 //! An annotation is its id, its type and its value: `8 Text UInt16(5)`. Of a value the parentheses have the number, the text, the
 //! length of data, the first data word of a struct, or byte 2 of a list. It is 0 of `Void`, and -1 of an untyped null.
 
-use capnp_schema_fixtures::fixtures::schema_of;
-use capnp_schema_fixtures::set_text::read_set;
-use capnp_schema_fixtures::words::{UNREADABLE, first_word, name_and_content, number, read_type};
 use capnp_schema::builtin::new_set;
 use capnp_schema::schema::{
     Annotation, AnnotationList, EnumSchema, Enumerant, Field, FieldList, FieldSubset, StructSchema,
 };
 use capnp_schema::set::SchemaSet;
 use capnp_schema::value::Value;
+use capnp_schema_fixtures::fixtures::schema_of;
+use capnp_schema_fixtures::set_text::read_set;
+use capnp_schema_fixtures::words::{UNREADABLE, first_word, name_and_content, number, read_type};
 use capnp_wire::PointerReader;
 use capnp_wire::error::Result;
 use capnp_wire::size::ElementSize;

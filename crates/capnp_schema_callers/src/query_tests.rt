@@ -1,12 +1,12 @@
 //! Queries of structs and enums: records, types, fields by name, by discriminant and by kind.
 
-use capnp_schema_fixtures::fixtures::schema_of;
 use crate::queries::{Row, answers_hold, field_of, index_of};
-use capnp_schema_fixtures::set_text::read_set;
-use capnp_schema_fixtures::words::read_type;
 use capnp_base::introspect::RawBrandedStructSchema;
 use capnp_schema::builtin::new_set;
 use capnp_schema::schema::StructSchema;
+use capnp_schema_fixtures::fixtures::schema_of;
+use capnp_schema_fixtures::set_text::read_set;
+use capnp_schema_fixtures::words::read_type;
 use capnp_wire::error::{ErrorKind, Result};
 use std::test::Fail;
 
