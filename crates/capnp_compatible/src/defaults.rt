@@ -1,5 +1,5 @@
 //! Defaults that are the same: of one kind, with equal numbers, bytes or trees.
-ghost use Rattle.std.specs.Prelude.{◌≡◌, ◌↔◌, ◌∷◌, [], IsTrue};
+ghost use Rattle.std.specs.Prelude.{◌≡◌, ◌↔◌, [], IsTrue};
 ghost use Rattle.capnp_schema.specs.Accepted.{root_of};
 ghost use Rattle.capnp_schema.specs.Schema.{seen_value, seen_kind};
 ghost use Rattle.capnp_records.specs.Compatible.{SameDefault, SameKind};

@@ -1,7 +1,7 @@
 //! Fields and structs that are shared, where all pairs of structs are related.
-ghost use Rattle.std.specs.Prelude.{◌≡◌, ◌<◌, ◌≤◌, ◌↔◌, IsTrue, length};
+ghost use Rattle.std.specs.Prelude.{◌<◌, ◌≤◌, ◌↔◌, IsTrue, length};
 ghost use Rattle.capnp_schema.specs.Entries.{lists_seen};
-ghost use Rattle.capnp_schema.specs.Schema.{field_at, fields_of, node_of};
+ghost use Rattle.capnp_schema.specs.Schema.{fields_of, node_of};
 ghost use Rattle.capnp_schema.specs.FieldLists.{typed_of};
 ghost use Rattle.capnp_records.specs.Compatible.{SharedField, SharedStruct};
 ghost use Rattle.capnp_compatible.specs.Closing.{UnionGrows, all_pairs, FieldsShared};

@@ -7,7 +7,7 @@ use Rattle.capnp_wire.specs.Facts.Rows.{struct_count-with_struct, tree_count-wit
 use Rattle.capnp_records.specs.Facts.ListValues.{cut-same}
 use Rattle.capnp_wire.specs.Reading.{element_pointer}
 use Rattle.capnp_wire.specs.Tree as tree
-use Rattle.capnp_wire.specs.Tree.{StructTree, Structs, Tree, Trees, nth_struct, nth_tree, struct_count, tree_count}
+use Rattle.capnp_wire.specs.Tree.{StructTree, Structs, Tree, nth_struct, nth_tree, struct_count, tree_count}
 use Rattle.capnp_schema.specs.Schema.{Schemas}
 use Rattle.capnp_schema.specs.Types.{SchemaType, TextType, DataType, ListType, is_pointer}
 use Rattle.capnp_records.specs.Facts.Pointers.{nth_tree-put_same}

@@ -14,7 +14,7 @@ use Rattle.capnp_records.specs.Facts.PartRead.{found-active, nth-plain_parts}
 use Rattle.capnp_records.specs.Part.{active_value, has_of, is_active, nth_value, which_of}
 use Rattle.capnp_records.specs.Reading.{active_among, discriminant, plain_parts}
 use Rattle.capnp_records.specs.Record as value
-use Rattle.capnp_records.specs.Record.{Active, MoreValues, NoUnion, Parts, Union, Unknown, Value, Values, is_there}
+use Rattle.capnp_records.specs.Record.{Active, NoUnion, Parts, Union, Unknown, Value, Values, is_there}
 use Rattle.capnp_records.specs.Text.{Layout, Member, Out, before, item, item_if, later, member, part_text, rest_of, shown}
 use Rattle.capnp_wire.specs.Standing.{struct_of}
 use Rattle.capnp_dynamic.specs.Facts.HasWhich.{not_zero}

@@ -13,7 +13,7 @@ use Rattle.capnp_records.specs.Facts.Groups.{part_of-group}
 use Rattle.capnp_records.specs.Facts.Pointers.{values_of-nth}
 use Rattle.capnp_records.specs.Default.{read_of}
 use Rattle.capnp_records.specs.Reading.{Reading, kind_value, record_of, record_within, slot_value, values_of}
-use Rattle.capnp_records.specs.Record.{Levels, Value}
+use Rattle.capnp_records.specs.Record.{Levels}
 use Rattle.capnp_records.specs.Record as value
 use Rattle.capnp_dynamic.specs.Reads.{field_read, handed_out}
 use Rattle.capnp_dynamic.specs.Planned.{IsSound, placed_read}

@@ -21,7 +21,7 @@ use Rattle.capnp_records.specs.Facts.ListValues.{below_of}
 use Rattle.capnp_records.specs.Facts.Readers.{data-read, list-value, null-is, struct-read, text-read, untyped-read, value-there}
 use Rattle.capnp_records.specs.Default.{default_value, empty_value, read_of, unless_null}
 use Rattle.capnp_records.specs.Reading.{elements_value, entered, of_read, struct_record, value_of}
-use Rattle.capnp_records.specs.Record.{Left, Levels, Value, one_less}
+use Rattle.capnp_records.specs.Record.{Left, Levels, Value}
 use Rattle.capnp_records.specs.Record as value
 use Rattle.capnp_dynamic.specs.Behind.{data_of, list_answered, list_words, struct_answered, struct_words, text_of}
 

@@ -227,7 +227,7 @@ leaf_from (dynamic.Struct s) h k = absurd (h s refl)
 leaf_from (dynamic.List l) h k = absurd (k l refl)
 leaf_from v h k = tt {0}
 
-some-left : (left : ℕ) → (left ≡ 0 → ⊥) → 0 < left
+pub some-left : (left : ℕ) → (left ≡ 0 → ⊥) → 0 < left
 some-left left h = omega (arith, h)
 
 pub record_falls : (v : DynamicValue) (r : StructHandle) (left : ℕ) → v ≡ dynamic.Struct r → (left ≡ 0 → ⊥) → steps_of r (left - 1) 9 < steps_within (set_seen v) left + 1

@@ -1,5 +1,5 @@
 //! Where a text goes: into a string that is being made, or to a formatter.
-ghost use Rattle.std.specs.Prelude.{ℕ, [], ◌≡◌, ◌++◌, ◌^◌, ◌<◌, List, Some, None, Ok, Option, IfErr, OnErr, OnOk, decimal, string_bytes};
+ghost use Rattle.std.specs.Prelude.{ℕ, [], ◌≡◌, ◌++◌, ◌<◌, List, Some, None, Ok, Option, IfErr, OnErr, OnOk, decimal, string_bytes};
 ghost use Rattle.std.specs.Fmt.{debug_str, signed_decimal};
 ghost use Rattle.capnp_device.specs.declared.error.ErrorKind.TheVariants.{OutOfMemory};
 ghost use Rattle.capnp_records.specs.Text.{after, said};

@@ -1,21 +1,10 @@
--- The member of the number at the discriminant's place is the record's active one.
-use Rattle.std.proofs.Common.{ℕ, ◌*◌, ◌==◌, ap, sym, subst, Option, IsOkAnd, ◌∙◌}
 use Rattle.capnp_wire.specs.Standing.{struct_levels, struct_of}
-use Rattle.capnp_schema.specs.FieldLists.{IsFound}
-use Rattle.capnp_schema.specs.Schema.{Node}
-use Rattle.capnp_schema.specs.SlotValue.{bits_at}
-use Rattle.capnp_schema.specs.StructHandles.{number_of, set_of}
-use Rattle.capnp_schema.specs.declared.schema.structs.StructSchema.{StructSchema}
 use Rattle.capnp_records.specs.Record.{Left}
 use Rattle.capnp_dynamic.specs.Handles.{reader_of, schema_of}
-use Rattle.capnp_dynamic.specs.Facts.HasWhich.{not_zero, which_counted}
+use Rattle.capnp_dynamic.proofs.Active.{which_found}
 use Rattle.capnp_dynamic.proofs.dynamic_struct.Reader.which.Goals as goal
 
 pub returns : goal.returns
 returns c =
-    let s : StructSchema = schema_of c.args.self.now in
-    subst (λ (o : Option ℕ). IsOkAnd c.get_field_by_discriminant.result (IsFound s o))
-    (which_counted (set_of s) (Left (struct_levels (reader_of c.args.self.now))) (struct_of (reader_of c.args.self.now)) (number_of s) c.load_discriminant-value.result
-    (sym (ap (λ (n : Node). n.discriminant_count == 0) c.get_proto.ensures) ∙ not_zero c.get_proto.result.now.body.discriminant_count c.if-body-eq0.false)
-    (c.load_discriminant-value.ensures ∙ ap (λ (n : Node). bits_at (struct_of (reader_of c.args.self.now)).bytes (16 * n.discriminant_offset) 16) c.get_proto.ensures))
-    c.get_field_by_discriminant.ensures
+    which_found (schema_of c.args.self.now) (Left (struct_levels (reader_of c.args.self.now))) (struct_of (reader_of c.args.self.now)) _ c.load_discriminant-value.result c.get_field_by_discriminant.result
+    c.get_proto.ensures c.if-body-eq0.false c.load_discriminant-value.ensures c.get_field_by_discriminant.ensures
