@@ -1,5 +1,5 @@
 //! Text: its bytes as they are read, and as they are built.
-ghost use Rattle.std.specs.Prelude.{[], ◌∷◌, ◌++◌, Ok, Some, ◌↔◌, ◌≡◌, ◌+◌, ◌-◌, ◌<◌, ◌≤◌, ◌^◌, false};
+ghost use Rattle.std.specs.Prelude.{[], ◌++◌, Ok, Some, ◌↔◌, ◌≡◌, ◌+◌, ◌-◌, ◌<◌, ◌≤◌, ◌^◌};
 ghost use Rattle.std.specs.Prelude.{None, IfErr, IfOk, IsTrue, IsUtf8, length, nat_eq, OnErr, OnOk, replicate, slice_set, take, drop};
 ghost use Rattle.std.proofs.Common.{rules};
 ghost use Rattle.std.specs.Cmp.{on_po};

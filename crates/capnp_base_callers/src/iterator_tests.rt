@@ -1,6 +1,6 @@
 //! Iterators over a small list: items of five, from the front, from the back, and from both ends, as rows that say what
 //! is asked and what that answers.
-ghost use Rattle.std.specs.Prelude.{◌≡◌, ◌+◌, ◌<◌};
+ghost use Rattle.std.specs.Prelude.{◌≡◌, ◌<◌};
 
 use capnp_base::traits::{Index, IndexMove, ListIter, ShortListIter};
 use std::test::Fail;
@@ -10,7 +10,7 @@ use std::test::Fail;
 struct Tens;
 
 impl IndexMove<u32, u64> for Tens {
-    ghost use Rattle.std.specs.Prelude.{◌*◌, ◌^◌};
+    ghost use Rattle.std.specs.Prelude.{◌*◌};
 
     ghost count = { λ _. 100 };
 

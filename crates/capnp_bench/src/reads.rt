@@ -1,7 +1,7 @@
 //! Dynamic reads: the six fields of a struct, by name and by field handle.
 ghost use Rattle.std.specs.Prelude.{◌≡◌, All, IfOk};
-ghost use Rattle.capnp_dynamic.specs.Handles.{schema_of};
-ghost use Rattle.capnp_dynamic.specs.Reads.{BelongsTo};
+ghost use Rattle.capnp_dynamic_readers.specs.Handles.{schema_of};
+ghost use Rattle.capnp_dynamic_readers.specs.Reads.{BelongsTo};
 
 use capnp_dynamic::dynamic_struct::Reader;
 use capnp_dynamic::dynamic_value::Reader as Value;

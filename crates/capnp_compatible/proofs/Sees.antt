@@ -10,9 +10,9 @@ use Rattle.capnp_schema.specs.declared.schema.structs.StructSchema.{StructSchema
 use Rattle.capnp_records.specs.Compatible.{projection_of}
 use Rattle.capnp_records.specs.Reading.{struct_record}
 use Rattle.capnp_records.specs.Record.{Left, Record}
-use Rattle.capnp_dynamic.specs.Handles.{reader_of, schema_of}
-use Rattle.capnp_dynamic.specs.Seen.{record_seen}
-use Rattle.capnp_dynamic.specs.declared.dynamic_struct.Reader.{Reader as StructHandle}
+use Rattle.capnp_dynamic_readers.specs.Handles.{reader_of, schema_of}
+use Rattle.capnp_dynamic_readers.specs.Seen.{record_seen}
+use Rattle.capnp_dynamic_readers.specs.declared.dynamic_struct.Reader.{Reader as StructHandle}
 use Rattle.capnp_compatible.specs.Checked.{AreRead, IsSeen, IsUnder, Projects, ProjectsWhereRead}
 
 -- a record by the set, the number of the brand and the sections

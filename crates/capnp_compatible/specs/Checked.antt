@@ -3,8 +3,8 @@ use Rattle.std.specs.Prelude.{◌≡◌, Bool}
 use Rattle.std.specs.Bool.{Decides}
 use Rattle.capnp_schema.specs.declared.schema.structs.StructSchema.{StructSchema}
 use Rattle.capnp_schema.specs.StructHandles.{IsStruct, number_of, set_of}
-use Rattle.capnp_dynamic.specs.Handles.{schema_of}
-use Rattle.capnp_dynamic.specs.declared.dynamic_struct.Reader.{Reader as StructHandle}
+use Rattle.capnp_dynamic_readers.specs.Handles.{schema_of}
+use Rattle.capnp_dynamic_readers.specs.declared.dynamic_struct.Reader.{Reader as StructHandle}
 use Rattle.capnp_wire.specs.Tree.{StructTree}
 use Rattle.capnp_wire.specs.WellFormed.{IsWellFormedStruct}
 use Rattle.capnp_records.specs.Record.{Levels, Record}

@@ -8,7 +8,7 @@ ghost use Rattle.capnp_schema.specs.StructHandles.{IsStruct, number_of, set_of};
 
 use crate::decide::decide;
 use capnp_base::introspect::RawBrandedStructSchema;
-use capnp_dynamic::dynamic_struct;
+use capnp_dynamic_readers::dynamic_struct;
 use capnp_records::laws::{projection_law, upgrade_law};
 use capnp_schema::laws::numbers_fit;
 use capnp_schema::schema::StructSchema;
@@ -38,8 +38,8 @@ impl<'s> Model for Compatible<'s> {
 }
 
 impl<'s> Compatible<'s> {
-    ghost use Rattle.capnp_dynamic.specs.Handles.{reader_of, schema_of};
-    ghost use Rattle.capnp_dynamic.specs.Seen.{record_seen};
+    ghost use Rattle.capnp_dynamic_readers.specs.Handles.{reader_of, schema_of};
+    ghost use Rattle.capnp_dynamic_readers.specs.Seen.{record_seen};
     ghost use Rattle.capnp_compatible.specs.Checked.{AreRead, IsAsItWas, IsPair, IsSeen, IsUnder, Projects, ProjectsWhereRead, newer_of, older_of};
 
     /// The pair of an older schema and a newer one, where the newer is a compatible successor; nothing where it is not.

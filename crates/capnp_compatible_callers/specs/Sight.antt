@@ -9,9 +9,9 @@ use Rattle.capnp_records.specs.Compatible.{IsCompatible, projection_of}
 use Rattle.capnp_records.specs.Upgrades.{AreUpgradesRead, IsSeenOf}
 use Rattle.capnp_records.specs.Reading.{struct_record}
 use Rattle.capnp_records.specs.Record.{Left, Record}
-use Rattle.capnp_dynamic.specs.Handles.{reader_of, schema_of}
-use Rattle.capnp_dynamic.specs.Seen.{record_seen}
-use Rattle.capnp_dynamic.specs.declared.dynamic_struct.Reader.{Reader as StructHandle}
+use Rattle.capnp_dynamic_readers.specs.Handles.{reader_of, schema_of}
+use Rattle.capnp_dynamic_readers.specs.Seen.{record_seen}
+use Rattle.capnp_dynamic_readers.specs.declared.dynamic_struct.Reader.{Reader as StructHandle}
 use Rattle.capnp_compatible.specs.Checked.{newer_of, older_of}
 
 -- a set has the brands of two numbers

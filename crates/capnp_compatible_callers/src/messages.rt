@@ -1,20 +1,13 @@
 //! What scripts and schemas name: messages, and the words of defaults.
 
 use capnp_schema_fixtures::fixtures::NULL;
+use capnp_schema_fixtures::messages::{bytes_named, message_named};
 use capnp_wire::error::Result;
 use capnp_wire::{StructReader, message};
 use std::alloc::Global;
 
 /// Messages. The public `capnp` tool, version 0.9.2, wrote the last three under two versions of one file.
-static MESSAGES: [(&str, &[u8]); 9] = [
-    // a `Mixed` whose `a` is 5, with `y` active and 9
-    (
-        "nine",
-        &[
-            0, 0, 0, 0, 3, 0, 0, 0, 0, 0, 0, 0, 1, 0, 1, 0, 5, 0, 1, 0, 9, 0, 0, 0, 0, 0, 0, 0, 0,
-            0, 0, 0,
-        ],
-    ),
+static MESSAGES: [(&str, &[u8]); 8] = [
     // the grown struct whose `a` is 5 and `c` 7, with `v` active and `hi`
     (
         "grown",
@@ -180,23 +173,14 @@ static WORDS: [(&str, &[u8]); 13] = [
     ),
 ];
 
-fn bytes_named(table: &[(&str, &'static [u8])], name: &str) -> &'static [u8] {
-    for (text, bytes) in table {
-        if *text == name {
-            return bytes;
-        }
-    }
-    &NULL
-}
-
 /// The words of a name; a null pointer where there are none.
 pub fn words_named(name: &str) -> &'static [u8] {
-    bytes_named(&WORDS, name)
+    bytes_named(&WORDS, name).unwrap_or(&NULL)
 }
 
 /// The root of a message, without a schema.
 pub fn root_of(alloc: Global, name: &str) -> Result<StructReader<'static>> {
-    message::Reader::new(alloc, bytes_named(&MESSAGES, name))?
+    message::Reader::new(alloc, message_named(&MESSAGES, name))?
         .get_root()
         .get_struct()
 }

@@ -1,5 +1,5 @@
 //! Sources and sinks in memory, where one chosen call fails.
-ghost use Rattle.std.specs.Prelude.{◌≡◌, ◌≢◌, ◌<◌, min, length, None, Some, [], IfOk, IsOk, IsErr};
+ghost use Rattle.std.specs.Prelude.{◌≡◌, ◌≢◌, ◌<◌, min, length, Some, [], IfOk, IsOk, IsErr};
 ghost use Rattle.std.specs.Io.{ReadsAtMost, WritesAtMost};
 ghost use Rattle.std.specs.Io.KnownBytes.{ReadConsumes, WriteAppends};
 ghost use Rattle.capnp_device.specs.Device.{Counts, last_count, calls_after};

@@ -29,7 +29,7 @@ use Rattle.capnp_records.specs.Writes.Overlay.{field_names, switched}
 use Rattle.capnp_schema.specs.Schema.{default_of}
 use Rattle.capnp_dynamic.specs.Built.{IsUnder}
 use Rattle.capnp_dynamic.specs.FieldWrites.{IsFieldSet, KindIsSet, SlotIsSet, cleared_kind, field_cleared}
-use Rattle.capnp_dynamic.specs.Reads.{BelongsTo}
+use Rattle.capnp_dynamic_readers.specs.Reads.{BelongsTo}
 
 -- a struct of a schema is room for the schema's fields
 pub room_for : (f : Field) (schema : StructSchema) (s : StructTree) → BelongsTo f schema → IsUnder schema s → IsRoomFor f s
@@ -91,11 +91,6 @@ same_given s o f g a b x = same_field (λ (z : StructSchema) i. given_slot (set_
 
 pub same_refusal : (s : StructSchema) (o : Option ℕ) (f g : Field) → IsFound s o (Some f) → IsFound s o (Some g) → (x : Source) (k : ErrorKind) → IsSetRefusal (given_to f x) k → IsSetRefusal (given_to g x) k
 same_refusal s o f g a b x k h = subst (λ (q : Given). IsSetRefusal q k) (same_given s o f g a b x) h
-
--- a field of a name belongs to the schema
-pub found_belongs : (s : StructSchema) (o : Option ℕ) (f : Field) → IsFound s o (Some f) → BelongsTo f s
-found_belongs s None f a = absurd a
-found_belongs s (Some i) f a = record { set = ap set_of a.schema; number = ap number_of a.schema }
 
 -- ---- what is cleared, by its kind ----
 

@@ -23,11 +23,11 @@ use Rattle.capnp_records.specs.Writes.Slots.{Fits}
 use Rattle.capnp_schema.specs.Plan.{brand_size}
 use Rattle.capnp_slots.specs.Fills.{is_behind}
 use Rattle.capnp_dynamic.specs.Built.{IsListUnder, IsUnder as IsStructUnder}
-use Rattle.capnp_dynamic.specs.Leaf.{IsNumber}
-use Rattle.capnp_dynamic.specs.Seen.{answered}
-use Rattle.capnp_dynamic.specs.Typed.{IsUnder}
-use Rattle.capnp_dynamic.specs.declared.dynamic_value.Reader.{Reader as DynamicValue}
-use Rattle.capnp_dynamic.specs.declared.dynamic_value.Reader.TheVariants as dynamic
+use Rattle.capnp_dynamic_readers.specs.Leaf.{IsNumber}
+use Rattle.capnp_dynamic_readers.specs.Seen.{answered}
+use Rattle.capnp_dynamic_readers.specs.Typed.{IsUnder}
+use Rattle.capnp_dynamic_readers.specs.declared.dynamic_value.Reader.{Reader as DynamicValue}
+use Rattle.capnp_dynamic_readers.specs.declared.dynamic_value.Reader.TheVariants as dynamic
 use Rattle.capnp_dynamic.proofs.ListElements.{room_in, struct_fits}
 
 -- ---- structs ----

@@ -1,6 +1,6 @@
 -- A part of another kind than a struct, or a list, is of a field or element of another kind.
-use Rattle.std.specs.Prelude.{ℕ, ◌≡◌, ◌⊎◌, refl, Bool, true, false, not, ◌&&◌, ◌||◌, Some, Result, Ok, Err, IfErr, IfOk, IsOk}
-use Rattle.std.proofs.Common.{ap, inr, sym, subst, ◌∙◌}
+use Rattle.std.specs.Prelude.{ℕ, ◌≡◌, ◌⊎◌, refl, Bool, true, false, not, ◌&&◌, ◌||◌, Some, Result, Ok, Err, IfErr, IsOk}
+use Rattle.std.proofs.Common.{ap, inr, sym, ◌∙◌}
 use Rattle.std.proofs.lemmas.Bool.{true≢false}
 use Rattle.capnp_device.specs.declared.error.Error.{Error}
 use Rattle.capnp_device.specs.declared.error.ErrorKind.TheVariants.{TypeMismatch}
@@ -11,8 +11,6 @@ use Rattle.capnp_schema.specs.FieldLists.{typed_of}
 use Rattle.capnp_schema.specs.Schema.{Schemas, TypedField}
 use Rattle.capnp_schema.specs.Types.{SchemaType, StructType, ListType, is_pointer, struct_brand}
 use Rattle.capnp_schema.specs.declared.schema.fields.Field.{Field}
-use Rattle.capnp_records.specs.Record as value
-use Rattle.capnp_records.specs.Record.{Value}
 use Rattle.capnp_records.specs.Step.{is_group_field}
 use Rattle.capnp_slots.specs.Fields.{field_set}
 use Rattle.capnp_slots.specs.Fills.{element_filled}
@@ -22,14 +20,6 @@ use Rattle.capnp_dynamic.specs.Taken.{IsNoList, IsNoStruct, hands_list, hands_st
 use Rattle.capnp_dynamic.specs.declared.dynamic_list.build.Builder.{Builder as ListHandle}
 use Rattle.capnp_dynamic.specs.declared.dynamic_value.build.Builder.{Builder as BuiltValue}
 use Rattle.capnp_dynamic.specs.declared.dynamic_value.build.Builder.TheVariants as built
-
--- ---- what was taken out of a value ----
-
-module _ {A B : Type 0} (make : A → B) (v : B) where
-  -- what is said of the value is said of what was taken out of it
-  pub taken : (P : B → Type 0) (r : Result A Error) → IfOk r (λ a. make a ≡ v) → P v → IfOk r (λ a. P (make a))
-  taken P (Ok a) e h = subst P (sym e) h
-  taken P (Err x) e h = tt
 
 module _ {A : Type 0} (N : Type 0) (q : Bool) (other : N → q ≡ false) where
   -- a value of another kind is a mismatch
@@ -109,9 +99,3 @@ no_struct_there l j v h n = element-no-struct (built_set l) (built_element l) (b
 
 pub no_list_there : (l : ListHandle) (j : ℕ) (v : BuiltValue) → HandsElement l j v → IsNoList v → is_list_type (built_element l) ≡ false
 no_list_there l j v h n = element-no-list (built_set l) (built_element l) (built_elements l) (built_reading l) j v h n
-
--- ---- reads ----
-
--- why a value that was read is not taken
-pub read_refused : {A : Type 0} (only : Value → Value) (v w : Value) (r : Result A Error) → v ≡ w → IfErr r (λ e. value.Fault e.kind ≡ only v) → IfErr r (λ e. value.Fault e.kind ≡ only w)
-read_refused only v w r e h = subst (λ (z : Value). IfErr r (λ e. value.Fault e.kind ≡ only z)) e h

@@ -1,5 +1,5 @@
 -- The kinds of dynamic values that are built: which variant a value is.
-use Rattle.capnp_dynamic.specs.Kinds.{Kind, VoidKind, BoolKind, Int8Kind, Int16Kind, Int32Kind, Int64Kind, UInt8Kind, UInt16Kind, UInt32Kind, UInt64Kind, EnumKind, TextKind, DataKind, StructKind, ListKind, AnyPointerKind}
+use Rattle.capnp_dynamic_readers.specs.Kinds.{Kind, VoidKind, BoolKind, Int8Kind, Int16Kind, Int32Kind, Int64Kind, UInt8Kind, UInt16Kind, UInt32Kind, UInt64Kind, EnumKind, TextKind, DataKind, StructKind, ListKind, AnyPointerKind}
 use Rattle.capnp_dynamic.specs.declared.dynamic_struct.build.Builder.{Builder as StructHandle}
 use Rattle.capnp_dynamic.specs.declared.dynamic_value.build.Builder.{Builder as BuiltValue}
 use Rattle.capnp_dynamic.specs.declared.dynamic_value.build.Builder.TheVariants as built

@@ -5,9 +5,9 @@ use Rattle.capnp_wire.specs.WellFormed.{IsWellFormed}
 use Rattle.capnp_base.specs.AnyPointer.{pointer_behind, pointer_of, pointer_tree}
 use Rattle.capnp_base.specs.Text.{position, text_bytes}
 use Rattle.capnp_dynamic.specs.Built.{IsListReady, IsReady, built_reading, built_schema, built_set, built_struct, built_type, list_behind}
-use Rattle.capnp_dynamic.specs.Handles.{list_reader_of, list_set, reader_of, schema_of, type_of}
-use Rattle.capnp_dynamic.specs.declared.dynamic_value.Reader.{Reader as DynamicValue}
-use Rattle.capnp_dynamic.specs.declared.dynamic_value.Reader.TheVariants as dynamic
+use Rattle.capnp_dynamic_readers.specs.Handles.{list_reader_of, list_set, reader_of, schema_of, type_of}
+use Rattle.capnp_dynamic_readers.specs.declared.dynamic_value.Reader.{Reader as DynamicValue}
+use Rattle.capnp_dynamic_readers.specs.declared.dynamic_value.Reader.TheVariants as dynamic
 use Rattle.capnp_dynamic.specs.declared.dynamic_value.build.Builder.{Builder as BuiltValue}
 use Rattle.capnp_dynamic.specs.declared.dynamic_value.build.Builder.TheVariants as built
 

@@ -27,11 +27,11 @@ use Rattle.capnp_slots.specs.Fills.{ElementRests, element_due, element_filled, f
 use Rattle.capnp_records.specs.Writes.TreeEnds.{InitContent, group_cleared, offset_of}
 use Rattle.capnp_dynamic.specs.Built.{HoldsElements, built_element, built_elements, built_reading, built_schema, built_set, built_struct}
 use Rattle.capnp_dynamic.specs.BuiltValues.{IsReaderOf}
-use Rattle.capnp_dynamic.specs.Reads.{field_read}
-use Rattle.capnp_dynamic.specs.Seen.{value_seen}
-use Rattle.capnp_dynamic.specs.Typed.{IsOf, IsUnder}
+use Rattle.capnp_dynamic_readers.specs.Reads.{field_read}
+use Rattle.capnp_dynamic_readers.specs.Seen.{value_seen}
+use Rattle.capnp_dynamic_readers.specs.Typed.{IsOf, IsUnder}
 use Rattle.capnp_dynamic.specs.declared.dynamic_list.build.Builder.{Builder as ListHandle}
-use Rattle.capnp_dynamic.specs.declared.dynamic_value.Reader.{Reader as DynamicValue}
+use Rattle.capnp_dynamic_readers.specs.declared.dynamic_value.Reader.{Reader as DynamicValue}
 use Rattle.capnp_dynamic.specs.declared.dynamic_value.build.Builder.{Builder as BuiltValue}
 use Rattle.capnp_dynamic.specs.declared.dynamic_value.build.Builder.TheVariants as built
 

@@ -16,11 +16,11 @@ use Rattle.capnp_slots.specs.ReadBack.{HasKind, IsWhole}
 use Rattle.capnp_dynamic.specs.Built.{IsUnder, built_record, built_schema}
 use Rattle.capnp_dynamic.specs.FieldWrites.{IsFieldSet, field_cleared}
 use Rattle.capnp_dynamic.specs.Handed.{HandsInit}
-use Rattle.capnp_dynamic.specs.Reads.{BelongsTo, field_read}
-use Rattle.capnp_dynamic.specs.Seen.{value_seen}
-use Rattle.capnp_dynamic.specs.SetValues.{source_of}
+use Rattle.capnp_dynamic_readers.specs.Reads.{BelongsTo, field_read}
+use Rattle.capnp_dynamic_readers.specs.Seen.{value_seen}
+use Rattle.capnp_dynamic_readers.specs.SetValues.{source_of}
 use Rattle.capnp_dynamic.specs.declared.dynamic_struct.build.Builder.{Builder as StructHandle}
-use Rattle.capnp_dynamic.specs.declared.dynamic_value.Reader.{Reader as DynamicValue}
+use Rattle.capnp_dynamic_readers.specs.declared.dynamic_value.Reader.{Reader as DynamicValue}
 use Rattle.capnp_dynamic.specs.declared.dynamic_value.build.Builder.TheVariants as built
 
 -- what a get of field i answers of a struct under a schema, where its reader has so many levels left

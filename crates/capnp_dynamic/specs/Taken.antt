@@ -1,4 +1,4 @@
--- Parts that are taken as a struct or as a list alone: where a reader or a builder hands out something else, it is a mismatch.
+-- Parts that are taken as a struct or as a list alone: where a builder hands out something else, it is a mismatch.
 use Rattle.std.specs.Prelude.{ℕ, ◌≡◌, ◌⊎◌, ⊤, Bool, true, false, not, ◌&&◌, ◌||◌}
 use Rattle.capnp_device.specs.declared.error.Error.{Error}
 use Rattle.capnp_device.specs.declared.error.ErrorKind.TheVariants.{TypeMismatch}
@@ -7,30 +7,12 @@ use Rattle.capnp_schema.specs.FieldLists.{typed_of}
 use Rattle.capnp_schema.specs.Schema.{TypedField}
 use Rattle.capnp_schema.specs.Types.{SchemaType, StructType, ListType}
 use Rattle.capnp_schema.specs.declared.schema.fields.Field.{Field}
-use Rattle.capnp_records.specs.Record as value
-use Rattle.capnp_records.specs.Record.{Value}
 use Rattle.capnp_records.specs.Step.{is_group_field}
 use Rattle.capnp_dynamic.specs.Built.{built_element}
 use Rattle.capnp_dynamic.specs.Handed.{IsElementPartRefusal, IsElementWithin, IsPartRefusal, IsPartWithin}
 use Rattle.capnp_dynamic.specs.declared.dynamic_list.build.Builder.{Builder as ListHandle}
 use Rattle.capnp_dynamic.specs.declared.dynamic_value.build.Builder.{Builder as BuiltValue}
 use Rattle.capnp_dynamic.specs.declared.dynamic_value.build.Builder.TheVariants as built
-
--- ---- of readers ----
-
--- what is read, taken as a struct: a refusal stays, and every other value is a mismatch
-abbrev pub only_struct : Value → Value
-only_struct (value.Struct r) = value.Struct r
-only_struct (value.Fault kind) = value.Fault kind
-only_struct v = value.Fault TypeMismatch
-
--- the same taken as a list
-abbrev pub only_list : Value → Value
-only_list (value.Elements vs) = value.Elements vs
-only_list (value.Fault kind) = value.Fault kind
-only_list v = value.Fault TypeMismatch
-
--- ---- of builders ----
 
 -- a value is no struct, and no list
 abbrev pub IsNoStruct : BuiltValue → Type 0

@@ -20,8 +20,8 @@ ghost use Rattle.capnp_dynamic.specs.Built.{IsReady, built_schema, built_struct}
 ghost use Rattle.capnp_dynamic.specs.BuiltValues.{CanBeRead, IsReaderOf};
 ghost use Rattle.capnp_dynamic.specs.FieldWrites.{IsNamed};
 ghost use Rattle.capnp_dynamic.specs.Handed.{HandsField, HandsFilled, HandsNumber, IsPartRefusal, IsPartWithin};
-ghost use Rattle.capnp_dynamic.specs.Leaf.{IsNumber};
-ghost use Rattle.capnp_dynamic.specs.Reads.{BelongsTo};
+ghost use Rattle.capnp_dynamic_readers.specs.Leaf.{IsNumber};
+ghost use Rattle.capnp_dynamic_readers.specs.Reads.{BelongsTo};
 
 use crate::dynamic_struct::{Builder, Reader};
 use crate::dynamic_value;
@@ -144,7 +144,7 @@ impl<'a> Builder<'a> {
 
     /// What the field of a name has, as `get`. Refused with `FieldNotFound` where there is none of that name.
     /// The struct has to have its schema's sections and be well-formed (`IsReady`).
-    #[tactic(auto, using(crate::proofs::Builders::found_belongs))]
+    #[tactic(auto, using(capnp_dynamic_readers::specs::Facts::Found::found_belongs))]
     pub fn get_named(self, field_name: &str) -> Result<dynamic_value::Builder<'a>>
         requires { IsReady self }
         ensures stands { (f : Field) → IsNamed (built_schema self.entry) field_name.now f → IfOk result (HandsField f (built_struct self.entry)) }

@@ -17,11 +17,11 @@ ghost use Rattle.capnp_dynamic.specs.BuiltValues.{CanBeRead};
 ghost use Rattle.capnp_dynamic.specs.Handed.{HandsElement, HandsElementNumber, HandsOut, IsElementPartRefusal, IsElementWithin, RestsAt};
 
 use crate::dynamic_list::Builder;
-use crate::elements::read_element;
 use crate::hand::built_number;
 use crate::handed::hand_out;
 use crate::{dynamic_struct, dynamic_value};
 use capnp_base::introspect::{RawBrandedStructSchema, Type, TypeVariant};
+use capnp_dynamic_readers::elements::read_element;
 use capnp_schema::set::SchemaSet;
 use capnp_slots::element;
 use capnp_wire::ListBuilder;

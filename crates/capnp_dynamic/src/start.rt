@@ -18,7 +18,7 @@ ghost use Rattle.capnp_dynamic.specs.Built.{IsReady, built_schema, built_struct}
 ghost use Rattle.capnp_dynamic.specs.BuiltValues.{CanBeRead};
 ghost use Rattle.capnp_dynamic.specs.FieldWrites.{IsNamed};
 ghost use Rattle.capnp_dynamic.specs.Handed.{CanBeHanded, HandsInit, HandsInitn, HandsNew, HandsNewSized, HandsOut, IsStartRefusal, IsSizedRefusal};
-ghost use Rattle.capnp_dynamic.specs.Reads.{BelongsTo};
+ghost use Rattle.capnp_dynamic_readers.specs.Reads.{BelongsTo};
 
 use crate::dynamic_struct::Builder;
 use crate::dynamic_value;
@@ -110,7 +110,7 @@ impl<'a> Builder<'a> {
 
     /// Starts the field of a name anew, as `init`. Refused first with `FieldNotFound` where there is none of that name.
     /// The struct has to have its schema's sections and be well-formed (`IsReady`).
-    #[tactic(auto, using(crate::proofs::Builders::found_belongs))]
+    #[tactic(auto, using(capnp_dynamic_readers::specs::Facts::Found::found_belongs))]
     pub fn init_named(self, field_name: &str) -> Result<dynamic_value::Builder<'a>>
         requires { IsReady self }
         ensures stands { (f : Field) → IsNamed (built_schema self.entry) field_name.now f → IfOk result (HandsInit f (built_struct self.entry)) }
@@ -149,7 +149,7 @@ impl<'a> Builder<'a> {
     /// Starts the field of a name anew with a size, as `initn`. Refused first with `FieldNotFound` where there is none of that
     /// name.
     /// The struct has to have its schema's sections and be well-formed (`IsReady`).
-    #[tactic(auto, using(crate::proofs::Builders::found_belongs, crate::proofs::Started::same_initn, crate::proofs::Started::same_sized_refusal))]
+    #[tactic(auto, using(capnp_dynamic_readers::specs::Facts::Found::found_belongs, crate::proofs::Started::same_initn, crate::proofs::Started::same_sized_refusal))]
     pub fn initn_named(self, field_name: &str, size: u32) -> Result<dynamic_value::Builder<'a>>
         requires { IsReady self }
         ensures stands { (f : Field) → IsNamed (built_schema self.entry) field_name.now f → IfOk result (HandsInitn f size) }

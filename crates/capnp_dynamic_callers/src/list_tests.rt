@@ -5,9 +5,17 @@ use crate::script::rows_hold;
 const ITEMS: &str = "length items; get items/0/a; get items/1/a; last items";
 
 static ITEM_ROWS: [(&str, &str, &str); 3] = [
-    ("lists bytes", ITEMS, "2; u16 5; u16 255; 2 struct 1"),
+    (
+        "lists items_as_bytes",
+        ITEMS,
+        "2; u16 5; u16 255; 2 struct 1",
+    ),
     ("lists structs", ITEMS, "2; u16 1; u16 2; 2 struct 1"),
-    ("lists numbers", ITEMS, "2; u16 1; u16 2; 2 struct 1"),
+    (
+        "lists items_as_numbers",
+        ITEMS,
+        "2; u16 1; u16 2; 2 struct 1",
+    ),
 ];
 
 #[test]

@@ -8,6 +8,7 @@ use capnp_schema_fixtures::fixtures::{
     slot, slot_with, struct_type, typed_slot,
 };
 use capnp_schema_fixtures::kinds;
+use capnp_schema_fixtures::messages::message_named;
 use capnp_wire::error::Result;
 use std::alloc::Global;
 
@@ -35,20 +36,9 @@ static STRUCTS: [(&str, Set, u32); 9] = [
     ("linked", Set::Linked, 0),
 ];
 
-/// A message whose root is null.
-static NULL_ROOT: [u8; 16] = [0, 0, 0, 0, 1, 0, 0, 0, 0, 0, 0, 0, 0, 0, 0, 0];
-
-/// The messages. A name that is not here, nor `full`, `segments` or `empty` of the struct of every kind, is a null root.
-static MESSAGES: [(&str, &[u8]); 24] = [
-    // a `Mixed` whose `a` is 5, with `y` active and 9
-    (
-        "nine",
-        &[
-            0, 0, 0, 0, 3, 0, 0, 0, 0, 0, 0, 0, 1, 0, 1, 0, 5, 0, 1, 0, 9, 0, 0, 0, 0, 0, 0, 0, 0,
-            0, 0, 0,
-        ],
-    ),
-    // the same with `x` active
+/// The messages that no other crate reads; `messages::message_named` has the others.
+static MESSAGES: [(&str, &[u8]); 20] = [
+    // a `Mixed` whose `a` is 5, with `x` active
     (
         "void",
         &[
@@ -64,11 +54,6 @@ static MESSAGES: [(&str, &[u8]); 24] = [
             0, 0, 0,
         ],
     ),
-    // a root of size zero
-    (
-        "short",
-        &[0, 0, 0, 0, 1, 0, 0, 0, 0xfc, 0xff, 0xff, 0xff, 0, 0, 0, 0],
-    ),
     // a `Many` whose fields differ from their defaults
     (
         "many",
@@ -77,29 +62,13 @@ static MESSAGES: [(&str, &[u8]); 24] = [
             0xff, 0xff, 0xff, 0xff, 0xff, 0xff, 0xff, 0xff, 0xff,
         ],
     ),
-    // a `Lists` whose `items` are a list of the bytes 5 and 255
-    (
-        "bytes",
-        &[
-            0, 0, 0, 0, 6, 0, 0, 0, 0, 0, 0, 0, 0, 0, 4, 0, 0, 0, 0, 0, 0, 0, 0, 0, 0, 0, 0, 0, 0,
-            0, 0, 0, 0, 0, 0, 0, 0, 0, 0, 0, 1, 0, 0, 0, 0x12, 0, 0, 0, 5, 0xff, 0, 0, 0, 0, 0, 0,
-        ],
-    ),
-    // the same of two structs, whose `a` are 1 and 2
+    // a `Lists` whose `items` are two structs, whose `a` are 1 and 2
     (
         "structs",
         &[
             0, 0, 0, 0, 8, 0, 0, 0, 0, 0, 0, 0, 0, 0, 4, 0, 0, 0, 0, 0, 0, 0, 0, 0, 0, 0, 0, 0, 0,
             0, 0, 0, 0, 0, 0, 0, 0, 0, 0, 0, 1, 0, 0, 0, 0x17, 0, 0, 0, 8, 0, 0, 0, 1, 0, 0, 0, 1,
             0, 0, 0, 0, 0, 0, 0, 2, 0, 0, 0, 0, 0, 0, 0,
-        ],
-    ),
-    // the same of the numbers 1 and 2 of two bytes
-    (
-        "numbers",
-        &[
-            0, 0, 0, 0, 6, 0, 0, 0, 0, 0, 0, 0, 0, 0, 4, 0, 0, 0, 0, 0, 0, 0, 0, 0, 0, 0, 0, 0, 0,
-            0, 0, 0, 0, 0, 0, 0, 0, 0, 0, 0, 1, 0, 0, 0, 0x13, 0, 0, 0, 1, 0, 2, 0, 0, 0, 0, 0,
         ],
     ),
     // the same of two bits, which are not read as structs
@@ -337,15 +306,5 @@ pub fn set_of(alloc: Global, name: &str) -> Result<SchemaSet> {
 
 /// The message of a name.
 pub fn message_of(name: &str) -> &'static [u8] {
-    for (text, message) in &MESSAGES {
-        if *text == name {
-            return message;
-        }
-    }
-    match name {
-        "full" => &kinds::FULL,
-        "segments" => &kinds::SEGMENTS,
-        "empty" => &kinds::EMPTY,
-        _ => &NULL_ROOT,
-    }
+    message_named(&MESSAGES, name)
 }

@@ -21,12 +21,12 @@ use Rattle.capnp_records.specs.Record as value
 use Rattle.capnp_records.specs.Record.{Endless, Left, Value}
 use Rattle.capnp_records.specs.Step.{fault_of}
 use Rattle.capnp_records.specs.Writes.Stand.{seen_element}
-use Rattle.capnp_dynamic.specs.Handles.{element_of, list_reader_of, list_set}
-use Rattle.capnp_dynamic.specs.Reads.{element_seen}
-use Rattle.capnp_dynamic.specs.Seen.{answered}
-use Rattle.capnp_dynamic.specs.Typed.{IsOf}
-use Rattle.capnp_dynamic.specs.declared.dynamic_list.Reader.{Reader as ListHandle}
-use Rattle.capnp_dynamic.specs.declared.dynamic_value.Reader.{Reader as DynamicValue}
+use Rattle.capnp_dynamic_readers.specs.Handles.{element_of, list_reader_of, list_set}
+use Rattle.capnp_dynamic_readers.specs.Reads.{element_seen}
+use Rattle.capnp_dynamic_readers.specs.Seen.{answered}
+use Rattle.capnp_dynamic_readers.specs.Typed.{IsOf}
+use Rattle.capnp_dynamic_readers.specs.declared.dynamic_list.Reader.{Reader as ListHandle}
+use Rattle.capnp_dynamic_readers.specs.declared.dynamic_value.Reader.{Reader as DynamicValue}
 use Rattle.capnp_run.proofs.Levels.{SameAnswer, answers_same, same_from, same_then, there}
 use Rattle.capnp_run.proofs.ListWalks.{part_seen}
 use Rattle.capnp_run.specs.Lists.{element_at}

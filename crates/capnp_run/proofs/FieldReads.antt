@@ -23,13 +23,13 @@ use Rattle.capnp_records.specs.Part.{has_of, is_inactive}
 use Rattle.capnp_records.specs.Reading.{reads, struct_record}
 use Rattle.capnp_records.specs.Record.{Left, Record, Value}
 use Rattle.capnp_records.specs.Step.{Target, fault_of}
-use Rattle.capnp_dynamic.specs.Handles.{reader_of, schema_of}
-use Rattle.capnp_dynamic.specs.Reads.{field_read, field_seen}
-use Rattle.capnp_dynamic.specs.Seen.{answered, record_seen, value_seen}
-use Rattle.capnp_dynamic.specs.Typed.{IsOf}
-use Rattle.capnp_dynamic.specs.declared.dynamic_struct.Reader.{Reader as StructHandle}
-use Rattle.capnp_dynamic.specs.declared.dynamic_value.Reader.{Reader as DynamicValue}
-use Rattle.capnp_dynamic.specs.declared.dynamic_value.Reader.TheVariants as dynamic
+use Rattle.capnp_dynamic_readers.specs.Handles.{reader_of, schema_of}
+use Rattle.capnp_dynamic_readers.specs.Reads.{field_read, field_seen}
+use Rattle.capnp_dynamic_readers.specs.Seen.{answered, record_seen, value_seen}
+use Rattle.capnp_dynamic_readers.specs.Typed.{IsOf}
+use Rattle.capnp_dynamic_readers.specs.declared.dynamic_struct.Reader.{Reader as StructHandle}
+use Rattle.capnp_dynamic_readers.specs.declared.dynamic_value.Reader.{Reader as DynamicValue}
+use Rattle.capnp_dynamic_readers.specs.declared.dynamic_value.Reader.TheVariants as dynamic
 use Rattle.capnp_slots.specs.Fields.{field_brand, field_set}
 use Rattle.capnp_run.specs.Ways.{target_in}
 use Rattle.capnp_run.proofs.Levels.{active_levels, answers_same, field_same, has_levels, same_from, same_then}

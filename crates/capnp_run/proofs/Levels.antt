@@ -25,8 +25,8 @@ use Rattle.capnp_records.specs.Record as value
 use Rattle.capnp_records.specs.Record.{Endless, Left, Levels, Record, Value, one_less, values_from}
 use Rattle.capnp_records.specs.Call.{GivesValue, ListPlain, Reply}
 use Rattle.capnp_records.specs.Step.{IsRefused, fault_of}
-use Rattle.capnp_dynamic.specs.Facts.HasWhich.{active_by_plan, has_by_plan}
-use Rattle.capnp_dynamic.specs.Reads.{field_read, handed_out}
+use Rattle.capnp_dynamic_readers.specs.Facts.HasWhich.{active_by_plan, has_by_plan}
+use Rattle.capnp_dynamic_readers.specs.Reads.{field_read, handed_out}
 
 -- ---- has ----
 

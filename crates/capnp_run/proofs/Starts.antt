@@ -18,13 +18,13 @@ use Rattle.capnp_schema.specs.Types.{StructType}
 use Rattle.capnp_records.specs.Laws.{GroupPrintLaw, PrintLaw}
 use Rattle.capnp_records.specs.Reading.{reads, struct_record}
 use Rattle.capnp_records.specs.Text.{Out, text_of}
-use Rattle.capnp_dynamic.specs.Handles.{reader_of, schema_of}
-use Rattle.capnp_dynamic.specs.Pieces.{IsAppended}
-use Rattle.capnp_dynamic.specs.Seen.{record_seen}
-use Rattle.capnp_dynamic.specs.Shown.{printed_text, struct_printed}
-use Rattle.capnp_dynamic.specs.Typed.{struct_type}
-use Rattle.capnp_dynamic.specs.declared.dynamic_struct.Reader.{Reader as StructHandle}
-use Rattle.capnp_dynamic.specs.declared.dynamic_value.Reader.TheVariants as dynamic
+use Rattle.capnp_dynamic_readers.specs.Handles.{reader_of, schema_of}
+use Rattle.capnp_dynamic_readers.specs.Pieces.{IsAppended}
+use Rattle.capnp_dynamic_readers.specs.Seen.{record_seen}
+use Rattle.capnp_dynamic_readers.specs.Shown.{printed_text, struct_printed}
+use Rattle.capnp_dynamic_readers.specs.Typed.{struct_type}
+use Rattle.capnp_dynamic_readers.specs.declared.dynamic_struct.Reader.{Reader as StructHandle}
+use Rattle.capnp_dynamic_readers.specs.declared.dynamic_value.Reader.TheVariants as dynamic
 use Rattle.capnp_wire.specs.Edits.{IsCopyRefusal, IsStructRefusal, extended, is_struct, struct_in, struct_refusal, zero_struct}
 use Rattle.capnp_wire.specs.Kept as kept
 use Rattle.capnp_wire.specs.Place.{struct_tree}

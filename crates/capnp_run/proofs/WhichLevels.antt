@@ -10,10 +10,10 @@ use Rattle.capnp_records.specs.Facts.Frame.{first-of}
 use Rattle.capnp_records.specs.Part.{which_of}
 use Rattle.capnp_records.specs.Reading.{active_among, discriminant, part_of, plain_parts, reads, struct_record, values_of}
 use Rattle.capnp_records.specs.Record.{Endless, Left, Levels, NoUnion, Parts, Value}
-use Rattle.capnp_dynamic.specs.Facts.HasWhich.{which_counted}
-use Rattle.capnp_dynamic.specs.Handles.{reader_of, schema_of}
-use Rattle.capnp_dynamic.specs.Seen.{record_seen}
-use Rattle.capnp_dynamic.specs.declared.dynamic_struct.Reader.{Reader as StructHandle}
+use Rattle.capnp_dynamic_readers.specs.Facts.HasWhich.{which_counted}
+use Rattle.capnp_dynamic_readers.specs.Handles.{reader_of, schema_of}
+use Rattle.capnp_dynamic_readers.specs.Seen.{record_seen}
+use Rattle.capnp_dynamic_readers.specs.declared.dynamic_struct.Reader.{Reader as StructHandle}
 
 pub which_levels : (set : Schemas) (l : Levels) (s : StructTree) (b : ℕ) → which_of (struct_record set l s b) ≡ which_of (struct_record set Endless s b)
 which_levels set l s b = go ((node_of set b).discriminant_count == 0) refl

@@ -21,8 +21,8 @@ use Rattle.capnp_records.specs.Record as value
 use Rattle.capnp_records.specs.Record.{Endless, Left, Record, Value}
 use Rattle.capnp_records.specs.Text.{Out, text_of}
 use Rattle.capnp_records.specs.Writes.Slots.{Fits}
-use Rattle.capnp_dynamic.specs.Pieces.{IsAppended}
-use Rattle.capnp_dynamic.specs.Typed.{struct_type}
+use Rattle.capnp_dynamic_readers.specs.Pieces.{IsAppended}
+use Rattle.capnp_dynamic_readers.specs.Typed.{struct_type}
 use Rattle.capnp_run.specs.Runs.{IsRunFrom, record_in}
 use Rattle.capnp_run.specs.declared.calls.Call.{Call}
 use Rattle.capnp_run.specs.declared.calls.Reply.{Reply}

@@ -9,7 +9,7 @@ ghost use Rattle.capnp_records.specs.Writes.Slots.{Fits};
 ghost use Rattle.capnp_slots.specs.Fields.{IsRoomFor, IsSlot};
 ghost use Rattle.capnp_slots.specs.Groups.{IsGroup, KeepsSize};
 ghost use Rattle.capnp_slots.specs.Sources.{source_seen};
-ghost use Rattle.capnp_dynamic.specs.SetValues.{source_of};
+ghost use Rattle.capnp_dynamic_readers.specs.SetValues.{source_of};
 ghost use Rattle.capnp_run.specs.Ends.{FieldDoes, NamedDoes, StructEnds};
 ghost use Rattle.capnp_run.specs.Seen.{op_seen, reply_seen, step_seen};
 

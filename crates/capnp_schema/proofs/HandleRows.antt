@@ -1,7 +1,7 @@
 -- Worked examples of what handles give, computed on the built-in set.
 use Rattle.std.specs.Prelude.{◌≡◌, refl, [], ◌∷◌, replicate, Some, None}
 use Rattle.capnp_wire.specs.Tree as tree
-use Rattle.capnp_wire.specs.Tree.{Tree, NoTrees, MoreTrees}
+use Rattle.capnp_wire.specs.Tree.{NoTrees, MoreTrees}
 use Rattle.capnp_wire.specs.Place.{tree_at, tree_below}
 use Rattle.capnp_schema.specs.Types.{ListType, StructType, TextType, UIntType}
 use Rattle.capnp_schema.specs.Schema.{TextValue, default_of, field_at, no_node, node_of}

@@ -1,6 +1,6 @@
 //! A small set of schemas that is built in: structs, unions, groups, lists, an enum and annotations, for examples and
 //! tests.
-ghost use Rattle.std.specs.Prelude.{[], ◌∷◌, ◌≡◌, length, map, IfErr, IfOk, replicate};
+ghost use Rattle.std.specs.Prelude.{[], ◌≡◌, map, IfErr, IfOk, replicate};
 ghost use Rattle.capnp_device.specs.declared.error.ErrorKind.TheVariants.{OutOfMemory};
 ghost use Rattle.capnp_schema.specs.Types.{seen_type};
 ghost use Rattle.capnp_schema.specs.Schema.{Enumerant, seen_enum, seen_enumerant, seen_schemas};

@@ -17,8 +17,8 @@
 
 use crate::changes::{change, read_note};
 use crate::fixtures::{
-    FieldOf, KindOf, Records, StructOf, ValueOf, add_struct, enum_record, group_field, list_type,
-    slot, typed_slot,
+    FieldOf, KindOf, Records, StructOf, ValueOf, add_struct, enum_record, group_field, slot,
+    typed_slot,
 };
 use crate::words::{first_word, number, read_type, read_value};
 use capnp_base::introspect::{Type, TypeVariant};

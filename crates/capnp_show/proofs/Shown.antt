@@ -11,19 +11,19 @@ use Rattle.capnp_schema.specs.Schema.{Schemas, brand_at, node_of}
 use Rattle.capnp_schema.specs.StructHandles.{IsStruct, number_of, set_of}
 use Rattle.capnp_schema.specs.Types.{StructType}
 use Rattle.capnp_schema.specs.declared.schema.structs.StructSchema.{StructSchema}
-use Rattle.capnp_dynamic.specs.Handles.{reader_of, schema_of}
-use Rattle.capnp_dynamic.specs.Seen.{record_seen}
-use Rattle.capnp_dynamic.specs.Typed.{struct_type}
-use Rattle.capnp_dynamic.specs.declared.dynamic_struct.Reader.{Reader as StructHandle}
-use Rattle.capnp_dynamic.specs.declared.dynamic_value.Reader.TheVariants as dynamic
+use Rattle.capnp_dynamic_readers.specs.Handles.{reader_of, schema_of}
+use Rattle.capnp_dynamic_readers.specs.Seen.{record_seen}
+use Rattle.capnp_dynamic_readers.specs.Typed.{struct_type}
+use Rattle.capnp_dynamic_readers.specs.declared.dynamic_struct.Reader.{Reader as StructHandle}
+use Rattle.capnp_dynamic_readers.specs.declared.dynamic_value.Reader.TheVariants as dynamic
 use Rattle.capnp_records.specs.Reading.{struct_record}
 use Rattle.capnp_records.specs.Record as value
 use Rattle.capnp_records.specs.Record.{Left, Record}
 use Rattle.capnp_records.specs.Text.{Out, text_of}
 use Rattle.capnp_show.specs.Show.{IsLineOf, root_text, shown_text, struct_or_group}
 use Rattle.capnp_records.specs.Run.{root_type}
-use Rattle.capnp_dynamic.specs.Pieces.{IsAppended}
-use Rattle.capnp_dynamic.specs.Shown.{printed_text, struct_printed, value_printed}
+use Rattle.capnp_dynamic_readers.specs.Pieces.{IsAppended}
+use Rattle.capnp_dynamic_readers.specs.Shown.{printed_text, struct_printed, value_printed}
 
 abbrev Read : Type 0
 Read = Result StructTree ErrorKind

@@ -5,10 +5,10 @@ ghost use Rattle.capnp_device.specs.declared.error.ErrorKind.TheVariants.{OutOfM
 ghost use Rattle.capnp_schema.specs.Entries.{lists_seen};
 ghost use Rattle.capnp_show.specs.Refusals.{IsOfRead};
 ghost use Rattle.capnp_show.specs.Show.{IsCutShort, IsLineOf, IsOfMessage, IsRefused, IsShown, shown_text};
-ghost use Rattle.capnp_dynamic.specs.Pieces.{IsAppended};
+ghost use Rattle.capnp_dynamic_readers.specs.Pieces.{IsAppended};
 
-use capnp_dynamic::printer::print;
-use capnp_dynamic::{dynamic_struct, dynamic_value};
+use capnp_dynamic_readers::printer::print;
+use capnp_dynamic_readers::{dynamic_struct, dynamic_value};
 use capnp_schema::set::SchemaSet;
 use capnp_wire::device::{Sink, Source};
 use capnp_wire::error::Result;

@@ -3,7 +3,6 @@ ghost use Rattle.std.specs.Prelude.{false, true, None, ◌≡◌, ◌≢◌, IfE
 ghost use Rattle.capnp_device.specs.declared.error.ErrorKind.TheVariants.{OutOfMemory};
 ghost use Rattle.capnp_wire.specs.Edits.{IsCopyRefusal};
 ghost use Rattle.capnp_wire.specs.Objects.{struct_object_tree};
-ghost use Rattle.capnp_wire.specs.Reading.{is_null_tree};
 ghost use Rattle.capnp_wire.specs.Standing.{levels_of, struct_levels, struct_of, tree_of};
 ghost use Rattle.capnp_wire.specs.Words.{first_fault};
 ghost use Rattle.capnp_schema.specs.Defaults.{DefaultFits};

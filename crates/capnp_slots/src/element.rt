@@ -44,7 +44,6 @@ use capnp_wire::laws::kept_lists::{
 };
 use capnp_wire::laws::{objects_hold_no_fault, struct_is_well_formed};
 use capnp_wire::object::{ListObject, Object};
-use capnp_wire::size::{ElementSize, StructSize};
 
 /// Stores a number in an element of a type.
 fn store_element(list: &mut ListObject, variant: TypeVariant, index: u32, number: u64)

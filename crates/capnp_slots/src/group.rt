@@ -18,7 +18,7 @@ use crate::source::Source;
 use capnp_base::introspect::RawBrandedStructSchema;
 use capnp_records::laws::{group_is_cleared, group_is_copied};
 use capnp_schema::laws::{heights_fall, numbers_fit};
-use capnp_schema::plan::{Place, plans_stand};
+use capnp_schema::plan::Place;
 use capnp_schema::schema::{Field, StructSchema};
 use capnp_wire::StructReader;
 use capnp_wire::error::{Error, ErrorKind, Result};

@@ -3,7 +3,7 @@ ghost use Rattle.std.specs.Prelude.{◌≡◌, ◌≤◌, ◌<◌, ◌+◌, ◌*
 ghost use Rattle.capnp_wire.specs.Objects.{struct_object_tree};
 ghost use Rattle.capnp_wire.specs.Edits.{with_bytes};
 ghost use Rattle.capnp_wire.specs.Tree.{tree_count};
-ghost use Rattle.capnp_schema.specs.Plan.{IsSlotPlace, PlaceFits, PlanFits, is_slot_width};
+ghost use Rattle.capnp_schema.specs.Plan.{IsSlotPlace, PlanFits, is_slot_width};
 ghost use Rattle.capnp_schema.specs.SlotBits.{with_bits};
 ghost use Rattle.capnp_records.specs.Writes.Slots.{Bits};
 ghost use Rattle.capnp_wire.specs.Standing.{struct_of};

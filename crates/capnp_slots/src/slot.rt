@@ -1,5 +1,5 @@
 //! Slots of a struct that is built: a union's member becomes active, and then what stands in the slot is written.
-ghost use Rattle.std.specs.Prelude.{None, ◌≡◌, IfErr, IfOk, IfSome, OnErr, OnOk, not};
+ghost use Rattle.std.specs.Prelude.{None, ◌≡◌, IfErr, IfSome, OnErr, OnOk, not};
 ghost use Rattle.capnp_device.specs.declared.error.ErrorKind.TheVariants.{OutOfMemory};
 ghost use Rattle.capnp_wire.specs.Edits.{zero_struct};
 ghost use Rattle.capnp_wire.specs.Objects.{struct_object_tree};

@@ -14,7 +14,7 @@ use Rattle.capnp_wire.specs.declared.object.ListObject.{ListObject}
 use Rattle.capnp_wire.specs.declared.object.StructObject.{StructObject}
 use Rattle.capnp_wire.specs.declared.object.Object.TheVariants as object
 use Rattle.capnp_wire.specs.declared.object.ListObject.TheOpen as layer
-use Rattle.capnp_wire.specs.declared.object.ListObject.TheOpen.{Object-F, ListObject-F, StructObject-F}
+use Rattle.capnp_wire.specs.declared.object.ListObject.TheOpen.{Object-F, ListObject-F}
 use Rattle.capnp_wire.specs.declared.object.ListObject.TheFolds.{ind-Object, map-Object, map-ListObject, fold-roll-Object, fold-roll-ListObject, fold-roll-StructObject, the_lemmas}
 use Rattle.capnp_wire.specs.Facts.EmptyStructs.{first_fault-empty_structs}
 use Rattle.capnp_device.specs.declared.error.Error.{Error}

@@ -1,12 +1,12 @@
 //! The bytes of owned objects: each object before what its pointers lead to, in their order. Room is left for a row of
 //! pointers, and each of them is put there when its target is due, so that nothing is measured for its offset.
 ghost use Rattle.std.specs.Prelude.{◌≡◌, ◌≢◌, ◌≤◌, ◌<◌, ◌^◌, ◌+◌, ◌*◌, ◌++◌, IfOk, IfErr, List, ℕ, Ok, suc, length, replicate, take, drop};
-ghost use Rattle.capnp_wire.specs.Tree.{Composite, empty_structs, struct_count, tree_count};
+ghost use Rattle.capnp_wire.specs.Tree.{Composite, empty_structs, tree_count};
 ghost use Rattle.capnp_wire.specs.Place.{bits_from, struct_tree};
 ghost use Rattle.capnp_wire.specs.Locate.{list_words};
 ghost use Rattle.capnp_wire.specs.Objects.{list_object_tree, object_tree, object_trees, struct_object_tree, struct_object_trees};
-ghost use Rattle.capnp_wire.specs.Words.{words_below, words_below_all, words_of, words_of_all};
-ghost use Rattle.capnp_wire.specs.WellFormed.{AreElements, AreWellFormed, IsWellFormed};
+ghost use Rattle.capnp_wire.specs.Words.{words_of, words_of_all};
+ghost use Rattle.capnp_wire.specs.WellFormed.{AreWellFormed, IsWellFormed};
 ghost use Rattle.capnp_wire.specs.Depth.{IsShallow};
 ghost use Rattle.capnp_wire.specs.Stream.{message_tree_of};
 ghost use Rattle.capnp_device.specs.declared.error.ErrorKind.TheVariants.{OutOfMemory, TooLarge};

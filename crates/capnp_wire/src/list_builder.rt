@@ -2,7 +2,7 @@
 ghost use Rattle.std.specs.Prelude.{◌≡◌, ◌<◌, ◌^◌, ◌==◌, true, false};
 ghost use Rattle.std.specs.Borrow.{sem};
 ghost use Rattle.capnp_wire.specs.declared.object.ListObject.{out-ListObject};
-ghost use Rattle.capnp_wire.specs.Tree.{empty_struct, nth_struct, struct_count};
+ghost use Rattle.capnp_wire.specs.Tree.{empty_struct};
 ghost use Rattle.capnp_wire.specs.Objects.{list_object_tree, object_tree, struct_object_tree};
 ghost use Rattle.capnp_wire.specs.Reading.{element_bit, element_number, element_pointer, element_struct, list_length};
 ghost use Rattle.capnp_wire.specs.Standing.{list_levels, list_of};

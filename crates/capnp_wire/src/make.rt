@@ -1,5 +1,5 @@
 //! New objects, all zero and null.
-ghost use Rattle.std.specs.Prelude.{◌≡◌, IfOk, IsOk, ℕ, replicate};
+ghost use Rattle.std.specs.Prelude.{◌≡◌, IfOk, IsOk, replicate};
 ghost use Rattle.capnp_wire.specs.Tree.{Composite, empty_struct, empty_structs};
 ghost use Rattle.capnp_wire.specs.Edits.{nulls, zero_list, zero_struct, zero_structs};
 ghost use Rattle.capnp_wire.specs.Objects.{list_object_tree, object_trees, struct_object_tree};

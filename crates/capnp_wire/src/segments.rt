@@ -2,7 +2,7 @@
 ghost use Rattle.std.specs.Prelude.{[], ◌≡◌, ◌≤◌, ◌<◌, ◌*◌, ◌+◌, ◌^◌, drop, length, option_map, slice_get, slice_index_or, take};
 ghost use Rattle.capnp_wire.specs.Backing.{segment_list};
 ghost use Rattle.capnp_wire.specs.Slot.{little_endian};
-ghost use Rattle.capnp_wire.specs.Stream.{header_bytes, segment_count, stream_segments, table_of, total_words};
+ghost use Rattle.capnp_wire.specs.Stream.{header_bytes, stream_segments, table_of, total_words};
 
 use crate::bytes::{half_at, part};
 

@@ -1,5 +1,5 @@
 //! Messages that are built, and written into memory.
-ghost use Rattle.std.specs.Prelude.{◌≡◌, ◌+◌, ◌*◌, ◌<◌, ◌≤◌};
+ghost use Rattle.std.specs.Prelude.{◌+◌, ◌*◌, ◌<◌, ◌≤◌};
 ghost use Rattle.capnp_wire.specs.Objects.{list_object_tree, struct_object_tree};
 ghost use Rattle.capnp_wire_bench.specs.Items.{AreItems, IsItem};
 

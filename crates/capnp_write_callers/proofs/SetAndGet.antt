@@ -13,13 +13,13 @@ use Rattle.capnp_slots.specs.Fields.{IsSlot}
 use Rattle.capnp_slots.specs.ReadBack.{HasKind, IsWhole}
 use Rattle.capnp_dynamic.specs.Built.{IsUnder}
 use Rattle.capnp_dynamic.specs.FieldWrites.{IsFieldSet}
-use Rattle.capnp_dynamic.specs.Handles.{reader_of, schema_of}
+use Rattle.capnp_dynamic_readers.specs.Handles.{reader_of, schema_of}
 use Rattle.capnp_dynamic.specs.ReadBack.{SetIsGot}
-use Rattle.capnp_dynamic.specs.Reads.{BelongsTo, field_read, field_seen}
-use Rattle.capnp_dynamic.specs.Seen.{answered, value_seen}
-use Rattle.capnp_dynamic.specs.SetValues.{source_of}
-use Rattle.capnp_dynamic.specs.declared.dynamic_struct.Reader.{Reader as StructHandle}
-use Rattle.capnp_dynamic.specs.declared.dynamic_value.Reader.{Reader as DynamicValue}
+use Rattle.capnp_dynamic_readers.specs.Reads.{BelongsTo, field_read, field_seen}
+use Rattle.capnp_dynamic_readers.specs.Seen.{answered, value_seen}
+use Rattle.capnp_dynamic_readers.specs.SetValues.{source_of}
+use Rattle.capnp_dynamic_readers.specs.declared.dynamic_struct.Reader.{Reader as StructHandle}
+use Rattle.capnp_dynamic_readers.specs.declared.dynamic_value.Reader.{Reader as DynamicValue}
 
 pub set_is_got : (f : Field) (v : DynamicValue) (schema : StructSchema) (old new : StructTree) (s : StructHandle) (r : Result DynamicValue Error) → SetIsGot f v →
     BelongsTo f schema → IsUnder schema old → IsSlot f → IsFieldSet f (source_of v) old None new → schema_of s ≡ schema → struct_of (reader_of s) ≡ new → answered r ≡ field_seen s (index_of f) →

@@ -7,6 +7,7 @@ use capnp_schema_fixtures::fixtures::{
     StructOf, add_struct, group_field, list_type, one_each, records_of, slot, typed_slot,
 };
 use capnp_schema_fixtures::kinds;
+use capnp_schema_fixtures::messages::message_named;
 use capnp_wire::error::Result;
 use std::alloc::Global;
 
@@ -31,16 +32,8 @@ static STRUCTS: [(&str, Set, u32); 9] = [
     ("untyped", Set::Grouped, 2),
 ];
 
-/// A message whose root is null.
-static NULL_ROOT: [u8; 16] = [0, 0, 0, 0, 1, 0, 0, 0, 0, 0, 0, 0, 0, 0, 0, 0];
-
-/// The messages. A name that is not here, nor `full` or `empty` of the struct of every kind, is a null root.
-static MESSAGES: [(&str, &[u8]); 18] = [
-    // a root of size zero
-    (
-        "short",
-        &[0, 0, 0, 0, 1, 0, 0, 0, 0xfc, 0xff, 0xff, 0xff, 0, 0, 0, 0],
-    ),
+/// The messages that no other crate reads; `messages::message_named` has the others.
+static MESSAGES: [(&str, &[u8]); 15] = [
     // a `Flat` whose `a` is 5
     (
         "five",
@@ -114,29 +107,13 @@ static MESSAGES: [(&str, &[u8]); 18] = [
             0,
         ],
     ),
-    // a `Lists` whose `items` are the bytes 5 and 255
-    (
-        "items_as_bytes",
-        &[
-            0, 0, 0, 0, 6, 0, 0, 0, 0, 0, 0, 0, 0, 0, 4, 0, 0, 0, 0, 0, 0, 0, 0, 0, 0, 0, 0, 0, 0,
-            0, 0, 0, 0, 0, 0, 0, 0, 0, 0, 0, 1, 0, 0, 0, 0x12, 0, 0, 0, 5, 0xff, 0, 0, 0, 0, 0, 0,
-        ],
-    ),
-    // the same as structs
+    // a `Lists` whose `items` are two structs, whose `a` are 5 and 255
     (
         "items",
         &[
             0, 0, 0, 0, 8, 0, 0, 0, 0, 0, 0, 0, 0, 0, 4, 0, 0, 0, 0, 0, 0, 0, 0, 0, 0, 0, 0, 0, 0,
             0, 0, 0, 0, 0, 0, 0, 0, 0, 0, 0, 1, 0, 0, 0, 0x17, 0, 0, 0, 8, 0, 0, 0, 1, 0, 0, 0, 5,
             0, 0, 0, 0, 0, 0, 0, 0xff, 0, 0, 0, 0, 0, 0, 0,
-        ],
-    ),
-    // a `Lists` whose `items` are the numbers 1 and 2, of two bytes each
-    (
-        "items_as_numbers",
-        &[
-            0, 0, 0, 0, 6, 0, 0, 0, 0, 0, 0, 0, 0, 0, 4, 0, 0, 0, 0, 0, 0, 0, 0, 0, 0, 0, 0, 0, 0,
-            0, 0, 0, 0, 0, 0, 0, 0, 0, 0, 0, 1, 0, 0, 0, 0x13, 0, 0, 0, 1, 0, 2, 0, 0, 0, 0, 0,
         ],
     ),
     // a `Lists` whose `items` are two structs of size zero
@@ -231,14 +208,5 @@ pub fn set_of(alloc: Global, name: &str) -> Result<SchemaSet> {
 
 /// The message of a name.
 pub fn message_of(name: &str) -> &'static [u8] {
-    for (text, message) in &MESSAGES {
-        if *text == name {
-            return message;
-        }
-    }
-    match name {
-        "full" => &kinds::FULL,
-        "empty" => &kinds::EMPTY,
-        _ => &NULL_ROOT,
-    }
+    message_named(&MESSAGES, name)
 }

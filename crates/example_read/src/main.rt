@@ -6,10 +6,10 @@ ghost use Rattle.std.specs.Prelude.{◌≡◌, IfOk, pos};
 ghost use Rattle.capnp_schema.specs.Query.{field_named};
 ghost use Rattle.capnp_schema.specs.StructHandles.{struct_records};
 ghost use Rattle.capnp_records.specs.Record.{Number};
-ghost use Rattle.capnp_dynamic.specs.Handles.{schema_of};
-ghost use Rattle.capnp_dynamic.specs.Reads.{found_seen};
+ghost use Rattle.capnp_dynamic_readers.specs.Handles.{schema_of};
+ghost use Rattle.capnp_dynamic_readers.specs.Reads.{found_seen};
 
-use capnp_dynamic::{dynamic_struct, dynamic_value};
+use capnp_dynamic_readers::{dynamic_struct, dynamic_value};
 use capnp_schema::builtin;
 use capnp_wire::device::ReadSource;
 use capnp_wire::error::{Error, ErrorKind, Result};

@@ -10,8 +10,8 @@ ghost use Rattle.capnp_slots.specs.Sources.{IsSetRefusal};
 ghost use Rattle.capnp_dynamic.specs.Built.{IsIn, IsListReady, built_element, built_elements, built_reading, built_set, built_type, list_behind};
 ghost use Rattle.capnp_dynamic.specs.BuiltValues.{CanBeRead};
 ghost use Rattle.capnp_dynamic.specs.Handed.{HandsSized};
-ghost use Rattle.capnp_dynamic.specs.Handles.{list_reader_of, list_set, type_of};
-ghost use Rattle.capnp_dynamic.specs.SetValues.{source_of};
+ghost use Rattle.capnp_dynamic_readers.specs.Handles.{list_reader_of, list_set, type_of};
+ghost use Rattle.capnp_dynamic_readers.specs.SetValues.{source_of};
 
 use crate::dynamic_list::Reader;
 use crate::dynamic_value;

@@ -20,10 +20,10 @@ ghost use Rattle.capnp_slots.specs.Copied.{refusal_of};
 ghost use Rattle.capnp_slots.specs.Fields.{IsSlot, Keeps, names_of};
 ghost use Rattle.capnp_dynamic.specs.Built.{IsReady, built_record, built_schema, built_struct, struct_behind};
 ghost use Rattle.capnp_dynamic.specs.FieldWrites.{IsFieldSet, IsNamed, field_cleared};
-ghost use Rattle.capnp_dynamic.specs.Handles.{reader_of, schema_of};
-ghost use Rattle.capnp_dynamic.specs.Reads.{BelongsTo};
-ghost use Rattle.capnp_dynamic.specs.SetValues.{source_of};
-ghost use Rattle.capnp_dynamic.specs.Typed.{struct_type};
+ghost use Rattle.capnp_dynamic_readers.specs.Handles.{reader_of, schema_of};
+ghost use Rattle.capnp_dynamic_readers.specs.Reads.{BelongsTo};
+ghost use Rattle.capnp_dynamic_readers.specs.SetValues.{source_of};
+ghost use Rattle.capnp_dynamic_readers.specs.Typed.{struct_type};
 ghost use Rattle.capnp_schema.specs.Types.{seen_type};
 
 use crate::dynamic_struct::Reader;
@@ -192,7 +192,7 @@ impl<'a> Builder<'a> {
     /// Sets the field of a name, as `set`. Refused first with `FieldNotFound` where there is none of that name, and then
     /// nothing has changed.
     /// The struct has to have its schema's sections and be well-formed (`IsReady`).
-    #[tactic(auto, using(crate::proofs::Builders::same_field_set, crate::proofs::Builders::same_slot, crate::proofs::Builders::found_belongs))]
+    #[tactic(auto, using(crate::proofs::Builders::same_field_set, crate::proofs::Builders::same_slot, capnp_dynamic_readers::specs::Facts::Found::found_belongs))]
     pub fn set_named(&mut self, field_name: &str, value: dynamic_value::Reader<'_>) -> Result<()>
         requires { IsReady self.old }
         ensures same { (struct_behind self.new).ghost_name ≡ (struct_behind self.old).ghost_name }
@@ -236,7 +236,7 @@ impl<'a> Builder<'a> {
     /// Clears the field of a name, as `clear`. Refused with `FieldNotFound` where there is none of that name, and then
     /// nothing has changed.
     /// The struct has to have its schema's sections and be well-formed (`IsReady`).
-    #[tactic(auto, using(crate::proofs::Builders::same_cleared, crate::proofs::Builders::found_belongs))]
+    #[tactic(auto, using(crate::proofs::Builders::same_cleared, capnp_dynamic_readers::specs::Facts::Found::found_belongs))]
     pub fn clear_named(&mut self, field_name: &str) -> Result<()>
         requires { IsReady self.old }
         ensures same { (struct_behind self.new).ghost_name ≡ (struct_behind self.old).ghost_name }

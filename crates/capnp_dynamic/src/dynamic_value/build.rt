@@ -3,7 +3,7 @@ ghost use Rattle.std.specs.Prelude.{◌≡◌};
 ghost use Rattle.capnp_dynamic.specs.BuiltKinds.{IsBuiltStructAnd};
 ghost use Rattle.capnp_dynamic.specs.BuiltValues.{CanBeRead, IsReaderOf, StandsAs};
 ghost use Rattle.capnp_dynamic.specs.Built.{built_schema, struct_behind};
-ghost use Rattle.capnp_dynamic.specs.Typed.{struct_type};
+ghost use Rattle.capnp_dynamic_readers.specs.Typed.{struct_type};
 ghost use Rattle.capnp_schema.specs.Types.{seen_type};
 ghost use Rattle.capnp_dynamic.specs.declared.dynamic_value.build.Builder.{Builder};
 

@@ -1,7 +1,7 @@
 //! Conversions of dynamic values that are built: what each kind is made of, and what is taken out of it again.
 ghost use Rattle.std.specs.Prelude.{◌≡◌};
 ghost use Rattle.capnp_dynamic.specs.BuiltKinds.{built_kind};
-ghost use Rattle.capnp_dynamic.specs.Kinds.{AnyPointerKind, BoolKind, DataKind, EnumKind, Int16Kind, Int32Kind, Int64Kind, Int8Kind, ListKind, StructKind, TextKind, UInt16Kind, UInt32Kind, UInt64Kind, UInt8Kind, VoidKind};
+ghost use Rattle.capnp_dynamic_readers.specs.Kinds.{AnyPointerKind, BoolKind, DataKind, EnumKind, Int16Kind, Int32Kind, Int64Kind, Int8Kind, ListKind, StructKind, TextKind, UInt16Kind, UInt32Kind, UInt64Kind, UInt8Kind, VoidKind};
 ghost use Rattle.capnp_dynamic.specs.declared.dynamic_value.build.Builder.TheVariants as built;
 
 use crate::dynamic_value::{Builder, DowncastBuilder, Enum, Kept};

@@ -7,7 +7,7 @@ use Rattle.capnp_schema.specs.FieldLists.{schema_of}
 use Rattle.capnp_schema.specs.StructHandles.{IsStruct}
 use Rattle.capnp_schema.specs.Types.{seen_variant}
 use Rattle.capnp_records.specs.Call.{Flag}
-use Rattle.capnp_dynamic.specs.Facts.HasWhich.{ok_same}
+use Rattle.capnp_dynamic_readers.specs.Facts.HasWhich.{ok_same}
 use Rattle.capnp_run.proofs.FieldReads.{StandsOn, has_reads}
 use Rattle.capnp_run.proofs.answer.has_field.Goals as goal
 

@@ -3,7 +3,7 @@ use Rattle.std.proofs.Common.{ap, ◌∙◌, sym}
 use Rattle.capnp_records.specs.Call.{ListPlain}
 use Rattle.capnp_records.specs.Operation.{plain}
 use Rattle.capnp_records.specs.Facts.ListValues.{count-values_from}
-use Rattle.capnp_dynamic.specs.Seen.{value_seen}
+use Rattle.capnp_dynamic_readers.specs.Seen.{value_seen}
 use Rattle.capnp_run.proofs.answer.plain_of.Goals as goal
 
 pub returns-in-List-clause-plain : goal.returns-in-List-clause-plain

@@ -2,7 +2,6 @@ use Rattle.std.proofs.Common.{rules, arith, ◌≡◌, ◌<◌, ◌^◌, ◌-◌
 use Rattle.std.proofs.lemmas.Nat.{one_shl}
 use Rattle.std.proofs.lemmas.List.{get_or_past}
 use Rattle.capnp_wire.proofs.BitBytes.{bits_past, bits_whole, bits_some}
-use Rattle.capnp_wire.proofs.encode.get_bits.Goals.{then-k-bits, else-k-bits}
 use Rattle.capnp_wire.proofs.encode.get_bits.Goals as goal
 
 pub returns-then-k-count : goal.returns-then-k-count

@@ -5,7 +5,8 @@ use Rattle.capnp_dynamic.specs.Built.{built_element}
 use Rattle.capnp_dynamic.specs.Handed.{HandsElement, IsElementPartRefusal, IsElementWithin}
 use Rattle.capnp_dynamic.specs.Taken.{IsNoList, is_list_type}
 use Rattle.capnp_dynamic.specs.declared.dynamic_value.build.Builder.TheVariants as built
-use Rattle.capnp_dynamic.proofs.Taken.{is_taken, mismatched, no_list_there, taken}
+use Rattle.capnp_dynamic_readers.specs.Facts.Taken.{taken}
+use Rattle.capnp_dynamic.proofs.Taken.{is_taken, mismatched, no_list_there}
 use Rattle.capnp_dynamic.proofs.parts.build.list_at.Goals as goal
 
 pub returns-in_err-part-clause-cause : goal.returns-in_err-part-clause-cause

@@ -6,7 +6,8 @@ use Rattle.capnp_dynamic.specs.Built.{built_struct}
 use Rattle.capnp_dynamic.specs.Handed.{HandsField, IsPartRefusal, IsPartWithin}
 use Rattle.capnp_dynamic.specs.Taken.{IsNoList, hands_list}
 use Rattle.capnp_dynamic.specs.declared.dynamic_value.build.Builder.TheVariants as built
-use Rattle.capnp_dynamic.proofs.Taken.{is_taken, mismatched, no_list, taken}
+use Rattle.capnp_dynamic_readers.specs.Facts.Taken.{taken}
+use Rattle.capnp_dynamic.proofs.Taken.{is_taken, mismatched, no_list}
 use Rattle.capnp_dynamic.proofs.parts.build.list_in.Goals as goal
 
 pub returns-in_err-list-clause-cause : goal.returns-in_err-list-clause-cause

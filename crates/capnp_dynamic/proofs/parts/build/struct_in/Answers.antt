@@ -6,7 +6,8 @@ use Rattle.capnp_dynamic.specs.Built.{built_struct}
 use Rattle.capnp_dynamic.specs.Handed.{HandsField, IsPartRefusal, IsPartWithin}
 use Rattle.capnp_dynamic.specs.Taken.{IsNoStruct, hands_struct}
 use Rattle.capnp_dynamic.specs.declared.dynamic_value.build.Builder.TheVariants as built
-use Rattle.capnp_dynamic.proofs.Taken.{is_taken, mismatched, no_struct, taken}
+use Rattle.capnp_dynamic_readers.specs.Facts.Taken.{taken}
+use Rattle.capnp_dynamic.proofs.Taken.{is_taken, mismatched, no_struct}
 use Rattle.capnp_dynamic.proofs.parts.build.struct_in.Goals as goal
 
 pub returns-in_err-part-clause-cause : goal.returns-in_err-part-clause-cause

@@ -3,7 +3,7 @@ use Rattle.capnp_wire.specs.Tree.{StructTree}
 use Rattle.capnp_schema.specs.SlotValue.{bits_at}
 use Rattle.capnp_records.specs.Record.{Left}
 use Rattle.capnp_dynamic.specs.Built.{built_schema, built_struct}
-use Rattle.capnp_dynamic.proofs.Active.{which_found}
+use Rattle.capnp_dynamic_readers.specs.Facts.Active.{which_found}
 use Rattle.capnp_dynamic.proofs.dynamic_struct.build.Builder.which.Goals as goal
 
 pub returns : goal.returns

@@ -1,5 +1,0 @@
-use Rattle.capnp_dynamic.proofs.Streams.{two_more}
-use Rattle.capnp_dynamic.proofs.printer.pieces.put_line.Goals as goal
-
-pub loop-step-preserved : goal.loop-step-preserved
-loop-step-preserved g c = two_more (g.O.Out.text c.args.out.now) (g.O.Out.text c.loop-step.out) (g.O.Out.text c.put-in-loop-step.new.out) c.loop-step.step c.loop-step.invariant c.in_ok-put-2.ensures.put

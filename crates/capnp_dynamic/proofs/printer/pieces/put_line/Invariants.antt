@@ -1,7 +1,0 @@
-use Rattle.std.proofs.Common.{◌∷◌, ◌*◌, replicate}
-use Rattle.capnp_records.specs.Text.{said}
-use Rattle.capnp_dynamic.specs.Shown.{IsPut}
-use Rattle.capnp_dynamic.proofs.printer.pieces.put_line.Given as goal
-
-abbrev pub invariant-loop-step : goal.invariant-loop-step
-invariant-loop-step g l = IsPut (g.O.Out.text l.fn.out) (said (10 ∷ replicate (2 * l.step) 32)) (g.O.Out.text l.out)

@@ -1,0 +1,14 @@
+pub mod FieldHandles
+pub mod FoundReads
+pub mod ItemsShown
+pub mod ListHandles
+pub mod PartsShown
+pub mod Pieces
+pub mod PlacedReads
+pub mod Pointed
+pub mod PutSteps
+pub mod ReadBits
+pub mod Roots
+pub mod Steps
+pub mod StoredValues
+pub mod Streams

@@ -1,0 +1,65 @@
+-- The text of a value that stands alone.
+use Rattle.std.specs.Prelude.{ℕ, ◌≡◌, ◌≢◌, refl, List, [], Bool, true, false, Option, Some, Ok, Err}
+use Rattle.std.proofs.Common.{ap, sym, subst, ◌∙◌}
+use Rattle.std.proofs.lemmas.Bool.{true≢false}
+use Rattle.std.specs.declared.alloc.AllocError.{AllocError}
+use Rattle.capnp_device.specs.declared.error.ErrorKind.{ErrorKind}
+use Rattle.capnp_device.specs.declared.error.ErrorKind.TheVariants.{OutOfMemory}
+use Rattle.capnp_schema.specs.Schema.{VoidValue, node_of}
+use Rattle.capnp_schema.specs.StructHandles.{number_of, set_of}
+use Rattle.capnp_records.specs.Text.{Layout, Out, after, part_text, text_within}
+use Rattle.capnp_dynamic_readers.specs.Handles.{schema_of}
+use Rattle.capnp_dynamic_readers.specs.Pieces.{IsStopped, stopped_kind}
+use Rattle.capnp_dynamic_readers.specs.Shown.{record_shown, root_shown, struct_printed, value_shown}
+use Rattle.capnp_dynamic_readers.specs.Typed.{struct_type}
+use Rattle.capnp_dynamic_readers.specs.declared.dynamic_struct.Reader.{Reader as StructHandle}
+use Rattle.capnp_dynamic_readers.specs.declared.dynamic_value.Reader.{Reader as DynamicValue}
+use Rattle.capnp_dynamic_readers.specs.declared.dynamic_value.Reader.TheVariants as dynamic
+use Rattle.capnp_dynamic_readers.specs.declared.printer.out.Stop.{Stop}
+use Rattle.capnp_dynamic_readers.specs.declared.printer.out.Stop.TheVariants.{Full, Refused}
+
+pub group_root : (at : Layout) (v : DynamicValue) (s : StructHandle) → v ≡ dynamic.Struct s → (node_of (set_of (schema_of s)) (number_of (schema_of s))).is_group ≡ true → root_shown at v ≡ record_shown 64 at s
+group_root at v s e h = ap (root_shown at) e ∙ go (node_of (set_of (schema_of s)) (number_of (schema_of s))).is_group h
+  where
+    go : (q : Bool) → q ≡ true → part_text (set_of (schema_of s)) (text_within (set_of (schema_of s)) 64) at VoidValue (struct_type (schema_of s)) (struct_printed q s) ≡ record_shown 64 at s
+    go true e = refl
+    go false e = absurd (true≢false (sym e))
+
+pub struct_root : (at : Layout) (v : DynamicValue) (s : StructHandle) → v ≡ dynamic.Struct s → (node_of (set_of (schema_of s)) (number_of (schema_of s))).is_group ≡ false → root_shown at v ≡ value_shown 64 at v
+struct_root at v s e h =
+    ap (root_shown at) e ∙ (go (node_of (set_of (schema_of s)) (number_of (schema_of s))).is_group h ∙ sym (ap (value_shown 64 at) e))
+  where
+    go : (q : Bool) → q ≡ false → part_text (set_of (schema_of s)) (text_within (set_of (schema_of s)) 64) at VoidValue (struct_type (schema_of s)) (struct_printed q s) ≡ value_shown 64 at (dynamic.Struct s)
+    go false e = refl
+    go true e = absurd (true≢false e)
+
+pub other_root : (at : Layout) (v : DynamicValue) → ((s : StructHandle) → v ≡ dynamic.Struct s → ⊥) → root_shown at v ≡ value_shown 64 at v
+other_root at (dynamic.Struct s) h = absurd (h s refl)
+other_root at dynamic.Void h = refl
+other_root at (dynamic.Bool b) h = refl
+other_root at (dynamic.Int8 x) h = refl
+other_root at (dynamic.Int16 x) h = refl
+other_root at (dynamic.Int32 x) h = refl
+other_root at (dynamic.Int64 x) h = refl
+other_root at (dynamic.UInt8 x) h = refl
+other_root at (dynamic.UInt16 x) h = refl
+other_root at (dynamic.UInt32 x) h = refl
+other_root at (dynamic.UInt64 x) h = refl
+other_root at (dynamic.Enum e) h = refl
+other_root at (dynamic.Text t) h = refl
+other_root at (dynamic.«Data» bytes) h = refl
+other_root at (dynamic.List l) h = refl
+other_root at (dynamic.AnyPointer p) h = refl
+
+-- a refusal after a text is a refusal
+pub refused_after : (a : Option (List ℕ)) (o : Out) (kind : ErrorKind) → after (Ok a) o ≡ Err kind → o ≡ Err kind
+refused_after a (Err k) kind e = e
+refused_after a (Ok b) kind e = absurd (ok-err e)
+  where
+    ok-err : {x : Option (List ℕ)} → Ok x ≡ Err kind → ⊥
+    ok-err e = cc
+
+-- why a string was not made, memory aside
+pub stopped_refused : (o : Out) (stop : Stop AllocError) (kind : ErrorKind) → kind ≡ stopped_kind stop → IsStopped (Some []) o stop → kind ≢ OutOfMemory → o ≡ Err kind
+stopped_refused o (Refused e) kind is h other = refused_after (Some []) o kind (h (subst (λ (k : ErrorKind). k ≢ OutOfMemory) is other) ∙ ap Err (sym is))
+stopped_refused o (Full fault) kind is h other = absurd (other is)

@@ -1,0 +1,5 @@
+-- Facts of the definitions, with their proofs: what lemmas of crates above cite.
+pub mod Active
+pub mod Found
+pub mod HasWhich
+pub mod Taken

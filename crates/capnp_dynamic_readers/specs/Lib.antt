@@ -1,0 +1,16 @@
+pub mod Annotated
+pub mod Behind
+pub mod Facts
+pub mod Handles
+pub mod Kinds
+pub mod Leaf
+pub mod PartsRead
+pub mod Pieces
+pub mod Planned
+pub mod Reads
+pub mod Seen
+pub mod SetValues
+pub mod Shown
+pub mod Taken
+pub mod Typed
+pub mod Viewed

@@ -1,0 +1,192 @@
+-- The texts of what is read, as a printer appends them.
+use Rattle.std.specs.Prelude.{ℕ, zero, suc, [], ◌++◌, ◌*◌, ◌+◌, ◌≡◌, List, length, drop, Bool, true, false, not, ◌||◌, ◌==◌, min, ⊤, Option, Some, None, Ok}
+use Rattle.capnp_wire.specs.Standing.{list_levels, list_of, struct_levels, struct_of}
+use Rattle.capnp_wire.specs.Reading.{list_length}
+use Rattle.capnp_schema.specs.Enums.{enum_number, enum_set}
+use Rattle.capnp_schema.specs.FieldLists.{IsFieldOf, index_of}
+use Rattle.capnp_schema.specs.Laws.{group_height}
+use Rattle.capnp_schema.specs.Schema.{Schemas, TypedField, VoidValue, default_of, is_member, node_of}
+use Rattle.capnp_schema.specs.StructHandles.{number_of, set_of, struct_field, struct_fields}
+use Rattle.capnp_schema.specs.Types.{SchemaType, VoidType, BoolType, IntType, UIntType, EnumType, TextType, DataType, ListType, AnyPointerType}
+use Rattle.capnp_schema.specs.declared.schema.fields.Field.{Field}
+use Rattle.capnp_records.specs.Facts.ListValues.{below_of}
+use Rattle.capnp_records.specs.Part.{which_of}
+use Rattle.capnp_records.specs.Reading.{element_value, part_of, plain_parts, union_of, values_of}
+use Rattle.capnp_records.specs.Record as value
+use Rattle.capnp_records.specs.Record.{Left, Union, Value, Values, is_there, values_from}
+use Rattle.capnp_records.specs.Text.{Inner, Layout, Member, Out, after, before, deeper, element_texts, item, item_if, later, list_text, member, more_text, part_text, record_text, shown, text_of, text_within}
+use Rattle.capnp_dynamic_readers.specs.Handles.{element_of, enum_of, list_reader_of, list_set, reader_of, schema_of}
+use Rattle.capnp_dynamic_readers.specs.Pieces.{IsStopped}
+use Rattle.capnp_dynamic_readers.specs.Seen.{record_seen, value_seen}
+use Rattle.capnp_dynamic_readers.specs.Typed.{struct_type}
+use Rattle.capnp_dynamic_readers.specs.declared.dynamic_list.Reader.{Reader as ListHandle}
+use Rattle.capnp_dynamic_readers.specs.declared.dynamic_struct.Reader.{Reader as StructHandle}
+use Rattle.capnp_dynamic_readers.specs.declared.dynamic_value.Reader.{Reader as DynamicValue}
+use Rattle.capnp_dynamic_readers.specs.declared.dynamic_value.Reader.TheVariants as dynamic
+use Rattle.capnp_dynamic_readers.specs.declared.printer.out.Stop.{Stop}
+
+-- ---- what a value says of itself ----
+
+-- the set of a value's handle; a value without one needs none
+abbrev pub no_schemas : Schemas
+no_schemas = record { nodes = []; brands = []; enums = [] }
+
+abbrev pub set_seen : DynamicValue → Schemas
+set_seen (dynamic.Enum e) = enum_set (enum_of e)
+set_seen (dynamic.Struct s) = set_of (schema_of s)
+set_seen (dynamic.List l) = list_set l
+set_seen v = no_schemas
+
+-- the type of a value: the variant's own, and that of its handle
+abbrev pub type_seen : DynamicValue → SchemaType
+type_seen dynamic.Void = VoidType
+type_seen (dynamic.Bool b) = BoolType
+type_seen (dynamic.Int8 x) = IntType 1
+type_seen (dynamic.Int16 x) = IntType 2
+type_seen (dynamic.Int32 x) = IntType 4
+type_seen (dynamic.Int64 x) = IntType 8
+type_seen (dynamic.UInt8 x) = UIntType 1
+type_seen (dynamic.UInt16 x) = UIntType 2
+type_seen (dynamic.UInt32 x) = UIntType 4
+type_seen (dynamic.UInt64 x) = UIntType 8
+type_seen (dynamic.Enum e) = EnumType (enum_number (enum_of e))
+type_seen (dynamic.Text t) = TextType
+type_seen (dynamic.«Data» bytes) = DataType
+type_seen (dynamic.Struct s) = struct_type (schema_of s)
+type_seen (dynamic.List l) = ListType (element_of l)
+type_seen (dynamic.AnyPointer p) = AnyPointerType
+
+-- a struct under a group's schema is a group, every other value what it stands for
+abbrev pub struct_printed : Bool → StructHandle → Value
+struct_printed true s = value.Group (record_seen s)
+struct_printed false s = value.Struct (record_seen s)
+
+abbrev pub value_printed : DynamicValue → Value
+value_printed (dynamic.Struct s) = struct_printed (node_of (set_of (schema_of s)) (number_of (schema_of s))).is_group s
+value_printed v = value_seen v
+
+-- the text of a value that stands alone, with 64 levels
+abbrev pub root_shown : Layout → DynamicValue → Out
+root_shown at v = part_text (set_seen v) (text_within (set_seen v) 64) at VoidValue (type_seen v) (value_printed v)
+
+abbrev pub printed_text : (indented : Bool) → DynamicValue → Out
+printed_text indented v = text_of (set_seen v) indented (type_seen v) (value_printed v)
+
+-- ---- the text of a value where so many levels are left ----
+
+abbrev pub value_shown : ℕ → Layout → DynamicValue → Out
+value_shown left at v = text_within (set_seen v) left at (type_seen v) (value_seen v)
+
+-- ---- lists ----
+
+-- the elements from an index on, so many
+abbrev pub elements_from : ListHandle → ℕ → ℕ → Values
+elements_from l first count =
+    values_from (element_value (list_set l) (list_of (list_reader_of l)) (below_of (list_set l) (list_of (list_reader_of l))) (Left (list_levels (list_reader_of l))) (element_of l)) first count
+
+abbrev pub element_items : ℕ → Layout → ListHandle → ℕ → ℕ → List Out
+element_items left at l first count = element_texts (list_set l) (text_within (list_set l) left) at (element_of l) (elements_from l first count)
+
+abbrev pub count_of : ListHandle → ℕ
+count_of l = list_length (list_of (list_reader_of l))
+
+-- a list, whose elements have so many levels
+abbrev pub list_shown : ℕ → Layout → ListHandle → Out
+list_shown left at l = list_text at (element_items left (deeper at) l 0 (count_of l))
+
+-- an element, under the list's type
+abbrev pub element_shown : ℕ → Layout → ListHandle → Value → Out
+element_shown left at l v = text_within (list_set l) left at (element_of l) v
+
+-- ---- structs ----
+
+-- what stands under a struct's parts
+abbrev pub within_struct : ℕ → StructHandle → Inner
+within_struct left r = text_within (set_of (schema_of r)) left
+
+-- a struct or group, whose parts have so many levels
+abbrev pub record_shown : ℕ → Layout → StructHandle → Out
+record_shown left at r = record_text (set_of (schema_of r)) (within_struct left r) at (number_of (schema_of r)) (record_seen r)
+
+-- what a struct has under a field
+abbrev pub part_seen : StructHandle → TypedField → Value
+part_seen r f = part_of (set_of (schema_of r)) (Left (struct_levels (reader_of r))) (struct_of (reader_of r)).bytes (values_of (set_of (schema_of r)) (struct_of (reader_of r)).pointers) f
+
+abbrev pub union_seen : StructHandle → Union
+union_seen r = union_of (part_seen r) (node_of (set_of (schema_of r)) (number_of (schema_of r))) (struct_fields (schema_of r)) (struct_of (reader_of r)).bytes
+
+-- the text of what a struct has under a field, and the item of it
+abbrev pub field_shown : ℕ → Layout → StructHandle → TypedField → Out
+field_shown left at r f = part_text (set_of (schema_of r)) (within_struct left r) at (default_of f.field) f.type (part_seen r f)
+
+abbrev pub field_item : ℕ → Layout → StructHandle → TypedField → Out
+field_item left at r f = item f (field_shown left at r f)
+
+-- whether the active member is shown, and its item where it is
+abbrev pub is_member_shown : StructHandle → TypedField → Bool
+is_member_shown r f = is_there (part_seen r f) || not (f.field.discriminant_value == 0)
+
+abbrev pub member_items : ℕ → Layout → StructHandle → TypedField → List Out
+member_items left at r f = item_if (is_member_shown r f) (field_item left at r f)
+
+-- the active member whose place is still to come
+abbrev pub pending_member : ℕ → Layout → StructHandle → Option Field → Member
+pending_member left at r None = None
+pending_member left at r (Some f) = Some (index_of f, member_items left at r (struct_field (schema_of r) (index_of f)))
+
+-- all items of a struct
+abbrev pub record_items : ℕ → Layout → StructHandle → List Out
+record_items left at r =
+    shown (set_of (schema_of r)) (within_struct left r) at (struct_fields (schema_of r)) 0 (plain_parts (part_seen r) (struct_fields (schema_of r)))
+    (member (set_of (schema_of r)) (within_struct left r) at (number_of (schema_of r)) (union_seen r))
+
+-- the items from a field on, and the member whose place is still to come
+abbrev pub rest_items : ℕ → Layout → StructHandle → Option Field → ℕ → List Out
+rest_items left at r o i =
+    shown (set_of (schema_of r)) (within_struct left r) at (drop i (struct_fields (schema_of r))) i (plain_parts (part_seen r) (drop i (struct_fields (schema_of r)))) (pending_member left at r o)
+
+-- the active member of a struct, where its place is still to come
+abbrev pub IsPending : StructHandle → Option Field → Type 0
+IsPending r None = ⊤
+IsPending r (Some f) = IsFieldOf (schema_of r) (index_of f) f × (which_of (record_seen r) ≡ Some (index_of f))
+
+-- the items of a plain field with the member before it, and of a member none: it has its place among the plain fields
+abbrev pub unless_member : (is_member : Bool) → List Out → List Out
+unless_member true items = []
+unless_member false items = items
+
+abbrev pub field_items : ℕ → Layout → StructHandle → TypedField → ℕ → Member → List Out
+field_items left at r f i m = unless_member (is_member f.field) (before m i ++ item_if (is_there (part_seen r f)) (field_item left at r f))
+
+-- the member that is still to come after a field
+abbrev pub still_pending : (is_member : Bool) → Member → ℕ → Member
+still_pending true m i = m
+still_pending false m i = later m i
+
+-- ---- a text that is put item by item ----
+
+-- a text was put after another
+abbrev pub IsPut : Option (List ℕ) → Out → Option (List ℕ) → Type 0
+IsPut old o new = after (Ok old) o ≡ Ok new
+
+-- items were put, whatever is to follow; the first of these is now the first of all or not
+abbrev pub ArePut : Layout → (first : Bool) → List Out → (still : Bool) → Option (List ℕ) → Option (List ℕ) → Type 0
+ArePut at first items still old new = (rest : List Out) → after (Ok old) (more_text at first (items ++ rest)) ≡ after (Ok new) (more_text at still rest)
+
+-- items were to be put, and a printer stopped
+abbrev pub AreStopped : {F : Type 0} → Layout → (first : Bool) → List Out → Option (List ℕ) → Stop F → Type 0
+AreStopped at first items old stop = (rest : List Out) → IsStopped old (more_text at first (items ++ rest)) stop
+
+-- ---- what falls at each step ----
+
+-- how far down groups go, at most the number of brands
+unfoldable pub groups_below : Schemas → ℕ → ℕ
+groups_below set b = min (group_height set b) (length set.brands)
+
+-- more than all steps within a level, for each level
+unfoldable pub steps_within : Schemas → ℕ → ℕ
+steps_within set zero = 0
+steps_within set (suc left) = 16 * length set.brands + 32 + steps_within set left
+
+abbrev pub steps_of : StructHandle → ℕ → ℕ → ℕ
+steps_of r left rank = steps_within (set_of (schema_of r)) left + (16 * groups_below (set_of (schema_of r)) (number_of (schema_of r)) + rank)

@@ -1,0 +1,70 @@
+//! The text of a value.
+ghost use Rattle.std.specs.Prelude.{◌≡◌, ◌≢◌, Err, IfErr, OnErr, OnOk, string_bytes};
+ghost use Rattle.capnp_device.specs.declared.error.ErrorKind.TheVariants.{OutOfMemory};
+ghost use Rattle.capnp_dynamic_readers.specs.Pieces.{IsAppended, IsStopped};
+ghost use Rattle.capnp_dynamic_readers.specs.Shown.{IsPut, printed_text, root_shown};
+
+mod leaves;
+mod out;
+mod parts;
+mod pieces;
+mod values;
+
+use crate::dynamic_value;
+use crate::dynamic_value::Reader as Value;
+use crate::printer::out::{Made, Out, Stop};
+use crate::printer::pieces::layout;
+use crate::printer::values::{print_record, print_value};
+use capnp_wire::error::{Error, Result};
+use std::fmt;
+
+/// Appends the text of a value, on one line or on lines indented by two spaces for each bracket around them.
+///
+/// A struct is `(name = value, ..)`: the fields that are there by index, and the active member before the first non-union
+/// field of greater index, a member of discriminant value 0 where it is there and every other one always. A list is
+/// `[value, ..]`, a text is quoted, data is in hexadecimal, an enum is its enumerant's name or its number, and an untyped
+/// pointer is `<opaque pointer>`.
+///
+/// A struct or list takes a level of 64, a group none. Refused with the number of the first value in the text's order that
+/// can't be read, with `TooDeep` where no level is left, and with `OutOfMemory`; the string is then as it was.
+pub fn print(value: dynamic_value::Reader<'_>, out: &mut String, indented: bool) -> Result<()>
+    ensures printed { OnOk result (IsAppended (string_bytes out.old) (printed_text indented value.entry) (string_bytes out.new)) }
+    ensures refused { IfErr result (λ e. e.kind ≢ OutOfMemory → printed_text indented value.entry ≡ Err e.kind) }
+    ensures unchanged { OnErr result (string_bytes out.new ≡ string_bytes out.old) }
+{
+    let mut made = Made::new(*out.allocator());
+    match print_root(value, layout(indented), &mut made) {
+        Ok(()) => made.append_to(out),
+        Err(stop) => Err(Error::from(stop)),
+    }
+}
+
+/// Writes the text of a value to a formatter: on lines by `{:#?}`, and else on one line. A refusal comes after a beginning of
+/// the text. It takes no memory.
+pub(crate) fn print_debug<W: fmt::Write>(
+    value: Value<'_>,
+    f: &mut fmt::Formatter<W>,
+) -> fmt::Result {
+    match print_root(value, layout(f.alternate()), f) {
+        Ok(()) => Ok(()),
+        Err(_) => Err(fmt::Error),
+    }
+}
+
+/// Appends the text of a value that stands alone. A group takes no level, here as elsewhere.
+#[tactic(auto, using(crate::proofs::Roots::group_root, crate::proofs::Roots::struct_root, crate::proofs::Roots::other_root))]
+fn print_root<O: Out>(
+    value: Value<'_>,
+    at: Option<u64>,
+    out: &mut O,
+) -> std::result::Result<(), Stop<O::Error>>
+    ensures put { OnOk result (IsPut (O.text out.old) (root_shown at value.entry) (O.text out.new)) }
+    ensures stopped { IfErr result (IsStopped (O.text out.old) (root_shown at value.entry)) }
+{
+    if let Value::Struct(reader) = value {
+        if reader.get_schema().get_proto().body.is_group {
+            return print_record(reader, 64, at, out);
+        }
+    }
+    print_value(value, 64, at, out)
+}

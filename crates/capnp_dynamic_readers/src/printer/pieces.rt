@@ -1,0 +1,87 @@
+//! Pieces of text: lines, and what stands before an item.
+ghost use Rattle.std.specs.Prelude.{◌≡◌, IfErr, IfOk, None, OnOk, Some, cond};
+ghost use Rattle.capnp_records.specs.Text.{deeper, line, said, separator};
+ghost use Rattle.capnp_dynamic_readers.specs.Leaf.{IsLeaf, leaf_text};
+ghost use Rattle.capnp_dynamic_readers.specs.Pieces.{IsFull};
+ghost use Rattle.capnp_dynamic_readers.specs.Shown.{IsPut};
+
+use crate::dynamic_value::Reader as Value;
+use crate::printer::leaves::put_leaf;
+use crate::printer::out::{Out, Stop};
+use capnp_wire::error::{Error, ErrorKind};
+
+/// How many brackets stand around what is printed first; none where all is on one line.
+pub(crate) fn layout(indented: bool) -> Option<u64>
+    ensures { result ≡ cond indented (Some 0) None }
+{
+    if indented { Some(0) } else { None }
+}
+
+/// Appends a piece.
+pub(crate) fn put<O: Out>(piece: &str, out: &mut O) -> Result<(), Stop<O::Error>>
+    ensures put { OnOk result (IsPut (O.text out.old) (said piece.now) (O.text out.new)) }
+    ensures full { IfErr result IsFull }
+{
+    match out.put(piece) {
+        Ok(()) => Ok(()),
+        Err(fault) => Err(Stop::Full(fault)),
+    }
+}
+
+/// Appends the text of a value that is no struct and no list.
+pub(crate) fn print_leaf<O: Out>(value: Value<'_>, out: &mut O) -> Result<(), Stop<O::Error>>
+    requires { IsLeaf value }
+    ensures put { OnOk result (IsPut (O.text out.old) (leaf_text value.entry) (O.text out.new)) }
+    ensures full { IfErr result IsFull }
+{
+    match put_leaf(value, out) {
+        Ok(()) => Ok(()),
+        Err(fault) => Err(Stop::Full(fault)),
+    }
+}
+
+/// One bracket further in. No place has room for the lines of more brackets than can be counted.
+#[tactic(auto, using(crate::proofs::Streams::deeper_is))]
+pub(crate) fn one_deeper<F>(at: Option<u64>) -> Result<Option<u64>, Stop<F>>
+    ensures deeper { IfOk result (λ further. further ≡ deeper at) }
+    ensures full { IfErr result IsFull }
+{
+    match at {
+        None => Ok(None),
+        Some(u64::MAX) => Err(Stop::Refused(Error::from(ErrorKind::OutOfMemory))),
+        Some(depth) => Ok(Some(depth + 1)),
+    }
+}
+
+/// A line break, where lines are broken.
+pub(crate) fn put_line<O: Out>(at: Option<u64>, out: &mut O) -> Result<(), Stop<O::Error>>
+    ensures put { OnOk result (IsPut (O.text out.old) (said (line at)) (O.text out.new)) }
+    ensures full { IfErr result IsFull }
+{
+    let Some(depth) = at else {
+        return Ok(());
+    };
+    put("\n", out)?;
+    for step in 0..depth {
+        put("  ", out)?;
+    }
+    Ok(())
+}
+
+/// What stands before an item.
+pub(crate) fn put_separator<O: Out>(
+    at: Option<u64>,
+    first: bool,
+    out: &mut O,
+) -> Result<(), Stop<O::Error>>
+    ensures put { OnOk result (IsPut (O.text out.old) (said (separator at first)) (O.text out.new)) }
+    ensures full { IfErr result IsFull }
+{
+    if !first {
+        match at {
+            None => put(", ", out)?,
+            Some(_) => put(",", out)?,
+        }
+    }
+    put_line(at, out)
+}
