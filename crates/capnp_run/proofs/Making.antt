@@ -18,12 +18,12 @@ use Rattle.capnp_records.specs.Writes.TreeEnds.{TreeEnds, TreeRun, TreeStep}
 use Rattle.capnp_records.specs.Writes.TreeRun.{TreeWalks}
 use Rattle.capnp_slots.specs.Groups.{KeepsSize}
 use Rattle.capnp_run.specs.Runs.{Makes}
-use Rattle.capnp_run.specs.Seen.{call_seen, op_seen, path_seen, reply_seen, step_seen}
-use Rattle.capnp_run.specs.Ends.{AsStruct}
-use Rattle.capnp_run.specs.Walks.{StructWalks}
-use Rattle.capnp_run.specs.declared.calls.Call.{Call}
-use Rattle.capnp_run.specs.declared.calls.Ending.{Ending}
-use Rattle.capnp_run.specs.declared.calls.Reply.{Reply}
+use Rattle.capnp_call.specs.Seen.{call_seen, op_seen, path_seen, reply_seen, step_seen}
+use Rattle.capnp_call.specs.Ends.{AsStruct}
+use Rattle.capnp_call.specs.Walks.{StructWalks}
+use Rattle.capnp_call.specs.declared.calls.Call.{Call}
+use Rattle.capnp_call.specs.declared.calls.Ending.{Ending}
+use Rattle.capnp_call.specs.declared.calls.Reply.{Reply}
 
 pub makes_none : (set : Schemas) (b : ℕ) (s : StructTree) → Makes set b s [] [] s
 unfolding Makes

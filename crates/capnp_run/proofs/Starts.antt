@@ -42,8 +42,8 @@ use Rattle.capnp_records.specs.Writes.Slots.{Fits}
 use Rattle.capnp_schema.specs.Plan.{brand_size}
 use Rattle.capnp_run.specs.Messages.{HasRoot, IsWhole, IsWholeRefusal, LeavesRun, RunsOn, fault_or, new_record, record_left, root_refusal, root_value, text_in}
 use Rattle.capnp_run.specs.Runs.{IsRunFrom, record_in}
-use Rattle.capnp_run.specs.declared.calls.Call.{Call}
-use Rattle.capnp_run.specs.declared.calls.Reply.{Reply}
+use Rattle.capnp_call.specs.declared.calls.Call.{Call}
+use Rattle.capnp_call.specs.declared.calls.Reply.{Reply}
 
 -- a struct as a root
 root_of_struct : (schema : StructSchema) (s : StructTree) (r : Record) (t : Tree) → t ≡ struct_tree s → Fits (set_of schema) (number_of schema) s → IsWellFormed (struct_tree s) → record_in schema s ≡ r → HasRoot schema r t

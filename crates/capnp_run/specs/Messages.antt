@@ -24,8 +24,8 @@ use Rattle.capnp_records.specs.Writes.Slots.{Fits}
 use Rattle.capnp_dynamic_readers.specs.Pieces.{IsAppended}
 use Rattle.capnp_dynamic_readers.specs.Typed.{struct_type}
 use Rattle.capnp_run.specs.Runs.{IsRunFrom, record_in}
-use Rattle.capnp_run.specs.declared.calls.Call.{Call}
-use Rattle.capnp_run.specs.declared.calls.Reply.{Reply}
+use Rattle.capnp_call.specs.declared.calls.Call.{Call}
+use Rattle.capnp_call.specs.declared.calls.Reply.{Reply}
 
 -- the record of an empty root, and that of a copy of what a reader stands on
 abbrev pub new_record : StructSchema → Record

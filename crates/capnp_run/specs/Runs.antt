@@ -8,9 +8,9 @@ use Rattle.capnp_records.specs.Reading.{reads}
 use Rattle.capnp_records.specs.Record.{Record}
 use Rattle.capnp_records.specs.Run.{Run}
 use Rattle.capnp_records.specs.Writes.TreeEnds.{TreeStep}
-use Rattle.capnp_run.specs.Seen.{call_seen, reply_seen}
-use Rattle.capnp_run.specs.declared.calls.Call.{Call}
-use Rattle.capnp_run.specs.declared.calls.Reply.{Reply}
+use Rattle.capnp_call.specs.Seen.{call_seen, reply_seen}
+use Rattle.capnp_call.specs.declared.calls.Call.{Call}
+use Rattle.capnp_call.specs.declared.calls.Reply.{Reply}
 
 -- a run on trees, of calls and replies as the code has them
 unfoldable pub Makes : Schemas → ℕ → StructTree → List Call → List Reply → StructTree → Type 0

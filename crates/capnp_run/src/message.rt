@@ -11,8 +11,8 @@ ghost use Rattle.capnp_dynamic_readers.specs.Pieces.{IsAppended};
 ghost use Rattle.capnp_run.specs.Messages.{HasRoot, IsCopiedRefusal, IsRoot, IsWhole, IsWholeRefusal, LeavesRun};
 ghost use Rattle.capnp_run.specs.Messages.{RunsOn, copied_record, new_record, read_text, root_refusal, root_text};
 
-use crate::calls::{Call, Reply};
 use crate::run::run_on;
+use capnp_call::calls::{Call, Reply};
 use capnp_dynamic::dynamic_struct;
 use capnp_dynamic::dynamic_value::Reader as Value;
 use capnp_dynamic::printer::print;

@@ -11,10 +11,10 @@ ghost use Rattle.capnp_slots.specs.Groups.{KeepsSize};
 ghost use Rattle.capnp_dynamic.specs.Built.{IsReady, built_schema, built_struct};
 ghost use Rattle.capnp_run.specs.Memory.{RunRests};
 ghost use Rattle.capnp_run.specs.Runs.{Makes, RunsFrom, RunsTo};
-ghost use Rattle.capnp_run.specs.Seen.{call_seen, reply_seen};
+ghost use Rattle.capnp_call.specs.Seen.{call_seen, reply_seen};
 
-use crate::calls::{Call, Ending, Reply};
-use crate::walk::walk;
+use capnp_call::calls::{Call, Ending, Reply};
+use capnp_call::walk::walk;
 use capnp_dynamic::dynamic_struct;
 use capnp_records::laws::overlay_law;
 use capnp_schema::laws::numbers_fit;

@@ -6,8 +6,8 @@ use Rattle.capnp_wire.specs.Tree.{Tree}
 use Rattle.capnp_schema.specs.declared.schema.structs.StructSchema.{StructSchema}
 use Rattle.capnp_run.specs.Messages.{IsWhole}
 use Rattle.capnp_run.specs.Runs.{record_in}
-use Rattle.capnp_run.specs.declared.calls.Call.{Call}
-use Rattle.capnp_run.specs.declared.calls.Reply.{Reply}
+use Rattle.capnp_call.specs.declared.calls.Call.{Call}
+use Rattle.capnp_call.specs.declared.calls.Reply.{Reply}
 
 -- A stream whose root is read, and calls that led from the record of that root to that of the message in other bytes, whose
 -- text is appended.

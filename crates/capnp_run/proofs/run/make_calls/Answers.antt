@@ -4,8 +4,8 @@ use Rattle.std.proofs.lemmas.List.{take_more}
 use Rattle.capnp_wire.specs.Objects.{struct_object_tree}
 use Rattle.capnp_schema.specs.StructHandles.{number_of, set_of}
 use Rattle.capnp_run.specs.Runs.{Makes}
-use Rattle.capnp_run.specs.declared.calls.Call.{Call}
-use Rattle.capnp_run.specs.declared.calls.Reply.{Reply}
+use Rattle.capnp_call.specs.declared.calls.Call.{Call}
+use Rattle.capnp_call.specs.declared.calls.Reply.{Reply}
 use Rattle.capnp_run.proofs.Making.{keeps_on, keeps_same, makes_more, makes_none}
 use Rattle.capnp_run.proofs.run.make_calls.Goals as goal
 

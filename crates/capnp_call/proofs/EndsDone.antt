@@ -1,0 +1,83 @@
+-- What is done to a field is what the words of writes on trees say of its whole, however the field was named.
+use Rattle.std.specs.Prelude.{ℕ, ◌≡◌, refl, Bool, true, false, cond, Some, None, Ok}
+use Rattle.std.proofs.Common.{ap, inl, inr, sym, subst, ◌∙◌}
+use Rattle.capnp_device.specs.declared.error.ErrorKind.{ErrorKind}
+use Rattle.capnp_device.specs.declared.error.ErrorKind.TheVariants.{ExpectedAListOrBlob, InitnIsOnlyValidForListTextOrDataFields, ListAnyPointerNotSupported}
+use Rattle.capnp_wire.specs.Tree.{StructTree}
+use Rattle.capnp_schema.specs.FieldLists.{index_of, typed_of}
+use Rattle.capnp_schema.specs.Accepted.{IsGroupOf}
+use Rattle.capnp_schema.specs.Schema.{FieldKind, Group, Schemas, Slot, field_at}
+use Rattle.capnp_schema.specs.StructHandles.{number_of, set_of}
+use Rattle.capnp_schema.specs.declared.schema.structs.StructSchema.{StructSchema}
+use Rattle.capnp_schema.specs.Types.{SchemaType, StructType, TextType, DataType, ListType, AnyPointerType}
+use Rattle.capnp_schema.specs.declared.schema.fields.Field.{Field}
+use Rattle.capnp_records.specs.Call.{PathStep, Op, Reply, Refused}
+use Rattle.capnp_records.specs.Operation.{Does, Initns, Makes}
+use Rattle.capnp_records.specs.Reading.{reads}
+use Rattle.capnp_records.specs.Record.{Record, Value}
+use Rattle.capnp_records.specs.Step.{Found, Target, in_record, target_at}
+use Rattle.capnp_records.specs.Writes.Stand.{seen, step_field, step_index}
+use Rattle.capnp_records.specs.Writes.TreeEnds.{TreeDoes, TreeDoesAt}
+use Rattle.capnp_slots.specs.Fields.{field_brand, field_set}
+use Rattle.capnp_slots.specs.Inits.{IsInitnRefusal, IsRoomless}
+use Rattle.capnp_call.specs.Ends.{AsGroup, AsStruct, FieldDoes, NamedDoes, Whole, stand_of, whole_of}
+use Rattle.capnp_call.specs.Seen.{step_seen}
+use Rattle.capnp_call.specs.Ways.{IsNamedBy, found_target, target_in}
+use Rattle.capnp_call.specs.declared.calls.Step.{Step}
+
+module _ (f : Field) (s s' : StructTree) where
+  named : (step : PathStep) → step_index (field_set f) (field_brand f) step ≡ index_of f → step_field (field_set f) (field_brand f) step ≡ typed_of f
+  named step e = ap (field_at (field_set f) (field_brand f)) e
+
+  -- nothing was written
+  pub stays : (op : Op) (reply : Reply) → s' ≡ s → ((whole : Record → Value) (old : Value) → Does (field_set f) op (target_in whole f s) old reply old) → FieldDoes f op s reply s'
+  stays op reply same h w g step e = inl (h (whole_of w) (seen (field_set f) (StructType (field_brand f) g) (stand_of w s)), ap (stand_of w) same)
+
+-- ---- refusals ----
+
+pub roomless : (x : Target) (past : Bool) (v old : Value) (kind : ErrorKind) → IsRoomless past kind → Makes x past v old (Refused kind) old
+roomless x true v old kind h = inr (ap Refused h, refl)
+roomless x false v old kind h = inl (ap Refused h, refl)
+
+pub initn_refused : (set : Schemas) (x : Target) (n : ℕ) (t : SchemaType) (old : Value) (kind : ErrorKind) → x.is_element ≡ false → IsInitnRefusal set n t kind → Initns set x n t old (Refused kind) old
+initn_refused set x n TextType old kind slot h = roomless x _ _ old kind h
+initn_refused set x n DataType old kind slot h = roomless x _ _ old kind h
+initn_refused set x n (ListType e) old kind slot h = roomless x _ _ old kind h
+initn_refused set x n AnyPointerType old kind slot h = (ap Refused (h ∙ sym (ap (λ q. cond q ListAnyPointerNotSupported InitnIsOnlyValidForListTextOrDataFields) slot)), refl)
+initn_refused set x n t old kind slot h = (ap Refused (h ∙ sym (ap (λ q. cond q ExpectedAListOrBlob InitnIsOnlyValidForListTextOrDataFields) slot)), refl)
+
+-- a group has no size
+none_some : {n : ℕ} → None ≡ Some n → ⊥
+none_some e = cc
+
+pub group_unsized : (kind : FieldKind) (t : SchemaType) (g : ℕ) → IsGroupOf kind t g → (set : Schemas) (x : Target) (n : ℕ) (old : Value) → x.is_element ≡ false →
+    Initns set x n t old (Refused InitnIsOnlyValidForListTextOrDataFields) old
+group_unsized (Slot offset d) t g h set x n old e = absurd h
+group_unsized (Group node) (StructType b y) g h set x n old e = (ap Refused (sym (ap (λ q. cond q ExpectedAListOrBlob InitnIsOnlyValidForListTextOrDataFields) e)), refl)
+group_unsized (Group node) t g h set x n old e = absurd (none_some h)
+
+-- ---- a step ----
+
+-- a step that names a field
+pub names_field : (f : Field) (step : PathStep) (op : Op) (s : StructTree) (reply : Reply) (s' : StructTree) → step_index (field_set f) (field_brand f) step ≡ index_of f →
+    ((whole : Record → Value) → Ok (target_in whole f s) ≡ in_record (field_set f) whole (reads (field_set f) s (field_brand f)) (field_brand f) step) →
+    FieldDoes f op s reply s' → NamedDoes (field_set f) (field_brand f) step op s reply s'
+names_field f step op s reply s' index e h w g = go w (e (whole_of w)) (h w g step index)
+  where
+    go : (w : Whole) → Ok (target_in (whole_of w) f s) ≡ in_record (field_set f) (whole_of w) (reads (field_set f) s (field_brand f)) (field_brand f) step →
+        TreeDoes (field_set f) op (target_in (whole_of w) f s) (StructType (field_brand f) g) (stand_of w s) step reply (stand_of w s') →
+        TreeDoesAt (field_set f) op (target_at (field_set f) (StructType (field_brand f) g) (seen (field_set f) (StructType (field_brand f) g) (stand_of w s)) step) (StructType (field_brand f) g) (stand_of w s) step reply (stand_of w s')
+    go AsStruct e h = subst (λ (x : Found). TreeDoesAt (field_set f) op x (StructType (field_brand f) g) (stand_of AsStruct s) step reply (stand_of AsStruct s')) e h
+    go AsGroup e h = subst (λ (x : Found). TreeDoesAt (field_set f) op x (StructType (field_brand f) g) (stand_of AsGroup s) step reply (stand_of AsGroup s')) e h
+
+-- the field that was found
+pub names_found : (schema : StructSchema) (f : Field) (last : Step) (op : Op) (s : StructTree) (reply : Reply) (s' : StructTree) → IsNamedBy schema last f →
+    ((whole : Record → Value) (r : Record) → found_target whole r (Ok f) ≡ in_record (set_of schema) whole r (number_of schema) (step_seen last)) →
+    FieldDoes f op s reply s' → NamedDoes (set_of schema) (number_of schema) (step_seen last) op s reply s'
+names_found schema f last op s reply s' named found does =
+    let step = step_seen last in
+    subst (λ (z : StructSchema). NamedDoes (set_of z) (number_of z) step op s reply s') named.field.schema
+    (names_field f step op s reply s'
+    (subst (λ (z : StructSchema). step_index (set_of z) (number_of z) step ≡ index_of f) (sym named.field.schema) named.index)
+    (λ whole. subst (λ (z : StructSchema). Ok (target_in whole f s) ≡ in_record (set_of z) whole (reads (field_set f) s (field_brand f)) (number_of z) step) (sym named.field.schema) (found whole (reads (field_set f) s (field_brand f))))
+    does)

@@ -1,0 +1,15 @@
+pub mod Behind
+pub mod ElementReads
+pub mod ElementsDone
+pub mod EndsDone
+pub mod Entered
+pub mod FieldReads
+pub mod Found
+pub mod Levels
+pub mod ListBehind
+pub mod ListReads
+pub mod ListWalks
+pub mod Parts
+pub mod SetsDone
+pub mod Walking
+pub mod WhichLevels

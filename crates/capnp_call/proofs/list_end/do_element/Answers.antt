@@ -1,0 +1,16 @@
+-- A read of an element changes nothing.
+use Rattle.std.proofs.Common.{inl, refl, subst, sym}
+use Rattle.capnp_wire.specs.Objects.{list_object_tree}
+use Rattle.capnp_schema.specs.Entries.{lists_seen}
+use Rattle.capnp_schema.specs.Types.{ListType, seen_type}
+use Rattle.capnp_records.specs.Writes.Stand.{OnList, seen}
+use Rattle.capnp_call.specs.Lists.{ElementDoes}
+use Rattle.capnp_call.specs.declared.calls.Op.{Op}
+use Rattle.capnp_call.proofs.list_end.do_element.Goals as goal
+
+pub returns-in-Get-clause-does : goal.returns-in-Get-clause-does
+returns-in-Get-clause-does c =
+    let set = lists_seen c.args.set.now in
+    let e = seen_type c.args.element in
+    let x = list_object_tree c.args.list.now in
+    subst (λ (o : Op). ElementDoes set e c.args.index o x c.get_element.result x) (sym c.in-Get.is) (inl (c.get_element.ensures (seen set (ListType e) (OnList x)), refl))

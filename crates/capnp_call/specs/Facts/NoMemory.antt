@@ -1,0 +1,288 @@
+-- A call that takes no memory is not refused for the want of it.
+use Rattle.std.specs.Prelude.{ℕ, ◌≡◌, ◌≢◌, ◌⊎◌, refl, ⊤, pos, Bool, true, false, cond, nat_lt, ◌==◌, List, [], ◌∷◌, Option, Some, None, Ok, Err, length}
+use Rattle.std.proofs.Common.{ap, inl, inr, sym, ◌∙◌}
+use Rattle.std.proofs.lemmas.Bool.{true≢false}
+use Rattle.capnp_device.specs.declared.error.ErrorKind.{ErrorKind}
+use Rattle.capnp_device.specs.declared.error.ErrorKind.TheVariants.{FieldNotFound, InactiveMember, InitIsOnlyValidForStructAndAnyPointerFields, NoSuchElement, NotAContainer, OutOfMemory, TypeMismatch}
+use Rattle.capnp_schema.specs.Query.{field_named, records_of}
+use Rattle.capnp_wire.specs.Tree.{StructTree}
+use Rattle.capnp_schema.specs.Schema.{Schemas, brand_at, field_at, fields_of}
+use Rattle.capnp_schema.specs.StructHandles.{number_of, set_of}
+use Rattle.capnp_schema.specs.declared.schema.structs.StructSchema.{StructSchema}
+use Rattle.capnp_schema.specs.Types.{SchemaType, VoidType, BoolType, IntType, UIntType, EnumType, TextType, DataType, StructType, ListType, AnyPointerType, struct_number}
+use Rattle.capnp_records.specs.Call.{BoolSource, Clear, DataSource, ElementAt, EnumSource, FieldNamed, FieldNumber, Get, Has, Init, Initn, IntSource, ListSource, Op, PathStep, Refused, Reply, Set, Source, StructSource, TextSource, UIntSource, Which}
+use Rattle.capnp_records.specs.Default.{default_record, read_of}
+use Rattle.capnp_records.specs.Facts.ReadFaults.{AllSound, IsReadKind, RecordSound, Sound, nth-value-sound, part-sound, read_of-sound, reads-sound, value_of-sound}
+use Rattle.capnp_records.specs.Given.{Copies, CopiesGroup, Fails, Given, Gives, copied_struct, given, given_element, given_group, given_slot}
+use Rattle.capnp_records.specs.Operation.{Answers, AtField, Does, Gets, Inits, IsDone, Sets, takes_memory}
+use Rattle.capnp_records.specs.Part.{value_count}
+use Rattle.capnp_records.specs.Reading.{value_of}
+use Rattle.capnp_records.specs.Record as value
+use Rattle.capnp_records.specs.Record.{Endless, NoValues, Record, Value, Values}
+use Rattle.capnp_records.specs.Run.{Asks, root_type}
+use Rattle.capnp_records.specs.Step.{Found, IsRefused, Target, element_target, fault_of, field_found, field_target, in_list, in_record, target_at, walked_by_type, walked_result, walked_target}
+use Rattle.capnp_records.specs.Writes.Stand.{OnGroup, OnList, OnStruct, Stand, StepRests, entered, seen}
+use Rattle.capnp_records.specs.Writes.TreeEnds.{CopiesGiven, CopiesTo, TreeDoes, TreeDoesAt, TreeEnds}
+use Rattle.capnp_records.specs.Writes.TreeRun.{TreeEnters, TreePasses, TreeWalks}
+use Rattle.capnp_call.specs.Ends.{AsStruct}
+use Rattle.capnp_call.specs.Memory.{CallRests, EndRests, IsNoCopy, IsNotForMemory, NeedsNone, NextRests, PathRests, is_made}
+use Rattle.capnp_call.specs.Seen.{op_seen, path_seen, reply_seen, step_seen}
+use Rattle.capnp_call.specs.Walks.{StructWalks}
+use Rattle.capnp_call.specs.declared.calls.Ending.{Ending}
+use Rattle.capnp_call.specs.declared.calls.Reply.{Reply as ReplyOf}
+use Rattle.capnp_call.specs.declared.calls.Reply.TheVariants as reply
+use Rattle.capnp_call.specs.declared.calls.Step.{Step}
+
+-- ---- kinds ----
+
+abbrev is_memory : ErrorKind → Bool
+is_memory OutOfMemory = true
+is_memory kind = false
+
+abbrev kind_of : Reply → ErrorKind → ErrorKind
+kind_of (Refused kind) other = kind
+kind_of reply other = other
+
+-- a refusal of another kind
+other_kind : (reply : Reply) (kind : ErrorKind) → is_memory kind ≡ false → reply ≡ Refused kind → IsNotForMemory reply
+other_kind reply kind other is same = true≢false (ap (λ (r : Reply). is_memory (kind_of r OutOfMemory)) (sym same ∙ is) ∙ other)
+
+-- a reply that is no refusal
+abbrev is_refusal : Reply → Bool
+is_refusal (Refused kind) = true
+is_refusal reply = false
+
+no_refusal : (reply : Reply) → is_refusal reply ≡ false → IsNotForMemory reply
+no_refusal reply h same = true≢false (sym (ap is_refusal same) ∙ h)
+
+read_kind : (kind : ErrorKind) → IsReadKind kind → is_memory kind ≡ false
+read_kind OutOfMemory h = absurd (true≢false (sym h))
+read_kind kind h = refl
+
+-- ---- what stands there, and what a step names ----
+
+abbrev FaultKind : Option ErrorKind → Type 0
+FaultKind None = ⊤
+FaultKind (Some kind) = is_memory kind ≡ false
+
+fault_kind : (v : Value) → Sound v → FaultKind (fault_of v)
+fault_kind (value.Fault kind) h = read_kind kind h
+fault_kind v h = tt
+
+stand_sound : (set : Schemas) (t : SchemaType) (old : Stand) → Sound (seen set t old)
+stand_sound set t (OnStruct s) = reads-sound set s _
+stand_sound set t (OnGroup s) = reads-sound set s _
+stand_sound set t (OnList x) = value_of-sound set x Endless t
+
+-- a refusal is not for memory, and what was found can be read or is refused as a read
+abbrev FoundSound : Found → Type 0
+FoundSound (Err kind) = is_memory kind ≡ false
+FoundSound (Ok x) = Sound x.part
+
+module _ (set : Schemas) where
+  field-sound : (whole : Record → Value) (r : Record) (b : ℕ) (o : Option ℕ) → RecordSound r → FoundSound (field_found set whole r b o)
+  field-sound whole r b None h = refl
+  field-sound whole r b (Some i) h = go (nat_lt i (length (fields_of set b)))
+    where
+      go : (q : Bool) → FoundSound (elim q as (λ _. Found) [ true ↦ Ok (field_target whole r (field_at set b i) i) | false ↦ Err FieldNotFound ])
+      go true = part-sound r h (field_at set b i).field i
+      go false = refl
+
+  record-sound : (whole : Record → Value) (r : Record) (b : ℕ) (s : PathStep) → RecordSound r → FoundSound (in_record set whole r b s)
+  record-sound whole r b (FieldNumber i) h = field-sound whole r b (Some i) h
+  record-sound whole r b (FieldNamed name) h = field-sound whole r b (field_named (records_of set b) name) h
+  record-sound whole r b (ElementAt i) h = refl
+
+  list-sound : (e : SchemaType) (vs : Values) (s : PathStep) → AllSound vs → FoundSound (in_list e vs s)
+  list-sound e vs (FieldNumber i) h = refl
+  list-sound e vs (FieldNamed name) h = refl
+  list-sound e vs (ElementAt i) h = go (nat_lt i (value_count vs))
+    where
+      go : (q : Bool) → FoundSound (elim q as (λ _. Found) [ true ↦ Ok (element_target e vs i) | false ↦ Err NoSuchElement ])
+      go true = nth-value-sound vs h i
+      go false = refl
+
+  target-sound : (t : SchemaType) (v : Value) (s : PathStep) → Sound v → FoundSound (target_at set t v s)
+  target-sound (StructType b g) (value.Struct r) s h = record-sound value.Struct r b s h
+  target-sound (StructType b g) (value.Group r) s h = record-sound value.Group r b s h
+  target-sound (ListType e) (value.Elements vs) s h = list-sound e vs s h
+  target-sound (ListType e) (value.Missing l) s h = list-sound e NoValues s tt
+  target-sound t v s h = refl
+
+typed-sound : (x : Target) (t : SchemaType) → Sound x.part → FoundSound (walked_by_type x t)
+typed-sound x (StructType b g) h = h
+typed-sound x (ListType e) h = h
+typed-sound x t h = refl
+
+walked-sound : (r : Found) → FoundSound r → FoundSound (walked_result r)
+walked-sound (Err kind) h = h
+walked-sound (Ok x) h = go x.inactive
+  where
+    go : (q : Bool) → FoundSound (elim q as (λ _. Found) [ true ↦ Err InactiveMember | false ↦ walked_by_type x x.type ])
+    go true = refl
+    go false = typed-sound x x.type h
+
+-- ---- what is given ----
+
+abbrev GivenKind : Given → Type 0
+GivenKind (Fails kind) = is_memory kind ≡ false
+GivenKind g = ⊤
+
+either-kind : (q : Bool) (g h : Given) → GivenKind g → GivenKind h → GivenKind (cond q g h)
+either-kind true g h k l = k
+either-kind false g h k l = l
+
+slot-kind : (set : Schemas) (t : SchemaType) (s : Source) → GivenKind (given_slot set t s)
+slot-kind set VoidType s = tt
+slot-kind set BoolType (BoolSource b) = tt
+slot-kind set (IntType k) (IntSource n x) = either-kind (k == n) (Gives (value.Number x)) (Fails TypeMismatch) tt refl
+slot-kind set (UIntType k) (UIntSource n x) = either-kind (k == n) (Gives (value.Number (pos x))) (Fails TypeMismatch) tt refl
+slot-kind set (EnumType e) (EnumSource n) = tt
+slot-kind set TextType (TextSource bytes) = tt
+slot-kind set DataType (DataSource bytes) = tt
+slot-kind set (StructType b g) (StructSource l s from) = tt
+slot-kind set (ListType e) (ListSource l t from) = tt
+slot-kind set AnyPointerType (TextSource bytes) = tt
+slot-kind set AnyPointerType (DataSource bytes) = tt
+slot-kind set AnyPointerType (StructSource l s from) = tt
+slot-kind set AnyPointerType (ListSource l t from) = tt
+slot-kind set t s = refl
+
+group-kind : (t : SchemaType) (s : Source) → GivenKind (given_group t s)
+group-kind t (StructSource l s from) = either-kind (from == struct_number t) (CopiesGroup l s from) (Fails TypeMismatch) tt refl
+group-kind t s = refl
+
+element-kind : (set : Schemas) (t : SchemaType) (s : Source) → GivenKind (given_element set t s)
+element-kind set AnyPointerType s = refl
+element-kind set (StructType b g) (StructSource l s from) = either-kind (from == b) (Copies (copied_struct s) false (value_of set (copied_struct s) Endless (StructType b g))) (Fails TypeMismatch) tt refl
+element-kind set t s = slot-kind set t s
+
+given-kind : (set : Schemas) (x : Target) (s : Source) → GivenKind (given set x s)
+given-kind set x s = go x.is_group x.is_element
+  where
+    go : (p q : Bool) → GivenKind (elim p as (λ _. Given) [ true ↦ given_group x.type s | false ↦ elim q as (λ _. Given) [ true ↦ given_element set x.type s | false ↦ given_slot set x.type s ] ])
+    go true q = group-kind x.type s
+    go false true = element-kind set x.type s
+    go false false = slot-kind set x.type s
+
+-- ---- the operations ----
+
+module _ (set : Schemas) (x : Target) (old : Value) (reply : Reply) (new : Value) where
+  gets : (t : SchemaType) (v : Value) (o : Option ErrorKind) → FaultKind o → takes_memory t ≡ false → Answers t v o old reply new → IsNotForMemory reply
+  gets t v (Some kind) fault none h = other_kind reply kind fault h.0
+  gets t v None fault none (inl h) = no_refusal reply (ap is_refusal h.0)
+  gets t v None fault none (inr h) = absurd (true≢false (sym h.0 ∙ none))
+
+  sets : (g : Given) → GivenKind g → IsNoCopy g → Sets set x g old reply new → IsNotForMemory reply
+  sets (Gives v) kind none h = no_refusal reply (ap is_refusal h.0)
+  sets (Fails k) kind none h = other_kind reply k kind h.0
+  sets (Copies source past v) kind none h = absurd none
+  sets (CopiesGroup l s b) kind none h = absurd none
+
+  inits : (t : SchemaType) → is_made x.is_group t ≡ false → Inits set x t old reply new → IsNotForMemory reply
+  inits (StructType b g) none h = go x.is_group none h
+    where
+      go : (q : Bool) → is_made q (StructType b g) ≡ false →
+          (elim q as (λ _. Type 0) [ true ↦ IsDone (x.put (value.Group (default_record set Endless b))) reply new | false ↦ IsDone (x.put (value.Struct (default_record set Endless b))) reply new ⊎ IsRefused OutOfMemory reply old new ]) →
+          IsNotForMemory reply
+      go true none h = no_refusal reply (ap is_refusal h.0)
+      go false none h = absurd (true≢false none)
+  inits AnyPointerType none h = no_refusal reply (ap is_refusal h.0)
+  inits t none h = other_kind reply InitIsOnlyValidForStructAndAnyPointerFields refl h.0
+
+  at_field : (P : Type 0) → (P → IsNotForMemory reply) → AtField x reply old new P → IsNotForMemory reply
+  at_field P f h = go x.is_element h
+    where
+      go : (q : Bool) → (elim q as (λ _. Type 0) [ true ↦ IsRefused NotAContainer reply old new | false ↦ P ]) → IsNotForMemory reply
+      go true h = other_kind reply NotAContainer refl h.0
+      go false h = f h
+
+  does : (op : Op) → Sound x.part → NeedsNone set op x → Does set op x old reply new → IsNotForMemory reply
+  does Get sound none h = go x.inactive h
+    where
+      go : (q : Bool) → (elim q as (λ _. Type 0) [ true ↦ IsRefused InactiveMember reply old new | false ↦ Gets set x old reply new ]) → IsNotForMemory reply
+      go true h = other_kind reply InactiveMember refl h.0
+      go false h = gets x.type (read_of set x.default x.type x.part) _ (fault_kind (read_of set x.default x.type x.part) (read_of-sound set x.default x.type x.part sound)) none h
+  does Has sound none h = at_field _ (λ k. no_refusal reply (ap is_refusal k.0)) h
+  does Which sound none h = absurd h
+  does (Set s) sound none h = sets (given set x s) (given-kind set x s) none h
+  does Init sound none h = at_field _ (inits x.type none) h
+  does (Initn n) sound none h = absurd none
+  does Clear sound none h = at_field _ (λ k. no_refusal reply (ap is_refusal k.0)) h
+
+-- ---- the end of a path ----
+
+asks : (v : Value) (reply : Reply) (new : Value) → Asks v reply new → IsNotForMemory reply
+asks (value.Struct r) reply new h = no_refusal reply (ap is_refusal h.0)
+asks (value.Group r) reply new h = no_refusal reply (ap is_refusal h.0)
+asks v reply new h = other_kind reply NotAContainer refl h.0
+
+module _ (set : Schemas) (t : SchemaType) (old : Stand) (last : PathStep) (reply : Reply) (new : Stand) where
+  copies_given : (g : Given) → IsNoCopy g → CopiesGiven set g t old last reply new → ⊥
+  copies_given (Gives v) none h = h
+  copies_given (Fails kind) none h = h
+  copies_given (Copies source past v) none h = h
+  copies_given (CopiesGroup l s b) none h = none
+
+  copies_to : (op : Op) (x : Target) → NeedsNone set op x → CopiesTo set op x t old last reply new → ⊥
+  copies_to (Set s) x none h = copies_given (given set x s) none h.1
+  copies_to Get x none h = h
+  copies_to Has x none h = h
+  copies_to Which x none h = h
+  copies_to Init x none h = h
+  copies_to (Initn n) x none h = h
+  copies_to Clear x none h = h
+
+  tree_does : (op : Op) (x : Target) → Sound x.part → NeedsNone set op x → TreeDoes set op x t old last reply new → IsNotForMemory reply
+  tree_does op x sound none (inl h) = does set x (seen set t old) reply (seen set t old) op sound none h.0
+  tree_does op x sound none (inr (inl (c, content, room, done, rest))) = no_refusal reply (ap is_refusal done)
+  tree_does op x sound none (inr (inr (inl (c, slot, field, content, done, rest)))) = no_refusal reply (ap is_refusal done)
+  tree_does op x sound none (inr (inr (inr (inl (group, clears, done, rest))))) = no_refusal reply (ap is_refusal done)
+  tree_does op x sound none (inr (inr (inr (inr h)))) = absurd (copies_to op x none h)
+
+  does_at : (op : Op) (r : Found) → FoundSound r → EndRests set op r → TreeDoesAt set op r t old last reply new → IsNotForMemory reply
+  does_at op (Err kind) sound none h = other_kind reply kind sound h.0
+  does_at op (Ok x) sound none h = tree_does op x sound none h
+
+  end_found : FoundSound (target_at set t (seen set t old) last)
+  end_found = target-sound set t (seen set t old) last (stand_sound set t old)
+
+  ends : (op : Op) → EndRests set op (target_at set t (seen set t old) last) → TreeEnds set last op t old reply new → IsNotForMemory reply
+  ends Which none h = asks (seen set t old) reply (seen set t old) h.0
+  ends Get none h = does_at Get _ end_found none h
+  ends Has none h = does_at Has _ end_found none h
+  ends (Set s) none h = does_at (Set s) _ end_found none h
+  ends Init none h = does_at Init _ end_found none h
+  ends (Initn n) none h = does_at (Initn n) _ end_found none h
+  ends Clear none h = does_at Clear _ end_found none h
+
+-- ---- the walk ----
+
+pub walk_rests : (set : Schemas) (last : PathStep) (op : Op) (path : List PathStep) (t : SchemaType) (old : Stand) (reply : Reply) (new : Stand) → CallRests set last op path t old →
+    TreeWalks set (TreeEnds set last op) path t old reply new → IsNotForMemory reply
+walk_rests set last op [] t old reply new rests h = ends set t old last reply new op rests h
+walk_rests set last op (step ∷ path) t old reply new rests h =
+    passes (walk_rests set last op path) (walked_target set t (seen set t old) step) (walked-sound (target_at set t (seen set t old) step) (target-sound set t (seen set t old) step (stand_sound set t old))) rests h
+  where
+    Next : Type 0
+    Next = (u : SchemaType) (old : Stand) (reply : Reply) (new : Stand) → CallRests set last op path u old → TreeWalks set (TreeEnds set last op) path u old reply new → IsNotForMemory reply
+
+    enters : Next → (x : Target) (o : Option ErrorKind) → FaultKind o → StepRests set t old step → CallRests set last op path x.type (entered set t old step) →
+        TreeEnters set (TreeWalks set (TreeEnds set last op) path) t old step o x reply new → IsNotForMemory reply
+    enters ih x (Some kind) fault still next h = other_kind reply kind fault h.0
+    enters ih x None fault still next (inl stops) = λ same. stops.moves (ap (λ (r : Reply). kind_of r OutOfMemory) (sym stops.refused.0 ∙ same)) still
+    enters ih x None fault still next (inr goes) = ih x.type (entered set t old step) reply goes.inner next goes.goes_on
+
+    passes : Next → (r : Found) → FoundSound r → NextRests r (StepRests set t old step) (λ u. CallRests set last op path u (entered set t old step)) →
+        TreePasses set (TreeWalks set (TreeEnds set last op) path) t old step r reply new → IsNotForMemory reply
+    passes ih (Err kind) sound rests h = other_kind reply kind sound h.0
+    passes ih (Ok x) sound rests h = enters ih x (fault_of x.part) (fault_kind x.part sound) rests.0 rests.1 h
+
+-- ---- a call as the code has it ----
+
+pub path_rests : (schema : StructSchema) (path : List Step) (end : Ending) (s : StructTree) (r : ReplyOf) (s' : StructTree) → StructWalks (set_of schema) (number_of schema) path end s r s' → PathRests schema path end s →
+    r ≢ reply.Refused OutOfMemory
+unfolding StructWalks
+path_rests schema path end s r s' walks rests same =
+    walk_rests (set_of schema) (step_seen end.call.now.last) (op_seen end.call.now.op) (path_seen path) (root_type (set_of schema) (number_of schema)) (OnStruct s) (reply_seen r) (OnStruct s') rests
+    (walks AsStruct (brand_at (set_of schema) (number_of schema)).node) (ap reply_seen same)

@@ -1,0 +1,7 @@
+pub mod Ends
+pub mod Facts
+pub mod Lists
+pub mod Memory
+pub mod Seen
+pub mod Walks
+pub mod Ways

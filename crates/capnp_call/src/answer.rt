@@ -1,0 +1,124 @@
+//! What is read at the end of a path. Nothing is filled or switched.
+ghost use Rattle.std.specs.Prelude.{◌≡◌, IfErr, IfOk, OnErr, true};
+ghost use Rattle.capnp_device.specs.declared.error.ErrorKind.TheVariants.{OutOfMemory};
+ghost use Rattle.capnp_wire.specs.Objects.{struct_object_tree};
+ghost use Rattle.capnp_wire.specs.Place.{struct_tree};
+ghost use Rattle.capnp_wire.specs.WellFormed.{IsWellFormed};
+ghost use Rattle.capnp_schema.specs.Schema.{Schemas};
+ghost use Rattle.capnp_schema.specs.StructHandles.{IsStruct, number_of, set_of};
+ghost use Rattle.capnp_schema.specs.Types.{SchemaType};
+ghost use Rattle.capnp_records.specs.Call.{Get, Has, Member};
+ghost use Rattle.capnp_records.specs.Operation.{Answers, Does, plain, takes_memory};
+ghost use Rattle.capnp_records.specs.Part.{which_of};
+ghost use Rattle.capnp_records.specs.Reading.{reads};
+ghost use Rattle.capnp_records.specs.Record.{Record, Value as RecordValue};
+ghost use Rattle.capnp_records.specs.Step.{fault_of};
+ghost use Rattle.capnp_dynamic_readers.specs.Seen.{answered, value_seen};
+ghost use Rattle.capnp_dynamic_readers.specs.Typed.{IsOf};
+ghost use Rattle.capnp_slots.specs.Fields.{field_set};
+ghost use Rattle.capnp_call.specs.Seen.{plain_seen, reply_seen};
+ghost use Rattle.capnp_call.specs.Ways.{target_in};
+
+use crate::calls::{Plain, Reply};
+use crate::way::is_inactive;
+use capnp_dynamic_readers::dynamic_struct;
+use capnp_dynamic_readers::dynamic_value::Reader as Value;
+use capnp_schema::schema::{Field, StructSchema};
+use capnp_wire::error::{ErrorKind, Result};
+use capnp_wire::laws::kept::structs_can_be_read;
+use capnp_wire::object::StructObject;
+use std::alloc::Global;
+
+/// A value as it is answered: the bytes of a text or data are copied, of a struct only that it is one, of a list its length,
+/// and of an untyped pointer whether it is null.
+///
+/// Refused with `OutOfMemory` for the copy of a text or data.
+fn plain_of(alloc: Global, value: Value<'_>) -> Result<Plain>
+    ensures plain { (set : Schemas) (t : SchemaType) → IsOf set t value.entry → IfOk result (λ p. plain_seen p ≡ plain t (value_seen value.entry)) }
+    ensures memory { (set : Schemas) (t : SchemaType) → IsOf set t value.entry → OnErr result (takes_memory t ≡ true) }
+    ensures cause { IfErr result (λ e. e.kind ≡ OutOfMemory) }
+{
+    match value {
+        Value::Void => Ok(Plain::Void),
+        Value::Bool(x) => Ok(Plain::Bool(x)),
+        Value::Int8(x) => Ok(Plain::Int8(x)),
+        Value::Int16(x) => Ok(Plain::Int16(x)),
+        Value::Int32(x) => Ok(Plain::Int32(x)),
+        Value::Int64(x) => Ok(Plain::Int64(x)),
+        Value::UInt8(x) => Ok(Plain::UInt8(x)),
+        Value::UInt16(x) => Ok(Plain::UInt16(x)),
+        Value::UInt32(x) => Ok(Plain::UInt32(x)),
+        Value::UInt64(x) => Ok(Plain::UInt64(x)),
+        Value::Enum(x) => Ok(Plain::Enum(x.get_value())),
+        Value::Text(text) => Ok(Plain::Text(text.0.to_vec(alloc)?)),
+        Value::Data(bytes) => Ok(Plain::Data(bytes.to_vec(alloc)?)),
+        Value::Struct(_) => Ok(Plain::Struct),
+        Value::List(list) => Ok(Plain::List(list.len())),
+        Value::AnyPointer(pointer) => Ok(Plain::AnyPointer(pointer.is_null())),
+    }
+}
+
+/// The reply to a read.
+pub(crate) fn answer(alloc: Global, read: Result<Value<'_>>) -> Reply
+    ensures { (set : Schemas) (t : SchemaType) (old : RecordValue) → IfOk read.entry (IsOf set t)
+        → Answers t (answered read.entry) (fault_of (answered read.entry)) old (reply_seen result) old }
+{
+    match read {
+        Err(error) => Reply::Refused(error.kind),
+        Ok(value) => match plain_of(alloc, value) {
+            Ok(plain) => Reply::Value(plain),
+            Err(error) => Reply::Refused(error.kind),
+        },
+    }
+}
+
+/// What a field of a struct has, or its default where that is missing. The struct has to be well-formed.
+///
+/// Refused with `InactiveMember` for a member that isn't active; with `WrongPointerKind`, `WrongElementSize` or
+/// `TextNotTerminated` where what stands there is not read as the field's type; and with `OutOfMemory` for the copy of a text
+/// or data.
+pub fn get_field(alloc: Global, object: &StructObject, field: Field<'_>) -> Reply
+    requires { IsWellFormed (struct_tree (struct_object_tree object.now)) }
+    ensures { (whole : Record → RecordValue) (old : RecordValue)
+        → Does (field_set field.entry) Get (target_in whole field.entry (struct_object_tree object.now)) old (reply_seen result) old }
+{
+    if is_inactive(object, field) {
+        return Reply::Refused(ErrorKind::InactiveMember);
+    }
+    structs_can_be_read();
+    let reader = dynamic_struct::Reader::new(object.as_reader(), field.get_containing_struct());
+    answer(alloc, reader.get(field))
+}
+
+/// Whether a field of a struct is there: false for a member that isn't active and for a null pointer. The struct has to be
+/// well-formed.
+pub fn has_field(object: &StructObject, field: Field<'_>) -> Reply
+    requires { IsWellFormed (struct_tree (struct_object_tree object.now)) }
+    ensures { (whole : Record → RecordValue) (old : RecordValue)
+        → Does (field_set field.entry) Has (target_in whole field.entry (struct_object_tree object.now)) old (reply_seen result) old }
+{
+    structs_can_be_read();
+    // What the type of every field is known to meet is known of it here.
+    let _variant = field.get_type().which();
+    let reader = dynamic_struct::Reader::new(object.as_reader(), field.get_containing_struct());
+    let Ok(there) = reader.has(field) else {
+        unreachable!()
+    };
+    Reply::Flag(there)
+}
+
+/// The active member of a struct, by its index; none without a union and for an unknown number. The struct has to be
+/// well-formed, and the schema one of an accepted set.
+pub fn which_member(object: &StructObject, schema: StructSchema<'_>) -> Reply
+    requires stands { IsStruct schema }
+    requires formed { IsWellFormed (struct_tree (struct_object_tree object.now)) }
+    ensures { reply_seen result ≡ Member (which_of (reads (set_of schema.entry) (struct_object_tree object.now) (number_of schema.entry))) }
+{
+    structs_can_be_read();
+    let reader = dynamic_struct::Reader::new(object.as_reader(), schema);
+    match reader.which() {
+        Ok(Some(field)) => Reply::Member(Some(field.get_index())),
+        Ok(None) => Reply::Member(None),
+        Err(_) => Reply::Member(None),
+    }
+}

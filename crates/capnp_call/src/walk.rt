@@ -1,0 +1,439 @@
+//! The walk of a path: a step after another, each into a part of what the one before it entered.
+ghost use Rattle.std.specs.Prelude.{IsTrue, ◌≡◌, ◌≢◌, ◌<◌, ◌∷◌, false};
+ghost use Rattle.capnp_device.specs.declared.error.ErrorKind.TheVariants.{OutOfMemory};
+ghost use Rattle.capnp_wire.specs.Edits.{is_struct, struct_in};
+ghost use Rattle.capnp_wire.specs.Objects.{list_object_tree, object_tree, struct_object_tree};
+ghost use Rattle.capnp_wire.specs.Place.{struct_tree};
+ghost use Rattle.capnp_wire.specs.Reading.{is_null_tree, list_length};
+ghost use Rattle.capnp_wire.specs.Tree.{Null};
+ghost use Rattle.capnp_wire.specs.WellFormed.{IsWellFormed};
+ghost use Rattle.capnp_schema.specs.Accepted.{NamesEntries};
+ghost use Rattle.capnp_schema.specs.Entries.{lists_seen};
+ghost use Rattle.capnp_schema.specs.Schema.{Schemas};
+ghost use Rattle.capnp_schema.specs.StructHandles.{IsStruct, generic_of, number_of, set_of};
+ghost use Rattle.capnp_schema.specs.Types.{ListType, SchemaType, StructType, seen_type};
+ghost use Rattle.capnp_records.specs.Writes.Slots.{Fits};
+ghost use Rattle.capnp_slots.specs.Fields.{IsRoomFor};
+ghost use Rattle.capnp_slots.specs.Groups.{IsGroupAt, KeepsSize};
+ghost use Rattle.capnp_call.specs.Lists.{ElementWalks, IsListStand, ListWalks, refusal_at_nothing};
+ghost use Rattle.capnp_call.specs.Memory.{PathRests};
+ghost use Rattle.capnp_call.specs.Seen.{step_seen};
+ghost use Rattle.capnp_call.specs.Walks.{FieldWalks, IsWalked, StructWalks};
+ghost use Rattle.capnp_call.specs.Ways.{IsListSlot, IsStructSlot, LeadsTo};
+
+use crate::calls::{Ending, Op, Reply, Step};
+use crate::end::end_at_struct;
+use crate::enter::{enter_group, enter_list, enter_struct};
+use crate::list_end::end_at_list;
+use crate::way::{Way, find_field, way_of};
+use capnp_base::introspect::{Type, TypeVariant};
+use capnp_schema::laws::numbers_fit;
+use capnp_schema::schema::{Field, StructSchema};
+use capnp_schema::set::SchemaSet;
+use capnp_slots::{element, part};
+use capnp_wire::error::ErrorKind;
+use capnp_wire::laws::objects_hold_no_fault;
+use capnp_wire::object::{ListObject, Object, StructObject};
+
+/// Walks a path from a struct or group, and does what a call does at its end. The schema is one of an accepted set; the struct
+/// has its sections and is well-formed.
+///
+/// A step is refused with `NotAContainer` where it names an element, then with `FieldNotFound` where there is no such field,
+/// then as `way::way_of`, and then as `enter::enter_struct` and `enter::enter_list`; at a list with `NotAContainer` where it
+/// names a field, then with `NoSuchElement` past the end, then with `UntypedStep` into an untyped element and with
+/// `NotAContainer` into another one that is no struct or list. The end is refused as `end::end_at_struct` and
+/// `list_end::end_at_list`. What the steps before a refusal filled stays. Where nothing has to be filled or extended behind a
+/// step and the operation takes no memory, nothing is refused with `OutOfMemory`.
+#[inline(always)]
+pub fn walk(
+    object: &mut StructObject,
+    schema: StructSchema<'_>,
+    path: &[Step<'_>],
+    end: Ending<'_>,
+) -> Reply
+    requires stands { IsStruct schema }
+    requires fits { Fits (set_of schema) (number_of schema) (struct_object_tree object.old) }
+    requires formed { IsWellFormed (struct_tree (struct_object_tree object.old)) }
+    ensures walks { StructWalks (set_of schema.entry) (number_of schema.entry) path.now end.entry (struct_object_tree object.old) result
+        (struct_object_tree object.new) }
+    ensures rests { PathRests schema.entry path.now end.entry (struct_object_tree object.old) → result ≢ Reply.Refused OutOfMemory }
+    ensures kept { KeepsSize (struct_object_tree object.old) (struct_object_tree object.new) }
+{
+    let mut reply = Reply::Done;
+    walk_from(object, schema, path, end, &mut reply);
+    reply
+}
+
+/// Walks a path and leaves the reply in its place: replies are large, and would be copied at each step.
+#[cycle(walk)]
+fn walk_from(
+    object: &mut StructObject,
+    schema: StructSchema<'_>,
+    path: &[Step<'_>],
+    end: Ending<'_>,
+    reply: &mut Reply,
+)
+    requires stands { IsStruct schema }
+    requires fits { Fits (set_of schema) (number_of schema) (struct_object_tree object.old) }
+    requires formed { IsWellFormed (struct_tree (struct_object_tree object.old)) }
+    ensures walks { StructWalks (set_of schema.entry) (number_of schema.entry) path.now end.entry (struct_object_tree object.old) reply.new
+        (struct_object_tree object.new) }
+    ensures rests { PathRests schema.entry path.now end.entry (struct_object_tree object.old) → reply.new ≢ Reply.Refused OutOfMemory }
+    ensures kept { KeepsSize (struct_object_tree object.old) (struct_object_tree object.new) }
+{
+    let Some((step, rest)) = path.split_first() else {
+        *reply = end_at_struct(object, schema, end);
+        return;
+    };
+    walk_step(object, schema, *step, rest, end, reply);
+}
+
+/// Goes on into the field that a step names.
+#[cycle(walk)]
+#[inline(always)]
+fn walk_step(
+    object: &mut StructObject,
+    schema: StructSchema<'_>,
+    step: Step<'_>,
+    rest: &[Step<'_>],
+    end: Ending<'_>,
+    reply: &mut Reply,
+)
+    requires stands { IsStruct schema }
+    requires fits { Fits (set_of schema) (number_of schema) (struct_object_tree object.old) }
+    requires formed { IsWellFormed (struct_tree (struct_object_tree object.old)) }
+    ensures walks { StructWalks (set_of schema.entry) (number_of schema.entry) (step.entry ∷ rest.now) end.entry (struct_object_tree object.old) reply.new
+        (struct_object_tree object.new) }
+    ensures kept { KeepsSize (struct_object_tree object.old) (struct_object_tree object.new) }
+{
+    match find_field(schema, step) {
+        Err(error) => *reply = Reply::Refused(error.kind),
+        Ok(field) => walk_field(object, field, &*rest, end, reply),
+    }
+}
+
+/// Goes on into a field, where the tests of a step pass.
+#[cycle(walk)]
+#[inline(always)]
+fn walk_field(
+    object: &mut StructObject,
+    field: Field<'_>,
+    rest: &[Step<'_>],
+    end: Ending<'_>,
+    reply: &mut Reply,
+)
+    requires room { IsRoomFor field (struct_object_tree object.old) }
+    requires formed { IsWellFormed (struct_tree (struct_object_tree object.old)) }
+    ensures walks { FieldWalks field.entry rest.now end.entry (struct_object_tree object.old) reply.new (struct_object_tree object.new) }
+    ensures kept { KeepsSize (struct_object_tree object.old) (struct_object_tree object.new) }
+{
+    match way_of(object, field) {
+        Err(error) => *reply = Reply::Refused(error.kind),
+        Ok(way) => walk_way(object, field, way, &*rest, end, reply),
+    }
+}
+
+/// Goes on along the way that a field leads.
+#[cycle(walk)]
+#[inline(always)]
+fn walk_way(
+    object: &mut StructObject,
+    field: Field<'_>,
+    way: Way<'_>,
+    rest: &[Step<'_>],
+    end: Ending<'_>,
+    reply: &mut Reply,
+)
+    requires leads { LeadsTo field way }
+    requires walked { IsWalked field (struct_object_tree object.old) }
+    requires room { IsRoomFor field (struct_object_tree object.old) }
+    requires formed { IsWellFormed (struct_tree (struct_object_tree object.old)) }
+    ensures walks { FieldWalks field.entry rest.now end.entry (struct_object_tree object.old) reply.new (struct_object_tree object.new) }
+    ensures kept { KeepsSize (struct_object_tree object.old) (struct_object_tree object.new) }
+{
+    match way {
+        Way::Group(group) => walk_group(object, field, group, &*rest, end, reply),
+        Way::Struct(schema) => walk_struct(object, field, schema, &*rest, end, reply),
+        Way::List(element) => walk_list_slot(object, field, element, &*rest, end, reply),
+    }
+}
+
+/// Goes on in a group.
+#[cycle(walk)]
+#[inline(always)]
+fn walk_group(
+    object: &mut StructObject,
+    field: Field<'_>,
+    group: StructSchema<'_>,
+    rest: &[Step<'_>],
+    end: Ending<'_>,
+    reply: &mut Reply,
+)
+    requires leads { IsGroupAt field group }
+    requires walked { IsWalked field (struct_object_tree object.old) }
+    requires room { IsRoomFor field (struct_object_tree object.old) }
+    requires formed { IsWellFormed (struct_tree (struct_object_tree object.old)) }
+    ensures walks { FieldWalks field.entry rest.now end.entry (struct_object_tree object.old) reply.new (struct_object_tree object.new) }
+    ensures kept { KeepsSize (struct_object_tree object.old) (struct_object_tree object.new) }
+{
+    enter_group(object, field);
+    walk_from(object, group, &*rest, end, reply)
+}
+
+/// Goes on in the struct behind a slot.
+#[cycle(walk)]
+#[inline(always)]
+fn walk_struct(
+    object: &mut StructObject,
+    field: Field<'_>,
+    schema: StructSchema<'_>,
+    rest: &[Step<'_>],
+    end: Ending<'_>,
+    reply: &mut Reply,
+)
+    requires leads { IsStructSlot field schema }
+    requires walked { IsWalked field (struct_object_tree object.old) }
+    requires room { IsRoomFor field (struct_object_tree object.old) }
+    requires formed { IsWellFormed (struct_tree (struct_object_tree object.old)) }
+    ensures walks { FieldWalks field.entry rest.now end.entry (struct_object_tree object.old) reply.new (struct_object_tree object.new) }
+    ensures kept { KeepsSize (struct_object_tree object.old) (struct_object_tree object.new) }
+{
+    if let Err(error) = enter_struct(object, field, schema) {
+        *reply = Reply::Refused(error.kind);
+        return;
+    }
+    let pointer = part::pointer(object, field);
+    walk_struct_here(pointer, schema, &*rest, end, reply)
+}
+
+/// Goes on in the struct that stands at a pointer.
+#[cycle(walk)]
+#[inline(always)]
+fn walk_struct_here(
+    pointer: &mut Object,
+    schema: StructSchema<'_>,
+    rest: &[Step<'_>],
+    end: Ending<'_>,
+    reply: &mut Reply,
+)
+    requires stands { IsStruct schema }
+    requires here { IsTrue (is_struct (object_tree pointer.old)) }
+    requires fits { Fits (set_of schema) (number_of schema) (struct_in (object_tree pointer.old)) }
+    requires formed { IsWellFormed (object_tree pointer.old) }
+    ensures walks { StructWalks (set_of schema.entry) (number_of schema.entry) rest.now end.entry (struct_in (object_tree pointer.old)) reply.new
+        (struct_in (object_tree pointer.new)) }
+    ensures here { object_tree pointer.new ≡ struct_tree (struct_in (object_tree pointer.new)) }
+    ensures formed { IsWellFormed (object_tree pointer.new) }
+{
+    let inner = pointer.struct_here();
+    walk_from(inner, schema, &*rest, end, reply)
+}
+
+/// Goes on in the list behind a slot.
+#[cycle(walk)]
+#[inline(always)]
+fn walk_list_slot(
+    object: &mut StructObject,
+    field: Field<'_>,
+    element: Type,
+    rest: &[Step<'_>],
+    end: Ending<'_>,
+    reply: &mut Reply,
+)
+    requires leads { IsListSlot field element }
+    requires walked { IsWalked field (struct_object_tree object.old) }
+    requires room { IsRoomFor field (struct_object_tree object.old) }
+    requires formed { IsWellFormed (struct_tree (struct_object_tree object.old)) }
+    ensures walks { FieldWalks field.entry rest.now end.entry (struct_object_tree object.old) reply.new (struct_object_tree object.new) }
+    ensures kept { KeepsSize (struct_object_tree object.old) (struct_object_tree object.new) }
+{
+    if let Err(error) = enter_list(object, field, element) {
+        *reply = Reply::Refused(error.kind);
+        return;
+    }
+    let set = field.get_containing_struct().get_set();
+    let pointer = part::pointer(object, field);
+    walk_list_here(pointer, set, element, &*rest, end, reply)
+}
+
+/// Goes on in the list that stands at a pointer, or in the list of nothing that a null is.
+#[cycle(walk)]
+#[inline(always)]
+fn walk_list_here(
+    pointer: &mut Object,
+    set: &SchemaSet,
+    element: Type,
+    path: &[Step<'_>],
+    end: Ending<'_>,
+    reply: &mut Reply,
+)
+    requires entries { NamesEntries (lists_seen set.now) (seen_type element) }
+    requires stands { IsListStand (lists_seen set.now) (seen_type element) (object_tree pointer.old) }
+    ensures walks { ListWalks (lists_seen set.now) (seen_type element) path.now end.entry (object_tree pointer.old) reply.new (object_tree pointer.new) }
+    ensures formed { IsWellFormed (object_tree pointer.new) }
+{
+    if pointer.is_list() {
+        let list = pointer.list_here();
+        walk_list(list, set, element, &*path, end, reply)
+    } else {
+        walk_nothing(path, end, reply)
+    }
+}
+
+/// What a step, or the end of a path, is refused with at a list without elements.
+fn refusal_at_nothing(step: Step<'_>) -> ErrorKind
+    ensures { result ≡ refusal_at_nothing (step_seen step.entry) }
+{
+    match step {
+        Step::Element(_) => ErrorKind::NoSuchElement,
+        Step::Field(_) => ErrorKind::NotAContainer,
+        Step::Named(_) => ErrorKind::NotAContainer,
+    }
+}
+
+/// Refuses what is left of a path at a null that no default filled: it has no elements.
+fn walk_nothing(path: &[Step<'_>], end: Ending<'_>, reply: &mut Reply)
+    ensures { (set : Schemas) (e : SchemaType) → ListWalks set e path.now end.entry Null reply.new Null }
+{
+    if let Some((step, _)) = path.split_first() {
+        *reply = Reply::Refused(refusal_at_nothing(*step));
+        return;
+    }
+    match end.call.op {
+        Op::Which => *reply = Reply::Refused(ErrorKind::NotAContainer),
+        _ => *reply = Reply::Refused(refusal_at_nothing(end.call.last)),
+    }
+}
+
+/// Goes on in a list.
+#[cycle(walk)]
+fn walk_list(
+    list: &mut ListObject,
+    set: &SchemaSet,
+    element: Type,
+    path: &[Step<'_>],
+    end: Ending<'_>,
+    reply: &mut Reply,
+)
+    requires entries { NamesEntries (lists_seen set.now) (seen_type element) }
+    requires stands { IsListStand (lists_seen set.now) (seen_type element) (list_object_tree list.old) }
+    requires there { is_null_tree (list_object_tree list.old) ≡ false }
+    ensures walks { ListWalks (lists_seen set.now) (seen_type element) path.now end.entry (list_object_tree list.old) reply.new (list_object_tree list.new) }
+    ensures formed { IsWellFormed (list_object_tree list.new) }
+{
+    let Some((step, rest)) = path.split_first() else {
+        *reply = end_at_list(list, set, element, end);
+        return;
+    };
+    match *step {
+        Step::Element(index) => walk_element(list, set, element, index, rest, end, reply),
+        Step::Field(_) => *reply = Reply::Refused(ErrorKind::NotAContainer),
+        Step::Named(_) => *reply = Reply::Refused(ErrorKind::NotAContainer),
+    }
+}
+
+/// Goes on in an element of a list, where there is one of that index.
+#[cycle(walk)]
+#[inline(always)]
+fn walk_element(
+    list: &mut ListObject,
+    set: &SchemaSet,
+    element: Type,
+    index: u32,
+    rest: &[Step<'_>],
+    end: Ending<'_>,
+    reply: &mut Reply,
+)
+    requires entries { NamesEntries (lists_seen set.now) (seen_type element) }
+    requires stands { IsListStand (lists_seen set.now) (seen_type element) (list_object_tree list.old) }
+    requires there { is_null_tree (list_object_tree list.old) ≡ false }
+    ensures walks { ListWalks (lists_seen set.now) (seen_type element) (Step.Element index ∷ rest.now) end.entry (list_object_tree list.old) reply.new
+        (list_object_tree list.new) }
+    ensures formed { IsWellFormed (list_object_tree list.new) }
+{
+    if index >= list.len() {
+        *reply = Reply::Refused(ErrorKind::NoSuchElement);
+        return;
+    }
+    walk_part(list, set, element, index, &*rest, end, reply)
+}
+
+/// Goes on in an element of a list, by its type.
+#[cycle(walk)]
+#[inline(always)]
+fn walk_part(
+    list: &mut ListObject,
+    set: &SchemaSet,
+    element: Type,
+    index: u32,
+    rest: &[Step<'_>],
+    end: Ending<'_>,
+    reply: &mut Reply,
+)
+    requires entries { NamesEntries (lists_seen set.now) (seen_type element) }
+    requires stands { IsListStand (lists_seen set.now) (seen_type element) (list_object_tree list.old) }
+    requires inside { index < list_length (list_object_tree list.old) }
+    ensures walks { ElementWalks (lists_seen set.now) (seen_type element) index rest.now end.entry (list_object_tree list.old) reply.new
+        (list_object_tree list.new) }
+    ensures formed { IsWellFormed (list_object_tree list.new) }
+{
+    match element.which() {
+        TypeVariant::Struct(raw) => {
+            let schema = set.struct_schema(raw.number);
+            walk_struct_in(list, schema, index, &*rest, end, reply)
+        }
+        TypeVariant::List(inner) => walk_list_in(list, set, inner, index, &*rest, end, reply),
+        TypeVariant::AnyPointer => *reply = Reply::Refused(ErrorKind::UntypedStep),
+        _ => *reply = Reply::Refused(ErrorKind::NotAContainer),
+    }
+}
+
+/// Goes on in a struct of a list of structs.
+#[cycle(walk)]
+#[inline(always)]
+fn walk_struct_in(
+    list: &mut ListObject,
+    schema: StructSchema<'_>,
+    index: u32,
+    rest: &[Step<'_>],
+    end: Ending<'_>,
+    reply: &mut Reply,
+)
+    requires struct_stands { IsStruct schema }
+    requires stands { IsListStand (set_of schema) (StructType (number_of schema) (generic_of schema)) (list_object_tree list.old) }
+    requires inside { index < list_length (list_object_tree list.old) }
+    ensures walks { ElementWalks (set_of schema.entry) (StructType (number_of schema.entry) (generic_of schema.entry)) index rest.now end.entry
+        (list_object_tree list.old) reply.new (list_object_tree list.new) }
+    ensures formed { IsWellFormed (list_object_tree list.new) }
+{
+    let inner = list.get_struct_element(index);
+    walk_from(inner, schema, &*rest, end, reply)
+}
+
+/// Goes on in a list of a list of lists.
+#[cycle(walk)]
+fn walk_list_in(
+    list: &mut ListObject,
+    set: &SchemaSet,
+    inner: Type,
+    index: u32,
+    rest: &[Step<'_>],
+    end: Ending<'_>,
+    reply: &mut Reply,
+)
+    requires entries { NamesEntries (lists_seen set.now) (seen_type inner) }
+    requires stands { IsListStand (lists_seen set.now) (ListType (seen_type inner)) (list_object_tree list.old) }
+    requires inside { index < list_length (list_object_tree list.old) }
+    ensures walks { ElementWalks (lists_seen set.now) (ListType (seen_type inner)) index rest.now end.entry (list_object_tree list.old) reply.new
+        (list_object_tree list.new) }
+    ensures formed { IsWellFormed (list_object_tree list.new) }
+{
+    objects_hold_no_fault();
+    numbers_fit(set);
+    let pointer = list.get_pointer_element(index);
+    if let Err(error) = element::fill_list(pointer, set, inner) {
+        *reply = Reply::Refused(error.kind);
+        return;
+    }
+    walk_list_here(pointer, set, inner, &*rest, end, reply)
+}
