@@ -1,9 +1,10 @@
 //! One level of what the bytes of a message say.
 ghost use Rattle.std.specs.Prelude.{◌≡◌, ◌-◌, ◌<◌, ◌≤◌, ◌^◌};
-ghost use Rattle.capnp_wire.specs.Place.{bytes_at, struct_at, tree_below};
+ghost use Rattle.capnp_wire.specs.Place.{bytes_at, tree_below};
+ghost use Rattle.capnp_wire.specs.Locate.{BadTarget, CompositeAt, ListAt, StructAt};
 ghost use Rattle.capnp_wire.specs.Level.{list_at_depth, tree_at_depth};
 ghost use Rattle.capnp_wire.specs.Backing.{StartFits, segment_list, target_of};
-ghost use Rattle.capnp_wire.specs.Found.{found_tree, parts_tree};
+ghost use Rattle.capnp_wire.specs.Found.{found_tree};
 
 use crate::block::Elements;
 use crate::bytes::part;
@@ -24,38 +25,42 @@ pub fn bytes_from(segment: &[u8], start: usize, count: usize) -> &[u8]
     part(segment, 8 * start, count)
 }
 
-/// A struct with a level left for it.
+/// A struct, of which a level may be left or not.
 #[inline(always)]
 fn look_at_struct<'a>(
     segments: Segments<'a>,
     segment: &'a [u8],
     start: usize,
-    size: StructSize,
+    data_words: u16,
+    pointers: u16,
     depth: u8,
-) -> StructParts<'a>
-    requires start { start ≤ 2 ^ 60 }
-    requires level { 0 < depth }
-    ensures { parts_tree result ≡
-        struct_at (tree_below (depth - 1) (segment_list segments.entry) segment.now) segment.now size.data_words size.pointers start }
+) -> Found<'a>
+    requires { start ≤ 2 ^ 60 }
+    ensures { found_tree result ≡
+        tree_at_depth depth (tree_below (depth - 1) (segment_list segments.entry))
+        (tree_below (depth - 2) (segment_list segments.entry)) (StructAt segment.now start data_words pointers) }
 {
+    if depth < 2 {
+        return Found::Bad(Fault::TooDeep);
+    }
     let row = PointerRow {
         bytes: segments.bytes,
         segment,
-        first: start + size.data_words as usize,
+        first: start + data_words as usize,
     };
-    StructParts {
-        data: bytes_from(segment, start, 8 * size.data_words as usize),
+    Found::Struct(StructParts {
+        data: bytes_from(segment, start, 8 * data_words as usize),
         pointers: Pointers::Words {
             depth: depth - 1,
             is_stream: segments.is_stream,
-            count: size.pointers as u32,
+            count: pointers as u32,
             row,
         },
-    }
+    })
 }
 
 /// A list that is neither of bytes nor composite, with a level left for it.
-fn look_at_list<'a>(
+fn look_at_elements<'a>(
     segments: Segments<'a>,
     segment: &'a [u8],
     start: usize,
@@ -95,6 +100,83 @@ fn look_at_list<'a>(
     }
 }
 
+/// A list that is not composite.
+#[inline(always)]
+fn look_at_list<'a>(
+    segments: Segments<'a>,
+    segment: &'a [u8],
+    start: usize,
+    element_size: u8,
+    count: u32,
+    depth: u8,
+) -> Found<'a>
+    requires { start ≤ 2 ^ 60 }
+    ensures { found_tree result ≡
+        tree_at_depth depth (tree_below (depth - 1) (segment_list segments.entry))
+        (tree_below (depth - 2) (segment_list segments.entry)) (ListAt segment.now start element_size count) }
+{
+    if depth == 0 {
+        Found::Bad(Fault::TooDeep)
+    } else if element_size == 2 {
+        Found::Numbers(1, bytes_from(segment, start, count as usize))
+    } else if depth == 1 {
+        Found::Bad(Fault::TooDeep)
+    } else {
+        look_at_elements(segments, segment, start, element_size, count, depth)
+    }
+}
+
+/// A composite list, whose structs are of `data_words` and `pointers`.
+#[inline(always)]
+fn look_at_composite<'a>(
+    segments: Segments<'a>,
+    segment: &'a [u8],
+    start: usize,
+    count: u32,
+    data_words: u16,
+    pointers: u16,
+    depth: u8,
+) -> Found<'a>
+    requires { start ≤ 2 ^ 60 }
+    ensures { found_tree result ≡
+        tree_at_depth depth (tree_below (depth - 1) (segment_list segments.entry))
+        (tree_below (depth - 2) (segment_list segments.entry)) (CompositeAt segment.now start count data_words pointers) }
+{
+    if depth < 2 {
+        return Found::Bad(Fault::TooDeep);
+    }
+    let size = StructSize {
+        data_words,
+        pointers,
+    };
+    let block = Block {
+        bytes: segments.bytes,
+        segment,
+        first: start,
+    };
+    let elements = Elements::Words {
+        depth: depth - 2,
+        is_stream: segments.is_stream,
+        count,
+        block,
+    };
+    Found::Composite(size, elements)
+}
+
+/// What a pointer that can't be followed is read as.
+#[inline(always)]
+fn look_at_fault<'a>(segments: Segments<'a>, fault: Fault, depth: u8) -> Found<'a>
+    ensures { found_tree result ≡
+        tree_at_depth depth (tree_below (depth - 1) (segment_list segments.entry))
+        (tree_below (depth - 2) (segment_list segments.entry)) (BadTarget fault) }
+{
+    if depth == 0 {
+        Found::Bad(Fault::TooDeep)
+    } else {
+        Found::Bad(fault)
+    }
+}
+
 /// One level of a target, whose tree has one level less than `depth`.
 #[inline(always)]
 fn look_at_target<'a>(segments: Segments<'a>, target: Target<'a>, depth: u8) -> Found<'a>
@@ -105,74 +187,26 @@ fn look_at_target<'a>(segments: Segments<'a>, target: Target<'a>, depth: u8) -> 
 {
     match target {
         Target::Null => Found::Null,
-        Target::Bad(fault) => {
-            if depth == 0 {
-                Found::Bad(Fault::TooDeep)
-            } else {
-                Found::Bad(fault)
-            }
-        }
+        Target::Bad(fault) => look_at_fault(segments, fault, depth),
         Target::Struct {
             segment,
             start,
             data_words,
             pointers,
-        } => {
-            if depth < 2 {
-                return Found::Bad(Fault::TooDeep);
-            }
-            let size = StructSize {
-                data_words,
-                pointers,
-            };
-            Found::Struct(look_at_struct(segments, segment, start, size, depth))
-        }
+        } => look_at_struct(segments, segment, start, data_words, pointers, depth),
         Target::List {
             segment,
             start,
             element_size,
             count,
-        } => {
-            if depth == 0 {
-                return Found::Bad(Fault::TooDeep);
-            }
-            if element_size == 2 {
-                return Found::Numbers(1, bytes_from(segment, start, count as usize));
-            }
-            if depth == 1 {
-                return Found::Bad(Fault::TooDeep);
-            }
-            look_at_list(segments, segment, start, element_size, count, depth)
-        }
+        } => look_at_list(segments, segment, start, element_size, count, depth),
         Target::Composite {
             segment,
             start,
             count,
             data_words,
             pointers,
-        } => {
-            if depth < 2 {
-                return Found::Bad(Fault::TooDeep);
-            }
-            let size = StructSize {
-                data_words,
-                pointers,
-            };
-            let block = Block {
-                bytes: segments.bytes,
-                segment,
-                first: start,
-            };
-            Found::Composite(
-                size,
-                Elements::Words {
-                    depth: depth - 2,
-                    is_stream: segments.is_stream,
-                    count,
-                    block,
-                },
-            )
-        }
+        } => look_at_composite(segments, segment, start, count, data_words, pointers, depth),
     }
 }
 

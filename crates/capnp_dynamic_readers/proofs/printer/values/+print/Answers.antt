@@ -1,5 +1,5 @@
 use Rattle.std.specs.Prelude.{◌++◌, Bool}
-use Rattle.std.proofs.Common.{◌≡◌, ℕ, ◌+◌, ◌-◌, ◌∙◌, ap, sym, subst, arith, true, false, Ok, Err, List, length}
+use Rattle.std.proofs.Common.{◌≡◌, ℕ, ◌∙◌, ap, sym, subst, arith, true, false, Ok, Err, List, length}
 use Rattle.capnp_schema.specs.FieldLists.{IsFieldOf, index_of}
 use Rattle.capnp_schema.specs.Schema.{is_member}
 use Rattle.capnp_schema.specs.StructHandles.{struct_fields}
