@@ -3,42 +3,110 @@
 use crate::script::{pairs_hold, rows_hold};
 
 /// The struct 2, which defaults are of, and the enum.
-const OTHERS: &str = "1 0: n u16 0 | enum red blue";
+const OTHERS: &str = "struct 1 0, n UInt16 @0; enum red blue";
 
 /// A field with a default, and with the default that it has now.
 static TYPE_ROWS: [(&str, &str, bool); 20] = [
-    ("1 2: f bool 0 = true", "1 2: f bool 0 = true", true),
-    ("1 2: f bool 0 = true", "1 2: f bool 0 = false", false),
-    ("1 2: f i8 0 = -1", "1 2: f i8 0 = -1", true),
-    ("1 2: f i8 0 = -1", "1 2: f i8 0 = 1", false),
-    ("1 2: f u64 0 = 7", "1 2: f u64 0 = 8", false),
-    ("1 2: f enum#0 0 = 1", "1 2: f enum#0 0 = 1", true),
-    ("1 2: f enum#0 0 = 1", "1 2: f enum#0 0 = 0", false),
-    ("1 2: f text 0 = ab", "1 2: f text 0 = ab", true),
-    ("1 2: f text 0 = ab", "1 2: f text 0 = ac", false),
-    ("1 2: f text 0", "1 2: f text 0 = untyped", false),
-    ("1 2: f data 0 = ab", "1 2: f data 0 = a", false),
     (
-        "1 2: f struct#2 0 = three",
-        "1 2: f struct#2 0 = three_apart",
+        "struct 1 2, f Bool @0 =Bool(true)",
+        "struct 1 2, f Bool @0 =Bool(true)",
         true,
     ),
     (
-        "1 2: f struct#2 0 = three",
-        "1 2: f struct#2 0 = four",
+        "struct 1 2, f Bool @0 =Bool(true)",
+        "struct 1 2, f Bool @0 =Bool(false)",
         false,
     ),
-    ("1 2: f struct#2 0 = three", "1 2: f struct#2 0", false),
-    ("1 2: f struct#2 0", "1 2: f struct#2 0 = null_apart", true),
-    ("1 2: f struct#2 0", "1 2: f struct#2 0 = untyped", false),
-    ("1 2: f u8*1 0 = bytes", "1 2: f u8*1 0 = bytes_apart", true),
-    ("1 2: f u8*1 0 = bytes", "1 2: f u8*1 0 = byte", false),
     (
-        "1 2: f u8*1 0 = untyped",
-        "1 2: f u8*1 0 = untyped null_apart",
+        "struct 1 2, f Int8 @0 =Int8(-1)",
+        "struct 1 2, f Int8 @0 =Int8(-1)",
         true,
     ),
-    ("1 2: f u8*1 0 = untyped", "1 2: f u8*1 0", false),
+    (
+        "struct 1 2, f Int8 @0 =Int8(-1)",
+        "struct 1 2, f Int8 @0 =Int8(1)",
+        false,
+    ),
+    (
+        "struct 1 2, f UInt64 @0 =UInt64(7)",
+        "struct 1 2, f UInt64 @0 =UInt64(8)",
+        false,
+    ),
+    (
+        "struct 1 2, f Enum(0) @0 =Enum(1)",
+        "struct 1 2, f Enum(0) @0 =Enum(1)",
+        true,
+    ),
+    (
+        "struct 1 2, f Enum(0) @0 =Enum(1)",
+        "struct 1 2, f Enum(0) @0 =Enum(0)",
+        false,
+    ),
+    (
+        "struct 1 2, f Text @0 =Text(ab)",
+        "struct 1 2, f Text @0 =Text(ab)",
+        true,
+    ),
+    (
+        "struct 1 2, f Text @0 =Text(ab)",
+        "struct 1 2, f Text @0 =Text(ac)",
+        false,
+    ),
+    (
+        "struct 1 2, f Text @0",
+        "struct 1 2, f Text @0 =AnyPointer(null)",
+        false,
+    ),
+    (
+        "struct 1 2, f Data @0 =Data(ab)",
+        "struct 1 2, f Data @0 =Data(a)",
+        false,
+    ),
+    (
+        "struct 1 2, f Struct(2) @0 =Struct(struct_3)",
+        "struct 1 2, f Struct(2) @0 =Struct(struct_3_apart)",
+        true,
+    ),
+    (
+        "struct 1 2, f Struct(2) @0 =Struct(struct_3)",
+        "struct 1 2, f Struct(2) @0 =Struct(struct_4)",
+        false,
+    ),
+    (
+        "struct 1 2, f Struct(2) @0 =Struct(struct_3)",
+        "struct 1 2, f Struct(2) @0",
+        false,
+    ),
+    (
+        "struct 1 2, f Struct(2) @0",
+        "struct 1 2, f Struct(2) @0 =Struct(null_and_one)",
+        true,
+    ),
+    (
+        "struct 1 2, f Struct(2) @0",
+        "struct 1 2, f Struct(2) @0 =AnyPointer(null)",
+        false,
+    ),
+    (
+        "struct 1 2, f List(UInt8) @0 =List(bytes_5_6)",
+        "struct 1 2, f List(UInt8) @0 =List(bytes_5_6_apart)",
+        true,
+    ),
+    (
+        "struct 1 2, f List(UInt8) @0 =List(bytes_5_6)",
+        "struct 1 2, f List(UInt8) @0 =List(byte_5)",
+        false,
+    ),
+    (
+        "struct 1 2, f List(UInt8) @0 =AnyPointer(null)",
+        "struct 1 2, f List(UInt8) @0 =AnyPointer(null_and_one)",
+        true,
+    ),
+    (
+        "struct 1 2, f List(UInt8) @0 =AnyPointer(null)",
+        "struct 1 2, f List(UInt8) @0",
+        false,
+    ),
 ];
 
 #[test]
@@ -52,46 +120,60 @@ const EACH_AND_BOTH: &str = "follows 0 1; follows 2 3; follows 0 2; follows 2 0"
 /// Of each kind of integer two numbers that differ in one bit, the highest or the lowest.
 static INTEGER_ROWS: [(&str, &str, &str); 9] = [
     (
-        "1 2: f i8 0 = 1 | 1 2: f i8 0 = 1 | 1 2: f i8 0 = -127 | 1 2: f i8 0 = -127",
+        "struct 1 2, f Int8 @0 =Int8(1); struct 1 2, f Int8 @0 =Int8(1); \
+        struct 1 2, f Int8 @0 =Int8(-127); struct 1 2, f Int8 @0 =Int8(-127)",
         EACH_AND_BOTH,
         "true; true; false; false",
     ),
     (
-        "1 2: f i16 0 = 1 | 1 2: f i16 0 = 1 | 1 2: f i16 0 = -32767 | 1 2: f i16 0 = -32767",
+        "struct 1 2, f Int16 @0 =Int16(1); struct 1 2, f Int16 @0 =Int16(1); \
+        struct 1 2, f Int16 @0 =Int16(-32767); struct 1 2, f Int16 @0 =Int16(-32767)",
         EACH_AND_BOTH,
         "true; true; false; false",
     ),
     (
-        "1 2: f i32 0 = 1 | 1 2: f i32 0 = 1 | 1 2: f i32 0 = -2147483647 | 1 2: f i32 0 = -2147483647",
+        "struct 1 2, f Int32 @0 =Int32(1); struct 1 2, f Int32 @0 =Int32(1); \
+        struct 1 2, f Int32 @0 =Int32(-2147483647); struct 1 2, f Int32 @0 =Int32(-2147483647)",
         EACH_AND_BOTH,
         "true; true; false; false",
     ),
     (
-        "1 2: f i64 0 = 1 | 1 2: f i64 0 = 1 | 1 2: f i64 0 = -9223372036854775807 | 1 2: f i64 0 = -9223372036854775807",
+        "struct 1 2, f Int64 @0 =Int64(1); struct 1 2, f Int64 @0 =Int64(1); \
+        struct 1 2, f Int64 @0 =Int64(-9223372036854775807); \
+        struct 1 2, f Int64 @0 =Int64(-9223372036854775807)",
         EACH_AND_BOTH,
         "true; true; false; false",
     ),
     (
-        "1 2: f u8 0 = 255 | 1 2: f u8 0 = 255 | 1 2: f u8 0 = 254 | 1 2: f u8 0 = 254",
+        "struct 1 2, f UInt8 @0 =UInt8(255); struct 1 2, f UInt8 @0 =UInt8(255); \
+        struct 1 2, f UInt8 @0 =UInt8(254); struct 1 2, f UInt8 @0 =UInt8(254)",
         EACH_AND_BOTH,
         "true; true; false; false",
     ),
     (
-        "1 2: f u16 0 = 65535 | 1 2: f u16 0 = 65535 | 1 2: f u16 0 = 65534 | 1 2: f u16 0 = 65534",
+        "struct 1 2, f UInt16 @0 =UInt16(65535); struct 1 2, f UInt16 @0 =UInt16(65535); \
+        struct 1 2, f UInt16 @0 =UInt16(65534); struct 1 2, f UInt16 @0 =UInt16(65534)",
         EACH_AND_BOTH,
         "true; true; false; false",
     ),
     (
-        "1 2: f u32 0 = 0 | 1 2: f u32 0 = 0 | 1 2: f u32 0 = 2147483648 | 1 2: f u32 0 = 2147483648",
+        "struct 1 2, f UInt32 @0 =UInt32(0); struct 1 2, f UInt32 @0 =UInt32(0); \
+        struct 1 2, f UInt32 @0 =UInt32(2147483648); struct 1 2, f UInt32 @0 =UInt32(2147483648)",
         EACH_AND_BOTH,
         "true; true; false; false",
     ),
     (
-        "1 2: f u64 0 = 0 | 1 2: f u64 0 = 0 | 1 2: f u64 0 = 9223372036854775808 | 1 2: f u64 0 = 9223372036854775808",
+        "struct 1 2, f UInt64 @0 =UInt64(0); struct 1 2, f UInt64 @0 =UInt64(0); \
+        struct 1 2, f UInt64 @0 =UInt64(9223372036854775808); \
+        struct 1 2, f UInt64 @0 =UInt64(9223372036854775808)",
         EACH_AND_BOTH,
         "true; true; false; false",
     ),
-    ("1 2: f void 0 | 1 2: f void 0", "follows 0 1", "true"),
+    (
+        "struct 1 2, f Void @0; struct 1 2, f Void @0",
+        "follows 0 1",
+        "true",
+    ),
 ];
 
 #[test]
@@ -102,53 +184,53 @@ fn defaults_that_are_integers(rt: HostRuntime) {
 /// Defaults that have pointers of their own.
 static PART_ROWS: [(&str, &str, bool); 10] = [
     (
-        "1 2: f struct#2 0 = nested",
-        "1 2: f struct#2 0 = nested",
+        "struct 1 2, f Struct(2) @0 =Struct(nested_3)",
+        "struct 1 2, f Struct(2) @0 =Struct(nested_3)",
         true,
     ),
     (
-        "1 2: f struct#2 0 = nested",
-        "1 2: f struct#2 0 = nested_four",
+        "struct 1 2, f Struct(2) @0 =Struct(nested_3)",
+        "struct 1 2, f Struct(2) @0 =Struct(nested_4)",
         false,
     ),
     (
-        "1 2: f struct#2 0 = nested",
-        "1 2: f struct#2 0 = nested_null",
+        "struct 1 2, f Struct(2) @0 =Struct(nested_3)",
+        "struct 1 2, f Struct(2) @0 =Struct(nested_null)",
         false,
     ),
     (
-        "1 2: f struct#2 0 = nested_null",
-        "1 2: f struct#2 0 = nested_null",
+        "struct 1 2, f Struct(2) @0 =Struct(nested_null)",
+        "struct 1 2, f Struct(2) @0 =Struct(nested_null)",
         true,
     ),
     (
-        "1 2: f struct#2 0 = shared",
-        "1 2: f struct#2 0 = shared",
+        "struct 1 2, f Struct(2) @0 =Struct(shared_3)",
+        "struct 1 2, f Struct(2) @0 =Struct(shared_3)",
         true,
     ),
     (
-        "1 2: f struct#2 0 = shared",
-        "1 2: f struct#2 0 = copies",
+        "struct 1 2, f Struct(2) @0 =Struct(shared_3)",
+        "struct 1 2, f Struct(2) @0 =Struct(copies_3)",
         true,
     ),
     (
-        "1 2: f struct#2 0 = copies",
-        "1 2: f struct#2 0 = shared",
+        "struct 1 2, f Struct(2) @0 =Struct(copies_3)",
+        "struct 1 2, f Struct(2) @0 =Struct(shared_3)",
         true,
     ),
     (
-        "1 2: f struct#2 0 = shared",
-        "1 2: f struct#2 0 = copies_four",
+        "struct 1 2, f Struct(2) @0 =Struct(shared_3)",
+        "struct 1 2, f Struct(2) @0 =Struct(copies_3_4)",
         false,
     ),
     (
-        "1 2: f struct#2 0 = copies",
-        "1 2: f struct#2 0 = copies_four",
+        "struct 1 2, f Struct(2) @0 =Struct(copies_3)",
+        "struct 1 2, f Struct(2) @0 =Struct(copies_3_4)",
         false,
     ),
     (
-        "1 2: f struct#2 0 = shared",
-        "1 2: f struct#2 0 = nested",
+        "struct 1 2, f Struct(2) @0 =Struct(shared_3)",
+        "struct 1 2, f Struct(2) @0 =Struct(nested_3)",
         false,
     ),
 ];

@@ -6,7 +6,8 @@ use crate::script::rows_hold;
 /// The built-in set and, as struct 9, its struct 1, `Mixed`, with a union that has grown and a plain field more. Struct 0,
 /// `Flat`, has the first field alone.
 pub const GROWN: &str =
-    "built-in | 1 2 union 3 1: a u16 0; x void 0 member 0; y u8 4 member 1; b text 0; c u16 3; v text 1 member 2";
+    "built-in; struct 1 2 union 3 1, a UInt16 @0, x Void @0 #0, y UInt8 @4 #1, b Text @0, \
+    c UInt16 @3, v Text @1 #2";
 
 static SUCCESSOR_ROWS: [(&str, &str, &str); 3] = [
     (
@@ -68,27 +69,32 @@ fn a_member_that_was_added_is_unknown(rt: HostRuntime) {
 /// The grown struct with one other field.
 static FIELD_ROWS: [(&str, &str, &str); 5] = [
     (
-        "built-in | 1 2 union 3 1: a u16 0; x void 0 member 0; y u8 4 member 1; b text 0; c u16 3; v text 1 member 2",
+        "built-in; struct 1 2 union 3 1, a UInt16 @0, x Void @0 #0, y UInt8 @4 #1, b Text @0, \
+        c UInt16 @3, v Text @1 #2",
         "follows 1 9",
         "true",
     ),
     (
-        "built-in | 1 2 union 3 1: z u16 0; x void 0 member 0; y u8 4 member 1; b text 0; c u16 3; v text 1 member 2",
+        "built-in; struct 1 2 union 3 1, z UInt16 @0, x Void @0 #0, y UInt8 @4 #1, b Text @0, \
+        c UInt16 @3, v Text @1 #2",
         "follows 1 9",
         "true",
     ),
     (
-        "built-in | 1 2 union 3 1: a u16 0 = 1; x void 0 member 0; y u8 4 member 1; b text 0; c u16 3; v text 1 member 2",
+        "built-in; struct 1 2 union 3 1, a UInt16 @0 =UInt16(1), x Void @0 #0, y UInt8 @4 #1, \
+        b Text @0, c UInt16 @3, v Text @1 #2",
         "follows 1 9",
         "false",
     ),
     (
-        "built-in | 1 2 union 3 1: a u16 0; x void 0 member 0; y u8 5 member 1; b text 0; c u16 3; v text 1 member 2",
+        "built-in; struct 1 2 union 3 1, a UInt16 @0, x Void @0 #0, y UInt8 @5 #1, b Text @0, \
+        c UInt16 @3, v Text @1 #2",
         "follows 1 9",
         "false",
     ),
     (
-        "built-in | 1 2 union 3 1: a u16 0; x void 0 member 0; y u8 4 member 1; b data 0; c u16 3; v text 1 member 2",
+        "built-in; struct 1 2 union 3 1, a UInt16 @0, x Void @0 #0, y UInt8 @4 #1, b Data @0, \
+        c UInt16 @3, v Text @1 #2",
         "follows 1 9",
         "false",
     ),
@@ -102,22 +108,26 @@ fn one_change_of_a_field(rt: HostRuntime) {
 /// The grown struct with a data word more, and with another union.
 static UNION_ROWS: [(&str, &str, &str); 4] = [
     (
-        "built-in | 2 2 union 3 1: a u16 0; x void 0 member 0; y u8 4 member 1; b text 0; c u16 3; v text 1 member 2",
+        "built-in; struct 2 2 union 3 1, a UInt16 @0, x Void @0 #0, y UInt8 @4 #1, b Text @0, \
+        c UInt16 @3, v Text @1 #2",
         "follows 1 9",
         "true",
     ),
     (
-        "built-in | 2 2 union 3 4: a u16 0; x void 0 member 0; y u8 4 member 1; b text 0; c u16 3; v text 1 member 2",
+        "built-in; struct 2 2 union 3 4, a UInt16 @0, x Void @0 #0, y UInt8 @4 #1, b Text @0, \
+        c UInt16 @3, v Text @1 #2",
         "follows 1 9",
         "false",
     ),
     (
-        "built-in | 2 2 union 3 1: a u16 0; y u8 4 member 1; x void 0 member 0; b text 0; c u16 3; v text 1 member 2",
+        "built-in; struct 2 2 union 3 1, a UInt16 @0, y UInt8 @4 #1, x Void @0 #0, b Text @0, \
+        c UInt16 @3, v Text @1 #2",
         "follows 1 9",
         "false",
     ),
     (
-        "built-in | 2 2 union 3 1: a u16 0; x void 0 member 1; y u8 4 member 0; b text 0; c u16 3; v text 1 member 2",
+        "built-in; struct 2 2 union 3 1, a UInt16 @0, x Void @0 #1, y UInt8 @4 #0, b Text @0, \
+        c UInt16 @3, v Text @1 #2",
         "follows 1 9",
         "false",
     ),

@@ -11,8 +11,6 @@ mod memory_tests;
 #[cfg(test)]
 mod messages;
 #[cfg(test)]
-mod schemas;
-#[cfg(test)]
 mod script;
 #[cfg(test)]
 mod shape_tests;

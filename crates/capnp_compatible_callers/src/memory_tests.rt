@@ -3,7 +3,6 @@
 use crate::brands::{between, is_successor};
 use crate::evolution_tests::GROWN;
 use crate::messages::root_of;
-use crate::schemas::set_of;
 use capnp_base::introspect::TypeVariant;
 use capnp_dynamic::dynamic_struct;
 use capnp_dynamic::dynamic_value::Reader as Value;
@@ -11,6 +10,7 @@ use capnp_schema::set::SchemaSet;
 use capnp_schema_fixtures::fixtures::{
     FieldOf, StructOf, add_struct, list_type, one_word, records_of, slot, struct_type, typed_slot,
 };
+use capnp_schema_fixtures::set_text::read_set;
 use capnp_wire::error::{ErrorKind, Result};
 use std::alloc::Global;
 use std::test::Fail;
@@ -33,7 +33,7 @@ fn number(reader: dynamic_struct::Reader<'_>, name: &str) -> Result<Option<u16>>
 // refused for memory alone, and once there is a pair both reads succeed.
 #[test]
 fn narrow_and_widen_take_no_memory(rt: HostRuntime) -> std::result::Result<(), Fail> {
-    let made = set_of(rt.alloc(), &[GROWN]);
+    let made = read_set(rt.alloc(), GROWN);
     let Ok(set) = made else {
         assert!(rt; made.is_err_and(|error| error.kind == ErrorKind::OutOfMemory));
         return Ok(());

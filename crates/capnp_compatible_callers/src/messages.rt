@@ -1,7 +1,6 @@
-//! What scripts and schemas name: messages, and the words of defaults.
+//! The messages that scripts name.
 
-use capnp_schema_fixtures::fixtures::NULL;
-use capnp_schema_fixtures::messages::{bytes_named, message_named};
+use capnp_schema_fixtures::messages::message_named;
 use capnp_wire::error::Result;
 use capnp_wire::{StructReader, message};
 use std::alloc::Global;
@@ -97,86 +96,6 @@ static MESSAGES: [(&str, &[u8]); 8] = [
         ],
     ),
 ];
-
-/// The words of defaults: a pointer, and what stands behind it.
-static WORDS: [(&str, &[u8]); 13] = [
-    // a struct of one data word, which is 3
-    ("three", &[0, 0, 0, 0, 1, 0, 0, 0, 3, 0, 0, 0, 0, 0, 0, 0]),
-    // the same struct a word further on, with a word after it
-    (
-        "three_apart",
-        &[
-            4, 0, 0, 0, 1, 0, 0, 0, 255, 255, 255, 255, 255, 255, 255, 255, 3, 0, 0, 0, 0, 0, 0, 0,
-            7, 0, 0, 0, 0, 0, 0, 0,
-        ],
-    ),
-    // a struct of one data word, which is 4
-    ("four", &[0, 0, 0, 0, 1, 0, 0, 0, 4, 0, 0, 0, 0, 0, 0, 0]),
-    // a list of the bytes 5 and 6
-    ("bytes", &[1, 0, 0, 0, 18, 0, 0, 0, 5, 6, 0, 0, 0, 0, 0, 0]),
-    // the same list, with bits after its last byte, a word further on
-    (
-        "bytes_apart",
-        &[
-            5, 0, 0, 0, 18, 0, 0, 0, 9, 9, 9, 9, 9, 9, 9, 9, 5, 6, 0, 0, 0, 0, 0, 0,
-        ],
-    ),
-    // a list of the byte 5
-    ("byte", &[1, 0, 0, 0, 10, 0, 0, 0, 5, 0, 0, 0, 0, 0, 0, 0]),
-    // a null pointer, with a word after it
-    (
-        "null_apart",
-        &[0, 0, 0, 0, 0, 0, 0, 0, 1, 0, 0, 0, 0, 0, 0, 0],
-    ),
-    // a struct of a pointer to a struct of one word, which is 3
-    (
-        "nested",
-        &[
-            0, 0, 0, 0, 0, 0, 1, 0, 0, 0, 0, 0, 1, 0, 0, 0, 3, 0, 0, 0, 0, 0, 0, 0,
-        ],
-    ),
-    // the same, where the inner struct is 4
-    (
-        "nested_four",
-        &[
-            0, 0, 0, 0, 0, 0, 1, 0, 0, 0, 0, 0, 1, 0, 0, 0, 4, 0, 0, 0, 0, 0, 0, 0,
-        ],
-    ),
-    // the same, where the inner pointer is null
-    (
-        "nested_null",
-        &[0, 0, 0, 0, 0, 0, 1, 0, 0, 0, 0, 0, 0, 0, 0, 0],
-    ),
-    // a struct of two pointers to one struct of one word, which is 3
-    (
-        "shared",
-        &[
-            0, 0, 0, 0, 0, 0, 2, 0, 4, 0, 0, 0, 1, 0, 0, 0, 0, 0, 0, 0, 1, 0, 0, 0, 3, 0, 0, 0, 0,
-            0, 0, 0,
-        ],
-    ),
-    // a struct of two pointers to two such structs
-    (
-        "copies",
-        &[
-            0, 0, 0, 0, 0, 0, 2, 0, 4, 0, 0, 0, 1, 0, 0, 0, 4, 0, 0, 0, 1, 0, 0, 0, 3, 0, 0, 0, 0,
-            0, 0, 0, 3, 0, 0, 0, 0, 0, 0, 0,
-        ],
-    ),
-    // the same, where the second is 4
-    (
-        "copies_four",
-        &[
-            0, 0, 0, 0, 0, 0, 2, 0, 4, 0, 0, 0, 1, 0, 0, 0, 4, 0, 0, 0, 1, 0, 0, 0, 3, 0, 0, 0, 0,
-            0, 0, 0, 4, 0, 0, 0, 0, 0, 0, 0,
-        ],
-    ),
-];
-
-/// The words of a name; a null pointer where there are none.
-pub fn words_named(name: &str) -> &'static [u8] {
-    bytes_named(&WORDS, name).unwrap_or(&NULL)
-}
 
 /// The root of a message, without a schema.
 pub fn root_of(alloc: Global, name: &str) -> Result<StructReader<'static>> {

@@ -16,11 +16,12 @@
 
 use crate::brands::{between, is_successor, seen_by_newer, seen_by_older};
 use crate::messages::root_of;
-use crate::schemas::{number, set_of, word_and_rest};
 use capnp_dynamic::dynamic_struct;
 use capnp_dynamic::dynamic_value::Reader as Value;
 use capnp_dynamic::printer::print;
 use capnp_schema::set::SchemaSet;
+use capnp_schema_fixtures::set_text::read_texts;
+use capnp_schema_fixtures::words::{first_word, number};
 use capnp_wire::error::Result;
 use std::alloc::Global;
 use std::fmt;
@@ -93,10 +94,10 @@ fn answer_about_message(
 
 /// What a question is answered.
 fn answer_of(alloc: Global, set: &SchemaSet, question: &'static str) -> Result<Answer> {
-    let (word, rest) = word_and_rest(question);
-    let (older, rest) = word_and_rest(rest);
-    let (newer, message) = word_and_rest(rest);
-    let (older, newer) = (number(older), number(newer));
+    let (word, rest) = first_word(question);
+    let (older, rest) = first_word(rest);
+    let (newer, message) = first_word(rest);
+    let (older, newer) = (number(older)?, number(newer)?);
     match word {
         "follows" => Ok(Answer::Truth(is_successor(alloc, set, older, newer)?)),
         "upgrades" => upgrades(alloc, set, older, newer),
@@ -109,7 +110,7 @@ fn answer_of(alloc: Global, set: &SchemaSet, question: &'static str) -> Result<A
 
 /// The answers to questions about a set that texts describe.
 fn answers_of(alloc: Global, texts: &[&'static str], questions: &'static str) -> Result<String> {
-    let set = set_of(alloc, texts)?;
+    let set = read_texts(alloc, texts)?;
     let mut out = String::new(alloc);
     for question in questions.split(';') {
         let between = if out.is_empty() { "" } else { "; " };

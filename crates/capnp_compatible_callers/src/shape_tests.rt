@@ -4,24 +4,40 @@ use crate::script::{pairs_hold, rows_hold};
 
 /// Fields of a struct, and those of a larger one.
 static FIELD_ROWS: [(&str, &str, bool); 8] = [
-    ("1 2: p u16 0; q u16 1", "2 2: p u16 0; q u16 1", true),
     (
-        "1 2: p u16 0; q u16 1",
-        "2 2: p u16 0; q u16 1; r text 0",
+        "struct 1 2, p UInt16 @0, q UInt16 @1",
+        "struct 2 2, p UInt16 @0, q UInt16 @1",
         true,
     ),
-    ("1 2:", "2 2: p u16 0; q u16 1", true),
-    ("1 2: p u16 0; q u16 1", "2 2: q u16 0; p u16 1", true),
     (
-        "1 2: p u16 0; q u16 1; r text 0",
-        "2 2: p u16 0; q u16 1",
+        "struct 1 2, p UInt16 @0, q UInt16 @1",
+        "struct 2 2, p UInt16 @0, q UInt16 @1, r Text @0",
+        true,
+    ),
+    ("struct 1 2", "struct 2 2, p UInt16 @0, q UInt16 @1", true),
+    (
+        "struct 1 2, p UInt16 @0, q UInt16 @1",
+        "struct 2 2, q UInt16 @0, p UInt16 @1",
+        true,
+    ),
+    (
+        "struct 1 2, p UInt16 @0, q UInt16 @1, r Text @0",
+        "struct 2 2, p UInt16 @0, q UInt16 @1",
         false,
     ),
-    ("1 2: p u16 0; q u16 1", "2 2: q u16 1; p u16 0", false),
-    ("1 2: p u16 0; q u16 1", "2 2: p u16 0; q u16 2", false),
     (
-        "1 2: p u16 0; q u16 1; r text 0",
-        "2 2: p u16 0; q u16 1; r text 1",
+        "struct 1 2, p UInt16 @0, q UInt16 @1",
+        "struct 2 2, q UInt16 @1, p UInt16 @0",
+        false,
+    ),
+    (
+        "struct 1 2, p UInt16 @0, q UInt16 @1",
+        "struct 2 2, p UInt16 @0, q UInt16 @2",
+        false,
+    ),
+    (
+        "struct 1 2, p UInt16 @0, q UInt16 @1, r Text @0",
+        "struct 2 2, p UInt16 @0, q UInt16 @1, r Text @1",
         false,
     ),
 ];
@@ -33,48 +49,48 @@ fn fields_at_their_places(rt: HostRuntime) {
 
 static UNION_ROWS: [(&str, &str, bool); 9] = [
     (
-        "1 2 union 2 1: none void 0 member 0; some u16 0 member 1",
-        "1 2 union 2 1: none void 0 member 0; some u16 0 member 1",
+        "struct 1 2 union 2 1, none Void @0 #0, some UInt16 @0 #1",
+        "struct 1 2 union 2 1, none Void @0 #0, some UInt16 @0 #1",
         true,
     ),
     (
-        "1 2 union 2 1: none void 0 member 0; some u16 0 member 1",
-        "1 2 union 3 1: none void 0 member 0; some u16 0 member 1; text text 0 member 2",
+        "struct 1 2 union 2 1, none Void @0 #0, some UInt16 @0 #1",
+        "struct 1 2 union 3 1, none Void @0 #0, some UInt16 @0 #1, text Text @0 #2",
         true,
     ),
     (
-        "1 2 union 0 0: none void 0; some u16 0",
-        "1 2 union 0 2: none void 0; some u16 0",
+        "struct 1 2 union 0 0, none Void @0, some UInt16 @0",
+        "struct 1 2 union 0 2, none Void @0, some UInt16 @0",
         true,
     ),
     (
-        "1 2 union 0 0: none void 0; some u16 0",
-        "1 2 union 2 1: none void 0; some u16 0; text text 0 member 0; other text 0 member 1",
+        "struct 1 2 union 0 0, none Void @0, some UInt16 @0",
+        "struct 1 2 union 2 1, none Void @0, some UInt16 @0, text Text @0 #0, other Text @0 #1",
         true,
     ),
     (
-        "1 2 union 3 1: none void 0 member 0; some u16 0 member 1; text text 0 member 2",
-        "1 2 union 2 1: none void 0 member 0; some u16 0 member 1",
+        "struct 1 2 union 3 1, none Void @0 #0, some UInt16 @0 #1, text Text @0 #2",
+        "struct 1 2 union 2 1, none Void @0 #0, some UInt16 @0 #1",
         false,
     ),
     (
-        "1 2 union 2 1: none void 0 member 0; some u16 0 member 1",
-        "1 2 union 2 2: none void 0 member 0; some u16 0 member 1",
+        "struct 1 2 union 2 1, none Void @0 #0, some UInt16 @0 #1",
+        "struct 1 2 union 2 2, none Void @0 #0, some UInt16 @0 #1",
         false,
     ),
     (
-        "1 2 union 2 1: none void 0 member 0; some u16 0 member 1",
-        "1 2 union 2 1: none void 0 member 1; some u16 0 member 0",
+        "struct 1 2 union 2 1, none Void @0 #0, some UInt16 @0 #1",
+        "struct 1 2 union 2 1, none Void @0 #1, some UInt16 @0 #0",
         false,
     ),
     (
-        "1 2 union 2 1: none void 0 member 0; some u16 0 member 1",
-        "1 2 union 0 0: none void 0; some u16 0",
+        "struct 1 2 union 2 1, none Void @0 #0, some UInt16 @0 #1",
+        "struct 1 2 union 0 0, none Void @0, some UInt16 @0",
         false,
     ),
     (
-        "1 2 union 0 0: none void 0; some u16 0",
-        "1 2 union 2 1: none void 0 member 0; some u16 0 member 1",
+        "struct 1 2 union 0 0, none Void @0, some UInt16 @0",
+        "struct 1 2 union 2 1, none Void @0 #0, some UInt16 @0 #1",
         false,
     ),
 ];
@@ -87,27 +103,32 @@ fn unions_at_their_places(rt: HostRuntime) {
 /// The group 2 became the group or struct 3.
 static GROUP_ROWS: [(&str, &str, &str); 5] = [
     (
-        "1 2: g group 2 | 1 2: g group 3 | 1 2 group: p u16 0 | 1 2 group: p u16 0",
+        "struct 1 2, g group(2); struct 1 2, g group(3); group 1 2, p UInt16 @0; \
+        group 1 2, p UInt16 @0",
         "follows 0 1",
         "true",
     ),
     (
-        "1 2: g group 2 | 1 2: g group 3 | 1 2 group: p u16 0 | 1 2 group: p u16 0; q u16 1",
+        "struct 1 2, g group(2); struct 1 2, g group(3); group 1 2, p UInt16 @0; \
+        group 1 2, p UInt16 @0, q UInt16 @1",
         "follows 0 1",
         "true",
     ),
     (
-        "1 2: g group 2 | 1 2: g group 3 | 1 2 group: p u16 0; q u16 1 | 1 2 group: p u16 0",
+        "struct 1 2, g group(2); struct 1 2, g group(3); group 1 2, p UInt16 @0, q UInt16 @1; \
+        group 1 2, p UInt16 @0",
         "follows 0 1",
         "false",
     ),
     (
-        "1 2: g group 2 | 1 2: g group 3 | 1 2 group: p u16 0 | 1 2 group: q u16 1",
+        "struct 1 2, g group(2); struct 1 2, g group(3); group 1 2, p UInt16 @0; \
+        group 1 2, q UInt16 @1",
         "follows 0 1",
         "false",
     ),
     (
-        "1 2: g group 2 | 1 2: g struct#3 0 | 1 2 group: p u16 0 | 1 2: p u16 0",
+        "struct 1 2, g group(2); struct 1 2, g Struct(3) @0; group 1 2, p UInt16 @0; \
+        struct 1 2, p UInt16 @0",
         "follows 0 1",
         "false",
     ),

@@ -4,15 +4,15 @@ use crate::script::rows_hold;
 
 /// The structs and enums of examples/station_before.capnp and of examples/station.capnp: of each name the older and then the
 /// newer one.
-const STATIONS: &str = "1 5 union 2 2: name text 0; height i16 0 = -5; weather enum#0 1; \
-    place struct#2 1; readings struct#4*1 2; neighbours struct#0*1 3; \
-    closed void 0 member 0; keeper text 4 member 1 | \
-    2 5 union 3 2: title text 0; height i16 0 = -5; weather enum#1 1; \
-    place struct#3 1; readings struct#5*1 2; neighbours struct#1*1 3; \
-    closed void 0 member 0; keeper text 4 member 1; robot u32 2 member 2; code u8 6 = 7 | \
-    1 0: east i32 0; north i32 1 | 2 0: east i32 0; north i32 1; up i16 4 | \
-    1 0: tenths i16 0 | 1 0: tenths i16 0; hour u8 2 | \
-    enum sun rain | enum sun rain snow";
+const STATIONS: &str = "struct 1 5 union 2 2, name Text @0, height Int16 @0 =Int16(-5), \
+    weather Enum(0) @1, place Struct(2) @1, readings List(Struct(4)) @2, \
+    neighbours List(Struct(0)) @3, closed Void @0 #0, keeper Text @4 #1; struct 2 5 union 3 2, \
+    title Text @0, height Int16 @0 =Int16(-5), weather Enum(1) @1, place Struct(3) @1, \
+    readings List(Struct(5)) @2, neighbours List(Struct(1)) @3, closed Void @0 #0, \
+    keeper Text @4 #1, robot UInt32 @2 #2, code UInt8 @6 =UInt8(7); \
+    struct 1 0, east Int32 @0, north Int32 @1; \
+    struct 2 0, east Int32 @0, north Int32 @1, up Int16 @4; struct 1 0, tenths Int16 @0; \
+    struct 1 0, tenths Int16 @0, hour UInt8 @2; enum sun rain; enum sun rain snow";
 
 /// What `capnp decode --short` prints of each message under the older file and under the newer one, but that the tool writes
 /// an enum without a name `(2)`, and a Void `void`.

@@ -4,23 +4,27 @@ use crate::script::pairs_hold;
 
 /// The structs 2 and 3 have a field in common, and 3 one more; 4 has another field. The first two structs are those that are
 /// compared.
-const OTHERS: &str = "1 0: v u16 0 | 1 0: v u16 0; w u16 1 | 1 0: v u32 0 | \
-    enum red blue | enum left right | enum up down off";
+const OTHERS: &str = "struct 1 0, v UInt16 @0; struct 1 0, v UInt16 @0, w UInt16 @1; \
+    struct 1 0, v UInt32 @0; enum red blue; enum left right; enum up down off";
 
 /// A field of each type, and what it became.
 static DATA_ROWS: [(&str, &str, bool); 12] = [
-    ("1 2: f void 0", "1 2: f void 0", true),
-    ("1 2: f void 0", "1 2: f bool 0", false),
-    ("1 2: f bool 0", "1 2: f bool 0", true),
-    ("1 2: f i16 0", "1 2: f i16 0", true),
-    ("1 2: f i16 0", "1 2: f i32 0", false),
-    ("1 2: f i16 0", "1 2: f u16 0", false),
-    ("1 2: f u64 0", "1 2: f u64 0", true),
-    ("1 2: f u16 0", "1 2: f enum#0 0", false),
-    ("1 2: f enum#0 0", "1 2: f u16 0", false),
-    ("1 2: f enum#0 0", "1 2: f enum#1 0", true),
-    ("1 2: f enum#0 0", "1 2: f enum#2 0", true),
-    ("1 2: f enum#2 0", "1 2: f enum#0 0", false),
+    ("struct 1 2, f Void @0", "struct 1 2, f Void @0", true),
+    ("struct 1 2, f Void @0", "struct 1 2, f Bool @0", false),
+    ("struct 1 2, f Bool @0", "struct 1 2, f Bool @0", true),
+    ("struct 1 2, f Int16 @0", "struct 1 2, f Int16 @0", true),
+    ("struct 1 2, f Int16 @0", "struct 1 2, f Int32 @0", false),
+    ("struct 1 2, f Int16 @0", "struct 1 2, f UInt16 @0", false),
+    ("struct 1 2, f UInt64 @0", "struct 1 2, f UInt64 @0", true),
+    ("struct 1 2, f UInt16 @0", "struct 1 2, f Enum(0) @0", false),
+    ("struct 1 2, f Enum(0) @0", "struct 1 2, f UInt16 @0", false),
+    ("struct 1 2, f Enum(0) @0", "struct 1 2, f Enum(1) @0", true),
+    ("struct 1 2, f Enum(0) @0", "struct 1 2, f Enum(2) @0", true),
+    (
+        "struct 1 2, f Enum(2) @0",
+        "struct 1 2, f Enum(0) @0",
+        false,
+    ),
 ];
 
 #[test]
@@ -29,43 +33,79 @@ fn types_that_stand_in_data(rt: HostRuntime) {
 }
 
 static POINTER_ROWS: [(&str, &str, bool); 15] = [
-    ("1 2: f text 0 = untyped", "1 2: f text 0 = untyped", true),
-    ("1 2: f data 0 = untyped", "1 2: f data 0 = untyped", true),
-    ("1 2: f text 0 = untyped", "1 2: f data 0 = untyped", false),
-    ("1 2: f any 0 = untyped", "1 2: f any 0 = untyped", true),
-    ("1 2: f any 0 = untyped", "1 2: f text 0 = untyped", false),
-    ("1 2: f text 0 = untyped", "1 2: f any 0 = untyped", false),
-    ("1 2: f u16*1 0 = untyped", "1 2: f u16*1 0 = untyped", true),
-    ("1 2: f u16*1 0 = untyped", "1 2: f u8*1 0 = untyped", false),
-    ("1 2: f u16*2 0 = untyped", "1 2: f u16*2 0 = untyped", true),
     (
-        "1 2: f u16*2 0 = untyped",
-        "1 2: f u16*1 0 = untyped",
-        false,
-    ),
-    (
-        "1 2: f u16*1 0 = untyped",
-        "1 2: f u16*2 0 = untyped",
-        false,
-    ),
-    (
-        "1 2: f enum#0*1 0 = untyped",
-        "1 2: f enum#2*1 0 = untyped",
+        "struct 1 2, f Text @0 =AnyPointer(null)",
+        "struct 1 2, f Text @0 =AnyPointer(null)",
         true,
     ),
     (
-        "1 2: f enum#2*1 0 = untyped",
-        "1 2: f enum#0*1 0 = untyped",
+        "struct 1 2, f Data @0 =AnyPointer(null)",
+        "struct 1 2, f Data @0 =AnyPointer(null)",
+        true,
+    ),
+    (
+        "struct 1 2, f Text @0 =AnyPointer(null)",
+        "struct 1 2, f Data @0 =AnyPointer(null)",
         false,
     ),
     (
-        "1 2: f struct#2 0 = untyped",
-        "1 2: f any 0 = untyped",
+        "struct 1 2, f AnyPointer @0 =AnyPointer(null)",
+        "struct 1 2, f AnyPointer @0 =AnyPointer(null)",
+        true,
+    ),
+    (
+        "struct 1 2, f AnyPointer @0 =AnyPointer(null)",
+        "struct 1 2, f Text @0 =AnyPointer(null)",
         false,
     ),
     (
-        "1 2: f struct#2 0 = untyped",
-        "1 2: f u16*1 0 = untyped",
+        "struct 1 2, f Text @0 =AnyPointer(null)",
+        "struct 1 2, f AnyPointer @0 =AnyPointer(null)",
+        false,
+    ),
+    (
+        "struct 1 2, f List(UInt16) @0 =AnyPointer(null)",
+        "struct 1 2, f List(UInt16) @0 =AnyPointer(null)",
+        true,
+    ),
+    (
+        "struct 1 2, f List(UInt16) @0 =AnyPointer(null)",
+        "struct 1 2, f List(UInt8) @0 =AnyPointer(null)",
+        false,
+    ),
+    (
+        "struct 1 2, f List(List(UInt16)) @0 =AnyPointer(null)",
+        "struct 1 2, f List(List(UInt16)) @0 =AnyPointer(null)",
+        true,
+    ),
+    (
+        "struct 1 2, f List(List(UInt16)) @0 =AnyPointer(null)",
+        "struct 1 2, f List(UInt16) @0 =AnyPointer(null)",
+        false,
+    ),
+    (
+        "struct 1 2, f List(UInt16) @0 =AnyPointer(null)",
+        "struct 1 2, f List(List(UInt16)) @0 =AnyPointer(null)",
+        false,
+    ),
+    (
+        "struct 1 2, f List(Enum(0)) @0 =AnyPointer(null)",
+        "struct 1 2, f List(Enum(2)) @0 =AnyPointer(null)",
+        true,
+    ),
+    (
+        "struct 1 2, f List(Enum(2)) @0 =AnyPointer(null)",
+        "struct 1 2, f List(Enum(0)) @0 =AnyPointer(null)",
+        false,
+    ),
+    (
+        "struct 1 2, f Struct(2) @0 =AnyPointer(null)",
+        "struct 1 2, f AnyPointer @0 =AnyPointer(null)",
+        false,
+    ),
+    (
+        "struct 1 2, f Struct(2) @0 =AnyPointer(null)",
+        "struct 1 2, f List(UInt16) @0 =AnyPointer(null)",
         false,
     ),
 ];
@@ -78,83 +118,83 @@ fn types_that_take_a_pointer(rt: HostRuntime) {
 /// Structs, and lists of lists of them; the first two structs name each other.
 static STRUCT_ROWS: [(&str, &str, bool); 16] = [
     (
-        "1 2: f struct#2 0 = untyped",
-        "1 2: f struct#2 0 = untyped",
+        "struct 1 2, f Struct(2) @0 =AnyPointer(null)",
+        "struct 1 2, f Struct(2) @0 =AnyPointer(null)",
         true,
     ),
     (
-        "1 2: f struct#2*2 0 = untyped",
-        "1 2: f struct#2*2 0 = untyped",
+        "struct 1 2, f List(List(Struct(2))) @0 =AnyPointer(null)",
+        "struct 1 2, f List(List(Struct(2))) @0 =AnyPointer(null)",
         true,
     ),
     (
-        "1 2: f struct#2 0 = untyped",
-        "1 2: f struct#3 0 = untyped",
+        "struct 1 2, f Struct(2) @0 =AnyPointer(null)",
+        "struct 1 2, f Struct(3) @0 =AnyPointer(null)",
         true,
     ),
     (
-        "1 2: f struct#2*2 0 = untyped",
-        "1 2: f struct#3*2 0 = untyped",
+        "struct 1 2, f List(List(Struct(2))) @0 =AnyPointer(null)",
+        "struct 1 2, f List(List(Struct(3))) @0 =AnyPointer(null)",
         true,
     ),
     (
-        "1 2: f struct#3 0 = untyped",
-        "1 2: f struct#2 0 = untyped",
+        "struct 1 2, f Struct(3) @0 =AnyPointer(null)",
+        "struct 1 2, f Struct(2) @0 =AnyPointer(null)",
         false,
     ),
     (
-        "1 2: f struct#3*2 0 = untyped",
-        "1 2: f struct#2*2 0 = untyped",
+        "struct 1 2, f List(List(Struct(3))) @0 =AnyPointer(null)",
+        "struct 1 2, f List(List(Struct(2))) @0 =AnyPointer(null)",
         false,
     ),
     (
-        "1 2: f struct#2 0 = untyped",
-        "1 2: f struct#4 0 = untyped",
+        "struct 1 2, f Struct(2) @0 =AnyPointer(null)",
+        "struct 1 2, f Struct(4) @0 =AnyPointer(null)",
         false,
     ),
     (
-        "1 2: f struct#2*2 0 = untyped",
-        "1 2: f struct#4*2 0 = untyped",
+        "struct 1 2, f List(List(Struct(2))) @0 =AnyPointer(null)",
+        "struct 1 2, f List(List(Struct(4))) @0 =AnyPointer(null)",
         false,
     ),
     (
-        "1 2: f struct#0 0 = untyped",
-        "1 2: f struct#1 0 = untyped",
+        "struct 1 2, f Struct(0) @0 =AnyPointer(null)",
+        "struct 1 2, f Struct(1) @0 =AnyPointer(null)",
         true,
     ),
     (
-        "1 2: f struct#0*2 0 = untyped",
-        "1 2: f struct#1*2 0 = untyped",
+        "struct 1 2, f List(List(Struct(0))) @0 =AnyPointer(null)",
+        "struct 1 2, f List(List(Struct(1))) @0 =AnyPointer(null)",
         true,
     ),
     (
-        "1 2: f struct#1 0 = untyped",
-        "1 2: f struct#0 0 = untyped",
+        "struct 1 2, f Struct(1) @0 =AnyPointer(null)",
+        "struct 1 2, f Struct(0) @0 =AnyPointer(null)",
         true,
     ),
     (
-        "1 2: f struct#1*2 0 = untyped",
-        "1 2: f struct#0*2 0 = untyped",
+        "struct 1 2, f List(List(Struct(1))) @0 =AnyPointer(null)",
+        "struct 1 2, f List(List(Struct(0))) @0 =AnyPointer(null)",
         true,
     ),
     (
-        "1 2: f struct#0 0 = untyped",
-        "1 2: f struct#0 0 = untyped",
+        "struct 1 2, f Struct(0) @0 =AnyPointer(null)",
+        "struct 1 2, f Struct(0) @0 =AnyPointer(null)",
         true,
     ),
     (
-        "1 2: f struct#0*2 0 = untyped",
-        "1 2: f struct#0*2 0 = untyped",
+        "struct 1 2, f List(List(Struct(0))) @0 =AnyPointer(null)",
+        "struct 1 2, f List(List(Struct(0))) @0 =AnyPointer(null)",
         true,
     ),
     (
-        "1 2: f struct#0 0 = untyped",
-        "1 2: f struct#2 0 = untyped",
+        "struct 1 2, f Struct(0) @0 =AnyPointer(null)",
+        "struct 1 2, f Struct(2) @0 =AnyPointer(null)",
         false,
     ),
     (
-        "1 2: f struct#0*2 0 = untyped",
-        "1 2: f struct#2*2 0 = untyped",
+        "struct 1 2, f List(List(Struct(0))) @0 =AnyPointer(null)",
+        "struct 1 2, f List(List(Struct(2))) @0 =AnyPointer(null)",
         false,
     ),
 ];
@@ -166,108 +206,148 @@ fn structs_that_types_name(rt: HostRuntime) {
 
 /// A chain of lists has the same element and the same length.
 static CHAIN_ROWS: [(&str, &str, bool); 24] = [
-    ("1 2: f u16*2 0 = untyped", "1 2: f u16*2 0 = untyped", true),
-    ("1 2: f u16*2 0 = untyped", "1 2: f u8*2 0 = untyped", false),
     (
-        "1 2: f u16*2 0 = untyped",
-        "1 2: f u16*1 0 = untyped",
-        false,
-    ),
-    (
-        "1 2: f u16*2 0 = untyped",
-        "1 2: f u16*3 0 = untyped",
-        false,
-    ),
-    (
-        "1 2: f struct#2*2 0 = untyped",
-        "1 2: f struct#3*2 0 = untyped",
+        "struct 1 2, f List(List(UInt16)) @0 =AnyPointer(null)",
+        "struct 1 2, f List(List(UInt16)) @0 =AnyPointer(null)",
         true,
     ),
     (
-        "1 2: f struct#3*2 0 = untyped",
-        "1 2: f struct#2*2 0 = untyped",
-        false,
-    ),
-    ("1 2: f u16*3 0 = untyped", "1 2: f u16*3 0 = untyped", true),
-    ("1 2: f u16*3 0 = untyped", "1 2: f u8*3 0 = untyped", false),
-    (
-        "1 2: f u16*3 0 = untyped",
-        "1 2: f u16*2 0 = untyped",
+        "struct 1 2, f List(List(UInt16)) @0 =AnyPointer(null)",
+        "struct 1 2, f List(List(UInt8)) @0 =AnyPointer(null)",
         false,
     ),
     (
-        "1 2: f u16*3 0 = untyped",
-        "1 2: f u16*4 0 = untyped",
+        "struct 1 2, f List(List(UInt16)) @0 =AnyPointer(null)",
+        "struct 1 2, f List(UInt16) @0 =AnyPointer(null)",
         false,
     ),
     (
-        "1 2: f struct#2*3 0 = untyped",
-        "1 2: f struct#3*3 0 = untyped",
+        "struct 1 2, f List(List(UInt16)) @0 =AnyPointer(null)",
+        "struct 1 2, f List(List(List(UInt16))) @0 =AnyPointer(null)",
+        false,
+    ),
+    (
+        "struct 1 2, f List(List(Struct(2))) @0 =AnyPointer(null)",
+        "struct 1 2, f List(List(Struct(3))) @0 =AnyPointer(null)",
         true,
     ),
     (
-        "1 2: f struct#3*3 0 = untyped",
-        "1 2: f struct#2*3 0 = untyped",
+        "struct 1 2, f List(List(Struct(3))) @0 =AnyPointer(null)",
+        "struct 1 2, f List(List(Struct(2))) @0 =AnyPointer(null)",
         false,
     ),
     (
-        "1 2: f u16*30 0 = untyped",
-        "1 2: f u16*30 0 = untyped",
+        "struct 1 2, f List(List(List(UInt16))) @0 =AnyPointer(null)",
+        "struct 1 2, f List(List(List(UInt16))) @0 =AnyPointer(null)",
         true,
     ),
     (
-        "1 2: f u16*30 0 = untyped",
-        "1 2: f u8*30 0 = untyped",
+        "struct 1 2, f List(List(List(UInt16))) @0 =AnyPointer(null)",
+        "struct 1 2, f List(List(List(UInt8))) @0 =AnyPointer(null)",
         false,
     ),
     (
-        "1 2: f u16*30 0 = untyped",
-        "1 2: f u16*29 0 = untyped",
+        "struct 1 2, f List(List(List(UInt16))) @0 =AnyPointer(null)",
+        "struct 1 2, f List(List(UInt16)) @0 =AnyPointer(null)",
         false,
     ),
     (
-        "1 2: f u16*30 0 = untyped",
-        "1 2: f u16*31 0 = untyped",
+        "struct 1 2, f List(List(List(UInt16))) @0 =AnyPointer(null)",
+        "struct 1 2, f List(List(List(List(UInt16)))) @0 =AnyPointer(null)",
         false,
     ),
     (
-        "1 2: f struct#2*30 0 = untyped",
-        "1 2: f struct#3*30 0 = untyped",
+        "struct 1 2, f List(List(List(Struct(2)))) @0 =AnyPointer(null)",
+        "struct 1 2, f List(List(List(Struct(3)))) @0 =AnyPointer(null)",
         true,
     ),
     (
-        "1 2: f struct#3*30 0 = untyped",
-        "1 2: f struct#2*30 0 = untyped",
+        "struct 1 2, f List(List(List(Struct(3)))) @0 =AnyPointer(null)",
+        "struct 1 2, f List(List(List(Struct(2)))) @0 =AnyPointer(null)",
         false,
     ),
     (
-        "1 2: f u16*60 0 = untyped",
-        "1 2: f u16*60 0 = untyped",
+        "struct 1 2, \
+        f List(List(List(List(List(List(List(List(List(List(List(List(List(List(List(List(List(List(List(List(List(List(List(List(List(List(List(List(List(List(UInt16)))))))))))))))))))))))))))))) @0 =AnyPointer(null)",
+        "struct 1 2, \
+        f List(List(List(List(List(List(List(List(List(List(List(List(List(List(List(List(List(List(List(List(List(List(List(List(List(List(List(List(List(List(UInt16)))))))))))))))))))))))))))))) @0 =AnyPointer(null)",
         true,
     ),
     (
-        "1 2: f u16*60 0 = untyped",
-        "1 2: f u8*60 0 = untyped",
+        "struct 1 2, \
+        f List(List(List(List(List(List(List(List(List(List(List(List(List(List(List(List(List(List(List(List(List(List(List(List(List(List(List(List(List(List(UInt16)))))))))))))))))))))))))))))) @0 =AnyPointer(null)",
+        "struct 1 2, \
+        f List(List(List(List(List(List(List(List(List(List(List(List(List(List(List(List(List(List(List(List(List(List(List(List(List(List(List(List(List(List(UInt8)))))))))))))))))))))))))))))) @0 =AnyPointer(null)",
         false,
     ),
     (
-        "1 2: f u16*60 0 = untyped",
-        "1 2: f u16*59 0 = untyped",
+        "struct 1 2, \
+        f List(List(List(List(List(List(List(List(List(List(List(List(List(List(List(List(List(List(List(List(List(List(List(List(List(List(List(List(List(List(UInt16)))))))))))))))))))))))))))))) @0 =AnyPointer(null)",
+        "struct 1 2, \
+        f List(List(List(List(List(List(List(List(List(List(List(List(List(List(List(List(List(List(List(List(List(List(List(List(List(List(List(List(List(UInt16))))))))))))))))))))))))))))) @0 =AnyPointer(null)",
         false,
     ),
     (
-        "1 2: f u16*60 0 = untyped",
-        "1 2: f u16*61 0 = untyped",
+        "struct 1 2, \
+        f List(List(List(List(List(List(List(List(List(List(List(List(List(List(List(List(List(List(List(List(List(List(List(List(List(List(List(List(List(List(UInt16)))))))))))))))))))))))))))))) @0 =AnyPointer(null)",
+        "struct 1 2, \
+        f List(List(List(List(List(List(List(List(List(List(List(List(List(List(List(List(List(List(List(List(List(List(List(List(List(List(List(List(List(List(List(UInt16))))))))))))))))))))))))))))))) @0 =AnyPointer(null)",
         false,
     ),
     (
-        "1 2: f struct#2*60 0 = untyped",
-        "1 2: f struct#3*60 0 = untyped",
+        "struct 1 2, \
+        f List(List(List(List(List(List(List(List(List(List(List(List(List(List(List(List(List(List(List(List(List(List(List(List(List(List(List(List(List(List(Struct(2))))))))))))))))))))))))))))))) @0 =AnyPointer(null)",
+        "struct 1 2, \
+        f List(List(List(List(List(List(List(List(List(List(List(List(List(List(List(List(List(List(List(List(List(List(List(List(List(List(List(List(List(List(Struct(3))))))))))))))))))))))))))))))) @0 =AnyPointer(null)",
         true,
     ),
     (
-        "1 2: f struct#3*60 0 = untyped",
-        "1 2: f struct#2*60 0 = untyped",
+        "struct 1 2, \
+        f List(List(List(List(List(List(List(List(List(List(List(List(List(List(List(List(List(List(List(List(List(List(List(List(List(List(List(List(List(List(Struct(3))))))))))))))))))))))))))))))) @0 =AnyPointer(null)",
+        "struct 1 2, \
+        f List(List(List(List(List(List(List(List(List(List(List(List(List(List(List(List(List(List(List(List(List(List(List(List(List(List(List(List(List(List(Struct(2))))))))))))))))))))))))))))))) @0 =AnyPointer(null)",
+        false,
+    ),
+    (
+        "struct 1 2, \
+        f List(List(List(List(List(List(List(List(List(List(List(List(List(List(List(List(List(List(List(List(List(List(List(List(List(List(List(List(List(List(List(List(List(List(List(List(List(List(List(List(List(List(List(List(List(List(List(List(List(List(List(List(List(List(List(List(List(List(List(List(UInt16)))))))))))))))))))))))))))))))))))))))))))))))))))))))))))) @0 =AnyPointer(null)",
+        "struct 1 2, \
+        f List(List(List(List(List(List(List(List(List(List(List(List(List(List(List(List(List(List(List(List(List(List(List(List(List(List(List(List(List(List(List(List(List(List(List(List(List(List(List(List(List(List(List(List(List(List(List(List(List(List(List(List(List(List(List(List(List(List(List(List(UInt16)))))))))))))))))))))))))))))))))))))))))))))))))))))))))))) @0 =AnyPointer(null)",
+        true,
+    ),
+    (
+        "struct 1 2, \
+        f List(List(List(List(List(List(List(List(List(List(List(List(List(List(List(List(List(List(List(List(List(List(List(List(List(List(List(List(List(List(List(List(List(List(List(List(List(List(List(List(List(List(List(List(List(List(List(List(List(List(List(List(List(List(List(List(List(List(List(List(UInt16)))))))))))))))))))))))))))))))))))))))))))))))))))))))))))) @0 =AnyPointer(null)",
+        "struct 1 2, \
+        f List(List(List(List(List(List(List(List(List(List(List(List(List(List(List(List(List(List(List(List(List(List(List(List(List(List(List(List(List(List(List(List(List(List(List(List(List(List(List(List(List(List(List(List(List(List(List(List(List(List(List(List(List(List(List(List(List(List(List(List(UInt8)))))))))))))))))))))))))))))))))))))))))))))))))))))))))))) @0 =AnyPointer(null)",
+        false,
+    ),
+    (
+        "struct 1 2, \
+        f List(List(List(List(List(List(List(List(List(List(List(List(List(List(List(List(List(List(List(List(List(List(List(List(List(List(List(List(List(List(List(List(List(List(List(List(List(List(List(List(List(List(List(List(List(List(List(List(List(List(List(List(List(List(List(List(List(List(List(List(UInt16)))))))))))))))))))))))))))))))))))))))))))))))))))))))))))) @0 =AnyPointer(null)",
+        "struct 1 2, \
+        f List(List(List(List(List(List(List(List(List(List(List(List(List(List(List(List(List(List(List(List(List(List(List(List(List(List(List(List(List(List(List(List(List(List(List(List(List(List(List(List(List(List(List(List(List(List(List(List(List(List(List(List(List(List(List(List(List(List(List(UInt16))))))))))))))))))))))))))))))))))))))))))))))))))))))))))) @0 =AnyPointer(null)",
+        false,
+    ),
+    (
+        "struct 1 2, \
+        f List(List(List(List(List(List(List(List(List(List(List(List(List(List(List(List(List(List(List(List(List(List(List(List(List(List(List(List(List(List(List(List(List(List(List(List(List(List(List(List(List(List(List(List(List(List(List(List(List(List(List(List(List(List(List(List(List(List(List(List(UInt16)))))))))))))))))))))))))))))))))))))))))))))))))))))))))))) @0 =AnyPointer(null)",
+        "struct 1 2, \
+        f List(List(List(List(List(List(List(List(List(List(List(List(List(List(List(List(List(List(List(List(List(List(List(List(List(List(List(List(List(List(List(List(List(List(List(List(List(List(List(List(List(List(List(List(List(List(List(List(List(List(List(List(List(List(List(List(List(List(List(List(List(UInt16))))))))))))))))))))))))))))))))))))))))))))))))))))))))))))) @0 =AnyPointer(null)",
+        false,
+    ),
+    (
+        "struct 1 2, \
+        f List(List(List(List(List(List(List(List(List(List(List(List(List(List(List(List(List(List(List(List(List(List(List(List(List(List(List(List(List(List(List(List(List(List(List(List(List(List(List(List(List(List(List(List(List(List(List(List(List(List(List(List(List(List(List(List(List(List(List(List(Struct(2))))))))))))))))))))))))))))))))))))))))))))))))))))))))))))) @0 =AnyPointer(null)",
+        "struct 1 2, \
+        f List(List(List(List(List(List(List(List(List(List(List(List(List(List(List(List(List(List(List(List(List(List(List(List(List(List(List(List(List(List(List(List(List(List(List(List(List(List(List(List(List(List(List(List(List(List(List(List(List(List(List(List(List(List(List(List(List(List(List(List(Struct(3))))))))))))))))))))))))))))))))))))))))))))))))))))))))))))) @0 =AnyPointer(null)",
+        true,
+    ),
+    (
+        "struct 1 2, \
+        f List(List(List(List(List(List(List(List(List(List(List(List(List(List(List(List(List(List(List(List(List(List(List(List(List(List(List(List(List(List(List(List(List(List(List(List(List(List(List(List(List(List(List(List(List(List(List(List(List(List(List(List(List(List(List(List(List(List(List(List(Struct(3))))))))))))))))))))))))))))))))))))))))))))))))))))))))))))) @0 =AnyPointer(null)",
+        "struct 1 2, \
+        f List(List(List(List(List(List(List(List(List(List(List(List(List(List(List(List(List(List(List(List(List(List(List(List(List(List(List(List(List(List(List(List(List(List(List(List(List(List(List(List(List(List(List(List(List(List(List(List(List(List(List(List(List(List(List(List(List(List(List(List(Struct(2))))))))))))))))))))))))))))))))))))))))))))))))))))))))))))) @0 =AnyPointer(null)",
         false,
     ),
 ];

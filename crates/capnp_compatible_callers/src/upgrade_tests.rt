@@ -4,7 +4,8 @@
 use crate::script::rows_hold;
 
 /// A list of numbers became one of pairs of numbers.
-const NUMBERS: &str = "built-in | 0 1: xs u16*1 0 | 0 1: xs struct#11*1 0 | 1 0: v u16 0; w u16 1";
+const NUMBERS: &str = "built-in; struct 0 1, xs List(UInt16) @0; \
+    struct 0 1, xs List(Struct(11)) @0; struct 1 0, v UInt16 @0, w UInt16 @1";
 
 static UPGRADE_ROWS: [(&str, &str, &str); 1] = [(
     NUMBERS,
@@ -48,7 +49,8 @@ fn a_list_of_another_size_is_refused(rt: HostRuntime) {
 }
 
 static TEXT_ROWS: [(&str, &str, &str); 1] = [(
-    "built-in | 0 1: xs text*1 0 | 0 1: xs struct#11*1 0 | 1 1: t text 0; n u16 0",
+    "built-in; struct 0 1, xs List(Text) @0; struct 0 1, xs List(Struct(11)) @0; \
+    struct 1 1, t Text @0, n UInt16 @0",
     "narrow 9 10 texts; widen 9 10 texts",
     "(xs = [\"hi\", \"\"]); (xs = [(t = \"hi\", n = 0), (n = 0)])",
 )];
@@ -60,37 +62,43 @@ fn texts_are_read_under_both(rt: HostRuntime) {
 
 static FIRST_ROWS: [(&str, &str, &str); 7] = [
     (
-        "built-in | 0 1: xs u16*1 0 | 0 1: xs struct#11*1 0 | 1 1: v u16 0; w u16 1",
+        "built-in; struct 0 1, xs List(UInt16) @0; struct 0 1, xs List(Struct(11)) @0; \
+        struct 1 1, v UInt16 @0, w UInt16 @1",
         "follows 9 10",
         "true",
     ),
     (
-        "built-in | 0 1: xs u16*1 0 | 0 1: xs struct#11*1 0 | 1 1: z u16 0",
+        "built-in; struct 0 1, xs List(UInt16) @0; struct 0 1, xs List(Struct(11)) @0; \
+        struct 1 1, z UInt16 @0",
         "follows 9 10",
         "true",
     ),
     (
-        "built-in | 0 1: xs u16*1 0 | 0 1: xs struct#11*1 0 | 1 1: v u16 0 = 1; w u16 1",
+        "built-in; struct 0 1, xs List(UInt16) @0; struct 0 1, xs List(Struct(11)) @0; \
+        struct 1 1, v UInt16 @0 =UInt16(1), w UInt16 @1",
         "follows 9 10",
         "false",
     ),
     (
-        "built-in | 0 1: xs u16*1 0 | 0 1: xs struct#11*1 0 | 1 1: v u16 1; w u16 0",
+        "built-in; struct 0 1, xs List(UInt16) @0; struct 0 1, xs List(Struct(11)) @0; \
+        struct 1 1, v UInt16 @1, w UInt16 @0",
         "follows 9 10",
         "false",
     ),
     (
-        "built-in | 0 1: xs u16*1 0 | 0 1: xs struct#11*1 0 | 1 1:",
+        "built-in; struct 0 1, xs List(UInt16) @0; struct 0 1, xs List(Struct(11)) @0; struct 1 1",
         "follows 9 10",
         "false",
     ),
     (
-        "built-in | 0 1: xs u16*1 0 | 0 1: xs struct#11*1 0 | 1 1: v i16 0",
+        "built-in; struct 0 1, xs List(UInt16) @0; struct 0 1, xs List(Struct(11)) @0; \
+        struct 1 1, v Int16 @0",
         "follows 9 10",
         "false",
     ),
     (
-        "built-in | 0 1: xs u16*1 0 | 0 1: xs struct#11*1 0 | 1 1 union 2 2: v u16 0 member 0; w u16 1 member 1",
+        "built-in; struct 0 1, xs List(UInt16) @0; struct 0 1, xs List(Struct(11)) @0; \
+        struct 1 1 union 2 2, v UInt16 @0 #0, w UInt16 @1 #1",
         "follows 9 10",
         "false",
     ),
@@ -103,47 +111,56 @@ fn which_field_stands_first(rt: HostRuntime) {
 
 static ELEMENT_ROWS: [(&str, &str, &str); 9] = [
     (
-        "built-in | 0 1: xs i8*1 0 | 0 1: xs struct#11*1 0 | 1 1: v i8 0",
+        "built-in; struct 0 1, xs List(Int8) @0; struct 0 1, xs List(Struct(11)) @0; \
+        struct 1 1, v Int8 @0",
         "follows 9 10",
         "true",
     ),
     (
-        "built-in | 0 1: xs u64*1 0 | 0 1: xs struct#11*1 0 | 1 1: v u64 0",
+        "built-in; struct 0 1, xs List(UInt64) @0; struct 0 1, xs List(Struct(11)) @0; \
+        struct 1 1, v UInt64 @0",
         "follows 9 10",
         "true",
     ),
     (
-        "built-in | 0 1: xs text*1 0 | 0 1: xs struct#11*1 0 | 1 1: v text 0",
+        "built-in; struct 0 1, xs List(Text) @0; struct 0 1, xs List(Struct(11)) @0; \
+        struct 1 1, v Text @0",
         "follows 9 10",
         "true",
     ),
     (
-        "built-in | 0 1: xs data*1 0 | 0 1: xs struct#11*1 0 | 1 1: v data 0",
+        "built-in; struct 0 1, xs List(Data) @0; struct 0 1, xs List(Struct(11)) @0; \
+        struct 1 1, v Data @0",
         "follows 9 10",
         "true",
     ),
     (
-        "built-in | 0 1: xs u16*2 0 | 0 1: xs struct#11*1 0 | 1 1: v u16*1 0",
+        "built-in; struct 0 1, xs List(List(UInt16)) @0; struct 0 1, xs List(Struct(11)) @0; \
+        struct 1 1, v List(UInt16) @0",
         "follows 9 10",
         "true",
     ),
     (
-        "built-in | 0 1: xs u16*3 0 | 0 1: xs struct#11*1 0 | 1 1: v u16*2 0",
+        "built-in; struct 0 1, xs List(List(List(UInt16))) @0; \
+        struct 0 1, xs List(Struct(11)) @0; struct 1 1, v List(List(UInt16)) @0",
         "follows 9 10",
         "true",
     ),
     (
-        "built-in | 0 1: xs void*1 0 | 0 1: xs struct#11*1 0 | 1 1: v void 0",
+        "built-in; struct 0 1, xs List(Void) @0; struct 0 1, xs List(Struct(11)) @0; \
+        struct 1 1, v Void @0",
         "follows 9 10",
         "false",
     ),
     (
-        "built-in | 0 1: xs bool*1 0 | 0 1: xs struct#11*1 0 | 1 1: v bool 0",
+        "built-in; struct 0 1, xs List(Bool) @0; struct 0 1, xs List(Struct(11)) @0; \
+        struct 1 1, v Bool @0",
         "follows 9 10",
         "false",
     ),
     (
-        "built-in | 0 1: xs any*1 0 | 0 1: xs struct#11*1 0 | 1 1: v any 0",
+        "built-in; struct 0 1, xs List(AnyPointer) @0; struct 0 1, xs List(Struct(11)) @0; \
+        struct 1 1, v AnyPointer @0",
         "follows 9 10",
         "false",
     ),
@@ -156,22 +173,26 @@ fn which_elements_become_structs(rt: HostRuntime) {
 
 static DEFAULT_ROWS: [(&str, &str, &str); 4] = [
     (
-        "built-in | 0 1: xs text*1 0 | 0 1: xs struct#11*1 0 | 1 1: v text 0",
+        "built-in; struct 0 1, xs List(Text) @0; struct 0 1, xs List(Struct(11)) @0; \
+        struct 1 1, v Text @0",
         "follows 9 10",
         "true",
     ),
     (
-        "built-in | 0 1: xs text*1 0 | 0 1: xs struct#11*1 0 | 1 1: v text 0 = a",
+        "built-in; struct 0 1, xs List(Text) @0; struct 0 1, xs List(Struct(11)) @0; \
+        struct 1 1, v Text @0 =Text(a)",
         "follows 9 10",
         "false",
     ),
     (
-        "built-in | 0 1: xs data*1 0 | 0 1: xs struct#11*1 0 | 1 1: v data 0",
+        "built-in; struct 0 1, xs List(Data) @0; struct 0 1, xs List(Struct(11)) @0; \
+        struct 1 1, v Data @0",
         "follows 9 10",
         "true",
     ),
     (
-        "built-in | 0 1: xs data*1 0 | 0 1: xs struct#11*1 0 | 1 1: v data 0 = a",
+        "built-in; struct 0 1, xs List(Data) @0; struct 0 1, xs List(Struct(11)) @0; \
+        struct 1 1, v Data @0 =Data(a)",
         "follows 9 10",
         "false",
     ),

@@ -2,11 +2,7 @@
 
 use crate::messages::message_of;
 use crate::script::{answers_about, rows_hold};
-use capnp_base::introspect::{Type, TypeVariant};
-use capnp_schema::set::SchemaSet;
-use capnp_schema_fixtures::fixtures::{
-    Spot, ValueOf, annotate, enum_type, list_type, struct_type, two_of_each, value_record,
-};
+use capnp_schema_fixtures::set_text::read_texts;
 use capnp_wire::error::Result;
 use std::alloc::Global;
 use std::test::Fail;
@@ -37,71 +33,43 @@ fn numbers_of_enums(rt: HostRuntime) {
     rows_hold(&rt, rt.alloc(), &ENUM_ROWS);
 }
 
-/// A value, its type, and what is read under it; then what is read under the type of texts.
-static VALUE_ROWS: [(ValueOf, &str, &str, &str); 10] = [
-    (ValueOf::Bool(true), "bool", "true", "true"),
-    (ValueOf::Int8(-7), "i8", "i8 -7", "i8 -7"),
-    (ValueOf::Int64(-9), "i64", "i64 -9", "i64 -9"),
-    (ValueOf::UInt32(6), "u32", "u32 6", "u32 6"),
-    (ValueOf::Text(b"ab"), "text", "text 'ab'", "text 'ab'"),
-    (ValueOf::Data(b"c"), "data", "data [99]", "data [99]"),
-    (ValueOf::Enum(1), "enum", "enum 1", "refused 21"),
-    (ValueOf::Struct(&[0; 8]), "struct", "struct", "refused 21"),
-    // a list of the bytes 7 and 8
-    (
-        ValueOf::List(&[1, 0, 0, 0, 0x12, 0, 0, 0, 7, 8, 0, 0, 0, 0, 0, 0]),
-        "list",
-        "list 2",
-        "refused 21",
-    ),
-    (ValueOf::AnyPointer(&[0; 8]), "any", "null", "refused 21"),
+/// A struct and an enum.
+const SET: &str = "struct 1 0, v Void; enum red blue";
+
+/// Annotations of the struct, each a value and a type, and what is read under it.
+static VALUE_ROWS: [(&str, &str); 19] = [
+    ("note struct 3 Bool(true) Bool", "true"),
+    ("note struct 3 Bool(true) Text", "true"),
+    ("note struct 3 Int8(-7) Int8", "i8 -7"),
+    ("note struct 3 Int8(-7) Text", "i8 -7"),
+    ("note struct 3 Int64(-9) Int64", "i64 -9"),
+    ("note struct 3 Int64(-9) Text", "i64 -9"),
+    ("note struct 3 UInt32(6) UInt32", "u32 6"),
+    ("note struct 3 UInt32(6) Text", "u32 6"),
+    ("note struct 3 Text(ab) Text", "text 'ab'"),
+    ("note struct 3 Data(a) Data", "data [97]"),
+    ("note struct 3 Data(a) Text", "data [97]"),
+    ("note struct 3 Enum(1) Enum(0)", "enum 1"),
+    ("note struct 3 Enum(1) Text", "refused 21"),
+    ("note struct 3 Struct(null) Struct(0)", "struct"),
+    ("note struct 3 Struct(null) Text", "refused 21"),
+    ("note struct 3 List(bytes_5_6) List(UInt8)", "list 2"),
+    ("note struct 3 List(bytes_5_6) Text", "refused 21"),
+    ("note struct 3 AnyPointer(null) AnyPointer", "null"),
+    ("note struct 3 AnyPointer(null) Text", "refused 21"),
 ];
 
-static VARIANTS: [(&str, TypeVariant); 7] = [
-    ("bool", TypeVariant::Bool),
-    ("i8", TypeVariant::Int8),
-    ("i64", TypeVariant::Int64),
-    ("u32", TypeVariant::UInt32),
-    ("text", TypeVariant::Text),
-    ("data", TypeVariant::Data),
-    ("any", TypeVariant::AnyPointer),
-];
-
-/// The type that a row names: the first struct or enum, a list of bytes, or a type that is a word alone.
-fn type_named(name: &str) -> Type {
-    for (text, variant) in &VARIANTS {
-        if *text == name {
-            return Type::from(*variant);
-        }
-    }
-    match name {
-        "enum" => enum_type(0),
-        "struct" => struct_type(0),
-        _ => list_type(Type::from(TypeVariant::UInt8)),
-    }
-}
-
-/// A set whose first struct has an annotation of a value and a type.
-fn annotated_set(alloc: Global, value: ValueOf, value_type: Type) -> Result<SchemaSet> {
-    let mut records = two_of_each(alloc)?;
-    let record = value_record(alloc, value)?;
-    annotate(&mut records, Spot::Struct, record, value_type)?;
-    SchemaSet::new(alloc, records.nodes, records.brands, records.enums)
-}
-
-/// What the annotation of a struct is read as, whose value and type are these.
-fn annotated(alloc: Global, value: ValueOf, value_type: Type) -> Result<String> {
-    let set = annotated_set(alloc, value, value_type)?;
+/// What the annotation of the struct is read as.
+fn annotated(alloc: Global, note: &'static str) -> Result<String> {
+    let set = read_texts(alloc, &[SET, note])?;
     answers_about(alloc, &set, 0, message_of("null_root"), "note 3")
 }
 
 #[test]
 fn values_of_every_kind(rt: HostRuntime) -> std::result::Result<(), Fail> {
-    for (value, of, seen, as_text) in &VALUE_ROWS {
-        for (name, answer) in [(*of, *seen), ("text", *as_text)] {
-            let found = annotated(rt.alloc(), *value, type_named(name))?;
-            assert_eq!(rt; found.as_str(), answer, "{of} as {name}");
-        }
+    for (note, seen) in &VALUE_ROWS {
+        let found = annotated(rt.alloc(), note)?;
+        assert_eq!(rt; found.as_str(), *seen, "{note}");
     }
     Ok(())
 }

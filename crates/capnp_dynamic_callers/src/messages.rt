@@ -1,39 +1,42 @@
 //! What scripts name: structs of several sets, and messages.
 
-use capnp_base::introspect::{Type, TypeVariant};
-use capnp_schema::builtin;
 use capnp_schema::set::SchemaSet;
-use capnp_schema_fixtures::fixtures::{
-    FieldOf, NULL, StructOf, ValueOf, add_struct, group_field, list_type, one_each, records_of,
-    slot, slot_with, struct_type, typed_slot,
-};
-use capnp_schema_fixtures::kinds;
+use capnp_schema_fixtures::kinds::{KINDS, KINDS_SET};
 use capnp_schema_fixtures::messages::message_named;
+use capnp_schema_fixtures::set_text::read_set;
+use capnp_schema_fixtures::words::named;
 use capnp_wire::error::Result;
 use std::alloc::Global;
 
-/// The sets: the built-in one, that of a struct with a field of every kind, and four of this file.
-#[derive(Clone, Copy)]
-enum Set {
-    BuiltIn,
-    Kinds,
-    Untyped,
-    Shared,
-    Lists,
-    Linked,
-}
+/// A set of a struct of pointers whose defaults are untyped nulls.
+const UNTYPED: &str =
+    "struct 0 6, text Text @0 =AnyPointer(null), bytes Data @1 =AnyPointer(null), \
+    inner Struct(0) @2 =AnyPointer(null), numbers List(UInt16) @3 =AnyPointer(null), \
+    inners List(Struct(0)) @4 =AnyPointer(null), any AnyPointer @5 =AnyPointer(null)";
 
-/// The structs, each with its set and its number there.
-static STRUCTS: [(&str, Set, u32); 9] = [
-    ("mixed", Set::BuiltIn, 1),
-    ("many", Set::BuiltIn, 2),
-    ("lists", Set::BuiltIn, 7),
-    ("node", Set::BuiltIn, 8),
-    ("kinds", Set::Kinds, kinds::KINDS),
-    ("untyped", Set::Untyped, 0),
-    ("shared", Set::Shared, 0),
-    ("each_list", Set::Lists, 0),
-    ("linked", Set::Linked, 0),
+/// A set of a struct of a number and of one pointer, which is each kind of field; they share it as members of a union.
+const SHARED: &str = "struct 1 1 union 5 1, n UInt16 @0, struct Struct(0) @0 #0, \
+    list List(UInt8) @0 #1, text Text @0 #2, data Data @0 #3, any AnyPointer @0 #4";
+
+/// The same with a list of each kind.
+const LISTS: &str = "struct 1 1 union 8 0, void List(Void) @0 #0, bit List(Bool) @0 #1, \
+    one List(UInt8) @0 #2, two List(UInt16) @0 #3, four List(UInt32) @0 #4, \
+    eight List(UInt64) @0 #5, pointer List(Text) @0 #6, struct List(Struct(0)) @0 #7";
+
+/// A set of a struct that has the next one and a group of a number.
+const LINKED: &str = "struct 1 1, next Struct(0) @0, group group(1); group 1 1, x UInt16 @0";
+
+/// The structs, each with the text of its set and its number there.
+static STRUCTS: [(&str, (&str, u32)); 9] = [
+    ("mixed", ("built-in", 1)),
+    ("many", ("built-in", 2)),
+    ("lists", ("built-in", 7)),
+    ("node", ("built-in", 8)),
+    ("kinds", (KINDS_SET, KINDS)),
+    ("untyped", (UNTYPED, 0)),
+    ("shared", (SHARED, 0)),
+    ("each_list", (LISTS, 0)),
+    ("linked", (LINKED, 0)),
 ];
 
 /// The messages that no other crate reads; `messages::message_named` has the others.
@@ -210,81 +213,9 @@ static MESSAGES: [(&str, &[u8]); 20] = [
     ),
 ];
 
-/// A set of a struct of pointers whose defaults are untyped nulls.
-fn untyped_set(alloc: Global) -> Result<SchemaSet> {
-    let with = |name, offset, of_type| slot_with(name, offset, of_type, ValueOf::AnyPointer(&NULL));
-    let fields = [
-        with("text", 0, Type::from(TypeVariant::Text)),
-        with("bytes", 1, Type::from(TypeVariant::Data)),
-        with("inner", 2, struct_type(0)),
-        with("numbers", 3, list_type(Type::from(TypeVariant::UInt16))),
-        with("inners", 4, list_type(struct_type(0))),
-        with("any", 5, Type::from(TypeVariant::AnyPointer)),
-    ];
-    one_struct(
-        alloc,
-        StructOf {
-            data_words: 0,
-            pointers: 6,
-            ..one_each(&fields)
-        },
-    )
-}
-
-/// A set of a struct alone.
-fn one_struct(alloc: Global, of: StructOf<'_>) -> Result<SchemaSet> {
-    let records = records_of(alloc, of)?;
-    SchemaSet::new(alloc, records.nodes, records.brands, records.enums)
-}
-
-/// The pointer as a struct, a list of bytes, a text, data and an untyped pointer; they share it as members of a union.
-fn shared_fields() -> [FieldOf; 6] {
-    let bytes = list_type(Type::from(TypeVariant::UInt8));
-    [
-        slot("n", 0, TypeVariant::UInt16),
-        typed_slot("struct", 0, struct_type(0)).member(0),
-        typed_slot("list", 0, bytes).member(1),
-        slot("text", 0, TypeVariant::Text).member(2),
-        slot("data", 0, TypeVariant::Data).member(3),
-        slot("any", 0, TypeVariant::AnyPointer).member(4),
-    ]
-}
-
-/// The pointer as a list of each kind.
-fn list_fields() -> [FieldOf; 8] {
-    let list = |name, variant| typed_slot(name, 0, list_type(Type::from(variant)));
-    [
-        list("void", TypeVariant::Void).member(0),
-        list("bit", TypeVariant::Bool).member(1),
-        list("one", TypeVariant::UInt8).member(2),
-        list("two", TypeVariant::UInt16).member(3),
-        list("four", TypeVariant::UInt32).member(4),
-        list("eight", TypeVariant::UInt64).member(5),
-        list("pointer", TypeVariant::Text).member(6),
-        typed_slot("struct", 0, list_type(struct_type(0))).member(7),
-    ]
-}
-
-/// A set of a struct that has the next one and a group of a number.
-fn linked_set(alloc: Global) -> Result<SchemaSet> {
-    let fields = [
-        typed_slot("next", 0, struct_type(0)),
-        group_field("group", 1),
-    ];
-    let number = [slot("x", 0, TypeVariant::UInt16)];
-    let mut records = records_of(alloc, one_each(&fields))?;
-    add_struct(alloc, &mut records, 1, &one_each(&number).group())?;
-    SchemaSet::new(alloc, records.nodes, records.brands, records.enums)
-}
-
-/// The set and the number of a struct.
-fn entry_of(name: &str) -> (Set, u32) {
-    for (text, set, number) in &STRUCTS {
-        if *text == name {
-            return (*set, *number);
-        }
-    }
-    (Set::BuiltIn, 0)
+/// The text of a struct's set, and its number there.
+fn entry_of(name: &str) -> (&'static str, u32) {
+    named(&STRUCTS, name).unwrap_or(("", 0))
 }
 
 /// The number of a struct in its set.
@@ -294,14 +225,7 @@ pub fn brand_of(name: &str) -> u32 {
 
 /// The set that has a struct.
 pub fn set_of(alloc: Global, name: &str) -> Result<SchemaSet> {
-    match entry_of(name).0 {
-        Set::BuiltIn => builtin::new_set(alloc),
-        Set::Kinds => kinds::new_set(alloc),
-        Set::Untyped => untyped_set(alloc),
-        Set::Shared => one_struct(alloc, one_each(&shared_fields()).union(5, 1)),
-        Set::Lists => one_struct(alloc, one_each(&list_fields()).union(8, 0)),
-        Set::Linked => linked_set(alloc),
-    }
+    read_set(alloc, entry_of(name).0)
 }
 
 /// The message of a name.

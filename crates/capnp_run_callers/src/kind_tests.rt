@@ -3,8 +3,9 @@
 use crate::cases::{Case, cases_hold};
 use crate::fixtures::{MANY, NODE, NONE};
 use capnp_dynamic::dynamic_value::{Enum as EnumValue, Reader as Value};
-use capnp_schema::builtin::new_set as new_built_in_set;
-use capnp_schema_fixtures::kinds::{FULL, KINDS, new_set};
+use capnp_schema::builtin::new_set;
+use capnp_schema_fixtures::kinds::{FULL, KINDS, KINDS_SET};
+use capnp_schema_fixtures::set_text::read_set;
 use std::test::Fail;
 
 /// The text of `FULL`.
@@ -51,7 +52,7 @@ named.once get -> Refused(30)";
 
 #[test]
 fn each_kind_of_field_and_element_is_answered(rt: HostRuntime) -> std::result::Result<(), Fail> {
-    let set = new_set(rt.alloc())?;
+    let set = read_set(rt.alloc(), KINDS_SET)?;
     let read = Case {
         brand: KINDS,
         start: &FULL,
@@ -99,7 +100,7 @@ rows.1.0 get -> Int8(0)";
 
 #[test]
 fn each_kind_of_element_is_set(rt: HostRuntime) -> std::result::Result<(), Fail> {
-    let set = new_set(rt.alloc())?;
+    let set = read_set(rt.alloc(), KINDS_SET)?;
     let blue = Value::Enum(EnumValue::new(2, set.enum_schema(0)));
     let elements = Case {
         brand: KINDS,
@@ -164,7 +165,7 @@ static BESIDE_DEFAULTS: [Case<'static>; 2] = [
 
 #[test]
 fn numbers_beside_their_defaults(rt: HostRuntime) -> std::result::Result<(), Fail> {
-    let set = new_built_in_set(rt.alloc())?;
+    let set = new_set(rt.alloc())?;
     let byte = Value::Enum(EnumValue::new(2, set.enum_schema(0)));
     cases_hold(&rt, rt.alloc(), &set, byte, &BESIDE_DEFAULTS);
     Ok(())

@@ -2,15 +2,9 @@
 
 use crate::cases::{Case, cases_hold, left_by};
 use crate::fixtures::{LISTS, LOOP, NONE, SHAPES};
-use capnp_base::introspect::{Type, TypeVariant};
 use capnp_dynamic::dynamic_value::Reader as Value;
 use capnp_schema::builtin::new_set;
-use capnp_schema::set::SchemaSet;
-use capnp_schema_fixtures::fixtures::{
-    StructOf, ValueOf, add_struct, list_type, one_word, records_of, slot, slot_with, struct_type,
-};
-use capnp_wire::error::Result;
-use std::alloc::Global;
+use capnp_schema_fixtures::set_text::read_set;
 use std::test::Fail;
 
 const ORDER: &str = "\
@@ -123,49 +117,10 @@ fn a_default_that_feeds_itself_has_no_text(rt: HostRuntime) -> std::result::Resu
     Ok(())
 }
 
-/// The words of the numbers 1, 2 and 3.
-static NUMBER_WORDS: [u8; 16] = [1, 0, 0, 0, 0x1b, 0, 0, 0, 1, 0, 2, 0, 3, 0, 0, 0];
-
-/// The words of a point at 3 and 4, and of two points.
-static POINT_WORDS: [u8; 16] = [0, 0, 0, 0, 1, 0, 0, 0, 3, 0, 4, 0, 0, 0, 0, 0];
-
-static POINTS_WORDS: [u8; 32] = [
-    1, 0, 0, 0, 0x17, 0, 0, 0, 8, 0, 0, 0, 1, 0, 0, 0, 1, 0, 2, 0, 0, 0, 0, 0, 5, 0, 6, 0, 0, 0, 0,
-    0,
-];
-
 /// A set of a struct with a default at each of its pointers, and of a point.
-fn new_default_set(alloc: Global) -> Result<SchemaSet> {
-    let numbers = list_type(Type::from(TypeVariant::UInt16));
-    let fields = [
-        slot_with(
-            "text",
-            0,
-            Type::from(TypeVariant::Text),
-            ValueOf::Text(b"hi"),
-        ),
-        slot_with("numbers", 1, numbers, ValueOf::List(&NUMBER_WORDS)),
-        slot_with("inner", 2, struct_type(1), ValueOf::Struct(&POINT_WORDS)),
-        slot_with(
-            "points",
-            3,
-            list_type(struct_type(1)),
-            ValueOf::List(&POINTS_WORDS),
-        ),
-    ];
-    let point = [
-        slot("x", 0, TypeVariant::UInt16),
-        slot("y", 1, TypeVariant::UInt16),
-    ];
-    let four = StructOf {
-        data_words: 0,
-        pointers: 4,
-        ..one_word(&fields)
-    };
-    let mut records = records_of(alloc, four)?;
-    add_struct(alloc, &mut records, 1, &one_word(&point))?;
-    SchemaSet::new(alloc, records.nodes, records.brands, records.enums)
-}
+const DEFAULT_SET: &str = "struct 0 4, text Text @0 =Text(hi), \
+    numbers List(UInt16) @1 =List(numbers_1_2_3), inner Struct(1) @2 =Struct(pair_3_4), \
+    points List(Struct(1)) @3 =List(pairs_1_2_5_6); struct 1 0, x UInt16 @0, y UInt16 @1";
 
 const DEFAULTS: &str = "\
 text get -> Text(hi)
@@ -192,7 +147,7 @@ static INTO_DEFAULTS: [Case<'static>; 1] = [Case {
 
 #[test]
 fn steps_go_into_defaults(rt: HostRuntime) -> std::result::Result<(), Fail> {
-    let set = new_default_set(rt.alloc())?;
+    let set = read_set(rt.alloc(), DEFAULT_SET)?;
     cases_hold(&rt, rt.alloc(), &set, Value::Void, &INTO_DEFAULTS);
     Ok(())
 }

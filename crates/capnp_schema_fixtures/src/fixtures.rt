@@ -3,7 +3,7 @@
 ghost use Rattle.std.specs.Prelude.{IfOk};
 ghost use Rattle.capnp_schema.specs.StructHandles.{IsStruct};
 
-use capnp_base::introspect::{RawBrandedStructSchema, RawEnumSchema, Type, TypeVariant};
+use capnp_base::introspect::{RawBrandedStructSchema, Type, TypeVariant};
 use capnp_schema::record::{
     AnnotationRecord, AnnotationTypes, BrandRecord, EnumRecord, EnumerantRecord, FieldKind,
     FieldRecord, NodeRecord, StructRecord, ValueRecord,
@@ -20,7 +20,7 @@ pub const WHOLE: u16 = 65_535;
 const PLAIN: u16 = 65_535;
 
 /// The words of a null pointer.
-pub static NULL: [u8; 8] = [0; 8];
+static NULL: [u8; 8] = [0; 8];
 
 /// A value that can be copied.
 #[derive(Clone, Copy)]
@@ -66,11 +66,6 @@ impl FieldOf {
             ..self
         }
     }
-
-    /// The same field with the name.
-    pub fn named(self, name: &'static str) -> FieldOf {
-        FieldOf { name, ..self }
-    }
 }
 
 /// A struct or group with its only brand.
@@ -82,25 +77,6 @@ pub struct StructOf<'a> {
     pub discriminant_count: u16,
     pub discriminant_offset: u32,
     pub fields: &'a [FieldOf],
-}
-
-impl<'a> StructOf<'a> {
-    /// The same struct as a group.
-    pub fn group(self) -> StructOf<'a> {
-        StructOf {
-            is_group: true,
-            ..self
-        }
-    }
-
-    /// The same struct with a union.
-    pub fn union(self, discriminant_count: u16, discriminant_offset: u32) -> StructOf<'a> {
-        StructOf {
-            discriminant_count,
-            discriminant_offset,
-            ..self
-        }
-    }
 }
 
 /// A struct of a data word and no pointer.
@@ -115,24 +91,12 @@ pub fn one_word<'a>(fields: &'a [FieldOf]) -> StructOf<'a> {
     }
 }
 
-/// A struct of a data word and a pointer.
-pub fn one_each<'a>(fields: &'a [FieldOf]) -> StructOf<'a> {
-    StructOf {
-        pointers: 1,
-        ..one_word(fields)
-    }
-}
-
 /// The type of the structs of a brand, which has the number of its node.
 pub fn struct_type(number: u32) -> Type {
     Type::from(TypeVariant::Struct(RawBrandedStructSchema {
         number,
         generic: number,
     }))
-}
-
-pub fn enum_type(number: u32) -> Type {
-    Type::from(TypeVariant::Enum(RawEnumSchema { number }))
 }
 
 pub fn list_type(element: Type) -> Type {
@@ -332,17 +296,6 @@ pub fn records_of(alloc: Global, of: StructOf<'_>) -> Result<Records> {
     Ok(records)
 }
 
-/// A struct of two fields, and an enum of two enumerants.
-pub fn two_of_each(alloc: Global) -> Result<Records> {
-    let fields = [
-        slot("v", 0, TypeVariant::Void),
-        slot("w", 0, TypeVariant::Void),
-    ];
-    let mut records = records_of(alloc, one_word(&fields))?;
-    records.enums.push(enum_record(alloc, &["red", "blue"])?)?;
-    Ok(records)
-}
-
 /// What an annotation stands at: the first struct or enum, or a field or enumerant of it.
 #[derive(Clone, Copy)]
 pub enum Spot {
@@ -362,17 +315,6 @@ pub fn schema_of(set: &SchemaSet, number: u32) -> Result<StructSchema<'_>>
             kind: ErrorKind::NoSuchElement,
         }),
     }
-}
-
-/// Adds an annotation with its type; none where there is no such spot.
-pub fn annotate(
-    records: &mut Records,
-    spot: Spot,
-    value: ValueRecord,
-    annotation_type: Type,
-) -> Result<()> {
-    annotate_record(records, spot, AnnotationRecord { id: 3, value })?;
-    annotate_type(records, spot, annotation_type)
 }
 
 fn annotate_field(

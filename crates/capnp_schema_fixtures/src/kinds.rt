@@ -1,16 +1,8 @@
 //! A struct with a field of every kind, and messages of it that the public `capnp` tool made: with a value in each field, in
 //! one segment and in several, and with none. `examples/kinds.capnp` has the struct in the schema language.
 
-use crate::set_text::read_set;
-use capnp_schema::set::SchemaSet;
-use capnp_wire::error::Result;
-use std::alloc::Global;
-
 /// The struct, by number.
 pub const KINDS: u32 = 0;
-
-/// The struct of points.
-pub const POINT: u32 = 1;
 
 /// A value in each field.
 pub static FULL: [u8; 376] = [
@@ -62,9 +54,9 @@ pub static EMPTY: [u8; 176] = [
     0, 0, 0, 0, 0, 0, 0, 0, 0, 0, 0, 0, 0, 0, 0, 0, 0,
 ];
 
-/// The set, as `set_text.rt` reads it: the struct with its fields in the order of the schema, the struct of points, and the
-/// group.
-static KINDS_SET: &str = "
+/// The set, as `set_text.rt` reads it: the struct with its fields in the order of the schema, the struct of points, the group,
+/// and an enum of three colors.
+pub const KINDS_SET: &str = "
 struct 5 15 union 3 17,
     void Void, truth Bool @0, lie Bool @1 =Bool(true),
     int8 Int8 @1 =Int8(-8), int16 Int16 @1 =Int16(-16), int32 Int32 @1 =Int32(-32), int64 Int64 @1 =Int64(-64),
@@ -79,8 +71,3 @@ struct 5 15 union 3 17,
 struct 1 0, x Int16 @0, y Int16 @1 =Int16(-1);
 group 5 15 union 2 18, name Text @14, once Void #0, times UInt8 @38 #1;
 enum red green blue";
-
-/// The set of the struct, the struct of points, the group, and an enum of three colors.
-pub fn new_set(alloc: Global) -> Result<SchemaSet> {
-    read_set(alloc, KINDS_SET)
-}

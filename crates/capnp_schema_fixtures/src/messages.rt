@@ -1,6 +1,7 @@
 //! Messages that the tests of more than one crate read.
 
 use crate::kinds;
+use crate::words::named;
 
 /// A message whose root is null.
 static NULL_ROOT: [u8; 16] = [0, 0, 0, 0, 1, 0, 0, 0, 0, 0, 0, 0, 0, 0, 0, 0];
@@ -38,26 +39,16 @@ static MESSAGES: [(&str, &[u8]); 4] = [
     ),
 ];
 
-/// The bytes of a name in a table.
-pub fn bytes_named(table: &[(&str, &'static [u8])], name: &str) -> Option<&'static [u8]> {
-    for (text, bytes) in table {
-        if *text == name {
-            return Some(*bytes);
-        }
-    }
-    None
-}
-
 /// The message of a name in a table; where it isn't there, the one of this file, or `full`, `segments` or `empty` of the
 /// struct of every kind; else a null root.
 pub fn message_named(table: &[(&str, &'static [u8])], name: &str) -> &'static [u8] {
-    if let Some(message) = bytes_named(table, name) {
+    if let Some(message) = named(table, name) {
         return message;
     }
     match name {
         "full" => &kinds::FULL,
         "segments" => &kinds::SEGMENTS,
         "empty" => &kinds::EMPTY,
-        _ => bytes_named(&MESSAGES, name).unwrap_or(&NULL_ROOT),
+        _ => named(&MESSAGES, name).unwrap_or(&NULL_ROOT),
     }
 }

@@ -6,6 +6,7 @@
 //! - `struct 1 2`: a struct of one data word and two pointers, with one brand. `group 1 2`: the same of a group. With
 //!   `union 3 0` after it, it has a union of three members, whose discriminant has the offset 0.
 //! - `enum red blue`: an enum of these enumerants.
+//! - `built-in`: the structs and enums of the built-in set, in place of what stands before it.
 //! - `note` and what else stands in `changes.rt`, which changes what was there before.
 //!
 //! A field is its name, `_` where that is empty, and of a slot its type, its offset after a `@`, and after a `=`
@@ -22,6 +23,7 @@ use crate::fixtures::{
 };
 use crate::words::{first_word, number, read_type, read_value};
 use capnp_base::introspect::{Type, TypeVariant};
+use capnp_schema::builtin;
 use capnp_schema::set::SchemaSet;
 use capnp_wire::error::Result;
 use std::alloc::Global;
@@ -133,6 +135,16 @@ fn read_enum(alloc: Global, records: &mut Records, names: &str) -> Result<()> {
     Ok(())
 }
 
+fn read_built_in(alloc: Global, records: &mut Records) -> Result<()> {
+    let (nodes, brands, enums) = builtin::records(alloc)?;
+    *records = Records {
+        nodes,
+        brands,
+        enums,
+    };
+    Ok(())
+}
+
 /// Adds what an entry says.
 fn read_entry(alloc: Global, records: &mut Records, entry: &'static str) -> Result<()> {
     let (head, fields) = entry.split_once(',').unwrap_or((entry, ""));
@@ -142,19 +154,22 @@ fn read_entry(alloc: Global, records: &mut Records, entry: &'static str) -> Resu
         "group" => read_struct(alloc, records, true, rest, fields),
         "enum" => read_enum(alloc, records, rest),
         "note" => read_note(alloc, records, rest),
+        "built-in" => read_built_in(alloc, records),
         _ => change(alloc, records, kind, rest),
     }
 }
 
-/// The set that a text says.
-pub fn read_set(alloc: Global, text: &'static str) -> Result<SchemaSet> {
+/// The set that texts say together.
+pub fn read_texts(alloc: Global, texts: &[&'static str]) -> Result<SchemaSet> {
     let mut records = Records {
         nodes: Vec::new(alloc),
         brands: Vec::new(alloc),
         enums: Vec::new(alloc),
     };
-    for entry in text.split_terminator(';') {
-        read_entry(alloc, &mut records, entry)?;
+    for text in texts {
+        for entry in text.split_terminator(';') {
+            read_entry(alloc, &mut records, entry)?;
+        }
     }
     let Records {
         nodes,
@@ -162,4 +177,9 @@ pub fn read_set(alloc: Global, text: &'static str) -> Result<SchemaSet> {
         enums,
     } = records;
     SchemaSet::new(alloc, nodes, brands, enums)
+}
+
+/// The set that a text says.
+pub fn read_set(alloc: Global, text: &'static str) -> Result<SchemaSet> {
+    read_texts(alloc, &[text])
 }

@@ -13,9 +13,11 @@ use std::str::FromStr;
 
 /// The bytes of data, and the words of structs, lists and untyped pointers: those of one segment, whose first word is the
 /// root pointer.
-static WORDS: [(&str, &[u8]); 18] = [
+static WORDS: [(&str, &[u8]); 35] = [
     ("", &[]),
     ("hi", b"hi"),
+    ("a", b"a"),
+    ("ab", b"ab"),
     ("zero_and_ff", &[0, 0xff]),
     ("null", &[0; 8]),
     // a null and a word that it does not need
@@ -55,6 +57,19 @@ static WORDS: [(&str, &[u8]); 18] = [
         "point_3_4",
         &[0, 0, 0, 0, 1, 0, 0, 0, 3, 0, 0xfb, 0xff, 0, 0, 0, 0],
     ),
+    // a struct of the numbers 3 and 4, of two bytes each
+    (
+        "pair_3_4",
+        &[0, 0, 0, 0, 1, 0, 0, 0, 3, 0, 4, 0, 0, 0, 0, 0],
+    ),
+    // a list of two such structs, of 1 and 2 and of 5 and 6
+    (
+        "pairs_1_2_5_6",
+        &[
+            1, 0, 0, 0, 0x17, 0, 0, 0, 8, 0, 0, 0, 1, 0, 0, 0, 1, 0, 2, 0, 0, 0, 0, 0, 5, 0, 6, 0,
+            0, 0, 0, 0,
+        ],
+    ),
     // a list of one bit
     ("bit", &[1, 0, 0, 0, 0x09, 0, 0, 0, 1, 0, 0, 0, 0, 0, 0, 0]),
     // a list of one byte
@@ -68,6 +83,86 @@ static WORDS: [(&str, &[u8]); 18] = [
     (
         "numbers_1_2_3",
         &[1, 0, 0, 0, 0x1b, 0, 0, 0, 1, 0, 2, 0, 3, 0, 0, 0],
+    ),
+    // a struct of one data word, which is 3
+    (
+        "struct_3",
+        &[0, 0, 0, 0, 1, 0, 0, 0, 3, 0, 0, 0, 0, 0, 0, 0],
+    ),
+    // the same struct a word further on, with a word after it
+    (
+        "struct_3_apart",
+        &[
+            4, 0, 0, 0, 1, 0, 0, 0, 255, 255, 255, 255, 255, 255, 255, 255, 3, 0, 0, 0, 0, 0, 0, 0,
+            7, 0, 0, 0, 0, 0, 0, 0,
+        ],
+    ),
+    // a struct of one data word, which is 4
+    (
+        "struct_4",
+        &[0, 0, 0, 0, 1, 0, 0, 0, 4, 0, 0, 0, 0, 0, 0, 0],
+    ),
+    // a list of the bytes 5 and 6
+    (
+        "bytes_5_6",
+        &[1, 0, 0, 0, 18, 0, 0, 0, 5, 6, 0, 0, 0, 0, 0, 0],
+    ),
+    // the same list, with bits after its last byte, a word further on
+    (
+        "bytes_5_6_apart",
+        &[
+            5, 0, 0, 0, 18, 0, 0, 0, 9, 9, 9, 9, 9, 9, 9, 9, 5, 6, 0, 0, 0, 0, 0, 0,
+        ],
+    ),
+    // a list of the byte 5
+    ("byte_5", &[1, 0, 0, 0, 10, 0, 0, 0, 5, 0, 0, 0, 0, 0, 0, 0]),
+    // a null pointer, with a word after it
+    (
+        "null_and_one",
+        &[0, 0, 0, 0, 0, 0, 0, 0, 1, 0, 0, 0, 0, 0, 0, 0],
+    ),
+    // a struct of a pointer to a struct of one word, which is 3
+    (
+        "nested_3",
+        &[
+            0, 0, 0, 0, 0, 0, 1, 0, 0, 0, 0, 0, 1, 0, 0, 0, 3, 0, 0, 0, 0, 0, 0, 0,
+        ],
+    ),
+    // the same, where the inner struct is 4
+    (
+        "nested_4",
+        &[
+            0, 0, 0, 0, 0, 0, 1, 0, 0, 0, 0, 0, 1, 0, 0, 0, 4, 0, 0, 0, 0, 0, 0, 0,
+        ],
+    ),
+    // the same, where the inner pointer is null
+    (
+        "nested_null",
+        &[0, 0, 0, 0, 0, 0, 1, 0, 0, 0, 0, 0, 0, 0, 0, 0],
+    ),
+    // a struct of two pointers to one struct of one word, which is 3
+    (
+        "shared_3",
+        &[
+            0, 0, 0, 0, 0, 0, 2, 0, 4, 0, 0, 0, 1, 0, 0, 0, 0, 0, 0, 0, 1, 0, 0, 0, 3, 0, 0, 0, 0,
+            0, 0, 0,
+        ],
+    ),
+    // a struct of two pointers to two such structs
+    (
+        "copies_3",
+        &[
+            0, 0, 0, 0, 0, 0, 2, 0, 4, 0, 0, 0, 1, 0, 0, 0, 4, 0, 0, 0, 1, 0, 0, 0, 3, 0, 0, 0, 0,
+            0, 0, 0, 3, 0, 0, 0, 0, 0, 0, 0,
+        ],
+    ),
+    // the same, where the second is 4
+    (
+        "copies_3_4",
+        &[
+            0, 0, 0, 0, 0, 0, 2, 0, 4, 0, 0, 0, 1, 0, 0, 0, 4, 0, 0, 0, 1, 0, 0, 0, 3, 0, 0, 0, 0,
+            0, 0, 0, 4, 0, 0, 0, 0, 0, 0, 0,
+        ],
     ),
 ];
 
@@ -101,13 +196,19 @@ where
     }
 }
 
-fn words_named(name: &str) -> Result<&'static [u8]> {
-    for (known, words) in &WORDS {
+/// What a table has under a name.
+pub fn named<T: Copy>(table: &[(&str, T)], name: &str) -> Option<T> {
+    for (known, found) in table {
         if *known == name {
-            return Ok(*words);
+            return Some(*found);
         }
     }
-    Err(UNREADABLE)
+    None
+}
+
+/// The same, of a name that a text has.
+fn known<T: Copy>(table: &[(&str, T)], name: &str) -> Result<T> {
+    named(table, name).ok_or(UNREADABLE)
 }
 
 /// The value of a number's kind.
@@ -144,7 +245,7 @@ pub fn read_value(text: &'static str) -> Result<ValueOf> {
         "Void" => Ok(ValueOf::Void),
         "Bool" => Ok(ValueOf::Bool(content == "true")),
         "Text" => Ok(ValueOf::Text(content.as_bytes())),
-        "Data" | "Struct" | "List" | "AnyPointer" => words_value(kind, words_named(content)?),
+        "Data" | "Struct" | "List" | "AnyPointer" => words_value(kind, known(&WORDS, content)?),
         _ => number_value(kind, content),
     }
 }
@@ -166,15 +267,6 @@ static TYPES: [(&str, TypeVariant); 13] = [
     ("AnyPointer", TypeVariant::AnyPointer),
 ];
 
-fn type_named(name: &str) -> Result<TypeVariant> {
-    for (known, variant) in &TYPES {
-        if *known == name {
-            return Ok(*variant);
-        }
-    }
-    Err(UNREADABLE)
-}
-
 /// The type that a text says.
 pub fn read_type(text: &str) -> Result<Type> {
     let innermost = text.trim_start_matches("List(");
@@ -190,7 +282,7 @@ pub fn read_type(text: &str) -> Result<Type> {
         "Enum" => TypeVariant::Enum(RawEnumSchema {
             number: number(content)?,
         }),
-        _ => type_named(innermost.trim_end_matches(')'))?,
+        _ => known(&TYPES, innermost.trim_end_matches(')'))?,
     };
     let mut read = Type::from(variant);
     for _ in text.matches("List(") {

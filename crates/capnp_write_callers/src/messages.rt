@@ -1,35 +1,30 @@
 //! What the scripts of `script` name: structs of three sets, and messages.
 
-use capnp_base::introspect::{Type, TypeVariant};
-use capnp_schema::builtin;
 use capnp_schema::set::SchemaSet;
-use capnp_schema_fixtures::fixtures::{
-    StructOf, add_struct, group_field, list_type, one_each, records_of, slot, typed_slot,
-};
-use capnp_schema_fixtures::kinds;
+use capnp_schema_fixtures::kinds::{KINDS, KINDS_SET};
 use capnp_schema_fixtures::messages::message_named;
+use capnp_schema_fixtures::set_text::read_set;
+use capnp_schema_fixtures::words::named;
 use capnp_wire::error::Result;
 use std::alloc::Global;
 
-/// The sets: the built-in one, that of a struct with a field of every kind, and `grouped_set`.
-#[derive(Clone, Copy)]
-enum Set {
-    BuiltIn,
-    Kinds,
-    Grouped,
-}
+/// A set of a struct with the group `g` alone, the group of `k` and the members `e` and `m`, and a struct with a list of
+/// untyped pointers.
+const GROUPED: &str = "struct 1 1, g group(1); \
+    group 1 1 union 2 1, k UInt16 @0, e Void @0 #0, m Text @0 #1; \
+    struct 1 1, pointers List(AnyPointer) @0";
 
-/// The structs, each with its set and its number there.
-static STRUCTS: [(&str, Set, u32); 9] = [
-    ("flat", Set::BuiltIn, 0),
-    ("mixed", Set::BuiltIn, 1),
-    ("many", Set::BuiltIn, 2),
-    ("shapes", Set::BuiltIn, 3),
-    ("loop", Set::BuiltIn, 6),
-    ("lists", Set::BuiltIn, 7),
-    ("kinds", Set::Kinds, 0),
-    ("grouped", Set::Grouped, 0),
-    ("untyped", Set::Grouped, 2),
+/// The structs, each with the text of its set and its number there.
+static STRUCTS: [(&str, (&str, u32)); 9] = [
+    ("flat", ("built-in", 0)),
+    ("mixed", ("built-in", 1)),
+    ("many", ("built-in", 2)),
+    ("shapes", ("built-in", 3)),
+    ("loop", ("built-in", 6)),
+    ("lists", ("built-in", 7)),
+    ("kinds", (KINDS_SET, KINDS)),
+    ("grouped", (GROUPED, 0)),
+    ("untyped", (GROUPED, 2)),
 ];
 
 /// The messages that no other crate reads; `messages::message_named` has the others.
@@ -161,35 +156,9 @@ static MESSAGES: [(&str, &[u8]); 15] = [
     ),
 ];
 
-/// A set of a struct with the group `g` alone, the group of `k` and the members `e` and `m`, and a struct with a list of
-/// untyped pointers.
-fn grouped_set(alloc: Global) -> Result<SchemaSet> {
-    let outer = [group_field("g", 1)];
-    let group = [
-        slot("k", 0, TypeVariant::UInt16),
-        slot("e", 0, TypeVariant::Void).member(0),
-        slot("m", 0, TypeVariant::Text).member(1),
-    ];
-    let untyped = [typed_slot(
-        "pointers",
-        0,
-        list_type(Type::from(TypeVariant::AnyPointer)),
-    )];
-    let mut records = records_of(alloc, one_each(&outer))?;
-    let inner: StructOf<'_> = one_each(&group).union(2, 1).group();
-    add_struct(alloc, &mut records, 1, &inner)?;
-    add_struct(alloc, &mut records, 2, &one_each(&untyped))?;
-    SchemaSet::new(alloc, records.nodes, records.brands, records.enums)
-}
-
-/// The set and the number of a struct.
-fn entry_of(name: &str) -> (Set, u32) {
-    for (text, set, number) in &STRUCTS {
-        if *text == name {
-            return (*set, *number);
-        }
-    }
-    (Set::BuiltIn, 0)
+/// The text of a struct's set, and its number there.
+fn entry_of(name: &str) -> (&'static str, u32) {
+    named(&STRUCTS, name).unwrap_or(("", 0))
 }
 
 /// The number of a struct in its set.
@@ -199,11 +168,7 @@ pub fn brand_of(name: &str) -> u32 {
 
 /// The set that has a struct.
 pub fn set_of(alloc: Global, name: &str) -> Result<SchemaSet> {
-    match entry_of(name).0 {
-        Set::BuiltIn => builtin::new_set(alloc),
-        Set::Kinds => kinds::new_set(alloc),
-        Set::Grouped => grouped_set(alloc),
-    }
+    read_set(alloc, entry_of(name).0)
 }
 
 /// The message of a name.
