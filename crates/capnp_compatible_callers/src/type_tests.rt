@@ -207,147 +207,123 @@ fn structs_that_types_name(rt: HostRuntime) {
 /// A chain of lists has the same element and the same length.
 static CHAIN_ROWS: [(&str, &str, bool); 24] = [
     (
-        "struct 1 2, f List(List(UInt16)) @0 =AnyPointer(null)",
-        "struct 1 2, f List(List(UInt16)) @0 =AnyPointer(null)",
+        "struct 1 2, f UInt16*2 @0 =AnyPointer(null)",
+        "struct 1 2, f UInt16*2 @0 =AnyPointer(null)",
         true,
     ),
     (
-        "struct 1 2, f List(List(UInt16)) @0 =AnyPointer(null)",
-        "struct 1 2, f List(List(UInt8)) @0 =AnyPointer(null)",
+        "struct 1 2, f UInt16*2 @0 =AnyPointer(null)",
+        "struct 1 2, f UInt8*2 @0 =AnyPointer(null)",
         false,
     ),
     (
-        "struct 1 2, f List(List(UInt16)) @0 =AnyPointer(null)",
+        "struct 1 2, f UInt16*2 @0 =AnyPointer(null)",
         "struct 1 2, f List(UInt16) @0 =AnyPointer(null)",
         false,
     ),
     (
-        "struct 1 2, f List(List(UInt16)) @0 =AnyPointer(null)",
-        "struct 1 2, f List(List(List(UInt16))) @0 =AnyPointer(null)",
+        "struct 1 2, f UInt16*2 @0 =AnyPointer(null)",
+        "struct 1 2, f UInt16*3 @0 =AnyPointer(null)",
         false,
     ),
     (
-        "struct 1 2, f List(List(Struct(2))) @0 =AnyPointer(null)",
-        "struct 1 2, f List(List(Struct(3))) @0 =AnyPointer(null)",
+        "struct 1 2, f Struct(2)*2 @0 =AnyPointer(null)",
+        "struct 1 2, f Struct(3)*2 @0 =AnyPointer(null)",
         true,
     ),
     (
-        "struct 1 2, f List(List(Struct(3))) @0 =AnyPointer(null)",
-        "struct 1 2, f List(List(Struct(2))) @0 =AnyPointer(null)",
+        "struct 1 2, f Struct(3)*2 @0 =AnyPointer(null)",
+        "struct 1 2, f Struct(2)*2 @0 =AnyPointer(null)",
         false,
     ),
     (
-        "struct 1 2, f List(List(List(UInt16))) @0 =AnyPointer(null)",
-        "struct 1 2, f List(List(List(UInt16))) @0 =AnyPointer(null)",
+        "struct 1 2, f UInt16*3 @0 =AnyPointer(null)",
+        "struct 1 2, f UInt16*3 @0 =AnyPointer(null)",
         true,
     ),
     (
-        "struct 1 2, f List(List(List(UInt16))) @0 =AnyPointer(null)",
-        "struct 1 2, f List(List(List(UInt8))) @0 =AnyPointer(null)",
+        "struct 1 2, f UInt16*3 @0 =AnyPointer(null)",
+        "struct 1 2, f UInt8*3 @0 =AnyPointer(null)",
         false,
     ),
     (
-        "struct 1 2, f List(List(List(UInt16))) @0 =AnyPointer(null)",
-        "struct 1 2, f List(List(UInt16)) @0 =AnyPointer(null)",
+        "struct 1 2, f UInt16*3 @0 =AnyPointer(null)",
+        "struct 1 2, f UInt16*2 @0 =AnyPointer(null)",
         false,
     ),
     (
-        "struct 1 2, f List(List(List(UInt16))) @0 =AnyPointer(null)",
-        "struct 1 2, f List(List(List(List(UInt16)))) @0 =AnyPointer(null)",
+        "struct 1 2, f UInt16*3 @0 =AnyPointer(null)",
+        "struct 1 2, f UInt16*4 @0 =AnyPointer(null)",
         false,
     ),
     (
-        "struct 1 2, f List(List(List(Struct(2)))) @0 =AnyPointer(null)",
-        "struct 1 2, f List(List(List(Struct(3)))) @0 =AnyPointer(null)",
+        "struct 1 2, f Struct(2)*3 @0 =AnyPointer(null)",
+        "struct 1 2, f Struct(3)*3 @0 =AnyPointer(null)",
         true,
     ),
     (
-        "struct 1 2, f List(List(List(Struct(3)))) @0 =AnyPointer(null)",
-        "struct 1 2, f List(List(List(Struct(2)))) @0 =AnyPointer(null)",
+        "struct 1 2, f Struct(3)*3 @0 =AnyPointer(null)",
+        "struct 1 2, f Struct(2)*3 @0 =AnyPointer(null)",
         false,
     ),
     (
-        "struct 1 2, \
-        f List(List(List(List(List(List(List(List(List(List(List(List(List(List(List(List(List(List(List(List(List(List(List(List(List(List(List(List(List(List(UInt16)))))))))))))))))))))))))))))) @0 =AnyPointer(null)",
-        "struct 1 2, \
-        f List(List(List(List(List(List(List(List(List(List(List(List(List(List(List(List(List(List(List(List(List(List(List(List(List(List(List(List(List(List(UInt16)))))))))))))))))))))))))))))) @0 =AnyPointer(null)",
+        "struct 1 2, f UInt16*30 @0 =AnyPointer(null)",
+        "struct 1 2, f UInt16*30 @0 =AnyPointer(null)",
         true,
     ),
     (
-        "struct 1 2, \
-        f List(List(List(List(List(List(List(List(List(List(List(List(List(List(List(List(List(List(List(List(List(List(List(List(List(List(List(List(List(List(UInt16)))))))))))))))))))))))))))))) @0 =AnyPointer(null)",
-        "struct 1 2, \
-        f List(List(List(List(List(List(List(List(List(List(List(List(List(List(List(List(List(List(List(List(List(List(List(List(List(List(List(List(List(List(UInt8)))))))))))))))))))))))))))))) @0 =AnyPointer(null)",
+        "struct 1 2, f UInt16*30 @0 =AnyPointer(null)",
+        "struct 1 2, f UInt8*30 @0 =AnyPointer(null)",
         false,
     ),
     (
-        "struct 1 2, \
-        f List(List(List(List(List(List(List(List(List(List(List(List(List(List(List(List(List(List(List(List(List(List(List(List(List(List(List(List(List(List(UInt16)))))))))))))))))))))))))))))) @0 =AnyPointer(null)",
-        "struct 1 2, \
-        f List(List(List(List(List(List(List(List(List(List(List(List(List(List(List(List(List(List(List(List(List(List(List(List(List(List(List(List(List(UInt16))))))))))))))))))))))))))))) @0 =AnyPointer(null)",
+        "struct 1 2, f UInt16*30 @0 =AnyPointer(null)",
+        "struct 1 2, f UInt16*29 @0 =AnyPointer(null)",
         false,
     ),
     (
-        "struct 1 2, \
-        f List(List(List(List(List(List(List(List(List(List(List(List(List(List(List(List(List(List(List(List(List(List(List(List(List(List(List(List(List(List(UInt16)))))))))))))))))))))))))))))) @0 =AnyPointer(null)",
-        "struct 1 2, \
-        f List(List(List(List(List(List(List(List(List(List(List(List(List(List(List(List(List(List(List(List(List(List(List(List(List(List(List(List(List(List(List(UInt16))))))))))))))))))))))))))))))) @0 =AnyPointer(null)",
+        "struct 1 2, f UInt16*30 @0 =AnyPointer(null)",
+        "struct 1 2, f UInt16*31 @0 =AnyPointer(null)",
         false,
     ),
     (
-        "struct 1 2, \
-        f List(List(List(List(List(List(List(List(List(List(List(List(List(List(List(List(List(List(List(List(List(List(List(List(List(List(List(List(List(List(Struct(2))))))))))))))))))))))))))))))) @0 =AnyPointer(null)",
-        "struct 1 2, \
-        f List(List(List(List(List(List(List(List(List(List(List(List(List(List(List(List(List(List(List(List(List(List(List(List(List(List(List(List(List(List(Struct(3))))))))))))))))))))))))))))))) @0 =AnyPointer(null)",
+        "struct 1 2, f Struct(2)*30 @0 =AnyPointer(null)",
+        "struct 1 2, f Struct(3)*30 @0 =AnyPointer(null)",
         true,
     ),
     (
-        "struct 1 2, \
-        f List(List(List(List(List(List(List(List(List(List(List(List(List(List(List(List(List(List(List(List(List(List(List(List(List(List(List(List(List(List(Struct(3))))))))))))))))))))))))))))))) @0 =AnyPointer(null)",
-        "struct 1 2, \
-        f List(List(List(List(List(List(List(List(List(List(List(List(List(List(List(List(List(List(List(List(List(List(List(List(List(List(List(List(List(List(Struct(2))))))))))))))))))))))))))))))) @0 =AnyPointer(null)",
+        "struct 1 2, f Struct(3)*30 @0 =AnyPointer(null)",
+        "struct 1 2, f Struct(2)*30 @0 =AnyPointer(null)",
         false,
     ),
     (
-        "struct 1 2, \
-        f List(List(List(List(List(List(List(List(List(List(List(List(List(List(List(List(List(List(List(List(List(List(List(List(List(List(List(List(List(List(List(List(List(List(List(List(List(List(List(List(List(List(List(List(List(List(List(List(List(List(List(List(List(List(List(List(List(List(List(List(UInt16)))))))))))))))))))))))))))))))))))))))))))))))))))))))))))) @0 =AnyPointer(null)",
-        "struct 1 2, \
-        f List(List(List(List(List(List(List(List(List(List(List(List(List(List(List(List(List(List(List(List(List(List(List(List(List(List(List(List(List(List(List(List(List(List(List(List(List(List(List(List(List(List(List(List(List(List(List(List(List(List(List(List(List(List(List(List(List(List(List(List(UInt16)))))))))))))))))))))))))))))))))))))))))))))))))))))))))))) @0 =AnyPointer(null)",
+        "struct 1 2, f UInt16*60 @0 =AnyPointer(null)",
+        "struct 1 2, f UInt16*60 @0 =AnyPointer(null)",
         true,
     ),
     (
-        "struct 1 2, \
-        f List(List(List(List(List(List(List(List(List(List(List(List(List(List(List(List(List(List(List(List(List(List(List(List(List(List(List(List(List(List(List(List(List(List(List(List(List(List(List(List(List(List(List(List(List(List(List(List(List(List(List(List(List(List(List(List(List(List(List(List(UInt16)))))))))))))))))))))))))))))))))))))))))))))))))))))))))))) @0 =AnyPointer(null)",
-        "struct 1 2, \
-        f List(List(List(List(List(List(List(List(List(List(List(List(List(List(List(List(List(List(List(List(List(List(List(List(List(List(List(List(List(List(List(List(List(List(List(List(List(List(List(List(List(List(List(List(List(List(List(List(List(List(List(List(List(List(List(List(List(List(List(List(UInt8)))))))))))))))))))))))))))))))))))))))))))))))))))))))))))) @0 =AnyPointer(null)",
+        "struct 1 2, f UInt16*60 @0 =AnyPointer(null)",
+        "struct 1 2, f UInt8*60 @0 =AnyPointer(null)",
         false,
     ),
     (
-        "struct 1 2, \
-        f List(List(List(List(List(List(List(List(List(List(List(List(List(List(List(List(List(List(List(List(List(List(List(List(List(List(List(List(List(List(List(List(List(List(List(List(List(List(List(List(List(List(List(List(List(List(List(List(List(List(List(List(List(List(List(List(List(List(List(List(UInt16)))))))))))))))))))))))))))))))))))))))))))))))))))))))))))) @0 =AnyPointer(null)",
-        "struct 1 2, \
-        f List(List(List(List(List(List(List(List(List(List(List(List(List(List(List(List(List(List(List(List(List(List(List(List(List(List(List(List(List(List(List(List(List(List(List(List(List(List(List(List(List(List(List(List(List(List(List(List(List(List(List(List(List(List(List(List(List(List(List(UInt16))))))))))))))))))))))))))))))))))))))))))))))))))))))))))) @0 =AnyPointer(null)",
+        "struct 1 2, f UInt16*60 @0 =AnyPointer(null)",
+        "struct 1 2, f UInt16*59 @0 =AnyPointer(null)",
         false,
     ),
     (
-        "struct 1 2, \
-        f List(List(List(List(List(List(List(List(List(List(List(List(List(List(List(List(List(List(List(List(List(List(List(List(List(List(List(List(List(List(List(List(List(List(List(List(List(List(List(List(List(List(List(List(List(List(List(List(List(List(List(List(List(List(List(List(List(List(List(List(UInt16)))))))))))))))))))))))))))))))))))))))))))))))))))))))))))) @0 =AnyPointer(null)",
-        "struct 1 2, \
-        f List(List(List(List(List(List(List(List(List(List(List(List(List(List(List(List(List(List(List(List(List(List(List(List(List(List(List(List(List(List(List(List(List(List(List(List(List(List(List(List(List(List(List(List(List(List(List(List(List(List(List(List(List(List(List(List(List(List(List(List(List(UInt16))))))))))))))))))))))))))))))))))))))))))))))))))))))))))))) @0 =AnyPointer(null)",
+        "struct 1 2, f UInt16*60 @0 =AnyPointer(null)",
+        "struct 1 2, f UInt16*61 @0 =AnyPointer(null)",
         false,
     ),
     (
-        "struct 1 2, \
-        f List(List(List(List(List(List(List(List(List(List(List(List(List(List(List(List(List(List(List(List(List(List(List(List(List(List(List(List(List(List(List(List(List(List(List(List(List(List(List(List(List(List(List(List(List(List(List(List(List(List(List(List(List(List(List(List(List(List(List(List(Struct(2))))))))))))))))))))))))))))))))))))))))))))))))))))))))))))) @0 =AnyPointer(null)",
-        "struct 1 2, \
-        f List(List(List(List(List(List(List(List(List(List(List(List(List(List(List(List(List(List(List(List(List(List(List(List(List(List(List(List(List(List(List(List(List(List(List(List(List(List(List(List(List(List(List(List(List(List(List(List(List(List(List(List(List(List(List(List(List(List(List(List(Struct(3))))))))))))))))))))))))))))))))))))))))))))))))))))))))))))) @0 =AnyPointer(null)",
+        "struct 1 2, f Struct(2)*60 @0 =AnyPointer(null)",
+        "struct 1 2, f Struct(3)*60 @0 =AnyPointer(null)",
         true,
     ),
     (
-        "struct 1 2, \
-        f List(List(List(List(List(List(List(List(List(List(List(List(List(List(List(List(List(List(List(List(List(List(List(List(List(List(List(List(List(List(List(List(List(List(List(List(List(List(List(List(List(List(List(List(List(List(List(List(List(List(List(List(List(List(List(List(List(List(List(List(Struct(3))))))))))))))))))))))))))))))))))))))))))))))))))))))))))))) @0 =AnyPointer(null)",
-        "struct 1 2, \
-        f List(List(List(List(List(List(List(List(List(List(List(List(List(List(List(List(List(List(List(List(List(List(List(List(List(List(List(List(List(List(List(List(List(List(List(List(List(List(List(List(List(List(List(List(List(List(List(List(List(List(List(List(List(List(List(List(List(List(List(List(Struct(2))))))))))))))))))))))))))))))))))))))))))))))))))))))))))))) @0 =AnyPointer(null)",
+        "struct 1 2, f Struct(3)*60 @0 =AnyPointer(null)",
+        "struct 1 2, f Struct(2)*60 @0 =AnyPointer(null)",
         false,
     ),
 ];

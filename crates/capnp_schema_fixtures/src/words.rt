@@ -1,7 +1,7 @@
 //! Words in the texts of sets: numbers, types and values.
 //!
-//! Types are `UInt8`, `List(List(Text))`, `Enum(0)` and `Struct(1)`, by the number of a brand. That of its node is the same,
-//! or stands after a `:`, as in `Struct(9:0)`.
+//! Types are `UInt8`, `List(List(Text))`, which may be said as `Text*2` too, `Enum(0)` and `Struct(1)`, by the number of a
+//! brand. That of its node is the same, or stands after a `:`, as in `Struct(9:0)`.
 //!
 //! Values are `Void`, `Bool(true)`, `Int16(-1)`, `Enum(2)`, `Text(hi)`, and of the kinds `Data`, `Struct`, `List` and
 //! `AnyPointer` the name of bytes in `WORDS`, as in `Struct(null)`.
@@ -269,6 +269,7 @@ static TYPES: [(&str, TypeVariant); 13] = [
 
 /// The type that a text says.
 pub fn read_type(text: &str) -> Result<Type> {
+    let (text, layers) = text.split_once('*').unwrap_or((text, "0"));
     let innermost = text.trim_start_matches("List(");
     let (kind, content) = name_and_content(innermost);
     let variant = match kind {
@@ -286,6 +287,9 @@ pub fn read_type(text: &str) -> Result<Type> {
     };
     let mut read = Type::from(variant);
     for _ in text.matches("List(") {
+        read = Type::from(TypeVariant::List(read));
+    }
+    for _ in 0..number::<u32>(layers)? {
         read = Type::from(TypeVariant::List(read));
     }
     Ok(read)
