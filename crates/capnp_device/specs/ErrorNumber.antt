@@ -1,7 +1,7 @@
 -- the number of each refusal
 use Rattle.std.specs.Prelude.{ℕ, ◌+◌, ◌-◌, ◌^◌, min}
 use Rattle.capnp_device.specs.declared.error.ErrorKind.{ErrorKind}
-use Rattle.capnp_device.specs.declared.error.ErrorKind.TheVariants.{OutOfMemory, Truncated, TooManySegments, BadPointer, WrongPointerKind, WrongElementSize, TextNotTerminated, TooDeep, CapabilityPointer, SizePastFormat, TooLarge, ReadFailed, WriteFailed, FieldNotFound, TypeMismatch, NotAStruct, ExpectedAListOrBlob, ListAnyPointerNotSupported, InitIsOnlyValidForStructAndAnyPointerFields, InitnIsOnlyValidForListTextOrDataFields, CannotSetAnyPointerFieldToAPrimitiveValue, InactiveMember, UntypedStep, NoSuchElement, NotAContainer, Schema}
+use Rattle.capnp_device.specs.declared.error.ErrorKind.TheVariants.{OutOfMemory, Truncated, TooManySegments, BadPointer, WrongPointerKind, WrongElementSize, TextNotTerminated, TooDeep, CapabilityPointer, SizePastFormat, TooLarge, ReadFailed, WriteFailed, FieldNotFound, TypeMismatch, NotAStruct, ExpectedAListOrBlob, ListAnyPointerNotSupported, InitIsOnlyValidForStructAndAnyPointerFields, InitnIsOnlyValidForListTextOrDataFields, CannotSetAnyPointerFieldToAPrimitiveValue, InactiveMember, UntypedStep, NoSuchElement, NotAContainer, Schema, FloatType, InterfaceType, UnknownKind, NameNotUtf8, NameNotFound, NodeNotFound, TooManyTypes}
 
 -- the number that stands for a kind; a broken rule k is 40 + k, as far as a u32 goes
 abbrev pub error_number : ErrorKind → ℕ
@@ -31,3 +31,10 @@ error_number UntypedStep = 31
 error_number NoSuchElement = 32
 error_number NotAContainer = 33
 error_number (Schema rule table entry field) = min (rule + 40) (2 ^ 32 - 1)
+error_number FloatType = 60
+error_number InterfaceType = 61
+error_number UnknownKind = 62
+error_number NameNotUtf8 = 63
+error_number NameNotFound = 64
+error_number NodeNotFound = 65
+error_number TooManyTypes = 66

@@ -120,11 +120,33 @@ pub enum ErrorKind {
         /// The field, counted from 0 in its record; 65,535 where the whole record is meant.
         field: u16,
     },
+    /// A type is a floating point number, which schema records do not have.
+    #[error("schemas here have no floating point types")]
+    FloatType,
+    /// A type is an interface, which schema records do not have.
+    #[error("schemas here have no interface types")]
+    InterfaceType,
+    /// A type's base, or the discriminant of a part of a schema, is one that is not known.
+    #[error("a kind that is not known")]
+    UnknownKind,
+    /// A name in a schema is not UTF-8.
+    #[error("a name is not UTF-8")]
+    NameNotUtf8,
+    /// No struct of the schema set has the name that was asked for.
+    #[error("no struct of that name")]
+    NameNotFound,
+    /// An id names no node, or a node of another kind.
+    #[error("no such schema node")]
+    NodeNotFound,
+    /// The bindings of generic structs make more types, or longer names, than a set may have.
+    #[error("too many bound types")]
+    TooManyTypes,
 }
 
 impl ErrorKind {
     /// The number that stands for this kind: 1 to 13 for messages, 20 to 27 for values and fields,
-    /// 30 to 33 for paths, and 40 + k where rule k of schemas is broken, at most `u32::MAX`.
+    /// 30 to 33 for paths, 40 + k where rule k of schemas is broken, at most `u32::MAX`, and 60 to 66
+    /// for schemas that come as messages.
     pub fn number(&self) -> u32
         ensures { result ≡ error_number self.now }
     {
@@ -155,6 +177,13 @@ impl ErrorKind {
             ErrorKind::NoSuchElement => 32,
             ErrorKind::NotAContainer => 33,
             ErrorKind::Schema { rule, .. } => rule.saturating_add(40),
+            ErrorKind::FloatType => 60,
+            ErrorKind::InterfaceType => 61,
+            ErrorKind::UnknownKind => 62,
+            ErrorKind::NameNotUtf8 => 63,
+            ErrorKind::NameNotFound => 64,
+            ErrorKind::NodeNotFound => 65,
+            ErrorKind::TooManyTypes => 66,
         }
     }
 }
