@@ -1,5 +1,5 @@
--- the number of each refusal
-use Rattle.std.specs.Prelude.{ℕ, ◌+◌, ◌-◌, ◌^◌, min}
+-- the number and the name of each refusal
+use Rattle.std.specs.Prelude.{ℕ, ◌+◌, ◌-◌, ◌^◌, min, List, codes}
 use Rattle.capnp_device.specs.declared.error.ErrorKind.{ErrorKind}
 use Rattle.capnp_device.specs.declared.error.ErrorKind.TheVariants.{OutOfMemory, Truncated, TooManySegments, BadPointer, WrongPointerKind, WrongElementSize, TextNotTerminated, TooDeep, CapabilityPointer, SizePastFormat, TooLarge, ReadFailed, WriteFailed, FieldNotFound, TypeMismatch, NotAStruct, ExpectedAListOrBlob, ListAnyPointerNotSupported, InitIsOnlyValidForStructAndAnyPointerFields, InitnIsOnlyValidForListTextOrDataFields, CannotSetAnyPointerFieldToAPrimitiveValue, InactiveMember, UntypedStep, NoSuchElement, NotAContainer, Schema, FloatType, InterfaceType, UnknownKind, NameNotUtf8, NameNotFound, NodeNotFound, TooManyTypes}
 
@@ -38,3 +38,39 @@ error_number NameNotUtf8 = 63
 error_number NameNotFound = 64
 error_number NodeNotFound = 65
 error_number TooManyTypes = 66
+
+-- the name of a kind, in ASCII
+abbrev pub error_name : ErrorKind → List ℕ
+error_name OutOfMemory = codes "OutOfMemory"
+error_name Truncated = codes "Truncated"
+error_name TooManySegments = codes "TooManySegments"
+error_name BadPointer = codes "BadPointer"
+error_name WrongPointerKind = codes "WrongPointerKind"
+error_name WrongElementSize = codes "WrongElementSize"
+error_name TextNotTerminated = codes "TextNotTerminated"
+error_name TooDeep = codes "TooDeep"
+error_name CapabilityPointer = codes "CapabilityPointer"
+error_name SizePastFormat = codes "SizePastFormat"
+error_name TooLarge = codes "TooLarge"
+error_name ReadFailed = codes "ReadFailed"
+error_name WriteFailed = codes "WriteFailed"
+error_name FieldNotFound = codes "FieldNotFound"
+error_name TypeMismatch = codes "TypeMismatch"
+error_name NotAStruct = codes "NotAStruct"
+error_name ExpectedAListOrBlob = codes "ExpectedAListOrBlob"
+error_name ListAnyPointerNotSupported = codes "ListAnyPointerNotSupported"
+error_name InitIsOnlyValidForStructAndAnyPointerFields = codes "InitIsOnlyValidForStructAndAnyPointerFields"
+error_name InitnIsOnlyValidForListTextOrDataFields = codes "InitnIsOnlyValidForListTextOrDataFields"
+error_name CannotSetAnyPointerFieldToAPrimitiveValue = codes "CannotSetAnyPointerFieldToAPrimitiveValue"
+error_name InactiveMember = codes "InactiveMember"
+error_name UntypedStep = codes "UntypedStep"
+error_name NoSuchElement = codes "NoSuchElement"
+error_name NotAContainer = codes "NotAContainer"
+error_name (Schema rule table entry field) = codes "Schema"
+error_name FloatType = codes "FloatType"
+error_name InterfaceType = codes "InterfaceType"
+error_name UnknownKind = codes "UnknownKind"
+error_name NameNotUtf8 = codes "NameNotUtf8"
+error_name NameNotFound = codes "NameNotFound"
+error_name NodeNotFound = codes "NodeNotFound"
+error_name TooManyTypes = codes "TooManyTypes"

@@ -1,7 +1,7 @@
 //! The refusals of every call.
 ghost use Rattle.std.specs.Prelude.{◌≡◌};
-ghost use Rattle.capnp_device.specs.ErrorNumber.{error_number};
-ghost use Rattle.capnp_device.specs.declared.error.ErrorKind.TheVariants.{OutOfMemory};
+ghost use Rattle.capnp_device.specs.ErrorNumber.{error_name, error_number};
+ghost use Rattle.capnp_device.specs.declared.error.ErrorKind.TheVariants.{OutOfMemory, TypeMismatch};
 
 use std::alloc::{AllocError, AllocFailed};
 use std::fmt;
@@ -186,6 +186,50 @@ impl ErrorKind {
             ErrorKind::TooManyTypes => 66,
         }
     }
+
+    /// The name of this kind, as the variant is spelled.
+    pub fn name(&self) -> &'static str
+        ensures { result.now ≡ error_name self.now }
+    {
+        match self {
+            ErrorKind::OutOfMemory => "OutOfMemory",
+            ErrorKind::Truncated => "Truncated",
+            ErrorKind::TooManySegments => "TooManySegments",
+            ErrorKind::BadPointer => "BadPointer",
+            ErrorKind::WrongPointerKind => "WrongPointerKind",
+            ErrorKind::WrongElementSize => "WrongElementSize",
+            ErrorKind::TextNotTerminated => "TextNotTerminated",
+            ErrorKind::TooDeep => "TooDeep",
+            ErrorKind::CapabilityPointer => "CapabilityPointer",
+            ErrorKind::SizePastFormat => "SizePastFormat",
+            ErrorKind::TooLarge => "TooLarge",
+            ErrorKind::ReadFailed => "ReadFailed",
+            ErrorKind::WriteFailed => "WriteFailed",
+            ErrorKind::FieldNotFound => "FieldNotFound",
+            ErrorKind::TypeMismatch => "TypeMismatch",
+            ErrorKind::NotAStruct => "NotAStruct",
+            ErrorKind::ExpectedAListOrBlob => "ExpectedAListOrBlob",
+            ErrorKind::ListAnyPointerNotSupported => "ListAnyPointerNotSupported",
+            ErrorKind::InitIsOnlyValidForStructAndAnyPointerFields =>
+                "InitIsOnlyValidForStructAndAnyPointerFields",
+            ErrorKind::InitnIsOnlyValidForListTextOrDataFields =>
+                "InitnIsOnlyValidForListTextOrDataFields",
+            ErrorKind::CannotSetAnyPointerFieldToAPrimitiveValue =>
+                "CannotSetAnyPointerFieldToAPrimitiveValue",
+            ErrorKind::InactiveMember => "InactiveMember",
+            ErrorKind::UntypedStep => "UntypedStep",
+            ErrorKind::NoSuchElement => "NoSuchElement",
+            ErrorKind::NotAContainer => "NotAContainer",
+            ErrorKind::Schema { .. } => "Schema",
+            ErrorKind::FloatType => "FloatType",
+            ErrorKind::InterfaceType => "InterfaceType",
+            ErrorKind::UnknownKind => "UnknownKind",
+            ErrorKind::NameNotUtf8 => "NameNotUtf8",
+            ErrorKind::NameNotFound => "NameNotFound",
+            ErrorKind::NodeNotFound => "NodeNotFound",
+            ErrorKind::TooManyTypes => "TooManyTypes",
+        }
+    }
 }
 
 /// A refusal.
@@ -198,6 +242,17 @@ pub struct Error {
 
 /// What a call that may be refused answers.
 pub type Result<T> = std::result::Result<T, Error>;
+
+impl Error {
+    /// The refusal of a value of another kind than that of the field or element.
+    pub fn type_mismatch() -> Error
+        ensures { result.kind ≡ TypeMismatch }
+    {
+        Error {
+            kind: ErrorKind::TypeMismatch,
+        }
+    }
+}
 
 impl From<ErrorKind> for Error {
     ghost from_gives = { λ kind e. e.kind ≡ kind };
