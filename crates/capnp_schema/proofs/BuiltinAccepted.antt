@@ -1,7 +1,6 @@
 -- The built-in set meets the twelve rules: the tests of the rules, computed.
-use Rattle.std.proofs.Common.{ℕ, ◌≡◌, ◌-◌, List, true, refl, sym, subst}
+use Rattle.std.proofs.Common.{ℕ, ◌≡◌, ◌-◌, true, refl}
 use Rattle.capnp_wire.specs.Place.{tree_at, tree_below}
-use Rattle.capnp_schema.specs.Schema.{Node, Brand, Enum}
 use Rattle.capnp_schema.specs.Accepted.{IsAccepted}
 use Rattle.capnp_schema.specs.Builtin.{builtin}
 use Rattle.capnp_schema.proofs.ComputedRules.{meets_rule1, meets_rule2, meets_rule3, meets_rule4, meets_rule5, meets_rule7, meets_rule9, meets_rule10, rule1, rule2, rule3, rule4, rule5, rule7, rule9, rule10}
@@ -50,7 +49,7 @@ plain_fields_are_apart = refl
 discriminants_are_apart : meets_rule12 builtin ≡ true
 discriminants_are_apart = refl
 
-builtin_accepted : IsAccepted builtin
+pub builtin_accepted : IsAccepted builtin
 builtin_accepted = record {
   rule1 = rule1 builtin types_name_entries;
   rule2 = rule2 builtin types_are_there;
@@ -65,10 +64,3 @@ builtin_accepted = record {
   rule11 = rule11 builtin plain_fields_are_apart;
   rule12 = rule12 builtin discriminants_are_apart;
 }
-
--- and so do lists that are its lists
-pub lists_accepted : (nodes : List Node) (brands : List Brand) (enums : List Enum) → nodes ≡ builtin.nodes → brands ≡ builtin.brands → enums ≡ builtin.enums → IsAccepted (record { nodes = nodes; brands = brands; enums = enums })
-lists_accepted nodes brands enums n b e =
-    subst (λ (ns : List Node). IsAccepted (record { nodes = ns; brands = brands; enums = enums })) (sym n) (
-    subst (λ (bs : List Brand). IsAccepted (record { nodes = builtin.nodes; brands = bs; enums = enums })) (sym b) (
-    subst (λ (es : List Enum). IsAccepted (record { nodes = builtin.nodes; brands = builtin.brands; enums = es })) (sym e) builtin_accepted))

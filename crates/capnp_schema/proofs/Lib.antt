@@ -1,3 +1,4 @@
+pub mod AcceptedLists
 pub mod AnnotatedLemmas
 pub mod AnnotatedPlaces
 pub mod BrokenSets
@@ -23,6 +24,7 @@ pub mod Indices
 pub mod LookUps
 pub mod MemberTables
 pub mod Members
+pub mod MetaAccepted
 pub mod NameOrder
 pub mod NameSearch
 pub mod PlanFits

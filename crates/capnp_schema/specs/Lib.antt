@@ -4,7 +4,6 @@ pub mod AnnotationLists
 pub mod Broken
 pub mod BrokenLaw
 pub mod Builtin
-pub mod BuiltinRows
 pub mod Checking
 pub mod Defaults
 pub mod Discriminant
@@ -18,6 +17,7 @@ pub mod Footprint
 pub mod GroupsDown
 pub mod Laws
 pub mod Layers
+pub mod Meta
 pub mod Named
 pub mod Names
 pub mod Plan
@@ -27,6 +27,7 @@ pub mod Schema
 pub mod SlotBits
 pub mod SlotValue
 pub mod StructHandles
+pub mod TableRows
 pub mod Tables
 pub mod Types
 pub mod Views

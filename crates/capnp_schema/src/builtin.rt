@@ -8,13 +8,12 @@ ghost use Rattle.capnp_schema.specs.Accepted.{IsAccepted};
 ghost use Rattle.capnp_schema.specs.Builtin as set;
 ghost use Rattle.capnp_schema.specs.Entries.{lists_seen};
 
-mod rows;
 mod table;
 
-use crate::builtin::rows::{MadeOf, all_made};
 use crate::builtin::table::{NODES, SIZES};
 use crate::record::{AnnotationTypes, BrandRecord, EnumRecord, EnumerantRecord, NodeRecord};
 use crate::set::SchemaSet;
+use crate::table_rows::{MadeOf, all_made};
 use capnp_base::introspect::Type;
 use capnp_wire::error::Error;
 use std::alloc::{AllocError, Global};

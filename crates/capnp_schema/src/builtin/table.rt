@@ -1,90 +1,10 @@
-//! The built-in set as a table, and what its rows are.
+//! The built-in set as a table.
 
+use crate::table_rows::{
+    ANY, AnnotationRow, BOOL, DATA, FieldRow, INT8, INT32, KindRow, NO_TEXT, NULL, NodeRow, PLAIN,
+    TEXT, TypeRow, UINT8, UINT16, UINT32, UINT64, VOID, ValueRow,
+};
 use capnp_base::introspect::{RawBrandedStructSchema, RawEnumSchema, TypeVariant};
-
-/// A type: a layer that is no list, or the list of one.
-#[derive(Clone, Copy)]
-pub(crate) enum TypeRow {
-    One(TypeVariant),
-    List(TypeVariant),
-}
-
-/// A value of one of the kinds that the set has.
-#[derive(Clone, Copy)]
-pub(crate) enum ValueRow {
-    Void,
-    Bool(bool),
-    Int8(i8),
-    Int32(i32),
-    UInt8(u8),
-    UInt16(u16),
-    UInt32(u32),
-    UInt64(u64),
-    Enum(u16),
-    Text(&'static [u8]),
-    Data(&'static [u8]),
-    Struct(&'static [u8]),
-    List(&'static [u8]),
-    AnyPointer(&'static [u8]),
-}
-
-/// An annotation: its id, its type and its value.
-pub(crate) struct AnnotationRow(pub(crate) u64, pub(crate) TypeRow, pub(crate) ValueRow);
-
-/// What a field is: a slot at an offset with its default, or the group of a node.
-#[derive(Clone, Copy)]
-pub(crate) enum KindRow {
-    Slot(u32, ValueRow),
-    Group(u32),
-}
-
-/// A field: its name, its discriminant value, what it is, its type and its annotations.
-pub(crate) struct FieldRow(
-    pub(crate) &'static str,
-    pub(crate) u16,
-    pub(crate) KindRow,
-    pub(crate) TypeRow,
-    pub(crate) &'static [AnnotationRow],
-);
-
-/// A node with the types of its one brand, whose number is the node's.
-pub(crate) struct NodeRow {
-    pub(crate) number: u32,
-    pub(crate) id: u64,
-    pub(crate) name: &'static str,
-    pub(crate) data_words: u16,
-    pub(crate) pointers: u16,
-    pub(crate) is_group: bool,
-    pub(crate) members: u16,
-    pub(crate) discriminant_offset: u32,
-    pub(crate) annotations: &'static [AnnotationRow],
-    pub(crate) fields: &'static [FieldRow],
-}
-
-/// The discriminant value of a plain field.
-const PLAIN: u16 = 65_535;
-
-const VOID: TypeRow = TypeRow::One(TypeVariant::Void);
-
-const BOOL: TypeRow = TypeRow::One(TypeVariant::Bool);
-
-const INT8: TypeRow = TypeRow::One(TypeVariant::Int8);
-
-const INT32: TypeRow = TypeRow::One(TypeVariant::Int32);
-
-const UINT8: TypeRow = TypeRow::One(TypeVariant::UInt8);
-
-const UINT16: TypeRow = TypeRow::One(TypeVariant::UInt16);
-
-const UINT32: TypeRow = TypeRow::One(TypeVariant::UInt32);
-
-const UINT64: TypeRow = TypeRow::One(TypeVariant::UInt64);
-
-const TEXT: TypeRow = TypeRow::One(TypeVariant::Text);
-
-const DATA: TypeRow = TypeRow::One(TypeVariant::Data);
-
-const ANY: TypeRow = TypeRow::One(TypeVariant::AnyPointer);
 
 const SIZE: TypeRow = TypeRow::One(TypeVariant::Enum(RawEnumSchema { number: 0 }));
 
@@ -107,11 +27,6 @@ const LOOP: TypeVariant = TypeVariant::Struct(RawBrandedStructSchema {
     number: 6,
     generic: 6,
 });
-
-const NO_TEXT: ValueRow = ValueRow::Text(&[]);
-
-/// A null pointer.
-const NULL: [u8; 8] = [0; 8];
 
 /// A struct of one data word, which is 1, and one null pointer.
 const LOOP_WORDS: [u8; 24] = [

@@ -1,28 +1,31 @@
--- What the rows of the built-in set's table stand for.
+-- What the rows of a table of schemas stand for.
 use Rattle.std.specs.Prelude.{List, map}
 use Rattle.capnp_base.specs.declared.introspect.«Type».{«Type» as TypeHandle}
 use Rattle.capnp_base.specs.Types.{list_type, type_from}
-use Rattle.capnp_schema.specs.declared.builtin.table.TypeRow.{TypeRow}
-use Rattle.capnp_schema.specs.declared.builtin.table.TypeRow.TheVariants as type_row
-use Rattle.capnp_schema.specs.declared.builtin.table.ValueRow.{ValueRow}
-use Rattle.capnp_schema.specs.declared.builtin.table.ValueRow.TheVariants as row
-use Rattle.capnp_schema.specs.declared.builtin.table.KindRow.{KindRow}
-use Rattle.capnp_schema.specs.declared.builtin.table.KindRow.TheVariants as kind
-use Rattle.capnp_schema.specs.declared.builtin.table.AnnotationRow.{AnnotationRow}
-use Rattle.capnp_schema.specs.declared.builtin.table.FieldRow.{FieldRow}
-use Rattle.capnp_schema.specs.declared.builtin.table.NodeRow.{NodeRow}
+use Rattle.capnp_schema.specs.declared.table_rows.TypeRow.{TypeRow}
+use Rattle.capnp_schema.specs.declared.table_rows.TypeRow.TheVariants as type_row
+use Rattle.capnp_schema.specs.declared.table_rows.ValueRow.{ValueRow}
+use Rattle.capnp_schema.specs.declared.table_rows.ValueRow.TheVariants as row
+use Rattle.capnp_schema.specs.declared.table_rows.KindRow.{KindRow}
+use Rattle.capnp_schema.specs.declared.table_rows.KindRow.TheVariants as kind
+use Rattle.capnp_schema.specs.declared.table_rows.AnnotationRow.{AnnotationRow}
+use Rattle.capnp_schema.specs.declared.table_rows.FieldRow.{FieldRow}
+use Rattle.capnp_schema.specs.declared.table_rows.NodeRow.{NodeRow}
 use Rattle.capnp_schema.specs.Types.{SchemaType, seen_type}
 use Rattle.capnp_schema.specs.Schema.{Node, Brand, Field, FieldKind, Annotation, Slot, Group, Value, VoidValue, BoolValue, IntValue, UIntValue, EnumValue, TextValue, DataValue, StructValue, ListValue, AnyPointerValue}
 
 abbrev pub row_type : TypeRow → TypeHandle
 row_type (type_row.One v) = type_from v
 row_type (type_row.List v) = list_type (type_from v)
+row_type (type_row.ListOfLists v) = list_type (list_type (type_from v))
 
 abbrev pub row_value : ValueRow → Value
 row_value row.Void = VoidValue
 row_value (row.Bool b) = BoolValue b
 row_value (row.Int8 x) = IntValue 1 x
+row_value (row.Int16 x) = IntValue 2 x
 row_value (row.Int32 x) = IntValue 4 x
+row_value (row.Int64 x) = IntValue 8 x
 row_value (row.UInt8 x) = UIntValue 1 x
 row_value (row.UInt16 x) = UIntValue 2 x
 row_value (row.UInt32 x) = UIntValue 4 x

@@ -1,19 +1,114 @@
-//! Rows of the built-in set's table as records.
+//! Tables of schemas that are built in: their rows, and the records that are made of them.
 ghost use Rattle.std.specs.Prelude.{◌≡◌, List, map, IfOk};
 ghost use Rattle.capnp_schema.specs.Types.{SchemaType, seen_type};
 ghost use Rattle.capnp_schema.specs.Schema.{Annotation, Brand, Field, Node, seen_annotation, seen_brand, seen_field, seen_kind, seen_node, seen_value};
-ghost use Rattle.capnp_schema.specs.BuiltinRows.{annotation_type, field_annotation_types, field_type, row_annotation, row_brand};
-ghost use Rattle.capnp_schema.specs.BuiltinRows.{row_field, row_kind, row_node, row_type, row_value};
+ghost use Rattle.capnp_schema.specs.TableRows.{annotation_type, field_annotation_types, field_type, row_annotation, row_brand};
+ghost use Rattle.capnp_schema.specs.TableRows.{row_field, row_kind, row_node, row_type, row_value};
 
-use crate::builtin::table::{AnnotationRow, FieldRow, KindRow, NodeRow, TypeRow, ValueRow};
 use crate::record::{
     AnnotationRecord, AnnotationTypes, BrandRecord, FieldKind, FieldRecord, NodeRecord,
     StructRecord, ValueRecord,
 };
-use capnp_base::introspect::Type;
+use capnp_base::introspect::{Type, TypeVariant};
 use std::alloc::{AllocError, Global};
 
-/// What a row of the table is made into.
+/// A type: a layer that is no list, the list of one, or the list of such lists.
+#[derive(Clone, Copy)]
+pub(crate) enum TypeRow {
+    One(TypeVariant),
+    List(TypeVariant),
+    ListOfLists(TypeVariant),
+}
+
+/// A value.
+#[derive(Clone, Copy)]
+pub(crate) enum ValueRow {
+    Void,
+    Bool(bool),
+    Int8(i8),
+    Int16(i16),
+    Int32(i32),
+    Int64(i64),
+    UInt8(u8),
+    UInt16(u16),
+    UInt32(u32),
+    UInt64(u64),
+    Enum(u16),
+    Text(&'static [u8]),
+    Data(&'static [u8]),
+    Struct(&'static [u8]),
+    List(&'static [u8]),
+    AnyPointer(&'static [u8]),
+}
+
+/// An annotation: its id, its type and its value.
+pub(crate) struct AnnotationRow(pub(crate) u64, pub(crate) TypeRow, pub(crate) ValueRow);
+
+/// What a field is: a slot at an offset with its default, or the group of a node.
+#[derive(Clone, Copy)]
+pub(crate) enum KindRow {
+    Slot(u32, ValueRow),
+    Group(u32),
+}
+
+/// A field: its name, its discriminant value, what it is, its type and its annotations.
+pub(crate) struct FieldRow(
+    pub(crate) &'static str,
+    pub(crate) u16,
+    pub(crate) KindRow,
+    pub(crate) TypeRow,
+    pub(crate) &'static [AnnotationRow],
+);
+
+/// A node with the types of its one brand, whose number is the node's.
+pub(crate) struct NodeRow {
+    pub(crate) number: u32,
+    pub(crate) id: u64,
+    pub(crate) name: &'static str,
+    pub(crate) data_words: u16,
+    pub(crate) pointers: u16,
+    pub(crate) is_group: bool,
+    pub(crate) members: u16,
+    pub(crate) discriminant_offset: u32,
+    pub(crate) annotations: &'static [AnnotationRow],
+    pub(crate) fields: &'static [FieldRow],
+}
+
+/// The discriminant value of a plain field.
+pub(crate) const PLAIN: u16 = 65_535;
+
+pub(crate) const VOID: TypeRow = TypeRow::One(TypeVariant::Void);
+
+pub(crate) const BOOL: TypeRow = TypeRow::One(TypeVariant::Bool);
+
+pub(crate) const INT8: TypeRow = TypeRow::One(TypeVariant::Int8);
+
+pub(crate) const INT16: TypeRow = TypeRow::One(TypeVariant::Int16);
+
+pub(crate) const INT32: TypeRow = TypeRow::One(TypeVariant::Int32);
+
+pub(crate) const INT64: TypeRow = TypeRow::One(TypeVariant::Int64);
+
+pub(crate) const UINT8: TypeRow = TypeRow::One(TypeVariant::UInt8);
+
+pub(crate) const UINT16: TypeRow = TypeRow::One(TypeVariant::UInt16);
+
+pub(crate) const UINT32: TypeRow = TypeRow::One(TypeVariant::UInt32);
+
+pub(crate) const UINT64: TypeRow = TypeRow::One(TypeVariant::UInt64);
+
+pub(crate) const TEXT: TypeRow = TypeRow::One(TypeVariant::Text);
+
+pub(crate) const DATA: TypeRow = TypeRow::One(TypeVariant::Data);
+
+pub(crate) const ANY: TypeRow = TypeRow::One(TypeVariant::AnyPointer);
+
+pub(crate) const NO_TEXT: ValueRow = ValueRow::Text(&[]);
+
+/// A null pointer.
+pub(crate) const NULL: [u8; 8] = [0; 8];
+
+/// What a row of a table is made into.
 pub(crate) trait MadeOf<Row> {
     // What it is to definitions, and what a row stands for there.
     ghost Seen: { Type 0 };
@@ -47,6 +142,7 @@ fn type_of(row: TypeRow) -> Type
     match row {
         TypeRow::One(of) => Type::from(of),
         TypeRow::List(of) => Type::list_of(Type::from(of)),
+        TypeRow::ListOfLists(of) => Type::list_of(Type::list_of(Type::from(of))),
     }
 }
 
@@ -57,7 +153,9 @@ fn value_of(alloc: Global, row: ValueRow) -> Result<ValueRecord, AllocError>
         ValueRow::Void => Ok(ValueRecord::Void),
         ValueRow::Bool(x) => Ok(ValueRecord::Bool(x)),
         ValueRow::Int8(x) => Ok(ValueRecord::Int8(x)),
+        ValueRow::Int16(x) => Ok(ValueRecord::Int16(x)),
         ValueRow::Int32(x) => Ok(ValueRecord::Int32(x)),
+        ValueRow::Int64(x) => Ok(ValueRecord::Int64(x)),
         ValueRow::UInt8(x) => Ok(ValueRecord::UInt8(x)),
         ValueRow::UInt16(x) => Ok(ValueRecord::UInt16(x)),
         ValueRow::UInt32(x) => Ok(ValueRecord::UInt32(x)),
