@@ -12,7 +12,7 @@ use capnp_dynamic::dynamic_value::Reader as Value;
 use capnp_dynamic::group;
 use capnp_schema::builtin::new_set;
 use capnp_schema::schema::{Field, StructSchema};
-use capnp_wire::error::{Error, ErrorKind, Result};
+use capnp_wire::error::{Error, Result};
 use capnp_wire::laws::kept::{nulls_are_well_formed, structs_can_be_read};
 use capnp_wire::message;
 use capnp_wire::object::StructObject;
@@ -48,7 +48,7 @@ fn group_of<'s>(field: Field<'s>) -> Result<StructSchema<'s>>
 {
     match group::group_of(field) {
         Some(group) => Ok(group),
-        None => Err(Error::from(ErrorKind::TypeMismatch)),
+        None => Err(Error::type_mismatch()),
     }
 }
 

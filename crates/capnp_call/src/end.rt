@@ -9,7 +9,7 @@ ghost use Rattle.capnp_records.specs.Writes.Slots.{Fits};
 ghost use Rattle.capnp_slots.specs.Fields.{IsRoomFor, IsSlot};
 ghost use Rattle.capnp_slots.specs.Groups.{IsGroup, KeepsSize};
 ghost use Rattle.capnp_slots.specs.Sources.{source_seen};
-ghost use Rattle.capnp_dynamic_readers.specs.SetValues.{source_of};
+ghost use Rattle.capnp_slots.specs.SetValues.{source_of};
 ghost use Rattle.capnp_call.specs.Ends.{FieldDoes, NamedDoes, StructEnds};
 ghost use Rattle.capnp_call.specs.Seen.{op_seen, reply_seen, step_seen};
 
@@ -18,6 +18,7 @@ use crate::calls::{Ending, Op, Reply};
 use crate::way::find_field;
 use capnp_dynamic_readers::dynamic_value::Reader as Value;
 use capnp_schema::schema::{Field, StructSchema};
+use capnp_slots::primitive::Primitive;
 use capnp_slots::source::{Source, source_fits};
 use capnp_slots::{group, slot};
 use capnp_wire::error::ErrorKind;
@@ -73,7 +74,7 @@ fn set_pointed(object: &mut StructObject, field: Field<'_>, value: &Value<'_>) -
     ensures does { FieldDoes field.entry (Set (source_of value.now)) (struct_object_tree object.old) (reply_seen result) (struct_object_tree object.new) }
     ensures kept { KeepsSize (struct_object_tree object.old) (struct_object_tree object.new) }
 {
-    set_to(object, field, value.into_source())
+    set_to(object, field, Source::from(*value))
 }
 
 /// Sets a field to a value. Of a value that no pointer stands for the number alone is read.
@@ -83,7 +84,7 @@ fn set_field(object: &mut StructObject, field: Field<'_>, value: &Value<'_>) -> 
     ensures does { FieldDoes field.entry (Set (source_of value.now)) (struct_object_tree object.old) (reply_seen result) (struct_object_tree object.new) }
     ensures kept { KeepsSize (struct_object_tree object.old) (struct_object_tree object.new) }
 {
-    match value.as_primitive() {
+    match Primitive::from_value(value) {
         Some(number) => set_to(object, field, Source::Primitive(number)),
         None => set_pointed(object, field, value),
     }

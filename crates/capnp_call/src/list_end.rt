@@ -19,7 +19,7 @@ use capnp_dynamic_readers::dynamic_list;
 use capnp_dynamic_readers::dynamic_value::Reader as Value;
 use capnp_schema::set::SchemaSet;
 use capnp_slots::element;
-use capnp_slots::source::source_fits;
+use capnp_slots::source::{Source, source_fits};
 use capnp_wire::error::ErrorKind;
 use capnp_wire::laws::objects_are_what_they_hold;
 use capnp_wire::object::ListObject;
@@ -80,7 +80,7 @@ fn set_element(
         (list_object_tree list.new) }
     ensures formed { IsWellFormed (list_object_tree list.new) }
 {
-    let source = value.into_source();
+    let source = Source::from(value);
     source_fits(source);
     match element::set(list, set, element, index, source) {
         Ok(()) => Reply::Done,

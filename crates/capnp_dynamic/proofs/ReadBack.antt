@@ -29,7 +29,7 @@ use Rattle.capnp_dynamic.specs.Handed.{HandsGroup, start_handed}
 use Rattle.capnp_dynamic.specs.ReadBack.{AreApart, ClearIsActive, ClearIsGot, GroupStarts, IsActiveUnder, OtherIsGot, OtherIsThere, SetIsActive, SetIsGot}
 use Rattle.capnp_dynamic_readers.specs.Reads.{BelongsTo, field_read, handed_out}
 use Rattle.capnp_dynamic_readers.specs.Seen.{value_seen}
-use Rattle.capnp_dynamic_readers.specs.SetValues.{source_of}
+use Rattle.capnp_slots.specs.SetValues.{source_of}
 use Rattle.capnp_dynamic_readers.specs.declared.dynamic_value.Reader.{Reader as DynamicValue}
 use Rattle.capnp_dynamic_readers.specs.declared.dynamic_value.Reader.TheVariants as dynamic
 use Rattle.capnp_dynamic.specs.declared.dynamic_value.build.Builder.TheVariants as built

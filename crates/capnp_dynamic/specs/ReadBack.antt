@@ -18,7 +18,7 @@ use Rattle.capnp_dynamic.specs.FieldWrites.{IsFieldSet, field_cleared}
 use Rattle.capnp_dynamic.specs.Handed.{HandsInit}
 use Rattle.capnp_dynamic_readers.specs.Reads.{BelongsTo, field_read}
 use Rattle.capnp_dynamic_readers.specs.Seen.{value_seen}
-use Rattle.capnp_dynamic_readers.specs.SetValues.{source_of}
+use Rattle.capnp_slots.specs.SetValues.{source_of}
 use Rattle.capnp_dynamic.specs.declared.dynamic_struct.build.Builder.{Builder as StructHandle}
 use Rattle.capnp_dynamic_readers.specs.declared.dynamic_value.Reader.{Reader as DynamicValue}
 use Rattle.capnp_dynamic.specs.declared.dynamic_value.build.Builder.TheVariants as built

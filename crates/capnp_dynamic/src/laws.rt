@@ -5,6 +5,7 @@ ghost use Rattle.capnp_dynamic.specs.ReadBack.{ClearIsActive, ClearIsGot, GroupS
 use crate::dynamic_value;
 use capnp_schema::schema::Field;
 use capnp_slots::laws::{groups_are_started, others_are_read, sets_are_read, starts_are_read};
+use capnp_slots::source::Source;
 
 /// After a set of a slot of a kind, which Void and untyped pointers have none of, to a number, a truth value, an enum, a text
 /// or data, `get` gives this value; an enum's under the field's own enum. A member that was set is the active one.
@@ -12,7 +13,7 @@ pub fn sets_are_got(field: Field<'_>, value: dynamic_value::Reader<'_>)
     ensures value { SetIsGot field.entry value.entry }
     ensures active { SetIsActive field.entry value.entry }
 {
-    sets_are_read(field, value.into_source());
+    sets_are_read(field, Source::from(value));
     groups_are_started(field);
 }
 

@@ -9,7 +9,6 @@ pub mod Pieces
 pub mod Planned
 pub mod Reads
 pub mod Seen
-pub mod SetValues
 pub mod Shown
 pub mod Taken
 pub mod Typed

@@ -46,6 +46,13 @@ impl<'a> Reader<'a> {
         }
     }
 
+    /// The list's elements, without their type.
+    pub fn get_elements(self) -> ListReader<'a>
+        ensures { result ≡ list_reader_of self.entry }
+    {
+        self.reader
+    }
+
     /// How many elements there are, below 2^29.
     pub fn len(&self) -> u32
         ensures { result ≡ list_length (list_of (list_reader_of self.now)) }

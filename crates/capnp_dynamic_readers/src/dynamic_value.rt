@@ -12,7 +12,6 @@ ghost use Rattle.capnp_dynamic_readers.specs.declared.dynamic_value.Reader.{Read
 
 mod annotation_value;
 mod conversions;
-mod sources;
 
 use crate::printer::print_debug;
 use crate::views::read_view;

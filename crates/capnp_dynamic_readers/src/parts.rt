@@ -16,8 +16,7 @@ ghost use Rattle.capnp_dynamic_readers.specs.declared.dynamic_value.Reader.TheVa
 use crate::dynamic_value::Reader as Value;
 use crate::{dynamic_list, dynamic_struct};
 use capnp_schema::schema::Field;
-use capnp_slots::primitive::mismatch;
-use capnp_wire::error::Result;
+use capnp_wire::error::{Error, Result};
 
 /// The struct that a value is. Refused with `TypeMismatch` for every other value.
 fn struct_of<'a>(part: Value<'a>) -> Result<dynamic_struct::Reader<'a>>
@@ -26,7 +25,7 @@ fn struct_of<'a>(part: Value<'a>) -> Result<dynamic_struct::Reader<'a>>
 {
     match part {
         Value::Struct(inner) => Ok(inner),
-        _ => Err(mismatch()),
+        _ => Err(Error::type_mismatch()),
     }
 }
 
@@ -37,7 +36,7 @@ fn list_of<'a>(part: Value<'a>) -> Result<dynamic_list::Reader<'a>>
 {
     match part {
         Value::List(list) => Ok(list),
-        _ => Err(mismatch()),
+        _ => Err(Error::type_mismatch()),
     }
 }
 

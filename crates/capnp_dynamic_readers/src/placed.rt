@@ -19,12 +19,11 @@ use crate::dynamic_value::{Enum, Reader as Value};
 use crate::{dynamic_list, dynamic_struct};
 use capnp_base::introspect::TypeVariant;
 use capnp_base::{any_pointer, text};
+use capnp_schema::loaded::load_pair;
 use capnp_schema::plan::{Place, SlotPlan};
 use capnp_schema::record::FieldKind;
 use capnp_schema::set::SchemaSet;
-use capnp_slots::loaded::load_pair;
-use capnp_slots::primitive::mismatch;
-use capnp_wire::error::Result;
+use capnp_wire::error::{Error, Result};
 use capnp_wire::{PointerReader, StructReader};
 
 /// The number at a place of the data section.
@@ -57,7 +56,7 @@ fn read_bits<'a>(
             let value = pair_at(reader, start, mask);
             Ok(Value::Enum(Enum::new(value, set.enum_schema(raw.number))))
         }
-        _ => Err(mismatch()),
+        _ => Err(Error::type_mismatch()),
     }
 }
 
@@ -87,7 +86,7 @@ fn read_pointer<'a>(
             Ok(Value::List(dynamic_list::Reader::new(reader, element_type, set)))
         }
         TypeVariant::AnyPointer => Ok(Value::AnyPointer(any_pointer::Reader::new(pointer))),
-        _ => Err(mismatch()),
+        _ => Err(Error::type_mismatch()),
     }
 }
 

@@ -15,9 +15,8 @@ use capnp_base::any_pointer;
 use capnp_base::introspect::TypeVariant;
 use capnp_schema::set::SchemaSet;
 use capnp_schema::value::Value;
-use capnp_slots::primitive::mismatch;
 use capnp_wire::PointerReader;
-use capnp_wire::error::Result;
+use capnp_wire::error::{Error, Result};
 
 /// A value under a type: one that needs its type is refused under another.
 pub(crate) fn read_view<'a>(
@@ -55,7 +54,7 @@ fn view_enum<'a>(set: &'a SchemaSet, value: u16, variant: TypeVariant) -> Result
     ensures typed { NamesEntries (lists_seen set.now) (seen_variant variant) → IfOk result (IsOf (lists_seen set.now) (seen_variant variant)) }
 {
     let TypeVariant::Enum(raw) = variant else {
-        return Err(mismatch());
+        return Err(Error::type_mismatch());
     };
     Ok(Reader::Enum(Enum::new(value, set.enum_schema(raw.number))))
 }
@@ -70,7 +69,7 @@ fn view_struct<'a>(
     ensures typed { NamesEntries (lists_seen set.now) (seen_variant variant) → IfOk result (IsOf (lists_seen set.now) (seen_variant variant)) }
 {
     let TypeVariant::Struct(raw) = variant else {
-        return Err(mismatch());
+        return Err(Error::type_mismatch());
     };
     let reader = plain_struct(&pointer)?;
     let schema = set.struct_schema(raw.number);
@@ -87,7 +86,7 @@ fn view_list<'a>(
     ensures typed { NamesEntries (lists_seen set.now) (seen_variant variant) → IfOk result (IsOf (lists_seen set.now) (seen_variant variant)) }
 {
     let TypeVariant::List(element_type) = variant else {
-        return Err(mismatch());
+        return Err(Error::type_mismatch());
     };
     let size = element_type.expected_element_size();
     let reader = plain_list(size, &pointer)?;
@@ -105,6 +104,6 @@ fn view_untyped<'a>(
 {
     match variant {
         TypeVariant::AnyPointer => Ok(Reader::AnyPointer(any_pointer::Reader::new(pointer))),
-        _ => Err(mismatch()),
+        _ => Err(Error::type_mismatch()),
     }
 }

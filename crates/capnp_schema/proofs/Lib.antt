@@ -21,6 +21,7 @@ pub mod GroupTargets
 pub mod GroupsDown
 pub mod HandleRows
 pub mod Indices
+pub mod LoadedBits
 pub mod LookUps
 pub mod MemberTables
 pub mod Members

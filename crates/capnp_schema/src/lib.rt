@@ -8,6 +8,7 @@ pub mod exact;
 pub mod laws;
 mod layers;
 mod lists;
+pub mod loaded;
 pub mod meta;
 mod names;
 pub mod plan;

@@ -4,7 +4,6 @@ pub mod Stored
 pub mod Pointers
 pub mod CopiedSources
 pub mod CopiedSlots
-pub mod LoadedBits
 pub mod NewLists
 pub mod GroupFields
 pub mod GroupClears

@@ -2,6 +2,7 @@ pub mod Planned
 pub mod Fields
 pub mod Primitives
 pub mod Sources
+pub mod SetValues
 pub mod Copied
 pub mod Inits
 pub mod Groups

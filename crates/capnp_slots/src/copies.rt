@@ -13,7 +13,6 @@ ghost use Rattle.capnp_slots.specs.Fields.{IsPointer, IsRoomFor, IsSlot, Keeps, 
 ghost use Rattle.capnp_slots.specs.Primitives.{given_to};
 ghost use Rattle.capnp_slots.specs.Sources.{GivesCopy, GivesUntyped, IsCopy, IsCopyDue, IsPointed, IsSoundCopy, TakesSource, source_seen};
 
-use crate::primitive::mismatch;
 use crate::slot::set_pointer;
 use crate::source::{ListInput, Source, StructInput};
 use capnp_base::introspect::TypeVariant;
@@ -30,7 +29,7 @@ fn copies_text(variant: TypeVariant) -> Result<bool>
         TypeVariant::Void => Ok(false),
         TypeVariant::Text => Ok(true),
         TypeVariant::AnyPointer => Ok(true),
-        _ => Err(mismatch()),
+        _ => Err(Error::type_mismatch()),
     }
 }
 
@@ -42,7 +41,7 @@ fn copies_data(variant: TypeVariant) -> Result<bool>
         TypeVariant::Void => Ok(false),
         TypeVariant::Data => Ok(true),
         TypeVariant::AnyPointer => Ok(true),
-        _ => Err(mismatch()),
+        _ => Err(Error::type_mismatch()),
     }
 }
 
@@ -55,7 +54,7 @@ fn copies_struct(variant: TypeVariant) -> Result<bool>
         TypeVariant::Void => Ok(false),
         TypeVariant::Struct(_) => Ok(true),
         TypeVariant::AnyPointer => Ok(true),
-        _ => Err(mismatch()),
+        _ => Err(Error::type_mismatch()),
     }
 }
 
@@ -68,7 +67,7 @@ fn copies_list(variant: TypeVariant) -> Result<bool>
         TypeVariant::Void => Ok(false),
         TypeVariant::List(_) => Ok(true),
         TypeVariant::AnyPointer => Ok(true),
-        _ => Err(mismatch()),
+        _ => Err(Error::type_mismatch()),
     }
 }
 
@@ -81,7 +80,7 @@ fn copies_untyped(variant: TypeVariant) -> Result<bool>
         TypeVariant::AnyPointer => Err(Error::from(
             ErrorKind::CannotSetAnyPointerFieldToAPrimitiveValue,
         )),
-        _ => Err(mismatch()),
+        _ => Err(Error::type_mismatch()),
     }
 }
 

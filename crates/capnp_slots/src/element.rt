@@ -28,7 +28,7 @@ ghost use Rattle.capnp_slots.specs.Inits.{IsInitnRefusal, is_sized};
 use crate::copies::copies_source;
 use crate::fill_element::{check_list, extend_structs, fill_behind};
 use crate::make::{make_sized, size_of};
-use crate::primitive::{Primitive, mismatch, number_fits, number_given};
+use crate::primitive::{Primitive, number_fits, number_given};
 use crate::source::{ListInput, Source};
 use capnp_base::introspect::{RawBrandedStructSchema, Type, TypeVariant};
 use capnp_base::traits::SetterInput;
@@ -222,11 +222,11 @@ fn set_struct(
         TypeVariant::AnyPointer => Err(Error::from(ErrorKind::ListAnyPointerNotSupported)),
         TypeVariant::Struct(raw) => {
             if RawBrandedStructSchema::from(schema).number != raw.number {
-                return Err(mismatch());
+                return Err(Error::type_mismatch());
             }
             copy_at(list, index, &reader)
         }
-        _ => Err(mismatch()),
+        _ => Err(Error::type_mismatch()),
     }
 }
 

@@ -12,7 +12,6 @@ ghost use Rattle.capnp_slots.specs.GroupSets.{IsCopiedInto, IsGroupSet, given_to
 ghost use Rattle.capnp_slots.specs.Sources.{source_seen};
 
 use crate::group_copy::copy_group;
-use crate::primitive::mismatch;
 use crate::slot;
 use crate::source::Source;
 use capnp_base::introspect::RawBrandedStructSchema;
@@ -179,7 +178,7 @@ pub fn set(object: &mut StructObject, field: Field<'_>, source: Source<'_>) -> R
     };
     let given = RawBrandedStructSchema::from(schema).number;
     if given != RawBrandedStructSchema::from(group).number {
-        return Err(mismatch());
+        return Err(Error::type_mismatch());
     }
     copy(object, field, group, reader)
 }

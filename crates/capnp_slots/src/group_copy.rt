@@ -13,9 +13,9 @@ ghost use Rattle.capnp_slots.specs.GroupSets.{AreCopied, IsCopiedThrough, active
 
 use crate::copied::{copy, is_behind, variant_of};
 use crate::group::{clear_group, group_of};
-use crate::loaded::load_discriminant;
 use crate::pointer::pointer_slot;
 use crate::slot::{is_slot, switch};
+use capnp_schema::loaded::load_discriminant;
 use capnp_schema::schema::{Field, StructSchema};
 use capnp_wire::StructReader;
 use capnp_wire::error::Result;

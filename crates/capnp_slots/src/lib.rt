@@ -12,7 +12,6 @@ mod fill_element;
 pub mod group;
 mod group_copy;
 pub mod laws;
-pub mod loaded;
 mod make;
 pub mod part;
 mod planned;

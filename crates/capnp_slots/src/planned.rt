@@ -11,9 +11,9 @@ ghost use Rattle.capnp_slots.specs.Planned.{place_bits};
 ghost use Rattle.capnp_slots.specs.Fields.{IsFieldPlan, IsSlot, IsSlotPlan};
 ghost use Rattle.capnp_slots.specs.Planned.{HoldsNumber, member_switched, place_cleared, place_mask, place_written, plan_written};
 
-use crate::loaded::load_bits;
 use capnp_records::laws::slot_is_written;
 use capnp_schema::laws::numbers_fit;
+use capnp_schema::loaded::load_bits;
 use capnp_schema::plan::{Place, SlotPlan, plans_stand};
 use capnp_schema::schema::Field;
 use capnp_wire::StructReader;

@@ -1,6 +1,5 @@
 //! Values that stand in a data section.
 ghost use Rattle.std.specs.Prelude.{◌≡◌};
-ghost use Rattle.capnp_device.specs.declared.error.ErrorKind.TheVariants.{TypeMismatch};
 ghost use Rattle.capnp_schema.specs.Schema.{Schemas};
 ghost use Rattle.capnp_schema.specs.Types.{seen_variant};
 ghost use Rattle.capnp_records.specs.Given.{given_slot};
@@ -24,13 +23,6 @@ pub enum Primitive {
     UInt32(u32),
     UInt64(u64),
     Enum(u16),
-}
-
-/// A value of another kind than the field's.
-pub fn mismatch() -> Error
-    ensures { result.kind ≡ TypeMismatch }
-{
-    Error::from(ErrorKind::TypeMismatch)
 }
 
 /// What the Rust type of a value says of its number.
@@ -118,7 +110,7 @@ pub(crate) fn refusal_at(variant: TypeVariant) -> Error
         TypeVariant::AnyPointer => {
             Error::from(ErrorKind::CannotSetAnyPointerFieldToAPrimitiveValue)
         }
-        _ => mismatch(),
+        _ => Error::type_mismatch(),
     }
 }
 

@@ -1,15 +1,19 @@
 //! What fields and elements are set to.
+ghost use Rattle.std.specs.Prelude.{◌≡◌, MatchOption};
 ghost use Rattle.capnp_wire.specs.Edits.{IsCopyRefusal, rounded};
 ghost use Rattle.capnp_wire.specs.Place.{struct_tree};
 ghost use Rattle.capnp_wire.specs.Standing.{list_of, struct_of};
 ghost use Rattle.capnp_wire.specs.Words.{first_fault, first_fault_of_all};
 ghost use Rattle.capnp_records.specs.Writes.Contents.{SourceFits};
-ghost use Rattle.capnp_slots.specs.Sources.{source_seen};
+ghost use Rattle.capnp_slots.specs.Primitives.{primitive_source};
+ghost use Rattle.capnp_slots.specs.SetValues.{source_of};
+ghost use Rattle.capnp_slots.specs.Sources.{IsPointed, source_seen};
 
 use crate::primitive::{Primitive, number_fits};
 use capnp_base::introspect::Type;
 use capnp_base::traits::SetterInput;
 use capnp_base::{any_pointer, data, text};
+use capnp_dynamic_readers::dynamic_value::Reader as Value;
 use capnp_schema::schema::StructSchema;
 use capnp_wire::error::Result;
 use capnp_wire::laws::{
@@ -28,6 +32,50 @@ pub enum Source<'a> {
     /// A list, and the type of its elements.
     List(ListReader<'a>, Type),
     AnyPointer(any_pointer::Reader<'a>),
+}
+
+impl Primitive {
+    /// What a dynamic value holds, where no pointer stands for it; none for a text, data, a struct, a list and an untyped
+    /// pointer.
+    #[inline(always)]
+    pub fn from_value(value: &Value<'_>) -> Option<Primitive>
+        ensures { MatchOption result (IsPointed (source_of value.now)) (λ held. primitive_source held ≡ source_of value.now) }
+    {
+        match value {
+            Value::Void => Some(Primitive::Void),
+            Value::Bool(x) => Some(Primitive::Bool(*x)),
+            Value::Int8(x) => Some(Primitive::Int8(*x)),
+            Value::Int16(x) => Some(Primitive::Int16(*x)),
+            Value::Int32(x) => Some(Primitive::Int32(*x)),
+            Value::Int64(x) => Some(Primitive::Int64(*x)),
+            Value::UInt8(x) => Some(Primitive::UInt8(*x)),
+            Value::UInt16(x) => Some(Primitive::UInt16(*x)),
+            Value::UInt32(x) => Some(Primitive::UInt32(*x)),
+            Value::UInt64(x) => Some(Primitive::UInt64(*x)),
+            Value::Enum(x) => Some(Primitive::Enum(x.get_value())),
+            _ => None,
+        }
+    }
+}
+
+impl<'a> From<Value<'a>> for Source<'a> {
+    ghost from_gives = { λ value source. source_seen source ≡ source_of value };
+
+    /// A dynamic value, as it is given to a set of a slot or an element.
+    #[inline(always)]
+    fn from(value: Value<'a>) -> Source<'a> {
+        if let Some(held) = Primitive::from_value(&value) {
+            return Source::Primitive(held);
+        }
+        match value {
+            Value::Text(x) => Source::Text(x),
+            Value::Data(x) => Source::Data(x),
+            Value::Struct(x) => Source::Struct(x.get_sections(), x.get_schema()),
+            Value::List(x) => Source::List(x.get_elements(), x.element_type()),
+            Value::AnyPointer(x) => Source::AnyPointer(x),
+            _ => unreachable!(),
+        }
+    }
 }
 
 /// What the Rust type of a source says of its number.

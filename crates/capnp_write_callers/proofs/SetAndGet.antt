@@ -17,7 +17,7 @@ use Rattle.capnp_dynamic_readers.specs.Handles.{reader_of, schema_of}
 use Rattle.capnp_dynamic.specs.ReadBack.{SetIsGot}
 use Rattle.capnp_dynamic_readers.specs.Reads.{BelongsTo, field_read, field_seen}
 use Rattle.capnp_dynamic_readers.specs.Seen.{answered, value_seen}
-use Rattle.capnp_dynamic_readers.specs.SetValues.{source_of}
+use Rattle.capnp_slots.specs.SetValues.{source_of}
 use Rattle.capnp_dynamic_readers.specs.declared.dynamic_struct.Reader.{Reader as StructHandle}
 use Rattle.capnp_dynamic_readers.specs.declared.dynamic_value.Reader.{Reader as DynamicValue}
 

@@ -6,7 +6,7 @@ ghost use Rattle.capnp_slots.specs.ReadBack.{HasKind, IsWhole};
 ghost use Rattle.capnp_dynamic.specs.Built.{IsReady, built_schema};
 ghost use Rattle.capnp_dynamic_readers.specs.Reads.{BelongsTo};
 ghost use Rattle.capnp_dynamic_readers.specs.Seen.{value_seen};
-ghost use Rattle.capnp_dynamic_readers.specs.SetValues.{source_of};
+ghost use Rattle.capnp_slots.specs.SetValues.{source_of};
 
 use capnp_dynamic::dynamic_struct;
 use capnp_dynamic::dynamic_value::Reader as Value;

@@ -12,7 +12,7 @@ ghost use Rattle.capnp_dynamic_readers.specs.Reads.{found_seen};
 use capnp_dynamic_readers::{dynamic_struct, dynamic_value};
 use capnp_schema::builtin;
 use capnp_wire::device::ReadSource;
-use capnp_wire::error::{Error, ErrorKind, Result};
+use capnp_wire::error::{Error, Result};
 use capnp_wire::message::Reader;
 use capnp_wire::transfer::read_all;
 use std::alloc::Global;
@@ -28,7 +28,7 @@ fn get_number(reader: dynamic_struct::Reader<'_>, name: &str) -> Result<u16>
 {
     match reader.get_named(name)? {
         dynamic_value::Reader::UInt16(number) => Ok(number),
-        _ => Err(Error::from(ErrorKind::TypeMismatch)),
+        _ => Err(Error::type_mismatch()),
     }
 }
 

@@ -11,7 +11,7 @@ ghost use Rattle.capnp_dynamic.specs.Built.{IsIn, IsListReady, built_element, bu
 ghost use Rattle.capnp_dynamic.specs.BuiltValues.{CanBeRead};
 ghost use Rattle.capnp_dynamic.specs.Handed.{HandsSized};
 ghost use Rattle.capnp_dynamic_readers.specs.Handles.{list_reader_of, list_set, type_of};
-ghost use Rattle.capnp_dynamic_readers.specs.SetValues.{source_of};
+ghost use Rattle.capnp_slots.specs.SetValues.{source_of};
 
 use crate::dynamic_list::Reader;
 use crate::dynamic_value;
@@ -19,6 +19,7 @@ use crate::handed::hand_out;
 use capnp_base::introspect::Type;
 use capnp_schema::set::SchemaSet;
 use capnp_slots::element;
+use capnp_slots::source::Source;
 use capnp_wire::ListBuilder;
 use capnp_wire::error::Result;
 use capnp_wire::laws::kept_lists::pointers_of_lists_are_well_formed;
@@ -130,7 +131,7 @@ impl<'a> Builder<'a> {
     {
         let element_type = self.element_type;
         let set = self.set;
-        element::set(self.builder, set, element_type, index, value.into_source())
+        element::set(self.builder, set, element_type, index, Source::from(value))
     }
 
     /// Starts an element anew with a size, and hands it out; the element has to be there. It becomes a text or data of so many

@@ -22,15 +22,16 @@ ghost use Rattle.capnp_dynamic.specs.Built.{IsReady, built_record, built_schema,
 ghost use Rattle.capnp_dynamic.specs.FieldWrites.{IsFieldSet, IsNamed, field_cleared};
 ghost use Rattle.capnp_dynamic_readers.specs.Handles.{reader_of, schema_of};
 ghost use Rattle.capnp_dynamic_readers.specs.Reads.{BelongsTo};
-ghost use Rattle.capnp_dynamic_readers.specs.SetValues.{source_of};
+ghost use Rattle.capnp_slots.specs.SetValues.{source_of};
 ghost use Rattle.capnp_dynamic_readers.specs.Typed.{struct_type};
 ghost use Rattle.capnp_schema.specs.Types.{seen_type};
 
 use crate::dynamic_struct::Reader;
 use crate::dynamic_value;
 use capnp_base::traits::OwnedStruct;
+use capnp_schema::loaded::load_discriminant;
 use capnp_schema::schema::{Field, StructSchema};
-use capnp_slots::loaded::load_discriminant;
+use capnp_slots::source::Source;
 use capnp_slots::{group, size_of, slot};
 use capnp_wire::error::Result;
 use capnp_wire::laws::kept::{entered_structs_are_well_formed, structs_can_be_read};
@@ -183,9 +184,9 @@ impl<'a> Builder<'a> {
         ensures ready { IsReady self.new }
     {
         if slot::is_slot(field) {
-            slot::set(self.builder, field, value.into_source())
+            slot::set(self.builder, field, Source::from(value))
         } else {
-            group::set(self.builder, field, value.into_source())
+            group::set(self.builder, field, Source::from(value))
         }
     }
 

@@ -19,7 +19,6 @@ ghost use Rattle.capnp_dynamic.specs.declared.dynamic_value.build.Builder.TheVar
 
 use crate::dynamic_value::Builder as Value;
 use crate::{dynamic_list, dynamic_struct};
-use capnp_slots::primitive::mismatch;
 use capnp_wire::error::{Error, ErrorKind, Result};
 
 /// The struct that a value is. Refused with `TypeMismatch` for every other value.
@@ -31,7 +30,7 @@ fn struct_of<'a>(part: Value<'a>) -> Result<dynamic_struct::Builder<'a>>
 {
     match part {
         Value::Struct(inner) => Ok(inner),
-        _ => Err(mismatch()),
+        _ => Err(Error::type_mismatch()),
     }
 }
 
@@ -44,7 +43,7 @@ fn list_of<'a>(part: Value<'a>) -> Result<dynamic_list::Builder<'a>>
 {
     match part {
         Value::List(list) => Ok(list),
-        _ => Err(mismatch()),
+        _ => Err(Error::type_mismatch()),
     }
 }
 

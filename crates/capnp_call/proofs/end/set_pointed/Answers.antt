@@ -8,4 +8,4 @@ use Rattle.capnp_call.proofs.end.set_pointed.Goals as goal
 
 pub returns-clause-does : goal.returns-clause-does
 returns-clause-does c =
-    subst (λ (s : Source). FieldDoes c.args.field (Set s) (struct_object_tree c.args.object.now) (reply_seen c.set_to.result) (struct_object_tree c.set_to.new.object)) c.into_source.ensures c.set_to.ensures.does
+    subst (λ (s : Source). FieldDoes c.args.field (Set s) (struct_object_tree c.args.object.now) (reply_seen c.set_to.result) (struct_object_tree c.set_to.new.object)) c.from.ensures c.set_to.ensures.does

@@ -21,8 +21,8 @@ returns-in-Ok-clause-does c =
     let e = seen_type c.args.element in
     let x = list_object_tree c.args.list.now in
     let x' = list_object_tree c.set.new.list in
-    subst (λ (s : Source). TreeDoes set (Set s) (element_at set e x c.args.index) (ListType e) (OnList x) (ElementAt c.args.index) Done (OnList x')) c.into_source-source.ensures
-    (element_set set e c.args.index (source_seen c.into_source-source.result) x x' c.source_fits.ensures (room_at set c.args.element x c.args.index c.requires.stands c.requires.inside) c.in-Ok.ensures.set)
+    subst (λ (s : Source). TreeDoes set (Set s) (element_at set e x c.args.index) (ListType e) (OnList x) (ElementAt c.args.index) Done (OnList x')) c.from-source.ensures
+    (element_set set e c.args.index (source_seen c.from-source.result) x x' c.source_fits.ensures (room_at set c.args.element x c.args.index c.requires.stands c.requires.inside) c.in-Ok.ensures.set)
 
 pub returns-in-Err-clause-does : goal.returns-in-Err-clause-does
 returns-in-Err-clause-does c =
@@ -30,5 +30,5 @@ returns-in-Err-clause-does c =
     let e = seen_type c.args.element in
     let x = list_object_tree c.args.list.now in
     let x' = list_object_tree c.set.new.list in
-    subst (λ (s : Source). TreeDoes set (Set s) (element_at set e x c.args.index) (ListType e) (OnList x) (ElementAt c.args.index) (Refused c.in-Err.error.kind) (OnList x')) c.into_source-source.ensures
-    (element_unset set e c.args.index (source_seen c.into_source-source.result) x x' c.in-Err.error.kind c.in-Err.ensures.refused c.in-Err.ensures.cause)
+    subst (λ (s : Source). TreeDoes set (Set s) (element_at set e x c.args.index) (ListType e) (OnList x) (ElementAt c.args.index) (Refused c.in-Err.error.kind) (OnList x')) c.from-source.ensures
+    (element_unset set e c.args.index (source_seen c.from-source.result) x x' c.in-Err.error.kind c.in-Err.ensures.refused c.in-Err.ensures.cause)

@@ -5,7 +5,7 @@ use Rattle.capnp_dynamic.proofs.ReadBack.{set-active, set-got}
 use Rattle.capnp_dynamic.proofs.laws.sets_are_got.Goals as goal
 
 pub returns-clause-value : goal.returns-clause-value
-returns-clause-value c = set-got c.args.field c.args.value (subst (WholeIsGot c.args.field) c.into_source.ensures c.sets_are_read.ensures.values)
+returns-clause-value c = set-got c.args.field c.args.value (subst (WholeIsGot c.args.field) c.from.ensures c.sets_are_read.ensures.values)
 
 pub returns-clause-active : goal.returns-clause-active
-returns-clause-active c = set-active c.args.field c.args.value (subst (SetIsActive c.args.field) c.into_source.ensures c.sets_are_read.ensures.active) c.groups_are_started.ensures.set
+returns-clause-active c = set-active c.args.field c.args.value (subst (SetIsActive c.args.field) c.from.ensures c.sets_are_read.ensures.active) c.groups_are_started.ensures.set

@@ -13,6 +13,6 @@ pub returns-in_default : goal.returns-in_default
 returns-in_default c = record {
   set = tt;
   refused = refl;
-  cause = struct-refused (lists_seen c.args.set.now) c.which.result (seen_type c.args.element) (Left (struct_levels c.args.reader)) (struct_of c.args.reader) (number_of c.args.schema) c.mismatch-in_default.result.kind
-      (ap seen_variant c.which.ensures ∙ seen_which c.args.element) c.in_default.not-Void c.in_default.not-Struct c.in_default.not-AnyPointer c.mismatch-in_default.ensures;
+  cause = struct-refused (lists_seen c.args.set.now) c.which.result (seen_type c.args.element) (Left (struct_levels c.args.reader)) (struct_of c.args.reader) (number_of c.args.schema) c.type_mismatch-in_default.result.kind
+      (ap seen_variant c.which.ensures ∙ seen_which c.args.element) c.in_default.not-Void c.in_default.not-Struct c.in_default.not-AnyPointer c.type_mismatch-in_default.ensures;
 }

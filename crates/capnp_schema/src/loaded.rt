@@ -58,7 +58,7 @@ fn load_word(reader: &StructReader<'_>, start: u32) -> u64
 
 /// The bits of a slot's width at `start`; zeros past the end of the section.
 #[tactic(auto, using(crate::proofs::LoadedBits::load_bounded))]
-pub(crate) fn load_bits(reader: &StructReader<'_>, start: u32, width: u8) -> u64
+pub fn load_bits(reader: &StructReader<'_>, start: u32, width: u8) -> u64
     requires width { IsTrue (is_slot_width width) }
     requires aligned { start % width ≡ 0 }
     ensures fits { result < 2 ^ width }
