@@ -1,5 +1,5 @@
 -- What code found at a place, one level of it, as a tree.
-use Rattle.std.specs.Prelude.{ℕ, Bool, ◌+◌, ◌*◌, ◌≡◌, ⊤, Option, Some, None}
+use Rattle.std.specs.Prelude.{ℕ, Bool, false, cond, ◌+◌, ◌*◌, ◌==◌, ◌&&◌, ◌≡◌, ⊤, Option, Some, None}
 use Rattle.capnp_wire.specs.Tree as tree
 use Rattle.capnp_wire.specs.Tree.{Tree, Trees, Structs, StructTree, empty_structs, trees_from, structs_from}
 use Rattle.capnp_wire.specs.Place.{tree_below, struct_at, struct_tree, bits_from}
@@ -60,3 +60,13 @@ found_tree (found.Composite size es) = tree.Composite size.data_words size.point
 abbrev pub AreEmptyStructs : Option ℕ → StructSize → Structs → Type 0
 AreEmptyStructs (Some count) size es = (size.data_words ≡ 0) × (size.pointers ≡ 0) × (es ≡ empty_structs count)
 AreEmptyStructs None size es = ⊤
+
+-- how many structs of size zero elements are, where a message says them by their count alone
+abbrev pub counted_structs : StructSize → Elements → Option ℕ
+counted_structs size (elements.Words depth is_stream count block) = cond ((size.data_words == 0) && (size.pointers == 0)) (Some count) None
+counted_structs size (elements.Objects objects) = None
+
+-- whether elements lie in a message and their size has no pointers
+abbrev pub lack_pointers : StructSize → Elements → Bool
+lack_pointers size (elements.Words depth is_stream count block) = size.pointers == 0
+lack_pointers size (elements.Objects objects) = false

@@ -1,7 +1,7 @@
 //! The elements of a composite list, and where their pointers stand.
 ghost use Rattle.std.specs.Prelude.{◌≡◌, IsTrue, None};
 ghost use Rattle.capnp_wire.specs.Tree.{nth_struct, struct_count};
-ghost use Rattle.capnp_wire.specs.Found.{AreEmptyStructs, element_structs, parts_tree};
+ghost use Rattle.capnp_wire.specs.Found.{AreEmptyStructs, counted_structs, element_structs, lack_pointers, parts_tree};
 ghost use Rattle.capnp_wire.specs.Words.{first_fault_of_elements, words_below_all};
 
 use crate::found::{StructParts, empty_parts};
@@ -77,7 +77,8 @@ pub fn count_elements(size: StructSize, elements: Elements<'_>) -> usize
 /// How many structs of size zero the elements of a composite list are, where their count is all that there is of them.
 #[inline(always)]
 pub fn count_empty_structs(size: StructSize, elements: Elements<'_>) -> Option<u32>
-    ensures { AreEmptyStructs result size (element_structs size.data_words size.pointers elements.entry) }
+    ensures counted { result ≡ counted_structs size elements.entry }
+    ensures structs { AreEmptyStructs result size (element_structs size.data_words size.pointers elements.entry) }
 {
     match elements {
         Elements::Words { count, .. } => {
@@ -94,6 +95,7 @@ pub fn count_empty_structs(size: StructSize, elements: Elements<'_>) -> Option<u
 /// Whether it is known of the elements of a composite list, before they are gone to, that they have no pointers.
 #[inline(always)]
 pub fn have_no_pointers(size: StructSize, elements: Elements<'_>) -> bool
+    ensures known { result ≡ lack_pointers size elements.entry }
     ensures faults { IsTrue result → None ≡ first_fault_of_elements (element_structs size.data_words size.pointers elements.entry) }
     ensures words { IsTrue result → 0 ≡ words_below_all (element_structs size.data_words size.pointers elements.entry) }
 {

@@ -1,7 +1,7 @@
 //! Copies what stands at a place into owned objects. A message in memory holds no fault leaf, so what has one is refused.
-ghost use Rattle.std.specs.Prelude.{◌≡◌, ◌-◌, None, IfErr, IfOk, OnOk};
+ghost use Rattle.std.specs.Prelude.{◌≡◌, ◌-◌, None, IfErr, IfOk, IsOk, IsSome, OnOk};
 ghost use Rattle.capnp_wire.specs.Edits.{IsCopyRefusal, append_trees, first_trees, fitted, nulls, rounded, whole_words};
-ghost use Rattle.capnp_wire.specs.Found.{element_structs, found_tree, parts_tree, pointer_tree, pointer_trees};
+ghost use Rattle.capnp_wire.specs.Found.{counted_structs, element_structs, found_tree, parts_tree, pointer_tree, pointer_trees};
 ghost use Rattle.capnp_wire.specs.Objects.{object_tree, object_trees, struct_object_tree, struct_object_trees};
 ghost use Rattle.capnp_wire.specs.Tree as tree;
 ghost use Rattle.capnp_wire.specs.Tree.{tree_count};
@@ -127,6 +127,7 @@ fn copy_composite(alloc: Global, size: StructSize, elements: Elements<'_>) -> Re
         tree.Composite size.data_words size.pointers (element_structs size.data_words size.pointers elements.entry)) }
     ensures sound { IfOk result (λ _. first_fault_of_elements (element_structs size.data_words size.pointers elements.entry) ≡ None) }
     ensures refused { IfErr result (λ error. IsCopyRefusal error (first_fault_of_elements (element_structs size.data_words size.pointers elements.entry))) }
+    ensures free { IsSome (counted_structs size elements.entry) → IsOk result }
 {
     if let Some(count) = count_empty_structs(size, elements) {
         return Ok(Object::List(make_empty_structs(alloc, count)));

@@ -38,7 +38,7 @@ copy_pointers-returns-clause-sound t c =
     all_sound _ _ _ c.loop-i.invariant all
 
 pub copy_composite-returns-in-Some-clause-sound : goal.copy_composite-returns-in-Some-clause-sound
-copy_composite-returns-in-Some-clause-sound t c = ap first_fault_of_elements c.in-Some.ensures.2 ∙ first_fault-empty_structs c.in-Some.count
+copy_composite-returns-in-Some-clause-sound t c = ap first_fault_of_elements c.in-Some.ensures.structs.2 ∙ first_fault-empty_structs c.in-Some.count
 
 pub copy_elements-copy_struct-requires : goal.copy_elements-copy_struct-requires
 copy_elements-copy_struct-requires t c =

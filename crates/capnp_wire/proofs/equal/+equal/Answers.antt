@@ -11,7 +11,7 @@ are_pointers_same-is_pointer_same-requires t c =
 
 pub are_elements_same-returns-in-Some-count_empty_structs :
     goal.are_elements_same-returns-in-Some-count_empty_structs
-are_elements_same-returns-in-Some-count_empty_structs t c = same_counts _ _ _ _ c.in-Some.ensures.2 c.in-Some-count_empty_structs.ensures.2
+are_elements_same-returns-in-Some-count_empty_structs t c = same_counts _ _ _ _ c.in-Some.ensures.structs.2 c.in-Some-count_empty_structs.ensures.structs.2
 
 pub are_elements_same-are_parts_same-requires : goal.are_elements_same-are_parts_same-requires
 are_elements_same-are_parts_same-requires t c =
