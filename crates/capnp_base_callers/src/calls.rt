@@ -19,6 +19,10 @@ pub enum Call {
     Clear,
     /// A list of so many numbers of two bytes: zeros, and this count as the last one.
     InitNumbers(u16),
+    /// A list of three numbers of two bytes, which are set to 1, 2 and 3.
+    InitThree,
+    /// A list of ten, which are set to 0 to 9.
+    InitTen,
     InitText(u32),
     InitData(u32),
     GetText(Option<&'static [u8]>),
@@ -151,6 +155,29 @@ fn init_numbers(message: &mut Builder, count: u16) -> Result<()> {
         }
         Err(error) => Err(error),
     }
+}
+
+fn init_three(message: &mut Builder) -> Result<()> {
+    let list = message.root().init_list(ElementSize::TwoBytes, 3)?;
+    list.set_data_element::<u16>(0, 1);
+    list.set_data_element::<u16>(1, 2);
+    list.set_data_element::<u16>(2, 3);
+    Ok(())
+}
+
+fn init_ten(message: &mut Builder) -> Result<()> {
+    let list = message.root().init_list(ElementSize::TwoBytes, 10)?;
+    list.set_data_element::<u16>(0, 0);
+    list.set_data_element::<u16>(1, 1);
+    list.set_data_element::<u16>(2, 2);
+    list.set_data_element::<u16>(3, 3);
+    list.set_data_element::<u16>(4, 4);
+    list.set_data_element::<u16>(5, 5);
+    list.set_data_element::<u16>(6, 6);
+    list.set_data_element::<u16>(7, 7);
+    list.set_data_element::<u16>(8, 8);
+    list.set_data_element::<u16>(9, 9);
+    Ok(())
 }
 
 fn init_text(message: &mut Builder, length: u32, want: &[u8]) -> Result<bool> {
@@ -328,6 +355,8 @@ pub fn make(message: &mut Builder, call: Call, want: &[u8]) -> Result<bool> {
             Ok(want.is_empty())
         }
         Call::InitNumbers(count) => is_done(init_numbers(message, count), want),
+        Call::InitThree => is_done(init_three(message), want),
+        Call::InitTen => is_done(init_ten(message), want),
         Call::InitText(length) => init_text(message, length, want),
         Call::InitData(length) => init_data(message, length, want),
         Call::GetText(default) => get_text(message, default, want),

@@ -1,6 +1,8 @@
 //! Texts, data and untyped pointers at the root of a message, against bytes that the encoding says.
 
-use crate::calls::Call::{Clear, GetData, GetText, InitNumbers, ReadData, SetAndGet, Untyped};
+use crate::calls::Call::{
+    Clear, GetData, GetText, InitTen, InitThree, ReadData, SetAndGet, Untyped,
+};
 use crate::calls::Input::{Data, String, Text, Untyped as Pointer};
 use crate::calls::UntypedCall::{
     FillNew, GetData as DataAt, GetText as TextAt, GetUntyped, InitNoText, InitUntyped, PushToNew,
@@ -10,8 +12,8 @@ use crate::calls::{NULL, Row, data_is, default_of, follow, is_wanted, text_is, u
 use capnp_base::traits::FromPointerReader;
 use capnp_base::{any_pointer, data, text};
 use capnp_wire::PointerReader;
-use capnp_wire::error::ErrorKind::CapabilityPointer;
-use capnp_wire::error::Result;
+use capnp_wire::error::ErrorKind::{BadPointer, CapabilityPointer};
+use capnp_wire::error::{Error, Result};
 use capnp_wire::message::Reader;
 use std::alloc::Global;
 
@@ -55,12 +57,15 @@ const HI_255: &[u8] = &[
 /// The data 1, 2, 3.
 const ONE_TWO_THREE: &[u8] = &[1, 0, 0, 0, 0x1a, 0, 0, 0, 1, 2, 3, 0, 0, 0, 0, 0];
 
-/// Nine zeros and a 10, of two bytes each.
+/// The numbers 1 to 3, of two bytes each.
+const THREE_NUMBERS: &[u8] = &[1, 0, 0, 0, 0x1b, 0, 0, 0, 1, 0, 2, 0, 3, 0, 0, 0];
+
+/// The numbers 0 to 9, of two bytes each.
 const TEN_NUMBERS: &[u8] = &[
     1, 0, 0, 0, 0x53, 0, 0, 0, //
-    0, 0, 0, 0, 0, 0, 0, 0, //
-    0, 0, 0, 0, 0, 0, 0, 0, //
-    0, 0, 10, 0, 0, 0, 0, 0,
+    0, 0, 1, 0, 2, 0, 3, 0, //
+    4, 0, 5, 0, 6, 0, 7, 0, //
+    8, 0, 9, 0, 0, 0, 0, 0,
 ];
 
 static SET: [Row; 2] = [
@@ -133,8 +138,9 @@ static BUILT: [Row; 8] = [
     ("what is cleared is null", Clear, Ok(b""), NULL),
 ];
 
-static STARTED: [Row; 2] = [
-    ("a list of numbers", InitNumbers(10), Ok(b""), TEN_NUMBERS),
+static STARTED: [Row; 3] = [
+    ("three numbers", InitThree, Ok(b""), THREE_NUMBERS),
+    ("ten numbers", InitTen, Ok(b""), TEN_NUMBERS),
     (
         "an untyped pointer in its place",
         Untyped(InitUntyped),
@@ -196,6 +202,19 @@ const LETTERS: &[u8] = &[
     0x61, 0x62, 0x63, 0x64, 0x65, 0x66, 0x67, 0,
 ];
 
+/// A message whose root leads to a struct of a word, 2^29 - 1 words on.
+const FAR_PAST_THE_SEGMENT: &[u8] = &[
+    0, 0, 0, 0, 1, 0, 0, 0, //
+    0xfc, 0xff, 0xff, 0x7f, 1, 0, 0, 0,
+];
+
+/// A message of a struct whose pointer leads to a struct of size zero, 2^22 words on.
+const PAST_THE_SEGMENT: &[u8] = &[
+    0, 0, 0, 0, 2, 0, 0, 0, //
+    0, 0, 0, 0, 0, 0, 1, 0, //
+    0, 0, 0, 1, 0, 0, 0, 0,
+];
+
 /// How the root of a message is read: as a text or as data with a default, or by type through an untyped pointer.
 #[derive(Clone, Copy)]
 enum Read {
@@ -243,6 +262,22 @@ fn reads_as(alloc: Global, message: &[u8], read: Read, want: &[u8]) -> Result<bo
             && untyped.is_null() == (words == 0)
             && read_root(root, read, want)?,
     )
+}
+
+/// The size of what the root leads to, by an untyped pointer that stands on it.
+fn size_of_root(alloc: Global, message: &[u8]) -> Result<u64> {
+    let root = any_pointer::Reader::new(Reader::new(alloc, message)?.get_root());
+    Ok(root.target_size()?.word_count)
+}
+
+#[test]
+fn what_leaves_its_segment_has_no_size(rt: HostRuntime) {
+    for message in [FAR_PAST_THE_SEGMENT, PAST_THE_SEGMENT] {
+        assert_eq!(rt;
+            size_of_root(rt.alloc(), message),
+            Err(Error::from(BadPointer))
+        );
+    }
 }
 
 #[test]

@@ -1,6 +1,7 @@
 //! What can't be read beside what still can, lists of each kind read as each other kind, and levels.
 
-use crate::script::{are_answers, rows_hold};
+use crate::messages::set_of;
+use crate::script::{answers_about, are_answers, rows_hold};
 use capnp_wire::error::Result;
 use std::alloc::Global;
 use std::test::Fail;
@@ -118,6 +119,32 @@ fn a_group_takes_no_level(rt: HostRuntime) -> std::result::Result<(), Fail> {
         &chain(rt.alloc())?,
         "get next*63; get next*63/next; get next*63/group/x",
         "struct; refused 8; u16 2",
+    );
+    Ok(())
+}
+
+/// The number of `Shapes` in the built-in set.
+const SHAPES: u32 = 3;
+
+/// A `Shapes` with `tag` active, in which `any` is a capability.
+static CAPABILITY_IN_TAG: [u8; 48] = [
+    0, 0, 0, 0, 5, 0, 0, 0, 0, 0, 0, 0, 2, 0, 2, 0, 0, 0, 1, 0, 0, 0, 0, 0, 0, 0, 0, 0, 0, 0, 0, 0,
+    3, 0, 0, 0, 0, 0, 0, 0, 0, 0, 0, 0, 0, 0, 0, 0,
+];
+
+#[test]
+fn a_capability_has_no_size(rt: HostRuntime) -> std::result::Result<(), Fail> {
+    let answers = answers_about(
+        rt.alloc(),
+        // the built-in set
+        &set_of(rt.alloc(), "mixed")?,
+        SHAPES,
+        &CAPABILITY_IN_TAG,
+        "get tag/any; size tag/any; print",
+    )?;
+    assert_eq!(rt;
+        answers.as_str(),
+        "pointer; refused 9; :(id = 0, tag = (n = 0, u0 = (), any = <opaque pointer>))"
     );
     Ok(())
 }

@@ -8,7 +8,7 @@
 //! | `get points/1/x` | what is read, as a kind and a value |
 //! | `has named/once` | whether the field is there |
 //! | `which` | the index of the active member, or `none` |
-//! | `size` | the words and the capabilities of the struct |
+//! | `size tag/any` | the words and the capabilities of a struct, or of what an untyped pointer leads to |
 //! | `length items` | the elements of a list |
 //! | `last items` | how many elements an iterator has to come, its last one, and how many are to come then |
 //! | `print`, `lines` | what a print leaves, on one line or on lines, of a text that is `:` before |
@@ -143,8 +143,12 @@ fn which<'a>(reader: dynamic_struct::Reader<'a>) -> Result<Answer<'a>> {
     })
 }
 
-fn size<'a>(reader: dynamic_struct::Reader<'a>) -> Result<Answer<'a>> {
-    let size = reader.total_size()?;
+fn size<'a>(value: Value<'a>) -> Result<Answer<'a>> {
+    let size = match value {
+        Value::Struct(reader) => reader.total_size()?,
+        Value::AnyPointer(pointer) => pointer.target_size()?,
+        _ => return Ok(Answer::NoQuestion),
+    };
     Ok(Answer::Size(size.word_count, size.cap_count))
 }
 
@@ -216,7 +220,7 @@ fn about<'a>(alloc: Global, value: Value<'a>, word: &str) -> Result<Answer<'a>> 
     match (word, value) {
         ("get", value) => Ok(Answer::Value(value)),
         ("which", Value::Struct(reader)) => which(reader),
-        ("size", Value::Struct(reader)) => size(reader),
+        ("size", value) => size(value),
         ("length", Value::List(list)) => Ok(Answer::Number(u64::from(list.len()))),
         ("last", value) => last(value),
         ("print", value) => printed(alloc, value, false),

@@ -114,7 +114,8 @@ fn writes_are_read(rt: HostRuntime) {
     rows_hold(&rt, rt.alloc(), &READ_ROWS);
 }
 
-static BYTE_ROWS: [(&str, &str, &str); 4] = [
+static BYTE_ROWS: [(&str, &str, &str); 5] = [
+    ("mixed", "set a u16 5; set y u8 9; is nine", "ok; ok; true"),
     (
         "mixed",
         "set a u16 5; set y u8 9; set b text hi; is mixed_hi",
