@@ -7,8 +7,9 @@ use capnp_wire::error::Result;
 use std::alloc::Global;
 use std::test::Fail;
 
-static NOTE_ROWS: [(&str, &str, &str); 2] = [
+static NOTE_ROWS: [(&str, &str, &str); 3] = [
     ("node", "note 7", "text 'note'"),
+    ("node", "print_note id 9", ":byte"),
     // a number is answered whatever the type, an enum under its type alone
     (
         "node",

@@ -94,6 +94,31 @@ fn lists_of_each_kind_as_each_other(rt: HostRuntime) {
     rows_hold(&rt, rt.alloc(), &LIST_ROWS);
 }
 
+/// A capability before a text that does not end in a zero; the same with a null in its place; and as many elements as the
+/// format holds.
+static LISTS_ROWS: [(&str, &str, &str); 3] = [
+    (
+        "lists capability_before_text",
+        "has raw; get bytes; get raw; get t; print",
+        "true; list 0; refused 9; refused 7; refused 9 :",
+    ),
+    (
+        "lists null_before_text",
+        "has raw; get bytes; get raw; get t; print",
+        "false; list 0; data []; refused 7; refused 7 :",
+    ),
+    (
+        "lists most_items",
+        "length items; get items; get items/536870910/a",
+        "536870911; list 536870911; u16 0",
+    ),
+];
+
+#[test]
+fn lists_beside_what_is_refused(rt: HostRuntime) {
+    rows_hold(&rt, rt.alloc(), &LISTS_ROWS);
+}
+
 /// A message of a chain of 65 structs, each right after its pointer. The number of each is how many follow it and it, but
 /// that of the first is 5.
 fn chain(alloc: Global) -> Result<Vec<u8>> {

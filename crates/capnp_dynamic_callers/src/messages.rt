@@ -26,8 +26,11 @@ const LISTS: &str = "struct 1 1 union 8 0, void List(Void) @0 #0, bit List(Bool)
 /// A set of a struct that has the next one and a group of a number.
 const LINKED: &str = "struct 1 1, next Struct(0) @0, group group(1); group 1 1, x UInt16 @0";
 
+/// A set of a struct of an enum, whose default is past the enumerants.
+const PAST_ENUM: &str = "struct 1 0, color Enum(0) @0 =Enum(9); enum red blue";
+
 /// The structs, each with the text of its set and its number there.
-static STRUCTS: [(&str, (&str, u32)); 9] = [
+static STRUCTS: [(&str, (&str, u32)); 10] = [
     ("mixed", ("built-in", 1)),
     ("many", ("built-in", 2)),
     ("lists", ("built-in", 7)),
@@ -37,10 +40,11 @@ static STRUCTS: [(&str, (&str, u32)); 9] = [
     ("shared", (SHARED, 0)),
     ("each_list", (LISTS, 0)),
     ("linked", (LINKED, 0)),
+    ("past_enum", (PAST_ENUM, 0)),
 ];
 
 /// The messages that no other crate reads; `messages::message_named` has the others.
-static MESSAGES: [(&str, &[u8]); 20] = [
+static MESSAGES: [(&str, &[u8]); 24] = [
     // a `Mixed` whose `a` is 5, with `x` active
     (
         "void",
@@ -80,6 +84,39 @@ static MESSAGES: [(&str, &[u8]); 20] = [
         &[
             0, 0, 0, 0, 6, 0, 0, 0, 0, 0, 0, 0, 0, 0, 4, 0, 0, 0, 0, 0, 0, 0, 0, 0, 0, 0, 0, 0, 0,
             0, 0, 0, 0, 0, 0, 0, 0, 0, 0, 0, 1, 0, 0, 0, 0x11, 0, 0, 0, 1, 0, 2, 0, 0, 0, 0, 0,
+        ],
+    ),
+    // a `Lists` whose `bytes` are 1, 2 and 3
+    (
+        "numbers",
+        &[
+            0, 0, 0, 0, 6, 0, 0, 0, 0, 0, 0, 0, 0, 0, 4, 0, 13, 0, 0, 0, 26, 0, 0, 0, 0, 0, 0, 0,
+            0, 0, 0, 0, 0, 0, 0, 0, 0, 0, 0, 0, 0, 0, 0, 0, 0, 0, 0, 0, 1, 2, 3, 0, 0, 0, 0, 0,
+        ],
+    ),
+    // a `Lists` whose `raw` is a capability, and whose `t` has no zero at its end
+    (
+        "capability_before_text",
+        &[
+            0, 0, 0, 0, 6, 0, 0, 0, 0, 0, 0, 0, 0, 0, 4, 0, 0, 0, 0, 0, 0, 0, 0, 0, 3, 0, 0, 0, 0,
+            0, 0, 0, 5, 0, 0, 0, 18, 0, 0, 0, 0, 0, 0, 0, 0, 0, 0, 0, 97, 98, 0, 0, 0, 0, 0, 0,
+        ],
+    ),
+    // the same with a null in place of the capability
+    (
+        "null_before_text",
+        &[
+            0, 0, 0, 0, 6, 0, 0, 0, 0, 0, 0, 0, 0, 0, 4, 0, 0, 0, 0, 0, 0, 0, 0, 0, 0, 0, 0, 0, 0,
+            0, 0, 0, 5, 0, 0, 0, 18, 0, 0, 0, 0, 0, 0, 0, 0, 0, 0, 0, 97, 98, 0, 0, 0, 0, 0, 0,
+        ],
+    ),
+    // a `Lists` whose `items` are 2^29 - 1 structs of size zero
+    (
+        "most_items",
+        &[
+            0, 0, 0, 0, 7, 0, 0, 0, 0, 0, 0, 0, 0, 0, 4, 0, 0, 0, 0, 0, 0, 0, 0, 0, 0, 0, 0, 0, 0,
+            0, 0, 0, 0, 0, 0, 0, 0, 0, 0, 0, 1, 0, 0, 0, 15, 0, 0, 0, 0xfc, 0xff, 0xff, 0x7f, 0, 0,
+            0, 0, 5, 0, 0, 0, 0, 0, 0, 0,
         ],
     ),
     // a struct of six null pointers

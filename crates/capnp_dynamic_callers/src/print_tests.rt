@@ -23,6 +23,23 @@ fn every_kind_of_field_is_printed(rt: HostRuntime) {
     rows_hold(&rt, rt.alloc(), &PRINTED_ROWS);
 }
 
+/// Values that are printed as they are, on one line and on lines.
+static VALUE_ROWS: [(&str, &str, &str); 3] = [
+    (
+        "lists numbers",
+        "print bytes; lines bytes",
+        ":[1, 2, 3]; :[\n  1,\n  2,\n  3\n]",
+    ),
+    ("lists short", "print; lines", ":(); :(\n)"),
+    // the default of an enum of two enumerants
+    ("past_enum short", "print; print color", ":(color = 9); :9"),
+];
+
+#[test]
+fn values_are_printed_as_they_are(rt: HostRuntime) {
+    rows_hold(&rt, rt.alloc(), &VALUE_ROWS);
+}
+
 static APPENDED_ROWS: [(&str, &str, &str); 2] = [
     ("kinds full", "print point", ":(x = -5, y = 6)"),
     // a text has no zero byte at its end, and what stood before is left as it is

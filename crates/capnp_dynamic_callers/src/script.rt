@@ -15,6 +15,7 @@
 //! | `debug`, `debug_lines` | the debug form of the struct or list, and the one on lines |
 //! | `value_lines` | the one on lines of the value that has the struct or list |
 //! | `note 7`, `note id 8` | the annotation of an id, of the struct or of a field; `none` where there is none |
+//! | `print_note id 9` | what a print leaves of its value |
 //! | `enum 2`, `enumerant 2` | an enumerant of the set's first enum as a value, and its name |
 //!
 //! Questions have semicolons between them, and so have the answers, in the same order. A refusal is `refused` and its number
@@ -193,14 +194,28 @@ fn value_lines<'a>(alloc: Global, value: Value<'_>) -> Result<Answer<'a>> {
     Ok(Answer::Text(format!(in alloc; "{value:#?}")?))
 }
 
-/// The value of an annotation of a struct, or of a field where it is named before the id.
-fn note<'a>(schema: StructSchema<'a>, rest: &str) -> Result<Answer<'a>> {
+/// The value of an annotation of a struct, or of a field where it is named before the id; none where there is none.
+fn note<'a>(schema: StructSchema<'a>, rest: &str) -> Result<Option<Value<'a>>> {
     let (annotations, id) = match rest.split_once(' ') {
         Some((name, id)) => (schema.get_field_by_name(name)?.get_annotations()?, id),
         None => (schema.get_annotations()?, rest),
     };
     match annotations.find(u64::from(number(id))) {
-        Some(annotation) => Ok(Answer::Value(annotation.get_value()?)),
+        Some(annotation) => Ok(Some(annotation.get_value()?)),
+        None => Ok(None),
+    }
+}
+
+fn seen_note<'a>(schema: StructSchema<'a>, rest: &str) -> Result<Answer<'a>> {
+    Ok(match note(schema, rest)? {
+        Some(value) => Answer::Value(value),
+        None => Answer::Nothing,
+    })
+}
+
+fn printed_note<'a>(alloc: Global, schema: StructSchema<'a>, rest: &str) -> Result<Answer<'a>> {
+    match note(schema, rest)? {
+        Some(value) => printed(alloc, value, false),
         None => Ok(Answer::Nothing),
     }
 }
@@ -243,7 +258,8 @@ fn answer_of<'a>(
     let of_number = Enum::new(rest.parse::<u16>().unwrap_or(0), set.enum_schema(0));
     match word {
         "has" => has(Value::Struct(root), rest),
-        "note" => note(root.get_schema(), rest),
+        "note" => seen_note(root.get_schema(), rest),
+        "print_note" => printed_note(alloc, root.get_schema(), rest),
         "enum" => Ok(Answer::Value(Value::from(of_number))),
         "enumerant" => enumerant(alloc, of_number),
         _ => about(alloc, follow(Value::Struct(root), rest)?, word),

@@ -5,6 +5,7 @@ use crate::fixtures::{ENTERED, LISTED, LISTS, MIXED, NONE, NUMBERS, SHAPES};
 use capnp_dynamic::dynamic_value::Reader as Value;
 use capnp_schema::builtin::new_set;
 use capnp_schema_fixtures::fixtures::schema_of;
+use capnp_schema_fixtures::set_text::read_set;
 use std::test::Fail;
 
 /// A `Mixed` whose `a` is 5, with `y` active and 9, and `b` is `hi`.
@@ -180,5 +181,66 @@ fn a_group_that_is_cut_by_an_untyped_field(rt: HostRuntime) -> std::result::Resu
     let schema = schema_of(&set, SHAPES)?;
     let tag = root(rt.alloc(), schema, source.bytes.as_slice())?.get_named("tag")?;
     cases_hold(&rt, rt.alloc(), &set, tag, &CUT_SHORT);
+    Ok(())
+}
+
+/// A `Shapes` with `tag` active, in it `u1` and 9, and `n` 3; the list of its text `q` does not end in a zero.
+const TAGGED_UNENDED: &[u8] = &[
+    0, 0, 0, 0, 6, 0, 0, 0, 0, 0, 0, 0, 2, 0, 2, 0, 0, 0, 1, 0, 3, 0, 1, 0, 9, 0, 0, 0, 0, 0, 0, 0,
+    0, 0, 0, 0, 0, 0, 0, 0, 1, 0, 0, 0, 0x0a, 0, 0, 0, 0x7a, 0, 0, 0, 0, 0, 0, 0,
+];
+
+const CUT_AT_TEXT: &str = "\
+tag set Given -> Refused(7)
+tag.q has -> Flag(false)
+tag.n get -> UInt16(3)
+tag.u1 get -> UInt8(9)";
+
+static CUT_AT_A_TEXT: [Case<'static>; 1] = [Case {
+    brand: SHAPES,
+    start: NONE,
+    rows: CUT_AT_TEXT,
+    text: "(id = 0, tag = (n = 3, u1 = 9))",
+    message: NONE,
+}];
+
+#[test]
+fn a_group_that_is_cut_by_a_text(rt: HostRuntime) -> std::result::Result<(), Fail> {
+    let set = new_set(rt.alloc())?;
+    let schema = schema_of(&set, SHAPES)?;
+    let tag = root(rt.alloc(), schema, TAGGED_UNENDED)?.get_named("tag")?;
+    cases_hold(&rt, rt.alloc(), &set, tag, &CUT_AT_A_TEXT);
+    Ok(())
+}
+
+/// A set of a struct of the group `g`: a number `k` and the members `e` and `m`.
+const GROUPED: &str = "struct 1 1, g group(1); \
+    group 1 1 union 2 1, k UInt16 @0, e Void @0 #0, m Text @0 #1";
+
+/// A struct whose group has `k` 4 and the member `m` active, whose list does not end in a zero.
+const MEMBER_UNENDED: &[u8] = &[
+    0, 0, 0, 0, 4, 0, 0, 0, 0, 0, 0, 0, 1, 0, 1, 0, 4, 0, 1, 0, 0, 0, 0, 0, 1, 0, 0, 0, 0x0a, 0, 0,
+    0, 0x7a, 0, 0, 0, 0, 0, 0, 0,
+];
+
+const CUT_AT_MEMBER: &str = "\
+g set Given -> Refused(7)
+g.k get -> UInt16(0)
+g.k which -> Member(Some(1))";
+
+static CUT_AT_A_MEMBER: [Case<'static>; 1] = [Case {
+    brand: 0,
+    start: NONE,
+    rows: CUT_AT_MEMBER,
+    text: "(g = (k = 0, e = ()))",
+    message: NONE,
+}];
+
+#[test]
+fn a_group_that_is_cut_by_its_member(rt: HostRuntime) -> std::result::Result<(), Fail> {
+    let set = read_set(rt.alloc(), GROUPED)?;
+    let schema = schema_of(&set, 0)?;
+    let group = root(rt.alloc(), schema, MEMBER_UNENDED)?.get_named("g")?;
+    cases_hold(&rt, rt.alloc(), &set, group, &CUT_AT_A_MEMBER);
     Ok(())
 }

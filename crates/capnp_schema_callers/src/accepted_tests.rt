@@ -1,6 +1,7 @@
 //! Sets that are accepted, and want of memory.
 
 use capnp_schema::builtin::new_set;
+use capnp_schema::meta;
 use capnp_schema_fixtures::set_text::read_set;
 use capnp_wire::error::ErrorKind;
 use std::test::Fail;
@@ -11,6 +12,15 @@ fn the_built_in_set_is_accepted(rt: HostRuntime) -> std::result::Result<(), Fail
     assert_eq!(rt; set.nodes().len(), 9);
     assert_eq!(rt; set.brands().len(), 9);
     assert_eq!(rt; set.enums().len(), 1);
+    Ok(())
+}
+
+#[test]
+fn the_meta_set_is_accepted(rt: HostRuntime) -> std::result::Result<(), Fail> {
+    let set = meta::new_set(rt.alloc())?;
+    assert_eq!(rt; set.nodes().len(), 10);
+    assert_eq!(rt; set.brands().len(), 10);
+    assert!(rt; set.enums().is_empty());
     Ok(())
 }
 

@@ -38,6 +38,7 @@ enum Built {
     Numbers,
     Bits,
     Texts,
+    TextList,
     StructList,
     StructAsNumber,
     NumbersAsStructs,
@@ -45,6 +46,7 @@ enum Built {
     NullAsStruct,
     Masked,
     Bit,
+    MaskedBits,
     Word,
     Cleared,
     Measured,
@@ -86,6 +88,18 @@ fn texts(root: &mut Object) -> Result<[u64; 3]> {
     let list = root.init_list(ElementSize::Pointer, 2)?;
     list.get_pointer_element(1).set_text(b"hi")?;
     Ok([0; 3])
+}
+
+/// The list of a text of two bytes, which are written one by one.
+fn text_list(root: &mut Object) -> Result<[u64; 3]> {
+    let list = root.init_text_list(2)?;
+    list.set_data_element::<u8>(0, b'h');
+    list.set_data_element::<u8>(1, b'i');
+    Ok([
+        list.get_data_element::<u8>(0) as u64,
+        list.get_data_element::<u8>(1) as u64,
+        list.get_data_element::<u8>(2) as u64,
+    ])
 }
 
 fn struct_list(root: &mut Object) -> Result<[u64; 3]> {
@@ -151,6 +165,18 @@ fn bit(root: &mut Object) -> Result<[u64; 3]> {
         fields.get_data_field::<u64>(0),
         fields.get_bool_field(9) as u64,
         fields.get_bool_field_mask(9, true) as u64,
+    ])
+}
+
+/// Two bits whose default is true: one that differs from it, and one that doesn't.
+fn masked_bits(root: &mut Object) -> Result<[u64; 3]> {
+    let fields = root.init_struct(ONE_EACH)?;
+    fields.set_bool_field_mask(9, false, true);
+    fields.set_bool_field_mask(3, true, true);
+    Ok([
+        fields.get_data_field::<u64>(0),
+        fields.get_bool_field_mask(9, true) as u64,
+        fields.get_bool_field_mask(3, true) as u64,
     ])
 }
 
@@ -241,6 +267,7 @@ fn build(alloc: Global, root: &mut Object, built: Built) -> Result<[u64; 3]> {
         Built::Numbers => numbers(root),
         Built::Bits => bits(root),
         Built::Texts => texts(root),
+        Built::TextList => text_list(root),
         Built::StructList => struct_list(root),
         Built::StructAsNumber => struct_as_number(root),
         Built::NumbersAsStructs => numbers_as_structs(root),
@@ -248,6 +275,7 @@ fn build(alloc: Global, root: &mut Object, built: Built) -> Result<[u64; 3]> {
         Built::NullAsStruct => null_as_struct(root),
         Built::Masked => masked(root),
         Built::Bit => bit(root),
+        Built::MaskedBits => masked_bits(root),
         Built::Word => word(root),
         Built::Cleared => cleared(root),
         Built::Measured => measured(root),
@@ -273,7 +301,7 @@ const BUILT: &str = "00 00 00 00 0a 00 00 00 | 00 00 00 00 02 00 04 00 | 07 00 0
      01 00 00 00 00 00 00 00 | fd ff ff ff 00 00 00 00";
 
 /// What is built, what is read there, and the message then.
-static LISTS: [(Built, [u64; 3], &str); 8] = [
+static LISTS: [(Built, [u64; 3], &str); 9] = [
     (Built::NullAsList, [0, 0, 0], "00 00 00 00 01 00 00 00 | 0"),
     // the elements 1, 2 and 3 of three
     (
@@ -292,6 +320,12 @@ static LISTS: [(Built, [u64; 3], &str); 8] = [
         [0, 0, 0],
         "00 00 00 00 04 00 00 00 | 01 00 00 00 16 00 00 00 | 0 | 01 00 00 00 1a 00 00 00 | \
      68 69 00 00 00 00 00 00",
+    ),
+    // its bytes, the last of which is the zero that ends it
+    (
+        Built::TextList,
+        [0x68, 0x69, 0],
+        "00 00 00 00 02 00 00 00 | 01 00 00 00 1a 00 00 00 | 68 69 00 00 00 00 00 00",
     ),
     // the struct's number is read as an element
     (
@@ -321,7 +355,7 @@ static LISTS: [(Built, [u64; 3], &str); 8] = [
 ];
 
 /// The same of structs.
-static STRUCTS: [(Built, [u64; 3], &str); 11] = [
+static STRUCTS: [(Built, [u64; 3], &str); 12] = [
     (
         Built::NullAsStruct,
         [0, 0, 0],
@@ -337,6 +371,12 @@ static STRUCTS: [(Built, [u64; 3], &str); 11] = [
     (
         Built::Bit,
         [512, 1, 0],
+        "00 00 00 00 03 00 00 00 | 00 00 00 00 01 00 01 00 | 00 02 00 00 00 00 00 00 | 0",
+    ),
+    // the word, and the bits as they are read with their default
+    (
+        Built::MaskedBits,
+        [512, 0, 1],
         "00 00 00 00 03 00 00 00 | 00 00 00 00 01 00 01 00 | 00 02 00 00 00 00 00 00 | 0",
     ),
     (

@@ -28,6 +28,8 @@ mod fixtures;
 mod hop_tests;
 pub mod kept;
 #[cfg(test)]
+mod kept_tests;
+#[cfg(test)]
 mod level_tests;
 #[cfg(test)]
 mod list_tests;

@@ -20,3 +20,5 @@ mod row_tests;
 mod script;
 #[cfg(test)]
 mod tool_tests;
+#[cfg(test)]
+mod typed_tests;

@@ -28,7 +28,7 @@ static STRUCTS: [(&str, (&str, u32)); 9] = [
 ];
 
 /// The messages that no other crate reads; `messages::message_named` has the others.
-static MESSAGES: [(&str, &[u8]); 15] = [
+static MESSAGES: [(&str, &[u8]); 17] = [
     // a `Flat` whose `a` is 5
     (
         "five",
@@ -83,6 +83,22 @@ static MESSAGES: [(&str, &[u8]); 15] = [
         &[
             0, 0, 0, 0, 4, 0, 0, 0, 0, 0, 0, 0, 1, 0, 1, 0, 4, 0, 1, 0, 0, 0, 0, 0, 1, 0, 0, 0,
             0x0a, 0, 0, 0, 0x7a, 0, 0, 0, 0, 0, 0, 0,
+        ],
+    ),
+    // a `Shapes` with `tag` active, whose `any` is a capability
+    (
+        "capability",
+        &[
+            0, 0, 0, 0, 5, 0, 0, 0, 0, 0, 0, 0, 2, 0, 2, 0, 0, 0, 1, 0, 0, 0, 0, 0, 0, 0, 0, 0, 0,
+            0, 0, 0, 3, 0, 0, 0, 0, 0, 0, 0, 0, 0, 0, 0, 0, 0, 0, 0,
+        ],
+    ),
+    // a struct whose `pointers` are one capability
+    (
+        "capability_listed",
+        &[
+            0, 0, 0, 0, 4, 0, 0, 0, 0, 0, 0, 0, 1, 0, 1, 0, 0, 0, 0, 0, 0, 0, 0, 0, 1, 0, 0, 0,
+            0x0e, 0, 0, 0, 3, 0, 0, 0, 0, 0, 0, 0,
         ],
     ),
     // a `Loop` with `again` active, a struct of size zero

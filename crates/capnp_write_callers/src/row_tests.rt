@@ -1,7 +1,13 @@
 //! Writes of the built-in structs: unions, groups, lists and refusals, by what is printed, read and written then.
 
+use crate::messages::{brand_of, set_of};
+use crate::read_back::set_and_get;
 use crate::script::rows_hold;
-use capnp_wire::error::Result;
+use capnp_dynamic::dynamic_struct;
+use capnp_dynamic::dynamic_value::Reader as Value;
+use capnp_dynamic::printer::print;
+use capnp_slots::slot::is_slot;
+use capnp_wire::error::{Error, ErrorKind, Result};
 use capnp_wire::laws::pointer_is_well_formed;
 use capnp_wire::message;
 use capnp_wire::size::StructSize;
@@ -170,5 +176,37 @@ fn numbers_become_structs_of_a_word(rt: HostRuntime) -> std::result::Result<(), 
     let (words, bytes) = structs_of(rt.alloc(), &NUMBERS)?;
     assert_eq!(rt; words, 5);
     assert_eq!(rt; bytes.as_slice(), NUMBER_STRUCTS.as_slice());
+    Ok(())
+}
+
+/// What is read of a slot of a new struct that is set, as a text. Refused as the set, and with `FieldNotFound` for a group.
+#[tactic(auto, using(capnp_dynamic_readers::specs::Facts::Found::found_belongs))]
+fn set_and_read(alloc: Global, name: &str, field: &str, value: Value<'_>) -> Result<String> {
+    let set = set_of(alloc, name)?;
+    let schema = set.struct_schema(brand_of(name));
+    let field = schema.get_field_by_name(field)?;
+    if !is_slot(field) {
+        return Err(Error::from(ErrorKind::FieldNotFound));
+    }
+    let mut message = message::Builder::new(alloc);
+    let builder = dynamic_struct::Builder::open(message.root(), schema)?;
+    let got = set_and_get(builder, field, value)?;
+    let mut out = String::new(alloc);
+    print(got, &mut out, false)?;
+    Ok(out)
+}
+
+#[test]
+fn what_is_set_is_got(rt: HostRuntime) -> std::result::Result<(), Fail> {
+    let rows = [
+        ("mixed", "a", Value::UInt16(5), "5"),
+        ("many", "n", Value::UInt16(7), "7"),
+        ("mixed", "b", Value::from("hi"), "\"hi\""),
+        ("lists", "raw", Value::Data(&[0, 255]), "0x\"00ff\""),
+    ];
+    for (name, field, value, text) in rows {
+        let got = set_and_read(rt.alloc(), name, field, value)?;
+        assert_eq!(rt; got.as_str(), text, "{name} {field}");
+    }
     Ok(())
 }

@@ -198,7 +198,7 @@ fn part_of<'a>(root: dynamic_struct::Reader<'a>, field: &str) -> Result<Value<'a
 }
 
 /// What a message's root, or a field of it, reads as: a struct, a message, and the field's name.
-fn read_value<'a>(alloc: Global, set: &'a SchemaSet, text: &'a str) -> Result<Value<'a>> {
+pub fn read_value<'a>(alloc: Global, set: &'a SchemaSet, text: &'a str) -> Result<Value<'a>> {
     let (name, rest) = words_of(text);
     let (message, field) = words_of(rest);
     let root = root_of(alloc, set, brand_of(name), bytes_named(message))?;
