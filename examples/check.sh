@@ -120,7 +120,7 @@ reading() {
     fi
 }
 
-# what crates/capnp_wire_callers/src/built_tests.rt builds, and what it copies out of several segments
+# what crates/capnp_wire_tests/src/built_tests.rt builds, and what it copies out of several segments
 reading built.bin '(id = 7, level = -2, points = [(x = 1), (x = -3)])'
 reading copied.bin '(id = 7, name = "far away", scores = [4, 5], points = [(x = 6, y = 7)], next = (id = 8, name = "end"))'
 

@@ -1,4 +1,4 @@
-# A schema for messages that the public `capnp` tool writes and the tests of crates/capnp_wire_callers read.
+# A schema for messages that the public `capnp` tool writes and the tests of crates/capnp_wire_tests read.
 #
 # One segment:
 #   echo '(id = 5, level = -2, on = true, name = "hello", scores = [1, 2, 300], points = [(x = 1, y = 2), (x = -3, y = 4)])' |

@@ -1,0 +1,98 @@
+//! Brands of one set by their numbers: whether one is a compatible successor of another, and a struct of either as the
+//! other reads it.
+ghost use Rattle.std.specs.Prelude.{◌≡◌, ◌≢◌, IfErr, IfOk, MatchOption};
+ghost use Rattle.std.specs.Bool.{Decides};
+ghost use Rattle.capnp_device.specs.declared.error.ErrorKind.TheVariants.{NoSuchElement, OutOfMemory};
+ghost use Rattle.capnp_schema.specs.Entries.{lists_seen};
+ghost use Rattle.capnp_records.specs.Compatible.{IsCompatibleOrUpgraded};
+ghost use Rattle.capnp_callers.specs.Sight.{HasBoth, IsBetween, IsSeenByNewer, IsSeenByOlder};
+
+use capnp_compatible::Compatible;
+use capnp_dynamic::dynamic_struct;
+use capnp_schema::set::SchemaSet;
+use capnp_wire::StructReader;
+use capnp_wire::error::{Error, ErrorKind, Result};
+use std::alloc::Global;
+
+/// The pair of two brands, where the newer is a compatible successor; nothing where it is not. Refused with
+/// `NoSuchElement` where the set has no brand of a number, and with `OutOfMemory`.
+pub fn between<'s>(
+    alloc: Global,
+    set: &'s SchemaSet,
+    older: u32,
+    newer: u32,
+) -> Result<Option<Compatible<'s>>>
+    ensures answer { IfOk result (λ found. MatchOption found (IsCompatibleOrUpgraded (lists_seen set.now) older newer → ⊥)
+        (IsBetween (lists_seen set.now) older newer)) }
+    ensures there { IfOk result (λ found. HasBoth (lists_seen set.now) older newer) }
+    ensures refused { IfErr result (λ e. e.kind ≢ OutOfMemory → (e.kind ≡ NoSuchElement) × (HasBoth (lists_seen set.now) older newer → ⊥)) }
+{
+    let Some(one) = set.get_struct(older) else {
+        return Err(Error::from(ErrorKind::NoSuchElement));
+    };
+    let Some(other) = set.get_struct(newer) else {
+        return Err(Error::from(ErrorKind::NoSuchElement));
+    };
+    Compatible::check(alloc, one, other)
+}
+
+/// Whether a brand is a compatible successor of another. Refused as `between`.
+pub fn is_successor(alloc: Global, set: &SchemaSet, older: u32, newer: u32) -> Result<bool>
+    ensures answer { IfOk result (λ yes. Decides yes (IsCompatibleOrUpgraded (lists_seen set.now) older newer)) }
+    ensures there { IfOk result (λ yes. HasBoth (lists_seen set.now) older newer) }
+    ensures refused { IfErr result (λ e. e.kind ≢ OutOfMemory → (e.kind ≡ NoSuchElement) × (HasBoth (lists_seen set.now) older newer → ⊥)) }
+{
+    match between(alloc, set, older, newer)? {
+        Some(pair) => {
+            pair.follows();
+            Ok(true)
+        }
+        None => Ok(false),
+    }
+}
+
+/// A struct of the newer brand as the older one reads it; nothing where the newer is no compatible successor. Refused as
+/// `between`.
+pub fn seen_by_older<'s>(
+    alloc: Global,
+    set: &'s SchemaSet,
+    older: u32,
+    newer: u32,
+    sections: StructReader<'s>,
+) -> Result<Option<dynamic_struct::Reader<'s>>>
+    ensures answer { IfOk result (λ found. MatchOption found (IsCompatibleOrUpgraded (lists_seen set.now) older newer → ⊥)
+        (IsSeenByOlder (lists_seen set.now) older newer sections.entry)) }
+    ensures there { IfOk result (λ found. HasBoth (lists_seen set.now) older newer) }
+    ensures refused { IfErr result (λ e. e.kind ≢ OutOfMemory → (e.kind ≡ NoSuchElement) × (HasBoth (lists_seen set.now) older newer → ⊥)) }
+{
+    match between(alloc, set, older, newer)? {
+        Some(pair) => {
+            let reader = dynamic_struct::Reader::new(sections, set.struct_schema(newer));
+            Ok(Some(pair.narrow(reader)))
+        }
+        None => Ok(None),
+    }
+}
+
+/// A struct of the older brand as the newer one reads it; nothing where the newer is no compatible successor. Refused as
+/// `between`.
+pub fn seen_by_newer<'s>(
+    alloc: Global,
+    set: &'s SchemaSet,
+    older: u32,
+    newer: u32,
+    sections: StructReader<'s>,
+) -> Result<Option<dynamic_struct::Reader<'s>>>
+    ensures answer { IfOk result (λ found. MatchOption found (IsCompatibleOrUpgraded (lists_seen set.now) older newer → ⊥)
+        (IsSeenByNewer (lists_seen set.now) older newer sections.entry)) }
+    ensures there { IfOk result (λ found. HasBoth (lists_seen set.now) older newer) }
+    ensures refused { IfErr result (λ e. e.kind ≢ OutOfMemory → (e.kind ≡ NoSuchElement) × (HasBoth (lists_seen set.now) older newer → ⊥)) }
+{
+    match between(alloc, set, older, newer)? {
+        Some(pair) => {
+            let reader = dynamic_struct::Reader::new(sections, set.struct_schema(older));
+            Ok(Some(pair.widen(reader)))
+        }
+        None => Ok(None),
+    }
+}

@@ -1,0 +1,34 @@
+//! The tests of sets of schemas and of queries by the public calls of `capnp_schema`.
+//!
+//! They are rows of texts, whose forms the heads of these files explain: a set, which `capnp_schema_fixtures` reads, beside
+//! what the check says of it (`verdicts`), or beside a query and what schemas answer (`queries`).
+#![tactic(auto)]
+
+#[cfg(test)]
+mod accepted_tests;
+#[cfg(test)]
+mod annotation_tests;
+#[cfg(test)]
+mod footprint_tests;
+#[cfg(test)]
+mod group_tests;
+#[cfg(test)]
+mod handle_tests;
+#[cfg(test)]
+mod name_tests;
+#[cfg(test)]
+mod plan_tests;
+#[cfg(test)]
+mod queries;
+#[cfg(test)]
+mod query_tests;
+#[cfg(test)]
+mod slot_tests;
+#[cfg(test)]
+mod type_tests;
+#[cfg(test)]
+mod union_tests;
+#[cfg(test)]
+mod value_tests;
+#[cfg(test)]
+mod verdicts;
