@@ -34,6 +34,7 @@ pub mod OneRuleBroken
 pub mod PlanRows
 pub mod Plans
 pub mod RangeLemmas
+pub mod RequestAccepted
 pub mod Rows
 pub mod SeenNames
 pub mod StructLookUps

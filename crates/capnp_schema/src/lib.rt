@@ -14,6 +14,7 @@ mod names;
 pub mod plan;
 mod ranges;
 pub mod record;
+pub mod request;
 pub mod schema;
 pub mod set;
 mod table_rows;

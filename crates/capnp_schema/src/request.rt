@@ -1,0 +1,46 @@
+//! The set of schemas under which a compiler's request is read: the structs of the public `schema.capnp`, as far as a
+//! request is looked at.
+ghost use Rattle.std.specs.Prelude.{◌≡◌, IfErr, IfOk};
+ghost use Rattle.capnp_device.specs.declared.error.ErrorKind.TheVariants.{OutOfMemory};
+ghost use Rattle.capnp_schema.specs.Schema.{seen_schemas};
+ghost use Rattle.capnp_schema.specs.Accepted.{IsAccepted};
+ghost use Rattle.capnp_schema.specs.RequestSet.{request_set};
+ghost use Rattle.capnp_schema.specs.Entries.{lists_seen};
+
+mod structs;
+mod table;
+
+use crate::record::{BrandRecord, EnumRecord, NodeRecord};
+use crate::request::table::NODES;
+use crate::set::SchemaSet;
+use crate::table_rows::all_made;
+use capnp_wire::error::Error;
+use std::alloc::Global;
+
+/// The nodes, brands and enums of the request set, of which a `SchemaSet` is made.
+///
+/// Brand k has node k, with the names, places and types of the public `schema.capnp`: 0 `CodeGeneratorRequest`, 2 `Node`,
+/// 8 `Field`, 11 `Enumerant`, 12 `Annotation`, 13 `Type`, 19 `Brand`, 22 `Value`, and their groups and parts. All ids are
+/// 0, and there are no annotations and no enums. Members that a conversion does not look at stand as `Void`.
+///
+/// The lists meet the twelve rules, so that a set of them is refused for memory alone.
+///
+/// Refused with `OutOfMemory` alone.
+pub fn records(alloc: Global) -> Result<(Vec<NodeRecord>, Vec<BrandRecord>, Vec<EnumRecord>), Error>
+    ensures ok { IfOk result (λ r. seen_schemas r.0.items r.1.items r.2.items ≡ request_set) }
+    ensures accepted { IfOk result (λ r. IsAccepted (seen_schemas r.0.items r.1.items r.2.items)) }
+    ensures err { IfErr result (λ e. e.kind ≡ OutOfMemory) }
+{
+    let nodes = all_made(alloc, &NODES)?;
+    let brands = all_made(alloc, &NODES)?;
+    Ok((nodes, brands, Vec::new(alloc)))
+}
+
+/// The request set, whose lists meet the twelve rules. Refused for memory alone.
+pub fn new_set(alloc: Global) -> Result<SchemaSet, Error>
+    ensures set { IfOk result (λ made. lists_seen made ≡ request_set) }
+    ensures refused { IfErr result (λ e. e.kind ≡ OutOfMemory) }
+{
+    let (nodes, brands, enums) = records(alloc)?;
+    SchemaSet::new(alloc, nodes, brands, enums)
+}
