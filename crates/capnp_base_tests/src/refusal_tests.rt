@@ -275,8 +275,8 @@ fn first_that_changes(message: &mut Builder) -> Option<usize> {
     None
 }
 
-// Of each call that memory is refused to, what stood there still stands: run with `rt try --test --fail-alloc N` for each
-// N from 1 to 8, which refuses the N-th growth. What is compared takes no memory.
+// Of each call that memory is refused to, what stood there still stands: `./fail_each_allocation` refuses each request in
+// turn. What is compared takes no memory.
 #[test]
 fn without_memory_what_stood_there_stands(rt: HostRuntime) {
     let mut message = Builder::new(rt.alloc());

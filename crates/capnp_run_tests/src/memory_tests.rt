@@ -1,4 +1,4 @@
-//! Runs that memory is refused to: `rt try --test --fail-alloc N` refuses the N-th growth of each test. Where a run meets it,
+//! Runs that memory is refused to: `./fail_each_allocation` refuses each request of each test in turn. Where a run meets it,
 //! the run is refused and the message is as it was, or one reply says so and the calls after it are answered as the machine of
 //! records says from there; what comes before and after the run is not looked at.
 ghost use Rattle.capnp_schema.specs.StructHandles.{IsStruct};

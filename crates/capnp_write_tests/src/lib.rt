@@ -3,8 +3,8 @@
 //! They are rows of text, which `script` reads: a struct and the message that it begins with, calls as `set items/1/a u16
 //! 7`, and what each answers. They make each kind of call at each kind of field and element, write the worked messages
 //! under structs of the built-in set, messages of older and of newer writers, sets of groups that a field cuts short, and a
-//! struct with a field of every kind whose bytes the public tool made. `rt try --test --fail-alloc N` refuses the memory of
-//! the N-th growth to them.
+//! struct with a field of every kind whose bytes the public tool made. `./fail_each_allocation` refuses each request for
+//! memory in turn to those of `memory_tests`.
 #![tactic(auto)]
 
 #[cfg(test)]

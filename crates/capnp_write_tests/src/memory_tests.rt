@@ -1,4 +1,4 @@
-//! Calls that memory is refused to: `rt try --test --fail-alloc N` refuses the N-th growth of each test. Where a call meets it,
+//! Calls that memory is refused to: `./fail_each_allocation` refuses each request of each test in turn. Where a call meets it,
 //! it answers so and the message is as it was; what comes before and after it is not looked at.
 
 use crate::script::answers_of;
