@@ -1,8 +1,6 @@
 //! Reads a message from standard input and prints its root.
 #![tactic(auto)]
 
-mod command;
-mod engine;
 #[cfg(test)]
 mod messages;
 #[cfg(test)]
@@ -10,6 +8,7 @@ mod set_tests;
 #[cfg(test)]
 mod tests;
 
+use capnp_show_engine::command;
 use capnp_wire::device::{ReadSource, WriteSink};
 use std::env;
 use std::process::ExitCode;

@@ -2,13 +2,13 @@
 ghost use Rattle.std.specs.Prelude.{◌≡◌, ◌<◌, IfOk, length};
 ghost use Rattle.capnp_schema.specs.Entries.{lists_seen};
 
-use crate::engine::show;
 use crate::tests::bytes_of;
 use capnp_base::introspect::{RawBrandedStructSchema, Type, TypeVariant};
 use capnp_schema::record::{
     AnnotationTypes, BrandRecord, FieldKind, FieldRecord, NodeRecord, StructRecord, ValueRecord,
 };
 use capnp_schema::set::SchemaSet;
+use capnp_show_engine::engine::show;
 use capnp_wire::error::Result;
 use capnp_wire::memory::{MemorySink, MemorySource};
 use std::alloc::Global;

@@ -4,8 +4,8 @@
 //! (`messages`).
 ghost use Rattle.std.specs.Prelude.{◌<◌};
 
-use crate::command::command;
 use crate::messages::{BEGINNINGS, EXAMPLES, REFUSED, SHOWN, row_of};
+use capnp_show_engine::command::command;
 use capnp_wire::memory::{MemorySink, MemorySource};
 use capnp_wire::transfer::read_all;
 use std::alloc::Global;

@@ -5,8 +5,8 @@ ghost use Rattle.std.specs.declared.io.ErrorKind.TheVariants.{OutOfMemory as NoM
 ghost use Rattle.capnp_device.specs.Device.{HasFailed};
 ghost use Rattle.capnp_device.specs.declared.error.ErrorKind.TheVariants.{OutOfMemory, ReadFailed, WriteFailed};
 ghost use Rattle.capnp_schema.specs.Builtin.{builtin};
-ghost use Rattle.capnp_show.specs.Command.{IsRefusedRun, IsTold, asked, brand_named, refusal_line, usage_line, words_after_name};
-ghost use Rattle.capnp_show.specs.Show.{IsCutShort, IsOfMessage, IsRefused, IsShown};
+ghost use Rattle.capnp_show_engine.specs.Command.{IsRefusedRun, IsTold, asked, brand_named, refusal_line, usage_line, words_after_name};
+ghost use Rattle.capnp_show_engine.specs.Show.{IsCutShort, IsOfMessage, IsRefused, IsShown};
 
 use crate::engine::show;
 use capnp_schema::builtin;

@@ -1,10 +1,10 @@
-//! What the program is about: a message that is read is shown as its text.
+//! A message that is read is shown as its text.
 ghost use Rattle.std.specs.Prelude.{◌≡◌, ◌≢◌, ◌<◌, length, Ok, Err, IfOk, IfErr, OnOk, string_bytes};
 ghost use Rattle.capnp_device.specs.Device.{HasFailed};
 ghost use Rattle.capnp_device.specs.declared.error.ErrorKind.TheVariants.{OutOfMemory, ReadFailed, WriteFailed};
 ghost use Rattle.capnp_schema.specs.Entries.{lists_seen};
-ghost use Rattle.capnp_show.specs.Refusals.{IsOfRead};
-ghost use Rattle.capnp_show.specs.Show.{IsCutShort, IsLineOf, IsOfMessage, IsRefused, IsShown, shown_text};
+ghost use Rattle.capnp_show_engine.specs.Refusals.{IsOfRead};
+ghost use Rattle.capnp_show_engine.specs.Show.{IsCutShort, IsLineOf, IsOfMessage, IsRefused, IsShown, shown_text};
 ghost use Rattle.capnp_dynamic_readers.specs.Pieces.{IsAppended};
 
 use capnp_dynamic_readers::printer::print;

@@ -3,7 +3,7 @@ use Rattle.std.proofs.lemmas.Iterator.{items_from_collect}
 use Rattle.std.proofs.lemmas.Iterator.Adapters.{YieldsList-from_skip, YieldsList-from_vec}
 use Rattle.std.specs.Iterator.Adapters.{skip_source}
 use Rattle.std.specs.Vec.Iter.{into_iter_items, into_iter_len}
-use Rattle.capnp_show.proofs.command.words.Goals as goal
+use Rattle.capnp_show_engine.proofs.command.words.Goals as goal
 
 pub returns-in_ok-collect-in-Ok-clause-words : goal.returns-in_ok-collect-in-Ok-clause-words
 returns-in_ok-collect-in-Ok-clause-words c =

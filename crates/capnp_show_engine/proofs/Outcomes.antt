@@ -2,7 +2,7 @@
 use Rattle.std.proofs.Common.{ℕ, ◌<◌, List, length, take, Option, Result, Ok, Err, OnOk, OnErr, IfErr, inl, inr}
 use Rattle.std.specs.Io.KnownBytes.{Appends}
 use Rattle.capnp_device.specs.Device.{HasFailed}
-use Rattle.capnp_show.specs.Command.{IsTold}
+use Rattle.capnp_show_engine.specs.Command.{IsTold}
 
 -- where each refusal comes with a fact, and that gives another, each refusal of a kind comes with the other
 pub refusal_gives : {T E P Q : Type 0} (K : E → Type 0) (r : Result T E) → (P → Q) → OnErr r P → IfErr r (λ e. K e → Q)

@@ -20,7 +20,7 @@ use Rattle.capnp_records.specs.Reading.{struct_record}
 use Rattle.capnp_records.specs.Record as value
 use Rattle.capnp_records.specs.Record.{Left, Record}
 use Rattle.capnp_records.specs.Text.{Out, text_of}
-use Rattle.capnp_show.specs.Show.{IsLineOf, root_text, shown_text, struct_or_group}
+use Rattle.capnp_show_engine.specs.Show.{IsLineOf, root_text, shown_text, struct_or_group}
 use Rattle.capnp_records.specs.Run.{root_type}
 use Rattle.capnp_dynamic_readers.specs.Pieces.{IsAppended}
 use Rattle.capnp_dynamic_readers.specs.Shown.{printed_text, struct_printed, value_printed}

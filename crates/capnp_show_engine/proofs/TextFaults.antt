@@ -14,8 +14,8 @@ use Rattle.capnp_records.specs.Reading.{element_type, value_of}
 use Rattle.capnp_records.specs.Record as value
 use Rattle.capnp_records.specs.Record.{Active, Left, MoreValues, NoUnion, NoValues, Parts, Record, Union, Unknown, Value, Values, is_there}
 use Rattle.capnp_records.specs.Text.{Inner, Layout, Member, Out, after, before, bracketed, decimals, deeper, element_texts, entering_fault, fault_kind, is_entered, item, item_if, later, line, list_text, member, more_text, part_text, record_text, rest_of, said, separator, shown, stands_before, struct_text, text_within, value_text, quoted}
-use Rattle.capnp_show.specs.Refusals.{IsOfRead}
-use Rattle.capnp_show.specs.Show.{as_printed, root_text, root_value, shown_text}
+use Rattle.capnp_show_engine.specs.Refusals.{IsOfRead}
+use Rattle.capnp_show_engine.specs.Show.{as_printed, root_text, root_value, shown_text}
 use Rattle.capnp_records.specs.Run.{root_type}
 use Rattle.capnp_records.specs.Facts.ReadFaults.{AllSound, IsReadKind, RecordSound, Sound, UnionSound, is_read_kind, read_of-sound, value_of-sound}
 use Rattle.std.specs.Str.{is_utf8}

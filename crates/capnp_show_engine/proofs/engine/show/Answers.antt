@@ -1,9 +1,9 @@
 use Rattle.std.proofs.Common.{◌≡◌, string_bytes}
 use Rattle.capnp_device.specs.declared.error.ErrorKind.TheVariants.{WriteFailed}
 use Rattle.capnp_schema.specs.Entries.{lists_seen}
-use Rattle.capnp_show.specs.Show.{IsLineOf, shown_text}
-use Rattle.capnp_show.proofs.Outcomes.{refusal_gives}
-use Rattle.capnp_show.proofs.engine.show.Goals as goal
+use Rattle.capnp_show_engine.specs.Show.{IsLineOf, shown_text}
+use Rattle.capnp_show_engine.proofs.Outcomes.{refusal_gives}
+use Rattle.capnp_show_engine.proofs.engine.show.Goals as goal
 
 pub returns-clause-beginning : goal.returns-clause-beginning
 returns-clause-beginning g c =

@@ -10,8 +10,8 @@ use Rattle.capnp_device.specs.declared.error.ErrorKind.{ErrorKind}
 use Rattle.capnp_device.specs.declared.error.ErrorKind.TheVariants.{ReadFailed, WriteFailed}
 use Rattle.capnp_schema.specs.Builtin.{builtin}
 use Rattle.capnp_schema.specs.Schema.{Schemas, Brand, node_of}
-use Rattle.capnp_show.specs.Show.{IsCutShort, IsOfMessage, IsRefused}
-use Rattle.capnp_show.specs.declared.command.Request.{Request}
+use Rattle.capnp_show_engine.specs.Show.{IsCutShort, IsOfMessage, IsRefused}
+use Rattle.capnp_show_engine.specs.declared.command.Request.{Request}
 
 -- the words after the program's name, none where the system answered no words
 abbrev pub words_after_name : {A Z E : Type 0} → Result (IntoIter A Z) E → List A

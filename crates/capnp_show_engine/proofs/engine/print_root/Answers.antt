@@ -1,11 +1,11 @@
 use Rattle.capnp_wire.specs.Message.{message_tree}
 use Rattle.capnp_wire.specs.Standing.{levels_of, tree_of}
 use Rattle.capnp_schema.specs.Entries.{lists_seen}
-use Rattle.capnp_show.specs.Show.{shown_text}
-use Rattle.capnp_show.proofs.Outcomes.{each_refusal}
-use Rattle.capnp_show.proofs.Shown.{text_seen}
-use Rattle.capnp_show.proofs.TextFaults.{of_no_device, shown_by_read}
-use Rattle.capnp_show.proofs.engine.print_root.Goals as goal
+use Rattle.capnp_show_engine.specs.Show.{shown_text}
+use Rattle.capnp_show_engine.proofs.Outcomes.{each_refusal}
+use Rattle.capnp_show_engine.proofs.Shown.{text_seen}
+use Rattle.capnp_show_engine.proofs.TextFaults.{of_no_device, shown_by_read}
+use Rattle.capnp_show_engine.proofs.engine.print_root.Goals as goal
 
 pub returns-clause-printed : goal.returns-clause-printed
 returns-clause-printed c =
