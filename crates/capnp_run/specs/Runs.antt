@@ -40,4 +40,4 @@ RunsTo schema s calls replies s' = IsRunFrom schema (record_in schema s) calls r
 
 -- where no call takes memory, no reply is a refusal for room
 abbrev pub RestsWhole : StructSchema → StructTree → List Call → List Reply → Type 0
-RestsWhole schema s calls replies = RunRests schema s calls → All (λ r. IsNotForRoom (reply_seen r)) replies
+RestsWhole schema s calls replies = RunRests schema s calls → All (λ (r : Reply). IsNotForRoom (reply_seen r)) replies
