@@ -19,7 +19,7 @@ use Rattle.capnp_dynamic_readers.specs.declared.dynamic_value.Reader.{Reader as 
 use Rattle.capnp_dynamic_readers.specs.declared.dynamic_value.Reader.TheVariants as dynamic
 use Rattle.capnp_dynamic_readers.specs.declared.printer.out.Stop.{Stop}
 use Rattle.capnp_dynamic_readers.proofs.ItemsShown.{before_some, items_begin, items_end, items_next, tail_items}
-use Rattle.capnp_dynamic_readers.proofs.Steps.{both_put, element_next, element_stopped, elements_end, err_map, first_stopped, list_deep, ok_map, record_stopped, second_stopped, some-left, stopped_by, struct_deep}
+use Rattle.capnp_dynamic_readers.proofs.Steps.{both_put, element_next, element_stopped, elements_end, elements_stop_list, err_map, first_stopped, list_deep, ok_map, record_stopped, second_stopped, some-left, stopped_by, struct_deep}
 use Rattle.capnp_dynamic_readers.proofs.Streams.{after_nothing}
 
 -- ---- elements ----
@@ -144,6 +144,12 @@ pub record_stopped_inside : {F : Type 0} (left : ℕ) (at further : Layout) (r :
 record_stopped_inside left at further r p0 p1 stop e some a h =
     stopped_by p0 p1 (record_shown left at r) (more_text further true (record_items left further r))
     (λ (kind : ErrorKind) k. record_stopped left at further r e some p0 p1 kind a k) stop h
+
+pub list_stopped_inside : {F : Type 0} (left : ℕ) (at further : Layout) (l : ListHandle) (p0 p1 : Option (List ℕ)) (stop : Stop F) → further ≡ deeper at → 0 < count_of l →
+    IsPut p0 (said (codes "[")) p1 → IsStopped p1 (more_text further true (element_items left further l 0 (count_of l))) stop → IsStopped p0 (list_shown left at l) stop
+list_stopped_inside left at further l p0 p1 stop e some a h =
+    stopped_by p0 p1 (list_shown left at l) (more_text further true (element_items left further l 0 (count_of l)))
+    (λ (kind : ErrorKind) k. elements_stop_list left at further l e some p0 p1 kind a k) stop h
 
 module _ {T F : Type 0} (left : ℕ) (at : Layout) (v : DynamicValue) (old : Option (List ℕ)) (result : Result T (Stop F)) (h : left ≡ 0 → ⊥) where
   pub struct_put : (s : StructHandle) (new : Option (List ℕ)) → v ≡ dynamic.Struct s → OnOk result (IsPut old (record_shown (left - 1) at s) new) → OnOk result (IsPut old (value_shown left at v) new)

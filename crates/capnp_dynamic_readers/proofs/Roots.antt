@@ -1,5 +1,5 @@
 -- The text of a value that stands alone.
-use Rattle.std.specs.Prelude.{ℕ, ◌≡◌, ◌≢◌, refl, List, [], Bool, true, false, Option, Some, Ok, Err}
+use Rattle.std.specs.Prelude.{ℕ, ◌≡◌, ◌≢◌, refl, List, [], Bool, true, false, Option, Some, Result, Ok, Err, IfErr}
 use Rattle.std.proofs.Common.{ap, sym, subst, ◌∙◌}
 use Rattle.std.proofs.lemmas.Bool.{true≢false}
 use Rattle.std.specs.declared.alloc.AllocError.{AllocError}
@@ -50,6 +50,11 @@ other_root at (dynamic.Text t) h = refl
 other_root at (dynamic.«Data» bytes) h = refl
 other_root at (dynamic.List l) h = refl
 other_root at (dynamic.AnyPointer p) h = refl
+
+-- where it is printed as a value, why that stopped is why the whole did
+pub root_stopped : {T F : Type 0} (at : Layout) (v : DynamicValue) (old : Option (List ℕ)) (result : Result T (Stop F)) → root_shown at v ≡ value_shown 64 at v →
+    IfErr result (IsStopped old (value_shown 64 at v)) → IfErr result (IsStopped old (root_shown at v))
+root_stopped at v old result e h = subst (λ (o : Out). IfErr result (IsStopped old o)) (sym e) h
 
 -- a refusal after a text is a refusal
 pub refused_after : (a : Option (List ℕ)) (o : Out) (kind : ErrorKind) → after (Ok a) o ≡ Err kind → o ≡ Err kind

@@ -220,6 +220,21 @@ record_stopped left at further r e h p0 p1 kind a b =
     ap (after (Ok p0)) (struct_some left at r h)
     ∙ brackets_stopped (codes "(") (codes ")") at (deeper at) (record_items left (deeper at) r) refl p0 p1 kind a (subst (λ (z : Layout). after (Ok p1) (more_text z true (record_items left z r)) ≡ Err kind) e b)
 
+-- ---- lists ----
+
+pub list_put : (left : ℕ) (at further : Layout) (l : ListHandle) → further ≡ deeper at → 0 < count_of l → (p0 p1 p2 p3 p4 : Option (List ℕ)) →
+    IsPut p0 (said (codes "[")) p1 → IsPut p1 (more_text further true (element_items left further l 0 (count_of l))) p2 → IsPut p2 (said (line at)) p3 → IsPut p3 (said (codes "]")) p4 →
+    IsPut p0 (list_shown left at l) p4
+list_put left at further l e h p0 p1 p2 p3 p4 a b c d =
+    ap (after (Ok p0)) (list_some left at l h)
+    ∙ brackets_put (codes "[") (codes "]") at (deeper at) (element_items left (deeper at) l 0 (count_of l)) refl p0 p1 p2 p3 p4 a (subst (λ (z : Layout). IsPut p1 (more_text z true (element_items left z l 0 (count_of l))) p2) e b) c d
+
+pub elements_stop_list : (left : ℕ) (at further : Layout) (l : ListHandle) → further ≡ deeper at → 0 < count_of l → (p0 p1 : Option (List ℕ)) (kind : ErrorKind) →
+    IsPut p0 (said (codes "[")) p1 → after (Ok p1) (more_text further true (element_items left further l 0 (count_of l))) ≡ Err kind → after (Ok p0) (list_shown left at l) ≡ Err kind
+elements_stop_list left at further l e h p0 p1 kind a b =
+    ap (after (Ok p0)) (list_some left at l h)
+    ∙ brackets_stopped (codes "[") (codes "]") at (deeper at) (element_items left (deeper at) l 0 (count_of l)) refl p0 p1 kind a (subst (λ (z : Layout). after (Ok p1) (more_text z true (element_items left z l 0 (count_of l))) ≡ Err kind) e b)
+
 -- ---- levels fall ----
 
 pub leaf_from : (v : DynamicValue) → ((s : StructHandle) → v ≡ dynamic.Struct s → ⊥) → ((l : ListHandle) → v ≡ dynamic.List l → ⊥) → IsLeaf v

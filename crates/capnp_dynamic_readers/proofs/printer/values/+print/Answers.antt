@@ -13,8 +13,8 @@ use Rattle.capnp_dynamic_readers.specs.PartsRead.{fault_at, field_in}
 use Rattle.capnp_dynamic_readers.specs.Pieces.{IsStopped}
 use Rattle.capnp_dynamic_readers.specs.Shown.{IsPut, field_item, field_shown, value_shown}
 use Rattle.capnp_dynamic_readers.proofs.ItemsShown.{discriminant_in, items_start, name_in, own_index, pending_from, plain_from}
-use Rattle.capnp_dynamic_readers.proofs.PutSteps.{before_stopped, elements_after, elements_put, elements_refused, elements_stopped, field_put, field_stopped, field_stopped_before, items_after, items_member_stopped, items_put, items_stopped, later_pending, list_stopped, record_stopped_inside, struct_put, struct_stopped}
-use Rattle.capnp_dynamic_readers.proofs.Steps.{full_stopped, leaf_from, err_map, item_put, item_stopped, leaf_put, ok_map, record_put}
+use Rattle.capnp_dynamic_readers.proofs.PutSteps.{before_stopped, elements_after, elements_put, elements_refused, elements_stopped, field_put, field_stopped, field_stopped_before, items_after, items_member_stopped, items_put, items_stopped, later_pending, list_stopped, list_stopped_inside, record_stopped_inside, struct_put, struct_stopped}
+use Rattle.capnp_dynamic_readers.proofs.Steps.{full_stopped, leaf_from, err_map, item_put, item_stopped, leaf_put, list_put, ok_map, record_put}
 use Rattle.capnp_dynamic_readers.proofs.printer.values.+print.Goals as goal
 
 pub print_before-returns-in-Err-clause-stopped : goal.print_before-returns-in-Err-clause-stopped
@@ -120,6 +120,18 @@ print_items-returns-in-Err-print_member-clause-stopped g t c =
     let n = ap (λ (z : StructSchema). length (struct_fields z)) (c.in-Ok.ensures ∙ c.get_schema.ensures) in
     items_member_stopped c.args.left c.args.at c.args.reader (g.O.Out.text c.args.out.now) c.loop-i.progress.pending c.loop-i.i c.in-Some.member c.loop-i.progress.first (g.O.Out.text c.loop-i.out) c.in-Err-print_member.stop
     (omega (arith, c.loop-i-test.false, c.len-i-end.ensures, n)) c.in-Some.is c.loop-i.invariant.left c.in-Err-print_member.ensures.stopped
+
+pub print_list-returns-in-Err-clause-stopped : goal.print_list-returns-in-Err-clause-stopped
+print_list-returns-in-Err-clause-stopped g t c =
+    list_stopped_inside c.args.left c.args.at c.in_ok-further.further c.args.list (g.O.Out.text c.args.out.now) (g.O.Out.text c.put-2.new.out) c.in-Err.stop c.in_ok-further.ensures.deeper
+    (omega (arith, c.if-len-eq0.false, c.len.ensures)) c.in_ok-put.ensures.put c.in-Err.ensures.stopped
+
+pub print_list-returns-clause-put : goal.print_list-returns-clause-put
+print_list-returns-clause-put g t c =
+    ok_map c.put-3.result
+    (list_put c.args.left c.args.at c.in_ok-further.further c.args.list c.in_ok-further.ensures.deeper (omega (arith, c.if-len-eq0.false, c.len.ensures)) (g.O.Out.text c.args.out.now) (g.O.Out.text c.put-2.new.out) (g.O.Out.text c.print_elements.new.out) (g.O.Out.text c.put_line.new.out) (g.O.Out.text c.put-3.new.out)
+    c.in_ok-put.ensures.put c.in_default.ensures.put c.in_ok-put_line.ensures.put)
+    c.put-3.ensures.put
 
 pub print_member-returns-in-Err-clause-stopped : goal.print_member-returns-in-Err-clause-stopped
 print_member-returns-in-Err-clause-stopped g t c = λ rest.
