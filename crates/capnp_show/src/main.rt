@@ -3,6 +3,7 @@
 
 mod command;
 mod engine;
+mod line;
 #[cfg(test)]
 mod messages;
 #[cfg(test)]
@@ -21,7 +22,7 @@ fn main(rt: HostRuntime) -> ExitCode {
     let status = match command::words(rt.alloc(), env::args(&rt)) {
         Ok(words) => command::command(rt.alloc(), &words, &mut source, &mut sink, &mut errors),
         Err(error) => {
-            command::report(rt.alloc(), error.kind, &mut errors);
+            command::report(error.kind, &mut errors);
             1
         }
     };
