@@ -172,7 +172,7 @@ module _ (f : Field) (s : StructTree) (b g : ℕ) (slot : IsSlot f) (pointer : I
 
       go : (o : Option ErrorKind) → due_in f s ≡ o → FieldEnters f further s (Refused e.kind) s
       go (Some kind) due = unread f further s (Refused e.kind) s kind (unreadable kind due) (ap Refused (refusal.1 kind due)) refl
-      go None due = short f further s (Refused e.kind) s OutOfMemory (read due) has_room (λ same h. moves (rests_in f s slot h)) (ap Refused (due_memory e (due_in f s) refusal due)) refl
+      go None due = short f further s (Refused e.kind) s OutOfMemory (read due) has_room (λ h. moves (rests_in f s slot h)) (ap Refused (due_memory e (due_in f s) refusal due)) refl
 
   -- the same of an answer
   pub struct_entered : {A : Type 0} (r : Result A Error) → OnOk r (due_in f s ≡ None) → OnOk r (StepGoes f s)

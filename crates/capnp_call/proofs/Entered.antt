@@ -2,7 +2,6 @@
 use Rattle.std.specs.Prelude.{◌≡◌, Option, Some, None, Ok, Err}
 use Rattle.std.proofs.Common.{ap, inl, inr, sym, subst, ◌∙◌}
 use Rattle.capnp_device.specs.declared.error.ErrorKind.{ErrorKind}
-use Rattle.capnp_device.specs.declared.error.ErrorKind.TheVariants.{OutOfMemory}
 use Rattle.capnp_wire.specs.Tree.{StructTree}
 use Rattle.capnp_schema.specs.FieldLists.{index_of, typed_of}
 use Rattle.capnp_schema.specs.Schema.{TypedField, field_at}
@@ -55,7 +54,7 @@ module _ (f : Field) (further : TreeEnd) (s : StructTree) (reply : Reply) (s' : 
       subst (λ (o : Option ErrorKind). TreeEnters (field_set f) further (StructType (field_brand f) g) (stand_of w s) step o (target_in (whole_of w) f s) reply (stand_of w s')) (sym fault) (is, ap (stand_of w) rest)
 
   -- it can, but has no room
-  pub short : (kind : ErrorKind) → fault_of (part_in f s) ≡ None → ((whole : Record → Value) → CanRefuse (field_set f) (target_in whole f s) kind) → (kind ≡ OutOfMemory → FieldRests (field_set f) (typed_of f) s → ⊥) →
+  pub short : (kind : ErrorKind) → fault_of (part_in f s) ≡ None → ((whole : Record → Value) → CanRefuse (field_set f) (target_in whole f s) kind) → (FieldRests (field_set f) (typed_of f) s → ⊥) →
       reply ≡ Refused kind → s' ≡ s → FieldEnters f further s reply s'
   short kind sound can moves is rest w g step e =
       subst (λ (o : Option ErrorKind). TreeEnters (field_set f) further (StructType (field_brand f) g) (stand_of w s) step o (target_in (whole_of w) f s) reply (stand_of w s')) (sym sound)
@@ -64,9 +63,9 @@ module _ (f : Field) (further : TreeEnd) (s : StructTree) (reply : Reply) (s' : 
       named : typed_of f ≡ step_field (field_set f) (field_brand f) step
       named = ap (field_at (field_set f) (field_brand f)) (sym e)
 
-      go : (w : Whole) → kind ≡ OutOfMemory → StepRests (field_set f) (StructType (field_brand f) g) (stand_of w s) step → ⊥
-      go AsStruct same h = moves same (subst (λ (y : TypedField). FieldRests (field_set f) y s) (sym named) h)
-      go AsGroup same h = moves same (subst (λ (y : TypedField). FieldRests (field_set f) y s) (sym named) h)
+      go : (w : Whole) → StepRests (field_set f) (StructType (field_brand f) g) (stand_of w s) step → ⊥
+      go AsStruct h = moves (subst (λ (y : TypedField). FieldRests (field_set f) y s) (sym named) h)
+      go AsGroup h = moves (subst (λ (y : TypedField). FieldRests (field_set f) y s) (sym named) h)
 
   -- ---- the tests before ----
 

@@ -1,19 +1,21 @@
 -- What stands behind a list's slot that a step goes into, and why it is refused.
-use Rattle.std.specs.Prelude.{ℕ, ◌-◌, ◌*◌, ◌^◌, ◌<◌, ◌≡◌, ◌⊎◌, refl, List, Bool, true, false, not, ◌&&◌, ◌||◌, Option, Some, None, Result, Ok, Err, IsOk, IsTrue, IfErr, OnOk}
+use Rattle.std.specs.Prelude.{ℕ, ◌-◌, ◌*◌, ◌^◌, ◌<◌, ◌≡◌, ◌⊎◌, refl, List, Bool, true, false, not, ◌&&◌, Option, Some, None, Result, Ok, Err, IsOk, IsTrue, IfErr, OnOk}
 use Rattle.std.proofs.Common.{ap, inl, inr, sym, subst, ◌∙◌}
 use Rattle.std.proofs.lemmas.Bool.{true≢false}
 use Rattle.capnp_device.specs.declared.error.Error.{Error}
 use Rattle.capnp_device.specs.declared.error.ErrorKind.{ErrorKind}
-use Rattle.capnp_device.specs.declared.error.ErrorKind.TheVariants.{OutOfMemory, SizePastFormat}
+use Rattle.capnp_device.specs.declared.error.ErrorKind.TheVariants.{OutOfMemory}
 use Rattle.capnp_wire.specs.Defaults.{list_refusal, takes_default}
 use Rattle.capnp_wire.specs.Edits.{IsDueRefusal}
 use Rattle.capnp_wire.specs.Elements.{reads_list}
 use Rattle.capnp_wire.specs.Facts.Room.{reads_list-as_list}
 use Rattle.capnp_wire.specs.Reading.{as_list, is_null_tree}
+use Rattle.capnp_wire.specs.StructLists.{HoldsStructs}
 use Rattle.capnp_wire.specs.Tree as tree
 use Rattle.capnp_wire.specs.Tree.{StructTree, Tree, nth_tree}
 use Rattle.capnp_wire.specs.WellFormed.{IsWellFormed}
 use Rattle.capnp_wire.specs.Words.{first_fault, first_fault_of_all}
+use Rattle.capnp_wire.specs.declared.size.StructSize.{StructSize}
 use Rattle.capnp_schema.specs.Accepted.{Decodes, IsDefaultOf, KindDefault, root_of}
 use Rattle.capnp_schema.specs.Defaults.{DefaultFits, IsReadAs, default_tree}
 use Rattle.capnp_schema.specs.FieldLists.{typed_of}
@@ -24,9 +26,10 @@ use Rattle.capnp_schema.specs.Types.{ListType, SchemaType, StructType, element_s
 use Rattle.capnp_schema.specs.declared.schema.fields.Field.{Field}
 use Rattle.capnp_records.specs.Call.{Refused}
 use Rattle.capnp_records.specs.Facts.Extension.{list-sound}
+use Rattle.capnp_records.specs.Facts.ListValues.{list-there}
 use Rattle.capnp_records.specs.Facts.Readers.{null-is}
 use Rattle.capnp_records.specs.Reading.{value_of}
-use Rattle.capnp_records.specs.Record.{Endless, Record, Value}
+use Rattle.capnp_records.specs.Record.{Endless, Record, Value, is_there}
 use Rattle.capnp_records.specs.Record as value
 use Rattle.capnp_records.specs.Step.{CanRefuse, Target, fault_of, filled, for_memory, for_size, is_group_field, is_list_default, is_struct_list, size_of, takes_room}
 use Rattle.capnp_records.specs.Writes.Fill.{IsAtRest, filled_list, or_default}
@@ -94,22 +97,24 @@ list_stands set d x e due whole of formed = record {
 
 -- ---- memory ----
 
-or_right : (a : Bool) → IsTrue (a || true)
-or_right true = refl
-or_right false = refl
+-- in a null no struct has to be extended, and in a list of structs that is there one may have to be
+pub null_holds : (size : StructSize) (x : Tree) → is_null_tree x ≡ true → HoldsStructs size x
+null_holds size x h = subst (HoldsStructs size) (sym (null-is x h)) tt
 
-pub memory_structs : (x : Target) (b g : ℕ) (v : Value) → IsTrue (takes_room x (ListType (StructType b g)) v)
-memory_structs x b g (value.Missing l) = refl
-memory_structs x b g v = refl
+memory_structs : (x : Target) (b g : ℕ) (v : Value) → is_there v ≡ true → IsTrue (takes_room x (ListType (StructType b g)) v)
+memory_structs x b g (value.Missing l) h = absurd (true≢false (sym h))
+memory_structs x b g v h = refl
 
--- a list of other elements takes memory for a default alone
+pub memory_there : (set : Schemas) (x : Target) (b g : ℕ) (p : Tree) → x.part ≡ value_of set p Endless (ListType (StructType b g)) → is_null_tree p ≡ false → IsTrue (takes_room x (ListType (StructType b g)) x.part)
+memory_there set x b g p part h = memory_structs x b g x.part (ap is_there part ∙ list-there set p (StructType b g) h)
+
+-- a null takes memory for a default alone, and so does a list of other elements
 memory_plain : (set : Schemas) (x : Target) (e : SchemaType) (p : Tree) → x.part ≡ value_of set p Endless (ListType e) → (takes_default (default_tree x.default) p ≡ false → ⊥) →
     IsDefaultOf x.default (ListType e) → Decodes x.default → IsTrue (takes_room x (ListType e) x.part)
 memory_plain set x e p part takes of dec = go (is_null_tree p) refl
   where
     found : (q : Bool) → is_list_default x.default ≡ q → is_null_tree p ≡ true → IsTrue (takes_room x (ListType e) x.part)
-    found true k h = subst (λ v. IsTrue (takes_room x (ListType e) v)) (sym (part ∙ ap (λ (y : Tree). value_of set y Endless (ListType e)) (null-is p h)))
-        (subst (λ q. IsTrue (is_struct_list (ListType e) || q)) (sym k) (or_right (is_struct_list (ListType e))))
+    found true k h = subst (λ v. IsTrue (takes_room x (ListType e) v)) (sym (part ∙ ap (λ (y : Tree). value_of set y Endless (ListType e)) (null-is p h))) k
     found false k h = absurd (takes (ap (λ q. q && not (is_null_tree (default_tree x.default))) h ∙ (default_null x.default e of dec ∙ k)))
 
     go : (q : Bool) → is_null_tree p ≡ q → IsTrue (takes_room x (ListType e) x.part)
@@ -118,12 +123,12 @@ memory_plain set x e p part takes of dec = go (is_null_tree p) refl
 
 memory_for : (set : Schemas) (x : Target) (e : SchemaType) (p : Tree) → x.part ≡ value_of set p Endless (ListType e) → fill_due set x.default (ListType e) p ≡ None →
     (IsAtRest set x.default (ListType e) p → ⊥) → IsDefaultOf x.default (ListType e) → Decodes x.default → IsTrue (takes_room x (ListType e) x.part)
-memory_for set x (StructType b g) p part due moves of dec = memory_structs x b g x.part
+memory_for set x (StructType b g) p part due moves of dec = go (is_null_tree p) refl
+  where
+    go : (q : Bool) → is_null_tree p ≡ q → IsTrue (takes_room x (ListType (StructType b g)) x.part)
+    go true h = memory_plain set x (StructType b g) p part (λ same. moves (same, null_holds (brand_size set b) p h)) of dec
+    go false h = memory_there set x b g p part h
 memory_for set x e p part due moves of dec = memory_plain set x e p part (λ same. moves (same, due)) of dec
-
--- what is past the format is not refused for memory
-pub size_memory : SizePastFormat ≡ OutOfMemory → ⊥
-size_memory e = cc
 
 -- ---- a list's slot ----
 
@@ -222,11 +227,11 @@ module _ (f : Field) (s : StructTree) (e : SchemaType) (slot : IsSlot f) (pointe
 
         refused : (kind : ErrorKind) → r.kind ≡ kind → IsUnreadable set e x kind ⊎ IsTooLarge set d e x kind → FieldEnters f further s (Refused r.kind) s
         refused kind is (inl h) = unread f further s (Refused r.kind) s kind (ap fault_of part_is ∙ h.fault) (ap Refused is) refl
-        refused kind is (inr h) = short f further s (Refused r.kind) s kind (ap fault_of part_is ∙ h.sound) (has_size kind h.past) (λ same at. size_memory (sym h.past.0 ∙ same)) (ap Refused is) refl
+        refused kind is (inr h) = short f further s (Refused r.kind) s kind (ap fault_of part_is ∙ h.sound) (has_size kind h.past) (λ at. moves (rests_in f s slot at)) (ap Refused is) refl
 
         go : (o : Option ErrorKind) → due_in f s ≡ o → FieldEnters f further s (Refused r.kind) s
         go (Some kind) due = refused kind (refusal.1 kind due) (list_unfilled set d x e kind sizes list_default formed (due_as (Some kind) due))
-        go None due = short f further s (Refused r.kind) s OutOfMemory (ap fault_of part_is ∙ list_read set d x e (due_as None due) (nth_sound s.pointers _ whole)) (has_room due moves) (λ same at. moves (rests_in f s slot at))
+        go None due = short f further s (Refused r.kind) s OutOfMemory (ap fault_of part_is ∙ list_read set d x e (due_as None due) (nth_sound s.pointers _ whole)) (has_room due moves) (λ at. moves (rests_in f s slot at))
             (ap Refused (due_memory r (due_in f s) refusal due)) refl
 
     -- the same of an answer

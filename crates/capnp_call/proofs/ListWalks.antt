@@ -38,7 +38,7 @@ use Rattle.capnp_records.specs.Writes.TreeEnds.{TreeDoesAt, TreeEnds}
 use Rattle.capnp_records.specs.Writes.TreeRun.{TreeEnd, TreeEnters, TreePasses, TreeWalks}
 use Rattle.capnp_slots.specs.Fills.{fill_due}
 use Rattle.capnp_call.proofs.Behind.{due_memory}
-use Rattle.capnp_call.proofs.ListBehind.{IsListDefault, memory_structs, size_memory, slot_within}
+use Rattle.capnp_call.proofs.ListBehind.{IsListDefault, memory_there, null_holds, slot_within}
 use Rattle.capnp_call.proofs.ListReads.{IsTooLarge, IsUnreadable, list_read, list_unfilled}
 use Rattle.capnp_call.specs.Ends.{AsStruct}
 use Rattle.capnp_call.specs.Lists.{ElementDoes, ElementWalks, IsListStand, ListEnds, ListWalks, element_at, refusal_at_nothing}
@@ -253,9 +253,14 @@ module _ (set : Schemas) (x : Tree) (i : ℕ) (rest : List Step) (end : Ending) 
         other : VoidValue ≡ ListValue words → ⊥
         other e = cc
 
-    memory_of : (t : SchemaType) → fill_due set VoidValue (ListType t) at ≡ None → (IsAtRest set VoidValue (ListType t) at → ⊥) → (z : Target) → IsTrue (takes_room z (ListType t) z.part)
-    memory_of (StructType b g) due moves z = memory_structs z b g z.part
-    memory_of t due moves z = absurd (moves (and_false (is_null_tree at), due))
+    memory_of : (t : SchemaType) → fill_due set VoidValue (ListType t) at ≡ None → (IsAtRest set VoidValue (ListType t) at → ⊥) → (z : Target) → z.part ≡ value_of set at Endless (ListType t) →
+        IsTrue (takes_room z (ListType t) z.part)
+    memory_of (StructType b g) due moves z part = go (is_null_tree at) refl
+      where
+        go : (q : Bool) → is_null_tree at ≡ q → IsTrue (takes_room z (ListType (StructType b g)) z.part)
+        go true h = absurd (moves (and_false (is_null_tree at), null_holds (brand_size set b) at h))
+        go false h = memory_there set z b g at part h
+    memory_of t due moves z part = absurd (moves (and_false (is_null_tree at), due))
 
     pub element_list_stops : (n : Error) (x' : Tree) → x' ≡ x → ((b : ℕ) → ((brand_size set b).data_words < 2 ^ 16) × ((brand_size set b).pointers < 2 ^ 16)) → IsWellFormed at → first_fault at ≡ None →
         IsDueRefusal n (fill_due set VoidValue (ListType e) at) → (IsAtRest set VoidValue (ListType e) at → ⊥) → ElementWalks set (ListType e) i rest end x (reply.Refused n.kind) x'
@@ -282,7 +287,7 @@ module _ (set : Schemas) (x : Tree) (i : ℕ) (rest : List Step) (end : Ending) 
             (inl (record {
               kind = kind;
               can = subst (CanRefuse set z) (sym h.past.0) (for_size h.past.1 (subst (λ v. 2 ^ 29 - 1 < size_of (filled set VoidValue (ListType e) v) * 131070) (sym part_is) h.past.2));
-              moves = λ same rests. size_memory (sym h.past.0 ∙ same);
+              moves = moves;
               refused = (ap Refused is, refl);
             }))
 
@@ -291,8 +296,8 @@ module _ (set : Schemas) (x : Tree) (i : ℕ) (rest : List Step) (end : Ending) 
         go None due = enters None (ap fault_of part_is ∙ list_read set VoidValue at e due whole)
             (inl (record {
               kind = OutOfMemory;
-              can = for_memory (memory_of e due moves z);
-              moves = λ same rests. moves rests;
+              can = for_memory (memory_of e due moves z part_is);
+              moves = moves;
               refused = (ap Refused (due_memory n (fill_due set VoidValue (ListType e) at) refusal due), refl);
             }))
 

@@ -1,6 +1,6 @@
 -- Calls that take no memory.
 use Rattle.std.specs.Prelude.{◌≡◌, ◌≢◌, ⊤, Bool, true, false, List, [], ◌∷◌, Ok, Err}
-use Rattle.capnp_device.specs.declared.error.ErrorKind.TheVariants.{OutOfMemory}
+use Rattle.capnp_device.specs.declared.error.ErrorKind.TheVariants.{OutOfMemory, SizePastFormat}
 use Rattle.capnp_wire.specs.Tree.{StructTree}
 use Rattle.capnp_schema.specs.Schema.{Schemas}
 use Rattle.capnp_schema.specs.StructHandles.{number_of, set_of}
@@ -54,9 +54,10 @@ abbrev pub CallRests : Schemas → PathStep → Op → List PathStep → SchemaT
 CallRests set last op [] t old = EndRests set op (target_at set t (seen set t old) last)
 CallRests set last op (step ∷ path) t old = NextRests (walked_target set t (seen set t old) step) (StepRests set t old step) (λ u. CallRests set last op path u (entered set t old step))
 
--- so it isn't refused for the want of it
-abbrev pub IsNotForMemory : Reply → Type 0
-IsNotForMemory reply = reply ≢ Refused OutOfMemory
+-- so it is refused neither for the want of it, nor because the format has no room
+pub record IsNotForRoom (reply : Reply) : Type 0 where
+  pub memory : reply ≢ Refused OutOfMemory
+  pub format : reply ≢ Refused SizePastFormat
 
 -- ---- a call as the code has it ----
 

@@ -1,6 +1,5 @@
 //! The walk of a path: a step after another, each into a part of what the one before it entered.
-ghost use Rattle.std.specs.Prelude.{IsTrue, ◌≡◌, ◌≢◌, ◌<◌, ◌∷◌, false};
-ghost use Rattle.capnp_device.specs.declared.error.ErrorKind.TheVariants.{OutOfMemory};
+ghost use Rattle.std.specs.Prelude.{IsTrue, ◌≡◌, ◌<◌, ◌∷◌, false};
 ghost use Rattle.capnp_wire.specs.Edits.{is_struct, struct_in};
 ghost use Rattle.capnp_wire.specs.Objects.{list_object_tree, object_tree, struct_object_tree};
 ghost use Rattle.capnp_wire.specs.Place.{struct_tree};
@@ -16,8 +15,8 @@ ghost use Rattle.capnp_records.specs.Writes.Slots.{Fits};
 ghost use Rattle.capnp_slots.specs.Fields.{IsRoomFor};
 ghost use Rattle.capnp_slots.specs.Groups.{IsGroupAt, KeepsSize};
 ghost use Rattle.capnp_call.specs.Lists.{ElementWalks, IsListStand, ListWalks, refusal_at_nothing};
-ghost use Rattle.capnp_call.specs.Memory.{PathRests};
-ghost use Rattle.capnp_call.specs.Seen.{step_seen};
+ghost use Rattle.capnp_call.specs.Memory.{IsNotForRoom, PathRests};
+ghost use Rattle.capnp_call.specs.Seen.{reply_seen, step_seen};
 ghost use Rattle.capnp_call.specs.Walks.{FieldWalks, IsWalked, StructWalks};
 ghost use Rattle.capnp_call.specs.Ways.{IsListSlot, IsStructSlot, LeadsTo};
 
@@ -43,7 +42,7 @@ use capnp_wire::object::{ListObject, Object, StructObject};
 /// names a field, then with `NoSuchElement` past the end, then with `UntypedStep` into an untyped element and with
 /// `NotAContainer` into another one that is no struct or list. The end is refused as `end::end_at_struct` and
 /// `list_end::end_at_list`. What the steps before a refusal filled stays. Where nothing has to be filled or extended behind a
-/// step and the operation takes no memory, nothing is refused with `OutOfMemory`.
+/// step and the operation takes no memory, nothing is refused with `OutOfMemory`, and nothing with `SizePastFormat`.
 #[inline(always)]
 pub fn walk(
     object: &mut StructObject,
@@ -56,7 +55,7 @@ pub fn walk(
     requires formed { IsWellFormed (struct_tree (struct_object_tree object.old)) }
     ensures walks { StructWalks (set_of schema.entry) (number_of schema.entry) path.now end.entry (struct_object_tree object.old) result
         (struct_object_tree object.new) }
-    ensures rests { PathRests schema.entry path.now end.entry (struct_object_tree object.old) → result ≢ Reply.Refused OutOfMemory }
+    ensures rests { PathRests schema.entry path.now end.entry (struct_object_tree object.old) → IsNotForRoom (reply_seen result) }
     ensures kept { KeepsSize (struct_object_tree object.old) (struct_object_tree object.new) }
 {
     let mut reply = Reply::Done;
@@ -78,7 +77,7 @@ fn walk_from(
     requires formed { IsWellFormed (struct_tree (struct_object_tree object.old)) }
     ensures walks { StructWalks (set_of schema.entry) (number_of schema.entry) path.now end.entry (struct_object_tree object.old) reply.new
         (struct_object_tree object.new) }
-    ensures rests { PathRests schema.entry path.now end.entry (struct_object_tree object.old) → reply.new ≢ Reply.Refused OutOfMemory }
+    ensures rests { PathRests schema.entry path.now end.entry (struct_object_tree object.old) → IsNotForRoom (reply_seen reply.new) }
     ensures kept { KeepsSize (struct_object_tree object.old) (struct_object_tree object.new) }
 {
     let Some((step, rest)) = path.split_first() else {

@@ -16,13 +16,12 @@ use Rattle.capnp_records.specs.Writes.Slots.{Fits}
 use Rattle.capnp_schema.specs.Plan.{brand_size}
 use Rattle.capnp_records.specs.Writes.TreeEnds.{group_cleared, slot_written}
 use Rattle.capnp_slots.specs.Copied.{refusal_of}
-use Rattle.capnp_slots.specs.Fields.{IsRoomFor, Keeps, field_brand, names_of}
+use Rattle.capnp_slots.specs.Fields.{IsRoomFor, Keeps, field_brand}
 use Rattle.capnp_slots.specs.GroupSets.{IsGroupSet, given_to_group}
 use Rattle.capnp_slots.specs.Primitives.{given_content, given_to}
 use Rattle.capnp_slots.specs.Sources.{IsSet, IsSetRefusal, IsTaken}
 use Rattle.capnp_device.specs.declared.error.ErrorKind.{ErrorKind}
 use Rattle.capnp_records.specs.Call.{Source}
-use Rattle.capnp_records.specs.Facts.FieldWrite.{writes-refl}
 use Rattle.capnp_records.specs.Given.{Given, Gives, Copies, CopiesGroup, Fails, given_group, given_slot}
 use Rattle.capnp_records.specs.Writes.TreeCopy.{TreeCopiesWithin}
 use Rattle.capnp_records.specs.Writes.Overlay.{field_names, switched}
@@ -110,9 +109,6 @@ cleared_group f x e = go (is_group_field (typed_of f).field.kind) e
 
 -- ---- what is set, by its kind ----
 
-kept-same : (inside : Spot → Bool) (s s' : StructTree) → s' ≡ s → Keeps inside s s'
-kept-same inside s s' e = subst (λ (x : StructTree). Keeps inside s x) (sym e) (record { writes = writes-refl inside s; formed = λ h. h })
-
 slot-kind : (q : Bool) → true ≡ not q → q ≡ false
 slot-kind true e = absurd (true≢false e)
 slot-kind false e = refl
@@ -130,10 +126,6 @@ module _ {A : Type 0} (f : Field) (x : Source) (old new : StructTree) where
       IsFieldSet f x old (refusal_of r) new
   slot_was_set r e ok same cause =
       subst (λ (q : Bool). KindIsSet q f x old (refusal_of r) new) (sym (slot-kind (is_group_field (typed_of f).field.kind) e)) (slot-set r ok same cause)
-
-  pub slot_set_keeps : (r : Result A Error) → OnOk r (IsSet f x old new) → OnErr r (new ≡ old) → Keeps (names_of f) old new
-  slot_set_keeps (Ok a) ok same = ok.kept
-  slot_set_keeps (Err e) ok same = kept-same (names_of f) old new same
 
   pub group_was_set : (r : Result A Error) → false ≡ not (is_group_field (typed_of f).field.kind) → IsGroupSet f (given_to_group f x) old (refusal_of r) new → IsFieldSet f x old (refusal_of r) new
   group_was_set r e h = subst (λ (q : Bool). KindIsSet q f x old (refusal_of r) new) (sym (group-kind (is_group_field (typed_of f).field.kind) e)) h

@@ -1,7 +1,8 @@
 -- What builders of dynamic values stand on. Contracts cite these words; a builder's fields are public, so that it can be
 -- taken apart.
-use Rattle.std.specs.Prelude.{ℕ, ◌<◌, ◌≡◌, None}
-use Rattle.std.specs.Borrow.{MutBor}
+use Rattle.std.specs.Prelude.{ℕ, [], ◌<◌, ◌≡◌, None}
+use Rattle.std.specs.Borrow.{Fml, Lends, MutBor}
+use mir.Syntax.{named}
 use Rattle.capnp_wire.specs.Defaults.{list_refusal}
 use Rattle.capnp_wire.specs.Elements.{built_list}
 use Rattle.capnp_wire.specs.Objects.{list_object_tree, struct_object_tree}
@@ -10,6 +11,8 @@ use Rattle.capnp_wire.specs.Reading.{list_length}
 use Rattle.capnp_wire.specs.StructLists.{HoldsStructs}
 use Rattle.capnp_wire.specs.Tree.{StructTree, Tree}
 use Rattle.capnp_wire.specs.WellFormed.{IsWellFormed}
+use Rattle.capnp_wire.specs.contracts.object.ListObject.{the_row as list_row}
+use Rattle.capnp_wire.specs.contracts.object.StructObject.{the_row as struct_row}
 use Rattle.capnp_wire.specs.declared.object.ListObject.{ListObject}
 use Rattle.capnp_wire.specs.declared.object.StructObject.{StructObject}
 use Rattle.capnp_base.specs.declared.introspect.«Type».{«Type» as TypeHandle}
@@ -22,6 +25,8 @@ use Rattle.capnp_records.specs.Reading.{struct_record}
 use Rattle.capnp_records.specs.Record.{Left, Record}
 use Rattle.capnp_records.specs.Writes.Slots.{Fits}
 use Rattle.capnp_schema.specs.Plan.{brand_size}
+use Rattle.capnp_dynamic.specs.contracts.dynamic_list.build.Builder.{the_row as list_handle_row}
+use Rattle.capnp_dynamic.specs.contracts.dynamic_struct.build.Builder.{the_row as struct_handle_row}
 use Rattle.capnp_dynamic.specs.declared.dynamic_list.build.Builder.{Builder as ListHandle}
 use Rattle.capnp_dynamic.specs.declared.dynamic_struct.build.Builder.{Builder as StructHandle}
 
@@ -84,3 +89,19 @@ IsListReady l = IsListUnder (built_set l) (built_element l) (built_elements l)
 -- an element is there
 abbrev pub IsIn : ℕ → ListHandle → Type 0
 IsIn j l = j < list_length (built_elements l)
+
+-- ---- what is lent for a shorter time ----
+
+-- a builder with another object behind its reference
+abbrev pub with_struct : StructHandle → StructObject → StructHandle
+with_struct b object = record b { builder = record b.builder { now = object } }
+
+abbrev pub with_list : ListHandle → ListObject → ListHandle
+with_list l object = record l { builder = record l.builder { now = object } }
+
+-- a builder that is lent for a shorter time ends as itself, with the object as it was left
+abbrev pub LendsStruct : MutBor StructHandle → StructHandle → Fml
+LendsStruct b result = Lends (struct_handle_row (record { mir = named 0; lft = [] })) struct_row b (struct_behind result) (with_struct b.now)
+
+abbrev pub LendsList : MutBor ListHandle → ListHandle → Fml
+LendsList l result = Lends (list_handle_row (record { mir = named 0; lft = [] })) list_row l (list_behind result) (with_list l.now)

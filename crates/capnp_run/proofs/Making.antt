@@ -17,7 +17,7 @@ use Rattle.capnp_records.specs.Writes.Stand.{OnStruct}
 use Rattle.capnp_records.specs.Writes.TreeEnds.{TreeEnds, TreeRun, TreeStep}
 use Rattle.capnp_records.specs.Writes.TreeRun.{TreeWalks}
 use Rattle.capnp_slots.specs.Groups.{KeepsSize}
-use Rattle.capnp_run.specs.Runs.{Makes}
+use Rattle.capnp_run.specs.Runs.{IsMade, Makes}
 use Rattle.capnp_call.specs.Seen.{call_seen, op_seen, path_seen, reply_seen, step_seen}
 use Rattle.capnp_call.specs.Ends.{AsStruct}
 use Rattle.capnp_call.specs.Walks.{StructWalks}
@@ -30,9 +30,9 @@ unfolding Makes
 makes_none set b s = refl
 
 pub makes_more : (set : Schemas) (b : ℕ) (old mid new : StructTree) (calls : List Call) (replies : List Reply) (call : Call) (reply : Reply) →
-    Makes set b old calls replies mid → TreeStep set b mid (call_seen call) (reply_seen reply) new → Makes set b old (calls ++ call ∷ []) (replies ++ reply ∷ []) new
+    Makes set b old calls replies mid → IsMade set b mid call reply new → Makes set b old (calls ++ call ∷ []) (replies ++ reply ∷ []) new
 unfolding Makes
-makes_more set b old mid new [] [] call reply h c = (new, subst (λ (x : StructTree). TreeStep set b x (call_seen call) (reply_seen reply) new) h c, refl)
+makes_more set b old mid new [] [] call reply h c = (new, subst (λ (x : StructTree). IsMade set b x call reply new) h c, refl)
 makes_more set b old mid new [] (r ∷ rs) call reply h c = absurd h
 makes_more set b old mid new (k ∷ ks) [] call reply h c = absurd h
 makes_more set b old mid new (k ∷ ks) (r ∷ rs) call reply h c = (h.0, h.1, makes_more set b h.0 mid new ks rs call reply h.2 c)
@@ -42,7 +42,7 @@ unfolding Makes
 tree_run set b old new [] [] h = h
 tree_run set b old new [] (r ∷ rs) h = absurd h
 tree_run set b old new (k ∷ ks) [] h = absurd h
-tree_run set b old new (k ∷ ks) (r ∷ rs) h = (h.0, h.1, tree_run set b h.0 new ks rs h.2)
+tree_run set b old new (k ∷ ks) (r ∷ rs) h = (h.0, h.1.step, tree_run set b h.0 new ks rs h.2)
 
 pub machine_runs : (schema : StructSchema) (old new : StructTree) (calls : List Call) (replies : List Reply) → IsStruct schema → HasRanges (set_of schema) → OverlayLaw → Fits (set_of schema) (number_of schema) old →
     Makes (set_of schema) (number_of schema) old calls replies new →

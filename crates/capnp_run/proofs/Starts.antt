@@ -7,6 +7,7 @@ use Rattle.capnp_device.specs.declared.error.Error.{Error}
 use Rattle.capnp_device.specs.declared.error.ErrorKind.{ErrorKind}
 use Rattle.capnp_device.specs.declared.error.ErrorKind.TheVariants.{OutOfMemory, TooDeep, TooLarge}
 use Rattle.capnp_wire.specs.Depth.{IsShallow}
+use Rattle.capnp_wire.specs.Encoding.{message_of}
 use Rattle.capnp_wire.specs.Reading.{as_struct, refusal}
 use Rattle.capnp_wire.specs.Standing.{levels_of, struct_levels, struct_of, tree_of}
 use Rattle.capnp_wire.specs.Stream.{message_tree_of}
@@ -40,8 +41,9 @@ use Rattle.capnp_records.specs.Facts.Extension.{fits-extended, reads-extended, r
 use Rattle.capnp_records.specs.Record.{Left, Levels, Record}
 use Rattle.capnp_records.specs.Writes.Slots.{Fits}
 use Rattle.capnp_schema.specs.Plan.{brand_size}
-use Rattle.capnp_run.specs.Messages.{HasRoot, IsWhole, IsWholeRefusal, LeavesRun, RunsOn, fault_or, new_record, record_left, root_refusal, root_value, text_in}
-use Rattle.capnp_run.specs.Runs.{IsRunFrom, record_in}
+use Rattle.capnp_run.specs.Messages.{HasRoot, IsWhole, IsWholeRefusal, LeavesRun, RunsOn, fault_or, new_record, new_root, record_left, root_refusal, root_value, text_in}
+use Rattle.capnp_run.specs.Messages.{copied_root as copied_root_of}
+use Rattle.capnp_run.specs.Runs.{IsRunFrom, Makes, record_in}
 use Rattle.capnp_call.specs.declared.calls.Call.{Call}
 use Rattle.capnp_call.specs.declared.calls.Reply.{Reply}
 
@@ -94,6 +96,23 @@ runs_here schema old t s s' calls replies e is formed runs = record {
   runs = subst (λ (x : StructTree). IsRunFrom schema (record_in schema x) calls replies (record_in schema (struct_in t))) e
       (subst (λ (y : StructTree). IsRunFrom schema (record_in schema s) calls replies (record_in schema y)) (sym (ap struct_in is)) runs);
 }
+
+-- the calls that were made there, one by one
+pub makes_here : (set : Schemas) (b : ℕ) (old t : Tree) (s s' : StructTree) (calls : List Call) (replies : List Reply) → s ≡ struct_in old → t ≡ struct_tree s' → Makes set b s calls replies s' →
+    Makes set b (struct_in old) calls replies (struct_in t)
+makes_here set b old t s s' calls replies e is made =
+    subst (λ (x : StructTree). Makes set b x calls replies (struct_in t)) e (subst (λ (y : StructTree). Makes set b s calls replies y) (sym (ap struct_in is)) made)
+
+pub makes_from : (set : Schemas) (b : ℕ) (s old new : StructTree) (calls : List Call) (replies : List Reply) → old ≡ s → Makes set b old calls replies new → Makes set b s calls replies new
+makes_from set b s old new calls replies e made = subst (λ (x : StructTree). Makes set b x calls replies new) e made
+
+-- the root is the struct that was made
+pub root_made : (schema : StructSchema) (size : StructSize) (s : StructTree) (t : Tree) → size ≡ brand_size (set_of schema) (number_of schema) → s ≡ zero_struct size → t ≡ struct_tree s → struct_in t ≡ new_root schema
+root_made schema size s t is zero root = ap struct_in root ∙ (zero ∙ ap zero_struct is)
+
+pub root_copied : (schema : StructSchema) (size : StructSize) (s : StructTree) (source : PointerReader) (t : Tree) → size ≡ brand_size (set_of schema) (number_of schema) → s ≡ extended size (struct_in (tree_of source)) → t ≡ struct_tree s →
+    struct_in t ≡ copied_root_of schema source
+root_copied schema size s source t is whole root = ap struct_in root ∙ (whole ∙ ap (λ (z : StructSize). extended z (struct_in (tree_of source))) is)
 
 -- and of a root that reads as a record
 pub leaves_run : (schema : StructSchema) (r : Record) (t t' : Tree) (calls : List Call) (replies : List Reply) → HasRoot schema r t → RunsOn schema t calls replies t' → LeavesRun schema r calls replies t'
@@ -177,12 +196,13 @@ struct_reads (tree.FaultLeaf k) n kind here levels h = true≢false (sym here)
 -- ---- the whole ----
 
 pub whole : (schema : StructSchema) (r : Record) (t : Tree) (calls : List Call) (replies : List Reply) (bytes : List ℕ) (indented : Bool) (old new : List ℕ) → LeavesRun schema r calls replies t →
-    suc (words_of t) < 2 ^ 29 → (IsShallow t → (rest : List ℕ) → message_tree_of (bytes ++ rest) ≡ Ok t) → IsAppended old (text_in schema indented (record_in schema (struct_in t))) new →
+    suc (words_of t) < 2 ^ 29 → bytes ≡ message_of t → (IsShallow t → (rest : List ℕ) → message_tree_of (bytes ++ rest) ≡ Ok t) → IsAppended old (text_in schema indented (record_in schema (struct_in t))) new →
     IsWhole schema r calls replies bytes indented old new
-whole schema r t calls replies bytes indented old new leaves fits read printed = record {
+whole schema r t calls replies bytes indented old new leaves fits written read printed = record {
   root = struct_in t;
   runs = leaves.runs;
   fits = subst (λ (y : Tree). suc (words_of y) < 2 ^ 29) leaves.root fits;
+  written = written ∙ ap message_of leaves.root;
   read_back = subst (λ (y : Tree). IsShallow y → (rest : List ℕ) → message_tree_of (bytes ++ rest) ≡ Ok y) leaves.root read;
   printed = printed;
 }

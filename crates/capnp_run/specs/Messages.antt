@@ -3,7 +3,8 @@ use Rattle.std.specs.Prelude.{ℕ, suc, ◌^◌, ◌<◌, ◌≤◌, ◌≡◌, 
 use Rattle.capnp_device.specs.declared.error.ErrorKind.{ErrorKind}
 use Rattle.capnp_device.specs.declared.error.ErrorKind.TheVariants.{TooLarge}
 use Rattle.capnp_wire.specs.Depth.{IsShallow}
-use Rattle.capnp_wire.specs.Edits.{is_struct, struct_in, struct_refusal}
+use Rattle.capnp_wire.specs.Edits.{extended, is_struct, struct_in, struct_refusal, zero_struct}
+use Rattle.capnp_wire.specs.Encoding.{message_of}
 use Rattle.capnp_wire.specs.Place.{struct_tree}
 use Rattle.capnp_wire.specs.Reading.{refusal}
 use Rattle.capnp_wire.specs.Standing.{tree_of}
@@ -13,6 +14,7 @@ use Rattle.capnp_wire.specs.WellFormed.{IsWellFormed}
 use Rattle.capnp_wire.specs.Words.{first_fault, words_of}
 use Rattle.capnp_wire.specs.declared.fault.Fault.{Fault}
 use Rattle.capnp_wire.specs.declared.pointer_reader.PointerReader.{PointerReader}
+use Rattle.capnp_schema.specs.Plan.{brand_size}
 use Rattle.capnp_schema.specs.StructHandles.{number_of, set_of, struct_node}
 use Rattle.capnp_schema.specs.declared.schema.structs.StructSchema.{StructSchema}
 use Rattle.capnp_records.specs.Default.{default_record}
@@ -27,7 +29,14 @@ use Rattle.capnp_run.specs.Runs.{IsRunFrom, record_in}
 use Rattle.capnp_call.specs.declared.calls.Call.{Call}
 use Rattle.capnp_call.specs.declared.calls.Reply.{Reply}
 
--- the record of an empty root, and that of a copy of what a reader stands on
+-- the struct of an empty root, and that of a copy of what a reader stands on, with at least its schema's sections
+abbrev pub new_root : StructSchema → StructTree
+new_root schema = zero_struct (brand_size (set_of schema) (number_of schema))
+
+abbrev pub copied_root : StructSchema → PointerReader → StructTree
+copied_root schema source = extended (brand_size (set_of schema) (number_of schema)) (struct_in (tree_of source))
+
+-- the record of an empty root, and that of a copy
 abbrev pub new_record : StructSchema → Record
 new_record schema = default_record (set_of schema) Endless (number_of schema)
 
@@ -89,12 +98,14 @@ read_text schema indented t = text_in schema indented (record_left schema (struc
 abbrev pub message_words : StructTree → ℕ
 message_words root = suc (words_of (struct_tree root))
 
--- What is promised of a run, whole: a run of the machine leads from the record at the start to that of a struct, which the
--- bytes of the message are read back as where its pointers go at most 64 levels down, and whose text is appended.
+-- What is promised of a run, whole: a run of the machine leads from the record at the start to that of a struct. The bytes
+-- are the message of that struct, which they are read back as where its pointers go at most 64 levels down, and its text is
+-- appended.
 pub record IsWhole (schema : StructSchema) (r : Record) (calls : List Call) (replies : List Reply) (bytes : List ℕ) (indented : Bool) (old new : List ℕ) : Type 0 where
   pub root : StructTree
   pub runs : IsRunFrom schema r calls replies (record_in schema root)
   pub fits : message_words root < 2 ^ 29
+  pub written : bytes ≡ message_of (struct_tree root)
   pub read_back : IsShallow (struct_tree root) → (rest : List ℕ) → message_tree_of (bytes ++ rest) ≡ Ok (struct_tree root)
   pub printed : IsAppended old (text_in schema indented (record_in schema root)) new
 

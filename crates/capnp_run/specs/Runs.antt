@@ -1,5 +1,5 @@
 -- What a list of calls does to the tree of a struct, one reply to each.
-use Rattle.std.specs.Prelude.{ℕ, ◌≡◌, List, [], ◌∷◌, map}
+use Rattle.std.specs.Prelude.{All, ℕ, ◌≡◌, List, [], ◌∷◌, map}
 use Rattle.capnp_wire.specs.Tree.{StructTree}
 use Rattle.capnp_schema.specs.Schema.{Schemas}
 use Rattle.capnp_schema.specs.StructHandles.{number_of, set_of}
@@ -8,14 +8,21 @@ use Rattle.capnp_records.specs.Reading.{reads}
 use Rattle.capnp_records.specs.Record.{Record}
 use Rattle.capnp_records.specs.Run.{Run}
 use Rattle.capnp_records.specs.Writes.TreeEnds.{TreeStep}
+use Rattle.capnp_call.specs.Memory.{IsNotForRoom}
 use Rattle.capnp_call.specs.Seen.{call_seen, reply_seen}
 use Rattle.capnp_call.specs.declared.calls.Call.{Call}
 use Rattle.capnp_call.specs.declared.calls.Reply.{Reply}
+use Rattle.capnp_run.specs.Memory.{RestsOn, RunRests}
+
+-- one call is made: a step on trees, with a reply that is no refusal for room where the call takes no memory
+pub record IsMade (set : Schemas) (b : ℕ) (old : StructTree) (call : Call) (reply : Reply) (new : StructTree) : Type 0 where
+  pub step : TreeStep set b old (call_seen call) (reply_seen reply) new
+  pub rests : RestsOn set b call old → IsNotForRoom (reply_seen reply)
 
 -- a run on trees, of calls and replies as the code has them
 unfoldable pub Makes : Schemas → ℕ → StructTree → List Call → List Reply → StructTree → Type 0
 Makes set b old [] [] new = new ≡ old
-Makes set b old (call ∷ calls) (reply ∷ replies) new = (mid : StructTree) × TreeStep set b old (call_seen call) (reply_seen reply) mid × Makes set b mid calls replies new
+Makes set b old (call ∷ calls) (reply ∷ replies) new = (mid : StructTree) × IsMade set b old call reply mid × Makes set b mid calls replies new
 Makes set b old [] (reply ∷ replies) new = ⊥
 Makes set b old (call ∷ calls) [] new = ⊥
 
@@ -31,7 +38,6 @@ IsRunFrom schema r calls replies r' = Run (set_of schema) (number_of schema) r (
 abbrev pub RunsTo : StructSchema → StructTree → List Call → List Reply → StructTree → Type 0
 RunsTo schema s calls replies s' = IsRunFrom schema (record_in schema s) calls replies (record_in schema s')
 
--- a run of the machine leads from the record of a struct, by calls with their replies, to a record
-pub record RunsFrom (schema : StructSchema) (s : StructTree) (calls : List Call) (replies : List Reply) : Type 0 where
-  pub after : Record
-  pub runs : IsRunFrom schema (record_in schema s) calls replies after
+-- where no call takes memory, no reply is a refusal for room
+abbrev pub RestsWhole : StructSchema → StructTree → List Call → List Reply → Type 0
+RestsWhole schema s calls replies = RunRests schema s calls → All (λ (r : Reply). IsNotForRoom (reply_seen r)) replies

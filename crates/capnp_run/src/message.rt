@@ -1,15 +1,16 @@
 //! Calls on whole messages: on an empty root, or on a message that was copied in whole.
 ghost use Rattle.std.specs.Prelude.{IsTrue, None, Some, Err, ◌≡◌, ◌≢◌, OnErr, OnOk, IfErr, IfOk, string_bytes};
 ghost use Rattle.capnp_device.specs.declared.error.ErrorKind.TheVariants.{OutOfMemory};
-ghost use Rattle.capnp_wire.specs.Edits.{is_struct};
+ghost use Rattle.capnp_wire.specs.Edits.{is_struct, struct_in};
 ghost use Rattle.capnp_wire.specs.Message.{builder_tree};
 ghost use Rattle.capnp_wire.specs.Objects.{object_tree};
 ghost use Rattle.capnp_wire.specs.Standing.{tree_of};
 ghost use Rattle.capnp_wire.specs.WellFormed.{IsWellFormed};
-ghost use Rattle.capnp_schema.specs.StructHandles.{IsStruct};
+ghost use Rattle.capnp_schema.specs.StructHandles.{IsStruct, number_of, set_of};
 ghost use Rattle.capnp_dynamic_readers.specs.Pieces.{IsAppended};
 ghost use Rattle.capnp_run.specs.Messages.{HasRoot, IsCopiedRefusal, IsRoot, IsWhole, IsWholeRefusal, LeavesRun};
-ghost use Rattle.capnp_run.specs.Messages.{RunsOn, copied_record, new_record, read_text, root_refusal, root_text};
+ghost use Rattle.capnp_run.specs.Messages.{RunsOn, copied_record, copied_root, new_record, new_root, read_text, root_refusal, root_text};
+ghost use Rattle.capnp_run.specs.Runs.{Makes, RestsWhole};
 
 use crate::run::run_on;
 use capnp_call::calls::{Call, Reply};
@@ -29,6 +30,7 @@ use std::alloc::Global;
 /// Makes the root a struct of a schema, all zero and null. Refused with `OutOfMemory`.
 fn empty_root(message: &mut Builder, schema: StructSchema<'_>) -> Result<()>
     ensures root { OnOk result (HasRoot schema.entry (new_record schema.entry) (builder_tree message.new)) }
+    ensures anew { OnOk result (struct_in (builder_tree message.new) ≡ new_root schema.entry) }
     ensures cause { IfErr result (λ e. e.kind ≡ OutOfMemory) }
 {
     objects_are_what_they_hold();
@@ -44,6 +46,7 @@ fn copied_root(
     schema: StructSchema<'_>,
 ) -> Result<()>
     ensures root { OnOk result (HasRoot schema.entry (copied_record schema.entry source.entry) (builder_tree message.new)) }
+    ensures copied { OnOk result (struct_in (builder_tree message.new) ≡ copied_root schema.entry source.entry) }
     ensures sound { OnOk result (root_refusal (tree_of source.entry) ≡ None) }
     ensures cause { IfErr result (λ e. e.kind ≢ OutOfMemory → root_refusal (tree_of source.entry) ≡ Some e.kind) }
 {
@@ -65,6 +68,8 @@ fn run_here(
     requires stands { IsStruct schema }
     requires root { IsRoot schema (object_tree pointer.old) }
     ensures run { IfOk result (λ replies. RunsOn schema.entry (object_tree pointer.old) calls.now replies.items (object_tree pointer.new)) }
+    ensures made { IfOk result (λ replies. Makes (set_of schema.entry) (number_of schema.entry) (struct_in (object_tree pointer.old)) calls.now replies.items
+        (struct_in (object_tree pointer.new))) }
     ensures cause { IfErr result (λ e. e.kind ≡ OutOfMemory) }
 {
     objects_are_what_they_hold();
@@ -82,6 +87,8 @@ fn run_root(
     requires stands { IsStruct schema }
     requires root { IsRoot schema (builder_tree message.old) }
     ensures run { IfOk result (λ replies. RunsOn schema.entry (builder_tree message.old) calls.now replies.items (builder_tree message.new)) }
+    ensures made { IfOk result (λ replies. Makes (set_of schema.entry) (number_of schema.entry) (struct_in (builder_tree message.old)) calls.now replies.items
+        (struct_in (builder_tree message.new))) }
     ensures cause { IfErr result (λ e. e.kind ≡ OutOfMemory) }
 {
     let root = message.root();
@@ -93,7 +100,8 @@ fn run_root(
 /// given up. The schema is one of an accepted set.
 ///
 /// Refused with `OutOfMemory` alone, where there is no room for the root or the replies; then no call was made, and the
-/// message is as it was. A call that is refused has its reply, and doesn't refuse the run.
+/// message is as it was. A call that is refused has its reply, and doesn't refuse the run. One that takes no memory on what the
+/// one before it left is refused neither with `OutOfMemory` nor with `SizePastFormat`.
 pub fn run_new(
     alloc: Global,
     message: &mut Builder,
@@ -102,6 +110,9 @@ pub fn run_new(
 ) -> Result<Vec<Reply>>
     requires { IsStruct schema }
     ensures run { IfOk result (λ replies. LeavesRun schema.entry (new_record schema.entry) calls.now replies.items (builder_tree message.new)) }
+    ensures made { IfOk result (λ replies. Makes (set_of schema.entry) (number_of schema.entry) (new_root schema.entry) calls.now replies.items
+        (struct_in (builder_tree message.new))) }
+    ensures rests { IfOk result (λ replies. RestsWhole schema.entry (new_root schema.entry) calls.now replies.items) }
     ensures refused { OnErr result (message.new ≡ message.old) }
     ensures cause { IfErr result (λ e. e.kind ≡ OutOfMemory) }
 {
@@ -118,7 +129,7 @@ pub fn run_new(
 ///
 /// Refused with `BadPointer`, `TooDeep` or `CapabilityPointer` where a pointer in the source can't be followed, by the first
 /// of these in preorder; else with `WrongPointerKind` where the source is a list; and with `OutOfMemory`. Then no call was
-/// made, and the message is as it was.
+/// made, and the message is as it was. Once the copy and the replies have room, calls are refused as by `run_new`.
 pub fn run_copied(
     alloc: Global,
     message: &mut Builder,
@@ -129,6 +140,9 @@ pub fn run_copied(
     requires { IsStruct schema }
     ensures run { IfOk result (λ replies. LeavesRun schema.entry (copied_record schema.entry source.entry) calls.now replies.items
         (builder_tree message.new)) }
+    ensures made { IfOk result (λ replies. Makes (set_of schema.entry) (number_of schema.entry) (copied_root schema.entry source.entry) calls.now replies.items
+        (struct_in (builder_tree message.new))) }
+    ensures rests { IfOk result (λ replies. RestsWhole schema.entry (copied_root schema.entry source.entry) calls.now replies.items) }
     ensures sound { OnOk result (root_refusal (tree_of source.entry) ≡ None) }
     ensures refused { OnErr result (message.new ≡ message.old) }
     ensures cause { IfErr result (λ e. e.kind ≢ OutOfMemory → root_refusal (tree_of source.entry) ≡ Some e.kind) }

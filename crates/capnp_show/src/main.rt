@@ -20,7 +20,7 @@ fn main(rt: HostRuntime) -> ExitCode {
     let status = match command::words(rt.alloc(), env::args(&rt)) {
         Ok(words) => command::command(rt.alloc(), &words, &mut source, &mut sink, &mut errors),
         Err(error) => {
-            command::report(rt.alloc(), error.kind, &mut errors);
+            command::report(error.kind, &mut errors);
             1
         }
     };

@@ -5,7 +5,8 @@
 ghost use Rattle.std.specs.Prelude.{◌<◌};
 
 use crate::messages::{BEGINNINGS, EXAMPLES, REFUSED, SHOWN, row_of};
-use capnp_show_engine::command::command;
+use capnp_show_engine::command::{command, report};
+use capnp_wire::error::{ErrorKind, SchemaTable};
 use capnp_wire::memory::{MemorySink, MemorySource};
 use capnp_wire::transfer::read_all;
 use std::alloc::Global;
@@ -356,6 +357,52 @@ fn status_stays(
 fn failing_errors_change_no_status(rt: HostRuntime) -> Result<(), Fail> {
     status_stays(&rt, rt.alloc(), "Flat", 1, b"refused: 2\n")?;
     status_stays(&rt, rt.alloc(), "Nope", 2, USAGE.as_bytes())
+}
+
+/// Each refusal that a print can have, the others of one and of two digits, and one of the longest number.
+static LINES: [(ErrorKind, &str); 16] = [
+    (ErrorKind::OutOfMemory, "refused: 1\n"),
+    (ErrorKind::Truncated, "refused: 2\n"),
+    (ErrorKind::TooManySegments, "refused: 3\n"),
+    (ErrorKind::BadPointer, "refused: 4\n"),
+    (ErrorKind::WrongPointerKind, "refused: 5\n"),
+    (ErrorKind::WrongElementSize, "refused: 6\n"),
+    (ErrorKind::TextNotTerminated, "refused: 7\n"),
+    (ErrorKind::TooDeep, "refused: 8\n"),
+    (ErrorKind::CapabilityPointer, "refused: 9\n"),
+    (ErrorKind::SizePastFormat, "refused: 10\n"),
+    (ErrorKind::TooLarge, "refused: 11\n"),
+    (ErrorKind::ReadFailed, "refused: 12\n"),
+    (ErrorKind::WriteFailed, "refused: 13\n"),
+    (ErrorKind::FieldNotFound, "refused: 20\n"),
+    (
+        ErrorKind::Schema {
+            rule: 12,
+            table: SchemaTable::Node,
+            entry: 0,
+            field: 65535,
+        },
+        "refused: 52\n",
+    ),
+    (
+        ErrorKind::Schema {
+            rule: 4294967255,
+            table: SchemaTable::Enum,
+            entry: 0,
+            field: 0,
+        },
+        "refused: 4294967295\n",
+    ),
+];
+
+/// The line takes no memory: each is told whatever there is.
+#[test]
+fn each_refusal_is_told(rt: HostRuntime) {
+    for (kind, line) in &LINES {
+        let mut errors = MemorySink::new(rt.alloc(), 4096, None);
+        report(*kind, &mut errors);
+        assert_eq!(rt; errors.as_slice(), line.as_bytes(), "{line}");
+    }
 }
 
 /// Words that ask for nothing, on lines: none, an empty one, and others. Each word has a comma after it.

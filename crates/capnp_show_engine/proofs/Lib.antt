@@ -1,3 +1,4 @@
 pub mod Outcomes
 pub mod Shown
 pub mod TextFaults
+pub mod Digits

@@ -1,5 +1,5 @@
 //! What the program does with its words.
-ghost use Rattle.std.specs.Prelude.{◌≡◌, ◌≢◌, ◌≤◌, ◌<◌, ◌⊎◌, length, IfErr, IfOk, IfSome, OnOk, Some, None};
+ghost use Rattle.std.specs.Prelude.{◌≡◌, ◌≢◌, ◌≤◌, ◌<◌, length, IfErr, IfOk, IfSome, OnOk, Some, None};
 ghost use Rattle.std.specs.IoError.{error_kind};
 ghost use Rattle.std.specs.declared.io.ErrorKind.TheVariants.{OutOfMemory as NoMemory};
 ghost use Rattle.capnp_device.specs.Device.{HasFailed};
@@ -9,6 +9,7 @@ ghost use Rattle.capnp_show_engine.specs.Command.{IsRefusedRun, IsTold, asked, b
 ghost use Rattle.capnp_show_engine.specs.Show.{IsCutShort, IsOfMessage, IsRefused, IsShown};
 
 use crate::engine::show;
+use crate::line::{LONGEST, put_refusal};
 use capnp_schema::builtin;
 use capnp_wire::device::{Sink, Source};
 use capnp_wire::error::{Error, ErrorKind, Result};
@@ -119,8 +120,8 @@ pub fn command<R: Source, W: Sink, F: Sink>(
         × IsShown builtin r.brand r.indented (R.left source.old) (R.left source.new) (W.written sink.old) (W.written sink.new) }
     ensures quiet { result ≡ 0 → errors.new ≡ errors.old }
     ensures refused { result ≡ 1 → (r : Request) × (kind : ErrorKind) × (asked words.now ≡ Some r)
-        × (IsTold (refusal_line kind) (F.written errors.old) (F.written errors.new)
-        (F.failures errors.old) (F.failures errors.new) ⊎ (errors.new ≡ errors.old))
+        × IsTold (refusal_line kind) (F.written errors.old) (F.written errors.new)
+        (F.failures errors.old) (F.failures errors.new)
         × IsRefusedRun r kind (R.left source.old) (R.left source.new) (W.written sink.old) (W.written sink.new)
         (R.failures source.old) (R.failures source.new) (W.failures sink.old) (W.failures sink.new)
         × (kind ≢ WriteFailed → sink.new ≡ sink.old) }
@@ -132,21 +133,20 @@ pub fn command<R: Source, W: Sink, F: Sink>(
     match show_built_in(alloc, request, source, sink) {
         Ok(()) => 0,
         Err(error) => {
-            report(alloc, error.kind, errors);
+            report(error.kind, errors);
             1
         }
     }
 }
 
-/// Writes a refusal's number, where there is memory for the line.
-pub fn report<F: Sink>(alloc: Global, kind: ErrorKind, errors: &mut F)
+/// Writes a refusal's number, as far as the sink takes the line. No memory is taken.
+pub fn report<F: Sink>(kind: ErrorKind, errors: &mut F)
     ensures { IsTold (refusal_line kind) (F.written errors.old) (F.written errors.new)
-        (F.failures errors.old) (F.failures errors.new) ⊎ (errors.new ≡ errors.old) }
+        (F.failures errors.old) (F.failures errors.new) }
 {
-    let number = kind.number();
-    if let Ok(line) = format!(in alloc; "refused: {number}\n") {
-        tell(line.as_bytes(), errors);
-    }
+    let mut line = [0; LONGEST];
+    let end = put_refusal(&mut line, kind);
+    tell(&line[..end], errors);
 }
 
 /// Writes a line, as far as the sink takes it.

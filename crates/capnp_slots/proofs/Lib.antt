@@ -15,3 +15,4 @@ pub mod ElementParts
 pub mod ElementFills
 pub mod GroupCopies
 pub mod ReadBack
+pub mod Kept

@@ -138,11 +138,13 @@ pub fn set_pointer<R, S: SetterInput<R>>(
 /// nothing has changed.
 ///
 /// The field has to be a slot, and the struct to have the sections of the field's schema.
+#[tactic(auto, using(crate::proofs::Kept::set_keeps, crate::proofs::Kept::object_keeps))]
 #[inline(always)]
 pub fn set(object: &mut StructObject, field: Field<'_>, source: Source<'_>) -> Result<()>
     requires slot { IsSlot field }
     requires room { IsRoomFor field (struct_object_tree object.old) }
     ensures set { OnOk result (IsSet field.entry (source_seen source.entry) (struct_object_tree object.old) (struct_object_tree object.new)) }
+    ensures kept { Keeps (names_of field.entry) (struct_object_tree object.old) (struct_object_tree object.new) }
     ensures refused { OnErr result (struct_object_tree object.new ≡ struct_object_tree object.old) }
     ensures cause { IfErr result (λ e. IsSetRefusal (given_to field.entry (source_seen source.entry)) e.kind) }
 {

@@ -28,7 +28,14 @@ static STRUCTS: [(&str, (&str, u32)); 9] = [
 ];
 
 /// The messages that no other crate reads; `messages::message_named` has the others.
-static MESSAGES: [(&str, &[u8]); 17] = [
+static MESSAGES: [(&str, &[u8]); 18] = [
+    // a root that is a list of the numbers 1, 2 and 3, of two bytes each
+    (
+        "root_list",
+        &[
+            0, 0, 0, 0, 2, 0, 0, 0, 1, 0, 0, 0, 0x1b, 0, 0, 0, 1, 0, 2, 0, 3, 0, 0, 0,
+        ],
+    ),
     // a `Flat` whose `a` is 5
     (
         "five",

@@ -1,9 +1,9 @@
--- A call that takes no memory is not refused for the want of it.
+-- A call that takes no memory is not refused for the want of it, nor because the format has no room.
 use Rattle.std.specs.Prelude.{ℕ, ◌≡◌, ◌≢◌, ◌⊎◌, refl, ⊤, pos, Bool, true, false, cond, nat_lt, ◌==◌, List, [], ◌∷◌, Option, Some, None, Ok, Err, length}
 use Rattle.std.proofs.Common.{ap, inl, inr, sym, ◌∙◌}
 use Rattle.std.proofs.lemmas.Bool.{true≢false}
 use Rattle.capnp_device.specs.declared.error.ErrorKind.{ErrorKind}
-use Rattle.capnp_device.specs.declared.error.ErrorKind.TheVariants.{FieldNotFound, InactiveMember, InitIsOnlyValidForStructAndAnyPointerFields, NoSuchElement, NotAContainer, OutOfMemory, TypeMismatch}
+use Rattle.capnp_device.specs.declared.error.ErrorKind.TheVariants.{FieldNotFound, InactiveMember, InitIsOnlyValidForStructAndAnyPointerFields, NoSuchElement, NotAContainer, OutOfMemory, SizePastFormat, TypeMismatch}
 use Rattle.capnp_schema.specs.Query.{field_named, records_of}
 use Rattle.capnp_wire.specs.Tree.{StructTree}
 use Rattle.capnp_schema.specs.Schema.{Schemas, brand_at, field_at, fields_of}
@@ -25,45 +25,49 @@ use Rattle.capnp_records.specs.Writes.Stand.{OnGroup, OnList, OnStruct, Stand, S
 use Rattle.capnp_records.specs.Writes.TreeEnds.{CopiesGiven, CopiesTo, TreeDoes, TreeDoesAt, TreeEnds}
 use Rattle.capnp_records.specs.Writes.TreeRun.{TreeEnters, TreePasses, TreeWalks}
 use Rattle.capnp_call.specs.Ends.{AsStruct}
-use Rattle.capnp_call.specs.Memory.{CallRests, EndRests, IsNoCopy, IsNotForMemory, NeedsNone, NextRests, PathRests, is_made}
+use Rattle.capnp_call.specs.Memory.{CallRests, EndRests, IsNoCopy, IsNotForRoom, NeedsNone, NextRests, PathRests, is_made}
 use Rattle.capnp_call.specs.Seen.{op_seen, path_seen, reply_seen, step_seen}
 use Rattle.capnp_call.specs.Walks.{StructWalks}
 use Rattle.capnp_call.specs.declared.calls.Ending.{Ending}
 use Rattle.capnp_call.specs.declared.calls.Reply.{Reply as ReplyOf}
-use Rattle.capnp_call.specs.declared.calls.Reply.TheVariants as reply
 use Rattle.capnp_call.specs.declared.calls.Step.{Step}
 
 -- ---- kinds ----
 
-abbrev is_memory : ErrorKind → Bool
-is_memory OutOfMemory = true
-is_memory kind = false
+abbrev is_room : ErrorKind → Bool
+is_room OutOfMemory = true
+is_room SizePastFormat = true
+is_room kind = false
 
 abbrev kind_of : Reply → ErrorKind → ErrorKind
 kind_of (Refused kind) other = kind
 kind_of reply other = other
 
 -- a refusal of another kind
-other_kind : (reply : Reply) (kind : ErrorKind) → is_memory kind ≡ false → reply ≡ Refused kind → IsNotForMemory reply
-other_kind reply kind other is same = true≢false (ap (λ (r : Reply). is_memory (kind_of r OutOfMemory)) (sym same ∙ is) ∙ other)
+other_kind : (reply : Reply) (kind : ErrorKind) → is_room kind ≡ false → reply ≡ Refused kind → IsNotForRoom reply
+other_kind reply kind other is = record { memory = differs OutOfMemory refl; format = differs SizePastFormat refl }
+  where
+    differs : (k : ErrorKind) → is_room k ≡ true → reply ≢ Refused k
+    differs k room same = true≢false (sym room ∙ (ap (λ (r : Reply). is_room (kind_of r OutOfMemory)) (sym same ∙ is) ∙ other))
 
 -- a reply that is no refusal
 abbrev is_refusal : Reply → Bool
 is_refusal (Refused kind) = true
 is_refusal reply = false
 
-no_refusal : (reply : Reply) → is_refusal reply ≡ false → IsNotForMemory reply
-no_refusal reply h same = true≢false (sym (ap is_refusal same) ∙ h)
+no_refusal : (reply : Reply) → is_refusal reply ≡ false → IsNotForRoom reply
+no_refusal reply h = record { memory = λ same. true≢false (sym (ap is_refusal same) ∙ h); format = λ same. true≢false (sym (ap is_refusal same) ∙ h) }
 
-read_kind : (kind : ErrorKind) → IsReadKind kind → is_memory kind ≡ false
+read_kind : (kind : ErrorKind) → IsReadKind kind → is_room kind ≡ false
 read_kind OutOfMemory h = absurd (true≢false (sym h))
+read_kind SizePastFormat h = absurd (true≢false (sym h))
 read_kind kind h = refl
 
 -- ---- what stands there, and what a step names ----
 
 abbrev FaultKind : Option ErrorKind → Type 0
 FaultKind None = ⊤
-FaultKind (Some kind) = is_memory kind ≡ false
+FaultKind (Some kind) = is_room kind ≡ false
 
 fault_kind : (v : Value) → Sound v → FaultKind (fault_of v)
 fault_kind (value.Fault kind) h = read_kind kind h
@@ -76,7 +80,7 @@ stand_sound set t (OnList x) = value_of-sound set x Endless t
 
 -- a refusal is not for memory, and what was found can be read or is refused as a read
 abbrev FoundSound : Found → Type 0
-FoundSound (Err kind) = is_memory kind ≡ false
+FoundSound (Err kind) = is_room kind ≡ false
 FoundSound (Ok x) = Sound x.part
 
 module _ (set : Schemas) where
@@ -125,7 +129,7 @@ walked-sound (Ok x) h = go x.inactive
 -- ---- what is given ----
 
 abbrev GivenKind : Given → Type 0
-GivenKind (Fails kind) = is_memory kind ≡ false
+GivenKind (Fails kind) = is_room kind ≡ false
 GivenKind g = ⊤
 
 either-kind : (q : Bool) (g h : Given) → GivenKind g → GivenKind h → GivenKind (cond q g h)
@@ -168,39 +172,39 @@ given-kind set x s = go x.is_group x.is_element
 -- ---- the operations ----
 
 module _ (set : Schemas) (x : Target) (old : Value) (reply : Reply) (new : Value) where
-  gets : (t : SchemaType) (v : Value) (o : Option ErrorKind) → FaultKind o → takes_memory t ≡ false → Answers t v o old reply new → IsNotForMemory reply
+  gets : (t : SchemaType) (v : Value) (o : Option ErrorKind) → FaultKind o → takes_memory t ≡ false → Answers t v o old reply new → IsNotForRoom reply
   gets t v (Some kind) fault none h = other_kind reply kind fault h.0
   gets t v None fault none (inl h) = no_refusal reply (ap is_refusal h.0)
   gets t v None fault none (inr h) = absurd (true≢false (sym h.0 ∙ none))
 
-  sets : (g : Given) → GivenKind g → IsNoCopy g → Sets set x g old reply new → IsNotForMemory reply
+  sets : (g : Given) → GivenKind g → IsNoCopy g → Sets set x g old reply new → IsNotForRoom reply
   sets (Gives v) kind none h = no_refusal reply (ap is_refusal h.0)
   sets (Fails k) kind none h = other_kind reply k kind h.0
   sets (Copies source past v) kind none h = absurd none
   sets (CopiesGroup l s b) kind none h = absurd none
 
-  inits : (t : SchemaType) → is_made x.is_group t ≡ false → Inits set x t old reply new → IsNotForMemory reply
+  inits : (t : SchemaType) → is_made x.is_group t ≡ false → Inits set x t old reply new → IsNotForRoom reply
   inits (StructType b g) none h = go x.is_group none h
     where
       go : (q : Bool) → is_made q (StructType b g) ≡ false →
           (elim q as (λ _. Type 0) [ true ↦ IsDone (x.put (value.Group (default_record set Endless b))) reply new | false ↦ IsDone (x.put (value.Struct (default_record set Endless b))) reply new ⊎ IsRefused OutOfMemory reply old new ]) →
-          IsNotForMemory reply
+          IsNotForRoom reply
       go true none h = no_refusal reply (ap is_refusal h.0)
       go false none h = absurd (true≢false none)
   inits AnyPointerType none h = no_refusal reply (ap is_refusal h.0)
   inits t none h = other_kind reply InitIsOnlyValidForStructAndAnyPointerFields refl h.0
 
-  at_field : (P : Type 0) → (P → IsNotForMemory reply) → AtField x reply old new P → IsNotForMemory reply
+  at_field : (P : Type 0) → (P → IsNotForRoom reply) → AtField x reply old new P → IsNotForRoom reply
   at_field P f h = go x.is_element h
     where
-      go : (q : Bool) → (elim q as (λ _. Type 0) [ true ↦ IsRefused NotAContainer reply old new | false ↦ P ]) → IsNotForMemory reply
+      go : (q : Bool) → (elim q as (λ _. Type 0) [ true ↦ IsRefused NotAContainer reply old new | false ↦ P ]) → IsNotForRoom reply
       go true h = other_kind reply NotAContainer refl h.0
       go false h = f h
 
-  does : (op : Op) → Sound x.part → NeedsNone set op x → Does set op x old reply new → IsNotForMemory reply
+  does : (op : Op) → Sound x.part → NeedsNone set op x → Does set op x old reply new → IsNotForRoom reply
   does Get sound none h = go x.inactive h
     where
-      go : (q : Bool) → (elim q as (λ _. Type 0) [ true ↦ IsRefused InactiveMember reply old new | false ↦ Gets set x old reply new ]) → IsNotForMemory reply
+      go : (q : Bool) → (elim q as (λ _. Type 0) [ true ↦ IsRefused InactiveMember reply old new | false ↦ Gets set x old reply new ]) → IsNotForRoom reply
       go true h = other_kind reply InactiveMember refl h.0
       go false h = gets x.type (read_of set x.default x.type x.part) _ (fault_kind (read_of set x.default x.type x.part) (read_of-sound set x.default x.type x.part sound)) none h
   does Has sound none h = at_field _ (λ k. no_refusal reply (ap is_refusal k.0)) h
@@ -212,7 +216,7 @@ module _ (set : Schemas) (x : Target) (old : Value) (reply : Reply) (new : Value
 
 -- ---- the end of a path ----
 
-asks : (v : Value) (reply : Reply) (new : Value) → Asks v reply new → IsNotForMemory reply
+asks : (v : Value) (reply : Reply) (new : Value) → Asks v reply new → IsNotForRoom reply
 asks (value.Struct r) reply new h = no_refusal reply (ap is_refusal h.0)
 asks (value.Group r) reply new h = no_refusal reply (ap is_refusal h.0)
 asks v reply new h = other_kind reply NotAContainer refl h.0
@@ -233,21 +237,21 @@ module _ (set : Schemas) (t : SchemaType) (old : Stand) (last : PathStep) (reply
   copies_to (Initn n) x none h = h
   copies_to Clear x none h = h
 
-  tree_does : (op : Op) (x : Target) → Sound x.part → NeedsNone set op x → TreeDoes set op x t old last reply new → IsNotForMemory reply
+  tree_does : (op : Op) (x : Target) → Sound x.part → NeedsNone set op x → TreeDoes set op x t old last reply new → IsNotForRoom reply
   tree_does op x sound none (inl h) = does set x (seen set t old) reply (seen set t old) op sound none h.0
   tree_does op x sound none (inr (inl (c, content, room, done, rest))) = no_refusal reply (ap is_refusal done)
   tree_does op x sound none (inr (inr (inl (c, slot, field, content, done, rest)))) = no_refusal reply (ap is_refusal done)
   tree_does op x sound none (inr (inr (inr (inl (group, clears, done, rest))))) = no_refusal reply (ap is_refusal done)
   tree_does op x sound none (inr (inr (inr (inr h)))) = absurd (copies_to op x none h)
 
-  does_at : (op : Op) (r : Found) → FoundSound r → EndRests set op r → TreeDoesAt set op r t old last reply new → IsNotForMemory reply
+  does_at : (op : Op) (r : Found) → FoundSound r → EndRests set op r → TreeDoesAt set op r t old last reply new → IsNotForRoom reply
   does_at op (Err kind) sound none h = other_kind reply kind sound h.0
   does_at op (Ok x) sound none h = tree_does op x sound none h
 
   end_found : FoundSound (target_at set t (seen set t old) last)
   end_found = target-sound set t (seen set t old) last (stand_sound set t old)
 
-  ends : (op : Op) → EndRests set op (target_at set t (seen set t old) last) → TreeEnds set last op t old reply new → IsNotForMemory reply
+  ends : (op : Op) → EndRests set op (target_at set t (seen set t old) last) → TreeEnds set last op t old reply new → IsNotForRoom reply
   ends Which none h = asks (seen set t old) reply (seen set t old) h.0
   ends Get none h = does_at Get _ end_found none h
   ends Has none h = does_at Has _ end_found none h
@@ -259,30 +263,30 @@ module _ (set : Schemas) (t : SchemaType) (old : Stand) (last : PathStep) (reply
 -- ---- the walk ----
 
 pub walk_rests : (set : Schemas) (last : PathStep) (op : Op) (path : List PathStep) (t : SchemaType) (old : Stand) (reply : Reply) (new : Stand) → CallRests set last op path t old →
-    TreeWalks set (TreeEnds set last op) path t old reply new → IsNotForMemory reply
+    TreeWalks set (TreeEnds set last op) path t old reply new → IsNotForRoom reply
 walk_rests set last op [] t old reply new rests h = ends set t old last reply new op rests h
 walk_rests set last op (step ∷ path) t old reply new rests h =
     passes (walk_rests set last op path) (walked_target set t (seen set t old) step) (walked-sound (target_at set t (seen set t old) step) (target-sound set t (seen set t old) step (stand_sound set t old))) rests h
   where
     Next : Type 0
-    Next = (u : SchemaType) (old : Stand) (reply : Reply) (new : Stand) → CallRests set last op path u old → TreeWalks set (TreeEnds set last op) path u old reply new → IsNotForMemory reply
+    Next = (u : SchemaType) (old : Stand) (reply : Reply) (new : Stand) → CallRests set last op path u old → TreeWalks set (TreeEnds set last op) path u old reply new → IsNotForRoom reply
 
     enters : Next → (x : Target) (o : Option ErrorKind) → FaultKind o → StepRests set t old step → CallRests set last op path x.type (entered set t old step) →
-        TreeEnters set (TreeWalks set (TreeEnds set last op) path) t old step o x reply new → IsNotForMemory reply
+        TreeEnters set (TreeWalks set (TreeEnds set last op) path) t old step o x reply new → IsNotForRoom reply
     enters ih x (Some kind) fault still next h = other_kind reply kind fault h.0
-    enters ih x None fault still next (inl stops) = λ same. stops.moves (ap (λ (r : Reply). kind_of r OutOfMemory) (sym stops.refused.0 ∙ same)) still
+    enters ih x None fault still next (inl stops) = absurd (stops.moves still)
     enters ih x None fault still next (inr goes) = ih x.type (entered set t old step) reply goes.inner next goes.goes_on
 
     passes : Next → (r : Found) → FoundSound r → NextRests r (StepRests set t old step) (λ u. CallRests set last op path u (entered set t old step)) →
-        TreePasses set (TreeWalks set (TreeEnds set last op) path) t old step r reply new → IsNotForMemory reply
+        TreePasses set (TreeWalks set (TreeEnds set last op) path) t old step r reply new → IsNotForRoom reply
     passes ih (Err kind) sound rests h = other_kind reply kind sound h.0
     passes ih (Ok x) sound rests h = enters ih x (fault_of x.part) (fault_kind x.part sound) rests.0 rests.1 h
 
 -- ---- a call as the code has it ----
 
 pub path_rests : (schema : StructSchema) (path : List Step) (end : Ending) (s : StructTree) (r : ReplyOf) (s' : StructTree) → StructWalks (set_of schema) (number_of schema) path end s r s' → PathRests schema path end s →
-    r ≢ reply.Refused OutOfMemory
+    IsNotForRoom (reply_seen r)
 unfolding StructWalks
-path_rests schema path end s r s' walks rests same =
+path_rests schema path end s r s' walks rests =
     walk_rests (set_of schema) (step_seen end.call.now.last) (op_seen end.call.now.op) (path_seen path) (root_type (set_of schema) (number_of schema)) (OnStruct s) (reply_seen r) (OnStruct s') rests
-    (walks AsStruct (brand_at (set_of schema) (number_of schema)).node) (ap reply_seen same)
+    (walks AsStruct (brand_at (set_of schema) (number_of schema)).node)

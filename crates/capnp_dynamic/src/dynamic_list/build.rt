@@ -7,7 +7,8 @@ ghost use Rattle.capnp_schema.specs.Entries.{lists_seen};
 ghost use Rattle.capnp_records.specs.Given.{given_element};
 ghost use Rattle.capnp_slots.specs.ElementSets.{IsElementInitRefusal, IsElementSet};
 ghost use Rattle.capnp_slots.specs.Sources.{IsSetRefusal};
-ghost use Rattle.capnp_dynamic.specs.Built.{IsIn, IsListReady, built_element, built_elements, built_reading, built_set, built_type, list_behind};
+ghost use Rattle.std.specs.Borrow.{sem};
+ghost use Rattle.capnp_dynamic.specs.Built.{IsIn, IsListReady, LendsList, built_element, built_elements, built_reading, built_set, built_type, list_behind};
 ghost use Rattle.capnp_dynamic.specs.BuiltValues.{CanBeRead};
 ghost use Rattle.capnp_dynamic.specs.Handed.{HandsSized};
 ghost use Rattle.capnp_dynamic_readers.specs.Handles.{list_reader_of, list_set, type_of};
@@ -50,8 +51,9 @@ impl<'a> Builder<'a> {
         }
     }
 
-    /// The same list for a shorter time.
+    /// The same list for a shorter time. What is left of it is what this builder has then.
     pub fn reborrow(&mut self) -> Builder<'_>
+        ensures* lends { sem 𝓛 (LendsList self.entry result) }
         ensures element { built_type result ≡ built_type self.old }
         ensures set { built_set result ≡ built_set self.old }
         ensures now { (list_behind result).now ≡ (list_behind self.old).now }

@@ -18,7 +18,8 @@ ghost use Rattle.capnp_records.specs.Writes.Slots.{Fits};
 ghost use Rattle.capnp_schema.specs.Plan.{brand_size};
 ghost use Rattle.capnp_slots.specs.Copied.{refusal_of};
 ghost use Rattle.capnp_slots.specs.Fields.{IsSlot, Keeps, names_of};
-ghost use Rattle.capnp_dynamic.specs.Built.{IsReady, built_record, built_schema, built_struct, struct_behind};
+ghost use Rattle.std.specs.Borrow.{sem};
+ghost use Rattle.capnp_dynamic.specs.Built.{IsReady, LendsStruct, built_record, built_schema, built_struct, struct_behind};
 ghost use Rattle.capnp_dynamic.specs.FieldWrites.{IsFieldSet, IsNamed, field_cleared};
 ghost use Rattle.capnp_dynamic_readers.specs.Handles.{reader_of, schema_of};
 ghost use Rattle.capnp_dynamic_readers.specs.Reads.{BelongsTo};
@@ -73,8 +74,9 @@ impl<'a> Builder<'a> {
         Ok(Builder::new(builder, schema))
     }
 
-    /// The same struct for a shorter time.
+    /// The same struct for a shorter time. What is left of it is what this builder has then.
     pub fn reborrow(&mut self) -> Builder<'_>
+        ensures* lends { sem 𝓛 (LendsStruct self.entry result) }
         ensures schema { built_schema result ≡ built_schema self.old }
         ensures now { built_struct result ≡ built_struct self.old }
     {
@@ -171,7 +173,7 @@ impl<'a> Builder<'a> {
     /// refused, where the group stays as it is by then, cleared and with what was copied before.
     ///
     /// The field has to belong to the schema; the struct has to have its schema's sections and be well-formed (`IsReady`).
-    #[tactic(auto, using(crate::proofs::Builders::room_for, crate::proofs::Builders::under_kept, crate::proofs::Builders::under_same, crate::proofs::Builders::slot_was_set, crate::proofs::Builders::group_was_set, crate::proofs::Builders::slot_set_keeps))]
+    #[tactic(auto, using(crate::proofs::Builders::room_for, crate::proofs::Builders::under_kept, crate::proofs::Builders::under_same, crate::proofs::Builders::slot_was_set, crate::proofs::Builders::group_was_set))]
     #[inline(always)]
     pub fn set(&mut self, field: Field<'a>, value: dynamic_value::Reader<'_>) -> Result<()>
         requires belongs { BelongsTo field (built_schema self.old) }

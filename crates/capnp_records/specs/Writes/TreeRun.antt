@@ -1,7 +1,6 @@
 -- What the code's recursion does to trees. The tests of each step are those of the record that the tree reads as.
 use Rattle.std.specs.Prelude.{◌≡◌, ◌⊎◌, List, [], ◌∷◌, Option, Some, None, Ok, Err}
 use Rattle.capnp_device.specs.declared.error.ErrorKind.{ErrorKind}
-use Rattle.capnp_device.specs.declared.error.ErrorKind.TheVariants.{OutOfMemory}
 use Rattle.capnp_schema.specs.Types.{SchemaType}
 use Rattle.capnp_schema.specs.Schema.{Schemas}
 use Rattle.capnp_records.specs.Call.{PathStep, Reply, Refused}
@@ -14,11 +13,11 @@ TreeEnd = SchemaType → Stand → Reply → Stand → Type 0
 abbrev pub IsTreeRefused : ErrorKind → Reply → Stand → Stand → Type 0
 IsTreeRefused kind reply old new = (reply ≡ Refused kind) × (new ≡ old)
 
--- a step is refused for sizes, and for memory only where something has to be filled or extended; nothing has changed
+-- a step is refused for sizes or for memory, and only where something has to be filled or extended; nothing has changed
 pub record TreeStops (set : Schemas) (t : SchemaType) (old : Stand) (step : PathStep) (x : Target) (reply : Reply) (new : Stand) : Type 0 where
   pub kind : ErrorKind
   pub can : CanRefuse set x kind
-  pub moves : kind ≡ OutOfMemory → StepRests set t old step → ⊥
+  pub moves : StepRests set t old step → ⊥
   pub refused : IsTreeRefused kind reply old new
 
 -- a step goes on into the part that get leaves, and gives it back

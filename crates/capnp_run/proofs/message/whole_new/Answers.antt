@@ -28,4 +28,4 @@ returns-in_err-print_root-clause-cause c =
 pub returns-clause-whole : goal.returns-clause-whole
 returns-clause-whole c =
     whole c.args.schema _ (builder_tree c.run_new.new.message) c.args.calls.now c.in_ok-replies.replies.items c.in_ok-bytes.bytes.items c.args.indented (string_bytes c.args.out.now) (string_bytes c.print_root.new.out)
-    c.in_ok-replies.ensures.run c.in_ok-bytes.ensures.held.1 c.in_ok-bytes.ensures.read c.in_ok-print_root.ensures.printed
+    c.in_ok-replies.ensures.run c.in_ok-bytes.ensures.held.1 c.in_ok-bytes.ensures.bytes c.in_ok-bytes.ensures.read c.in_ok-print_root.ensures.printed
