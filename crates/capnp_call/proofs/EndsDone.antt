@@ -1,8 +1,9 @@
 -- What is done to a field is what the words of writes on trees say of its whole, however the field was named.
-use Rattle.std.specs.Prelude.{ℕ, ◌≡◌, refl, Bool, true, false, cond, Some, None, Ok}
+use Rattle.std.specs.Prelude.{ℕ, ◌≡◌, ◌⊎◌, refl, Bool, true, false, cond, Some, None, Ok}
 use Rattle.std.proofs.Common.{ap, inl, inr, sym, subst, ◌∙◌}
+use Rattle.std.proofs.lemmas.Bool.{true≢false}
 use Rattle.capnp_device.specs.declared.error.ErrorKind.{ErrorKind}
-use Rattle.capnp_device.specs.declared.error.ErrorKind.TheVariants.{ExpectedAListOrBlob, InitnIsOnlyValidForListTextOrDataFields, ListAnyPointerNotSupported}
+use Rattle.capnp_device.specs.declared.error.ErrorKind.TheVariants.{ExpectedAListOrBlob, InitnIsOnlyValidForListTextOrDataFields, ListAnyPointerNotSupported, OutOfMemory}
 use Rattle.capnp_wire.specs.Tree.{StructTree}
 use Rattle.capnp_schema.specs.FieldLists.{index_of, typed_of}
 use Rattle.capnp_schema.specs.Accepted.{IsGroupOf}
@@ -12,14 +13,16 @@ use Rattle.capnp_schema.specs.declared.schema.structs.StructSchema.{StructSchema
 use Rattle.capnp_schema.specs.Types.{SchemaType, StructType, TextType, DataType, ListType, AnyPointerType}
 use Rattle.capnp_schema.specs.declared.schema.fields.Field.{Field}
 use Rattle.capnp_records.specs.Call.{PathStep, Op, Reply, Refused}
-use Rattle.capnp_records.specs.Operation.{Does, Initns, Makes}
+use Rattle.capnp_records.specs.Default.{default_record}
+use Rattle.capnp_records.specs.Operation.{Does, Initns, Inits, IsDone, Makes}
 use Rattle.capnp_records.specs.Reading.{reads}
-use Rattle.capnp_records.specs.Record.{Record, Value}
-use Rattle.capnp_records.specs.Step.{Found, Target, in_record, target_at}
+use Rattle.capnp_records.specs.Record as value
+use Rattle.capnp_records.specs.Record.{Endless, Record, Value}
+use Rattle.capnp_records.specs.Step.{Found, IsRefused, Target, in_record, target_at}
 use Rattle.capnp_records.specs.Writes.Stand.{seen, step_field, step_index}
 use Rattle.capnp_records.specs.Writes.TreeEnds.{TreeDoes, TreeDoesAt}
 use Rattle.capnp_slots.specs.Fields.{field_brand, field_set}
-use Rattle.capnp_slots.specs.Inits.{IsInitnRefusal, IsRoomless}
+use Rattle.capnp_slots.specs.Inits.{IsInitRefusal, IsInitnRefusal, IsRoomless}
 use Rattle.capnp_call.specs.Ends.{AsGroup, AsStruct, FieldDoes, NamedDoes, Whole, stand_of, whole_of}
 use Rattle.capnp_call.specs.Seen.{step_seen}
 use Rattle.capnp_call.specs.Ways.{IsNamedBy, found_target, target_in}
@@ -45,6 +48,19 @@ initn_refused set x n DataType old kind slot h = roomless x _ _ old kind h
 initn_refused set x n (ListType e) old kind slot h = roomless x _ _ old kind h
 initn_refused set x n AnyPointerType old kind slot h = (ap Refused (h ∙ sym (ap (λ q. cond q ListAnyPointerNotSupported InitnIsOnlyValidForListTextOrDataFields) slot)), refl)
 initn_refused set x n t old kind slot h = (ap Refused (h ∙ sym (ap (λ q. cond q ExpectedAListOrBlob InitnIsOnlyValidForListTextOrDataFields) slot)), refl)
+
+pub init_refused : (set : Schemas) (x : Target) (t : SchemaType) (old : Value) (kind : ErrorKind) → x.is_group ≡ false → IsInitRefusal t kind → Inits set x t old (Refused kind) old
+init_refused set x (StructType b g) old kind slot h = go x.is_group slot
+  where
+    go : (q : Bool) → q ≡ false →
+        (elim q as (λ _. Type 0) [
+          | true ↦ IsDone (x.put (value.Group (default_record set Endless b))) (Refused kind) old
+          | false ↦ IsDone (x.put (value.Struct (default_record set Endless b))) (Refused kind) old ⊎ IsRefused OutOfMemory (Refused kind) old old
+        ])
+    go true e = absurd (true≢false e)
+    go false e = inr (ap Refused h, refl)
+init_refused set x AnyPointerType old kind slot h = absurd h
+init_refused set x t old kind slot h = (ap Refused h, refl)
 
 -- a group has no size
 none_some : {n : ℕ} → None ≡ Some n → ⊥

@@ -46,6 +46,13 @@ static GET_ROWS: [(&str, &str, &str); 1] = [(
      ok; ok; ok; ok; ok; ok; ok; ok; ok; true",
 )];
 
+/// What was handed out is read for as long as its builder would be there, and the message stays as it was.
+static READ_ROWS: [(&str, &str, &str); 1] = [(
+    "kinds from full",
+    "value point; value numbers; value text; is full",
+    "(x = -5, y = 6); [65535, 0, 9]; \"word\"; true",
+)];
+
 /// A root that is a list is not entered, and stays.
 static OPEN_ROWS: [(&str, &str, &str); 1] = [(
     "flat from root_list",
@@ -66,6 +73,11 @@ fn other_elements_stay(rt: HostRuntime) {
 #[test]
 fn what_is_handed_out_changes_nothing(rt: HostRuntime) {
     rows_hold(&rt, rt.alloc(), &GET_ROWS);
+}
+
+#[test]
+fn what_is_read_changes_nothing(rt: HostRuntime) {
+    rows_hold(&rt, rt.alloc(), &READ_ROWS);
 }
 
 #[test]
