@@ -12,7 +12,7 @@ use crate::script::read_value;
 use capnp_base::any_pointer;
 use capnp_base::introspect::{Introspect, RawBrandedStructSchema, Type, TypeVariant};
 use capnp_base::traits::{HasStructSize, IntoInternalStructReader, OwnedStruct, SetterInput};
-use capnp_dynamic::dynamic_value::{Builder as Built, Reader as Value};
+use capnp_dynamic::dynamic_value::Reader as Value;
 use capnp_dynamic::parts::build::list_in;
 use capnp_dynamic::{dynamic_list, dynamic_struct};
 use capnp_wire::error::{Error, ErrorKind, Result};
@@ -179,34 +179,6 @@ fn number_read(value: Value<'_>) -> Option<u16> {
     Some(flat.into_internal_struct_reader().get_data_field::<u16>(0))
 }
 
-/// The same of a value that is built.
-fn number_built(value: Built<'_>) -> Option<u16> {
-    let Built::Struct(inner) = value else {
-        return None;
-    };
-    let raw = RawBrandedStructSchema::from(inner.get_schema());
-    if raw.number != 0 {
-        return None;
-    }
-    if raw.generic != 0 {
-        return None;
-    }
-    let flat = Built::Struct(inner).downcast_struct::<FlatType>();
-    Some(flat.builder.get_data_field::<u16>(0))
-}
-
-/// The number of a new struct of the built-in set whose `a` is 5, by the handle of its type, if it is of that type.
-fn number_of_new(alloc: Global, name: &str) -> Result<Option<u16>> {
-    let set = set_of(alloc, name)?;
-    let mut message = Builder::new(alloc);
-    let mut root = dynamic_struct::Builder::open(
-        message.root(),
-        set.struct_schema(brand_of(name)),
-    )?;
-    root.set_named("a", Value::UInt16(5))?;
-    Ok(number_built(Built::Struct(root)))
-}
-
 #[test]
 fn a_struct_is_taken_by_its_type(rt: HostRuntime) -> std::result::Result<(), Fail> {
     let set = set_of(rt.alloc(), "flat")?;
@@ -214,8 +186,6 @@ fn a_struct_is_taken_by_its_type(rt: HostRuntime) -> std::result::Result<(), Fai
     assert_eq!(rt; number_read(flat), Some(5));
     let mixed = read_value(rt.alloc(), &set, "mixed mixed_hi")?;
     assert_eq!(rt; number_read(mixed), None);
-    assert_eq!(rt; number_of_new(rt.alloc(), "flat")?, Some(5));
-    assert_eq!(rt; number_of_new(rt.alloc(), "mixed")?, None);
     Ok(())
 }
 
