@@ -1,5 +1,6 @@
 //! Dynamic handles beside types that are known beforehand: structs and lists that an untyped pointer is set to, structs by the
 //! handles of a struct type, and the types of elements.
+ghost use Rattle.std.specs.Prelude.{◌≡◌};
 ghost use Rattle.capnp_wire.specs.Edits.{IsCopyRefusal, rounded};
 ghost use Rattle.capnp_wire.specs.Place.{struct_tree};
 ghost use Rattle.capnp_wire.specs.Standing.{struct_of};
