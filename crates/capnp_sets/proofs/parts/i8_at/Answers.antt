@@ -1,0 +1,17 @@
+use Rattle.std.proofs.Common.{ap}
+use Rattle.capnp_schema.specs.Meta.{meta}
+use Rattle.capnp_schema.specs.Schema.{field_at}
+use Rattle.capnp_schema.specs.Types.{IntType}
+use Rattle.capnp_dynamic_readers.specs.Seen.{value_seen}
+use Rattle.capnp_sets.proofs.Faults.{fault_integer}
+use Rattle.capnp_sets.proofs.Taken.{kind_is, took_integer}
+use Rattle.capnp_sets.proofs.parts.i8_at.Goals as goal
+
+pub int8_of-requires : goal.int8_of-requires
+int8_of-requires c = kind_is meta (field_at meta c.args.brand c.args.index).type (IntType 1) c.in-Ok.value c.in-Ok.ensures.typed c.requires.field.1
+
+pub returns-in-Ok-clause-read : goal.returns-in-Ok-clause-read
+returns-in-Ok-clause-read c = took_integer c.in-Ok.value _ c.int8_of.result (ap value_seen c.int8_of.ensures) c.in-Ok.ensures.value
+
+pub returns-in-Err-clause-refused : goal.returns-in-Err-clause-refused
+returns-in-Err-clause-refused c = fault_integer _ _ c.in-Err.ensures.value
