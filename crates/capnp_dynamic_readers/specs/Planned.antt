@@ -2,14 +2,19 @@
 use Rattle.std.specs.Prelude.{ℕ, Bool, not, ◌&&◌, ◌==◌, true, List, length, Option, Some, None, ◌≡◌, ◌^◌, ◌<◌, ◌%◌, bit_xor}
 use Rattle.capnp_wire.specs.Tree.{StructTree, nth_tree}
 use Rattle.capnp_wire.specs.Reading.{is_null_tree}
+use Rattle.capnp_schema.specs.FieldLists.{IsFound}
 use Rattle.capnp_schema.specs.Schema.{Schemas, brand_at}
 use Rattle.capnp_schema.specs.Schema.{Value as SchemaValue}
 use Rattle.capnp_schema.specs.SlotValue.{bits_at}
+use Rattle.capnp_schema.specs.StructHandles.{number_of, set_of}
 use Rattle.capnp_schema.specs.Types.{SchemaType, VoidType, StructType, is_pointer, width}
 use Rattle.capnp_schema.specs.declared.plan.Place.{Place}
 use Rattle.capnp_schema.specs.declared.plan.Place.TheVariants as place
 use Rattle.capnp_schema.specs.declared.plan.SlotPlan.{SlotPlan}
+use Rattle.capnp_schema.specs.declared.schema.fields.Field.{Field}
+use Rattle.capnp_schema.specs.declared.schema.structs.StructSchema.{StructSchema}
 use Rattle.capnp_records.specs.Default.{read_of}
+use Rattle.capnp_records.specs.Part.{which_of}
 use Rattle.capnp_records.specs.Reading.{number_value, struct_record, value_of}
 use Rattle.capnp_records.specs.Record as value
 use Rattle.capnp_records.specs.Record.{Levels, Value}
@@ -41,3 +46,7 @@ place_there s (place.Group b) = true
 
 abbrev pub planned_has : StructTree → SlotPlan → Bool
 planned_has s plan = member_there s.bytes plan.member && place_there s plan.place
+
+-- the active member of a struct under a schema, whatever levels its reader has left
+abbrev pub IsActiveMember : StructSchema → StructTree → Option Field → Type 0
+IsActiveMember s x member = (l : Levels) → IsFound s (which_of (struct_record (set_of s) l x (number_of s))) member

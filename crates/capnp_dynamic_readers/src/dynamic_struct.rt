@@ -2,10 +2,10 @@
 
 use crate::dynamic_value;
 use crate::placed::{has_planned, is_member_active, read_placed};
+use crate::presence::active_member;
 use crate::printer::print_debug;
 use capnp_base::any_pointer;
 use capnp_base::traits::{OwnedStruct, SetterInput};
-use capnp_schema::loaded::load_discriminant;
 use capnp_schema::schema::{Field, StructSchema};
 use capnp_wire::error::Result;
 use capnp_wire::laws::{copied_structs_are_well_formed, struct_is_well_formed};
@@ -105,12 +105,7 @@ impl<'a> Reader<'a> {
     pub fn which(&self) -> Result<Option<Field<'a>>>
         ensures { IsOkAnd result (IsFound (schema_of self.now) (which_of (record_seen self.now))) }
     {
-        let body = &self.schema.get_proto().body;
-        if body.discriminant_count == 0 {
-            return Ok(None);
-        }
-        let value = load_discriminant(&self.reader, body.discriminant_offset);
-        self.schema.get_field_by_discriminant(value)
+        Ok(active_member(self.schema, &self.reader))
     }
 
     /// Whether a field may be read as it stands: false for a member that is not active, else true. `get` does not ask it.

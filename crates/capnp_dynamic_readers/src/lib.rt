@@ -13,5 +13,6 @@ pub mod dynamic_value;
 pub mod elements;
 pub mod parts;
 mod placed;
+pub mod presence;
 pub mod printer;
 mod views;

@@ -16,6 +16,7 @@ ghost use Rattle.capnp_dynamic_readers.specs.Typed.{IsOf};
 use crate::behind::{read_data, read_list, read_struct, read_text};
 use crate::bits::{bit_at, byte_at, half_at, pair_at, word_at};
 use crate::dynamic_value::{Enum, Reader as Value};
+use crate::presence::is_there;
 use crate::{dynamic_list, dynamic_struct};
 use capnp_base::introspect::TypeVariant;
 use capnp_base::{any_pointer, text};
@@ -137,17 +138,5 @@ pub(crate) fn has_planned(reader: &StructReader<'_>, plan: SlotPlan) -> bool
     requires { IfSome plan.member (λ m. m.0 % 16 ≡ 0) }
     ensures { result ≡ planned_has (struct_of reader.now) plan }
 {
-    if !is_member_active(reader, plan.member) {
-        return false;
-    }
-    match plan.place {
-        Place::Nothing => true,
-        Place::Bits {
-            start: _,
-            width: _,
-            mask: _,
-        } => true,
-        Place::Pointer(index) => !reader.get_pointer_field(index).is_null(),
-        Place::Group(_) => true,
-    }
+    is_member_active(reader, plan.member) && is_there(reader, plan.place)
 }

@@ -11,6 +11,7 @@ pub mod ComputedRules
 pub mod ComputedSpans
 pub mod ComputedValues
 pub mod Defaults
+pub mod DiscriminantPlaces
 pub mod EntryTables
 pub mod EntryWalk
 pub mod EnumLemmas

@@ -24,8 +24,5 @@ load_32 bytes start bounded e = whole 4 bytes start (start / 32) bounded (omega 
 pub load_64 : (bytes : List ℕ) (start : ℕ) → AreBytes bytes → start % 64 ≡ 0 → number_at 8 (start / 64) bytes ≡ bits_at bytes start 64
 load_64 bytes start bounded e = whole 8 bytes start (start / 64) bounded (omega (arith, e))
 
-pub load_discriminant : (bytes : List ℕ) (offset : ℕ) → AreBytes bytes → number_at 2 offset bytes ≡ bits_at bytes (16 * offset) 16
-load_discriminant bytes offset bounded = whole 2 bytes (16 * offset) offset bounded (omega arith)
-
 pub load_bounded : (bytes : List ℕ) (start bits n : ℕ) → n ≡ bits_at bytes start bits → n < 2 ^ bits
 load_bounded bytes start bits n e = subst (λ k. k < 2 ^ bits) (sym e) (bits_at-bounded bytes start bits)

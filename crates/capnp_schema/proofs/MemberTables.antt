@@ -83,10 +83,10 @@ is_of d f e = let t = both (is_member f) (f.discriminant_value == d) e in (t.0, 
 pub no_member : (f : Field) → IsTrue (is_member f) × (f.discriminant_value ≡ 65535) → ⊥
 no_member f h = plain_only (f.discriminant_value == 65535) h.0 (eq-eqb f.discriminant_value 65535 h.1)
 
-of_value : (d : ℕ) (f : Field) → f.discriminant_value ≡ d → d < 65535 → is_member_of d f ≡ true
+pub of_value : (d : ℕ) (f : Field) → f.discriminant_value ≡ d → d < 65535 → is_member_of d f ≡ true
 of_value d f same h = ap (λ q. q && (f.discriminant_value == d)) (member_by_value f (omega arith)) ∙ eq-eqb f.discriminant_value d same
 
-field_of : (n : Node) → HasEachMember n → (d : ℕ) → d < n.discriminant_count → (k : ℕ) × (f : Field) × (slice_get n.fields k ≡ Some f) × (f.discriminant_value ≡ d)
+pub field_of : (n : Node) → HasEachMember n → (d : ℕ) → d < n.discriminant_count → (k : ℕ) × (f : Field) × (slice_get n.fields k ≡ Some f) × (f.discriminant_value ≡ d)
 field_of n each d h = by_place (each.some d h)
   where
     by_place : Contains (map (λ (f : Field). f.discriminant_value) n.fields) d → (k : ℕ) × (f : Field) × (slice_get n.fields k ≡ Some f) × (f.discriminant_value ≡ d)

@@ -1,7 +1,7 @@
 -- The meta set: schemas of a message that stands for a set of schemas.
 use Rattle.std.specs.Prelude.{ℕ, List, [], ◌∷◌, true, false, codes, pos}
 use Rattle.capnp_schema.specs.Types.{SchemaType, VoidType, BoolType, IntType, UIntType, TextType, DataType, StructType, ListType}
-use Rattle.capnp_schema.specs.Schema.{Schemas, Node, Field, Value, VoidValue, BoolValue, IntValue, UIntValue, TextValue, DataValue, StructValue, ListValue}
+use Rattle.capnp_schema.specs.Schema.{Schemas, Node, Field, VoidValue, BoolValue, IntValue, UIntValue, TextValue, DataValue, StructValue, ListValue}
 use Rattle.capnp_schema.specs.Builtin.{plain, member, group_member, struct_node, union_node, plain_brand, zero_word}
 
 -- a struct's type, and that of a list of them

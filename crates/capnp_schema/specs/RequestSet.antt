@@ -1,7 +1,7 @@
 -- The set under which a compiler's request is read: what `request::new_set` gives, as specs see it.
 use Rattle.std.specs.Prelude.{ℕ, List, [], ◌∷◌, true, false, codes, pos}
 use Rattle.capnp_schema.specs.Types.{VoidType, BoolType, IntType, UIntType, TextType, DataType, StructType, ListType, AnyPointerType}
-use Rattle.capnp_schema.specs.Schema.{Schemas, Node, Field, Value, VoidValue, BoolValue, IntValue, UIntValue, TextValue, DataValue, StructValue, ListValue, AnyPointerValue}
+use Rattle.capnp_schema.specs.Schema.{Schemas, Node, Field, VoidValue, BoolValue, IntValue, UIntValue, TextValue, DataValue, StructValue, ListValue, AnyPointerValue}
 use Rattle.capnp_schema.specs.Builtin.{group_member, member, plain, plain_brand, struct_node, union_node, zero_word}
 
 -- a group of a struct of such sections

@@ -73,13 +73,3 @@ pub fn load_bits(reader: &StructReader<'_>, start: u32, width: u8) -> u64
         _ => unreachable!(),
     }
 }
-
-/// The number of two bytes at an offset in units of them, as a discriminant stands there; zero past the end of the section.
-#[inline(always)]
-#[tactic(auto, using(crate::proofs::LoadedBits::load_discriminant))]
-pub fn load_discriminant(reader: &StructReader<'_>, offset: u32) -> u16
-    ensures { result ≡ bits_at (struct_of reader.now).bytes (16 * offset) 16 }
-{
-    struct_is_well_formed(reader);
-    reader.get_data_field::<u16>(offset)
-}

@@ -1,7 +1,7 @@
 //! Sets that are accepted, and want of memory.
 
 use capnp_schema::builtin::new_set;
-use capnp_schema::meta;
+use capnp_schema::{meta, request};
 use capnp_schema_fixtures::set_text::read_set;
 use capnp_wire::error::ErrorKind;
 use std::test::Fail;
@@ -20,6 +20,15 @@ fn the_meta_set_is_accepted(rt: HostRuntime) -> std::result::Result<(), Fail> {
     let set = meta::new_set(rt.alloc())?;
     assert_eq!(rt; set.nodes().len(), 10);
     assert_eq!(rt; set.brands().len(), 10);
+    assert!(rt; set.enums().is_empty());
+    Ok(())
+}
+
+#[test]
+fn the_request_set_is_accepted(rt: HostRuntime) -> std::result::Result<(), Fail> {
+    let set = request::new_set(rt.alloc())?;
+    assert_eq!(rt; set.nodes().len(), 23);
+    assert_eq!(rt; set.brands().len(), 23);
     assert!(rt; set.enums().is_empty());
     Ok(())
 }

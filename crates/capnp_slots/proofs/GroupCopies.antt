@@ -1,44 +1,44 @@
 -- A group is copied one field after another.
-use Rattle.std.specs.Prelude.{ℕ, zero, suc, ◌+◌, ◌-◌, ◌<◌, ◌≤◌, ◌≡◌, ◌≢◌, ⊤, refl, List, [], ◌∷◌, ◌++◌, Bool, true, false, not, ◌&&◌, ◌==◌, nat_lt, cond, length, position, slice_index, drop, Option, Some, None, option_map, Result, Ok, Err, OnOk, OnErr, IfErr}
+use Rattle.std.specs.Prelude.{ℕ, zero, suc, ◌+◌, ◌-◌, ◌<◌, ◌≤◌, ◌≡◌, ◌≢◌, ⊤, refl, List, [], ◌∷◌, ◌++◌, Bool, true, false, not, ◌&&◌, cond, length, slice_index, drop, Option, Some, None, Result, Ok, Err, OnOk, OnErr, IfErr}
 use Rattle.std.proofs.Common.{arith, inl, inr, ap, sym, subst, ◌∙◌}
 use Rattle.std.proofs.lemmas.Bool.{eq-eqb, true≢false}
 use Rattle.std.proofs.lemmas.List.{drop_all, drop_more}
-use Rattle.std.specs.List.{position_or_len}
 use Rattle.capnp_device.specs.declared.error.Error.{Error}
 use Rattle.capnp_device.specs.declared.error.ErrorKind.{ErrorKind}
 use Rattle.capnp_device.specs.declared.error.ErrorKind.TheVariants.{OutOfMemory, TypeMismatch}
-use Rattle.capnp_wire.specs.Reading.{is_null_tree}
 use Rattle.capnp_wire.specs.Tree.{StructTree, Tree, nth_tree}
 use Rattle.capnp_schema.specs.FieldLists.{IsFieldOf, IsFound, index_of, schema_of, typed_of}
-use Rattle.capnp_schema.specs.Query.{indices_from, is_member_of, is_plain, keep_index, member_of, records_of}
+use Rattle.capnp_schema.specs.Query.{indices_from, is_plain, keep_index}
 use Rattle.capnp_schema.specs.Ranges.{HasRanges}
 use Rattle.capnp_schema.specs.Schema.{FieldKind, Group, Schemas, Slot, TypedField, field_at, fields_of, is_member, kind_default, node_of}
 use Rattle.capnp_schema.specs.Schema.{Value as SchemaValue}
 use Rattle.capnp_schema.specs.StructHandles.{IsStruct, number_of, set_of}
-use Rattle.capnp_schema.specs.Types.{AnyPointerType, BoolType, DataType, EnumType, IntType, ListType, SchemaType, StructType, TextType, UIntType, VoidType, is_pointer, struct_number}
+use Rattle.capnp_schema.specs.Types.{AnyPointerType, SchemaType, is_pointer, struct_number}
+use Rattle.capnp_base.specs.declared.introspect.TypeVariant.{TypeVariant}
+use Rattle.capnp_schema.specs.Plan.{place_of}
+use Rattle.capnp_schema.specs.Types.{seen_variant}
 use Rattle.capnp_schema.specs.declared.schema.fields.Field.{Field}
 use Rattle.capnp_schema.specs.declared.schema.structs.StructSchema.{StructSchema}
 use Rattle.capnp_records.specs.Call.{StructSource}
-use Rattle.capnp_records.specs.Facts.Frame.{first-of, second-of}
-use Rattle.capnp_records.specs.Facts.Pointers.{values_of-nth}
-use Rattle.capnp_records.specs.Facts.Readers.{null-is, value-there}
 use Rattle.capnp_records.specs.Given.{Copies, CopiesGroup, Fails, Given, Gives, copy_refusal}
 use Rattle.capnp_records.specs.GroupCopy.{active_first, plain_there, pointer_copy, read_copy, slot_copy}
 use Rattle.capnp_records.specs.Laws.{GroupCopyStaysInside}
 use Rattle.capnp_records.specs.Part.{nth_value, which_of}
-use Rattle.capnp_records.specs.Reading.{Reading, active_among, discriminant, kind_value, part_of, plain_parts, record_within, slot_value, struct_record, union_of, value_of, values_of}
+use Rattle.capnp_records.specs.Reading.{part_of, plain_parts, struct_record, union_of, values_of}
 use Rattle.capnp_records.specs.Record as value
 use Rattle.capnp_records.specs.Record.{Active, Levels, NoUnion, Parts, Union, Unknown, Value, Values, is_there}
 use Rattle.capnp_records.specs.Step.{is_group_field}
 use Rattle.capnp_records.specs.Writes.Overlay.{cleared_group, switched, with_slot}
 use Rattle.capnp_records.specs.Writes.TreeCopy.{CopiesTreeOr, TreeCopiesFields, TreeCopiesPart, TreeCopiesSlot, TreeCopiesWithin, TreeCopying, copied_content}
 use Rattle.capnp_records.specs.Writes.TreeEnds.{offset_of}
+use Rattle.capnp_dynamic_readers.specs.Facts.HasWhich.{part-there}
+use Rattle.capnp_dynamic_readers.specs.Planned.{IsActiveMember, place_there}
 use Rattle.capnp_slots.specs.Copied.{IsCopied, copy_content, copy_given, refusal_of}
 use Rattle.capnp_slots.specs.Fields.{IsRoomFor, IsSlot, Keeps, field_brand, field_set, names_of, switched_to}
 use Rattle.capnp_slots.specs.GroupSets.{CopiesIndices, CopiesThrough, IsGroupSet, active_in, given_to_group, is_index_there, is_part_there, kept_indices, member_indices, plain_in}
 use Rattle.capnp_slots.specs.Groups.{IsGroupAt, KeepsSize, cleared_through}
 use Rattle.capnp_slots.specs.Sources.{IsSetRefusal, IsTaken, copy_due}
-use Rattle.capnp_slots.proofs.GroupClears.{cleared-whole, entry, lt-suc, records}
+use Rattle.capnp_slots.proofs.GroupClears.{cleared-whole, entry, records}
 
 -- ---- a slot ----
 
@@ -302,107 +302,16 @@ pub plain-end : (groups : ℕ) (schema : StructSchema) (l : Levels) (x : StructT
 unfolding CopiesIndices
 plain-end groups schema l x is n past s = subst (λ js. Remains groups schema l x js s None s) (sym (drop_all n is past)) (refl, refl)
 
--- ---- the member ----
+-- ---- what the source has ----
 
-lt-zero : (m : ℕ) → nat_lt 0 (suc m) ≡ true
-lt-zero m = grind arith
-
-pub not-zero : (n : ℕ) → (n ≡ 0 → ⊥) → (n == 0) ≡ false
-not-zero n h = grind (arith, h)
-
-which-among : (vs : Values) (v : TypedField → Value) (fs : List TypedField) (k d : ℕ) → which_of (Parts vs (active_among v fs k d)) ≡ option_map (λ i. k + i) (position (is_member_of d) (records fs))
-which-among vs v [] k d = refl
-which-among vs v (f ∷ fs) k d = go (is_member_of d f.field) (which-among vs v fs (suc k) d)
-  where
-    n : ℕ
-    n = position_or_len (is_member_of d) (records fs)
-
-    m : ℕ
-    m = length (records fs)
-
-    shift : (q : Bool) → option_map (λ i. suc k + i) (cond q (Some n) None) ≡ option_map (λ i. k + i) (cond q (Some (1 + n)) None)
-    shift true = ap Some (omega arith)
-    shift false = refl
-
-    go : (q : Bool) → which_of (Parts vs (active_among v fs (suc k) d)) ≡ option_map (λ i. suc k + i) (cond (nat_lt n m) (Some n) None) →
-        which_of (Parts vs (elim q as (λ _. Union) [ true ↦ Active k (v f) | false ↦ active_among v fs (suc k) d ])) ≡ option_map (λ i. k + i) (cond (nat_lt (cond (not q) (1 + n) 0) (suc m)) (Some (cond (not q) (1 + n) 0)) None)
-    go true ih = ap Some (omega arith) ∙ sym (ap (λ q. option_map (λ i. k + i) (cond q (Some 0) None)) (lt-zero m))
-    go false ih = ih ∙ (shift (nat_lt n m) ∙ ap (λ q. option_map (λ i. k + i) (cond q (Some (1 + n)) None)) (lt-suc n m))
-
-from-zero : (o : Option ℕ) → option_map (λ i. 0 + i) o ≡ o
-from-zero None = refl
-from-zero (Some i) = ap Some (omega arith)
-
-pub active-counted : (set : Schemas) (l : Levels) (x : StructTree) (b d : ℕ) → ((node_of set b).discriminant_count == 0) ≡ false → d ≡ discriminant (node_of set b) x.bytes →
-    member_of (records_of set b) d ≡ active_in set l x b
+pub active-is : (s : StructSchema) (l : Levels) (x : StructTree) (member : Option Field) → IsActiveMember s x member → IsFound s (active_in (set_of s) l x (number_of s)) member
 unfolding active_in
-active-counted set l x b d counted is =
-    ap (member_of (records_of set b)) is
-    ∙ (sym (from-zero (member_of (records_of set b) (discriminant (node_of set b) x.bytes)))
-    ∙ (sym (which-among (plain_parts v (fields_of set b)) v (fields_of set b) 0 (discriminant (node_of set b) x.bytes))
-    ∙ ap (λ u. which_of (Parts (plain_parts v (fields_of set b)) u)) (sym (second-of ((node_of set b).discriminant_count == 0) NoUnion (active_among v (fields_of set b) 0 (discriminant (node_of set b) x.bytes)) counted))))
-  where
-    v : TypedField → Value
-    v = part_of set l x.bytes (values_of set x.pointers)
+active-is s l x member is = is l
 
-pub active-none : (set : Schemas) (l : Levels) (x : StructTree) (b : ℕ) → ((node_of set b).discriminant_count == 0) ≡ true → None ≡ active_in set l x b
-unfolding active_in
-active-none set l x b none = ap (λ u. which_of (Parts (plain_parts v (fields_of set b)) u)) (sym (first-of ((node_of set b).discriminant_count == 0) NoUnion (active_among v (fields_of set b) 0 (discriminant (node_of set b) x.bytes)) none))
-  where
-    v : TypedField → Value
-    v = part_of set l x.bytes (values_of set x.pointers)
-
--- ---- whether a field is there ----
-
-not-null : (set : Schemas) (x : Tree) (l : Levels) (t : SchemaType) → not (is_null_tree x) ≡ is_there (value_of set x l t)
-not-null set x l t = go (is_null_tree x) refl
-  where
-    go : (q : Bool) → is_null_tree x ≡ q → not (is_null_tree x) ≡ is_there (value_of set x l t)
-    go true h = ap not h ∙ sym (ap (λ y. is_there (value_of set y l t)) (null-is x h))
-    go false h = ap not h ∙ sym (value-there set x l t h)
-
-number-there : (l : Levels) (bytes : List ℕ) (rs : List Reading) (o : ℕ) (d : SchemaValue) (t : SchemaType) → is_pointer t ≡ false → true ≡ is_there (slot_value l bytes rs o d t)
-number-there l bytes rs o d VoidType e = refl
-number-there l bytes rs o d BoolType e = refl
-number-there l bytes rs o d (IntType k) e = refl
-number-there l bytes rs o d (UIntType k) e = refl
-number-there l bytes rs o d (EnumType k) e = refl
-number-there l bytes rs o d TextType e = absurd (true≢false e)
-number-there l bytes rs o d DataType e = absurd (true≢false e)
-number-there l bytes rs o d (StructType b g) e = absurd (true≢false e)
-number-there l bytes rs o d (ListType t) e = absurd (true≢false e)
-number-there l bytes rs o d AnyPointerType e = absurd (true≢false e)
-
-module _ (set : Schemas) (l : Levels) (x : StructTree) (f : TypedField) where
-  abbrev kind_there : FieldKind → Bool
-  kind_there k = is_there (kind_value (record_within (length set.brands) set l x.bytes (values_of set x.pointers)) l x.bytes (values_of set x.pointers) k f.type)
-
-  group-kind : (k : FieldKind) → is_group_field k ≡ true → true ≡ kind_there k
-  group-kind (Slot o d) e = absurd (true≢false (sym e))
-  group-kind (Group n) e = refl
-
-  number-kind : (k : FieldKind) → is_pointer f.type ≡ false → true ≡ kind_there k
-  number-kind (Slot o d) e = number-there l x.bytes (values_of set x.pointers) o d f.type e
-  number-kind (Group n) e = refl
-
-  pointer-kind : (k : FieldKind) → is_group_field k ≡ false → is_pointer f.type ≡ true → not (is_null_tree (nth_tree x.pointers (offset_of k))) ≡ kind_there k
-  pointer-kind (Slot o d) slot e =
-      not-null set (nth_tree x.pointers o) l f.type
-      ∙ (sym (ap (λ (r : Reading). is_there (r l f.type)) (values_of-nth set x.pointers o))
-      ∙ sym (ap is_there (first-of (is_pointer f.type) _ _ e)))
-  pointer-kind (Group n) slot e = absurd (true≢false slot)
-
-  pub group-there : is_group_field f.field.kind ≡ true → true ≡ is_part_there set l x f
-  unfolding is_part_there
-  group-there e = group-kind f.field.kind e
-
-  pub data-there : is_pointer f.type ≡ false → true ≡ is_part_there set l x f
-  unfolding is_part_there
-  data-there e = number-kind f.field.kind e
-
-  pub behind-there : is_group_field f.field.kind ≡ false → is_pointer f.type ≡ true → not (is_null_tree (nth_tree x.pointers (offset_of f.field.kind))) ≡ is_part_there set l x f
-  unfolding is_part_there
-  behind-there slot e = pointer-kind f.field.kind slot e
+pub there-is : (set : Schemas) (l : Levels) (x : StructTree) (b i : ℕ) (v : TypeVariant) → seen_variant v ≡ (field_at set b i).type →
+    is_part_there set l x (field_at set b i) ≡ place_there x (place_of (field_at set b i).field.kind (field_at set b i).type)
+unfolding is_part_there
+there-is set l x b i v e = part-there set l x b i v e
 
 -- ---- handles ----
 

@@ -1,5 +1,5 @@
 -- A field's group, by the place of its plan.
-use Rattle.std.specs.Prelude.{ℕ, zero, suc, ◌<◌, ◌≡◌, refl, Bool, true, false}
+use Rattle.std.specs.Prelude.{ℕ, zero, suc, ◌<◌, ◌≡◌, refl, Bool, true, false, not}
 use Rattle.std.proofs.Common.{arith, ap, sym, subst, ◌∙◌}
 use Rattle.capnp_schema.specs.Accepted.{IsGroupOf, GroupFits}
 use Rattle.capnp_schema.specs.FieldLists.{index_of, schema_of, typed_of}
@@ -50,6 +50,17 @@ is-slot (Group n) t none = absurd (none (struct_number t) refl)
 
 pub slot-is : (f : Field) (p : SlotPlan) → p ≡ plan_of (field_set f) (field_brand f) (typed_of f) → ((g : ℕ) → p.place ≡ place.Group g → ⊥) → IsSlot f
 slot-is f p e none = is-slot (typed_of f).field.kind (typed_of f).type (λ g h. none g (ap (λ (q : SlotPlan). q.place) e ∙ h))
+
+group-kind : (k : FieldKind) (t : SchemaType) (g : ℕ) → place_of k t ≡ place.Group g → is_group_field k ≡ true
+group-kind (Slot offset d) t g e = absurd (no-group (is_pointer t) (width t) offset d g e)
+group-kind (Group n) t g e = refl
+
+-- whether a field is a slot, by its place
+pub group-placed : (f : Field) (p : SlotPlan) (g : ℕ) → p ≡ plan_of (field_set f) (field_brand f) (typed_of f) → p.place ≡ place.Group g → false ≡ not (is_group_field (typed_of f).field.kind)
+group-placed f p g e h = sym (ap not (group-kind (typed_of f).field.kind (typed_of f).type g (sym (ap (λ (q : SlotPlan). q.place) e) ∙ h)))
+
+pub slot-placed : (f : Field) (p : SlotPlan) → p ≡ plan_of (field_set f) (field_brand f) (typed_of f) → ((g : ℕ) → p.place ≡ place.Group g → ⊥) → true ≡ not (is_group_field (typed_of f).field.kind)
+slot-placed f p e none = sym (ap not (slot-is f p e none))
 
 pub group-is : (f : Field) (p : SlotPlan) (g : ℕ) (schema : StructSchema) → IsStruct (schema_of f) → p ≡ plan_of (field_set f) (field_brand f) (typed_of f) → p.place ≡ place.Group g →
     LeadsToGroup (field_set f) (field_brand f) g → set_of schema ≡ field_set f → number_of schema ≡ g → IsStruct schema → IsGroupAt f schema

@@ -11,11 +11,10 @@ ghost use Rattle.capnp_slots.specs.Fields.{IsRoomFor, field_brand, field_set};
 ghost use Rattle.capnp_slots.specs.Groups.{KeepsSize};
 ghost use Rattle.capnp_slots.specs.GroupSets.{AreCopied, IsCopiedThrough, active_field, has_field, member_indices, plain_in_source};
 
-use crate::copied::{copy, is_behind, variant_of};
+use crate::copied::copy;
 use crate::group::{clear_group, group_of};
-use crate::pointer::pointer_slot;
-use crate::slot::{is_slot, switch};
-use capnp_schema::loaded::load_discriminant;
+use crate::slot::switch;
+use capnp_dynamic_readers::presence;
 use capnp_schema::schema::{Field, StructSchema};
 use capnp_wire::StructReader;
 use capnp_wire::error::Result;
@@ -25,29 +24,16 @@ use capnp_wire::object::StructObject;
 fn active_member<'s>(schema: StructSchema<'s>, source: &StructReader<'_>) -> Option<Field<'s>>
     ensures { IsFound schema.entry (active_field schema.entry source.now) result }
 {
-    let body = &schema.get_proto().body;
-    if body.discriminant_count == 0 {
-        return None;
-    }
-    let number = load_discriminant(source, body.discriminant_offset);
-    let Ok(found) = schema.get_field_by_discriminant(number) else {
-        unreachable!()
-    };
-    found
+    presence::active_member(schema, source)
 }
 
 /// Whether a struct that is read has a field: all but a null pointer.
 fn has(field: Field<'_>, source: &StructReader<'_>) -> bool
     ensures { result ≡ has_field field.entry source.now }
 {
-    if !is_slot(field) {
-        return true;
-    }
-    if !is_behind(variant_of(field)) {
-        return true;
-    }
-    let (index, _) = pointer_slot(field);
-    !source.get_pointer_field(index).is_null()
+    // What every set is known to meet is known of it here.
+    let _variant = field.get_type().which();
+    presence::is_there(source, field.plan().place)
 }
 
 /// Copies a field, through at most so many groups.

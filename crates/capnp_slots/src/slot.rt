@@ -24,7 +24,7 @@ use crate::primitive::{Primitive, number_at_once, number_fits, refusal_at};
 use crate::source::Source;
 use capnp_base::introspect::TypeVariant;
 use capnp_base::traits::SetterInput;
-use capnp_schema::record::FieldKind;
+use capnp_schema::plan::Place;
 use capnp_schema::schema::Field;
 use capnp_wire::error::{Error, ErrorKind, Result};
 use capnp_wire::object::StructObject;
@@ -35,13 +35,10 @@ use capnp_wire::size::StructSize;
 pub fn is_slot(field: Field<'_>) -> bool
     ensures { result ≡ not (is_group_field (typed_of field.entry).field.kind) }
 {
-    matches!(
-        field.get_proto().kind,
-        FieldKind::Slot {
-            offset: _,
-            default: _
-        }
-    )
+    match field.plan().place {
+        Place::Group(_brand) => false,
+        _ => true,
+    }
 }
 
 /// Makes a field active, where it is a member of its struct's union: its number stands in the discriminant. A non-union

@@ -30,7 +30,7 @@ ghost use Rattle.capnp_schema.specs.Types.{seen_type};
 use crate::dynamic_struct::Reader;
 use crate::dynamic_value;
 use capnp_base::traits::OwnedStruct;
-use capnp_schema::loaded::load_discriminant;
+use capnp_dynamic_readers::presence::active_member;
 use capnp_schema::schema::{Field, StructSchema};
 use capnp_slots::source::Source;
 use capnp_slots::{group, size_of, slot};
@@ -125,13 +125,7 @@ impl<'a> Builder<'a> {
         ensures { IsOkAnd result (IsFound (built_schema self.now) (which_of (built_record self.now))) }
     {
         structs_can_be_read();
-        let schema = self.schema;
-        let body = &schema.get_proto().body;
-        if body.discriminant_count == 0 {
-            return Ok(None);
-        }
-        let value = load_discriminant(&self.builder.as_reader(), body.discriminant_offset);
-        schema.get_field_by_discriminant(value)
+        Ok(active_member(self.schema, &self.builder.as_reader()))
     }
 
     /// False for a member that is not active and for a null pointer, else true. The answer is always Ok.

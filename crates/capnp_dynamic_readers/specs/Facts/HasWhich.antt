@@ -54,7 +54,7 @@ module _ (set : Schemas) (l : Levels) (s : StructTree) where
   slot-there (variant.List x) o d = pointer-there o _ _ (values_of-nth set s.pointers o)
   slot-there variant.AnyPointer o d = pointer-there o _ _ (values_of-nth set s.pointers o)
 
-  part-there : (b i : ℕ) (v : TypeVariant) → seen_variant v ≡ (field_at set b i).type →
+  pub part-there : (b i : ℕ) (v : TypeVariant) → seen_variant v ≡ (field_at set b i).type →
       is_there (part_of set l s.bytes (values_of set s.pointers) (field_at set b i)) ≡ place_there s (place_of (field_at set b i).field.kind (field_at set b i).type)
   part-there b i v e = go (field_at set b i).field.kind (field_at set b i).type e
     where

@@ -1,5 +1,5 @@
 //! Handles of struct schemas.
-ghost use Rattle.std.specs.Prelude.{◌≡◌, ◌<◌, ◌≤◌, ◌+◌, ◌*◌, ◌^◌, length, IfErr, IfOk, IfSome, IsOkAnd, Some, None};
+ghost use Rattle.std.specs.Prelude.{◌≡◌, ◌<◌, ◌≤◌, ◌+◌, ◌*◌, ◌%◌, ◌^◌, length, IfErr, IfOk, IfSome, IsOkAnd, Some, None};
 ghost use Rattle.capnp_device.specs.declared.error.ErrorKind.TheVariants.{FieldNotFound};
 
 use crate::record::NodeRecord;
@@ -59,17 +59,16 @@ impl<'s> StructSchema<'s> {
 
     /// The first of the 16 bits in the data section that say which member of the union is active; none where there is no
     /// union.
+    #[tactic(auto, using(crate::proofs::DiscriminantPlaces::discriminant_aligned, crate::proofs::DiscriminantPlaces::discriminant_inside))]
+    #[inline(always)]
     pub fn get_discriminant(&self) -> Option<u32>
         ensures is { result ≡ discriminant_of (struct_node self.now) }
+        ensures aligned { IfSome result (λ first. first % 16 ≡ 0) }
         ensures inside { IfSome result (λ first. first + 16 ≤ 64 * (struct_node self.now).data_word_count) }
     {
-        let node = self.set.node_record(self.number);
-        if node.body.discriminant_count == 0 {
-            return None;
-        }
-        // A data section of at most 65,535 words: the number of a bit inside it fits.
-        let _data_words = node.body.data_word_count;
-        Some(node.body.discriminant_offset * 16)
+        // What every set is known to meet is known of it here.
+        let _lists = self.set.accepted_lists();
+        self.set.discriminant(self.number)
     }
 
     /// All fields, by index. The answer is always Ok.

@@ -3,6 +3,7 @@ ghost use Rattle.std.specs.Prelude.{◌≡◌, ◌<◌, ◌≤◌, ◌*◌, ◌^
 ghost use Rattle.std.specs.Option.{option_map, unwrap_or};
 ghost use Rattle.capnp_schema.specs.Accepted.{NamesEntries};
 ghost use Rattle.capnp_schema.specs.Schema.{seen_field, field_at, fields_of, node_at, node_of};
+ghost use Rattle.capnp_schema.specs.Discriminant.{discriminant_of};
 ghost use Rattle.capnp_schema.specs.Entries.{lists_seen, seen_typed};
 ghost use Rattle.capnp_schema.specs.GroupsDown.{IfGroup, LeadsToGroup};
 ghost use Rattle.capnp_schema.specs.Names.{IsNameTable};
@@ -158,5 +159,22 @@ impl SchemaSet {
         ensures group { field < length (fields_of (lists_seen self.now) brand) → IfGroup result.now.place (LeadsToGroup (lists_seen self.now) brand) }
     {
         plan_at(table_at(&self.tables.plans, brand as usize), field as usize)
+    }
+
+    /// The first bit of a brand's discriminant, by the plan of the member of value 0, which each union has; none where
+    /// there is no union.
+    #[inline(always)]
+    pub(crate) fn discriminant(&self, brand: u32) -> Option<u32>
+        ensures { result ≡ discriminant_of (node_of (lists_seen self.now) brand) }
+    {
+        // What every set is known to meet is known of it here.
+        let _lists = self.accepted_lists();
+        let Some(index) = self.find_member(brand, 0) else {
+            return None;
+        };
+        match self.plan(brand, index).member {
+            Some((first, _)) => Some(first),
+            None => None,
+        }
     }
 }
