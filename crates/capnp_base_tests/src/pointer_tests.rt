@@ -9,6 +9,7 @@ use crate::calls::UntypedCall::{
     Set,
 };
 use crate::calls::{NULL, Row, data_is, default_of, follow, is_wanted, text_is, untyped_is};
+use crate::struct_tests::THREE_BYTES;
 use capnp_base::traits::FromPointerReader;
 use capnp_base::{any_pointer, data, text};
 use capnp_wire::PointerReader;
@@ -53,9 +54,6 @@ const HI_255: &[u8] = &[
     1, 0, 0, 0, 0x22, 0, 0, 0, //
     0x68, 0x69, 0xff, 0, 0, 0, 0, 0,
 ];
-
-/// The data 1, 2, 3.
-const ONE_TWO_THREE: &[u8] = &[1, 0, 0, 0, 0x1a, 0, 0, 0, 1, 2, 3, 0, 0, 0, 0, 0];
 
 /// The numbers 1 to 3, of two bytes each.
 const THREE_NUMBERS: &[u8] = &[1, 0, 0, 0, 0x1b, 0, 0, 0, 1, 0, 2, 0, 3, 0, 0, 0];
@@ -161,7 +159,7 @@ static SET_AND_READ: [Row; 8] = [
         "data",
         SetAndGet(Data(&[1, 2, 3])),
         Ok(b"\x01\x02\x03"),
-        ONE_TWO_THREE,
+        THREE_BYTES,
     ),
     (
         "what another pointer leads to",

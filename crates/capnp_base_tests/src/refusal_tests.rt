@@ -11,14 +11,12 @@ use crate::calls::UntypedCall::{
 };
 use crate::calls::{NULL, Row, follow, make};
 use crate::pointer_tests::{CAPABILITY, HI};
+use crate::struct_tests::FIVE;
 use capnp_wire::error::ErrorKind::{
     CapabilityPointer, OutOfMemory, SizePastFormat, TextNotTerminated, WrongElementSize,
     WrongPointerKind,
 };
 use capnp_wire::message::Builder;
-
-/// A struct of one word.
-const STRUCT: &[u8] = &[0, 0, 0, 0, 1, 0, 0, 0, 5, 0, 0, 0, 0, 0, 0, 0];
 
 /// A list of one number of two bytes.
 const NUMBERS: &[u8] = &[1, 0, 0, 0, 0x0b, 0, 0, 0, 5, 0, 0, 0, 0, 0, 0, 0];
@@ -117,13 +115,13 @@ static BAD_DEFAULTS: [Row; 9] = [
     ),
     (
         "no text: a struct",
-        GetText(Some(STRUCT)),
+        GetText(Some(FIVE)),
         Err(WrongPointerKind),
         NULL,
     ),
     (
         "no data: a struct",
-        GetData(Some(STRUCT)),
+        GetData(Some(FIVE)),
         Err(WrongPointerKind),
         NULL,
     ),

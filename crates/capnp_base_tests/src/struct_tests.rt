@@ -136,10 +136,10 @@ fn length_of<'a, T: IntoInternalListReader<'a>>(list: T) -> u32 {
 }
 
 /// A struct of one word, with 5.
-const FIVE: &[u8] = &[0, 0, 0, 0, 1, 0, 0, 0, 5, 0, 0, 0, 0, 0, 0, 0];
+pub const FIVE: &[u8] = &[0, 0, 0, 0, 1, 0, 0, 0, 5, 0, 0, 0, 0, 0, 0, 0];
 
-/// A list of three bytes.
-const THREE_BYTES: &[u8] = &[1, 0, 0, 0, 0x1a, 0, 0, 0, 1, 2, 3, 0, 0, 0, 0, 0];
+/// A list of the bytes 1, 2 and 3.
+pub const THREE_BYTES: &[u8] = &[1, 0, 0, 0, 0x1a, 0, 0, 0, 1, 2, 3, 0, 0, 0, 0, 0];
 
 /// The number of a struct of one word that the root of a message is set to.
 fn number_set(message: &mut Builder, words: &[u8]) -> Option<u16> {

@@ -2,6 +2,7 @@
 
 use crate::messages::set_of;
 use crate::script::{answers_about, are_answers, rows_hold};
+use capnp_schema_fixtures::messages::CAPABILITY_IN_TAG;
 use capnp_wire::error::Result;
 use std::alloc::Global;
 use std::test::Fail;
@@ -151,12 +152,6 @@ fn a_group_takes_no_level(rt: HostRuntime) -> std::result::Result<(), Fail> {
 /// The number of `Shapes` in the built-in set.
 const SHAPES: u32 = 3;
 
-/// A `Shapes` with `tag` active, in which `any` is a capability.
-static CAPABILITY_IN_TAG: [u8; 48] = [
-    0, 0, 0, 0, 5, 0, 0, 0, 0, 0, 0, 0, 2, 0, 2, 0, 0, 0, 1, 0, 0, 0, 0, 0, 0, 0, 0, 0, 0, 0, 0, 0,
-    3, 0, 0, 0, 0, 0, 0, 0, 0, 0, 0, 0, 0, 0, 0, 0,
-];
-
 #[test]
 fn a_capability_has_no_size(rt: HostRuntime) -> std::result::Result<(), Fail> {
     let answers = answers_about(
@@ -164,7 +159,7 @@ fn a_capability_has_no_size(rt: HostRuntime) -> std::result::Result<(), Fail> {
         // the built-in set
         &set_of(rt.alloc(), "mixed")?,
         SHAPES,
-        &CAPABILITY_IN_TAG,
+        CAPABILITY_IN_TAG,
         "get tag/any; size tag/any; print",
     )?;
     assert_eq!(rt;

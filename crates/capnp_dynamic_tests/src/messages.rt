@@ -44,7 +44,7 @@ static STRUCTS: [(&str, (&str, u32)); 10] = [
 ];
 
 /// The messages that no other crate reads; `messages::message_named` has the others.
-static MESSAGES: [(&str, &[u8]); 24] = [
+static MESSAGES: [(&str, &[u8]); 22] = [
     // a `Mixed` whose `a` is 5, with `x` active
     (
         "void",
@@ -61,24 +61,7 @@ static MESSAGES: [(&str, &[u8]); 24] = [
             0, 0, 0,
         ],
     ),
-    // a `Many` whose fields differ from their defaults
-    (
-        "many",
-        &[
-            0, 0, 0, 0, 3, 0, 0, 0, 0, 0, 0, 0, 2, 0, 0, 0, 1, 0xfd, 0x2b, 1, 0xfe, 0xff, 0xff,
-            0xff, 0xff, 0xff, 0xff, 0xff, 0xff, 0xff, 0xff, 0xff,
-        ],
-    ),
-    // a `Lists` whose `items` are two structs, whose `a` are 1 and 2
-    (
-        "structs",
-        &[
-            0, 0, 0, 0, 8, 0, 0, 0, 0, 0, 0, 0, 0, 0, 4, 0, 0, 0, 0, 0, 0, 0, 0, 0, 0, 0, 0, 0, 0,
-            0, 0, 0, 0, 0, 0, 0, 0, 0, 0, 0, 1, 0, 0, 0, 0x17, 0, 0, 0, 8, 0, 0, 0, 1, 0, 0, 0, 1,
-            0, 0, 0, 0, 0, 0, 0, 2, 0, 0, 0, 0, 0, 0, 0,
-        ],
-    ),
-    // the same of two bits, which are not read as structs
+    // a `Lists` whose `items` are two bits, which are not read as structs
     (
         "bits",
         &[

@@ -16,12 +16,6 @@ pub const NODE: u32 = 8;
 /// No message: the calls are made on an empty root, or what is written is not compared.
 pub const NONE: &[u8] = &[];
 
-/// A `Lists` whose `items` are the numbers 1 and 2, of two bytes each.
-pub const NUMBERS: &[u8] = &[
-    0, 0, 0, 0, 6, 0, 0, 0, 0, 0, 0, 0, 0, 0, 4, 0, 0, 0, 0, 0, 0, 0, 0, 0, 0, 0, 0, 0, 0, 0, 0, 0,
-    0, 0, 0, 0, 0, 0, 0, 0, 1, 0, 0, 0, 0x13, 0, 0, 0, 1, 0, 2, 0, 0, 0, 0, 0,
-];
-
 /// A group is entered where it is active, and its union asked for.
 pub const ENTERED: &str = "\
 tag.n set UInt16 3 -> Refused(30)

@@ -5,6 +5,7 @@ use crate::fixtures::{MANY, NODE, NONE};
 use capnp_dynamic::dynamic_value::{Enum as EnumValue, Reader as Value};
 use capnp_schema::builtin::new_set;
 use capnp_schema_fixtures::kinds::{FULL, KINDS, KINDS_SET};
+use capnp_schema_fixtures::messages::MANY_FULL;
 use capnp_schema_fixtures::set_text::read_set;
 use std::test::Fail;
 
@@ -112,12 +113,6 @@ fn each_kind_of_element_is_set(rt: HostRuntime) -> std::result::Result<(), Fail>
     cases_hold(&rt, rt.alloc(), &set, blue, &[elements]);
     Ok(())
 }
-
-/// A `Many` with a value in each field.
-const MANY_FULL: &[u8] = &[
-    0, 0, 0, 0, 3, 0, 0, 0, 0, 0, 0, 0, 2, 0, 0, 0, 1, 0xfd, 0x2b, 1, 0xfe, 0xff, 0xff, 0xff, 0xff,
-    0xff, 0xff, 0xff, 0xff, 0xff, 0xff, 0xff,
-];
 
 const NUMBERS: &str = "\
 n get -> UInt16(7)

@@ -4,7 +4,7 @@
 ghost use Rattle.capnp_schema.specs.StructHandles.{IsStruct};
 
 use crate::cases::root;
-use crate::fixtures::{ENTERED, LISTED, LISTS, LOOP, NUMBERS, SHAPES};
+use crate::fixtures::{ENTERED, LISTED, LISTS, LOOP, SHAPES};
 use crate::rows::{Asked, asked_in, calls_of, first_wrong};
 use capnp_dynamic::dynamic_struct;
 use capnp_dynamic::dynamic_value::Reader as Value;
@@ -15,15 +15,13 @@ use capnp_schema::builtin::new_set;
 use capnp_schema::schema::StructSchema;
 use capnp_schema::set::SchemaSet;
 use capnp_schema_fixtures::fixtures::schema_of;
+use capnp_schema_fixtures::messages::{ITEMS_AS_NUMBERS, SHORT};
 use capnp_wire::error::{ErrorKind, Result};
 use capnp_wire::laws::pointer_is_well_formed;
 use capnp_wire::message::{Builder, Reader};
 use std::alloc::Global;
 use std::process::Abort;
 use std::test::Fail;
-
-/// A root of size zero.
-const SHORT: &[u8] = &[0, 0, 0, 0, 1, 0, 0, 0, 0xfc, 0xff, 0xff, 0xff, 0, 0, 0, 0];
 
 /// A `Lists` whose `t` is `hi`.
 const WORD: &[u8] = &[
@@ -260,7 +258,7 @@ static TAKING_SOME: [Meeting<'static>; 5] = [
     },
     Meeting {
         brand: LISTS,
-        start: NUMBERS,
+        start: ITEMS_AS_NUMBERS,
         rows: EXTENDED,
         text: "(items = [(a = 1), (a = 7)])",
         refused: NOT_EXTENDED,

@@ -1,25 +1,15 @@
 //! Worked lists of calls on the built-in structs, with each reply, and what is printed or written then.
 
 use crate::cases::{Case, cases_hold, left_by, root};
-use crate::fixtures::{ENTERED, LISTED, LISTS, MIXED, NONE, NUMBERS, SHAPES};
+use crate::fixtures::{ENTERED, LISTED, LISTS, MIXED, NONE, SHAPES};
 use capnp_dynamic::dynamic_value::Reader as Value;
 use capnp_schema::builtin::new_set;
 use capnp_schema_fixtures::fixtures::schema_of;
+use capnp_schema_fixtures::messages::{
+    ITEMS_AS_NUMBERS, MEMBER_UNENDED, MIXED_HI, PAIR, TAGGED_UNENDED,
+};
 use capnp_schema_fixtures::set_text::read_set;
 use std::test::Fail;
-
-/// A `Mixed` whose `a` is 5, with `y` active and 9, and `b` is `hi`.
-const MIXED_HI: &[u8] = &[
-    0, 0, 0, 0, 4, 0, 0, 0, 0, 0, 0, 0, 1, 0, 1, 0, 5, 0, 1, 0, 9, 0, 0, 0, 1, 0, 0, 0, 0x1a, 0, 0,
-    0, 0x68, 0x69, 0, 0, 0, 0, 0, 0,
-];
-
-/// A `Lists` whose `items` are structs of 1 and 2.
-const PAIR: &[u8] = &[
-    0, 0, 0, 0, 8, 0, 0, 0, 0, 0, 0, 0, 0, 0, 4, 0, 0, 0, 0, 0, 0, 0, 0, 0, 0, 0, 0, 0, 0, 0, 0, 0,
-    0, 0, 0, 0, 0, 0, 0, 0, 1, 0, 0, 0, 0x17, 0, 0, 0, 8, 0, 0, 0, 1, 0, 0, 0, 1, 0, 0, 0, 0, 0, 0,
-    0, 2, 0, 0, 0, 0, 0, 0, 0,
-];
 
 const LARGEST: &str = "\
 circle.r set UInt32 4294967295 -> Done";
@@ -47,7 +37,13 @@ const TOO_LONG: &str = "\
 word initn 536870911 -> Refused(10)
 word which -> Member(Some(1))";
 
-static WORKED: [Case<'static>; 6] = [
+const LISTS_TOO_LONG: &str = "\
+t initn 536870911 -> Refused(10)
+bytes initn 536870912 -> Refused(10)
+bytes initn 4294967295 -> Refused(10)
+items initn 536870912 -> Refused(10)";
+
+static WORKED: [Case<'static>; 7] = [
     Case {
         brand: SHAPES,
         start: NONE,
@@ -88,6 +84,13 @@ static WORKED: [Case<'static>; 6] = [
         start: NONE,
         rows: TOO_LONG,
         text: "(id = 0, circle = (r = 0))",
+        message: NONE,
+    },
+    Case {
+        brand: LISTS,
+        start: NONE,
+        rows: LISTS_TOO_LONG,
+        text: "()",
         message: NONE,
     },
 ];
@@ -131,7 +134,7 @@ static WRITTEN: [Case<'static>; 3] = [
     // a list of numbers that is walked becomes one of structs
     Case {
         brand: LISTS,
-        start: NUMBERS,
+        start: ITEMS_AS_NUMBERS,
         rows: PAIR_READ,
         text: "(items = [(a = 1), (a = 2)])",
         message: PAIR,
@@ -184,12 +187,6 @@ fn a_group_that_is_cut_by_an_untyped_field(rt: HostRuntime) -> std::result::Resu
     Ok(())
 }
 
-/// A `Shapes` with `tag` active, in it `u1` and 9, and `n` 3; the list of its text `q` does not end in a zero.
-const TAGGED_UNENDED: &[u8] = &[
-    0, 0, 0, 0, 6, 0, 0, 0, 0, 0, 0, 0, 2, 0, 2, 0, 0, 0, 1, 0, 3, 0, 1, 0, 9, 0, 0, 0, 0, 0, 0, 0,
-    0, 0, 0, 0, 0, 0, 0, 0, 1, 0, 0, 0, 0x0a, 0, 0, 0, 0x7a, 0, 0, 0, 0, 0, 0, 0,
-];
-
 const CUT_AT_TEXT: &str = "\
 tag set Given -> Refused(7)
 tag.q has -> Flag(false)
@@ -216,12 +213,6 @@ fn a_group_that_is_cut_by_a_text(rt: HostRuntime) -> std::result::Result<(), Fai
 /// A set of a struct of the group `g`: a number `k` and the members `e` and `m`.
 const GROUPED: &str = "struct 1 1, g group(1); \
     group 1 1 union 2 1, k UInt16 @0, e Void @0 #0, m Text @0 #1";
-
-/// A struct whose group has `k` 4 and the member `m` active, whose list does not end in a zero.
-const MEMBER_UNENDED: &[u8] = &[
-    0, 0, 0, 0, 4, 0, 0, 0, 0, 0, 0, 0, 1, 0, 1, 0, 4, 0, 1, 0, 0, 0, 0, 0, 1, 0, 0, 0, 0x0a, 0, 0,
-    0, 0x7a, 0, 0, 0, 0, 0, 0, 0,
-];
 
 const CUT_AT_MEMBER: &str = "\
 g set Given -> Refused(7)

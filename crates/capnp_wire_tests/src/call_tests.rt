@@ -62,13 +62,31 @@ const TWO_NUMBERS: &str = "00 00 00 00 02 00 00 00 | 01 00 00 00 13 00 00 00 | 0
 const ONE_WORD_OF_ZEROS: &str = "00 00 00 00 02 00 00 00 | 00 00 00 00 01 00 00 00 | 0";
 
 /// Texts, data, structs and lists are made, each in the place of the one before.
-static MADE: [Row; 28] = [
+static MADE: [Row; 31] = [
     ("a null has no data", Lend(GetData), Ok(""), NULL),
     ("a null has no text", Lend(GetText), Ok(""), NULL),
     ("a null is an empty list", GetList(TwoBytes), Ok(""), NULL),
     (
         "a list is too long for the format",
         InitList(Byte, 1 << 29),
+        Err(SizePastFormat),
+        NULL,
+    ),
+    (
+        "nothing is too often in a list",
+        InitList(Void, 1 << 29),
+        Err(SizePastFormat),
+        NULL,
+    ),
+    (
+        "bits are too many",
+        InitList(Bit, u32::MAX),
+        Err(SizePastFormat),
+        NULL,
+    ),
+    (
+        "structs of size zero are too many",
+        InitStructs(1 << 29, NO_SIZE),
         Err(SizePastFormat),
         NULL,
     ),
@@ -200,7 +218,7 @@ static MADE: [Row; 28] = [
 ];
 
 /// Bytes are lent, and refused where there are none.
-static LENT: [Row; 28] = [
+static LENT: [Row; 30] = [
     (
         "new data",
         Lend(NewData(3, "\x01\x02\x03")),
@@ -254,6 +272,18 @@ static LENT: [Row; 28] = [
     (
         "a text is too long with its zero",
         Lend(InitText((1 << 29) - 1)),
+        Err(SizePastFormat),
+        SEVEN,
+    ),
+    (
+        "the longest data",
+        Lend(InitData(u32::MAX)),
+        Err(SizePastFormat),
+        SEVEN,
+    ),
+    (
+        "the longest text",
+        Lend(InitText(u32::MAX)),
         Err(SizePastFormat),
         SEVEN,
     ),

@@ -293,7 +293,7 @@ fn every_value_for_every_element(rt: HostRuntime) {
 }
 
 /// Each call but the set at each field, and at each element, of a message with a value in each field.
-static START_ROWS: [(&str, &str, &str); 6] = [
+static START_ROWS: [(&str, &str, &str); 8] = [
     // a struct, group or untyped pointer is started
     (
         "kinds from full",
@@ -347,6 +347,23 @@ static START_ROWS: [(&str, &str, &str); 6] = [
          initn colors/1 3 | initn texts/1 3 | initn blobs/1 3 | initn points/1 3 | \
          initn rows/1 3",
         "23; 23; 23; 23; 23; ok; ok; 23; ok",
+    ),
+    // a length past the format is refused: 2^29 elements or bytes, and a text of 2^29 bytes with its zero
+    (
+        "kinds from full",
+        "initn text 536870911 | initn text 4294967295 | initn bytes 536870912 | \
+         initn bytes 4294967295 | initn numbers 536870912 | initn flags 536870912 | \
+         initn voids 536870912 | initn wide 536870912 | initn colors 536870912 | \
+         initn texts 536870912 | initn blobs 536870912 | initn points 536870912 | \
+         initn rows 536870912 | initn rows 4294967295",
+        "10; 10; 10; 10; 10; 10; 10; 10; 10; 10; 10; 10; 10; 10",
+    ),
+    // and so it is of an element
+    (
+        "kinds from full",
+        "initn texts/1 536870911 | initn texts/1 4294967295 | initn blobs/1 536870912 | \
+         initn blobs/1 4294967295 | initn rows/1 536870912 | initn rows/1 4294967295",
+        "10; 10; 10; 10; 10; 10",
     ),
     // every element is handed out
     (

@@ -28,7 +28,7 @@ static STRUCTS: [(&str, (&str, u32)); 9] = [
 ];
 
 /// The messages that no other crate reads; `messages::message_named` has the others.
-static MESSAGES: [(&str, &[u8]); 18] = [
+static MESSAGES: [(&str, &[u8]); 14] = [
     // a root that is a list of the numbers 1, 2 and 3, of two bytes each
     (
         "root_list",
@@ -41,14 +41,6 @@ static MESSAGES: [(&str, &[u8]); 18] = [
         "five",
         &[
             0, 0, 0, 0, 2, 0, 0, 0, 0, 0, 0, 0, 1, 0, 0, 0, 5, 0, 0, 0, 0, 0, 0, 0,
-        ],
-    ),
-    // a `Mixed` whose `a` is 5, with `y` active and 9, and `b` is `hi`
-    (
-        "mixed_hi",
-        &[
-            0, 0, 0, 0, 4, 0, 0, 0, 0, 0, 0, 0, 1, 0, 1, 0, 5, 0, 1, 0, 9, 0, 0, 0, 1, 0, 0, 0,
-            0x1a, 0, 0, 0, 0x68, 0x69, 0, 0, 0, 0, 0, 0,
         ],
     ),
     // a `Many` whose `n` is 5, which is stored as 2 with the default 7
@@ -74,30 +66,6 @@ static MESSAGES: [(&str, &[u8]); 18] = [
             0, 0, 0, 0, 7, 0, 0, 0, 0, 0, 0, 0, 2, 0, 2, 0, 0, 0, 1, 0, 3, 0, 1, 0, 9, 0, 0, 0, 0,
             0, 0, 0, 5, 0, 0, 0, 0x12, 0, 0, 0, 5, 0, 0, 0, 0x12, 0, 0, 0, 0x6b, 0, 0, 0, 0, 0, 0,
             0, 0x7a, 0, 0, 0, 0, 0, 0, 0,
-        ],
-    ),
-    // the one before it, whose `q` does not end in a zero
-    (
-        "tagged_unended",
-        &[
-            0, 0, 0, 0, 6, 0, 0, 0, 0, 0, 0, 0, 2, 0, 2, 0, 0, 0, 1, 0, 3, 0, 1, 0, 9, 0, 0, 0, 0,
-            0, 0, 0, 0, 0, 0, 0, 0, 0, 0, 0, 1, 0, 0, 0, 0x0a, 0, 0, 0, 0x7a, 0, 0, 0, 0, 0, 0, 0,
-        ],
-    ),
-    // a struct whose group has `k` 4 and the member `m` active, which does not end in a zero
-    (
-        "member_unended",
-        &[
-            0, 0, 0, 0, 4, 0, 0, 0, 0, 0, 0, 0, 1, 0, 1, 0, 4, 0, 1, 0, 0, 0, 0, 0, 1, 0, 0, 0,
-            0x0a, 0, 0, 0, 0x7a, 0, 0, 0, 0, 0, 0, 0,
-        ],
-    ),
-    // a `Shapes` with `tag` active, whose `any` is a capability
-    (
-        "capability",
-        &[
-            0, 0, 0, 0, 5, 0, 0, 0, 0, 0, 0, 0, 2, 0, 2, 0, 0, 0, 1, 0, 0, 0, 0, 0, 0, 0, 0, 0, 0,
-            0, 0, 0, 3, 0, 0, 0, 0, 0, 0, 0, 0, 0, 0, 0, 0, 0, 0, 0,
         ],
     ),
     // a struct whose `pointers` are one capability

@@ -1,6 +1,6 @@
 //! Writes of the built-in structs: unions, groups, lists and refusals, by what is printed, read and written then.
 
-use crate::messages::{brand_of, set_of};
+use crate::messages::{brand_of, message_of, set_of};
 use crate::script::rows_hold;
 use capnp_callers::read_back::set_and_get;
 use capnp_dynamic::dynamic_struct;
@@ -147,12 +147,7 @@ fn what_is_written_is_the_messages_bytes(rt: HostRuntime) {
     rows_hold(&rt, rt.alloc(), &BYTE_ROWS);
 }
 
-/// A message whose root is a list of the numbers 1, 2 and 3, of two bytes each.
-static NUMBERS: [u8; 24] = [
-    0, 0, 0, 0, 2, 0, 0, 0, 1, 0, 0, 0, 0x1b, 0, 0, 0, 1, 0, 2, 0, 3, 0, 0, 0,
-];
-
-/// The same as structs of a data word.
+/// The numbers of `root_list` as structs of a data word.
 static NUMBER_STRUCTS: [u8; 48] = [
     0, 0, 0, 0, 5, 0, 0, 0, 1, 0, 0, 0, 0x1f, 0, 0, 0, 0x0c, 0, 0, 0, 1, 0, 0, 0, 1, 0, 0, 0, 0, 0,
     0, 0, 2, 0, 0, 0, 0, 0, 0, 0, 3, 0, 0, 0, 0, 0, 0, 0,
@@ -173,7 +168,7 @@ fn structs_of(alloc: Global, bytes: &[u8]) -> Result<(u64, Vec<u8>)> {
 
 #[test]
 fn numbers_become_structs_of_a_word(rt: HostRuntime) -> std::result::Result<(), Fail> {
-    let (words, bytes) = structs_of(rt.alloc(), &NUMBERS)?;
+    let (words, bytes) = structs_of(rt.alloc(), message_of("root_list"))?;
     assert_eq!(rt; words, 5);
     assert_eq!(rt; bytes.as_slice(), NUMBER_STRUCTS.as_slice());
     Ok(())

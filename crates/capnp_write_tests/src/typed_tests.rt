@@ -68,7 +68,7 @@ fn root_set_to(alloc: Global, text: &str) -> Result<(u32, Vec<u8>)> {
 static SET_ROWS: [(&str, u32, &[u8]); 4] = [
     ("lists bytes bytes", 0, LISTED),
     // a capability in a struct and in a list
-    ("shapes capability", 9, BEFORE),
+    ("shapes capability_in_tag", 9, BEFORE),
     ("untyped capability_listed pointers", 9, BEFORE),
     ("lists bytes raw", 21, BEFORE),
 ];
