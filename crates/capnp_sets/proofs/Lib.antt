@@ -1,0 +1,11 @@
+pub mod AppliedReads
+pub mod Bases
+pub mod Elements
+pub mod Faults
+pub mod Generics
+pub mod LawsOfSets
+pub mod ListsRead
+pub mod PartsSeen
+pub mod RowsRead
+pub mod SetsRead
+pub mod Taken

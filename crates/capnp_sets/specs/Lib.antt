@@ -1,0 +1,9 @@
+pub mod Causes
+pub mod Fields
+pub mod Handles
+pub mod Laws
+pub mod Lists
+pub mod Message
+pub mod Parts
+pub mod Types
+pub mod Values
