@@ -44,14 +44,28 @@ fn a_struct_of_the_files_set_is_shown(rt: HostRuntime) -> Result<(), Fail> {
     let bytes = bytes_of(rt.alloc(), MESSAGE)?;
     set_comes_to(&rt, rt.alloc(), WORDS, &set, &bytes, &written(0, LINE))?;
     let lines = written(0, "(\n  a = 5\n)\n");
-    set_comes_to(&rt, rt.alloc(), "--set,set,Flat,--indent", &set, &bytes, &lines)
+    set_comes_to(
+        &rt,
+        rt.alloc(),
+        "--set,set,Flat,--indent",
+        &set,
+        &bytes,
+        &lines,
+    )
 }
 
 #[test]
 fn the_first_struct_of_a_name_is_shown(rt: HostRuntime) -> Result<(), Fail> {
     let set = bytes_of(rt.alloc(), TWICE)?;
     let bytes = bytes_of(rt.alloc(), MESSAGE)?;
-    set_comes_to(&rt, rt.alloc(), "--set,set,Twice", &set, &bytes, &written(0, LINE))?;
+    set_comes_to(
+        &rt,
+        rt.alloc(),
+        "--set,set,Twice",
+        &set,
+        &bytes,
+        &written(0, LINE),
+    )?;
     let inner = written(0, "(inner = (g = 5))\n");
     set_comes_to(&rt, rt.alloc(), "--set,set,Outer", &set, &bytes, &inner)
 }
@@ -103,7 +117,7 @@ fn refused_sets_leave_the_message_unread(rt: HostRuntime) -> Result<(), Fail> {
 #[test]
 fn unknown_names_and_paths_leave_the_message_unread(rt: HostRuntime) -> Result<(), Fail> {
     let set = bytes_of(rt.alloc(), FLAT)?;
-    for words in ["--set,set,Nope", "--set,set,", "--set,set,--indent"] {
+    for words in ["--set,set,Nope", "--set,set,,", "--set,set,--indent"] {
         set_is_refused(&rt, rt.alloc(), words, &set, "64")?;
     }
     for words in ["--set,other,Flat", "--set,,Flat"] {
@@ -124,7 +138,13 @@ fn each_failed_read_of_a_set_leaves_the_message_unread(rt: HostRuntime) -> Resul
             ..run_on(WORDS, &bytes, true)
         };
         let mut source = source_of(&on);
-        comes_over(&rt, rt.alloc(), &mut source, &on, &written(1, "refused: 12\n"))?;
+        comes_over(
+            &rt,
+            rt.alloc(),
+            &mut source,
+            &on,
+            &written(1, "refused: 12\n"),
+        )?;
         is_unread(&rt, rt.alloc(), &mut source, &bytes)?;
     }
     Ok(())

@@ -221,29 +221,30 @@ discriminantCount = 0, isGroup = false, discriminantOffset = 0, displayName = \"
 [(discriminantValue = 65535, name = \"name\", slot = (offset = 0, default = (text = \"\"))), (discriminantValue = \
 65535, name = \"annotations\", slot = (offset = 1, default = (list = 0x\"0000000000000000\")))])], brands = [(node \
 = 0, fieldTypes = [(base = 16, listCount = 1, number = 1), (base = 16, listCount = 1, number = 6), (base = 16, \
-listCount = 1, number = 8)], childTypes = [[], [], []]), (node = 1, fieldTypes = [(base = 9, listCount = 0, number \
-= 0), (base = 7, listCount = 0, number = 0), (base = 7, listCount = 0, number = 0), (base = 7, listCount = 0, \
-number = 0), (base = 1, listCount = 0, number = 0), (base = 8, listCount = 0, number = 0), (base = 12, listCount = \
-0, number = 0), (base = 16, listCount = 1, number = 4), (base = 16, listCount = 1, number = 2)], childTypes = [[], \
-[], [], [], [], [], [], [], []]), (node = 2, fieldTypes = [(base = 7, listCount = 0, number = 0), (base = 12, \
-listCount = 0, number = 0), (base = 16, listCount = 1, number = 4), (base = 16, listCount = 0, number = 3), (base = \
-8, listCount = 0, number = 0)], childTypes = [[], [], [], [], []]), (node = 3, fieldTypes = [(base = 8, listCount = \
-0, number = 0), (base = 16, listCount = 0, number = 5)], childTypes = [[], []]), (node = 4, fieldTypes = [(base = \
-9, listCount = 0, number = 0), (base = 16, listCount = 0, number = 5)], childTypes = [[], []]), (node = 5, \
-fieldTypes = [(base = 0, listCount = 0, number = 0), (base = 1, listCount = 0, number = 0), (base = 2, listCount = \
-0, number = 0), (base = 3, listCount = 0, number = 0), (base = 4, listCount = 0, number = 0), (base = 5, listCount \
-= 0, number = 0), (base = 6, listCount = 0, number = 0), (base = 7, listCount = 0, number = 0), (base = 8, \
-listCount = 0, number = 0), (base = 9, listCount = 0, number = 0), (base = 7, listCount = 0, number = 0), (base = \
-12, listCount = 0, number = 0), (base = 13, listCount = 0, number = 0), (base = 13, listCount = 0, number = 0), \
-(base = 13, listCount = 0, number = 0)], childTypes = [[], [], [], [], [], [], [], [], [], [], [], [], [], [], \
-[]]), (node = 6, fieldTypes = [(base = 8, listCount = 0, number = 0), (base = 16, listCount = 1, number = 7), (base \
-= 16, listCount = 1, number = 7), (base = 16, listCount = 2, number = 7)], childTypes = [[], [], [], []]), (node = \
-7, fieldTypes = [(base = 7, listCount = 0, number = 0), (base = 7, listCount = 0, number = 0), (base = 8, listCount \
-= 0, number = 0)], childTypes = [[], [], []]), (node = 8, fieldTypes = [(base = 9, listCount = 0, number = 0), \
+listCount = 1, number = 8)], ownTypes = [], childTypes = [[], [], []]), (node = 1, fieldTypes = [(base = 9, \
+listCount = 0, number = 0), (base = 7, listCount = 0, number = 0), (base = 7, listCount = 0, number = 0), (base = \
+7, listCount = 0, number = 0), (base = 1, listCount = 0, number = 0), (base = 8, listCount = 0, number = 0), (base \
+= 12, listCount = 0, number = 0), (base = 16, listCount = 1, number = 4), (base = 16, listCount = 1, number = 2)], \
+ownTypes = [], childTypes = [[], [], [], [], [], [], [], [], []]), (node = 2, fieldTypes = [(base = 7, listCount = \
+0, number = 0), (base = 12, listCount = 0, number = 0), (base = 16, listCount = 1, number = 4), (base = 16, \
+listCount = 0, number = 3), (base = 8, listCount = 0, number = 0)], ownTypes = [], childTypes = [[], [], [], [], \
+[]]), (node = 3, fieldTypes = [(base = 8, listCount = 0, number = 0), (base = 16, listCount = 0, number = 5)], \
+ownTypes = [], childTypes = [[], []]), (node = 4, fieldTypes = [(base = 9, listCount = 0, number = 0), (base = 16, \
+listCount = 0, number = 5)], ownTypes = [], childTypes = [[], []]), (node = 5, fieldTypes = [(base = 0, listCount = \
+0, number = 0), (base = 1, listCount = 0, number = 0), (base = 2, listCount = 0, number = 0), (base = 3, listCount \
+= 0, number = 0), (base = 4, listCount = 0, number = 0), (base = 5, listCount = 0, number = 0), (base = 6, \
+listCount = 0, number = 0), (base = 7, listCount = 0, number = 0), (base = 8, listCount = 0, number = 0), (base = \
+9, listCount = 0, number = 0), (base = 7, listCount = 0, number = 0), (base = 12, listCount = 0, number = 0), (base \
+= 13, listCount = 0, number = 0), (base = 13, listCount = 0, number = 0), (base = 13, listCount = 0, number = 0)], \
+ownTypes = [], childTypes = [[], [], [], [], [], [], [], [], [], [], [], [], [], [], []]), (node = 6, fieldTypes = \
+[(base = 8, listCount = 0, number = 0), (base = 16, listCount = 1, number = 7), (base = 16, listCount = 1, number = \
+7), (base = 16, listCount = 2, number = 7)], ownTypes = [], childTypes = [[], [], [], []]), (node = 7, fieldTypes = \
+[(base = 7, listCount = 0, number = 0), (base = 7, listCount = 0, number = 0), (base = 8, listCount = 0, number = \
+0)], ownTypes = [], childTypes = [[], [], []]), (node = 8, fieldTypes = [(base = 9, listCount = 0, number = 0), \
 (base = 12, listCount = 0, number = 0), (base = 16, listCount = 1, number = 4), (base = 16, listCount = 1, number = \
-9), (base = 16, listCount = 1, number = 7), (base = 16, listCount = 2, number = 7)], childTypes = [[], [], [], [], \
-[], []]), (node = 9, fieldTypes = [(base = 12, listCount = 0, number = 0), (base = 16, listCount = 1, number = 4)], \
-childTypes = [[], []])], enums = [])\n";
+9), (base = 16, listCount = 1, number = 7), (base = 16, listCount = 2, number = 7)], ownTypes = [], childTypes = \
+[[], [], [], [], [], []]), (node = 9, fieldTypes = [(base = 12, listCount = 0, number = 0), (base = 16, listCount = \
+1, number = 4)], ownTypes = [], childTypes = [[], []])], enums = [])\n";
 
 /// The text of the message of the set of `Flat` under it.
 pub const FLAT_LINE: &str = "\

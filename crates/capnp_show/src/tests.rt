@@ -80,11 +80,7 @@ impl<'a> Opener for OneFile<'a> {
             return Err(DeviceFault);
         }
         self.opened = self.opened.saturating_add(1);
-        Ok(MemorySource::new(
-            self.bytes,
-            chunk(self.slow),
-            self.failing,
-        ))
+        Ok(MemorySource::new(self.bytes, chunk(self.slow), self.failing))
     }
 }
 
@@ -172,14 +168,7 @@ fn outcome_over(
         failing: on.failing_set,
         opened: 0,
     };
-    let status = command_over(
-        &mut opener,
-        alloc,
-        &words,
-        source,
-        &mut sink,
-        &mut errors,
-    );
+    let status = command_over(&mut opener, alloc, &words, source, &mut sink, &mut errors);
     Ok(Outcome {
         status,
         sink,
