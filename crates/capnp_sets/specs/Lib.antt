@@ -5,5 +5,6 @@ pub mod Laws
 pub mod Lists
 pub mod Message
 pub mod Parts
+pub mod Refusals
 pub mod Types
 pub mod Values
