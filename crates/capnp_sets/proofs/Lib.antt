@@ -7,7 +7,6 @@ pub mod Generics
 pub mod LawsOfSets
 pub mod ListsRead
 pub mod MessageKinds
-pub mod MessagesRead
 pub mod PartsSeen
 pub mod RowsRead
 pub mod SetKinds

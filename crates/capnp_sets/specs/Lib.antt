@@ -1,4 +1,5 @@
 pub mod Causes
+pub mod Facts
 pub mod Fields
 pub mod Handles
 pub mod Laws

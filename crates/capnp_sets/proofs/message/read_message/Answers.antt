@@ -4,7 +4,7 @@ use Rattle.capnp_wire.specs.Standing.{levels_of, struct_of, tree_of}
 use Rattle.capnp_schema.specs.Entries.{lists_seen}
 use Rattle.capnp_schema.specs.StructHandles.{number_of, set_of}
 use Rattle.capnp_sets.proofs.MessageKinds.{each_kind, each_of_set}
-use Rattle.capnp_sets.proofs.MessagesRead.{root_entered, root_seen, set_read, set_refused}
+use Rattle.capnp_sets.specs.Facts.RootRead.{root_entered, root_seen, set_read, set_refused}
 use Rattle.capnp_sets.proofs.message.read_message.Goals as goal
 
 pub returns-clause-set : goal.returns-clause-set

@@ -1,5 +1,5 @@
 -- The root of a message, read as a struct, and the set that its record stands for.
-use Rattle.std.proofs.Common.{ℕ, ◌+◌, ◌≡◌, ◌≢◌, ◌∙◌, arith, ap, ap₂, subst, sym, IfErr, IfOk, List, Ok, Err, Result, Some}
+use Rattle.std.proofs.Common.{ℕ, ◌+◌, ◌≡◌, ◌≢◌, ◌∙◌, arith, ap, ap₂, inl, subst, sym, IfErr, IfOk, List, Ok, Err, Result, Some}
 use Rattle.capnp_device.specs.declared.error.Error.{Error}
 use Rattle.capnp_device.specs.declared.error.ErrorKind.{ErrorKind}
 use Rattle.capnp_device.specs.declared.error.ErrorKind.TheVariants.{OutOfMemory}
@@ -17,7 +17,7 @@ use Rattle.capnp_dynamic_readers.specs.Handles.{reader_of, schema_of}
 use Rattle.capnp_dynamic_readers.specs.Seen.{record_seen}
 use Rattle.capnp_dynamic_readers.specs.declared.dynamic_struct.Reader.{Reader as StructHandle}
 use Rattle.capnp_sets.specs.Handles.{IsRecord}
-use Rattle.capnp_sets.specs.Lists.{IsSetRefusal, lists_of}
+use Rattle.capnp_sets.specs.Lists.{IsSetRefusal, has_cause, lists_of}
 use Rattle.capnp_sets.specs.Message.{IsMessageRefusal, IsRootRefusal, message_set, root_record, root_set, root_struct}
 
 -- the root of these bytes was read as this struct
@@ -43,10 +43,16 @@ module _ (bytes : List ℕ) (s : StructTree) (h : StructHandle) (root : IsRoot b
   record_refused : (e : Error) → IsSetRefusal (record_seen h) e → IsMessageRefusal bytes e
   record_refused e f = subst (λ (r : Result StructTree ErrorKind). IsRootRefusal r e) root (subst (λ (r : Record). IsSetRefusal r e) seen f)
 
+-- what a call answers of that record, said of the bytes
 pub set_read : {A : Type 0} (made : Result A Error) (lists : A → Schemas) (bytes : List ℕ) (s : StructTree) (h : StructHandle) → IsRoot bytes s → record_seen h ≡ root_record s →
     IfOk made (λ a. lists_of (record_seen h) ≡ Some (lists a)) → IfOk made (λ a. message_set bytes ≡ Some (lists a))
 set_read (Ok a) lists bytes s h root seen e = record_set bytes s h root seen ∙ e
 set_read (Err error) lists bytes s h root seen e = tt
+
+pub lists_refused : {A : Type 0} (made : Result A Error) (bytes : List ℕ) (s : StructTree) (h : StructHandle) → IsRoot bytes s → record_seen h ≡ root_record s →
+    IfErr made (λ e. e.kind ≢ OutOfMemory → has_cause (record_seen h) e.kind) → IfErr made (λ e. e.kind ≢ OutOfMemory → IsMessageRefusal bytes e)
+lists_refused (Ok a) bytes s h root seen f = tt
+lists_refused (Err error) bytes s h root seen f = λ m. record_refused bytes s h root seen error (inl (f m))
 
 pub set_refused : {A : Type 0} (made : Result A Error) (bytes : List ℕ) (s : StructTree) (h : StructHandle) → IsRoot bytes s → record_seen h ≡ root_record s →
     IfErr made (λ e. e.kind ≢ OutOfMemory → IsSetRefusal (record_seen h) e) → IfErr made (λ e. e.kind ≢ OutOfMemory → IsMessageRefusal bytes e)
