@@ -75,7 +75,7 @@ fn show_asked<O: Opener, R: Source, W: Sink>(
     source: &mut R,
     sink: &mut W,
 ) -> Result<()>
-    requires { IsInside asked.entry }
+    requires { IsInside asked }
     ensures shown { OnOk result (IsShownTask (IsOpened O.opens opener.old opener.new) (opener.new ≡ opener.old) O.File.left
         (task_of asked.entry) (R.left source.old) (R.left source.new) (W.written sink.old) (W.written sink.new)) }
     ensures refused { IfErr result (λ e. IsRefusedTask (IsOpened O.opens opener.old opener.new)
