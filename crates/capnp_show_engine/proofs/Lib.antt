@@ -3,3 +3,4 @@ pub mod Shown
 pub mod TextFaults
 pub mod Digits
 pub mod Named
+pub mod SomeFiles
