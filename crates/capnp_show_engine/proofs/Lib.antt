@@ -4,3 +4,5 @@ pub mod TextFaults
 pub mod Digits
 pub mod Named
 pub mod SomeFiles
+pub mod Words
+mod RowsNames

@@ -39,7 +39,7 @@ renamed = record {
       ∷ record { id = 2; display_name = codes "Twice"; annotations = []; data_word_count = 1; pointer_count = 0; is_group = false; discriminant_count = 0; discriminant_offset = 0; fields = [] }
       ∷ [];
   brands = brand 0 ∷ brand 1 ∷ brand 1 ∷ [];
-  enums = []
+  enums = [];
 }
 
 twice : brand_asked renamed (codes "Twice") ≡ Some 1

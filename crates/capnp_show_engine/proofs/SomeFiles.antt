@@ -1,5 +1,6 @@
 -- What is said of a file that an opener opened holds of some open file.
-use Rattle.std.proofs.Common.{ℕ, ◌≡◌, ◌⊎◌, List, Option, Result, ⊤, inl, inr}
+use Rattle.std.proofs.Common.{ℕ, ◌≡◌, ◌⊎◌, List, Option, Result, inl, inr}
+use Rattle.std.specs.Prelude.{⊤}
 use Rattle.capnp_device.specs.declared.device.DeviceFault.{DeviceFault}
 use Rattle.capnp_device.specs.declared.error.Error.{Error}
 use Rattle.capnp_show_engine.specs.Command.{Task, built_in, in_file}
@@ -24,9 +25,10 @@ module _ {O F : Type 0} (opens : O → List ℕ → Result F DeviceFault → O �
       IsRefusedTask (IsOpened opens old new) (IsNotOpened opens old new) (new ≡ old) holds fails untouched t e left left' written written' reads reads' writes writes' →
       IsRefusedTask IsSomeFile (λ _. ⊤) ⊤ holds fails untouched t e left left' written written' reads reads' writes writes'
   refused holds fails untouched (built_in r) e left left' written written' reads reads' writes writes' x = (tt {0}, x.1)
-  refused holds fails untouched (in_file r) e left left' written written' reads reads' writes writes' x =
-      ((λ h. some r.path _ (x.0 h))
-      , (λ h. either (λ y. inl (tt {0}, y.1)) (λ y. inr (some r.path _ y)) (x.1.0 h))
-      , x.1.1.0
-      , (λ h. some r.path _ (x.1.1.1.0 h))
-      , either (λ y. inl y) (λ y. inr (some r.path _ y)) x.1.1.1.1)
+  refused holds fails untouched (in_file r) e left left' written written' reads reads' writes writes' x = (
+    (λ h. some r.path _ (x.0 h)),
+    (λ h. either (λ y. inl (tt {0}, y.1)) (λ y. inr (some r.path _ y)) (x.1 h)),
+    x.2,
+    (λ h. some r.path _ (x.3 h)),
+    either (λ y. inl y) (λ y. inr (some r.path _ y)) x.4,
+  )

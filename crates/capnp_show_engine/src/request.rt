@@ -67,18 +67,33 @@ fn ask_in_file<'a>(path: &'a str, name: &'a str, indented: bool) -> Option<Asked
 
 /// What the words ask for: the name of a struct, alone or followed by `--indent`, and before them `--set` and a path or
 /// neither.
+#[tactic(auto, using(crate::proofs::Words::none_asked, crate::proofs::Words::too_many))]
 pub fn read_words(words: &[String]) -> Option<Asked<'_>>
     ensures asked { option_map task_of result ≡ asked words.now }
     ensures inside { IfSome result IsInside }
 {
     match words {
         [name] => ask_built_in(name.as_str(), false),
-        [name, last] if last.as_str() == "--indent" => ask_built_in(name.as_str(), true),
-        [first, path, name] if first.as_str() == "--set" => {
-            ask_in_file(path.as_str(), name.as_str(), false)
+        [name, last] => {
+            if last.as_str() == "--indent" {
+                ask_built_in(name.as_str(), true)
+            } else {
+                None
+            }
         }
-        [first, path, name, last] if first.as_str() == "--set" && last.as_str() == "--indent" => {
-            ask_in_file(path.as_str(), name.as_str(), true)
+        [first, path, name] => {
+            if first.as_str() == "--set" {
+                ask_in_file(path.as_str(), name.as_str(), false)
+            } else {
+                None
+            }
+        }
+        [first, path, name, last] => {
+            if first.as_str() == "--set" && last.as_str() == "--indent" {
+                ask_in_file(path.as_str(), name.as_str(), true)
+            } else {
+                None
+            }
         }
         _ => None,
     }

@@ -4,9 +4,9 @@ use Rattle.capnp_show_engine.proofs.command.command.Goals as goal
 pub returns-clause-shown : goal.returns-clause-shown
 returns-clause-shown g c = λ h.
     let s = c.command_over.ensures.shown h in
-    (s.0, s.1.0, shown _ _ _ _ s.0 _ _ _ _ s.1.1)
+    (s.0, s.1, shown _ _ _ _ s.0 _ _ _ _ s.2)
 
 pub returns-clause-refused : goal.returns-clause-refused
 returns-clause-refused g c = λ h.
     let s = c.command_over.ensures.refused h in
-    (s.0, s.1.0, s.1.1.0, s.1.1.1.0, refused _ _ _ _ _ _ s.0 s.1.0 _ _ _ _ _ _ _ _ s.1.1.1.1.0, s.1.1.1.1.1)
+    (s.0, s.1, s.2, s.3, refused _ _ _ _ _ _ s.0 s.1 _ _ _ _ _ _ _ _ s.4, s.5)
