@@ -16,7 +16,7 @@ use Rattle.capnp_sets.specs.Lists.{brand_of, enum_of, read_or_none, set_of}
 use Rattle.capnp_sets.specs.Parts.{read_at, structs}
 use Rattle.capnp_set_writer.specs.Kept.{NodeKept, SetKept}
 use Rattle.capnp_set_writer.specs.Message.{IsReadAsSet}
-use Rattle.capnp_sets.specs.Message.{tree_set}
+use Rattle.capnp_sets.specs.Message.{root_set, root_struct}
 use Rattle.capnp_set_writer.specs.Trees.{brand_tree, enum_tree, node_tree, set_tree}
 use Rattle.capnp_set_writer.proofs.Depth.{shallow}
 use Rattle.capnp_set_writer.proofs.Lists.{structs-there}
@@ -44,5 +44,5 @@ module _ (s : Schemas) where
 
   pub message-read : (t : Tree) (bytes : List ℕ) → t ≡ struct_tree (set_tree s) → IsAccepted s → SetKept s → IsReadAs t bytes → IsReadAsSet s bytes
   message-read t bytes e accepted k reads rest =
-      ap tree_set (reads (subst IsShallow (sym e) (shallow s)) rest)
-      ∙ (ap (λ (x : Tree). tree_set (Ok x)) e ∙ ap read_or_none (set-read accepted k))
+      ap (λ r. root_set (root_struct r)) (reads (subst IsShallow (sym e) (shallow s)) rest)
+      ∙ (ap (λ (x : Tree). root_set (root_struct (Ok x))) e ∙ ap read_or_none (set-read accepted k))
