@@ -4,6 +4,7 @@ ghost use Rattle.capnp_wire.specs.Tree.{Numbers, tree_count};
 ghost use Rattle.capnp_wire.specs.Edits.{with_pointer_tree};
 ghost use Rattle.capnp_wire.specs.Sizes.{KeepsSize};
 ghost use Rattle.capnp_wire.specs.Objects.{struct_object_tree};
+ghost use Rattle.capnp_wire.specs.WellFormed.{AreBytes};
 ghost use Rattle.capnp_base.specs.Text.{text_tree};
 ghost use Rattle.capnp_set_writer.specs.Kept.{IsName};
 ghost use Rattle.capnp_set_writer.specs.Limits.{IsDataLength, IsTextLength};
@@ -29,6 +30,7 @@ pub(crate) fn put_text(to: &mut StructObject, index: u16, text: &[u8]) -> Result
     requires { index < tree_count (struct_object_tree to.old).pointers }
     ensures written { OnOk result (struct_object_tree to.new ≡ with_pointer_tree (struct_object_tree to.old) index (text_tree text.now)) }
     ensures size { OnOk result (KeepsSize (struct_object_tree to.old) (struct_object_tree to.new)) }
+    ensures bytes { AreBytes text.now }
     ensures fits { OnOk result (IsTextLength text.now) }
     ensures cause { IfErr result (λ e. IsPartRefusal ⊤ (IsTextLength text.now) e.kind) }
 {
@@ -42,6 +44,7 @@ pub(crate) fn put_data(to: &mut StructObject, index: u16, bytes: &[u8]) -> Resul
     requires { index < tree_count (struct_object_tree to.old).pointers }
     ensures written { OnOk result (struct_object_tree to.new ≡ with_pointer_tree (struct_object_tree to.old) index (Numbers 1 bytes.now)) }
     ensures size { OnOk result (KeepsSize (struct_object_tree to.old) (struct_object_tree to.new)) }
+    ensures bytes { AreBytes bytes.now }
     ensures fits { OnOk result (IsDataLength bytes.now) }
     ensures cause { IfErr result (λ e. IsPartRefusal ⊤ (IsDataLength bytes.now) e.kind) }
 {
