@@ -6,7 +6,7 @@ use Rattle.capnp_set_writer.specs.Kept.{AnnotationKept, EnumKept, EnumerantKept,
 use Rattle.capnp_set_writer.specs.Limits.{AnnotationHasKind, DefaultHasKind, EnumHasKinds, EnumerantHasKinds, FieldHasKinds, HasKind, NodeHasKinds, SetHasKinds}
 
 all : {A : Type 0} {P Q : A → Type 0} → ((a : A) → P a → Q a) → (xs : List A) → All P xs → All Q xs
-all each xs k i d a = each _ (k i d a)
+all each xs k = λ i d a. each _ (k i d a)
 
 value-kind : (v : Value) → ValueKept v → HasKind v
 value-kind VoidValue k = tt

@@ -43,8 +43,8 @@ if_err (Ok a) f p = p
 if_err (Err e) f p = f e p
 
 -- what refuses a part refuses what it is a part of
-pub refused-up : {K K' F F' : Type 0} (kind : ErrorKind) → (K' → K) → (F' → F) → IsPartRefusal K F kind → IsPartRefusal K' F' kind
-refused-up kind f g h = (h.0, (λ unknown k. h.1 unknown (f k)), (λ past k. h.2 past (g k)))
+pub refused-up : {K K' F F' : Type 0} (kind : ErrorKind) → IsPartRefusal K F kind → (K' → K) → (F' → F) → IsPartRefusal K' F' kind
+refused-up kind h f g = (h.0, (λ unknown k. h.1 unknown (f k)), (λ past k. h.2 past (g k)))
 
 no-memory : (kind : ErrorKind) → kind ≡ OutOfMemory → kind ≡ UnknownKind → ⊥
 no-memory kind a b = cc
@@ -60,12 +60,12 @@ no-size : (kind : ErrorKind) → kind ≡ SizePastFormat → kind ≡ UnknownKin
 no-size kind a b = cc
 
 -- what doesn't fit
-pub size-refused : {K F : Type 0} (kind : ErrorKind) → (F → ⊥) → kind ≡ SizePastFormat → IsPartRefusal K F kind
-size-refused kind no e = ((λ memory size. absurd (size e)), (λ unknown k. no-size kind e unknown), (λ past k. no k))
+pub size-refused : {K F : Type 0} (kind : ErrorKind) → kind ≡ SizePastFormat → (F → ⊥) → IsPartRefusal K F kind
+size-refused kind e no = ((λ memory size. absurd (size e)), (λ unknown k. no-size kind e unknown), (λ past k. no k))
 
 -- what there is no room for
-pub room-part-refused : {K F : Type 0} (e : Error) (past : Type 0) → (past → F → ⊥) → IsRoomRefusal e past → IsPartRefusal K F e.kind
-room-part-refused e past no h = (
+pub room-part-refused : {K F : Type 0} (e : Error) (past : Type 0) → IsRoomRefusal e past → (past → F → ⊥) → IsPartRefusal K F e.kind
+room-part-refused e past h no = (
   room-refused e past h,
   (λ unknown k. no-memory e.kind (h.0 (λ size. no-size e.kind size unknown)) unknown),
   (λ size k. no (h.1 size) k),

@@ -23,7 +23,6 @@ pub returns-clause-written : goal.returns-clause-written
 returns-clause-written g c = whole-filled g.T.Part.tree g.T.Part.seen g.T.Part.data_words g.T.Part.pointers c.args.parts.now c.loop-index.index _ (omega arith) c.loop-index.invariant.filled_so
 
 pub returns-in_err-put_element-clause-cause : goal.returns-in_err-put_element-clause-cause
-returns-in_err-put_element-clause-cause g c = refused-up _
+returns-in_err-put_element-clause-cause g c = refused-up _ c.in_err-put_element.ensures.cause
     (one-of-all g.T.Part.has_kinds g.T.Part.seen c.args.parts.now c.loop-index.index c.index-parts-index.result c.loop-index-test.true c.index-parts-index.is)
     (one-of-all g.T.Part.fits g.T.Part.seen c.args.parts.now c.loop-index.index c.index-parts-index.result c.loop-index-test.true c.index-parts-index.is)
-    c.in_err-put_element.ensures.cause

@@ -16,13 +16,12 @@ returns-clause-fits g c = on_ok c.fill_list.result
     c.fill_list.ensures.fits
 
 pub returns-clause-cause : goal.returns-clause-cause
-returns-clause-cause g c = if_err c.fill_list.result (λ e h. refused-up e.kind (λ k. k) (λ (f : ListFits (g.T.Part.data_words + g.T.Part.pointers) g.T.Part.fits (map g.T.Part.seen c.args.parts.now)). f.each) h) c.fill_list.ensures.cause
+returns-clause-cause g c = if_err c.fill_list.result (λ e h. refused-up e.kind h (λ k. k) (λ (f : ListFits (g.T.Part.data_words + g.T.Part.pointers) g.T.Part.fits (map g.T.Part.seen c.args.parts.now)). f.each)) c.fill_list.ensures.cause
 
 pub returns-in_err-count-clause-cause : goal.returns-in_err-count-clause-cause
-returns-in_err-count-clause-cause g c = size-refused _
-    (λ (f : ListFits (g.T.Part.data_words + g.T.Part.pointers) g.T.Part.fits (map g.T.Part.seen c.args.parts.now)). omega (arith, f.count.0, c.in_err-count.ensures.past, length-map c.args.parts.now g.T.Part.seen)) c.in_err-count.ensures.cause
+returns-in_err-count-clause-cause g c = size-refused _ c.in_err-count.ensures.cause
+    (λ (f : ListFits (g.T.Part.data_words + g.T.Part.pointers) g.T.Part.fits (map g.T.Part.seen c.args.parts.now)). omega (arith, f.count.0, c.in_err-count.ensures.past, length-map c.args.parts.now g.T.Part.seen))
 
 pub returns-in_err-list-clause-cause : goal.returns-in_err-list-clause-cause
-returns-in_err-list-clause-cause g c = room-part-refused _ _
+returns-in_err-list-clause-cause g c = room-part-refused _ _ c.in_err-list.ensures.refused
     (long-list g.T.Part.seen c.args.parts.now c.in_ok-count.count c.size.result g.T.Part.data_words g.T.Part.pointers c.in_ok-count.ensures.is c.size.ensures.data_words c.size.ensures.pointers)
-    c.in_err-list.ensures.refused

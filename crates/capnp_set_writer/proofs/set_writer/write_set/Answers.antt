@@ -1,13 +1,8 @@
 -- The message is read as its tree, and that tree as the set.
-use Rattle.std.proofs.Common.{sym, subst, ◌^◌, ◌<◌, ◌≤◌, suc}
 use Rattle.capnp_wire.specs.Message.{builder_tree}
-use Rattle.capnp_wire.specs.Tree.{Tree}
-use Rattle.capnp_wire.specs.WellFormed.{IsWellFormed}
-use Rattle.capnp_wire.specs.Words.{words_of}
 use Rattle.capnp_schema.specs.Entries.{lists_seen}
-use Rattle.capnp_set_writer.proofs.Formed.{set-formed}
 use Rattle.capnp_set_writer.proofs.HaveKinds.{set-kinds}
-use Rattle.capnp_set_writer.proofs.Sets.{message-read}
+use Rattle.capnp_set_writer.proofs.Sets.{message-large, message-read, message-small}
 use Rattle.capnp_set_writer.proofs.Trees.{always-ok, if_err, if_ok, on-if-ok, part-not-large, whole-no-size, whole-no-unknown, whole-refused}
 use Rattle.capnp_set_writer.proofs.set_writer.write_set.Goals as goal
 
@@ -25,7 +20,7 @@ returns-clause-fits c = always-ok c.write_message.result c.in_ok-put_root.ensure
 
 pub returns-clause-small : goal.returns-clause-small
 unfolding builder_tree
-returns-clause-small c = on-if-ok c.write_message.result (λ v held. subst (λ (t : Tree). suc (words_of t) < 2 ^ 29) c.in_ok-put_root.ensures.written held.1) c.write_message.ensures.held
+returns-clause-small c = on-if-ok c.write_message.result (λ v held. message-small (lists_seen c.args.set.now) _ c.in_ok-put_root.ensures.written held) c.write_message.ensures.held
 
 pub returns-clause-cause : goal.returns-clause-cause
 returns-clause-cause c = if_err c.write_message.result (λ e h. whole-refused e.kind h) c.write_message.ensures.kinds
@@ -39,9 +34,7 @@ returns-clause-past c = if_err c.write_message.result (λ e h past. absurd (whol
 pub returns-clause-large : goal.returns-clause-large
 unfolding builder_tree
 returns-clause-large c = if_err c.write_message.result
-    (λ e h large.
-        subst (λ (t : Tree). 2 ^ 29 ≤ suc (words_of t)) c.in_ok-put_root.ensures.written
-        (h large (subst IsWellFormed (sym c.in_ok-put_root.ensures.written) (set-formed (lists_seen c.args.set.now) c.in_ok-put_root.ensures.kept c.in_ok-put_root.ensures.fits))))
+    (λ e h. message-large (lists_seen c.args.set.now) _ e.kind c.in_ok-put_root.ensures.written c.in_ok-put_root.ensures.kept c.in_ok-put_root.ensures.fits h)
     c.write_message.ensures.refused
 
 pub returns-in_err-put_root-clause-cause : goal.returns-in_err-put_root-clause-cause

@@ -29,6 +29,5 @@ pub returns-clause-written : goal.returns-clause-written
 returns-clause-written c = whole-rows types_tree seen_row c.args.rows.now c.loop-index.index _ c.loop-index.invariant.filled_so (omega arith)
 
 pub returns-in_err-put_row-clause-cause : goal.returns-in_err-put_row-clause-cause
-returns-in_err-put_row-clause-cause c = refused-up _ (λ k. k)
+returns-in_err-put_row-clause-cause c = refused-up _ (rw c.as_slice.ensures.value at c.in_err-put_row.ensures.cause) (λ k. k)
     (one-of-all TypesFit seen_row c.args.rows.now c.loop-index.index c.index-rows-index.result c.loop-index-test.true c.index-rows-index.is)
-    (rw c.as_slice.ensures.value at c.in_err-put_row.ensures.cause)

@@ -7,4 +7,4 @@ pub returns-clause-written : goal.returns-clause-written
 returns-clause-written c = on_ok c.put_list.result (λ e. object_left c.args.list.now c.args.index c.put_list.new.to _ e) c.put_list.ensures.written
 
 pub returns-clause-cause : goal.returns-clause-cause
-returns-clause-cause c = if_err c.put_list.result (λ e h. refused-up e.kind (λ k i d a. tt) (λ f. f) h) c.put_list.ensures.cause
+returns-clause-cause c = if_err c.put_list.result (λ e h. refused-up e.kind h (λ k i d a. tt) (λ f. f)) c.put_list.ensures.cause

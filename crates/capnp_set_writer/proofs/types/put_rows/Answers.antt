@@ -28,12 +28,12 @@ returns-clause-fits c = on_ok c.fill_rows.result
     c.fill_rows.ensures.fits
 
 pub returns-clause-cause : goal.returns-clause-cause
-returns-clause-cause c = if_err c.fill_rows.result (λ e h. refused-up e.kind (λ k. k) (λ (f : TypeListsFit (map seen_row c.args.rows.now)). f.each) h) c.fill_rows.ensures.cause
+returns-clause-cause c = if_err c.fill_rows.result (λ e h. refused-up e.kind h (λ k. k) (λ (f : TypeListsFit (map seen_row c.args.rows.now)). f.each)) c.fill_rows.ensures.cause
 
 pub returns-in_err-count-clause-cause : goal.returns-in_err-count-clause-cause
-returns-in_err-count-clause-cause c = size-refused _
-    (λ (f : TypeListsFit (map seen_row c.args.rows.now)). omega (arith, f.count.0, c.in_err-count.ensures.past, length-map c.args.rows.now seen_row)) c.in_err-count.ensures.cause
+returns-in_err-count-clause-cause c = size-refused _ c.in_err-count.ensures.cause
+    (λ (f : TypeListsFit (map seen_row c.args.rows.now)). omega (arith, f.count.0, c.in_err-count.ensures.past, length-map c.args.rows.now seen_row))
 
 pub returns-in_err-list-clause-cause : goal.returns-in_err-list-clause-cause
-returns-in_err-list-clause-cause c = room-part-refused _ _
-    (λ past (f : TypeListsFit (map seen_row c.args.rows.now)). omega (arith, past, f.count.0, c.in_ok-count.ensures.is, length-map c.args.rows.now seen_row)) c.in_err-list.ensures.refused
+returns-in_err-list-clause-cause c = room-part-refused _ _ c.in_err-list.ensures.refused
+    (λ past (f : TypeListsFit (map seen_row c.args.rows.now)). omega (arith, past, f.count.0, c.in_ok-count.ensures.is, length-map c.args.rows.now seen_row))

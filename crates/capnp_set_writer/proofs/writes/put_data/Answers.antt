@@ -1,5 +1,5 @@
 -- The pointer that was lent has the bytes.
-use Rattle.std.proofs.Common.{arith}
+use Rattle.std.proofs.Common.{arith, ◌^◌, ◌≤◌, length}
 use Rattle.capnp_wire.specs.Facts.Bytes.{AreBytes-fits}
 use Rattle.capnp_wire.specs.Objects.{struct_object_tree}
 use Rattle.capnp_wire.specs.Sizes.{pointer_size}
@@ -17,4 +17,4 @@ pub returns-clause-bytes : goal.returns-clause-bytes
 returns-clause-bytes c = AreBytes-fits _ c.type_inv.bytes
 
 pub returns-clause-cause : goal.returns-clause-cause
-returns-clause-cause c = if_err c.set_data.result (λ e h. room-part-refused e _ (λ past fits. omega (arith, past, fits)) h) c.set_data.ensures.cause
+returns-clause-cause c = if_err c.set_data.result (λ e h. room-part-refused e (2 ^ 29 ≤ length c.args.bytes.now) h (λ past fits. omega (arith, past, fits))) c.set_data.ensures.cause

@@ -19,13 +19,13 @@ returns-clause-kept c = on_ok c.put_type_lists.result
 
 pub returns-in_err-put_parts-clause-cause : goal.returns-in_err-put_parts-clause-cause
 returns-in_err-put_parts-clause-cause c =
-    refused-up _ (λ k i d a. tt) (λ (f : BrandFits (seen_brand c.args.self.now)). f.field_types) (rw c.as_slice.ensures.value at c.in_err-put_parts.ensures.cause)
+    refused-up _ (rw c.as_slice.ensures.value at c.in_err-put_parts.ensures.cause) (λ k i d a. tt) (λ (f : BrandFits (seen_brand c.args.self.now)). f.field_types)
 
 pub returns-in_err-put_parts-2-clause-cause : goal.returns-in_err-put_parts-2-clause-cause
 returns-in_err-put_parts-2-clause-cause c =
-    refused-up _ (λ k i d a. tt) (λ (f : BrandFits (seen_brand c.args.self.now)). f.own) (rw c.as_slice-2.ensures.value at c.in_err-put_parts-2.ensures.cause)
+    refused-up _ (rw c.as_slice-2.ensures.value at c.in_err-put_parts-2.ensures.cause) (λ k i d a. tt) (λ (f : BrandFits (seen_brand c.args.self.now)). f.own)
 
 pub returns-clause-cause : goal.returns-clause-cause
 returns-clause-cause c = if_err c.put_type_lists.result
-    (λ e h. refused-up e.kind (λ k. tt) (λ (f : BrandFits (seen_brand c.args.self.now)). f.children) h)
+    (λ e h. refused-up e.kind h (λ k. tt) (λ (f : BrandFits (seen_brand c.args.self.now)). f.children))
     (rw c.as_slice-3.ensures.value at c.put_type_lists.ensures.cause)

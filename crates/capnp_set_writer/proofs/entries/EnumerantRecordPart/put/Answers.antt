@@ -6,9 +6,9 @@ use Rattle.capnp_set_writer.proofs.entries.EnumerantRecordPart.put.Goals as goal
 
 pub returns-in_err-put_name-clause-cause : goal.returns-in_err-put_name-clause-cause
 returns-in_err-put_name-clause-cause c =
-    refused-up _ (λ k. tt) (λ (f : EnumerantFits (seen_enumerant c.args.self.now)). f.name) (rw c.as_str.ensures.value at c.in_err-put_name.ensures.cause)
+    refused-up _ (rw c.as_str.ensures.value at c.in_err-put_name.ensures.cause) (λ k. tt) (λ (f : EnumerantFits (seen_enumerant c.args.self.now)). f.name)
 
 pub returns-clause-cause : goal.returns-clause-cause
 returns-clause-cause c = if_err c.put_parts.result
-    (λ e h. refused-up e.kind (λ (k : EnumerantHasKinds (seen_enumerant c.args.self.now)). k) (λ (f : EnumerantFits (seen_enumerant c.args.self.now)). f.annotations) h)
+    (λ e h. refused-up e.kind h (λ (k : EnumerantHasKinds (seen_enumerant c.args.self.now)). k) (λ (f : EnumerantFits (seen_enumerant c.args.self.now)). f.annotations))
     (rw c.as_slice.ensures.value at c.put_parts.ensures.cause)

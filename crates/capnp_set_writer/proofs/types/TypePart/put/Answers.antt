@@ -13,4 +13,4 @@ pub returns-clause-kept : goal.returns-clause-kept
 returns-clause-kept c = type-kept c.args.self.now c.innermost-inner.result c.innermost-inner.ensures c.in_ok-lists.ensures.few c.named_number.ensures.bound
 
 pub returns-in_err-lists-clause-cause : goal.returns-in_err-lists-clause-cause
-returns-in_err-lists-clause-cause c = size-refused _ (λ f. omega (arith, f, c.in_err-lists.ensures.past)) c.in_err-lists.ensures.refused
+returns-in_err-lists-clause-cause c = size-refused _ c.in_err-lists.ensures.refused (λ f. omega (arith, f, c.in_err-lists.ensures.past))
