@@ -21,7 +21,7 @@ value-kind (ListValue words) k = k.0
 value-kind (AnyPointerValue words) k = k
 
 annotations-kind : (xs : List Annotation) → All AnnotationKept xs → All AnnotationHasKind xs
-annotations-kind xs k = all (λ a h. value-kind a.value h.value) xs k
+annotations-kind xs k = all (λ (a : Annotation) (h : AnnotationKept a). value-kind a.value h.value) xs k
 
 default-kind : (kind : FieldKind) → KindKept kind → DefaultHasKind kind
 default-kind (Slot offset default) k = value-kind default k.1

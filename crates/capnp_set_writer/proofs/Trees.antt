@@ -61,14 +61,14 @@ no-size kind a b = cc
 
 -- what doesn't fit
 pub size-refused : {K F : Type 0} (kind : ErrorKind) → kind ≡ SizePastFormat → (F → ⊥) → IsPartRefusal K F kind
-size-refused kind e no = ((λ memory size. absurd (size e)), (λ unknown k. no-size kind e unknown), (λ past k. no k))
+size-refused kind e unfit = ((λ memory size. absurd (size e)), (λ unknown k. no-size kind e unknown), (λ past k. unfit k))
 
 -- what there is no room for
 pub room-part-refused : {K F : Type 0} (e : Error) (past : Type 0) → IsRoomRefusal e past → (past → F → ⊥) → IsPartRefusal K F e.kind
-room-part-refused e past h no = (
+room-part-refused e past h unfit = (
   room-refused e past h,
   (λ unknown k. no-memory e.kind (h.0 (λ size. no-size e.kind size unknown)) unknown),
-  (λ size k. no (h.1 size) k),
+  (λ size k. unfit (h.1 size) k),
 )
 
 map-at : {A B : Type 0} (f : A → B) (xs : List A) (i : ℕ) (x : A) → get_or (map f xs) i (f x) ≡ f (get_or xs i x)

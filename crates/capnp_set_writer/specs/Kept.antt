@@ -10,9 +10,9 @@ use Rattle.capnp_schema.specs.Schema.{Value, VoidValue, BoolValue, IntValue, UIn
 use Rattle.capnp_schema.specs.Types.{SchemaType}
 use Rattle.capnp_set_writer.specs.Trees.{list_count, named_number}
 
-pub record IsName (bytes : List ℕ) : Type 0 where
-  pub utf8 : is_utf8 bytes ≡ true
-  pub bytes : AreBytes bytes
+pub record IsName (name : List ℕ) : Type 0 where
+  pub utf8 : is_utf8 name ≡ true
+  pub bytes : AreBytes name
 
 pub record TypeKept (t : SchemaType) : Type 0 where
   pub widths : HasWidths t

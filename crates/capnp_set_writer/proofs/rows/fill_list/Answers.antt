@@ -1,5 +1,6 @@
 -- The first so many elements have their parts.
 use Rattle.std.proofs.Common.{arith}
+use Rattle.std.proofs.lemmas.Result.{err_from_is_err_and}
 use Rattle.capnp_set_writer.proofs.Trees.{element-blank, element-filled, element-there, kept-more, one-of-all, refused-up, whole-filled}
 use Rattle.capnp_set_writer.proofs.rows.fill_list.Goals as goal
 
@@ -23,6 +24,8 @@ pub returns-clause-written : goal.returns-clause-written
 returns-clause-written g c = whole-filled g.T.Part.tree g.T.Part.seen g.T.Part.data_words g.T.Part.pointers c.args.parts.now c.loop-index.index _ (omega arith) c.loop-index.invariant.filled_so
 
 pub returns-in_err-put_element-clause-cause : goal.returns-in_err-put_element-clause-cause
-returns-in_err-put_element-clause-cause g c = refused-up _ c.in_err-put_element.ensures.cause
+returns-in_err-put_element-clause-cause g c =
+    let p = err_from_is_err_and c.from_residual.result c.from_residual.ensures.1 in
+    rw (p.1, p.2) (refused-up _ c.in_err-put_element.ensures.cause
     (one-of-all g.T.Part.has_kinds g.T.Part.seen c.args.parts.now c.loop-index.index c.index-parts-index.result c.loop-index-test.true c.index-parts-index.is)
-    (one-of-all g.T.Part.fits g.T.Part.seen c.args.parts.now c.loop-index.index c.index-parts-index.result c.loop-index-test.true c.index-parts-index.is)
+    (one-of-all g.T.Part.fits g.T.Part.seen c.args.parts.now c.loop-index.index c.index-parts-index.result c.loop-index-test.true c.index-parts-index.is))

@@ -1,4 +1,5 @@
 -- The message is read as its tree, and that tree as the set.
+use Rattle.std.proofs.lemmas.Result.{err_from_is_err_and}
 use Rattle.capnp_wire.specs.Message.{builder_tree}
 use Rattle.capnp_schema.specs.Entries.{lists_seen}
 use Rattle.capnp_set_writer.proofs.HaveKinds.{set-kinds}
@@ -38,13 +39,21 @@ returns-clause-large c = if_err c.write_message.result
     c.write_message.ensures.refused
 
 pub returns-in_err-put_root-clause-cause : goal.returns-in_err-put_root-clause-cause
-returns-in_err-put_root-clause-cause c = λ small. c.in_err-put_root.ensures.cause.0
+returns-in_err-put_root-clause-cause c =
+    let p = err_from_is_err_and c.from_residual.result c.from_residual.ensures.1 in
+    rw (p.1, p.2) (λ small. c.in_err-put_root.ensures.cause.0)
 
 pub returns-in_err-put_root-clause-unknown : goal.returns-in_err-put_root-clause-unknown
-returns-in_err-put_root-clause-unknown c = c.in_err-put_root.ensures.cause.1
+returns-in_err-put_root-clause-unknown c =
+    let p = err_from_is_err_and c.from_residual.result c.from_residual.ensures.1 in
+    rw (p.1, p.2) (c.in_err-put_root.ensures.cause.1)
 
 pub returns-in_err-put_root-clause-past : goal.returns-in_err-put_root-clause-past
-returns-in_err-put_root-clause-past c = c.in_err-put_root.ensures.cause.2
+returns-in_err-put_root-clause-past c =
+    let p = err_from_is_err_and c.from_residual.result c.from_residual.ensures.1 in
+    rw (p.1, p.2) (c.in_err-put_root.ensures.cause.2)
 
 pub returns-in_err-put_root-clause-large : goal.returns-in_err-put_root-clause-large
-returns-in_err-put_root-clause-large c = λ large. absurd (part-not-large _ c.in_err-put_root.ensures.cause.0 large)
+returns-in_err-put_root-clause-large c =
+    let p = err_from_is_err_and c.from_residual.result c.from_residual.ensures.1 in
+    rw (p.1, p.2) (λ large. absurd (part-not-large _ c.in_err-put_root.ensures.cause.0 large))

@@ -1,5 +1,6 @@
 -- The first so many pointers lead to their lists.
 use Rattle.std.proofs.Common.{arith, map, Vec, Global, List}
+use Rattle.std.proofs.lemmas.Result.{err_from_is_err_and}
 use Rattle.capnp_base.specs.declared.introspect.«Type».{«Type» as TypeHandle}
 use Rattle.capnp_schema.specs.Types.{SchemaType, seen_type}
 use Rattle.capnp_set_writer.specs.Kept.{TypeKept}
@@ -29,5 +30,7 @@ pub returns-clause-written : goal.returns-clause-written
 returns-clause-written c = whole-rows types_tree seen_row c.args.rows.now c.loop-index.index _ c.loop-index.invariant.filled_so (omega arith)
 
 pub returns-in_err-put_row-clause-cause : goal.returns-in_err-put_row-clause-cause
-returns-in_err-put_row-clause-cause c = refused-up _ (rw c.as_slice.ensures.value at c.in_err-put_row.ensures.cause) (λ k. k)
-    (one-of-all TypesFit seen_row c.args.rows.now c.loop-index.index c.index-rows-index.result c.loop-index-test.true c.index-rows-index.is)
+returns-in_err-put_row-clause-cause c =
+    let p = err_from_is_err_and c.from_residual.result c.from_residual.ensures.1 in
+    rw (p.1, p.2) (refused-up _ (rw c.as_slice.ensures.value at c.in_err-put_row.ensures.cause) (λ k. k)
+    (one-of-all TypesFit seen_row c.args.rows.now c.loop-index.index c.index-rows-index.result c.loop-index-test.true c.index-rows-index.is))

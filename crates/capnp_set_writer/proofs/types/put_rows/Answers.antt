@@ -1,6 +1,7 @@
 -- The list is new, of as many pointers.
 use Rattle.std.proofs.Common.{arith, sym, ◌∙◌, map, Vec, Global, List}
 use Rattle.std.proofs.lemmas.List.{length-map}
+use Rattle.std.proofs.lemmas.Result.{err_from_is_err_and}
 use Rattle.capnp_base.specs.declared.introspect.«Type».{«Type» as TypeHandle}
 use Rattle.capnp_schema.specs.Types.{SchemaType, seen_type}
 use Rattle.capnp_set_writer.specs.Limits.{TypeListsFit}
@@ -31,9 +32,13 @@ pub returns-clause-cause : goal.returns-clause-cause
 returns-clause-cause c = if_err c.fill_rows.result (λ e h. refused-up e.kind h (λ k. k) (λ (f : TypeListsFit (map seen_row c.args.rows.now)). f.each)) c.fill_rows.ensures.cause
 
 pub returns-in_err-count-clause-cause : goal.returns-in_err-count-clause-cause
-returns-in_err-count-clause-cause c = size-refused _ c.in_err-count.ensures.cause
-    (λ (f : TypeListsFit (map seen_row c.args.rows.now)). omega (arith, f.count.0, c.in_err-count.ensures.past, length-map c.args.rows.now seen_row))
+returns-in_err-count-clause-cause c =
+    let p = err_from_is_err_and c.from_residual.result c.from_residual.ensures.1 in
+    rw (p.1, p.2) (size-refused _ c.in_err-count.ensures.cause
+    (λ (f : TypeListsFit (map seen_row c.args.rows.now)). omega (arith, f.count.0, c.in_err-count.ensures.past, length-map c.args.rows.now seen_row)))
 
 pub returns-in_err-list-clause-cause : goal.returns-in_err-list-clause-cause
-returns-in_err-list-clause-cause c = room-part-refused _ _ c.in_err-list.ensures.refused
-    (λ past (f : TypeListsFit (map seen_row c.args.rows.now)). omega (arith, past, f.count.0, c.in_ok-count.ensures.is, length-map c.args.rows.now seen_row))
+returns-in_err-list-clause-cause c =
+    let p = err_from_is_err_and c.from_residual-in_err-list.result c.from_residual-in_err-list.ensures.1 in
+    rw (p.1, p.2) (room-part-refused _ _ c.in_err-list.ensures.refused
+    (λ past (f : TypeListsFit (map seen_row c.args.rows.now)). omega (arith, past, f.count.0, c.in_ok-count.ensures.is, length-map c.args.rows.now seen_row)))

@@ -1,5 +1,6 @@
 -- What each part of a brand keeps.
 use Rattle.std.proofs.Common.{arith}
+use Rattle.std.proofs.lemmas.Result.{err_from_is_err_and}
 use Rattle.capnp_schema.specs.Schema.{seen_brand}
 use Rattle.capnp_set_writer.specs.Limits.{BrandFits}
 use Rattle.capnp_set_writer.proofs.Trees.{if_err, on_ok, refused-up}
@@ -19,11 +20,13 @@ returns-clause-kept c = on_ok c.put_type_lists.result
 
 pub returns-in_err-put_parts-clause-cause : goal.returns-in_err-put_parts-clause-cause
 returns-in_err-put_parts-clause-cause c =
-    refused-up _ (rw c.as_slice.ensures.value at c.in_err-put_parts.ensures.cause) (λ k i d a. tt) (λ (f : BrandFits (seen_brand c.args.self.now)). f.field_types)
+    let p = err_from_is_err_and c.from_residual.result c.from_residual.ensures.1 in
+    rw (p.1, p.2) (refused-up _ (rw c.as_slice.ensures.value at c.in_err-put_parts.ensures.cause) (λ k i d a. tt) (λ (f : BrandFits (seen_brand c.args.self.now)). f.field_types))
 
 pub returns-in_err-put_parts-2-clause-cause : goal.returns-in_err-put_parts-2-clause-cause
 returns-in_err-put_parts-2-clause-cause c =
-    refused-up _ (rw c.as_slice-2.ensures.value at c.in_err-put_parts-2.ensures.cause) (λ k i d a. tt) (λ (f : BrandFits (seen_brand c.args.self.now)). f.own)
+    let p = err_from_is_err_and c.from_residual-in_err-put_parts-2.result c.from_residual-in_err-put_parts-2.ensures.1 in
+    rw (p.1, p.2) (refused-up _ (rw c.as_slice-2.ensures.value at c.in_err-put_parts-2.ensures.cause) (λ k i d a. tt) (λ (f : BrandFits (seen_brand c.args.self.now)). f.own))
 
 pub returns-clause-cause : goal.returns-clause-cause
 returns-clause-cause c = if_err c.put_type_lists.result
