@@ -68,9 +68,16 @@ fn one_pointer(alloc: Global, of: Type) -> Result<SchemaSet, Fail> {
 #[test]
 fn lists_around_a_type_are_counted_in_16_bits(rt: HostRuntime) -> Result<(), Fail> {
     same_again(&rt, rt.alloc(), &one_pointer(rt.alloc(), lists_around(3))?)?;
-    same_again(&rt, rt.alloc(), &one_pointer(rt.alloc(), lists_around(65_535))?)?;
+    same_again(
+        &rt,
+        rt.alloc(),
+        &one_pointer(rt.alloc(), lists_around(65_535))?,
+    )?;
     let set = one_pointer(rt.alloc(), lists_around(65_536))?;
-    assert_eq!(rt; refusal(rt.alloc(), &set), ErrorKind::SizePastFormat.number());
+    assert_eq!(rt;
+        refusal(rt.alloc(), &set),
+        ErrorKind::SizePastFormat.number()
+    );
     Ok(())
 }
 
