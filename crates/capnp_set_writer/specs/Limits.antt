@@ -1,6 +1,6 @@
 -- What the written form and the format have room for: each value has a kind, and texts, data, lists and the whole message
 -- are no longer than the format lets them be.
-use Rattle.std.specs.Prelude.{ℕ, suc, ◌+◌, ◌*◌, ◌^◌, ◌<◌, ◌≤◌, ◌≡◌, ◌≢◌, ⊤, List, [], All, length}
+use Rattle.std.specs.Prelude.{ℕ, suc, ◌+◌, ◌*◌, ◌^◌, ◌<◌, ◌≡◌, ◌≢◌, ⊤, List, [], All, length}
 use Rattle.capnp_wire.specs.Place.{struct_tree}
 use Rattle.capnp_wire.specs.Words.{words_of}
 use Rattle.capnp_schema.specs.Builtin.{zero_word}

@@ -1,5 +1,5 @@
 -- The list is new, of as many structs of the parts' size.
-use Rattle.std.proofs.Common.{arith, inl, inr, sym, subst, ◌≡◌, ℕ, ◌^◌, ◌*◌, ◌+◌, ◌≤◌, ◌<◌, ◌∙◌, length, map}
+use Rattle.std.proofs.Common.{arith, sym, ◌+◌, ◌∙◌, map}
 use Rattle.std.proofs.lemmas.List.{length-map}
 use Rattle.std.proofs.lemmas.Result.{err_from_is_err_and}
 use Rattle.capnp_set_writer.specs.Limits.{ListFits}
