@@ -43,4 +43,5 @@ renamed = record {
 }
 
 twice : brand_asked renamed (codes "Twice") ≡ Some 1
+  unfolding renamed brand
 twice = refl

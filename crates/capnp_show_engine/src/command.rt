@@ -86,22 +86,16 @@ fn show_asked<O: Opener, R: Source, W: Sink>(
     ensures nothing { IfErr result (λ e. e.kind ≢ WriteFailed → sink.new ≡ sink.old) }
 {
     match asked {
-        Asked::BuiltIn(request) => {
-            show_built_in(alloc, request, source, sink)?;
-            Ok(())
-        }
-        Asked::InFile(request) => {
-            show_with_file(
-                alloc,
-                opener,
-                request.path,
-                request.name,
-                source,
-                sink,
-                request.indented,
-            )?;
-            Ok(())
-        }
+        Asked::BuiltIn(request) => show_built_in(alloc, request, source, sink),
+        Asked::InFile(request) => show_with_file(
+            alloc,
+            opener,
+            request.path,
+            request.name,
+            source,
+            sink,
+            request.indented,
+        ),
     }
 }
 
