@@ -43,5 +43,5 @@ renamed = record {
 }
 
 twice : brand_asked renamed (codes "Twice") ≡ Some 1
-  unfolding renamed brand
+unfolding renamed brand
 twice = refl
