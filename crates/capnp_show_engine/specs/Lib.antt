@@ -1,3 +1,4 @@
 pub mod Show
 pub mod Command
 pub mod Refusals
+pub mod WithSet

@@ -7,3 +7,4 @@
 pub mod command;
 pub mod engine;
 mod line;
+pub mod with_set;

@@ -1,0 +1,31 @@
+-- What each part of a brand keeps.
+use Rattle.std.proofs.Common.{arith}
+use Rattle.capnp_schema.specs.Schema.{seen_brand}
+use Rattle.capnp_set_writer.specs.Limits.{BrandFits}
+use Rattle.capnp_set_writer.proofs.Trees.{if_err, on_ok, refused-up}
+use Rattle.capnp_set_writer.proofs.entries.BrandRecordPart.put.Goals as goal
+
+pub returns-clause-kept : goal.returns-clause-kept
+returns-clause-kept c = on_ok c.put_type_lists.result
+    (λ children. record {
+      node = omega arith;
+      field_types = rw c.as_slice.ensures.value at c.in_ok-put_parts.ensures.kept;
+      own = rw c.as_slice-2.ensures.value at c.in_ok-put_parts-2.ensures.kept;
+      children = rw c.as_slice-3.ensures.value at children;
+    })
+    c.put_type_lists.ensures.kept
+
+-- what refuses a part of a brand refuses the brand
+
+pub returns-in_err-put_parts-clause-cause : goal.returns-in_err-put_parts-clause-cause
+returns-in_err-put_parts-clause-cause c =
+    refused-up _ (λ k i d a. tt) (λ (f : BrandFits (seen_brand c.args.self.now)). f.field_types) (rw c.as_slice.ensures.value at c.in_err-put_parts.ensures.cause)
+
+pub returns-in_err-put_parts-2-clause-cause : goal.returns-in_err-put_parts-2-clause-cause
+returns-in_err-put_parts-2-clause-cause c =
+    refused-up _ (λ k i d a. tt) (λ (f : BrandFits (seen_brand c.args.self.now)). f.own) (rw c.as_slice-2.ensures.value at c.in_err-put_parts-2.ensures.cause)
+
+pub returns-clause-cause : goal.returns-clause-cause
+returns-clause-cause c = if_err c.put_type_lists.result
+    (λ e h. refused-up e.kind (λ k. tt) (λ (f : BrandFits (seen_brand c.args.self.now)). f.children) h)
+    (rw c.as_slice-3.ensures.value at c.put_type_lists.ensures.cause)

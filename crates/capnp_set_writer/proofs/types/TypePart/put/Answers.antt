@@ -1,0 +1,16 @@
+-- The three numbers of a type are written one after another.
+use Rattle.std.proofs.Common.{arith}
+use Rattle.capnp_set_writer.proofs.Layers.{type-kept, type-written}
+use Rattle.capnp_set_writer.proofs.Trees.{size-refused}
+use Rattle.capnp_set_writer.proofs.types.TypePart.put.Goals as goal
+
+pub returns-clause-written : goal.returns-clause-written
+returns-clause-written c =
+    type-written c.args.self.now c.innermost-inner.result c.innermost-inner.ensures _ _ _ _ _ _ _ c.base_number.ensures c.in_ok-lists.ensures.count c.named_number.ensures.is
+    c.requires.is c.put_number.ensures.written c.put_number-2.ensures.written c.put_number-3.ensures.written
+
+pub returns-clause-kept : goal.returns-clause-kept
+returns-clause-kept c = type-kept c.args.self.now c.innermost-inner.result c.innermost-inner.ensures c.in_ok-lists.ensures.few c.named_number.ensures.bound
+
+pub returns-in_err-lists-clause-cause : goal.returns-in_err-lists-clause-cause
+returns-in_err-lists-clause-cause c = size-refused _ (λ f. omega (arith, f, c.in_err-lists.ensures.past)) c.in_err-lists.ensures.refused

@@ -1,0 +1,71 @@
+-- What the calls of the writer do to a tree, one after another.
+use Rattle.std.specs.Prelude.{ℕ, zero, suc, ◌≡◌, ◌≢◌, ◌*◌, ⊤, List, [], ◌∷◌, length}
+use Rattle.capnp_device.specs.declared.error.ErrorKind.{ErrorKind}
+use Rattle.capnp_device.specs.declared.error.ErrorKind.TheVariants.{OutOfMemory, SizePastFormat, UnknownKind}
+use Rattle.capnp_wire.specs.Edits.{nulls, with_bytes, with_number, with_pointer_tree}
+use Rattle.capnp_wire.specs.Place.{struct_tree}
+use Rattle.capnp_wire.specs.Tree.{MoreStructs, MoreTrees, NoStructs, NoTrees, Null, StructTree, Structs, Tree, Trees, tree_count}
+use Rattle.capnp_base.specs.declared.introspect.TypeVariant.{TypeVariant}
+use Rattle.capnp_base.specs.declared.introspect.TypeVariant.TheVariants as variant
+use Rattle.capnp_schema.specs.Schema.{FieldKind, Group, Node, Slot}
+use Rattle.capnp_schema.specs.SlotValue.{bit_number}
+use Rattle.capnp_set_writer.specs.Trees.{value_tree, zeros}
+
+-- a part is refused for memory, where a text or a list is too long for the format, or for a value that the form has no kind
+-- for
+abbrev pub IsWriteRefusal : ErrorKind → Type 0
+IsWriteRefusal kind = kind ≢ OutOfMemory → kind ≢ SizePastFormat → kind ≡ UnknownKind
+
+-- and for a value only where not each has its kind, and for a length only where not each fits
+abbrev pub IsPartRefusal : (kinds fits : Type 0) → ErrorKind → Type 0
+IsPartRefusal kinds fits kind = IsWriteRefusal kind × (kind ≡ UnknownKind → kinds → ⊥) × (kind ≡ SizePastFormat → fits → ⊥)
+
+-- a new struct of so many words and pointers
+abbrev pub blank : (data_words pointers : ℕ) → StructTree
+blank data_words pointers = record { bytes = zeros (8 * data_words); pointers = nulls pointers }
+
+pub record IsBlank (d p : ℕ) (s : StructTree) : Type 0 where
+  pub is : s ≡ blank d p
+  pub bytes : length s.bytes ≡ 8 * d
+  pub pointers : tree_count s.pointers ≡ p
+
+-- with a number of so many bytes at an offset in units of its width
+abbrev pub numbered : (width offset number : ℕ) → StructTree → StructTree
+numbered width offset number s = with_bytes s (with_number width offset number s.bytes)
+
+-- a struct of the sections of a field, and of a node
+pub record HasFieldSize (s : StructTree) : Type 0 where
+  pub bytes : length s.bytes ≡ 8
+  pub pointers : tree_count s.pointers ≡ 3
+
+pub record HasNodeSize (s : StructTree) : Type 0 where
+  pub bytes : length s.bytes ≡ 24
+  pub pointers : tree_count s.pointers ≡ 3
+
+-- with the numbers of a node
+abbrev pub sections_written : Node → StructTree → StructTree
+sections_written n s =
+    numbered 4 4 n.discriminant_offset (numbered 1 14 (bit_number n.is_group)
+    (numbered 2 6 n.discriminant_count (numbered 2 5 n.pointer_count (numbered 2 4 n.data_word_count (numbered 8 0 n.id s)))))
+
+-- with the kind of a field
+abbrev pub kind_written : FieldKind → StructTree → StructTree
+kind_written (Slot offset default) s = with_pointer_tree (numbered 4 1 offset (numbered 2 1 0 s)) 2 (struct_tree (value_tree default))
+kind_written (Group node) s = numbered 4 1 node (numbered 2 1 1 s)
+
+-- a row of structs, the first so many of these and the rest blank
+abbrev pub filled : StructTree → List StructTree → ℕ → Structs
+filled z [] i = NoStructs
+filled z (s ∷ ss) zero = MoreStructs z.bytes z.pointers (filled z ss zero)
+filled z (s ∷ ss) (suc i) = MoreStructs s.bytes s.pointers (filled z ss i)
+
+-- a row of trees, the first so many of these and the rest null
+abbrev pub filled_trees : List Tree → ℕ → Trees
+filled_trees [] i = NoTrees
+filled_trees (t ∷ ts) zero = MoreTrees Null (filled_trees ts zero)
+filled_trees (t ∷ ts) (suc i) = MoreTrees t (filled_trees ts i)
+
+-- a layer of a type that is no list
+abbrev pub IsBare : TypeVariant → Type 0
+IsBare (variant.List element) = ⊥
+IsBare v = ⊤

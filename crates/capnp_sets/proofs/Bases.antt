@@ -1,0 +1,89 @@
+-- What stands past the last base of a type, and past the last member of a value.
+use Rattle.std.proofs.Common.{ℕ, ◌≡◌, ◌<◌, ◌≤◌, arith, ap, refl, sym, None}
+use Rattle.std.proofs.lemmas.Option.{slice_get_past}
+use Rattle.std.specs.Option.{unwrap_or}
+use Rattle.capnp_device.specs.declared.error.ErrorKind.TheVariants.{UnknownKind}
+use Rattle.capnp_schema.specs.Schema.{Value as SchemaValue}
+use Rattle.capnp_schema.specs.Types.{SchemaType}
+use Rattle.capnp_records.specs.Part.{which_of}
+use Rattle.capnp_records.specs.Record.{Record, Value, Values}
+use Rattle.std.proofs.Common.{Option, Some, ◌∙◌, subst, ◌≢◌, List, Result, Ok, Err, IfErr, IfOk, Bool, true, false, cond, ◌==◌}
+use Rattle.std.proofs.lemmas.Bool.{eqb-true}
+use Rattle.capnp_device.specs.declared.error.Error.{Error}
+use Rattle.capnp_device.specs.declared.error.ErrorKind.{ErrorKind}
+use Rattle.capnp_device.specs.declared.error.ErrorKind.TheVariants.{OutOfMemory}
+use Rattle.capnp_schema.specs.declared.record.ValueRecord.{ValueRecord}
+use Rattle.capnp_schema.specs.Schema.{FieldKind, Group, seen_value}
+use Rattle.capnp_records.specs.Record as value
+use Rattle.capnp_sets.specs.Fields.{kind_by, slot_of}
+use Rattle.capnp_sets.proofs.Faults.{fault_struct}
+use Rattle.capnp_sets.specs.Causes.{◌<*>◌, HasCause, Read, refused}
+use Rattle.capnp_sets.specs.Parts.{number, read_at, struct}
+use Rattle.capnp_sets.specs.Types.{base_type, base_types}
+use Rattle.capnp_sets.specs.Values.{kinds, list_value, value_by, value_of}
+use Rattle.capnp_sets.proofs.AppliedReads.{cause_right, only_cause}
+
+second-cond : {A : Type 0} (q : Bool) (a b : A) → q ≡ false → cond q a b ≡ b
+second-cond true a b e = cc
+second-cond false a b e = refl
+
+eqb-false : (a b : ℕ) → a ≢ b → (a == b) ≡ false
+eqb-false a b h = go (a == b) refl
+  where
+    go : (q : Bool) → (a == b) ≡ q → (a == b) ≡ false
+    go true e = absurd (h (eqb-true a b e))
+    go false e = e
+
+pub past_bases : (brands : Values) (base number : ℕ) → 18 < base → HasCause (base_type brands base number) UnknownKind
+unfolding base_type
+past_bases brands base number h = only_cause UnknownKind _ (ap (λ (o : Option (Read SchemaType)). unwrap_or o (refused UnknownKind)) (slice_get_past (base_types brands number) base (omega (arith, h))))
+
+pub past_kinds : (r : Record) (member : ℕ) → 14 < member → HasCause (value_by (Some member) r) UnknownKind
+unfolding value_by
+past_kinds r member h = only_cause UnknownKind _ (ap (λ (o : Option (Value → Read SchemaValue)). unwrap_or o (λ v. refused UnknownKind) (read_at 5 member r)) (slice_get_past kinds member (omega (arith, h))))
+
+pub no_member : (r : Record) → which_of r ≡ None → HasCause (value_of r) UnknownKind
+unfolding value_of value_by
+no_member r e = only_cause UnknownKind _ (ap (λ o. value_by o r) e)
+
+pub by_member : (r : Record) (member : ℕ) → which_of r ≡ Some member → value_of r ≡ value_by (Some member) r
+unfolding value_of
+by_member r member e = ap (λ o. value_by o r) e
+
+-- a list's words, in the value that is made of them
+pub list_made : (made : Result ValueRecord Error) (x : Read SchemaValue) (words : List ℕ) → x ≡ Ok (list_value words) → IfOk made (λ v. seen_value v ≡ list_value words) → IfOk made (λ v. x ≡ Ok (seen_value v))
+list_made (Ok v) x words e h = e ∙ ap (λ (y : SchemaValue). Ok y) (sym h)
+list_made (Err error) x words e h = tt
+
+-- a call that is refused for memory alone
+pub only_memory : {A : Type 0} (r : Result A Error) (P : ErrorKind → Type 0) → IfErr r (λ e. e.kind ≡ OutOfMemory) → IfErr r (λ e. e.kind ≢ OutOfMemory → P e.kind)
+only_memory (Ok a) P h = tt
+only_memory (Err e) P h = λ other. absurd (other h)
+
+-- a refusal whose cause stands whatever memory there is
+pub whatever_memory : {A : Type 0} (r : Result A Error) (P : ErrorKind → Type 0) → IfErr r (λ e. P e.kind) → IfErr r (λ e. e.kind ≢ OutOfMemory → P e.kind)
+whatever_memory (Ok a) P h = tt
+whatever_memory (Err e) P h = λ other. h
+
+module _ (r : Record) where
+  pub no_kind : which_of r ≡ None → HasCause (kind_by (which_of r) r) UnknownKind
+  unfolding kind_by
+  no_kind e = only_cause UnknownKind _ (ap (λ o. kind_by o r) e)
+
+  pub slot_kind : which_of r ≡ Some 3 → kind_by (which_of r) r ≡ struct slot_of (read_at 2 3 r)
+  unfolding kind_by
+  slot_kind e = ap (λ o. kind_by o r) e
+
+  pub group_kind : which_of r ≡ Some 4 → kind_by (which_of r) r ≡ Ok Group <*> number (read_at 2 4 r)
+  unfolding kind_by
+  group_kind e = ap (λ o. kind_by o r) e
+
+  pub slot_refused : (kind : ErrorKind) → which_of r ≡ Some 3 → value.Fault kind ≡ read_at 2 3 r → HasCause (kind_by (which_of r) r) kind
+  slot_refused kind e h = subst (λ (x : Read FieldKind). HasCause x kind) (sym (slot_kind e)) (fault_struct slot_of (read_at 2 3 r) kind h)
+
+  pub group_refused : (kind : ErrorKind) → which_of r ≡ Some 4 → HasCause (number (read_at 2 4 r)) kind → HasCause (kind_by (which_of r) r) kind
+  group_refused kind e h = subst (λ (x : Read FieldKind). HasCause x kind) (sym (group_kind e)) (cause_right _ _ kind h)
+
+  pub other_kind : (member : ℕ) → which_of r ≡ Some member → member ≢ 3 → member ≢ 4 → HasCause (kind_by (which_of r) r) UnknownKind
+  unfolding kind_by
+  other_kind member e three four = only_cause UnknownKind _ (ap (λ o. kind_by o r) e ∙ (second-cond (member == 3) _ _ (eqb-false member 3 three) ∙ second-cond (member == 4) _ _ (eqb-false member 4 four)))

@@ -1,0 +1,86 @@
+-- Reading a row of values one after another: what was read, and what is still to be read.
+use Rattle.std.proofs.Common.{ℕ, ◌+◌, ◌-◌, ◌<◌, ◌≡◌, ◌∙◌, suc, zero, arith, ap, refl, subst, sym, List, [], ◌∷◌, ◌++◌, append_assoc, append-nil, Ok, Err}
+use Rattle.capnp_device.specs.declared.error.ErrorKind.{ErrorKind}
+use Rattle.capnp_records.specs.Record.{Left, MoreValues, NoValues, Value, Values, values_from}
+use Rattle.capnp_wire.specs.Standing.{list_levels, list_of}
+use Rattle.capnp_schema.specs.Meta.{meta}
+use Rattle.capnp_schema.specs.Schema.{Schemas, VoidValue}
+use Rattle.capnp_schema.specs.Types.{SchemaType}
+use Rattle.capnp_records.specs.Default.{read_of}
+use Rattle.capnp_records.specs.Facts.ListValues.{below_of}
+use Rattle.capnp_records.specs.Reading.{element_value}
+use Rattle.capnp_dynamic_readers.specs.Handles.{element_of, list_reader_of, list_set}
+use Rattle.capnp_dynamic_readers.specs.Reads.{element_seen}
+use Rattle.capnp_dynamic_readers.specs.declared.dynamic_list.Reader.{Reader as ListHandle}
+use Rattle.capnp_sets.specs.Causes.{◌<*>◌, Causes, HasCause, Read}
+use Rattle.capnp_sets.specs.Handles.{IsListOf}
+use Rattle.capnp_sets.specs.Parts.{all_of}
+use Rattle.capnp_sets.proofs.AppliedReads.{cause_left, cause_right}
+
+-- what was read so far stands before what the rest stands for
+abbrev pub before_rest : {A : Type 0} → List A → Read (List A) → Read (List A)
+before_rest xs rest = Ok (λ ys. xs ++ ys) <*> rest
+
+abbrev prepended : {A : Type 0} → Read A → Read (List A) → Read (List A)
+prepended y rest = Ok (λ a others. a ∷ others) <*> y <*> rest
+
+begin : {A : Type 0} (rest : Read (List A)) → rest ≡ before_rest [] rest
+unfolding ◌<*>◌
+begin (Ok ys) = refl
+begin (Err causes) = refl
+
+step : {A : Type 0} (xs : List A) (x : A) (rest : Read (List A)) → before_rest xs (prepended (Ok x) rest) ≡ before_rest (xs ++ x ∷ []) rest
+unfolding ◌<*>◌
+step xs x (Ok ys) = ap (λ zs. Ok zs) (sym (append_assoc xs (x ∷ []) ys))
+step xs x (Err causes) = refl
+
+end : {A : Type 0} (xs : List A) → before_rest xs (Ok []) ≡ Ok xs
+unfolding ◌<*>◌
+end xs = ap (λ zs. Ok zs) (append-nil xs)
+
+none_left : {A : Type 0} (f : Value → Read A) → all_of f NoValues ≡ Ok []
+unfolding all_of
+none_left f = refl
+
+one_more : {A : Type 0} (f : Value → Read A) (v : Value) (vs : Values) → all_of f (MoreValues v vs) ≡ prepended (f v) (all_of f vs)
+unfolding all_of
+one_more f v vs = refl
+
+module _ {A : Type 0} (f : Value → Read A) (g : ℕ → Value) (n : ℕ) where
+  -- what a row stands for, where some of it was read up to an index
+  abbrev pub IsReadTo : Read (List A) → List A → ℕ → Type 0
+  IsReadTo whole xs i = whole ≡ before_rest xs (all_of f (values_from g i (n - i)))
+
+  pub read_none : IsReadTo (all_of f (values_from g 0 n)) [] 0
+  read_none = begin _ ∙ ap (λ k. before_rest [] (all_of f (values_from g 0 k))) (omega arith)
+
+  next : (i : ℕ) → i < n → values_from g i (n - i) ≡ MoreValues (g i) (values_from g (i + 1) (n - (i + 1)))
+  next i inside =
+      let count : n - i ≡ suc (n - (i + 1)) = omega (arith, inside) in
+      let index : suc i ≡ i + 1 = omega arith in
+      ap (values_from g i) count ∙ ap (λ j. MoreValues (g i) (values_from g j (n - (i + 1)))) index
+
+  pub read_more : (whole : Read (List A)) (xs : List A) (x : A) (i : ℕ) → i < n → IsReadTo whole xs i → f (g i) ≡ Ok x → IsReadTo whole (xs ++ x ∷ []) (i + 1)
+  read_more whole xs x i inside is here =
+      let rest : Read (List A) = all_of f (values_from g (i + 1) (n - (i + 1))) in
+      is ∙ (ap (λ vs. before_rest xs (all_of f vs)) (next i inside)
+      ∙ (ap (before_rest xs) (one_more f _ _)
+      ∙ (ap (λ y. before_rest xs (prepended y rest)) here ∙ step xs x rest)))
+
+  pub read_all : (whole : Read (List A)) (xs : List A) (i : ℕ) → i ≡ n → IsReadTo whole xs i → whole ≡ Ok xs
+  read_all whole xs i last is =
+      let left : n - i ≡ 0 = omega (arith, last) in
+      is ∙ (ap (λ k. before_rest xs (all_of f (values_from g i k))) left ∙ (ap (before_rest xs) (none_left f) ∙ end xs))
+
+  pub read_stopped : (whole : Read (List A)) (xs : List A) (i : ℕ) (kind : ErrorKind) → i < n → IsReadTo whole xs i → HasCause (f (g i)) kind → HasCause whole kind
+  read_stopped whole xs i kind inside is here =
+      subst (λ z. HasCause z kind) (sym (is ∙ (ap (λ vs. before_rest xs (all_of f vs)) (next i inside) ∙ ap (before_rest xs) (one_more f _ _))))
+      (cause_right _ _ kind (cause_left _ _ kind (cause_right _ _ kind here)))
+
+-- an element in the value of a list
+abbrev pub element_in : ListHandle → ℕ → Value
+element_in l i = element_value (list_set l) (list_of (list_reader_of l)) (below_of (list_set l) (list_of (list_reader_of l))) (Left (list_levels (list_reader_of l))) (element_of l) i
+
+-- the read of an element, under the type that a list of the meta set has
+pub element_read : (t : SchemaType) (l : ListHandle) (i : ℕ) → IsListOf t l → element_seen l i ≡ read_of meta VoidValue t (element_in l i)
+element_read t l i is = ap (λ (s : Schemas). read_of s VoidValue (element_of l) (element_in l i)) is.set ∙ ap (λ (u : SchemaType). read_of meta VoidValue u (element_in l i)) is.element

@@ -1,0 +1,15 @@
+use Rattle.std.proofs.Common.{ap, ◌∙◌, subst, sym, ◌<◌, length}
+use Rattle.capnp_schema.specs.FieldLists.{index_of}
+use Rattle.capnp_schema.specs.StructHandles.{number_of, set_of, struct_fields}
+use Rattle.capnp_schema.specs.declared.schema.structs.StructSchema.{StructSchema}
+use Rattle.capnp_dynamic_readers.specs.Handles.{schema_of}
+use Rattle.capnp_dynamic_readers.specs.Reads.{field_seen}
+use Rattle.capnp_sets.proofs.PartsSeen.{inside_record, seen_part, typed_part}
+use Rattle.capnp_sets.proofs.parts.part.Goals as goal
+
+pub returns-clause-value : goal.returns-clause-value
+returns-clause-value c =
+    c.get.ensures.value ∙ (ap (field_seen c.args.reader) c.get-field.ensures.index ∙ seen_part c.args.reader c.args.brand c.args.index c.requires.record c.requires.field.0 c.requires.active)
+
+pub returns-clause-typed : goal.returns-clause-typed
+returns-clause-typed c = typed_part c.get.result c.args.reader c.args.brand c.args.index _ c.requires.record c.get-field.ensures.index c.get.ensures.typed

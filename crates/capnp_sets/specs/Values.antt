@@ -1,0 +1,50 @@
+-- The values that records of values stand for, and annotations.
+use Rattle.std.specs.Prelude.{ℕ, List, [], ◌∷◌, slice_get, Ok, Option, Some, None}
+use Rattle.std.specs.Option.{unwrap_or}
+use Rattle.capnp_device.specs.declared.error.ErrorKind.TheVariants.{UnknownKind}
+use Rattle.capnp_schema.specs.Builtin.{zero_word}
+use Rattle.capnp_schema.specs.Schema.{Annotation, VoidValue, BoolValue, IntValue, UIntValue, EnumValue, TextValue, DataValue, StructValue, ListValue, AnyPointerValue}
+use Rattle.capnp_schema.specs.Schema.{Value as SchemaValue}
+use Rattle.capnp_records.specs.Part.{which_of}
+use Rattle.capnp_records.specs.Record.{Record, Value}
+use Rattle.capnp_sets.specs.Causes.{◌<*>◌, Read, refused}
+use Rattle.capnp_sets.specs.Parts.{blob, integer, number, read_at, struct, structs, text, truth}
+
+-- the words of a list; none stand for a null untyped pointer
+abbrev pub list_value : List ℕ → SchemaValue
+list_value [] = AnyPointerValue zero_word
+list_value (byte ∷ bytes) = ListValue (byte ∷ bytes)
+
+-- what the members of a value stand for, by index
+abbrev pub kinds : List (Value → Read SchemaValue)
+kinds =
+    (λ v. Ok VoidValue)
+    ∷ (λ v. Ok BoolValue <*> truth v)
+    ∷ (λ v. Ok (IntValue 1) <*> integer v)
+    ∷ (λ v. Ok (IntValue 2) <*> integer v)
+    ∷ (λ v. Ok (IntValue 4) <*> integer v)
+    ∷ (λ v. Ok (IntValue 8) <*> integer v)
+    ∷ (λ v. Ok (UIntValue 1) <*> number v)
+    ∷ (λ v. Ok (UIntValue 2) <*> number v)
+    ∷ (λ v. Ok (UIntValue 4) <*> number v)
+    ∷ (λ v. Ok (UIntValue 8) <*> number v)
+    ∷ (λ v. Ok EnumValue <*> number v)
+    ∷ (λ v. Ok TextValue <*> text v)
+    ∷ (λ v. Ok DataValue <*> blob v)
+    ∷ (λ v. Ok StructValue <*> blob v)
+    ∷ (λ v. Ok list_value <*> blob v)
+    ∷ []
+
+unfoldable pub value_by : Option ℕ → Record → Read SchemaValue
+value_by None r = refused UnknownKind
+value_by (Some i) r = unwrap_or (slice_get kinds i) (λ v. refused UnknownKind) (read_at 5 i r)
+
+-- the value of the active member
+unfoldable pub value_of : Record → Read SchemaValue
+value_of r = value_by (which_of r) r
+
+unfoldable pub annotation_of : Record → Read Annotation
+annotation_of r = Ok (λ id v. record { id = id; value = v }) <*> number (read_at 4 0 r) <*> struct value_of (read_at 4 1 r)
+
+abbrev pub annotations : Value → Read (List Annotation)
+annotations = structs 4 annotation_of

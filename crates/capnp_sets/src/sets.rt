@@ -1,0 +1,56 @@
+//! Sets of schemas that are read from the record of a set.
+ghost use Rattle.std.specs.Prelude.{◌≡◌, ◌≢◌, Some, IfErr, IfOk};
+ghost use Rattle.capnp_device.specs.declared.error.ErrorKind.TheVariants.{OutOfMemory};
+ghost use Rattle.capnp_schema.specs.Entries.{lists_seen};
+ghost use Rattle.capnp_schema.specs.Schema.{seen_schemas};
+ghost use Rattle.capnp_dynamic_readers.specs.Seen.{record_seen};
+ghost use Rattle.capnp_sets.specs.Handles.{IsRecord};
+ghost use Rattle.capnp_sets.specs.Lists.{IsSetRefusal, has_cause, lists_of};
+
+use crate::parts::{SET, list_at};
+use crate::rows::{Context, all_read, list_in};
+use capnp_dynamic_readers::dynamic_struct;
+use capnp_schema::record::{BrandRecord, EnumRecord, NodeRecord};
+use capnp_schema::set::SchemaSet;
+use capnp_wire::error::Result;
+use std::alloc::Global;
+
+/// The nodes, brands and enums that the record of a set stands for, of which `SchemaSet::new` makes a set. Missing parts are
+/// read as their defaults. The record has to be of brand 0 of the meta set.
+///
+/// Refused with `OutOfMemory`, or with a number whose cause stands in the record: that of a part that can't be read
+/// (`BadPointer`, `WrongPointerKind`, `WrongElementSize`, `TextNotTerminated`, `TooDeep`, `CapabilityPointer`), `FloatType` or
+/// `InterfaceType` for a type that is one, `UnknownKind` for another base or for the discriminant of a field or value that is
+/// none of the meta set's, and `NameNotUtf8`. Where several stand in the record, any of them may be named.
+#[tactic(auto, unfolding(crate::specs::Lists::set_of))]
+pub fn read_set(
+    alloc: Global,
+    reader: dynamic_struct::Reader<'_>,
+) -> Result<(Vec<NodeRecord>, Vec<BrandRecord>, Vec<EnumRecord>)>
+    requires { IsRecord 0 reader }
+    ensures lists { IfOk result (λ r. lists_of (record_seen reader.entry) ≡ Some (seen_schemas r.0.items r.1.items r.2.items)) }
+    ensures refused { IfErr result (λ e. e.kind ≢ OutOfMemory → has_cause (record_seen reader.entry) e.kind) }
+{
+    let brand_records = list_at(reader, SET, 1)?;
+    let context = Context {
+        alloc,
+        brands: brand_records,
+    };
+    let nodes = list_in::<NodeRecord>(context, reader, SET, 0)?;
+    let brands = all_read::<BrandRecord>(context, brand_records)?;
+    let enums = list_in::<EnumRecord>(context, reader, SET, 2)?;
+    Ok((nodes, brands, enums))
+}
+
+/// The set that a record stands for, checked: `read_set` and `SchemaSet::new`. The record has to be of brand 0 of the meta set.
+///
+/// Refused as these are: with `OutOfMemory`, with a number whose cause stands in the record, or, where the record stands for
+/// lists, with `Schema` and the number of a rule that they break.
+pub fn read_schema_set(alloc: Global, reader: dynamic_struct::Reader<'_>) -> Result<SchemaSet>
+    requires { IsRecord 0 reader }
+    ensures set { IfOk result (λ set. lists_of (record_seen reader.entry) ≡ Some (lists_seen set)) }
+    ensures refused { IfErr result (λ e. e.kind ≢ OutOfMemory → IsSetRefusal (record_seen reader.entry) e) }
+{
+    let (nodes, brands, enums) = read_set(alloc, reader)?;
+    SchemaSet::new(alloc, nodes, brands, enums)
+}

@@ -1,0 +1,4 @@
+//! Sets that are read from messages: callers of `capnp_sets`.
+#![tactic(auto)]
+
+pub mod readers;

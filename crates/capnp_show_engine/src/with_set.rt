@@ -1,0 +1,76 @@
+//! Messages that are shown under a struct of a set that comes as a message itself.
+ghost use Rattle.std.specs.Prelude.{◌≡◌, ◌≢◌, ◌<◌, ◌&&◌, not, IfErr, IfSome, OnOk, bytes_eq, length};
+ghost use Rattle.capnp_device.specs.Device.{HasFailed};
+ghost use Rattle.capnp_device.specs.declared.error.ErrorKind.TheVariants.{ReadFailed, WriteFailed};
+ghost use Rattle.capnp_schema.specs.Entries.{lists_seen};
+ghost use Rattle.capnp_schema.specs.Schema.{node_of};
+ghost use Rattle.capnp_show_engine.specs.Show.{IsCutShort, IsOfMessage, IsShown};
+ghost use Rattle.capnp_show_engine.specs.WithSet.{HasReadFailed, IsRefusedWithSet, IsStructNamed, brand_asked};
+
+use crate::engine::show;
+use capnp_schema::set::SchemaSet;
+use capnp_sets::message::read_message;
+use capnp_wire::device::{Sink, Source};
+use capnp_wire::error::{Error, ErrorKind, Result};
+use capnp_wire::transfer::read_all;
+use std::alloc::Global;
+
+/// Whether a brand of a set is no group, and its node has the display name.
+fn is_named(set: &SchemaSet, brand: u32, name: &str) -> bool
+    ensures { result ≡ (not (node_of (lists_seen set.now) brand).is_group && bytes_eq name.now (node_of (lists_seen set.now) brand).display_name) }
+{
+    let node = set.struct_schema(brand).get_proto();
+    !node.body.is_group && name == node.display_name.as_str()
+}
+
+/// The first brand of a set, in order, that is no group and whose node has the display name.
+pub fn find_brand(set: &SchemaSet, name: &str) -> Option<u32>
+    ensures found { result ≡ brand_asked (lists_seen set.now) name.now }
+    ensures inside { IfSome result (λ b. b < length (lists_seen set.now).brands) }
+{
+    for index in 0..set.brands().len() {
+        let Ok(brand) = u32::try_from(index) else {
+            return None;
+        };
+        if is_named(set, brand, name) {
+            return Some(brand);
+        }
+    }
+    None
+}
+
+/// Shows a message under a struct of a set that comes as a message: reads the set's source to its end, checks the set, finds
+/// the struct of that display name, and only then reads the message's source, as `show`. Of both sources what follows the
+/// first message is not looked at.
+///
+/// Refused with `ReadFailed` or `WriteFailed` where a call of a source or the sink failed, with `OutOfMemory`, as
+/// `capnp_sets::message::read_message` refuses the set, with `NameNotFound` where it has no struct of that name, and then as
+/// `show`. After a refusal of the set or the name nothing of the message was read. After `WriteFailed` a proper beginning of
+/// the text and its line break was written, after any other refusal nothing.
+pub fn show_with_set<S: Source, R: Source, W: Sink>(
+    alloc: Global,
+    set_source: &mut S,
+    name: &str,
+    source: &mut R,
+    sink: &mut W,
+    indented: bool,
+) -> Result<()>
+    ensures shown { OnOk result (IsStructNamed name.now (S.left set_source.old) (S.left set_source.new) (λ set b.
+        IsShown set b indented (R.left source.old) (R.left source.new) (W.written sink.old) (W.written sink.new))) }
+    ensures refused { IfErr result (λ e. IsOfMessage e.kind → IsRefusedWithSet name.now indented e (source.new ≡ source.old)
+        (S.left set_source.old) (S.left set_source.new) (R.left source.old) (R.left source.new)) }
+    ensures read_failed { IfErr result (λ e. e.kind ≡ ReadFailed → HasReadFailed (source.new ≡ source.old)
+        (S.failures set_source.old) (S.failures set_source.new) (R.failures source.old) (R.failures source.new)) }
+    ensures write_failed { IfErr result (λ e. e.kind ≡ WriteFailed →
+        HasFailed (W.failures sink.old) (W.failures sink.new)) }
+    ensures beginning { IfErr result (λ e. e.kind ≡ WriteFailed → IsStructNamed name.now (S.left set_source.old) (S.left set_source.new) (λ set b.
+        IsCutShort set b indented (R.left source.old) (R.left source.new) (W.written sink.old) (W.written sink.new))) }
+    ensures nothing { IfErr result (λ e. e.kind ≢ WriteFailed → sink.new ≡ sink.old) }
+{
+    let bytes = read_all(alloc, set_source)?;
+    let set = read_message(alloc, &bytes)?;
+    let Some(brand) = find_brand(&set, name) else {
+        return Err(Error::from(ErrorKind::NameNotFound));
+    };
+    show(alloc, &set, brand, source, sink, indented)
+}
