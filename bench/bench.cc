@@ -5,6 +5,7 @@
 #include "reads.h"
 #include "runs.h"
 #include "schemas.h"
+#include "set_messages.h"
 #include "sets.h"
 #include "wire.h"
 #include <capnp/schema-parser.h>
@@ -25,6 +26,7 @@ int main(int count, char **words) {
   sets::add_rows(table, file.getNested("Shapes").asStruct());
   runs::add_rows(table, file.getNested("Lists").asStruct(), file.getNested("Loop").asStruct());
   schemas::add_rows(table);
+  set_messages::add_rows(table);
   prints::add_rows(table, file.getNested("Lists").asStruct());
   program::add_rows(table, file.getNested("Lists").asStruct(), words[1], words[2], words[3]);
   return table.status();

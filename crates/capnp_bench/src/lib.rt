@@ -6,4 +6,5 @@ mod prints;
 mod reads;
 mod runs;
 mod schemas;
+mod set_messages;
 mod sets;
