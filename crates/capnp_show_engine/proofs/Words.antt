@@ -1,5 +1,5 @@
 -- Words that ask for nothing, whatever they are.
-use Rattle.std.proofs.Common.{ℕ, ◌≡◌, ◌<◌, ◌≤◌, List, [], ◌∷◌, None, length, refl, arith}
+use Rattle.std.proofs.Common.{◌≡◌, ◌<◌, ◌≤◌, List, [], ◌∷◌, None, length, refl, arith}
 use Rattle.std.specs.Prelude.{String}
 use Rattle.capnp_show_engine.specs.Command.{asked}
 
