@@ -113,10 +113,12 @@ fn each_broken_set_is_refused(rt: HostRuntime) -> Result<(), Fail> {
 fn changed_is_refused(rt: &impl Abort, alloc: Global, row: &str) -> Result<(), Fail> {
     let (place, rest) = row.split_once(' ').unwrap_or(("", ""));
     let (word, number) = rest.split_once(' ').unwrap_or(("", ""));
-    let mut bytes = bytes_of(alloc, FLAT)?;
-    let from = 8 + 8 * place.parse::<usize>().unwrap_or(0);
-    for (byte, new) in bytes.iter_mut().skip(from).zip(bytes_of(alloc, word)?) {
-        *byte = new;
+    let from = 8 + 8 * usize::from(place.parse::<u8>().unwrap_or(0));
+    let new = bytes_of(alloc, word)?;
+    let mut bytes = Vec::new(alloc);
+    for (index, old) in bytes_of(alloc, FLAT)?.into_iter().enumerate() {
+        let byte = new.get(index.wrapping_sub(from)).copied();
+        bytes.push(byte.unwrap_or(old))?;
     }
     let wanted = number.parse::<u32>().unwrap_or(1);
     assert_eq!(rt; refusal(alloc, &bytes)?, wanted, "{row}");
