@@ -150,7 +150,7 @@ pub fn report<F: Sink>(kind: ErrorKind, errors: &mut F)
 }
 
 /// Writes a line, as far as the sink takes it.
-fn tell<F: Sink>(line: &[u8], errors: &mut F)
+pub fn tell<F: Sink>(line: &[u8], errors: &mut F)
     ensures { IsTold line.now (F.written errors.old) (F.written errors.new)
         (F.failures errors.old) (F.failures errors.new) }
 {
