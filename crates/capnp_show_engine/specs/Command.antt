@@ -1,5 +1,5 @@
 -- What the program's words say.
-use Rattle.std.specs.Prelude.{ℕ, suc, ◌≡◌, List, [], ◌∷◌, Bool, true, false, not, ◌&&◌, Option, Some, None, Result, Ok, Err, String, string_bytes, ◌++◌, ◌<◌, ◌⊎◌, length, take, drop, codes, decimal, bytes_eq, if◌then◌else◌}
+use Rattle.std.specs.Prelude.{ℕ, suc, ⊤, List, [], ◌∷◌, Bool, true, false, not, ◌&&◌, Option, Some, None, Result, Ok, Err, String, string_bytes, ◌++◌, ◌<◌, ◌⊎◌, length, take, drop, codes, decimal, bytes_eq, if◌then◌else◌}
 use Rattle.std.specs.Io.KnownBytes.{Appends}
 use Rattle.std.specs.Option.{option_map}
 use Rattle.std.specs.Vec.Iter.{into_iter_items}
@@ -7,11 +7,12 @@ use Rattle.std.specs.declared.vec.IntoIter.{IntoIter}
 use Rattle.capnp_device.specs.Device.{HasFailed}
 use Rattle.capnp_device.specs.ErrorNumber.{error_number}
 use Rattle.capnp_device.specs.declared.error.ErrorKind.{ErrorKind}
-use Rattle.capnp_device.specs.declared.error.ErrorKind.TheVariants.{ReadFailed, WriteFailed}
 use Rattle.capnp_schema.specs.Builtin.{builtin}
 use Rattle.capnp_schema.specs.Schema.{Schemas, Brand, node_of}
-use Rattle.capnp_show_engine.specs.Show.{IsCutShort, IsOfMessage, IsRefused}
-use Rattle.capnp_show_engine.specs.declared.command.Request.{Request}
+use Rattle.capnp_show_engine.specs.declared.request.Asked.{Asked}
+use Rattle.capnp_show_engine.specs.declared.request.Asked.TheVariants.{BuiltIn, InFile}
+use Rattle.capnp_show_engine.specs.declared.request.FileRequest.{FileRequest}
+use Rattle.capnp_show_engine.specs.declared.request.Request.{Request}
 
 -- the words after the program's name, none where the system answered no words
 abbrev pub words_after_name : {A Z E : Type 0} → Result (IntoIter A Z) E → List A
@@ -28,23 +29,55 @@ brand_among set (x ∷ xs) b name =
 abbrev pub brand_named : Schemas → List ℕ → Option ℕ
 brand_named set name = brand_among set set.brands 0 name
 
--- the text of that struct of the built-in set, where there is one
-abbrev pub text_asked : (indented : Bool) → Option ℕ → Option Request
-text_asked indented = option_map (λ b. record { brand = b; indented = indented })
+-- a text under the struct of a name, in the set that the file at a path holds, and whether it is indented
+pub record FileTask : Type 0 where
+  pub path : List ℕ
+  pub name : List ℕ
+  pub indented : Bool
 
--- what the words ask for: a struct by its name, and after that whether its text is indented
-abbrev pub asked : {A : Type 0} → List (String A) → Option Request
+-- a text under a brand of the built-in set, or under a struct of a file's set
+pub data Task : Type 0 where
+  pub built_in : Request → Task
+  pub in_file : FileTask → Task
+
+-- a text under that struct of the built-in set, where there is one
+abbrev pub built_in_asked : (indented : Bool) → Option ℕ → Option Task
+built_in_asked indented = option_map (λ b. built_in (record { brand = b; indented = indented }))
+
+-- a text under a struct of a file's set
+abbrev pub in_file_asked : {A : Type 0} → (indented : Bool) → (path name : String A) → Option Task
+in_file_asked indented path name = Some (in_file (record { path = string_bytes path; name = string_bytes name; indented = indented }))
+
+-- what the words ask for: a struct by its name, before that whether its set is a file's, and after that whether its text is
+-- indented
+abbrev pub asked : {A : Type 0} → List (String A) → Option Task
 asked [] = None
-asked (name ∷ []) = text_asked false (brand_named builtin (string_bytes name))
-asked (name ∷ option ∷ []) =
-    if bytes_eq (string_bytes option) (codes "--indent") then text_asked true (brand_named builtin (string_bytes name)) else None
-asked (name ∷ option ∷ more ∷ words) = None
+asked (name ∷ []) = built_in_asked false (brand_named builtin (string_bytes name))
+asked (name ∷ last ∷ []) =
+    if bytes_eq (string_bytes last) (codes "--indent") then built_in_asked true (brand_named builtin (string_bytes name)) else None
+asked (first ∷ path ∷ name ∷ []) = if bytes_eq (string_bytes first) (codes "--set") then in_file_asked false path name else None
+asked (first ∷ path ∷ name ∷ last ∷ []) =
+    if bytes_eq (string_bytes first) (codes "--set") && bytes_eq (string_bytes last) (codes "--indent") then in_file_asked true path name else None
+asked (first ∷ path ∷ name ∷ last ∷ more ∷ words) = None
+
+abbrev pub file_task_of : FileRequest → FileTask
+file_task_of r = record { path = r.path.now; name = r.name.now; indented = r.indented }
+
+-- the task that a value of the program stands for
+abbrev pub task_of : Asked → Task
+task_of (BuiltIn r) = built_in r
+task_of (InFile r) = in_file (file_task_of r)
+
+-- the brand is one of the built-in set's
+abbrev pub IsInside : Asked → Type 0
+IsInside (BuiltIn r) = r.brand < length builtin.brands
+IsInside (InFile r) = ⊤
 
 -- ---- what is told where nothing is shown ----
 
 -- how the program is called
 abbrev pub usage_line : List ℕ
-usage_line = codes "usage: capnp_show NAME [--indent]" ++ 10 ∷ []
+usage_line = codes "usage: capnp_show [--set FILE] NAME [--indent]" ++ 10 ∷ []
 
 -- a refusal's number
 abbrev pub refusal_line : ErrorKind → List ℕ
@@ -55,12 +88,3 @@ refusal_line kind = codes "refused: " ++ decimal (error_number kind) ++ 10 ∷ [
 abbrev pub IsTold : List ℕ → Option (List ℕ) → Option (List ℕ) → ℕ → ℕ → Type 0
 IsTold line written written' failures failures' =
     Appends written written' line ⊎ (HasFailed failures failures' × ((n : ℕ) × (n < length line) × Appends written written' (take n line)))
-
--- a request that was refused with a kind; by what the source had left before and after, what was written, and the counts of
--- failures of source and sink
-abbrev pub IsRefusedRun : Request → ErrorKind → (left left' written written' : Option (List ℕ)) → (reads reads' writes writes' : ℕ) → Type 0
-IsRefusedRun r kind left left' written written' reads reads' writes writes' =
-    (IsOfMessage kind → IsRefused builtin r.brand r.indented kind left left')
-    × (kind ≡ ReadFailed → HasFailed reads reads')
-    × (kind ≡ WriteFailed → HasFailed writes writes')
-    × (kind ≡ WriteFailed → IsCutShort builtin r.brand r.indented left left' written written')

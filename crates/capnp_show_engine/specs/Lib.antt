@@ -1,4 +1,6 @@
 pub mod Show
 pub mod Command
+pub mod Opened
 pub mod Refusals
+pub mod Run
 pub mod WithSet

@@ -1,30 +1,30 @@
 //! What the program does with its words.
-ghost use Rattle.std.specs.Prelude.{◌≡◌, ◌≢◌, ◌≤◌, ◌<◌, length, IfErr, IfOk, IfSome, OnOk, Some, None};
+ghost use Rattle.std.specs.Prelude.{◌≡◌, ◌≢◌, ◌≤◌, ◌<◌, ⊤, length, IfErr, IfOk, OnOk, Some, None};
 ghost use Rattle.std.specs.IoError.{error_kind};
 ghost use Rattle.std.specs.declared.io.ErrorKind.TheVariants.{OutOfMemory as NoMemory};
 ghost use Rattle.capnp_device.specs.Device.{HasFailed};
+ghost use Rattle.capnp_device.specs.declared.error.Error.{Error as Refusal};
 ghost use Rattle.capnp_device.specs.declared.error.ErrorKind.TheVariants.{OutOfMemory, ReadFailed, WriteFailed};
 ghost use Rattle.capnp_schema.specs.Builtin.{builtin};
-ghost use Rattle.capnp_show_engine.specs.Command.{IsRefusedRun, IsTold, asked, brand_named, refusal_line, usage_line, words_after_name};
+ghost use Rattle.capnp_show_engine.specs.Command.{IsInside, IsTold, Task, asked, refusal_line, task_of, usage_line, words_after_name};
+ghost use Rattle.capnp_show_engine.specs.Opened.{IsNotOpened, IsOpened, IsSomeFile};
+ghost use Rattle.capnp_show_engine.specs.Run.{IsRefusedTask, IsShownTask};
 ghost use Rattle.capnp_show_engine.specs.Show.{IsCutShort, IsOfMessage, IsRefused, IsShown};
 
 use crate::engine::show;
 use crate::line::{LONGEST, put_refusal};
+use crate::opener::{FilesOpener, Opener};
+use crate::request::{Asked, Request, read_words};
+use crate::with_set::show_with_file;
 use capnp_schema::builtin;
-use capnp_wire::device::{Sink, Source};
+use capnp_wire::device::{ReadSource, Sink, Source};
 use capnp_wire::error::{Error, ErrorKind, Result};
 use capnp_wire::transfer::write_all;
 use std::alloc::Global;
+use std::rt::Files;
 use std::{env, io};
 
-const USAGE: &str = "usage: capnp_show NAME [--indent]\n";
-
-/// What the words ask for: a brand of the built-in set, and whether its text is indented.
-#[derive(Clone, Copy, Debug, PartialEq, Eq)]
-pub struct Request {
-    pub brand: u32,
-    pub indented: bool,
-}
+const USAGE: &str = "usage: capnp_show [--set FILE] NAME [--indent]\n";
 
 /// The words after the program's name, of what the system answered; none where one of them is not UTF-8, since no such
 /// list of words names a struct. Refused with `OutOfMemory` alone.
@@ -40,38 +40,6 @@ pub fn words(alloc: Global, args: io::Result<env::Args>) -> Result<Vec<String>>
         }
         Err(_) => Ok(Vec::new(alloc)),
     }
-}
-
-/// The struct of the built-in set that has the name and is no group. It takes no memory, so that an unknown name is told
-/// whatever memory there is.
-fn find_brand(name: &str) -> Option<u32>
-    ensures found { result ≡ brand_named builtin name.now }
-    ensures inside { IfSome result (λ b. b < length builtin.brands) }
-{
-    match name {
-        "Flat" => Some(0),
-        "Mixed" => Some(1),
-        "Many" => Some(2),
-        "Shapes" => Some(3),
-        "Loop" => Some(6),
-        "Lists" => Some(7),
-        "Node" => Some(8),
-        _ => None,
-    }
-}
-
-/// What the words ask for: the name of a struct, alone or followed by `--indent`.
-fn read_words(words: &[String]) -> Option<Request>
-    ensures asked { result ≡ asked words.now }
-    ensures inside { IfSome result (λ r. r.brand < length builtin.brands) }
-{
-    let (name, indented) = match words {
-        [name] => (name, false),
-        [name, option] if option.as_str() == "--indent" => (name, true),
-        _ => return None,
-    };
-    let brand = find_brand(name.as_str())?;
-    Some(Request { brand, indented })
 }
 
 /// `show` under the built-in set, which is made before any input is read.
@@ -99,10 +67,78 @@ fn show_built_in<R: Source, W: Sink>(
     show(alloc, &set, request.brand, source, sink, request.indented)
 }
 
-/// Runs the program on its words, and answers its exit status: 0 where the text was written, 1 where `show` was refused,
-/// with its number on `errors`, and 2 for other words, with the usage on `errors` and before any input is read. Where a
-/// line can't be written to `errors`, the status is the same.
-pub fn command<R: Source, W: Sink, F: Sink>(
+/// Shows what was asked for.
+fn show_asked<O: Opener, R: Source, W: Sink>(
+    alloc: Global,
+    opener: &mut O,
+    asked: Asked<'_>,
+    source: &mut R,
+    sink: &mut W,
+) -> Result<()>
+    requires { IsInside asked }
+    ensures shown { OnOk result (IsShownTask (IsOpened O.opens opener.old opener.new) (opener.new ≡ opener.old) O.File.left
+        (task_of asked) (R.left source.old) (R.left source.new) (W.written sink.old) (W.written sink.new)) }
+    ensures refused { IfErr result (λ e. IsRefusedTask (IsOpened O.opens opener.old opener.new)
+        (IsNotOpened O.opens opener.old opener.new) (opener.new ≡ opener.old) O.File.left O.File.failures
+        (source.new ≡ source.old) (task_of asked) e (R.left source.old) (R.left source.new)
+        (W.written sink.old) (W.written sink.new) (R.failures source.old) (R.failures source.new)
+        (W.failures sink.old) (W.failures sink.new)) }
+    ensures nothing { IfErr result (λ e. e.kind ≢ WriteFailed → sink.new ≡ sink.old) }
+{
+    match asked {
+        Asked::BuiltIn(request) => show_built_in(alloc, request, source, sink),
+        Asked::InFile(request) => show_with_file(alloc, opener, request, source, sink),
+    }
+}
+
+/// Runs the program on its words over what opens files, and answers its exit status: 0 where the text was written, 1 where
+/// `show` or `show_with_file` was refused, with its number on `errors`, and 2 for other words, with the usage on `errors`,
+/// before any input is read or a file is opened. Where a line can't be written to `errors`, the status is the same.
+pub fn command_over<O: Opener, R: Source, W: Sink, F: Sink>(
+    opener: &mut O,
+    alloc: Global,
+    words: &[String],
+    source: &mut R,
+    sink: &mut W,
+    errors: &mut F,
+) -> u8
+    ensures statuses { result ≤ 2 }
+    ensures other_words { asked words.now ≡ None → result ≡ 2 }
+    ensures known_words { result ≡ 2 → asked words.now ≡ None }
+    ensures unread { result ≡ 2 → source.new ≡ source.old }
+    ensures unopened { result ≡ 2 → opener.new ≡ opener.old }
+    ensures unwritten { result ≡ 2 → sink.new ≡ sink.old }
+    ensures usage { result ≡ 2 → IsTold usage_line (F.written errors.old) (F.written errors.new)
+        (F.failures errors.old) (F.failures errors.new) }
+    ensures shown { result ≡ 0 → (t : Task) × (asked words.now ≡ Some t)
+        × IsShownTask (IsOpened O.opens opener.old opener.new) (opener.new ≡ opener.old) O.File.left t
+        (R.left source.old) (R.left source.new) (W.written sink.old) (W.written sink.new) }
+    ensures quiet { result ≡ 0 → errors.new ≡ errors.old }
+    ensures refused { result ≡ 1 → (t : Task) × (e : Refusal) × (asked words.now ≡ Some t)
+        × IsTold (refusal_line e.kind) (F.written errors.old) (F.written errors.new)
+        (F.failures errors.old) (F.failures errors.new)
+        × IsRefusedTask (IsOpened O.opens opener.old opener.new) (IsNotOpened O.opens opener.old opener.new)
+        (opener.new ≡ opener.old) O.File.left O.File.failures (source.new ≡ source.old) t e
+        (R.left source.old) (R.left source.new) (W.written sink.old) (W.written sink.new)
+        (R.failures source.old) (R.failures source.new) (W.failures sink.old) (W.failures sink.new)
+        × (e.kind ≢ WriteFailed → sink.new ≡ sink.old) }
+{
+    let Some(asked) = read_words(words) else {
+        tell(USAGE.as_bytes(), errors);
+        return 2;
+    };
+    match show_asked(alloc, opener, asked, source, sink) {
+        Ok(()) => 0,
+        Err(error) => {
+            report(error.kind, errors);
+            1
+        }
+    }
+}
+
+/// The same over the files of a runtime.
+pub fn command<O: Files, R: Source, W: Sink, F: Sink>(
+    rt: &O,
     alloc: Global,
     words: &[String],
     source: &mut R,
@@ -116,27 +152,21 @@ pub fn command<R: Source, W: Sink, F: Sink>(
     ensures unwritten { result ≡ 2 → sink.new ≡ sink.old }
     ensures usage { result ≡ 2 → IsTold usage_line (F.written errors.old) (F.written errors.new)
         (F.failures errors.old) (F.failures errors.new) }
-    ensures shown { result ≡ 0 → (r : Request) × (asked words.now ≡ Some r)
-        × IsShown builtin r.brand r.indented (R.left source.old) (R.left source.new) (W.written sink.old) (W.written sink.new) }
+    ensures shown { result ≡ 0 → (t : Task) × (asked words.now ≡ Some t)
+        × IsShownTask IsSomeFile ⊤ ⟦<ReadSource<O::File> as Source>⟧.left t
+        (R.left source.old) (R.left source.new) (W.written sink.old) (W.written sink.new) }
     ensures quiet { result ≡ 0 → errors.new ≡ errors.old }
-    ensures refused { result ≡ 1 → (r : Request) × (kind : ErrorKind) × (asked words.now ≡ Some r)
-        × IsTold (refusal_line kind) (F.written errors.old) (F.written errors.new)
+    ensures refused { result ≡ 1 → (t : Task) × (e : Refusal) × (asked words.now ≡ Some t)
+        × IsTold (refusal_line e.kind) (F.written errors.old) (F.written errors.new)
         (F.failures errors.old) (F.failures errors.new)
-        × IsRefusedRun r kind (R.left source.old) (R.left source.new) (W.written sink.old) (W.written sink.new)
+        × IsRefusedTask IsSomeFile (λ _. ⊤) ⊤ ⟦<ReadSource<O::File> as Source>⟧.left ⟦<ReadSource<O::File> as Source>⟧.failures
+        (source.new ≡ source.old) t e
+        (R.left source.old) (R.left source.new) (W.written sink.old) (W.written sink.new)
         (R.failures source.old) (R.failures source.new) (W.failures sink.old) (W.failures sink.new)
-        × (kind ≢ WriteFailed → sink.new ≡ sink.old) }
+        × (e.kind ≢ WriteFailed → sink.new ≡ sink.old) }
 {
-    let Some(request) = read_words(words) else {
-        tell(USAGE.as_bytes(), errors);
-        return 2;
-    };
-    match show_built_in(alloc, request, source, sink) {
-        Ok(()) => 0,
-        Err(error) => {
-            report(error.kind, errors);
-            1
-        }
-    }
+    let mut opener = FilesOpener::new(rt);
+    command_over(&mut opener, alloc, words, source, sink, errors)
 }
 
 /// Writes a refusal's number, as far as the sink takes the line. No memory is taken.

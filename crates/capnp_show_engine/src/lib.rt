@@ -7,4 +7,6 @@
 pub mod command;
 pub mod engine;
 mod line;
+pub mod opener;
+pub mod request;
 pub mod with_set;

@@ -1,13 +1,16 @@
 //! Messages that are shown under a struct of a set that comes as a message itself.
-ghost use Rattle.std.specs.Prelude.{◌≡◌, ◌≢◌, ◌<◌, ◌&&◌, not, IfErr, IfSome, OnOk, bytes_eq, length};
+ghost use Rattle.std.specs.Prelude.{◌≡◌, ◌≢◌, ◌<◌, ◌⊎◌, ◌&&◌, not, ⊤, IfErr, IfSome, OnOk, bytes_eq, length};
 ghost use Rattle.capnp_device.specs.Device.{HasFailed};
 ghost use Rattle.capnp_device.specs.declared.error.ErrorKind.TheVariants.{ReadFailed, WriteFailed};
 ghost use Rattle.capnp_schema.specs.Entries.{lists_seen};
 ghost use Rattle.capnp_schema.specs.Schema.{node_of};
+ghost use Rattle.capnp_show_engine.specs.Opened.{IsNotOpened, IsOpened};
 ghost use Rattle.capnp_show_engine.specs.Show.{IsCutShort, IsOfMessage, IsShown};
 ghost use Rattle.capnp_show_engine.specs.WithSet.{HasReadFailed, IsRefusedWithSet, IsStructNamed, brand_asked};
 
 use crate::engine::show;
+use crate::opener::Opener;
+use crate::request::FileRequest;
 use capnp_schema::set::SchemaSet;
 use capnp_sets::message::read_message;
 use capnp_wire::device::{Sink, Source};
@@ -66,6 +69,7 @@ pub fn show_with_set<S: Source, R: Source, W: Sink>(
     ensures beginning { IfErr result (λ e. e.kind ≡ WriteFailed → IsStructNamed name.now (S.left set_source.old) (S.left set_source.new) (λ set b.
         IsCutShort set b indented (R.left source.old) (R.left source.new) (W.written sink.old) (W.written sink.new))) }
     ensures nothing { IfErr result (λ e. e.kind ≢ WriteFailed → sink.new ≡ sink.old) }
+    ensures first { (source.new ≡ source.old) ⊎ IsStructNamed name.now (S.left set_source.old) (S.left set_source.new) (λ _ _. ⊤) }
 {
     let bytes = read_all(alloc, set_source)?;
     let set = read_message(alloc, &bytes)?;
@@ -73,4 +77,46 @@ pub fn show_with_set<S: Source, R: Source, W: Sink>(
         return Err(Error::from(ErrorKind::NameNotFound));
     };
     show(alloc, &set, brand, source, sink, indented)
+}
+
+/// `show_with_set` under the set that a file holds: opens it, and then reads it before the message.
+///
+/// Refused as `show_with_set`, and with `ReadFailed` where the file can't be opened; nothing of the message was read then.
+pub fn show_with_file<O: Opener, R: Source, W: Sink>(
+    alloc: Global,
+    opener: &mut O,
+    request: FileRequest<'_>,
+    source: &mut R,
+    sink: &mut W,
+) -> Result<()>
+    ensures shown { OnOk result (IsOpened O.opens opener.old opener.new request.path.now (λ f g.
+        IsStructNamed request.name.now (O.File.left f) (O.File.left g) (λ set b.
+        IsShown set b request.indented (R.left source.old) (R.left source.new) (W.written sink.old) (W.written sink.new)))) }
+    ensures refused { IfErr result (λ e. IsOfMessage e.kind → IsOpened O.opens opener.old opener.new request.path.now (λ f g.
+        IsRefusedWithSet request.name.now request.indented e (source.new ≡ source.old)
+        (O.File.left f) (O.File.left g) (R.left source.old) (R.left source.new))) }
+    ensures read_failed { IfErr result (λ e. e.kind ≡ ReadFailed →
+        (IsNotOpened O.opens opener.old opener.new request.path.now × (source.new ≡ source.old))
+        ⊎ IsOpened O.opens opener.old opener.new request.path.now (λ f g. HasReadFailed (source.new ≡ source.old)
+        (O.File.failures f) (O.File.failures g) (R.failures source.old) (R.failures source.new))) }
+    ensures write_failed { IfErr result (λ e. e.kind ≡ WriteFailed →
+        HasFailed (W.failures sink.old) (W.failures sink.new)) }
+    ensures beginning { IfErr result (λ e. e.kind ≡ WriteFailed → IsOpened O.opens opener.old opener.new request.path.now (λ f g.
+        IsStructNamed request.name.now (O.File.left f) (O.File.left g) (λ set b.
+        IsCutShort set b request.indented (R.left source.old) (R.left source.new) (W.written sink.old) (W.written sink.new)))) }
+    ensures nothing { IfErr result (λ e. e.kind ≢ WriteFailed → sink.new ≡ sink.old) }
+    ensures first { (source.new ≡ source.old) ⊎ IsOpened O.opens opener.old opener.new request.path.now (λ f g.
+        IsStructNamed request.name.now (O.File.left f) (O.File.left g) (λ _ _. ⊤)) }
+{
+    let Ok(mut file) = opener.open(request.path) else {
+        return Err(Error::from(ErrorKind::ReadFailed));
+    };
+    show_with_set(
+        alloc,
+        &mut file,
+        request.name,
+        source,
+        sink,
+        request.indented,
+    )
 }
