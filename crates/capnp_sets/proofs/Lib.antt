@@ -1,11 +1,14 @@
 pub mod AppliedReads
 pub mod Bases
+pub mod Caused
 pub mod Elements
 pub mod Faults
 pub mod Generics
 pub mod LawsOfSets
 pub mod ListsRead
+pub mod MessageKinds
 pub mod PartsSeen
 pub mod RowsRead
+pub mod SetKinds
 pub mod SetsRead
 pub mod Taken

@@ -1,9 +1,11 @@
 pub mod Causes
+pub mod Facts
 pub mod Fields
 pub mod Handles
 pub mod Laws
 pub mod Lists
 pub mod Message
 pub mod Parts
+pub mod Refusals
 pub mod Types
 pub mod Values

@@ -1,9 +1,10 @@
 //! Sets of schemas that are read from the bytes of a message.
-ghost use Rattle.std.specs.Prelude.{◌≡◌, ◌≢◌, Some, IfErr, IfOk};
+ghost use Rattle.std.specs.Prelude.{◌≡◌, ◌≢◌, true, Some, IfErr, IfOk};
 ghost use Rattle.capnp_device.specs.declared.error.ErrorKind.TheVariants.{OutOfMemory};
 ghost use Rattle.capnp_schema.specs.Accepted.{IsAccepted};
 ghost use Rattle.capnp_schema.specs.Entries.{lists_seen};
 ghost use Rattle.capnp_sets.specs.Message.{IsMessageRefusal, message_set};
+ghost use Rattle.capnp_sets.specs.Refusals.{IsOfSet, is_set_kind};
 
 use crate::sets::read_schema_set;
 use capnp_dynamic_readers::dynamic_struct;
@@ -22,12 +23,12 @@ pub fn read_message(alloc: Global, bytes: &[u8]) -> Result<SchemaSet>
     ensures set { IfOk result (λ set. message_set bytes.now ≡ Some (lists_seen set)) }
     ensures accepted { IfOk result (λ set. IsAccepted (lists_seen set)) }
     ensures refused { IfErr result (λ e. e.kind ≢ OutOfMemory → IsMessageRefusal bytes.now e) }
+    ensures kinds { IfErr result (λ e. is_set_kind e.kind ≡ true) }
+    ensures of_no_device { IfErr result (λ e. IsOfSet e.kind) }
 {
-    let meta = meta::new_set(alloc)?;
+    let meta_set = meta::new_set(alloc)?;
     let reader = Reader::new(alloc, bytes)?;
     let root = reader.get_root().get_struct()?;
-    read_schema_set(
-        alloc,
-        dynamic_struct::Reader::new(root, meta.struct_schema(0)),
-    )
+    let record = dynamic_struct::Reader::new(root, meta_set.struct_schema(0));
+    read_schema_set(alloc, record)
 }

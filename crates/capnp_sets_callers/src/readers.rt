@@ -1,9 +1,10 @@
-//! The set that a message stands for.
-ghost use Rattle.std.specs.Prelude.{◌≡◌, IfOk};
+//! The set that a message stands for, under a meta set that the caller has made once.
+ghost use Rattle.std.specs.Prelude.{◌≡◌, ◌≢◌, Some, IfErr, IfOk};
+ghost use Rattle.capnp_device.specs.declared.error.ErrorKind.TheVariants.{OutOfMemory};
 ghost use Rattle.capnp_schema.specs.Entries.{lists_seen};
 ghost use Rattle.capnp_schema.specs.Meta.{meta};
 ghost use Rattle.capnp_schema.specs.Schema.{seen_schemas};
-ghost use Rattle.capnp_sets_callers.specs.Streams.{AreListsOf};
+ghost use Rattle.capnp_sets.specs.Message.{IsMessageRefusal, message_set};
 
 use capnp_dynamic_readers::dynamic_struct;
 use capnp_schema::record::{BrandRecord, EnumRecord, NodeRecord};
@@ -20,7 +21,8 @@ pub fn lists_in(
     bytes: &[u8],
 ) -> Result<(Vec<NodeRecord>, Vec<BrandRecord>, Vec<EnumRecord>)>
     requires { lists_seen meta_set.now ≡ meta }
-    ensures { IfOk result (λ r. AreListsOf bytes.now (seen_schemas r.0.items r.1.items r.2.items)) }
+    ensures lists { IfOk result (λ r. message_set bytes.now ≡ Some (seen_schemas r.0.items r.1.items r.2.items)) }
+    ensures refused { IfErr result (λ e. e.kind ≢ OutOfMemory → IsMessageRefusal bytes.now e) }
 {
     let reader = Reader::new(alloc, bytes)?;
     let root = reader.get_root().get_struct()?;
@@ -32,7 +34,8 @@ pub fn lists_in(
 /// `read_schema_set` are.
 pub fn set_in(alloc: Global, meta_set: &SchemaSet, bytes: &[u8]) -> Result<SchemaSet>
     requires { lists_seen meta_set.now ≡ meta }
-    ensures { IfOk result (λ set. AreListsOf bytes.now (lists_seen set)) }
+    ensures set { IfOk result (λ set. message_set bytes.now ≡ Some (lists_seen set)) }
+    ensures refused { IfErr result (λ e. e.kind ≢ OutOfMemory → IsMessageRefusal bytes.now e) }
 {
     let reader = Reader::new(alloc, bytes)?;
     let root = reader.get_root().get_struct()?;

@@ -1,5 +1,7 @@
 //! Sets that are read from messages of the public tool, and refused ones.
 
+use crate::hostile::HOSTILE;
+use crate::kinds::{BRANDS, ENUMS, KINDS, NODES};
 use crate::messages::{BUILTIN, FLAT, META, REFUSED};
 use capnp_schema::{builtin, meta};
 use capnp_sets_callers::readers::{lists_in, set_in};
@@ -59,6 +61,17 @@ fn the_meta_set_is_read(rt: HostRuntime) -> Result<(), Fail> {
 }
 
 #[test]
+fn each_kind_of_part_is_read(rt: HostRuntime) -> Result<(), Fail> {
+    let meta_set = meta::new_set(rt.alloc())?;
+    let bytes = bytes_of(rt.alloc(), KINDS)?;
+    let read = lists_in(rt.alloc(), &meta_set, &bytes)?;
+    assert_eq!(&rt; format!(in rt.alloc(); "{:?}", read.0)?.as_str(), NODES);
+    assert_eq!(&rt; format!(in rt.alloc(); "{:?}", read.1)?.as_str(), BRANDS);
+    assert_eq!(&rt; format!(in rt.alloc(); "{:?}", read.2)?.as_str(), ENUMS);
+    Ok(())
+}
+
+#[test]
 fn a_small_set_is_read_and_checked(rt: HostRuntime) -> Result<(), Fail> {
     let meta_set = meta::new_set(rt.alloc())?;
     let bytes = bytes_of(rt.alloc(), FLAT)?;
@@ -91,6 +104,30 @@ fn each_broken_set_is_refused(rt: HostRuntime) -> Result<(), Fail> {
     for line in REFUSED.split('\n') {
         if !line.starts_with('#') && line != "" {
             row_is_refused(&rt, rt.alloc(), line)?;
+        }
+    }
+    Ok(())
+}
+
+/// Asserts what becomes of the small set with the word that a row says.
+fn changed_is_refused(rt: &impl Abort, alloc: Global, row: &str) -> Result<(), Fail> {
+    let (place, rest) = row.split_once(' ').unwrap_or(("", ""));
+    let (word, number) = rest.split_once(' ').unwrap_or(("", ""));
+    let mut bytes = bytes_of(alloc, FLAT)?;
+    let from = 8 + 8 * place.parse::<usize>().unwrap_or(0);
+    for (byte, new) in bytes.iter_mut().skip(from).zip(bytes_of(alloc, word)?) {
+        *byte = new;
+    }
+    let wanted = number.parse::<u32>().unwrap_or(1);
+    assert_eq!(rt; refusal(alloc, &bytes)?, wanted, "{row}");
+    Ok(())
+}
+
+#[test]
+fn each_broken_pointer_is_refused(rt: HostRuntime) -> Result<(), Fail> {
+    for line in HOSTILE.split('\n') {
+        if !line.starts_with('#') && line != "" {
+            changed_is_refused(&rt, rt.alloc(), line)?;
         }
     }
     Ok(())

@@ -1,0 +1,111 @@
+-- Which kinds the bytes of a message are refused with, where they are read as a set.
+use Rattle.std.proofs.Common.{ℕ, ◌+◌, ◌*◌, ◌/◌, ◌≡◌, ◌≢◌, ◌⊎◌, ◌∙◌, ap, refl, subst, sym, inl, inr, ⊤, Bool, true, false, cond, nat_lt, length, take, drop, List, Ok, Err, Result, Some, IfErr}
+use Rattle.std.proofs.lemmas.Bool.{true≢false}
+use Rattle.capnp_device.specs.declared.error.Error.{Error}
+use Rattle.capnp_device.specs.declared.error.ErrorKind.{ErrorKind}
+use Rattle.capnp_device.specs.declared.error.ErrorKind.TheVariants.{NameNotFound, OutOfMemory, ReadFailed, Schema, TooManySegments, Truncated, WriteFailed}
+use Rattle.capnp_wire.specs.Locate.{Segments}
+use Rattle.capnp_wire.specs.Reading.{as_struct}
+use Rattle.capnp_wire.specs.Slot.{little_endian}
+use Rattle.capnp_wire.specs.Stream.{cut, header_bytes, message_tree_of, root_read, segments_after_count, segments_after_table, segments_of, total_words}
+use Rattle.capnp_wire.specs.Tree as tree
+use Rattle.capnp_wire.specs.Tree.{StructTree, Tree}
+use Rattle.capnp_wire.specs.declared.fault.Fault.TheVariants as fault
+use Rattle.capnp_schema.specs.Broken.{IsKindOf, IsRefusalOf}
+use Rattle.capnp_schema.specs.Meta.{meta}
+use Rattle.capnp_schema.specs.Schema.{Schemas}
+use Rattle.capnp_schema.specs.Types.{StructType}
+use Rattle.capnp_records.specs.Facts.ReadFaults.{RecordSound, value_of-sound}
+use Rattle.capnp_records.specs.Reading.{struct_record}
+use Rattle.capnp_records.specs.Record.{Left, Record}
+use Rattle.capnp_sets.specs.Lists.{IsSetRefusal, lists_of}
+use Rattle.capnp_sets.specs.Message.{IsMessageRefusal, IsRootRefusal, root_record, root_struct}
+use Rattle.capnp_sets.specs.Refusals.{IsOfSet, is_set_kind}
+use Rattle.capnp_sets.proofs.Caused.{IsSetKind}
+use Rattle.capnp_sets.proofs.SetKinds.{caused_set}
+
+-- a reading that is refused with one of these kinds, if it is
+abbrev IsTold : {A : Type 0} → Result A ErrorKind → Type 0
+IsTold (Ok a) = ⊤
+IsTold (Err kind) = IsSetKind kind
+
+either_told : {A : Type 0} (q : Bool) (r s : Result A ErrorKind) → IsTold r → IsTold s → IsTold (cond q r s)
+either_told true r s h k = h
+either_told false r s h k = k
+
+-- ---- the stream and its root ----
+
+stream_told : (bytes : List ℕ) → IsTold (segments_of bytes)
+stream_told bytes =
+    either_told (nat_lt (length bytes) 4) _ _ refl
+    (either_told (nat_lt 512 (little_endian (take 4 bytes) + 1)) _ _ refl
+    (either_told (nat_lt (length bytes) (header_bytes (little_endian (take 4 bytes) + 1))) _ _ refl
+    (either_told (nat_lt (length bytes) _) _ _ refl tt)))
+
+tree_told : (r : Result Segments ErrorKind) → IsTold r → IsTold (root_read r)
+tree_told (Ok segments) h = tt
+tree_told (Err kind) h = h
+
+struct_told : (t : Tree) → IsTold (as_struct t 64)
+struct_told tree.Null = tt
+struct_told (tree.Struct bytes ps) = tt
+struct_told (tree.Voids n) = refl
+struct_told (tree.Bits bs) = refl
+struct_told (tree.Numbers w bytes) = refl
+struct_told (tree.Pointers ps) = refl
+struct_told (tree.Composite d p es) = refl
+struct_told (tree.FaultLeaf fault.BadPointer) = refl
+struct_told (tree.FaultLeaf fault.TooDeep) = refl
+struct_told (tree.FaultLeaf fault.CapabilityPointer) = refl
+
+root_told : (r : Result Tree ErrorKind) → IsTold r → IsTold (root_struct r)
+root_told (Ok t) h = struct_told t
+root_told (Err kind) h = h
+
+-- ---- the set of a root ----
+
+rule_kind : (set : Schemas) (kind : ErrorKind) → IsKindOf set kind → IsSetKind kind
+rule_kind set OutOfMemory h = refl
+rule_kind set (Schema rule table entry field) h = refl
+rule_kind set kind h = absurd h
+
+root-sound : (set : Schemas) (root : StructTree) → RecordSound (struct_record set (Left 63) root 0)
+root-sound set root = value_of-sound set (tree.Struct root.bytes root.pointers) (Left 64) (StructType 0 0)
+
+record_kind : (root : StructTree) (e : Error) → IsSetRefusal (root_record root) e → IsSetKind e.kind
+record_kind root e (inl here) = caused_set (root_record root) (root-sound meta root) e.kind here
+record_kind root e (inr (set, lists, broken)) = rule_kind set e.kind broken
+
+refusal_kind : (r : Result StructTree ErrorKind) (e : Error) → IsTold r → IsRootRefusal r e → IsSetKind e.kind
+refusal_kind (Ok root) e told h = record_kind root e h
+refusal_kind (Err kind) e told h = subst IsSetKind (sym h) told
+
+pub message_kind : (bytes : List ℕ) (e : Error) → IsMessageRefusal bytes e → IsSetKind e.kind
+message_kind bytes e h = refusal_kind (root_struct (message_tree_of bytes)) e (root_told (message_tree_of bytes) (tree_told (segments_of bytes) (stream_told bytes))) h
+
+-- who is refused for memory, or for one of these
+pub set_kind : (bytes : List ℕ) (e : Error) → (e.kind ≢ OutOfMemory → IsMessageRefusal bytes e) → IsSetKind e.kind
+set_kind bytes e h = go (is_set_kind e.kind) refl
+  where
+    no_memory : is_set_kind e.kind ≡ false → e.kind ≢ OutOfMemory
+    no_memory not m = true≢false (sym (ap is_set_kind m) ∙ not)
+
+    go : (q : Bool) → is_set_kind e.kind ≡ q → IsSetKind e.kind
+    go true known = known
+    go false known = message_kind bytes e (h (no_memory known))
+
+pub of_set : (kind : ErrorKind) → IsSetKind kind → IsOfSet kind
+of_set kind h = (
+  (λ e. true≢false (sym h ∙ ap is_set_kind e)),
+  (λ e. true≢false (sym h ∙ ap is_set_kind e)),
+  (λ e. true≢false (sym h ∙ ap is_set_kind e)),
+)
+
+-- each refusal of a call by what it says
+pub each_kind : {A : Type 0} (made : Result A Error) (bytes : List ℕ) → IfErr made (λ e. e.kind ≢ OutOfMemory → IsMessageRefusal bytes e) → IfErr made (λ e. IsSetKind e.kind)
+each_kind (Ok a) bytes h = tt
+each_kind (Err e) bytes h = set_kind bytes e h
+
+pub each_of_set : {A : Type 0} (made : Result A Error) → IfErr made (λ e. IsSetKind e.kind) → IfErr made (λ e. IsOfSet e.kind)
+each_of_set (Ok a) h = tt
+each_of_set (Err e) h = of_set e.kind h

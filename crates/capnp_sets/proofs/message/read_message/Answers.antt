@@ -1,0 +1,30 @@
+use Rattle.std.proofs.Common.{ap, ◌∙◌}
+use Rattle.capnp_wire.specs.Message.{message_tree}
+use Rattle.capnp_wire.specs.Standing.{levels_of, struct_of, tree_of}
+use Rattle.capnp_schema.specs.Entries.{lists_seen}
+use Rattle.capnp_schema.specs.StructHandles.{number_of, set_of}
+use Rattle.capnp_sets.proofs.MessageKinds.{each_kind, each_of_set}
+use Rattle.capnp_sets.specs.Facts.RootRead.{root_entered, root_seen, set_read, set_refused}
+use Rattle.capnp_sets.proofs.message.read_message.Goals as goal
+
+pub returns-clause-set : goal.returns-clause-set
+returns-clause-set c =
+    let root = root_entered c.args.bytes.now (message_tree c.in_ok-reader.reader) (tree_of c.get_root.result) (levels_of c.get_root.result) (struct_of c.in_ok-root.root) c.in_ok-reader.ensures c.get_root.ensures.tree c.get_root.ensures.levels c.in_ok-root.ensures.read in
+    let seen = root_seen c.new-record.result c.in_ok-root.root (levels_of c.get_root.result) c.new-record.ensures.reader
+    (record { set = ap set_of c.new-record.ensures.schema ∙ (c.struct_schema.ensures.set ∙ c.in_ok-meta_set.ensures.set); number = ap number_of c.new-record.ensures.schema ∙ c.struct_schema.ensures.number })
+    c.in_ok-root.ensures.levels c.get_root.ensures.levels in
+    set_read c.read_schema_set.result lists_seen c.args.bytes.now (struct_of c.in_ok-root.root) c.new-record.result root seen c.read_schema_set.ensures.set
+
+pub returns-clause-refused : goal.returns-clause-refused
+returns-clause-refused c =
+    let root = root_entered c.args.bytes.now (message_tree c.in_ok-reader.reader) (tree_of c.get_root.result) (levels_of c.get_root.result) (struct_of c.in_ok-root.root) c.in_ok-reader.ensures c.get_root.ensures.tree c.get_root.ensures.levels c.in_ok-root.ensures.read in
+    let seen = root_seen c.new-record.result c.in_ok-root.root (levels_of c.get_root.result) c.new-record.ensures.reader
+    (record { set = ap set_of c.new-record.ensures.schema ∙ (c.struct_schema.ensures.set ∙ c.in_ok-meta_set.ensures.set); number = ap number_of c.new-record.ensures.schema ∙ c.struct_schema.ensures.number })
+    c.in_ok-root.ensures.levels c.get_root.ensures.levels in
+    set_refused c.read_schema_set.result c.args.bytes.now (struct_of c.in_ok-root.root) c.new-record.result root seen c.read_schema_set.ensures.refused
+
+pub returns-clause-kinds : goal.returns-clause-kinds
+returns-clause-kinds c = each_kind c.read_schema_set.result c.args.bytes.now (returns-clause-refused c)
+
+pub returns-clause-of_no_device : goal.returns-clause-of_no_device
+returns-clause-of_no_device c = each_of_set c.read_schema_set.result (returns-clause-kinds c)

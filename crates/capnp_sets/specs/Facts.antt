@@ -1,0 +1,2 @@
+-- Facts of the definitions, with their proofs: what lemmas of crates above cite.
+pub mod RootRead
