@@ -1,5 +1,5 @@
 -- What is written and told for the bytes of a stream.
-use Rattle.std.specs.Prelude.{ℕ, ◌≡◌, ◌≢◌, ◌⊎◌, ◌<◌, List, Bool, length, take, Option, Result, Ok, Err}
+use Rattle.std.specs.Prelude.{ℕ, ◌≡◌, ◌≢◌, ◌⊎◌, ◌<◌, List, Bool, length, take, Option, Ok, Err}
 use Rattle.std.specs.Io.KnownBytes.{Appends}
 use Rattle.capnp_device.specs.declared.error.Error.{Error}
 use Rattle.capnp_device.specs.declared.error.ErrorKind.{ErrorKind}
@@ -8,14 +8,10 @@ use Rattle.capnp_wire.specs.Stream.{message_tree_of}
 use Rattle.capnp_wire.specs.Tree.{StructTree}
 use Rattle.capnp_schema.specs.Accepted.{IsAccepted}
 use Rattle.capnp_schema.specs.Broken.{IsRefusalOf}
-use Rattle.capnp_schema.specs.RequestSet.{request_set}
-use Rattle.capnp_schema.specs.Schema.{Schemas}
-use Rattle.capnp_records.specs.Reading.{struct_record}
-use Rattle.capnp_records.specs.Record.{Left, Record}
-use Rattle.capnp_request.specs.Conversion.{Note}
-use Rattle.capnp_request.specs.Order.{conversion_of}
-use Rattle.capnp_request.specs.Reading.{request_said}
-use Rattle.capnp_request.specs.Terms.{RequestTerm, Said}
+use Rattle.capnp_schema.specs.Schema.{Schemas, seen_schemas}
+use Rattle.capnp_request.specs.Refusals.{IsRefusal}
+use Rattle.capnp_request.specs.Shapes.{AreBrandsOf}
+use Rattle.capnp_request.specs.declared.conversion.Converted.{Converted}
 use Rattle.capnp_set_writer.specs.Message.{IsReadAsSet}
 use Rattle.capnp_set_writer.specs.Writes.{IsWriteRefusal}
 use Rattle.capnp_sets.specs.Message.{root_struct}
@@ -23,33 +19,77 @@ use Rattle.capnp_show_engine.specs.Command.{IsTold}
 use Rattle.capnp_show_engine.specs.Show.{IsRead}
 use Rattle.capnp_set_engine.specs.Notes.{note_lines}
 
--- ---- the request in the bytes of a stream, and what it is converted to ----
+-- the root of the first message in these bytes is read as this struct
+abbrev pub IsRoot : List ℕ → StructTree → Type 0
+IsRoot bytes root = root_struct (message_tree_of bytes) ≡ Ok root
 
--- the record of a root that was read as a request, which takes one of the 64 levels
-abbrev pub request_record : StructTree → Record
-request_record root = struct_record request_set (Left 63) root 0
+-- the lists of a conversion, as definitions see them
+abbrev pub set_in : Converted → Schemas
+set_in c = seen_schemas c.nodes.items c.brands.items c.enums.items
 
-abbrev pub root_request : Result StructTree ErrorKind → Said RequestTerm
-root_request (Ok root) = request_said (request_record root)
-root_request (Err kind) = Err kind
+-- the lines of its notes
+abbrev pub lines_in : Converted → List ℕ
+lines_in c = note_lines (set_in c).nodes c.notes.items
 
--- the request that is the first message in these bytes
-abbrev pub message_request : List ℕ → Said RequestTerm
-message_request bytes = root_request (root_struct (message_tree_of bytes))
+-- a message and lines are those of a conversion: its lists are accepted, and the message is read as them
+pub record IsMessageOf (c : Converted) (message lines : List ℕ) : Type 0 where
+  pub accepted : IsAccepted (set_in c)
+  pub read : IsReadAsSet (set_in c) message
+  pub noted : lines ≡ lines_in c
 
-abbrev pub request_conversion : Said RequestTerm → (strict : Bool) → Said (Schemas × List Note)
-request_conversion (Ok request) strict = conversion_of request strict
-request_conversion (Err kind) strict = Err kind
+-- what a conversion is known of: the lists have one brand for each node
+abbrev pub IsConverted : Converted → Type 0
+IsConverted c = AreBrandsOf c.nodes.items c.brands.items
 
--- the lists and notes that it stands for
-abbrev pub message_conversion : List ℕ → (strict : Bool) → Said (Schemas × List Note)
-message_conversion bytes strict = request_conversion (message_request bytes) strict
+-- a message and lines are those of a conversion of the request in these bytes
+pub record IsSetOf (bytes message lines : List ℕ) : Type 0 where
+  pub root : StructTree
+  pub request : IsRoot bytes root
+  pub conversion : Converted
+  pub converted : IsConverted conversion
+  pub made : IsMessageOf conversion message lines
 
--- bytes are read as a set that is accepted and that the request stands for, and lines are those of its notes
-pub record IsSetOf (strict : Bool) (bytes message lines : List ℕ) : Type 0 where
-  pub set : Schemas
-  pub notes : List Note
-  pub converted : message_conversion bytes strict ≡ Ok (set, notes)
-  pub accepted : IsAccepted set
-  pub read : IsReadAsSet set message
-  pub noted : lines ≡ note_lines set.nodes notes
+-- ---- refusals ----
+
+-- no request is read: of a stream that is refused, of a root that is no struct, or of a request that isn't converted
+abbrev pub IsUnread : (strict : Bool) → List ℕ → ErrorKind → Type 0
+IsUnread strict bytes kind = (root_struct (message_tree_of bytes) ≡ Err kind) ⊎ ((root : StructTree) × IsRoot bytes root × IsRefusal strict kind)
+
+-- no message is made of a conversion: its lists break a rule, or they are accepted and can't be written
+abbrev pub IsUnwritten : Converted → Error → Type 0
+IsUnwritten c e = IsRefusalOf (set_in c) e ⊎ (IsAccepted (set_in c) × (e.kind ≢ TooLarge → IsWriteRefusal e.kind))
+
+-- no message is made of the request in these bytes
+abbrev pub HasNoSet : (strict : Bool) → List ℕ → Error → Type 0
+HasNoSet strict bytes e =
+    IsUnread strict bytes e.kind ⊎ ((root : StructTree) × IsRoot bytes root × ((c : Converted) × IsConverted c × IsUnwritten c e))
+
+-- ---- what a conversion did to its source and sinks, by what was left before and after, what was written, and the counts of
+-- failures ----
+
+-- some bytes were read to the end, the message of their set was written and nothing else, and the lines of its notes were told
+pub record IsWritten (left left' written written' told told' : Option (List ℕ)) (failures failures' : ℕ) : Type 0 where
+  pub bytes : List ℕ
+  pub read : IsRead bytes left left'
+  pub message : List ℕ
+  pub lines : List ℕ
+  pub set : IsSetOf bytes message lines
+  pub wrote : Appends written written' message
+  pub notes : IsTold lines told told' failures failures'
+
+-- some bytes were read to the end, of whose request no message is made
+pub record IsRefused (strict : Bool) (e : Error) (left left' : Option (List ℕ)) : Type 0 where
+  pub bytes : List ℕ
+  pub read : IsRead bytes left left'
+  pub none : HasNoSet strict bytes e
+
+-- some bytes were read to the end, and a beginning of the message of their set, not the whole, was written
+pub record IsCutShort (left left' written written' : Option (List ℕ)) : Type 0 where
+  pub bytes : List ℕ
+  pub read : IsRead bytes left left'
+  pub message : List ℕ
+  pub lines : List ℕ
+  pub set : IsSetOf bytes message lines
+  pub count : ℕ
+  pub proper : count < length message
+  pub wrote : Appends written written' (take count message)
