@@ -41,12 +41,16 @@ pub record IsMessageOf (c : Converted) (message lines : List ℕ) : Type 0 where
 abbrev pub IsConverted : Converted → Type 0
 IsConverted c = AreBrandsOf c.nodes.items c.brands.items
 
--- a message and lines are those of a conversion of the request in these bytes
-pub record IsSetOf (bytes message lines : List ℕ) : Type 0 where
+-- a conversion is of the request in these bytes
+pub record IsConvertedFrom (bytes : List ℕ) (c : Converted) : Type 0 where
   pub root : StructTree
   pub request : IsRoot bytes root
+  pub converted : IsConverted c
+
+-- a message and lines are those of a conversion of the request in these bytes
+pub record IsSetOf (bytes message lines : List ℕ) : Type 0 where
   pub conversion : Converted
-  pub converted : IsConverted conversion
+  pub request : IsConvertedFrom bytes conversion
   pub made : IsMessageOf conversion message lines
 
 -- ---- refusals ----
@@ -62,7 +66,7 @@ IsUnwritten c e = IsRefusalOf (set_in c) e ⊎ (IsAccepted (set_in c) × (e.kind
 -- no message is made of the request in these bytes
 abbrev pub HasNoSet : (strict : Bool) → List ℕ → Error → Type 0
 HasNoSet strict bytes e =
-    IsUnread strict bytes e.kind ⊎ ((root : StructTree) × IsRoot bytes root × ((c : Converted) × IsConverted c × IsUnwritten c e))
+    IsUnread strict bytes e.kind ⊎ ((c : Converted) × IsConvertedFrom bytes c × IsUnwritten c e)
 
 -- ---- what a conversion did to its source and sinks, by what was left before and after, what was written, and the counts of
 -- failures ----

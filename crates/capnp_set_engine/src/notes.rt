@@ -55,7 +55,7 @@ fn put_note(lines: &mut String, nodes: &[NodeRecord], note: Note) -> Result<()>
 }
 
 /// A line for each note, in their order. Refused with `OutOfMemory` alone.
-pub(crate) fn note_lines(alloc: Global, nodes: &[NodeRecord], notes: &[Note]) -> Result<String>
+pub(crate) fn get_lines(alloc: Global, nodes: &[NodeRecord], notes: &[Note]) -> Result<String>
     ensures lines { IfOk result (λ lines. string_bytes lines ≡ note_lines (map seen_node nodes.now) notes.now) }
     ensures memory { IfErr result (λ e. e.kind ≡ OutOfMemory) }
 {
