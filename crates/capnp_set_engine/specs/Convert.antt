@@ -29,7 +29,7 @@ set_in c = seen_schemas c.nodes.items c.brands.items c.enums.items
 
 -- the lines of its notes
 abbrev pub lines_in : Converted → List ℕ
-lines_in c = note_lines (set_in c).nodes c.notes.items
+lines_in c = note_lines (set_in c) c.notes.items
 
 -- a message and lines are those of a conversion: its lists are accepted, and the message is read as them
 pub record IsMessageOf (c : Converted) (message lines : List ℕ) : Type 0 where

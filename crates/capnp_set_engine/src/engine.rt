@@ -27,7 +27,7 @@ struct Made {
 }
 
 /// What the request in these bytes is converted to.
-fn converted(alloc: Global, bytes: &[u8], strict: bool) -> Result<Converted>
+fn read_conversion(alloc: Global, bytes: &[u8], strict: bool) -> Result<Converted>
     ensures converted { IfOk result (IsConvertedFrom bytes.now) }
     ensures refused { IfErr result (λ e. e.kind ≢ OutOfMemory → IsUnread strict bytes.now e.kind) }
     ensures of_no_device { IfErr result (λ e. IsOfRead e.kind) }
@@ -40,7 +40,7 @@ fn converted(alloc: Global, bytes: &[u8], strict: bool) -> Result<Converted>
 }
 
 /// The message of the checked set of a conversion, and the lines of its notes.
-fn made(alloc: Global, converted: Converted) -> Result<Made>
+fn make(alloc: Global, converted: Converted) -> Result<Made>
     ensures made { IfOk result (λ m. IsMessageOf converted m.message.items (string_bytes m.lines)) }
     ensures refused { IfErr result (λ e. e.kind ≢ OutOfMemory → IsUnwritten converted e) }
     ensures of_no_device { IfErr result (λ e. IsOfRead e.kind) }
@@ -53,18 +53,18 @@ fn made(alloc: Global, converted: Converted) -> Result<Made>
     } = converted;
     let set = SchemaSet::new(alloc, nodes, brands, enums)?;
     let message = write_set(alloc, &set)?;
-    let lines = get_lines(alloc, set.nodes(), notes.as_slice())?;
+    let lines = get_lines(alloc, &set, notes.as_slice())?;
     Ok(Made { message, lines })
 }
 
 /// The message of the set of the request in these bytes, and the lines of its notes.
-fn made_of(alloc: Global, bytes: &[u8], strict: bool) -> Result<Made>
+fn make_of(alloc: Global, bytes: &[u8], strict: bool) -> Result<Made>
     ensures made { IfOk result (λ m. IsSetOf bytes.now m.message.items (string_bytes m.lines)) }
     ensures refused { IfErr result (λ e. e.kind ≢ OutOfMemory → HasNoSet strict bytes.now e) }
     ensures of_no_device { IfErr result (λ e. IsOfRead e.kind) }
 {
-    let conversion = converted(alloc, bytes, strict)?;
-    made(alloc, conversion)
+    let conversion = read_conversion(alloc, bytes, strict)?;
+    make(alloc, conversion)
 }
 
 /// Reads the source to its end and writes the message of the set that the first message's root stands for, a compiler's
@@ -97,7 +97,7 @@ pub fn convert<R: Source, W: Sink, F: Sink>(
     ensures quiet { OnErr result (errors.new ≡ errors.old) }
 {
     let bytes = read_all(alloc, source)?;
-    let made = made_of(alloc, &bytes, strict)?;
+    let made = make_of(alloc, &bytes, strict)?;
     write_all(sink, &made.message)?;
     tell(made.lines.as_bytes(), errors);
     Ok(())
