@@ -64,8 +64,6 @@ show addressbook AddressBook '(people = [(id = 123, name = "Alice", email = "ali
 expect 'no bytes' $? 1 '' 'refused: 2'
 head -c 100 examples/addressbook.request | ./capnp_set > "$scratch/out" 2> "$scratch/err"
 expect 'a request cut short' $? 1 '' 'refused: 2'
-./capnp_set < examples/addressbook.bin > "$scratch/out" 2> "$scratch/err"
-expect 'another message' $? 1 '' 'refused: 5'
 ./capnp_set < . > "$scratch/out" 2> "$scratch/err"
 expect 'a directory as input' $? 1 '' 'refused: 12'
 ./capnp_set < examples/addressbook.request > /dev/full 2> "$scratch/err"
