@@ -7,6 +7,7 @@ use Rattle.capnp_device.specs.declared.error.ErrorKind.{ErrorKind}
 use Rattle.capnp_device.specs.declared.error.ErrorKind.TheVariants as kind
 use Rattle.capnp_schema.specs.Broken.{IsKindOf}
 use Rattle.capnp_schema.specs.Schema.{Schemas}
+use Rattle.capnp_request.specs.Refusals.{IsRefusal, is_plain}
 use Rattle.capnp_set_writer.specs.Writes.{IsWriteRefusal}
 use Rattle.capnp_show_engine.specs.Refusals.{IsOfRead}
 
@@ -34,3 +35,9 @@ of_writer k h = (
         (k : ErrorKind) → k ≡ d → (k ≢ kind.TooLarge → IsWriteRefusal k) → ⊥
     unknown_is_none d large memory size unknown k e h =
         unknown (sym e ∙ h (λ x. large (sym e ∙ x)) (λ x. memory (sym e ∙ x)) (λ x. size (sym e ∙ x)))
+
+-- a request that isn't converted is refused so
+pub of_request : (strict : Bool) (k : ErrorKind) → IsRefusal strict k → IsOfRead k
+of_request strict k (inl plain) = tested is_plain refl refl k plain
+of_request strict k (inr (asked, inl e)) = ((λ x. cc), (λ x. cc))
+of_request strict k (inr (asked, inr e)) = ((λ x. cc), (λ x. cc))
