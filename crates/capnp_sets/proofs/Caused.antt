@@ -1,6 +1,7 @@
 -- Which kinds the causes are that stand in parts of a record whose faults are those of reads.
-use Rattle.std.proofs.Common.{ℕ, ℤ, ◌≡◌, ◌⊎◌, ap, refl, subst, sym, inl, inr, zero, suc, pos, ⊤, Bool, true, false, cond, List, [], ◌∷◌, slice_get, Ok, Err, Option, Some, None}
+use Rattle.std.proofs.Common.{ℕ, ℤ, ◌≡◌, ◌⊎◌, ap, refl, subst, sym, inl, inr, zero, suc, pos, Bool, true, false, cond, List, [], ◌∷◌, slice_get, Ok, Err, Option, Some, None}
 use Rattle.std.specs.Option.{unwrap_or}
+use Rattle.std.specs.Prelude.{⊤}
 use Rattle.std.specs.Str.{is_utf8}
 use Rattle.capnp_device.specs.declared.error.ErrorKind.{ErrorKind}
 use Rattle.capnp_device.specs.declared.error.ErrorKind.TheVariants.{BadPointer, CapabilityPointer, NameNotUtf8, TextNotTerminated, TooDeep, TypeMismatch, WrongElementSize, WrongPointerKind}
@@ -39,9 +40,9 @@ pub caused_none : {A : Type 0} (a : A) → Caused (Ok a)
 unfolding HasCause
 caused_none a kind h = absurd h
 
-pub caused_one : {A : Type 0} (kind : ErrorKind) → IsSetKind kind → Caused (refused {A} kind)
+pub caused_one : (A : Type 0) (kind : ErrorKind) → IsSetKind kind → Caused {A = A} (refused kind)
 unfolding HasCause
-caused_one kind e other h = subst IsSetKind h e
+caused_one A kind e other h = subst IsSetKind h e
 
 one_side : {A B : Type 0} (x : Read (A → B)) (y : Read A) (kind : ErrorKind) → HasCause (x <*> y) kind → HasCause x kind ⊎ HasCause y kind
 unfolding ◌<*>◌ HasCause
@@ -50,8 +51,8 @@ one_side (Ok f) (Err others) kind h = inr h
 one_side (Err causes) (Ok a) kind h = inl h
 one_side (Err causes) (Err others) kind h = h
 
-pub caused_both : {A B : Type 0} {x : Read (A → B)} {y : Read A} → Caused x → Caused y → Caused (x <*> y)
-caused_both {x = x} {y = y} cx cy kind h = go (one_side x y kind h)
+pub caused_both : {A B : Type 0} (x : Read (A → B)) (y : Read A) → Caused x → Caused y → Caused (x <*> y)
+caused_both x y cx cy kind h = go (one_side x y kind h)
   where
     go : HasCause x kind ⊎ HasCause y kind → IsSetKind kind
     go (inl here) = cx kind here
@@ -76,60 +77,60 @@ nth_or P (x ∷ xs) d all last (suc i) = nth_or P xs d all.1 last i
 
 pub caused_number : (v : Value) → Sound v → Caused (number v)
 caused_number (value.Number (pos n)) s = caused_none n
-caused_number (value.Fault kind) s = caused_one kind (of_reads kind s)
-caused_number v s = caused_one TypeMismatch refl
+caused_number (value.Fault kind) s = caused_one _ kind (of_reads kind s)
+caused_number v s = caused_one _ TypeMismatch refl
 
 pub caused_integer : (v : Value) → Sound v → Caused (integer v)
 caused_integer (value.Number n) s = caused_none n
-caused_integer (value.Fault kind) s = caused_one kind (of_reads kind s)
-caused_integer v s = caused_one TypeMismatch refl
+caused_integer (value.Fault kind) s = caused_one _ kind (of_reads kind s)
+caused_integer v s = caused_one _ TypeMismatch refl
 
 pub caused_truth : (v : Value) → Sound v → Caused (truth v)
 caused_truth (value.Truth b) s = caused_none b
-caused_truth (value.Fault kind) s = caused_one kind (of_reads kind s)
-caused_truth v s = caused_one TypeMismatch refl
+caused_truth (value.Fault kind) s = caused_one _ kind (of_reads kind s)
+caused_truth v s = caused_one _ TypeMismatch refl
 
 pub caused_text : (v : Value) → Sound v → Caused (text v)
 caused_text (value.Text bytes) s = caused_none bytes
-caused_text (value.Fault kind) s = caused_one kind (of_reads kind s)
-caused_text v s = caused_one TypeMismatch refl
+caused_text (value.Fault kind) s = caused_one _ kind (of_reads kind s)
+caused_text v s = caused_one _ TypeMismatch refl
 
 pub caused_blob : (v : Value) → Sound v → Caused (blob v)
 caused_blob (value.Data bytes) s = caused_none bytes
-caused_blob (value.Fault kind) s = caused_one kind (of_reads kind s)
-caused_blob v s = caused_one TypeMismatch refl
+caused_blob (value.Fault kind) s = caused_one _ kind (of_reads kind s)
+caused_blob v s = caused_one _ TypeMismatch refl
 
 name_bytes : (bytes : List ℕ) → Caused (name_of bytes)
 name_bytes bytes = go (is_utf8 bytes)
   where
     go : (q : Bool) → Caused (elim q as (λ _. Read (List ℕ)) [ true ↦ Ok bytes | false ↦ refused NameNotUtf8 ])
     go true = caused_none bytes
-    go false = caused_one NameNotUtf8 refl
+    go false = caused_one _ NameNotUtf8 refl
 
 pub caused_name : (v : Value) → Sound v → Caused (name v)
 caused_name (value.Text bytes) s = name_bytes bytes
-caused_name (value.Fault kind) s = caused_one kind (of_reads kind s)
-caused_name v s = caused_one TypeMismatch refl
+caused_name (value.Fault kind) s = caused_one _ kind (of_reads kind s)
+caused_name v s = caused_one _ TypeMismatch refl
 
 pub caused_struct : {A : Type 0} (f : Record → Read A) → ((r : Record) → RecordSound r → Caused (f r)) → (v : Value) → Sound v → Caused (struct f v)
 caused_struct f c (value.Struct r) s = c r s
-caused_struct f c (value.Fault kind) s = caused_one kind (of_reads kind s)
-caused_struct f c v s = caused_one TypeMismatch refl
+caused_struct f c (value.Fault kind) s = caused_one _ kind (of_reads kind s)
+caused_struct f c v s = caused_one _ TypeMismatch refl
 
 caused_element : {A : Type 0} (f : Value → Read A) → ((v : Value) → Sound v → Caused (f v)) → (v : Value) → Sound v → Caused (unless_fault f v)
-caused_element f c (value.Fault kind) s = caused_one kind (of_reads kind s)
+caused_element f c (value.Fault kind) s = caused_one _ kind (of_reads kind s)
 caused_element f c v s = c v s
 
 caused_all : {A : Type 0} (f : Value → Read A) → ((v : Value) → Sound v → Caused (f v)) → (vs : Values) → AllSound vs → Caused (all_of f vs)
 unfolding all_of
 caused_all f c NoValues s = caused_none []
-caused_all f c (MoreValues v vs) s = caused_both (caused_both (caused_none _) (c v s.0)) (caused_all f c vs s.1)
+caused_all f c (MoreValues v vs) s = caused_both _ _ (caused_both _ _ (caused_none _) (c v s.0)) (caused_all f c vs s.1)
 
 pub caused_list : {A : Type 0} (t : SchemaType) (f : Value → Read A) → ((v : Value) → Sound v → Caused (f v)) → (v : Value) → Sound v → Caused (list t f v)
 caused_list t f c (value.Elements vs) s =
     caused_all (λ v. unless_fault f (read_of meta VoidValue t v)) (λ v h. caused_element f c (read_of meta VoidValue t v) (read_of-sound meta VoidValue t v h)) vs s
-caused_list t f c (value.Fault kind) s = caused_one kind (of_reads kind s)
-caused_list t f c v s = caused_one TypeMismatch refl
+caused_list t f c (value.Fault kind) s = caused_one _ kind (of_reads kind s)
+caused_list t f c v s = caused_one _ TypeMismatch refl
 
 pub caused_structs : {A : Type 0} (b : ℕ) (f : Record → Read A) → ((r : Record) → RecordSound r → Caused (f r)) → (v : Value) → Sound v → Caused (structs b f v)
 caused_structs b f c = caused_list (one b) (struct f) (caused_struct f c)

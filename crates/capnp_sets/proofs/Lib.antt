@@ -9,6 +9,7 @@ pub mod ListsRead
 pub mod MessageKinds
 pub mod PartsSeen
 pub mod RowsRead
+pub mod RowsSets
 pub mod SetKinds
 pub mod SetsRead
 pub mod Taken

@@ -1,6 +1,7 @@
 -- Which kinds the bytes of a message are refused with, where they are read as a set.
-use Rattle.std.proofs.Common.{ℕ, ◌+◌, ◌*◌, ◌/◌, ◌≡◌, ◌≢◌, ◌⊎◌, ◌∙◌, ap, refl, subst, sym, inl, inr, ⊤, Bool, true, false, cond, nat_lt, length, take, drop, List, Ok, Err, Result, Some, IfErr}
+use Rattle.std.proofs.Common.{ℕ, ◌+◌, ◌*◌, ◌/◌, ◌≡◌, ◌≢◌, ◌⊎◌, ◌∙◌, ap, refl, subst, sym, inl, inr, Bool, true, false, cond, nat_lt, length, take, drop, List, Ok, Err, Result, Some, IfErr}
 use Rattle.std.proofs.lemmas.Bool.{true≢false}
+use Rattle.std.specs.Prelude.{⊤}
 use Rattle.capnp_device.specs.declared.error.Error.{Error}
 use Rattle.capnp_device.specs.declared.error.ErrorKind.{ErrorKind}
 use Rattle.capnp_device.specs.declared.error.ErrorKind.TheVariants.{NameNotFound, OutOfMemory, ReadFailed, Schema, TooManySegments, Truncated, WriteFailed}
@@ -57,6 +58,10 @@ struct_told (tree.Composite d p es) = refl
 struct_told (tree.FaultLeaf fault.BadPointer) = refl
 struct_told (tree.FaultLeaf fault.TooDeep) = refl
 struct_told (tree.FaultLeaf fault.CapabilityPointer) = refl
+
+-- who is refused where a root is read as a struct
+pub struct_kind : (x : Tree) (n : ℕ) (kind : ErrorKind) → n ≡ 64 → Err kind ≡ as_struct x n → IsSetKind kind
+struct_kind x n kind levels e = subst (λ (r : Result StructTree ErrorKind). IsTold r) (sym (e ∙ ap (as_struct x) levels)) (struct_told x)
 
 root_told : (r : Result Tree ErrorKind) → IsTold r → IsTold (root_struct r)
 root_told (Ok t) h = struct_told t

@@ -1,5 +1,5 @@
 -- Which kinds the causes are that stand in the record of a set.
-use Rattle.std.proofs.Common.{ℕ, zero, suc, refl, List, slice_get, ◌==◌, Ok, Err, Option, Some, None}
+use Rattle.std.proofs.Common.{ℕ, ◌⊎◌, zero, suc, inl, inr, refl, List, slice_get, ◌==◌, Ok, Err, Option, Some, None}
 use Rattle.std.specs.Option.{unwrap_or}
 use Rattle.capnp_device.specs.declared.error.ErrorKind.{ErrorKind}
 use Rattle.capnp_device.specs.declared.error.ErrorKind.TheVariants.{FloatType, InterfaceType, UnknownKind}
@@ -11,7 +11,7 @@ use Rattle.capnp_records.specs.Default.{read_of}
 use Rattle.capnp_records.specs.Facts.ReadFaults.{AllSound, RecordSound, Sound, read_of-sound}
 use Rattle.capnp_records.specs.Part.{which_of}
 use Rattle.capnp_records.specs.Record.{MoreValues, NoValues, Record, Value, Values}
-use Rattle.capnp_sets.specs.Causes.{◌<*>◌, HasCause, Read, flat, refused}
+use Rattle.capnp_sets.specs.Causes.{◌<*>◌, Causes, HasCause, IsAmong, Read, flat, refused}
 use Rattle.capnp_sets.specs.Fields.{field_of, kind_by, node_of, slot_of}
 use Rattle.capnp_sets.specs.Lists.{brand_of, brands_in, enum_of, enumerant_of, made_types, set_of}
 use Rattle.capnp_sets.specs.Parts.{blob, name, number, read_at, struct}
@@ -29,27 +29,17 @@ IsCausedIn f = (r : Record) → RecordSound r → Caused (f r)
 -- ---- values and annotations ----
 
 with_number : {B : Type 0} (f : ℕ → B) → IsCausedOn (λ v. Ok f <*> number v)
-with_number f v s = caused_both (caused_none f) (caused_number v s)
+with_number f v s = caused_both _ _ (caused_none f) (caused_number v s)
 
 with_blob : {B : Type 0} (f : List ℕ → B) → IsCausedOn (λ v. Ok f <*> blob v)
-with_blob f v s = caused_both (caused_none f) (caused_blob v s)
+with_blob f v s = caused_both _ _ (caused_none f) (caused_blob v s)
 
 caused_kind : (i : ℕ) → IsCausedOn (unwrap_or (slice_get kinds i) (λ v. refused UnknownKind))
-caused_kind = nth_or IsCausedOn kinds (λ v. refused UnknownKind) (
-    (λ v s. caused_none _),
-    (λ v s. caused_both (caused_none _) (caused_truth v s)),
-    (λ v s. caused_both (caused_none _) (caused_integer v s)),
-    (λ v s. caused_both (caused_none _) (caused_integer v s)),
-    (λ v s. caused_both (caused_none _) (caused_integer v s)),
-    (λ v s. caused_both (caused_none _) (caused_integer v s)),
-    with_number _, with_number _, with_number _, with_number _, with_number _,
-    (λ v s. caused_both (caused_none _) (caused_text v s)),
-    with_blob _, with_blob _, with_blob _,
-    tt) (λ v s. caused_one UnknownKind refl)
+caused_kind = nth_or IsCausedOn kinds (λ v. refused UnknownKind) ((λ v s. caused_none _), ((λ v s. caused_both _ _ (caused_none _) (caused_truth v s)), ((λ v s. caused_both _ _ (caused_none _) (caused_integer v s)), ((λ v s. caused_both _ _ (caused_none _) (caused_integer v s)), ((λ v s. caused_both _ _ (caused_none _) (caused_integer v s)), ((λ v s. caused_both _ _ (caused_none _) (caused_integer v s)), (with_number _, (with_number _, (with_number _, (with_number _, (with_number _, ((λ v s. caused_both _ _ (caused_none _) (caused_text v s)), (with_blob _, (with_blob _, (with_blob _, tt))))))))))))))) (λ v s. caused_one _ UnknownKind refl)
 
 caused_value_by : (o : Option ℕ) → IsCausedIn (value_by o)
 unfolding value_by
-caused_value_by None r s = caused_one UnknownKind refl
+caused_value_by None r s = caused_one _ UnknownKind refl
 caused_value_by (Some i) r s = caused_kind i (read_at 5 i r) (read_at-sound 5 i r s)
 
 caused_value : IsCausedIn value_of
@@ -68,7 +58,7 @@ module _ (r : Record) (sound : RecordSound r) where
 
 caused_annotation : IsCausedIn annotation_of
 unfolding annotation_of
-caused_annotation r s = caused_both (caused_both (caused_none _) (number_in r s 4 0)) (value_in r s 4 1)
+caused_annotation r s = caused_both _ _ (caused_both _ _ (caused_none _) (number_in r s 4 0)) (value_in r s 4 1)
 
 annotations_in : (r : Record) → RecordSound r → (b i : ℕ) → Caused (annotations (read_at b i r))
 annotations_in r s b i = caused_structs 4 annotation_of caused_annotation (read_at b i r) (read_at-sound b i r s)
@@ -77,26 +67,27 @@ annotations_in r s b i = caused_structs 4 annotation_of caused_annotation (read_
 
 caused_slot : IsCausedIn slot_of
 unfolding slot_of
-caused_slot r s = caused_both (caused_both (caused_none _) (number_in r s 3 0)) (value_in r s 3 1)
+caused_slot r s = caused_both _ _ (caused_both _ _ (caused_none _) (number_in r s 3 0)) (value_in r s 3 1)
 
 caused_kind_by : (o : Option ℕ) → IsCausedIn (kind_by o)
 unfolding kind_by
-caused_kind_by None r s = caused_one UnknownKind refl
+caused_kind_by None r s = caused_one _ UnknownKind refl
 caused_kind_by (Some i) r s =
     caused_if (i == 3) _ _ (caused_struct slot_of caused_slot (read_at 2 3 r) (read_at-sound 2 3 r s))
-    (caused_if (i == 4) _ _ (caused_both (caused_none _) (number_in r s 2 4)) (caused_one UnknownKind refl))
+    (caused_if (i == 4) _ _ (caused_both _ _ (caused_none _) (number_in r s 2 4)) (caused_one _ UnknownKind refl))
 
 caused_field : IsCausedIn field_of
 unfolding field_of
 caused_field r s =
-    caused_both (caused_both (caused_both (caused_both (caused_none _) (number_in r s 2 0)) (name_in r s 2 1)) (annotations_in r s 2 2)) (caused_kind_by (which_of r) r s)
+    caused_both _ _ (caused_both _ _ (caused_both _ _ (caused_both _ _ (caused_none _) (number_in r s 2 0)) (name_in r s 2 1)) (annotations_in r s 2 2)) (caused_kind_by (which_of r) r s)
 
 caused_node : IsCausedIn node_of
 unfolding node_of
 caused_node r s =
-    let numbers = caused_both (caused_both (caused_both (caused_both (caused_none _) (number_in r s 1 0)) (number_in r s 1 1)) (number_in r s 1 2)) (number_in r s 1 3) in
-    let named = caused_both (caused_both (caused_both numbers (caused_truth (read_at 1 4 r) (read_at-sound 1 4 r s))) (number_in r s 1 5)) (name_in r s 1 6) in
-    caused_both (caused_both named (annotations_in r s 1 7)) (caused_structs 2 field_of caused_field (read_at 1 8 r) (read_at-sound 1 8 r s))
+    caused_both _ _ (caused_both _ _ (caused_both _ _ (caused_both _ _ (caused_both _ _ (caused_both _ _ (caused_both _ _ (caused_both _ _ (caused_both _ _ (caused_none _)
+    (number_in r s 1 0)) (number_in r s 1 1)) (number_in r s 1 2)) (number_in r s 1 3))
+    (caused_truth (read_at 1 4 r) (read_at-sound 1 4 r s))) (number_in r s 1 5)) (name_in r s 1 6)) (annotations_in r s 1 7))
+    (caused_structs 2 field_of caused_field (read_at 1 8 r) (read_at-sound 1 8 r s))
 
 -- ---- types ----
 
@@ -107,30 +98,30 @@ caused_generic (MoreValues v vs) s zero =
     caused_struct (λ r. number (read_at 6 0 r)) (λ r h. number_in r h 6 0) (read_of meta VoidValue (one 6) v) (read_of-sound meta VoidValue (one 6) v s.0)
 caused_generic (MoreValues v vs) s (suc b) = caused_generic vs s.1 b
 
-caused_base : (brands : Values) → AllSound brands → (base number : ℕ) → Caused (base_type brands base number)
+caused_base : (brands : Values) → AllSound brands → (base n : ℕ) → Caused (base_type brands base n)
 unfolding base_type
-caused_base brands s base number = nth_or Caused (base_types brands number) (refused UnknownKind) (
-    caused_none _, caused_none _, caused_none _, caused_none _, caused_none _, caused_none _, caused_none _, caused_none _, caused_none _, caused_none _,
-    caused_one FloatType refl, caused_one FloatType refl, caused_none _, caused_none _, caused_one UnknownKind refl, caused_none _,
-    caused_both (caused_none _) (caused_generic brands s number),
-    caused_one InterfaceType refl, caused_none _, tt) (caused_one UnknownKind refl) base
+caused_base brands s base n = nth_or Caused (base_types brands n) (refused UnknownKind) (caused_none _, (caused_none _, (caused_none _, (caused_none _, (caused_none _, (caused_none _, (caused_none _, (caused_none _, (caused_none _, (caused_none _, (caused_one _ FloatType refl, (caused_one _ FloatType refl, (caused_none _, (caused_none _, (caused_one _ UnknownKind refl, (caused_none _, (caused_both _ _ (caused_none _) (caused_generic brands s n), (caused_one _ InterfaceType refl, (caused_none _, tt))))))))))))))))))) (caused_one _ UnknownKind refl) base
+
+of_one_side : (causes others : Causes) (kind : ErrorKind) → (IsAmong causes kind → IsSetKind kind) → (IsAmong others kind → IsSetKind kind) → IsAmong causes kind ⊎ IsAmong others kind → IsSetKind kind
+of_one_side causes others kind f g (inl h) = f h
+of_one_side causes others kind f g (inr h) = g h
 
 caused_flat : {A : Type 0} (f : ℕ → ℕ → Read A) → ((b n : ℕ) → Caused (f b n)) → (x y : Read ℕ) → Caused x → Caused y → Caused (flat (Ok f <*> x <*> y))
 unfolding flat ◌<*>◌ HasCause
 caused_flat f c (Ok b) (Ok n) cx cy = c b n
 caused_flat f c (Ok b) (Err others) cx cy = cy
 caused_flat f c (Err causes) (Ok n) cx cy = cx
-caused_flat f c (Err causes) (Err others) cx cy = caused_both {x = Err causes} {y = Err others} cx cy
+caused_flat f c (Err causes) (Err others) cx cy = λ kind h. of_one_side causes others kind (cx kind) (cy kind) h
 
 caused_enumerant : IsCausedIn enumerant_of
 unfolding enumerant_of
-caused_enumerant r s = caused_both (caused_both (caused_none _) (name_in r s 9 0)) (annotations_in r s 9 1)
+caused_enumerant r s = caused_both _ _ (caused_both _ _ (caused_none _) (name_in r s 9 0)) (annotations_in r s 9 1)
 
 module _ (brands : Values) (all : AllSound brands) where
   caused_type : IsCausedIn (type_of brands)
   unfolding type_of
   caused_type r s =
-      caused_both (caused_both (caused_none _) (number_in r s 7 1))
+      caused_both _ _ (caused_both _ _ (caused_none _) (number_in r s 7 1))
       (caused_flat (base_type brands) (caused_base brands all) (number (read_at 7 0 r)) (number (read_at 7 2 r)) (number_in r s 7 0) (number_in r s 7 2))
 
   caused_types : IsCausedOn (types brands)
@@ -147,15 +138,15 @@ module _ (brands : Values) (all : AllSound brands) where
   caused_brand : IsCausedIn (brand_of brands)
   unfolding brand_of
   caused_brand r s =
-      caused_both (caused_both (caused_both (caused_none _) (number_in r s 6 0)) (types_in r s 6 1))
-      (caused_both (caused_both (caused_none made_types) (types_in r s 6 2)) (type_lists_in r s 6 3))
+      caused_both _ _ (caused_both _ _ (caused_both _ _ (caused_none _) (number_in r s 6 0)) (types_in r s 6 1))
+      (caused_both _ _ (caused_both _ _ (caused_none made_types) (types_in r s 6 2)) (type_lists_in r s 6 3))
 
   caused_enum : IsCausedIn (enum_of brands)
   unfolding enum_of
   caused_enum r s =
-      caused_both (caused_both (caused_both (caused_both (caused_both (caused_none _) (number_in r s 8 0)) (name_in r s 8 1)) (annotations_in r s 8 2))
+      caused_both _ _ (caused_both _ _ (caused_both _ _ (caused_both _ _ (caused_both _ _ (caused_none _) (number_in r s 8 0)) (name_in r s 8 1)) (annotations_in r s 8 2))
       (caused_structs 9 enumerant_of caused_enumerant (read_at 8 3 r) (read_at-sound 8 3 r s)))
-      (caused_both (caused_both (caused_none made_types) (types_in r s 8 4)) (type_lists_in r s 8 5))
+      (caused_both _ _ (caused_both _ _ (caused_none made_types) (types_in r s 8 4)) (type_lists_in r s 8 5))
 
 -- ---- the whole record ----
 
@@ -163,6 +154,6 @@ pub caused_set : IsCausedIn set_of
 unfolding set_of
 caused_set r s =
     let brands = elements_of-sound (read_at 0 1 r) (read_at-sound 0 1 r s) in
-    caused_both (caused_both (caused_both (caused_none _) (caused_structs 1 node_of caused_node (read_at 0 0 r) (read_at-sound 0 0 r s)))
+    caused_both _ _ (caused_both _ _ (caused_both _ _ (caused_none _) (caused_structs 1 node_of caused_node (read_at 0 0 r) (read_at-sound 0 0 r s)))
     (caused_structs 6 (brand_of (brands_in r)) (caused_brand (brands_in r) brands) (read_at 0 1 r) (read_at-sound 0 1 r s)))
     (caused_structs 8 (enum_of (brands_in r)) (caused_enum (brands_in r) brands) (read_at 0 2 r) (read_at-sound 0 2 r s))

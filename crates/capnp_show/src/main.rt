@@ -2,7 +2,11 @@
 #![tactic(auto)]
 
 #[cfg(test)]
+mod file_tests;
+#[cfg(test)]
 mod messages;
+#[cfg(test)]
+mod set_files;
 #[cfg(test)]
 mod set_tests;
 #[cfg(test)]
@@ -18,7 +22,7 @@ fn main(rt: HostRuntime) -> ExitCode {
     let mut sink = WriteSink::new(rt.stdout());
     let mut errors = WriteSink::new(rt.stderr());
     let status = match command::words(rt.alloc(), env::args(&rt)) {
-        Ok(words) => command::command(rt.alloc(), &words, &mut source, &mut sink, &mut errors),
+        Ok(words) => command::command(&rt, rt.alloc(), &words, &mut source, &mut sink, &mut errors),
         Err(error) => {
             command::report(error.kind, &mut errors);
             1

@@ -2,10 +2,12 @@
 //!
 //! A setting says what the program is run on, and `comes_to` runs it and compares what comes of it. Rows of messages are texts
 //! (`messages`).
-ghost use Rattle.std.specs.Prelude.{◌<◌};
+ghost use Rattle.std.specs.Prelude.{⊤, ◌<◌};
 
 use crate::messages::{BEGINNINGS, EXAMPLES, REFUSED, SHOWN, row_of};
-use capnp_show_engine::command::{command, report};
+use capnp_show_engine::command::{command_over, report};
+use capnp_show_engine::opener::Opener;
+use capnp_wire::device::DeviceFault;
 use capnp_wire::error::{ErrorKind, SchemaTable};
 use capnp_wire::memory::{MemorySink, MemorySource};
 use capnp_wire::transfer::read_all;
@@ -13,7 +15,10 @@ use std::alloc::Global;
 use std::process::Abort;
 use std::test::Fail;
 
-const USAGE: &str = "usage: capnp_show NAME [--indent]\n";
+pub const USAGE: &str = "usage: capnp_show [--set FILE] NAME [--indent]\n";
+
+/// The only path that has a file.
+const PATH: &str = "set";
 
 /// Words, a message and its text, of which each call of a device is made to fail.
 const LAST_WORDS: &str = "Mixed,--indent";
@@ -24,40 +29,69 @@ const LAST_LINE: &str = "(\n  a = 5,\n  y = 9\n)\n";
 
 /// What the program is run on.
 #[derive(Clone, Copy)]
-struct Setting<'a> {
+pub struct Setting<'a> {
     /// The words, each with a comma after it; the last may lack it.
-    words: &'a str,
-    bytes: &'a [u8],
-    /// Whether a call of the source or sink moves a byte, and else up to 4096.
-    slow: bool,
-    /// Which calls fail: of the source, of the sink, and of the sink of errors, which takes a byte a call.
-    failing_read: Option<u64>,
-    failing_write: Option<u64>,
-    failing_error: Option<u64>,
+    pub words: &'a str,
+    pub bytes: &'a [u8],
+    /// What the file holds.
+    pub set: &'a [u8],
+    /// Whether a call of a source or sink moves a byte, and else up to 4096.
+    pub slow: bool,
+    /// Which calls fail: of the file, of the source, of the sink, and of the sink of errors, which takes a byte a call.
+    pub failing_set: Option<u64>,
+    pub failing_read: Option<u64>,
+    pub failing_write: Option<u64>,
+    pub failing_error: Option<u64>,
 }
 
 /// What comes of it: the status, and what was written to the sink and to the sink of errors.
 #[derive(Clone, Copy)]
-struct Expected<'a> {
-    status: u8,
-    shown: &'a [u8],
-    told: &'a [u8],
+pub struct Expected<'a> {
+    pub status: u8,
+    pub shown: &'a [u8],
+    pub told: &'a [u8],
 }
 
-/// The same as it came.
+/// The same as it came, and how many times the file was opened.
 #[derive(Drop)]
 struct Outcome {
     status: u8,
     sink: MemorySink,
     errors: MemorySink,
+    opened: u32,
 }
 
-/// A setting of which no call fails.
-fn run_on<'a>(words: &'a str, bytes: &'a [u8], slow: bool) -> Setting<'a> {
+/// Opens one file in memory.
+#[derive(Drop)]
+struct OneFile<'a> {
+    bytes: &'a [u8],
+    slow: bool,
+    failing: Option<u64>,
+    opened: u32,
+}
+
+impl<'a> Opener for OneFile<'a> {
+    type File = MemorySource<'a>;
+
+    ghost opens = { λ _ _ _ _. ⊤ };
+
+    fn open(&mut self, path: &str) -> Result<MemorySource<'a>, DeviceFault> {
+        if path != PATH {
+            return Err(DeviceFault);
+        }
+        self.opened = self.opened.saturating_add(1);
+        Ok(MemorySource::new(self.bytes, chunk(self.slow), self.failing))
+    }
+}
+
+/// A setting of which no call fails, with a file that is empty.
+pub fn run_on<'a>(words: &'a str, bytes: &'a [u8], slow: bool) -> Setting<'a> {
     Setting {
         words,
         bytes,
+        set: &[],
         slow,
+        failing_set: None,
         failing_read: None,
         failing_write: None,
         failing_error: None,
@@ -65,7 +99,7 @@ fn run_on<'a>(words: &'a str, bytes: &'a [u8], slow: bool) -> Setting<'a> {
 }
 
 /// A line that is written: a text where the status is 0, and else what is told.
-fn written(status: u8, line: &str) -> Expected<'_> {
+pub fn written(status: u8, line: &str) -> Expected<'_> {
     let (shown, told) = if status == 0 { (line, "") } else { ("", line) };
     Expected {
         status,
@@ -101,7 +135,7 @@ pub fn bytes_of(alloc: Global, text: &str) -> Result<Vec<u8>, Fail> {
     Ok(bytes)
 }
 
-fn words_of(alloc: Global, words: &str) -> Result<Vec<String>, Fail> {
+pub fn words_of(alloc: Global, words: &str) -> Result<Vec<String>, Fail> {
     let mut list = Vec::new(alloc);
     for word in words.split_terminator(',') {
         list.push(String::from_str(alloc, word)?)?;
@@ -115,7 +149,7 @@ fn chunk(slow: bool) -> usize
     if slow { 1 } else { 4096 }
 }
 
-fn source_of<'a>(on: &Setting<'a>) -> MemorySource<'a> {
+pub fn source_of<'a>(on: &Setting<'a>) -> MemorySource<'a> {
     MemorySource::new(on.bytes, chunk(on.slow), on.failing_read)
 }
 
@@ -128,23 +162,36 @@ fn outcome_over(
     let words = words_of(alloc, on.words)?;
     let mut sink = MemorySink::new(alloc, chunk(on.slow), on.failing_write);
     let mut errors = MemorySink::new(alloc, 1, on.failing_error);
-    let status = command(alloc, &words, source, &mut sink, &mut errors);
+    let mut opener = OneFile {
+        bytes: on.set,
+        slow: on.slow,
+        failing: on.failing_set,
+        opened: 0,
+    };
+    let status = command_over(&mut opener, alloc, &words, source, &mut sink, &mut errors);
     Ok(Outcome {
         status,
         sink,
         errors,
+        opened: opener.opened,
     })
+}
+
+/// How many times the file has to be opened: once where the words name it.
+fn openings(status: u8, words: &str) -> u32 {
+    u32::from(status != 2 && words.starts_with("--set,set,"))
 }
 
 /// Asserts that this is what came of a setting's words.
 fn is_so(rt: &impl Abort, outcome: &Outcome, expected: &Expected<'_>, words: &str) {
+    assert_eq!(rt; outcome.opened, openings(expected.status, words), "{words}");
     assert_eq!(rt; outcome.status, expected.status, "{words}");
     assert_eq!(rt; outcome.sink.as_slice(), expected.shown, "{words}");
     assert_eq!(rt; outcome.errors.as_slice(), expected.told, "{words}");
 }
 
 /// Asserts that a setting comes to this over a source.
-fn comes_over(
+pub fn comes_over(
     rt: &impl Abort,
     alloc: Global,
     source: &mut MemorySource<'_>,
@@ -157,7 +204,7 @@ fn comes_over(
 }
 
 /// Asserts that a setting comes to this.
-fn comes_to(
+pub fn comes_to(
     rt: &impl Abort,
     alloc: Global,
     on: &Setting<'_>,
@@ -419,10 +466,21 @@ Many,--Indent,
 Many,--indent,--indent,
 Nope,--indent,
 Flat,Many,
-Flat,Flat,";
+Flat,Flat,
+--set,
+--set,set,
+--set,--indent,
+--set,set,Flat,Flat,
+--set,set,Flat,--indent,Flat,
+--set,set,--set,set,Flat,
+--Set,set,Flat,
+--Set,set,Flat,--indent,
+Flat,--set,set,
+Flat,--indent,--set,set,
+--indent,--set,set,Flat,";
 
 /// Asserts that a source still has all its bytes.
-fn is_unread(
+pub fn is_unread(
     rt: &impl Abort,
     alloc: Global,
     source: &mut MemorySource<'_>,

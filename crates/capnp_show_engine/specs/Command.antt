@@ -37,8 +37,8 @@ pub record FileTask : Type 0 where
 
 -- a text under a brand of the built-in set, or under a struct of a file's set
 pub data Task : Type 0 where
-  pub built_in : Request → Task
-  pub in_file : FileTask → Task
+  built_in : Request → Task
+  in_file : FileTask → Task
 
 -- a text under that struct of the built-in set, where there is one
 abbrev pub built_in_asked : (indented : Bool) → Option ℕ → Option Task

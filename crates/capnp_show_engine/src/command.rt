@@ -77,17 +77,25 @@ fn show_asked<O: Opener, R: Source, W: Sink>(
 ) -> Result<()>
     requires { IsInside asked }
     ensures shown { OnOk result (IsShownTask (IsOpened O.opens opener.old opener.new) (opener.new ≡ opener.old) O.File.left
-        (task_of asked) (R.left source.old) (R.left source.new) (W.written sink.old) (W.written sink.new)) }
+        (task_of asked.entry) (R.left source.old) (R.left source.new) (W.written sink.old) (W.written sink.new)) }
     ensures refused { IfErr result (λ e. IsRefusedTask (IsOpened O.opens opener.old opener.new)
         (IsNotOpened O.opens opener.old opener.new) (opener.new ≡ opener.old) O.File.left O.File.failures
-        (source.new ≡ source.old) (task_of asked) e (R.left source.old) (R.left source.new)
+        (source.new ≡ source.old) (task_of asked.entry) e (R.left source.old) (R.left source.new)
         (W.written sink.old) (W.written sink.new) (R.failures source.old) (R.failures source.new)
         (W.failures sink.old) (W.failures sink.new)) }
     ensures nothing { IfErr result (λ e. e.kind ≢ WriteFailed → sink.new ≡ sink.old) }
 {
     match asked {
         Asked::BuiltIn(request) => show_built_in(alloc, request, source, sink),
-        Asked::InFile(request) => show_with_file(alloc, opener, request, source, sink),
+        Asked::InFile(request) => show_with_file(
+            alloc,
+            opener,
+            request.path,
+            request.name,
+            source,
+            sink,
+            request.indented,
+        ),
     }
 }
 

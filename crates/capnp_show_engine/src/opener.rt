@@ -20,6 +20,7 @@ pub trait Opener {
 }
 
 /// The files of a runtime, of which nothing is said: no contract of the system tells what a file holds.
+#[derive(Drop)]
 pub struct FilesOpener<'a, O> {
     files: &'a O,
 }

@@ -64,9 +64,7 @@ pub fn read_words(words: &[String]) -> Option<Asked<'_>>
             name: name.as_str(),
             indented: false,
         })),
-        [first, path, name, last]
-            if first.as_str() == "--set" && last.as_str() == "--indent" =>
-        {
+        [first, path, name, last] if first.as_str() == "--set" && last.as_str() == "--indent" => {
             Some(Asked::InFile(FileRequest {
                 path: path.as_str(),
                 name: name.as_str(),

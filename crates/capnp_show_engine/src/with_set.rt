@@ -10,7 +10,6 @@ ghost use Rattle.capnp_show_engine.specs.WithSet.{HasReadFailed, IsRefusedWithSe
 
 use crate::engine::show;
 use crate::opener::Opener;
-use crate::request::FileRequest;
 use capnp_schema::set::SchemaSet;
 use capnp_sets::message::read_message;
 use capnp_wire::device::{Sink, Source};
@@ -85,38 +84,33 @@ pub fn show_with_set<S: Source, R: Source, W: Sink>(
 pub fn show_with_file<O: Opener, R: Source, W: Sink>(
     alloc: Global,
     opener: &mut O,
-    request: FileRequest<'_>,
+    path: &str,
+    name: &str,
     source: &mut R,
     sink: &mut W,
+    indented: bool,
 ) -> Result<()>
-    ensures shown { OnOk result (IsOpened O.opens opener.old opener.new request.path.now (λ f g.
-        IsStructNamed request.name.now (O.File.left f) (O.File.left g) (λ set b.
-        IsShown set b request.indented (R.left source.old) (R.left source.new) (W.written sink.old) (W.written sink.new)))) }
-    ensures refused { IfErr result (λ e. IsOfMessage e.kind → IsOpened O.opens opener.old opener.new request.path.now (λ f g.
-        IsRefusedWithSet request.name.now request.indented e (source.new ≡ source.old)
+    ensures shown { OnOk result (IsOpened O.opens opener.old opener.new path.now (λ f g.
+        IsStructNamed name.now (O.File.left f) (O.File.left g) (λ set b.
+        IsShown set b indented (R.left source.old) (R.left source.new) (W.written sink.old) (W.written sink.new)))) }
+    ensures refused { IfErr result (λ e. IsOfMessage e.kind → IsOpened O.opens opener.old opener.new path.now (λ f g.
+        IsRefusedWithSet name.now indented e (source.new ≡ source.old)
         (O.File.left f) (O.File.left g) (R.left source.old) (R.left source.new))) }
     ensures read_failed { IfErr result (λ e. e.kind ≡ ReadFailed →
-        (IsNotOpened O.opens opener.old opener.new request.path.now × (source.new ≡ source.old))
-        ⊎ IsOpened O.opens opener.old opener.new request.path.now (λ f g. HasReadFailed (source.new ≡ source.old)
+        (IsNotOpened O.opens opener.old opener.new path.now × (source.new ≡ source.old))
+        ⊎ IsOpened O.opens opener.old opener.new path.now (λ f g. HasReadFailed (source.new ≡ source.old)
         (O.File.failures f) (O.File.failures g) (R.failures source.old) (R.failures source.new))) }
     ensures write_failed { IfErr result (λ e. e.kind ≡ WriteFailed →
         HasFailed (W.failures sink.old) (W.failures sink.new)) }
-    ensures beginning { IfErr result (λ e. e.kind ≡ WriteFailed → IsOpened O.opens opener.old opener.new request.path.now (λ f g.
-        IsStructNamed request.name.now (O.File.left f) (O.File.left g) (λ set b.
-        IsCutShort set b request.indented (R.left source.old) (R.left source.new) (W.written sink.old) (W.written sink.new)))) }
+    ensures beginning { IfErr result (λ e. e.kind ≡ WriteFailed → IsOpened O.opens opener.old opener.new path.now (λ f g.
+        IsStructNamed name.now (O.File.left f) (O.File.left g) (λ set b.
+        IsCutShort set b indented (R.left source.old) (R.left source.new) (W.written sink.old) (W.written sink.new)))) }
     ensures nothing { IfErr result (λ e. e.kind ≢ WriteFailed → sink.new ≡ sink.old) }
-    ensures first { (source.new ≡ source.old) ⊎ IsOpened O.opens opener.old opener.new request.path.now (λ f g.
-        IsStructNamed request.name.now (O.File.left f) (O.File.left g) (λ _ _. ⊤)) }
+    ensures first { (source.new ≡ source.old) ⊎ IsOpened O.opens opener.old opener.new path.now (λ f g.
+        IsStructNamed name.now (O.File.left f) (O.File.left g) (λ _ _. ⊤)) }
 {
-    let Ok(mut file) = opener.open(request.path) else {
+    let Ok(mut file) = opener.open(path) else {
         return Err(Error::from(ErrorKind::ReadFailed));
     };
-    show_with_set(
-        alloc,
-        &mut file,
-        request.name,
-        source,
-        sink,
-        request.indented,
-    )
+    show_with_set(alloc, &mut file, name, source, sink, indented)
 }

@@ -1,9 +1,10 @@
 use Rattle.std.proofs.Common.{ap, ◌∙◌}
+use Rattle.std.proofs.lemmas.Result.{err_from_is_err_and}
 use Rattle.capnp_wire.specs.Message.{message_tree}
 use Rattle.capnp_wire.specs.Standing.{levels_of, struct_of, tree_of}
 use Rattle.capnp_schema.specs.Entries.{lists_seen}
 use Rattle.capnp_schema.specs.StructHandles.{number_of, set_of}
-use Rattle.capnp_sets.proofs.MessageKinds.{each_kind, each_of_set}
+use Rattle.capnp_sets.proofs.MessageKinds.{each_kind, each_of_set, of_set, struct_kind}
 use Rattle.capnp_sets.specs.Facts.RootRead.{root_entered, root_seen, set_read, set_refused}
 use Rattle.capnp_sets.proofs.message.read_message.Goals as goal
 
@@ -28,3 +29,13 @@ returns-clause-kinds c = each_kind c.read_schema_set.result c.args.bytes.now (re
 
 pub returns-clause-of_no_device : goal.returns-clause-of_no_device
 returns-clause-of_no_device c = each_of_set c.read_schema_set.result (returns-clause-kinds c)
+
+pub returns-in_err-root-clause-kinds : goal.returns-in_err-root-clause-kinds
+returns-in_err-root-clause-kinds c =
+    let p = err_from_is_err_and c.from_residual-in_err-root.result c.from_residual-in_err-root.ensures.1 in
+    rw (p.1, p.2) (struct_kind (tree_of c.get_root.result) (levels_of c.get_root.result) _ c.get_root.ensures.levels c.in_err-root.ensures.read)
+
+pub returns-in_err-root-clause-of_no_device : goal.returns-in_err-root-clause-of_no_device
+returns-in_err-root-clause-of_no_device c =
+    let p = err_from_is_err_and c.from_residual-in_err-root.result c.from_residual-in_err-root.ensures.1 in
+    rw (p.1, p.2) (of_set _ (struct_kind (tree_of c.get_root.result) (levels_of c.get_root.result) _ c.get_root.ensures.levels c.in_err-root.ensures.read))
