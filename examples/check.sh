@@ -106,6 +106,33 @@ made kinds.capnp Kinds kinds_empty.bin "$scratch/nothing" ''
 made station_before.capnp Station station_before.bin examples/station_before.txt ''
 made station.capnp Station station.bin examples/station.txt ''
 made station.capnp Station station_segments.bin examples/station.txt --segment-size=4
+made set.capnp SetRecord station_set.bin examples/station_set.txt ''
+
+# with_set FILE WORDS LINE: under the set in examples/station_set.bin, FILE is printed as LINE
+with_set() {
+    # shellcheck disable=SC2086 # the name of a struct, and after it perhaps --indent
+    ./capnp_show --set examples/station_set.bin $2 < "examples/$1" > "$scratch/out" 2> "$scratch/err"
+    expect "$1 under a set" $? 0 "$3" ""
+}
+
+station='(title = "west", height = 12, weather = snow, place = (east = -3, north = 4, up = 9), readings = [(tenths = 15, hour = 6), (tenths = -2, hour = 18)], neighbours = [(title = "mid", height = -5, weather = sun, robot = 77, code = 8), (title = "low", height = -5, weather = sun, closed = (), code = 7)], robot = 5, code = 9)'
+with_set station.bin Station "$station"
+with_set station_segments.bin Station "$station"
+with_set flat.bin 'Reading --indent' '(
+  tenths = 5,
+  hour = 0
+)'
+
+# refused FILE NAME NUMBER: under the set in FILE, station.bin is refused
+refused() {
+    ./capnp_show --set "$1" "$2" < examples/station.bin > "$scratch/out" 2> "$scratch/err"
+    expect "the set $1 and the name $2" $? 1 "" "refused: $3"
+}
+
+refused examples/station_set.bin Flat 64
+refused examples/flat.bin Station 64
+refused /dev/null Station 2
+refused examples/no_such_file.bin Station 12
 
 # reading FILE TEXT: `capnp encode` makes FILE from TEXT, and `capnp decode` gives it back alike
 reading() {
@@ -125,32 +152,13 @@ reading built.bin '(id = 7, level = -2, points = [(x = 1), (x = -3)])'
 reading copied.bin '(id = 7, name = "far away", scores = [4, 5], points = [(x = 6, y = 7)], next = (id = 8, name = "end"))'
 
 usage='usage: capnp_show [--set FILE] NAME [--indent]'
-for words in '' Nope many Shapes.circle --indent '--indent Many' 'Many --indent --indent' 'Flat Many' --set \
-    '--set examples/flat.set' 'Flat --set examples/flat.set' '--set examples/flat.set Flat --indent --indent'; do
+for words in '' Nope many Shapes.circle --indent '--indent Many' 'Many --indent --indent' 'Flat Many'; do
     # shellcheck disable=SC2086 # some are several words
     ./capnp_show $words < examples/many.bin > "$scratch/out" 2> "$scratch/err"
     expect "words '$words'" $? 2 "" "$usage"
 done
 ./capnp_show "$(printf '\377')" < examples/many.bin > "$scratch/out" 2> "$scratch/err"
 expect 'a word that is not UTF-8' $? 2 "" "$usage"
-
-# sets that a file holds, by paths from the folder of the call
-echo '(nodes = [(id = 100, dataWords = 1, displayName = "Flat", fields = [(name = "a", slot = (offset = 0, default = (kind = 7)))])], brands = [(node = 0, fieldTypes = [(base = 7)], childTypes = [[]])])' > "$scratch/text"
-made set.capnp SetRecord flat.set "$scratch/text" ''
-./capnp_show --set examples/flat.set Flat < examples/flat.bin > "$scratch/out" 2> "$scratch/err"
-expect 'a set in a file' $? 0 '(a = 5)' ''
-(cd examples && ../capnp_show --set ./flat.set Flat --indent < flat.bin) > "$scratch/out" 2> "$scratch/err"
-expect 'a set in the folder of the call' $? 0 '(
-  a = 5
-)' ''
-./capnp_show --set examples/meta.set SetRecord < examples/flat.set > "$scratch/out" 2> "$scratch/err"
-expect 'a set under the meta set' $? 0 '(nodes = [(id = 100, dataWords = 1, pointers = 0, discriminantCount = 0, isGroup = false, discriminantOffset = 0, displayName = "Flat", fields = [(discriminantValue = 65535, name = "a", slot = (offset = 0, default = (uint16 = 0)))])], brands = [(node = 0, fieldTypes = [(base = 7, listCount = 0, number = 0)], childTypes = [[]])])' ''
-for case in 'examples/flat.set Nope 64' 'examples/flat.bin Flat 64' 'examples/no.set Flat 12' 'examples Flat 12' '/dev/null Flat 2'; do
-    words=${case% *}
-    # shellcheck disable=SC2086 # a path and a name
-    ./capnp_show --set $words < examples/flat.bin > "$scratch/out" 2> "$scratch/err"
-    expect "--set $words" $? 1 "" "refused: ${case##* }"
-done
 
 ./capnp_show Many < /dev/null > "$scratch/out" 2> "$scratch/err"
 expect 'no bytes' $? 1 "" 'refused: 2'

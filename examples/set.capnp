@@ -1,8 +1,7 @@
-@0xbf5147bb3ff0d8a1;
+@0xd2a3b5f0c41e6a97;
 
-# The meta set (`capnp_schema::meta`) as a file of the public tool, by which `capnp encode` makes sets. The bytes are those of
-# the meta set; a value is written as its kind and its number or bytes, since the tool lays out unions in another way.
-
+# A set of schemas as a message: what `capnp_show --set FILE NAME` reads from FILE. The places are those of the meta set
+# (`capnp_schema::meta`).
 struct SetRecord {
   nodes @0 :List(NodeRecord);
   brands @1 :List(BrandRecord);
@@ -15,22 +14,22 @@ struct NodeRecord {
   pointers @2 :UInt16;
   discriminantCount @3 :UInt16;
   isGroup @4 :Bool;
-  discriminantOffset @5 :UInt32;
+  discriminantOffset @5 :UInt32;  # in units of 16 bits
   displayName @6 :Text;
   annotations @7 :List(AnnotationRecord);
   fields @8 :List(FieldRecord);
 }
 
 struct FieldRecord {
-  discriminantValue @0 :UInt16 = 65535;
+  discriminantValue @0 :UInt16 = 65535;  # where the field is no member of the union
   name @1 :Text;
   annotations @2 :List(AnnotationRecord);
   union {
     slot :group {
-      offset @3 :UInt32;
+      offset @3 :UInt32;  # in units of the field's own size
       default @4 :ValueRecord;
     }
-    group @5 :UInt32;
+    group @5 :UInt32;  # its node
   }
 }
 
@@ -39,19 +38,25 @@ struct AnnotationRecord {
   value @1 :ValueRecord;
 }
 
+# A value, by its kind: void 0, bool 1, int8 to int64 2 to 5, uint8 to uint64 6 to 9, enum 10, text 11, data 12, struct 13,
+# list 14. This language can't write the union of the meta set, whose members all stand past its first word: so the kind
+# stands here as a number, the bits of a number in the second word, and a text, data or words as data. A text has its last
+# byte, zero.
 struct ValueRecord {
   kind @0 :UInt16;
   number @1 :UInt64;
-  bytes @2 :Data;
+  content @2 :Data;
 }
 
 struct BrandRecord {
   node @0 :UInt32;
   fieldTypes @1 :List(TypeRecord);
   ownTypes @2 :List(TypeRecord);
-  childTypes @3 :List(List(TypeRecord));
+  childTypes @3 :List(List(TypeRecord));  # those of the annotations of each field
 }
 
+# The base is the number of the public schema language's type: void 0, bool 1, int8 to int64 2 to 5, uint8 to uint64 6 to 9,
+# text 12, data 13, enum 15, struct 16, any pointer 18. The number is an enum's, or a struct's brand.
 struct TypeRecord {
   base @0 :UInt16;
   listCount @1 :UInt16;
@@ -64,7 +69,7 @@ struct EnumRecord {
   annotations @2 :List(AnnotationRecord);
   enumerants @3 :List(EnumerantRecord);
   ownTypes @4 :List(TypeRecord);
-  childTypes @5 :List(List(TypeRecord));
+  childTypes @5 :List(List(TypeRecord));  # those of the annotations of each enumerant
 }
 
 struct EnumerantRecord {

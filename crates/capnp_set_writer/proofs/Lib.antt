@@ -1,4 +1,6 @@
 pub mod Depth
+pub mod Formed
+pub mod HaveKinds
 pub mod Layers
 pub mod Lists
 pub mod Named

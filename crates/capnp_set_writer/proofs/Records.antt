@@ -33,7 +33,7 @@ module _ (l : Levels) (f : Field) (kind number_of : ℕ) (default : Tree) where
   abbrev row : List ℕ
   row = (field_row f kind number_of default).bytes
 
-  row-bytes : AreBytes row
+  pub row-bytes : AreBytes row
   row-bytes = AreBytes-append (spelled 2 (bit_xor f.discriminant_value 65535)) (spelled 2 kind ++ spelled 4 number_of) (AreBytes-spelled 2 (bit_xor f.discriminant_value 65535)) (AreBytes-append (spelled 2 kind) (spelled 4 number_of) (AreBytes-spelled 2 kind) (AreBytes-spelled 4 number_of))
 
   field-discriminant : f.discriminant_value < 2 ^ 16 → number (read_at 2 0 (struct_record meta l (field_row f kind number_of default) 2)) ≡ Ok f.discriminant_value
@@ -43,7 +43,7 @@ module _ (l : Levels) (f : Field) (kind number_of : ℕ) (default : Tree) where
 
   field-name : IsName f.name → name (read_at 2 1 (struct_record meta l (field_row f kind number_of default) 2)) ≡ Ok f.name
   unfolding read_at
-  field-name h = name-read f.name h
+  field-name h = name-read f.name h.utf8
 
   field-annotations : HasLevels 3 l → FieldKept f → annotations (read_at 2 2 (struct_record meta l (field_row f kind number_of default) 2)) ≡ Ok f.annotations
   unfolding read_at
@@ -88,7 +88,7 @@ module _ (l : Levels) (n : Node) where
   abbrev numbers : List ℕ
   numbers = (node_tree n).bytes
 
-  numbers-bytes : AreBytes numbers
+  pub numbers-bytes : AreBytes numbers
   numbers-bytes =
       AreBytes-append (spelled 8 n.id) (spelled 2 n.data_word_count ++ (spelled 2 n.pointer_count ++ (spelled 2 n.discriminant_count ++ (spelled 1 (bit_number n.is_group) ++ (zeros 1 ++ (in_word 4 n.discriminant_offset)))))) (AreBytes-spelled 8 n.id)
       (AreBytes-append (spelled 2 n.data_word_count) (spelled 2 n.pointer_count ++ (spelled 2 n.discriminant_count ++ (spelled 1 (bit_number n.is_group) ++ (zeros 1 ++ (in_word 4 n.discriminant_offset))))) (AreBytes-spelled 2 n.data_word_count)
@@ -123,7 +123,7 @@ module _ (l : Levels) (n : Node) where
 
   node-name : IsName n.display_name → name (read_at 1 6 (struct_record meta l (node_tree n) 1)) ≡ Ok n.display_name
   unfolding read_at
-  node-name h = name-read n.display_name h
+  node-name h = name-read n.display_name h.utf8
 
   node-annotations : HasLevels 5 l → NodeKept n → annotations (read_at 1 7 (struct_record meta l (node_tree n) 1)) ≡ Ok n.annotations
   unfolding read_at
@@ -144,7 +144,7 @@ node-read l e n k =
 
 enumerant-name : (l : Levels) (x : Enumerant) → IsName x.name → name (read_at 9 0 (struct_record meta l (enumerant_tree x) 9)) ≡ Ok x.name
 unfolding read_at
-enumerant-name l x h = name-read x.name h
+enumerant-name l x h = name-read x.name h.utf8
 
 enumerant-annotations : (l : Levels) (x : Enumerant) → HasLevels 3 l → EnumerantKept x → annotations (read_at 9 1 (struct_record meta l (enumerant_tree x) 9)) ≡ Ok x.annotations
 unfolding read_at
@@ -173,7 +173,7 @@ module _ (brands : Values) (l : Levels) (x : Enum) where
 
   enum-name : IsName x.display_name → name (read_at 8 1 (struct_record meta l (enum_tree x) 8)) ≡ Ok x.display_name
   unfolding read_at
-  enum-name h = name-read x.display_name h
+  enum-name h = name-read x.display_name h.utf8
 
   enum-annotations : HasLevels 3 l → EnumKept x → annotations (read_at 8 2 (struct_record meta l (enum_tree x) 8)) ≡ Ok x.annotations
   unfolding read_at

@@ -1,10 +1,14 @@
 -- A set that was written is read as itself: its tree, and the message of that tree.
-use Rattle.std.proofs.Common.{◌≡◌, ℕ, refl, ap, sym, subst, ◌∙◌, List, Ok}
+use Rattle.std.proofs.Common.{◌≡◌, ℕ, suc, ◌^◌, ◌<◌, ◌≤◌, refl, ap, sym, subst, ◌∙◌, List, Ok}
 use Rattle.std.specs.Prelude.{All}
+use Rattle.capnp_device.specs.declared.error.ErrorKind.{ErrorKind}
+use Rattle.capnp_device.specs.declared.error.ErrorKind.TheVariants.{TooLarge}
 use Rattle.capnp_wire.specs.Message.{IsReadAs}
 use Rattle.capnp_wire.specs.Depth.{IsShallow}
 use Rattle.capnp_wire.specs.Place.{struct_tree}
 use Rattle.capnp_wire.specs.Tree.{Tree}
+use Rattle.capnp_wire.specs.WellFormed.{IsWellFormed}
+use Rattle.capnp_wire.specs.Words.{words_of}
 use Rattle.capnp_schema.specs.Accepted.{IsAccepted}
 use Rattle.capnp_schema.specs.Builtin.{zero_word}
 use Rattle.capnp_schema.specs.Meta.{meta}
@@ -15,10 +19,12 @@ use Rattle.capnp_sets.specs.Fields.{node_of}
 use Rattle.capnp_sets.specs.Lists.{brand_of, enum_of, read_or_none, set_of}
 use Rattle.capnp_sets.specs.Parts.{read_at, structs}
 use Rattle.capnp_set_writer.specs.Kept.{NodeKept, SetKept}
+use Rattle.capnp_set_writer.specs.Limits.{SetFits, message_words}
 use Rattle.capnp_set_writer.specs.Message.{IsReadAsSet}
-use Rattle.capnp_sets.specs.Message.{tree_set}
+use Rattle.capnp_sets.specs.Message.{root_set, root_struct}
 use Rattle.capnp_set_writer.specs.Trees.{brand_tree, enum_tree, node_tree, set_tree}
 use Rattle.capnp_set_writer.proofs.Depth.{shallow}
+use Rattle.capnp_set_writer.proofs.Formed.{set-formed}
 use Rattle.capnp_set_writer.proofs.Lists.{structs-there}
 use Rattle.capnp_set_writer.proofs.Named.{brand_values, brands-named, enums-named}
 use Rattle.capnp_set_writer.proofs.Numbers.{applied}
@@ -44,5 +50,12 @@ module _ (s : Schemas) where
 
   pub message-read : (t : Tree) (bytes : List ℕ) → t ≡ struct_tree (set_tree s) → IsAccepted s → SetKept s → IsReadAs t bytes → IsReadAsSet s bytes
   message-read t bytes e accepted k reads rest =
-      ap tree_set (reads (subst IsShallow (sym e) (shallow s)) rest)
-      ∙ (ap (λ (x : Tree). tree_set (Ok x)) e ∙ ap read_or_none (set-read accepted k))
+      ap (λ r. root_set (root_struct r)) (reads (subst IsShallow (sym e) (shallow s)) rest)
+      ∙ (ap (λ (x : Tree). root_set (root_struct (Ok x))) e ∙ ap read_or_none (set-read accepted k))
+
+  -- the words of the message, by its tree
+  pub message-small : (t : Tree) → t ≡ struct_tree (set_tree s) → IsWellFormed t × (suc (words_of t) < 2 ^ 29) → message_words s < 2 ^ 29
+  message-small t e held = subst (λ (x : Tree). suc (words_of x) < 2 ^ 29) e held.1
+
+  pub message-large : (t : Tree) (kind : ErrorKind) → t ≡ struct_tree (set_tree s) → SetKept s → SetFits s → (kind ≡ TooLarge → IsWellFormed t → 2 ^ 29 ≤ suc (words_of t)) → kind ≡ TooLarge → 2 ^ 29 ≤ message_words s
+  message-large t kind e k f h large = subst (λ (x : Tree). 2 ^ 29 ≤ suc (words_of x)) e (h large (subst IsWellFormed (sym e) (set-formed s k f)))

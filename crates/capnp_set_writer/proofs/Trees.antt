@@ -1,9 +1,11 @@
 -- Trees of lent parts, and rows that are filled one by one.
-use Rattle.std.proofs.Common.{◌≡◌, ℕ, zero, suc, ◌+◌, ◌*◌, ◌<◌, refl, ap, sym, subst, ◌∙◌, arith, List, [], ◌∷◌, length, get_or}
-use Rattle.std.specs.Prelude.{Result, Ok, Err, IfOk, OnOk, map}
+use Rattle.std.proofs.Common.{◌≡◌, ◌≢◌, ◌⊎◌, inl, inr, ℕ, zero, suc, ◌+◌, ◌*◌, ◌^◌, ◌<◌, ◌≤◌, refl, ap, sym, subst, ◌∙◌, arith, List, [], ◌∷◌, length, get_or}
+use Rattle.std.specs.Prelude.{All, Result, Ok, Err, IfErr, IfOk, OnOk, map}
 use Rattle.std.proofs.lemmas.List.{length-map, length-replicate}
 use borrow.Author.Count.{below_more}
 use Rattle.capnp_device.specs.declared.error.Error.{Error}
+use Rattle.capnp_device.specs.declared.error.ErrorKind.{ErrorKind}
+use Rattle.capnp_device.specs.declared.error.ErrorKind.TheVariants.{OutOfMemory, SizePastFormat, TooLarge, UnknownKind}
 use Rattle.capnp_wire.specs.Tree.{Composite, MoreStructs, MoreTrees, Null, Pointers, StructTree, Tree, nth_struct, struct_count, structs_from, tree_count, trees_from}
 use Rattle.capnp_wire.specs.Edits.{IsRoomRefusal, nulls, with_pointer_tree, with_tree, zero_struct, zero_structs}
 use Rattle.capnp_wire.specs.Elements.{HasPointer, HasStruct, with_pointer_element, with_struct, with_struct_element}
@@ -20,8 +22,9 @@ use Rattle.capnp_wire.specs.declared.object.ListObject.{ListObject}
 use Rattle.capnp_wire.specs.Facts.Objects.{tree-of_list, tree-of_struct}
 use Rattle.capnp_wire.specs.Facts.Rows.{tree_count-nulls}
 use Rattle.capnp_wire.specs.Facts.Written.{pointer_written}
+use Rattle.capnp_set_writer.specs.Limits.{ListFits}
 use Rattle.capnp_set_writer.specs.Trees.{struct_list, zeros}
-use Rattle.capnp_set_writer.specs.Writes.{IsBlank, IsWriteRefusal, blank, filled, filled_trees}
+use Rattle.capnp_set_writer.specs.Writes.{IsBlank, IsPartRefusal, IsWriteRefusal, blank, filled, filled_trees}
 
 pub on_ok : {A E : Type 0} {P Q : Type 0} (r : Result A E) → (P → Q) → OnOk r P → OnOk r Q
 on_ok (Ok a) f p = f p
@@ -34,6 +37,95 @@ both_ok (Err e) f p q = p
 -- what there is no room for is refused as a part is
 pub room-refused : (e : Error) (past : Type 0) → IsRoomRefusal e past → IsWriteRefusal e.kind
 room-refused e past h = λ memory size. absurd (memory (h.0 size))
+
+pub if_err : {A E : Type 0} {P Q : E → Type 0} (r : Result A E) → ((e : E) → P e → Q e) → IfErr r P → IfErr r Q
+if_err (Ok a) f p = p
+if_err (Err e) f p = f e p
+
+-- what refuses a part refuses what it is a part of
+pub refused-up : {K K' F F' : Type 0} (kind : ErrorKind) → IsPartRefusal K F kind → (K' → K) → (F' → F) → IsPartRefusal K' F' kind
+refused-up kind h f g = (h.0, (λ unknown k. h.1 unknown (f k)), (λ past k. h.2 past (g k)))
+
+no-memory : (kind : ErrorKind) → kind ≡ OutOfMemory → kind ≡ UnknownKind → ⊥
+no-memory kind a b = cc
+
+no-memory-either : (kind : ErrorKind) → kind ≡ OutOfMemory → kind ≡ SizePastFormat → ⊥
+no-memory-either kind a b = cc
+
+-- want of memory refuses whatever it is
+pub memory-refused : {K F : Type 0} (kind : ErrorKind) → kind ≡ OutOfMemory → IsPartRefusal K F kind
+memory-refused kind e = ((λ memory size. absurd (memory e)), (λ unknown k. no-memory kind e unknown), (λ past k. no-memory-either kind e past))
+
+no-size : (kind : ErrorKind) → kind ≡ SizePastFormat → kind ≡ UnknownKind → ⊥
+no-size kind a b = cc
+
+-- what doesn't fit
+pub size-refused : {K F : Type 0} (kind : ErrorKind) → kind ≡ SizePastFormat → (F → ⊥) → IsPartRefusal K F kind
+size-refused kind e unfit = ((λ memory size. absurd (size e)), (λ unknown k. no-size kind e unknown), (λ past k. unfit k))
+
+-- what there is no room for
+pub room-part-refused : {K F : Type 0} (e : Error) (past : Type 0) → IsRoomRefusal e past → (past → F → ⊥) → IsPartRefusal K F e.kind
+room-part-refused e past h unfit = (
+  room-refused e past h,
+  (λ unknown k. no-memory e.kind (h.0 (λ size. no-size e.kind size unknown)) unknown),
+  (λ size k. unfit (h.1 size) k),
+)
+
+map-at : {A B : Type 0} (f : A → B) (xs : List A) (i : ℕ) (x : A) → get_or (map f xs) i (f x) ≡ f (get_or xs i x)
+map-at f [] i x = refl
+map-at f (y ∷ xs) zero x = refl
+map-at f (y ∷ xs) (suc i) x = map-at f xs i x
+
+-- the refusals of the whole message, TooLarge and want of memory, are none of a part's
+large-memory : (kind : ErrorKind) → kind ≡ TooLarge → kind ≡ OutOfMemory → ⊥
+large-memory kind a b = cc
+
+large-size : (kind : ErrorKind) → kind ≡ TooLarge → kind ≡ SizePastFormat → ⊥
+large-size kind a b = cc
+
+large-unknown : (kind : ErrorKind) → kind ≡ TooLarge → kind ≡ UnknownKind → ⊥
+large-unknown kind a b = cc
+
+pub part-not-large : (kind : ErrorKind) → IsWriteRefusal kind → kind ≡ TooLarge → ⊥
+part-not-large kind h large = large-unknown kind large (h (large-memory kind large) (large-size kind large))
+
+pub whole-refused : (kind : ErrorKind) → (kind ≢ TooLarge → kind ≡ OutOfMemory) → kind ≢ TooLarge → IsWriteRefusal kind
+whole-refused kind h small = λ memory size. absurd (memory (h small))
+
+pub whole-no-unknown : (kind : ErrorKind) → (kind ≢ TooLarge → kind ≡ OutOfMemory) → kind ≡ UnknownKind → ⊥
+whole-no-unknown kind h e = no-memory kind (h (λ large. large-unknown kind large e)) e
+
+pub whole-no-size : (kind : ErrorKind) → (kind ≢ TooLarge → kind ≡ OutOfMemory) → kind ≡ SizePastFormat → ⊥
+whole-no-size kind h e = no-memory-either kind (h (λ large. large-size kind large e)) e
+
+-- what is so of each result that is Ok
+pub always-ok : {A E P : Type 0} (r : Result A E) → P → OnOk r P
+always-ok (Ok a) p = p
+always-ok (Err e) p = tt
+
+pub on-if-ok : {A E Q : Type 0} {P : A → Type 0} (r : Result A E) → ((a : A) → P a → Q) → IfOk r P → OnOk r Q
+on-if-ok (Ok a) f p = f a p
+on-if-ok (Err e) f p = tt
+
+-- one of a row is what each of them is
+pub one-of-all : {P S : Type 0} (Q : S → Type 0) (seen : P → S) (parts : List P) (i : ℕ) (part : P) → i < length parts → part ≡ get_or parts i part → All Q (map seen parts) → Q (seen part)
+one-of-all Q seen parts i part inside is h =
+    subst Q (map-at seen parts i part ∙ ap seen (sym is)) (h i (seen part) (omega (arith, inside, length-map parts seen)))
+
+-- a list of parts, by the count and the size that it was made of
+module _ {P S : Type 0} (seen : P → S) (parts : List P) (count : ℕ) (size : StructSize) (d p : ℕ) (is : count ≡ length parts) (a : size.data_words ≡ d) (b : size.pointers ≡ p) where
+  same-count : count ≡ length (map seen parts)
+  same-count = is ∙ sym (length-map parts seen)
+
+  same-words : count * (size.data_words + size.pointers) ≡ length (map seen parts) * (d + p)
+  same-words = ap (λ n. n * (size.data_words + size.pointers)) same-count ∙ (ap (λ n. length (map seen parts) * (n + size.pointers)) a ∙ ap (λ n. length (map seen parts) * (d + n)) b)
+
+  pub parts-fit : {Fits : S → Type 0} → count < 2 ^ 29 → count * (size.data_words + size.pointers) < 2 ^ 29 → All Fits (map seen parts) → ListFits (d + p) Fits (map seen parts)
+  parts-fit few small each = record { count = (subst (λ n. n < 2 ^ 29) same-count few, subst (λ n. n < 2 ^ 29) same-words small); each = each }
+
+  pub long-list : {Fits : S → Type 0} → (2 ^ 29 ≤ count) ⊎ (2 ^ 29 ≤ count * (size.data_words + size.pointers)) → ListFits (d + p) Fits (map seen parts) → ⊥
+  long-list (inl many) f = omega (arith, subst (λ n. 2 ^ 29 ≤ n) same-count many, f.count.0)
+  long-list (inr long) f = omega (arith, subst (λ n. 2 ^ 29 ≤ n) same-words long, f.count.1)
 
 -- a struct, and a list, at a pointer
 pub struct_stands : (s : StructObject) → object_tree (object.Struct s) ≡ struct_tree (struct_object_tree s)
@@ -92,11 +184,6 @@ new-filled d p size count ss t a b n e =
     ∙ (ap (λ k. Composite k size.pointers (structs_from (λ _. record { bytes = zeros (8 * k); pointers = nulls size.pointers }) 0 (length ss))) a
     ∙ (ap (λ k. Composite d k (structs_from (λ _. record { bytes = zeros (8 * d); pointers = nulls k }) 0 (length ss))) b
     ∙ ap (Composite d p) (filled-none (blank d p) ss 0))))
-
-map-at : {A B : Type 0} (f : A → B) (xs : List A) (i : ℕ) (x : A) → get_or (map f xs) i (f x) ≡ f (get_or xs i x)
-map-at f [] i x = refl
-map-at f (y ∷ xs) zero x = refl
-map-at f (y ∷ xs) (suc i) x = map-at f xs i x
 
 same-there : {A : Type 0} (xs : List A) (i : ℕ) (d d' : A) → i < length xs → get_or xs i d ≡ get_or xs i d'
 same-there [] i d d' h = absurd (omega arith)

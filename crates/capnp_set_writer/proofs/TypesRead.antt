@@ -91,7 +91,7 @@ base-read brands AnyPointerType h n = refl
 -- ---- the record of a type ----
 
 module _ (l : Levels) (base lists named : ℕ) where
-  row-bytes : AreBytes (type_row base lists named).bytes
+  pub row-bytes : AreBytes (type_row base lists named).bytes
   row-bytes = AreBytes-append (spelled 2 base) (spelled 2 lists ++ spelled 4 named) (AreBytes-spelled 2 base) (AreBytes-append (spelled 2 lists) (spelled 4 named) (AreBytes-spelled 2 lists) (AreBytes-spelled 4 named))
 
   base-number : base < 256 ^ 2 → number (read_at 7 0 (struct_record meta l (type_row base lists named) 7)) ≡ Ok base

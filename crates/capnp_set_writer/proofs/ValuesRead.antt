@@ -105,7 +105,7 @@ struct-value l words = refl
 
 list-value : (l : Levels) (words : List ℕ) → ValueKept (ListValue words) → IsRead l (ListValue words)
 unfolding value_of value_by read_at ◌<*>◌
-list-value l [] k = absurd (k refl)
+list-value l [] k = absurd (k.0 refl)
 list-value l (b ∷ bytes) k = refl
 
 null-value : (l : Levels) → IsRead l (AnyPointerValue zero_word)

@@ -2,7 +2,7 @@
 -- for.
 use Rattle.std.specs.Prelude.{ℕ, ◌*◌, ◌^◌, ◌<◌, ◌≡◌, ◌≢◌, ⊤, List, [], true, All}
 use Rattle.std.specs.Str.{is_utf8}
-use Rattle.capnp_wire.specs.WellFormed.{is_width}
+use Rattle.capnp_wire.specs.WellFormed.{AreBytes, is_width}
 use Rattle.capnp_schema.specs.Builtin.{zero_word}
 use Rattle.capnp_schema.specs.Ranges.{HasWidths, IsSigned}
 use Rattle.capnp_schema.specs.Schema.{Annotation, Brand, Enum, Enumerant, Field, FieldKind, Group, Node, Schemas, Slot}
@@ -10,8 +10,9 @@ use Rattle.capnp_schema.specs.Schema.{Value, VoidValue, BoolValue, IntValue, UIn
 use Rattle.capnp_schema.specs.Types.{SchemaType}
 use Rattle.capnp_set_writer.specs.Trees.{list_count, named_number}
 
-abbrev pub IsName : List ℕ → Type 0
-IsName bytes = is_utf8 bytes ≡ true
+pub record IsName (name : List ℕ) : Type 0 where
+  pub utf8 : is_utf8 name ≡ true
+  pub bytes : AreBytes name
 
 pub record TypeKept (t : SchemaType) : Type 0 where
   pub widths : HasWidths t
@@ -25,10 +26,10 @@ ValueKept (BoolValue x) = ⊤
 ValueKept (IntValue width x) = (is_width width ≡ true) × IsSigned width x
 ValueKept (UIntValue width x) = (is_width width ≡ true) × (x < 2 ^ (8 * width))
 ValueKept (EnumValue x) = x < 2 ^ 16
-ValueKept (TextValue bytes) = ⊤
-ValueKept (DataValue bytes) = ⊤
-ValueKept (StructValue words) = ⊤
-ValueKept (ListValue words) = words ≢ []
+ValueKept (TextValue bytes) = AreBytes bytes
+ValueKept (DataValue bytes) = AreBytes bytes
+ValueKept (StructValue words) = AreBytes words
+ValueKept (ListValue words) = (words ≢ []) × AreBytes words
 ValueKept (AnyPointerValue words) = words ≡ zero_word
 
 pub record AnnotationKept (a : Annotation) : Type 0 where

@@ -16,6 +16,10 @@ use Rattle.capnp_set_writer.specs.Trees.{value_tree, zeros}
 abbrev pub IsWriteRefusal : ErrorKind → Type 0
 IsWriteRefusal kind = kind ≢ OutOfMemory → kind ≢ SizePastFormat → kind ≡ UnknownKind
 
+-- and for a value only where not each has its kind, and for a length only where not each fits
+abbrev pub IsPartRefusal : (kinds fits : Type 0) → ErrorKind → Type 0
+IsPartRefusal kinds fits kind = IsWriteRefusal kind × (kind ≡ UnknownKind → kinds → ⊥) × (kind ≡ SizePastFormat → fits → ⊥)
+
 -- a new struct of so many words and pointers
 abbrev pub blank : (data_words pointers : ℕ) → StructTree
 blank data_words pointers = record { bytes = zeros (8 * data_words); pointers = nulls pointers }

@@ -1,7 +1,8 @@
 //! Brands and enums, as their records are written.
-ghost use Rattle.std.specs.Prelude.{◌≡◌, refl};
+ghost use Rattle.std.specs.Prelude.{◌≡◌, ⊤, refl};
 ghost use Rattle.capnp_schema.specs.Schema.{Brand, Enum, Enumerant, seen_brand, seen_enum, seen_enumerant};
 ghost use Rattle.capnp_set_writer.specs.Kept.{BrandKept, EnumKept, EnumerantKept};
+ghost use Rattle.capnp_set_writer.specs.Limits.{BrandFits, EnumFits, EnumHasKinds, EnumerantFits, EnumerantHasKinds};
 ghost use Rattle.capnp_set_writer.specs.Trees.{brand_tree, enum_tree, enumerant_tree};
 
 use crate::rows::{Part, put_parts};
@@ -24,6 +25,10 @@ impl Part for BrandRecord {
     ghost tree = { brand_tree };
 
     ghost kept = { BrandKept };
+
+    ghost has_kinds = { λ b. ⊤ };
+
+    ghost fits = { BrandFits };
 
     ghost has_size = { λ b kept. record { bytes = refl; pointers = refl } };
 
@@ -55,6 +60,10 @@ impl Part for EnumerantRecord {
 
     ghost kept = { EnumerantKept };
 
+    ghost has_kinds = { EnumerantHasKinds };
+
+    ghost fits = { EnumerantFits };
+
     ghost has_size = { λ e kept. record { bytes = refl; pointers = refl } };
 
     fn size() -> StructSize {
@@ -82,6 +91,10 @@ impl Part for EnumRecord {
     ghost tree = { enum_tree };
 
     ghost kept = { EnumKept };
+
+    ghost has_kinds = { EnumHasKinds };
+
+    ghost fits = { EnumFits };
 
     ghost has_size = { λ e kept. record { bytes = refl; pointers = refl } };
 

@@ -4,9 +4,10 @@ ghost use Rattle.capnp_wire.specs.Objects.{struct_object_tree};
 ghost use Rattle.capnp_wire.specs.Sizes.{KeepsSize};
 ghost use Rattle.capnp_schema.specs.Schema.{Field, Node, seen_field, seen_kind, seen_node};
 ghost use Rattle.capnp_set_writer.specs.Kept.{AreSectionsKept, FieldKept, KindKept, NodeKept};
+ghost use Rattle.capnp_set_writer.specs.Limits.{DefaultFits, DefaultHasKind, FieldFits, FieldHasKinds, NodeFits, NodeHasKinds};
 ghost use Rattle.capnp_set_writer.specs.Sizes.{field_size};
 ghost use Rattle.capnp_set_writer.specs.Trees.{field_tree, node_tree};
-ghost use Rattle.capnp_set_writer.specs.Writes.{HasFieldSize, HasNodeSize, IsWriteRefusal, kind_written, sections_written};
+ghost use Rattle.capnp_set_writer.specs.Writes.{HasFieldSize, HasNodeSize, IsPartRefusal, kind_written, sections_written};
 
 use crate::rows::{Part, put_part, put_parts};
 use crate::values::bit_number;
@@ -26,7 +27,8 @@ fn put_kind(to: &mut StructObject, kind: &FieldKind) -> Result<()>
     requires { HasFieldSize (struct_object_tree to.old) }
     ensures written { OnOk result (struct_object_tree to.new ≡ kind_written (seen_kind kind.now) (struct_object_tree to.old)) }
     ensures kept { OnOk result (KindKept (seen_kind kind.now)) }
-    ensures cause { IfErr result (λ e. IsWriteRefusal e.kind) }
+    ensures fits { OnOk result (DefaultFits (seen_kind kind.now)) }
+    ensures cause { IfErr result (λ e. IsPartRefusal (DefaultHasKind (seen_kind kind.now)) (DefaultFits (seen_kind kind.now)) e.kind) }
 {
     match kind {
         FieldKind::Slot { offset, default } => {
@@ -54,6 +56,10 @@ impl Part for FieldRecord {
     ghost tree = { field_tree };
 
     ghost kept = { FieldKept };
+
+    ghost has_kinds = { FieldHasKinds };
+
+    ghost fits = { FieldFits };
 
     ghost has_size = { field_size };
 
@@ -99,6 +105,10 @@ impl Part for NodeRecord {
     ghost tree = { node_tree };
 
     ghost kept = { NodeKept };
+
+    ghost has_kinds = { NodeHasKinds };
+
+    ghost fits = { NodeFits };
 
     ghost has_size = { λ n kept. record { bytes = refl; pointers = refl } };
 

@@ -1,5 +1,6 @@
 //! Lists of parts of a set, each part written as a struct of its own.
-ghost use Rattle.std.specs.Prelude.{◌≡◌, ◌≤◌, ◌<◌, ◌*◌, ◌^◌, All, length, map, IfErr, IfOk, OnOk};
+ghost use Rattle.std.specs.Prelude.{◌≡◌, ◌≤◌, ◌<◌, ◌+◌, ◌*◌, ◌^◌, All, length, map, IfErr, IfOk, OnOk};
+ghost use Rattle.capnp_device.specs.declared.error.ErrorKind.TheVariants.{SizePastFormat};
 ghost use Rattle.capnp_wire.specs.Tree.{Composite, Null, Pointers, tree_count};
 ghost use Rattle.capnp_wire.specs.Edits.{nulls, with_pointer_tree};
 ghost use Rattle.capnp_wire.specs.Elements.{HasPointer, HasStruct, with_pointer_element, with_struct_element};
@@ -7,8 +8,9 @@ ghost use Rattle.capnp_wire.specs.Sizes.{KeepsSize};
 ghost use Rattle.capnp_wire.specs.Objects.{list_object_tree, object_tree, struct_object_tree, structs_of, trees_of};
 ghost use Rattle.capnp_wire.specs.Place.{struct_tree};
 ghost use Rattle.capnp_wire.specs.Reading.{element_struct};
+ghost use Rattle.capnp_set_writer.specs.Limits.{ListFits};
 ghost use Rattle.capnp_set_writer.specs.Trees.{struct_list};
-ghost use Rattle.capnp_set_writer.specs.Writes.{IsBlank, IsWriteRefusal, blank, filled, filled_trees};
+ghost use Rattle.capnp_set_writer.specs.Writes.{IsBlank, IsPartRefusal, blank, filled, filled_trees};
 
 use capnp_wire::error::{Error, ErrorKind, Result};
 use capnp_wire::object::{ListObject, Object, StructObject};
@@ -32,6 +34,11 @@ pub(crate) trait Part {
 
     ghost kept: { Seen → Type 0 };
 
+    // The form has a kind for each of its values, and its texts, data and lists fit the format.
+    ghost has_kinds: { Seen → Type 0 };
+
+    ghost fits: { Seen → Type 0 };
+
     /// The size of its struct.
     fn size() -> StructSize
         ensures data_words { result.data_words ≡ data_words }
@@ -45,7 +52,8 @@ pub(crate) trait Part {
         requires { IsBlank data_words pointers (struct_object_tree to.old) }
         ensures written { OnOk result (struct_object_tree to.new ≡ tree (seen self.now)) }
         ensures kept { OnOk result (kept (seen self.now)) }
-        ensures cause { IfErr result (λ e. IsWriteRefusal e.kind) };
+        ensures fits { OnOk result (fits (seen self.now)) }
+        ensures cause { IfErr result (λ e. IsPartRefusal (has_kinds (seen self.now)) (fits (seen self.now)) e.kind) };
 
     /// The tree of a part that the form keeps has its size.
     ghost has_size: { (x : Seen) → kept x → KeepsSize (blank data_words pointers) (tree x) };
@@ -58,7 +66,8 @@ pub(crate) trait Part {
 fn put_struct<T: Part>(to: &mut Object, part: &T) -> Result<()>
     ensures written { OnOk result (object_tree to.new ≡ struct_tree (T.tree (T.seen part.now))) }
     ensures kept { OnOk result (T.kept (T.seen part.now)) }
-    ensures cause { IfErr result (λ e. IsWriteRefusal e.kind) }
+    ensures fits { OnOk result (T.fits (T.seen part.now)) }
+    ensures cause { IfErr result (λ e. IsPartRefusal (T.has_kinds (T.seen part.now)) (T.fits (T.seen part.now)) e.kind) }
 {
     let made = to.init_struct(T::size())?;
     part.put(made)
@@ -73,7 +82,8 @@ pub(crate) fn put_part<T: Part>(to: &mut StructObject, index: u16, part: &T) -> 
         with_pointer_tree (struct_object_tree to.old) index (struct_tree (T.tree (T.seen part.now)))) }
     ensures size { OnOk result (KeepsSize (struct_object_tree to.old) (struct_object_tree to.new)) }
     ensures kept { OnOk result (T.kept (T.seen part.now)) }
-    ensures cause { IfErr result (λ e. IsWriteRefusal e.kind) }
+    ensures fits { OnOk result (T.fits (T.seen part.now)) }
+    ensures cause { IfErr result (λ e. IsPartRefusal (T.has_kinds (T.seen part.now)) (T.fits (T.seen part.now)) e.kind) }
 {
     put_struct(to.get_pointer_field(index), part)
 }
@@ -84,7 +94,8 @@ fn put_element<T: Part>(list: &mut ListObject, index: u32, part: &T) -> Result<(
     requires blank { element_struct (list_object_tree list.old) index ≡ blank T.data_words T.pointers }
     ensures written { OnOk result (list_object_tree list.new ≡ with_struct_element index (T.tree (T.seen part.now)) (list_object_tree list.old)) }
     ensures kept { OnOk result (T.kept (T.seen part.now)) }
-    ensures cause { IfErr result (λ e. IsWriteRefusal e.kind) }
+    ensures fits { OnOk result (T.fits (T.seen part.now)) }
+    ensures cause { IfErr result (λ e. IsPartRefusal (T.has_kinds (T.seen part.now)) (T.fits (T.seen part.now)) e.kind) }
 {
     part.put(list.get_struct_element(index))
 }
@@ -96,7 +107,8 @@ fn fill_list<T: Part>(list: &mut ListObject, parts: &[T]) -> Result<()>
     requires few { length parts.now < 2 ^ 29 }
     ensures written { OnOk result (list_object_tree list.new ≡ struct_list T.data_words T.pointers (map T.tree (map T.seen parts.now))) }
     ensures kept { OnOk result (All T.kept (map T.seen parts.now)) }
-    ensures cause { IfErr result (λ e. IsWriteRefusal e.kind) }
+    ensures fits { OnOk result (All T.fits (map T.seen parts.now)) }
+    ensures cause { IfErr result (λ e. IsPartRefusal (All T.has_kinds (map T.seen parts.now)) (All T.fits (map T.seen parts.now)) e.kind) }
 {
     for index in 0..parts.len() {
         put_element(list, index as u32, &parts[index])?;
@@ -110,7 +122,8 @@ fn fill_list<T: Part>(list: &mut ListObject, parts: &[T]) -> Result<()>
 pub(crate) fn count_of(parts: usize) -> Result<u32>
     ensures count { OnOk result (parts < 2 ^ 29) }
     ensures is { IfOk result (λ count. count ≡ parts) }
-    ensures cause { IfErr result (λ e. IsWriteRefusal e.kind) }
+    ensures past { IfErr result (λ e. 2 ^ 29 ≤ parts) }
+    ensures cause { IfErr result (λ e. e.kind ≡ SizePastFormat) }
 {
     if parts >= 1 << 29 {
         return Err(Error::from(ErrorKind::SizePastFormat));
@@ -126,7 +139,8 @@ pub(crate) fn count_of(parts: usize) -> Result<u32>
 pub(crate) fn put_list<T: Part>(to: &mut Object, parts: &[T]) -> Result<()>
     ensures written { OnOk result (object_tree to.new ≡ struct_list T.data_words T.pointers (map T.tree (map T.seen parts.now))) }
     ensures kept { OnOk result (All T.kept (map T.seen parts.now)) }
-    ensures cause { IfErr result (λ e. IsWriteRefusal e.kind) }
+    ensures fits { OnOk result (ListFits (T.data_words + T.pointers) T.fits (map T.seen parts.now)) }
+    ensures cause { IfErr result (λ e. IsPartRefusal (All T.has_kinds (map T.seen parts.now)) (ListFits (T.data_words + T.pointers) T.fits (map T.seen parts.now)) e.kind) }
 {
     let count = count_of(parts.len())?;
     let list = to.init_struct_list(count, T::size())?;
@@ -142,7 +156,8 @@ pub(crate) fn put_parts<T: Part>(to: &mut StructObject, index: u16, parts: &[T])
         with_pointer_tree (struct_object_tree to.old) index (struct_list T.data_words T.pointers (map T.tree (map T.seen parts.now)))) }
     ensures size { OnOk result (KeepsSize (struct_object_tree to.old) (struct_object_tree to.new)) }
     ensures kept { OnOk result (All T.kept (map T.seen parts.now)) }
-    ensures cause { IfErr result (λ e. IsWriteRefusal e.kind) }
+    ensures fits { OnOk result (ListFits (T.data_words + T.pointers) T.fits (map T.seen parts.now)) }
+    ensures cause { IfErr result (λ e. IsPartRefusal (All T.has_kinds (map T.seen parts.now)) (ListFits (T.data_words + T.pointers) T.fits (map T.seen parts.now)) e.kind) }
 {
     put_list(to.get_pointer_field(index), parts)
 }

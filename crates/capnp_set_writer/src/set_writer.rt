@@ -1,14 +1,15 @@
 //! Sets of schemas as messages.
-ghost use Rattle.std.specs.Prelude.{◌≡◌, ◌≢◌, IfErr, IfOk, OnOk};
-ghost use Rattle.capnp_device.specs.declared.error.ErrorKind.TheVariants.{TooLarge};
+ghost use Rattle.std.specs.Prelude.{◌≡◌, ◌≢◌, ◌≤◌, ◌<◌, ◌^◌, IfErr, IfOk, OnOk};
+ghost use Rattle.capnp_device.specs.declared.error.ErrorKind.TheVariants.{SizePastFormat, TooLarge, UnknownKind};
 ghost use Rattle.capnp_wire.specs.Objects.{object_tree, struct_object_tree};
 ghost use Rattle.capnp_wire.specs.Place.{struct_tree};
 ghost use Rattle.capnp_schema.specs.Accepted.{IsAccepted};
 ghost use Rattle.capnp_schema.specs.Entries.{lists_seen};
 ghost use Rattle.capnp_set_writer.specs.Kept.{SetKept};
+ghost use Rattle.capnp_set_writer.specs.Limits.{HasFormless, IsPastFormat, SetFits, SetHasKinds, message_words};
 ghost use Rattle.capnp_set_writer.specs.Message.{IsReadAsSet};
 ghost use Rattle.capnp_set_writer.specs.Trees.{set_tree};
-ghost use Rattle.capnp_set_writer.specs.Writes.{IsBlank, IsWriteRefusal};
+ghost use Rattle.capnp_set_writer.specs.Writes.{IsBlank, IsPartRefusal, IsWriteRefusal};
 
 use crate::rows::put_parts;
 use capnp_schema::set::SchemaSet;
@@ -30,7 +31,8 @@ fn put_lists(to: &mut StructObject, set: &SchemaSet) -> Result<()>
     ensures written { OnOk result (struct_object_tree to.new ≡ set_tree (lists_seen set.now)) }
     ensures kept { OnOk result (SetKept (lists_seen set.now)) }
     ensures accepted { IsAccepted (lists_seen set.now) }
-    ensures cause { IfErr result (λ e. IsWriteRefusal e.kind) }
+    ensures fits { OnOk result (SetFits (lists_seen set.now)) }
+    ensures cause { IfErr result (λ e. IsPartRefusal (SetHasKinds (lists_seen set.now)) (SetFits (lists_seen set.now)) e.kind) }
 {
     put_parts(to, 0, set.nodes())?;
     put_parts(to, 1, set.brands())?;
@@ -43,7 +45,8 @@ fn put_root(to: &mut Object, set: &SchemaSet) -> Result<()>
     ensures written { OnOk result (object_tree to.new ≡ struct_tree (set_tree (lists_seen set.now))) }
     ensures kept { OnOk result (SetKept (lists_seen set.now)) }
     ensures accepted { OnOk result (IsAccepted (lists_seen set.now)) }
-    ensures cause { IfErr result (λ e. IsWriteRefusal e.kind) }
+    ensures fits { OnOk result (SetFits (lists_seen set.now)) }
+    ensures cause { IfErr result (λ e. IsPartRefusal (SetHasKinds (lists_seen set.now)) (SetFits (lists_seen set.now)) e.kind) }
 {
     let root = to.init_struct(ROOT)?;
     put_lists(root, set)
@@ -58,7 +61,13 @@ fn put_root(to: &mut Object, set: &SchemaSet) -> Result<()>
 /// too long for the format; with `TooLarge` where the message would be 2^29 words or more; and else with `OutOfMemory`.
 pub fn write_set(alloc: Global, set: &SchemaSet) -> Result<Vec<u8>>
     ensures read { IfOk result (λ bytes. IsReadAsSet (lists_seen set.now) bytes.items) }
+    ensures kinds { OnOk result (SetHasKinds (lists_seen set.now)) }
+    ensures fits { OnOk result (SetFits (lists_seen set.now)) }
+    ensures small { OnOk result (message_words (lists_seen set.now) < 2 ^ 29) }
     ensures cause { IfErr result (λ e. e.kind ≢ TooLarge → IsWriteRefusal e.kind) }
+    ensures unknown { IfErr result (λ e. e.kind ≡ UnknownKind → HasFormless (lists_seen set.now)) }
+    ensures past { IfErr result (λ e. e.kind ≡ SizePastFormat → IsPastFormat (lists_seen set.now)) }
+    ensures large { IfErr result (λ e. e.kind ≡ TooLarge → 2 ^ 29 ≤ message_words (lists_seen set.now)) }
 {
     let mut message = Builder::new(alloc);
     put_root(message.root(), set)?;

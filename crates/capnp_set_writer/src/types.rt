@@ -1,5 +1,5 @@
 //! Types, as their records are written.
-ghost use Rattle.std.specs.Prelude.{◌≡◌, ◌≤◌, ◌<◌, ◌*◌, ◌^◌, All, List, length, map, IfErr, IfOk, OnOk};
+ghost use Rattle.std.specs.Prelude.{◌≡◌, ◌≤◌, ◌<◌, ◌*◌, ◌^◌, ⊤, All, List, length, map, IfErr, IfOk, OnOk};
 ghost use Rattle.capnp_device.specs.declared.error.ErrorKind.TheVariants.{SizePastFormat};
 ghost use Rattle.capnp_wire.specs.Tree.{Pointers, tree_count};
 ghost use Rattle.capnp_wire.specs.Edits.{nulls, with_pointer_tree};
@@ -8,8 +8,9 @@ ghost use Rattle.capnp_wire.specs.Objects.{list_object_tree, object_tree, struct
 ghost use Rattle.capnp_wire.specs.Sizes.{KeepsSize};
 ghost use Rattle.capnp_schema.specs.Types.{SchemaType, seen_type, seen_variant};
 ghost use Rattle.capnp_set_writer.specs.Kept.{TypeKept};
+ghost use Rattle.capnp_set_writer.specs.Limits.{TypeFits, TypeListsFit, TypesFit};
 ghost use Rattle.capnp_set_writer.specs.Trees.{base_number, list_count, named_number, type_lists_tree, type_tree, types_tree};
-ghost use Rattle.capnp_set_writer.specs.Writes.{IsBare, IsWriteRefusal, filled_trees};
+ghost use Rattle.capnp_set_writer.specs.Writes.{IsBare, IsPartRefusal, filled_trees};
 
 use crate::rows::{Part, count_of, put_list};
 use crate::writes::put_number;
@@ -103,6 +104,10 @@ impl Part for Type {
 
     ghost kept = { TypeKept };
 
+    ghost has_kinds = { λ t. ⊤ };
+
+    ghost fits = { TypeFits };
+
     ghost has_size = { λ t kept. record { bytes = refl; pointers = refl } };
 
     fn size() -> StructSize {
@@ -129,7 +134,8 @@ fn put_row(list: &mut ListObject, index: u32, types: &[Type]) -> Result<()>
     requires { HasPointer (list_object_tree list.old) index }
     ensures written { OnOk result (list_object_tree list.new ≡ with_pointer_element index (types_tree (map seen_type types.now)) (list_object_tree list.old)) }
     ensures kept { OnOk result (All TypeKept (map seen_type types.now)) }
-    ensures cause { IfErr result (λ e. IsWriteRefusal e.kind) }
+    ensures fits { OnOk result (TypesFit (map seen_type types.now)) }
+    ensures cause { IfErr result (λ e. IsPartRefusal ⊤ (TypesFit (map seen_type types.now)) e.kind) }
 {
     put_list(list.get_pointer_element(index), types)
 }
@@ -140,7 +146,8 @@ fn fill_rows(list: &mut ListObject, rows: &[Vec<Type>]) -> Result<()>
     requires few { length rows.now < 2 ^ 29 }
     ensures written { OnOk result (list_object_tree list.new ≡ type_lists_tree (map (λ row. map seen_type row.items) rows.now)) }
     ensures kept { OnOk result (All (All TypeKept) (map (λ row. map seen_type row.items) rows.now)) }
-    ensures cause { IfErr result (λ e. IsWriteRefusal e.kind) }
+    ensures fits { OnOk result (All TypesFit (map (λ row. map seen_type row.items) rows.now)) }
+    ensures cause { IfErr result (λ e. IsPartRefusal ⊤ (All TypesFit (map (λ row. map seen_type row.items) rows.now)) e.kind) }
 {
     for index in 0..rows.len() {
         put_row(list, index as u32, rows[index].as_slice())?;
@@ -155,7 +162,8 @@ fn fill_rows(list: &mut ListObject, rows: &[Vec<Type>]) -> Result<()>
 fn put_rows(to: &mut Object, rows: &[Vec<Type>]) -> Result<()>
     ensures written { OnOk result (object_tree to.new ≡ type_lists_tree (map (λ row. map seen_type row.items) rows.now)) }
     ensures kept { OnOk result (All (All TypeKept) (map (λ row. map seen_type row.items) rows.now)) }
-    ensures cause { IfErr result (λ e. IsWriteRefusal e.kind) }
+    ensures fits { OnOk result (TypeListsFit (map (λ row. map seen_type row.items) rows.now)) }
+    ensures cause { IfErr result (λ e. IsPartRefusal ⊤ (TypeListsFit (map (λ row. map seen_type row.items) rows.now)) e.kind) }
 {
     let count = count_of(rows.len())?;
     let list = to.init_list(ElementSize::Pointer, count)?;
@@ -171,7 +179,8 @@ pub(crate) fn put_type_lists(to: &mut StructObject, index: u16, rows: &[Vec<Type
         with_pointer_tree (struct_object_tree to.old) index (type_lists_tree (map (λ row. map seen_type row.items) rows.now))) }
     ensures size { OnOk result (KeepsSize (struct_object_tree to.old) (struct_object_tree to.new)) }
     ensures kept { OnOk result (All (All TypeKept) (map (λ row. map seen_type row.items) rows.now)) }
-    ensures cause { IfErr result (λ e. IsWriteRefusal e.kind) }
+    ensures fits { OnOk result (TypeListsFit (map (λ row. map seen_type row.items) rows.now)) }
+    ensures cause { IfErr result (λ e. IsPartRefusal ⊤ (TypeListsFit (map (λ row. map seen_type row.items) rows.now)) e.kind) }
 {
     put_rows(to.get_pointer_field(index), rows)
 }

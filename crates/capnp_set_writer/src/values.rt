@@ -1,8 +1,9 @@
 //! Values and annotations, as their records are written.
-ghost use Rattle.std.specs.Prelude.{◌≡◌, ◌≢◌, ◌≤◌, ◌<◌, ◌+◌, ◌*◌, ◌^◌, [], IfErr, IsOk, OnOk, IsTrue, refl};
+ghost use Rattle.std.specs.Prelude.{◌≡◌, ◌≢◌, ◌≤◌, ◌<◌, ◌+◌, ◌*◌, ◌^◌, ⊤, [], IfErr, IsOk, OnOk, IsFalse, IsTrue, refl};
 ghost use Rattle.capnp_wire.specs.Tree.{Numbers};
 ghost use Rattle.capnp_wire.specs.Edits.{with_pointer_tree};
 ghost use Rattle.capnp_wire.specs.Objects.{struct_object_tree};
+ghost use Rattle.capnp_wire.specs.WellFormed.{AreBytes};
 ghost use Rattle.capnp_base.specs.Text.{text_tree};
 ghost use Rattle.capnp_schema.specs.Builtin.{zero_word};
 ghost use Rattle.capnp_schema.specs.Ranges.{IsSigned};
@@ -10,8 +11,9 @@ ghost use Rattle.capnp_schema.specs.Schema.{Annotation, IntValue, Value, seen_an
 ghost use Rattle.capnp_set_writer.specs.Sizes.{value_size};
 ghost use Rattle.capnp_schema.specs.SlotValue.{bit_number};
 ghost use Rattle.capnp_set_writer.specs.Kept.{AnnotationKept, ValueKept};
+ghost use Rattle.capnp_set_writer.specs.Limits.{AnnotationFits, AnnotationHasKind, HasKind, IsDataLength, IsTextLength, ValueFits};
 ghost use Rattle.capnp_set_writer.specs.Trees.{annotation_tree, value_tree};
-ghost use Rattle.capnp_set_writer.specs.Writes.{IsBlank, IsWriteRefusal, blank, numbered};
+ghost use Rattle.capnp_set_writer.specs.Writes.{IsBlank, IsPartRefusal, blank, numbered};
 
 use crate::rows::{Part, put_part};
 use crate::writes::{put_data, put_number, put_text};
@@ -42,7 +44,9 @@ fn put_kind<T: PrimitiveElement>(
 fn put_kind_text(to: &mut StructObject, kind: u16, text: &[u8]) -> Result<()>
     requires { IsBlank 2 1 (struct_object_tree to.old) }
     ensures written { OnOk result (struct_object_tree to.new ≡ with_pointer_tree (numbered 2 0 kind (blank 2 1)) 0 (text_tree text.now)) }
-    ensures cause { IfErr result (λ e. IsWriteRefusal e.kind) }
+    ensures kept { AreBytes text.now }
+    ensures fits { OnOk result (IsTextLength text.now) }
+    ensures cause { IfErr result (λ e. IsPartRefusal ⊤ (IsTextLength text.now) e.kind) }
 {
     put_number::<u16>(to, 0, kind);
     put_text(to, 0, text)
@@ -52,7 +56,9 @@ fn put_kind_text(to: &mut StructObject, kind: u16, text: &[u8]) -> Result<()>
 fn put_kind_data(to: &mut StructObject, kind: u16, bytes: &[u8]) -> Result<()>
     requires { IsBlank 2 1 (struct_object_tree to.old) }
     ensures written { OnOk result (struct_object_tree to.new ≡ with_pointer_tree (numbered 2 0 kind (blank 2 1)) 0 (Numbers 1 bytes.now)) }
-    ensures cause { IfErr result (λ e. IsWriteRefusal e.kind) }
+    ensures kept { AreBytes bytes.now }
+    ensures fits { OnOk result (IsDataLength bytes.now) }
+    ensures cause { IfErr result (λ e. IsPartRefusal ⊤ (IsDataLength bytes.now) e.kind) }
 {
     put_number::<u16>(to, 0, kind);
     put_data(to, 0, bytes)
@@ -107,7 +113,8 @@ fn put_int64(to: &mut StructObject, number: i64) -> Result<()>
 
 /// Whether the words of an untyped value are one zero word, a null.
 fn is_null(words: &[u8]) -> bool
-    ensures { IsTrue result → words.now ≡ zero_word }
+    ensures null { IsTrue result → words.now ≡ zero_word }
+    ensures other { IsFalse result → words.now ≢ zero_word }
 {
     matches!(words, [0, 0, 0, 0, 0, 0, 0, 0])
 }
@@ -119,8 +126,9 @@ fn is_null(words: &[u8]) -> bool
 fn put_list_words(to: &mut StructObject, words: &[u8]) -> Result<()>
     requires { IsBlank 2 1 (struct_object_tree to.old) }
     ensures written { OnOk result (struct_object_tree to.new ≡ with_pointer_tree (numbered 2 0 14 (blank 2 1)) 0 (Numbers 1 words.now)) }
-    ensures kept { OnOk result (words.now ≢ []) }
-    ensures cause { IfErr result (λ e. IsWriteRefusal e.kind) }
+    ensures kept { OnOk result ((words.now ≢ []) × AreBytes words.now) }
+    ensures fits { OnOk result (IsDataLength words.now) }
+    ensures cause { IfErr result (λ e. IsPartRefusal (words.now ≢ []) (IsDataLength words.now) e.kind) }
 {
     if words.is_empty() {
         return Err(Error::from(ErrorKind::UnknownKind));
@@ -135,7 +143,7 @@ fn put_untyped(to: &mut StructObject, words: &[u8]) -> Result<()>
     requires { IsBlank 2 1 (struct_object_tree to.old) }
     ensures written { OnOk result (struct_object_tree to.new ≡ with_pointer_tree (numbered 2 0 14 (blank 2 1)) 0 (Numbers 1 [])) }
     ensures kept { OnOk result (words.now ≡ zero_word) }
-    ensures cause { IfErr result (λ e. IsWriteRefusal e.kind) }
+    ensures cause { IfErr result (λ e. IsPartRefusal (words.now ≡ zero_word) ⊤ e.kind) }
 {
     if !is_null(words) {
         return Err(Error::from(ErrorKind::UnknownKind));
@@ -148,7 +156,8 @@ fn put_value(to: &mut StructObject, value: &ValueRecord) -> Result<()>
     requires { IsBlank 2 1 (struct_object_tree to.old) }
     ensures written { OnOk result (struct_object_tree to.new ≡ value_tree (seen_value value.now)) }
     ensures kept { OnOk result (ValueKept (seen_value value.now)) }
-    ensures cause { IfErr result (λ e. IsWriteRefusal e.kind) }
+    ensures fits { OnOk result (ValueFits (seen_value value.now)) }
+    ensures cause { IfErr result (λ e. IsPartRefusal (HasKind (seen_value value.now)) (ValueFits (seen_value value.now)) e.kind) }
 {
     match value {
         // the kind of nothing is 0
@@ -184,6 +193,10 @@ impl Part for ValueRecord {
 
     ghost kept = { ValueKept };
 
+    ghost has_kinds = { HasKind };
+
+    ghost fits = { ValueFits };
+
     ghost has_size = { value_size };
 
     fn size() -> StructSize {
@@ -210,6 +223,10 @@ impl Part for AnnotationRecord {
     ghost tree = { annotation_tree };
 
     ghost kept = { AnnotationKept };
+
+    ghost has_kinds = { AnnotationHasKind };
+
+    ghost fits = { AnnotationFits };
 
     ghost has_size = { λ a kept. record { bytes = refl; pointers = refl } };
 

@@ -2,4 +2,6 @@
 #![tactic(auto)]
 
 #[cfg(test)]
+mod refusal_tests;
+#[cfg(test)]
 mod write_tests;

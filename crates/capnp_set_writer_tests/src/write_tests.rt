@@ -1,10 +1,11 @@
-//! Sets that are written and read back, and sets that the form can't hold.
+//! Sets that are written and read back.
 
-use capnp_base::introspect::{Type, TypeVariant};
-use capnp_schema::record::{AnnotationRecord, ValueRecord};
+use capnp_base::introspect::TypeVariant;
 use capnp_schema::set::SchemaSet;
-use capnp_schema::{builtin, meta};
-use capnp_schema_fixtures::fixtures::{Records, StructOf, list_type, records_of, typed_slot};
+use capnp_schema::{builtin, meta, request};
+use capnp_schema_fixtures::fixtures::{
+    Records, StructOf, add_struct, slot, struct_type, typed_slot,
+};
 use capnp_schema_fixtures::set_text::read_set;
 use capnp_set_writer::set_writer::write_set;
 use capnp_sets_callers::readers::lists_in;
@@ -15,16 +16,22 @@ use std::test::Fail;
 /// Bytes that follow the message in its stream.
 const REST: [u8; 3] = [255, 0, 1];
 
-/// Sets as texts: every base of a type, lists around types, a value of each kind as a default, groups and unions, enums.
-const SETS: [&str; 4] = [
+/// Sets as texts: every base of a type, lists around types, a value of each kind as a default and as an annotation, groups
+/// and unions, enums, and nothing at all.
+const SETS: [&str; 9] = [
+    "",
+    "built-in",
     "struct 4 0, a Void @0, b Bool @0 =Bool(true), c Int8 @1 =Int8(-1), d Int16 @1 =Int16(-300), e Int32 @1 =Int32(-70000), f Int64 @1 =Int64(-5)",
     "struct 4 0, g UInt8 @0 =UInt8(255), h UInt16 @1 =UInt16(65535), i UInt32 @1 =UInt32(4294967295), j UInt64 @1 =UInt64(18446744073709551615)",
     "struct 1 2, g group(1); group 1 2, m Text @0",
-    "built-in",
+    "struct 1 5, n Enum(0) @0 =Enum(1), t Text @0 =Text(hi), d Data @1 =Data(zero_and_ff), s Struct(0) @2 =Struct(struct_258), l List(Enum(0)) @3, p AnyPointer @4; enum red blue",
+    "struct 1 1 union 2 0, x Void @0 #0, y List(List(Struct(0))) @0 #1; struct 0 0",
+    "struct 0 1, a Text @0; note struct 7 Struct(point_3_4) Struct(0); note field:0 8 List(null) List(Void); note field:0 9 AnyPointer(null) AnyPointer; note struct 10 Data(zero_and_ff) Data",
+    "enum red blue; note enum 1 Bool(true) Bool; note enumerant:1 2 Int64(-9223372036854775808) Int64; note enumerant:1 3 Void Void; note enumerant:0 4 Enum(1) Enum(0)",
 ];
 
 /// Asserts that a set is written, and read back as the lists of another one that is equal, with bytes after the message.
-fn same_again(rt: &impl Abort, alloc: Global, set: &SchemaSet) -> Result<(), Fail> {
+pub(crate) fn same_again(rt: &impl Abort, alloc: Global, set: &SchemaSet) -> Result<(), Fail> {
     let meta_set = meta::new_set(alloc)?;
     let mut bytes = write_set(alloc, set)?;
     bytes.extend_from_slice(&REST)?;
@@ -46,6 +53,11 @@ fn the_meta_set_is_read_back(rt: HostRuntime) -> Result<(), Fail> {
 }
 
 #[test]
+fn the_request_set_is_read_back(rt: HostRuntime) -> Result<(), Fail> {
+    same_again(&rt, rt.alloc(), &request::new_set(rt.alloc())?)
+}
+
+#[test]
 fn sets_of_texts_are_read_back(rt: HostRuntime) -> Result<(), Fail> {
     for text in &SETS {
         same_again(&rt, rt.alloc(), &read_set(rt.alloc(), text)?)?;
@@ -53,83 +65,41 @@ fn sets_of_texts_are_read_back(rt: HostRuntime) -> Result<(), Fail> {
     Ok(())
 }
 
-/// The lists of a set of one struct with one pointer of a type.
-fn one_pointer(alloc: Global, of: Type) -> Result<Records, Fail> {
-    Ok(records_of(
-        alloc,
-        StructOf {
-            data_words: 0,
+/// How many structs the large set has.
+const MANY: u32 = 2_000;
+
+/// The lists of a set of so many structs. Each has its own number as its id, and a pointer to the struct of another number.
+fn many_structs(alloc: Global) -> capnp_wire::error::Result<Records> {
+    let mut records = Records {
+        nodes: Vec::new(alloc),
+        brands: Vec::new(alloc),
+        enums: Vec::new(alloc),
+    };
+    for number in 0..MANY {
+        let fields = [
+            slot("value", 0, TypeVariant::UInt16),
+            typed_slot("next", 0, struct_type((number * 7 + 1) % MANY)),
+        ];
+        let of = StructOf {
+            data_words: 1,
             pointers: 1,
             is_group: false,
             discriminant_count: 0,
             discriminant_offset: 0,
-            fields: &[typed_slot("a", 0, of)],
-        },
-    )?)
-}
-
-fn checked(alloc: Global, records: Records) -> Result<SchemaSet, Fail> {
-    Ok(SchemaSet::new(alloc, records.nodes, records.brands, records.enums)?)
-}
-
-/// The set of a struct with an untyped pointer that has an untyped annotation of these words.
-fn untyped_annotation(alloc: Global, words: &[u8]) -> Result<SchemaSet, Fail> {
-    let any = Type::from(TypeVariant::AnyPointer);
-    let mut records = one_pointer(alloc, any)?;
-    let value = ValueRecord::AnyPointer(words.to_vec(alloc)?);
-    if let (Some(node), Some(brand)) = (records.nodes.get_mut(0), records.brands.get_mut(0)) {
-        node.annotations.push(AnnotationRecord { id: 1, value })?;
-        brand.annotation_types.own.push(any)?;
+            fields: &fields,
+        };
+        add_struct(alloc, &mut records, number, &of)?;
+        if let Some(node) = records.nodes.last_mut() {
+            node.id = number as u64;
+        }
     }
-    checked(alloc, records)
-}
-
-/// The number that a set is refused with, 0 where it is written.
-fn refusal(alloc: Global, set: &SchemaSet) -> u32 {
-    match write_set(alloc, set) {
-        Ok(_) => 0,
-        Err(error) => error.kind.number(),
-    }
-}
-
-/// The refusals of an unknown kind and of a size past the format.
-const UNKNOWN_KIND: u32 = 62;
-
-const SIZE_PAST_FORMAT: u32 = 10;
-
-/// The words of an untyped pointer to a struct of size zero.
-static EMPTY_STRUCT: [u8; 8] = [252, 255, 255, 255, 0, 0, 0, 0];
-
-#[test]
-fn untyped_values_but_nulls_are_refused(rt: HostRuntime) -> Result<(), Fail> {
-    same_again(&rt, rt.alloc(), &untyped_annotation(rt.alloc(), &[0; 8])?)?;
-    let set = untyped_annotation(rt.alloc(), &EMPTY_STRUCT)?;
-    assert_eq!(&rt; refusal(rt.alloc(), &set), UNKNOWN_KIND);
-    Ok(())
-}
-
-/// Void with so many lists around it.
-fn lists_around(count: u32) -> Type {
-    let mut outer = Type::from(TypeVariant::Void);
-    for _ in 0..count {
-        outer = list_type(outer);
-    }
-    outer
+    Ok(records)
 }
 
 #[test]
-fn lists_around_a_type_are_counted(rt: HostRuntime) -> Result<(), Fail> {
-    same_again(
-        &rt,
-        rt.alloc(),
-        &checked(rt.alloc(), one_pointer(rt.alloc(), lists_around(3))?)?,
-    )?;
-    same_again(
-        &rt,
-        rt.alloc(),
-        &checked(rt.alloc(), one_pointer(rt.alloc(), lists_around(65_535))?)?,
-    )?;
-    let set = checked(rt.alloc(), one_pointer(rt.alloc(), lists_around(65_536))?)?;
-    assert_eq!(&rt; refusal(rt.alloc(), &set), SIZE_PAST_FORMAT);
-    Ok(())
+fn a_set_of_2000_structs_is_read_back(rt: HostRuntime) -> Result<(), Fail> {
+    let records = many_structs(rt.alloc())?;
+    let set = SchemaSet::new(rt.alloc(), records.nodes, records.brands, records.enums)?;
+    assert_eq!(rt; set.nodes().len(), 2_000);
+    same_again(&rt, rt.alloc(), &set)
 }

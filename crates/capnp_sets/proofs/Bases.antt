@@ -1,5 +1,5 @@
 -- What stands past the last base of a type, and past the last member of a value.
-use Rattle.std.proofs.Common.{ℕ, ◌≡◌, ◌<◌, ◌≤◌, arith, ap, refl, sym, None}
+use Rattle.std.proofs.Common.{ℕ, ◌≡◌, ◌<◌, arith, ap, refl, sym, None}
 use Rattle.std.proofs.lemmas.Option.{slice_get_past}
 use Rattle.std.specs.Option.{unwrap_or}
 use Rattle.capnp_device.specs.declared.error.ErrorKind.TheVariants.{UnknownKind}

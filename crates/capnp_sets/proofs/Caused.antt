@@ -1,5 +1,5 @@
 -- Which kinds the causes are that stand in parts of a record whose faults are those of reads.
-use Rattle.std.proofs.Common.{ℕ, ℤ, ◌≡◌, ◌⊎◌, ap, refl, subst, sym, inl, inr, zero, suc, pos, Bool, true, false, cond, List, [], ◌∷◌, slice_get, Ok, Err, Option, Some, None}
+use Rattle.std.proofs.Common.{ℕ, ◌≡◌, ◌⊎◌, refl, subst, inl, inr, zero, suc, pos, Bool, true, false, cond, List, [], ◌∷◌, slice_get, Ok, Err}
 use Rattle.std.specs.Option.{unwrap_or}
 use Rattle.std.specs.Prelude.{⊤}
 use Rattle.std.specs.Str.{is_utf8}
@@ -8,13 +8,13 @@ use Rattle.capnp_device.specs.declared.error.ErrorKind.TheVariants.{BadPointer, 
 use Rattle.capnp_schema.specs.Meta.{meta, one}
 use Rattle.capnp_schema.specs.Schema.{FieldKind, Group, Slot, VoidValue, default_of, field_at}
 use Rattle.capnp_schema.specs.Types.{SchemaType}
-use Rattle.capnp_records.specs.Default.{read_field, read_of}
-use Rattle.capnp_records.specs.Facts.ReadFaults.{AllSound, IsReadKind, RecordSound, Sound, is_read_kind, part-sound, read_of-sound}
+use Rattle.capnp_records.specs.Default.{read_of}
+use Rattle.capnp_records.specs.Facts.ReadFaults.{AllSound, IsReadKind, RecordSound, Sound, part-sound, read_of-sound}
 use Rattle.capnp_records.specs.Part.{part_at}
 use Rattle.capnp_records.specs.Record as value
 use Rattle.capnp_records.specs.Record.{MoreValues, NoValues, Record, Value, Values}
 use Rattle.capnp_dynamic_readers.specs.Reads.{handed_out}
-use Rattle.capnp_sets.specs.Causes.{◌<*>◌, Causes, HasCause, IsAmong, Read, refused}
+use Rattle.capnp_sets.specs.Causes.{◌<*>◌, HasCause, Read, refused}
 use Rattle.capnp_sets.specs.Lists.{elements_of}
 use Rattle.capnp_sets.specs.Parts.{all_of, blob, integer, list, name, name_of, number, read_at, struct, structs, text, truth, unless_fault}
 use Rattle.capnp_sets.specs.Refusals.{is_set_kind}

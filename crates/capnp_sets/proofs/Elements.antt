@@ -1,5 +1,5 @@
 -- Elements of lists as they are read: what is there is no fault, and a fault has its cause.
-use Rattle.std.proofs.Common.{ℕ, ◌≡◌, ◌≢◌, ◌∙◌, ap, refl, subst, sym, IfOk, List, [], ◌∷◌, ◌++◌, map, Ok, Err, Result}
+use Rattle.std.proofs.Common.{ℕ, ◌≡◌, ◌∙◌, ap, refl, subst, sym, IfOk, List, [], ◌∷◌, ◌++◌, map, Ok, Result}
 use Rattle.capnp_device.specs.declared.error.Error.{Error}
 use Rattle.capnp_device.specs.declared.error.ErrorKind.{ErrorKind}
 use Rattle.capnp_schema.specs.Accepted.{NamesEntries}
@@ -16,7 +16,7 @@ use Rattle.capnp_dynamic_readers.specs.Typed.{IsOf}
 use Rattle.capnp_dynamic_readers.specs.declared.dynamic_list.Reader.{Reader as ListHandle}
 use Rattle.capnp_dynamic_readers.specs.declared.dynamic_value.Reader.{Reader as DynamicValue}
 use Rattle.capnp_dynamic_readers.specs.declared.dynamic_value.Reader.TheVariants as dynamic
-use Rattle.capnp_sets.specs.Causes.{HasCause, Read, refused}
+use Rattle.capnp_sets.specs.Causes.{HasCause, Read}
 use Rattle.capnp_sets.specs.Handles.{IsListOf}
 use Rattle.capnp_sets.specs.Parts.{unless_fault}
 use Rattle.capnp_sets.proofs.AppliedReads.{only_cause}

@@ -1,5 +1,5 @@
 -- Values that were taken out of a part, and the refusals of a part that can't be read.
-use Rattle.std.proofs.Common.{ℕ, ℤ, ◌≡◌, ◌+◌, ◌<◌, ◌≤◌, ◌∙◌, zero, suc, arith, ap, refl, subst, sym, Bool, true, false, List, Ok}
+use Rattle.std.proofs.Common.{ℕ, ◌≡◌, ◌∙◌, ap, refl, sym, Bool, true, false, List, Ok}
 use Rattle.std.proofs.lemmas.Str.{IsUtf8-from_is_utf8, is_utf8-from_IsUtf8}
 use Rattle.std.specs.Str.{IsUtf8, is_utf8}
 use Rattle.capnp_device.specs.declared.error.ErrorKind.{ErrorKind}

@@ -1,5 +1,5 @@
 -- A record stands for lists, or a cause of a refusal stands in it, and never both.
-use Rattle.std.proofs.Common.{◌≡◌, refl, inl, None, Option, Ok, Err}
+use Rattle.std.proofs.Common.{◌≡◌, refl, inl, None, Ok, Err}
 use Rattle.capnp_device.specs.declared.error.ErrorKind.{ErrorKind}
 use Rattle.capnp_sets.specs.Causes.{Both, Causes, HasCause, IsAmong, One, Read}
 use Rattle.capnp_sets.specs.Laws.{CausesRefuse, RefusalsHaveCauses}

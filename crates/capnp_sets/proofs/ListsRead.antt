@@ -1,5 +1,5 @@
 -- The elements of a list, read one after another.
-use Rattle.std.proofs.Common.{ℕ, ◌+◌, ◌<◌, ◌≡◌, ◌∙◌, ap, refl, subst, sym, List, [], ◌∷◌, ◌++◌, Ok}
+use Rattle.std.proofs.Common.{ℕ, ◌+◌, ◌<◌, ◌≡◌, subst, sym, List, [], ◌∷◌, ◌++◌, Ok}
 use Rattle.capnp_device.specs.declared.error.ErrorKind.{ErrorKind}
 use Rattle.capnp_wire.specs.Reading.{list_length}
 use Rattle.capnp_wire.specs.Standing.{list_of}

@@ -1,25 +1,25 @@
 -- Which kinds the bytes of a message are refused with, where they are read as a set.
-use Rattle.std.proofs.Common.{ℕ, ◌+◌, ◌*◌, ◌/◌, ◌≡◌, ◌≢◌, ◌⊎◌, ◌∙◌, ap, refl, subst, sym, inl, inr, Bool, true, false, cond, nat_lt, length, take, drop, List, Ok, Err, Result, Some, IfErr}
+use Rattle.std.proofs.Common.{ℕ, ◌+◌, ◌≡◌, ◌≢◌, ◌∙◌, ap, refl, subst, sym, inl, inr, Bool, true, false, cond, nat_lt, length, take, List, Ok, Err, Result, IfErr}
 use Rattle.std.proofs.lemmas.Bool.{true≢false}
 use Rattle.std.specs.Prelude.{⊤}
 use Rattle.capnp_device.specs.declared.error.Error.{Error}
 use Rattle.capnp_device.specs.declared.error.ErrorKind.{ErrorKind}
-use Rattle.capnp_device.specs.declared.error.ErrorKind.TheVariants.{NameNotFound, OutOfMemory, ReadFailed, Schema, TooManySegments, Truncated, WriteFailed}
+use Rattle.capnp_device.specs.declared.error.ErrorKind.TheVariants.{OutOfMemory, Schema}
 use Rattle.capnp_wire.specs.Locate.{Segments}
 use Rattle.capnp_wire.specs.Reading.{as_struct}
 use Rattle.capnp_wire.specs.Slot.{little_endian}
-use Rattle.capnp_wire.specs.Stream.{cut, header_bytes, message_tree_of, root_read, segments_after_count, segments_after_table, segments_of, total_words}
+use Rattle.capnp_wire.specs.Stream.{header_bytes, message_tree_of, root_read, segments_of}
 use Rattle.capnp_wire.specs.Tree as tree
 use Rattle.capnp_wire.specs.Tree.{StructTree, Tree}
 use Rattle.capnp_wire.specs.declared.fault.Fault.TheVariants as fault
-use Rattle.capnp_schema.specs.Broken.{IsKindOf, IsRefusalOf}
+use Rattle.capnp_schema.specs.Broken.{IsKindOf}
 use Rattle.capnp_schema.specs.Meta.{meta}
 use Rattle.capnp_schema.specs.Schema.{Schemas}
 use Rattle.capnp_schema.specs.Types.{StructType}
 use Rattle.capnp_records.specs.Facts.ReadFaults.{RecordSound, value_of-sound}
 use Rattle.capnp_records.specs.Reading.{struct_record}
-use Rattle.capnp_records.specs.Record.{Left, Record}
-use Rattle.capnp_sets.specs.Lists.{IsSetRefusal, lists_of}
+use Rattle.capnp_records.specs.Record.{Left}
+use Rattle.capnp_sets.specs.Lists.{IsSetRefusal}
 use Rattle.capnp_sets.specs.Message.{IsMessageRefusal, IsRootRefusal, root_record, root_struct}
 use Rattle.capnp_sets.specs.Refusals.{IsOfSet, is_set_kind}
 use Rattle.capnp_sets.proofs.Caused.{IsSetKind}

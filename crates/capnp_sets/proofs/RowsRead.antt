@@ -1,5 +1,5 @@
 -- Reading a row of values one after another: what was read, and what is still to be read.
-use Rattle.std.proofs.Common.{ℕ, ◌+◌, ◌-◌, ◌<◌, ◌≡◌, ◌∙◌, suc, zero, arith, ap, refl, subst, sym, List, [], ◌∷◌, ◌++◌, append_assoc, append-nil, Ok, Err}
+use Rattle.std.proofs.Common.{ℕ, ◌+◌, ◌-◌, ◌<◌, ◌≡◌, ◌∙◌, suc, arith, ap, refl, subst, sym, List, [], ◌∷◌, ◌++◌, append_assoc, append-nil, Ok, Err}
 use Rattle.capnp_device.specs.declared.error.ErrorKind.{ErrorKind}
 use Rattle.capnp_records.specs.Record.{Left, MoreValues, NoValues, Value, Values, values_from}
 use Rattle.capnp_wire.specs.Standing.{list_levels, list_of}
@@ -12,7 +12,7 @@ use Rattle.capnp_records.specs.Reading.{element_value}
 use Rattle.capnp_dynamic_readers.specs.Handles.{element_of, list_reader_of, list_set}
 use Rattle.capnp_dynamic_readers.specs.Reads.{element_seen}
 use Rattle.capnp_dynamic_readers.specs.declared.dynamic_list.Reader.{Reader as ListHandle}
-use Rattle.capnp_sets.specs.Causes.{◌<*>◌, Causes, HasCause, Read}
+use Rattle.capnp_sets.specs.Causes.{◌<*>◌, HasCause, Read}
 use Rattle.capnp_sets.specs.Handles.{IsListOf}
 use Rattle.capnp_sets.specs.Parts.{all_of}
 use Rattle.capnp_sets.proofs.AppliedReads.{cause_left, cause_right}

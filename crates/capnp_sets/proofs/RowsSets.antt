@@ -1,8 +1,9 @@
 -- Worked rows of what records of the meta set stand for: types, values, fields and whole sets.
-use Rattle.std.specs.Prelude.{ℕ, ◌≡◌, refl, List, [], ◌∷◌, negsuc, pos, Ok, Some}
-use Rattle.std.specs.Str.{is_utf8}
-use Rattle.capnp_device.specs.declared.error.ErrorKind.TheVariants.{FloatType, InterfaceType, NameNotUtf8, UnknownKind, WrongPointerKind}
-use Rattle.capnp_wire.specs.Tree.{MoreTrees, NoTrees, Null, Numbers, StructTree, Trees, empty_struct}
+use Rattle.std.specs.Prelude.{ℕ, ◌≡◌, refl, List, [], ◌∷◌, negsuc, Ok, Some}
+use Rattle.std.specs.Str.{chars, is_utf8}
+use Rattle.capnp_device.specs.declared.error.ErrorKind.TheVariants.{FloatType, InterfaceType, NameNotUtf8, UnknownKind}
+use Rattle.capnp_wire.specs.Place.{tree_at}
+use Rattle.capnp_wire.specs.Tree.{MoreTrees, NoTrees, Numbers, Trees, empty_struct}
 use Rattle.capnp_schema.specs.Builtin.{zero_word}
 use Rattle.capnp_schema.specs.Meta.{meta}
 use Rattle.capnp_schema.specs.Schema.{AnyPointerValue, IntValue, ListValue, Slot, TextValue, VoidValue}
@@ -77,19 +78,19 @@ unfolding value_by value_of
 unknown_value = refl
 
 missing_value_is_void : struct value_of (read_at 4 1 (of_struct [] NoTrees 4)) ≡ Ok VoidValue
-unfolding ◌<*>◌ read_at value_by value_of
+unfolding ◌<*>◌ read_at tree_at value_by value_of
 missing_value_is_void = refl
 
 -- ---- names, fields and sets ----
 
 not_utf8 : name (value.Text (255 ∷ [])) ≡ refused NameNotUtf8
-unfolding is_utf8
+unfolding chars is_utf8
 not_utf8 = refl
 
 missing_field : field_of (of_struct [] NoTrees 2) ≡ Ok (made_field 65535 [] [] (Slot 0 VoidValue))
-unfolding ◌<*>◌ all_of field_of is_utf8 kind_by read_at slot_of value_by value_of
+unfolding ◌<*>◌ all_of chars field_of is_utf8 kind_by read_at slot_of tree_at value_by value_of
 missing_field = refl
 
 null_root : lists_of (root_record empty_struct) ≡ Some (made_set [] [] [])
-unfolding ◌<*>◌ all_of read_at set_of
+unfolding ◌<*>◌ all_of read_at set_of tree_at
 null_root = refl

@@ -5,8 +5,6 @@ use Rattle.capnp_device.specs.declared.error.ErrorKind.{ErrorKind}
 use Rattle.capnp_device.specs.declared.error.ErrorKind.TheVariants.{FloatType, InterfaceType, UnknownKind}
 use Rattle.capnp_schema.specs.Meta.{meta, many, one}
 use Rattle.capnp_schema.specs.Schema.{VoidValue}
-use Rattle.capnp_schema.specs.Schema.{Value as SchemaValue}
-use Rattle.capnp_schema.specs.Types.{SchemaType}
 use Rattle.capnp_records.specs.Default.{read_of}
 use Rattle.capnp_records.specs.Facts.ReadFaults.{AllSound, RecordSound, Sound, read_of-sound}
 use Rattle.capnp_records.specs.Part.{which_of}

@@ -1,15 +1,14 @@
 -- What a set's record stands for, by what its three lists were read as.
-use Rattle.std.proofs.Common.{◌≡◌, ap, refl, subst, sym, List, Ok, Some}
+use Rattle.std.proofs.Common.{◌≡◌, ap, refl, subst, List, Ok, Some}
 use Rattle.capnp_device.specs.declared.error.ErrorKind.{ErrorKind}
 use Rattle.capnp_schema.specs.Meta.{one}
-use Rattle.capnp_schema.specs.Schema.{Brand, Enum, Node, Schemas}
+use Rattle.capnp_schema.specs.Schema.{Brand, Enum, Node}
 use Rattle.capnp_records.specs.Record as value
 use Rattle.capnp_records.specs.Record.{Record, Value}
 use Rattle.capnp_dynamic_readers.specs.Seen.{list_seen}
 use Rattle.capnp_dynamic_readers.specs.declared.dynamic_list.Reader.{Reader as ListHandle}
-use Rattle.capnp_sets.specs.Causes.{◌<*>◌, HasCause, Read}
+use Rattle.capnp_sets.specs.Causes.{HasCause, Read}
 use Rattle.capnp_sets.specs.Fields.{node_of}
-use Rattle.capnp_sets.specs.Handles.{values_in}
 use Rattle.capnp_sets.specs.Lists.{brand_of, brands_in, elements_of, enum_of, has_cause, lists_of, made_set, read_or_none, set_of}
 use Rattle.capnp_sets.specs.Parts.{read_at, struct, structs}
 use Rattle.capnp_sets.proofs.AppliedReads.{cause_left, cause_right, made}

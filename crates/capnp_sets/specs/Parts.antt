@@ -1,5 +1,5 @@
 -- What the parts of a set's record stand for, by their kinds.
-use Rattle.std.specs.Prelude.{ℕ, ℤ, pos, List, [], ◌∷◌, Bool, true, false, Ok, Err}
+use Rattle.std.specs.Prelude.{ℕ, ℤ, pos, List, [], ◌∷◌, Bool, true, false, Ok}
 use Rattle.std.specs.Str.{is_utf8}
 use Rattle.capnp_device.specs.declared.error.ErrorKind.TheVariants.{NameNotUtf8, TypeMismatch}
 use Rattle.capnp_schema.specs.Meta.{meta, one}

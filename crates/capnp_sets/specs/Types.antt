@@ -6,7 +6,6 @@ use Rattle.capnp_schema.specs.Meta.{meta, many, one}
 use Rattle.capnp_schema.specs.Schema.{VoidValue}
 use Rattle.capnp_schema.specs.Types.{SchemaType, VoidType, BoolType, IntType, UIntType, EnumType, TextType, DataType, StructType, AnyPointerType, lists_of}
 use Rattle.capnp_records.specs.Default.{read_of}
-use Rattle.capnp_records.specs.Record as value
 use Rattle.capnp_records.specs.Record.{NoValues, MoreValues, Record, Value, Values}
 use Rattle.capnp_sets.specs.Causes.{◌<*>◌, Read, flat, refused}
 use Rattle.capnp_sets.specs.Parts.{list, number, read_at, struct, structs}

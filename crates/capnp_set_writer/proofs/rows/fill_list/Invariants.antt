@@ -8,4 +8,5 @@ abbrev pub invariant-loop-index : goal.invariant-loop-index
 invariant-loop-index g l = record {
   filled_so : list_object_tree l.list ≡ Composite g.T.Part.data_words g.T.Part.pointers (filled (blank g.T.Part.data_words g.T.Part.pointers) (map g.T.Part.tree (map g.T.Part.seen l.parts)) l.index);
   kept : (k : ℕ) → k < l.index → (d : g.T.Part.Seen) → g.T.Part.kept (get_or (map g.T.Part.seen l.parts) k d);
+  fits : (k : ℕ) → k < l.index → (d : g.T.Part.Seen) → g.T.Part.fits (get_or (map g.T.Part.seen l.parts) k d);
 }

@@ -1,10 +1,12 @@
 -- The first so many pointers lead to their lists.
 use Rattle.std.proofs.Common.{arith, map, Vec, Global, List}
+use Rattle.std.proofs.lemmas.Result.{err_from_is_err_and}
 use Rattle.capnp_base.specs.declared.introspect.«Type».{«Type» as TypeHandle}
 use Rattle.capnp_schema.specs.Types.{SchemaType, seen_type}
 use Rattle.capnp_set_writer.specs.Kept.{TypeKept}
+use Rattle.capnp_set_writer.specs.Limits.{TypesFit}
 use Rattle.capnp_set_writer.specs.Trees.{types_tree}
-use Rattle.capnp_set_writer.proofs.Trees.{kept-more, row-filled, row-there, whole-rows}
+use Rattle.capnp_set_writer.proofs.Trees.{kept-more, one-of-all, refused-up, row-filled, row-there, whole-rows}
 use Rattle.std.specs.Prelude.{All}
 use Rattle.capnp_set_writer.proofs.types.fill_rows.Goals as goal
 
@@ -12,7 +14,7 @@ abbrev seen_row : Vec TypeHandle Global → List SchemaType
 seen_row row = map seen_type row.items
 
 pub loop-index-init : goal.loop-index-init
-loop-index-init c = record { filled_so = c.requires.new; kept = λ k a d. absurd (omega arith) }
+loop-index-init c = record { filled_so = c.requires.new; kept = λ k a d. absurd (omega arith); fits = λ k a d. absurd (omega arith) }
 
 pub put_row-requires : goal.put_row-requires
 put_row-requires c = row-there types_tree seen_row c.args.rows.now c.loop-index.index _ c.loop-index.invariant.filled_so c.loop-index-test.true
@@ -21,7 +23,14 @@ pub loop-index-preserved : goal.loop-index-preserved
 loop-index-preserved c = record {
   filled_so = row-filled types_tree seen_row c.args.rows.now c.loop-index.index _ c.loop-index.invariant.filled_so c.loop-index-test.true c.index-rows-index.result _ c.index-rows-index.is (rw c.as_slice.ensures.value at c.in_ok-put_row.ensures.written);
   kept = kept-more (All TypeKept) seen_row c.args.rows.now c.loop-index.index c.index-rows-index.result c.loop-index-test.true c.index-rows-index.is (rw c.as_slice.ensures.value at c.in_ok-put_row.ensures.kept) c.loop-index.invariant.kept;
+  fits = kept-more TypesFit seen_row c.args.rows.now c.loop-index.index c.index-rows-index.result c.loop-index-test.true c.index-rows-index.is (rw c.as_slice.ensures.value at c.in_ok-put_row.ensures.fits) c.loop-index.invariant.fits;
 }
 
 pub returns-clause-written : goal.returns-clause-written
 returns-clause-written c = whole-rows types_tree seen_row c.args.rows.now c.loop-index.index _ c.loop-index.invariant.filled_so (omega arith)
+
+pub returns-in_err-put_row-clause-cause : goal.returns-in_err-put_row-clause-cause
+returns-in_err-put_row-clause-cause c =
+    let p = err_from_is_err_and c.from_residual.result c.from_residual.ensures.1 in
+    rw (p.1, p.2) (refused-up _ (rw c.as_slice.ensures.value at c.in_err-put_row.ensures.cause) (λ k. k)
+    (one-of-all TypesFit seen_row c.args.rows.now c.loop-index.index c.index-rows-index.result c.loop-index-test.true c.index-rows-index.is))

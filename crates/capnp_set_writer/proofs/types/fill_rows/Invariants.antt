@@ -5,6 +5,7 @@ use Rattle.capnp_wire.specs.Objects.{list_object_tree}
 use Rattle.capnp_wire.specs.Tree.{Pointers}
 use Rattle.capnp_schema.specs.Types.{SchemaType, seen_type}
 use Rattle.capnp_set_writer.specs.Kept.{TypeKept}
+use Rattle.capnp_set_writer.specs.Limits.{TypesFit}
 use Rattle.capnp_set_writer.specs.Trees.{types_tree}
 use Rattle.capnp_set_writer.specs.Writes.{filled_trees}
 use Rattle.capnp_set_writer.proofs.types.fill_rows.Given as goal
@@ -13,4 +14,5 @@ abbrev pub invariant-loop-index : goal.invariant-loop-index
 invariant-loop-index l = record {
   filled_so : list_object_tree l.list ≡ Pointers (filled_trees (map types_tree (map (λ (row : Vec TypeHandle Global). map seen_type row.items) l.rows)) l.index);
   kept : (k : ℕ) → k < l.index → (d : List SchemaType) → All TypeKept (get_or (map (λ (row : Vec TypeHandle Global). map seen_type row.items) l.rows) k d);
+  fits : (k : ℕ) → k < l.index → (d : List SchemaType) → TypesFit (get_or (map (λ (row : Vec TypeHandle Global). map seen_type row.items) l.rows) k d);
 }

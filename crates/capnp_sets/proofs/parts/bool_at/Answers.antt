@@ -5,7 +5,7 @@ use Rattle.capnp_schema.specs.Types.{BoolType}
 use Rattle.capnp_dynamic_readers.specs.Seen.{value_seen}
 use Rattle.capnp_sets.specs.Parts.{truth}
 use Rattle.capnp_sets.proofs.Faults.{fault_truth}
-use Rattle.capnp_sets.proofs.Taken.{kind_is, took_integer}
+use Rattle.capnp_sets.proofs.Taken.{kind_is}
 use Rattle.capnp_sets.proofs.parts.bool_at.Goals as goal
 
 pub downcast-requires : goal.downcast-requires

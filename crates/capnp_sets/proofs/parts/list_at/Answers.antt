@@ -1,5 +1,5 @@
 use Rattle.std.proofs.Common.{ap, refl, ◌∙◌}
-use Rattle.capnp_schema.specs.Meta.{meta, one}
+use Rattle.capnp_schema.specs.Meta.{meta}
 use Rattle.capnp_schema.specs.Schema.{field_at}
 use Rattle.capnp_schema.specs.Types.{ListType}
 use Rattle.capnp_records.specs.Reading.{element_type}

@@ -1,5 +1,5 @@
 use Rattle.std.proofs.Common.{refl}
-use Rattle.capnp_schema.specs.Meta.{many, meta, one}
+use Rattle.capnp_schema.specs.Meta.{many, meta}
 use Rattle.capnp_sets.proofs.Taken.{kind_is, list_under}
 use Rattle.capnp_sets.proofs.parts.list_of.Goals as goal
 

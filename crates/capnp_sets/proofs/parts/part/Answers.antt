@@ -1,10 +1,6 @@
-use Rattle.std.proofs.Common.{ap, ◌∙◌, subst, sym, ◌<◌, length}
-use Rattle.capnp_schema.specs.FieldLists.{index_of}
-use Rattle.capnp_schema.specs.StructHandles.{number_of, set_of, struct_fields}
-use Rattle.capnp_schema.specs.declared.schema.structs.StructSchema.{StructSchema}
-use Rattle.capnp_dynamic_readers.specs.Handles.{schema_of}
+use Rattle.std.proofs.Common.{ap, ◌∙◌}
 use Rattle.capnp_dynamic_readers.specs.Reads.{field_seen}
-use Rattle.capnp_sets.proofs.PartsSeen.{inside_record, seen_part, typed_part}
+use Rattle.capnp_sets.proofs.PartsSeen.{seen_part, typed_part}
 use Rattle.capnp_sets.proofs.parts.part.Goals as goal
 
 pub returns-clause-value : goal.returns-clause-value

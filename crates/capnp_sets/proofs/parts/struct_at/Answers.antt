@@ -1,8 +1,6 @@
 use Rattle.std.proofs.Common.{ap, refl, ◌∙◌}
 use Rattle.capnp_schema.specs.Meta.{meta, one}
 use Rattle.capnp_schema.specs.Schema.{field_at}
-use Rattle.capnp_schema.specs.Types.{ListType}
-use Rattle.capnp_records.specs.Reading.{element_type}
 use Rattle.capnp_dynamic_readers.specs.Seen.{value_seen}
 use Rattle.capnp_sets.proofs.Taken.{kind_is, record_under}
 use Rattle.capnp_sets.proofs.parts.struct_at.Goals as goal

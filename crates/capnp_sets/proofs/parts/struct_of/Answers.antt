@@ -1,5 +1,5 @@
 use Rattle.std.proofs.Common.{refl}
-use Rattle.capnp_schema.specs.Meta.{many, meta, one}
+use Rattle.capnp_schema.specs.Meta.{meta, one}
 use Rattle.capnp_sets.proofs.Taken.{kind_is, record_under}
 use Rattle.capnp_sets.proofs.parts.struct_of.Goals as goal
 

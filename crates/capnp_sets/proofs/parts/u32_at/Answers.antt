@@ -5,7 +5,7 @@ use Rattle.capnp_schema.specs.Types.{UIntType}
 use Rattle.capnp_dynamic_readers.specs.Seen.{value_seen}
 use Rattle.capnp_sets.specs.Parts.{number}
 use Rattle.capnp_sets.proofs.Faults.{fault_number}
-use Rattle.capnp_sets.proofs.Taken.{kind_is, took_integer}
+use Rattle.capnp_sets.proofs.Taken.{kind_is}
 use Rattle.capnp_sets.proofs.parts.u32_at.Goals as goal
 
 pub downcast-requires : goal.downcast-requires

@@ -6,9 +6,6 @@ use Rattle.capnp_dynamic_readers.specs.Handles.{list_reader_of}
 use Rattle.capnp_dynamic_readers.specs.Seen.{record_seen, value_seen}
 use Rattle.capnp_records.specs.Record as value
 use Rattle.capnp_sets.specs.Causes.{HasCause, Read}
-use Rattle.capnp_sets.specs.Handles.{values_in}
-use Rattle.capnp_sets.specs.Parts.{number, read_at}
-use Rattle.capnp_sets.specs.Types.{generic_in, node_number}
 use Rattle.capnp_sets.proofs.Generics.{generic_here, generic_past, generic_refused}
 use Rattle.capnp_sets.proofs.RowsRead.{element_in}
 use Rattle.capnp_sets.proofs.types.generic_of.Goals as goal

@@ -2,7 +2,7 @@ use Rattle.std.proofs.Common.{ap, refl, sym, ◌∙◌, Ok}
 use Rattle.std.proofs.lemmas.Result.{err_from_is_err_and}
 use Rattle.capnp_base.specs.declared.introspect.«Type».{«Type» as TypeHandle}
 use Rattle.capnp_schema.specs.Types.{seen_type}
-use Rattle.capnp_sets.proofs.AppliedReads.{cause_left, cause_right, made}
+use Rattle.capnp_sets.proofs.AppliedReads.{cause_right, made}
 use Rattle.capnp_sets.proofs.types.struct_type.Goals as goal
 
 pub returns-in_err-generic-clause-refused : goal.returns-in_err-generic-clause-refused

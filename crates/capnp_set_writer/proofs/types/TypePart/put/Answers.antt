@@ -1,5 +1,8 @@
 -- The three numbers of a type are written one after another.
+use Rattle.std.proofs.Common.{arith}
+use Rattle.std.proofs.lemmas.Result.{err_from_is_err_and}
 use Rattle.capnp_set_writer.proofs.Layers.{type-kept, type-written}
+use Rattle.capnp_set_writer.proofs.Trees.{size-refused}
 use Rattle.capnp_set_writer.proofs.types.TypePart.put.Goals as goal
 
 pub returns-clause-written : goal.returns-clause-written
@@ -9,3 +12,8 @@ returns-clause-written c =
 
 pub returns-clause-kept : goal.returns-clause-kept
 returns-clause-kept c = type-kept c.args.self.now c.innermost-inner.result c.innermost-inner.ensures c.in_ok-lists.ensures.few c.named_number.ensures.bound
+
+pub returns-in_err-lists-clause-cause : goal.returns-in_err-lists-clause-cause
+returns-in_err-lists-clause-cause c =
+    let p = err_from_is_err_and c.from_residual.result c.from_residual.ensures.1 in
+    rw (p.1, p.2) (size-refused _ c.in_err-lists.ensures.refused (λ f. omega (arith, f, c.in_err-lists.ensures.past)))
