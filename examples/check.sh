@@ -152,13 +152,28 @@ reading built.bin '(id = 7, level = -2, points = [(x = 1), (x = -3)])'
 reading copied.bin '(id = 7, name = "far away", scores = [4, 5], points = [(x = 6, y = 7)], next = (id = 8, name = "end"))'
 
 usage='usage: capnp_show [--set FILE] NAME [--indent]'
-for words in '' Nope many Shapes.circle --indent '--indent Many' 'Many --indent --indent' 'Flat Many'; do
+for words in '' Nope many Shapes.circle --indent '--indent Many' 'Many --indent --indent' 'Flat Many' --set \
+    '--set examples/flat.set' 'Flat --set examples/flat.set' '--set examples/flat.set Flat --indent --indent'; do
     # shellcheck disable=SC2086 # some are several words
     ./capnp_show $words < examples/many.bin > "$scratch/out" 2> "$scratch/err"
     expect "words '$words'" $? 2 "" "$usage"
 done
 ./capnp_show "$(printf '\377')" < examples/many.bin > "$scratch/out" 2> "$scratch/err"
 expect 'a word that is not UTF-8' $? 2 "" "$usage"
+
+# sets that a file holds, by paths from the folder of the call
+echo '(nodes = [(id = 100, dataWords = 1, displayName = "Flat", fields = [(name = "a", slot = (offset = 0, default = (kind = 7)))])], brands = [(node = 0, fieldTypes = [(base = 7)], childTypes = [[]])])' > "$scratch/text"
+made set.capnp SetRecord flat.set "$scratch/text" ''
+./capnp_show --set examples/flat.set Flat < examples/flat.bin > "$scratch/out" 2> "$scratch/err"
+expect 'a set in a file' $? 0 '(a = 5)' ''
+(cd examples && ../capnp_show --set ./flat.set Flat --indent < flat.bin) > "$scratch/out" 2> "$scratch/err"
+expect 'a set in the folder of the call' $? 0 '(
+  a = 5
+)' ''
+./capnp_show --set examples/meta.set SetRecord < examples/flat.set > "$scratch/out" 2> "$scratch/err"
+expect 'a set under the meta set' $? 0 '(nodes = [(id = 100, dataWords = 1, pointers = 0, discriminantCount = 0, isGroup = false, discriminantOffset = 0, displayName = "Flat", fields = [(discriminantValue = 65535, name = "a", slot = (offset = 0, default = (uint16 = 0)))])], brands = [(node = 0, fieldTypes = [(base = 7, listCount = 0, number = 0)], childTypes = [[]])])' ''
+./capnp_show --set examples Flat < examples/flat.bin > "$scratch/out" 2> "$scratch/err"
+expect 'a directory as a set' $? 1 "" 'refused: 12'
 
 ./capnp_show Many < /dev/null > "$scratch/out" 2> "$scratch/err"
 expect 'no bytes' $? 1 "" 'refused: 2'

@@ -3,3 +3,6 @@ pub mod Shown
 pub mod TextFaults
 pub mod Digits
 pub mod Named
+pub mod SomeFiles
+pub mod Words
+mod RowsNames

@@ -20,3 +20,14 @@ pub told_by_write : {T E : Type 0} (r : Result T E) (line : List ℕ) (written w
     OnErr r ((n : ℕ) × (n < length line) × Appends written written' (take n line)) → IsTold line written written' failures failures'
 told_by_write (Ok x) line written written' failures failures' whole failed part = inl whole
 told_by_write (Err e) line written written' failures failures' whole failed part = inr (failed, part)
+
+-- four facts of each refusal, and one that holds whatever comes, as one
+pub all_four : {T E U : Type 0} (P Q R S : E → Type 0) (r : Result T E) → U → IfErr r P → IfErr r Q → IfErr r R → IfErr r S →
+    IfErr r (λ e. U × (P e × Q e × R e × S e))
+all_four P Q R S (Ok x) u a b c d = tt {0}
+all_four P Q R S (Err e) u a b c d = (u, (a, b, c, d))
+
+pub all_five : {T E V : Type 0} (P Q R S : E → Type 0) (r : Result T E) → IfErr r P → IfErr r Q → IfErr r R → IfErr r S → V →
+    IfErr r (λ e. P e × Q e × R e × S e × V)
+all_five P Q R S (Ok x) a b c d v = tt {0}
+all_five P Q R S (Err e) a b c d v = (a, b, c, d, v)

@@ -7,7 +7,7 @@ use Rattle.capnp_schema.specs.Accepted.{IsAccepted}
 use Rattle.capnp_schema.specs.Schema.{Schemas}
 use Rattle.capnp_sets.specs.Message.{IsMessageRefusal, message_set}
 use Rattle.capnp_show_engine.specs.Command.{brand_named}
-use Rattle.capnp_show_engine.specs.Show.{IsCutShort, IsRead, IsRefused, IsShown}
+use Rattle.capnp_show_engine.specs.Show.{IsRead, IsRefused}
 
 -- a brand's number where 32 bits hold it, as the numbers in types
 abbrev pub numbered : Option ℕ → Option ℕ

@@ -1,8 +1,8 @@
 //! What the program's words ask for.
-ghost use Rattle.std.specs.Prelude.{◌≡◌, ◌<◌, length, IfSome};
+ghost use Rattle.std.specs.Prelude.{◌≡◌, ◌<◌, length, IfSome, Some};
 ghost use Rattle.std.specs.Option.{option_map};
 ghost use Rattle.capnp_schema.specs.Builtin.{builtin};
-ghost use Rattle.capnp_show_engine.specs.Command.{IsInside, asked, brand_named, task_of};
+ghost use Rattle.capnp_show_engine.specs.Command.{IsInside, asked, brand_named, built_in_asked, in_file, task_of};
 
 /// The text under a brand of the built-in set, and whether it is indented.
 #[derive(Clone, Copy, Debug, PartialEq, Eq)]
@@ -45,31 +45,55 @@ fn find_brand(name: &str) -> Option<u32>
 }
 
 /// The text under the struct of a name in the built-in set.
-fn ask_built_in(name: &str, indented: bool) -> Option<Asked<'static>> {
+fn ask_built_in(name: &str, indented: bool) -> Option<Asked<'_>>
+    ensures asked { option_map task_of result ≡ built_in_asked indented (brand_named builtin name.now) }
+    ensures inside { IfSome result IsInside }
+{
     let brand = find_brand(name)?;
     Some(Asked::BuiltIn(Request { brand, indented }))
 }
 
+/// The text under the struct of a name in the set that a file holds.
+fn ask_in_file<'a>(path: &'a str, name: &'a str, indented: bool) -> Option<Asked<'a>>
+    ensures asked { option_map task_of result ≡ Some (in_file (record { path = path.now; name = name.now; indented = indented })) }
+    ensures inside { IfSome result IsInside }
+{
+    Some(Asked::InFile(FileRequest {
+        path,
+        name,
+        indented,
+    }))
+}
+
 /// What the words ask for: the name of a struct, alone or followed by `--indent`, and before them `--set` and a path or
 /// neither.
+#[tactic(auto, using(crate::proofs::Words::none_asked, crate::proofs::Words::too_many))]
 pub fn read_words(words: &[String]) -> Option<Asked<'_>>
     ensures asked { option_map task_of result ≡ asked words.now }
     ensures inside { IfSome result IsInside }
 {
     match words {
         [name] => ask_built_in(name.as_str(), false),
-        [name, last] if last.as_str() == "--indent" => ask_built_in(name.as_str(), true),
-        [first, path, name] if first.as_str() == "--set" => Some(Asked::InFile(FileRequest {
-            path: path.as_str(),
-            name: name.as_str(),
-            indented: false,
-        })),
-        [first, path, name, last] if first.as_str() == "--set" && last.as_str() == "--indent" => {
-            Some(Asked::InFile(FileRequest {
-                path: path.as_str(),
-                name: name.as_str(),
-                indented: true,
-            }))
+        [name, last] => {
+            if last.as_str() == "--indent" {
+                ask_built_in(name.as_str(), true)
+            } else {
+                None
+            }
+        }
+        [first, path, name] => {
+            if first.as_str() == "--set" {
+                ask_in_file(path.as_str(), name.as_str(), false)
+            } else {
+                None
+            }
+        }
+        [first, path, name, last] => {
+            if first.as_str() == "--set" && last.as_str() == "--indent" {
+                ask_in_file(path.as_str(), name.as_str(), true)
+            } else {
+                None
+            }
         }
         _ => None,
     }

@@ -1,5 +1,5 @@
 -- A digit after those before it.
-use Rattle.std.proofs.Common.{◌≡◌, ◌<◌, ◌+◌, ◌/◌, ◌^◌, arith, decimal, length}
+use Rattle.std.proofs.Common.{◌<◌, ◌^◌, arith}
 use Rattle.capnp_show_engine.proofs.Digits.{digit_after, digit_put, one_digit, one_more}
 use Rattle.capnp_show_engine.proofs.line.+put_number.Goals as goal
 

@@ -1,5 +1,5 @@
 -- The line up to its end.
-use Rattle.std.proofs.Common.{◌<◌, ◌≤◌, ◌+◌, ◌^◌, ◌++◌, ◌∷◌, [], List, ℕ, ap, arith, codes, decimal, length, ◌∙◌}
+use Rattle.std.proofs.Common.{◌++◌, ◌∷◌, [], List, ℕ, ap, arith, codes, decimal, ◌∙◌}
 use Rattle.std.proofs.lemmas.List.{take_more_set}
 use Rattle.capnp_show_engine.proofs.Digits.{few_digits}
 use Rattle.capnp_show_engine.proofs.line.put_refusal.Goals as goal
