@@ -1,0 +1,144 @@
+-- Worked rows of the conversion, computed.
+use Rattle.std.proofs.Common.{ℕ, ◌≡◌, List, [], ◌∷◌, Bool, true, false, codes, refl, Ok, Err, map}
+use Rattle.std.specs.Str.{chars, is_utf8}
+use lib.Utf8.{encode}
+use Rattle.capnp_device.specs.declared.error.ErrorKind.TheVariants.{FloatType, NodeNotFound}
+use Rattle.capnp_schema.specs.Schema.{Brand, Node, Schemas, Slot, TextValue, UIntValue, VoidValue}
+use Rattle.capnp_schema.specs.Types.{SchemaType, StructType, TextType, UIntType, VoidType, AnyPointerType}
+use Rattle.capnp_request.specs.Conversion.{Float64Note, Note, note_at}
+use Rattle.capnp_request.specs.Names.{dotted_of, file_of}
+use Rattle.capnp_request.specs.Order.{conversion_of}
+use Rattle.capnp_request.specs.Terms.{AnnotationNode, Binds, FieldKindTerm, FieldTerm, Float64, GroupTerm, Inherits, MoreBindings, MoreScopes, NoBindings, NoScopes, NodeKind, OtherNode, Parameter, Plain, RequestTerm, Said, SchemaNode, SlotTerm, Stands, StructNode, StructTerm, EnumTerm, TypeTerm}
+
+-- ---- terms of rows ----
+
+abbrev field : List ℕ → ℕ → FieldKindTerm → FieldTerm
+field name discriminant kind = record { name = Ok name; discriminant_value = discriminant; annotations = Ok []; kind = kind }
+
+abbrev slot : List ℕ → ℕ → ℕ → TypeTerm → FieldTerm
+slot name discriminant offset t = field name discriminant (SlotTerm offset t (Stands VoidValue))
+
+abbrev struct_kind : (group : Bool) → (members : ℕ) → List FieldTerm → NodeKind
+struct_kind group members fields = StructNode (record { data_words = 1; pointers = 2; is_group = group; discriminant_count = members; discriminant_offset = 3; fields = Ok fields })
+
+abbrev node : ℕ → List ℕ → ℕ → List ℕ → ℕ → NodeKind → SchemaNode
+node id name scope nested parameters kind = record { id = id; display_name = Ok name; scope = scope; nested = Ok nested; annotations = Ok []; parameters = Ok parameters; kind = kind }
+
+abbrev file : List ℕ → SchemaNode
+file nested = node 1 (codes "x.capnp") 0 nested 0 OtherNode
+
+abbrev request : List SchemaNode → RequestTerm
+request nodes = record { nodes = nodes; files = Ok (1 ∷ []) }
+
+-- ---- what is looked at in a result ----
+
+abbrev names_in : Said (Schemas × List Note) → Said (List (List ℕ))
+names_in (Ok p) = Ok (map (λ (n : Node). n.display_name) p.0.nodes)
+names_in (Err kind) = Err kind
+
+abbrev types_in : Said (Schemas × List Note) → Said (List (List SchemaType))
+types_in (Ok p) = Ok (map (λ (b : Brand). b.field_types) p.0.brands)
+types_in (Err kind) = Err kind
+
+abbrev notes_in : Said (Schemas × List Note) → Said (List Note)
+notes_in (Ok p) = Ok p.1
+notes_in (Err kind) = Err kind
+
+-- ---- a display name ----
+
+name_behind_colon : dotted_of (codes "a:b.capnp:Map.Entry") ≡ codes "Map.Entry"
+name_behind_colon = refl
+
+file_before_it : file_of (codes "a:b.capnp:Map") ≡ codes "a:b.capnp:"
+file_before_it = refl
+
+-- ---- a struct with a group and a union ----
+
+abbrev grouped : RequestTerm
+grouped = request (
+    file (2 ∷ [])
+    ∷ node 2 (codes "x.capnp:A") 1 [] 0 (struct_kind false 2 (slot (codes "n") 65535 0 (Plain (UIntType 2)) ∷ field (codes "g") 0 (GroupTerm 3) ∷ slot (codes "v") 1 0 (Plain VoidType) ∷ []))
+    ∷ node 3 (codes "x.capnp:A.g") 2 [] 0 (struct_kind true 0 (slot (codes "t") 65535 1 (Plain TextType) ∷ []))
+    ∷ [])
+
+group_named : names_in (conversion_of grouped false) ≡ Ok (codes "A" ∷ codes "A.g" ∷ [])
+unfolding is_utf8 chars encode
+group_named = refl
+
+group_typed : types_in (conversion_of grouped false) ≡ Ok ((UIntType 2 ∷ StructType 1 1 ∷ VoidType ∷ []) ∷ (TextType ∷ []) ∷ [])
+unfolding is_utf8 chars encode
+group_typed = refl
+
+-- ---- a generic with two bindings ----
+
+abbrev bound_to : TypeTerm → TypeTerm
+bound_to t = StructTerm 4 (MoreScopes 4 (Binds (MoreBindings t NoBindings)) NoScopes)
+
+abbrev generic : RequestTerm
+generic = request (
+    file (5 ∷ 4 ∷ [])
+    ∷ node 5 (codes "x.capnp:U") 1 [] 0 (struct_kind false 0 (slot (codes "a") 65535 0 (bound_to (Plain TextType)) ∷ slot (codes "b") 65535 1 (bound_to (bound_to (Plain TextType))) ∷ slot (codes "c") 65535 1 (bound_to (Plain TextType)) ∷ []))
+    ∷ node 4 (codes "x.capnp:Box") 1 [] 1 (struct_kind false 0 (slot (codes "item") 65535 0 (Parameter 4 0) ∷ slot (codes "next") 65535 1 (StructTerm 4 (MoreScopes 4 Inherits NoScopes)) ∷ []))
+    ∷ [])
+
+bindings_named : names_in (conversion_of generic false) ≡ Ok (codes "U" ∷ codes "Box" ∷ codes "Box(Text)" ∷ codes "Box(Box(Text))" ∷ [])
+unfolding is_utf8 chars encode
+bindings_named = refl
+
+-- an inherited binding and an explicit one give one entry
+bindings_typed : types_in (conversion_of generic false) ≡ Ok (
+    (StructType 2 2 ∷ StructType 3 3 ∷ StructType 2 2 ∷ [])
+    ∷ (AnyPointerType ∷ StructType 1 1 ∷ [])
+    ∷ (TextType ∷ StructType 2 2 ∷ [])
+    ∷ (StructType 2 2 ∷ StructType 3 3 ∷ [])
+    ∷ [])
+unfolding is_utf8 chars encode
+bindings_typed = refl
+
+-- ---- an annotation, a default, a float ----
+
+abbrev annotated : RequestTerm
+annotated = request (
+    file (2 ∷ [])
+    ∷ node 7 (codes "x.capnp:note") 1 [] 0 (AnnotationNode (Plain TextType))
+    ∷ node 2 (codes "x.capnp:A") 1 [] 0 (struct_kind false 0 (
+    record { name = Ok (codes "n"); discriminant_value = 65535; annotations = Ok (record { id = 7; value = Stands (TextValue (codes "hi")); brand = NoScopes } ∷ []); kind = SlotTerm 0 (Plain (UIntType 2)) (Stands (UIntValue 2 5)) }
+    ∷ slot (codes "f") 65535 0 Float64 ∷ []))
+    ∷ [])
+
+annotated_field : conversion_of annotated false ≡ Ok (
+  record {
+    nodes = record {
+      id = 2;
+      display_name = codes "A";
+      annotations = [];
+      data_word_count = 1;
+      pointer_count = 2;
+      is_group = false;
+      discriminant_count = 0;
+      discriminant_offset = 3;
+      fields =
+          record { name = codes "n"; discriminant_value = 65535; annotations = record { id = 7; value = TextValue (codes "hi") } ∷ []; kind = Slot 0 (UIntValue 2 5) }
+          ∷ record { name = codes "f"; discriminant_value = 65535; annotations = []; kind = Slot 0 VoidValue } ∷ [];
+    } ∷ [];
+    brands = record { node = 0; field_types = UIntType 2 ∷ UIntType 8 ∷ []; annotation_types = record { own = []; children = (TextType ∷ []) ∷ [] ∷ [] } } ∷ [];
+    enums = [];
+  },
+  note_at 0 1 Float64Note ∷ [],
+)
+unfolding is_utf8 chars encode
+annotated_field = refl
+
+-- under --strict the float is refused
+strict_float : conversion_of annotated true ≡ Err FloatType
+unfolding is_utf8 chars encode
+strict_float = refl
+
+-- ---- refusals ----
+
+abbrev dangling : RequestTerm
+dangling = request (file (2 ∷ []) ∷ node 2 (codes "x.capnp:A") 1 [] 0 (struct_kind false 0 (slot (codes "e") 65535 0 (EnumTerm 9) ∷ [])) ∷ [])
+
+enum_not_found : conversion_of dangling false ≡ Err NodeNotFound
+unfolding is_utf8 chars encode
+enum_not_found = refl

@@ -1,0 +1,115 @@
+-- The lists and notes that a request stands for.
+use Rattle.std.specs.Prelude.{ℕ, ◌+◌, List, [], ◌∷◌, ◌++◌, Bool, true, false, not, ◌&&◌, map, Option, Some, None, Ok, Err}
+use Rattle.std.specs.Str.{is_utf8}
+use Rattle.capnp_device.specs.declared.error.ErrorKind.TheVariants.{NameNotUtf8, NodeNotFound}
+use Rattle.capnp_wire.specs.Reading.{is_null_tree}
+use Rattle.capnp_schema.specs.Schema.{Annotation, Field, FieldKind, Group, Slot}
+use Rattle.capnp_schema.specs.Types.{SchemaType, AnyPointerType, StructType}
+use Rattle.capnp_request.specs.Scopes.{node_named, scopes_of}
+use Rattle.capnp_request.specs.Terms.{AnnotationNode, AnnotationTerm, BrandTerm, EnumNode, FieldKindTerm, FieldTerm, GroupTerm, ListWords, NodeKind, OtherNode, Said, SchemaNode, SlotTerm, Stands, StructNode, StructWords, UnreadField, UnreadValue, Untyped, ValueTerm}
+use Rattle.capnp_request.specs.Types.{add_entry, bind_scope, brand_types, is_struct, type_of, where_node}
+use Rattle.capnp_request.specs.Values.{value_of}
+use Rattle.capnp_request.specs.Work.{◌>>=◌, Bound, GroupOf, Seen, Work, each, given, nothing_seen, refused, said}
+
+-- ---- notes ----
+
+pub data StandIn : Type 0 where
+  Float32Note : StandIn
+  Float64Note : StandIn
+  InterfaceNote : StandIn
+  UntypedDefaultNote : StandIn
+
+pub record Note : Type 0 where
+  pub entry : ℕ
+  pub field : ℕ
+  pub stand_in : StandIn
+
+abbrev pub note_where : Bool → Note → List Note
+note_where true n = n ∷ []
+note_where false n = []
+
+abbrev pub note_at : (entry field : ℕ) → StandIn → Note
+note_at entry field stand_in = record { entry = entry; field = field; stand_in = stand_in }
+
+-- at most one of each for a field, in this order
+abbrev pub notes_of : (entry field : ℕ) → Seen → (untyped_default : Bool) → List Note
+notes_of entry field seen untyped_default =
+    note_where seen.float32 (note_at entry field Float32Note)
+    ++ note_where seen.float64 (note_at entry field Float64Note)
+    ++ note_where seen.interface (note_at entry field InterfaceNote)
+    ++ note_where untyped_default (note_at entry field UntypedDefaultNote)
+
+-- work with what was seen in it alone
+abbrev pub seen_in : {A : Type 0} → Work A → Work (A × Seen)
+seen_in w s = (w >>= (λ a s. Ok ((a, s.seen), s))) (record s { seen = nothing_seen })
+
+abbrev pub is_untyped : SchemaType → Bool
+is_untyped AnyPointerType = true
+is_untyped t = false
+
+-- a default of an untyped pointer that isn't null
+abbrev pub is_untyped_default : ValueTerm → Bool
+is_untyped_default (Stands v) = false
+is_untyped_default (StructWords t) = false
+is_untyped_default (ListWords t) = false
+is_untyped_default (Untyped t) = not (is_null_tree t)
+is_untyped_default (UnreadValue kind) = false
+
+-- a name as it stands
+abbrev pub name_of : List ℕ → Said (List ℕ)
+name_of bytes = elim (is_utf8 bytes) [ true ↦ Ok bytes | false ↦ Err NameNotUtf8 ]
+
+-- a field with its type, the types of its annotations, and what is noted of it
+pub record Converted : Type 0 where
+  pub field : Field
+  pub type : SchemaType
+  pub annotation_types : List SchemaType
+  pub notes : List Note
+
+module _ (nodes : List SchemaNode) (strict : Bool) where
+  -- ---- annotations ----
+
+  -- the type of an annotation: that of its declaration, read inside what its brand binds there
+  abbrev pub declared_in : NodeKind → List Bound → Work SchemaType
+  declared_in (AnnotationNode t) bound = type_of nodes strict bound t
+  declared_in (StructNode part) bound = refused NodeNotFound
+  declared_in (EnumNode enumerants) bound = refused NodeNotFound
+  declared_in OtherNode bound = refused NodeNotFound
+
+  abbrev pub declared_type : Option SchemaNode → List Bound → BrandTerm → Work SchemaType
+  declared_type None inside brand = refused NodeNotFound
+  declared_type (Some n) inside brand =
+      said (scopes_of nodes n.id) >>= (λ scopes. each (bind_scope (brand_types nodes strict inside brand)) scopes >>= declared_in n.kind)
+
+  abbrev pub annotation_of : List Bound → AnnotationTerm → Work (Annotation × SchemaType)
+  annotation_of inside a =
+      said (value_of a.value) >>= (λ v. declared_type (node_named nodes a.id) inside a.brand >>= (λ t. given (record { id = a.id; value = v }, t)))
+
+  abbrev pub annotations_of : List Bound → Said (List AnnotationTerm) → Work (List (Annotation × SchemaType))
+  annotations_of inside list = said list >>= each (annotation_of inside)
+
+  -- ---- fields ----
+
+  -- field i of entry n inside what is bound there: a slot with its type and default, or a group, an entry for itself
+  abbrev pub kind_of : List Bound → (n i : ℕ) → FieldKindTerm → Work (FieldKind × SchemaType × List Note)
+  kind_of inside n i (SlotTerm offset t default) =
+      seen_in (type_of nodes strict inside t) >>= (λ typed. said (value_of default)
+      >>= (λ v. given (Slot offset v, typed.0, notes_of n i typed.1 (is_untyped typed.0 && is_untyped_default default))))
+  kind_of inside n i (GroupTerm id) =
+      where_node is_struct nodes id (add_entry (record { node = id; bound = inside; place = GroupOf n i })) >>= (λ number. given (Group number, StructType number number, []))
+  kind_of inside n i (UnreadField kind) = refused kind
+
+  abbrev pub field_of : List Bound → (n i : ℕ) → FieldTerm → Work Converted
+  field_of inside n i f =
+      said f.name >>= (λ bytes. said (name_of bytes) >>= (λ name. kind_of inside n i f.kind >>= (λ kind. annotations_of inside f.annotations
+      >>= (λ annotations. given (record {
+        field = record { name = name; discriminant_value = f.discriminant_value; annotations = map (λ (p : Annotation × SchemaType). p.0) annotations; kind = kind.0 };
+        type = kind.1;
+        annotation_types = map (λ (p : Annotation × SchemaType). p.1) annotations;
+        notes = kind.2;
+      })))))
+
+  -- the fields of an entry, by index
+  abbrev pub fields_of : List Bound → (n i : ℕ) → List FieldTerm → Work (List Converted)
+  fields_of inside n i [] s = Ok ([], s)
+  fields_of inside n i (f ∷ fs) s = (field_of inside n i f >>= (λ first. fields_of inside n (i + 1) fs >>= (λ rest. given (first ∷ rest)))) s

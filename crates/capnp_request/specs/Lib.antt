@@ -1,0 +1,11 @@
+pub mod Causes
+pub mod Conversion
+pub mod Names
+pub mod Order
+pub mod Parts
+pub mod Reading
+pub mod Scopes
+pub mod Terms
+pub mod Types
+pub mod Values
+pub mod Work

@@ -1,0 +1,244 @@
+-- What the record of a request says: its parts as terms, each missing part as it is read.
+use Rattle.std.specs.Prelude.{ℕ, zero, suc, ℤ, pos, List, [], ◌∷◌, Bool, true, false, ◌==◌, slice_get, Option, Some, None, Ok, Err}
+use Rattle.std.specs.Option.{unwrap_or}
+use Rattle.capnp_device.specs.declared.error.ErrorKind.{ErrorKind}
+use Rattle.capnp_device.specs.declared.error.ErrorKind.TheVariants.{TooDeep, TypeMismatch, UnknownKind}
+use Rattle.capnp_wire.specs.Tree as tree
+use Rattle.capnp_wire.specs.Tree.{Tree}
+use Rattle.capnp_schema.specs.Schema.{Value, VoidValue, BoolValue, IntValue, UIntValue, EnumValue, TextValue, DataValue}
+use Rattle.capnp_schema.specs.Types.{VoidType, BoolType, IntType, UIntType, TextType, DataType, AnyPointerType}
+use Rattle.capnp_records.specs.Part.{which_of}
+use Rattle.capnp_records.specs.Record as value
+use Rattle.capnp_records.specs.Record.{NoValues, MoreValues, Record, Values}
+use Rattle.capnp_records.specs.Record.{Value as RecordValue}
+use Rattle.capnp_request.specs.Parts.{element_read, read_at}
+use Rattle.capnp_request.specs.Terms as term
+use Rattle.capnp_request.specs.Terms.{AnnotationTerm, BindingTerms, BrandTerm, EnumerantTerm, FieldKindTerm, FieldTerm, NodeKind, RequestTerm, Said, SchemaNode, ScopeTerm, StructPart, TypeTerm, ValueTerm}
+
+-- ---- parts by their kinds ----
+
+abbrev pub in_struct : {A : Type 0} → (ErrorKind → A) → (Record → A) → RecordValue → A
+in_struct none f (value.Struct r) = f r
+in_struct none f (value.Fault kind) = none kind
+in_struct none f v = none TypeMismatch
+
+abbrev pub in_list : {A : Type 0} → (ErrorKind → A) → (Values → A) → RecordValue → A
+in_list none f (value.Elements vs) = f vs
+in_list none f (value.Fault kind) = none kind
+in_list none f v = none TypeMismatch
+
+abbrev pub number_in : RecordValue → ℕ
+number_in (value.Number (pos n)) = n
+number_in v = 0
+
+abbrev pub truth_in : RecordValue → Bool
+truth_in (value.Truth b) = b
+truth_in v = false
+
+abbrev pub text_in : RecordValue → Said (List ℕ)
+text_in (value.Text bytes) = Ok bytes
+text_in (value.Fault kind) = Err kind
+text_in v = Err TypeMismatch
+
+abbrev pub both_said : {A : Type 0} → Said A → Said (List A) → Said (List A)
+both_said (Ok a) (Ok rest) = Ok (a ∷ rest)
+both_said (Ok a) (Err kind) = Err kind
+both_said (Err kind) rest = Err kind
+
+-- what each struct of a list of them says
+abbrev pub each_said : {A : Type 0} → ℕ → (Record → A) → Values → Said (List A)
+each_said b f NoValues = Ok []
+each_said b f (MoreValues v vs) = both_said (in_struct Err (λ r. Ok (f r)) (element_read b v)) (each_said b f vs)
+
+abbrev pub list_said : {A : Type 0} → ℕ → (Record → A) → RecordValue → Said (List A)
+list_said b f = in_list Err (each_said b f)
+
+abbrev pub value_count : Values → ℕ
+value_count NoValues = 0
+value_count (MoreValues v vs) = suc (value_count vs)
+
+-- what the active member says, by its index; none where the discriminant is no member's
+abbrev pub by_member : {A : Type 0} → (none : A) → List (RecordValue → A) → (b : ℕ) → Option ℕ → Record → A
+by_member none kinds b None r = none
+by_member none kinds b (Some i) r = unwrap_or (slice_get kinds i) (λ v. none) (read_at b i r)
+
+-- ---- types ----
+
+-- a parameter of a scope
+abbrev pub parameter_said : Record → TypeTerm
+parameter_said r = term.Parameter (number_in (read_at 18 0 r)) (number_in (read_at 18 1 r))
+
+abbrev pub untyped : TypeTerm
+untyped = term.Plain AnyPointerType
+
+abbrev pub untyped_kinds : List (RecordValue → TypeTerm)
+untyped_kinds = (λ v. untyped) ∷ in_struct term.UnreadType parameter_said ∷ (λ v. untyped) ∷ []
+
+-- the parts of types, where a type inside another is read so
+module _ (inner : Record → TypeTerm) where
+  abbrev pub type_in : RecordValue → TypeTerm
+  type_in = in_struct term.UnreadType inner
+
+  abbrev pub binding_said : Record → TypeTerm
+  binding_said r = by_member (term.UnreadType UnknownKind) ((λ v. untyped) ∷ type_in ∷ []) 21 (which_of r) r
+
+  abbrev pub bindings_said : Values → BindingTerms
+  bindings_said NoValues = term.NoBindings
+  bindings_said (MoreValues v vs) = term.MoreBindings (in_struct term.UnreadType binding_said (element_read 21 v)) (bindings_said vs)
+
+  -- the first field of a scope is its id, and the members stand behind it
+  abbrev pub scope_said : Record → ScopeTerm
+  scope_said r =
+      by_member (term.UnreadScope UnknownKind)
+      ((λ v. term.UnreadScope UnknownKind) ∷ in_list term.UnreadScope (λ vs. term.Binds (bindings_said vs)) ∷ (λ v. term.Inherits) ∷ []) 20 (which_of r) r
+
+  abbrev pub with_scope : BrandTerm → RecordValue → BrandTerm
+  with_scope rest = in_struct term.UnreadBrand (λ r. term.MoreScopes (number_in (read_at 20 0 r)) (scope_said r) rest)
+
+  abbrev pub scopes_said : Values → BrandTerm
+  scopes_said NoValues = term.NoScopes
+  scopes_said (MoreValues v vs) = with_scope (scopes_said vs) (element_read 20 v)
+
+  abbrev pub brand_in : RecordValue → BrandTerm
+  brand_in = in_struct term.UnreadBrand (λ r. in_list term.UnreadBrand scopes_said (read_at 19 0 r))
+
+  -- the members of a type, by index
+  abbrev pub type_kinds : List (RecordValue → TypeTerm)
+  type_kinds =
+      (λ v. term.Plain VoidType) ∷ (λ v. term.Plain BoolType)
+      ∷ (λ v. term.Plain (IntType 1)) ∷ (λ v. term.Plain (IntType 2)) ∷ (λ v. term.Plain (IntType 4)) ∷ (λ v. term.Plain (IntType 8))
+      ∷ (λ v. term.Plain (UIntType 1)) ∷ (λ v. term.Plain (UIntType 2)) ∷ (λ v. term.Plain (UIntType 4)) ∷ (λ v. term.Plain (UIntType 8))
+      ∷ (λ v. term.Float32) ∷ (λ v. term.Float64)
+      ∷ (λ v. term.Plain TextType) ∷ (λ v. term.Plain DataType)
+      ∷ in_struct term.UnreadType (λ r. term.ListTerm (type_in (read_at 14 0 r)))
+      ∷ in_struct term.UnreadType (λ r. term.EnumTerm (number_in (read_at 15 0 r)))
+      ∷ in_struct term.UnreadType (λ r. term.StructTerm (number_in (read_at 16 0 r)) (brand_in (read_at 16 1 r)))
+      ∷ (λ v. term.Interface)
+      ∷ in_struct term.UnreadType (λ r. by_member (term.UnreadType UnknownKind) untyped_kinds 17 (which_of r) r)
+      ∷ []
+
+-- a type, through at most so many types in one another
+abbrev pub type_said : ℕ → Record → TypeTerm
+type_said zero r = term.UnreadType TooDeep
+type_said (suc levels) r = by_member (term.UnreadType UnknownKind) (type_kinds (type_said levels)) 13 (which_of r) r
+
+-- as many as a message has levels
+abbrev pub whole_type : Record → TypeTerm
+whole_type = type_said 64
+
+-- ---- values ----
+
+abbrev pub stands : (RecordValue → Value) → RecordValue → ValueTerm
+stands f v = term.Stands (f v)
+
+abbrev pub integer_in : RecordValue → ℤ
+integer_in (value.Number n) = n
+integer_in v = pos 0
+
+abbrev pub bytes_value : (List ℕ → Value) → RecordValue → ValueTerm
+bytes_value f (value.Text bytes) = term.Stands (f bytes)
+bytes_value f (value.Data bytes) = term.Stands (f bytes)
+bytes_value f (value.Fault kind) = term.UnreadValue kind
+bytes_value f v = term.UnreadValue TypeMismatch
+
+abbrev pub pointer_value : (Tree → ValueTerm) → RecordValue → ValueTerm
+pointer_value f (value.Untyped t) = f t
+pointer_value f v = term.UnreadValue TypeMismatch
+
+-- the members of a value, by index; floats are their bits
+abbrev pub value_kinds : List (RecordValue → ValueTerm)
+value_kinds =
+    stands (λ v. VoidValue) ∷ stands (λ v. BoolValue (truth_in v))
+    ∷ stands (λ v. IntValue 1 (integer_in v)) ∷ stands (λ v. IntValue 2 (integer_in v)) ∷ stands (λ v. IntValue 4 (integer_in v)) ∷ stands (λ v. IntValue 8 (integer_in v))
+    ∷ stands (λ v. UIntValue 1 (number_in v)) ∷ stands (λ v. UIntValue 2 (number_in v)) ∷ stands (λ v. UIntValue 4 (number_in v)) ∷ stands (λ v. UIntValue 8 (number_in v))
+    ∷ stands (λ v. UIntValue 4 (number_in v)) ∷ stands (λ v. UIntValue 8 (number_in v))
+    ∷ bytes_value TextValue ∷ bytes_value DataValue
+    ∷ pointer_value term.ListWords
+    ∷ stands (λ v. EnumValue (number_in v))
+    ∷ pointer_value term.StructWords
+    ∷ (λ v. term.Untyped tree.Null)
+    ∷ pointer_value term.Untyped
+    ∷ []
+
+abbrev pub value_said : Record → ValueTerm
+value_said r = by_member (term.UnreadValue UnknownKind) value_kinds 22 (which_of r) r
+
+abbrev pub value_in : RecordValue → ValueTerm
+value_in = in_struct term.UnreadValue value_said
+
+-- ---- annotations, fields, enumerants ----
+
+abbrev pub annotation_said : Record → AnnotationTerm
+annotation_said r = record { id = number_in (read_at 12 0 r); value = value_in (read_at 12 1 r); brand = brand_in whole_type (read_at 12 2 r) }
+
+abbrev pub annotations_in : RecordValue → Said (List AnnotationTerm)
+annotations_in = list_said 12 annotation_said
+
+abbrev pub slot_said : Record → FieldKindTerm
+slot_said r = term.SlotTerm (number_in (read_at 9 0 r)) (in_struct term.UnreadType whole_type (read_at 9 1 r)) (value_in (read_at 9 2 r))
+
+-- members 3 and 4 of a field are a slot and a group
+abbrev pub kind_said : Option ℕ → Record → FieldKindTerm
+kind_said None r = term.UnreadField UnknownKind
+kind_said (Some i) r =
+    elim (i == 3) [
+      | true ↦ in_struct term.UnreadField slot_said (read_at 8 3 r)
+      | false ↦ in_struct term.UnreadField (λ g. term.GroupTerm (number_in (read_at 10 0 g))) (read_at 8 4 r)
+    ]
+
+abbrev pub field_said : Record → FieldTerm
+field_said r = record { name = text_in (read_at 8 0 r); discriminant_value = number_in (read_at 8 2 r); annotations = annotations_in (read_at 8 1 r); kind = kind_said (which_of r) r }
+
+abbrev pub enumerant_said : Record → EnumerantTerm
+enumerant_said r = record { name = text_in (read_at 11 0 r); annotations = annotations_in (read_at 11 1 r) }
+
+-- ---- nodes ----
+
+abbrev pub struct_said : Record → NodeKind
+struct_said r = term.StructNode (record {
+  data_words = number_in (read_at 3 0 r);
+  pointers = number_in (read_at 3 1 r);
+  is_group = truth_in (read_at 3 2 r);
+  discriminant_count = number_in (read_at 3 3 r);
+  discriminant_offset = number_in (read_at 3 4 r);
+  fields = list_said 8 field_said (read_at 3 5 r);
+})
+
+abbrev pub other : RecordValue → NodeKind
+other v = term.OtherNode
+
+abbrev pub unread_node : ErrorKind → NodeKind
+unread_node kind = term.OtherNode
+
+-- the fields of a node by index, of which 5 to 10 are members; what is none of these three isn't looked at
+abbrev pub node_kinds : List (RecordValue → NodeKind)
+node_kinds =
+    other ∷ other ∷ other ∷ other ∷ other ∷ other
+    ∷ in_struct unread_node struct_said
+    ∷ in_struct unread_node (λ r. term.EnumNode (list_said 11 enumerant_said (read_at 4 0 r)))
+    ∷ other ∷ other
+    ∷ in_struct unread_node (λ r. term.AnnotationNode (in_struct term.UnreadType whole_type (read_at 5 0 r)))
+    ∷ []
+
+-- an id that is listed, of a nested node or of a requested file
+abbrev pub id_said : ℕ → Record → ℕ
+id_said b r = number_in (read_at b 0 r)
+
+abbrev pub node_said : Record → SchemaNode
+node_said r = record {
+  id = number_in (read_at 2 0 r);
+  display_name = text_in (read_at 2 1 r);
+  scope = number_in (read_at 2 2 r);
+  nested = list_said 6 (id_said 6) (read_at 2 3 r);
+  annotations = annotations_in (read_at 2 4 r);
+  parameters = in_list Err (λ vs. Ok (value_count vs)) (read_at 2 11 r);
+  kind = by_member term.OtherNode node_kinds 2 (which_of r) r;
+}
+
+abbrev pub request_with : Said (List ℕ) → Said (List SchemaNode) → Said RequestTerm
+request_with files (Ok nodes) = Ok (record { nodes = nodes; files = files })
+request_with files (Err kind) = Err kind
+
+-- a whole request
+abbrev pub request_said : Record → Said RequestTerm
+request_said r = request_with (list_said 1 (id_said 1) (read_at 0 1 r)) (list_said 2 node_said (read_at 0 0 r))

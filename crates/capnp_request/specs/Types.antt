@@ -1,0 +1,150 @@
+-- The types that a request's types are converted to, and the numbers of what they name.
+use Rattle.std.specs.Prelude.{ℕ, zero, suc, ◌+◌, List, [], ◌∷◌, ◌++◌, Bool, true, false, ◌==◌, ◌&&◌, nat_lt, length, slice_get, Option, Some, None, Ok, Err}
+use Rattle.std.specs.Option.{unwrap_or}
+use Rattle.capnp_device.specs.declared.error.ErrorKind.TheVariants.{FloatType, InterfaceType, NodeNotFound, TooManyTypes}
+use Rattle.capnp_schema.specs.Types.{SchemaType, VoidType, BoolType, IntType, UIntType, EnumType, TextType, DataType, StructType, ListType, AnyPointerType}
+use Rattle.capnp_request.specs.Scopes.{bound_types, node_named, scopes_of}
+use Rattle.capnp_request.specs.Terms.{AnnotationNode, Binds, BindingTerms, BrandTerm, EnumNode, EnumTerm, Float32, Float64, Inherits, Interface, ListTerm, MoreBindings, MoreScopes, NoBindings, NoScopes, NodeKind, OtherNode, Parameter, Plain, SchemaNode, ScopeTerm, StructNode, StructTerm, TypeTerm, UnreadBrand, UnreadScope, UnreadType}
+use Rattle.capnp_request.specs.Work.{◌>>=◌, Bound, Entry, GroupOf, Place, Whole, Work, each, given, said}
+
+-- ---- entries by number ----
+
+-- the same type
+abbrev pub same_type : SchemaType → SchemaType → Bool
+same_type VoidType VoidType = true
+same_type BoolType BoolType = true
+same_type (IntType m) (IntType n) = m == n
+same_type (UIntType m) (UIntType n) = m == n
+same_type (EnumType m) (EnumType n) = m == n
+same_type TextType TextType = true
+same_type DataType DataType = true
+same_type (StructType m g) (StructType n h) = m == n
+same_type (ListType t) (ListType u) = same_type t u
+same_type AnyPointerType AnyPointerType = true
+same_type t u = false
+
+abbrev pub same_types : List SchemaType → List SchemaType → Bool
+same_types [] [] = true
+same_types (t ∷ ts) (u ∷ us) = same_type t u && same_types ts us
+same_types ts us = false
+
+-- the same types are bound, of one node's scopes
+abbrev pub same_bound : List Bound → List Bound → Bool
+same_bound [] [] = true
+same_bound (b ∷ bs) (c ∷ cs) = same_types b.types c.types && same_bound bs cs
+same_bound bs cs = false
+
+-- a struct node with bindings is one entry; a group's is no other's
+abbrev pub is_entry_of : ℕ → List Bound → Entry → Place → Bool
+is_entry_of id bound e Whole = (e.node == id) && same_bound e.bound bound
+is_entry_of id bound e (GroupOf parent field) = false
+
+abbrev pub entry_number : ℕ → List Bound → List Entry → ℕ → Option ℕ
+entry_number id bound [] number = None
+entry_number id bound (e ∷ es) number = elim (is_entry_of id bound e e.place) [ true ↦ Some number | false ↦ entry_number id bound es (number + 1) ]
+
+-- an entry behind the others, where there are fewer than 65,536
+abbrev pub add_entry : Entry → Work ℕ
+add_entry e s = elim (nat_lt (length s.entries) 65536) [ true ↦ Ok (length s.entries, record s { entries = s.entries ++ e ∷ [] }) | false ↦ Err TooManyTypes ]
+
+abbrev pub number_or_add : Option ℕ → Entry → Work ℕ
+number_or_add (Some number) e = given number
+number_or_add None e = add_entry e
+
+-- the number of a struct node with bindings, which it gets when it is first named
+abbrev pub number_struct : ℕ → List Bound → Work ℕ
+number_struct id bound s = number_or_add (entry_number id bound s.entries 0) (record { node = id; bound = bound; place = Whole }) s
+
+abbrev pub enum_position : List ℕ → ℕ → ℕ → Option ℕ
+enum_position [] id number = None
+enum_position (x ∷ xs) id number = elim (x == id) [ true ↦ Some number | false ↦ enum_position xs id (number + 1) ]
+
+abbrev pub enum_or_add : Option ℕ → ℕ → Work ℕ
+enum_or_add (Some number) id s = Ok (number, s)
+enum_or_add None id s = Ok (length s.enums, record s { enums = s.enums ++ id ∷ [] })
+
+-- the number of an enum, by its id
+abbrev pub number_enum : ℕ → Work ℕ
+number_enum id s = enum_or_add (enum_position s.enums id 0) id s
+
+-- ---- nodes of a kind ----
+
+abbrev pub is_struct : NodeKind → Bool
+is_struct (StructNode part) = true
+is_struct (EnumNode enumerants) = false
+is_struct (AnnotationNode t) = false
+is_struct OtherNode = false
+
+abbrev pub is_enum : NodeKind → Bool
+is_enum (StructNode part) = false
+is_enum (EnumNode enumerants) = true
+is_enum (AnnotationNode t) = false
+is_enum OtherNode = false
+
+abbrev pub is_of_kind : (NodeKind → Bool) → Option SchemaNode → Bool
+is_of_kind test None = false
+is_of_kind test (Some n) = test n.kind
+
+-- work where the id's node is of a kind
+abbrev pub where_node : {A : Type 0} → (NodeKind → Bool) → List SchemaNode → ℕ → Work A → Work A
+where_node test nodes id w s = elim (is_of_kind test (node_named nodes id)) [ true ↦ w s | false ↦ Err NodeNotFound ]
+
+-- ---- types ----
+
+-- floats and interfaces are refused where that is asked for, and else noted
+abbrev pub float32 : (strict : Bool) → Work SchemaType
+float32 true s = Err FloatType
+float32 false s = Ok (UIntType 4, record s { seen = record s.seen { float32 = true } })
+
+abbrev pub float64 : (strict : Bool) → Work SchemaType
+float64 true s = Err FloatType
+float64 false s = Ok (UIntType 8, record s { seen = record s.seen { float64 = true } })
+
+abbrev pub interface : (strict : Bool) → Work SchemaType
+interface true s = Err InterfaceType
+interface false s = Ok (AnyPointerType, record s { seen = record s.seen { interface = true } })
+
+-- the type that is bound to a parameter inside an entry, an untyped pointer where none is
+abbrev pub bound_to : List Bound → (scope index : ℕ) → SchemaType
+bound_to inside scope index = bound_types AnyPointerType (λ b. unwrap_or (slice_get b.types index) AnyPointerType) inside scope
+
+-- one type more before the others; untyped pointers at the end are left out
+abbrev pub with_type : SchemaType → List SchemaType → List SchemaType
+with_type AnyPointerType [] = []
+with_type t ts = t ∷ ts
+
+-- a scope with the types that are bound to its parameters
+abbrev pub bind_scope : (Bound → Work (List SchemaType)) → Bound → Work Bound
+bind_scope types scope = types scope >>= (λ ts. given (record scope { types = ts }))
+
+-- The type of a term inside an entry; what a brand binds to a scope of so many parameters; and bindings in a row.
+module _ (nodes : List SchemaNode) (strict : Bool) (inside : List Bound) where
+  abbrev mutual
+    pub type_of : TypeTerm → Work SchemaType
+    type_of (Plain t) s = Ok (t, s)
+    type_of Float32 s = float32 strict s
+    type_of Float64 s = float64 strict s
+    type_of Interface s = interface strict s
+    type_of (ListTerm t) s = (type_of t >>= (λ element. given (ListType element))) s
+    type_of (EnumTerm id) s = (where_node is_enum nodes id (number_enum id) >>= (λ number. given (EnumType number))) s
+    -- bindings are numbered before the struct that they bind
+    type_of (StructTerm id brand) s =
+        where_node is_struct nodes id
+        (said (scopes_of nodes id) >>= (λ scopes. each (bind_scope (brand_types brand)) scopes >>= (λ bound. number_struct id bound >>= (λ number. given (StructType number number))))) s
+    type_of (Parameter scope index) s = Ok (bound_to inside scope index, s)
+    type_of (UnreadType kind) s = Err kind
+
+    pub brand_types : BrandTerm → Bound → Work (List SchemaType)
+    brand_types NoScopes scope s = Ok ([], s)
+    brand_types (MoreScopes id says rest) scope s = elim (id == scope.scope) [ true ↦ scope_types says scope s | false ↦ brand_types rest scope s ]
+    brand_types (UnreadBrand kind) scope s = Err kind
+
+    pub scope_types : ScopeTerm → Bound → Work (List SchemaType)
+    scope_types (Binds terms) scope s = binding_types terms scope.parameters s
+    scope_types Inherits scope s = Ok (bound_types [] (λ b. b.types) inside scope.scope, s)
+    scope_types (UnreadScope kind) scope s = Err kind
+
+    pub binding_types : BindingTerms → (parameters : ℕ) → Work (List SchemaType)
+    binding_types terms zero s = Ok ([], s)
+    binding_types NoBindings (suc count) s = Ok ([], s)
+    binding_types (MoreBindings t rest) (suc count) s = (type_of t >>= (λ first. binding_types rest count >>= (λ others. given (with_type first others)))) s

@@ -1,0 +1,27 @@
+-- The values that a request's values are converted to.
+use Rattle.std.specs.Prelude.{ℕ, List, drop, Option, Some, None, Ok, Err}
+use Rattle.capnp_wire.specs.declared.fault.Fault.{Fault}
+use Rattle.capnp_wire.specs.Encoding.{message_of}
+use Rattle.capnp_wire.specs.Reading.{refusal}
+use Rattle.capnp_wire.specs.Tree.{Tree}
+use Rattle.capnp_wire.specs.Words.{first_fault}
+use Rattle.capnp_schema.specs.Builtin.{zero_word}
+use Rattle.capnp_schema.specs.Schema.{Value, StructValue, ListValue, AnyPointerValue}
+use Rattle.capnp_request.specs.Terms.{ListWords, Said, Stands, StructWords, UnreadValue, Untyped, ValueTerm}
+
+-- the words of a tree in one segment, behind the word of its table; refused with the first fault in preorder
+abbrev pub words_or_fault : Option Fault → Tree → Said (List ℕ)
+words_or_fault None t = Ok (drop 8 (message_of t))
+words_or_fault (Some fault) t = Err (refusal fault)
+
+abbrev pub words_said : (List ℕ → Value) → Said (List ℕ) → Said Value
+words_said f (Ok words) = Ok (f words)
+words_said f (Err kind) = Err kind
+
+-- by the value's own kind; what stands at an untyped pointer is left out
+abbrev pub value_of : ValueTerm → Said Value
+value_of (Stands v) = Ok v
+value_of (StructWords t) = words_said StructValue (words_or_fault (first_fault t) t)
+value_of (ListWords t) = words_said ListValue (words_or_fault (first_fault t) t)
+value_of (Untyped t) = Ok (AnyPointerValue zero_word)
+value_of (UnreadValue kind) = Err kind

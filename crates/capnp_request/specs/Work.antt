@@ -1,0 +1,66 @@
+-- What a conversion has named so far, and work that may name more or be refused.
+use Rattle.std.specs.Prelude.{ℕ, List, [], ◌∷◌, Bool, false, Result, Ok, Err}
+use Rattle.capnp_device.specs.declared.error.ErrorKind.{ErrorKind}
+use Rattle.capnp_schema.specs.Types.{SchemaType}
+use Rattle.capnp_request.specs.Terms.{Said}
+
+-- What is bound to the parameters of a scope: so many scopes out, of so many parameters, the types of the first of these.
+-- The others are untyped pointers, and the last type here is none.
+pub record Bound : Type 0 where
+  pub scope : ℕ
+  pub distance : ℕ
+  pub parameters : ℕ
+  pub types : List SchemaType
+
+-- a struct node with bindings, or the group of a field: with the bindings of its parent, an entry for itself
+pub data Place : Type 0 where
+  Whole : Place
+  GroupOf : (parent field : ℕ) → Place
+
+pub record Entry : Type 0 where
+  pub node : ℕ
+  pub bound : List Bound
+  pub place : Place
+
+-- what is noted of a field's type
+pub record Seen : Type 0 where
+  pub float32 : Bool
+  pub float64 : Bool
+  pub interface : Bool
+
+abbrev pub nothing_seen : Seen
+nothing_seen = record { float32 = false; float64 = false; interface = false }
+
+-- the entries and the ids of the enums, each by its number, and what was seen of the type at hand
+pub record Named : Type 0 where
+  pub entries : List Entry
+  pub enums : List ℕ
+  pub seen : Seen
+
+abbrev pub Work : Type 0 → Type 0
+Work A = Named → Result (A × Named) ErrorKind
+
+abbrev pub given : {A : Type 0} → A → Work A
+given a s = Ok (a, s)
+
+abbrev pub refused : {A : Type 0} → ErrorKind → Work A
+refused kind s = Err kind
+
+abbrev pub continued : {A B : Type 0} → (A → Work B) → Result (A × Named) ErrorKind → Result (B × Named) ErrorKind
+continued f (Ok p) = f p.0 p.1
+continued f (Err kind) = Err kind
+
+-- work, and then what is done with what it gives
+infixr 10 ◌>>=◌
+abbrev pub ◌>>=◌ : {A B : Type 0} → Work A → (A → Work B) → Work B
+(w >>= f) s = continued f (w s)
+
+-- what is said, where it can be read
+abbrev pub said : {A : Type 0} → Said A → Work A
+said (Ok a) s = Ok (a, s)
+said (Err kind) s = Err kind
+
+-- the same work for each of a list, from the first on
+abbrev pub each : {A B : Type 0} → (A → Work B) → List A → Work (List B)
+each f [] s = Ok ([], s)
+each f (x ∷ xs) s = (f x >>= (λ y. each f xs >>= (λ ys. given (y ∷ ys)))) s

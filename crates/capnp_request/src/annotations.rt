@@ -1,0 +1,62 @@
+//! Annotations, as a request says them.
+use crate::context::Context;
+use crate::entries::{BoundScope, Entries};
+use crate::notes::Seen;
+use crate::parts::{list_at, struct_at, u64_at};
+use crate::places::{ANNOTATION_BRAND, ANNOTATION_ID, ANNOTATION_VALUE};
+use crate::types::{BrandPlace, TYPE_LEVELS, bindings_of, type_of};
+use crate::values::value_of;
+use capnp_base::introspect::Type;
+use capnp_dynamic_readers::dynamic_struct;
+use capnp_dynamic_readers::parts::struct_at as element_at;
+use capnp_schema::record::AnnotationRecord;
+use capnp_wire::error::Result;
+
+/// The type of an annotation inside an entry of these scopes: that of its declaration, read with its brand.
+fn annotation_type<'a>(
+    context: Context<'_, 'a>,
+    entries: &mut Entries<'a>,
+    inside: &[BoundScope],
+    annotation: dynamic_struct::Reader<'a>,
+    id: u64,
+) -> Result<Type> {
+    let term = context.nodes.declared_type(id)?;
+    let place = BrandPlace {
+        reader: annotation,
+        index: ANNOTATION_BRAND,
+    };
+    // Nothing is noted of an annotation.
+    let mut seen = Seen::nothing();
+    let scopes = bindings_of(context, entries, inside, id, place, &mut seen, TYPE_LEVELS)?;
+    type_of(
+        context,
+        entries,
+        scopes.as_slice(),
+        term,
+        &mut seen,
+        TYPE_LEVELS,
+    )
+}
+
+/// The annotations that a field of a record has, and the type of each.
+pub(crate) fn annotations_of<'a>(
+    context: Context<'_, 'a>,
+    entries: &mut Entries<'a>,
+    inside: &[BoundScope],
+    reader: dynamic_struct::Reader<'a>,
+    index: u16,
+) -> Result<(Vec<AnnotationRecord>, Vec<Type>)> {
+    let listed = list_at(reader, index)?;
+    let mut records = Vec::new(context.alloc);
+    let mut types = Vec::new(context.alloc);
+    for at in 0..listed.len() {
+        let annotation = element_at(listed, at)?;
+        let id = u64_at(annotation, ANNOTATION_ID)?;
+        let said = struct_at(annotation, ANNOTATION_VALUE)?;
+        let value = value_of(context.alloc, said)?;
+        let annotation_type = annotation_type(context, entries, inside, annotation, id)?;
+        records.push(AnnotationRecord { id, value })?;
+        types.push(annotation_type)?;
+    }
+    Ok((records, types))
+}

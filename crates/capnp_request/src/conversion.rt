@@ -1,0 +1,159 @@
+//! From a compiler's request to the lists of a set of schemas.
+use crate::context::Context;
+use crate::entries::{BoundScope, Entries, Entry};
+use crate::enums::enum_of;
+use crate::names::{Named, Names, enum_name};
+use crate::notes::Note;
+use crate::roots::number_roots;
+use crate::schema_nodes::{SchemaNodes, display_name};
+use crate::structs::{NodePlace, struct_of};
+use capnp_dynamic_readers::dynamic_struct;
+use capnp_schema::record::{BrandRecord, EnumRecord, NodeRecord};
+use capnp_wire::error::{Error, ErrorKind, Result};
+use std::alloc::Global;
+
+/// What a request is converted to: the lists of which `SchemaSet::new` makes a set, and notes on what stands there for
+/// something else, by entry and field.
+#[derive(Drop)]
+pub struct Converted {
+    pub nodes: Vec<NodeRecord>,
+    pub brands: Vec<BrandRecord>,
+    pub enums: Vec<EnumRecord>,
+    pub notes: Vec<Note>,
+}
+
+/// What a conversion has made so far.
+#[derive(Drop)]
+struct Progress {
+    made: Converted,
+    names: Names,
+    enum_names: Vec<String>,
+}
+
+impl Progress {
+    fn new(alloc: Global) -> Progress {
+        Progress {
+            made: Converted {
+                nodes: Vec::new(alloc),
+                brands: Vec::new(alloc),
+                enums: Vec::new(alloc),
+                notes: Vec::new(alloc),
+            },
+            names: Names::new(alloc),
+            enum_names: Vec::new(alloc),
+        }
+    }
+
+    /// Names the enums that were named by types since.
+    fn name_enums(&mut self, alloc: Global, entries: &Entries<'_>) -> Result<()> {
+        for named in entries.enums.iter().skip(self.enum_names.len()) {
+            let name = enum_name(alloc, display_name(named.node)?)?;
+            self.enum_names.push(name)?;
+        }
+        Ok(())
+    }
+
+    /// The name of the entry that is made next, and a copy of the scopes that are bound in it.
+    fn next_name(&mut self, entry: &Entry<'_>) -> Result<(String, Vec<BoundScope>)> {
+        let named = Named {
+            structs: self.made.nodes.as_slice(),
+            enums: self.enum_names.as_slice(),
+        };
+        let name = self.names.entry_name(named, entry)?;
+        let scopes = entry.scopes.clone()?;
+        Ok((name, scopes))
+    }
+
+    /// Makes the next struct, where there is one that isn't made.
+    fn make_struct<'a>(
+        &mut self,
+        context: Context<'_, 'a>,
+        entries: &mut Entries<'a>,
+    ) -> Result<bool> {
+        let number = self.made.nodes.len();
+        let Some(entry) = entries.structs.get(number) else {
+            return Ok(false);
+        };
+        let (name, scopes) = self.next_name(entry)?;
+        let Ok(counted) = u32::try_from(number) else {
+            return Err(Error::from(ErrorKind::TooManyTypes));
+        };
+        let place = NodePlace {
+            number: counted,
+            id: entry.id,
+            node: entry.node,
+        };
+        let (record, brand) = struct_of(
+            context,
+            entries,
+            scopes.as_slice(),
+            place,
+            name,
+            &mut self.made.notes,
+        )?;
+        self.made.nodes.push(record)?;
+        self.made.brands.push(brand)?;
+        Ok(true)
+    }
+
+    /// Makes the next enum, where there is one that isn't made.
+    fn make_enum<'a>(
+        &mut self,
+        context: Context<'_, 'a>,
+        entries: &mut Entries<'a>,
+    ) -> Result<bool> {
+        let number = self.made.enums.len();
+        let Some(named) = entries.enums.get(number).copied() else {
+            return Ok(false);
+        };
+        let name = enum_name(context.alloc, display_name(named.node)?)?;
+        let record = enum_of(context, entries, named, name)?;
+        self.made.enums.push(record)?;
+        Ok(true)
+    }
+
+    /// Makes the next struct, or where all are made the next enum. False where there is neither.
+    fn make_next<'a>(
+        &mut self,
+        context: Context<'_, 'a>,
+        entries: &mut Entries<'a>,
+    ) -> Result<bool> {
+        self.name_enums(context.alloc, entries)?;
+        if self.make_struct(context, entries)? {
+            return Ok(true);
+        }
+        self.make_enum(context, entries)
+    }
+}
+
+/// The lists and notes that a request stands for. Its reader has to be of brand 0 of the request set.
+///
+/// Brand k has node k: one for each struct node with bindings and for each group that a field names, in the order in
+/// which they are first named. The roots come first, then what the fields and annotations of each name.
+///
+/// Refused with `OutOfMemory`, or with a number whose cause stands in what is read: that of a part that can't be read
+/// (`BadPointer`, `WrongPointerKind`, `WrongElementSize`, `TextNotTerminated`, `TooDeep`, `CapabilityPointer`), `TooLarge`,
+/// `UnknownKind` for a discriminant that the request set lacks, `NameNotUtf8`, `NodeNotFound` for an id that no node of the
+/// kind has, `TooManyTypes` for more than 65,536 entries or a display name of more than 1,024 bytes, and where `strict`
+/// says so `FloatType` and `InterfaceType`. Where several stand there, any of them may be named.
+pub fn read_request(
+    alloc: Global,
+    reader: dynamic_struct::Reader<'_>,
+    strict: bool,
+) -> Result<Converted> {
+    let nodes = SchemaNodes::of_request(alloc, reader)?;
+    let context = Context {
+        alloc,
+        strict,
+        nodes: &nodes,
+    };
+    let mut entries = Entries::new(alloc);
+    number_roots(context, &mut entries, reader)?;
+    let mut progress = Progress::new(alloc);
+    for _ in 0..u64::MAX {
+        if !progress.make_next(context, &mut entries)? {
+            break;
+        }
+    }
+    Ok(progress.made)
+}

@@ -1,0 +1,95 @@
+//! Fields, as a request says them.
+use crate::annotations::annotations_of;
+use crate::context::Context;
+use crate::entries::{BoundScope, Entries, GroupPlace, entry_type};
+use crate::notes::Seen;
+use crate::parts::{active_member, name_at, struct_at, u16_at, u32_at, u64_at};
+use crate::places::{
+    FIELD_ANNOTATIONS, FIELD_DISCRIMINANT, FIELD_GROUP, FIELD_NAME, FIELD_SLOT, GROUP_ID,
+    SLOT_DEFAULT, SLOT_OFFSET, SLOT_TYPE,
+};
+use crate::scopes::is_untyped;
+use crate::types::{TYPE_LEVELS, type_of};
+use crate::values::{is_untyped_value, value_of};
+use capnp_base::introspect::Type;
+use capnp_dynamic_readers::dynamic_struct;
+use capnp_schema::record::{FieldKind, FieldRecord};
+use capnp_wire::error::{Error, ErrorKind, Result};
+
+/// A field with its type, the types of its annotations, and what is noted of it.
+#[derive(Drop)]
+pub(crate) struct ConvertedField {
+    pub(crate) record: FieldRecord,
+    pub(crate) field_type: Type,
+    pub(crate) annotation_types: Vec<Type>,
+    pub(crate) seen: Seen,
+}
+
+/// A slot and its type.
+fn slot_of<'a>(
+    context: Context<'_, 'a>,
+    entries: &mut Entries<'a>,
+    inside: &[BoundScope],
+    field: dynamic_struct::Reader<'a>,
+    seen: &mut Seen,
+) -> Result<(FieldKind, Type)> {
+    let slot = struct_at(field, FIELD_SLOT)?;
+    let offset = u32_at(slot, SLOT_OFFSET)?;
+    let term = struct_at(slot, SLOT_TYPE)?;
+    let field_type = type_of(context, entries, inside, term, seen, TYPE_LEVELS)?;
+    let value = struct_at(slot, SLOT_DEFAULT)?;
+    let default = value_of(context.alloc, value)?;
+    seen.untyped_default = is_untyped(field_type) && is_untyped_value(value)?;
+    Ok((FieldKind::Slot { offset, default }, field_type))
+}
+
+/// A group and its type: an entry for itself.
+fn group_of<'a>(
+    context: Context<'_, 'a>,
+    entries: &mut Entries<'a>,
+    inside: &[BoundScope],
+    field: dynamic_struct::Reader<'a>,
+    place: GroupPlace,
+) -> Result<(FieldKind, Type)> {
+    let group = struct_at(field, FIELD_GROUP)?;
+    let id = u64_at(group, GROUP_ID)?;
+    let scopes = inside.to_vec(context.alloc)?;
+    let number = entries.number_group(context.nodes, id, scopes, place)?;
+    Ok((FieldKind::Group { node: number }, entry_type(number)))
+}
+
+/// A field inside an entry of these scopes, at its place there.
+pub(crate) fn field_of<'a>(
+    context: Context<'_, 'a>,
+    entries: &mut Entries<'a>,
+    inside: &[BoundScope],
+    field: dynamic_struct::Reader<'a>,
+    place: GroupPlace,
+) -> Result<ConvertedField> {
+    let name = name_at(context.alloc, field, FIELD_NAME)?;
+    let discriminant_value = u16_at(field, FIELD_DISCRIMINANT)?;
+    let mut seen = Seen::nothing();
+    let (kind, field_type) = match active_member(field) {
+        Some(FIELD_SLOT) => slot_of(context, entries, inside, field, &mut seen)?,
+        Some(FIELD_GROUP) => group_of(context, entries, inside, field, place)?,
+        _ => return Err(Error::from(ErrorKind::UnknownKind)),
+    };
+    let (annotations, annotation_types) = annotations_of(
+        context,
+        entries,
+        inside,
+        field,
+        FIELD_ANNOTATIONS,
+    )?;
+    Ok(ConvertedField {
+        record: FieldRecord {
+            name,
+            discriminant_value,
+            annotations,
+            kind,
+        },
+        field_type,
+        annotation_types,
+        seen,
+    })
+}

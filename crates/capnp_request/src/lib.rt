@@ -1,0 +1,25 @@
+//! Sets of schemas from the requests of the public compiler: what `capnp compile -o-` writes becomes the three lists of
+//! which `SchemaSet::new` makes a set.
+//!
+//! A request is read under the request set (`capnp_schema::request`). The crate stands on readers alone.
+#![tactic(auto)]
+
+mod annotations;
+mod context;
+mod conversion;
+mod entries;
+mod enums;
+mod fields;
+mod names;
+mod notes;
+mod parts;
+mod places;
+mod roots;
+mod schema_nodes;
+mod scopes;
+mod structs;
+mod types;
+mod values;
+
+pub use conversion::{Converted, read_request};
+pub use notes::{Note, StandIn};

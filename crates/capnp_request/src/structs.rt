@@ -1,0 +1,126 @@
+//! Structs, as a request says them.
+use crate::annotations::annotations_of;
+use crate::context::Context;
+use crate::entries::{BoundScope, Entries, GroupPlace};
+use crate::fields::field_of;
+use crate::notes::{Note, Seen, StandIn};
+use crate::parts::{bool_at, list_at, u16_at, u32_at};
+use crate::places::{
+    NODE_ANNOTATIONS, STRUCT_DATA_WORDS, STRUCT_DISCRIMINANT_OFFSET, STRUCT_DISCRIMINANTS,
+    STRUCT_FIELDS, STRUCT_IS_GROUP, STRUCT_POINTERS,
+};
+use crate::schema_nodes::struct_part;
+use capnp_base::introspect::Type;
+use capnp_dynamic_readers::dynamic_struct;
+use capnp_dynamic_readers::parts::struct_at as element_at;
+use capnp_schema::record::{AnnotationTypes, BrandRecord, FieldRecord, NodeRecord, StructRecord};
+use capnp_wire::error::Result;
+
+/// The fields of an entry with their types and those of their annotations.
+#[derive(Drop)]
+struct ConvertedFields {
+    records: Vec<FieldRecord>,
+    types: Vec<Type>,
+    annotation_types: Vec<Vec<Type>>,
+}
+
+/// Adds what is noted of a field.
+fn add_notes(notes: &mut Vec<Note>, entry: u32, field: u32, seen: Seen) -> Result<()> {
+    let kinds = [
+        (seen.float32, StandIn::Float32),
+        (seen.float64, StandIn::Float64),
+        (seen.interface, StandIn::Interface),
+        (seen.untyped_default, StandIn::UntypedDefault),
+    ];
+    for (is_seen, stand_in) in kinds {
+        if is_seen {
+            notes.push(Note {
+                entry,
+                field,
+                stand_in,
+            })?;
+        }
+    }
+    Ok(())
+}
+
+/// The fields of an entry, by index.
+fn fields_of<'a>(
+    context: Context<'_, 'a>,
+    entries: &mut Entries<'a>,
+    inside: &[BoundScope],
+    number: u32,
+    part: dynamic_struct::Reader<'a>,
+    notes: &mut Vec<Note>,
+) -> Result<ConvertedFields> {
+    let listed = list_at(part, STRUCT_FIELDS)?;
+    let mut fields = ConvertedFields {
+        records: Vec::new(context.alloc),
+        types: Vec::new(context.alloc),
+        annotation_types: Vec::new(context.alloc),
+    };
+    for index in 0..listed.len() {
+        let field = element_at(listed, index)?;
+        let place = GroupPlace {
+            parent: number,
+            field: index as usize,
+        };
+        let converted = field_of(context, entries, inside, field, place)?;
+        add_notes(notes, number, index, converted.seen)?;
+        fields.records.push(converted.record)?;
+        fields.types.push(converted.field_type)?;
+        fields.annotation_types.push(converted.annotation_types)?;
+    }
+    Ok(fields)
+}
+
+/// A struct node, and the number of the entry that is made of it.
+#[derive(Clone, Copy)]
+pub(crate) struct NodePlace<'a> {
+    pub(crate) number: u32,
+    pub(crate) id: u64,
+    pub(crate) node: dynamic_struct::Reader<'a>,
+}
+
+/// The node and the brand of an entry of that name, inside its own scopes.
+pub(crate) fn struct_of<'a>(
+    context: Context<'_, 'a>,
+    entries: &mut Entries<'a>,
+    inside: &[BoundScope],
+    place: NodePlace<'a>,
+    display_name: String,
+    notes: &mut Vec<Note>,
+) -> Result<(NodeRecord, BrandRecord)> {
+    let part = struct_part(place.node)?;
+    let fields = fields_of(context, entries, inside, place.number, part, notes)?;
+    let (annotations, own) = annotations_of(
+        context,
+        entries,
+        inside,
+        place.node,
+        NODE_ANNOTATIONS,
+    )?;
+    let body = StructRecord {
+        data_word_count: u16_at(part, STRUCT_DATA_WORDS)?,
+        pointer_count: u16_at(part, STRUCT_POINTERS)?,
+        is_group: bool_at(part, STRUCT_IS_GROUP)?,
+        discriminant_count: u16_at(part, STRUCT_DISCRIMINANTS)?,
+        discriminant_offset: u32_at(part, STRUCT_DISCRIMINANT_OFFSET)?,
+        fields: fields.records,
+    };
+    let record = NodeRecord {
+        id: place.id,
+        display_name,
+        annotations,
+        body,
+    };
+    let brand = BrandRecord {
+        node: place.number,
+        field_types: fields.types,
+        annotation_types: AnnotationTypes {
+            own,
+            children: fields.annotation_types,
+        },
+    };
+    Ok((record, brand))
+}

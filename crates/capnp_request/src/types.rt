@@ -1,0 +1,258 @@
+//! Types, as a request says them, with the bindings of their brands.
+use crate::context::Context;
+use crate::entries::{BoundNode, BoundScope, Entries, entry_type, enum_type};
+use crate::notes::Seen;
+use crate::parts::{active_member, list_at, struct_at, u16_at, u64_at};
+use crate::places::{
+    BINDING_TYPE, BINDING_UNBOUND, BRAND_SCOPES, LIST_ELEMENT, NAMED_ID, PARAMETER_INDEX,
+    PARAMETER_SCOPE, SCOPE_BIND, SCOPE_ID, SCOPE_INHERIT, STRUCT_BRAND, TYPE_ENUM, TYPE_LIST,
+    TYPE_STRUCT, TYPE_UNTYPED, UNTYPED_PARAMETER,
+};
+use crate::schema_nodes::GenericScope;
+use crate::scopes::{bound_scope, bound_to, is_untyped, scope_of, untyped};
+use capnp_base::introspect::{Type, TypeVariant};
+use capnp_dynamic_readers::parts::struct_at as element_at;
+use capnp_dynamic_readers::{dynamic_list, dynamic_struct};
+use capnp_wire::error::{Error, ErrorKind, Result};
+
+/// Where a brand stands: a field of a record.
+#[derive(Clone, Copy)]
+pub(crate) struct BrandPlace<'a> {
+    pub(crate) reader: dynamic_struct::Reader<'a>,
+    pub(crate) index: u16,
+}
+
+/// The levels that a type is read through, as many as a message has.
+pub(crate) const TYPE_LEVELS: u32 = 64;
+
+/// The type of a member of a type's union that says all of it.
+fn plain_type(member: u16) -> Option<TypeVariant> {
+    match member {
+        0 => Some(TypeVariant::Void),
+        1 => Some(TypeVariant::Bool),
+        2 => Some(TypeVariant::Int8),
+        3 => Some(TypeVariant::Int16),
+        4 => Some(TypeVariant::Int32),
+        5 => Some(TypeVariant::Int64),
+        6 => Some(TypeVariant::UInt8),
+        7 => Some(TypeVariant::UInt16),
+        8 => Some(TypeVariant::UInt32),
+        9 => Some(TypeVariant::UInt64),
+        12 => Some(TypeVariant::Text),
+        13 => Some(TypeVariant::Data),
+        _ => None,
+    }
+}
+
+/// A `Float32` or `Float64` as an integer of its width, with a note. Refused with `FloatType` where that is asked for.
+fn float_type(strict: bool, is_double: bool, seen: &mut Seen) -> Result<Type> {
+    if strict {
+        return Err(Error::from(ErrorKind::FloatType));
+    }
+    if is_double {
+        seen.float64 = true;
+        return Ok(Type::from(TypeVariant::UInt64));
+    }
+    seen.float32 = true;
+    Ok(Type::from(TypeVariant::UInt32))
+}
+
+/// An interface as an untyped pointer, with a note. Refused with `InterfaceType` where that is asked for.
+fn interface_type(strict: bool, seen: &mut Seen) -> Result<Type> {
+    if strict {
+        return Err(Error::from(ErrorKind::InterfaceType));
+    }
+    seen.interface = true;
+    Ok(untyped())
+}
+
+/// An untyped pointer, or what is bound to the parameter that it is.
+fn untyped_or_bound(inside: &[BoundScope], term: dynamic_struct::Reader<'_>) -> Result<Type> {
+    let pointer = struct_at(term, TYPE_UNTYPED)?;
+    match active_member(pointer) {
+        Some(UNTYPED_PARAMETER) => {
+            let parameter = struct_at(pointer, UNTYPED_PARAMETER)?;
+            let scope = u64_at(parameter, PARAMETER_SCOPE)?;
+            let index = u16_at(parameter, PARAMETER_INDEX)?;
+            Ok(bound_to(inside, scope, index))
+        }
+        Some(_) => Ok(untyped()),
+        None => Err(Error::from(ErrorKind::UnknownKind)),
+    }
+}
+
+/// The struct that a type names, with the bindings of its brand.
+#[cycle(types)]
+fn struct_type<'a>(
+    context: Context<'_, 'a>,
+    entries: &mut Entries<'a>,
+    inside: &[BoundScope],
+    term: dynamic_struct::Reader<'a>,
+    seen: &mut Seen,
+    depth: u32,
+) -> Result<Type> {
+    let named = struct_at(term, TYPE_STRUCT)?;
+    let id = u64_at(named, NAMED_ID)?;
+    let node = context.nodes.struct_node(id)?;
+    let place = BrandPlace {
+        reader: named,
+        index: STRUCT_BRAND,
+    };
+    let scopes = bindings_of(context, entries, inside, id, place, seen, depth)?;
+    let number = entries.number_of(node, BoundNode { id, scopes })?;
+    Ok(entry_type(number))
+}
+
+/// The type that a term says inside an entry of these scopes, through at most so many types in one another.
+///
+/// Refused with `FloatType` or `InterfaceType` where floats and interfaces are, `NodeNotFound` for an id that is no
+/// struct's or enum's, `TooManyTypes`, `UnknownKind`, and as the parts of the term that are read.
+#[cycle(types)]
+pub(crate) fn type_of<'a>(
+    context: Context<'_, 'a>,
+    entries: &mut Entries<'a>,
+    inside: &[BoundScope],
+    term: dynamic_struct::Reader<'a>,
+    seen: &mut Seen,
+    depth: u32,
+) -> Result<Type> {
+    if depth == 0 {
+        return Err(Error::from(ErrorKind::TooDeep));
+    }
+    let Some(member) = active_member(term) else {
+        return Err(Error::from(ErrorKind::UnknownKind));
+    };
+    if let Some(plain) = plain_type(member) {
+        return Ok(Type::from(plain));
+    }
+    match member {
+        10 | 11 => float_type(context.strict, member == 11, seen),
+        TYPE_LIST => {
+            let list = struct_at(term, TYPE_LIST)?;
+            let element = struct_at(list, LIST_ELEMENT)?;
+            let element_type = type_of(context, entries, inside, element, seen, depth - 1)?;
+            Ok(Type::list_of(element_type))
+        }
+        TYPE_ENUM => {
+            let named = struct_at(term, TYPE_ENUM)?;
+            let id = u64_at(named, NAMED_ID)?;
+            let number = entries.number_enum(context.nodes, id)?;
+            Ok(enum_type(number))
+        }
+        TYPE_STRUCT => struct_type(context, entries, inside, term, seen, depth - 1),
+        17 => interface_type(context.strict, seen),
+        _ => untyped_or_bound(inside, term),
+    }
+}
+
+/// The bindings of a node that is named with a brand inside an entry of these scopes.
+#[cycle(types)]
+pub(crate) fn bindings_of<'a>(
+    context: Context<'_, 'a>,
+    entries: &mut Entries<'a>,
+    inside: &[BoundScope],
+    id: u64,
+    place: BrandPlace<'a>,
+    seen: &mut Seen,
+    depth: u32,
+) -> Result<Vec<BoundScope>> {
+    let mut scopes = Vec::new(context.alloc);
+    let generic = context.nodes.generic_scopes(context.alloc, id)?;
+    if generic.is_empty() {
+        return Ok(scopes);
+    }
+    let brand = struct_at(place.reader, place.index)?;
+    let listed = list_at(brand, BRAND_SCOPES)?;
+    for scope in generic.as_slice() {
+        let types = scope_types(context, entries, inside, *scope, listed, seen, depth)?;
+        scopes.push(bound_scope(*scope, types))?;
+    }
+    Ok(scopes)
+}
+
+/// The first scope of an id in a brand.
+fn brand_scope<'a>(
+    listed: dynamic_list::Reader<'a>,
+    id: u64,
+) -> Result<Option<dynamic_struct::Reader<'a>>> {
+    for index in 0..listed.len() {
+        let scope = element_at(listed, index)?;
+        if u64_at(scope, SCOPE_ID)? == id {
+            return Ok(Some(scope));
+        }
+    }
+    Ok(None)
+}
+
+/// The types that a brand binds to a scope's parameters.
+#[cycle(types)]
+fn scope_types<'a>(
+    context: Context<'_, 'a>,
+    entries: &mut Entries<'a>,
+    inside: &[BoundScope],
+    scope: GenericScope,
+    listed: dynamic_list::Reader<'a>,
+    seen: &mut Seen,
+    depth: u32,
+) -> Result<Vec<Type>> {
+    let Some(said) = brand_scope(listed, scope.id)? else {
+        return Ok(Vec::new(context.alloc));
+    };
+    match active_member(said) {
+        Some(SCOPE_BIND) => {
+            let bindings = list_at(said, SCOPE_BIND)?;
+            bound_types(
+                context,
+                entries,
+                inside,
+                scope.parameters,
+                bindings,
+                seen,
+                depth,
+            )
+        }
+        Some(SCOPE_INHERIT) => match scope_of(inside, scope.id) {
+            Some(own) => Ok(own.types.clone()?),
+            None => Ok(Vec::new(context.alloc)),
+        },
+        _ => Err(Error::from(ErrorKind::UnknownKind)),
+    }
+}
+
+/// The types of the first bindings, as many as there are parameters. Untyped pointers at the end are left out.
+#[cycle(types)]
+fn bound_types<'a>(
+    context: Context<'_, 'a>,
+    entries: &mut Entries<'a>,
+    inside: &[BoundScope],
+    parameters: u32,
+    bindings: dynamic_list::Reader<'a>,
+    seen: &mut Seen,
+    depth: u32,
+) -> Result<Vec<Type>> {
+    let mut types = Vec::new(context.alloc);
+    for index in 0..bindings.len().min(parameters) {
+        let binding = element_at(bindings, index)?;
+        let bound = match active_member(binding) {
+            Some(BINDING_UNBOUND) => untyped(),
+            Some(BINDING_TYPE) => {
+                let term = struct_at(binding, BINDING_TYPE)?;
+                type_of(context, entries, inside, term, seen, depth)?
+            }
+            _ => return Err(Error::from(ErrorKind::UnknownKind)),
+        };
+        if !is_untyped(bound) {
+            fill(&mut types, index)?;
+            types.push(bound)?;
+        }
+    }
+    Ok(types)
+}
+
+/// Adds untyped pointers until there are so many types.
+fn fill(types: &mut Vec<Type>, count: u32) -> Result<()> {
+    for _ in types.len()..count as usize {
+        types.push(untyped())?;
+    }
+    Ok(())
+}

@@ -1,0 +1,136 @@
+//! Sets from requests of the public compiler: names, notes, refusals, and the texts of messages.
+use crate::messages::{
+    ADDRESS_BOOK, GENERIC, NOTES, PAIR, PAIR_TEXT, PEOPLE, PEOPLE_TEXT, USE, USE_TEXT,
+};
+use capnp_dynamic_readers::printer::print;
+use capnp_dynamic_readers::{dynamic_struct, dynamic_value};
+use capnp_request::{Converted, Note, StandIn, read_request};
+use capnp_schema::request;
+use capnp_schema::set::SchemaSet;
+use capnp_wire::error::{ErrorKind, Result};
+use capnp_wire::message::Reader;
+use std::alloc::Global;
+use std::test::Fail;
+
+/// What a request is converted to.
+fn converted(alloc: Global, bytes: &[u8], strict: bool) -> Result<Converted> {
+    let set = request::new_set(alloc)?;
+    let message = Reader::new(alloc, bytes)?;
+    let root = message.get_root().get_struct()?;
+    read_request(
+        alloc,
+        dynamic_struct::Reader::new(root, set.struct_schema(0)),
+        strict,
+    )
+}
+
+/// The names of all structs, each with a semicolon behind it.
+fn names_in(alloc: Global, made: &Converted) -> Result<String> {
+    let mut names = String::new(alloc);
+    for node in &made.nodes {
+        names.push_str(node.display_name.as_str())?;
+        names.push_str(";")?;
+    }
+    Ok(names)
+}
+
+/// The text of a message under the first struct of a name that is no group, of the set that a request is converted to;
+/// none where there is no such struct.
+fn text_of(
+    alloc: Global,
+    request_bytes: &[u8],
+    name: &str,
+    message_bytes: &[u8],
+) -> Result<String> {
+    let mut text = String::new(alloc);
+    let made = converted(alloc, request_bytes, false)?;
+    let set = SchemaSet::new(alloc, made.nodes, made.brands, made.enums)?;
+    let place = set.nodes().iter().position(|node| !node.body.is_group
+        && node.display_name.as_str() == name);
+    if let Some(place) = place {
+        let schema = set.struct_schema(u32::try_from(place).unwrap_or(0));
+        let message = Reader::new(alloc, message_bytes)?;
+        let root = message.get_root().get_struct()?;
+        let reader = dynamic_struct::Reader::new(root, schema);
+        print(dynamic_value::Reader::Struct(reader), &mut text, false)?;
+    }
+    Ok(text)
+}
+
+#[test]
+fn entries_are_named_in_order(rt: HostRuntime) -> std::result::Result<(), Fail> {
+    let alloc = rt.alloc();
+    let rows: [(&[u8], &str); 3] = [
+        (
+            ADDRESS_BOOK.as_slice(),
+            "Person;AddressBook;Person.PhoneNumber;Person.employment;",
+        ),
+        (
+            GENERIC.as_slice(),
+            "Map;Use;Map.Entry;Map.extra;Map(Text, Data);Map(Text, Use);Map(Text, Data).Entry;Map(List(UInt8), Map(Text, Use));Map(Text, Data).extra;Map(Text, Use).Entry;Map(Text, Use).extra;Map(List(UInt8), Map(Text, Use)).Entry;Map(List(UInt8), Map(Text, Use)).extra;Map(Data, Text);Map(Use, Text);Map(Map(Text, Use), List(UInt8));Map(Data, Text).Entry;Map(Data, Text).extra;Map(Use, Text).Entry;Map(Use, Text).extra;Map(Map(Text, Use), List(UInt8)).Entry;Map(Map(Text, Use), List(UInt8)).extra;",
+        ),
+        (NOTES.as_slice(), "Shape;Floats;Floats.g;"),
+    ];
+    for (bytes, names) in rows {
+        let made = converted(alloc, bytes, false)?;
+        let found = names_in(alloc, &made)?;
+        assert_eq!(rt; found.as_str(), names);
+    }
+    Ok(())
+}
+
+#[test]
+fn messages_have_the_texts_of_the_public_tool(rt: HostRuntime) -> std::result::Result<(), Fail> {
+    let alloc = rt.alloc();
+    let rows: [(&[u8], &str, &[u8], &str); 3] = [
+        (
+            ADDRESS_BOOK.as_slice(),
+            "AddressBook",
+            PEOPLE.as_slice(),
+            PEOPLE_TEXT,
+        ),
+        (
+            GENERIC.as_slice(),
+            "Map(Text, Data).Entry",
+            PAIR.as_slice(),
+            PAIR_TEXT,
+        ),
+        (GENERIC.as_slice(), "Use", USE.as_slice(), USE_TEXT),
+    ];
+    for (request_bytes, name, message_bytes, expected) in rows {
+        let text = text_of(alloc, request_bytes, name, message_bytes)?;
+        assert_eq!(rt; text.as_str(), expected);
+    }
+    Ok(())
+}
+
+#[test]
+fn floats_and_interfaces_are_noted(rt: HostRuntime) -> std::result::Result<(), Fail> {
+    let made = converted(rt.alloc(), NOTES.as_slice(), false)?;
+    let expected = [
+        (1, 0, StandIn::Float32),
+        (1, 1, StandIn::Float64),
+        (1, 2, StandIn::Interface),
+        (1, 3, StandIn::Float32),
+        (1, 4, StandIn::Interface),
+        (2, 0, StandIn::Float64),
+    ];
+    assert_eq!(rt; made.notes.len(), expected.len());
+    for (note, (entry, field, stand_in)) in made.notes.iter().zip(expected) {
+        let wanted = Note {
+            entry,
+            field,
+            stand_in,
+        };
+        assert!(rt; *note == wanted);
+    }
+    Ok(())
+}
+
+#[test]
+fn floats_are_refused_where_that_is_asked_for(rt: HostRuntime) {
+    match converted(rt.alloc(), NOTES.as_slice(), true) {
+        Ok(_) => assert!(rt; false),
+        Err(error) => assert!(rt; error.kind == ErrorKind::FloatType),
+    }
+}

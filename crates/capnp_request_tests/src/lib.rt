@@ -1,0 +1,7 @@
+//! Conversions of real requests by public calls: it has tests alone.
+#![tactic(auto)]
+
+#[cfg(test)]
+mod conversion_tests;
+#[cfg(test)]
+mod messages;

@@ -1,0 +1,99 @@
+-- What is written and told for the bytes of a stream.
+use Rattle.std.specs.Prelude.{ℕ, ◌≡◌, ◌≢◌, ◌⊎◌, ◌<◌, List, Bool, length, take, Option, Ok, Err}
+use Rattle.std.specs.Io.KnownBytes.{Appends}
+use Rattle.capnp_device.specs.declared.error.Error.{Error}
+use Rattle.capnp_device.specs.declared.error.ErrorKind.{ErrorKind}
+use Rattle.capnp_device.specs.declared.error.ErrorKind.TheVariants.{TooLarge}
+use Rattle.capnp_wire.specs.Stream.{message_tree_of}
+use Rattle.capnp_wire.specs.Tree.{StructTree}
+use Rattle.capnp_schema.specs.Accepted.{IsAccepted}
+use Rattle.capnp_schema.specs.Broken.{IsRefusalOf}
+use Rattle.capnp_schema.specs.Schema.{Schemas, seen_schemas}
+use Rattle.capnp_request.specs.Refusals.{IsRefusal}
+use Rattle.capnp_request.specs.Shapes.{AreBrandsOf}
+use Rattle.capnp_request.specs.declared.conversion.Converted.{Converted}
+use Rattle.capnp_set_writer.specs.Message.{IsReadAsSet}
+use Rattle.capnp_set_writer.specs.Writes.{IsWriteRefusal}
+use Rattle.capnp_sets.specs.Message.{root_struct}
+use Rattle.capnp_show_engine.specs.Command.{IsTold}
+use Rattle.capnp_show_engine.specs.Show.{IsRead}
+use Rattle.capnp_set_engine.specs.Notes.{note_lines}
+
+-- the root of the first message in these bytes is read as this struct
+abbrev pub IsRoot : List ℕ → StructTree → Type 0
+IsRoot bytes root = root_struct (message_tree_of bytes) ≡ Ok root
+
+-- the lists of a conversion, as definitions see them
+abbrev pub set_in : Converted → Schemas
+set_in c = seen_schemas c.nodes.items c.brands.items c.enums.items
+
+-- the lines of its notes
+abbrev pub lines_in : Converted → List ℕ
+lines_in c = note_lines (set_in c) c.notes.items
+
+-- a message and lines are those of a conversion: its lists are accepted, and the message is read as them
+pub record IsMessageOf (c : Converted) (message lines : List ℕ) : Type 0 where
+  pub accepted : IsAccepted (set_in c)
+  pub read : IsReadAsSet (set_in c) message
+  pub noted : lines ≡ lines_in c
+
+-- what a conversion is known of: the lists have one brand for each node
+abbrev pub IsConverted : Converted → Type 0
+IsConverted c = AreBrandsOf c.nodes.items c.brands.items
+
+-- a conversion is of the request in these bytes
+pub record IsConvertedFrom (bytes : List ℕ) (c : Converted) : Type 0 where
+  pub root : StructTree
+  pub request : IsRoot bytes root
+  pub converted : IsConverted c
+
+-- a message and lines are those of a conversion of the request in these bytes
+pub record IsSetOf (bytes message lines : List ℕ) : Type 0 where
+  pub conversion : Converted
+  pub request : IsConvertedFrom bytes conversion
+  pub made : IsMessageOf conversion message lines
+
+-- ---- refusals ----
+
+-- no request is read: of a stream that is refused, of a root that is no struct, or of a request that isn't converted
+abbrev pub IsUnread : (strict : Bool) → List ℕ → ErrorKind → Type 0
+IsUnread strict bytes kind = (root_struct (message_tree_of bytes) ≡ Err kind) ⊎ ((root : StructTree) × IsRoot bytes root × IsRefusal strict kind)
+
+-- no message is made of a conversion: its lists break a rule, or they are accepted and can't be written
+abbrev pub IsUnwritten : Converted → Error → Type 0
+IsUnwritten c e = IsRefusalOf (set_in c) e ⊎ (IsAccepted (set_in c) × (e.kind ≢ TooLarge → IsWriteRefusal e.kind))
+
+-- no message is made of the request in these bytes
+abbrev pub HasNoSet : (strict : Bool) → List ℕ → Error → Type 0
+HasNoSet strict bytes e =
+    IsUnread strict bytes e.kind ⊎ ((c : Converted) × IsConvertedFrom bytes c × IsUnwritten c e)
+
+-- ---- what a conversion did to its source and sinks, by what was left before and after, what was written, and the counts of
+-- failures ----
+
+-- some bytes were read to the end, the message of their set was written and nothing else, and the lines of its notes were told
+pub record IsWritten (left left' written written' told told' : Option (List ℕ)) (failures failures' : ℕ) : Type 0 where
+  pub bytes : List ℕ
+  pub read : IsRead bytes left left'
+  pub message : List ℕ
+  pub lines : List ℕ
+  pub set : IsSetOf bytes message lines
+  pub wrote : Appends written written' message
+  pub notes : IsTold lines told told' failures failures'
+
+-- some bytes were read to the end, of whose request no message is made
+pub record IsRefused (strict : Bool) (e : Error) (left left' : Option (List ℕ)) : Type 0 where
+  pub bytes : List ℕ
+  pub read : IsRead bytes left left'
+  pub none : HasNoSet strict bytes e
+
+-- some bytes were read to the end, and a beginning of the message of their set, not the whole, was written
+pub record IsCutShort (left left' written written' : Option (List ℕ)) : Type 0 where
+  pub bytes : List ℕ
+  pub read : IsRead bytes left left'
+  pub message : List ℕ
+  pub lines : List ℕ
+  pub set : IsSetOf bytes message lines
+  pub count : ℕ
+  pub proper : count < length message
+  pub wrote : Appends written written' (take count message)

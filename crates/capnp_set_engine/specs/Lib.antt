@@ -1,0 +1,3 @@
+pub mod Command
+pub mod Convert
+pub mod Notes

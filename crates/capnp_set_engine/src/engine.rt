@@ -1,0 +1,104 @@
+//! A compiler's request that is read is written as the message of its set.
+ghost use Rattle.std.specs.Prelude.{◌≡◌, ◌≢◌, IfErr, IfOk, OnErr, OnOk, string_bytes};
+ghost use Rattle.capnp_device.specs.Device.{HasFailed};
+ghost use Rattle.capnp_device.specs.declared.error.ErrorKind.TheVariants.{OutOfMemory, ReadFailed, WriteFailed};
+ghost use Rattle.capnp_show_engine.specs.Refusals.{IsOfRead};
+ghost use Rattle.capnp_show_engine.specs.Show.{IsOfMessage};
+ghost use Rattle.capnp_set_engine.specs.Convert.{HasNoSet, IsConvertedFrom, IsCutShort, IsMessageOf, IsRefused, IsSetOf, IsUnread, IsUnwritten, IsWritten};
+
+use crate::notes::get_lines;
+use capnp_dynamic_readers::dynamic_struct;
+use capnp_request::{Converted, read_request};
+use capnp_schema::request;
+use capnp_schema::set::SchemaSet;
+use capnp_set_writer::set_writer::write_set;
+use capnp_show_engine::command::tell;
+use capnp_wire::device::{Sink, Source};
+use capnp_wire::error::Result;
+use capnp_wire::message::Reader;
+use capnp_wire::transfer::{read_all, write_all};
+use std::alloc::Global;
+
+/// What is written and told of a request.
+#[derive(Drop)]
+struct Made {
+    message: Vec<u8>,
+    lines: String,
+}
+
+/// What the request in these bytes is converted to.
+fn read_conversion(alloc: Global, bytes: &[u8], strict: bool) -> Result<Converted>
+    ensures converted { IfOk result (IsConvertedFrom bytes.now) }
+    ensures refused { IfErr result (λ e. e.kind ≢ OutOfMemory → IsUnread strict bytes.now e.kind) }
+    ensures of_no_device { IfErr result (λ e. IsOfRead e.kind) }
+{
+    let set = request::new_set(alloc)?;
+    let reader = Reader::new(alloc, bytes)?;
+    let root = reader.get_root().get_struct()?;
+    let record = dynamic_struct::Reader::new(root, set.struct_schema(0));
+    read_request(alloc, record, strict)
+}
+
+/// The message of the checked set of a conversion, and the lines of its notes.
+fn make(alloc: Global, converted: Converted) -> Result<Made>
+    ensures made { IfOk result (λ m. IsMessageOf converted m.message.items (string_bytes m.lines)) }
+    ensures refused { IfErr result (λ e. e.kind ≢ OutOfMemory → IsUnwritten converted e) }
+    ensures of_no_device { IfErr result (λ e. IsOfRead e.kind) }
+{
+    let Converted {
+        nodes,
+        brands,
+        enums,
+        notes,
+    } = converted;
+    let set = SchemaSet::new(alloc, nodes, brands, enums)?;
+    let message = write_set(alloc, &set)?;
+    let lines = get_lines(alloc, &set, notes.as_slice())?;
+    Ok(Made { message, lines })
+}
+
+/// The message of the set of the request in these bytes, and the lines of its notes.
+fn make_of(alloc: Global, bytes: &[u8], strict: bool) -> Result<Made>
+    ensures made { IfOk result (λ m. IsSetOf bytes.now m.message.items (string_bytes m.lines)) }
+    ensures refused { IfErr result (λ e. e.kind ≢ OutOfMemory → HasNoSet strict bytes.now e) }
+    ensures of_no_device { IfErr result (λ e. IsOfRead e.kind) }
+{
+    let conversion = read_conversion(alloc, bytes, strict)?;
+    make(alloc, conversion)
+}
+
+/// Reads the source to its end and writes the message of the set that the first message's root stands for, a compiler's
+/// request, and then a line for each note on `errors`, as far as it takes them. What follows the request is not looked at
+/// (encoding, "Serialization Over a Stream"). The set is checked and its message is made whole before its first byte is
+/// written. Where `strict` says so, floats and interfaces are refused.
+///
+/// Refused with `ReadFailed` or `WriteFailed` where a call of the source or the sink failed, with `OutOfMemory`, as the
+/// request's stream is (`Truncated`, `TooManySegments`), as its root is where it can't be read as a struct (`BadPointer`,
+/// `WrongPointerKind`, `CapabilityPointer`), as `read_request`, as `SchemaSet::new` with a rule that the lists break, or as
+/// `write_set`. After `WriteFailed` a proper beginning of the message was written, after any other refusal nothing; after
+/// each of them nothing was told.
+pub fn convert<R: Source, W: Sink, F: Sink>(
+    alloc: Global,
+    source: &mut R,
+    sink: &mut W,
+    errors: &mut F,
+    strict: bool,
+) -> Result<()>
+    ensures written { OnOk result (IsWritten (R.left source.old) (R.left source.new) (W.written sink.old) (W.written sink.new)
+        (F.written errors.old) (F.written errors.new) (F.failures errors.old) (F.failures errors.new)) }
+    ensures refused { IfErr result (λ e. IsOfMessage e.kind → IsRefused strict e (R.left source.old) (R.left source.new)) }
+    ensures read_failed { IfErr result (λ e. e.kind ≡ ReadFailed →
+        HasFailed (R.failures source.old) (R.failures source.new)) }
+    ensures write_failed { IfErr result (λ e. e.kind ≡ WriteFailed →
+        HasFailed (W.failures sink.old) (W.failures sink.new)) }
+    ensures beginning { IfErr result (λ e. e.kind ≡ WriteFailed →
+        IsCutShort (R.left source.old) (R.left source.new) (W.written sink.old) (W.written sink.new)) }
+    ensures nothing { IfErr result (λ e. e.kind ≢ WriteFailed → sink.new ≡ sink.old) }
+    ensures quiet { OnErr result (errors.new ≡ errors.old) }
+{
+    let bytes = read_all(alloc, source)?;
+    let made = make_of(alloc, &bytes, strict)?;
+    write_all(sink, &made.message)?;
+    tell(made.lines.as_bytes(), errors);
+    Ok(())
+}

@@ -1,0 +1,139 @@
+#!/bin/sh
+# From schemas to printed lines: runs ./capnp_set on the compiler's requests for the schemas of examples/sets, and
+# ./capnp_show on messages under the sets, and compares each line with that of `capnp decode --short`. It needs the tool
+# `capnp` and its schemas (Debian: capnproto and libcapnp-dev); without them only what stands in this folder is run.
+
+cd -- "$(dirname -- "$0")/.." || exit 1
+scratch=$(mktemp -d) || exit 1
+trap 'rm -rf -- "$scratch"' EXIT
+checks=0
+failures=0
+
+fail() {
+    echo "$1" >&2
+    failures=$((failures + 1))
+}
+
+# expect CASE STATUS WANTED_STATUS OUTPUT ERRORS: what a run wrote stands in the scratch folder
+expect() {
+    checks=$((checks + 1))
+    [ "$2" -eq "$3" ] || fail "$1: exit status $2, not $3"
+    [ "$(cat "$scratch/out")" = "$4" ] || fail "$1: printed $(cat "$scratch/out"), not $4"
+    [ "$(cat "$scratch/err")" = "$5" ] || fail "$1: standard error has $(cat "$scratch/err"), not $5"
+    : > "$scratch/out"
+}
+
+# show SET NAME LINE: the message in the scratch folder is printed as LINE
+show() {
+    ./capnp_show --set "$scratch/$1.set" "$2" < "$scratch/message" > "$scratch/out" 2> "$scratch/err"
+    expect "$1 $2" $? 0 "$3" ''
+}
+
+# converted FILE NOTES: the request for a schema of examples/sets is converted with these notes
+converted() {
+    (cd examples/sets && capnp compile -o- "$1.capnp") > "$scratch/request"
+    ./capnp_set < "$scratch/request" > "$scratch/$1.set" 2> "$scratch/err"
+    : > "$scratch/out"
+    expect "the set of $1" $? 0 '' "$2"
+}
+
+# row FILE NAME TEXT [LINE]: a message that `capnp encode` makes of TEXT is printed as LINE; without one, as by
+# `capnp decode --short` but for members without a value
+row() {
+    printf '%s\n' "$3" | capnp encode "examples/sets/$1.capnp" "$2" > "$scratch/message"
+    line=$4
+    [ -n "$line" ] || line=$(capnp decode --short "examples/sets/$1.capnp" "$2" < "$scratch/message" | sed 's/ = void/ = ()/g')
+    show "$1" "$(printf '%s' "$2" | sed 's/,/, /g')" "$line"
+}
+
+# refused FILE WORDS NUMBER: the request for a schema of examples/sets is refused
+refused() {
+    (cd examples/sets && capnp compile -o- "$1.capnp") > "$scratch/request"
+    # shellcheck disable=SC2086 # no option is no word
+    ./capnp_set $2 < "$scratch/request" > "$scratch/out" 2> "$scratch/err"
+    expect "$1 $2" $? 1 '' "refused: $3"
+}
+
+# ---- what stands in this folder ----
+
+./capnp_set < examples/addressbook.request > "$scratch/addressbook.set" || exit 1
+cp examples/addressbook.bin "$scratch/message"
+show addressbook AddressBook '(people = [(id = 123, name = "Alice", email = "alice@example.com", phones = [(number = "555-1212", type = mobile)], employment = (school = "MIT")), (id = 456, name = "Bob", email = "bob@example.com", phones = [(number = "555-4567", type = home), (number = "555-7654", type = work)], employment = (unemployed = ()))])'
+
+./capnp_set < /dev/null > "$scratch/out" 2> "$scratch/err"
+expect 'no bytes' $? 1 '' 'refused: 2'
+head -c 100 examples/addressbook.request | ./capnp_set > "$scratch/out" 2> "$scratch/err"
+expect 'a request cut short' $? 1 '' 'refused: 2'
+./capnp_set < . > "$scratch/out" 2> "$scratch/err"
+expect 'a directory as input' $? 1 '' 'refused: 12'
+./capnp_set < examples/addressbook.request > /dev/full 2> "$scratch/err"
+expect 'a full output' $? 1 '' 'refused: 13'
+for words in --help strict '--strict --strict' x; do
+    # shellcheck disable=SC2086 # some are several words
+    ./capnp_set $words < examples/addressbook.request > "$scratch/out" 2> "$scratch/err"
+    expect "words '$words'" $? 2 '' 'usage: capnp_set [--strict]'
+done
+
+# ---- what the tool makes ----
+
+command -v capnp > "$scratch/which" || {
+    [ "$failures" -eq 0 ] || exit 1
+    echo "$checks cases: all as expected; without the tool capnp no schema was compiled"
+    exit 0
+}
+
+converted addressbook ''
+row addressbook AddressBook '()'
+row addressbook AddressBook '(people = [(id = 1, name = "A", employment = (unemployed = void)), (employment = (employer = "B"))])'
+row addressbook Person '(id = 1, name = "\"q\"\n", employment = (employer = ""))'
+row addressbook Person.PhoneNumber '(number = "0")'
+
+converted telemetry ''
+row telemetry Reading '(serial = 5, place = (depth = -3, at = (hour = 23, unit = metre)), state = (measured = (value = -40, kind = (scaled = [1, -2, 3]))), tags = ["a", ""])'
+row telemetry Reading '(state = (measured = (kind = (raw = 65535))))'
+row telemetry Reading '(state = (failed = "cold"))'
+row telemetry Reading '()'
+row telemetry Series '(readings = [(serial = 1), (state = (measured = (value = 7)))], last = (serial = 2, state = (idle = void)))'
+
+converted defaults ''
+row defaults Defaults '()'
+row defaults Defaults '(flag = false, tiny = 0, small = 1, plain = 2, large = 3, utiny = 4, usmall = 5, uplain = 6, ularge = 7, colour = red, text = "", point = (y = 2), flags = [true], numbers = [-32768], words = ["w", ""], points = [(), (x = 1)], rows = [[1], [], [2, 3]], colours = [green, red])'
+row defaults Defaults '(bytes = 0x"00 ff")' '(flag = true, tiny = -128, small = -32768, plain = 2147483647, large = -9223372036854775808, utiny = 255, usmall = 65535, uplain = 4294967295, ularge = 18446744073709551615, colour = blue, bytes = 0x"00ff", nothing = ())'
+row defaults Point '(x = -2147483648)'
+
+converted generics ''
+row generics Shelf '(texts = (item = "a", next = (item = "b")), nested = (item = (item = "c")), half = (left = (item = "h")))'
+row generics Shelf '()'
+row generics Shelf '(pairs = [(first = "x", swapped = (second = "x"))])'
+row generics 'Box(Text)' '(item = "alone")'
+row generics 'Box(Box(Text))' '(item = (item = "in"), next = (item = ()))'
+row generics 'Pair(Text,Data)' '(first = "f", none = void)'
+
+converted imported ''
+row imported Visit '(who = (id = 7, name = "Carol", employment = (selfEmployed = void)), seen = [(serial = 3, state = (idle = void))], unit = none)'
+row imported Visit '()'
+
+converted standins 'Mixed.single: Float32 stands as UInt32
+Mixed.double: Float64 stands as UInt64
+Mixed.clock: an interface stands as AnyPointer
+Mixed.halves: Float32 stands as UInt32
+Mixed.anything: the default of an untyped field is left out'
+row standins Mixed '(single = 1, double = -1.5, halves = [0.5, 2], name = "n")' \
+    '(single = 1065353216, double = 13832806255468478464, halves = [1056964608, 1073741824], name = "n")'
+row standins Mixed '()' '(single = 1069547520, double = 13821547256400052224)'
+refused standins --strict 60
+refused endless '' 66
+
+# the compiler's own schema: 35 entries, under which a request is shown
+schema=$(echo /usr/include/capnp/schema.capnp)
+[ ! -f "$schema" ] || {
+    capnp compile -o- "$schema" > "$scratch/request"
+    ./capnp_set < "$scratch/request" > "$scratch/schema.set" 2> "$scratch/err"
+    expect 'the set of schema.capnp' $? 0 '' 'Value.float32: Float32 stands as UInt32
+Value.float64: Float64 stands as UInt64'
+    cp examples/addressbook.request "$scratch/message"
+    show schema CodeGeneratorRequest "$(capnp decode --short "$schema" CodeGeneratorRequest < "$scratch/message" | sed 's/ = void/ = ()/g')"
+}
+
+[ "$failures" -eq 0 ] || exit 1
+echo "$checks cases: all as expected"
