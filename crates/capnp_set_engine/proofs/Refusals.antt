@@ -7,10 +7,7 @@ use Rattle.capnp_wire.specs.Reading.{as_struct}
 use Rattle.capnp_wire.specs.Tree as tree
 use Rattle.capnp_wire.specs.Tree.{Tree}
 use Rattle.capnp_wire.specs.declared.fault.Fault.TheVariants as fault
-use Rattle.capnp_schema.specs.Broken.{IsKindOf}
-use Rattle.capnp_schema.specs.Schema.{Schemas}
 use Rattle.capnp_request.specs.Refusals.{IsRefusal, is_plain}
-use Rattle.capnp_set_writer.specs.Writes.{IsWriteRefusal}
 use Rattle.capnp_show_engine.specs.Refusals.{IsOfRead}
 
 -- a test of kinds that no device's passes
@@ -19,24 +16,6 @@ tested test read write k h = (
   (λ e. true≢false (sym h ∙ (ap test e ∙ read))),
   (λ e. true≢false (sym h ∙ (ap test e ∙ write))),
 )
-
--- a rule that is broken, or no memory
-pub rule_or_memory : (set : Schemas) (k : ErrorKind) → IsKindOf set k → IsOfRead k
-rule_or_memory set kind.OutOfMemory h = ((λ e. cc), (λ e. cc))
-rule_or_memory set (kind.Schema rule table entry field) h = ((λ e. cc), (λ e. cc))
-rule_or_memory set k h = absurd h
-
--- what writes a set refuses it so
-pub of_writer : (k : ErrorKind) → (k ≢ kind.TooLarge → IsWriteRefusal k) → IsOfRead k
-of_writer k h = (
-  (λ e. unknown_is_none kind.ReadFailed (λ x. cc) (λ x. cc) (λ x. cc) (λ x. cc) k e h),
-  (λ e. unknown_is_none kind.WriteFailed (λ x. cc) (λ x. cc) (λ x. cc) (λ x. cc) k e h),
-)
-  where
-    unknown_is_none : (d : ErrorKind) → d ≢ kind.TooLarge → d ≢ kind.OutOfMemory → d ≢ kind.SizePastFormat → d ≢ kind.UnknownKind →
-        (k : ErrorKind) → k ≡ d → (k ≢ kind.TooLarge → IsWriteRefusal k) → ⊥
-    unknown_is_none d large memory size unknown k e h =
-        unknown (sym e ∙ h (λ x. large (sym e ∙ x)) (λ x. memory (sym e ∙ x)) (λ x. size (sym e ∙ x)))
 
 -- a request that isn't converted is refused so
 pub of_request : (strict : Bool) (k : ErrorKind) → IsRefusal strict k → IsOfRead k
