@@ -1,2 +1,4 @@
-pub mod Named
+pub mod PartsSeen
 pub mod Rows
+pub mod Sounds
+pub mod Taken

@@ -1,12 +1,19 @@
 //! Fields, as a request says them.
+ghost use Rattle.std.specs.Prelude.{◌≡◌, length, Some, IfErr, IfOk};
+ghost use Rattle.capnp_records.specs.Part.{which_of};
+ghost use Rattle.capnp_dynamic_readers.specs.Seen.{record_seen};
+ghost use Rattle.capnp_request.specs.Handles.{IsRecord};
+ghost use Rattle.capnp_request.specs.Nodes.{AreNodes};
+ghost use Rattle.capnp_request.specs.Refusals.{IsRefusal};
+
 use crate::annotations::annotations_of;
 use crate::context::Context;
 use crate::entries::{BoundScope, Entries, GroupPlace, entry_type};
 use crate::notes::Seen;
-use crate::parts::{active_member, name_at, struct_at, u16_at, u32_at, u64_at};
+use crate::parts::{active_member, owned, struct_at, text_at, u16_at, u32_at, u64_at};
 use crate::places::{
     FIELD_ANNOTATIONS, FIELD_DISCRIMINANT, FIELD_GROUP, FIELD_NAME, FIELD_SLOT, GROUP_ID,
-    SLOT_DEFAULT, SLOT_OFFSET, SLOT_TYPE,
+    SLOT_DEFAULT, SLOT_OFFSET, SLOT_TYPE, brands,
 };
 use crate::scopes::is_untyped;
 use crate::types::{TYPE_LEVELS, type_of};
@@ -32,12 +39,17 @@ fn slot_of<'a>(
     inside: &[BoundScope],
     field: dynamic_struct::Reader<'a>,
     seen: &mut Seen,
-) -> Result<(FieldKind, Type)> {
-    let slot = struct_at(field, FIELD_SLOT)?;
-    let offset = u32_at(slot, SLOT_OFFSET)?;
-    let term = struct_at(slot, SLOT_TYPE)?;
+) -> Result<(FieldKind, Type)>
+    requires nodes { AreNodes context.nodes.now }
+    requires record { IsRecord 8 field }
+    requires active { which_of (record_seen field) ≡ Some 3 }
+    ensures kinds { IfErr result (λ e. IsRefusal context.entry.strict e.kind) }
+{
+    let slot = struct_at(field, brands::FIELD, FIELD_SLOT, brands::SLOT)?;
+    let offset = u32_at(slot, brands::SLOT, SLOT_OFFSET)?;
+    let term = struct_at(slot, brands::SLOT, SLOT_TYPE, brands::TYPE)?;
     let field_type = type_of(context, entries, inside, term, seen, TYPE_LEVELS)?;
-    let value = struct_at(slot, SLOT_DEFAULT)?;
+    let value = struct_at(slot, brands::SLOT, SLOT_DEFAULT, brands::VALUE)?;
     let default = value_of(context.alloc, value)?;
     seen.untyped_default = is_untyped(field_type) && is_untyped_value(value)?;
     Ok((FieldKind::Slot { offset, default }, field_type))
@@ -50,9 +62,14 @@ fn group_of<'a>(
     inside: &[BoundScope],
     field: dynamic_struct::Reader<'a>,
     place: GroupPlace,
-) -> Result<(FieldKind, Type)> {
-    let group = struct_at(field, FIELD_GROUP)?;
-    let id = u64_at(group, GROUP_ID)?;
+) -> Result<(FieldKind, Type)>
+    requires nodes { AreNodes context.nodes.now }
+    requires record { IsRecord 8 field }
+    requires active { which_of (record_seen field) ≡ Some 4 }
+    ensures kinds { IfErr result (λ e. IsRefusal context.entry.strict e.kind) }
+{
+    let group = struct_at(field, brands::FIELD, FIELD_GROUP, brands::GROUP)?;
+    let id = u64_at(group, brands::GROUP, GROUP_ID)?;
     let scopes = inside.to_vec(context.alloc)?;
     let number = entries.number_group(context.nodes, id, scopes, place)?;
     Ok((FieldKind::Group { node: number }, entry_type(number)))
@@ -65,9 +82,14 @@ pub(crate) fn field_of<'a>(
     inside: &[BoundScope],
     field: dynamic_struct::Reader<'a>,
     place: GroupPlace,
-) -> Result<ConvertedField> {
-    let name = name_at(context.alloc, field, FIELD_NAME)?;
-    let discriminant_value = u16_at(field, FIELD_DISCRIMINANT)?;
+) -> Result<ConvertedField>
+    requires nodes { AreNodes context.nodes.now }
+    requires is_record { IsRecord 8 field }
+    ensures typed { IfOk result (λ f. length f.annotation_types.items ≡ length f.record.annotations.items) }
+    ensures kinds { IfErr result (λ e. IsRefusal context.entry.strict e.kind) }
+{
+    let name = owned(context.alloc, text_at(field, brands::FIELD, FIELD_NAME)?)?;
+    let discriminant_value = u16_at(field, brands::FIELD, FIELD_DISCRIMINANT)?;
     let mut seen = Seen::nothing();
     let (kind, field_type) = match active_member(field) {
         Some(FIELD_SLOT) => slot_of(context, entries, inside, field, &mut seen)?,
@@ -79,6 +101,7 @@ pub(crate) fn field_of<'a>(
         entries,
         inside,
         field,
+        brands::FIELD,
         FIELD_ANNOTATIONS,
     )?;
     Ok(ConvertedField {

@@ -1,4 +1,10 @@
 //! What is bound to the type parameters of scopes.
+ghost use Rattle.std.specs.Prelude.{◌≡◌, IfErr, true, false};
+ghost use Rattle.capnp_schema.specs.Types.{AnyPointerType, seen_type};
+ghost use Rattle.capnp_request.specs.Conversion.{is_untyped};
+ghost use Rattle.capnp_request.specs.Nodes.{AreNodes};
+ghost use Rattle.capnp_request.specs.Refusals.{IsPlain};
+
 use crate::entries::BoundScope;
 use crate::schema_nodes::{GenericScope, SchemaNodes};
 use capnp_base::introspect::{Type, TypeVariant};
@@ -6,7 +12,9 @@ use capnp_wire::error::Result;
 use std::alloc::Global;
 
 /// Whether a type is an untyped pointer.
-pub(crate) fn is_untyped(t: Type) -> bool {
+pub(crate) fn is_untyped(t: Type) -> bool
+    ensures { result ≡ is_untyped (seen_type t) }
+{
     match t.which() {
         TypeVariant::AnyPointer => true,
         _ => false,
@@ -14,12 +22,17 @@ pub(crate) fn is_untyped(t: Type) -> bool {
 }
 
 /// An untyped pointer's type.
-pub(crate) fn untyped() -> Type {
+pub(crate) fn untyped() -> Type
+    ensures { seen_type result ≡ AnyPointerType }
+{
     Type::from(TypeVariant::AnyPointer)
 }
 
 /// The scopes of a node with nothing bound.
-pub(crate) fn unbound(alloc: Global, nodes: &SchemaNodes<'_>, id: u64) -> Result<Vec<BoundScope>> {
+pub(crate) fn unbound(alloc: Global, nodes: &SchemaNodes<'_>, id: u64) -> Result<Vec<BoundScope>>
+    requires { AreNodes nodes.now }
+    ensures kinds { IfErr result (λ e. IsPlain e.kind) }
+{
     let generic = nodes.generic_scopes(alloc, id)?;
     let mut scopes = Vec::new(alloc);
     for scope in generic.as_slice() {

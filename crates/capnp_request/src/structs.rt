@@ -1,18 +1,23 @@
 //! Structs, as a request says them.
+ghost use Rattle.std.specs.Prelude.{◌≡◌, length, IfErr, IfOk};
+ghost use Rattle.capnp_request.specs.Handles.{IsRecord};
+ghost use Rattle.capnp_request.specs.Nodes.{AreNodes};
+ghost use Rattle.capnp_request.specs.Refusals.{IsPlain, IsRefusal};
+ghost use Rattle.capnp_request.specs.Shapes.{IsBrandOf};
+
 use crate::annotations::annotations_of;
 use crate::context::Context;
 use crate::entries::{BoundScope, Entries, GroupPlace};
 use crate::fields::field_of;
 use crate::notes::{Note, Seen, StandIn};
-use crate::parts::{bool_at, list_at, u16_at, u32_at};
+use crate::parts::{bool_at, element_at, list_at, u16_at, u32_at};
 use crate::places::{
     NODE_ANNOTATIONS, STRUCT_DATA_WORDS, STRUCT_DISCRIMINANT_OFFSET, STRUCT_DISCRIMINANTS,
-    STRUCT_FIELDS, STRUCT_IS_GROUP, STRUCT_POINTERS,
+    STRUCT_FIELDS, STRUCT_IS_GROUP, STRUCT_POINTERS, brands,
 };
 use crate::schema_nodes::struct_part;
 use capnp_base::introspect::Type;
 use capnp_dynamic_readers::dynamic_struct;
-use capnp_dynamic_readers::parts::struct_at as element_at;
 use capnp_schema::record::{AnnotationTypes, BrandRecord, FieldRecord, NodeRecord, StructRecord};
 use capnp_wire::error::Result;
 
@@ -25,7 +30,9 @@ struct ConvertedFields {
 }
 
 /// Adds what is noted of a field.
-fn add_notes(notes: &mut Vec<Note>, entry: u32, field: u32, seen: Seen) -> Result<()> {
+fn add_notes(notes: &mut Vec<Note>, entry: u32, field: u32, seen: Seen) -> Result<()>
+    ensures kinds { IfErr result (λ e. IsPlain e.kind) }
+{
     let kinds = [
         (seen.float32, StandIn::Float32),
         (seen.float64, StandIn::Float64),
@@ -52,15 +59,21 @@ fn fields_of<'a>(
     number: u32,
     part: dynamic_struct::Reader<'a>,
     notes: &mut Vec<Note>,
-) -> Result<ConvertedFields> {
-    let listed = list_at(part, STRUCT_FIELDS)?;
+) -> Result<ConvertedFields>
+    requires nodes { AreNodes context.nodes.now }
+    requires is_record { IsRecord 3 part }
+    ensures typed { IfOk result (λ fields. length fields.types.items ≡ length fields.records.items) }
+    ensures children { IfOk result (λ fields. length fields.annotation_types.items ≡ length fields.records.items) }
+    ensures kinds { IfErr result (λ e. IsRefusal context.entry.strict e.kind) }
+{
+    let listed = list_at(part, brands::STRUCT, STRUCT_FIELDS)?;
     let mut fields = ConvertedFields {
         records: Vec::new(context.alloc),
         types: Vec::new(context.alloc),
         annotation_types: Vec::new(context.alloc),
     };
     for index in 0..listed.len() {
-        let field = element_at(listed, index)?;
+        let field = element_at(listed, index, brands::FIELD)?;
         let place = GroupPlace {
             parent: number,
             field: index as usize,
@@ -90,7 +103,13 @@ pub(crate) fn struct_of<'a>(
     place: NodePlace<'a>,
     display_name: String,
     notes: &mut Vec<Note>,
-) -> Result<(NodeRecord, BrandRecord)> {
+) -> Result<(NodeRecord, BrandRecord)>
+    requires nodes { AreNodes context.nodes.now }
+    requires is_record { IsRecord 2 place.node }
+    ensures brand { IfOk result (λ r. IsBrandOf place.entry.number r.0 r.1) }
+    ensures id { IfOk result (λ r. r.0.id ≡ place.entry.id) }
+    ensures kinds { IfErr result (λ e. IsRefusal context.entry.strict e.kind) }
+{
     let part = struct_part(place.node)?;
     let fields = fields_of(context, entries, inside, place.number, part, notes)?;
     let (annotations, own) = annotations_of(
@@ -98,14 +117,15 @@ pub(crate) fn struct_of<'a>(
         entries,
         inside,
         place.node,
+        brands::NODE,
         NODE_ANNOTATIONS,
     )?;
     let body = StructRecord {
-        data_word_count: u16_at(part, STRUCT_DATA_WORDS)?,
-        pointer_count: u16_at(part, STRUCT_POINTERS)?,
-        is_group: bool_at(part, STRUCT_IS_GROUP)?,
-        discriminant_count: u16_at(part, STRUCT_DISCRIMINANTS)?,
-        discriminant_offset: u32_at(part, STRUCT_DISCRIMINANT_OFFSET)?,
+        data_word_count: u16_at(part, brands::STRUCT, STRUCT_DATA_WORDS)?,
+        pointer_count: u16_at(part, brands::STRUCT, STRUCT_POINTERS)?,
+        is_group: bool_at(part, brands::STRUCT, STRUCT_IS_GROUP)?,
+        discriminant_count: u16_at(part, brands::STRUCT, STRUCT_DISCRIMINANTS)?,
+        discriminant_offset: u32_at(part, brands::STRUCT, STRUCT_DISCRIMINANT_OFFSET)?,
         fields: fields.records,
     };
     let record = NodeRecord {
