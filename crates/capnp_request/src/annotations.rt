@@ -66,7 +66,7 @@ pub(crate) fn annotations_of<'a>(
     ensures typed { IfOk result (λ r. length r.1.items ≡ length r.0.items) }
     ensures kinds { IfErr result (λ e. IsRefusal context.entry.strict e.kind) }
 {
-    let listed = list_at(reader, brand, index)?;
+    let listed = list_at(reader, brand, index, brands::ANNOTATION)?;
     let mut records = Vec::new(context.alloc);
     let mut types = Vec::new(context.alloc);
     for at in 0..listed.len() {

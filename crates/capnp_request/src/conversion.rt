@@ -37,7 +37,9 @@ struct Progress {
 }
 
 impl Progress {
-    fn new(alloc: Global) -> Progress {
+    fn new(alloc: Global) -> Progress
+        ensures { AreBrandsOf result.made.nodes.items result.made.brands.items }
+    {
         Progress {
             made: Converted {
                 nodes: Vec::new(alloc),
@@ -56,7 +58,10 @@ impl Progress {
         ensures same { self.new.made ≡ self.old.made }
         ensures kinds { IfErr result (λ e. IsPlain e.kind) }
     {
-        for named in entries.enums.iter().skip(self.enum_names.len()) {
+        for number in self.enum_names.len()..entries.enums.len() {
+            let Some(named) = entries.enums.get(number) else {
+                break;
+            };
             let display = display_name(context.nodes.node_of(named.node))?;
             let name = enum_name(context.alloc, display)?;
             self.enum_names.push(name)?;
@@ -90,7 +95,7 @@ impl Progress {
         entries: &mut Entries<'a>,
     ) -> Result<bool>
         requires nodes { AreNodes context.nodes.now }
-        requires brands { AreBrandsOf self.made.nodes.items self.made.brands.items }
+        requires brands { AreBrandsOf self.now.made.nodes.items self.now.made.brands.items }
         ensures brands { OnOk result (AreBrandsOf self.new.made.nodes.items self.new.made.brands.items) }
         ensures kinds { IfErr result (λ e. IsRefusal context.entry.strict e.kind) }
     {
@@ -127,7 +132,7 @@ impl Progress {
         entries: &mut Entries<'a>,
     ) -> Result<bool>
         requires nodes { AreNodes context.nodes.now }
-        requires brands { AreBrandsOf self.made.nodes.items self.made.brands.items }
+        requires brands { AreBrandsOf self.now.made.nodes.items self.now.made.brands.items }
         ensures brands { OnOk result (AreBrandsOf self.new.made.nodes.items self.new.made.brands.items) }
         ensures kinds { IfErr result (λ e. IsRefusal context.entry.strict e.kind) }
     {
@@ -149,7 +154,7 @@ impl Progress {
         entries: &mut Entries<'a>,
     ) -> Result<bool>
         requires nodes { AreNodes context.nodes.now }
-        requires brands { AreBrandsOf self.made.nodes.items self.made.brands.items }
+        requires brands { AreBrandsOf self.now.made.nodes.items self.now.made.brands.items }
         ensures brands { OnOk result (AreBrandsOf self.new.made.nodes.items self.new.made.brands.items) }
         ensures kinds { IfErr result (λ e. IsRefusal context.entry.strict e.kind) }
     {

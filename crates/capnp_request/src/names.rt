@@ -39,10 +39,13 @@ pub(crate) struct Named<'m> {
 fn behind_colon(name: &[u8]) -> usize
     ensures { result ≤ length name.now }
 {
-    match name.iter().rposition(|byte| *byte == b':') {
-        Some(colon) => colon + 1,
-        None => 0,
+    let mut start = 0;
+    for index in 0..name.len() {
+        if name[index] == b':' {
+            start = index + 1;
+        }
     }
+    start
 }
 
 /// Refused with `TooManyTypes` where a name has more than 1,024 bytes.
@@ -163,6 +166,17 @@ fn append_bindings(name: &mut Vec<u8>, named: Named<'_>, scope: &BoundScope) -> 
     append(name, b")")
 }
 
+/// How many dots a name has.
+fn dots_in(name: &[u8]) -> usize {
+    let mut dots = 0usize;
+    for byte in name {
+        if *byte == b'.' {
+            dots = dots.saturating_add(1);
+        }
+    }
+    dots
+}
+
 /// The part of a dotted name that a scope is paired with, by the number of dots in the name: the last for the node itself,
 /// and the first for a scope that has no part of its own.
 fn part_of_scope(dots: usize, distance: u32) -> usize {
@@ -196,7 +210,7 @@ fn append_dotted(
 ) -> Result<()>
     ensures kinds { IfErr result (λ e. IsPlain e.kind) }
 {
-    let dots = dotted.iter().filter(|byte| **byte == b'.').count();
+    let dots = dots_in(dotted);
     let mut part = 0usize;
     for byte in dotted {
         if *byte == b'.' {

@@ -5,9 +5,8 @@ ghost use Rattle.capnp_wire.specs.Standing.{list_of, tree_of};
 ghost use Rattle.capnp_base.specs.AnyPointer.{pointer_of};
 ghost use Rattle.capnp_schema.specs.RequestSet.{request_set};
 ghost use Rattle.capnp_schema.specs.Schema.{field_at};
-ghost use Rattle.capnp_schema.specs.Types.{AnyPointerType, BoolType, DataType, IntType, ListType, TextType, UIntType};
+ghost use Rattle.capnp_schema.specs.Types.{AnyPointerType, BoolType, DataType, IntType, TextType, UIntType};
 ghost use Rattle.capnp_records.specs.Part.{which_of};
-ghost use Rattle.capnp_records.specs.Reading.{element_type};
 ghost use Rattle.capnp_records.specs.Record as value;
 ghost use Rattle.capnp_dynamic_readers.specs.Handles.{list_reader_of};
 ghost use Rattle.capnp_dynamic_readers.specs.Kinds.{Int16Kind, Int32Kind, Int64Kind, Int8Kind, kind_of};
@@ -17,7 +16,7 @@ ghost use Rattle.capnp_dynamic_readers.specs.Typed.{IsOf};
 ghost use Rattle.capnp_dynamic_readers.specs.declared.dynamic_value.Reader.TheVariants as dynamic;
 ghost use Rattle.capnp_request.specs.Conversion.{name_of};
 ghost use Rattle.capnp_request.specs.Handles.{IsActive, IsField, IsListOf, IsRecord};
-ghost use Rattle.capnp_request.specs.Parts.{one, read_at};
+ghost use Rattle.capnp_request.specs.Parts.{many, one, read_at};
 ghost use Rattle.capnp_request.specs.Refusals.{IsPlain};
 
 use capnp_base::{any_pointer, text};
@@ -361,20 +360,22 @@ pub(crate) fn struct_at<'a>(
     }
 }
 
-/// The list of a field.
+/// The list of structs of a brand that a field has.
 pub(crate) fn list_at<'a>(
     reader: dynamic_struct::Reader<'a>,
     brand: u32,
     index: u16,
+    inner: u32,
 ) -> Result<dynamic_list::Reader<'a>>
     requires record { IsRecord brand reader }
-    requires field { IsField brand index (ListType (element_type (field_at request_set brand index).type)) }
+    requires field { IsField brand index (many inner) }
     requires active { IsActive brand index reader }
     ensures read { IfOk result (λ l. list_seen l ≡ read_at brand index (record_seen reader.entry)) }
-    ensures elements { IfOk result (IsListOf (element_type (field_at request_set brand index).type)) }
+    ensures elements { IfOk result (IsListOf (one inner)) }
     ensures refused { IfErr result (λ e. value.Fault e.kind ≡ read_at brand index (record_seen reader.entry)) }
     ensures kinds { IfErr result (λ e. IsPlain e.kind) }
 {
+    let _inner = inner;
     match part(reader, brand, index) {
         Ok(value) => Ok(value.downcast::<dynamic_list::Reader<'a>>()),
         Err(error) => Err(error),

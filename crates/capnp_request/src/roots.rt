@@ -54,7 +54,7 @@ pub(crate) fn number_roots<'a>(
 {
     let mut queue = Vec::new(context.alloc);
     let mut met = HashSet::new(context.alloc);
-    let files = list_at(request, brands::REQUEST, REQUEST_FILES)?;
+    let files = list_at(request, brands::REQUEST, REQUEST_FILES, brands::FILE)?;
     put_ids(context.nodes, &mut queue, &mut met, files, brands::FILE)?;
     for position in 0..context.nodes.count() {
         let Some(id) = queue.get(position).copied() else {
@@ -63,7 +63,7 @@ pub(crate) fn number_roots<'a>(
         let Some(node) = context.nodes.get(id) else {
             continue;
         };
-        let nested = list_at(node, brands::NODE, NODE_NESTED_NODES)?;
+        let nested = list_at(node, brands::NODE, NODE_NESTED_NODES, brands::NESTED)?;
         put_ids(context.nodes, &mut queue, &mut met, nested, brands::NESTED)?;
         if is_plain_struct(node)? {
             let scopes = unbound(context.alloc, context.nodes, id)?;

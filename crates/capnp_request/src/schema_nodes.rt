@@ -56,7 +56,7 @@ impl<'a> SchemaNodes<'a> {
         ensures nodes { IfOk result AreNodes }
         ensures kinds { IfErr result (λ e. IsPlain e.kind) }
     {
-        let listed = list_at(request, brands::REQUEST, REQUEST_NODES)?;
+        let listed = list_at(request, brands::REQUEST, REQUEST_NODES, brands::NODE)?;
         let mut by_id = HashMap::new(alloc);
         for index in 0..listed.len() {
             let reader = element_at(listed, index, brands::NODE)?;
@@ -161,7 +161,7 @@ impl<'a> SchemaNodes<'a> {
             if !met.insert(id)? {
                 break;
             }
-            let parameters = list_at(node, brands::NODE, NODE_PARAMETERS)?.len();
+            let parameters = list_at(node, brands::NODE, NODE_PARAMETERS, brands::PARAMETER)?.len();
             if parameters > 0 {
                 scopes.push(GenericScope {
                     id,
@@ -208,7 +208,7 @@ pub(crate) fn enumerants<'a>(node: dynamic_struct::Reader<'a>) -> Result<dynamic
         return Err(not_found());
     }
     let part = struct_at(node, brands::NODE, NODE_ENUM, brands::ENUM)?;
-    list_at(part, brands::ENUM, ENUM_ENUMERANTS)
+    list_at(part, brands::ENUM, ENUM_ENUMERANTS, brands::ENUMERANT)
 }
 
 /// Whether a node is a struct that is no group.

@@ -65,5 +65,10 @@ pub(crate) fn bound_to(scopes: &[BoundScope], id: u64, index: u16) -> Type {
 
 /// The first scope of an id.
 pub(crate) fn scope_of(scopes: &[BoundScope], id: u64) -> Option<&BoundScope> {
-    scopes.iter().find(|scope| scope.id == id)
+    for scope in scopes {
+        if scope.id == id {
+            return Some(scope);
+        }
+    }
+    None
 }

@@ -29,26 +29,37 @@ struct ConvertedFields {
     annotation_types: Vec<Vec<Type>>,
 }
 
+/// A note on a field.
+fn note_at(entry: u32, field: u32, stand_in: StandIn) -> Note {
+    Note {
+        entry,
+        field,
+        stand_in,
+    }
+}
+
+/// Adds a note, where what it is of was seen.
+fn add_note(notes: &mut Vec<Note>, is_seen: bool, note: Note) -> Result<()>
+    ensures kinds { IfErr result (λ e. IsPlain e.kind) }
+{
+    if is_seen {
+        notes.push(note)?;
+    }
+    Ok(())
+}
+
 /// Adds what is noted of a field.
 fn add_notes(notes: &mut Vec<Note>, entry: u32, field: u32, seen: Seen) -> Result<()>
     ensures kinds { IfErr result (λ e. IsPlain e.kind) }
 {
-    let kinds = [
-        (seen.float32, StandIn::Float32),
-        (seen.float64, StandIn::Float64),
-        (seen.interface, StandIn::Interface),
-        (seen.untyped_default, StandIn::UntypedDefault),
-    ];
-    for (is_seen, stand_in) in kinds {
-        if is_seen {
-            notes.push(Note {
-                entry,
-                field,
-                stand_in,
-            })?;
-        }
-    }
-    Ok(())
+    add_note(notes, seen.float32, note_at(entry, field, StandIn::Float32))?;
+    add_note(notes, seen.float64, note_at(entry, field, StandIn::Float64))?;
+    add_note(notes, seen.interface, note_at(entry, field, StandIn::Interface))?;
+    add_note(
+        notes,
+        seen.untyped_default,
+        note_at(entry, field, StandIn::UntypedDefault),
+    )
 }
 
 /// The fields of an entry, by index.
@@ -66,7 +77,7 @@ fn fields_of<'a>(
     ensures children { IfOk result (λ fields. length fields.annotation_types.items ≡ length fields.records.items) }
     ensures kinds { IfErr result (λ e. IsRefusal context.entry.strict e.kind) }
 {
-    let listed = list_at(part, brands::STRUCT, STRUCT_FIELDS)?;
+    let listed = list_at(part, brands::STRUCT, STRUCT_FIELDS, brands::FIELD)?;
     let mut fields = ConvertedFields {
         records: Vec::new(context.alloc),
         types: Vec::new(context.alloc),

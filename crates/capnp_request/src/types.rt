@@ -202,7 +202,7 @@ pub(crate) fn bindings_of<'a>(
         return Ok(scopes);
     }
     let brand = struct_at(place.reader, place.holder, place.index, brands::BRAND)?;
-    let listed = list_at(brand, brands::BRAND, BRAND_SCOPES)?;
+    let listed = list_at(brand, brands::BRAND, BRAND_SCOPES, brands::SCOPE)?;
     for scope in generic.as_slice() {
         let types = scope_types(context, entries, inside, *scope, listed, seen, depth)?;
         scopes.push(bound_scope(*scope, types))?;
@@ -248,7 +248,7 @@ fn scope_types<'a>(
     };
     match active_member(said) {
         Some(SCOPE_BIND) => {
-            let bindings = list_at(said, brands::SCOPE, SCOPE_BIND)?;
+            let bindings = list_at(said, brands::SCOPE, SCOPE_BIND, brands::BINDING)?;
             bound_types(
                 context,
                 entries,

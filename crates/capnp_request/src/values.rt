@@ -29,6 +29,7 @@ const TABLE_BYTES: usize = 8;
 
 /// The words of one segment whose root pointer leads to a copy of what stands at a pointer. Refused as the first pointer
 /// there that can't be followed, in preorder, and with `TooLarge` or `OutOfMemory`.
+#[tactic(auto, using(crate::proofs::Kinds::copy_kinds, crate::proofs::Kinds::write_kinds))]
 fn words_of(alloc: Global, pointer: any_pointer::Reader<'_>) -> Result<Vec<u8>>
     ensures kinds { IfErr result (λ e. IsPlain e.kind) }
 {
@@ -79,10 +80,16 @@ pub(crate) fn value_of(alloc: Global, reader: dynamic_struct::Reader<'_>) -> Res
         return Err(Error::from(ErrorKind::UnknownKind));
     };
     match member {
-        VALUE_TEXT => Ok(ValueRecord::Text(text_at(reader, brands::VALUE, member)?.to_vec(alloc)?)),
-        VALUE_DATA => Ok(ValueRecord::Data(data_at(reader, brands::VALUE, member)?.to_vec(alloc)?)),
-        VALUE_LIST => Ok(ValueRecord::List(words_of(alloc, untyped_at(reader, brands::VALUE, member)?)?)),
-        VALUE_STRUCT => Ok(ValueRecord::Struct(words_of(alloc, untyped_at(reader, brands::VALUE, member)?)?)),
+        VALUE_TEXT => Ok(ValueRecord::Text(text_at(reader, brands::VALUE, VALUE_TEXT)?.to_vec(alloc)?)),
+        VALUE_DATA => Ok(ValueRecord::Data(data_at(reader, brands::VALUE, VALUE_DATA)?.to_vec(alloc)?)),
+        VALUE_LIST => {
+            let pointer = untyped_at(reader, brands::VALUE, VALUE_LIST)?;
+            Ok(ValueRecord::List(words_of(alloc, pointer)?))
+        }
+        VALUE_STRUCT => {
+            let pointer = untyped_at(reader, brands::VALUE, VALUE_STRUCT)?;
+            Ok(ValueRecord::Struct(words_of(alloc, pointer)?))
+        }
         VALUE_INTERFACE | VALUE_UNTYPED => Ok(ValueRecord::AnyPointer(NULL.to_vec(alloc)?)),
         _ => data_value(reader, member),
     }
