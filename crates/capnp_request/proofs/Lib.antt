@@ -1,7 +1,9 @@
 pub mod BrandsMade
-pub mod Kinds
+pub mod FieldsRead
 pub mod NamesRead
 pub mod PartsSeen
+pub mod RefusedKinds
 pub mod Rows
 pub mod Sounds
 pub mod Taken
+pub mod ValuesRead

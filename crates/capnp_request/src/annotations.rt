@@ -72,7 +72,12 @@ pub(crate) fn annotations_of<'a>(
     for at in 0..listed.len() {
         let annotation = element_at(listed, at, brands::ANNOTATION)?;
         let id = u64_at(annotation, brands::ANNOTATION, ANNOTATION_ID)?;
-        let said = struct_at(annotation, brands::ANNOTATION, ANNOTATION_VALUE, brands::VALUE)?;
+        let said = struct_at(
+            annotation,
+            brands::ANNOTATION,
+            ANNOTATION_VALUE,
+            brands::VALUE,
+        )?;
         let value = value_of(context.alloc, said)?;
         let annotation_type = annotation_type(context, entries, inside, annotation, id)?;
         records.push(AnnotationRecord { id, value })?;

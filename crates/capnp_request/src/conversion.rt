@@ -89,6 +89,7 @@ impl Progress {
     }
 
     /// Makes the next struct, where there is one that isn't made.
+    #[tactic(auto, using(crate::proofs::BrandsMade::brand_made))]
     fn make_struct<'a>(
         &mut self,
         context: Context<'_, 'a>,
@@ -126,11 +127,7 @@ impl Progress {
     }
 
     /// Makes the next enum, where there is one that isn't made.
-    fn make_enum<'a>(
-        &mut self,
-        context: Context<'_, 'a>,
-        entries: &mut Entries<'a>,
-    ) -> Result<bool>
+    fn make_enum<'a>(&mut self, context: Context<'_, 'a>, entries: &mut Entries<'a>) -> Result<bool>
         requires nodes { AreNodes context.nodes.now }
         requires brands { AreBrandsOf self.now.made.nodes.items self.now.made.brands.items }
         ensures brands { OnOk result (AreBrandsOf self.new.made.nodes.items self.new.made.brands.items) }
@@ -148,11 +145,7 @@ impl Progress {
     }
 
     /// Makes the next struct, or where all are made the next enum. False where there is neither.
-    fn make_next<'a>(
-        &mut self,
-        context: Context<'_, 'a>,
-        entries: &mut Entries<'a>,
-    ) -> Result<bool>
+    fn make_next<'a>(&mut self, context: Context<'_, 'a>, entries: &mut Entries<'a>) -> Result<bool>
         requires nodes { AreNodes context.nodes.now }
         requires brands { AreBrandsOf self.now.made.nodes.items self.now.made.brands.items }
         ensures brands { OnOk result (AreBrandsOf self.new.made.nodes.items self.new.made.brands.items) }

@@ -1,6 +1,6 @@
 //! The entries of a set while it is made: struct nodes with bindings, groups and enums, by the numbers that they got when
 //! they were first named.
-ghost use Rattle.std.specs.Prelude.{◌≡◌, IfErr, IfOk};
+ghost use Rattle.std.specs.Prelude.{◌≡◌, ◌<◌, length, IfErr, IfOk};
 ghost use Rattle.capnp_schema.specs.Types.{EnumType, StructType, seen_type};
 ghost use Rattle.capnp_request.specs.Nodes.{AreNodes};
 ghost use Rattle.capnp_request.specs.Refusals.{IsPlain};
@@ -95,6 +95,8 @@ impl<'a> Entries<'a> {
 
     /// Adds an entry behind the others, and answers its number. Refused with `TooManyTypes` where there are 65,536.
     fn add(&mut self, entry: Entry<'a>) -> Result<u32>
+        ensures number { IfOk result (λ n. n ≡ length self.old.structs.items) }
+        ensures bound { IfOk result (λ n. n < 65536) }
         ensures kinds { IfErr result (λ e. IsPlain e.kind) }
     {
         let number = self.structs.len();
@@ -106,11 +108,7 @@ impl<'a> Entries<'a> {
     }
 
     /// The number of a struct node with bindings, which it gets where it has none.
-    pub(crate) fn number_of(
-        &mut self,
-        node: StructReader<'a>,
-        bound: BoundNode,
-    ) -> Result<u32>
+    pub(crate) fn number_of(&mut self, node: StructReader<'a>, bound: BoundNode) -> Result<u32>
         ensures kinds { IfErr result (λ e. IsPlain e.kind) }
     {
         if let Some(number) = self.by_binding.get(&bound) {
@@ -136,6 +134,7 @@ impl<'a> Entries<'a> {
         place: GroupPlace,
     ) -> Result<u32>
         requires { AreNodes nodes.now }
+        ensures own { IfOk result (λ n. n ≡ length self.old.structs.items) }
         ensures kinds { IfErr result (λ e. IsPlain e.kind) }
     {
         let node = nodes.struct_node(id)?.get_sections();

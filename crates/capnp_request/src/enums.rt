@@ -31,7 +31,10 @@ pub(crate) fn enum_of<'a>(
     let mut children = Vec::new(context.alloc);
     for index in 0..listed.len() {
         let enumerant = element_at(listed, index, brands::ENUMERANT)?;
-        let name = owned(context.alloc, text_at(enumerant, brands::ENUMERANT, ENUMERANT_NAME)?)?;
+        let name = owned(
+            context.alloc,
+            text_at(enumerant, brands::ENUMERANT, ENUMERANT_NAME)?,
+        )?;
         let (annotations, types) = annotations_of(
             context,
             entries,

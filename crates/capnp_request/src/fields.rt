@@ -1,10 +1,15 @@
 //! Fields, as a request says them.
-ghost use Rattle.std.specs.Prelude.{◌≡◌, length, Some, IfErr, IfOk};
+ghost use Rattle.std.specs.Prelude.{◌≡◌, length, string_bytes, Some, Ok, IfErr, IfOk};
+ghost use Rattle.capnp_schema.specs.Schema.{seen_kind};
+ghost use Rattle.capnp_schema.specs.Types.{seen_type};
 ghost use Rattle.capnp_records.specs.Part.{which_of};
 ghost use Rattle.capnp_dynamic_readers.specs.Seen.{record_seen};
 ghost use Rattle.capnp_request.specs.Handles.{IsRecord};
 ghost use Rattle.capnp_request.specs.Nodes.{AreNodes};
+ghost use Rattle.capnp_request.specs.Parts.{read_at};
+ghost use Rattle.capnp_request.specs.Reading.{number_in, text_in};
 ghost use Rattle.capnp_request.specs.Refusals.{IsRefusal};
+ghost use Rattle.capnp_request.specs.Shapes.{IsGroupOf, IsSlotOf};
 
 use crate::annotations::annotations_of;
 use crate::context::Context;
@@ -43,6 +48,7 @@ fn slot_of<'a>(
     requires nodes { AreNodes context.nodes.now }
     requires record { IsRecord 8 field }
     requires active { which_of (record_seen field) ≡ Some 3 }
+    ensures slot { IfOk result (λ r. IsSlotOf (read_at 8 3 (record_seen field.entry)) r.0) }
     ensures kinds { IfErr result (λ e. IsRefusal context.entry.strict e.kind) }
 {
     let slot = struct_at(field, brands::FIELD, FIELD_SLOT, brands::SLOT)?;
@@ -66,6 +72,7 @@ fn group_of<'a>(
     requires nodes { AreNodes context.nodes.now }
     requires record { IsRecord 8 field }
     requires active { which_of (record_seen field) ≡ Some 4 }
+    ensures group { IfOk result (λ r. IsGroupOf (seen_kind r.0) (seen_type r.1)) }
     ensures kinds { IfErr result (λ e. IsRefusal context.entry.strict e.kind) }
 {
     let group = struct_at(field, brands::FIELD, FIELD_GROUP, brands::GROUP)?;
@@ -85,10 +92,13 @@ pub(crate) fn field_of<'a>(
 ) -> Result<ConvertedField>
     requires nodes { AreNodes context.nodes.now }
     requires is_record { IsRecord 8 field }
+    ensures name { IfOk result (λ f. text_in (read_at 8 0 (record_seen field.entry)) ≡ Ok (string_bytes f.record.name)) }
+    ensures discriminant { IfOk result (λ f. number_in (read_at 8 2 (record_seen field.entry)) ≡ f.record.discriminant_value) }
     ensures typed { IfOk result (λ f. length f.annotation_types.items ≡ length f.record.annotations.items) }
     ensures kinds { IfErr result (λ e. IsRefusal context.entry.strict e.kind) }
 {
-    let name = owned(context.alloc, text_at(field, brands::FIELD, FIELD_NAME)?)?;
+    let text = text_at(field, brands::FIELD, FIELD_NAME)?;
+    let name = owned(context.alloc, text)?;
     let discriminant_value = u16_at(field, brands::FIELD, FIELD_DISCRIMINANT)?;
     let mut seen = Seen::nothing();
     let (kind, field_type) = match active_member(field) {

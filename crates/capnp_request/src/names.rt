@@ -233,8 +233,8 @@ impl Names {
 
     /// Whether an entry of another id had the name before; the entry has it from now on.
     fn is_taken(&mut self, dotted: &[u8], id: u64) -> Result<bool>
-    ensures kinds { IfErr result (λ e. IsPlain e.kind) }
-{
+        ensures kinds { IfErr result (λ e. IsPlain e.kind) }
+    {
         let holder = match self.holders.get(dotted) {
             Some(holder) => Holder {
                 id: holder.id,
@@ -258,8 +258,8 @@ impl Names {
         entry: &Entry<'a>,
     ) -> Result<String>
         requires { AreNodes nodes.now }
-    ensures kinds { IfErr result (λ e. IsPlain e.kind) }
-{
+        ensures kinds { IfErr result (λ e. IsPlain e.kind) }
+    {
         let display = display_name(nodes.node_of(entry.node))?;
         let start = behind_colon(display);
         let dotted = &display[start..];
@@ -273,8 +273,8 @@ impl Names {
 
     /// The name of a group: its parent's, a dot, and the name of the field.
     fn group_name(&self, parent: &NodeRecord, field: usize) -> Result<String>
-    ensures kinds { IfErr result (λ e. IsPlain e.kind) }
-{
+        ensures kinds { IfErr result (λ e. IsPlain e.kind) }
+    {
         let mut name = Vec::new(self.alloc);
         append(&mut name, parent.display_name.as_bytes())?;
         if let Some(field) = parent.body.fields.get(field) {
@@ -292,8 +292,8 @@ impl Names {
         entry: &Entry<'a>,
     ) -> Result<String>
         requires { AreNodes nodes.now }
-    ensures kinds { IfErr result (λ e. IsPlain e.kind) }
-{
+        ensures kinds { IfErr result (λ e. IsPlain e.kind) }
+    {
         match entry.group {
             Some(place) => match named.structs.get(place.parent as usize) {
                 Some(parent) => self.group_name(parent, place.field),

@@ -54,11 +54,7 @@ fn part<'a>(reader: dynamic_struct::Reader<'a>, brand: u32, index: u16) -> Resul
 }
 
 /// A `u8`.
-pub(crate) fn u8_at(
-    reader: dynamic_struct::Reader<'_>,
-    brand: u32,
-    index: u16,
-) -> Result<u8>
+pub(crate) fn u8_at(reader: dynamic_struct::Reader<'_>, brand: u32, index: u16) -> Result<u8>
     requires record { IsRecord brand reader }
     requires field { IsField brand index (UIntType 1) }
     requires active { IsActive brand index reader }
@@ -73,11 +69,7 @@ pub(crate) fn u8_at(
 }
 
 /// A `u16`.
-pub(crate) fn u16_at(
-    reader: dynamic_struct::Reader<'_>,
-    brand: u32,
-    index: u16,
-) -> Result<u16>
+pub(crate) fn u16_at(reader: dynamic_struct::Reader<'_>, brand: u32, index: u16) -> Result<u16>
     requires record { IsRecord brand reader }
     requires field { IsField brand index (UIntType 2) }
     requires active { IsActive brand index reader }
@@ -92,11 +84,7 @@ pub(crate) fn u16_at(
 }
 
 /// A `u32`.
-pub(crate) fn u32_at(
-    reader: dynamic_struct::Reader<'_>,
-    brand: u32,
-    index: u16,
-) -> Result<u32>
+pub(crate) fn u32_at(reader: dynamic_struct::Reader<'_>, brand: u32, index: u16) -> Result<u32>
     requires record { IsRecord brand reader }
     requires field { IsField brand index (UIntType 4) }
     requires active { IsActive brand index reader }
@@ -111,11 +99,7 @@ pub(crate) fn u32_at(
 }
 
 /// A `u64`.
-pub(crate) fn u64_at(
-    reader: dynamic_struct::Reader<'_>,
-    brand: u32,
-    index: u16,
-) -> Result<u64>
+pub(crate) fn u64_at(reader: dynamic_struct::Reader<'_>, brand: u32, index: u16) -> Result<u64>
     requires record { IsRecord brand reader }
     requires field { IsField brand index (UIntType 8) }
     requires active { IsActive brand index reader }
@@ -141,11 +125,7 @@ fn int8_of(value: Value<'_>) -> i8
 }
 
 /// An `i8`.
-pub(crate) fn i8_at(
-    reader: dynamic_struct::Reader<'_>,
-    brand: u32,
-    index: u16,
-) -> Result<i8>
+pub(crate) fn i8_at(reader: dynamic_struct::Reader<'_>, brand: u32, index: u16) -> Result<i8>
     requires record { IsRecord brand reader }
     requires field { IsField brand index (IntType 1) }
     requires active { IsActive brand index reader }
@@ -171,11 +151,7 @@ fn int16_of(value: Value<'_>) -> i16
 }
 
 /// An `i16`.
-pub(crate) fn i16_at(
-    reader: dynamic_struct::Reader<'_>,
-    brand: u32,
-    index: u16,
-) -> Result<i16>
+pub(crate) fn i16_at(reader: dynamic_struct::Reader<'_>, brand: u32, index: u16) -> Result<i16>
     requires record { IsRecord brand reader }
     requires field { IsField brand index (IntType 2) }
     requires active { IsActive brand index reader }
@@ -201,11 +177,7 @@ fn int32_of(value: Value<'_>) -> i32
 }
 
 /// An `i32`.
-pub(crate) fn i32_at(
-    reader: dynamic_struct::Reader<'_>,
-    brand: u32,
-    index: u16,
-) -> Result<i32>
+pub(crate) fn i32_at(reader: dynamic_struct::Reader<'_>, brand: u32, index: u16) -> Result<i32>
     requires record { IsRecord brand reader }
     requires field { IsField brand index (IntType 4) }
     requires active { IsActive brand index reader }
@@ -231,11 +203,7 @@ fn int64_of(value: Value<'_>) -> i64
 }
 
 /// An `i64`.
-pub(crate) fn i64_at(
-    reader: dynamic_struct::Reader<'_>,
-    brand: u32,
-    index: u16,
-) -> Result<i64>
+pub(crate) fn i64_at(reader: dynamic_struct::Reader<'_>, brand: u32, index: u16) -> Result<i64>
     requires record { IsRecord brand reader }
     requires field { IsField brand index (IntType 8) }
     requires active { IsActive brand index reader }
@@ -250,11 +218,7 @@ pub(crate) fn i64_at(
 }
 
 /// A truth value.
-pub(crate) fn bool_at(
-    reader: dynamic_struct::Reader<'_>,
-    brand: u32,
-    index: u16,
-) -> Result<bool>
+pub(crate) fn bool_at(reader: dynamic_struct::Reader<'_>, brand: u32, index: u16) -> Result<bool>
     requires record { IsRecord brand reader }
     requires field { IsField brand index BoolType }
     requires active { IsActive brand index reader }

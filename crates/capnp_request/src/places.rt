@@ -151,16 +151,4 @@ pub(crate) const BINDING_UNBOUND: u16 = 0;
 
 pub(crate) const BINDING_TYPE: u16 = 1;
 
-pub(crate) const VALUE_TEXT: u16 = 12;
-
-pub(crate) const VALUE_DATA: u16 = 13;
-
-pub(crate) const VALUE_LIST: u16 = 14;
-
-pub(crate) const VALUE_ENUM: u16 = 15;
-
-pub(crate) const VALUE_STRUCT: u16 = 16;
-
-pub(crate) const VALUE_INTERFACE: u16 = 17;
-
 pub(crate) const VALUE_UNTYPED: u16 = 18;

@@ -136,13 +136,13 @@ impl<'a> SchemaNodes<'a> {
         if !is_of_kind(node, NODE_ANNOTATION) {
             return Err(not_found());
         }
-        let declaration = struct_at(
-            node,
-            brands::NODE,
-            NODE_ANNOTATION,
+        let declaration = struct_at(node, brands::NODE, NODE_ANNOTATION, brands::DECLARATION)?;
+        struct_at(
+            declaration,
             brands::DECLARATION,
-        )?;
-        struct_at(declaration, brands::DECLARATION, DECLARED_TYPE, brands::TYPE)
+            DECLARED_TYPE,
+            brands::TYPE,
+        )
     }
 
     /// The scopes of an id's node that have type parameters, inmost first. The scopes are the node, the node of its scope
@@ -186,7 +186,9 @@ fn is_of_kind(node: dynamic_struct::Reader<'_>, kind: u16) -> bool
 }
 
 /// The part of a struct's node that only structs have. Refused with `NodeNotFound` where the node is no struct.
-pub(crate) fn struct_part<'a>(node: dynamic_struct::Reader<'a>) -> Result<dynamic_struct::Reader<'a>>
+pub(crate) fn struct_part<'a>(
+    node: dynamic_struct::Reader<'a>,
+) -> Result<dynamic_struct::Reader<'a>>
     requires { IsRecord 2 node }
     ensures record { IfOk result (IsRecord 3) }
     ensures read { IfOk result (λ s. value.Struct (record_seen s) ≡ read_at 2 6 (record_seen node.entry)) }

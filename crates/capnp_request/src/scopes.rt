@@ -1,7 +1,6 @@
 //! What is bound to the type parameters of scopes.
-ghost use Rattle.std.specs.Prelude.{◌≡◌, IfErr, true, false};
+ghost use Rattle.std.specs.Prelude.{◌≡◌, IfErr};
 ghost use Rattle.capnp_schema.specs.Types.{AnyPointerType, seen_type};
-ghost use Rattle.capnp_request.specs.Conversion.{is_untyped};
 ghost use Rattle.capnp_request.specs.Nodes.{AreNodes};
 ghost use Rattle.capnp_request.specs.Refusals.{IsPlain};
 
@@ -12,9 +11,7 @@ use capnp_wire::error::Result;
 use std::alloc::Global;
 
 /// Whether a type is an untyped pointer.
-pub(crate) fn is_untyped(t: Type) -> bool
-    ensures { result ≡ is_untyped (seen_type t) }
-{
+pub(crate) fn is_untyped(t: Type) -> bool {
     match t.which() {
         TypeVariant::AnyPointer => true,
         _ => false,

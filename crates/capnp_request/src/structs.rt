@@ -1,9 +1,10 @@
 //! Structs, as a request says them.
 ghost use Rattle.std.specs.Prelude.{◌≡◌, length, IfErr, IfOk};
+ghost use Rattle.capnp_dynamic_readers.specs.Seen.{record_seen};
 ghost use Rattle.capnp_request.specs.Handles.{IsRecord};
 ghost use Rattle.capnp_request.specs.Nodes.{AreNodes};
 ghost use Rattle.capnp_request.specs.Refusals.{IsPlain, IsRefusal};
-ghost use Rattle.capnp_request.specs.Shapes.{IsBrandOf};
+ghost use Rattle.capnp_request.specs.Shapes.{HasParts, IsBrandOf};
 
 use crate::annotations::annotations_of;
 use crate::context::Context;
@@ -54,7 +55,11 @@ fn add_notes(notes: &mut Vec<Note>, entry: u32, field: u32, seen: Seen) -> Resul
 {
     add_note(notes, seen.float32, note_at(entry, field, StandIn::Float32))?;
     add_note(notes, seen.float64, note_at(entry, field, StandIn::Float64))?;
-    add_note(notes, seen.interface, note_at(entry, field, StandIn::Interface))?;
+    add_note(
+        notes,
+        seen.interface,
+        note_at(entry, field, StandIn::Interface),
+    )?;
     add_note(
         notes,
         seen.untyped_default,
@@ -98,6 +103,28 @@ fn fields_of<'a>(
     Ok(fields)
 }
 
+/// What a struct has beside its name and annotations, with these fields.
+fn body_of(part: dynamic_struct::Reader<'_>, fields: Vec<FieldRecord>) -> Result<StructRecord>
+    requires { IsRecord 3 part }
+    ensures parts { IfOk result (HasParts (record_seen part.entry)) }
+    ensures fields { IfOk result (λ body. body.fields ≡ fields.entry) }
+    ensures kinds { IfErr result (λ e. IsPlain e.kind) }
+{
+    let data_word_count = u16_at(part, brands::STRUCT, STRUCT_DATA_WORDS)?;
+    let pointer_count = u16_at(part, brands::STRUCT, STRUCT_POINTERS)?;
+    let is_group = bool_at(part, brands::STRUCT, STRUCT_IS_GROUP)?;
+    let discriminant_count = u16_at(part, brands::STRUCT, STRUCT_DISCRIMINANTS)?;
+    let discriminant_offset = u32_at(part, brands::STRUCT, STRUCT_DISCRIMINANT_OFFSET)?;
+    Ok(StructRecord {
+        data_word_count,
+        pointer_count,
+        is_group,
+        discriminant_count,
+        discriminant_offset,
+        fields,
+    })
+}
+
 /// A struct node, and the number of the entry that is made of it.
 #[derive(Clone, Copy)]
 pub(crate) struct NodePlace<'a> {
@@ -131,14 +158,7 @@ pub(crate) fn struct_of<'a>(
         brands::NODE,
         NODE_ANNOTATIONS,
     )?;
-    let body = StructRecord {
-        data_word_count: u16_at(part, brands::STRUCT, STRUCT_DATA_WORDS)?,
-        pointer_count: u16_at(part, brands::STRUCT, STRUCT_POINTERS)?,
-        is_group: bool_at(part, brands::STRUCT, STRUCT_IS_GROUP)?,
-        discriminant_count: u16_at(part, brands::STRUCT, STRUCT_DISCRIMINANTS)?,
-        discriminant_offset: u32_at(part, brands::STRUCT, STRUCT_DISCRIMINANT_OFFSET)?,
-        fields: fields.records,
-    };
+    let body = body_of(part, fields.records)?;
     let record = NodeRecord {
         id: place.id,
         display_name,
