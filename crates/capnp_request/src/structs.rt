@@ -107,7 +107,7 @@ fn fields_of<'a>(
 fn body_of(part: dynamic_struct::Reader<'_>, fields: Vec<FieldRecord>) -> Result<StructRecord>
     requires { IsRecord 3 part }
     ensures parts { IfOk result (HasParts (record_seen part.entry)) }
-    ensures fields { IfOk result (λ body. body.fields ≡ fields.entry) }
+    ensures fields { IfOk result (λ body. body.fields ≡ fields) }
     ensures kinds { IfErr result (λ e. IsPlain e.kind) }
 {
     let data_word_count = u16_at(part, brands::STRUCT, STRUCT_DATA_WORDS)?;

@@ -3,4 +3,4 @@ use Rattle.std.proofs.Common.{◌≤◌, length}
 use Rattle.capnp_request.proofs.names.behind_colon.Given as goal
 
 abbrev pub invariant-loop-index : goal.invariant-loop-index
-invariant-loop-index l = l.start ≤ length l.name.now
+invariant-loop-index l = l.start ≤ length l.name
