@@ -74,9 +74,15 @@ fn entries_are_named_in_order(rt: HostRuntime) -> std::result::Result<(), Fail> 
             "Map;Use;Map.Entry;Map.extra;Map(Text, Data);Map(Text, Use);Map(Text, Data).Entry;Map(List(UInt8), Map(Text, Use));Map(Text, Data).extra;Map(Text, Use).Entry;Map(Text, Use).extra;Map(List(UInt8), Map(Text, Use)).Entry;Map(List(UInt8), Map(Text, Use)).extra;Map(Data, Text);Map(Use, Text);Map(Map(Text, Use), List(UInt8));Map(Data, Text).Entry;Map(Data, Text).extra;Map(Use, Text).Entry;Map(Use, Text).extra;Map(Map(Text, Use), List(UInt8)).Entry;Map(Map(Text, Use), List(UInt8)).extra;",
         ),
         (NOTES.as_slice(), "Shape;Floats;Floats.g;"),
-        (TELEMETRY.as_slice(), "Sample;Sample.burst;Sample.burst.place;"),
+        (
+            TELEMETRY.as_slice(),
+            "Sample;Sample.burst;Sample.burst.place;",
+        ),
         // The files are in the order of the command line; an inherited binding and an explicit one are one entry.
-        (TWO_FILES.as_slice(), "Id;Outer;base.capnp:Id;Outer.Inner;Outer(Text).Inner;"),
+        (
+            TWO_FILES.as_slice(),
+            "Id;Outer;base.capnp:Id;Outer.Inner;Outer(Text).Inner;",
+        ),
     ];
     for (bytes, names) in rows {
         let made = converted(alloc, bytes, false)?;
@@ -220,7 +226,11 @@ fn defaults_of_structs_are_their_words(rt: HostRuntime) -> std::result::Result<(
     let mut found = 0;
     for node in &made.nodes {
         for field in &node.body.fields {
-            if let FieldKind::Slot { default: ValueRecord::Struct(words), .. } = &field.kind {
+            if let FieldKind::Slot {
+                default: ValueRecord::Struct(words),
+                ..
+            } = &field.kind
+            {
                 if words.len() > 8 {
                     assert!(rt; words.as_slice() == PAIR_OF_M.as_slice());
                     found += 1;
