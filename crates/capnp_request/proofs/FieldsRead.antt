@@ -1,5 +1,5 @@
 -- What a field's record says, by what was read of it.
-use Rattle.std.proofs.Common.{ℕ, ◌≡◌, ◌∙◌, ap, pos, refl, subst, sym, Bool, true, false, List, Ok, Err}
+use Rattle.std.proofs.Common.{ℕ, ◌≡◌, ◌∙◌, ap, pos, subst, sym, Bool, true, false, List, Ok, Err}
 use Rattle.std.specs.Str.{is_utf8}
 use Rattle.capnp_device.specs.declared.error.ErrorKind.TheVariants.{NameNotUtf8}
 use Rattle.capnp_schema.specs.Schema.{Slot, seen_value}

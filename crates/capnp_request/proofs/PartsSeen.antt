@@ -1,5 +1,5 @@
 -- What a read of a field answers is what is read of the struct's record.
-use Rattle.std.proofs.Common.{ℕ, ◌+◌, ◌<◌, ◌≡◌, ◌⊎◌, ◌∙◌, arith, ap, ap₂, inl, inr, refl, sym, subst, Bool, true, false, ◌==◌, length, IfOk, Option, Some, None, Result}
+use Rattle.std.proofs.Common.{ℕ, ◌<◌, ◌≡◌, ◌⊎◌, ◌∙◌, arith, ap, inl, inr, refl, sym, subst, Bool, true, false, ◌==◌, length, IfOk, Some, Result}
 use Rattle.std.proofs.lemmas.Bool.{true≢false}
 use Rattle.capnp_device.specs.declared.error.Error.{Error}
 use Rattle.capnp_wire.specs.Standing.{struct_levels, struct_of}

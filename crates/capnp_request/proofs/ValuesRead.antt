@@ -1,5 +1,5 @@
 -- What the record of a value says, by its active member.
-use Rattle.std.proofs.Common.{ℕ, ◌≡◌, ◌∙◌, ap, refl, sym, List, Ok, Err, Option, Some, None, slice_get, drop}
+use Rattle.std.proofs.Common.{ℕ, ◌≡◌, ◌∙◌, ap, refl, sym, List, Ok, Some, None, slice_get, drop}
 use Rattle.std.specs.Option.{unwrap_or}
 use Rattle.capnp_device.specs.declared.error.ErrorKind.TheVariants.{UnknownKind}
 use Rattle.capnp_wire.specs.Encoding.{message_of}
@@ -13,7 +13,6 @@ use Rattle.capnp_request.specs.Parts.{read_at}
 use Rattle.capnp_request.specs.Reading.{by_member, value_kinds, value_said}
 use Rattle.capnp_request.specs.Terms.{UnreadValue, ValueTerm}
 use Rattle.capnp_request.specs.Values.{words_or_fault, words_said}
-use Rattle.capnp_request.specs.Terms.{Said}
 
 -- what member i says, where this is read of it
 abbrev pub kind_at : ℕ → RecordValue → ValueTerm
