@@ -1,2 +1,9 @@
-pub mod Named
+pub mod BrandsMade
+pub mod FieldsRead
+pub mod NamesRead
+pub mod PartsSeen
+pub mod RefusedKinds
 pub mod Rows
+pub mod Sounds
+pub mod Taken
+pub mod ValuesRead

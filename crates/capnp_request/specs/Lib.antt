@@ -1,10 +1,13 @@
-pub mod Causes
 pub mod Conversion
+pub mod Handles
 pub mod Names
+pub mod Nodes
 pub mod Order
 pub mod Parts
 pub mod Reading
+pub mod Refusals
 pub mod Scopes
+pub mod Shapes
 pub mod Terms
 pub mod Types
 pub mod Values

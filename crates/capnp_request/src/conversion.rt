@@ -1,4 +1,10 @@
 //! From a compiler's request to the lists of a set of schemas.
+ghost use Rattle.std.specs.Prelude.{◌≡◌, IfErr, IfOk, OnOk, length};
+ghost use Rattle.capnp_request.specs.Handles.{IsRecord};
+ghost use Rattle.capnp_request.specs.Nodes.{AreNodes};
+ghost use Rattle.capnp_request.specs.Refusals.{IsPlain, IsRefusal};
+ghost use Rattle.capnp_request.specs.Shapes.{AreBrandsOf};
+
 use crate::context::Context;
 use crate::entries::{BoundScope, Entries, Entry};
 use crate::enums::enum_of;
@@ -31,7 +37,9 @@ struct Progress {
 }
 
 impl Progress {
-    fn new(alloc: Global) -> Progress {
+    fn new(alloc: Global) -> Progress
+        ensures { AreBrandsOf result.made.nodes.items result.made.brands.items }
+    {
         Progress {
             made: Converted {
                 nodes: Vec::new(alloc),
@@ -45,43 +53,65 @@ impl Progress {
     }
 
     /// Names the enums that were named by types since.
-    fn name_enums(&mut self, alloc: Global, entries: &Entries<'_>) -> Result<()> {
-        for named in entries.enums.iter().skip(self.enum_names.len()) {
-            let name = enum_name(alloc, display_name(named.node)?)?;
+    fn name_enums<'a>(&mut self, context: Context<'_, 'a>, entries: &Entries<'a>) -> Result<()>
+        requires { AreNodes context.nodes.now }
+        ensures same { self.new.made ≡ self.old.made }
+        ensures kinds { IfErr result (λ e. IsPlain e.kind) }
+    {
+        for number in self.enum_names.len()..entries.enums.len() {
+            let Some(named) = entries.enums.get(number) else {
+                break;
+            };
+            let display = display_name(context.nodes.node_of(named.node))?;
+            let name = enum_name(context.alloc, display)?;
             self.enum_names.push(name)?;
         }
         Ok(())
     }
 
     /// The name of the entry that is made next, and a copy of the scopes that are bound in it.
-    fn next_name(&mut self, entry: &Entry<'_>) -> Result<(String, Vec<BoundScope>)> {
+    fn next_name<'a>(
+        &mut self,
+        context: Context<'_, 'a>,
+        entry: &Entry<'a>,
+    ) -> Result<(String, Vec<BoundScope>)>
+        requires { AreNodes context.nodes.now }
+        ensures same { self.new.made ≡ self.old.made }
+        ensures kinds { IfErr result (λ e. IsPlain e.kind) }
+    {
         let named = Named {
             structs: self.made.nodes.as_slice(),
             enums: self.enum_names.as_slice(),
         };
-        let name = self.names.entry_name(named, entry)?;
+        let name = self.names.entry_name(context.nodes, named, entry)?;
         let scopes = entry.scopes.clone()?;
         Ok((name, scopes))
     }
 
     /// Makes the next struct, where there is one that isn't made.
+    #[tactic(auto, using(crate::proofs::BrandsMade::brand_made))]
     fn make_struct<'a>(
         &mut self,
         context: Context<'_, 'a>,
         entries: &mut Entries<'a>,
-    ) -> Result<bool> {
+    ) -> Result<bool>
+        requires nodes { AreNodes context.nodes.now }
+        requires brands { AreBrandsOf self.now.made.nodes.items self.now.made.brands.items }
+        ensures brands { OnOk result (AreBrandsOf self.new.made.nodes.items self.new.made.brands.items) }
+        ensures kinds { IfErr result (λ e. IsRefusal context.entry.strict e.kind) }
+    {
         let number = self.made.nodes.len();
         let Some(entry) = entries.structs.get(number) else {
             return Ok(false);
         };
-        let (name, scopes) = self.next_name(entry)?;
+        let (name, scopes) = self.next_name(context, entry)?;
         let Ok(counted) = u32::try_from(number) else {
             return Err(Error::from(ErrorKind::TooManyTypes));
         };
         let place = NodePlace {
             number: counted,
             id: entry.id,
-            node: entry.node,
+            node: context.nodes.node_of(entry.node),
         };
         let (record, brand) = struct_of(
             context,
@@ -97,28 +127,31 @@ impl Progress {
     }
 
     /// Makes the next enum, where there is one that isn't made.
-    fn make_enum<'a>(
-        &mut self,
-        context: Context<'_, 'a>,
-        entries: &mut Entries<'a>,
-    ) -> Result<bool> {
+    fn make_enum<'a>(&mut self, context: Context<'_, 'a>, entries: &mut Entries<'a>) -> Result<bool>
+        requires nodes { AreNodes context.nodes.now }
+        requires brands { AreBrandsOf self.now.made.nodes.items self.now.made.brands.items }
+        ensures brands { OnOk result (AreBrandsOf self.new.made.nodes.items self.new.made.brands.items) }
+        ensures kinds { IfErr result (λ e. IsRefusal context.entry.strict e.kind) }
+    {
         let number = self.made.enums.len();
         let Some(named) = entries.enums.get(number).copied() else {
             return Ok(false);
         };
-        let name = enum_name(context.alloc, display_name(named.node)?)?;
+        let display = display_name(context.nodes.node_of(named.node))?;
+        let name = enum_name(context.alloc, display)?;
         let record = enum_of(context, entries, named, name)?;
         self.made.enums.push(record)?;
         Ok(true)
     }
 
     /// Makes the next struct, or where all are made the next enum. False where there is neither.
-    fn make_next<'a>(
-        &mut self,
-        context: Context<'_, 'a>,
-        entries: &mut Entries<'a>,
-    ) -> Result<bool> {
-        self.name_enums(context.alloc, entries)?;
+    fn make_next<'a>(&mut self, context: Context<'_, 'a>, entries: &mut Entries<'a>) -> Result<bool>
+        requires nodes { AreNodes context.nodes.now }
+        requires brands { AreBrandsOf self.now.made.nodes.items self.now.made.brands.items }
+        ensures brands { OnOk result (AreBrandsOf self.new.made.nodes.items self.new.made.brands.items) }
+        ensures kinds { IfErr result (λ e. IsRefusal context.entry.strict e.kind) }
+    {
+        self.name_enums(context, entries)?;
         if self.make_struct(context, entries)? {
             return Ok(true);
         }
@@ -140,7 +173,11 @@ pub fn read_request(
     alloc: Global,
     reader: dynamic_struct::Reader<'_>,
     strict: bool,
-) -> Result<Converted> {
+) -> Result<Converted>
+    requires { IsRecord 0 reader }
+    ensures brands { IfOk result (λ made. AreBrandsOf made.nodes.items made.brands.items) }
+    ensures kinds { IfErr result (λ e. IsRefusal strict e.kind) }
+{
     let nodes = SchemaNodes::of_request(alloc, reader)?;
     let context = Context {
         alloc,

@@ -1,8 +1,13 @@
 //! The entries of a set while it is made: struct nodes with bindings, groups and enums, by the numbers that they got when
 //! they were first named.
+ghost use Rattle.std.specs.Prelude.{◌≡◌, ◌<◌, length, IfErr, IfOk};
+ghost use Rattle.capnp_schema.specs.Types.{EnumType, StructType, seen_type};
+ghost use Rattle.capnp_request.specs.Nodes.{AreNodes};
+ghost use Rattle.capnp_request.specs.Refusals.{IsPlain};
+
 use crate::schema_nodes::SchemaNodes;
 use capnp_base::introspect::{RawBrandedStructSchema, RawEnumSchema, Type, TypeVariant};
-use capnp_dynamic_readers::dynamic_struct;
+use capnp_wire::StructReader;
 use capnp_wire::error::{Error, ErrorKind, Result};
 use std::alloc::Global;
 use std::collections::HashMap;
@@ -40,7 +45,7 @@ pub(crate) struct GroupPlace {
 #[derive(Drop)]
 pub(crate) struct Entry<'a> {
     pub(crate) id: u64,
-    pub(crate) node: dynamic_struct::Reader<'a>,
+    pub(crate) node: StructReader<'a>,
     pub(crate) scopes: Vec<BoundScope>,
     pub(crate) group: Option<GroupPlace>,
 }
@@ -49,7 +54,7 @@ pub(crate) struct Entry<'a> {
 #[derive(Clone, Copy)]
 pub(crate) struct NamedEnum<'a> {
     pub(crate) id: u64,
-    pub(crate) node: dynamic_struct::Reader<'a>,
+    pub(crate) node: StructReader<'a>,
 }
 
 /// The entries and enums that were named so far, by number.
@@ -62,7 +67,9 @@ pub(crate) struct Entries<'a> {
 }
 
 /// The type of the structs of an entry, whose brand and node have its number.
-pub(crate) fn entry_type(number: u32) -> Type {
+pub(crate) fn entry_type(number: u32) -> Type
+    ensures { seen_type result ≡ StructType number number }
+{
     Type::from(TypeVariant::Struct(RawBrandedStructSchema {
         number,
         generic: number,
@@ -70,7 +77,9 @@ pub(crate) fn entry_type(number: u32) -> Type {
 }
 
 /// The type of an enum.
-pub(crate) fn enum_type(number: u32) -> Type {
+pub(crate) fn enum_type(number: u32) -> Type
+    ensures { seen_type result ≡ EnumType number }
+{
     Type::from(TypeVariant::Enum(RawEnumSchema { number }))
 }
 
@@ -85,7 +94,11 @@ impl<'a> Entries<'a> {
     }
 
     /// Adds an entry behind the others, and answers its number. Refused with `TooManyTypes` where there are 65,536.
-    fn add(&mut self, entry: Entry<'a>) -> Result<u32> {
+    fn add(&mut self, entry: Entry<'a>) -> Result<u32>
+        ensures number { IfOk result (λ n. n ≡ length self.old.structs.items) }
+        ensures bound { IfOk result (λ n. n < 65536) }
+        ensures kinds { IfErr result (λ e. IsPlain e.kind) }
+    {
         let number = self.structs.len();
         if number >= MOST_ENTRIES {
             return Err(Error::from(ErrorKind::TooManyTypes));
@@ -95,11 +108,9 @@ impl<'a> Entries<'a> {
     }
 
     /// The number of a struct node with bindings, which it gets where it has none.
-    pub(crate) fn number_of(
-        &mut self,
-        node: dynamic_struct::Reader<'a>,
-        bound: BoundNode,
-    ) -> Result<u32> {
+    pub(crate) fn number_of(&mut self, node: StructReader<'a>, bound: BoundNode) -> Result<u32>
+        ensures kinds { IfErr result (λ e. IsPlain e.kind) }
+    {
         if let Some(number) = self.by_binding.get(&bound) {
             return Ok(*number);
         }
@@ -121,8 +132,12 @@ impl<'a> Entries<'a> {
         id: u64,
         scopes: Vec<BoundScope>,
         place: GroupPlace,
-    ) -> Result<u32> {
-        let node = nodes.struct_node(id)?;
+    ) -> Result<u32>
+        requires { AreNodes nodes.now }
+        ensures own { IfOk result (λ n. n ≡ length self.old.structs.items) }
+        ensures kinds { IfErr result (λ e. IsPlain e.kind) }
+    {
+        let node = nodes.struct_node(id)?.get_sections();
         self.add(Entry {
             id,
             node,
@@ -132,11 +147,14 @@ impl<'a> Entries<'a> {
     }
 
     /// The number of an enum, which it gets where it has none. Refused with `NodeNotFound` where the id is no enum's.
-    pub(crate) fn number_enum(&mut self, nodes: &SchemaNodes<'a>, id: u64) -> Result<u32> {
+    pub(crate) fn number_enum(&mut self, nodes: &SchemaNodes<'a>, id: u64) -> Result<u32>
+        requires { AreNodes nodes.now }
+        ensures kinds { IfErr result (λ e. IsPlain e.kind) }
+    {
         if let Some(number) = self.by_id.get(&id) {
             return Ok(*number);
         }
-        let node = nodes.enum_node(id)?;
+        let node = nodes.enum_node(id)?.get_sections();
         let number = self.enums.len();
         if number >= u32::MAX as usize {
             return Err(Error::from(ErrorKind::TooManyTypes));

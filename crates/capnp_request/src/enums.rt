@@ -1,11 +1,14 @@
 //! Enums, as a request says them.
+ghost use Rattle.std.specs.Prelude.{◌≡◌, length, IfErr, IfOk};
+ghost use Rattle.capnp_request.specs.Nodes.{AreNodes};
+ghost use Rattle.capnp_request.specs.Refusals.{IsRefusal};
+
 use crate::annotations::annotations_of;
 use crate::context::Context;
 use crate::entries::{Entries, NamedEnum};
-use crate::parts::name_at;
-use crate::places::{ENUMERANT_ANNOTATIONS, ENUMERANT_NAME, NODE_ANNOTATIONS};
+use crate::parts::{element_at, owned, text_at};
+use crate::places::{ENUMERANT_ANNOTATIONS, ENUMERANT_NAME, NODE_ANNOTATIONS, brands};
 use crate::schema_nodes::enumerants;
-use capnp_dynamic_readers::parts::struct_at as element_at;
 use capnp_schema::record::{AnnotationTypes, EnumRecord, EnumerantRecord};
 use capnp_wire::error::Result;
 
@@ -15,24 +18,42 @@ pub(crate) fn enum_of<'a>(
     entries: &mut Entries<'a>,
     named: NamedEnum<'a>,
     display_name: String,
-) -> Result<EnumRecord> {
-    let listed = enumerants(named.node)?;
+) -> Result<EnumRecord>
+    requires nodes { AreNodes context.nodes.now }
+    ensures id { IfOk result (λ e. e.id ≡ named.entry.id) }
+    ensures own { IfOk result (λ e. length e.annotation_types.own.items ≡ length e.annotations.items) }
+    ensures children { IfOk result (λ e. length e.annotation_types.children.items ≡ length e.enumerants.items) }
+    ensures kinds { IfErr result (λ e. IsRefusal context.entry.strict e.kind) }
+{
+    let node = context.nodes.node_of(named.node);
+    let listed = enumerants(node)?;
     let mut records = Vec::new(context.alloc);
     let mut children = Vec::new(context.alloc);
     for index in 0..listed.len() {
-        let enumerant = element_at(listed, index)?;
-        let name = name_at(context.alloc, enumerant, ENUMERANT_NAME)?;
+        let enumerant = element_at(listed, index, brands::ENUMERANT)?;
+        let name = owned(
+            context.alloc,
+            text_at(enumerant, brands::ENUMERANT, ENUMERANT_NAME)?,
+        )?;
         let (annotations, types) = annotations_of(
             context,
             entries,
             &[],
             enumerant,
+            brands::ENUMERANT,
             ENUMERANT_ANNOTATIONS,
         )?;
         records.push(EnumerantRecord { name, annotations })?;
         children.push(types)?;
     }
-    let (annotations, own) = annotations_of(context, entries, &[], named.node, NODE_ANNOTATIONS)?;
+    let (annotations, own) = annotations_of(
+        context,
+        entries,
+        &[],
+        node,
+        brands::NODE,
+        NODE_ANNOTATIONS,
+    )?;
     Ok(EnumRecord {
         id: named.id,
         display_name,

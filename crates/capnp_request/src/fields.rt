@@ -1,12 +1,24 @@
 //! Fields, as a request says them.
+ghost use Rattle.std.specs.Prelude.{◌≡◌, length, string_bytes, Some, Ok, IfErr, IfOk};
+ghost use Rattle.capnp_schema.specs.Schema.{seen_kind};
+ghost use Rattle.capnp_schema.specs.Types.{seen_type};
+ghost use Rattle.capnp_records.specs.Part.{which_of};
+ghost use Rattle.capnp_dynamic_readers.specs.Seen.{record_seen};
+ghost use Rattle.capnp_request.specs.Handles.{IsRecord};
+ghost use Rattle.capnp_request.specs.Nodes.{AreNodes};
+ghost use Rattle.capnp_request.specs.Parts.{read_at};
+ghost use Rattle.capnp_request.specs.Reading.{number_in, text_in};
+ghost use Rattle.capnp_request.specs.Refusals.{IsRefusal};
+ghost use Rattle.capnp_request.specs.Shapes.{IsGroupOf, IsSlotOf};
+
 use crate::annotations::annotations_of;
 use crate::context::Context;
 use crate::entries::{BoundScope, Entries, GroupPlace, entry_type};
 use crate::notes::Seen;
-use crate::parts::{active_member, name_at, struct_at, u16_at, u32_at, u64_at};
+use crate::parts::{active_member, owned, struct_at, text_at, u16_at, u32_at, u64_at};
 use crate::places::{
     FIELD_ANNOTATIONS, FIELD_DISCRIMINANT, FIELD_GROUP, FIELD_NAME, FIELD_SLOT, GROUP_ID,
-    SLOT_DEFAULT, SLOT_OFFSET, SLOT_TYPE,
+    SLOT_DEFAULT, SLOT_OFFSET, SLOT_TYPE, brands,
 };
 use crate::scopes::is_untyped;
 use crate::types::{TYPE_LEVELS, type_of};
@@ -32,12 +44,18 @@ fn slot_of<'a>(
     inside: &[BoundScope],
     field: dynamic_struct::Reader<'a>,
     seen: &mut Seen,
-) -> Result<(FieldKind, Type)> {
-    let slot = struct_at(field, FIELD_SLOT)?;
-    let offset = u32_at(slot, SLOT_OFFSET)?;
-    let term = struct_at(slot, SLOT_TYPE)?;
+) -> Result<(FieldKind, Type)>
+    requires nodes { AreNodes context.nodes.now }
+    requires record { IsRecord 8 field }
+    requires active { which_of (record_seen field) ≡ Some 3 }
+    ensures slot { IfOk result (λ r. IsSlotOf (read_at 8 3 (record_seen field.entry)) r.0) }
+    ensures kinds { IfErr result (λ e. IsRefusal context.entry.strict e.kind) }
+{
+    let slot = struct_at(field, brands::FIELD, FIELD_SLOT, brands::SLOT)?;
+    let offset = u32_at(slot, brands::SLOT, SLOT_OFFSET)?;
+    let term = struct_at(slot, brands::SLOT, SLOT_TYPE, brands::TYPE)?;
     let field_type = type_of(context, entries, inside, term, seen, TYPE_LEVELS)?;
-    let value = struct_at(slot, SLOT_DEFAULT)?;
+    let value = struct_at(slot, brands::SLOT, SLOT_DEFAULT, brands::VALUE)?;
     let default = value_of(context.alloc, value)?;
     seen.untyped_default = is_untyped(field_type) && is_untyped_value(value)?;
     Ok((FieldKind::Slot { offset, default }, field_type))
@@ -50,9 +68,15 @@ fn group_of<'a>(
     inside: &[BoundScope],
     field: dynamic_struct::Reader<'a>,
     place: GroupPlace,
-) -> Result<(FieldKind, Type)> {
-    let group = struct_at(field, FIELD_GROUP)?;
-    let id = u64_at(group, GROUP_ID)?;
+) -> Result<(FieldKind, Type)>
+    requires nodes { AreNodes context.nodes.now }
+    requires record { IsRecord 8 field }
+    requires active { which_of (record_seen field) ≡ Some 4 }
+    ensures group { IfOk result (λ r. IsGroupOf (seen_kind r.0) (seen_type r.1)) }
+    ensures kinds { IfErr result (λ e. IsRefusal context.entry.strict e.kind) }
+{
+    let group = struct_at(field, brands::FIELD, FIELD_GROUP, brands::GROUP)?;
+    let id = u64_at(group, brands::GROUP, GROUP_ID)?;
     let scopes = inside.to_vec(context.alloc)?;
     let number = entries.number_group(context.nodes, id, scopes, place)?;
     Ok((FieldKind::Group { node: number }, entry_type(number)))
@@ -65,9 +89,17 @@ pub(crate) fn field_of<'a>(
     inside: &[BoundScope],
     field: dynamic_struct::Reader<'a>,
     place: GroupPlace,
-) -> Result<ConvertedField> {
-    let name = name_at(context.alloc, field, FIELD_NAME)?;
-    let discriminant_value = u16_at(field, FIELD_DISCRIMINANT)?;
+) -> Result<ConvertedField>
+    requires nodes { AreNodes context.nodes.now }
+    requires is_record { IsRecord 8 field }
+    ensures name { IfOk result (λ f. text_in (read_at 8 0 (record_seen field.entry)) ≡ Ok (string_bytes f.record.name)) }
+    ensures discriminant { IfOk result (λ f. number_in (read_at 8 2 (record_seen field.entry)) ≡ f.record.discriminant_value) }
+    ensures typed { IfOk result (λ f. length f.annotation_types.items ≡ length f.record.annotations.items) }
+    ensures kinds { IfErr result (λ e. IsRefusal context.entry.strict e.kind) }
+{
+    let text = text_at(field, brands::FIELD, FIELD_NAME)?;
+    let name = owned(context.alloc, text)?;
+    let discriminant_value = u16_at(field, brands::FIELD, FIELD_DISCRIMINANT)?;
     let mut seen = Seen::nothing();
     let (kind, field_type) = match active_member(field) {
         Some(FIELD_SLOT) => slot_of(context, entries, inside, field, &mut seen)?,
@@ -79,6 +111,7 @@ pub(crate) fn field_of<'a>(
         entries,
         inside,
         field,
+        brands::FIELD,
         FIELD_ANNOTATIONS,
     )?;
     Ok(ConvertedField {

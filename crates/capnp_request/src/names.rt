@@ -1,8 +1,10 @@
 //! The names of a set's structs and enums.
-ghost use Rattle.std.specs.Prelude.{◌≤◌, length};
+ghost use Rattle.std.specs.Prelude.{◌≤◌, length, IfErr};
+ghost use Rattle.capnp_request.specs.Nodes.{AreNodes};
+ghost use Rattle.capnp_request.specs.Refusals.{IsPlain};
 
 use crate::entries::{BoundScope, Entry};
-use crate::schema_nodes::display_name;
+use crate::schema_nodes::{SchemaNodes, display_name};
 use capnp_base::introspect::{Type, TypeVariant};
 use capnp_schema::record::{EnumRecord, NodeRecord};
 use capnp_wire::error::{Error, ErrorKind, Result};
@@ -37,14 +39,19 @@ pub(crate) struct Named<'m> {
 fn behind_colon(name: &[u8]) -> usize
     ensures { result ≤ length name.now }
 {
-    match name.iter().rposition(|byte| *byte == b':') {
-        Some(colon) => colon + 1,
-        None => 0,
+    let mut start = 0;
+    for index in 0..name.len() {
+        if name[index] == b':' {
+            start = index + 1;
+        }
     }
+    start
 }
 
 /// Refused with `TooManyTypes` where a name has more than 1,024 bytes.
-fn check_length(name: &[u8]) -> Result<()> {
+fn check_length(name: &[u8]) -> Result<()>
+    ensures kinds { IfErr result (λ e. IsPlain e.kind) }
+{
     if name.len() > MOST_BYTES {
         return Err(Error::from(ErrorKind::TooManyTypes));
     }
@@ -52,7 +59,9 @@ fn check_length(name: &[u8]) -> Result<()> {
 }
 
 /// Bytes as a name. Refused with `TooManyTypes` where there are more than 1,024, and with `NameNotUtf8`.
-fn finished(name: Vec<u8>) -> Result<String> {
+fn finished(name: Vec<u8>) -> Result<String>
+    ensures kinds { IfErr result (λ e. IsPlain e.kind) }
+{
     check_length(name.as_slice())?;
     match String::from_utf8(name) {
         Ok(name) => Ok(name),
@@ -61,13 +70,17 @@ fn finished(name: Vec<u8>) -> Result<String> {
 }
 
 /// Appends bytes to a name. Refused with `TooManyTypes` where it gets longer than 1,024 bytes.
-fn append(name: &mut Vec<u8>, piece: &[u8]) -> Result<()> {
+fn append(name: &mut Vec<u8>, piece: &[u8]) -> Result<()>
+    ensures kinds { IfErr result (λ e. IsPlain e.kind) }
+{
     name.extend_from_slice(piece)?;
     check_length(name.as_slice())
 }
 
 /// The name of a node without its file.
-pub(crate) fn enum_name(alloc: Global, display: &[u8]) -> Result<String> {
+pub(crate) fn enum_name(alloc: Global, display: &[u8]) -> Result<String>
+    ensures kinds { IfErr result (λ e. IsPlain e.kind) }
+{
     let dotted = &display[behind_colon(display)..];
     finished(dotted.to_vec(alloc)?)
 }
@@ -92,7 +105,9 @@ fn type_word(base: TypeVariant) -> &'static [u8] {
 }
 
 /// Appends the name of a type that is no list.
-fn append_base(name: &mut Vec<u8>, named: Named<'_>, base: TypeVariant) -> Result<()> {
+fn append_base(name: &mut Vec<u8>, named: Named<'_>, base: TypeVariant) -> Result<()>
+    ensures kinds { IfErr result (λ e. IsPlain e.kind) }
+{
     match base {
         TypeVariant::Struct(entry) => match named.structs.get(entry.number as usize) {
             Some(node) => append(name, node.display_name.as_bytes()),
@@ -107,7 +122,9 @@ fn append_base(name: &mut Vec<u8>, named: Named<'_>, base: TypeVariant) -> Resul
 }
 
 /// Appends a piece for each list around a type, of a type that has at most so many as a name has bytes.
-fn append_lists(name: &mut Vec<u8>, bound: Type, piece: &[u8]) -> Result<()> {
+fn append_lists(name: &mut Vec<u8>, bound: Type, piece: &[u8]) -> Result<()>
+    ensures kinds { IfErr result (λ e. IsPlain e.kind) }
+{
     let mut inner = bound;
     for _ in 0..MOST_BYTES {
         let TypeVariant::List(element) = inner.which() else {
@@ -120,14 +137,18 @@ fn append_lists(name: &mut Vec<u8>, bound: Type, piece: &[u8]) -> Result<()> {
 }
 
 /// Appends the name of a type.
-fn append_type(name: &mut Vec<u8>, named: Named<'_>, bound: Type) -> Result<()> {
+fn append_type(name: &mut Vec<u8>, named: Named<'_>, bound: Type) -> Result<()>
+    ensures kinds { IfErr result (λ e. IsPlain e.kind) }
+{
     append_lists(name, bound, b"List(")?;
     append_base(name, named, bound.innermost())?;
     append_lists(name, bound, b")")
 }
 
 /// Appends what is bound to a scope's parameters, in parentheses, where that isn't untyped pointers alone.
-fn append_bindings(name: &mut Vec<u8>, named: Named<'_>, scope: &BoundScope) -> Result<()> {
+fn append_bindings(name: &mut Vec<u8>, named: Named<'_>, scope: &BoundScope) -> Result<()>
+    ensures kinds { IfErr result (λ e. IsPlain e.kind) }
+{
     if scope.types.is_empty() {
         return Ok(());
     }
@@ -145,6 +166,17 @@ fn append_bindings(name: &mut Vec<u8>, named: Named<'_>, scope: &BoundScope) -> 
     append(name, b")")
 }
 
+/// How many dots a name has.
+fn dots_in(name: &[u8]) -> usize {
+    let mut dots = 0usize;
+    for byte in name {
+        if *byte == b'.' {
+            dots = dots.saturating_add(1);
+        }
+    }
+    dots
+}
+
 /// The part of a dotted name that a scope is paired with, by the number of dots in the name: the last for the node itself,
 /// and the first for a scope that has no part of its own.
 fn part_of_scope(dots: usize, distance: u32) -> usize {
@@ -158,7 +190,9 @@ fn append_part_bindings(
     scopes: &[BoundScope],
     dots: usize,
     part: usize,
-) -> Result<()> {
+) -> Result<()>
+    ensures kinds { IfErr result (λ e. IsPlain e.kind) }
+{
     for scope in scopes {
         if part_of_scope(dots, scope.distance) == part {
             append_bindings(name, named, scope)?;
@@ -173,8 +207,10 @@ fn append_dotted(
     named: Named<'_>,
     dotted: &[u8],
     scopes: &[BoundScope],
-) -> Result<()> {
-    let dots = dotted.iter().filter(|byte| **byte == b'.').count();
+) -> Result<()>
+    ensures kinds { IfErr result (λ e. IsPlain e.kind) }
+{
+    let dots = dots_in(dotted);
     let mut part = 0usize;
     for byte in dotted {
         if *byte == b'.' {
@@ -196,7 +232,9 @@ impl Names {
     }
 
     /// Whether an entry of another id had the name before; the entry has it from now on.
-    fn is_taken(&mut self, dotted: &[u8], id: u64) -> Result<bool> {
+    fn is_taken(&mut self, dotted: &[u8], id: u64) -> Result<bool>
+        ensures kinds { IfErr result (λ e. IsPlain e.kind) }
+    {
         let holder = match self.holders.get(dotted) {
             Some(holder) => Holder {
                 id: holder.id,
@@ -213,8 +251,16 @@ impl Names {
 
     /// The name of an entry that is no group: that of its node without the file, with what is bound to each scope behind
     /// the scope's part. Where an entry of another id had the name without file before, the file stands before it.
-    fn struct_name(&mut self, named: Named<'_>, entry: &Entry<'_>) -> Result<String> {
-        let display = display_name(entry.node)?;
+    fn struct_name<'a>(
+        &mut self,
+        nodes: &SchemaNodes<'a>,
+        named: Named<'_>,
+        entry: &Entry<'a>,
+    ) -> Result<String>
+        requires { AreNodes nodes.now }
+        ensures kinds { IfErr result (λ e. IsPlain e.kind) }
+    {
+        let display = display_name(nodes.node_of(entry.node))?;
         let start = behind_colon(display);
         let dotted = &display[start..];
         let mut name = Vec::new(self.alloc);
@@ -226,7 +272,9 @@ impl Names {
     }
 
     /// The name of a group: its parent's, a dot, and the name of the field.
-    fn group_name(&self, parent: &NodeRecord, field: usize) -> Result<String> {
+    fn group_name(&self, parent: &NodeRecord, field: usize) -> Result<String>
+        ensures kinds { IfErr result (λ e. IsPlain e.kind) }
+    {
         let mut name = Vec::new(self.alloc);
         append(&mut name, parent.display_name.as_bytes())?;
         if let Some(field) = parent.body.fields.get(field) {
@@ -237,13 +285,21 @@ impl Names {
     }
 
     /// The name of an entry, where those of smaller numbers have their names.
-    pub(crate) fn entry_name(&mut self, named: Named<'_>, entry: &Entry<'_>) -> Result<String> {
+    pub(crate) fn entry_name<'a>(
+        &mut self,
+        nodes: &SchemaNodes<'a>,
+        named: Named<'_>,
+        entry: &Entry<'a>,
+    ) -> Result<String>
+        requires { AreNodes nodes.now }
+        ensures kinds { IfErr result (λ e. IsPlain e.kind) }
+    {
         match entry.group {
             Some(place) => match named.structs.get(place.parent as usize) {
                 Some(parent) => self.group_name(parent, place.field),
                 None => Err(Error::from(ErrorKind::NodeNotFound)),
             },
-            None => self.struct_name(named, entry),
+            None => self.struct_name(nodes, named, entry),
         }
     }
 }

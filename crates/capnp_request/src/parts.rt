@@ -1,14 +1,23 @@
-//! What is read of the fields of the records of a request.
-//!
-//! A reader of another schema than the field's is refused as `FieldNotFound` or `TypeMismatch`; one of the request set
-//! never is.
-ghost use Rattle.std.specs.Prelude.{◌≡◌, Ok, IfOk, string_bytes};
+//! What is read of the fields of records of a request, by brand and index.
+ghost use Rattle.std.specs.Prelude.{◌≡◌, ◌<◌, pos, IfErr, IfOk, string_bytes, Ok};
+ghost use Rattle.capnp_wire.specs.Reading.{list_length};
+ghost use Rattle.capnp_wire.specs.Standing.{list_of, tree_of};
+ghost use Rattle.capnp_base.specs.AnyPointer.{pointer_of};
+ghost use Rattle.capnp_schema.specs.RequestSet.{request_set};
+ghost use Rattle.capnp_schema.specs.Schema.{field_at};
+ghost use Rattle.capnp_schema.specs.Types.{AnyPointerType, BoolType, DataType, IntType, TextType, UIntType};
 ghost use Rattle.capnp_records.specs.Part.{which_of};
-ghost use Rattle.capnp_dynamic_readers.specs.Reads.{field_seen};
-ghost use Rattle.capnp_dynamic_readers.specs.Seen.{list_seen, record_seen, value_seen};
-ghost use Rattle.capnp_dynamic_readers.specs.declared.dynamic_value.Reader.TheVariants as dynamic;
 ghost use Rattle.capnp_records.specs.Record as value;
-ghost use Rattle.capnp_request.specs.Parts.{blob, integer, name, number, text, truth};
+ghost use Rattle.capnp_dynamic_readers.specs.Handles.{list_reader_of};
+ghost use Rattle.capnp_dynamic_readers.specs.Kinds.{Int16Kind, Int32Kind, Int64Kind, Int8Kind, kind_of};
+ghost use Rattle.capnp_dynamic_readers.specs.Reads.{element_seen};
+ghost use Rattle.capnp_dynamic_readers.specs.Seen.{answered, list_seen, record_seen};
+ghost use Rattle.capnp_dynamic_readers.specs.Typed.{IsOf};
+ghost use Rattle.capnp_dynamic_readers.specs.declared.dynamic_value.Reader.TheVariants as dynamic;
+ghost use Rattle.capnp_request.specs.Conversion.{name_of};
+ghost use Rattle.capnp_request.specs.Handles.{IsActive, IsField, IsListOf, IsRecord};
+ghost use Rattle.capnp_request.specs.Parts.{many, one, read_at};
+ghost use Rattle.capnp_request.specs.Refusals.{IsPlain};
 
 use capnp_base::{any_pointer, text};
 use capnp_dynamic_readers::dynamic_value::Reader as Value;
@@ -27,177 +36,342 @@ pub(crate) fn active_member(reader: dynamic_struct::Reader<'_>) -> Option<u16>
     }
 }
 
-/// What the field of an index has.
-fn part<'a>(reader: dynamic_struct::Reader<'a>, index: u16) -> Result<Value<'a>>
-    ensures { IfOk result (λ v. value_seen v ≡ field_seen reader.entry index) }
+/// What field `index` of a record of brand `brand` has. It has to be a plain field or the active member.
+fn part<'a>(reader: dynamic_struct::Reader<'a>, brand: u32, index: u16) -> Result<Value<'a>>
+    requires record { IsRecord brand reader }
+    requires field { IsField brand index (field_at request_set brand index).type }
+    requires active { IsActive brand index reader }
+    ensures value { answered result ≡ read_at brand index (record_seen reader.entry) }
+    ensures typed { IfOk result (IsOf request_set (field_at request_set brand index).type) }
+    ensures kinds { IfErr result (λ e. IsPlain e.kind) }
 {
-    let fields = reader.get_schema().get_fields()?;
-    if index >= fields.len() {
-        return Err(Error::from(ErrorKind::FieldNotFound));
-    }
-    reader.get(fields.get(index))
+    let _brand = brand;
+    let Ok(fields) = reader.get_schema().get_fields() else {
+        unreachable!()
+    };
+    let field = fields.get(index);
+    reader.get(field)
 }
 
 /// A `u8`.
-pub(crate) fn u8_at(reader: dynamic_struct::Reader<'_>, index: u16) -> Result<u8>
-    ensures { IfOk result (λ x. number (field_seen reader.entry index) ≡ Ok x) }
+pub(crate) fn u8_at(reader: dynamic_struct::Reader<'_>, brand: u32, index: u16) -> Result<u8>
+    requires record { IsRecord brand reader }
+    requires field { IsField brand index (UIntType 1) }
+    requires active { IsActive brand index reader }
+    ensures read { IfOk result (λ x. value.Number (pos x) ≡ read_at brand index (record_seen reader.entry)) }
+    ensures refused { IfErr result (λ e. value.Fault e.kind ≡ read_at brand index (record_seen reader.entry)) }
+    ensures kinds { IfErr result (λ e. IsPlain e.kind) }
 {
-    match part(reader, index)? {
-        Value::UInt8(x) => Ok(x),
-        _ => Err(Error::type_mismatch()),
+    match part(reader, brand, index) {
+        Ok(value) => Ok(value.downcast::<u8>()),
+        Err(error) => Err(error),
     }
 }
 
 /// A `u16`.
-pub(crate) fn u16_at(reader: dynamic_struct::Reader<'_>, index: u16) -> Result<u16>
-    ensures { IfOk result (λ x. number (field_seen reader.entry index) ≡ Ok x) }
+pub(crate) fn u16_at(reader: dynamic_struct::Reader<'_>, brand: u32, index: u16) -> Result<u16>
+    requires record { IsRecord brand reader }
+    requires field { IsField brand index (UIntType 2) }
+    requires active { IsActive brand index reader }
+    ensures read { IfOk result (λ x. value.Number (pos x) ≡ read_at brand index (record_seen reader.entry)) }
+    ensures refused { IfErr result (λ e. value.Fault e.kind ≡ read_at brand index (record_seen reader.entry)) }
+    ensures kinds { IfErr result (λ e. IsPlain e.kind) }
 {
-    match part(reader, index)? {
-        Value::UInt16(x) => Ok(x),
-        _ => Err(Error::type_mismatch()),
+    match part(reader, brand, index) {
+        Ok(value) => Ok(value.downcast::<u16>()),
+        Err(error) => Err(error),
     }
 }
 
 /// A `u32`.
-pub(crate) fn u32_at(reader: dynamic_struct::Reader<'_>, index: u16) -> Result<u32>
-    ensures { IfOk result (λ x. number (field_seen reader.entry index) ≡ Ok x) }
+pub(crate) fn u32_at(reader: dynamic_struct::Reader<'_>, brand: u32, index: u16) -> Result<u32>
+    requires record { IsRecord brand reader }
+    requires field { IsField brand index (UIntType 4) }
+    requires active { IsActive brand index reader }
+    ensures read { IfOk result (λ x. value.Number (pos x) ≡ read_at brand index (record_seen reader.entry)) }
+    ensures refused { IfErr result (λ e. value.Fault e.kind ≡ read_at brand index (record_seen reader.entry)) }
+    ensures kinds { IfErr result (λ e. IsPlain e.kind) }
 {
-    match part(reader, index)? {
-        Value::UInt32(x) => Ok(x),
-        _ => Err(Error::type_mismatch()),
+    match part(reader, brand, index) {
+        Ok(value) => Ok(value.downcast::<u32>()),
+        Err(error) => Err(error),
     }
 }
 
 /// A `u64`.
-pub(crate) fn u64_at(reader: dynamic_struct::Reader<'_>, index: u16) -> Result<u64>
-    ensures { IfOk result (λ x. number (field_seen reader.entry index) ≡ Ok x) }
+pub(crate) fn u64_at(reader: dynamic_struct::Reader<'_>, brand: u32, index: u16) -> Result<u64>
+    requires record { IsRecord brand reader }
+    requires field { IsField brand index (UIntType 8) }
+    requires active { IsActive brand index reader }
+    ensures read { IfOk result (λ x. value.Number (pos x) ≡ read_at brand index (record_seen reader.entry)) }
+    ensures refused { IfErr result (λ e. value.Fault e.kind ≡ read_at brand index (record_seen reader.entry)) }
+    ensures kinds { IfErr result (λ e. IsPlain e.kind) }
 {
-    match part(reader, index)? {
-        Value::UInt64(x) => Ok(x),
-        _ => Err(Error::type_mismatch()),
+    match part(reader, brand, index) {
+        Ok(value) => Ok(value.downcast::<u64>()),
+        Err(error) => Err(error),
     }
+}
+
+/// The number of a value that is an `i8`.
+fn int8_of(value: Value<'_>) -> i8
+    requires { kind_of value ≡ Int8Kind }
+    ensures { dynamic.Int8 result ≡ value.entry }
+{
+    let Value::Int8(x) = value else {
+        unreachable!()
+    };
+    x
 }
 
 /// An `i8`.
-pub(crate) fn i8_at(reader: dynamic_struct::Reader<'_>, index: u16) -> Result<i8>
-    ensures { IfOk result (λ x. integer (field_seen reader.entry index) ≡ Ok x) }
+pub(crate) fn i8_at(reader: dynamic_struct::Reader<'_>, brand: u32, index: u16) -> Result<i8>
+    requires record { IsRecord brand reader }
+    requires field { IsField brand index (IntType 1) }
+    requires active { IsActive brand index reader }
+    ensures read { IfOk result (λ x. value.Number x ≡ read_at brand index (record_seen reader.entry)) }
+    ensures refused { IfErr result (λ e. value.Fault e.kind ≡ read_at brand index (record_seen reader.entry)) }
+    ensures kinds { IfErr result (λ e. IsPlain e.kind) }
 {
-    match part(reader, index)? {
-        Value::Int8(x) => Ok(x),
-        _ => Err(Error::type_mismatch()),
+    match part(reader, brand, index) {
+        Ok(value) => Ok(int8_of(value)),
+        Err(error) => Err(error),
     }
+}
+
+/// The number of a value that is an `i16`.
+fn int16_of(value: Value<'_>) -> i16
+    requires { kind_of value ≡ Int16Kind }
+    ensures { dynamic.Int16 result ≡ value.entry }
+{
+    let Value::Int16(x) = value else {
+        unreachable!()
+    };
+    x
 }
 
 /// An `i16`.
-pub(crate) fn i16_at(reader: dynamic_struct::Reader<'_>, index: u16) -> Result<i16>
-    ensures { IfOk result (λ x. integer (field_seen reader.entry index) ≡ Ok x) }
+pub(crate) fn i16_at(reader: dynamic_struct::Reader<'_>, brand: u32, index: u16) -> Result<i16>
+    requires record { IsRecord brand reader }
+    requires field { IsField brand index (IntType 2) }
+    requires active { IsActive brand index reader }
+    ensures read { IfOk result (λ x. value.Number x ≡ read_at brand index (record_seen reader.entry)) }
+    ensures refused { IfErr result (λ e. value.Fault e.kind ≡ read_at brand index (record_seen reader.entry)) }
+    ensures kinds { IfErr result (λ e. IsPlain e.kind) }
 {
-    match part(reader, index)? {
-        Value::Int16(x) => Ok(x),
-        _ => Err(Error::type_mismatch()),
+    match part(reader, brand, index) {
+        Ok(value) => Ok(int16_of(value)),
+        Err(error) => Err(error),
     }
+}
+
+/// The number of a value that is an `i32`.
+fn int32_of(value: Value<'_>) -> i32
+    requires { kind_of value ≡ Int32Kind }
+    ensures { dynamic.Int32 result ≡ value.entry }
+{
+    let Value::Int32(x) = value else {
+        unreachable!()
+    };
+    x
 }
 
 /// An `i32`.
-pub(crate) fn i32_at(reader: dynamic_struct::Reader<'_>, index: u16) -> Result<i32>
-    ensures { IfOk result (λ x. integer (field_seen reader.entry index) ≡ Ok x) }
+pub(crate) fn i32_at(reader: dynamic_struct::Reader<'_>, brand: u32, index: u16) -> Result<i32>
+    requires record { IsRecord brand reader }
+    requires field { IsField brand index (IntType 4) }
+    requires active { IsActive brand index reader }
+    ensures read { IfOk result (λ x. value.Number x ≡ read_at brand index (record_seen reader.entry)) }
+    ensures refused { IfErr result (λ e. value.Fault e.kind ≡ read_at brand index (record_seen reader.entry)) }
+    ensures kinds { IfErr result (λ e. IsPlain e.kind) }
 {
-    match part(reader, index)? {
-        Value::Int32(x) => Ok(x),
-        _ => Err(Error::type_mismatch()),
+    match part(reader, brand, index) {
+        Ok(value) => Ok(int32_of(value)),
+        Err(error) => Err(error),
     }
 }
 
-/// An `i64`.
-pub(crate) fn i64_at(reader: dynamic_struct::Reader<'_>, index: u16) -> Result<i64>
-    ensures { IfOk result (λ x. integer (field_seen reader.entry index) ≡ Ok x) }
+/// The number of a value that is an `i64`.
+fn int64_of(value: Value<'_>) -> i64
+    requires { kind_of value ≡ Int64Kind }
+    ensures { dynamic.Int64 result ≡ value.entry }
 {
-    match part(reader, index)? {
-        Value::Int64(x) => Ok(x),
-        _ => Err(Error::type_mismatch()),
+    let Value::Int64(x) = value else {
+        unreachable!()
+    };
+    x
+}
+
+/// An `i64`.
+pub(crate) fn i64_at(reader: dynamic_struct::Reader<'_>, brand: u32, index: u16) -> Result<i64>
+    requires record { IsRecord brand reader }
+    requires field { IsField brand index (IntType 8) }
+    requires active { IsActive brand index reader }
+    ensures read { IfOk result (λ x. value.Number x ≡ read_at brand index (record_seen reader.entry)) }
+    ensures refused { IfErr result (λ e. value.Fault e.kind ≡ read_at brand index (record_seen reader.entry)) }
+    ensures kinds { IfErr result (λ e. IsPlain e.kind) }
+{
+    match part(reader, brand, index) {
+        Ok(value) => Ok(int64_of(value)),
+        Err(error) => Err(error),
     }
 }
 
 /// A truth value.
-pub(crate) fn bool_at(reader: dynamic_struct::Reader<'_>, index: u16) -> Result<bool>
-    ensures { IfOk result (λ x. truth (field_seen reader.entry index) ≡ Ok x) }
+pub(crate) fn bool_at(reader: dynamic_struct::Reader<'_>, brand: u32, index: u16) -> Result<bool>
+    requires record { IsRecord brand reader }
+    requires field { IsField brand index BoolType }
+    requires active { IsActive brand index reader }
+    ensures read { IfOk result (λ x. value.Truth x ≡ read_at brand index (record_seen reader.entry)) }
+    ensures refused { IfErr result (λ e. value.Fault e.kind ≡ read_at brand index (record_seen reader.entry)) }
+    ensures kinds { IfErr result (λ e. IsPlain e.kind) }
 {
-    match part(reader, index)? {
-        Value::Bool(x) => Ok(x),
-        _ => Err(Error::type_mismatch()),
+    match part(reader, brand, index) {
+        Ok(value) => Ok(value.downcast::<bool>()),
+        Err(error) => Err(error),
     }
 }
 
 /// The bytes of a text.
-pub(crate) fn text_at<'a>(reader: dynamic_struct::Reader<'a>, index: u16) -> Result<&'a [u8]>
-    ensures { IfOk result (λ x. text (field_seen reader.entry index) ≡ Ok x.now) }
+pub(crate) fn text_at<'a>(
+    reader: dynamic_struct::Reader<'a>,
+    brand: u32,
+    index: u16,
+) -> Result<&'a [u8]>
+    requires record { IsRecord brand reader }
+    requires field { IsField brand index TextType }
+    requires active { IsActive brand index reader }
+    ensures read { IfOk result (λ x. value.Text x.now ≡ read_at brand index (record_seen reader.entry)) }
+    ensures refused { IfErr result (λ e. value.Fault e.kind ≡ read_at brand index (record_seen reader.entry)) }
+    ensures kinds { IfErr result (λ e. IsPlain e.kind) }
 {
-    match part(reader, index)? {
-        Value::Text(x) => Ok(x.0),
-        _ => Err(Error::type_mismatch()),
+    match part(reader, brand, index) {
+        Ok(value) => Ok(value.downcast::<text::Reader<'a>>().0),
+        Err(error) => Err(error),
     }
 }
 
 /// The bytes of a data.
-pub(crate) fn data_at<'a>(reader: dynamic_struct::Reader<'a>, index: u16) -> Result<&'a [u8]>
-    ensures { IfOk result (λ x. blob (field_seen reader.entry index) ≡ Ok x.now) }
-{
-    match part(reader, index)? {
-        Value::Data(x) => Ok(x),
-        _ => Err(Error::type_mismatch()),
-    }
-}
-
-/// A name. Refused with `NameNotUtf8` where its bytes are no UTF-8.
-pub(crate) fn name_at(
-    alloc: Global,
-    reader: dynamic_struct::Reader<'_>,
+pub(crate) fn data_at<'a>(
+    reader: dynamic_struct::Reader<'a>,
+    brand: u32,
     index: u16,
-) -> Result<String>
-    ensures { IfOk result (λ x. name (field_seen reader.entry index) ≡ Ok (string_bytes x)) }
+) -> Result<&'a [u8]>
+    requires record { IsRecord brand reader }
+    requires field { IsField brand index DataType }
+    requires active { IsActive brand index reader }
+    ensures read { IfOk result (λ x. value.«Data» x.now ≡ read_at brand index (record_seen reader.entry)) }
+    ensures refused { IfErr result (λ e. value.Fault e.kind ≡ read_at brand index (record_seen reader.entry)) }
+    ensures kinds { IfErr result (λ e. IsPlain e.kind) }
 {
-    let bytes = text_at(reader, index)?;
-    match text::Reader(bytes).to_string(alloc)? {
-        Ok(name) => Ok(name),
-        Err(_) => Err(Error::from(ErrorKind::NameNotUtf8)),
+    match part(reader, brand, index) {
+        Ok(value) => Ok(value.downcast::<&'a [u8]>()),
+        Err(error) => Err(error),
     }
 }
 
 /// An untyped pointer.
 pub(crate) fn untyped_at<'a>(
     reader: dynamic_struct::Reader<'a>,
+    brand: u32,
     index: u16,
 ) -> Result<any_pointer::Reader<'a>>
-    ensures { IfOk result (λ p. value_seen (dynamic.AnyPointer p) ≡ field_seen reader.entry index) }
+    requires record { IsRecord brand reader }
+    requires field { IsField brand index AnyPointerType }
+    requires active { IsActive brand index reader }
+    ensures read { IfOk result (λ x. value.Untyped (tree_of (pointer_of x)) ≡ read_at brand index (record_seen reader.entry)) }
+    ensures refused { IfErr result (λ e. value.Fault e.kind ≡ read_at brand index (record_seen reader.entry)) }
+    ensures kinds { IfErr result (λ e. IsPlain e.kind) }
 {
-    match part(reader, index)? {
-        Value::AnyPointer(pointer) => Ok(pointer),
-        _ => Err(Error::type_mismatch()),
+    match part(reader, brand, index) {
+        Ok(value) => Ok(value.downcast::<any_pointer::Reader<'a>>()),
+        Err(error) => Err(error),
     }
 }
 
-/// A struct or group.
+/// A copy of a name's bytes. Refused with `NameNotUtf8` where they are no UTF-8.
+pub(crate) fn owned(alloc: Global, bytes: &[u8]) -> Result<String>
+    ensures read { IfOk result (λ x. name_of bytes.now ≡ Ok (string_bytes x)) }
+    ensures kinds { IfErr result (λ e. IsPlain e.kind) }
+{
+    match text::Reader(bytes).to_str() {
+        Ok(text) => Ok(String::from_str(alloc, text)?),
+        Err(_) => Err(Error {
+            kind: ErrorKind::NameNotUtf8,
+        }),
+    }
+}
+
+/// The struct or group of a brand.
 pub(crate) fn struct_at<'a>(
     reader: dynamic_struct::Reader<'a>,
+    brand: u32,
     index: u16,
+    inner: u32,
 ) -> Result<dynamic_struct::Reader<'a>>
-    ensures { IfOk result (λ s. value.Struct (record_seen s) ≡ field_seen reader.entry index) }
+    requires record { IsRecord brand reader }
+    requires field { IsField brand index (one inner) }
+    requires active { IsActive brand index reader }
+    ensures read { IfOk result (λ s. value.Struct (record_seen s) ≡ read_at brand index (record_seen reader.entry)) }
+    ensures record { IfOk result (IsRecord inner) }
+    ensures refused { IfErr result (λ e. value.Fault e.kind ≡ read_at brand index (record_seen reader.entry)) }
+    ensures kinds { IfErr result (λ e. IsPlain e.kind) }
 {
-    match part(reader, index)? {
-        Value::Struct(inner) => Ok(inner),
-        _ => Err(Error::type_mismatch()),
+    let _inner = inner;
+    match part(reader, brand, index) {
+        Ok(value) => Ok(value.downcast::<dynamic_struct::Reader<'a>>()),
+        Err(error) => Err(error),
     }
 }
 
-/// A list.
+/// The list of structs of a brand that a field has.
 pub(crate) fn list_at<'a>(
     reader: dynamic_struct::Reader<'a>,
+    brand: u32,
     index: u16,
+    inner: u32,
 ) -> Result<dynamic_list::Reader<'a>>
-    ensures { IfOk result (λ l. list_seen l ≡ field_seen reader.entry index) }
+    requires record { IsRecord brand reader }
+    requires field { IsField brand index (many inner) }
+    requires active { IsActive brand index reader }
+    ensures read { IfOk result (λ l. list_seen l ≡ read_at brand index (record_seen reader.entry)) }
+    ensures elements { IfOk result (IsListOf (one inner)) }
+    ensures refused { IfErr result (λ e. value.Fault e.kind ≡ read_at brand index (record_seen reader.entry)) }
+    ensures kinds { IfErr result (λ e. IsPlain e.kind) }
 {
-    match part(reader, index)? {
-        Value::List(list) => Ok(list),
-        _ => Err(Error::type_mismatch()),
+    let _inner = inner;
+    match part(reader, brand, index) {
+        Ok(value) => Ok(value.downcast::<dynamic_list::Reader<'a>>()),
+        Err(error) => Err(error),
+    }
+}
+
+/// The struct that an element of a list is.
+pub(crate) fn struct_of<'a>(part: Value<'a>, inner: u32) -> dynamic_struct::Reader<'a>
+    requires { IsOf request_set (one inner) part }
+    ensures is { dynamic.Struct result ≡ part.entry }
+    ensures record { IsRecord inner result }
+{
+    let _inner = inner;
+    part.downcast::<dynamic_struct::Reader<'a>>()
+}
+
+/// An element of a list of structs of a brand.
+pub(crate) fn element_at<'a>(
+    list: dynamic_list::Reader<'a>,
+    index: u32,
+    inner: u32,
+) -> Result<dynamic_struct::Reader<'a>>
+    requires elements { IsListOf (one inner) list }
+    requires inside { index < list_length (list_of (list_reader_of list)) }
+    ensures read { IfOk result (λ s. value.Struct (record_seen s) ≡ element_seen list.entry index) }
+    ensures record { IfOk result (IsRecord inner) }
+    ensures refused { IfErr result (λ e. value.Fault e.kind ≡ element_seen list.entry index) }
+    ensures kinds { IfErr result (λ e. IsPlain e.kind) }
+{
+    let _inner = inner;
+    match list.get(index) {
+        Ok(value) => Ok(struct_of(value, inner)),
+        Err(error) => Err(error),
     }
 }

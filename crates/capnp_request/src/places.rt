@@ -1,4 +1,53 @@
-//! The fields of the request set, by index in their structs.
+//! The brands of the request set, and the fields of each by index.
+
+/// The brands, by number.
+pub(crate) mod brands {
+    pub(crate) const REQUEST: u32 = 0;
+
+    pub(crate) const FILE: u32 = 1;
+
+    pub(crate) const NODE: u32 = 2;
+
+    pub(crate) const STRUCT: u32 = 3;
+
+    pub(crate) const ENUM: u32 = 4;
+
+    pub(crate) const DECLARATION: u32 = 5;
+
+    pub(crate) const NESTED: u32 = 6;
+
+    pub(crate) const PARAMETER: u32 = 7;
+
+    pub(crate) const FIELD: u32 = 8;
+
+    pub(crate) const SLOT: u32 = 9;
+
+    pub(crate) const GROUP: u32 = 10;
+
+    pub(crate) const ENUMERANT: u32 = 11;
+
+    pub(crate) const ANNOTATION: u32 = 12;
+
+    pub(crate) const TYPE: u32 = 13;
+
+    pub(crate) const TYPE_LIST: u32 = 14;
+
+    pub(crate) const TYPE_ENUM: u32 = 15;
+
+    pub(crate) const TYPE_STRUCT: u32 = 16;
+
+    pub(crate) const TYPE_UNTYPED: u32 = 17;
+
+    pub(crate) const TYPE_PARAMETER: u32 = 18;
+
+    pub(crate) const BRAND: u32 = 19;
+
+    pub(crate) const SCOPE: u32 = 20;
+
+    pub(crate) const BINDING: u32 = 21;
+
+    pub(crate) const VALUE: u32 = 22;
+}
 
 pub(crate) const REQUEST_NODES: u16 = 0;
 
@@ -101,17 +150,5 @@ pub(crate) const SCOPE_INHERIT: u16 = 2;
 pub(crate) const BINDING_UNBOUND: u16 = 0;
 
 pub(crate) const BINDING_TYPE: u16 = 1;
-
-pub(crate) const VALUE_TEXT: u16 = 12;
-
-pub(crate) const VALUE_DATA: u16 = 13;
-
-pub(crate) const VALUE_LIST: u16 = 14;
-
-pub(crate) const VALUE_ENUM: u16 = 15;
-
-pub(crate) const VALUE_STRUCT: u16 = 16;
-
-pub(crate) const VALUE_INTERFACE: u16 = 17;
 
 pub(crate) const VALUE_UNTYPED: u16 = 18;

@@ -1,4 +1,9 @@
 //! What is bound to the type parameters of scopes.
+ghost use Rattle.std.specs.Prelude.{◌≡◌, IfErr};
+ghost use Rattle.capnp_schema.specs.Types.{AnyPointerType, seen_type};
+ghost use Rattle.capnp_request.specs.Nodes.{AreNodes};
+ghost use Rattle.capnp_request.specs.Refusals.{IsPlain};
+
 use crate::entries::BoundScope;
 use crate::schema_nodes::{GenericScope, SchemaNodes};
 use capnp_base::introspect::{Type, TypeVariant};
@@ -14,12 +19,17 @@ pub(crate) fn is_untyped(t: Type) -> bool {
 }
 
 /// An untyped pointer's type.
-pub(crate) fn untyped() -> Type {
+pub(crate) fn untyped() -> Type
+    ensures { seen_type result ≡ AnyPointerType }
+{
     Type::from(TypeVariant::AnyPointer)
 }
 
 /// The scopes of a node with nothing bound.
-pub(crate) fn unbound(alloc: Global, nodes: &SchemaNodes<'_>, id: u64) -> Result<Vec<BoundScope>> {
+pub(crate) fn unbound(alloc: Global, nodes: &SchemaNodes<'_>, id: u64) -> Result<Vec<BoundScope>>
+    requires { AreNodes nodes.now }
+    ensures kinds { IfErr result (λ e. IsPlain e.kind) }
+{
     let generic = nodes.generic_scopes(alloc, id)?;
     let mut scopes = Vec::new(alloc);
     for scope in generic.as_slice() {
@@ -52,5 +62,10 @@ pub(crate) fn bound_to(scopes: &[BoundScope], id: u64, index: u16) -> Type {
 
 /// The first scope of an id.
 pub(crate) fn scope_of(scopes: &[BoundScope], id: u64) -> Option<&BoundScope> {
-    scopes.iter().find(|scope| scope.id == id)
+    for scope in scopes {
+        if scope.id == id {
+            return Some(scope);
+        }
+    }
+    None
 }

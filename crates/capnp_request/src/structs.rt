@@ -1,18 +1,24 @@
 //! Structs, as a request says them.
+ghost use Rattle.std.specs.Prelude.{◌≡◌, length, IfErr, IfOk};
+ghost use Rattle.capnp_dynamic_readers.specs.Seen.{record_seen};
+ghost use Rattle.capnp_request.specs.Handles.{IsRecord};
+ghost use Rattle.capnp_request.specs.Nodes.{AreNodes};
+ghost use Rattle.capnp_request.specs.Refusals.{IsPlain, IsRefusal};
+ghost use Rattle.capnp_request.specs.Shapes.{HasParts, IsBrandOf};
+
 use crate::annotations::annotations_of;
 use crate::context::Context;
 use crate::entries::{BoundScope, Entries, GroupPlace};
 use crate::fields::field_of;
 use crate::notes::{Note, Seen, StandIn};
-use crate::parts::{bool_at, list_at, u16_at, u32_at};
+use crate::parts::{bool_at, element_at, list_at, u16_at, u32_at};
 use crate::places::{
     NODE_ANNOTATIONS, STRUCT_DATA_WORDS, STRUCT_DISCRIMINANT_OFFSET, STRUCT_DISCRIMINANTS,
-    STRUCT_FIELDS, STRUCT_IS_GROUP, STRUCT_POINTERS,
+    STRUCT_FIELDS, STRUCT_IS_GROUP, STRUCT_POINTERS, brands,
 };
 use crate::schema_nodes::struct_part;
 use capnp_base::introspect::Type;
 use capnp_dynamic_readers::dynamic_struct;
-use capnp_dynamic_readers::parts::struct_at as element_at;
 use capnp_schema::record::{AnnotationTypes, BrandRecord, FieldRecord, NodeRecord, StructRecord};
 use capnp_wire::error::Result;
 
@@ -24,24 +30,41 @@ struct ConvertedFields {
     annotation_types: Vec<Vec<Type>>,
 }
 
-/// Adds what is noted of a field.
-fn add_notes(notes: &mut Vec<Note>, entry: u32, field: u32, seen: Seen) -> Result<()> {
-    let kinds = [
-        (seen.float32, StandIn::Float32),
-        (seen.float64, StandIn::Float64),
-        (seen.interface, StandIn::Interface),
-        (seen.untyped_default, StandIn::UntypedDefault),
-    ];
-    for (is_seen, stand_in) in kinds {
-        if is_seen {
-            notes.push(Note {
-                entry,
-                field,
-                stand_in,
-            })?;
-        }
+/// A note on a field.
+fn note_at(entry: u32, field: u32, stand_in: StandIn) -> Note {
+    Note {
+        entry,
+        field,
+        stand_in,
+    }
+}
+
+/// Adds a note, where what it is of was seen.
+fn add_note(notes: &mut Vec<Note>, is_seen: bool, note: Note) -> Result<()>
+    ensures kinds { IfErr result (λ e. IsPlain e.kind) }
+{
+    if is_seen {
+        notes.push(note)?;
     }
     Ok(())
+}
+
+/// Adds what is noted of a field.
+fn add_notes(notes: &mut Vec<Note>, entry: u32, field: u32, seen: Seen) -> Result<()>
+    ensures kinds { IfErr result (λ e. IsPlain e.kind) }
+{
+    add_note(notes, seen.float32, note_at(entry, field, StandIn::Float32))?;
+    add_note(notes, seen.float64, note_at(entry, field, StandIn::Float64))?;
+    add_note(
+        notes,
+        seen.interface,
+        note_at(entry, field, StandIn::Interface),
+    )?;
+    add_note(
+        notes,
+        seen.untyped_default,
+        note_at(entry, field, StandIn::UntypedDefault),
+    )
 }
 
 /// The fields of an entry, by index.
@@ -52,15 +75,21 @@ fn fields_of<'a>(
     number: u32,
     part: dynamic_struct::Reader<'a>,
     notes: &mut Vec<Note>,
-) -> Result<ConvertedFields> {
-    let listed = list_at(part, STRUCT_FIELDS)?;
+) -> Result<ConvertedFields>
+    requires nodes { AreNodes context.nodes.now }
+    requires is_record { IsRecord 3 part }
+    ensures typed { IfOk result (λ fields. length fields.types.items ≡ length fields.records.items) }
+    ensures children { IfOk result (λ fields. length fields.annotation_types.items ≡ length fields.records.items) }
+    ensures kinds { IfErr result (λ e. IsRefusal context.entry.strict e.kind) }
+{
+    let listed = list_at(part, brands::STRUCT, STRUCT_FIELDS, brands::FIELD)?;
     let mut fields = ConvertedFields {
         records: Vec::new(context.alloc),
         types: Vec::new(context.alloc),
         annotation_types: Vec::new(context.alloc),
     };
     for index in 0..listed.len() {
-        let field = element_at(listed, index)?;
+        let field = element_at(listed, index, brands::FIELD)?;
         let place = GroupPlace {
             parent: number,
             field: index as usize,
@@ -72,6 +101,28 @@ fn fields_of<'a>(
         fields.annotation_types.push(converted.annotation_types)?;
     }
     Ok(fields)
+}
+
+/// What a struct has beside its name and annotations, with these fields.
+fn body_of(part: dynamic_struct::Reader<'_>, fields: Vec<FieldRecord>) -> Result<StructRecord>
+    requires { IsRecord 3 part }
+    ensures parts { IfOk result (HasParts (record_seen part.entry)) }
+    ensures fields { IfOk result (λ body. body.fields ≡ fields) }
+    ensures kinds { IfErr result (λ e. IsPlain e.kind) }
+{
+    let data_word_count = u16_at(part, brands::STRUCT, STRUCT_DATA_WORDS)?;
+    let pointer_count = u16_at(part, brands::STRUCT, STRUCT_POINTERS)?;
+    let is_group = bool_at(part, brands::STRUCT, STRUCT_IS_GROUP)?;
+    let discriminant_count = u16_at(part, brands::STRUCT, STRUCT_DISCRIMINANTS)?;
+    let discriminant_offset = u32_at(part, brands::STRUCT, STRUCT_DISCRIMINANT_OFFSET)?;
+    Ok(StructRecord {
+        data_word_count,
+        pointer_count,
+        is_group,
+        discriminant_count,
+        discriminant_offset,
+        fields,
+    })
 }
 
 /// A struct node, and the number of the entry that is made of it.
@@ -90,7 +141,13 @@ pub(crate) fn struct_of<'a>(
     place: NodePlace<'a>,
     display_name: String,
     notes: &mut Vec<Note>,
-) -> Result<(NodeRecord, BrandRecord)> {
+) -> Result<(NodeRecord, BrandRecord)>
+    requires nodes { AreNodes context.nodes.now }
+    requires is_record { IsRecord 2 place.node }
+    ensures brand { IfOk result (λ r. IsBrandOf place.entry.number r.0 r.1) }
+    ensures id { IfOk result (λ r. r.0.id ≡ place.entry.id) }
+    ensures kinds { IfErr result (λ e. IsRefusal context.entry.strict e.kind) }
+{
     let part = struct_part(place.node)?;
     let fields = fields_of(context, entries, inside, place.number, part, notes)?;
     let (annotations, own) = annotations_of(
@@ -98,16 +155,10 @@ pub(crate) fn struct_of<'a>(
         entries,
         inside,
         place.node,
+        brands::NODE,
         NODE_ANNOTATIONS,
     )?;
-    let body = StructRecord {
-        data_word_count: u16_at(part, STRUCT_DATA_WORDS)?,
-        pointer_count: u16_at(part, STRUCT_POINTERS)?,
-        is_group: bool_at(part, STRUCT_IS_GROUP)?,
-        discriminant_count: u16_at(part, STRUCT_DISCRIMINANTS)?,
-        discriminant_offset: u32_at(part, STRUCT_DISCRIMINANT_OFFSET)?,
-        fields: fields.records,
-    };
+    let body = body_of(part, fields.records)?;
     let record = NodeRecord {
         id: place.id,
         display_name,

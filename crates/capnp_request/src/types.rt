@@ -1,24 +1,34 @@
 //! Types, as a request says them, with the bindings of their brands.
+ghost use Rattle.std.specs.Prelude.{◌≡◌, false, IfErr, IfOk, IfSome, Some};
+ghost use Rattle.capnp_schema.specs.RequestSet.{request_set};
+ghost use Rattle.capnp_schema.specs.Schema.{field_at, is_member};
+ghost use Rattle.capnp_records.specs.Part.{which_of};
+ghost use Rattle.capnp_dynamic_readers.specs.Seen.{record_seen};
+ghost use Rattle.capnp_request.specs.Handles.{IsField, IsListOf, IsRecord};
+ghost use Rattle.capnp_request.specs.Nodes.{AreNodes};
+ghost use Rattle.capnp_request.specs.Parts.{one};
+ghost use Rattle.capnp_request.specs.Refusals.{IsPlain, IsRefusal};
+
 use crate::context::Context;
 use crate::entries::{BoundNode, BoundScope, Entries, entry_type, enum_type};
 use crate::notes::Seen;
-use crate::parts::{active_member, list_at, struct_at, u16_at, u64_at};
+use crate::parts::{active_member, element_at, list_at, struct_at, u16_at, u64_at};
 use crate::places::{
     BINDING_TYPE, BINDING_UNBOUND, BRAND_SCOPES, LIST_ELEMENT, NAMED_ID, PARAMETER_INDEX,
     PARAMETER_SCOPE, SCOPE_BIND, SCOPE_ID, SCOPE_INHERIT, STRUCT_BRAND, TYPE_ENUM, TYPE_LIST,
-    TYPE_STRUCT, TYPE_UNTYPED, UNTYPED_PARAMETER,
+    TYPE_STRUCT, TYPE_UNTYPED, UNTYPED_PARAMETER, brands,
 };
 use crate::schema_nodes::GenericScope;
 use crate::scopes::{bound_scope, bound_to, is_untyped, scope_of, untyped};
 use capnp_base::introspect::{Type, TypeVariant};
-use capnp_dynamic_readers::parts::struct_at as element_at;
 use capnp_dynamic_readers::{dynamic_list, dynamic_struct};
 use capnp_wire::error::{Error, ErrorKind, Result};
 
-/// Where a brand stands: a field of a record.
+/// Where a brand stands: a field of a record of a brand of the request set.
 #[derive(Clone, Copy)]
 pub(crate) struct BrandPlace<'a> {
     pub(crate) reader: dynamic_struct::Reader<'a>,
+    pub(crate) holder: u32,
     pub(crate) index: u16,
 }
 
@@ -45,7 +55,9 @@ fn plain_type(member: u16) -> Option<TypeVariant> {
 }
 
 /// A `Float32` or `Float64` as an integer of its width, with a note. Refused with `FloatType` where that is asked for.
-fn float_type(strict: bool, is_double: bool, seen: &mut Seen) -> Result<Type> {
+fn float_type(strict: bool, is_double: bool, seen: &mut Seen) -> Result<Type>
+    ensures kinds { IfErr result (λ e. IsRefusal strict e.kind) }
+{
     if strict {
         return Err(Error::from(ErrorKind::FloatType));
     }
@@ -58,7 +70,9 @@ fn float_type(strict: bool, is_double: bool, seen: &mut Seen) -> Result<Type> {
 }
 
 /// An interface as an untyped pointer, with a note. Refused with `InterfaceType` where that is asked for.
-fn interface_type(strict: bool, seen: &mut Seen) -> Result<Type> {
+fn interface_type(strict: bool, seen: &mut Seen) -> Result<Type>
+    ensures kinds { IfErr result (λ e. IsRefusal strict e.kind) }
+{
     if strict {
         return Err(Error::from(ErrorKind::InterfaceType));
     }
@@ -67,13 +81,22 @@ fn interface_type(strict: bool, seen: &mut Seen) -> Result<Type> {
 }
 
 /// An untyped pointer, or what is bound to the parameter that it is.
-fn untyped_or_bound(inside: &[BoundScope], term: dynamic_struct::Reader<'_>) -> Result<Type> {
-    let pointer = struct_at(term, TYPE_UNTYPED)?;
+fn untyped_or_bound(inside: &[BoundScope], term: dynamic_struct::Reader<'_>) -> Result<Type>
+    requires record { IsRecord 13 term }
+    requires active { which_of (record_seen term) ≡ Some 18 }
+    ensures kinds { IfErr result (λ e. IsPlain e.kind) }
+{
+    let pointer = struct_at(term, brands::TYPE, TYPE_UNTYPED, brands::TYPE_UNTYPED)?;
     match active_member(pointer) {
         Some(UNTYPED_PARAMETER) => {
-            let parameter = struct_at(pointer, UNTYPED_PARAMETER)?;
-            let scope = u64_at(parameter, PARAMETER_SCOPE)?;
-            let index = u16_at(parameter, PARAMETER_INDEX)?;
+            let parameter = struct_at(
+                pointer,
+                brands::TYPE_UNTYPED,
+                UNTYPED_PARAMETER,
+                brands::TYPE_PARAMETER,
+            )?;
+            let scope = u64_at(parameter, brands::TYPE_PARAMETER, PARAMETER_SCOPE)?;
+            let index = u16_at(parameter, brands::TYPE_PARAMETER, PARAMETER_INDEX)?;
             Ok(bound_to(inside, scope, index))
         }
         Some(_) => Ok(untyped()),
@@ -90,16 +113,22 @@ fn struct_type<'a>(
     term: dynamic_struct::Reader<'a>,
     seen: &mut Seen,
     depth: u32,
-) -> Result<Type> {
-    let named = struct_at(term, TYPE_STRUCT)?;
-    let id = u64_at(named, NAMED_ID)?;
+) -> Result<Type>
+    requires nodes { AreNodes context.nodes.now }
+    requires record { IsRecord 13 term }
+    requires active { which_of (record_seen term) ≡ Some 16 }
+    ensures kinds { IfErr result (λ e. IsRefusal context.entry.strict e.kind) }
+{
+    let named = struct_at(term, brands::TYPE, TYPE_STRUCT, brands::TYPE_STRUCT)?;
+    let id = u64_at(named, brands::TYPE_STRUCT, NAMED_ID)?;
     let node = context.nodes.struct_node(id)?;
     let place = BrandPlace {
         reader: named,
+        holder: brands::TYPE_STRUCT,
         index: STRUCT_BRAND,
     };
     let scopes = bindings_of(context, entries, inside, id, place, seen, depth)?;
-    let number = entries.number_of(node, BoundNode { id, scopes })?;
+    let number = entries.number_of(node.get_sections(), BoundNode { id, scopes })?;
     Ok(entry_type(number))
 }
 
@@ -115,7 +144,11 @@ pub(crate) fn type_of<'a>(
     term: dynamic_struct::Reader<'a>,
     seen: &mut Seen,
     depth: u32,
-) -> Result<Type> {
+) -> Result<Type>
+    requires nodes { AreNodes context.nodes.now }
+    requires is_record { IsRecord 13 term }
+    ensures kinds { IfErr result (λ e. IsRefusal context.entry.strict e.kind) }
+{
     if depth == 0 {
         return Err(Error::from(ErrorKind::TooDeep));
     }
@@ -128,20 +161,21 @@ pub(crate) fn type_of<'a>(
     match member {
         10 | 11 => float_type(context.strict, member == 11, seen),
         TYPE_LIST => {
-            let list = struct_at(term, TYPE_LIST)?;
-            let element = struct_at(list, LIST_ELEMENT)?;
+            let list = struct_at(term, brands::TYPE, TYPE_LIST, brands::TYPE_LIST)?;
+            let element = struct_at(list, brands::TYPE_LIST, LIST_ELEMENT, brands::TYPE)?;
             let element_type = type_of(context, entries, inside, element, seen, depth - 1)?;
             Ok(Type::list_of(element_type))
         }
         TYPE_ENUM => {
-            let named = struct_at(term, TYPE_ENUM)?;
-            let id = u64_at(named, NAMED_ID)?;
+            let named = struct_at(term, brands::TYPE, TYPE_ENUM, brands::TYPE_ENUM)?;
+            let id = u64_at(named, brands::TYPE_ENUM, NAMED_ID)?;
             let number = entries.number_enum(context.nodes, id)?;
             Ok(enum_type(number))
         }
         TYPE_STRUCT => struct_type(context, entries, inside, term, seen, depth - 1),
         17 => interface_type(context.strict, seen),
-        _ => untyped_or_bound(inside, term),
+        TYPE_UNTYPED => untyped_or_bound(inside, term),
+        _ => Err(Error::from(ErrorKind::UnknownKind)),
     }
 }
 
@@ -155,14 +189,20 @@ pub(crate) fn bindings_of<'a>(
     place: BrandPlace<'a>,
     seen: &mut Seen,
     depth: u32,
-) -> Result<Vec<BoundScope>> {
+) -> Result<Vec<BoundScope>>
+    requires nodes { AreNodes context.nodes.now }
+    requires record { IsRecord place.holder place.reader }
+    requires field { IsField place.holder place.index (one 19) }
+    requires plain { is_member (field_at request_set place.holder place.index).field ≡ false }
+    ensures kinds { IfErr result (λ e. IsRefusal context.entry.strict e.kind) }
+{
     let mut scopes = Vec::new(context.alloc);
     let generic = context.nodes.generic_scopes(context.alloc, id)?;
     if generic.is_empty() {
         return Ok(scopes);
     }
-    let brand = struct_at(place.reader, place.index)?;
-    let listed = list_at(brand, BRAND_SCOPES)?;
+    let brand = struct_at(place.reader, place.holder, place.index, brands::BRAND)?;
+    let listed = list_at(brand, brands::BRAND, BRAND_SCOPES, brands::SCOPE)?;
     for scope in generic.as_slice() {
         let types = scope_types(context, entries, inside, *scope, listed, seen, depth)?;
         scopes.push(bound_scope(*scope, types))?;
@@ -174,10 +214,14 @@ pub(crate) fn bindings_of<'a>(
 fn brand_scope<'a>(
     listed: dynamic_list::Reader<'a>,
     id: u64,
-) -> Result<Option<dynamic_struct::Reader<'a>>> {
+) -> Result<Option<dynamic_struct::Reader<'a>>>
+    requires { IsListOf (one 20) listed }
+    ensures record { IfOk result (λ found. IfSome found (IsRecord 20)) }
+    ensures kinds { IfErr result (λ e. IsPlain e.kind) }
+{
     for index in 0..listed.len() {
-        let scope = element_at(listed, index)?;
-        if u64_at(scope, SCOPE_ID)? == id {
+        let scope = element_at(listed, index, brands::SCOPE)?;
+        if u64_at(scope, brands::SCOPE, SCOPE_ID)? == id {
             return Ok(Some(scope));
         }
     }
@@ -194,13 +238,17 @@ fn scope_types<'a>(
     listed: dynamic_list::Reader<'a>,
     seen: &mut Seen,
     depth: u32,
-) -> Result<Vec<Type>> {
+) -> Result<Vec<Type>>
+    requires nodes { AreNodes context.nodes.now }
+    requires is_list { IsListOf (one 20) listed }
+    ensures kinds { IfErr result (λ e. IsRefusal context.entry.strict e.kind) }
+{
     let Some(said) = brand_scope(listed, scope.id)? else {
         return Ok(Vec::new(context.alloc));
     };
     match active_member(said) {
         Some(SCOPE_BIND) => {
-            let bindings = list_at(said, SCOPE_BIND)?;
+            let bindings = list_at(said, brands::SCOPE, SCOPE_BIND, brands::BINDING)?;
             bound_types(
                 context,
                 entries,
@@ -229,14 +277,18 @@ fn bound_types<'a>(
     bindings: dynamic_list::Reader<'a>,
     seen: &mut Seen,
     depth: u32,
-) -> Result<Vec<Type>> {
+) -> Result<Vec<Type>>
+    requires nodes { AreNodes context.nodes.now }
+    requires is_list { IsListOf (one 21) bindings }
+    ensures kinds { IfErr result (λ e. IsRefusal context.entry.strict e.kind) }
+{
     let mut types = Vec::new(context.alloc);
     for index in 0..bindings.len().min(parameters) {
-        let binding = element_at(bindings, index)?;
+        let binding = element_at(bindings, index, brands::BINDING)?;
         let bound = match active_member(binding) {
             Some(BINDING_UNBOUND) => untyped(),
             Some(BINDING_TYPE) => {
-                let term = struct_at(binding, BINDING_TYPE)?;
+                let term = struct_at(binding, brands::BINDING, BINDING_TYPE, brands::TYPE)?;
                 type_of(context, entries, inside, term, seen, depth)?
             }
             _ => return Err(Error::from(ErrorKind::UnknownKind)),
@@ -250,7 +302,9 @@ fn bound_types<'a>(
 }
 
 /// Adds untyped pointers until there are so many types.
-fn fill(types: &mut Vec<Type>, count: u32) -> Result<()> {
+fn fill(types: &mut Vec<Type>, count: u32) -> Result<()>
+    ensures kinds { IfErr result (λ e. IsPlain e.kind) }
+{
     for _ in types.len()..count as usize {
         types.push(untyped())?;
     }

@@ -1,53 +1,137 @@
 //! Values of defaults and annotations, as a request says them.
+ghost use Rattle.std.specs.Prelude.{◌≡◌, None, Some, Ok, IfErr, IfOk};
+ghost use Rattle.capnp_wire.specs.Message.{builder_tree};
+ghost use Rattle.capnp_wire.specs.Standing.{tree_of};
+ghost use Rattle.capnp_wire.specs.Words.{first_fault};
+ghost use Rattle.capnp_base.specs.AnyPointer.{pointer_of};
+ghost use Rattle.capnp_schema.specs.Schema.{seen_value};
+ghost use Rattle.capnp_records.specs.Part.{which_of};
+ghost use Rattle.capnp_dynamic_readers.specs.Seen.{record_seen};
+ghost use Rattle.capnp_request.specs.Handles.{IsRecord};
+ghost use Rattle.capnp_request.specs.Reading.{value_said};
+ghost use Rattle.capnp_request.specs.Refusals.{IsPlain};
+ghost use Rattle.capnp_request.specs.Values.{value_of, words_or_fault};
+
 use crate::parts::{
     active_member, bool_at, data_at, i8_at, i16_at, i32_at, i64_at, text_at, u8_at, u16_at, u32_at,
     u64_at, untyped_at,
 };
-use crate::places::{
-    VALUE_DATA, VALUE_ENUM, VALUE_INTERFACE, VALUE_LIST, VALUE_STRUCT, VALUE_TEXT, VALUE_UNTYPED,
-};
+use crate::places::{VALUE_UNTYPED, brands};
 use capnp_base::any_pointer;
 use capnp_base::traits::SetterInput;
 use capnp_dynamic_readers::dynamic_struct;
 use capnp_schema::record::ValueRecord;
 use capnp_wire::error::{Error, ErrorKind, Result};
+use capnp_wire::laws::objects_hold_no_fault;
 use capnp_wire::message::Builder;
 use std::alloc::Global;
-
-/// The word of a null pointer.
-const NULL: [u8; 8] = [0; 8];
 
 /// The bytes of the table of a message of one segment.
 const TABLE_BYTES: usize = 8;
 
-/// The words of one segment whose root pointer leads to a copy of what stands at a pointer. Refused as the first pointer
-/// there that can't be followed, in preorder, and with `TooLarge` or `OutOfMemory`.
-fn words_of(alloc: Global, pointer: any_pointer::Reader<'_>) -> Result<Vec<u8>> {
+/// A message whose root is a copy of what stands at a pointer. Refused as the first pointer there that can't be followed, in
+/// preorder, and with `OutOfMemory`.
+#[tactic(auto, using(crate::proofs::RefusedKinds::copy_kinds))]
+fn copy_of(alloc: Global, pointer: any_pointer::Reader<'_>) -> Result<Builder>
+    ensures read { IfOk result (λ m. builder_tree m ≡ tree_of (pointer_of pointer.entry)) }
+    ensures sound { IfOk result (λ _. first_fault (tree_of (pointer_of pointer.entry)) ≡ None) }
+    ensures kinds { IfErr result (λ e. IsPlain e.kind) }
+{
     let mut message = Builder::new(alloc);
     any_pointer::Reader::set_pointer_builder(message.root(), pointer, false)?;
+    objects_hold_no_fault();
+    Ok(message)
+}
+
+/// The words of one segment whose root pointer leads to a copy of what stands at a pointer. Refused as the first pointer
+/// there that can't be followed, in preorder, and with `TooLarge` or `OutOfMemory`.
+#[tactic(auto, using(crate::proofs::RefusedKinds::write_kinds))]
+fn words_of(alloc: Global, pointer: any_pointer::Reader<'_>) -> Result<Vec<u8>>
+    ensures read { IfOk result (λ w. words_or_fault (first_fault (tree_of (pointer_of pointer.entry))) (tree_of (pointer_of pointer.entry)) ≡ Ok w.items) }
+    ensures kinds { IfErr result (λ e. IsPlain e.kind) }
+{
+    let message = copy_of(alloc, pointer)?;
     let bytes = message.write_message()?;
-    let mut words = Vec::new(alloc);
-    if bytes.len() >= TABLE_BYTES {
-        words.extend_from_slice(&bytes[TABLE_BYTES..])?;
-    }
+    let start = bytes.len().min(TABLE_BYTES);
+    let words = bytes[start..].to_vec(alloc)?;
     Ok(words)
+}
+
+/// A copy of bytes.
+fn copied(alloc: Global, bytes: &[u8]) -> Result<Vec<u8>>
+    ensures read { IfOk result (λ copy. copy.items ≡ bytes.now) }
+    ensures kinds { IfErr result (λ e. IsPlain e.kind) }
+{
+    Ok(bytes.to_vec(alloc)?)
 }
 
 /// The value of a member that stands in the data section. Floats are their bits. Refused with `UnknownKind` for another
 /// member.
-fn data_value(reader: dynamic_struct::Reader<'_>, member: u16) -> Result<ValueRecord> {
+fn data_value(reader: dynamic_struct::Reader<'_>, member: u16) -> Result<ValueRecord>
+    requires is_record { IsRecord 22 reader }
+    requires active { which_of (record_seen reader) ≡ Some member }
+    ensures read { IfOk result (λ v. value_of (value_said (record_seen reader.entry)) ≡ Ok (seen_value v)) }
+    ensures kinds { IfErr result (λ e. IsPlain e.kind) }
+{
     match member {
         0 => Ok(ValueRecord::Void),
-        1 => Ok(ValueRecord::Bool(bool_at(reader, 1)?)),
-        2 => Ok(ValueRecord::Int8(i8_at(reader, 2)?)),
-        3 => Ok(ValueRecord::Int16(i16_at(reader, 3)?)),
-        4 => Ok(ValueRecord::Int32(i32_at(reader, 4)?)),
-        5 => Ok(ValueRecord::Int64(i64_at(reader, 5)?)),
-        6 => Ok(ValueRecord::UInt8(u8_at(reader, 6)?)),
-        7 => Ok(ValueRecord::UInt16(u16_at(reader, 7)?)),
-        8 | 10 => Ok(ValueRecord::UInt32(u32_at(reader, member)?)),
-        9 | 11 => Ok(ValueRecord::UInt64(u64_at(reader, member)?)),
-        VALUE_ENUM => Ok(ValueRecord::Enum(u16_at(reader, VALUE_ENUM)?)),
+        1 => Ok(ValueRecord::Bool(bool_at(reader, brands::VALUE, 1)?)),
+        2 => Ok(ValueRecord::Int8(i8_at(reader, brands::VALUE, 2)?)),
+        3 => Ok(ValueRecord::Int16(i16_at(reader, brands::VALUE, 3)?)),
+        4 => Ok(ValueRecord::Int32(i32_at(reader, brands::VALUE, 4)?)),
+        5 => Ok(ValueRecord::Int64(i64_at(reader, brands::VALUE, 5)?)),
+        6 => Ok(ValueRecord::UInt8(u8_at(reader, brands::VALUE, 6)?)),
+        7 => Ok(ValueRecord::UInt16(u16_at(reader, brands::VALUE, 7)?)),
+        8 => Ok(ValueRecord::UInt32(u32_at(reader, brands::VALUE, 8)?)),
+        9 => Ok(ValueRecord::UInt64(u64_at(reader, brands::VALUE, 9)?)),
+        10 => Ok(ValueRecord::UInt32(u32_at(reader, brands::VALUE, 10)?)),
+        11 => Ok(ValueRecord::UInt64(u64_at(reader, brands::VALUE, 11)?)),
+        15 => Ok(ValueRecord::Enum(u16_at(reader, brands::VALUE, 15)?)),
+        _ => Err(Error::from(ErrorKind::UnknownKind)),
+    }
+}
+
+/// The value of a member that stands behind a pointer. Refused with `UnknownKind` for another member.
+fn pointer_value(
+    alloc: Global,
+    reader: dynamic_struct::Reader<'_>,
+    member: u16,
+) -> Result<ValueRecord>
+    requires is_record { IsRecord 22 reader }
+    requires active { which_of (record_seen reader) ≡ Some member }
+    ensures read { IfOk result (λ v. value_of (value_said (record_seen reader.entry)) ≡ Ok (seen_value v)) }
+    ensures kinds { IfErr result (λ e. IsPlain e.kind) }
+{
+    match member {
+        12 => {
+            let text = text_at(reader, brands::VALUE, 12)?;
+            let letters = copied(alloc, text)?;
+            Ok(ValueRecord::Text(letters))
+        }
+        13 => {
+            let data = data_at(reader, brands::VALUE, 13)?;
+            let bytes = copied(alloc, data)?;
+            Ok(ValueRecord::Data(bytes))
+        }
+        14 => {
+            let list = untyped_at(reader, brands::VALUE, 14)?;
+            let elements = words_of(alloc, list)?;
+            Ok(ValueRecord::List(elements))
+        }
+        16 => {
+            let inner = untyped_at(reader, brands::VALUE, 16)?;
+            let words = words_of(alloc, inner)?;
+            Ok(ValueRecord::Struct(words))
+        }
+        17 => {
+            let nothing = copied(alloc, &[0; 8])?;
+            Ok(ValueRecord::AnyPointer(nothing))
+        }
+        18 => {
+            let _untyped = untyped_at(reader, brands::VALUE, 18)?;
+            let null = copied(alloc, &[0; 8])?;
+            Ok(ValueRecord::AnyPointer(null))
+        }
         _ => Err(Error::from(ErrorKind::UnknownKind)),
     }
 }
@@ -56,25 +140,28 @@ fn data_value(reader: dynamic_struct::Reader<'_>, member: u16) -> Result<ValueRe
 ///
 /// A struct or list is its words. An interface and an untyped value are a null untyped pointer, whatever stands there.
 /// Refused with `UnknownKind` for another kind, as the parts that are read, and with `OutOfMemory`.
-pub(crate) fn value_of(alloc: Global, reader: dynamic_struct::Reader<'_>) -> Result<ValueRecord> {
+pub(crate) fn value_of(alloc: Global, reader: dynamic_struct::Reader<'_>) -> Result<ValueRecord>
+    requires { IsRecord 22 reader }
+    ensures read { IfOk result (λ v. value_of (value_said (record_seen reader.entry)) ≡ Ok (seen_value v)) }
+    ensures kinds { IfErr result (λ e. IsPlain e.kind) }
+{
     let Some(member) = active_member(reader) else {
         return Err(Error::from(ErrorKind::UnknownKind));
     };
     match member {
-        VALUE_TEXT => Ok(ValueRecord::Text(text_at(reader, member)?.to_vec(alloc)?)),
-        VALUE_DATA => Ok(ValueRecord::Data(data_at(reader, member)?.to_vec(alloc)?)),
-        VALUE_LIST => Ok(ValueRecord::List(words_of(alloc, untyped_at(reader, member)?)?)),
-        VALUE_STRUCT => Ok(ValueRecord::Struct(words_of(alloc, untyped_at(reader, member)?)?)),
-        VALUE_INTERFACE | VALUE_UNTYPED => Ok(ValueRecord::AnyPointer(NULL.to_vec(alloc)?)),
+        12 | 13 | 14 | 16 | 17 | 18 => pointer_value(alloc, reader, member),
         _ => data_value(reader, member),
     }
 }
 
 /// Whether a value is an untyped pointer that isn't null.
-pub(crate) fn is_untyped_value(reader: dynamic_struct::Reader<'_>) -> Result<bool> {
+pub(crate) fn is_untyped_value(reader: dynamic_struct::Reader<'_>) -> Result<bool>
+    requires { IsRecord 22 reader }
+    ensures kinds { IfErr result (λ e. IsPlain e.kind) }
+{
     match active_member(reader) {
         Some(VALUE_UNTYPED) => {
-            let pointer = untyped_at(reader, VALUE_UNTYPED)?;
+            let pointer = untyped_at(reader, brands::VALUE, VALUE_UNTYPED)?;
             Ok(!pointer.is_null())
         }
         _ => Ok(false),

@@ -2,9 +2,13 @@
 use crate::messages::{
     ADDRESS_BOOK, GENERIC, NOTES, PAIR, PAIR_TEXT, PEOPLE, PEOPLE_TEXT, USE, USE_TEXT,
 };
+use crate::more_messages::{
+    ALL, DEFAULTS, ENDLESS, ID, PAIR_OF_M, SAMPLE, TELEMETRY, TWO_FILES, UNTYPED,
+};
 use capnp_dynamic_readers::printer::print;
 use capnp_dynamic_readers::{dynamic_struct, dynamic_value};
 use capnp_request::{Converted, Note, StandIn, read_request};
+use capnp_schema::record::{AnnotationRecord, FieldKind, ValueRecord};
 use capnp_schema::request;
 use capnp_schema::set::SchemaSet;
 use capnp_wire::error::{ErrorKind, Result};
@@ -60,7 +64,7 @@ fn text_of(
 #[test]
 fn entries_are_named_in_order(rt: HostRuntime) -> std::result::Result<(), Fail> {
     let alloc = rt.alloc();
-    let rows: [(&[u8], &str); 3] = [
+    let rows: [(&[u8], &str); 5] = [
         (
             ADDRESS_BOOK.as_slice(),
             "Person;AddressBook;Person.PhoneNumber;Person.employment;",
@@ -70,6 +74,15 @@ fn entries_are_named_in_order(rt: HostRuntime) -> std::result::Result<(), Fail> 
             "Map;Use;Map.Entry;Map.extra;Map(Text, Data);Map(Text, Use);Map(Text, Data).Entry;Map(List(UInt8), Map(Text, Use));Map(Text, Data).extra;Map(Text, Use).Entry;Map(Text, Use).extra;Map(List(UInt8), Map(Text, Use)).Entry;Map(List(UInt8), Map(Text, Use)).extra;Map(Data, Text);Map(Use, Text);Map(Map(Text, Use), List(UInt8));Map(Data, Text).Entry;Map(Data, Text).extra;Map(Use, Text).Entry;Map(Use, Text).extra;Map(Map(Text, Use), List(UInt8)).Entry;Map(Map(Text, Use), List(UInt8)).extra;",
         ),
         (NOTES.as_slice(), "Shape;Floats;Floats.g;"),
+        (
+            TELEMETRY.as_slice(),
+            "Sample;Sample.burst;Sample.burst.place;",
+        ),
+        // The files are in the order of the command line; an inherited binding and an explicit one are one entry.
+        (
+            TWO_FILES.as_slice(),
+            "Id;Outer;base.capnp:Id;Outer.Inner;Outer(Text).Inner;",
+        ),
     ];
     for (bytes, names) in rows {
         let made = converted(alloc, bytes, false)?;
@@ -82,7 +95,7 @@ fn entries_are_named_in_order(rt: HostRuntime) -> std::result::Result<(), Fail> 
 #[test]
 fn messages_have_the_texts_of_the_public_tool(rt: HostRuntime) -> std::result::Result<(), Fail> {
     let alloc = rt.alloc();
-    let rows: [(&[u8], &str, &[u8], &str); 3] = [
+    let rows: [(&[u8], &str, &[u8], &str); 6] = [
         (
             ADDRESS_BOOK.as_slice(),
             "AddressBook",
@@ -96,6 +109,24 @@ fn messages_have_the_texts_of_the_public_tool(rt: HostRuntime) -> std::result::R
             PAIR_TEXT,
         ),
         (GENERIC.as_slice(), "Use", USE.as_slice(), USE_TEXT),
+        (
+            TELEMETRY.as_slice(),
+            "Sample",
+            SAMPLE.as_slice(),
+            "(burst = (place = (cell = [[1], [], [2, 3]]), count = 3), at = 9, tail = true)",
+        ),
+        (
+            DEFAULTS.as_slice(),
+            "All",
+            ALL.as_slice(),
+            "(a = true, b = -1, c = -2, d = -3, e = -4, f = 5, g = 6, h = 7, i = 8, l = green, p = ())",
+        ),
+        (
+            TWO_FILES.as_slice(),
+            "Id",
+            ID.as_slice(),
+            "(of = (low = 3), same = (value = \"v\", said = (value = \"w\")))",
+        ),
     ];
     for (request_bytes, name, message_bytes, expected) in rows {
         let text = text_of(alloc, request_bytes, name, message_bytes)?;
@@ -133,4 +164,80 @@ fn floats_are_refused_where_that_is_asked_for(rt: HostRuntime) {
         Ok(_) => assert!(rt; false),
         Err(error) => assert!(rt; error.kind == ErrorKind::FloatType),
     }
+}
+
+#[test]
+fn an_untyped_default_is_noted(rt: HostRuntime) -> std::result::Result<(), Fail> {
+    let made = converted(rt.alloc(), UNTYPED.as_slice(), true)?;
+    let wanted = Note {
+        entry: 1,
+        field: 0,
+        stand_in: StandIn::UntypedDefault,
+    };
+    assert!(rt; made.notes.as_slice() == [wanted].as_slice());
+    Ok(())
+}
+
+#[test]
+fn endless_generics_are_refused(rt: HostRuntime) {
+    match converted(rt.alloc(), ENDLESS.as_slice(), false) {
+        Ok(_) => assert!(rt; false),
+        Err(error) => assert!(rt; error.kind == ErrorKind::TooManyTypes),
+    }
+}
+
+/// Appends the text of each annotation that is one, and `-` for every other, each with a semicolon behind it.
+fn append_annotations(said: &mut Vec<u8>, annotations: &[AnnotationRecord]) -> Result<()> {
+    for annotation in annotations {
+        match &annotation.value {
+            ValueRecord::Text(text) => said.extend_from_slice(text.as_slice())?,
+            _ => said.push(b'-')?,
+        }
+        said.push(b';')?;
+    }
+    Ok(())
+}
+
+#[test]
+fn annotations_stand_where_they_are_written(rt: HostRuntime) -> std::result::Result<(), Fail> {
+    let alloc = rt.alloc();
+    let made = converted(alloc, DEFAULTS.as_slice(), false)?;
+    let mut said = Vec::new(alloc);
+    for node in &made.nodes {
+        append_annotations(&mut said, node.annotations.as_slice())?;
+        for field in &node.body.fields {
+            append_annotations(&mut said, field.annotations.as_slice())?;
+        }
+    }
+    for named in &made.enums {
+        append_annotations(&mut said, named.annotations.as_slice())?;
+        for enumerant in &named.enumerants {
+            append_annotations(&mut said, enumerant.annotations.as_slice())?;
+        }
+    }
+    let wanted: &[u8] = b"struct;-;group;field;enum;enumerant;-;";
+    assert!(rt; said.as_slice() == wanted);
+    Ok(())
+}
+
+#[test]
+fn defaults_of_structs_are_their_words(rt: HostRuntime) -> std::result::Result<(), Fail> {
+    let made = converted(rt.alloc(), DEFAULTS.as_slice(), false)?;
+    let mut found = 0;
+    for node in &made.nodes {
+        for field in &node.body.fields {
+            if let FieldKind::Slot {
+                default: ValueRecord::Struct(words),
+                ..
+            } = &field.kind
+            {
+                if words.len() > 8 {
+                    assert!(rt; words.as_slice() == PAIR_OF_M.as_slice());
+                    found += 1;
+                }
+            }
+        }
+    }
+    assert_eq!(rt; found, 1);
+    Ok(())
 }

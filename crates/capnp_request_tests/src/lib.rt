@@ -5,3 +5,5 @@
 mod conversion_tests;
 #[cfg(test)]
 mod messages;
+#[cfg(test)]
+mod more_messages;

@@ -1,0 +1,13 @@
+use Rattle.std.proofs.Common.{ap, refl, ◌∙◌}
+use Rattle.capnp_schema.specs.RequestSet.{request_set}
+use Rattle.capnp_schema.specs.Schema.{field_at}
+use Rattle.capnp_schema.specs.Types.{DataType}
+use Rattle.capnp_dynamic_readers.specs.Seen.{value_seen}
+use Rattle.capnp_request.proofs.Taken.{kind_is}
+use Rattle.capnp_request.proofs.parts.data_at.Goals as goal
+
+pub downcast-requires : goal.downcast-requires
+downcast-requires c = λ k. ((refl, tt), kind_is request_set (field_at request_set c.args.brand c.args.index).type DataType c.in-Ok.value c.in-Ok.ensures.typed c.requires.field.1)
+
+pub returns-in-Ok-clause-read : goal.returns-in-Ok-clause-read
+returns-in-Ok-clause-read c = ap value_seen c.downcast.ensures ∙ c.in-Ok.ensures.value

@@ -1,0 +1,49 @@
+-- Brands and the nodes that they are of: brand i is of node i, and has a type for each of its fields and annotations.
+use Rattle.std.specs.Prelude.{ℕ, ◌≡◌, List, [], ◌∷◌, length, suc, ⊤, Ok}
+use Rattle.capnp_schema.specs.declared.record.BrandRecord.{BrandRecord}
+use Rattle.capnp_schema.specs.declared.record.FieldKind.{FieldKind as KindRecord}
+use Rattle.capnp_schema.specs.declared.record.NodeRecord.{NodeRecord}
+use Rattle.capnp_schema.specs.declared.record.StructRecord.{StructRecord}
+use Rattle.capnp_records.specs.Record as value
+use Rattle.capnp_records.specs.Record.{Record}
+use Rattle.capnp_records.specs.Record.{Value as RecordValue}
+use Rattle.capnp_schema.specs.Schema.{FieldKind, Group, Slot, Value, seen_kind}
+use Rattle.capnp_schema.specs.Types.{SchemaType, StructType}
+use Rattle.capnp_request.specs.Parts.{read_at}
+use Rattle.capnp_request.specs.Reading.{number_in, truth_in, value_in}
+use Rattle.capnp_request.specs.Values.{value_of}
+
+-- a brand of node number i: a type for each field, for each annotation of its own, and a list of types for each field
+pub record IsBrandOf (i : ℕ) (n : NodeRecord) (b : BrandRecord) : Type 0 where
+  pub number : b.node ≡ i
+  pub fields : length b.field_types.items ≡ length n.body.fields.items
+  pub own : length b.annotation_types.own.items ≡ length n.annotations.items
+  pub children : length b.annotation_types.children.items ≡ length n.body.fields.items
+
+-- brands of these nodes, one each, from number i on
+abbrev pub AreBrandsFrom : ℕ → List NodeRecord → List BrandRecord → Type 0
+AreBrandsFrom i [] [] = ⊤
+AreBrandsFrom i [] (b ∷ bs) = ⊥
+AreBrandsFrom i (n ∷ ns) [] = ⊥
+AreBrandsFrom i (n ∷ ns) (b ∷ bs) = IsBrandOf i n b × AreBrandsFrom (suc i) ns bs
+
+abbrev pub AreBrandsOf : List NodeRecord → List BrandRecord → Type 0
+AreBrandsOf nodes brands = AreBrandsFrom 0 nodes brands
+
+-- the sections, the group mark and the discriminant of a struct are those that the struct part of its node says
+pub record HasParts (part : Record) (body : StructRecord) : Type 0 where
+  pub data_words : number_in (read_at 3 0 part) ≡ body.data_word_count
+  pub pointers : number_in (read_at 3 1 part) ≡ body.pointer_count
+  pub group : truth_in (read_at 3 2 part) ≡ body.is_group
+  pub discriminant_count : number_in (read_at 3 3 part) ≡ body.discriminant_count
+  pub discriminant_offset : number_in (read_at 3 4 part) ≡ body.discriminant_offset
+
+-- a slot has the offset that it says, and the value of its default
+abbrev pub IsSlotOf : RecordValue → KindRecord → Type 0
+IsSlotOf (value.Struct s) k = (v : Value) × (seen_kind k ≡ Slot (number_in (read_at 9 0 s)) v) × (value_of (value_in (read_at 9 2 s)) ≡ Ok v)
+IsSlotOf part k = ⊥
+
+-- a group's field is of the entry that the group is
+abbrev pub IsGroupOf : FieldKind → SchemaType → Type 0
+IsGroupOf (Group number) t = t ≡ StructType number number
+IsGroupOf (Slot offset default) t = ⊥
