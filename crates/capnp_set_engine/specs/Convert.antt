@@ -1,9 +1,9 @@
 -- What is written and told for the bytes of a stream.
-use Rattle.std.specs.Prelude.{ℕ, ◌≡◌, ◌≢◌, ◌⊎◌, ◌<◌, List, Bool, length, take, Option, Ok, Err}
+use Rattle.std.specs.Prelude.{ℕ, ◌≡◌, ◌≢◌, ◌⊎◌, ◌<◌, ◌≤◌, ◌^◌, List, Bool, length, take, Option, Ok, Err}
 use Rattle.std.specs.Io.KnownBytes.{Appends}
 use Rattle.capnp_device.specs.declared.error.Error.{Error}
 use Rattle.capnp_device.specs.declared.error.ErrorKind.{ErrorKind}
-use Rattle.capnp_device.specs.declared.error.ErrorKind.TheVariants.{TooLarge}
+use Rattle.capnp_device.specs.declared.error.ErrorKind.TheVariants.{SizePastFormat, TooLarge, UnknownKind}
 use Rattle.capnp_wire.specs.Stream.{message_tree_of}
 use Rattle.capnp_wire.specs.Tree.{StructTree}
 use Rattle.capnp_schema.specs.Accepted.{IsAccepted}
@@ -12,6 +12,7 @@ use Rattle.capnp_schema.specs.Schema.{Schemas, seen_schemas}
 use Rattle.capnp_request.specs.Refusals.{IsRefusal}
 use Rattle.capnp_request.specs.Shapes.{AreBrandsOf}
 use Rattle.capnp_request.specs.declared.conversion.Converted.{Converted}
+use Rattle.capnp_set_writer.specs.Limits.{HasFormless, IsPastFormat, message_words}
 use Rattle.capnp_set_writer.specs.Message.{IsReadAsSet}
 use Rattle.capnp_set_writer.specs.Writes.{IsWriteRefusal}
 use Rattle.capnp_sets.specs.Message.{root_struct}
@@ -59,9 +60,17 @@ pub record IsSetOf (bytes message lines : List ℕ) : Type 0 where
 abbrev pub IsUnread : (strict : Bool) → List ℕ → ErrorKind → Type 0
 IsUnread strict bytes kind = (root_struct (message_tree_of bytes) ≡ Err kind) ⊎ ((root : StructTree) × IsRoot bytes root × IsRefusal strict kind)
 
--- no message is made of a conversion: its lists break a rule, or they are accepted and can't be written
+-- an accepted set has no message: a value of it has no kind in the form, or a text, list or the whole is too long
+pub record IsUnwritable (set : Schemas) (kind : ErrorKind) : Type 0 where
+  pub accepted : IsAccepted set
+  pub cause : kind ≢ TooLarge → IsWriteRefusal kind
+  pub formless : kind ≡ UnknownKind → HasFormless set
+  pub past : kind ≡ SizePastFormat → IsPastFormat set
+  pub large : kind ≡ TooLarge → 2 ^ 29 ≤ message_words set
+
+-- no message is made of a conversion: its lists break a rule, or they are accepted and have none
 abbrev pub IsUnwritten : Converted → Error → Type 0
-IsUnwritten c e = IsRefusalOf (set_in c) e ⊎ (IsAccepted (set_in c) × (e.kind ≢ TooLarge → IsWriteRefusal e.kind))
+IsUnwritten c e = IsRefusalOf (set_in c) e ⊎ IsUnwritable (set_in c) e.kind
 
 -- no message is made of the request in these bytes
 abbrev pub HasNoSet : (strict : Bool) → List ℕ → Error → Type 0

@@ -1,9 +1,10 @@
 use Rattle.std.proofs.Common.{inr, sym}
+use Rattle.std.proofs.lemmas.Result.{err_from_is_err_and}
 use Rattle.capnp_wire.specs.Message.{message_tree}
 use Rattle.capnp_wire.specs.Standing.{levels_of, struct_of, tree_of}
 use Rattle.capnp_sets.specs.Facts.RootRead.{root_entered}
 use Rattle.capnp_set_engine.proofs.Made.{each_answer, each_refusal}
-use Rattle.capnp_set_engine.proofs.Refusals.{of_request}
+use Rattle.capnp_set_engine.proofs.Refusals.{of_request, root_of_read}
 use Rattle.capnp_set_engine.proofs.engine.read_conversion.Goals as goal
 
 pub returns-clause-converted : goal.returns-clause-converted
@@ -18,3 +19,8 @@ returns-clause-refused c =
 
 pub returns-clause-of_no_device : goal.returns-clause-of_no_device
 returns-clause-of_no_device c = each_refusal c.read_request.result (λ e h. of_request c.args.strict e.kind h) c.read_request.ensures.kinds
+
+pub returns-in_err-root-clause-of_no_device : goal.returns-in_err-root-clause-of_no_device
+returns-in_err-root-clause-of_no_device c =
+    let p = err_from_is_err_and c.from_residual-in_err-root.result c.from_residual-in_err-root.ensures.1 in rw (p.1, p.2)
+    (root_of_read (tree_of c.get_root.result) (levels_of c.get_root.result) _ c.get_root.ensures.levels c.in_err-root.ensures.read)
