@@ -40,7 +40,7 @@ fn a_message_is_shown_under_the_set_of_a_request(rt: HostRuntime) -> Result<(), 
     let alloc = rt.alloc();
     let made = outcome(alloc, "", &REQUEST)?;
     assert_eq!(rt; made.status, 0);
-    assert!(rt; made.errors.as_slice() == b"Probe.level: Float32 stands as UInt32\n");
+    assert!(rt; made.errors.as_slice() == "Probe.level: Float32 stands as UInt32\n".as_bytes());
     let mut set_source = MemorySource::new(made.sink.as_slice(), 4096, None);
     let mut source = MemorySource::new(&MESSAGE, 4096, None);
     let mut shown = MemorySink::new(alloc, 4096, None);
@@ -53,7 +53,7 @@ fn a_message_is_shown_under_the_set_of_a_request(rt: HostRuntime) -> Result<(), 
         false,
     )?;
     // 1.5 is 0x3fc00000.
-    assert!(rt; shown.as_slice() == b"(level = 1069547520, name = \"deep\")\n");
+    assert!(rt; shown.as_slice() == "(level = 1069547520, name = \"deep\")\n".as_bytes());
     Ok(())
 }
 
@@ -81,7 +81,7 @@ fn each_beginning_of_a_request_is_refused(rt: HostRuntime) -> Result<(), Fail> {
         let made = outcome(rt.alloc(), "", &REQUEST[..end])?;
         assert_eq!(rt; made.status, 1);
         assert!(rt; made.sink.as_slice().is_empty());
-        assert!(rt; made.errors.as_slice() == b"refused: 2\n");
+        assert!(rt; made.errors.as_slice() == "refused: 2\n".as_bytes());
     }
     Ok(())
 }
