@@ -19,7 +19,7 @@ struct Outcome {
 }
 
 /// The program on these words, each with a comma after it, and these bytes.
-fn outcome(alloc: Global, words: &str, bytes: &[u8]) -> Result<Outcome, Fail> {
+fn run_on(alloc: Global, words: &str, bytes: &[u8]) -> Result<Outcome, Fail> {
     let mut list = Vec::new(alloc);
     for word in words.split_terminator(',') {
         list.push(String::from_str(alloc, word)?)?;
@@ -38,7 +38,7 @@ fn outcome(alloc: Global, words: &str, bytes: &[u8]) -> Result<Outcome, Fail> {
 #[test]
 fn a_message_is_shown_under_the_set_of_a_request(rt: HostRuntime) -> Result<(), Fail> {
     let alloc = rt.alloc();
-    let made = outcome(alloc, "", &REQUEST)?;
+    let made = run_on(alloc, "", &REQUEST)?;
     assert_eq!(rt; made.status, 0);
     assert!(rt; made.errors.as_slice() == "Probe.level: Float32 stands as UInt32\n".as_bytes());
     let mut set_source = MemorySource::new(made.sink.as_slice(), 4096, None);
@@ -67,7 +67,7 @@ fn other_words_and_what_is_no_request_write_nothing(rt: HostRuntime) -> Result<(
         ("--help", b"", 2, USAGE),
     ];
     for (words, bytes, status, told) in rows {
-        let made = outcome(rt.alloc(), words, bytes)?;
+        let made = run_on(rt.alloc(), words, bytes)?;
         assert_eq!(rt; made.status, status);
         assert!(rt; made.sink.as_slice().is_empty());
         assert!(rt; made.errors.as_slice() == told.as_bytes());
@@ -78,7 +78,7 @@ fn other_words_and_what_is_no_request_write_nothing(rt: HostRuntime) -> Result<(
 #[test]
 fn each_beginning_of_a_request_is_refused(rt: HostRuntime) -> Result<(), Fail> {
     for end in 0..REQUEST.len() {
-        let made = outcome(rt.alloc(), "", &REQUEST[..end])?;
+        let made = run_on(rt.alloc(), "", &REQUEST[..end])?;
         assert_eq!(rt; made.status, 1);
         assert!(rt; made.sink.as_slice().is_empty());
         assert!(rt; made.errors.as_slice() == "refused: 2\n".as_bytes());
@@ -98,7 +98,7 @@ fn a_request_with_a_broken_word_is_converted_or_refused(rt: HostRuntime) -> Resu
             for at in 8 * word..8 * word + 8 {
                 bytes[at] ^= mask;
             }
-            let made = outcome(rt.alloc(), "", &bytes)?;
+            let made = run_on(rt.alloc(), "", &bytes)?;
             assert!(rt; made.status <= 1);
             assert!(rt; made.sink.as_slice().is_empty() == (made.status == 1));
             assert!(rt; made.status == 0 || made.errors.as_slice().starts_with(b"refused: "));
