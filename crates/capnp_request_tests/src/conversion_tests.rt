@@ -223,7 +223,7 @@ fn annotations_stand_where_they_are_written(rt: HostRuntime) -> std::result::Res
 #[test]
 fn defaults_of_structs_are_their_words(rt: HostRuntime) -> std::result::Result<(), Fail> {
     let made = converted(rt.alloc(), DEFAULTS.as_slice(), false)?;
-    let mut found = 0;
+    let mut found: u8 = 0;
     for node in &made.nodes {
         for field in &node.body.fields {
             if let FieldKind::Slot {
@@ -233,7 +233,7 @@ fn defaults_of_structs_are_their_words(rt: HostRuntime) -> std::result::Result<(
             {
                 if words.len() > 8 {
                     assert!(rt; words.as_slice() == PAIR_OF_M.as_slice());
-                    found += 1;
+                    found = found.saturating_add(1);
                 }
             }
         }
