@@ -113,7 +113,8 @@ fn claim_marks(
     true
 }
 
-/// The same where the marks may have to be lengthened first.
+/// The same where the marks may have to be lengthened first. No marks lengthen nothing, wherever they would stand: a node
+/// without a union can give any offset of a discriminant.
 fn claim_range(
     marks: &mut Vec<u32>,
     first: usize,
@@ -127,6 +128,9 @@ fn claim_range(
     ensures claimed { IfOk result (λ yes. yes ≡ true → AreClaimed (below.now ++ top ∷ []) now first count marks.old.items marks.new.items) }
     ensures refused { IfErr result (λ e. e.kind ≡ OutOfMemory) }
 {
+    if count == 0 {
+        return Ok(true);
+    }
     lengthen(marks, first + count)?;
     Ok(claim_marks(marks, first, count, now, below, top))
 }
