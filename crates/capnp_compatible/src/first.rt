@@ -11,9 +11,6 @@ use capnp_schema::record::{FieldKind, ValueRecord};
 use capnp_schema::set::SchemaSet;
 use capnp_wire::PointerReader;
 
-/// The discriminant value of a non-union field.
-const PLAIN: u16 = 65_535;
-
 /// Whether the words of a value are those of a null pointer.
 fn is_null(words: &[u8]) -> bool
     ensures { result ≡ is_empty_default (ListValue words.now) }
@@ -64,7 +61,7 @@ fn stands_first(set: &SchemaSet, number: u32) -> bool
         return false;
     }
     let field = field_of(set, number, 0).get_proto();
-    field.discriminant_value == PLAIN && is_first_slot(&field.kind)
+    !field.is_member() && is_first_slot(&field.kind)
 }
 
 /// Whether elements of a type can have become structs: integers, texts, data and lists.

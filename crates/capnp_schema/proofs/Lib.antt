@@ -3,6 +3,7 @@ pub mod AnnotatedLemmas
 pub mod AnnotatedPlaces
 pub mod BrokenSets
 pub mod BuiltinAccepted
+pub mod ByName
 pub mod ByNumber
 pub mod Computed
 pub mod ComputedEntries
@@ -37,6 +38,7 @@ pub mod Plans
 pub mod RangeLemmas
 pub mod RequestAccepted
 pub mod Rows
+pub mod RowsByName
 pub mod SeenNames
 pub mod StructLookUps
 pub mod Typed

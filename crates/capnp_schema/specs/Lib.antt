@@ -4,6 +4,7 @@ pub mod AnnotationLists
 pub mod Broken
 pub mod BrokenLaw
 pub mod Builtin
+pub mod ByName
 pub mod Checking
 pub mod Defaults
 pub mod Discriminant
@@ -17,6 +18,7 @@ pub mod Footprint
 pub mod GroupsDown
 pub mod Laws
 pub mod Layers
+pub mod Making
 pub mod Meta
 pub mod Named
 pub mod Names

@@ -1,8 +1,7 @@
 //! A small set of schemas that is built in: structs, unions, groups, lists, an enum and annotations, for examples and
 //! tests.
-ghost use Rattle.std.specs.Prelude.{[], ◌≡◌, map, IfErr, IfOk, replicate};
+ghost use Rattle.std.specs.Prelude.{◌≡◌, IfErr, IfOk};
 ghost use Rattle.capnp_device.specs.declared.error.ErrorKind.TheVariants.{OutOfMemory};
-ghost use Rattle.capnp_schema.specs.Types.{seen_type};
 ghost use Rattle.capnp_schema.specs.Schema.{Enumerant, seen_enum, seen_enumerant, seen_schemas};
 ghost use Rattle.capnp_schema.specs.Accepted.{IsAccepted};
 ghost use Rattle.capnp_schema.specs.Builtin as set;
@@ -11,12 +10,27 @@ ghost use Rattle.capnp_schema.specs.Entries.{lists_seen};
 mod table;
 
 use crate::builtin::table::{NODES, SIZES};
+use crate::making::no_types;
 use crate::record::{AnnotationTypes, BrandRecord, EnumRecord, EnumerantRecord, NodeRecord};
 use crate::set::SchemaSet;
 use crate::table_rows::{MadeOf, all_made};
-use capnp_base::introspect::Type;
 use capnp_wire::error::Error;
 use std::alloc::{AllocError, Global};
+
+/// The number of the struct `Flat`.
+pub const FLAT: u32 = 0;
+/// The number of the struct `Mixed`.
+pub const MIXED: u32 = 1;
+/// The number of the struct `Many`.
+pub const MANY: u32 = 2;
+/// The number of the struct `Shapes`.
+pub const SHAPES: u32 = 3;
+/// The number of the struct `Loop`.
+pub const LOOP: u32 = 6;
+/// The number of the struct `Lists`.
+pub const LISTS: u32 = 7;
+/// The number of the struct `Node`.
+pub const NODE: u32 = 8;
 
 impl MadeOf<&'static str> for EnumerantRecord {
     ghost Seen = { Enumerant };
@@ -32,17 +46,6 @@ impl MadeOf<&'static str> for EnumerantRecord {
             annotations: Vec::new(alloc),
         })
     }
-}
-
-/// As many lists of types, without any.
-fn no_types(alloc: Global, count: usize) -> Result<Vec<Vec<Type>>, AllocError>
-    ensures { IfOk result (λ lists. map (λ types. map seen_type types.items) lists.items ≡ replicate count []) }
-{
-    let mut lists = Vec::new(alloc);
-    for _ in 0..count {
-        lists.push(Vec::new(alloc))?;
-    }
-    Ok(lists)
 }
 
 fn element_size_enum(alloc: Global) -> Result<EnumRecord, AllocError>
@@ -69,7 +72,7 @@ fn enums(alloc: Global) -> Result<Vec<EnumRecord>, AllocError>
 
 /// The nodes, brands and enums of the built-in set, of which a `SchemaSet` is made.
 ///
-/// Brand k has node k, whose id is 100 + k: 0 `Flat`, a struct of one number; 1 `Mixed`, with a union of nothing and a
+/// Brand k has node k, whose id is 100 + k; the structs' numbers are public: 0 `Flat`, a struct of one number; 1 `Mixed`, with a union of nothing and a
 /// number; 2 `Many`, numbers with defaults; 3 `Shapes`, whose union's members are the groups 4 `Shapes.circle` and 5
 /// `Shapes.tag`, which has a union of its own, and a text; 6 `Loop`, a union that may hold a `Loop`; 7 `Lists`; 8 `Node`,
 /// with annotations. Enum 0 is `ElementSize`, of id 200.

@@ -9,6 +9,7 @@ pub mod laws;
 mod layers;
 mod lists;
 pub mod loaded;
+mod making;
 pub mod meta;
 mod names;
 pub mod plan;

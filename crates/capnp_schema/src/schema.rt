@@ -5,6 +5,7 @@
 //! No call takes memory. The conditions are that a raw schema which is given to `new` is one of the set, and that an index
 //! is below the length.
 mod annotations;
+mod by_name;
 mod by_number;
 mod enums;
 mod field_list;

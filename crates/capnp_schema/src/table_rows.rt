@@ -6,8 +6,8 @@ ghost use Rattle.capnp_schema.specs.TableRows.{annotation_type, field_annotation
 ghost use Rattle.capnp_schema.specs.TableRows.{row_field, row_kind, row_node, row_type, row_value};
 
 use crate::record::{
-    AnnotationRecord, AnnotationTypes, BrandRecord, FieldKind, FieldRecord, NodeRecord,
-    StructRecord, ValueRecord,
+    AnnotationRecord, AnnotationTypes, BrandRecord, FieldKind, FieldRecord, NO_DISCRIMINANT,
+    NodeRecord, StructRecord, ValueRecord,
 };
 use capnp_base::introspect::{Type, TypeVariant};
 use std::alloc::{AllocError, Global};
@@ -75,7 +75,7 @@ pub(crate) struct NodeRow {
 }
 
 /// The discriminant value of a plain field.
-pub(crate) const PLAIN: u16 = 65_535;
+pub(crate) const PLAIN: u16 = NO_DISCRIMINANT;
 
 pub(crate) const VOID: TypeRow = TypeRow::One(TypeVariant::Void);
 

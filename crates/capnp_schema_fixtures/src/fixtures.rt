@@ -6,7 +6,7 @@ ghost use Rattle.capnp_schema.specs.StructHandles.{IsStruct};
 use capnp_base::introspect::{RawBrandedStructSchema, Type, TypeVariant};
 use capnp_schema::record::{
     AnnotationRecord, AnnotationTypes, BrandRecord, EnumRecord, EnumerantRecord, FieldKind,
-    FieldRecord, NodeRecord, StructRecord, ValueRecord,
+    FieldRecord, NO_DISCRIMINANT, NodeRecord, StructRecord, ValueRecord,
 };
 use capnp_schema::schema::StructSchema;
 use capnp_schema::set::SchemaSet;
@@ -15,9 +15,6 @@ use std::alloc::Global;
 
 /// In a refusal: the whole entry.
 pub const WHOLE: u16 = 65_535;
-
-/// The discriminant value of a plain field.
-const PLAIN: u16 = 65_535;
 
 /// The words of a null pointer.
 static NULL: [u8; 8] = [0; 8];
@@ -129,7 +126,7 @@ fn zero_of(field_type: Type) -> ValueOf {
 pub fn slot_with(name: &'static str, offset: u32, field_type: Type, default: ValueOf) -> FieldOf {
     FieldOf {
         name,
-        discriminant_value: PLAIN,
+        discriminant_value: NO_DISCRIMINANT,
         kind: KindOf::Slot { offset, default },
         field_type,
     }
@@ -150,7 +147,7 @@ pub fn typed_slot(name: &'static str, offset: u32, field_type: Type) -> FieldOf 
 pub fn group_field(name: &'static str, node: u32) -> FieldOf {
     FieldOf {
         name,
-        discriminant_value: PLAIN,
+        discriminant_value: NO_DISCRIMINANT,
         kind: KindOf::Group { node },
         field_type: struct_type(node),
     }

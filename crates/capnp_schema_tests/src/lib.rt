@@ -17,6 +17,8 @@ mod handle_tests;
 #[cfg(test)]
 mod name_tests;
 #[cfg(test)]
+mod making_tests;
+#[cfg(test)]
 mod plan_tests;
 #[cfg(test)]
 mod queries;

@@ -55,13 +55,18 @@ fn a_count_has_members(rt: HostRuntime) -> Result<(), Fail> {
     verdicts_hold(&rt, rt.alloc(), &NO_MEMBERS)
 }
 
-static PLACES: [Row; 5] = [
+static PLACES: [Row; 7] = [
     ("struct 1 0 union 1 4, v Void #0", "rule 10 node 0"),
     ("struct 1 0 union 1 3, v Void #0", "accepted"),
     ("struct 1 0 union 1 4294967295, v Void #0", "rule 10 node 0"),
     ("struct 0 0 union 1 0, v Void #0", "rule 10 node 0"),
     // without a union the offset isn't looked at
     ("struct 1 0 union 0 4", "accepted"),
+    ("struct 1 0 union 0 4294967295, v UInt8 @7", "accepted"),
+    (
+        "struct 1 0 union 0 4294967295, g group(1); group 1 0 union 0 4294967295, v UInt8 @7",
+        "accepted",
+    ),
 ];
 
 #[test]

@@ -12,13 +12,10 @@ ghost use Rattle.capnp_set_writer.specs.Writes.{HasFieldSize, HasNodeSize, IsPar
 use crate::rows::{Part, put_part, put_parts};
 use crate::values::bit_number;
 use crate::writes::{put_name, put_number};
-use capnp_schema::record::{FieldKind, FieldRecord, NodeRecord};
+use capnp_schema::record::{FieldKind, FieldRecord, NO_DISCRIMINANT, NodeRecord};
 use capnp_wire::error::Result;
 use capnp_wire::object::StructObject;
 use capnp_wire::size::StructSize;
-
-/// The discriminant value of a field that is no member, the default of its place.
-const NO_DISCRIMINANT: u16 = 65_535;
 
 /// Puts what a field is: a slot with its offset and its default, or the node of a group.
 ///

@@ -8,6 +8,7 @@ use Rattle.capnp_device.specs.Device.{HasFailed}
 use Rattle.capnp_device.specs.ErrorNumber.{error_number}
 use Rattle.capnp_device.specs.declared.error.ErrorKind.{ErrorKind}
 use Rattle.capnp_schema.specs.Builtin.{builtin}
+use Rattle.capnp_schema.specs.ByName.{brand_named}
 use Rattle.capnp_schema.specs.Schema.{Schemas, Brand, node_of}
 use Rattle.capnp_show_engine.specs.declared.request.Asked.{Asked}
 use Rattle.capnp_show_engine.specs.declared.request.Asked.TheVariants.{BuiltIn, InFile}
@@ -18,16 +19,6 @@ use Rattle.capnp_show_engine.specs.declared.request.Request.{Request}
 abbrev pub words_after_name : {A Z E : Type 0} → Result (IntoIter A Z) E → List A
 words_after_name (Ok args) = drop 1 (into_iter_items args)
 words_after_name (Err error) = []
-
--- the first of these brands, which are the set's from a number on, that is no group and whose node has the name
-abbrev pub brand_among : Schemas → List Brand → ℕ → List ℕ → Option ℕ
-brand_among set [] b name = None
-brand_among set (x ∷ xs) b name =
-    if not (node_of set b).is_group && bytes_eq name (node_of set b).display_name then Some b else brand_among set xs (suc b) name
-
--- the struct of a name that is no group
-abbrev pub brand_named : Schemas → List ℕ → Option ℕ
-brand_named set name = brand_among set set.brands 0 name
 
 -- a text under the struct of a name, in the set that the file at a path holds, and whether it is indented
 pub record FileTask : Type 0 where

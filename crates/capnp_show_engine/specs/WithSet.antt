@@ -4,19 +4,10 @@ use Rattle.capnp_device.specs.Device.{HasFailed}
 use Rattle.capnp_device.specs.declared.error.Error.{Error}
 use Rattle.capnp_device.specs.declared.error.ErrorKind.TheVariants.{NameNotFound}
 use Rattle.capnp_schema.specs.Accepted.{IsAccepted}
+use Rattle.capnp_schema.specs.ByName.{brand_asked}
 use Rattle.capnp_schema.specs.Schema.{Schemas}
 use Rattle.capnp_sets.specs.Message.{IsMessageRefusal, message_set}
-use Rattle.capnp_show_engine.specs.Command.{brand_named}
 use Rattle.capnp_show_engine.specs.Show.{IsRead, IsRefused}
-
--- a brand's number where 32 bits hold it, as the numbers in types
-abbrev pub numbered : Option ℕ → Option ℕ
-numbered None = None
-numbered (Some b) = if nat_lt b (2 ^ 32) then Some b else None
-
--- the first brand of a set that is no group and whose node has the display name
-abbrev pub brand_asked : Schemas → List ℕ → Option ℕ
-brand_asked set name = numbered (brand_named set name)
 
 -- bytes were read to the end of the set's source, and they stand for a set that is accepted
 pub record IsSetRead (set : Schemas) (left left' : Option (List ℕ)) : Type 0 where

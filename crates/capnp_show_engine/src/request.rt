@@ -2,7 +2,8 @@
 ghost use Rattle.std.specs.Prelude.{◌≡◌, ◌<◌, length, IfSome, Some};
 ghost use Rattle.std.specs.Option.{option_map};
 ghost use Rattle.capnp_schema.specs.Builtin.{builtin};
-ghost use Rattle.capnp_show_engine.specs.Command.{IsInside, asked, brand_named, built_in_asked, in_file, task_of};
+ghost use Rattle.capnp_schema.specs.ByName.{brand_named};
+ghost use Rattle.capnp_show_engine.specs.Command.{IsInside, asked, built_in_asked, in_file, task_of};
 
 /// The text under a brand of the built-in set, and whether it is indented.
 #[derive(Clone, Copy, Debug, PartialEq, Eq)]

@@ -1,45 +1,19 @@
 //! Messages that are shown under a struct of a set that comes as a message itself.
-ghost use Rattle.std.specs.Prelude.{◌≡◌, ◌≢◌, ◌<◌, ◌⊎◌, ◌&&◌, not, ⊤, IfErr, IfSome, OnOk, bytes_eq, length};
+ghost use Rattle.std.specs.Prelude.{◌≡◌, ◌≢◌, ◌⊎◌, ⊤, IfErr, OnOk};
 ghost use Rattle.capnp_device.specs.Device.{HasFailed};
 ghost use Rattle.capnp_device.specs.declared.error.ErrorKind.TheVariants.{ReadFailed, WriteFailed};
-ghost use Rattle.capnp_schema.specs.Entries.{lists_seen};
-ghost use Rattle.capnp_schema.specs.Schema.{node_of};
 ghost use Rattle.capnp_show_engine.specs.Opened.{IsNotOpened, IsOpened};
 ghost use Rattle.capnp_show_engine.specs.Show.{IsCutShort, IsOfMessage, IsShown};
-ghost use Rattle.capnp_show_engine.specs.WithSet.{HasReadFailed, IsRefusedWithSet, IsStructNamed, brand_asked};
+ghost use Rattle.capnp_show_engine.specs.WithSet.{HasReadFailed, IsRefusedWithSet, IsStructNamed};
 
 use crate::engine::show;
 use crate::opener::Opener;
-use capnp_schema::set::SchemaSet;
+use capnp_base::introspect::RawBrandedStructSchema;
 use capnp_sets::message::read_message;
 use capnp_wire::device::{Sink, Source};
 use capnp_wire::error::{Error, ErrorKind, Result};
 use capnp_wire::transfer::read_all;
 use std::alloc::Global;
-
-/// Whether a brand of a set is no group, and its node has the display name.
-fn is_named(set: &SchemaSet, brand: u32, name: &str) -> bool
-    ensures { result ≡ (not (node_of (lists_seen set.now) brand).is_group && bytes_eq name.now (node_of (lists_seen set.now) brand).display_name) }
-{
-    let node = set.struct_schema(brand).get_proto();
-    !node.body.is_group && name == node.display_name.as_str()
-}
-
-/// The first brand of a set, in order, that is no group and whose node has the display name.
-pub fn find_brand(set: &SchemaSet, name: &str) -> Option<u32>
-    ensures found { result ≡ brand_asked (lists_seen set.now) name.now }
-    ensures inside { IfSome result (λ b. b < length (lists_seen set.now).brands) }
-{
-    for index in 0..set.brands().len() {
-        let Ok(brand) = u32::try_from(index) else {
-            return None;
-        };
-        if is_named(set, brand, name) {
-            return Some(brand);
-        }
-    }
-    None
-}
 
 /// Shows a message under a struct of a set that comes as a message: reads the set's source to its end, checks the set, finds
 /// the struct of that display name, and only then reads the message's source, as `show`. Of both sources what follows the
@@ -72,9 +46,10 @@ pub fn show_with_set<S: Source, R: Source, W: Sink>(
 {
     let bytes = read_all(alloc, set_source)?;
     let set = read_message(alloc, &bytes)?;
-    let Some(brand) = find_brand(&set, name) else {
+    let Some(schema) = set.find_struct(name) else {
         return Err(Error::from(ErrorKind::NameNotFound));
     };
+    let brand = RawBrandedStructSchema::from(schema).number;
     show(alloc, &set, brand, source, sink, indented)
 }
 

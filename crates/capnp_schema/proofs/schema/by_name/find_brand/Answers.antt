@@ -3,9 +3,9 @@ use Rattle.std.proofs.lemmas.List.{length-map}
 use Rattle.capnp_schema.specs.Entries.{lists_seen}
 use Rattle.capnp_schema.specs.Schema.{Brand, seen_brand}
 use Rattle.capnp_schema.specs.declared.record.BrandRecord.{BrandRecord}
-use Rattle.capnp_show_engine.specs.WithSet.{numbered}
-use Rattle.capnp_show_engine.proofs.Named.{is_called, found_here, found_later, none_past, within}
-use Rattle.capnp_show_engine.proofs.with_set.find_brand.Goals as goal
+use Rattle.capnp_schema.specs.ByName.{numbered}
+use Rattle.capnp_schema.proofs.ByName.{is_called, found_here, found_later, none_past, within}
+use Rattle.capnp_schema.proofs.schema.by_name.find_brand.Goals as goal
 
 -- a number of one of the records is that of one of the brands
 inside : (stored : List BrandRecord) (brands : List Brand) (i : ℕ) → map seen_brand stored ≡ brands → i < length stored → i < length brands

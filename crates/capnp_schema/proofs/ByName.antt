@@ -5,8 +5,7 @@ use Rattle.std.specs.Prelude.{nat_lt}
 use Rattle.std.proofs.lemmas.Bool.{le-ltb}
 use Rattle.std.proofs.lemmas.List.{drop_more}
 use Rattle.capnp_schema.specs.Schema.{Brand, Schemas, no_brand, node_of}
-use Rattle.capnp_show_engine.specs.Command.{brand_among}
-use Rattle.capnp_show_engine.specs.WithSet.{numbered}
+use Rattle.capnp_schema.specs.ByName.{brand_among, numbered}
 
 -- whether a brand is no group, and its node has the name
 abbrev pub is_called : Schemas → ℕ → List ℕ → Bool

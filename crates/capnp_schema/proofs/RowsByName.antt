@@ -3,7 +3,7 @@ use Rattle.std.specs.Prelude.{ℕ, ◌≡◌, refl, [], ◌∷◌, true, false, 
 use Rattle.capnp_schema.specs.Builtin.{builtin}
 use Rattle.capnp_schema.specs.Meta.{meta}
 use Rattle.capnp_schema.specs.Schema.{Brand, Schemas}
-use Rattle.capnp_show_engine.specs.WithSet.{brand_asked}
+use Rattle.capnp_schema.specs.ByName.{brand_asked}
 
 -- a struct by its number, and one that stands behind groups
 first : brand_asked builtin (codes "Flat") ≡ Some 0

@@ -1,0 +1,92 @@
+//! Sets that are written in a program, by the constructors of records, and structs that are found by their names.
+
+use capnp_base::introspect::{RawBrandedStructSchema, Type, TypeVariant};
+use capnp_schema::builtin;
+use capnp_schema::record::{BrandRecord, FieldRecord, NO_DISCRIMINANT, NodeRecord, ValueRecord};
+use capnp_schema::set::SchemaSet;
+use capnp_wire::error::Result;
+use std::alloc::Global;
+use std::test::Fail;
+
+/// The number of a struct in a set, by its name; 255 where there is none.
+fn number_of(set: &SchemaSet, name: &str) -> u32 {
+    match set.find_struct(name) {
+        Some(schema) => RawBrandedStructSchema::from(schema).number,
+        None => 255,
+    }
+}
+
+/// The structs of the built-in set by their names.
+static NAMES: [(&str, u32); 12] = [
+    ("Flat", builtin::FLAT),
+    ("Mixed", builtin::MIXED),
+    ("Many", builtin::MANY),
+    ("Shapes", builtin::SHAPES),
+    ("Loop", builtin::LOOP),
+    ("Lists", builtin::LISTS),
+    ("Node", builtin::NODE),
+    // groups, an enum, and what no struct is called
+    ("Shapes.circle", 255),
+    ("ElementSize", 255),
+    ("flat", 255),
+    ("Fla", 255),
+    ("", 255),
+];
+
+#[test]
+fn structs_are_found_by_their_names(rt: HostRuntime) -> std::result::Result<(), Fail> {
+    let set = builtin::new_set(rt.alloc())?;
+    for (name, number) in &NAMES {
+        assert!(rt; number_of(&set, name) == *number, "{name}");
+    }
+    Ok(())
+}
+
+/// A person: a name, and a group of which one member is an age and the other nothing.
+fn nodes(alloc: Global) -> Result<Vec<NodeRecord>> {
+    let name = FieldRecord::slot(alloc, "name", 0, ValueRecord::Text(Vec::new(alloc)))?;
+    let known = FieldRecord::group(alloc, "age", 1)?;
+    let person = NodeRecord::structure(alloc, 7, "Person", 1, 1, vec![in alloc; name, known]?)?;
+    let years = FieldRecord::slot(alloc, "years", 0, ValueRecord::UInt16(0))?.as_member(1);
+    let unknown = FieldRecord::slot(alloc, "unknown", 0, ValueRecord::Void)?.as_member(0);
+    let fields = vec![in alloc; unknown, years]?;
+    let age = NodeRecord::structure(alloc, 8, "Person.age", 1, 1, fields)?
+        .as_group()
+        .with_union(2, 1);
+    let nodes = vec![in alloc; person, age]?;
+    Ok(nodes)
+}
+
+fn brands(alloc: Global) -> Result<Vec<BrandRecord>> {
+    let age = TypeVariant::Struct(RawBrandedStructSchema {
+        generic: 1,
+        number: 1,
+    });
+    let types = vec![in alloc; Type::from(TypeVariant::Text), Type::from(age)]?;
+    let person = BrandRecord::new(alloc, 0, types)?;
+    let types = vec![in alloc; Type::from(TypeVariant::Void), Type::from(TypeVariant::UInt16)]?;
+    let age = BrandRecord::new(alloc, 1, types)?;
+    let brands = vec![in alloc; person, age]?;
+    Ok(brands)
+}
+
+#[test]
+fn a_set_is_made_in_a_few_lines(rt: HostRuntime) -> std::result::Result<(), Fail> {
+    let alloc = rt.alloc();
+    let set = SchemaSet::new(alloc, nodes(alloc)?, brands(alloc)?, Vec::new(alloc))?;
+    assert_eq!(rt; number_of(&set, "Person"), 0);
+    assert_eq!(rt; number_of(&set, "Person.age"), 255);
+    let age = set.struct_schema(1);
+    assert!(rt; age.get_proto().body.is_group);
+    assert!(rt; age.get_discriminant() == Some(16));
+    let values = [0, 1];
+    for (i, field) in age.get_proto().body.fields.iter().enumerate() {
+        assert!(rt; field.is_member());
+        assert_eq!(rt; field.discriminant_value, values[i]);
+    }
+    for field in set.struct_schema(0).get_proto().body.fields.iter() {
+        assert!(rt; !field.is_member());
+        assert_eq!(rt; field.discriminant_value, NO_DISCRIMINANT);
+    }
+    Ok(())
+}
