@@ -7,6 +7,7 @@ pub mod Parts
 pub mod Reading
 pub mod Refusals
 pub mod Scopes
+pub mod Seen
 pub mod Shapes
 pub mod Terms
 pub mod Types
