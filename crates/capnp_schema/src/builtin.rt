@@ -1,6 +1,6 @@
 //! A small set of schemas that is built in: structs, unions, groups, lists, an enum and annotations, for examples and
 //! tests.
-ghost use Rattle.std.specs.Prelude.{◌≡◌, IfErr, IfOk};
+ghost use Rattle.std.specs.Prelude.{◌≡◌, map, IfErr, IfOk};
 ghost use Rattle.capnp_device.specs.declared.error.ErrorKind.TheVariants.{OutOfMemory};
 ghost use Rattle.capnp_schema.specs.Schema.{Enumerant, seen_enum, seen_enumerant, seen_schemas};
 ghost use Rattle.capnp_schema.specs.Accepted.{IsAccepted};

@@ -6,15 +6,18 @@ ghost use Rattle.capnp_schema.specs.Schema.{Group, Slot, seen_brand, seen_field,
 ghost use Rattle.capnp_schema.specs.Types.{seen_type};
 
 use crate::record::{
-    AnnotationTypes, BrandRecord, FieldKind, FieldRecord, NO_DISCRIMINANT, NodeRecord, StructRecord,
-    ValueRecord,
+    AnnotationTypes, BrandRecord, FieldKind, FieldRecord, NO_DISCRIMINANT, NodeRecord,
+    StructRecord, ValueRecord,
 };
 use capnp_base::introspect::Type;
 use capnp_wire::error::Result;
 use std::alloc::{AllocError, Global};
 
 /// As many lists of types, without any.
-pub(crate) fn no_types(alloc: Global, count: usize) -> std::result::Result<Vec<Vec<Type>>, AllocError>
+pub(crate) fn no_types(
+    alloc: Global,
+    count: usize,
+) -> std::result::Result<Vec<Vec<Type>>, AllocError>
     ensures { IfOk result (λ lists. map (λ types. map seen_type types.items) lists.items ≡ replicate count []) }
 {
     let mut lists = Vec::new(alloc);

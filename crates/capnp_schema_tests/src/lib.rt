@@ -15,9 +15,9 @@ mod group_tests;
 #[cfg(test)]
 mod handle_tests;
 #[cfg(test)]
-mod name_tests;
-#[cfg(test)]
 mod making_tests;
+#[cfg(test)]
+mod name_tests;
 #[cfg(test)]
 mod plan_tests;
 #[cfg(test)]

@@ -64,7 +64,10 @@ fn brands(alloc: Global) -> Result<Vec<BrandRecord>> {
     });
     let types = vec![in alloc; Type::from(TypeVariant::Text), Type::from(age)]?;
     let person = BrandRecord::new(alloc, 0, types)?;
-    let types = vec![in alloc; Type::from(TypeVariant::Void), Type::from(TypeVariant::UInt16)]?;
+    let types = vec![in alloc;
+        Type::from(TypeVariant::Void),
+        Type::from(TypeVariant::UInt16),
+    ]?;
     let age = BrandRecord::new(alloc, 1, types)?;
     let brands = vec![in alloc; person, age]?;
     Ok(brands)
