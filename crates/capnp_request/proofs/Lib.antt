@@ -1,6 +1,7 @@
 pub mod BrandsMade
 pub mod FieldsRead
 pub mod NamesRead
+pub mod NoFault
 pub mod PartsSeen
 pub mod RefusedKinds
 pub mod Rows

@@ -10,6 +10,10 @@ use Rattle.capnp_schema.specs.Types.{SchemaType}
 abbrev pub Said : Type 0 → Type 0
 Said A = Result A ErrorKind
 
+-- a list in which each element is read when it is reached
+abbrev pub Rows : Type 0 → Type 0
+Rows A = Said (List (Said A))
+
 -- A type, the brand of a struct's type, what a brand says of a scope, and bindings in a row.
 mutual
   pub data TypeTerm : Type 0 where
@@ -60,7 +64,7 @@ pub data FieldKindTerm : Type 0 where
 pub record FieldTerm : Type 0 where
   pub name : Said (List ℕ)
   pub discriminant_value : ℕ
-  pub annotations : Said (List AnnotationTerm)
+  pub annotations : Rows AnnotationTerm
   pub kind : FieldKindTerm
 
 pub record StructPart : Type 0 where
@@ -69,16 +73,16 @@ pub record StructPart : Type 0 where
   pub is_group : Bool
   pub discriminant_count : ℕ
   pub discriminant_offset : ℕ
-  pub fields : Said (List FieldTerm)
+  pub fields : Rows FieldTerm
 
 pub record EnumerantTerm : Type 0 where
   pub name : Said (List ℕ)
-  pub annotations : Said (List AnnotationTerm)
+  pub annotations : Rows AnnotationTerm
 
 -- what a schema node is; files, interfaces and constants are not looked at
 pub data NodeKind : Type 0 where
   StructNode : StructPart → NodeKind
-  EnumNode : Said (List EnumerantTerm) → NodeKind
+  EnumNode : Rows EnumerantTerm → NodeKind
   AnnotationNode : TypeTerm → NodeKind
   OtherNode : NodeKind
 
@@ -87,7 +91,7 @@ pub record SchemaNode : Type 0 where
   pub display_name : Said (List ℕ)
   pub scope : ℕ
   pub nested : Said (List ℕ)
-  pub annotations : Said (List AnnotationTerm)
+  pub annotations : Rows AnnotationTerm
   -- how many type parameters it has
   pub parameters : Said ℕ
   pub kind : NodeKind
