@@ -1,7 +1,6 @@
 pub mod BrandsMade
 pub mod FieldsRead
 pub mod NamesRead
-pub mod NoFault
 pub mod PartsSeen
 pub mod RefusedKinds
 pub mod Rows

@@ -5,11 +5,11 @@ use Rattle.capnp_device.specs.declared.error.ErrorKind.TheVariants.{NameNotUtf8,
 use Rattle.capnp_wire.specs.Reading.{is_null_tree}
 use Rattle.capnp_schema.specs.Schema.{Annotation, Field, FieldKind, Group, Slot}
 use Rattle.capnp_schema.specs.Types.{SchemaType, AnyPointerType, StructType}
-use Rattle.capnp_request.specs.Scopes.{node_named}
-use Rattle.capnp_request.specs.Terms.{AnnotationTerm, BrandTerm, FieldKindTerm, FieldTerm, GroupTerm, ListWords, Rows, Said, SchemaNode, SlotTerm, Stands, StructWords, TypeTerm, UnreadField, UnreadValue, Untyped, ValueTerm}
-use Rattle.capnp_request.specs.Types.{add_entry, bindings_of, declared, is_struct, type_of, where_node}
+use Rattle.capnp_request.specs.Scopes.{node_named, scopes_of}
+use Rattle.capnp_request.specs.Terms.{AnnotationNode, AnnotationTerm, BrandTerm, EnumNode, FieldKindTerm, FieldTerm, GroupTerm, ListWords, NodeKind, OtherNode, Said, SchemaNode, SlotTerm, Stands, StructNode, StructWords, UnreadField, UnreadValue, Untyped, ValueTerm}
+use Rattle.capnp_request.specs.Types.{add_entry, bind_scope, brand_types, is_struct, type_of, where_node}
 use Rattle.capnp_request.specs.Values.{value_of}
-use Rattle.capnp_request.specs.Work.{◌>>=◌, Bound, GroupOf, Seen, Work, each, each_row, given, nothing_seen, read_then, refused, said}
+use Rattle.capnp_request.specs.Work.{◌>>=◌, Bound, GroupOf, Seen, Work, each, given, nothing_seen, refused, said}
 
 -- ---- notes ----
 
@@ -66,25 +66,27 @@ pub record Converted : Type 0 where
   pub annotation_types : List SchemaType
   pub notes : List Note
 
--- each of a list with its number
-abbrev pub numbered : {A : Type 0} → ℕ → List A → List (ℕ × A)
-numbered i [] = []
-numbered i (x ∷ xs) = (i, x) ∷ numbered (i + 1) xs
-
 module _ (nodes : List SchemaNode) (strict : Bool) where
   -- ---- annotations ----
 
   -- the type of an annotation: that of its declaration, read inside what its brand binds there
-  abbrev pub declared_type : Option TypeTerm → List Bound → (id : ℕ) → BrandTerm → Work SchemaType
-  declared_type None inside id brand = refused NodeNotFound
-  declared_type (Some t) inside id brand = bindings_of nodes strict inside id brand >>= (λ bound. type_of nodes strict bound t)
+  abbrev pub declared_in : NodeKind → List Bound → Work SchemaType
+  declared_in (AnnotationNode t) bound = type_of nodes strict bound t
+  declared_in (StructNode part) bound = refused NodeNotFound
+  declared_in (EnumNode enumerants) bound = refused NodeNotFound
+  declared_in OtherNode bound = refused NodeNotFound
+
+  abbrev pub declared_type : Option SchemaNode → List Bound → BrandTerm → Work SchemaType
+  declared_type None inside brand = refused NodeNotFound
+  declared_type (Some n) inside brand =
+      said (scopes_of nodes n.id) >>= (λ scopes. each (bind_scope (brand_types nodes strict inside brand)) scopes >>= declared_in n.kind)
 
   abbrev pub annotation_of : List Bound → AnnotationTerm → Work (Annotation × SchemaType)
   annotation_of inside a =
-      said (value_of a.value) >>= (λ v. declared_type (declared (node_named nodes a.id)) inside a.id a.brand >>= (λ t. given (record { id = a.id; value = v }, t)))
+      said (value_of a.value) >>= (λ v. declared_type (node_named nodes a.id) inside a.brand >>= (λ t. given (record { id = a.id; value = v }, t)))
 
-  abbrev pub annotations_of : List Bound → Rows AnnotationTerm → Work (List (Annotation × SchemaType))
-  annotations_of inside = each_row (annotation_of inside)
+  abbrev pub annotations_of : List Bound → Said (List AnnotationTerm) → Work (List (Annotation × SchemaType))
+  annotations_of inside list = said list >>= each (annotation_of inside)
 
   -- ---- fields ----
 
@@ -108,5 +110,6 @@ module _ (nodes : List SchemaNode) (strict : Bool) where
       })))))
 
   -- the fields of an entry, by index
-  abbrev pub fields_of : List Bound → (n : ℕ) → Rows FieldTerm → Work (List Converted)
-  fields_of inside n rows = said rows >>= (λ fields. each (λ p. read_then (field_of inside n p.0) p.1) (numbered 0 fields))
+  abbrev pub fields_of : List Bound → (n i : ℕ) → List FieldTerm → Work (List Converted)
+  fields_of inside n i [] s = Ok ([], s)
+  fields_of inside n i (f ∷ fs) s = (field_of inside n i f >>= (λ first. fields_of inside n (i + 1) fs >>= (λ rest. given (first ∷ rest)))) s

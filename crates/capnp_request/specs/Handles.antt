@@ -1,8 +1,8 @@
 -- Handles of parts of a request's record.
-use Rattle.std.specs.Prelude.{ℕ, ◌≡◌, ◌<◌, ◌⊎◌, Bool, true, false, length, Some}
+use Rattle.std.specs.Prelude.{ℕ, ◌≡◌, ◌<◌, ◌⊎◌, false, length, Some}
 use Rattle.capnp_schema.specs.Accepted.{NamesEntries}
 use Rattle.capnp_schema.specs.RequestSet.{request_set}
-use Rattle.capnp_schema.specs.Schema.{FieldKind, Group, Slot, field_at, fields_of, is_member}
+use Rattle.capnp_schema.specs.Schema.{field_at, fields_of, is_member}
 use Rattle.capnp_schema.specs.StructHandles.{number_of, set_of}
 use Rattle.capnp_schema.specs.Types.{SchemaType}
 use Rattle.capnp_records.specs.Facts.ReadFaults.{Sound}
@@ -30,8 +30,3 @@ pub record IsListOf (t : SchemaType) (l : ListHandle) : Type 0 where
   pub element : element_of l ≡ t
   pub named : NamesEntries request_set t
   pub sound : Sound (list_seen l)
-
--- whether a field is a group
-abbrev pub is_grouped : FieldKind → Bool
-is_grouped (Group node) = true
-is_grouped (Slot offset default) = false

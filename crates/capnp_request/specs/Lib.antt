@@ -1,6 +1,4 @@
 pub mod Conversion
-pub mod Done
-pub mod Entries
 pub mod Handles
 pub mod Names
 pub mod Nodes
@@ -8,9 +6,7 @@ pub mod Order
 pub mod Parts
 pub mod Reading
 pub mod Refusals
-pub mod Rows
 pub mod Scopes
-pub mod Seen
 pub mod Shapes
 pub mod Terms
 pub mod Types

@@ -8,9 +8,9 @@ use Rattle.capnp_schema.specs.Types.{SchemaType}
 use Rattle.capnp_request.specs.Conversion.{Converted, Note, annotations_of, fields_of, name_of}
 use Rattle.capnp_request.specs.Names.{Holder, dotted_of, enum_name, group_name, struct_name}
 use Rattle.capnp_request.specs.Scopes.{is_met, node_named, scopes_of}
-use Rattle.capnp_request.specs.Terms.{AnnotationNode, EnumNode, EnumerantTerm, NodeKind, OtherNode, RequestTerm, Rows, Said, SchemaNode, StructNode, StructPart}
+use Rattle.capnp_request.specs.Terms.{AnnotationNode, EnumNode, EnumerantTerm, NodeKind, OtherNode, RequestTerm, Said, SchemaNode, StructNode, StructPart}
 use Rattle.capnp_request.specs.Types.{number_struct}
-use Rattle.capnp_request.specs.Work.{◌>>=◌, Entry, GroupOf, Named, Place, Whole, Work, each, each_row, given, nothing_seen, refused, said}
+use Rattle.capnp_request.specs.Work.{◌>>=◌, Entry, GroupOf, Named, Place, Whole, Work, each, given, nothing_seen, refused, said}
 
 -- what is made so far, and the dotted names that entries had
 pub record Made : Type 0 where
@@ -41,7 +41,7 @@ at_struct (EnumNode enumerants) f = refused NodeNotFound
 at_struct (AnnotationNode t) f = refused NodeNotFound
 at_struct OtherNode f = refused NodeNotFound
 
-abbrev pub at_enum : {A : Type 0} → NodeKind → (Rows EnumerantTerm → Work A) → Work A
+abbrev pub at_enum : {A : Type 0} → NodeKind → (Said (List EnumerantTerm) → Work A) → Work A
 at_enum (EnumNode enumerants) f = f enumerants
 at_enum (StructNode part) f = refused NodeNotFound
 at_enum (AnnotationNode t) f = refused NodeNotFound
@@ -67,14 +67,14 @@ module _ (nodes : List SchemaNode) (strict : Bool) where
   -- the node and brand of an entry: its fields by index, and then its own annotations
   abbrev pub made_struct : Made → SchemaNode → StructPart → Entry → (name : List ℕ) → List Holder → Work Made
   made_struct m n part e name holders =
-      fields_of nodes strict e.bound (length m.nodes) part.fields >>= (λ fields. annotations_of nodes strict e.bound n.annotations
+      said part.fields >>= (λ terms. fields_of nodes strict e.bound (length m.nodes) 0 terms >>= (λ fields. annotations_of nodes strict e.bound n.annotations
       >>= (λ own. given (record {
         nodes = m.nodes ++ record { id = e.node; display_name = name; annotations = firsts own; data_word_count = part.data_words; pointer_count = part.pointers; is_group = part.is_group; discriminant_count = part.discriminant_count; discriminant_offset = part.discriminant_offset; fields = map (λ (f : Converted). f.field) fields } ∷ [];
         brands = m.brands ++ record { node = length m.nodes; field_types = map (λ (f : Converted). f.type) fields; annotation_types = record { own = seconds own; children = map (λ (f : Converted). f.annotation_types) fields } } ∷ [];
         enums = m.enums;
         notes = m.notes ++ all_notes fields;
         holders = holders;
-      })))
+      }))))
 
   abbrev pub make_struct : Made → Entry → Work Made
   make_struct m e s =
@@ -89,12 +89,12 @@ module _ (nodes : List SchemaNode) (strict : Bool) where
       >>= (λ annotations. given (record { name = name; annotations = firsts annotations }, seconds annotations))))
 
   -- an enum: its enumerants, and then its own annotations; nothing is bound there
-  abbrev pub made_enum : Made → SchemaNode → ℕ → List ℕ → Rows EnumerantTerm → Work Made
+  abbrev pub made_enum : Made → SchemaNode → ℕ → List ℕ → Said (List EnumerantTerm) → Work Made
   made_enum m n id name enumerants =
-      each_row enumerant_of enumerants >>= (λ children. annotations_of nodes strict [] n.annotations
+      said enumerants >>= (λ list. each enumerant_of list >>= (λ children. annotations_of nodes strict [] n.annotations
       >>= (λ own. given (record m {
         enums = m.enums ++ record { id = id; display_name = name; annotations = firsts own; enumerants = map (λ (c : Enumerant × List SchemaType). c.0) children; annotation_types = record { own = seconds own; children = map (λ (c : Enumerant × List SchemaType). c.1) children } } ∷ [];
-      })))
+      }))))
 
   abbrev pub make_enum : Made → ℕ → Work Made
   make_enum m id =

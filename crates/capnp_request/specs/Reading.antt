@@ -13,7 +13,7 @@ use Rattle.capnp_records.specs.Record.{NoValues, MoreValues, Record, Values}
 use Rattle.capnp_records.specs.Record.{Value as RecordValue}
 use Rattle.capnp_request.specs.Parts.{element_read, read_at}
 use Rattle.capnp_request.specs.Terms as term
-use Rattle.capnp_request.specs.Terms.{AnnotationTerm, BindingTerms, BrandTerm, EnumerantTerm, FieldKindTerm, FieldTerm, NodeKind, RequestTerm, Rows, Said, SchemaNode, ScopeTerm, StructPart, TypeTerm, ValueTerm}
+use Rattle.capnp_request.specs.Terms.{AnnotationTerm, BindingTerms, BrandTerm, EnumerantTerm, FieldKindTerm, FieldTerm, NodeKind, RequestTerm, Said, SchemaNode, ScopeTerm, StructPart, TypeTerm, ValueTerm}
 
 -- ---- parts by their kinds ----
 
@@ -45,24 +45,13 @@ both_said (Ok a) (Ok rest) = Ok (a ∷ rest)
 both_said (Ok a) (Err kind) = Err kind
 both_said (Err kind) rest = Err kind
 
-abbrev pub all_said : {A : Type 0} → List (Said A) → Said (List A)
-all_said [] = Ok []
-all_said (x ∷ xs) = both_said x (all_said xs)
+-- what each struct of a list of them says
+abbrev pub each_said : {A : Type 0} → ℕ → (Record → A) → Values → Said (List A)
+each_said b f NoValues = Ok []
+each_said b f (MoreValues v vs) = both_said (in_struct Err (λ r. Ok (f r)) (element_read b v)) (each_said b f vs)
 
--- what each struct of a list of them says, each read when it is reached
-abbrev pub row_said : {A : Type 0} → (Record → A) → RecordValue → Said A
-row_said f = in_struct Err (λ r. Ok (f r))
-
-abbrev pub rows_among : {A : Type 0} → ℕ → (Record → A) → Values → List (Said A)
-rows_among b f NoValues = []
-rows_among b f (MoreValues v vs) = row_said f (element_read b v) ∷ rows_among b f vs
-
-abbrev pub rows_said : {A : Type 0} → ℕ → (Record → A) → RecordValue → Rows A
-rows_said b f = in_list Err (λ vs. Ok (rows_among b f vs))
-
--- the same where all have to be there
 abbrev pub list_said : {A : Type 0} → ℕ → (Record → A) → RecordValue → Said (List A)
-list_said b f = in_list Err (λ vs. all_said (rows_among b f vs))
+list_said b f = in_list Err (each_said b f)
 
 abbrev pub value_count : Values → ℕ
 value_count NoValues = 0
@@ -85,23 +74,6 @@ untyped = term.Plain AnyPointerType
 abbrev pub untyped_kinds : List (RecordValue → TypeTerm)
 untyped_kinds = (λ v. untyped) ∷ in_struct term.UnreadType parameter_said ∷ (λ v. untyped) ∷ []
 
-abbrev pub untyped_in : RecordValue → TypeTerm
-untyped_in = in_struct term.UnreadType (λ r. by_member (term.UnreadType UnknownKind) untyped_kinds 17 (which_of r) r)
-
-abbrev pub enum_in : RecordValue → TypeTerm
-enum_in = in_struct term.UnreadType (λ r. term.EnumTerm (number_in (read_at 15 0 r)))
-
--- bindings and scopes in a row, each read when it is reached
-abbrev pub binding_rows : List (Said TypeTerm) → BindingTerms
-binding_rows [] = term.NoBindings
-binding_rows (Ok t ∷ rows) = term.MoreBindings t (binding_rows rows)
-binding_rows (Err kind ∷ rows) = term.MoreBindings (term.UnreadType kind) (binding_rows rows)
-
-abbrev pub scope_rows : List (Said (ℕ × ScopeTerm)) → BrandTerm
-scope_rows [] = term.NoScopes
-scope_rows (Ok p ∷ rows) = term.MoreScopes p.0 p.1 (scope_rows rows)
-scope_rows (Err kind ∷ rows) = term.UnreadBrand kind
-
 -- the parts of types, where a type inside another is read so
 module _ (inner : Record → TypeTerm) where
   abbrev pub type_in : RecordValue → TypeTerm
@@ -111,31 +83,24 @@ module _ (inner : Record → TypeTerm) where
   binding_said r = by_member (term.UnreadType UnknownKind) ((λ v. untyped) ∷ type_in ∷ []) 21 (which_of r) r
 
   abbrev pub bindings_said : Values → BindingTerms
-  bindings_said vs = binding_rows (rows_among 21 binding_said vs)
-
-  abbrev pub bindings_in : RecordValue → ScopeTerm
-  bindings_in = in_list term.UnreadScope (λ vs. term.Binds (bindings_said vs))
+  bindings_said NoValues = term.NoBindings
+  bindings_said (MoreValues v vs) = term.MoreBindings (in_struct term.UnreadType binding_said (element_read 21 v)) (bindings_said vs)
 
   -- the first field of a scope is its id, and the members stand behind it
   abbrev pub scope_said : Record → ScopeTerm
   scope_said r =
       by_member (term.UnreadScope UnknownKind)
-      ((λ v. term.UnreadScope UnknownKind) ∷ bindings_in ∷ (λ v. term.Inherits) ∷ []) 20 (which_of r) r
+      ((λ v. term.UnreadScope UnknownKind) ∷ in_list term.UnreadScope (λ vs. term.Binds (bindings_said vs)) ∷ (λ v. term.Inherits) ∷ []) 20 (which_of r) r
 
-  abbrev pub brand_scope_said : Record → ℕ × ScopeTerm
-  brand_scope_said r = (number_in (read_at 20 0 r), scope_said r)
+  abbrev pub with_scope : BrandTerm → RecordValue → BrandTerm
+  with_scope rest = in_struct term.UnreadBrand (λ r. term.MoreScopes (number_in (read_at 20 0 r)) (scope_said r) rest)
 
-  abbrev pub scopes_in : RecordValue → BrandTerm
-  scopes_in = in_list term.UnreadBrand (λ vs. scope_rows (rows_among 20 brand_scope_said vs))
+  abbrev pub scopes_said : Values → BrandTerm
+  scopes_said NoValues = term.NoScopes
+  scopes_said (MoreValues v vs) = with_scope (scopes_said vs) (element_read 20 v)
 
   abbrev pub brand_in : RecordValue → BrandTerm
-  brand_in = in_struct term.UnreadBrand (λ r. scopes_in (read_at 19 0 r))
-
-  abbrev pub list_in : RecordValue → TypeTerm
-  list_in = in_struct term.UnreadType (λ r. term.ListTerm (type_in (read_at 14 0 r)))
-
-  abbrev pub struct_in : RecordValue → TypeTerm
-  struct_in = in_struct term.UnreadType (λ r. term.StructTerm (number_in (read_at 16 0 r)) (brand_in (read_at 16 1 r)))
+  brand_in = in_struct term.UnreadBrand (λ r. in_list term.UnreadBrand scopes_said (read_at 19 0 r))
 
   -- the members of a type, by index
   abbrev pub type_kinds : List (RecordValue → TypeTerm)
@@ -145,9 +110,11 @@ module _ (inner : Record → TypeTerm) where
       ∷ (λ v. term.Plain (UIntType 1)) ∷ (λ v. term.Plain (UIntType 2)) ∷ (λ v. term.Plain (UIntType 4)) ∷ (λ v. term.Plain (UIntType 8))
       ∷ (λ v. term.Float32) ∷ (λ v. term.Float64)
       ∷ (λ v. term.Plain TextType) ∷ (λ v. term.Plain DataType)
-      ∷ list_in ∷ enum_in ∷ struct_in
+      ∷ in_struct term.UnreadType (λ r. term.ListTerm (type_in (read_at 14 0 r)))
+      ∷ in_struct term.UnreadType (λ r. term.EnumTerm (number_in (read_at 15 0 r)))
+      ∷ in_struct term.UnreadType (λ r. term.StructTerm (number_in (read_at 16 0 r)) (brand_in (read_at 16 1 r)))
       ∷ (λ v. term.Interface)
-      ∷ untyped_in
+      ∷ in_struct term.UnreadType (λ r. by_member (term.UnreadType UnknownKind) untyped_kinds 17 (which_of r) r)
       ∷ []
 
 -- a type, through at most so many types in one another
@@ -204,8 +171,8 @@ value_in = in_struct term.UnreadValue value_said
 abbrev pub annotation_said : Record → AnnotationTerm
 annotation_said r = record { id = number_in (read_at 12 0 r); value = value_in (read_at 12 1 r); brand = brand_in whole_type (read_at 12 2 r) }
 
-abbrev pub annotations_in : RecordValue → Rows AnnotationTerm
-annotations_in = rows_said 12 annotation_said
+abbrev pub annotations_in : RecordValue → Said (List AnnotationTerm)
+annotations_in = list_said 12 annotation_said
 
 abbrev pub slot_said : Record → FieldKindTerm
 slot_said r = term.SlotTerm (number_in (read_at 9 0 r)) (in_struct term.UnreadType whole_type (read_at 9 1 r)) (value_in (read_at 9 2 r))
@@ -234,7 +201,7 @@ struct_said r = term.StructNode (record {
   is_group = truth_in (read_at 3 2 r);
   discriminant_count = number_in (read_at 3 3 r);
   discriminant_offset = number_in (read_at 3 4 r);
-  fields = rows_said 8 field_said (read_at 3 5 r);
+  fields = list_said 8 field_said (read_at 3 5 r);
 })
 
 abbrev pub other : RecordValue → NodeKind
@@ -248,7 +215,7 @@ abbrev pub node_kinds : List (RecordValue → NodeKind)
 node_kinds =
     other ∷ other ∷ other ∷ other ∷ other ∷ other
     ∷ in_struct unread_node struct_said
-    ∷ in_struct unread_node (λ r. term.EnumNode (rows_said 11 enumerant_said (read_at 4 0 r)))
+    ∷ in_struct unread_node (λ r. term.EnumNode (list_said 11 enumerant_said (read_at 4 0 r)))
     ∷ other ∷ other
     ∷ in_struct unread_node (λ r. term.AnnotationNode (in_struct term.UnreadType whole_type (read_at 5 0 r)))
     ∷ []

@@ -1,6 +1,5 @@
 -- Schema nodes by their ids, and their scopes.
 use Rattle.std.specs.Prelude.{ℕ, zero, suc, ◌+◌, List, [], ◌∷◌, Bool, true, false, ◌==◌, ◌||◌, length, Option, Some, None, Ok, Err}
-use Rattle.capnp_schema.specs.Types.{SchemaType}
 use Rattle.capnp_request.specs.Terms.{Said, SchemaNode}
 use Rattle.capnp_request.specs.Work.{Bound}
 
@@ -35,14 +34,9 @@ scopes_from (suc steps) nodes met distance id =
     elim (is_met met id) [ true ↦ Ok [] | false ↦ scopes_of_node (scopes_from steps nodes (id ∷ met) (distance + 1)) distance id (node_named nodes id) ]
 
 abbrev pub scopes_of : List SchemaNode → ℕ → Said (List Bound)
-scopes_of nodes id = scopes_from (length nodes) nodes [] 0 id
+scopes_of nodes id = scopes_from (suc (length nodes)) nodes [] 0 id
 
--- the first scope of an id among those that are bound inside an entry
-abbrev pub first_bound : List Bound → ℕ → Option Bound
-first_bound [] id = None
-first_bound (b ∷ bs) id = elim (b.scope == id) [ true ↦ Some b | false ↦ first_bound bs id ]
-
--- what is bound to its parameters
-abbrev pub bound_by : Option Bound → List SchemaType
-bound_by None = []
-bound_by (Some b) = b.types
+-- what is bound to the parameters of a scope inside an entry
+abbrev pub bound_types : {A : Type 0} → A → (Bound → A) → List Bound → ℕ → A
+bound_types none f [] id = none
+bound_types none f (b ∷ bs) id = elim (b.scope == id) [ true ↦ f b | false ↦ bound_types none f bs id ]

@@ -10,10 +10,6 @@ use Rattle.capnp_schema.specs.Types.{SchemaType}
 abbrev pub Said : Type 0 → Type 0
 Said A = Result A ErrorKind
 
--- a list in which each element is read when it is reached
-abbrev pub Rows : Type 0 → Type 0
-Rows A = Said (List (Said A))
-
 -- A type, the brand of a struct's type, what a brand says of a scope, and bindings in a row.
 mutual
   pub data TypeTerm : Type 0 where
@@ -64,7 +60,7 @@ pub data FieldKindTerm : Type 0 where
 pub record FieldTerm : Type 0 where
   pub name : Said (List ℕ)
   pub discriminant_value : ℕ
-  pub annotations : Rows AnnotationTerm
+  pub annotations : Said (List AnnotationTerm)
   pub kind : FieldKindTerm
 
 pub record StructPart : Type 0 where
@@ -73,16 +69,16 @@ pub record StructPart : Type 0 where
   pub is_group : Bool
   pub discriminant_count : ℕ
   pub discriminant_offset : ℕ
-  pub fields : Rows FieldTerm
+  pub fields : Said (List FieldTerm)
 
 pub record EnumerantTerm : Type 0 where
   pub name : Said (List ℕ)
-  pub annotations : Rows AnnotationTerm
+  pub annotations : Said (List AnnotationTerm)
 
 -- what a schema node is; files, interfaces and constants are not looked at
 pub data NodeKind : Type 0 where
   StructNode : StructPart → NodeKind
-  EnumNode : Rows EnumerantTerm → NodeKind
+  EnumNode : Said (List EnumerantTerm) → NodeKind
   AnnotationNode : TypeTerm → NodeKind
   OtherNode : NodeKind
 
@@ -91,7 +87,7 @@ pub record SchemaNode : Type 0 where
   pub display_name : Said (List ℕ)
   pub scope : ℕ
   pub nested : Said (List ℕ)
-  pub annotations : Rows AnnotationTerm
+  pub annotations : Said (List AnnotationTerm)
   -- how many type parameters it has
   pub parameters : Said ℕ
   pub kind : NodeKind

@@ -1,11 +1,11 @@
 -- The types that a request's types are converted to, and the numbers of what they name.
-use Rattle.std.specs.Prelude.{ℕ, zero, suc, ◌+◌, List, [], ◌∷◌, ◌++◌, Bool, true, false, ◌==◌, ◌&&◌, ◌^◌, nat_lt, length, slice_get, Option, Some, None, Ok, Err}
+use Rattle.std.specs.Prelude.{ℕ, zero, suc, ◌+◌, List, [], ◌∷◌, ◌++◌, Bool, true, false, ◌==◌, ◌&&◌, nat_lt, length, slice_get, Option, Some, None, Ok, Err}
 use Rattle.std.specs.Option.{unwrap_or}
 use Rattle.capnp_device.specs.declared.error.ErrorKind.TheVariants.{FloatType, InterfaceType, NodeNotFound, TooManyTypes}
 use Rattle.capnp_schema.specs.Types.{SchemaType, VoidType, BoolType, IntType, UIntType, EnumType, TextType, DataType, StructType, ListType, AnyPointerType}
-use Rattle.capnp_request.specs.Scopes.{bound_by, first_bound, node_named, scopes_of}
-use Rattle.capnp_request.specs.Terms.{AnnotationNode, Binds, BindingTerms, BrandTerm, EnumNode, EnumTerm, Float32, Float64, Inherits, Interface, ListTerm, MoreBindings, MoreScopes, NoBindings, NoScopes, NodeKind, OtherNode, Parameter, Plain, Said, SchemaNode, ScopeTerm, StructNode, StructTerm, TypeTerm, UnreadBrand, UnreadScope, UnreadType}
-use Rattle.capnp_request.specs.Work.{◌>>=◌, Bound, Entry, GroupOf, Place, Whole, Work, each, given, refused, said}
+use Rattle.capnp_request.specs.Scopes.{bound_types, node_named, scopes_of}
+use Rattle.capnp_request.specs.Terms.{AnnotationNode, Binds, BindingTerms, BrandTerm, EnumNode, EnumTerm, Float32, Float64, Inherits, Interface, ListTerm, MoreBindings, MoreScopes, NoBindings, NoScopes, NodeKind, OtherNode, Parameter, Plain, SchemaNode, ScopeTerm, StructNode, StructTerm, TypeTerm, UnreadBrand, UnreadScope, UnreadType}
+use Rattle.capnp_request.specs.Work.{◌>>=◌, Bound, Entry, GroupOf, Place, Whole, Work, each, given, said}
 
 -- ---- entries by number ----
 
@@ -28,13 +28,10 @@ same_types [] [] = true
 same_types (t ∷ ts) (u ∷ us) = same_type t u && same_types ts us
 same_types ts us = false
 
--- the same types are bound in the same scopes
-abbrev pub same_scope : Bound → Bound → Bool
-same_scope b c = (b.scope == c.scope) && ((b.distance == c.distance) && ((b.parameters == c.parameters) && same_types b.types c.types))
-
+-- the same types are bound, of one node's scopes
 abbrev pub same_bound : List Bound → List Bound → Bool
 same_bound [] [] = true
-same_bound (b ∷ bs) (c ∷ cs) = same_scope b c && same_bound bs cs
+same_bound (b ∷ bs) (c ∷ cs) = same_types b.types c.types && same_bound bs cs
 same_bound bs cs = false
 
 -- a struct node with bindings is one entry; a group's is no other's
@@ -64,7 +61,7 @@ enum_position (x ∷ xs) id number = elim (x == id) [ true ↦ Some number | fal
 
 abbrev pub enum_or_add : Option ℕ → ℕ → Work ℕ
 enum_or_add (Some number) id s = Ok (number, s)
-enum_or_add None id s = elim (nat_lt (length s.enums) (2 ^ 32)) [ true ↦ Ok (length s.enums, record s { enums = s.enums ++ id ∷ [] }) | false ↦ Err TooManyTypes ]
+enum_or_add None id s = Ok (length s.enums, record s { enums = s.enums ++ id ∷ [] })
 
 -- the number of an enum, by its id
 abbrev pub number_enum : ℕ → Work ℕ
@@ -83,17 +80,6 @@ is_enum (StructNode part) = false
 is_enum (EnumNode enumerants) = true
 is_enum (AnnotationNode t) = false
 is_enum OtherNode = false
-
--- the type that an annotation is declared with
-abbrev pub declared_by : NodeKind → Option TypeTerm
-declared_by (AnnotationNode t) = Some t
-declared_by (StructNode part) = None
-declared_by (EnumNode enumerants) = None
-declared_by OtherNode = None
-
-abbrev pub declared : Option SchemaNode → Option TypeTerm
-declared None = None
-declared (Some n) = declared_by n.kind
 
 abbrev pub is_of_kind : (NodeKind → Bool) → Option SchemaNode → Bool
 is_of_kind test None = false
@@ -120,31 +106,12 @@ interface false s = Ok (AnyPointerType, record s { seen = record s.seen { interf
 
 -- the type that is bound to a parameter inside an entry, an untyped pointer where none is
 abbrev pub bound_to : List Bound → (scope index : ℕ) → SchemaType
-bound_to inside scope index = unwrap_or (slice_get (bound_by (first_bound inside scope)) index) AnyPointerType
+bound_to inside scope index = bound_types AnyPointerType (λ b. unwrap_or (slice_get b.types index) AnyPointerType) inside scope
 
 -- one type more before the others; untyped pointers at the end are left out
 abbrev pub with_type : SchemaType → List SchemaType → List SchemaType
 with_type AnyPointerType [] = []
 with_type t ts = t ∷ ts
-
-abbrev pub trimmed : List SchemaType → List SchemaType
-trimmed [] = []
-trimmed (t ∷ ts) = with_type t (trimmed ts)
-
--- how many lists a type is in
-abbrev pub lists_in : SchemaType → ℕ
-lists_in (ListType t) = suc (lists_in t)
-lists_in t = 0
-
--- a list of a type, which is in fewer than 1,024 lists
-abbrev pub list_of : SchemaType → Work SchemaType
-list_of t = elim (nat_lt (lists_in t) 1024) [ true ↦ given (ListType t) | false ↦ refused TooManyTypes ]
-
--- what the first scope of an id in a brand says; none where it has no such scope
-abbrev pub scope_named : ℕ → BrandTerm → Said (Option ScopeTerm)
-scope_named id NoScopes = Ok None
-scope_named id (MoreScopes scope says rest) = elim (scope == id) [ true ↦ Ok (Some says) | false ↦ scope_named id rest ]
-scope_named id (UnreadBrand kind) = Err kind
 
 -- a scope with the types that are bound to its parameters
 abbrev pub bind_scope : (Bound → Work (List SchemaType)) → Bound → Work Bound
@@ -158,7 +125,7 @@ module _ (nodes : List SchemaNode) (strict : Bool) (inside : List Bound) where
     type_of Float32 s = float32 strict s
     type_of Float64 s = float64 strict s
     type_of Interface s = interface strict s
-    type_of (ListTerm t) s = (type_of t >>= list_of) s
+    type_of (ListTerm t) s = (type_of t >>= (λ element. given (ListType element))) s
     type_of (EnumTerm id) s = (where_node is_enum nodes id (number_enum id) >>= (λ number. given (EnumType number))) s
     -- bindings are numbered before the struct that they bind
     type_of (StructTerm id brand) s =
@@ -173,15 +140,11 @@ module _ (nodes : List SchemaNode) (strict : Bool) (inside : List Bound) where
     brand_types (UnreadBrand kind) scope s = Err kind
 
     pub scope_types : ScopeTerm → Bound → Work (List SchemaType)
-    scope_types (Binds terms) scope s = (binding_types terms scope.parameters >>= (λ types. given (trimmed types))) s
-    scope_types Inherits scope s = Ok (bound_by (first_bound inside scope.scope), s)
+    scope_types (Binds terms) scope s = binding_types terms scope.parameters s
+    scope_types Inherits scope s = Ok (bound_types [] (λ b. b.types) inside scope.scope, s)
     scope_types (UnreadScope kind) scope s = Err kind
 
     pub binding_types : BindingTerms → (parameters : ℕ) → Work (List SchemaType)
     binding_types terms zero s = Ok ([], s)
     binding_types NoBindings (suc count) s = Ok ([], s)
-    binding_types (MoreBindings t rest) (suc count) s = (type_of t >>= (λ first. binding_types rest count >>= (λ others. given (first ∷ others)))) s
-
--- what a brand binds to the parameters of a node's scopes, inmost first, inside an entry
-abbrev pub bindings_of : List SchemaNode → (strict : Bool) → (inside : List Bound) → (id : ℕ) → BrandTerm → Work (List Bound)
-bindings_of nodes strict inside id brand = said (scopes_of nodes id) >>= each (bind_scope (brand_types nodes strict inside brand))
+    binding_types (MoreBindings t rest) (suc count) s = (type_of t >>= (λ first. binding_types rest count >>= (λ others. given (with_type first others)))) s

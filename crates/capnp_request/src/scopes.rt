@@ -1,19 +1,17 @@
 //! What is bound to the type parameters of scopes.
-ghost use Rattle.std.specs.Prelude.{◌≡◌, map};
-ghost use Rattle.std.specs.Option.{option_map};
+ghost use Rattle.std.specs.Prelude.{◌≡◌, IfErr};
 ghost use Rattle.capnp_schema.specs.Types.{AnyPointerType, seen_type};
-ghost use Rattle.capnp_request.specs.Conversion.{is_untyped};
-ghost use Rattle.capnp_request.specs.Scopes.{first_bound};
-ghost use Rattle.capnp_request.specs.Seen.{seen_bound, seen_scopes};
-ghost use Rattle.capnp_request.specs.Types.{bound_to};
+ghost use Rattle.capnp_request.specs.Nodes.{AreNodes};
+ghost use Rattle.capnp_request.specs.Refusals.{IsPlain};
 
 use crate::entries::BoundScope;
+use crate::schema_nodes::{GenericScope, SchemaNodes};
 use capnp_base::introspect::{Type, TypeVariant};
+use capnp_wire::error::Result;
+use std::alloc::Global;
 
 /// Whether a type is an untyped pointer.
-pub(crate) fn is_untyped(t: Type) -> bool
-    ensures { result ≡ is_untyped (seen_type t) }
-{
+pub(crate) fn is_untyped(t: Type) -> bool {
     match t.which() {
         TypeVariant::AnyPointer => true,
         _ => false,
@@ -27,10 +25,21 @@ pub(crate) fn untyped() -> Type
     Type::from(TypeVariant::AnyPointer)
 }
 
-/// A scope with the types of its first parameters.
-pub(crate) fn bound_scope(scope: &BoundScope, types: Vec<Type>) -> BoundScope
-    ensures { seen_bound result ≡ record (seen_bound scope.now) { types = map seen_type types.items } }
+/// The scopes of a node with nothing bound.
+pub(crate) fn unbound(alloc: Global, nodes: &SchemaNodes<'_>, id: u64) -> Result<Vec<BoundScope>>
+    requires { AreNodes nodes.now }
+    ensures kinds { IfErr result (λ e. IsPlain e.kind) }
 {
+    let generic = nodes.generic_scopes(alloc, id)?;
+    let mut scopes = Vec::new(alloc);
+    for scope in generic.as_slice() {
+        scopes.push(bound_scope(*scope, Vec::new(alloc)))?;
+    }
+    Ok(scopes)
+}
+
+/// A scope with the types of its first parameters.
+pub(crate) fn bound_scope(scope: GenericScope, types: Vec<Type>) -> BoundScope {
     BoundScope {
         id: scope.id,
         distance: scope.distance,
@@ -39,10 +48,8 @@ pub(crate) fn bound_scope(scope: &BoundScope, types: Vec<Type>) -> BoundScope
     }
 }
 
-/// The type that is bound to a parameter of a scope: an untyped pointer where none is.
-pub(crate) fn bound_to(scopes: &[BoundScope], id: u64, index: u16) -> Type
-    ensures { seen_type result ≡ bound_to (seen_scopes scopes.now) id index }
-{
+/// What is bound to a parameter of a scope: an untyped pointer where nothing is.
+pub(crate) fn bound_to(scopes: &[BoundScope], id: u64, index: u16) -> Type {
     match scope_of(scopes, id) {
         Some(scope) => scope
             .types
@@ -54,9 +61,7 @@ pub(crate) fn bound_to(scopes: &[BoundScope], id: u64, index: u16) -> Type
 }
 
 /// The first scope of an id.
-pub(crate) fn scope_of(scopes: &[BoundScope], id: u64) -> Option<&BoundScope>
-    ensures { option_map (λ b. seen_bound b.now) result ≡ first_bound (seen_scopes scopes.now) id }
-{
+pub(crate) fn scope_of(scopes: &[BoundScope], id: u64) -> Option<&BoundScope> {
     for scope in scopes {
         if scope.id == id {
             return Some(scope);
