@@ -7,21 +7,20 @@ use Rattle.capnp_schema.specs.Schema.{Value as SchemaValue}
 use Rattle.capnp_schema.specs.Types.{SchemaType}
 use Rattle.capnp_records.specs.Part.{which_of}
 use Rattle.capnp_records.specs.Record.{Record, Value, Values}
-use Rattle.std.proofs.Common.{Option, Some, ◌∙◌, subst, ◌≢◌, List, Result, Ok, Err, IfErr, IfOk, Bool, true, false, cond, ◌==◌}
+use Rattle.std.proofs.Common.{Option, Some, ◌∙◌, ◌≢◌, List, Result, Ok, Err, IfErr, IfOk, Bool, true, false, cond, ◌==◌}
 use Rattle.std.proofs.lemmas.Bool.{eqb-true}
 use Rattle.capnp_device.specs.declared.error.Error.{Error}
 use Rattle.capnp_device.specs.declared.error.ErrorKind.{ErrorKind}
 use Rattle.capnp_device.specs.declared.error.ErrorKind.TheVariants.{OutOfMemory}
 use Rattle.capnp_schema.specs.declared.record.ValueRecord.{ValueRecord}
-use Rattle.capnp_schema.specs.Schema.{FieldKind, Group, seen_value}
+use Rattle.capnp_schema.specs.Schema.{Group, seen_value}
 use Rattle.capnp_records.specs.Record as value
 use Rattle.capnp_sets.specs.Fields.{kind_by, slot_of}
-use Rattle.capnp_sets.proofs.Faults.{fault_struct}
 use Rattle.capnp_sets.specs.Causes.{◌<*>◌, HasCause, Read, refused}
 use Rattle.capnp_sets.specs.Parts.{number, read_at, struct}
 use Rattle.capnp_sets.specs.Types.{base_type, base_types}
 use Rattle.capnp_sets.specs.Values.{kinds, list_value, value_by, value_of}
-use Rattle.capnp_sets.proofs.AppliedReads.{cause_right, only_cause}
+use Rattle.capnp_sets.proofs.AppliedReads.{only_cause}
 
 second-cond : {A : Type 0} (q : Bool) (a b : A) → q ≡ false → cond q a b ≡ b
 second-cond true a b e = cc
@@ -77,12 +76,6 @@ module _ (r : Record) where
   pub group_kind : which_of r ≡ Some 4 → kind_by (which_of r) r ≡ Ok Group <*> number (read_at 2 4 r)
   unfolding kind_by
   group_kind e = ap (λ o. kind_by o r) e
-
-  pub slot_refused : (kind : ErrorKind) → which_of r ≡ Some 3 → value.Fault kind ≡ read_at 2 3 r → HasCause (kind_by (which_of r) r) kind
-  slot_refused kind e h = subst (λ (x : Read FieldKind). HasCause x kind) (sym (slot_kind e)) (fault_struct slot_of (read_at 2 3 r) kind h)
-
-  pub group_refused : (kind : ErrorKind) → which_of r ≡ Some 4 → HasCause (number (read_at 2 4 r)) kind → HasCause (kind_by (which_of r) r) kind
-  group_refused kind e h = subst (λ (x : Read FieldKind). HasCause x kind) (sym (group_kind e)) (cause_right _ _ kind h)
 
   pub other_kind : (member : ℕ) → which_of r ≡ Some member → member ≢ 3 → member ≢ 4 → HasCause (kind_by (which_of r) r) UnknownKind
   unfolding kind_by

@@ -3,10 +3,12 @@ pub mod Bases
 pub mod Caused
 pub mod Elements
 pub mod Faults
+pub mod FieldsSeen
 pub mod Generics
 pub mod LawsOfSets
 pub mod ListsRead
 pub mod MessageKinds
+pub mod NumbersSeen
 pub mod PartsSeen
 pub mod RowsRead
 pub mod RowsSets

@@ -2,7 +2,8 @@
 use Rattle.std.specs.Prelude.{ℕ, ◌≡◌, ◌<◌, ◌⊎◌, false, length, Some}
 use Rattle.capnp_schema.specs.Accepted.{NamesEntries}
 use Rattle.capnp_schema.specs.Meta.{meta, one}
-use Rattle.capnp_schema.specs.Schema.{field_at, fields_of, is_member}
+use Rattle.capnp_schema.specs.Schema.{Group, Slot, field_at, fields_of, is_member}
+use Rattle.capnp_schema.specs.Schema.{Value as SchemaValue}
 use Rattle.capnp_schema.specs.StructHandles.{number_of, set_of}
 use Rattle.capnp_schema.specs.Types.{SchemaType}
 use Rattle.capnp_records.specs.Part.{which_of}
@@ -24,6 +25,14 @@ IsActive b i s = (is_member (field_at meta b i).field ≡ false) ⊎ (which_of (
 
 abbrev pub IsField : ℕ → ℕ → SchemaType → Type 0
 IsField b i t = (i < length (fields_of meta b)) × ((field_at meta b i).type ≡ t)
+
+-- the same of a slot at an offset, in units of its width, with its default
+abbrev pub IsSlot : ℕ → ℕ → SchemaType → ℕ → SchemaValue → Type 0
+IsSlot b i t offset default = IsField b i t × ((field_at meta b i).field.kind ≡ Slot offset default)
+
+-- field i of a struct of brand b is the group of brand g
+abbrev pub IsGroup : ℕ → ℕ → ℕ → Type 0
+IsGroup b i g = (b < length meta.brands) × IsField b i (one g) × ((field_at meta b i).field.kind ≡ Group g)
 
 -- a list of elements of a type of the meta set
 pub record IsListOf (t : SchemaType) (l : ListHandle) : Type 0 where

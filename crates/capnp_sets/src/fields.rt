@@ -10,10 +10,8 @@ ghost use Rattle.capnp_sets.specs.Fields.{field_of, kind_by, node_of, slot_of};
 ghost use Rattle.capnp_sets.specs.Handles.{AreBrands, IsRecord};
 ghost use Rattle.capnp_sets.specs.Parts.{struct};
 
-use crate::parts::{
-    FIELD, NODE, SLOT, active_member, bool_at, name_at, struct_at, struct_of, u16_at, u32_at,
-    u64_at,
-};
+use crate::numbers::{bool_at, u16_at, u32_at, u64_at};
+use crate::parts::{FIELD, NODE, SLOT, active_member, group_at, name_at, struct_of};
 use crate::rows::{Context, FromPart, list_in};
 use crate::values::value_at;
 use capnp_dynamic_readers::dynamic_struct;
@@ -29,7 +27,7 @@ fn read_slot(alloc: Global, reader: dynamic_struct::Reader<'_>) -> Result<FieldK
     ensures read { IfOk result (λ k. slot_of (record_seen reader.entry) ≡ Ok (seen_kind k)) }
     ensures refused { IfErr result (λ e. e.kind ≢ OutOfMemory → HasCause (slot_of (record_seen reader.entry)) e.kind) }
 {
-    let offset = u32_at(reader, SLOT, 0)?;
+    let offset = u32_at(reader, SLOT, 0, 1);
     let default = value_at(alloc, reader, SLOT, 1)?;
     Ok(FieldKind::Slot { offset, default })
 }
@@ -47,11 +45,10 @@ fn read_kind(alloc: Global, reader: dynamic_struct::Reader<'_>) -> Result<FieldK
         });
     };
     if member == 3 {
-        let slot = struct_at(reader, FIELD, 3, SLOT)?;
-        return read_slot(alloc, slot);
+        return read_slot(alloc, group_at(reader, FIELD, 3, SLOT));
     }
     if member == 4 {
-        let node = u32_at(reader, FIELD, 4)?;
+        let node = u32_at(reader, FIELD, 4, 1);
         return Ok(FieldKind::Group { node });
     }
     Err(Error {
@@ -67,7 +64,7 @@ fn read_field(context: Context<'_>, reader: dynamic_struct::Reader<'_>) -> Resul
     ensures read { IfOk result (λ f. field_of (record_seen reader.entry) ≡ Ok (seen_field f)) }
     ensures refused { IfErr result (λ e. e.kind ≢ OutOfMemory → HasCause (field_of (record_seen reader.entry)) e.kind) }
 {
-    let discriminant_value = u16_at(reader, FIELD, 0)?;
+    let discriminant_value = u16_at(reader, FIELD, 0, 0, 65_535);
     let name = name_at(context.alloc, reader, FIELD, 1)?;
     let annotations = list_in::<AnnotationRecord>(context, reader, FIELD, 2)?;
     let kind = read_kind(context.alloc, reader)?;
@@ -101,12 +98,12 @@ fn read_node(context: Context<'_>, reader: dynamic_struct::Reader<'_>) -> Result
     ensures read { IfOk result (λ n. node_of (record_seen reader.entry) ≡ Ok (seen_node n)) }
     ensures refused { IfErr result (λ e. e.kind ≢ OutOfMemory → HasCause (node_of (record_seen reader.entry)) e.kind) }
 {
-    let id = u64_at(reader, NODE, 0)?;
-    let data_word_count = u16_at(reader, NODE, 1)?;
-    let pointer_count = u16_at(reader, NODE, 2)?;
-    let discriminant_count = u16_at(reader, NODE, 3)?;
-    let is_group = bool_at(reader, NODE, 4)?;
-    let discriminant_offset = u32_at(reader, NODE, 5)?;
+    let id = u64_at(reader, NODE, 0, 0);
+    let data_word_count = u16_at(reader, NODE, 1, 4, 0);
+    let pointer_count = u16_at(reader, NODE, 2, 5, 0);
+    let discriminant_count = u16_at(reader, NODE, 3, 6, 0);
+    let is_group = bool_at(reader, NODE, 4, 112);
+    let discriminant_offset = u32_at(reader, NODE, 5, 4);
     let display_name = name_at(context.alloc, reader, NODE, 6)?;
     let annotations = list_in::<AnnotationRecord>(context, reader, NODE, 7)?;
     let fields = list_in::<FieldRecord>(context, reader, NODE, 8)?;

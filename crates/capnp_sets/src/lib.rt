@@ -8,6 +8,7 @@ mod fields;
 pub mod laws;
 mod lists;
 pub mod message;
+mod numbers;
 mod parts;
 mod rows;
 pub mod sets;

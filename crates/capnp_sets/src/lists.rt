@@ -9,7 +9,8 @@ ghost use Rattle.capnp_sets.specs.Handles.{AreBrands, IsRecord, values_in};
 ghost use Rattle.capnp_sets.specs.Lists.{brand_of, enum_of, enumerant_of};
 ghost use Rattle.capnp_sets.specs.Parts.{struct};
 
-use crate::parts::{BRAND, ENUM, ENUMERANT, name_at, struct_of, u32_at, u64_at};
+use crate::numbers::{u32_at, u64_at};
+use crate::parts::{BRAND, ENUM, ENUMERANT, name_at, struct_of};
 use crate::rows::{Context, FromPart, list_in};
 use capnp_base::introspect::Type;
 use capnp_dynamic_readers::dynamic_struct;
@@ -27,7 +28,7 @@ fn read_brand(context: Context<'_>, reader: dynamic_struct::Reader<'_>) -> Resul
     ensures read { IfOk result (λ b. brand_of (values_in context.entry.brands) (record_seen reader.entry) ≡ Ok (seen_brand b)) }
     ensures refused { IfErr result (λ e. e.kind ≢ OutOfMemory → HasCause (brand_of (values_in context.entry.brands) (record_seen reader.entry)) e.kind) }
 {
-    let node = u32_at(reader, BRAND, 0)?;
+    let node = u32_at(reader, BRAND, 0, 0);
     let field_types = list_in::<Type>(context, reader, BRAND, 1)?;
     let own = list_in::<Type>(context, reader, BRAND, 2)?;
     let children = list_in::<Vec<Type>>(context, reader, BRAND, 3)?;
@@ -90,7 +91,7 @@ fn read_enum(context: Context<'_>, reader: dynamic_struct::Reader<'_>) -> Result
     ensures read { IfOk result (λ e. enum_of (values_in context.entry.brands) (record_seen reader.entry) ≡ Ok (seen_enum e)) }
     ensures refused { IfErr result (λ e. e.kind ≢ OutOfMemory → HasCause (enum_of (values_in context.entry.brands) (record_seen reader.entry)) e.kind) }
 {
-    let id = u64_at(reader, ENUM, 0)?;
+    let id = u64_at(reader, ENUM, 0, 0);
     let display_name = name_at(context.alloc, reader, ENUM, 1)?;
     let annotations = list_in::<AnnotationRecord>(context, reader, ENUM, 2)?;
     let enumerants = list_in::<EnumerantRecord>(context, reader, ENUM, 3)?;

@@ -3,18 +3,17 @@ ghost use Rattle.std.specs.Prelude.{◌≡◌, ◌≢◌, Ok, Some, IfErr, IfOk,
 ghost use Rattle.capnp_device.specs.declared.error.ErrorKind.TheVariants.{OutOfMemory};
 ghost use Rattle.capnp_schema.specs.Meta.{many, meta, one};
 ghost use Rattle.capnp_schema.specs.Schema.{field_at};
-ghost use Rattle.capnp_schema.specs.Types.{BoolType, DataType, IntType, ListType, TextType, UIntType};
+ghost use Rattle.capnp_schema.specs.Types.{DataType, ListType, TextType};
 ghost use Rattle.capnp_records.specs.Part.{which_of};
 ghost use Rattle.capnp_records.specs.Reading.{element_type};
 ghost use Rattle.capnp_records.specs.Record as value;
 ghost use Rattle.capnp_dynamic_readers.specs.Handles.{element_of, list_set};
-ghost use Rattle.capnp_dynamic_readers.specs.Kinds.{Int16Kind, Int32Kind, Int64Kind, Int8Kind, kind_of};
 ghost use Rattle.capnp_dynamic_readers.specs.Seen.{answered, list_seen, record_seen, value_seen};
 ghost use Rattle.capnp_dynamic_readers.specs.Typed.{IsOf};
 ghost use Rattle.capnp_dynamic_readers.specs.declared.dynamic_value.Reader.TheVariants as dynamic;
 ghost use Rattle.capnp_sets.specs.Causes.{HasCause};
-ghost use Rattle.capnp_sets.specs.Handles.{IsActive, IsField, IsListOf, IsRecord};
-ghost use Rattle.capnp_sets.specs.Parts.{blob, integer, name, name_of, number, read_at, text, truth};
+ghost use Rattle.capnp_sets.specs.Handles.{IsActive, IsField, IsGroup, IsListOf, IsRecord};
+ghost use Rattle.capnp_sets.specs.Parts.{blob, name, name_of, read_at, text};
 
 use capnp_base::text;
 use capnp_dynamic_readers::dynamic_value::Reader as Value;
@@ -68,176 +67,6 @@ fn part<'a>(reader: dynamic_struct::Reader<'a>, brand: u32, index: u16) -> Resul
     };
     let field = fields.get(index);
     reader.get(field)
-}
-
-/// A `u8`.
-pub(crate) fn u8_at(reader: dynamic_struct::Reader<'_>, brand: u32, index: u16) -> Result<u8>
-    requires record { IsRecord brand reader }
-    requires field { IsField brand index (UIntType 1) }
-    requires active { IsActive brand index reader }
-    ensures read { IfOk result (λ x. number (read_at brand index (record_seen reader.entry)) ≡ Ok x) }
-    ensures refused { IfErr result (λ e. HasCause (number (read_at brand index (record_seen reader.entry))) e.kind) }
-{
-    match part(reader, brand, index) {
-        Ok(value) => Ok(value.downcast::<u8>()),
-        Err(error) => Err(error),
-    }
-}
-
-/// A `u16`.
-pub(crate) fn u16_at(reader: dynamic_struct::Reader<'_>, brand: u32, index: u16) -> Result<u16>
-    requires record { IsRecord brand reader }
-    requires field { IsField brand index (UIntType 2) }
-    requires active { IsActive brand index reader }
-    ensures read { IfOk result (λ x. number (read_at brand index (record_seen reader.entry)) ≡ Ok x) }
-    ensures refused { IfErr result (λ e. HasCause (number (read_at brand index (record_seen reader.entry))) e.kind) }
-{
-    match part(reader, brand, index) {
-        Ok(value) => Ok(value.downcast::<u16>()),
-        Err(error) => Err(error),
-    }
-}
-
-/// A `u32`.
-pub(crate) fn u32_at(reader: dynamic_struct::Reader<'_>, brand: u32, index: u16) -> Result<u32>
-    requires record { IsRecord brand reader }
-    requires field { IsField brand index (UIntType 4) }
-    requires active { IsActive brand index reader }
-    ensures read { IfOk result (λ x. number (read_at brand index (record_seen reader.entry)) ≡ Ok x) }
-    ensures refused { IfErr result (λ e. HasCause (number (read_at brand index (record_seen reader.entry))) e.kind) }
-{
-    match part(reader, brand, index) {
-        Ok(value) => Ok(value.downcast::<u32>()),
-        Err(error) => Err(error),
-    }
-}
-
-/// A `u64`.
-pub(crate) fn u64_at(reader: dynamic_struct::Reader<'_>, brand: u32, index: u16) -> Result<u64>
-    requires record { IsRecord brand reader }
-    requires field { IsField brand index (UIntType 8) }
-    requires active { IsActive brand index reader }
-    ensures read { IfOk result (λ x. number (read_at brand index (record_seen reader.entry)) ≡ Ok x) }
-    ensures refused { IfErr result (λ e. HasCause (number (read_at brand index (record_seen reader.entry))) e.kind) }
-{
-    match part(reader, brand, index) {
-        Ok(value) => Ok(value.downcast::<u64>()),
-        Err(error) => Err(error),
-    }
-}
-
-/// The number of a value that is an `i8`.
-fn int8_of(value: Value<'_>) -> i8
-    requires { kind_of value ≡ Int8Kind }
-    ensures { dynamic.Int8 result ≡ value.entry }
-{
-    let Value::Int8(x) = value else {
-        unreachable!()
-    };
-    x
-}
-
-/// An `i8`.
-pub(crate) fn i8_at(reader: dynamic_struct::Reader<'_>, brand: u32, index: u16) -> Result<i8>
-    requires record { IsRecord brand reader }
-    requires field { IsField brand index (IntType 1) }
-    requires active { IsActive brand index reader }
-    ensures read { IfOk result (λ x. integer (read_at brand index (record_seen reader.entry)) ≡ Ok x) }
-    ensures refused { IfErr result (λ e. HasCause (integer (read_at brand index (record_seen reader.entry))) e.kind) }
-{
-    match part(reader, brand, index) {
-        Ok(value) => Ok(int8_of(value)),
-        Err(error) => Err(error),
-    }
-}
-
-/// The number of a value that is an `i16`.
-fn int16_of(value: Value<'_>) -> i16
-    requires { kind_of value ≡ Int16Kind }
-    ensures { dynamic.Int16 result ≡ value.entry }
-{
-    let Value::Int16(x) = value else {
-        unreachable!()
-    };
-    x
-}
-
-/// An `i16`.
-pub(crate) fn i16_at(reader: dynamic_struct::Reader<'_>, brand: u32, index: u16) -> Result<i16>
-    requires record { IsRecord brand reader }
-    requires field { IsField brand index (IntType 2) }
-    requires active { IsActive brand index reader }
-    ensures read { IfOk result (λ x. integer (read_at brand index (record_seen reader.entry)) ≡ Ok x) }
-    ensures refused { IfErr result (λ e. HasCause (integer (read_at brand index (record_seen reader.entry))) e.kind) }
-{
-    match part(reader, brand, index) {
-        Ok(value) => Ok(int16_of(value)),
-        Err(error) => Err(error),
-    }
-}
-
-/// The number of a value that is an `i32`.
-fn int32_of(value: Value<'_>) -> i32
-    requires { kind_of value ≡ Int32Kind }
-    ensures { dynamic.Int32 result ≡ value.entry }
-{
-    let Value::Int32(x) = value else {
-        unreachable!()
-    };
-    x
-}
-
-/// An `i32`.
-pub(crate) fn i32_at(reader: dynamic_struct::Reader<'_>, brand: u32, index: u16) -> Result<i32>
-    requires record { IsRecord brand reader }
-    requires field { IsField brand index (IntType 4) }
-    requires active { IsActive brand index reader }
-    ensures read { IfOk result (λ x. integer (read_at brand index (record_seen reader.entry)) ≡ Ok x) }
-    ensures refused { IfErr result (λ e. HasCause (integer (read_at brand index (record_seen reader.entry))) e.kind) }
-{
-    match part(reader, brand, index) {
-        Ok(value) => Ok(int32_of(value)),
-        Err(error) => Err(error),
-    }
-}
-
-/// The number of a value that is an `i64`.
-fn int64_of(value: Value<'_>) -> i64
-    requires { kind_of value ≡ Int64Kind }
-    ensures { dynamic.Int64 result ≡ value.entry }
-{
-    let Value::Int64(x) = value else {
-        unreachable!()
-    };
-    x
-}
-
-/// An `i64`.
-pub(crate) fn i64_at(reader: dynamic_struct::Reader<'_>, brand: u32, index: u16) -> Result<i64>
-    requires record { IsRecord brand reader }
-    requires field { IsField brand index (IntType 8) }
-    requires active { IsActive brand index reader }
-    ensures read { IfOk result (λ x. integer (read_at brand index (record_seen reader.entry)) ≡ Ok x) }
-    ensures refused { IfErr result (λ e. HasCause (integer (read_at brand index (record_seen reader.entry))) e.kind) }
-{
-    match part(reader, brand, index) {
-        Ok(value) => Ok(int64_of(value)),
-        Err(error) => Err(error),
-    }
-}
-
-/// A truth value.
-pub(crate) fn bool_at(reader: dynamic_struct::Reader<'_>, brand: u32, index: u16) -> Result<bool>
-    requires record { IsRecord brand reader }
-    requires field { IsField brand index BoolType }
-    requires active { IsActive brand index reader }
-    ensures read { IfOk result (λ x. truth (read_at brand index (record_seen reader.entry)) ≡ Ok x) }
-    ensures refused { IfErr result (λ e. HasCause (truth (read_at brand index (record_seen reader.entry))) e.kind) }
-{
-    match part(reader, brand, index) {
-        Ok(value) => Ok(value.downcast::<bool>()),
-        Err(error) => Err(error),
-    }
 }
 
 /// The bytes of a text.
@@ -306,7 +135,26 @@ pub(crate) fn name_at(
     owned(alloc, bytes)
 }
 
-/// The struct or group of a brand.
+/// The group of a brand: the same struct under the group's schema.
+#[inline(always)]
+pub(crate) fn group_at<'a>(
+    reader: dynamic_struct::Reader<'a>,
+    brand: u32,
+    index: u16,
+    group: u32,
+) -> dynamic_struct::Reader<'a>
+    requires record { IsRecord brand reader }
+    requires field { IsGroup brand index group }
+    requires active { IsActive brand index reader }
+    ensures read { value.Struct (record_seen result) ≡ read_at brand index (record_seen reader.entry) }
+    ensures record { IsRecord group result }
+{
+    let (_brand, _index) = (brand, index);
+    let schema = reader.get_schema().get_set().struct_schema(group);
+    dynamic_struct::Reader::new(reader.get_sections(), schema)
+}
+
+/// The struct of a brand.
 pub(crate) fn struct_at<'a>(
     reader: dynamic_struct::Reader<'a>,
     brand: u32,

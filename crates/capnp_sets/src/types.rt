@@ -9,7 +9,8 @@ ghost use Rattle.capnp_sets.specs.Handles.{AreBrands, IsRecord, values_in};
 ghost use Rattle.capnp_sets.specs.Parts.{struct};
 ghost use Rattle.capnp_sets.specs.Types.{base_type, generic_in, type_of, types};
 
-use crate::parts::{BRAND, TYPE, list_of, struct_of, u16_at, u32_at};
+use crate::numbers::{u16_at, u32_at};
+use crate::parts::{BRAND, TYPE, list_of, struct_of};
 use crate::rows::{Context, FromPart, all_read};
 use capnp_base::introspect::{RawBrandedStructSchema, RawEnumSchema, Type, TypeVariant};
 use capnp_dynamic_readers::dynamic_value::Reader as Value;
@@ -27,7 +28,7 @@ fn generic_of(brands: dynamic_list::Reader<'_>, number: u32) -> Result<u32>
     }
     let part = brands.get(number)?;
     let record = struct_of(part, BRAND);
-    u32_at(record, BRAND, 0)
+    Ok(u32_at(record, BRAND, 0, 0))
 }
 
 /// The type of the structs of a brand.
@@ -106,9 +107,9 @@ fn read_type(brands: dynamic_list::Reader<'_>, reader: dynamic_struct::Reader<'_
     ensures read { IfOk result (λ t. type_of (values_in brands.entry) (record_seen reader.entry) ≡ Ok (seen_type t)) }
     ensures refused { IfErr result (λ e. HasCause (type_of (values_in brands.entry) (record_seen reader.entry)) e.kind) }
 {
-    let list_count = u16_at(reader, TYPE, 1)?;
-    let base = u16_at(reader, TYPE, 0)?;
-    let number = u32_at(reader, TYPE, 2)?;
+    let list_count = u16_at(reader, TYPE, 1, 1, 0);
+    let base = u16_at(reader, TYPE, 0, 0, 0);
+    let number = u32_at(reader, TYPE, 2, 1);
     let inner = base_type(brands, base, number)?;
     Ok(lists_around(inner, list_count))
 }

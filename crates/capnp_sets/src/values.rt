@@ -10,10 +10,8 @@ ghost use Rattle.capnp_sets.specs.Handles.{IsActive, IsField, IsRecord};
 ghost use Rattle.capnp_sets.specs.Parts.{read_at, struct};
 ghost use Rattle.capnp_sets.specs.Values.{annotation_of, list_value, value_by, value_of};
 
-use crate::parts::{
-    ANNOTATION, VALUE, active_member, bool_at, data_at, i8_at, i16_at, i32_at, i64_at, struct_at,
-    struct_of, text_at, u8_at, u16_at, u32_at, u64_at,
-};
+use crate::numbers::{bool_at, i8_at, i16_at, i32_at, i64_at, u8_at, u16_at, u32_at, u64_at};
+use crate::parts::{ANNOTATION, VALUE, active_member, data_at, struct_at, struct_of, text_at};
 use crate::rows::{Context, FromPart};
 use capnp_dynamic_readers::dynamic_struct;
 use capnp_dynamic_readers::dynamic_value::Reader as Value;
@@ -32,16 +30,16 @@ fn number_value(reader: dynamic_struct::Reader<'_>, member: u16) -> Result<Value
 {
     match member {
         0 => Ok(ValueRecord::Void),
-        1 => Ok(ValueRecord::Bool(bool_at(reader, VALUE, 1)?)),
-        2 => Ok(ValueRecord::Int8(i8_at(reader, VALUE, 2)?)),
-        3 => Ok(ValueRecord::Int16(i16_at(reader, VALUE, 3)?)),
-        4 => Ok(ValueRecord::Int32(i32_at(reader, VALUE, 4)?)),
-        5 => Ok(ValueRecord::Int64(i64_at(reader, VALUE, 5)?)),
-        6 => Ok(ValueRecord::UInt8(u8_at(reader, VALUE, 6)?)),
-        7 => Ok(ValueRecord::UInt16(u16_at(reader, VALUE, 7)?)),
-        8 => Ok(ValueRecord::UInt32(u32_at(reader, VALUE, 8)?)),
-        9 => Ok(ValueRecord::UInt64(u64_at(reader, VALUE, 9)?)),
-        10 => Ok(ValueRecord::Enum(u16_at(reader, VALUE, 10)?)),
+        1 => Ok(ValueRecord::Bool(bool_at(reader, VALUE, 1, 64))),
+        2 => Ok(ValueRecord::Int8(i8_at(reader, VALUE, 2, 8))),
+        3 => Ok(ValueRecord::Int16(i16_at(reader, VALUE, 3, 4))),
+        4 => Ok(ValueRecord::Int32(i32_at(reader, VALUE, 4, 2))),
+        5 => Ok(ValueRecord::Int64(i64_at(reader, VALUE, 5, 1))),
+        6 => Ok(ValueRecord::UInt8(u8_at(reader, VALUE, 6, 8))),
+        7 => Ok(ValueRecord::UInt16(u16_at(reader, VALUE, 7, 4, 0))),
+        8 => Ok(ValueRecord::UInt32(u32_at(reader, VALUE, 8, 2))),
+        9 => Ok(ValueRecord::UInt64(u64_at(reader, VALUE, 9, 1))),
+        10 => Ok(ValueRecord::Enum(u16_at(reader, VALUE, 10, 4, 0))),
         _ => unreachable!(),
     }
 }
@@ -143,7 +141,7 @@ fn read_annotation(alloc: Global, reader: dynamic_struct::Reader<'_>) -> Result<
     ensures read { IfOk result (λ a. annotation_of (record_seen reader.entry) ≡ Ok (seen_annotation a)) }
     ensures refused { IfErr result (λ e. e.kind ≢ OutOfMemory → HasCause (annotation_of (record_seen reader.entry)) e.kind) }
 {
-    let id = u64_at(reader, ANNOTATION, 0)?;
+    let id = u64_at(reader, ANNOTATION, 0, 0);
     let value = value_at(alloc, reader, ANNOTATION, 1)?;
     Ok(AnnotationRecord { id, value })
 }

@@ -4,13 +4,9 @@ use Rattle.capnp_sets.specs.Fields.{field_of}
 use Rattle.capnp_sets.proofs.AppliedReads.{cause_left, cause_right, made}
 use Rattle.capnp_sets.proofs.fields.read_field.Goals as goal
 
-pub returns-in_err-discriminant_value-clause-refused : goal.returns-in_err-discriminant_value-clause-refused
-unfolding field_of
-returns-in_err-discriminant_value-clause-refused c = let p = err_from_is_err_and c.from_residual.result c.from_residual.ensures.1 in rw (p.1, p.2) (λ _. cause_left _ _ _ (cause_left _ _ _ (cause_left _ _ _ (cause_right _ _ _ c.in_err-discriminant_value.ensures.refused))))
-
 pub returns-in_err-name-clause-refused : goal.returns-in_err-name-clause-refused
 unfolding field_of
-returns-in_err-name-clause-refused c = let p = err_from_is_err_and c.from_residual-in_err-name.result c.from_residual-in_err-name.ensures.1 in rw (p.1, p.2) (λ m. cause_left _ _ _ (cause_left _ _ _ (cause_right _ _ _ (c.in_err-name.ensures.refused m))))
+returns-in_err-name-clause-refused c = let p = err_from_is_err_and c.from_residual.result c.from_residual.ensures.1 in rw (p.1, p.2) (λ m. cause_left _ _ _ (cause_left _ _ _ (cause_right _ _ _ (c.in_err-name.ensures.refused m))))
 
 pub returns-in_err-annotations-clause-refused : goal.returns-in_err-annotations-clause-refused
 unfolding field_of
@@ -22,4 +18,4 @@ returns-in_err-kind-clause-refused c = let p = err_from_is_err_and c.from_residu
 
 pub returns-clause-read : goal.returns-clause-read
 unfolding field_of
-returns-clause-read c = made (made (made (made refl c.in_ok-discriminant_value.ensures.read) c.in_ok-name.ensures.read) c.in_ok-annotations.ensures.read) c.in_ok-kind.ensures.read
+returns-clause-read c = made (made (made (made refl c.u16_at-discriminant_value.ensures) c.in_ok-name.ensures.read) c.in_ok-annotations.ensures.read) c.in_ok-kind.ensures.read

@@ -4,13 +4,9 @@ use Rattle.capnp_sets.specs.Lists.{brand_of}
 use Rattle.capnp_sets.proofs.AppliedReads.{cause_left, cause_right, made}
 use Rattle.capnp_sets.proofs.lists.read_brand.Goals as goal
 
-pub returns-in_err-node-clause-refused : goal.returns-in_err-node-clause-refused
-unfolding brand_of
-returns-in_err-node-clause-refused c = let p = err_from_is_err_and c.from_residual.result c.from_residual.ensures.1 in rw (p.1, p.2) (λ _. cause_left _ _ _ (cause_left _ _ _ (cause_right _ _ _ c.in_err-node.ensures.refused)))
-
 pub returns-in_err-field_types-clause-refused : goal.returns-in_err-field_types-clause-refused
 unfolding brand_of
-returns-in_err-field_types-clause-refused c = let p = err_from_is_err_and c.from_residual-in_err-field_types.result c.from_residual-in_err-field_types.ensures.1 in rw (p.1, p.2) (λ m. cause_left _ _ _ (cause_right _ _ _ (c.in_err-field_types.ensures.refused m)))
+returns-in_err-field_types-clause-refused c = let p = err_from_is_err_and c.from_residual.result c.from_residual.ensures.1 in rw (p.1, p.2) (λ m. cause_left _ _ _ (cause_right _ _ _ (c.in_err-field_types.ensures.refused m)))
 
 pub returns-in_err-own-clause-refused : goal.returns-in_err-own-clause-refused
 unfolding brand_of
@@ -22,4 +18,4 @@ returns-in_err-children-clause-refused c = let p = err_from_is_err_and c.from_re
 
 pub returns-clause-read : goal.returns-clause-read
 unfolding brand_of
-returns-clause-read c = made (made (made refl c.in_ok-node.ensures.read) c.in_ok-field_types.ensures.read) (made (made refl c.in_ok-own.ensures.read) c.in_ok-children.ensures.read)
+returns-clause-read c = made (made (made refl c.u32_at-node.ensures) c.in_ok-field_types.ensures.read) (made (made refl c.in_ok-own.ensures.read) c.in_ok-children.ensures.read)

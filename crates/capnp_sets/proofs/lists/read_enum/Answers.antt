@@ -4,13 +4,9 @@ use Rattle.capnp_sets.specs.Lists.{enum_of}
 use Rattle.capnp_sets.proofs.AppliedReads.{cause_left, cause_right, made}
 use Rattle.capnp_sets.proofs.lists.read_enum.Goals as goal
 
-pub returns-in_err-id-clause-refused : goal.returns-in_err-id-clause-refused
-unfolding enum_of
-returns-in_err-id-clause-refused c = let p = err_from_is_err_and c.from_residual.result c.from_residual.ensures.1 in rw (p.1, p.2) (λ _. cause_left _ _ _ (cause_left _ _ _ (cause_left _ _ _ (cause_left _ _ _ (cause_right _ _ _ c.in_err-id.ensures.refused)))))
-
 pub returns-in_err-display_name-clause-refused : goal.returns-in_err-display_name-clause-refused
 unfolding enum_of
-returns-in_err-display_name-clause-refused c = let p = err_from_is_err_and c.from_residual-in_err-display_name.result c.from_residual-in_err-display_name.ensures.1 in rw (p.1, p.2) (λ m. cause_left _ _ _ (cause_left _ _ _ (cause_left _ _ _ (cause_right _ _ _ (c.in_err-display_name.ensures.refused m)))))
+returns-in_err-display_name-clause-refused c = let p = err_from_is_err_and c.from_residual.result c.from_residual.ensures.1 in rw (p.1, p.2) (λ m. cause_left _ _ _ (cause_left _ _ _ (cause_left _ _ _ (cause_right _ _ _ (c.in_err-display_name.ensures.refused m)))))
 
 pub returns-in_err-annotations-clause-refused : goal.returns-in_err-annotations-clause-refused
 unfolding enum_of
@@ -30,4 +26,4 @@ returns-in_err-children-clause-refused c = let p = err_from_is_err_and c.from_re
 
 pub returns-clause-read : goal.returns-clause-read
 unfolding enum_of
-returns-clause-read c = made (made (made (made (made refl c.in_ok-id.ensures.read) c.in_ok-display_name.ensures.read) c.in_ok-annotations.ensures.read) c.in_ok-enumerants.ensures.read) (made (made refl c.in_ok-own.ensures.read) c.in_ok-children.ensures.read)
+returns-clause-read c = made (made (made (made (made refl c.u64_at-id.ensures) c.in_ok-display_name.ensures.read) c.in_ok-annotations.ensures.read) c.in_ok-enumerants.ensures.read) (made (made refl c.in_ok-own.ensures.read) c.in_ok-children.ensures.read)

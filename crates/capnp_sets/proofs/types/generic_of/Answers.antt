@@ -1,11 +1,10 @@
-use Rattle.std.proofs.Common.{ℕ, arith, ap, subst, sym, ◌∙◌, ◌≡◌, IfErr, IfOk, Ok}
+use Rattle.std.proofs.Common.{arith, ap, ◌∙◌}
 use Rattle.std.proofs.lemmas.Result.{err_from_is_err_and}
 use Rattle.capnp_wire.specs.Reading.{list_length}
 use Rattle.capnp_wire.specs.Standing.{list_of}
 use Rattle.capnp_dynamic_readers.specs.Handles.{list_reader_of}
 use Rattle.capnp_dynamic_readers.specs.Seen.{record_seen, value_seen}
 use Rattle.capnp_records.specs.Record as value
-use Rattle.capnp_sets.specs.Causes.{HasCause, Read}
 use Rattle.capnp_sets.proofs.Generics.{generic_here, generic_past, generic_refused}
 use Rattle.capnp_sets.proofs.RowsRead.{element_in}
 use Rattle.capnp_sets.proofs.types.generic_of.Goals as goal
@@ -20,9 +19,4 @@ returns-in_err-part-clause-refused c =
 pub returns-clause-read : goal.returns-clause-read
 returns-clause-read c =
     let seen = ap value_seen c.struct_of-record.ensures.is ∙ c.in_ok-part.ensures.value in
-    subst (λ (y : Read ℕ). IfOk c.u32_at.result (λ x. y ≡ Ok x)) (sym (generic_here c.args.brands c.args.number c.requires (omega (arith, c.if-number-len.false, c.len.ensures)) (value.Struct (record_seen c.struct_of-record.result)) seen)) c.u32_at.ensures.read
-
-pub returns-clause-refused : goal.returns-clause-refused
-returns-clause-refused c =
-    let seen = ap value_seen c.struct_of-record.ensures.is ∙ c.in_ok-part.ensures.value in
-    subst (λ (y : Read ℕ). IfErr c.u32_at.result (λ e. HasCause y e.kind)) (sym (generic_here c.args.brands c.args.number c.requires (omega (arith, c.if-number-len.false, c.len.ensures)) (value.Struct (record_seen c.struct_of-record.result)) seen)) c.u32_at.ensures.refused
+    generic_here c.args.brands c.args.number c.requires (omega (arith, c.if-number-len.false, c.len.ensures)) (value.Struct (record_seen c.struct_of-record.result)) seen ∙ c.u32_at.ensures

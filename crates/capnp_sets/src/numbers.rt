@@ -1,0 +1,147 @@
+//! Numbers of records of the meta set, each read at its field's place in the data section.
+//!
+//! The place is told by who asks, and proved to be the field's. An offset is in units of the number's size.
+ghost use Rattle.std.specs.Prelude.{◌≡◌, false, pos, Ok};
+ghost use Rattle.capnp_schema.specs.Schema.{BoolValue, IntValue, UIntValue};
+ghost use Rattle.capnp_schema.specs.Types.{BoolType, IntType, UIntType};
+ghost use Rattle.capnp_dynamic_readers.specs.Seen.{record_seen};
+ghost use Rattle.capnp_sets.specs.Handles.{IsActive, IsRecord, IsSlot};
+ghost use Rattle.capnp_sets.specs.Parts.{integer, number, read_at, truth};
+
+use capnp_dynamic_readers::dynamic_struct;
+use capnp_wire::laws::struct_is_well_formed;
+
+/// A truth value whose default is false.
+#[inline(always)]
+pub(crate) fn bool_at(
+    reader: dynamic_struct::Reader<'_>,
+    brand: u32,
+    index: u16,
+    offset: u32,
+) -> bool
+    requires record { IsRecord brand reader }
+    requires field { IsSlot brand index BoolType offset (BoolValue false) }
+    requires active { IsActive brand index reader }
+    ensures { truth (read_at brand index (record_seen reader.entry)) ≡ Ok result }
+{
+    let (_brand, _index) = (brand, index);
+    reader.get_sections().get_bool_field(offset)
+}
+
+/// A `u8` whose default is 0.
+#[inline(always)]
+pub(crate) fn u8_at(reader: dynamic_struct::Reader<'_>, brand: u32, index: u16, offset: u32) -> u8
+    requires record { IsRecord brand reader }
+    requires field { IsSlot brand index (UIntType 1) offset (UIntValue 1 0) }
+    requires active { IsActive brand index reader }
+    ensures { number (read_at brand index (record_seen reader.entry)) ≡ Ok result }
+{
+    let (_brand, _index) = (brand, index);
+    let sections = reader.get_sections();
+    struct_is_well_formed(&sections);
+    sections.get_data_field_mask::<u8>(offset, 0)
+}
+
+/// A `u16`, with its default.
+#[inline(always)]
+pub(crate) fn u16_at(
+    reader: dynamic_struct::Reader<'_>,
+    brand: u32,
+    index: u16,
+    offset: u32,
+    default: u16,
+) -> u16
+    requires record { IsRecord brand reader }
+    requires field { IsSlot brand index (UIntType 2) offset (UIntValue 2 default) }
+    requires active { IsActive brand index reader }
+    ensures { number (read_at brand index (record_seen reader.entry)) ≡ Ok result }
+{
+    let (_brand, _index) = (brand, index);
+    let sections = reader.get_sections();
+    struct_is_well_formed(&sections);
+    sections.get_data_field_mask::<u16>(offset, default)
+}
+
+/// A `u32` whose default is 0.
+#[inline(always)]
+pub(crate) fn u32_at(reader: dynamic_struct::Reader<'_>, brand: u32, index: u16, offset: u32) -> u32
+    requires record { IsRecord brand reader }
+    requires field { IsSlot brand index (UIntType 4) offset (UIntValue 4 0) }
+    requires active { IsActive brand index reader }
+    ensures { number (read_at brand index (record_seen reader.entry)) ≡ Ok result }
+{
+    let (_brand, _index) = (brand, index);
+    let sections = reader.get_sections();
+    struct_is_well_formed(&sections);
+    sections.get_data_field_mask::<u32>(offset, 0)
+}
+
+/// A `u64` whose default is 0.
+#[inline(always)]
+pub(crate) fn u64_at(reader: dynamic_struct::Reader<'_>, brand: u32, index: u16, offset: u32) -> u64
+    requires record { IsRecord brand reader }
+    requires field { IsSlot brand index (UIntType 8) offset (UIntValue 8 0) }
+    requires active { IsActive brand index reader }
+    ensures { number (read_at brand index (record_seen reader.entry)) ≡ Ok result }
+{
+    let (_brand, _index) = (brand, index);
+    let sections = reader.get_sections();
+    struct_is_well_formed(&sections);
+    sections.get_data_field_mask::<u64>(offset, 0)
+}
+
+/// An `i8` whose default is 0.
+#[inline(always)]
+pub(crate) fn i8_at(reader: dynamic_struct::Reader<'_>, brand: u32, index: u16, offset: u32) -> i8
+    requires record { IsRecord brand reader }
+    requires field { IsSlot brand index (IntType 1) offset (IntValue 1 (pos 0)) }
+    requires active { IsActive brand index reader }
+    ensures { integer (read_at brand index (record_seen reader.entry)) ≡ Ok result }
+{
+    let (_brand, _index) = (brand, index);
+    let sections = reader.get_sections();
+    struct_is_well_formed(&sections);
+    sections.get_data_field_mask::<i8>(offset, 0)
+}
+
+/// An `i16` whose default is 0.
+#[inline(always)]
+pub(crate) fn i16_at(reader: dynamic_struct::Reader<'_>, brand: u32, index: u16, offset: u32) -> i16
+    requires record { IsRecord brand reader }
+    requires field { IsSlot brand index (IntType 2) offset (IntValue 2 (pos 0)) }
+    requires active { IsActive brand index reader }
+    ensures { integer (read_at brand index (record_seen reader.entry)) ≡ Ok result }
+{
+    let (_brand, _index) = (brand, index);
+    let sections = reader.get_sections();
+    struct_is_well_formed(&sections);
+    sections.get_data_field_mask::<i16>(offset, 0)
+}
+
+/// An `i32` whose default is 0.
+#[inline(always)]
+pub(crate) fn i32_at(reader: dynamic_struct::Reader<'_>, brand: u32, index: u16, offset: u32) -> i32
+    requires record { IsRecord brand reader }
+    requires field { IsSlot brand index (IntType 4) offset (IntValue 4 (pos 0)) }
+    requires active { IsActive brand index reader }
+    ensures { integer (read_at brand index (record_seen reader.entry)) ≡ Ok result }
+{
+    let (_brand, _index) = (brand, index);
+    let sections = reader.get_sections();
+    struct_is_well_formed(&sections);
+    sections.get_data_field_mask::<i32>(offset, 0)
+}
+
+/// An `i64` whose default is 0.
+#[inline(always)]
+pub(crate) fn i64_at(reader: dynamic_struct::Reader<'_>, brand: u32, index: u16, offset: u32) -> i64
+    requires record { IsRecord brand reader }
+    requires field { IsSlot brand index (IntType 8) offset (IntValue 8 (pos 0)) }
+    requires active { IsActive brand index reader }
+    ensures { integer (read_at brand index (record_seen reader.entry)) ≡ Ok result }
+{
+    let (_brand, _index) = (brand, index);
+    let sections = reader.get_sections();
+    struct_is_well_formed(&sections);
+    sections.get_data_field_mask::<i64>(offset, 0)
+}
