@@ -14,7 +14,6 @@ use Rattle.capnp_device.specs.declared.error.ErrorKind.{ErrorKind}
 use Rattle.capnp_device.specs.declared.error.ErrorKind.TheVariants.{OutOfMemory}
 use Rattle.capnp_schema.specs.declared.record.ValueRecord.{ValueRecord}
 use Rattle.capnp_schema.specs.Schema.{Group, seen_value}
-use Rattle.capnp_records.specs.Record as value
 use Rattle.capnp_sets.specs.Fields.{kind_by, slot_of}
 use Rattle.capnp_sets.specs.Causes.{◌<*>◌, HasCause, Read, refused}
 use Rattle.capnp_sets.specs.Parts.{number, read_at, struct}

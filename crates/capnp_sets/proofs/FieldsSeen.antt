@@ -5,7 +5,7 @@ use Rattle.capnp_wire.specs.Tree.{StructTree}
 use Rattle.capnp_wire.specs.declared.struct_reader.StructReader.{StructReader}
 use Rattle.capnp_schema.specs.Accepted.{IsAccepted, IsGroupOf}
 use Rattle.capnp_schema.specs.Meta.{meta}
-use Rattle.capnp_schema.specs.Schema.{FieldKind, Group, Schemas, field_at, fields_of, kind_default}
+use Rattle.capnp_schema.specs.Schema.{FieldKind, Schemas, field_at, fields_of, kind_default}
 use Rattle.capnp_schema.specs.StructHandles.{number_of}
 use Rattle.capnp_schema.specs.Types.{SchemaType, struct_brand}
 use Rattle.capnp_records.specs.Default.{read_of}

@@ -101,7 +101,7 @@ pub(crate) fn i8_at(reader: dynamic_struct::Reader<'_>, brand: u32, index: u16, 
     let (_brand, _index) = (brand, index);
     let sections = reader.get_sections();
     struct_is_well_formed(&sections);
-    sections.get_data_field_mask::<i8>(offset, 0)
+    sections.get_data_field_mask::<u8>(offset, 0).cast_signed()
 }
 
 /// An `i16` whose default is 0.
@@ -115,7 +115,7 @@ pub(crate) fn i16_at(reader: dynamic_struct::Reader<'_>, brand: u32, index: u16,
     let (_brand, _index) = (brand, index);
     let sections = reader.get_sections();
     struct_is_well_formed(&sections);
-    sections.get_data_field_mask::<i16>(offset, 0)
+    sections.get_data_field_mask::<u16>(offset, 0).cast_signed()
 }
 
 /// An `i32` whose default is 0.
@@ -129,7 +129,7 @@ pub(crate) fn i32_at(reader: dynamic_struct::Reader<'_>, brand: u32, index: u16,
     let (_brand, _index) = (brand, index);
     let sections = reader.get_sections();
     struct_is_well_formed(&sections);
-    sections.get_data_field_mask::<i32>(offset, 0)
+    sections.get_data_field_mask::<u32>(offset, 0).cast_signed()
 }
 
 /// An `i64` whose default is 0.
@@ -143,5 +143,5 @@ pub(crate) fn i64_at(reader: dynamic_struct::Reader<'_>, brand: u32, index: u16,
     let (_brand, _index) = (brand, index);
     let sections = reader.get_sections();
     struct_is_well_formed(&sections);
-    sections.get_data_field_mask::<i64>(offset, 0)
+    sections.get_data_field_mask::<u64>(offset, 0).cast_signed()
 }
