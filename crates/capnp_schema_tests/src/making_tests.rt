@@ -85,7 +85,7 @@ fn a_set_is_made_in_a_few_lines(rt: HostRuntime) -> std::result::Result<(), Fail
     let values = [0, 1];
     for (i, field) in age.get_proto().body.fields.iter().enumerate() {
         assert!(rt; field.is_member());
-        assert_eq!(rt; field.discriminant_value, values[i]);
+        assert!(rt; values.get(i).copied() == Some(field.discriminant_value));
     }
     for field in set.struct_schema(0).get_proto().body.fields.iter() {
         assert!(rt; !field.is_member());

@@ -4,4 +4,3 @@ pub mod TextFaults
 pub mod Digits
 pub mod SomeFiles
 pub mod Words
-mod RowsNames

@@ -1,7 +1,9 @@
 //! Messages that are shown under a struct of a set that comes as a message itself.
-ghost use Rattle.std.specs.Prelude.{◌≡◌, ◌≢◌, ◌⊎◌, ⊤, IfErr, OnOk};
+ghost use Rattle.std.specs.Prelude.{◌≡◌, ◌≢◌, ◌<◌, ◌⊎◌, ⊤, IfErr, IfSome, OnOk, length};
 ghost use Rattle.capnp_device.specs.Device.{HasFailed};
 ghost use Rattle.capnp_device.specs.declared.error.ErrorKind.TheVariants.{ReadFailed, WriteFailed};
+ghost use Rattle.capnp_schema.specs.ByName.{brand_asked};
+ghost use Rattle.capnp_schema.specs.Entries.{lists_seen};
 ghost use Rattle.capnp_show_engine.specs.Opened.{IsNotOpened, IsOpened};
 ghost use Rattle.capnp_show_engine.specs.Show.{IsCutShort, IsOfMessage, IsShown};
 ghost use Rattle.capnp_show_engine.specs.WithSet.{HasReadFailed, IsRefusedWithSet, IsStructNamed};
@@ -9,11 +11,21 @@ ghost use Rattle.capnp_show_engine.specs.WithSet.{HasReadFailed, IsRefusedWithSe
 use crate::engine::show;
 use crate::opener::Opener;
 use capnp_base::introspect::RawBrandedStructSchema;
+use capnp_schema::set::SchemaSet;
 use capnp_sets::message::read_message;
 use capnp_wire::device::{Sink, Source};
 use capnp_wire::error::{Error, ErrorKind, Result};
 use capnp_wire::transfer::read_all;
 use std::alloc::Global;
+
+/// The number of the struct of a display name.
+fn find_brand(set: &SchemaSet, name: &str) -> Option<u32>
+    ensures found { result ≡ brand_asked (lists_seen set.now) name.now }
+    ensures inside { IfSome result (λ b. b < length (lists_seen set.now).brands) }
+{
+    let schema = set.find_struct(name)?;
+    Some(RawBrandedStructSchema::from(schema).number)
+}
 
 /// Shows a message under a struct of a set that comes as a message: reads the set's source to its end, checks the set, finds
 /// the struct of that display name, and only then reads the message's source, as `show`. Of both sources what follows the
@@ -46,10 +58,9 @@ pub fn show_with_set<S: Source, R: Source, W: Sink>(
 {
     let bytes = read_all(alloc, set_source)?;
     let set = read_message(alloc, &bytes)?;
-    let Some(schema) = set.find_struct(name) else {
+    let Some(brand) = find_brand(&set, name) else {
         return Err(Error::from(ErrorKind::NameNotFound));
     };
-    let brand = RawBrandedStructSchema::from(schema).number;
     show(alloc, &set, brand, source, sink, indented)
 }
 

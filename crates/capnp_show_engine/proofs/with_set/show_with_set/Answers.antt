@@ -10,7 +10,7 @@ returns-clause-refused g c =
       set = lists_seen c.in_ok-set.set;
       read = record { bytes = c.in_ok-bytes.bytes.items; read = (c.in_ok-bytes.ensures.whole, c.in_ok-bytes.ensures.to_end); stands = rw c.deref.ensures.value at c.in_ok-set.ensures.set; accepted = c.in_ok-set.ensures.accepted };
       brand = c.in-Some.brand;
-      named = c.in-Some.ensures.2.2;
+      named = sym c.in-Some.ensures.found;
       is_so = f h;
     })))
     c.show.ensures.refused
