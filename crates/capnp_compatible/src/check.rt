@@ -19,6 +19,16 @@ use std::marker::Model;
 
 /// A struct schema and a compatible successor of it, of one set: a struct that was written under either reads under the
 /// other, and the older schema sees the projection of what the newer sees (language page, "Evolving Your Protocol").
+///
+/// # Example
+///
+/// ```rust
+/// let Some(pair) = Compatible::check(alloc, older, newer)? else {
+///     return Err(Error::type_mismatch());
+/// };
+/// let root = Reader::new(alloc, message)?.get_root().get_struct()?;
+/// let seen = pair.narrow(dynamic_struct::Reader::new(root, newer));
+/// ```
 #[derive(Drop)]
 pub struct Compatible<'s> {
     older: StructSchema<'s>,

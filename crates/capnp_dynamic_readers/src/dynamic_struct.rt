@@ -14,6 +14,15 @@ use capnp_wire::{PointerBuilder, StructReader};
 use std::fmt;
 
 /// A struct that is read: its sections, and its schema.
+///
+/// # Example
+///
+/// ```rust
+/// match reader.get_named(name)? {
+///     dynamic_value::Reader::UInt16(number) => Ok(number),
+///     _ => Err(Error::type_mismatch()),
+/// }
+/// ```
 #[derive(Clone, Copy)]
 pub struct Reader<'a> {
     pub(crate) reader: StructReader<'a>,

@@ -27,6 +27,13 @@ use std::fmt;
 ///
 /// A struct or list takes a level of 64, a group none. Refused with the number of the first value in the text's order that
 /// can't be read, with `TooDeep` where no level is left, and with `OutOfMemory`; the string is then as it was.
+///
+/// # Example
+///
+/// ```rust
+/// let seen = pair.narrow(dynamic_struct::Reader::new(root, newer));
+/// print(Value::Struct(seen), out, false)
+/// ```
 pub fn print(value: dynamic_value::Reader<'_>, out: &mut String, indented: bool) -> Result<()>
     ensures printed { OnOk result (IsAppended (string_bytes out.old) (printed_text indented value.entry) (string_bytes out.new)) }
     ensures refused { IfErr result (λ e. e.kind ≢ OutOfMemory → printed_text indented value.entry ≡ Err e.kind) }

@@ -198,6 +198,16 @@ fn print_root(
 ///
 /// Refused with `OutOfMemory`; with `TooLarge` where the calls left a message of 2^29 words or more; and else as the print of
 /// the root that they left. Then the string is as it was. A call that is refused has its reply, and doesn't refuse the whole.
+///
+/// # Example
+///
+/// ```rust
+/// let calls = [
+///     on_field("name", Op::Set(Value::Text(name))),
+///     on_field("balance", Op::Set(Value::Int64(12))),
+/// ];
+/// let (_replies, bytes) = whole_new(alloc, account, &calls, out, false)?;
+/// ```
 pub fn whole_new(
     alloc: Global,
     schema: StructSchema<'_>,
@@ -221,6 +231,14 @@ pub fn whole_new(
 /// The same on a copy of a message's root, which is a struct. The schema is one of an accepted set.
 ///
 /// Refused as `run_copied`, and then as `whole_new`. Then the string is as it was.
+///
+/// # Example
+///
+/// ```rust
+/// let source = Reader::new(alloc, message)?.get_root();
+/// let calls = [on_field("balance", Op::Set(Value::Int64(20)))];
+/// let (_replies, bytes) = whole_copied(alloc, source, account, &calls, out, false)?;
+/// ```
 pub fn whole_copied(
     alloc: Global,
     source: PointerReader<'_>,

@@ -27,6 +27,28 @@ use std::alloc::Global;
 use std::marker::Model;
 
 /// Nodes, brands and enums that meet the twelve rules of schemas. Whoever has a set knows that it meets them.
+///
+/// # Example
+///
+/// ```rust
+/// let none = ValueRecord::Text(Vec::new(alloc));
+/// let name = FieldRecord::slot(alloc, "name", 0, none)?;
+/// let older = NodeRecord::structure(alloc, 1, "OldAccount", 0, 1, vec![in alloc; name]?)?;
+/// let none = ValueRecord::Text(Vec::new(alloc));
+/// let name = FieldRecord::slot(alloc, "name", 0, none)?;
+/// let balance = FieldRecord::slot(alloc, "balance", 0, ValueRecord::Int64(0))?;
+/// let newer = NodeRecord::structure(alloc, 1, "Account", 1, 1, vec![in alloc; name, balance]?)?;
+/// let text = Type::from(TypeVariant::Text);
+/// let integer = Type::from(TypeVariant::Int64);
+/// let older_brand = BrandRecord::new(alloc, 0, vec![in alloc; text]?)?;
+/// let newer_brand = BrandRecord::new(alloc, 1, vec![in alloc; text, integer]?)?;
+/// SchemaSet::new(
+///     alloc,
+///     vec![in alloc; older, newer]?,
+///     vec![in alloc; older_brand, newer_brand]?,
+///     Vec::new(alloc),
+/// )
+/// ```
 #[derive(Drop)]
 pub struct SchemaSet {
     lists: Lists,

@@ -21,6 +21,16 @@ use std::mem::size_of;
 
 /// A list, as it is read: its elements, and the levels that are left below it. Past its end elements read as zero, false,
 /// null and a struct of size zero, so each call answers for any index.
+///
+/// # Example
+///
+/// ```rust
+/// let list = pointer.get_list(ElementSize::FourBytes)?;
+/// let mut total = 0u64;
+/// for index in 0..list.len() {
+///     total += list.get_data_element::<u32>(index) as u64;
+/// }
+/// ```
 #[derive(Clone, Copy)]
 pub struct ListReader<'a> {
     found: Found<'a>,

@@ -16,6 +16,13 @@ use capnp_device::transfer::write_all;
 use std::alloc::Global;
 
 /// A message in the bytes of a stream. They are not copied.
+///
+/// # Example
+///
+/// ```rust
+/// let message = Reader::new(alloc, bytes)?;
+/// let root = message.get_root().get_struct()?;
+/// ```
 #[derive(Clone, Copy)]
 pub struct Reader<'a> {
     segments: Segments<'a>,
@@ -72,6 +79,16 @@ impl<'a> Reader<'a> {
 }
 
 /// A message that is built.
+///
+/// # Example
+///
+/// ```rust
+/// let mut message = Builder::new(alloc);
+/// let root = message.root().init_struct(SIZE)?;
+/// root.set_data_field(0, id);
+/// root.get_pointer_field(0).set_text(name.as_bytes())?;
+/// message.write_message_to(sink)
+/// ```
 #[derive(Drop)]
 pub struct Builder {
     root: Object,

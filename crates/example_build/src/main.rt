@@ -26,6 +26,9 @@ fn write<W: Sink>(alloc: Global, id: u64, name: &str, sink: &mut W) -> Result<()
 fn main(rt: HostRuntime) -> ExitCode {
     match write(rt.alloc(), 7, "seven", &mut WriteSink::new(rt.stdout())) {
         Ok(()) => ExitCode::SUCCESS,
-        Err(_) => ExitCode::from(1),
+        Err(error) => {
+            let _ = eprintln!(rt; "refused: {}", error.kind.number());
+            ExitCode::from(1)
+        }
     }
 }

@@ -8,9 +8,6 @@ use capnp_wire::error::Result;
 use std::alloc::Global;
 use std::process::ExitCode;
 
-/// The number of `Mixed` in the built-in set: two numbers, a text, and a union.
-const MIXED: u32 = 1;
-
 /// Appends a field's name, and the bits or the pointer that it occupies.
 fn describe(field: Field<'_>, out: &mut String) -> Result<()> {
     out.push_str(field.get_proto().name.as_str())?;
@@ -33,10 +30,10 @@ fn describe_all(alloc: Global, schema: StructSchema<'_>) -> Result<String> {
     Ok(out)
 }
 
-/// The lines of `Mixed`.
+/// The lines of `Mixed`: two numbers, a text, and a union.
 fn mixed(alloc: Global) -> Result<String> {
     let set = builtin::new_set(alloc)?;
-    describe_all(alloc, set.struct_schema(MIXED))
+    describe_all(alloc, set.struct_schema(builtin::MIXED))
 }
 
 fn main(rt: HostRuntime) -> ExitCode {
@@ -45,6 +42,9 @@ fn main(rt: HostRuntime) -> ExitCode {
             let _ = print!(rt; "{lines}");
             ExitCode::SUCCESS
         }
-        Err(_) => ExitCode::from(1),
+        Err(error) => {
+            let _ = eprintln!(rt; "refused: {}", error.kind.number());
+            ExitCode::from(1)
+        }
     }
 }

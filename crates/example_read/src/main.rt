@@ -18,9 +18,6 @@ use capnp_wire::transfer::read_all;
 use std::alloc::Global;
 use std::process::ExitCode;
 
-/// The number of `Many` in the built-in set.
-const MANY: u32 = 2;
-
 /// The UInt16 that the field of a name has. Refused as the read of the field, and as `TypeMismatch` where the field has
 /// another type. The contract says that it is the field's number in the record that the struct stands for.
 fn get_number(reader: dynamic_struct::Reader<'_>, name: &str) -> Result<u16>
@@ -38,7 +35,7 @@ fn read(alloc: Global, bytes: &[u8]) -> Result<u16> {
     let message = Reader::new(alloc, bytes)?;
     let root = message.get_root().get_struct()?;
     get_number(
-        dynamic_struct::Reader::new(root, set.struct_schema(MANY)),
+        dynamic_struct::Reader::new(root, set.struct_schema(builtin::MANY)),
         "n",
     )
 }
@@ -56,7 +53,7 @@ fn main(rt: HostRuntime) -> ExitCode {
             ExitCode::SUCCESS
         }
         Err(error) => {
-            let _ = println!(rt; "refused: {}", error.kind.number());
+            let _ = eprintln!(rt; "refused: {}", error.kind.number());
             ExitCode::from(1)
         }
     }

@@ -39,6 +39,13 @@ use capnp_wire::laws::kept::{entered_structs_are_well_formed, structs_can_be_rea
 use capnp_wire::{PointerBuilder, StructBuilder};
 
 /// A struct that is built: its object, and its schema.
+///
+/// # Example
+///
+/// ```rust
+/// builder.set(field, value)?;
+/// builder.into_reader().get(field)
+/// ```
 #[derive(Drop)]
 pub struct Builder<'a> {
     pub builder: StructBuilder<'a>,

@@ -12,6 +12,15 @@ use capnp_base::introspect::RawBrandedStructSchema;
 use capnp_wire::error::{Error, ErrorKind, Result};
 
 /// The schema of a struct or group: a brand of a set, by its number. Two of one set are equal where their numbers are.
+///
+/// # Example
+///
+/// ```rust
+/// let fields = schema.get_fields()?;
+/// for i in 0..fields.len() {
+///     describe(fields.get(i), &mut out)?;
+/// }
+/// ```
 #[derive(Clone, Copy)]
 #[derive_where(PartialEq, Eq, Hash, Debug)]
 pub struct StructSchema<'s> {
