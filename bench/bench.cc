@@ -3,6 +3,7 @@
 #include "prints.h"
 #include "program.h"
 #include "reads.h"
+#include "requests.h"
 #include "runs.h"
 #include "schemas.h"
 #include "set_messages.h"
@@ -27,6 +28,7 @@ int main(int count, char **words) {
   runs::add_rows(table, file.getNested("Lists").asStruct(), file.getNested("Loop").asStruct());
   schemas::add_rows(table);
   set_messages::add_rows(table);
+  requests::add_rows(table);
   prints::add_rows(table, file.getNested("Lists").asStruct());
   program::add_rows(table, file.getNested("Lists").asStruct(), words[1], words[2], words[3]);
   return table.status();

@@ -22,6 +22,7 @@ uint64_t bench_run_long_many(const uint8_t *message, size_t length, uint64_t rou
 uint64_t bench_check_many(const uint8_t *message, size_t length, uint64_t rounds);
 uint64_t bench_check_wide(const uint8_t *message, size_t length, uint64_t rounds);
 uint64_t bench_check_chain(const uint8_t *message, size_t length, uint64_t rounds);
+uint64_t bench_convert_request(const uint8_t *message, size_t length, uint64_t rounds);
 uint64_t bench_read_set(const uint8_t *message, size_t length, uint64_t rounds);
 uint64_t bench_wire_open(const uint8_t *message, size_t length, uint64_t rounds);
 uint64_t bench_wire_bytes(const uint8_t *message, size_t length, uint64_t rounds);

@@ -26,6 +26,6 @@ is_proved() {
 
 has_rt() {
     command -v rt > /dev/null && return
-    echo "$1: 'rt' of the kit rattle-kit-13f proves the program and runs it, and is not on the PATH" >&2
+    echo "$1: the kit's command 'rt' proves the program and runs it, and is not on the PATH" >&2
     return 1
 }

@@ -4,6 +4,7 @@
 
 mod prints;
 mod reads;
+mod requests;
 mod runs;
 mod schemas;
 mod set_messages;
