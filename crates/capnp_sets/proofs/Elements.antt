@@ -1,13 +1,11 @@
 -- Elements of lists as they are read: what is there is no fault, and a fault has its cause.
 use Rattle.std.proofs.Common.{ℕ, ◌+◌, ◌-◌, ◌≡◌, ◌∙◌, arith, ap, refl, subst, sym, List, [], ◌∷◌, ◌++◌, map, Ok, Err, Result}
-use Rattle.capnp_device.specs.declared.error.Error.{Error}
 use Rattle.capnp_device.specs.declared.error.ErrorKind.{ErrorKind}
-use Rattle.capnp_wire.specs.Reading.{as_list, element_levels, element_pointer, element_struct, with_level}
+use Rattle.capnp_wire.specs.Reading.{element_levels, element_pointer, element_struct, with_level}
 use Rattle.capnp_wire.specs.Standing.{levels_of, list_levels, list_of, struct_levels, struct_of, tree_of}
 use Rattle.capnp_wire.specs.Tree.{StructTree}
 use Rattle.capnp_wire.specs.declared.list_reader.ListReader.{ListReader}
 use Rattle.capnp_wire.specs.declared.pointer_reader.PointerReader.{PointerReader}
-use Rattle.capnp_wire.specs.declared.size.ElementSize.TheVariants as size
 use Rattle.capnp_wire.specs.declared.struct_reader.StructReader.{StructReader}
 use Rattle.capnp_schema.specs.Meta.{many, meta, one}
 use Rattle.capnp_schema.specs.Schema.{VoidValue}
@@ -18,10 +16,9 @@ use Rattle.capnp_records.specs.Reading.{of_read, struct_record, value_of}
 use Rattle.capnp_records.specs.Record as value
 use Rattle.capnp_records.specs.Record.{Left, Value}
 use Rattle.capnp_sets.specs.Causes.{HasCause, Read}
-use Rattle.capnp_sets.specs.Handles.{list_in, record_in}
+use Rattle.capnp_sets.specs.Handles.{record_in}
 use Rattle.capnp_sets.specs.Parts.{unless_fault}
 use Rattle.capnp_sets.proofs.AppliedReads.{only_cause}
-use Rattle.capnp_sets.proofs.PointersMet.{list_met, no_default}
 use Rattle.capnp_sets.proofs.RowsRead.{element_seen}
 
 -- what the calls of a list's reader answer for an element is the read of the element
@@ -38,17 +35,11 @@ module _ (b : ℕ) (l : ListReader) (i : ℕ) where
   struct_refused kind e = ap seen_by e ∙ ap (read_of meta VoidValue (one b)) (sym (element-is-read meta (list_of l) (list_levels l) (one b) i))
 
   module _ (p : PointerReader) (tree : tree_of p ≡ element_pointer (list_of l) i (list_levels l)) (levels : levels_of p ≡ element_levels (list_of l) (list_levels l)) where
-    pointer_seen : read_of meta VoidValue (many b) (value_of meta (tree_of p) (Left (levels_of p)) (many b)) ≡ element_seen (many b) l i
+    pub pointer_seen : read_of meta VoidValue (many b) (value_of meta (tree_of p) (Left (levels_of p)) (many b)) ≡ element_seen (many b) l i
     pointer_seen =
         ap (λ x. read_of meta VoidValue (many b) (value_of meta x (Left (levels_of p)) (many b))) tree
         ∙ (ap (λ n. read_of meta VoidValue (many b) (value_of meta (element_pointer (list_of l) i (list_levels l)) (Left n) (many b))) levels
         ∙ ap (read_of meta VoidValue (many b)) (sym (element-is-read meta (list_of l) (list_levels l) (many b) i)))
-
-    pub list_there : (m : ListReader) → Ok (list_of m) ≡ as_list size.InlineComposite (tree_of p) (levels_of p) → list_levels m + 1 ≡ levels_of p → list_in (one b) m ≡ element_seen (many b) l i
-    list_there m e left = list_met (one b) size.InlineComposite refl VoidValue (no_default (one b)) (tree_of p) (levels_of p) (Ok m) e left ∙ pointer_seen
-
-    pub list_refused : (error : Error) → Err error.kind ≡ as_list size.InlineComposite (tree_of p) (levels_of p) → value.Fault error.kind ≡ element_seen (many b) l i
-    list_refused error e = list_met (one b) size.InlineComposite refl VoidValue (no_default (one b)) (tree_of p) (levels_of p) (Err error) e tt ∙ pointer_seen
 
 module _ {A : Type 0} (t : SchemaType) (f : Value → Read A) (l : ListReader) (i : ℕ) where
   abbrev one_read : Read A

@@ -53,11 +53,17 @@ refused-entered : {X : Type 0} (q : Bool) (k : ErrorKind) (y : X) (v : Value) �
 refused-entered true k y v e = cc
 refused-entered false k y v e = cc
 
-entered-some : (n m : ℕ) (v : Value) → m + 1 ≡ n → entered (Left n) v ≡ v
+pub entered-some : (n m : ℕ) (v : Value) → m + 1 ≡ n → entered (Left n) v ≡ v
 entered-some n m v e = ap (λ q. elim q as (λ _. Value) [ true ↦ value.Fault TooDeep | false ↦ v ]) (not-zero n m e)
   where
     not-zero : (n m : ℕ) → m + 1 ≡ n → (n == 0) ≡ false
     not-zero n m e = grind (arith, e)
+
+-- what is read both as data and as a struct is null
+pub only_null : (x : Tree) (n : ℕ) (bytes : List ℕ) (s : StructTree) → Ok bytes ≡ as_data x → Ok s ≡ as_struct x n → x ≡ tree.Null
+only_null tree.Null n bytes s e h = refl
+only_null (tree.Numbers w b) n bytes s e h = absurd (never-ok (n == 0) _ _ _ h)
+only_null x n bytes s e h = cc
 
 -- ---- texts and data ----
 
@@ -161,3 +167,6 @@ module _ (t : SchemaType) (s : ElementSize) (sized : element_size t ≡ s) (d : 
   pub list_met : (r : Result ListReader Error) → list_read r ≡ as_list s x n → IfOk r (λ l. list_levels l + 1 ≡ n) → list_answered meta t r ≡ list_seen
   list_met (Ok l) e levels = list-there (list_of l) (list_levels l) e levels (is_null_tree x) refl
   list_met (Err f) e levels = list-fault f.kind e (is_null_tree x) refl
+
+  pub list_unmet : (k : ErrorKind) → Err k ≡ as_list s x n → value.Fault k ≡ list_seen
+  list_unmet k e = list-fault k e (is_null_tree x) refl

@@ -1,10 +1,10 @@
 -- What stands behind the pointers at the places of fields is what is read of the struct's record.
 use Rattle.std.specs.Borrow.{Bor}
-use Rattle.std.proofs.Common.{ℕ, ◌≡◌, ◌∙◌, ap, ap₂, refl, sym, true, List, [], Result, Ok, Err, IfErr, IfOk, ◌+◌}
+use Rattle.std.proofs.Common.{ℕ, ◌-◌, ◌<◌, ◌≡◌, ◌∙◌, arith, ap, ap₂, refl, sym, true, List, [], Result, Ok, Err, IfErr, IfOk, ◌+◌}
 use Rattle.capnp_device.specs.declared.error.Error.{Error}
 use Rattle.capnp_wire.specs.Reading.{as_data, as_list, as_struct, as_text}
 use Rattle.capnp_wire.specs.Standing.{bytes_read, levels_of, list_levels, list_read, struct_levels, struct_of, struct_read, tree_of}
-use Rattle.capnp_wire.specs.Tree.{nth_tree}
+use Rattle.capnp_wire.specs.Tree.{Null, nth_tree}
 use Rattle.capnp_wire.specs.declared.list_reader.ListReader.{ListReader}
 use Rattle.capnp_wire.specs.declared.pointer_reader.PointerReader.{PointerReader}
 use Rattle.capnp_wire.specs.declared.size.ElementSize.{ElementSize}
@@ -27,7 +27,7 @@ use Rattle.capnp_sets.specs.Handles.{IsActive, IsSlot, list_in, record_in}
 use Rattle.capnp_sets.specs.Parts.{blob, read_at, text}
 use Rattle.capnp_sets.proofs.Faults.{fault_blob, fault_text}
 use Rattle.capnp_sets.proofs.FieldsSeen.{seen_by}
-use Rattle.capnp_sets.proofs.PointersMet.{data_met, list_met, null_list, struct_met, text_met}
+use Rattle.capnp_sets.proofs.PointersMet.{IsNoList, data_met, entered-some, list_met, null_list, struct_met, text_met}
 
 -- ---- what an answer is, by its value ----
 
@@ -67,6 +67,11 @@ pub list_refused : (t : SchemaType) (r : Result ListReader Error) (v : Value) �
 list_refused t (Ok l) v e = tt
 list_refused t (Err f) v e = e
 
+pub null_read : (d : SchemaValue) (t : SchemaType) → IsNoList d t → (p : PointerReader) → tree_of p ≡ Null → 0 < levels_of p → pointer_read meta d (ListType t) p ≡ value.Elements value.NoValues
+null_read d t none p null left =
+    ap (λ x. read_of meta d (ListType t) (value_of meta x (Left (levels_of p)) (ListType t))) null
+    ∙ (none (Left (levels_of p)) ∙ entered-some (levels_of p) (levels_of p - 1) _ (omega (arith, left)))
+
 -- ---- the pointer at the place of a field ----
 
 module _ (s : StructReader) (b i : ℕ) (active : IsActive b i s) (p : PointerReader) (place : ℕ) (tree : tree_of p ≡ nth_tree (struct_of s).pointers place) (levels : levels_of p ≡ struct_levels s) where
@@ -91,3 +96,7 @@ module _ (s : StructReader) (b i : ℕ) (active : IsActive b i s) (p : PointerRe
   pub list_there : (t : SchemaType) (size : ElementSize) → element_size t ≡ size → IsSlot b i (ListType t) place (ListValue zero_word) → (r : Result ListReader Error) → list_read r ≡ as_list size (tree_of p) (levels_of p) → IfOk r (λ x. list_levels x + 1 ≡ levels_of p) →
       list_answered meta t r ≡ read_at b i (record_in b s)
   list_there t size sized slot r e left = list_met t size sized (ListValue zero_word) (null_list t) (tree_of p) (levels_of p) r e left ∙ pointer_there (ListValue zero_word) (ListType t) refl slot
+
+  -- the list behind a null pointer is empty, where a level is left for it
+  pub null_there : (t : SchemaType) → IsSlot b i (ListType t) place (ListValue zero_word) → tree_of p ≡ Null → 0 < levels_of p → read_at b i (record_in b s) ≡ value.Elements value.NoValues
+  null_there t slot null left = sym (pointer_there (ListValue zero_word) (ListType t) refl slot) ∙ null_read (ListValue zero_word) t (null_list t) p null left

@@ -35,7 +35,7 @@ end : {A : Type 0} (xs : List A) → before_rest xs (Ok []) ≡ Ok xs
 unfolding ◌<*>◌
 end xs = ap (λ zs. Ok zs) (append-nil xs)
 
-none_left : {A : Type 0} (f : Value → Read A) → all_of f NoValues ≡ Ok []
+pub none_left : {A : Type 0} (f : Value → Read A) → all_of f NoValues ≡ Ok []
 unfolding all_of
 none_left f = refl
 

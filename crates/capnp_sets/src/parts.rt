@@ -1,8 +1,10 @@
 //! What is read of the fields of records of the meta set behind their pointers, and their active members.
 //!
 //! The place of a pointer is told by who asks, and proved to be the field's. No schema and no plan is looked up.
-ghost use Rattle.std.specs.Prelude.{◌≡◌, ◌≢◌, Ok, IfErr, IfOk, string_bytes, []};
+ghost use Rattle.std.specs.Prelude.{◌≡◌, ◌≢◌, ◌<◌, Ok, IfErr, IfOk, IsTrue, string_bytes, []};
 ghost use Rattle.capnp_device.specs.declared.error.ErrorKind.TheVariants.{OutOfMemory};
+ghost use Rattle.capnp_wire.specs.Standing.{levels_of, tree_of};
+ghost use Rattle.capnp_wire.specs.Tree.{Null};
 ghost use Rattle.capnp_schema.specs.Builtin.{zero_word};
 ghost use Rattle.capnp_schema.specs.Meta.{meta, one};
 ghost use Rattle.capnp_schema.specs.Schema.{DataValue, ListValue, StructValue, TextValue, field_at};
@@ -18,7 +20,7 @@ use capnp_base::text;
 use capnp_schema::loaded::load_pair;
 use capnp_wire::error::{Error, ErrorKind, Result};
 use capnp_wire::size::ElementSize;
-use capnp_wire::{ListReader, StructReader};
+use capnp_wire::{ListReader, PointerReader, StructReader};
 use std::alloc::Global;
 
 /// The brands of the meta set.
@@ -134,6 +136,22 @@ pub(crate) fn name_at(
 {
     let bytes = text_at(reader, brand, index, place)?;
     owned(alloc, bytes)
+}
+
+/// Whether a pointer is null and a level is left for a list behind it, which then is empty: most lists of a set are. A null is
+/// all that is read both as data and as a struct, and both tests stand where they are asked, while a list is read by a call.
+#[inline(always)]
+pub(crate) fn is_no_list(pointer: &PointerReader<'_>) -> bool
+    ensures null { IsTrue result → tree_of pointer.now ≡ Null }
+    ensures level { IsTrue result → 0 < levels_of pointer.now }
+{
+    match pointer.get_data() {
+        Ok(_) => match pointer.get_struct() {
+            Ok(_) => true,
+            Err(_) => false,
+        },
+        Err(_) => false,
+    }
 }
 
 /// The struct of a brand.

@@ -9,7 +9,7 @@ ghost use Rattle.capnp_sets.specs.Causes.{HasCause, Read};
 ghost use Rattle.capnp_sets.specs.Handles.{IsActive, IsSlot, list_in, record_in, values_in};
 ghost use Rattle.capnp_sets.specs.Parts.{read_at, structs};
 
-use crate::parts::list_at;
+use crate::parts::{is_no_list, list_at};
 use capnp_wire::error::Result;
 use capnp_wire::size::ElementSize;
 use capnp_wire::{ListReader, StructReader};
@@ -76,6 +76,9 @@ pub(crate) fn list_read<T: FromRecord + Drop>(
     ensures refused { IfErr result (λ e. e.kind ≢ OutOfMemory →
         HasCause (structs T.brand (T.of_record (values_in context.now.brands)) (read_at brand index (record_in brand reader.now))) e.kind) }
 {
+    if is_no_list(&reader.get_pointer_field(place)) {
+        return Ok(Vec::new(context.alloc));
+    }
     let elements = list_at(reader, brand, index, place, ElementSize::InlineComposite)?;
     all_read(context, &elements)
 }

@@ -3,21 +3,22 @@ ghost use Rattle.std.specs.Prelude.{◌≡◌, ◌≢◌, Ok, IfErr, IfOk, map};
 ghost use Rattle.capnp_device.specs.declared.error.ErrorKind.TheVariants.{OutOfMemory};
 ghost use Rattle.capnp_base.specs.Types.{list_depth};
 ghost use Rattle.capnp_schema.specs.Builtin.{zero_word};
-ghost use Rattle.capnp_schema.specs.Meta.{many};
-ghost use Rattle.capnp_schema.specs.Schema.{ListValue};
+ghost use Rattle.capnp_schema.specs.Meta.{many, meta};
+ghost use Rattle.capnp_schema.specs.Schema.{ListValue, VoidValue};
 ghost use Rattle.capnp_schema.specs.Types.{ListType, SchemaType, StructType, lists_of, seen_type};
+ghost use Rattle.capnp_dynamic_readers.specs.Reads.{pointer_read};
 ghost use Rattle.capnp_sets.specs.Causes.{HasCause, ◌<*>◌};
 ghost use Rattle.capnp_sets.specs.Handles.{IsActive, IsSlot, list_in, record_in, values_in};
 ghost use Rattle.capnp_sets.specs.Parts.{read_at};
-ghost use Rattle.capnp_sets.specs.Types.{base_type, generic_in, type_lists, type_of};
+ghost use Rattle.capnp_sets.specs.Types.{base_type, generic_in, type_lists, type_of, types};
 
 use crate::numbers::{u16_at, u32_at};
-use crate::parts::{BRAND, TYPE, list_at};
+use crate::parts::{BRAND, TYPE, is_no_list, list_at};
 use crate::rows::{Context, FromRecord, MOST_ROOM, all_read};
 use capnp_base::introspect::{RawBrandedStructSchema, RawEnumSchema, Type, TypeVariant};
 use capnp_wire::error::{Error, ErrorKind, Result};
 use capnp_wire::size::ElementSize;
-use capnp_wire::{ListReader, StructReader};
+use capnp_wire::{ListReader, PointerReader, StructReader};
 
 /// The node of a brand, 0 past the last brand.
 fn generic_of(brands: &ListReader<'_>, number: u32) -> Result<u32>
@@ -128,6 +129,19 @@ impl FromRecord for Type {
     }
 }
 
+/// The types of the list behind a pointer.
+#[inline(always)]
+fn types_behind(context: &Context<'_>, pointer: &PointerReader<'_>) -> Result<Vec<Type>>
+    ensures read { IfOk result (λ v. types (values_in context.now.brands) (pointer_read meta VoidValue (many 7) pointer.now) ≡ Ok (map seen_type v.items)) }
+    ensures refused { IfErr result (λ e. e.kind ≢ OutOfMemory → HasCause (types (values_in context.now.brands) (pointer_read meta VoidValue (many 7) pointer.now)) e.kind) }
+{
+    if is_no_list(pointer) {
+        return Ok(Vec::new(context.alloc));
+    }
+    let elements = pointer.get_list(ElementSize::InlineComposite)?;
+    all_read::<Type>(context, &elements)
+}
+
 /// The types of each list of types: those of the annotations of fields or enumerants.
 fn type_lists(context: &Context<'_>, elements: &ListReader<'_>) -> Result<Vec<Vec<Type>>>
     ensures read { IfOk result (λ v. type_lists (values_in context.now.brands) (list_in (many 7) elements.now) ≡ Ok (map (λ types. map seen_type types.items) v.items)) }
@@ -137,8 +151,7 @@ fn type_lists(context: &Context<'_>, elements: &ListReader<'_>) -> Result<Vec<Ve
     let mut out = Vec::with_capacity(context.alloc, count.min(MOST_ROOM) as usize)?;
     for index in 0..count {
         let pointer = elements.get_pointer_element(index);
-        let types = pointer.get_list(ElementSize::InlineComposite)?;
-        let made = all_read::<Type>(context, &types)?;
+        let made = types_behind(context, &pointer)?;
         out.push(made)?;
     }
     Ok(out)

@@ -19,6 +19,7 @@ use capnp_wire::error::{Error, ErrorKind, Result};
 use std::alloc::Global;
 
 /// The value of a member that is a number.
+#[inline(always)]
 #[tactic(auto, unfolding(crate::specs::Values::value_by))]
 fn number_value(reader: &StructReader<'_>, member: u16) -> Result<ValueRecord>
     requires active { which_of (record_in 5 reader.now) ≡ Some member }
@@ -94,6 +95,7 @@ fn pointer_value(alloc: Global, reader: &StructReader<'_>, member: u16) -> Resul
 }
 
 /// The value of a record of a value.
+#[inline(always)]
 fn read_value(alloc: Global, reader: &StructReader<'_>) -> Result<ValueRecord>
     ensures read { IfOk result (λ v. value_of (record_in 5 reader.now) ≡ Ok (seen_value v)) }
     ensures refused { IfErr result (λ e. e.kind ≢ OutOfMemory → HasCause (value_of (record_in 5 reader.now)) e.kind) }
@@ -110,6 +112,7 @@ fn read_value(alloc: Global, reader: &StructReader<'_>) -> Result<ValueRecord>
 }
 
 /// The value that a field has.
+#[inline(always)]
 pub(crate) fn value_at(
     alloc: Global,
     reader: &StructReader<'_>,
