@@ -7,7 +7,6 @@ use Rattle.capnp_wire.specs.declared.struct_reader.StructReader.{StructReader}
 use Rattle.capnp_schema.specs.Meta.{meta}
 use Rattle.capnp_schema.specs.Schema.{TypedField, field_at, fields_of, is_member}
 use Rattle.capnp_schema.specs.SlotValue.{bits_at}
-use Rattle.capnp_records.specs.Facts.Frame.{first-of, second-of}
 use Rattle.capnp_records.specs.Part.{which_of}
 use Rattle.capnp_records.specs.Reading.{active_among, part_of, plain_parts, values_of}
 use Rattle.capnp_records.specs.Record.{Active, Left, Parts, Union, Unknown, Value, Values}

@@ -1,5 +1,5 @@
 -- The part of a struct's record that a plain field or the active member has.
-use Rattle.std.proofs.Common.{ℕ, ◌<◌, ◌≡◌, ◌⊎◌, ◌∙◌, arith, ap, inl, inr, refl, sym, subst, Bool, true, false, ◌==◌, length, IfOk, Some, Result}
+use Rattle.std.proofs.Common.{ℕ, ◌<◌, ◌≡◌, ◌⊎◌, ◌∙◌, arith, ap, inl, inr, refl, sym, subst, Bool, true, false, ◌==◌, length, Some}
 use Rattle.std.proofs.lemmas.Bool.{true≢false}
 use Rattle.capnp_wire.specs.Tree.{StructTree}
 use Rattle.capnp_schema.specs.Schema.{Schemas, TypedField, field_at, fields_of, is_member, node_of}

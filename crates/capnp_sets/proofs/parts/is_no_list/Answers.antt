@@ -1,4 +1,3 @@
-use Rattle.std.proofs.Common.{arith}
 use Rattle.capnp_sets.proofs.PointersMet.{only_null}
 use Rattle.capnp_sets.proofs.parts.is_no_list.Goals as goal
 

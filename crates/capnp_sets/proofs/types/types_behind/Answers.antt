@@ -3,7 +3,7 @@ use Rattle.std.proofs.lemmas.Result.{err_from_is_err_and}
 use Rattle.capnp_device.specs.declared.error.ErrorKind.TheVariants.{OutOfMemory}
 use Rattle.capnp_wire.specs.Standing.{levels_of, tree_of}
 use Rattle.capnp_wire.specs.declared.size.ElementSize.TheVariants as size
-use Rattle.capnp_schema.specs.Meta.{many, one}
+use Rattle.capnp_schema.specs.Meta.{one}
 use Rattle.capnp_schema.specs.Schema.{VoidValue}
 use Rattle.capnp_schema.specs.Types.{seen_type}
 use Rattle.capnp_records.specs.Record.{Value}
