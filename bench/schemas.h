@@ -72,7 +72,7 @@ inline void fill_ten(capnp::List<Field>::Builder fields, uint32_t round) {
 using Nodes = capnp::List<Node>::Builder;
 
 inline void fill_many(Nodes nodes) {
-  for (uint32_t number = 0; number < STRUCTS; number++) {
+  for (uint32_t number = 0; number < nodes.size(); number++) {
     auto fields = init(nodes[number], number, false, 12, 6, FIELDS);
     for (uint32_t round = 0; round < FIELDS / 10; round++) fill_ten(fields, round);
   }

@@ -1,4 +1,4 @@
-// The row of a set that is read from its message and checked: ours reads the meta set's form of 1,000 structs of 30 fields; the
+// Rows of sets that are read from their messages and checked: ours reads the meta set's form of so many structs of 30 fields; the
 // C++ library's SchemaLoader is given the same nodes from a compiler's request. A checksum adds the numbers of nodes.
 #pragma once
 #include "schemas.h"
@@ -16,10 +16,10 @@ struct Kind {
 constexpr Kind TEN[] = {{1, 1, 0, 1}, {6, 6, 1, 1}, {3, 3, 2, 1}, {8, 8, 4, 1}, {5, 5, 6, 1},
                         {12, 11, 0, 2}, {7, 7, 5, 1}, {9, 9, 9, 1}, {13, 12, 1, 2}, {0, 0, 0, 0}};
 
-inline void fill(SetRecord::Builder set) {
-  auto nodes = set.initNodes(schemas::STRUCTS);
-  auto brands = set.initBrands(schemas::STRUCTS);
-  for (uint32_t number = 0; number < schemas::STRUCTS; number++) {
+inline void fill(SetRecord::Builder set, uint32_t structs) {
+  auto nodes = set.initNodes(structs);
+  auto brands = set.initBrands(structs);
+  for (uint32_t number = 0; number < structs; number++) {
     auto node = nodes[number];
     node.setId(schemas::id_of(number));
     node.setDataWords(12);
@@ -43,14 +43,19 @@ inline void fill(SetRecord::Builder set) {
   }
 }
 
-inline void add_rows(Table &table) {
+inline void row(Table &table, const char *name, uint32_t structs) {
   capnp::MallocMessageBuilder message(1 << 20);
-  fill(message.initRoot<SetRecord>());
+  fill(message.initRoot<SetRecord>(), structs);
   auto ours = capnp::messageToFlatArray(message);
-  auto request = schemas::message_of(schemas::STRUCTS, schemas::fill_many);
+  auto request = schemas::message_of(structs, schemas::fill_many);
   auto bytes = ours.asBytes();
-  table.row("a field read and checked, of 1,000 structs of 30", schemas::STRUCTS * schemas::FIELDS,
-            with(bench_read_set, bytes.begin(), bytes.size()), [&request](uint64_t rounds) { return schemas::check(request, rounds); });
+  table.row(name, structs * schemas::FIELDS, with(bench_read_set, bytes.begin(), bytes.size()),
+            [&request](uint64_t rounds) { return schemas::check(request, rounds); });
+}
+
+inline void add_rows(Table &table) {
+  row(table, "a field read and checked, of 1,000 structs of 30", 1000);
+  row(table, "a field read and checked, of 10,000 structs of 30", 10000);
 }
 
 } // namespace set_messages

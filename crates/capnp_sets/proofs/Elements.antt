@@ -1,67 +1,61 @@
 -- Elements of lists as they are read: what is there is no fault, and a fault has its cause.
-use Rattle.std.proofs.Common.{ℕ, ◌≡◌, ◌∙◌, ap, refl, subst, sym, IfOk, List, [], ◌∷◌, ◌++◌, map, Ok, Result}
-use Rattle.capnp_device.specs.declared.error.Error.{Error}
+use Rattle.std.proofs.Common.{ℕ, ◌+◌, ◌-◌, ◌≡◌, ◌∙◌, arith, ap, refl, subst, sym, List, [], ◌∷◌, ◌++◌, map, Ok, Err, Result}
 use Rattle.capnp_device.specs.declared.error.ErrorKind.{ErrorKind}
-use Rattle.capnp_schema.specs.Accepted.{NamesEntries}
-use Rattle.capnp_schema.specs.Meta.{meta}
-use Rattle.capnp_schema.specs.Schema.{Schemas, VoidValue}
+use Rattle.capnp_wire.specs.Reading.{element_levels, element_pointer, element_struct, with_level}
+use Rattle.capnp_wire.specs.Standing.{levels_of, list_levels, list_of, struct_levels, struct_of, tree_of}
+use Rattle.capnp_wire.specs.Tree.{StructTree}
+use Rattle.capnp_wire.specs.declared.list_reader.ListReader.{ListReader}
+use Rattle.capnp_wire.specs.declared.pointer_reader.PointerReader.{PointerReader}
+use Rattle.capnp_wire.specs.declared.struct_reader.StructReader.{StructReader}
+use Rattle.capnp_schema.specs.Meta.{many, meta, one}
+use Rattle.capnp_schema.specs.Schema.{VoidValue}
 use Rattle.capnp_schema.specs.Types.{SchemaType}
 use Rattle.capnp_records.specs.Default.{read_of}
+use Rattle.capnp_records.specs.Facts.Readers.{element-is-read}
+use Rattle.capnp_records.specs.Reading.{of_read, struct_record, value_of}
 use Rattle.capnp_records.specs.Record as value
-use Rattle.capnp_records.specs.Record.{Value}
-use Rattle.capnp_dynamic_readers.specs.Handles.{element_of, list_set}
-use Rattle.capnp_dynamic_readers.specs.Reads.{element_seen}
-use Rattle.capnp_dynamic_readers.specs.Seen.{value_seen}
-use Rattle.capnp_dynamic_readers.specs.Typed.{IsOf}
-use Rattle.capnp_dynamic_readers.specs.declared.dynamic_list.Reader.{Reader as ListHandle}
-use Rattle.capnp_dynamic_readers.specs.declared.dynamic_value.Reader.{Reader as DynamicValue}
-use Rattle.capnp_dynamic_readers.specs.declared.dynamic_value.Reader.TheVariants as dynamic
+use Rattle.capnp_records.specs.Record.{Left, Value}
 use Rattle.capnp_sets.specs.Causes.{HasCause, Read}
-use Rattle.capnp_sets.specs.Handles.{IsListOf}
+use Rattle.capnp_sets.specs.Handles.{record_in}
 use Rattle.capnp_sets.specs.Parts.{unless_fault}
 use Rattle.capnp_sets.proofs.AppliedReads.{only_cause}
-use Rattle.capnp_sets.proofs.RowsRead.{element_in, element_read}
+use Rattle.capnp_sets.proofs.RowsRead.{element_seen}
 
--- a value of the code is no fault
-seen_there : {A : Type 0} (f : Value → Read A) (v : DynamicValue) → unless_fault f (value_seen v) ≡ f (value_seen v)
-seen_there f dynamic.Void = refl
-seen_there f (dynamic.Bool x) = refl
-seen_there f (dynamic.Int8 x) = refl
-seen_there f (dynamic.Int16 x) = refl
-seen_there f (dynamic.Int32 x) = refl
-seen_there f (dynamic.Int64 x) = refl
-seen_there f (dynamic.UInt8 x) = refl
-seen_there f (dynamic.UInt16 x) = refl
-seen_there f (dynamic.UInt32 x) = refl
-seen_there f (dynamic.UInt64 x) = refl
-seen_there f (dynamic.Enum x) = refl
-seen_there f (dynamic.Text x) = refl
-seen_there f (dynamic.«Data» x) = refl
-seen_there f (dynamic.Struct x) = refl
-seen_there f (dynamic.List x) = refl
-seen_there f (dynamic.AnyPointer x) = refl
+-- what the calls of a list's reader answer for an element is the read of the element
+module _ (b : ℕ) (l : ListReader) (i : ℕ) where
+  abbrev seen_by : Result StructTree ErrorKind → Value
+  seen_by x = read_of meta VoidValue (one b) (of_read (λ (y : StructTree). value.Struct (struct_record meta (Left (list_levels l - 1)) y b)) x)
 
-module _ {A : Type 0} (t : SchemaType) (f : Value → Read A) (l : ListHandle) (i : ℕ) (is : IsListOf t l) where
+  pub struct_there : (s : StructReader) → Ok (struct_of s) ≡ with_level (list_levels l) (Ok (element_struct (list_of l) i)) → struct_levels s + 1 ≡ list_levels l → value.Struct (record_in b s) ≡ element_seen (one b) l i
+  struct_there s e levels =
+      ap (λ m. value.Struct (struct_record meta (Left m) (struct_of s) b)) (omega (arith, levels))
+      ∙ (ap seen_by e ∙ ap (read_of meta VoidValue (one b)) (sym (element-is-read meta (list_of l) (list_levels l) (one b) i)))
+
+  pub struct_refused : (kind : ErrorKind) → Err kind ≡ with_level (list_levels l) (Ok (element_struct (list_of l) i)) → value.Fault kind ≡ element_seen (one b) l i
+  struct_refused kind e = ap seen_by e ∙ ap (read_of meta VoidValue (one b)) (sym (element-is-read meta (list_of l) (list_levels l) (one b) i))
+
+  module _ (p : PointerReader) (tree : tree_of p ≡ element_pointer (list_of l) i (list_levels l)) (levels : levels_of p ≡ element_levels (list_of l) (list_levels l)) where
+    pub pointer_seen : read_of meta VoidValue (many b) (value_of meta (tree_of p) (Left (levels_of p)) (many b)) ≡ element_seen (many b) l i
+    pointer_seen =
+        ap (λ x. read_of meta VoidValue (many b) (value_of meta x (Left (levels_of p)) (many b))) tree
+        ∙ (ap (λ n. read_of meta VoidValue (many b) (value_of meta (element_pointer (list_of l) i (list_levels l)) (Left n) (many b))) levels
+        ∙ ap (read_of meta VoidValue (many b)) (sym (element-is-read meta (list_of l) (list_levels l) (many b) i)))
+
+module _ {A : Type 0} (t : SchemaType) (f : Value → Read A) (l : ListReader) (i : ℕ) where
   abbrev one_read : Read A
-  one_read = unless_fault f (read_of meta VoidValue t (element_in l i))
+  one_read = unless_fault f (element_seen t l i)
 
-  -- an element that was read stands for what its value stands for
-  pub element_made : (v : DynamicValue) (a : A) → value_seen v ≡ element_seen l i → f (value_seen v) ≡ Ok a → one_read ≡ Ok a
-  element_made v a seen here = ap (unless_fault f) (sym (seen ∙ element_read t l i is)) ∙ (seen_there f v ∙ here)
+  -- an element that was read stands for what its value stands for, which is no fault
+  pub element_made : (v : Value) (a : A) → v ≡ element_seen t l i → unless_fault f v ≡ f v → f v ≡ Ok a → one_read ≡ Ok a
+  element_made v a seen there here = ap (unless_fault f) (sym seen) ∙ (there ∙ here)
 
   -- the causes of its value stand in it
-  pub element_caused : (v : DynamicValue) (kind : ErrorKind) → value_seen v ≡ element_seen l i → HasCause (f (value_seen v)) kind → HasCause one_read kind
-  element_caused v kind seen here = subst (λ (x : Read A). HasCause x kind) (sym (ap (unless_fault f) (sym (seen ∙ element_read t l i is)) ∙ seen_there f v)) here
+  pub element_caused : (v : Value) (kind : ErrorKind) → v ≡ element_seen t l i → unless_fault f v ≡ f v → HasCause (f v) kind → HasCause one_read kind
+  element_caused v kind seen there here = subst (λ (x : Read A). HasCause x kind) (sym (ap (unless_fault f) (sym seen) ∙ there)) here
 
   -- and where there is none, the refusal of its read
-  pub element_refused : (kind : ErrorKind) → value.Fault kind ≡ element_seen l i → HasCause one_read kind
-  element_refused kind seen = only_cause kind one_read (ap (unless_fault f) (sym (seen ∙ element_read t l i is)))
-
--- an element is of the list's type
-pub element_typed : (t : SchemaType) (l : ListHandle) (r : Result DynamicValue Error) → IsListOf t l → (NamesEntries (list_set l) (element_of l) → IfOk r (IsOf (list_set l) (element_of l))) → IfOk r (IsOf meta t)
-element_typed t l r is h =
-    let named : NamesEntries (list_set l) (element_of l) = subst (λ (s : Schemas). NamesEntries s (element_of l)) (sym is.set) (subst (NamesEntries meta) (sym is.element) is.named) in
-    subst (λ (u : SchemaType). IfOk r (IsOf meta u)) is.element (subst (λ (s : Schemas). IfOk r (IsOf s (element_of l))) is.set (h named))
+  pub element_refused : (kind : ErrorKind) → value.Fault kind ≡ element_seen t l i → HasCause one_read kind
+  element_refused kind seen = only_cause kind one_read (ap (unless_fault f) (sym seen))
 
 -- one more in a list of what was made
 pub map_more : {A B : Type 0} (f : A → B) (xs ys : List A) (x : A) → ys ≡ xs ++ x ∷ [] → map f ys ≡ map f xs ++ f x ∷ []

@@ -7,7 +7,7 @@ use Rattle.capnp_device.specs.declared.error.ErrorKind.TheVariants.{NameNotUtf8}
 use Rattle.capnp_records.specs.Record as value
 use Rattle.capnp_records.specs.Record.{Record, Value}
 use Rattle.capnp_sets.specs.Causes.{HasCause, Read, refused}
-use Rattle.capnp_sets.specs.Parts.{blob, integer, list, name, name_of, number, struct, text, truth}
+use Rattle.capnp_sets.specs.Parts.{blob, integer, list, name, name_of, number, struct, text, truth, unless_fault}
 use Rattle.capnp_schema.specs.Types.{SchemaType}
 use Rattle.capnp_sets.proofs.AppliedReads.{only_cause}
 
@@ -38,6 +38,11 @@ fault_struct f v kind = faulted (struct f) v kind refl
 
 pub fault_list : {A : Type 0} (t : SchemaType) (f : Value → Read A) (v : Value) (kind : ErrorKind) → value.Fault kind ≡ v → HasCause (list t f v) kind
 fault_list t f v kind = faulted (list t f) v kind refl
+
+-- a list of what is read stands for its own refusal where it is a fault
+pub unless_listed : {A : Type 0} (t : SchemaType) (f : Value → Read A) (v : Value) → unless_fault (list t f) v ≡ list t f v
+unless_listed t f (value.Fault kind) = refl
+unless_listed t f v = refl
 
 -- a name that can't be read as a text has the text's causes
 pub name_cause : (v : Value) (kind : ErrorKind) → HasCause (text v) kind → HasCause (name v) kind

@@ -10,11 +10,9 @@ use Rattle.capnp_sets.specs.Causes.{HasCause}
 use Rattle.capnp_sets.proofs.AppliedReads.{only_cause}
 use Rattle.capnp_wire.specs.Reading.{list_length}
 use Rattle.capnp_wire.specs.Standing.{list_of}
-use Rattle.capnp_dynamic_readers.specs.Handles.{list_reader_of}
-use Rattle.capnp_dynamic_readers.specs.Reads.{element_seen}
-use Rattle.capnp_dynamic_readers.specs.declared.dynamic_list.Reader.{Reader as ListHandle}
-use Rattle.capnp_sets.specs.Handles.{AreBrands, values_in}
-use Rattle.capnp_sets.proofs.RowsRead.{element_in, element_read}
+use Rattle.capnp_wire.specs.declared.list_reader.ListReader.{ListReader}
+use Rattle.capnp_sets.specs.Handles.{values_in}
+use Rattle.capnp_sets.proofs.RowsRead.{element_in, element_seen}
 use Rattle.capnp_sets.specs.Types.{generic_in, node_number}
 
 pub generic_there : (g : ℕ → Value) (a n b : ℕ) → b < n → generic_in (values_from g a n) b ≡ node_number (read_of meta VoidValue (one 6) (g (a + b)))
@@ -34,8 +32,8 @@ pub generic_first : (g : ℕ → Value) (n b : ℕ) → b < n → generic_in (va
 generic_first g n b h = let e : 0 + b ≡ b = omega arith in generic_there g 0 n b h ∙ ap (λ i. node_number (read_of meta VoidValue (one 6) (g i))) e
 
 -- the same of a list of records of brands, by what is read of an element
-pub generic_here : (l : ListHandle) (b : ℕ) → AreBrands l → b < list_length (list_of (list_reader_of l)) → (v : Value) → v ≡ element_seen l b → generic_in (values_in l) b ≡ node_number v
-generic_here l b is h v e = generic_first (element_in l) (list_length (list_of (list_reader_of l))) b h ∙ ap node_number (sym (element_read (one 6) l b is) ∙ sym e)
+pub generic_here : (l : ListReader) (b : ℕ) → b < list_length (list_of l) → (v : Value) → v ≡ element_seen (one 6) l b → generic_in (values_in l) b ≡ node_number v
+generic_here l b h v e = generic_first (element_in (one 6) l) (list_length (list_of l)) b h ∙ ap node_number (sym e)
 
-pub generic_refused : (l : ListHandle) (b : ℕ) → AreBrands l → b < list_length (list_of (list_reader_of l)) → (kind : ErrorKind) → value.Fault kind ≡ element_seen l b → HasCause (generic_in (values_in l) b) kind
-generic_refused l b is h kind e = only_cause kind _ (generic_here l b is h (value.Fault kind) e)
+pub generic_refused : (l : ListReader) (b : ℕ) → b < list_length (list_of l) → (kind : ErrorKind) → value.Fault kind ≡ element_seen (one 6) l b → HasCause (generic_in (values_in l) b) kind
+generic_refused l b h kind e = only_cause kind _ (generic_here l b h (value.Fault kind) e)

@@ -7,11 +7,13 @@ pub mod FieldsSeen
 pub mod Generics
 pub mod LawsOfSets
 pub mod ListsRead
+pub mod MembersSeen
 pub mod MessageKinds
 pub mod NumbersSeen
 pub mod PartsSeen
+pub mod PointersMet
+pub mod PointersSeen
 pub mod RowsRead
 pub mod RowsSets
 pub mod SetKinds
 pub mod SetsRead
-pub mod Taken

@@ -10,10 +10,7 @@ use Rattle.capnp_schema.specs.Schema.{BoolValue, IntValue, UIntValue}
 use Rattle.capnp_schema.specs.SlotValue.{bit_number, bits_at}
 use Rattle.capnp_schema.specs.Types.{BoolType, IntType, UIntType}
 use Rattle.capnp_records.specs.Reading.{signed}
-use Rattle.capnp_dynamic_readers.specs.Handles.{reader_of}
-use Rattle.capnp_dynamic_readers.specs.Seen.{record_seen}
-use Rattle.capnp_dynamic_readers.specs.declared.dynamic_struct.Reader.{Reader as StructHandle}
-use Rattle.capnp_sets.specs.Handles.{IsActive, IsRecord, IsSlot}
+use Rattle.capnp_sets.specs.Handles.{IsActive, IsSlot, record_in}
 use Rattle.capnp_sets.specs.Parts.{integer, number, read_at, truth}
 use Rattle.capnp_sets.proofs.FieldsSeen.{seen_by}
 
@@ -22,16 +19,16 @@ lone_bit : (b : Bool) → (bit_xor (bit_number b + 2 * 0) 0 == 1) ≡ b
 lone_bit true = refl
 lone_bit false = refl
 
-module _ (s : StructHandle) (b i : ℕ) (record_is : IsRecord b s) (active : IsActive b i s) where
-  module _ (r : StructReader) (same : r ≡ reader_of s) (bounded : AreBytes (struct_of r).bytes) (offset : ℕ) where
-    pub number_there : (n default : ℕ) → IsSlot b i (UIntType n) offset (UIntValue n default) → number (read_at b i (record_seen s)) ≡ Ok (bit_xor (number_at n offset (struct_of r).bytes) default)
-    number_there n default slot = ap number (seen_by s b i record_is active r same _ _ slot.0 slot.1) ∙ ap (λ x. Ok (bit_xor x default)) (bits_at-number (struct_of r).bytes n offset bounded)
+module _ (s : StructReader) (b i : ℕ) (active : IsActive b i s) where
+  module _ (bounded : AreBytes (struct_of s).bytes) (offset : ℕ) where
+    pub number_there : (n default : ℕ) → IsSlot b i (UIntType n) offset (UIntValue n default) → number (read_at b i (record_in b s)) ≡ Ok (bit_xor (number_at n offset (struct_of s).bytes) default)
+    number_there n default slot = ap number (seen_by s b i active _ _ slot.0 slot.1) ∙ ap (λ x. Ok (bit_xor x default)) (bits_at-number (struct_of s).bytes n offset bounded)
 
-    pub integer_there : (n : ℕ) → IsSlot b i (IntType n) offset (IntValue n (pos 0)) → integer (read_at b i (record_seen s)) ≡ Ok (signed (8 * n) (bit_xor (number_at n offset (struct_of r).bytes) 0))
-    integer_there n slot = ap integer (seen_by s b i record_is active r same _ _ slot.0 slot.1) ∙ ap (λ x. Ok (signed (8 * n) (bit_xor x 0))) (bits_at-number (struct_of r).bytes n offset bounded)
+    pub integer_there : (n : ℕ) → IsSlot b i (IntType n) offset (IntValue n (pos 0)) → integer (read_at b i (record_in b s)) ≡ Ok (signed (8 * n) (bit_xor (number_at n offset (struct_of s).bytes) 0))
+    integer_there n slot = ap integer (seen_by s b i active _ _ slot.0 slot.1) ∙ ap (λ x. Ok (signed (8 * n) (bit_xor x 0))) (bits_at-number (struct_of s).bytes n offset bounded)
 
-  pub truth_there : (r : StructReader) → r ≡ reader_of s → (offset : ℕ) → IsSlot b i BoolType offset (BoolValue false) → truth (read_at b i (record_seen s)) ≡ Ok (bit_at (struct_of r).bytes offset)
-  truth_there r same offset slot =
+  pub truth_there : (offset : ℕ) → IsSlot b i BoolType offset (BoolValue false) → truth (read_at b i (record_in b s)) ≡ Ok (bit_at (struct_of s).bytes offset)
+  truth_there offset slot =
       let first : offset * 1 ≡ offset = omega arith in
-      ap truth (seen_by s b i record_is active r same _ _ slot.0 slot.1)
-      ∙ (ap (λ f. Ok (bit_xor (bits_at (struct_of r).bytes f 1) 0 == 1)) first ∙ ap (λ x. Ok x) (lone_bit (bit_at (struct_of r).bytes offset)))
+      ap truth (seen_by s b i active _ _ slot.0 slot.1)
+      ∙ (ap (λ f. Ok (bit_xor (bits_at (struct_of s).bytes f 1) 0 == 1)) first ∙ ap (λ x. Ok x) (lone_bit (bit_at (struct_of s).bytes offset)))

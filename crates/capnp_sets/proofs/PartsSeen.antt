@@ -1,29 +1,16 @@
--- What a read of a field answers is what is read of the struct's record.
-use Rattle.std.proofs.Common.{ℕ, ◌<◌, ◌≡◌, ◌⊎◌, ◌∙◌, arith, ap, inl, inr, refl, sym, subst, Bool, true, false, ◌==◌, length, IfOk, Some, Result}
+-- The part of a struct's record that a plain field or the active member has.
+use Rattle.std.proofs.Common.{ℕ, ◌<◌, ◌≡◌, ◌⊎◌, ◌∙◌, arith, ap, inl, inr, refl, sym, subst, Bool, true, false, ◌==◌, length, Some}
 use Rattle.std.proofs.lemmas.Bool.{true≢false}
-use Rattle.capnp_device.specs.declared.error.Error.{Error}
-use Rattle.capnp_wire.specs.Standing.{struct_levels, struct_of}
 use Rattle.capnp_wire.specs.Tree.{StructTree}
-use Rattle.capnp_schema.specs.Meta.{meta}
 use Rattle.capnp_schema.specs.Schema.{Schemas, TypedField, field_at, fields_of, is_member, node_of}
-use Rattle.capnp_schema.specs.StructHandles.{number_of, set_of, struct_field, struct_fields}
 use Rattle.capnp_records.specs.Facts.Frame.{first-of, second-of}
 use Rattle.capnp_records.specs.Facts.PartRead.{FoundActive, found-active, nth-plain_parts}
-use Rattle.capnp_records.specs.Default.{read_field}
 use Rattle.capnp_records.specs.Part.{active_value, is_active, nth_value, part_at, which_of}
 use Rattle.capnp_records.specs.Reading.{active_among, discriminant, part_of, plain_parts, struct_record, union_of, values_of}
-use Rattle.capnp_records.specs.Record.{Active, Left, Levels, NoUnion, Union, Unknown, Parts, Record, Value, Values}
-use Rattle.capnp_dynamic_readers.specs.Handles.{reader_of, schema_of}
-use Rattle.capnp_dynamic_readers.specs.Reads.{field_seen, handed_out}
-use Rattle.capnp_dynamic_readers.specs.Seen.{record_seen}
-use Rattle.capnp_dynamic_readers.specs.Typed.{IsOf}
-use Rattle.capnp_dynamic_readers.specs.declared.dynamic_value.Reader.{Reader as DynamicValue}
-use Rattle.capnp_dynamic_readers.specs.declared.dynamic_struct.Reader.{Reader as StructHandle}
-use Rattle.capnp_sets.specs.Handles.{IsActive, IsRecord}
-use Rattle.capnp_sets.specs.Parts.{read_at}
+use Rattle.capnp_records.specs.Record.{Active, Levels, NoUnion, Union, Unknown, Parts, Record, Value, Values}
 
 -- a field is plain, or the active member of a record
-abbrev IsHere : Record → TypedField → ℕ → Type 0
+abbrev pub IsHere : Record → TypedField → ℕ → Type 0
 IsHere r f i = (is_member f.field ≡ false) ⊎ (which_of r ≡ Some i)
 
 some-same : {i j : ℕ} → Some i ≡ Some j → i ≡ j
@@ -55,7 +42,7 @@ module _ (set : Schemas) (l : Levels) (s : StructTree) (b i : ℕ) where
           found-active v (fields_of set b) 0 i (discriminant (node_of set b) s.bytes) (subst (λ n. is_active (active_among v (fields_of set b) 0 (discriminant (node_of set b) s.bytes)) n ≡ true) (omega arith) (sym (ap (λ u. is_active u i) same) ∙ is)) in
           ap active_value same ∙ found.part_is
 
-  part-here : i < length (fields_of set b) → IsHere (struct_record set l s b) f i → part_at (struct_record set l s b) f.field i ≡ v f
+  pub part-here : i < length (fields_of set b) → IsHere (struct_record set l s b) f i → part_at (struct_record set l s b) f.field i ≡ v f
   part-here inside here = go (is_member f.field) refl here
     where
       go : (q : Bool) → is_member f.field ≡ q → IsHere (struct_record set l s b) f i → part_at (struct_record set l s b) f.field i ≡ v f
@@ -64,31 +51,3 @@ module _ (set : Schemas) (l : Levels) (s : StructTree) (b i : ℕ) where
       go true member (inr which) =
           first-of (is_member f.field) (active_value union) (nth_value (plain_parts v (fields_of set b)) i) member
           ∙ active-part (active-same (plain_parts v (fields_of set b)) union i which)
-
--- a field of the meta set lies inside the struct that has it
-pub inside_record : (s : StructHandle) (b i : ℕ) → IsRecord b s → i < length (fields_of meta b) → i < length (struct_fields (schema_of s))
-inside_record s b i record_is inside =
-    subst (λ (z : Schemas). i < length (fields_of z (number_of (schema_of s)))) (sym record_is.set) (subst (λ m. i < length (fields_of meta m)) (sym record_is.number) inside)
-
--- what is read of a part under a field of any set, and of a field of a record
-abbrev under : Schemas → TypedField → Value → Value
-under set f v = handed_out f.field.kind (read_field set f v)
-
-abbrev read_in : Schemas → ℕ → ℕ → Record → Value
-read_in set b i r = under set (field_at set b i) (part_at r (field_at set b i).field i)
-
-pub seen_part : (s : StructHandle) (b i : ℕ) → IsRecord b s → i < length (fields_of meta b) → IsActive b i s → field_seen s i ≡ read_at b i (record_seen s)
-unfolding read_at
-seen_part s b i record_is inside active =
-    let set : Schemas = set_of (schema_of s) in
-    let n : ℕ = number_of (schema_of s) in
-    let within : i < length (fields_of set n) = inside_record s b i record_is inside in
-    let here : IsHere (record_seen s) (field_at set n i) i = subst (λ z. IsHere (record_seen s) (field_at z n i) i) (sym record_is.set) (subst (λ m. IsHere (record_seen s) (field_at meta m i) i) (sym record_is.number) active) in
-    ap (under set (field_at set n i)) (sym (part-here set (Left (struct_levels (reader_of s))) (struct_of (reader_of s)) n i within here))
-    ∙ (ap (λ z. read_in z n i (record_seen s)) record_is.set ∙ ap (λ m. read_in meta m i (record_seen s)) record_is.number)
-
-pub typed_part : (r : Result DynamicValue Error) (s : StructHandle) (b i j : ℕ) → IsRecord b s → j ≡ i → IfOk r (IsOf (set_of (schema_of s)) (struct_field (schema_of s) j).type) → IfOk r (IsOf meta (field_at meta b i).type)
-typed_part r s b i j record_is same h =
-    subst (λ k. IfOk r (IsOf meta (field_at meta b k).type)) same
-    (subst (λ n. IfOk r (IsOf meta (field_at meta n j).type)) record_is.number
-    (subst (λ (z : Schemas). IfOk r (IsOf z (field_at z (number_of (schema_of s)) j).type)) record_is.set h))

@@ -3,17 +3,14 @@ use Rattle.std.proofs.Common.{ℕ, ◌+◌, ◌-◌, ◌<◌, ◌≡◌, ◌∙�
 use Rattle.capnp_device.specs.declared.error.ErrorKind.{ErrorKind}
 use Rattle.capnp_records.specs.Record.{Left, MoreValues, NoValues, Value, Values, values_from}
 use Rattle.capnp_wire.specs.Standing.{list_levels, list_of}
+use Rattle.capnp_wire.specs.declared.list_reader.ListReader.{ListReader}
 use Rattle.capnp_schema.specs.Meta.{meta}
-use Rattle.capnp_schema.specs.Schema.{Schemas, VoidValue}
+use Rattle.capnp_schema.specs.Schema.{VoidValue}
 use Rattle.capnp_schema.specs.Types.{SchemaType}
 use Rattle.capnp_records.specs.Default.{read_of}
 use Rattle.capnp_records.specs.Facts.ListValues.{below_of}
 use Rattle.capnp_records.specs.Reading.{element_value}
-use Rattle.capnp_dynamic_readers.specs.Handles.{element_of, list_reader_of, list_set}
-use Rattle.capnp_dynamic_readers.specs.Reads.{element_seen}
-use Rattle.capnp_dynamic_readers.specs.declared.dynamic_list.Reader.{Reader as ListHandle}
 use Rattle.capnp_sets.specs.Causes.{◌<*>◌, HasCause, Read}
-use Rattle.capnp_sets.specs.Handles.{IsListOf}
 use Rattle.capnp_sets.specs.Parts.{all_of}
 use Rattle.capnp_sets.proofs.AppliedReads.{cause_left, cause_right}
 
@@ -38,7 +35,7 @@ end : {A : Type 0} (xs : List A) → before_rest xs (Ok []) ≡ Ok xs
 unfolding ◌<*>◌
 end xs = ap (λ zs. Ok zs) (append-nil xs)
 
-none_left : {A : Type 0} (f : Value → Read A) → all_of f NoValues ≡ Ok []
+pub none_left : {A : Type 0} (f : Value → Read A) → all_of f NoValues ≡ Ok []
 unfolding all_of
 none_left f = refl
 
@@ -78,9 +75,9 @@ module _ {A : Type 0} (f : Value → Read A) (g : ℕ → Value) (n : ℕ) where
       (cause_right _ _ kind (cause_left _ _ kind (cause_right _ _ kind here)))
 
 -- an element in the value of a list
-abbrev pub element_in : ListHandle → ℕ → Value
-element_in l i = element_value (list_set l) (list_of (list_reader_of l)) (below_of (list_set l) (list_of (list_reader_of l))) (Left (list_levels (list_reader_of l))) (element_of l) i
+abbrev pub element_in : SchemaType → ListReader → ℕ → Value
+element_in t l i = element_value meta (list_of l) (below_of meta (list_of l)) (Left (list_levels l)) t i
 
--- the read of an element, under the type that a list of the meta set has
-pub element_read : (t : SchemaType) (l : ListHandle) (i : ℕ) → IsListOf t l → element_seen l i ≡ read_of meta VoidValue t (element_in l i)
-element_read t l i is = ap (λ (s : Schemas). read_of s VoidValue (element_of l) (element_in l i)) is.set ∙ ap (λ (u : SchemaType). read_of meta VoidValue u (element_in l i)) is.element
+-- the read of an element
+abbrev pub element_seen : SchemaType → ListReader → ℕ → Value
+element_seen t l i = read_of meta VoidValue t (element_in t l i)

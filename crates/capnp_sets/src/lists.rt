@@ -1,37 +1,32 @@
 //! Brands and enums, as their records say them.
 ghost use Rattle.std.specs.Prelude.{◌≡◌, ◌≢◌, Ok, IfErr, IfOk};
 ghost use Rattle.capnp_device.specs.declared.error.ErrorKind.TheVariants.{OutOfMemory};
-ghost use Rattle.capnp_schema.specs.Meta.{one};
-ghost use Rattle.capnp_schema.specs.Schema.{Brand, Enum, Enumerant, seen_brand, seen_enum, seen_enumerant, seen_types};
-ghost use Rattle.capnp_dynamic_readers.specs.Seen.{record_seen};
+ghost use Rattle.capnp_schema.specs.Schema.{Brand, Enum, Enumerant, seen_brand, seen_enum, seen_enumerant};
 ghost use Rattle.capnp_sets.specs.Causes.{HasCause};
-ghost use Rattle.capnp_sets.specs.Handles.{AreBrands, IsRecord, values_in};
+ghost use Rattle.capnp_sets.specs.Handles.{record_in, values_in};
 ghost use Rattle.capnp_sets.specs.Lists.{brand_of, enum_of, enumerant_of};
-ghost use Rattle.capnp_sets.specs.Parts.{struct};
 
 use crate::numbers::{u32_at, u64_at};
-use crate::parts::{BRAND, ENUM, ENUMERANT, name_at, struct_of};
-use crate::rows::{Context, FromPart, list_in};
+use crate::parts::{BRAND, ENUM, ENUMERANT, name_at};
+use crate::rows::{Context, FromRecord, list_read};
+use crate::types::type_lists_at;
 use capnp_base::introspect::Type;
-use capnp_dynamic_readers::dynamic_struct;
-use capnp_dynamic_readers::dynamic_value::Reader as Value;
 use capnp_schema::record::{
     AnnotationRecord, AnnotationTypes, BrandRecord, EnumRecord, EnumerantRecord,
 };
+use capnp_wire::StructReader;
 use capnp_wire::error::Result;
 
 /// A brand of a record of one.
 #[tactic(auto, unfolding(crate::specs::Lists::brand_of))]
-fn read_brand(context: Context<'_>, reader: dynamic_struct::Reader<'_>) -> Result<BrandRecord>
-    requires brands { AreBrands context.brands }
-    requires record { IsRecord 6 reader }
-    ensures read { IfOk result (λ b. brand_of (values_in context.entry.brands) (record_seen reader.entry) ≡ Ok (seen_brand b)) }
-    ensures refused { IfErr result (λ e. e.kind ≢ OutOfMemory → HasCause (brand_of (values_in context.entry.brands) (record_seen reader.entry)) e.kind) }
+fn read_brand(context: &Context<'_>, reader: &StructReader<'_>) -> Result<BrandRecord>
+    ensures read { IfOk result (λ b. brand_of (values_in context.now.brands) (record_in 6 reader.now) ≡ Ok (seen_brand b)) }
+    ensures refused { IfErr result (λ e. e.kind ≢ OutOfMemory → HasCause (brand_of (values_in context.now.brands) (record_in 6 reader.now)) e.kind) }
 {
     let node = u32_at(reader, BRAND, 0, 0);
-    let field_types = list_in::<Type>(context, reader, BRAND, 1)?;
-    let own = list_in::<Type>(context, reader, BRAND, 2)?;
-    let children = list_in::<Vec<Type>>(context, reader, BRAND, 3)?;
+    let field_types = list_read::<Type>(context, reader, BRAND, 1, 0)?;
+    let own = list_read::<Type>(context, reader, BRAND, 2, 1)?;
+    let children = type_lists_at(context, reader, BRAND, 3, 2)?;
     Ok(BrandRecord {
         node,
         field_types,
@@ -39,64 +34,57 @@ fn read_brand(context: Context<'_>, reader: dynamic_struct::Reader<'_>) -> Resul
     })
 }
 
-impl FromPart for BrandRecord {
+impl FromRecord for BrandRecord {
     ghost Seen = { Brand };
 
     ghost seen = { seen_brand };
 
-    ghost part_type = { one 6 };
+    ghost brand = { 6 };
 
-    ghost of_part = { λ brands v. struct (brand_of brands) v };
+    ghost of_record = { λ brands r. brand_of brands r };
 
-    fn from_part(context: Context<'_>, part: Value<'_>) -> Result<BrandRecord> {
-        read_brand(context, struct_of(part, BRAND))
+    fn from_record(context: &Context<'_>, reader: &StructReader<'_>) -> Result<BrandRecord> {
+        read_brand(context, reader)
     }
 }
 
 /// An enumerant of a record of one.
 #[tactic(auto, unfolding(crate::specs::Lists::enumerant_of))]
-fn read_enumerant(
-    context: Context<'_>,
-    reader: dynamic_struct::Reader<'_>,
-) -> Result<EnumerantRecord>
-    requires brands { AreBrands context.brands }
-    requires record { IsRecord 9 reader }
-    ensures read { IfOk result (λ e. enumerant_of (record_seen reader.entry) ≡ Ok (seen_enumerant e)) }
-    ensures refused { IfErr result (λ e. e.kind ≢ OutOfMemory → HasCause (enumerant_of (record_seen reader.entry)) e.kind) }
+fn read_enumerant(context: &Context<'_>, reader: &StructReader<'_>) -> Result<EnumerantRecord>
+    ensures read { IfOk result (λ e. enumerant_of (record_in 9 reader.now) ≡ Ok (seen_enumerant e)) }
+    ensures refused { IfErr result (λ e. e.kind ≢ OutOfMemory → HasCause (enumerant_of (record_in 9 reader.now)) e.kind) }
 {
-    let name = name_at(context.alloc, reader, ENUMERANT, 0)?;
-    let annotations = list_in::<AnnotationRecord>(context, reader, ENUMERANT, 1)?;
+    let name = name_at(context.alloc, reader, ENUMERANT, 0, 0)?;
+    let annotations = list_read::<AnnotationRecord>(context, reader, ENUMERANT, 1, 1)?;
     Ok(EnumerantRecord { name, annotations })
 }
 
-impl FromPart for EnumerantRecord {
+impl FromRecord for EnumerantRecord {
     ghost Seen = { Enumerant };
 
     ghost seen = { seen_enumerant };
 
-    ghost part_type = { one 9 };
+    ghost brand = { 9 };
 
-    ghost of_part = { λ _ v. struct enumerant_of v };
+    ghost of_record = { λ _ r. enumerant_of r };
 
-    fn from_part(context: Context<'_>, part: Value<'_>) -> Result<EnumerantRecord> {
-        read_enumerant(context, struct_of(part, ENUMERANT))
+    fn from_record(context: &Context<'_>, reader: &StructReader<'_>) -> Result<EnumerantRecord> {
+        read_enumerant(context, reader)
     }
 }
 
 /// An enum of a record of one.
 #[tactic(auto, unfolding(crate::specs::Lists::enum_of))]
-fn read_enum(context: Context<'_>, reader: dynamic_struct::Reader<'_>) -> Result<EnumRecord>
-    requires brands { AreBrands context.brands }
-    requires record { IsRecord 8 reader }
-    ensures read { IfOk result (λ e. enum_of (values_in context.entry.brands) (record_seen reader.entry) ≡ Ok (seen_enum e)) }
-    ensures refused { IfErr result (λ e. e.kind ≢ OutOfMemory → HasCause (enum_of (values_in context.entry.brands) (record_seen reader.entry)) e.kind) }
+fn read_enum(context: &Context<'_>, reader: &StructReader<'_>) -> Result<EnumRecord>
+    ensures read { IfOk result (λ e. enum_of (values_in context.now.brands) (record_in 8 reader.now) ≡ Ok (seen_enum e)) }
+    ensures refused { IfErr result (λ e. e.kind ≢ OutOfMemory → HasCause (enum_of (values_in context.now.brands) (record_in 8 reader.now)) e.kind) }
 {
     let id = u64_at(reader, ENUM, 0, 0);
-    let display_name = name_at(context.alloc, reader, ENUM, 1)?;
-    let annotations = list_in::<AnnotationRecord>(context, reader, ENUM, 2)?;
-    let enumerants = list_in::<EnumerantRecord>(context, reader, ENUM, 3)?;
-    let own = list_in::<Type>(context, reader, ENUM, 4)?;
-    let children = list_in::<Vec<Type>>(context, reader, ENUM, 5)?;
+    let display_name = name_at(context.alloc, reader, ENUM, 1, 0)?;
+    let annotations = list_read::<AnnotationRecord>(context, reader, ENUM, 2, 1)?;
+    let enumerants = list_read::<EnumerantRecord>(context, reader, ENUM, 3, 2)?;
+    let own = list_read::<Type>(context, reader, ENUM, 4, 3)?;
+    let children = type_lists_at(context, reader, ENUM, 5, 4)?;
     Ok(EnumRecord {
         id,
         display_name,
@@ -106,16 +94,16 @@ fn read_enum(context: Context<'_>, reader: dynamic_struct::Reader<'_>) -> Result
     })
 }
 
-impl FromPart for EnumRecord {
+impl FromRecord for EnumRecord {
     ghost Seen = { Enum };
 
     ghost seen = { seen_enum };
 
-    ghost part_type = { one 8 };
+    ghost brand = { 8 };
 
-    ghost of_part = { λ brands v. struct (enum_of brands) v };
+    ghost of_record = { λ brands r. enum_of brands r };
 
-    fn from_part(context: Context<'_>, part: Value<'_>) -> Result<EnumRecord> {
-        read_enum(context, struct_of(part, ENUM))
+    fn from_record(context: &Context<'_>, reader: &StructReader<'_>) -> Result<EnumRecord> {
+        read_enum(context, reader)
     }
 }

@@ -1,24 +1,26 @@
-//! What is read of the fields of records of the meta set, by brand and index.
-ghost use Rattle.std.specs.Prelude.{◌≡◌, ◌≢◌, Ok, Some, IfErr, IfOk, string_bytes};
+//! What is read of the fields of records of the meta set behind their pointers, and their active members.
+//!
+//! The place of a pointer is told by who asks, and proved to be the field's. No schema and no plan is looked up.
+ghost use Rattle.std.specs.Prelude.{◌≡◌, ◌≢◌, ◌<◌, Ok, IfErr, IfOk, IsTrue, string_bytes, []};
 ghost use Rattle.capnp_device.specs.declared.error.ErrorKind.TheVariants.{OutOfMemory};
-ghost use Rattle.capnp_schema.specs.Meta.{many, meta, one};
-ghost use Rattle.capnp_schema.specs.Schema.{field_at};
-ghost use Rattle.capnp_schema.specs.Types.{DataType, ListType, TextType};
+ghost use Rattle.capnp_wire.specs.Standing.{levels_of, tree_of};
+ghost use Rattle.capnp_wire.specs.Tree.{Null};
+ghost use Rattle.capnp_schema.specs.Builtin.{zero_word};
+ghost use Rattle.capnp_schema.specs.Meta.{meta, one};
+ghost use Rattle.capnp_schema.specs.Schema.{DataValue, ListValue, StructValue, TextValue, field_at};
+ghost use Rattle.capnp_schema.specs.Types.{DataType, ListType, TextType, element_size};
 ghost use Rattle.capnp_records.specs.Part.{which_of};
 ghost use Rattle.capnp_records.specs.Reading.{element_type};
 ghost use Rattle.capnp_records.specs.Record as value;
-ghost use Rattle.capnp_dynamic_readers.specs.Handles.{element_of, list_set};
-ghost use Rattle.capnp_dynamic_readers.specs.Seen.{answered, list_seen, record_seen, value_seen};
-ghost use Rattle.capnp_dynamic_readers.specs.Typed.{IsOf};
-ghost use Rattle.capnp_dynamic_readers.specs.declared.dynamic_value.Reader.TheVariants as dynamic;
 ghost use Rattle.capnp_sets.specs.Causes.{HasCause};
-ghost use Rattle.capnp_sets.specs.Handles.{IsActive, IsField, IsGroup, IsListOf, IsRecord};
+ghost use Rattle.capnp_sets.specs.Handles.{IsActive, IsSlot, list_in, record_in};
 ghost use Rattle.capnp_sets.specs.Parts.{blob, name, name_of, read_at, text};
 
 use capnp_base::text;
-use capnp_dynamic_readers::dynamic_value::Reader as Value;
-use capnp_dynamic_readers::{dynamic_list, dynamic_struct};
+use capnp_schema::loaded::load_pair;
 use capnp_wire::error::{Error, ErrorKind, Result};
+use capnp_wire::size::ElementSize;
+use capnp_wire::{ListReader, PointerReader, StructReader};
 use std::alloc::Global;
 
 /// The brands of the meta set.
@@ -42,70 +44,70 @@ pub(crate) const ENUM: u32 = 8;
 
 pub(crate) const ENUMERANT: u32 = 9;
 
-/// The index of the active member of a struct's union, none where there is no union or its number is unknown.
-pub(crate) fn active_member(reader: dynamic_struct::Reader<'_>) -> Option<u16>
-    ensures { result ≡ which_of (record_seen reader.entry) }
+/// The active member of a field's record: that of index 3, a slot, that of index 4, a group's node, or none, where the
+/// number is unknown.
+#[inline(always)]
+pub(crate) fn field_member(reader: &StructReader<'_>) -> Option<u16>
+    ensures { result ≡ which_of (record_in 2 reader.now) }
 {
-    match reader.which() {
-        Ok(Some(field)) => Some(field.get_index()),
-        Ok(None) => None,
-        Err(_) => unreachable!(),
+    let number = load_pair(reader, 16);
+    if number == 0 {
+        return Some(3);
     }
+    if number == 1 {
+        return Some(4);
+    }
+    None
 }
 
-/// What field `index` of a record of brand `brand` has. It has to be a plain field or the active member.
-fn part<'a>(reader: dynamic_struct::Reader<'a>, brand: u32, index: u16) -> Result<Value<'a>>
-    requires record { IsRecord brand reader }
-    requires field { IsField brand index (field_at meta brand index).type }
-    requires active { IsActive brand index reader }
-    ensures value { answered result ≡ read_at brand index (record_seen reader.entry) }
-    ensures typed { IfOk result (IsOf meta (field_at meta brand index).type) }
+/// The index of the active member of a value's record, none where its number is unknown.
+#[inline(always)]
+pub(crate) fn value_member(reader: &StructReader<'_>) -> Option<u16>
+    ensures { result ≡ which_of (record_in 5 reader.now) }
 {
-    let _brand = brand;
-    let Ok(fields) = reader.get_schema().get_fields() else {
-        unreachable!()
-    };
-    let field = fields.get(index);
-    reader.get(field)
+    let number = load_pair(reader, 0);
+    if number < 15 {
+        return Some(number);
+    }
+    None
 }
 
 /// The bytes of a text.
+#[inline(always)]
 pub(crate) fn text_at<'a>(
-    reader: dynamic_struct::Reader<'a>,
+    reader: &StructReader<'a>,
     brand: u32,
     index: u16,
+    place: u16,
 ) -> Result<&'a [u8]>
-    requires record { IsRecord brand reader }
-    requires field { IsField brand index TextType }
-    requires active { IsActive brand index reader }
-    ensures read { IfOk result (λ x. text (read_at brand index (record_seen reader.entry)) ≡ Ok x.now) }
-    ensures refused { IfErr result (λ e. HasCause (text (read_at brand index (record_seen reader.entry))) e.kind) }
+    requires field { IsSlot brand index TextType place (TextValue []) }
+    requires active { IsActive brand index reader.now }
+    ensures read { IfOk result (λ x. text (read_at brand index (record_in brand reader.now)) ≡ Ok x.now) }
+    ensures refused { IfErr result (λ e. HasCause (text (read_at brand index (record_in brand reader.now))) e.kind) }
 {
-    match part(reader, brand, index) {
-        Ok(value) => Ok(value.downcast::<text::Reader<'a>>().0),
-        Err(error) => Err(error),
-    }
+    let (_brand, _index) = (brand, index);
+    reader.get_pointer_field(place).get_text()
 }
 
 /// The bytes of a data.
+#[inline(always)]
 pub(crate) fn data_at<'a>(
-    reader: dynamic_struct::Reader<'a>,
+    reader: &StructReader<'a>,
     brand: u32,
     index: u16,
+    place: u16,
 ) -> Result<&'a [u8]>
-    requires record { IsRecord brand reader }
-    requires field { IsField brand index DataType }
-    requires active { IsActive brand index reader }
-    ensures read { IfOk result (λ x. blob (read_at brand index (record_seen reader.entry)) ≡ Ok x.now) }
-    ensures refused { IfErr result (λ e. HasCause (blob (read_at brand index (record_seen reader.entry))) e.kind) }
+    requires field { IsSlot brand index DataType place (DataValue []) }
+    requires active { IsActive brand index reader.now }
+    ensures read { IfOk result (λ x. blob (read_at brand index (record_in brand reader.now)) ≡ Ok x.now) }
+    ensures refused { IfErr result (λ e. HasCause (blob (read_at brand index (record_in brand reader.now))) e.kind) }
 {
-    match part(reader, brand, index) {
-        Ok(value) => Ok(value.downcast::<&'a [u8]>()),
-        Err(error) => Err(error),
-    }
+    let (_brand, _index) = (brand, index);
+    reader.get_pointer_field(place).get_data()
 }
 
 /// A copy of a name's bytes. Refused with `NameNotUtf8` where they are no UTF-8.
+#[inline(always)]
 fn owned(alloc: Global, bytes: &[u8]) -> Result<String>
     ensures read { IfOk result (λ x. name_of bytes.now ≡ Ok (string_bytes x)) }
     ensures refused { IfErr result (λ e. e.kind ≢ OutOfMemory → HasCause (name_of bytes.now) e.kind) }
@@ -119,97 +121,72 @@ fn owned(alloc: Global, bytes: &[u8]) -> Result<String>
 }
 
 /// A name. Refused with `NameNotUtf8` where its bytes are no UTF-8.
+#[inline(always)]
 pub(crate) fn name_at(
     alloc: Global,
-    reader: dynamic_struct::Reader<'_>,
+    reader: &StructReader<'_>,
     brand: u32,
     index: u16,
+    place: u16,
 ) -> Result<String>
-    requires record { IsRecord brand reader }
-    requires field { IsField brand index TextType }
-    requires active { IsActive brand index reader }
-    ensures read { IfOk result (λ x. name (read_at brand index (record_seen reader.entry)) ≡ Ok (string_bytes x)) }
-    ensures refused { IfErr result (λ e. e.kind ≢ OutOfMemory → HasCause (name (read_at brand index (record_seen reader.entry))) e.kind) }
+    requires field { IsSlot brand index TextType place (TextValue []) }
+    requires active { IsActive brand index reader.now }
+    ensures read { IfOk result (λ x. name (read_at brand index (record_in brand reader.now)) ≡ Ok (string_bytes x)) }
+    ensures refused { IfErr result (λ e. e.kind ≢ OutOfMemory → HasCause (name (read_at brand index (record_in brand reader.now))) e.kind) }
 {
-    let bytes = text_at(reader, brand, index)?;
+    let bytes = text_at(reader, brand, index, place)?;
     owned(alloc, bytes)
 }
 
-/// The group of a brand: the same struct under the group's schema.
+/// Whether a pointer is null and a level is left for a list behind it, which then is empty: most lists of a set are. A null is
+/// all that is read both as data and as a struct, and both tests stand where they are asked, while a list is read by a call.
 #[inline(always)]
-pub(crate) fn group_at<'a>(
-    reader: dynamic_struct::Reader<'a>,
-    brand: u32,
-    index: u16,
-    group: u32,
-) -> dynamic_struct::Reader<'a>
-    requires record { IsRecord brand reader }
-    requires field { IsGroup brand index group }
-    requires active { IsActive brand index reader }
-    ensures read { value.Struct (record_seen result) ≡ read_at brand index (record_seen reader.entry) }
-    ensures record { IsRecord group result }
+pub(crate) fn is_no_list(pointer: &PointerReader<'_>) -> bool
+    ensures null { IsTrue result → tree_of pointer.now ≡ Null }
+    ensures level { IsTrue result → 0 < levels_of pointer.now }
 {
-    let (_brand, _index) = (brand, index);
-    let schema = reader.get_schema().get_set().struct_schema(group);
-    dynamic_struct::Reader::new(reader.get_sections(), schema)
+    match pointer.get_data() {
+        Ok(_) => match pointer.get_struct() {
+            Ok(_) => true,
+            Err(_) => false,
+        },
+        Err(_) => false,
+    }
 }
 
 /// The struct of a brand.
+#[inline(always)]
 pub(crate) fn struct_at<'a>(
-    reader: dynamic_struct::Reader<'a>,
+    reader: &StructReader<'a>,
     brand: u32,
     index: u16,
+    place: u16,
     inner: u32,
-) -> Result<dynamic_struct::Reader<'a>>
-    requires record { IsRecord brand reader }
-    requires field { IsField brand index (one inner) }
-    requires active { IsActive brand index reader }
-    ensures read { IfOk result (λ s. value.Struct (record_seen s) ≡ read_at brand index (record_seen reader.entry)) }
-    ensures record { IfOk result (IsRecord inner) }
-    ensures refused { IfErr result (λ e. value.Fault e.kind ≡ read_at brand index (record_seen reader.entry)) }
+) -> Result<StructReader<'a>>
+    requires field { IsSlot brand index (one inner) place (StructValue zero_word) }
+    requires active { IsActive brand index reader.now }
+    ensures read { IfOk result (λ s. value.Struct (record_in inner s) ≡ read_at brand index (record_in brand reader.now)) }
+    ensures refused { IfErr result (λ e. value.Fault e.kind ≡ read_at brand index (record_in brand reader.now)) }
 {
-    let _inner = inner;
-    match part(reader, brand, index) {
-        Ok(value) => Ok(value.downcast::<dynamic_struct::Reader<'a>>()),
-        Err(error) => Err(error),
-    }
+    let (_brand, _index, _inner) = (brand, index, inner);
+    reader.get_pointer_field(place).get_struct()
 }
 
-/// The list of a field.
+/// The list of a field, whose elements have a size.
+#[inline(always)]
 pub(crate) fn list_at<'a>(
-    reader: dynamic_struct::Reader<'a>,
+    reader: &StructReader<'a>,
     brand: u32,
     index: u16,
-) -> Result<dynamic_list::Reader<'a>>
-    requires record { IsRecord brand reader }
-    requires field { IsField brand index (ListType (element_type (field_at meta brand index).type)) }
-    requires active { IsActive brand index reader }
-    ensures read { IfOk result (λ l. list_seen l ≡ read_at brand index (record_seen reader.entry)) }
-    ensures elements { IfOk result (IsListOf (element_type (field_at meta brand index).type)) }
-    ensures refused { IfErr result (λ e. value.Fault e.kind ≡ read_at brand index (record_seen reader.entry)) }
+    place: u16,
+    size: ElementSize,
+) -> Result<ListReader<'a>>
+    requires field { IsSlot brand index (ListType (element_type (field_at meta brand index).type)) place (ListValue zero_word) }
+    requires size { element_size (element_type (field_at meta brand index).type) ≡ size }
+    requires active { IsActive brand index reader.now }
+    ensures read { IfOk result (λ l. list_in (element_type (field_at meta brand index).type) l ≡ read_at brand index (record_in brand reader.now)) }
+    ensures refused { IfErr result (λ e. value.Fault e.kind ≡ read_at brand index (record_in brand reader.now)) }
 {
-    match part(reader, brand, index) {
-        Ok(value) => Ok(value.downcast::<dynamic_list::Reader<'a>>()),
-        Err(error) => Err(error),
-    }
-}
-
-/// The struct that an element of a list is.
-pub(crate) fn struct_of<'a>(part: Value<'a>, inner: u32) -> dynamic_struct::Reader<'a>
-    requires { IsOf meta (one inner) part }
-    ensures is { dynamic.Struct result ≡ part.entry }
-    ensures record { IsRecord inner result }
-{
-    let _inner = inner;
-    part.downcast::<dynamic_struct::Reader<'a>>()
-}
-
-/// The list of structs that an element of a list is.
-pub(crate) fn list_of<'a>(part: Value<'a>, inner: u32) -> dynamic_list::Reader<'a>
-    requires { IsOf meta (many inner) part }
-    ensures is { dynamic.List result ≡ part.entry }
-    ensures elements { IsListOf (one inner) result }
-{
-    let _inner = inner;
-    part.downcast::<dynamic_list::Reader<'a>>()
+    let (_brand, _index) = (brand, index);
+    reader.get_pointer_field(place).get_list(size)
 }

@@ -1,81 +1,84 @@
 //! Lists of parts of a set, each part read into a record of its own.
-ghost use Rattle.std.specs.Prelude.{◌≡◌, ◌≢◌, Ok, IfErr, IfOk, map};
+ghost use Rattle.std.specs.Prelude.{ℕ, ◌≡◌, ◌≢◌, Ok, IfErr, IfOk, map};
 ghost use Rattle.capnp_device.specs.declared.error.ErrorKind.TheVariants.{OutOfMemory};
-ghost use Rattle.capnp_schema.specs.Meta.{meta};
-ghost use Rattle.capnp_schema.specs.Types.{ListType, SchemaType};
-ghost use Rattle.capnp_records.specs.Record.{Value, Values};
-ghost use Rattle.capnp_dynamic_readers.specs.Seen.{list_seen, record_seen, value_seen};
-ghost use Rattle.capnp_dynamic_readers.specs.Typed.{IsOf};
+ghost use Rattle.capnp_schema.specs.Builtin.{zero_word};
+ghost use Rattle.capnp_schema.specs.Meta.{many, one};
+ghost use Rattle.capnp_schema.specs.Schema.{ListValue};
+ghost use Rattle.capnp_records.specs.Record.{Record, Values};
 ghost use Rattle.capnp_sets.specs.Causes.{HasCause, Read};
-ghost use Rattle.capnp_sets.specs.Handles.{AreBrands, IsActive, IsField, IsListOf, IsRecord, values_in};
-ghost use Rattle.capnp_sets.specs.Parts.{list, read_at};
+ghost use Rattle.capnp_sets.specs.Handles.{IsActive, IsSlot, list_in, record_in, values_in};
+ghost use Rattle.capnp_sets.specs.Parts.{read_at, structs};
 
-use crate::parts::list_at;
-use capnp_dynamic_readers::dynamic_value::Reader as Value;
-use capnp_dynamic_readers::{dynamic_list, dynamic_struct};
+use crate::parts::{is_no_list, list_at};
 use capnp_wire::error::Result;
+use capnp_wire::size::ElementSize;
+use capnp_wire::{ListReader, StructReader};
 use std::alloc::Global;
+
+/// As many elements of a list have room from the start; a list of structs of size zero may count many more than its message
+/// has words.
+pub(crate) const MOST_ROOM: u32 = 65_536;
 
 /// What the parts of a set are read with: memory, and the records of brands, which say the nodes of struct types.
 #[derive(Clone, Copy)]
 pub(crate) struct Context<'a> {
     pub(crate) alloc: Global,
-    pub(crate) brands: dynamic_list::Reader<'a>,
+    pub(crate) brands: ListReader<'a>,
 }
 
-/// What an element of a list of a set is read into.
-pub(crate) trait FromPart: Sized {
-    // What it is to definitions, the type of the element, and what a value stands for where a set has these brands.
+/// What a struct of a set is read into.
+pub(crate) trait FromRecord: Sized {
+    // What it is to definitions, the brand of the struct, and what its record stands for where a set has these brands.
     ghost Seen: { Type 0 };
 
     ghost seen: { Self → Seen };
 
-    ghost part_type: { SchemaType };
+    ghost brand: { ℕ };
 
-    ghost of_part: { Values → Value → Read Seen };
+    ghost of_record: { Values → Record → Read Seen };
 
-    fn from_part(context: Context<'_>, part: Value<'_>) -> Result<Self>
-        requires brands { AreBrands context.brands }
-        requires typed { IsOf meta part_type part }
-        ensures read { IfOk result (λ made. of_part (values_in context.entry.brands) (value_seen part.entry) ≡ Ok (seen made)) }
-        ensures refused { IfErr result (λ e. e.kind ≢ OutOfMemory → HasCause (of_part (values_in context.entry.brands) (value_seen part.entry)) e.kind) };
+    fn from_record(context: &Context<'_>, reader: &StructReader<'_>) -> Result<Self>
+        ensures read { IfOk result (λ made. of_record (values_in context.now.brands) (record_in brand reader.now) ≡ Ok (seen made)) }
+        ensures refused { IfErr result (λ e. e.kind ≢ OutOfMemory → HasCause (of_record (values_in context.now.brands) (record_in brand reader.now)) e.kind) };
 }
 
-/// One of each element of a list.
-pub(crate) fn all_read<T: FromPart + Drop>(
-    context: Context<'_>,
-    elements: dynamic_list::Reader<'_>,
+/// One of each struct of a list.
+pub(crate) fn all_read<T: FromRecord + Drop>(
+    context: &Context<'_>,
+    elements: &ListReader<'_>,
 ) -> Result<Vec<T>>
-    requires brands { AreBrands context.brands }
-    requires elements { IsListOf T.part_type elements }
-    ensures read { IfOk result (λ v. list T.part_type (T.of_part (values_in context.entry.brands)) (list_seen elements.entry) ≡ Ok (map T.seen v.items)) }
+    ensures read { IfOk result (λ v. structs T.brand (T.of_record (values_in context.now.brands)) (list_in (one T.brand) elements.now) ≡ Ok (map T.seen v.items)) }
     ensures refused { IfErr result (λ e. e.kind ≢ OutOfMemory →
-        HasCause (list T.part_type (T.of_part (values_in context.entry.brands)) (list_seen elements.entry)) e.kind) }
+        HasCause (structs T.brand (T.of_record (values_in context.now.brands)) (list_in (one T.brand) elements.now)) e.kind) }
 {
-    let mut out = Vec::new(context.alloc);
-    for index in 0..elements.len() {
-        let part = elements.get(index)?;
-        let made = T::from_part(context, part)?;
+    let count = elements.len();
+    let mut out = Vec::with_capacity(context.alloc, count.min(MOST_ROOM) as usize)?;
+    for index in 0..count {
+        let element = elements.get_struct_element(index)?;
+        let made = T::from_record(context, &element)?;
         out.push(made)?;
     }
     Ok(out)
 }
 
-/// One of each element of the list that a field has.
-pub(crate) fn list_in<T: FromPart + Drop>(
-    context: Context<'_>,
-    reader: dynamic_struct::Reader<'_>,
+/// One of each struct of the list that a field has.
+#[inline(always)]
+pub(crate) fn list_read<T: FromRecord + Drop>(
+    context: &Context<'_>,
+    reader: &StructReader<'_>,
     brand: u32,
     index: u16,
+    place: u16,
 ) -> Result<Vec<T>>
-    requires brands { AreBrands context.brands }
-    requires record { IsRecord brand reader }
-    requires field { IsField brand index (ListType T.part_type) }
-    requires active { IsActive brand index reader }
-    ensures read { IfOk result (λ v. list T.part_type (T.of_part (values_in context.entry.brands)) (read_at brand index (record_seen reader.entry)) ≡ Ok (map T.seen v.items)) }
+    requires field { IsSlot brand index (many T.brand) place (ListValue zero_word) }
+    requires active { IsActive brand index reader.now }
+    ensures read { IfOk result (λ v. structs T.brand (T.of_record (values_in context.now.brands)) (read_at brand index (record_in brand reader.now)) ≡ Ok (map T.seen v.items)) }
     ensures refused { IfErr result (λ e. e.kind ≢ OutOfMemory →
-        HasCause (list T.part_type (T.of_part (values_in context.entry.brands)) (read_at brand index (record_seen reader.entry))) e.kind) }
+        HasCause (structs T.brand (T.of_record (values_in context.now.brands)) (read_at brand index (record_in brand reader.now))) e.kind) }
 {
-    let elements = list_at(reader, brand, index)?;
-    all_read(context, elements)
+    if is_no_list(&reader.get_pointer_field(place)) {
+        return Ok(Vec::new(context.alloc));
+    }
+    let elements = list_at(reader, brand, index, place, ElementSize::InlineComposite)?;
+    all_read(context, &elements)
 }

@@ -8,11 +8,12 @@ ghost use Rattle.capnp_sets.specs.Handles.{IsRecord};
 ghost use Rattle.capnp_sets.specs.Lists.{IsSetRefusal, has_cause, lists_of};
 
 use crate::parts::{SET, list_at};
-use crate::rows::{Context, all_read, list_in};
+use crate::rows::{Context, all_read, list_read};
 use capnp_dynamic_readers::dynamic_struct;
 use capnp_schema::record::{BrandRecord, EnumRecord, NodeRecord};
 use capnp_schema::set::SchemaSet;
 use capnp_wire::error::Result;
+use capnp_wire::size::ElementSize;
 use std::alloc::Global;
 
 /// The nodes, brands and enums that the record of a set stands for, of which `SchemaSet::new` makes a set. Missing parts are
@@ -31,14 +32,15 @@ pub fn read_set(
     ensures lists { IfOk result (λ r. lists_of (record_seen reader.entry) ≡ Some (seen_schemas r.0.items r.1.items r.2.items)) }
     ensures refused { IfErr result (λ e. e.kind ≢ OutOfMemory → has_cause (record_seen reader.entry) e.kind) }
 {
-    let brand_records = list_at(reader, SET, 1)?;
+    let sections = reader.get_sections();
+    let brand_records = list_at(&sections, SET, 1, 1, ElementSize::InlineComposite)?;
     let context = Context {
         alloc,
         brands: brand_records,
     };
-    let nodes = list_in::<NodeRecord>(context, reader, SET, 0)?;
-    let brands = all_read::<BrandRecord>(context, brand_records)?;
-    let enums = list_in::<EnumRecord>(context, reader, SET, 2)?;
+    let nodes = list_read::<NodeRecord>(&context, &sections, SET, 0, 0)?;
+    let brands = all_read::<BrandRecord>(&context, &brand_records)?;
+    let enums = list_read::<EnumRecord>(&context, &sections, SET, 2, 2)?;
     Ok((nodes, brands, enums))
 }
 

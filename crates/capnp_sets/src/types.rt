@@ -1,54 +1,54 @@
 //! Types, as their records say them.
-ghost use Rattle.std.specs.Prelude.{◌≡◌, ◌≢◌, Ok, IfErr, IfOk, List, map};
+ghost use Rattle.std.specs.Prelude.{◌≡◌, ◌≢◌, Ok, IfErr, IfOk, map};
+ghost use Rattle.capnp_device.specs.declared.error.ErrorKind.TheVariants.{OutOfMemory};
 ghost use Rattle.capnp_base.specs.Types.{list_depth};
-ghost use Rattle.capnp_schema.specs.Meta.{many, one};
-ghost use Rattle.capnp_schema.specs.Types.{SchemaType, StructType, lists_of, seen_type};
-ghost use Rattle.capnp_dynamic_readers.specs.Seen.{record_seen};
+ghost use Rattle.capnp_schema.specs.Builtin.{zero_word};
+ghost use Rattle.capnp_schema.specs.Meta.{many, meta};
+ghost use Rattle.capnp_schema.specs.Schema.{ListValue, VoidValue};
+ghost use Rattle.capnp_schema.specs.Types.{ListType, SchemaType, StructType, lists_of, seen_type};
+ghost use Rattle.capnp_dynamic_readers.specs.Reads.{pointer_read};
 ghost use Rattle.capnp_sets.specs.Causes.{HasCause, ◌<*>◌};
-ghost use Rattle.capnp_sets.specs.Handles.{AreBrands, IsRecord, values_in};
-ghost use Rattle.capnp_sets.specs.Parts.{struct};
-ghost use Rattle.capnp_sets.specs.Types.{base_type, generic_in, type_of, types};
+ghost use Rattle.capnp_sets.specs.Handles.{IsActive, IsSlot, list_in, record_in, values_in};
+ghost use Rattle.capnp_sets.specs.Parts.{read_at};
+ghost use Rattle.capnp_sets.specs.Types.{base_type, generic_in, type_lists, type_of, types};
 
 use crate::numbers::{u16_at, u32_at};
-use crate::parts::{BRAND, TYPE, list_of, struct_of};
-use crate::rows::{Context, FromPart, all_read};
+use crate::parts::{BRAND, TYPE, is_no_list, list_at};
+use crate::rows::{Context, FromRecord, MOST_ROOM, all_read};
 use capnp_base::introspect::{RawBrandedStructSchema, RawEnumSchema, Type, TypeVariant};
-use capnp_dynamic_readers::dynamic_value::Reader as Value;
-use capnp_dynamic_readers::{dynamic_list, dynamic_struct};
 use capnp_wire::error::{Error, ErrorKind, Result};
+use capnp_wire::size::ElementSize;
+use capnp_wire::{ListReader, PointerReader, StructReader};
 
 /// The node of a brand, 0 past the last brand.
-fn generic_of(brands: dynamic_list::Reader<'_>, number: u32) -> Result<u32>
-    requires { AreBrands brands }
-    ensures read { IfOk result (λ node. generic_in (values_in brands.entry) number ≡ Ok node) }
-    ensures refused { IfErr result (λ e. HasCause (generic_in (values_in brands.entry) number) e.kind) }
+fn generic_of(brands: &ListReader<'_>, number: u32) -> Result<u32>
+    ensures read { IfOk result (λ node. generic_in (values_in brands.now) number ≡ Ok node) }
+    ensures refused { IfErr result (λ e. HasCause (generic_in (values_in brands.now) number) e.kind) }
 {
     if number >= brands.len() {
         return Ok(0);
     }
-    let part = brands.get(number)?;
-    let record = struct_of(part, BRAND);
-    Ok(u32_at(record, BRAND, 0, 0))
+    let record = brands.get_struct_element(number)?;
+    Ok(u32_at(&record, BRAND, 0, 0))
 }
 
 /// The type of the structs of a brand.
-fn struct_type(brands: dynamic_list::Reader<'_>, number: u32) -> Result<Type>
-    requires { AreBrands brands }
-    ensures read { IfOk result (λ t. Ok (StructType number) <*> generic_in (values_in brands.entry) number ≡ Ok (seen_type t)) }
+fn struct_type(brands: &ListReader<'_>, number: u32) -> Result<Type>
+    ensures read { IfOk result (λ t. Ok (StructType number) <*> generic_in (values_in brands.now) number ≡ Ok (seen_type t)) }
     ensures bare { IfOk result (λ t. list_depth t ≡ 0) }
-    ensures refused { IfErr result (λ e. HasCause (Ok (StructType number) <*> generic_in (values_in brands.entry) number) e.kind) }
+    ensures refused { IfErr result (λ e. HasCause (Ok (StructType number) <*> generic_in (values_in brands.now) number) e.kind) }
 {
     let generic = generic_of(brands, number)?;
     Ok(Type::from(TypeVariant::Struct(RawBrandedStructSchema { number, generic })))
 }
 
 /// The type of a base, which is no list.
+#[inline(always)]
 #[tactic(auto, unfolding(crate::specs::Types::base_type))]
-fn base_type(brands: dynamic_list::Reader<'_>, base: u16, number: u32) -> Result<Type>
-    requires { AreBrands brands }
-    ensures read { IfOk result (λ t. base_type (values_in brands.entry) base number ≡ Ok (seen_type t)) }
+fn base_type(brands: &ListReader<'_>, base: u16, number: u32) -> Result<Type>
+    ensures read { IfOk result (λ t. base_type (values_in brands.now) base number ≡ Ok (seen_type t)) }
     ensures bare { IfOk result (λ t. list_depth t ≡ 0) }
-    ensures refused { IfErr result (λ e. HasCause (base_type (values_in brands.entry) base number) e.kind) }
+    ensures refused { IfErr result (λ e. HasCause (base_type (values_in brands.now) base number) e.kind) }
 {
     if base > 18 {
         return Err(Error {
@@ -88,6 +88,7 @@ fn base_type(brands: dynamic_list::Reader<'_>, base: u16, number: u32) -> Result
 }
 
 /// A type that is no list, with so many lists around it.
+#[inline(always)]
 fn lists_around(inner: Type, count: u16) -> Type
     requires { list_depth inner ≡ 0 }
     ensures { seen_type result ≡ lists_of count (seen_type inner) }
@@ -100,12 +101,11 @@ fn lists_around(inner: Type, count: u16) -> Type
 }
 
 /// The type of a record of a type.
+#[inline(always)]
 #[tactic(auto, unfolding(crate::specs::Types::type_of))]
-fn read_type(brands: dynamic_list::Reader<'_>, reader: dynamic_struct::Reader<'_>) -> Result<Type>
-    requires brands { AreBrands brands }
-    requires record { IsRecord 7 reader }
-    ensures read { IfOk result (λ t. type_of (values_in brands.entry) (record_seen reader.entry) ≡ Ok (seen_type t)) }
-    ensures refused { IfErr result (λ e. HasCause (type_of (values_in brands.entry) (record_seen reader.entry)) e.kind) }
+fn read_type(brands: &ListReader<'_>, reader: &StructReader<'_>) -> Result<Type>
+    ensures read { IfOk result (λ t. type_of (values_in brands.now) (record_in 7 reader.now) ≡ Ok (seen_type t)) }
+    ensures refused { IfErr result (λ e. HasCause (type_of (values_in brands.now) (record_in 7 reader.now)) e.kind) }
 {
     let list_count = u16_at(reader, TYPE, 1, 1, 0);
     let base = u16_at(reader, TYPE, 0, 0, 0);
@@ -114,31 +114,63 @@ fn read_type(brands: dynamic_list::Reader<'_>, reader: dynamic_struct::Reader<'_
     Ok(lists_around(inner, list_count))
 }
 
-impl FromPart for Type {
+impl FromRecord for Type {
     ghost Seen = { SchemaType };
 
     ghost seen = { seen_type };
 
-    ghost part_type = { one 7 };
+    ghost brand = { 7 };
 
-    ghost of_part = { λ brands v. struct (type_of brands) v };
+    ghost of_record = { λ brands r. type_of brands r };
 
-    fn from_part(context: Context<'_>, part: Value<'_>) -> Result<Type> {
-        read_type(context.brands, struct_of(part, TYPE))
+    #[inline(always)]
+    fn from_record(context: &Context<'_>, reader: &StructReader<'_>) -> Result<Type> {
+        read_type(&context.brands, reader)
     }
 }
 
-/// The types of the annotations of a field or enumerant.
-impl FromPart for Vec<Type> {
-    ghost Seen = { List SchemaType };
-
-    ghost seen = { λ types. map seen_type types.items };
-
-    ghost part_type = { many 7 };
-
-    ghost of_part = { λ brands v. types brands v };
-
-    fn from_part(context: Context<'_>, part: Value<'_>) -> Result<Vec<Type>> {
-        all_read(context, list_of(part, TYPE))
+/// The types of the list behind a pointer.
+#[inline(always)]
+fn types_behind(context: &Context<'_>, pointer: &PointerReader<'_>) -> Result<Vec<Type>>
+    ensures read { IfOk result (λ v. types (values_in context.now.brands) (pointer_read meta VoidValue (many 7) pointer.now) ≡ Ok (map seen_type v.items)) }
+    ensures refused { IfErr result (λ e. e.kind ≢ OutOfMemory → HasCause (types (values_in context.now.brands) (pointer_read meta VoidValue (many 7) pointer.now)) e.kind) }
+{
+    if is_no_list(pointer) {
+        return Ok(Vec::new(context.alloc));
     }
+    let elements = pointer.get_list(ElementSize::InlineComposite)?;
+    all_read::<Type>(context, &elements)
+}
+
+/// The types of each list of types: those of the annotations of fields or enumerants.
+fn type_lists(context: &Context<'_>, elements: &ListReader<'_>) -> Result<Vec<Vec<Type>>>
+    ensures read { IfOk result (λ v. type_lists (values_in context.now.brands) (list_in (many 7) elements.now) ≡ Ok (map (λ types. map seen_type types.items) v.items)) }
+    ensures refused { IfErr result (λ e. e.kind ≢ OutOfMemory → HasCause (type_lists (values_in context.now.brands) (list_in (many 7) elements.now)) e.kind) }
+{
+    let count = elements.len();
+    let mut out = Vec::with_capacity(context.alloc, count.min(MOST_ROOM) as usize)?;
+    for index in 0..count {
+        let pointer = elements.get_pointer_element(index);
+        let made = types_behind(context, &pointer)?;
+        out.push(made)?;
+    }
+    Ok(out)
+}
+
+/// The same of the list that a field has.
+#[inline(always)]
+pub(crate) fn type_lists_at(
+    context: &Context<'_>,
+    reader: &StructReader<'_>,
+    brand: u32,
+    index: u16,
+    place: u16,
+) -> Result<Vec<Vec<Type>>>
+    requires field { IsSlot brand index (ListType (many 7)) place (ListValue zero_word) }
+    requires active { IsActive brand index reader.now }
+    ensures read { IfOk result (λ v. type_lists (values_in context.now.brands) (read_at brand index (record_in brand reader.now)) ≡ Ok (map (λ types. map seen_type types.items) v.items)) }
+    ensures refused { IfErr result (λ e. e.kind ≢ OutOfMemory → HasCause (type_lists (values_in context.now.brands) (read_at brand index (record_in brand reader.now))) e.kind) }
+{
+    let elements = list_at(reader, brand, index, place, ElementSize::Pointer)?;
+    type_lists(context, &elements)
 }

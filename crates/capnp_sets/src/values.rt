@@ -1,32 +1,31 @@
 //! Values of defaults and annotations.
 ghost use Rattle.std.specs.Prelude.{◌≡◌, ◌≢◌, ◌<◌, ◌≤◌, Ok, Some, IfErr, IfOk};
 ghost use Rattle.capnp_device.specs.declared.error.ErrorKind.TheVariants.{OutOfMemory};
+ghost use Rattle.capnp_schema.specs.Builtin.{zero_word};
 ghost use Rattle.capnp_schema.specs.Meta.{one};
-ghost use Rattle.capnp_schema.specs.Schema.{Annotation, seen_annotation, seen_value};
+ghost use Rattle.capnp_schema.specs.Schema.{Annotation, StructValue, seen_annotation, seen_value};
 ghost use Rattle.capnp_records.specs.Part.{which_of};
-ghost use Rattle.capnp_dynamic_readers.specs.Seen.{record_seen};
 ghost use Rattle.capnp_sets.specs.Causes.{HasCause};
-ghost use Rattle.capnp_sets.specs.Handles.{IsActive, IsField, IsRecord};
+ghost use Rattle.capnp_sets.specs.Handles.{IsActive, IsSlot, record_in};
 ghost use Rattle.capnp_sets.specs.Parts.{read_at, struct};
 ghost use Rattle.capnp_sets.specs.Values.{annotation_of, list_value, value_by, value_of};
 
 use crate::numbers::{bool_at, i8_at, i16_at, i32_at, i64_at, u8_at, u16_at, u32_at, u64_at};
-use crate::parts::{ANNOTATION, VALUE, active_member, data_at, struct_at, struct_of, text_at};
-use crate::rows::{Context, FromPart};
-use capnp_dynamic_readers::dynamic_struct;
-use capnp_dynamic_readers::dynamic_value::Reader as Value;
+use crate::parts::{ANNOTATION, VALUE, data_at, struct_at, text_at, value_member};
+use crate::rows::{Context, FromRecord};
 use capnp_schema::record::{AnnotationRecord, ValueRecord};
+use capnp_wire::StructReader;
 use capnp_wire::error::{Error, ErrorKind, Result};
 use std::alloc::Global;
 
 /// The value of a member that is a number.
+#[inline(always)]
 #[tactic(auto, unfolding(crate::specs::Values::value_by))]
-fn number_value(reader: dynamic_struct::Reader<'_>, member: u16) -> Result<ValueRecord>
-    requires record { IsRecord 5 reader }
-    requires active { which_of (record_seen reader) ≡ Some member }
+fn number_value(reader: &StructReader<'_>, member: u16) -> Result<ValueRecord>
+    requires active { which_of (record_in 5 reader.now) ≡ Some member }
     requires number { member < 11 }
-    ensures read { IfOk result (λ v. value_by (Some member) (record_seen reader.entry) ≡ Ok (seen_value v)) }
-    ensures refused { IfErr result (λ e. HasCause (value_by (Some member) (record_seen reader.entry)) e.kind) }
+    ensures read { IfOk result (λ v. value_by (Some member) (record_in 5 reader.now) ≡ Ok (seen_value v)) }
+    ensures refused { IfErr result (λ e. HasCause (value_by (Some member) (record_in 5 reader.now)) e.kind) }
 {
     match member {
         0 => Ok(ValueRecord::Void),
@@ -65,16 +64,11 @@ fn copied(alloc: Global, bytes: &[u8]) -> Result<Vec<u8>>
 
 /// The value of a member that stands behind a pointer.
 #[tactic(auto, unfolding(crate::specs::Values::value_by))]
-fn pointer_value(
-    alloc: Global,
-    reader: dynamic_struct::Reader<'_>,
-    member: u16,
-) -> Result<ValueRecord>
-    requires record { IsRecord 5 reader }
-    requires active { which_of (record_seen reader) ≡ Some member }
+fn pointer_value(alloc: Global, reader: &StructReader<'_>, member: u16) -> Result<ValueRecord>
+    requires active { which_of (record_in 5 reader.now) ≡ Some member }
     requires pointer { 11 ≤ member }
-    ensures read { IfOk result (λ v. value_by (Some member) (record_seen reader.entry) ≡ Ok (seen_value v)) }
-    ensures refused { IfErr result (λ e. e.kind ≢ OutOfMemory → HasCause (value_by (Some member) (record_seen reader.entry)) e.kind) }
+    ensures read { IfOk result (λ v. value_by (Some member) (record_in 5 reader.now) ≡ Ok (seen_value v)) }
+    ensures refused { IfErr result (λ e. e.kind ≢ OutOfMemory → HasCause (value_by (Some member) (record_in 5 reader.now)) e.kind) }
 {
     if member > 14 {
         return Err(Error {
@@ -82,31 +76,31 @@ fn pointer_value(
         });
     }
     if member == 11 {
-        let text = text_at(reader, VALUE, 11)?;
+        let text = text_at(reader, VALUE, 11, 0)?;
         let letters = copied(alloc, text)?;
         return Ok(ValueRecord::Text(letters));
     }
     if member == 12 {
-        let data = data_at(reader, VALUE, 12)?;
+        let data = data_at(reader, VALUE, 12, 0)?;
         let bytes = copied(alloc, data)?;
         return Ok(ValueRecord::Data(bytes));
     }
     if member == 13 {
-        let inner = data_at(reader, VALUE, 13)?;
+        let inner = data_at(reader, VALUE, 13, 0)?;
         let words = copied(alloc, inner)?;
         return Ok(ValueRecord::Struct(words));
     }
-    let elements = data_at(reader, VALUE, 14)?;
+    let elements = data_at(reader, VALUE, 14, 0)?;
     list_words(alloc, elements)
 }
 
 /// The value of a record of a value.
-fn read_value(alloc: Global, reader: dynamic_struct::Reader<'_>) -> Result<ValueRecord>
-    requires { IsRecord 5 reader }
-    ensures read { IfOk result (λ v. value_of (record_seen reader.entry) ≡ Ok (seen_value v)) }
-    ensures refused { IfErr result (λ e. e.kind ≢ OutOfMemory → HasCause (value_of (record_seen reader.entry)) e.kind) }
+#[inline(always)]
+fn read_value(alloc: Global, reader: &StructReader<'_>) -> Result<ValueRecord>
+    ensures read { IfOk result (λ v. value_of (record_in 5 reader.now) ≡ Ok (seen_value v)) }
+    ensures refused { IfErr result (λ e. e.kind ≢ OutOfMemory → HasCause (value_of (record_in 5 reader.now)) e.kind) }
 {
-    let Some(member) = active_member(reader) else {
+    let Some(member) = value_member(reader) else {
         return Err(Error {
             kind: ErrorKind::UnknownKind,
         });
@@ -118,44 +112,44 @@ fn read_value(alloc: Global, reader: dynamic_struct::Reader<'_>) -> Result<Value
 }
 
 /// The value that a field has.
+#[inline(always)]
 pub(crate) fn value_at(
     alloc: Global,
-    reader: dynamic_struct::Reader<'_>,
+    reader: &StructReader<'_>,
     brand: u32,
     index: u16,
+    place: u16,
 ) -> Result<ValueRecord>
-    requires record { IsRecord brand reader }
-    requires field { IsField brand index (one 5) }
-    requires active { IsActive brand index reader }
-    ensures read { IfOk result (λ v. struct value_of (read_at brand index (record_seen reader.entry)) ≡ Ok (seen_value v)) }
-    ensures refused { IfErr result (λ e. e.kind ≢ OutOfMemory → HasCause (struct value_of (read_at brand index (record_seen reader.entry))) e.kind) }
+    requires field { IsSlot brand index (one 5) place (StructValue zero_word) }
+    requires active { IsActive brand index reader.now }
+    ensures read { IfOk result (λ v. struct value_of (read_at brand index (record_in brand reader.now)) ≡ Ok (seen_value v)) }
+    ensures refused { IfErr result (λ e. e.kind ≢ OutOfMemory → HasCause (struct value_of (read_at brand index (record_in brand reader.now))) e.kind) }
 {
-    let record = struct_at(reader, brand, index, VALUE)?;
-    read_value(alloc, record)
+    let record = struct_at(reader, brand, index, place, VALUE)?;
+    read_value(alloc, &record)
 }
 
 /// An annotation of a record of one.
 #[tactic(auto, unfolding(crate::specs::Values::annotation_of))]
-fn read_annotation(alloc: Global, reader: dynamic_struct::Reader<'_>) -> Result<AnnotationRecord>
-    requires { IsRecord 4 reader }
-    ensures read { IfOk result (λ a. annotation_of (record_seen reader.entry) ≡ Ok (seen_annotation a)) }
-    ensures refused { IfErr result (λ e. e.kind ≢ OutOfMemory → HasCause (annotation_of (record_seen reader.entry)) e.kind) }
+fn read_annotation(alloc: Global, reader: &StructReader<'_>) -> Result<AnnotationRecord>
+    ensures read { IfOk result (λ a. annotation_of (record_in 4 reader.now) ≡ Ok (seen_annotation a)) }
+    ensures refused { IfErr result (λ e. e.kind ≢ OutOfMemory → HasCause (annotation_of (record_in 4 reader.now)) e.kind) }
 {
     let id = u64_at(reader, ANNOTATION, 0, 0);
-    let value = value_at(alloc, reader, ANNOTATION, 1)?;
+    let value = value_at(alloc, reader, ANNOTATION, 1, 0)?;
     Ok(AnnotationRecord { id, value })
 }
 
-impl FromPart for AnnotationRecord {
+impl FromRecord for AnnotationRecord {
     ghost Seen = { Annotation };
 
     ghost seen = { seen_annotation };
 
-    ghost part_type = { one 4 };
+    ghost brand = { 4 };
 
-    ghost of_part = { λ _ v. struct annotation_of v };
+    ghost of_record = { λ _ r. annotation_of r };
 
-    fn from_part(context: Context<'_>, part: Value<'_>) -> Result<AnnotationRecord> {
-        read_annotation(context.alloc, struct_of(part, ANNOTATION))
+    fn from_record(context: &Context<'_>, reader: &StructReader<'_>) -> Result<AnnotationRecord> {
+        read_annotation(context.alloc, reader)
     }
 }

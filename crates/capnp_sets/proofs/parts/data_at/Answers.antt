@@ -1,18 +1,14 @@
-use Rattle.std.proofs.Common.{ap, refl, sym, ◌∙◌}
-use Rattle.capnp_schema.specs.Meta.{meta}
-use Rattle.capnp_schema.specs.Schema.{field_at}
-use Rattle.capnp_schema.specs.Types.{DataType}
-use Rattle.capnp_dynamic_readers.specs.Seen.{value_seen}
-use Rattle.capnp_sets.specs.Parts.{blob}
-use Rattle.capnp_sets.proofs.Faults.{fault_blob}
-use Rattle.capnp_sets.proofs.Taken.{kind_is}
+use Rattle.capnp_sets.specs.Handles.{record_in}
+use Rattle.capnp_sets.specs.Parts.{read_at}
+use Rattle.capnp_sets.proofs.PointersSeen.{data_refused, data_taken, data_there}
 use Rattle.capnp_sets.proofs.parts.data_at.Goals as goal
 
-pub downcast-requires : goal.downcast-requires
-downcast-requires c = λ k. ((refl, tt), kind_is meta (field_at meta c.args.brand c.args.index).type DataType c.in-Ok.value c.in-Ok.ensures.typed c.requires.field.1)
+pub returns-clause-read : goal.returns-clause-read
+returns-clause-read c =
+    data_taken c.get_data.result (read_at c.args.brand c.args.index (record_in c.args.brand c.args.reader.now))
+    (data_there c.args.reader.now c.args.brand c.args.index c.requires.active c.get_pointer_field.result c.args.place c.get_pointer_field.ensures.tree c.get_pointer_field.ensures.levels c.requires.field c.get_data.result c.get_data.ensures)
 
-pub returns-in-Ok-clause-read : goal.returns-in-Ok-clause-read
-returns-in-Ok-clause-read c = sym (ap blob (ap value_seen c.downcast.ensures ∙ c.in-Ok.ensures.value))
-
-pub returns-in-Err-clause-refused : goal.returns-in-Err-clause-refused
-returns-in-Err-clause-refused c = fault_blob _ _ c.in-Err.ensures.value
+pub returns-clause-refused : goal.returns-clause-refused
+returns-clause-refused c =
+    data_refused c.get_data.result (read_at c.args.brand c.args.index (record_in c.args.brand c.args.reader.now))
+    (data_there c.args.reader.now c.args.brand c.args.index c.requires.active c.get_pointer_field.result c.args.place c.get_pointer_field.ensures.tree c.get_pointer_field.ensures.levels c.requires.field c.get_data.result c.get_data.ensures)

@@ -1,15 +1,14 @@
-use Rattle.std.proofs.Common.{ap, refl, ◌∙◌}
-use Rattle.capnp_schema.specs.Meta.{meta, one}
-use Rattle.capnp_schema.specs.Schema.{field_at}
-use Rattle.capnp_dynamic_readers.specs.Seen.{value_seen}
-use Rattle.capnp_sets.proofs.Taken.{kind_is, record_under}
+use Rattle.capnp_sets.specs.Handles.{record_in}
+use Rattle.capnp_sets.specs.Parts.{read_at}
+use Rattle.capnp_sets.proofs.PointersSeen.{struct_refused, struct_taken, struct_there}
 use Rattle.capnp_sets.proofs.parts.struct_at.Goals as goal
 
-pub downcast-requires : goal.downcast-requires
-downcast-requires c = λ k. ((refl, tt), kind_is meta (field_at meta c.args.brand c.args.index).type (one c.args.inner) c.in-Ok.value c.in-Ok.ensures.typed c.requires.field.1)
+pub returns-clause-read : goal.returns-clause-read
+returns-clause-read c =
+    struct_taken c.args.inner c.get_struct.result (read_at c.args.brand c.args.index (record_in c.args.brand c.args.reader.now))
+    (struct_there c.args.reader.now c.args.brand c.args.index c.requires.active c.get_pointer_field.result c.args.place c.get_pointer_field.ensures.tree c.get_pointer_field.ensures.levels c.args.inner c.requires.field c.get_struct.result c.get_struct.ensures.read c.get_struct.ensures.levels)
 
-pub returns-in-Ok-clause-read : goal.returns-in-Ok-clause-read
-returns-in-Ok-clause-read c = ap value_seen c.downcast.ensures ∙ c.in-Ok.ensures.value
-
-pub returns-in-Ok-clause-record : goal.returns-in-Ok-clause-record
-returns-in-Ok-clause-record c = record_under c.in-Ok.value c.downcast.result c.args.inner c.in-Ok.ensures.typed c.downcast.ensures c.requires.field.1
+pub returns-clause-refused : goal.returns-clause-refused
+returns-clause-refused c =
+    struct_refused c.args.inner c.get_struct.result (read_at c.args.brand c.args.index (record_in c.args.brand c.args.reader.now))
+    (struct_there c.args.reader.now c.args.brand c.args.index c.requires.active c.get_pointer_field.result c.args.place c.get_pointer_field.ensures.tree c.get_pointer_field.ensures.levels c.args.inner c.requires.field c.get_struct.result c.get_struct.ensures.read c.get_struct.ensures.levels)

@@ -1,0 +1,172 @@
+-- What stands behind a pointer, as a text, data, struct or list, is the read of the pointer's value, where the slot's default is
+-- empty or leads nowhere.
+use Rattle.std.proofs.Common.{ℕ, ◌+◌, ◌-◌, ◌≡◌, ◌∙◌, arith, ap, ap₂, refl, sym, List, [], Bool, true, false, ◌==◌, cond, Result, Ok, Err, IfOk}
+use Rattle.capnp_device.specs.declared.error.Error.{Error}
+use Rattle.capnp_device.specs.declared.error.ErrorKind.{ErrorKind}
+use Rattle.capnp_device.specs.declared.error.ErrorKind.TheVariants.{TooDeep}
+use Rattle.capnp_wire.specs.Place.{tree_at}
+use Rattle.capnp_wire.specs.Reading.{as_data, as_list, as_struct, as_text, empty_list, is_null_tree}
+use Rattle.capnp_wire.specs.Standing.{list_levels, list_of, list_read, struct_levels, struct_of, struct_read}
+use Rattle.capnp_wire.specs.Tree as tree
+use Rattle.capnp_wire.specs.Tree.{StructTree, Tree}
+use Rattle.capnp_wire.specs.declared.list_reader.ListReader.{ListReader}
+use Rattle.capnp_wire.specs.declared.size.ElementSize.{ElementSize}
+use Rattle.capnp_wire.specs.declared.size.ElementSize.TheVariants as size
+use Rattle.capnp_wire.specs.declared.struct_reader.StructReader.{StructReader}
+use Rattle.capnp_schema.specs.Builtin.{zero_word}
+use Rattle.capnp_schema.specs.Meta.{meta, one}
+use Rattle.capnp_schema.specs.Schema.{DataValue, ListValue, StructValue, TextValue, VoidValue}
+use Rattle.capnp_schema.specs.Schema.{Value as SchemaValue}
+use Rattle.capnp_schema.specs.Types.{DataType, ListType, SchemaType, TextType, element_size}
+use Rattle.capnp_records.specs.Default.{default_record, default_value, read_of}
+use Rattle.capnp_records.specs.Facts.DefaultTree.{read-there}
+use Rattle.capnp_records.specs.Facts.ListValues.{below_of}
+use Rattle.capnp_records.specs.Facts.Readers.{data-read, list-value, null-is, struct-read, text-read, value-there}
+use Rattle.capnp_records.specs.Reading.{elements_value, entered, of_read, struct_record, value_of}
+use Rattle.capnp_records.specs.Record as value
+use Rattle.capnp_records.specs.Record.{Left, Levels, NoValues, Value, one_less}
+use Rattle.capnp_dynamic_readers.specs.Behind.{list_answered, struct_answered}
+
+-- a value that is there, and a null
+there : (d : SchemaValue) (t : SchemaType) (x : Tree) (l : Levels) → is_null_tree x ≡ false → read_of meta d t (value_of meta x l t) ≡ value_of meta x l t
+there d t x l h = read-there meta d t (value_of meta x l t) (value-there meta x l t h)
+
+missing : (d : SchemaValue) (t : SchemaType) (x : Tree) (l : Levels) → is_null_tree x ≡ true → read_of meta d t (value_of meta x l t) ≡ default_value meta l d t
+missing d t x l h = ap (λ y. read_of meta d t (value_of meta y l t)) (null-is x h)
+
+-- ---- levels and answers ----
+
+entered-ok : {X : Type 0} (q : Bool) (x y : X) (k : ErrorKind) → Ok x ≡ cond q (Err k) (Ok y) → x ≡ y
+entered-ok true x y k e = cc
+entered-ok false x y k e = cc
+
+never-ok : {X : Type 0} (q : Bool) (x : X) (k j : ErrorKind) → Ok x ≡ cond q (Err k) (Err j) → ⊥
+never-ok true x k j e = cc
+never-ok false x k j e = cc
+
+ok-if : {X : Type 0} (q p : Bool) (x y : X) (k j : ErrorKind) → Ok x ≡ cond q (Err k) (cond p (Ok y) (Err j)) → x ≡ y
+ok-if true p x y k j e = cc
+ok-if false true x y k j e = cc
+ok-if false false x y k j e = cc
+
+refused-entered : {X : Type 0} (q : Bool) (k : ErrorKind) (y : X) (v : Value) → Err k ≡ cond q (Err TooDeep) (Ok y) → value.Fault k ≡ (elim q as (λ _. Value) [ true ↦ value.Fault TooDeep | false ↦ v ])
+refused-entered true k y v e = cc
+refused-entered false k y v e = cc
+
+pub entered-some : (n m : ℕ) (v : Value) → m + 1 ≡ n → entered (Left n) v ≡ v
+entered-some n m v e = ap (λ q. elim q as (λ _. Value) [ true ↦ value.Fault TooDeep | false ↦ v ]) (not-zero n m e)
+  where
+    not-zero : (n m : ℕ) → m + 1 ≡ n → (n == 0) ≡ false
+    not-zero n m e = grind (arith, e)
+
+-- what is read both as data and as a struct is null
+pub only_null : (x : Tree) (n : ℕ) (bytes : List ℕ) (s : StructTree) → Ok bytes ≡ as_data x → Ok s ≡ as_struct x n → x ≡ tree.Null
+only_null tree.Null n bytes s e h = refl
+only_null (tree.Numbers w b) n bytes s e h = absurd (never-ok (n == 0) _ _ _ h)
+only_null x n bytes s e h = cc
+
+-- ---- texts and data ----
+
+pub text_met : (x : Tree) (l : Levels) (r : Result (List ℕ) ErrorKind) → r ≡ as_text x → of_read value.Text r ≡ read_of meta (TextValue []) TextType (value_of meta x l TextType)
+text_met x l r e = go (is_null_tree x) refl
+  where
+    go : (q : Bool) → is_null_tree x ≡ q → of_read value.Text r ≡ read_of meta (TextValue []) TextType (value_of meta x l TextType)
+    go true h = ap (of_read value.Text) e ∙ (ap (λ y. of_read value.Text (as_text y)) (null-is x h) ∙ ap (λ y. read_of meta (TextValue []) TextType (value_of meta y l TextType)) (sym (null-is x h)))
+    go false h = ap (of_read value.Text) e ∙ (sym (text-read meta x l h) ∙ sym (there (TextValue []) TextType x l h))
+
+pub data_met : (x : Tree) (l : Levels) (r : Result (List ℕ) ErrorKind) → r ≡ as_data x → of_read value.Data r ≡ read_of meta (DataValue []) DataType (value_of meta x l DataType)
+data_met x l r e = go (is_null_tree x) refl
+  where
+    go : (q : Bool) → is_null_tree x ≡ q → of_read value.Data r ≡ read_of meta (DataValue []) DataType (value_of meta x l DataType)
+    go true h = ap (of_read value.Data) e ∙ (ap (λ y. of_read value.Data (as_data y)) (null-is x h) ∙ ap (λ y. read_of meta (DataValue []) DataType (value_of meta y l DataType)) (sym (null-is x h)))
+    go false h = ap (of_read value.Data) e ∙ (sym (data-read meta x l h) ∙ sym (there (DataValue []) DataType x l h))
+
+-- ---- structs ----
+
+null_struct : (b : ℕ) (l : Levels) → default_value meta l (StructValue zero_word) (one b) ≡ entered l (value.Struct (default_record meta (one_less l) b))
+unfolding tree_at
+null_struct b l = refl
+
+module _ (b : ℕ) (x : Tree) (n : ℕ) where
+  abbrev struct_seen : Value
+  struct_seen = read_of meta (StructValue zero_word) (one b) (value_of meta x (Left n) (one b))
+
+  struct-null : is_null_tree x ≡ true → struct_seen ≡ entered (Left n) (value.Struct (default_record meta (Left (n - 1)) b))
+  struct-null h = missing (StructValue zero_word) (one b) x (Left n) h ∙ null_struct b (Left n)
+
+  struct-as : is_null_tree x ≡ false → struct_seen ≡ of_read (λ (s : StructTree). value.Struct (struct_record meta (Left (n - 1)) s b)) (as_struct x n)
+  struct-as h = there (StructValue zero_word) (one b) x (Left n) h ∙ struct-read meta x (Left n) b b h
+
+  struct-fault : (k : ErrorKind) → Err k ≡ as_struct x n → (q : Bool) → is_null_tree x ≡ q → value.Fault k ≡ struct_seen
+  struct-fault k e true h = refused-entered (n == 0) k _ _ (e ∙ ap (λ y. as_struct y n) (null-is x h)) ∙ sym (struct-null h)
+  struct-fault k e false h = ap (of_read (λ (s : StructTree). value.Struct (struct_record meta (Left (n - 1)) s b))) e ∙ sym (struct-as h)
+
+  struct-there : (s : StructTree) (m : ℕ) → Ok s ≡ as_struct x n → m + 1 ≡ n → (q : Bool) → is_null_tree x ≡ q → value.Struct (struct_record meta (Left m) s b) ≡ struct_seen
+  struct-there s m e levels true h =
+      ap₂ (λ k (y : StructTree). value.Struct (struct_record meta (Left k) y b)) (omega (arith, levels)) (entered-ok (n == 0) _ _ _ (e ∙ ap (λ y. as_struct y n) (null-is x h)))
+      ∙ (sym (entered-some n m _ levels) ∙ sym (struct-null h))
+  struct-there s m e levels false h =
+      ap (λ k. value.Struct (struct_record meta (Left k) s b)) (omega (arith, levels))
+      ∙ (ap (of_read (λ (y : StructTree). value.Struct (struct_record meta (Left (n - 1)) y b))) e ∙ sym (struct-as h))
+
+  pub struct_met : (r : Result StructReader Error) → struct_read r ≡ as_struct x n → IfOk r (λ s. struct_levels s + 1 ≡ n) → struct_answered meta b r ≡ struct_seen
+  struct_met (Ok s) e levels = struct-there (struct_of s) (struct_levels s) e levels (is_null_tree x) refl
+  struct_met (Err f) e levels = struct-fault f.kind e (is_null_tree x) refl
+
+-- ---- lists ----
+
+-- a default of a list that leads nowhere
+abbrev pub IsNoList : SchemaValue → SchemaType → Type 0
+IsNoList d t = (l : Levels) → default_value meta l d (ListType t) ≡ entered l (value.Elements NoValues)
+
+pub null_list : (t : SchemaType) → IsNoList (ListValue zero_word) t
+unfolding tree_at
+null_list t l = refl
+
+pub no_default : (t : SchemaType) → IsNoList VoidValue t
+no_default t l = refl
+
+list-same : (s : ElementSize) (x y : Tree) (n : ℕ) → is_null_tree x ≡ false → Ok y ≡ as_list s x n → y ≡ x
+list-same s tree.Null y n h e = cc
+list-same s (tree.Struct bytes ps) y n h e = absurd (never-ok (n == 0) _ _ _ e)
+list-same s (tree.Voids m) y n h e = ok-if (n == 0) _ _ _ _ _ e
+list-same s (tree.Bits bs) y n h e = ok-if (n == 0) _ _ _ _ _ e
+list-same s (tree.Numbers w bytes) y n h e = ok-if (n == 0) _ _ _ _ _ e
+list-same s (tree.Pointers ps) y n h e = ok-if (n == 0) _ _ _ _ _ e
+list-same s (tree.Composite m p es) y n h e = ok-if (n == 0) _ _ _ _ _ e
+list-same s (tree.FaultLeaf k) y n h e = cc
+
+no-elements : (l : Levels) (e : SchemaType) (s : ElementSize) → elements_value meta (empty_list s) (below_of meta (empty_list s)) l e ≡ value.Elements NoValues
+no-elements l e size.Void = refl
+no-elements l e s = refl
+
+module _ (t : SchemaType) (s : ElementSize) (sized : element_size t ≡ s) (d : SchemaValue) (none : IsNoList d t) (x : Tree) (n : ℕ) where
+  abbrev list_seen : Value
+  list_seen = read_of meta d (ListType t) (value_of meta x (Left n) (ListType t))
+
+  list-null : is_null_tree x ≡ true → list_seen ≡ entered (Left n) (value.Elements NoValues)
+  list-null h = missing d (ListType t) x (Left n) h ∙ none (Left n)
+
+  list-as : is_null_tree x ≡ false → list_seen ≡ of_read (λ (_ : Tree). elements_value meta x (below_of meta x) (Left (n - 1)) t) (as_list s x n)
+  list-as h =
+      there d (ListType t) x (Left n) h
+      ∙ (list-value meta x (Left n) t h ∙ ap (λ z. of_read (λ (_ : Tree). elements_value meta x (below_of meta x) (Left (n - 1)) t) (as_list z x n)) sized)
+
+  list-fault : (k : ErrorKind) → Err k ≡ as_list s x n → (q : Bool) → is_null_tree x ≡ q → value.Fault k ≡ list_seen
+  list-fault k e true h = refused-entered (n == 0) k _ _ (e ∙ ap (λ y. as_list s y n) (null-is x h)) ∙ sym (list-null h)
+  list-fault k e false h = ap (of_read (λ (_ : Tree). elements_value meta x (below_of meta x) (Left (n - 1)) t)) e ∙ sym (list-as h)
+
+  list-there : (y : Tree) (m : ℕ) → Ok y ≡ as_list s x n → m + 1 ≡ n → (q : Bool) → is_null_tree x ≡ q → elements_value meta y (below_of meta y) (Left m) t ≡ list_seen
+  list-there y m e levels true h =
+      ap (λ v. elements_value meta v (below_of meta v) (Left m) t) (entered-ok (n == 0) _ _ _ (e ∙ ap (λ z. as_list s z n) (null-is x h)))
+      ∙ (no-elements (Left m) t s ∙ (sym (entered-some n m _ levels) ∙ sym (list-null h)))
+  list-there y m e levels false h =
+      ap₂ (λ k v. elements_value meta v (below_of meta v) (Left k) t) (omega (arith, levels)) (list-same s x y n h e)
+      ∙ (ap (of_read (λ (_ : Tree). elements_value meta x (below_of meta x) (Left (n - 1)) t)) e ∙ sym (list-as h))
+
+  pub list_met : (r : Result ListReader Error) → list_read r ≡ as_list s x n → IfOk r (λ l. list_levels l + 1 ≡ n) → list_answered meta t r ≡ list_seen
+  list_met (Ok l) e levels = list-there (list_of l) (list_levels l) e levels (is_null_tree x) refl
+  list_met (Err f) e levels = list-fault f.kind e (is_null_tree x) refl
+
+  pub list_unmet : (k : ErrorKind) → Err k ≡ as_list s x n → value.Fault k ≡ list_seen
+  list_unmet k e = list-fault k e (is_null_tree x) refl
