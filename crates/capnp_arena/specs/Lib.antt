@@ -1,0 +1,4 @@
+pub mod Shape
+pub mod Forest
+pub mod Made
+pub mod Segment

@@ -1,0 +1,20 @@
+-- What is made at the end of a segment.
+use Rattle.std.specs.Prelude.{ℕ, suc, ◌+◌, ◌-◌, ◌*◌, ◌^◌, ◌<◌, ◌≡◌, ◌==◌, cond, List, ◌++◌, length, replicate}
+use Rattle.capnp_wire.specs.Encoding.{spelled, struct_word}
+use Rattle.capnp_wire.specs.Filling.{put}
+use Rattle.capnp_arena.specs.Shape.{word_count}
+
+-- so many words of zeros were added at the end, and a pointer word was put
+pub record IsMade (old new : List ℕ) (words at word : ℕ) : Type 0 where
+  pub whole : length old ≡ 8 * word_count old
+  pub inside : at < word_count old
+  pub few : word_count old + words < 2 ^ 29
+  pub is : new ≡ put (8 * at) (spelled 8 word) (old ++ replicate (8 * words) 0)
+
+-- a struct that is made at an end, for the pointer at a word: where it starts, and the pointer; one of size zero lies at
+-- its pointer, which is not null
+abbrev pub struct_start : (end at words : ℕ) → ℕ
+struct_start end at words = cond (words == 0) at end
+
+abbrev pub struct_pointer : (end at data_words pointers : ℕ) → ℕ
+struct_pointer end at d p = cond (d + p == 0) (struct_word (2 ^ 30 - 1) 0 0) (struct_word (end - suc at) d p)

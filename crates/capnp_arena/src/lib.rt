@@ -1,0 +1,6 @@
+//! Messages in memory, as one segment of words that grows.
+#![tactic(auto)]
+
+pub mod arena;
+pub mod callers;
+mod spell;
