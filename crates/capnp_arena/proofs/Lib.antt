@@ -9,3 +9,4 @@ pub mod Made
 pub mod Written
 pub mod Laws
 pub mod Rows
+pub mod NewLists

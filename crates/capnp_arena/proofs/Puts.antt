@@ -1,8 +1,9 @@
 -- Words of bytes in which others are put, or that are made longer.
-use Rattle.std.proofs.Common.{◌≡◌, ℕ, suc, ◌+◌, ◌-◌, ◌*◌, ◌≤◌, sym, ap, ◌∙◌, arith, List, ◌++◌, length, take, drop, replicate}
+use Rattle.std.proofs.Common.{refl, ◌≡◌, ℕ, suc, ◌+◌, ◌-◌, ◌*◌, ◌≤◌, sym, ap, ◌∙◌, arith, List, ◌++◌, length, take, drop, replicate}
 use Rattle.std.proofs.lemmas.List.{append_assoc, take_at, drop_at, drop-drop, drop-take, take-take, take-append-le, drop-append-le, length-append, length-drop, length-take-le, drop-replicate, take-replicate}
 use Rattle.capnp_wire.specs.Place.{bytes_at}
 use Rattle.capnp_wire.specs.Filling.{put}
+use Rattle.capnp_wire.proofs.Filling.{put_after}
 use Rattle.capnp_arena.specs.Forest.{IsSame}
 
 -- a word before
@@ -43,13 +44,18 @@ longer_same b c k h =
     ap (take 8) (drop-append-le (8 * k) b c (omega (arith, h)))
     ∙ take-append-le 8 (drop (8 * k) b) c (omega (arith, h, length-drop (8 * k) b))
 
--- zeros that are added
-pub zeros_there : (b : List ℕ) (m n a c : ℕ) → length b ≡ 8 * m → m ≤ a → 8 * a + c ≤ 8 * (m + n) → bytes_at (b ++ replicate (8 * n) 0) a c ≡ replicate c 0
-zeros_there b m n a c e l h =
+-- what is added
+pub added_there : (b c : List ℕ) (m a n : ℕ) → length b ≡ 8 * m → m ≤ a → bytes_at (b ++ c) a n ≡ bytes_at c (a - m) n
+added_there b c m a n e l =
     let q : 8 * m + 8 * (a - m) ≡ 8 * a = omega (arith, l) in
-    let r : 8 * n - 8 * (a - m) ≡ 8 * (n - (a - m)) = omega arith in
-    ap (λ i. take c (drop i (b ++ replicate (8 * n) 0))) (sym q)
-    ∙ ap (take c) (sym (drop-drop (8 * (a - m)) (8 * m) (b ++ replicate (8 * n) 0)))
-    ∙ ap (λ z. take c (drop (8 * (a - m)) z)) (drop_at b (replicate (8 * n) 0) (8 * m) e)
-    ∙ ap (take c) (drop-replicate (8 * (a - m)) (8 * n) 0)
-    ∙ take-replicate c (8 * n - 8 * (a - m)) 0 (omega (arith, l, h))
+    ap (λ i. take n (drop i (b ++ c))) (sym q)
+    ∙ ap (take n) (sym (drop-drop (8 * (a - m)) (8 * m) (b ++ c)))
+    ∙ ap (λ z. take n (drop (8 * (a - m)) z)) (drop_at b c (8 * m) e)
+
+-- a part of zeros
+pub zeros_part : (k a n : ℕ) → 8 * a + n ≤ k → bytes_at (replicate k 0) a n ≡ replicate n 0
+zeros_part k a n h = ap (take n) (drop-replicate (8 * a) k 0) ∙ take-replicate n (k - 8 * a) 0 (omega (arith, h))
+
+-- bytes put at the start of zeros at the end
+pub put_zeros : (b x : List ℕ) (n : ℕ) → put (length b) x (b ++ replicate n 0) ≡ b ++ (x ++ replicate (n - length x) 0)
+put_zeros b x n = put_after (length b) b (replicate n 0) x refl ∙ ap (λ z. b ++ (x ++ z)) (drop-replicate (length x) n 0)

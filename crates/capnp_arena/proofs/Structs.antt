@@ -1,9 +1,9 @@
 -- Trees of structs by their data and their pointers.
 use Rattle.std.proofs.Common.{◌≡◌, ℕ, zero, suc, ◌+◌, ◌*◌, ◌<◌, ◌≤◌, refl, ap, ◌∙◌, arith, List}
 use Rattle.capnp_wire.specs.Edits.{with_bytes, with_pointer_tree, with_tree}
-use Rattle.capnp_wire.specs.Place.{bytes_at, struct_tree, tree_with_level}
-use Rattle.capnp_wire.specs.Tree.{MoreTrees, Null, StructTree, Tree, trees_from}
-use Rattle.capnp_arena.specs.Shape.{IsPointerOf, StructIn, placed, shape_at}
+use Rattle.capnp_wire.specs.Place.{bytes_at, struct_tree, tree_with_level, list_tree}
+use Rattle.capnp_wire.specs.Tree.{MoreTrees, Null, StructTree, Tree, trees_from, Composite, structs_from}
+use Rattle.capnp_arena.specs.Shape.{IsPointerOf, StructIn, placed, shape_at, CompositeIn, ListIn}
 use Rattle.capnp_arena.specs.Forest.{Changes, Forest, Planted, struct_from, tree}
 use Rattle.capnp_arena.proofs.Calls.{own_same, sibling_tree}
 use Rattle.capnp_arena.proofs.Forests.{tree_step}
@@ -13,6 +13,14 @@ use Rattle.capnp_arena.proofs.Words.{run_same}
 -- a pointer to a struct
 pub tree_struct : (bytes : List ℕ) (w a d p : ℕ) → Forest bytes w → shape_at bytes w ≡ StructIn a d p → tree bytes w ≡ struct_tree (struct_from bytes a d p)
 tree_struct bytes w a d p f e = tree_step bytes w f ∙ ap (λ s. tree_with_level tree tree (placed bytes s)) e
+
+-- to a list that is not composite
+pub tree_list : (bytes : List ℕ) (w a size n : ℕ) → Forest bytes w → shape_at bytes w ≡ ListIn a size n → tree bytes w ≡ list_tree (tree bytes) bytes a size n
+tree_list bytes w a size n f e = tree_step bytes w f ∙ ap (λ s. tree_with_level tree tree (placed bytes s)) e
+
+-- to a composite list
+pub tree_composite : (bytes : List ℕ) (w tag n d p : ℕ) → Forest bytes w → shape_at bytes w ≡ CompositeIn tag n d p → tree bytes w ≡ Composite d p (structs_from (λ i. struct_from bytes (tag + 1 + i * (d + p)) d p) 0 n)
+tree_composite bytes w tag n d p f e = tree_step bytes w f ∙ ap (λ s. tree_with_level tree tree (placed bytes s)) e
 
 -- pointers that are null
 pub null_row : (f : ℕ → Tree) (a b n : ℕ) → ((j : ℕ) → a ≤ j → j < a + n → f j ≡ Null) → trees_from f a n ≡ trees_from (λ _. Null) b n
@@ -33,7 +41,7 @@ row_changed f g a (suc n) (suc k) l h =
     ap (λ t. MoreTrees t (trees_from g (suc a) n)) (h a (omega arith) (omega arith) (λ q. omega (arith, q)))
     ∙ ap (MoreTrees (f a)) (row_changed f g (suc a) n k (omega (arith, l)) (λ j x y z. h j (omega (arith, x)) (omega (arith, y)) (λ q. z (omega (arith, q)))) ∙ ap (λ i. with_tree (trees_from f (suc a) n) k (g i)) e)
 
-two_parts : (s t : StructTree) → s.bytes ≡ t.bytes → s.pointers ≡ t.pointers → s ≡ t
+pub two_parts : (s t : StructTree) → s.bytes ≡ t.bytes → s.pointers ≡ t.pointers → s ≡ t
 two_parts s t e h = ap (λ x. record { bytes = x; pointers = s.pointers }) e ∙ ap (λ x. record { bytes = t.bytes; pointers = x }) h
 
 -- a call at one of its pointers
