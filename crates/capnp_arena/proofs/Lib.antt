@@ -10,3 +10,4 @@ pub mod Written
 pub mod Laws
 pub mod Rows
 pub mod NewLists
+pub mod Elements
