@@ -11,3 +11,5 @@ pub mod Laws
 pub mod Rows
 pub mod NewLists
 pub mod Elements
+pub mod Lookings
+pub mod Counted

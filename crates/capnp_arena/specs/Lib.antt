@@ -2,3 +2,5 @@ pub mod Shape
 pub mod Forest
 pub mod Made
 pub mod Segment
+pub mod Looked
+pub mod Counts

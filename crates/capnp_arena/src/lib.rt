@@ -3,4 +3,7 @@
 
 pub mod arena;
 pub mod callers;
+mod count;
+mod look;
 mod spell;
+mod target;
