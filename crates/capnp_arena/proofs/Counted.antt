@@ -1,14 +1,14 @@
 -- The words of a tree by what its pointer leads to, and the trees below it.
-use Rattle.std.proofs.Common.{◌≡◌, ℕ, zero, suc, ◌+◌, ◌-◌, ◌*◌, ◌/◌, ◌^◌, ◌<◌, ◌≤◌, ◌⊎◌, inl, inr, refl, sym, ap, subst, ◌∙◌, arith, List, length}
+use Rattle.std.proofs.Common.{◌≡◌, ℕ, zero, suc, ◌+◌, ◌-◌, ◌*◌, ◌<◌, ◌≤◌, refl, sym, ap, subst, ◌∙◌, arith, List, length}
 use Rattle.capnp_wire.specs.Facts.Rows.{struct_count-structs_from, tree_count-trees_from}
 use Rattle.capnp_wire.specs.Locate.{list_words}
-use Rattle.capnp_wire.specs.Place.{bits_from, bytes_at, list_tree, struct_tree, tree_with_level}
-use Rattle.capnp_wire.specs.Tree.{Composite, Null, StructTree, Tree, structs_from, trees_from}
+use Rattle.capnp_wire.specs.Place.{bytes_at, list_tree, tree_with_level}
+use Rattle.capnp_wire.specs.Tree.{StructTree, Tree, structs_from, trees_from}
 use Rattle.capnp_wire.specs.Words.{words_below_all, words_of, words_of_all}
 use Rattle.capnp_wire.proofs.Lists.{length-bits_from}
 use Rattle.capnp_arena.specs.Counts.{AreElementForests, AreForests}
 use Rattle.capnp_arena.specs.Forest.{Forest, struct_from, tree}
-use Rattle.capnp_arena.specs.Shape.{CompositeIn, IsPointerOf, ListIn, NoShape, Points, Shape, StructIn, end_of, placed, shape_at, word_count}
+use Rattle.capnp_arena.specs.Shape.{CompositeIn, IsPointerOf, ListIn, NoShape, Shape, StructIn, end_of, placed, shape_at, word_count}
 use Rattle.capnp_arena.proofs.Forests.{child, points, tree_step}
 use Rattle.capnp_arena.proofs.Shapes.{end_inside}
 use Rattle.capnp_arena.proofs.Structs.{tree_composite, tree_list, tree_struct}

@@ -1,16 +1,14 @@
 -- What a call in one struct of a list leaves of the list, and one at a pointer of a list of pointers.
-use Rattle.std.proofs.Common.{◌≡◌, ℕ, zero, suc, ◌+◌, ◌-◌, ◌*◌, ◌/◌, ◌^◌, ◌<◌, ◌≤◌, ◌⊎◌, inl, inr, refl, sym, ap, subst, ◌∙◌, arith, List, length}
+use Rattle.std.proofs.Common.{◌≡◌, ℕ, zero, suc, ◌+◌, ◌*◌, ◌<◌, ◌≤◌, ◌⊎◌, inl, inr, refl, sym, ap, subst, ◌∙◌, arith, List, length}
 use Rattle.std.proofs.lemmas.Bool.{cases_eq}
-use Rattle.capnp_wire.specs.Edits.{with_tree}
 use Rattle.capnp_wire.specs.Elements.{with_pointer_element, with_struct, with_struct_element}
-use Rattle.capnp_wire.specs.Place.{list_tree}
-use Rattle.capnp_wire.specs.Tree.{Composite, MoreStructs, Pointers, StructTree, Structs, Tree, structs_from, trees_from}
-use Rattle.capnp_arena.specs.Shape.{CompositeIn, IsPointerOf, IsTagOf, IsWithin, ListIn, StructIn, shape_at, word_count}
+use Rattle.capnp_wire.specs.Tree.{Composite, Pointers, StructTree, structs_from}
+use Rattle.capnp_arena.specs.Shape.{CompositeIn, IsPointerOf, IsWithin, ListIn, StructIn, shape_at, word_count}
 use Rattle.capnp_arena.specs.Forest.{Changes, Forest, IsSame, OwnedBy, Owns, PartChanges, Planted, struct_from, tree}
 use Rattle.capnp_arena.proofs.Calls.{inner_changes, inner_planted, outer_changes, outer_forest, outer_shape, planted, planted_inside, sibling_tree}
 use Rattle.capnp_arena.proofs.Forests.{forest_kept, owned_inside, owns_back, same_tree}
 use Rattle.capnp_arena.proofs.Levels.{more_structs, structs_same, trees_same}
-use Rattle.capnp_arena.proofs.Shapes.{apart, element_end, pointer_within, tag_within}
+use Rattle.capnp_arena.proofs.Shapes.{element_end, pointer_within, tag_within}
 use Rattle.capnp_arena.proofs.Structs.{row_changed, tree_composite, tree_list, two_parts}
 use Rattle.capnp_arena.proofs.Words.{run_same}
 
@@ -35,7 +33,8 @@ module _ (tag n d p i : ℕ) (l : i < n) where
         ends = omega (arith, f.ends, e);
         child = λ j q. f.child j (element_pointer j q);
         child_apart = λ j k q o h. f.child_apart j k (element_pointer j q) o (element_within k h);
-        children_apart = λ a b k q r o s. f.children_apart a b k (element_pointer a q) (element_pointer b r) o s }
+        children_apart = λ a b k q r o s. f.children_apart a b k (element_pointer a q) (element_pointer b r) o s;
+      }
 
   -- ---- a call in it ----
 
@@ -50,10 +49,12 @@ module _ (tag n d p i : ℕ) (l : i < n) where
     -- a pointer of another struct does not lie in this one
     not_here : (j x : ℕ) → (x ≡ i → ⊥) → tag + 1 + x * (d + p) + d ≤ j → j < tag + 1 + x * (d + p) + d + p → IsWithin (StructIn (tag + 1 + i * (d + p)) d p) j → ⊥
     not_here j x away a b h = elim (order x i) [
-        | inl q ↦ let e : x * (d + p) + (d + p) ≤ i * (d + p) = element_end x i (d + p) q in omega (arith, a, b, h.0, h.1, e)
-        | inr q ↦ elim q [
-          | inl r ↦ away r
-          | inr r ↦ let e : i * (d + p) + (d + p) ≤ x * (d + p) = element_end i x (d + p) r in omega (arith, a, b, h.0, h.1, e) ] ]
+      | inl q ↦ let e : x * (d + p) + (d + p) ≤ i * (d + p) = element_end x i (d + p) q in omega (arith, a, b, h.0, h.1, e)
+      | inr q ↦ elim q [
+        | inl r ↦ away r
+        | inr r ↦ let e : i * (d + p) + (d + p) ≤ x * (d + p) = element_end i x (d + p) r in omega (arith, a, b, h.0, h.1, e)
+      ]
+    ]
       where
         order : (a b : ℕ) → (a < b) ⊎ ((a ≡ b) ⊎ (b < a))
         order a b = grind arith
@@ -67,7 +68,8 @@ module _ (tag n d p i : ℕ) (l : i < n) where
       other_words k o = c.stays k (let r : k < word_count old = owned_inside old j k (f.child j q) o in omega (arith, r))
           (λ r. elim r [
             | inl h ↦ f.child_apart j k q o (element_within k h)
-            | inr h ↦ away (subst (IsWithin (StructIn (tag + 1 + i * (d + p)) d p)) (f.children_apart h.0 j k (element_pointer h.0 h.1) q h.2 o) (pointer_within (StructIn (tag + 1 + i * (d + p)) d p) h.0 h.1)) ])
+            | inr h ↦ away (subst (IsWithin (StructIn (tag + 1 + i * (d + p)) d p)) (f.children_apart h.0 j k (element_pointer h.0 h.1) q h.2 o) (pointer_within (StructIn (tag + 1 + i * (d + p)) d p) h.0 h.1))
+          ])
 
       other_forest : Forest new j
       other_forest = forest_kept old new c.longer j (f.child j q) other_itself other_words
@@ -81,8 +83,9 @@ module _ (tag n d p i : ℕ) (l : i < n) where
     -- a pointer of the list is one of this struct's, or not in it
     sort : (j : ℕ) → IsPointerOf (CompositeIn tag n d p) j → IsPointerOf (StructIn (tag + 1 + i * (d + p)) d p) j ⊎ (IsWithin (StructIn (tag + 1 + i * (d + p)) d p) j → ⊥)
     sort j q = elim (cases_eq q.0 i) [
-        | inl e ↦ let m : q.0 * (d + p) ≡ i * (d + p) = ap (λ x. x * (d + p)) e in inl (omega (arith, q.2, m), omega (arith, q.3, m))
-        | inr away ↦ inr (not_here j q.0 away q.2 q.3) ]
+      | inl e ↦ let m : q.0 * (d + p) ≡ i * (d + p) = ap (λ x. x * (d + p)) e in inl (omega (arith, q.2, m), omega (arith, q.3, m))
+      | inr away ↦ inr (not_here j q.0 away q.2 q.3)
+    ]
 
     past : (k : ℕ) → word_count old ≤ k → IsWithin (CompositeIn tag n d p) k → ⊥
     past k h r = let q : k < word_count old = planted_inside old (CompositeIn tag n d p) k f r in omega (arith, h, q)
@@ -92,34 +95,42 @@ module _ (tag n d p i : ℕ) (l : i < n) where
 
     one_apart : (j k : ℕ) → IsPointerOf (CompositeIn tag n d p) j → Owns new j k → IsWithin (CompositeIn tag n d p) k → ⊥
     one_apart j k q o r = elim (sort j q) [
-        | inl h ↦ elim (c.grows k (inr (j, h, o))) [
-          | inl x ↦ elim x [ inl y ↦ g.child_apart j k h o y | inr y ↦ f.child_apart y.0 k (element_pointer y.0 y.1) y.2 r ]
-          | inr x ↦ past k x r ]
-        | inr away ↦ f.child_apart j k q (other_back j q away k o) r ]
+      | inl h ↦ elim (c.grows k (inr (j, h, o))) [
+        | inl x ↦ elim x [ inl y ↦ g.child_apart j k h o y | inr y ↦ f.child_apart y.0 k (element_pointer y.0 y.1) y.2 r ]
+        | inr x ↦ past k x r
+      ]
+      | inr away ↦ f.child_apart j k q (other_back j q away k o) r
+    ]
 
     -- what one of this struct's pointers and another's share
     mixed : (a b k : ℕ) → IsPointerOf (StructIn (tag + 1 + i * (d + p)) d p) a → IsPointerOf (CompositeIn tag n d p) b → (IsWithin (StructIn (tag + 1 + i * (d + p)) d p) b → ⊥) → Owns new a k → Owns old b k → ⊥
     mixed a b k q r away o s = elim (c.grows k (inr (a, q, o))) [
-        | inl x ↦ elim x [
-          | inl y ↦ f.child_apart b k r s (element_within k y)
-          | inr y ↦ away (subst (IsWithin (StructIn (tag + 1 + i * (d + p)) d p)) (f.children_apart y.0 b k (element_pointer y.0 y.1) r y.2 s) (pointer_within (StructIn (tag + 1 + i * (d + p)) d p) y.0 y.1)) ]
-        | inr x ↦ past_owned b k r x s ]
+      | inl x ↦ elim x [
+        | inl y ↦ f.child_apart b k r s (element_within k y)
+        | inr y ↦ away (subst (IsWithin (StructIn (tag + 1 + i * (d + p)) d p)) (f.children_apart y.0 b k (element_pointer y.0 y.1) r y.2 s) (pointer_within (StructIn (tag + 1 + i * (d + p)) d p) y.0 y.1))
+      ]
+      | inr x ↦ past_owned b k r x s
+    ]
 
     both_apart : (a b k : ℕ) → IsPointerOf (CompositeIn tag n d p) a → IsPointerOf (CompositeIn tag n d p) b → Owns new a k → Owns new b k → a ≡ b
     both_apart a b k q r o s = elim (sort a q) [
-        | inl x ↦ elim (sort b r) [
-          | inl y ↦ g.children_apart a b k x y o s
-          | inr y ↦ absurd (mixed a b k x r y o (other_back b r y k s)) ]
-        | inr x ↦ elim (sort b r) [
-          | inl y ↦ absurd (mixed b a k y q x s (other_back a q x k o))
-          | inr y ↦ f.children_apart a b k q r (other_back a q x k o) (other_back b r y k s) ] ]
+      | inl x ↦ elim (sort b r) [
+        | inl y ↦ g.children_apart a b k x y o s
+        | inr y ↦ absurd (mixed a b k x r y o (other_back b r y k s))
+      ]
+      | inr x ↦ elim (sort b r) [
+        | inl y ↦ absurd (mixed b a k y q x s (other_back a q x k o))
+        | inr y ↦ f.children_apart a b k q r (other_back a q x k o) (other_back b r y k s)
+      ]
+    ]
 
     pub list_planted : Planted new (CompositeIn tag n d p)
     list_planted = record {
-        ends = omega (arith, f.ends, c.longer);
-        child = λ j q. elim (sort j q) [ inl h ↦ g.child j h | inr away ↦ other_forest j q away ];
-        child_apart = one_apart;
-        children_apart = both_apart }
+      ends = omega (arith, f.ends, c.longer);
+      child = λ j q. elim (sort j q) [ inl h ↦ g.child j h | inr away ↦ other_forest j q away ];
+      child_apart = one_apart;
+      children_apart = both_apart;
+    }
 
     grown : (k : ℕ) → OwnedBy old (StructIn (tag + 1 + i * (d + p)) d p) k ⊎ (word_count old ≤ k) → OwnedBy old (CompositeIn tag n d p) k ⊎ (word_count old ≤ k)
     grown k (inl (inl h)) = inl (inl (element_within k h))
@@ -135,10 +146,11 @@ module _ (tag n d p i : ℕ) (l : i < n) where
 
     pub list_changes : PartChanges (CompositeIn tag n d p) old new
     list_changes = record {
-        longer = c.longer;
-        stays = λ k h o. c.stays k h (λ r. o (part k r));
-        grows = λ k o. elim o [ inl r ↦ inl (inl r) | inr r ↦ below r.0 k r.1 r.2 ];
-        tags = λ k t. own_same k (tag_within (CompositeIn tag n d p) k t) (λ h. omega (arith, t, h.0)) }
+      longer = c.longer;
+      stays = λ k h o. c.stays k h (λ r. o (part k r));
+      grows = λ k o. elim o [ inl r ↦ inl (inl r) | inr r ↦ below r.0 k r.1 r.2 ];
+      tags = λ k t. own_same k (tag_within (CompositeIn tag n d p) k t) (λ h. omega (arith, t, h.0));
+    }
 
     -- another struct stays
     pub other_struct : (x : ℕ) → x < n → (x ≡ i → ⊥) → struct_from new (tag + 1 + x * (d + p)) d p ≡ struct_from old (tag + 1 + x * (d + p)) d p
@@ -151,10 +163,12 @@ module _ (tag n d p i : ℕ) (l : i < n) where
       where
         not_within : (k : ℕ) → tag + 1 + x * (d + p) ≤ k → k < tag + 1 + x * (d + p) + d → IsWithin (StructIn (tag + 1 + i * (d + p)) d p) k → ⊥
         not_within k y z h = elim (order x i) [
-            | inl q ↦ let e : x * (d + p) + (d + p) ≤ i * (d + p) = element_end x i (d + p) q in omega (arith, y, z, h.0, h.1, e)
-            | inr q ↦ elim q [
-              | inl r ↦ away r
-              | inr r ↦ let e : i * (d + p) + (d + p) ≤ x * (d + p) = element_end i x (d + p) r in omega (arith, y, z, h.0, h.1, e) ] ]
+          | inl q ↦ let e : x * (d + p) + (d + p) ≤ i * (d + p) = element_end x i (d + p) q in omega (arith, y, z, h.0, h.1, e)
+          | inr q ↦ elim q [
+            | inl r ↦ away r
+            | inr r ↦ let e : i * (d + p) + (d + p) ≤ x * (d + p) = element_end i x (d + p) r in omega (arith, y, z, h.0, h.1, e)
+          ]
+        ]
           where
             order : (a b : ℕ) → (a < b) ⊎ ((a ≡ b) ⊎ (b < a))
             order a b = grind arith
@@ -192,10 +206,11 @@ in_element old new at tag n d p i f e l g c =
       place = s;
       changes = outer_changes old new at f g2 c2;
       tree = tree_composite new at tag n d p h s
-        ∙ ap (Composite d p) (structs_changed (λ x. struct_from old (tag + 1 + x * (d + p)) d p) (λ x. struct_from new (tag + 1 + x * (d + p)) d p) 0 n i l
+          ∙ ap (Composite d p) (structs_changed (λ x. struct_from old (tag + 1 + x * (d + p)) d p) (λ x. struct_from new (tag + 1 + x * (d + p)) d p) 0 n i l
           (λ x y z away. other_struct tag n d p i l old new fs g c x (omega (arith, z)) (λ q. away (omega (arith, q)))))
-        ∙ ap (λ x. Composite d p (with_struct (structs_from (λ x. struct_from old (tag + 1 + x * (d + p)) d p) 0 n) i (struct_from new (tag + 1 + x * (d + p)) d p))) {x = 0 + i} {y = i} (omega arith)
-        ∙ ap (with_struct_element i (struct_from new (tag + 1 + i * (d + p)) d p)) (sym (tree_composite old at tag n d p f e)) }
+          ∙ ap (λ x. Composite d p (with_struct (structs_from (λ x. struct_from old (tag + 1 + x * (d + p)) d p) 0 n) i (struct_from new (tag + 1 + x * (d + p)) d p))) {x = 0 + i} {y = i} (omega arith)
+          ∙ ap (with_struct_element i (struct_from new (tag + 1 + i * (d + p)) d p)) (sym (tree_composite old at tag n d p f e));
+    }
 
 -- ---- a list of pointers ----
 
@@ -219,5 +234,6 @@ in_pointers old new at start n i f e l g c =
       place = s;
       changes = outer_changes old new at f g2 c2;
       tree = tree_list new at start 6 n h s
-        ∙ ap Pointers (row_changed (tree old) (tree new) start n i l (λ j x y away. sibling_tree old new (ListIn start 6 n) (start + i) fs q g c j (refl, x, y) away))
-        ∙ ap (with_pointer_element i (tree new (start + i))) (sym (tree_list old at start 6 n f e)) }
+          ∙ ap Pointers (row_changed (tree old) (tree new) start n i l (λ j x y away. sibling_tree old new (ListIn start 6 n) (start + i) fs q g c j (refl, x, y) away))
+          ∙ ap (with_pointer_element i (tree new (start + i))) (sym (tree_list old at start 6 n f e));
+    }

@@ -1,13 +1,12 @@
 -- What code reads out of a pointer word is what was written there.
-use Rattle.std.proofs.Common.{◌≡◌, ℕ, suc, ◌+◌, ◌-◌, ◌*◌, ◌/◌, ◌%◌, ◌^◌, ◌<◌, ◌≤◌, ◌⊎◌, inl, inr, true, false, refl, sym, ap, subst, ◌∙◌, arith, List, length, take, drop, ◌==◌, cond}
-use Rattle.std.proofs.lemmas.Bool.Decides.{nat_tests}
-use Rattle.capnp_wire.specs.Encoding.{list_word, spelled, struct_word}
+use Rattle.std.proofs.Common.{◌≡◌, ℕ, suc, ◌+◌, ◌-◌, ◌*◌, ◌^◌, ◌<◌, inl, inr, false, refl, sym, ap, ◌∙◌, arith, List, take, drop, ◌==◌, cond}
+use Rattle.capnp_wire.specs.Encoding.{list_word, struct_word}
 use Rattle.capnp_wire.specs.Facts.Bytes.{little_endian_spelled}
-use Rattle.capnp_wire.specs.Locate.{count, data_words, element_size, kind, offset, pointer_count, list_words}
+use Rattle.capnp_wire.specs.Locate.{count, data_words, element_size, kind, offset, pointer_count}
 use Rattle.capnp_wire.specs.Slot.{little_endian, number_at}
 use Rattle.capnp_wire.proofs.PointerWords.{not_equal}
 use Rattle.capnp_arena.specs.Looked.{looked}
-use Rattle.capnp_arena.specs.Shape.{CompositeIn, IsWordAt, ListIn, NoShape, Points, Shape, StructIn, word_count, shape_at}
+use Rattle.capnp_arena.specs.Shape.{CompositeIn, IsWordAt, ListIn, NoShape, Points, Shape, StructIn}
 
 -- a word that stands there
 word_read : (bytes : List ℕ) (w word : ℕ) → word < 2 ^ 64 → IsWordAt bytes w word → number_at 8 w bytes ≡ word
@@ -57,26 +56,27 @@ of_composite bytes w word tag t n d p some k es e et en ed ep = rw (not_equal wo
 pub looked_is : (bytes : List ℕ) (w : ℕ) (s : Shape) → Points bytes w s → looked bytes w (number_at 8 w bytes) ≡ s
 looked_is bytes w NoShape h = ap (looked bytes w) (word_read bytes w 0 (omega arith) h)
 looked_is bytes w (StructIn a d p) h = elim h [
-    | inl z ↦
-        ap (looked bytes w) (word_read bytes w (struct_word (2 ^ 30 - 1) 0 0) (omega arith) z.3)
-        ∙ of_struct bytes w (struct_word (2 ^ 30 - 1) 0 0) a d p (λ e. omega (arith, e)) refl (sym z.1) (sym z.2) (rw (z.1, z.2) (sym z.0))
-    | inr z ↦
-        let g : a - suc w < 2 ^ 30 = omega (arith, z.1) in
-        let f : (d + p == 0) ≡ false = not_equal (d + p) 0 (λ e. omega (arith, e, z.4)) in
-        let word : ℕ = struct_word (a - suc w) d p in
-        ap (looked bytes w) (word_read bytes w (struct_word (a - suc w) d p) (struct_fits (a - suc w) d p g z.2 z.3) z.6)
-        ∙ of_struct bytes w (struct_word (a - suc w) d p) a d p (λ e. omega (arith, e, z.4)) (struct_kind (a - suc w) d p g z.2 z.3) (struct_data_words (a - suc w) d p g z.2 z.3) (struct_pointers (a - suc w) d p g z.2 z.3)
-          (rw (f, struct_offset (a - suc w) d p g z.2 z.3) (omega (arith, z.0))) ]
+  | inl z ↦
+      ap (looked bytes w) (word_read bytes w (struct_word (2 ^ 30 - 1) 0 0) (omega arith) z.3)
+      ∙ of_struct bytes w (struct_word (2 ^ 30 - 1) 0 0) a d p (λ e. omega (arith, e)) refl (sym z.1) (sym z.2) (rw (z.1, z.2) (sym z.0))
+  | inr z ↦
+      let g : a - suc w < 2 ^ 30 = omega (arith, z.1) in
+      let f : (d + p == 0) ≡ false = not_equal (d + p) 0 (λ e. omega (arith, e, z.4)) in
+      let word : ℕ = struct_word (a - suc w) d p in
+      ap (looked bytes w) (word_read bytes w (struct_word (a - suc w) d p) (struct_fits (a - suc w) d p g z.2 z.3) z.6)
+      ∙ of_struct bytes w (struct_word (a - suc w) d p) a d p (λ e. omega (arith, e, z.4)) (struct_kind (a - suc w) d p g z.2 z.3) (struct_data_words (a - suc w) d p g z.2 z.3) (struct_pointers (a - suc w) d p g z.2 z.3)
+      (rw (f, struct_offset (a - suc w) d p g z.2 z.3) (omega (arith, z.0)))
+]
 looked_is bytes w (ListIn a size n) h =
     let g : a - suc w < 2 ^ 30 = omega (arith, h.1) in
     let e8 : size < 8 = omega (arith, h.2) in
     ap (looked bytes w) (word_read bytes w (list_word (a - suc w) size n) (list_fits (a - suc w) size n g e8 h.3) h.5)
     ∙ of_list bytes w (list_word (a - suc w) size n) a size n (λ e. omega (arith, e)) (list_kind (a - suc w) size n g e8 h.3) (list_size (a - suc w) size n g e8 h.3) (list_count (a - suc w) size n g e8 h.3) (λ e. omega (arith, e, h.2))
-      (rw (list_offset (a - suc w) size n g e8 h.3) (omega (arith, h.0)))
+    (rw (list_offset (a - suc w) size n g e8 h.3) (omega (arith, h.0)))
 looked_is bytes w (CompositeIn tag n d p) h =
     let g : tag - suc w < 2 ^ 30 = omega (arith, h.1) in
     let n30 : n < 2 ^ 30 = omega (arith, h.4) in
     ap (looked bytes w) (word_read bytes w (list_word (tag - suc w) 7 (n * (d + p))) (list_fits (tag - suc w) 7 (n * (d + p)) g (omega arith) h.5) h.7)
     ∙ of_composite bytes w (list_word (tag - suc w) 7 (n * (d + p))) tag (struct_word n d p) n d p (λ e. omega (arith, e)) (list_kind (tag - suc w) 7 (n * (d + p)) g (omega arith) h.5) (list_size (tag - suc w) 7 (n * (d + p)) g (omega arith) h.5)
-      (rw (list_offset (tag - suc w) 7 (n * (d + p)) g (omega arith) h.5) (omega (arith, h.0)))
-      (word_read bytes tag (struct_word n d p) (struct_fits n d p n30 h.2 h.3) h.8) (struct_offset n d p n30 h.2 h.3) (struct_data_words n d p n30 h.2 h.3) (struct_pointers n d p n30 h.2 h.3)
+    (rw (list_offset (tag - suc w) 7 (n * (d + p)) g (omega arith) h.5) (omega (arith, h.0)))
+    (word_read bytes tag (struct_word n d p) (struct_fits n d p n30 h.2 h.3) h.8) (struct_offset n d p n30 h.2 h.3) (struct_data_words n d p n30 h.2 h.3) (struct_pointers n d p n30 h.2 h.3)

@@ -141,9 +141,12 @@ module _ (old new added : List ℕ) (at word : ℕ) (h : IsMade old new added at
         ∙ zeros_part (8 * (count * (d + p))) (a - word_count old - 1) n (omega (arith, l, q))
 
     tag_at : IsWordAt new (word_count old) (struct_word count d p)
-    tag_at = (omega (arith, made_length, composite_words), made_added (word_count old) 8 (omega arith) ∙ ap (λ z. bytes_at z (word_count old - word_count old) 8) zeros
-        ∙ ap (λ n. bytes_at (spelled 8 (struct_word count d p) ++ replicate (8 * (count * (d + p))) 0) n 8) {x = word_count old - word_count old} {y = 0} (omega arith)
-        ∙ take_at (spelled 8 (struct_word count d p)) (replicate (8 * (count * (d + p))) 0) 8 (length_spelled 8 (struct_word count d p)))
+    tag_at = (
+      omega (arith, made_length, composite_words),
+      made_added (word_count old) 8 (omega arith) ∙ ap (λ z. bytes_at z (word_count old - word_count old) 8) zeros
+          ∙ ap (λ n. bytes_at (spelled 8 (struct_word count d p) ++ replicate (8 * (count * (d + p))) 0) n 8) {x = word_count old - word_count old} {y = 0} (omega arith)
+          ∙ take_at (spelled 8 (struct_word count d p)) (replicate (8 * (count * (d + p))) 0) 8 (length_spelled 8 (struct_word count d p)),
+    )
 
     composite_points : Points new at (CompositeIn (word_count old) count d p)
     composite_points = (h.inside, omega (arith, h.few), hd, hp, hn, hm, omega (arith, made_length, composite_words), subst (IsWordAt new at) e made_word, tag_at)

@@ -1,5 +1,5 @@
 -- New lists, texts and data.
-use Rattle.std.proofs.Common.{◌≡◌, ℕ, suc, ◌+◌, ◌-◌, ◌*◌, ◌/◌, ◌^◌, ◌<◌, ◌≤◌, refl, sym, ap, subst, ◌∙◌, arith, List, [], ◌∷◌, ◌++◌, length, take, drop, replicate, false, zero}
+use Rattle.std.proofs.Common.{◌≡◌, ℕ, suc, ◌+◌, ◌-◌, ◌*◌, ◌/◌, ◌^◌, ◌<◌, ◌≤◌, refl, sym, ap, subst, ◌∙◌, arith, List, [], ◌∷◌, ◌++◌, length, take, replicate, false, zero}
 use Rattle.std.specs.Prelude.{◌≢◌}
 use Rattle.std.proofs.lemmas.List.{append-nil, length-append, length-replicate, take_at}
 use Rattle.capnp_wire.specs.Edits.{nulls, zero_list, zero_structs}
@@ -16,7 +16,7 @@ use Rattle.capnp_wire.proofs.NewTrees.{no_bits}
 use Rattle.capnp_arena.specs.Made.{IsMade, filled_up, size_number}
 use Rattle.capnp_arena.specs.Shape.{CompositeIn, ListIn, Shape, shape_at, word_count}
 use Rattle.capnp_arena.specs.Forest.{Changes, Forest, tree}
-use Rattle.capnp_arena.proofs.Made.{cleared_changes, cleared_forest, cleared_tree, composite_changes, composite_forest, composite_is, composite_shape, list_changes, list_forest, list_is, list_null, list_shape, made_added}
+use Rattle.capnp_arena.proofs.Made.{composite_changes, composite_forest, composite_is, composite_shape, list_changes, list_forest, list_is, list_null, list_shape, made_added}
 use Rattle.capnp_arena.proofs.Puts.{put_zeros, zeros_part}
 use Rattle.capnp_arena.proofs.Structs.{null_row}
 
@@ -107,7 +107,8 @@ structs_made old new at word words tag start count size e hn hd hp m hm t w h =
       forest = composite_forest old new (filled_up (words + 1) (spelled 8 tag)) at word h count d p hn hd hp few added word_is;
       place = composite_shape old new (filled_up (words + 1) (spelled 8 tag)) at word h count d p hn hd hp few added word_is;
       tree = composite_is old new (filled_up (words + 1) (spelled 8 tag)) at word h count d p hn hd hp few added word_is;
-      changes = composite_changes old new (filled_up (words + 1) (spelled 8 tag)) at word h count d p hn hd hp few added word_is })
+      changes = composite_changes old new (filled_up (words + 1) (spelled 8 tag)) at word h count d p hn hd hp few added word_is;
+    })
 
 -- ---- bytes ----
 
@@ -120,7 +121,8 @@ bytes_made old new added at word start count e hn w words h =
       forest = list_forest old new added at word h 2 count (omega arith) hn words no word_is;
       place = list_shape old new added at word h 2 count (omega arith) hn words no word_is;
       tree = list_is old new added at word h 2 count (omega arith) hn words no word_is ∙ ap (Numbers 1) (made_added old new added at word h (word_count old) count (omega arith) ∙ ap (λ k. bytes_at added k count) {x = word_count old - word_count old} {y = 0} (omega arith));
-      changes = list_changes old new added at word h 2 count (omega arith) hn words no word_is })
+      changes = list_changes old new added at word h 2 count (omega arith) hn words no word_is;
+    })
 
 filled_words : (words : ℕ) (x : List ℕ) → length x ≤ 8 * words → word_count (filled_up words x) ≡ words
 filled_words words x h = omega (arith, length-append x (replicate (8 * words - length x) 0), length-replicate {A = ℕ} (8 * words - length x) 0, h)

@@ -1,5 +1,5 @@
 -- What code reads out of a pointer word that a builder wrote.
-use Rattle.std.specs.Prelude.{ℕ, suc, ◌+◌, ◌-◌, cond, ◌==◌, List}
+use Rattle.std.specs.Prelude.{ℕ, ◌+◌, cond, ◌==◌, List}
 use Rattle.capnp_wire.specs.Locate.{count, data_words, element_size, kind, offset, pointer_count}
 use Rattle.capnp_wire.specs.Slot.{number_at}
 use Rattle.capnp_arena.specs.Shape.{CompositeIn, ListIn, NoShape, Shape, StructIn}

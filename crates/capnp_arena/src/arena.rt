@@ -6,7 +6,9 @@ ghost use Rattle.std.specs.Prelude.{◌*◌, ◌/◌, ◌^◌, ◌<◌, ◌≡�
 ghost use Rattle.capnp_arena.specs.Made.{size_number, struct_pointer, struct_start};
 ghost use Rattle.capnp_wire.specs.Locate.{list_words};
 
-use crate::spell::{append_zeros, make_list_word, make_struct_word, put_bytes, put_word, write_number};
+use crate::spell::{
+    append_zeros, make_list_word, make_struct_word, put_bytes, put_word, write_number,
+};
 use capnp_device::error::{Error, ErrorKind, Result};
 use capnp_wire::primitive::PrimitiveElement;
 use capnp_wire::size::{ElementSize, StructSize};

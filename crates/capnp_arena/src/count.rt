@@ -27,7 +27,11 @@ fn add_below(own: u64, below: Option<u64>) -> Option<u64>
 {
     match below {
         Some(words) => {
-            if words < 1 << 29 { add(own, words) } else { None }
+            if words < 1 << 29 {
+                add(own, words)
+            } else {
+                None
+            }
         }
         None => None,
     }
@@ -64,22 +68,47 @@ pub fn count_words(bytes: &[u8], w: usize) -> Option<u64>
 {
     match look(bytes, w) {
         Target::Null => Some(0),
-        Target::Struct { start, data_words, pointers } => {
+        Target::Struct {
+            start,
+            data_words,
+            pointers,
+        } => {
             if pointers == 0 {
                 return add(data_words as u64, 0);
             }
             let own = data_words as u64 + pointers as u64;
-            add_below(own, count_row(bytes, start + data_words as usize, pointers as usize))
+            add_below(
+                own,
+                count_row(bytes, start + data_words as usize, pointers as usize),
+            )
         }
-        Target::List { start, element_size, count } => {
+        Target::List {
+            start,
+            element_size,
+            count,
+        } => {
             if element_size == 6 {
                 return add_below(count as u64, count_row(bytes, start, count as usize));
             }
             add(get_list_words(element_size, count), 0)
         }
-        Target::Composite { tag, count, data_words, pointers } => {
+        Target::Composite {
+            tag,
+            count,
+            data_words,
+            pointers,
+        } => {
             let own = 1 + count as u64 * (data_words as u64 + pointers as u64);
-            add_below(own, count_elements(bytes, tag + 1, count as usize, data_words as usize, pointers as usize))
+            add_below(
+                own,
+                count_elements(
+                    bytes,
+                    tag + 1,
+                    count as usize,
+                    data_words as usize,
+                    pointers as usize,
+                ),
+            )
         }
     }
 }
@@ -102,7 +131,13 @@ fn count_row(bytes: &[u8], first: usize, count: usize) -> Option<u64>
 
 /// The words of all that the pointers of so many structs in a row lead to.
 #[cycle(count)]
-fn count_elements(bytes: &[u8], start: usize, count: usize, data_words: usize, pointers: usize) -> Option<u64>
+fn count_elements(
+    bytes: &[u8],
+    start: usize,
+    count: usize,
+    data_words: usize,
+    pointers: usize,
+) -> Option<u64>
     requires forests { AreElementForests bytes.now start count data_words pointers }
     requires inside { start + count * (data_words + pointers) ≤ word_count bytes.now }
     requires few { word_count bytes.now < 2 ^ 29 }
@@ -111,7 +146,11 @@ fn count_elements(bytes: &[u8], start: usize, count: usize, data_words: usize, p
 {
     let mut sum: u64 = 0;
     for i in 0..count {
-        let words = count_row(bytes, start + i * (data_words + pointers) + data_words, pointers)?;
+        let words = count_row(
+            bytes,
+            start + i * (data_words + pointers) + data_words,
+            pointers,
+        )?;
         sum = add(sum, words)?;
     }
     Some(sum)

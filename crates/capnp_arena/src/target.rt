@@ -5,7 +5,9 @@ ghost use Rattle.capnp_arena.specs.Forest.{Forest};
 ghost use Rattle.capnp_arena.specs.Looked.{composite_looked, list_looked, looked, shape_found, struct_looked};
 ghost use Rattle.capnp_arena.specs.Shape.{Points, shape_at};
 
-use crate::look::{Target, get_count, get_data_words, get_element_size, get_offset, get_pointer_count, get_word};
+use crate::look::{
+    Target, get_count, get_data_words, get_element_size, get_offset, get_pointer_count, get_word,
+};
 
 #[inline(always)]
 fn look_at_struct(w: usize, word: u64) -> Target
@@ -14,8 +16,16 @@ fn look_at_struct(w: usize, word: u64) -> Target
 {
     let data_words = get_data_words(word);
     let pointers = get_pointer_count(word);
-    let start = if data_words as usize + pointers as usize == 0 { w } else { w + 1 + get_offset(word) };
-    Target::Struct { start, data_words, pointers }
+    let start = if data_words as usize + pointers as usize == 0 {
+        w
+    } else {
+        w + 1 + get_offset(word)
+    };
+    Target::Struct {
+        start,
+        data_words,
+        pointers,
+    }
 }
 
 /// A composite list by its tag.
@@ -23,7 +33,12 @@ fn look_at_struct(w: usize, word: u64) -> Target
 fn look_at_tag(tag: usize, word: u64) -> Target
     ensures { shape_found result ≡ composite_looked tag word }
 {
-    Target::Composite { tag, count: get_offset(word) as u32, data_words: get_data_words(word), pointers: get_pointer_count(word) }
+    Target::Composite {
+        tag,
+        count: get_offset(word) as u32,
+        data_words: get_data_words(word),
+        pointers: get_pointer_count(word),
+    }
 }
 
 #[inline(always)]
@@ -36,7 +51,11 @@ fn look_at_list(bytes: &[u8], w: usize, word: u64) -> Target
     if element_size == 7 {
         look_at_tag(start, get_word(bytes, start))
     } else {
-        Target::List { start, element_size, count: get_count(word) }
+        Target::List {
+            start,
+            element_size,
+            count: get_count(word),
+        }
     }
 }
 

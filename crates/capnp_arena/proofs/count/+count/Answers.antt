@@ -1,18 +1,19 @@
-use Rattle.std.proofs.Common.{rules, arith, ◌≡◌, ◌+◌, ◌-◌, ◌*◌, ◌<◌, ◌≤◌, ◌^◌, ◌∙◌, refl, sym, ap, subst, length}
+use Rattle.std.proofs.Common.{arith, ◌≡◌, ◌+◌, ◌*◌, ◌∙◌, sym, ap, subst}
 use Rattle.std.proofs.Common.{ℕ}
 use Rattle.capnp_wire.specs.Tree.{Tree, trees_from}
-use Rattle.capnp_wire.specs.Words.{words_below_all, words_of, words_of_all}
+use Rattle.capnp_wire.specs.Words.{words_of, words_of_all}
 use Rattle.capnp_arena.specs.Counts.{IsCount}
 use Rattle.capnp_arena.specs.Looked.{shape_found}
 use Rattle.capnp_arena.specs.Forest.{struct_from, tree}
 use Rattle.capnp_arena.specs.Shape.{Points, CompositeIn, ListIn, NoShape, StructIn, shape_at}
-use Rattle.capnp_arena.proofs.Counted.{element_rows, ends_at, list_row, row_step, struct_row, structs_step, words_composite, words_list, words_null, words_pointers, words_struct}
+use Rattle.capnp_arena.proofs.Counted.{element_rows, row_step, structs_step, words_composite, words_list, words_null, words_pointers, words_struct}
 use Rattle.capnp_arena.proofs.count.+count.Goals as goal
 
 pub count_row-loop-i-preserved : goal.count_row-loop-i-preserved
 count_row-loop-i-preserved t c = record {
   left = omega (arith, c.loop-i.invariant.left, row_step (tree c.args.bytes.now) c.args.first c.loop-i.i c.args.count c.loop-i-test.true, c.in_ok-words.ensures, c.in_ok-sum.ensures);
-  small = omega (arith, c.in_ok-sum.ensures) }
+  small = omega (arith, c.in_ok-sum.ensures);
+}
 
 pub count_words-returns-in-Null : goal.count_words-returns-in-Null
 count_words-returns-in-Null t c =
@@ -22,7 +23,8 @@ count_words-returns-in-Null t c =
 pub count_elements-loop-i-preserved : goal.count_elements-loop-i-preserved
 count_elements-loop-i-preserved t c = record {
   left = omega (arith, c.loop-i.invariant.left, structs_step (λ i. struct_from c.args.bytes.now (c.args.start + i * (c.args.data_words + c.args.pointers)) c.args.data_words c.args.pointers) c.loop-i.i c.args.count c.loop-i-test.true, c.in_ok-words.ensures, c.in_ok-sum.ensures);
-  small = omega (arith, c.in_ok-sum.ensures) }
+  small = omega (arith, c.in_ok-sum.ensures);
+}
 
 no_row : (f : ℕ → Tree) (a p : ℕ) → p ≡ 0 → words_of_all (trees_from f a p) ≡ 0
 no_row f a p e = ap (λ k. words_of_all (trees_from f a k)) e

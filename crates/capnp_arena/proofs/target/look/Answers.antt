@@ -1,4 +1,4 @@
-use Rattle.std.proofs.Common.{◌≡◌, ◌∙◌, subst, sym}
+use Rattle.std.proofs.Common.{◌∙◌, subst, sym}
 use Rattle.capnp_arena.specs.Shape.{Points}
 use Rattle.capnp_arena.proofs.Forests.{points}
 use Rattle.capnp_arena.proofs.Lookings.{looked_is}

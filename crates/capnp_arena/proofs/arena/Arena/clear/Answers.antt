@@ -1,4 +1,4 @@
-use Rattle.std.proofs.Common.{refl, rules, arith, ◌≡◌, ◌+◌, ◌*◌, ◌/◌, ◌<◌, ◌^◌, List, ℕ, length, sym, ap, ◌∙◌, subst}
+use Rattle.std.proofs.Common.{refl}
 use Rattle.capnp_arena.proofs.Made.{cleared_changes, cleared_forest, cleared_tree}
 use Rattle.capnp_arena.proofs.NewLists.{cleared}
 use Rattle.capnp_arena.proofs.arena.Arena.clear.Goals as goal

@@ -1,7 +1,4 @@
-use Rattle.std.proofs.Common.{replicate, ◌-◌, rules, arith, ◌≡◌, ◌+◌, ◌*◌, ◌/◌, ◌<◌, ◌^◌, List, ℕ, length, sym, ap, ◌∙◌, subst}
-use Rattle.capnp_wire.specs.Encoding.{list_word}
-use Rattle.capnp_wire.specs.Locate.{list_words}
-use Rattle.capnp_arena.specs.Made.{IsMade, size_number}
+use Rattle.std.proofs.Common.{rules, arith, ◌/◌, length, ap}
 use Rattle.capnp_arena.proofs.NewLists.{list_made_by}
 use Rattle.capnp_arena.proofs.arena.Arena.init_list.Goals as goal
 

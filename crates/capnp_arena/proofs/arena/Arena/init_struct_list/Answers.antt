@@ -1,4 +1,4 @@
-use Rattle.std.proofs.Common.{refl, rules, arith, ◌≡◌, ◌+◌, ◌*◌, ◌/◌, ◌<◌, ◌^◌, List, ℕ, length, sym, ap, ◌∙◌, subst}
+use Rattle.std.proofs.Common.{refl, rules, arith, ◌/◌, length, ap}
 use Rattle.capnp_arena.proofs.NewLists.{structs_made}
 use Rattle.capnp_arena.proofs.arena.Arena.init_struct_list.Goals as goal
 

@@ -1,4 +1,4 @@
-use Rattle.std.proofs.Common.{rules, arith, ◌≡◌, ◌+◌, ◌*◌, ◌/◌, ◌≤◌, ◌<◌, ◌^◌, List, ℕ, length}
+use Rattle.std.proofs.Common.{rules, arith, ◌*◌, ◌≤◌, length}
 use Rattle.capnp_wire.specs.Encoding.{spelled}
 use Rattle.capnp_wire.specs.Facts.Bytes.{length_spelled}
 use Rattle.capnp_arena.proofs.NewLists.{made_with}

@@ -1,4 +1,4 @@
-use Rattle.std.proofs.Common.{rules, arith, ◌≡◌, ◌+◌, ◌*◌, ◌/◌, ◌<◌, ◌^◌, List, ℕ, length, sym, ap, ◌∙◌, subst}
+use Rattle.std.proofs.Common.{rules}
 use Rattle.capnp_arena.proofs.NewLists.{made_with}
 use Rattle.capnp_arena.proofs.arena.Arena.make_with.Goals as goal
 

@@ -1,4 +1,4 @@
-use Rattle.std.proofs.Common.{rules, arith, ◌≡◌, ◌+◌, ◌*◌, ◌/◌, ◌<◌, ◌^◌, List, ℕ, length, sym, ap, ◌∙◌, subst}
+use Rattle.std.proofs.Common.{rules, arith, ◌/◌, length, ap}
 use Rattle.capnp_arena.proofs.NewLists.{data_made}
 use Rattle.capnp_arena.proofs.arena.Arena.set_data.Goals as goal
 
