@@ -1,0 +1,15 @@
+pub mod Words
+pub mod Shapes
+pub mod Levels
+pub mod Forests
+pub mod Calls
+pub mod Puts
+pub mod Structs
+pub mod Made
+pub mod Written
+pub mod Laws
+pub mod Rows
+pub mod NewLists
+pub mod Elements
+pub mod Lookings
+pub mod Counted

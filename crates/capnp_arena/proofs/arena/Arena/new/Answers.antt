@@ -1,0 +1,15 @@
+use Rattle.std.proofs.Common.{rules, arith, ◌≡◌, replicate, refl, sym, subst}
+use Rattle.capnp_wire.specs.Tree.{Null}
+use Rattle.capnp_arena.specs.Forest.{Forest, tree}
+use Rattle.capnp_arena.proofs.Calls.{null_forest, null_tree}
+use Rattle.capnp_arena.proofs.arena.Arena.new.Goals as goal
+
+pub returns-clause-forest : goal.returns-clause-forest
+returns-clause-forest c =
+    let e : c.in_ok-bytes.bytes.items ≡ replicate 8 0 = search rules in
+    subst (λ b. Forest b 0) (sym e) (null_forest (replicate 8 0) 0 (omega arith, refl))
+
+pub returns-clause-null : goal.returns-clause-null
+returns-clause-null c =
+    let e : c.in_ok-bytes.bytes.items ≡ replicate 8 0 = search rules in
+    subst (λ b. tree b 0 ≡ Null) (sym e) (null_tree (replicate 8 0) 0 (omega arith, refl))

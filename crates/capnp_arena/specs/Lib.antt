@@ -1,0 +1,6 @@
+pub mod Shape
+pub mod Forest
+pub mod Made
+pub mod Segment
+pub mod Looked
+pub mod Counts

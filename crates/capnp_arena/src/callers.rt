@@ -1,0 +1,41 @@
+//! A caller of the arena: two hops, and what the pointer at the top leads to then.
+ghost use Rattle.std.specs.Prelude.{OnErr, OnOk, replicate, ◌*◌, ◌+◌, ◌<◌, ◌≡◌, ◌≤◌};
+ghost use Rattle.capnp_wire.specs.Edits.{with_bytes, with_number, with_pointer_tree, zero_struct};
+ghost use Rattle.capnp_wire.specs.Place.{struct_tree};
+ghost use Rattle.capnp_arena.specs.Segment.{segment};
+ghost use Rattle.capnp_arena.specs.Shape.{StructIn, shape_at};
+ghost use Rattle.capnp_arena.specs.Forest.{Changes, Forest, struct_from, tree};
+
+use crate::arena::{Arena, Place};
+use capnp_device::error::Result;
+use capnp_wire::primitive::PrimitiveElement;
+use capnp_wire::size::StructSize;
+
+/// Makes a pointer of the struct that the pointer at a word leads to one to a new struct, and stores a number in that.
+///
+/// Refused with `OutOfMemory`; then nothing has changed.
+pub fn init_and_set<T: PrimitiveElement>(
+    arena: &mut Arena,
+    at: usize,
+    place: Place,
+    index: u16,
+    size: StructSize,
+    offset: u32,
+    value: T,
+) -> Result<()>
+    requires forest { Forest (segment arena.old) at }
+    requires there { shape_at (segment arena.old) at ≡ StructIn place.start place.data_words place.pointers }
+    requires pointer { index < place.pointers }
+    requires inside { (offset + 1) * T.width ≤ 8 * size.data_words }
+    ensures forest { OnOk result (Forest (segment arena.new) at) }
+    ensures there { OnOk result (shape_at (segment arena.new) at ≡ StructIn place.start place.data_words place.pointers) }
+    ensures changes { OnOk result (Changes at (segment arena.old) (segment arena.new)) }
+    ensures tree { OnOk result (tree (segment arena.new) at ≡ struct_tree (with_pointer_tree (struct_from (segment arena.old) place.start place.data_words place.pointers) index
+        (struct_tree (with_bytes (zero_struct size) (with_number T.width offset (T.to_number value) (replicate (8 * size.data_words) 0)))))) }
+    ensures refused { OnErr result (segment arena.new ≡ segment arena.old) }
+{
+    let pointer = place.start + place.data_words as usize + index as usize;
+    let made = arena.init_struct(pointer, size)?;
+    arena.set_number(made, offset, value);
+    Ok(())
+}
