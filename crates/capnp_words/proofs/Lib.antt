@@ -1,4 +1,5 @@
 pub mod CallHeads
+pub mod CallsRead
 pub mod DigitsRead
 pub mod DigitsSigned
 pub mod EnumerantNames
@@ -9,4 +10,5 @@ pub mod PathsRead
 pub mod PrintsRead
 pub mod QuotedRead
 pub mod ReadSteps
+pub mod RowsWords
 pub mod SharedBytes

@@ -10,7 +10,7 @@ use Rattle.std.proofs.lemmas.List.Sums.{position_or_len_is}
 use Rattle.capnp_records.specs.Call.{PathStep, FieldNumber, FieldNamed, ElementAt}
 use Rattle.capnp_words.specs.Reads.{read_as}
 use Rattle.capnp_words.specs.Numbers.{decimal_at}
-use Rattle.capnp_words.specs.Paths.{is_dot, is_space, name_at, path_at, parts_at, steps_at, step_at, step_word}
+use Rattle.capnp_words.specs.Paths.{is_dot, is_space, name_at, path_at, parts_at, steps_at, step_at, step_word, words_of_path}
 use Rattle.capnp_words.specs.Laws.{IsName, IsStep, PathsAreRead}
 use Rattle.capnp_words.proofs.DigitsRead.{decimal_again, decimal_digits}
 
@@ -56,17 +56,17 @@ step_no_dot (FieldNumber i) h = field_no_dot (decimal i) (number_no_dot i (omega
 step_no_dot (FieldNamed name) h = h.no_dot
 step_no_dot (ElementAt i) h = number_no_dot i (omega arith)
 
-step_some : (s : PathStep) → IsStep s → 0 < length (step_word s)
+pub step_some : (s : PathStep) → IsStep s → 0 < length (step_word s)
 step_some (FieldNumber i) h = omega arith
 step_some (FieldNamed name) h = h.some
 step_some (ElementAt i) h = decimal_nonempty i (omega arith)
 
-split_joined : (s : PathStep) (ss : List PathStep) → AllByRecursion IsStep (s ∷ ss) → slice_split is_dot (join_with_byte 46 (map step_word (s ∷ ss))) ≡ map step_word (s ∷ ss)
+pub split_joined : (s : PathStep) (ss : List PathStep) → AllByRecursion IsStep (s ∷ ss) → slice_split is_dot (join_with_byte 46 (map step_word (s ∷ ss))) ≡ map step_word (s ∷ ss)
 split_joined s [] h = slice_split_none is_dot (step_word s) (step_no_dot s h.0)
 split_joined s (t ∷ ts) h =
     slice_split_at is_dot (step_word s) 46 (join_with_byte 46 (map step_word (t ∷ ts))) (step_no_dot s h.0) refl ∙ ap (λ rest. step_word s ∷ rest) (split_joined t ts h.1)
 
-parts_again : (place : ℕ) (ss : List PathStep) → AllByRecursion IsStep ss → parts_at place (map step_word ss) ≡ Ok ss
+pub parts_again : (place : ℕ) (ss : List PathStep) → AllByRecursion IsStep ss → parts_at place (map step_word ss) ≡ Ok ss
 parts_again place [] h = refl
 parts_again place (s ∷ ss) h = rw (step_again place s h.0, parts_again (place + (length (step_word s) + 1)) ss h.1) refl
 
@@ -77,12 +77,15 @@ joined_begins [] ps h k = absurd (omega arith)
 joined_begins (b ∷ bs) [] h k = (k, h 0 0 k)
 joined_begins (b ∷ bs) (q ∷ qs) h k = (omega arith, h 0 0 k)
 
-path_begins : (bs : List ℕ) → 0 < length bs → is_dot (get_or bs 0 0) ≡ false → path_at 0 bs ≡ steps_at 0 bs
-path_begins [] h k = absurd (omega arith)
-path_begins (b ∷ bs) h k = rw k refl
+path_begins : (place : ℕ) (bs : List ℕ) → 0 < length bs → is_dot (get_or bs 0 0) ≡ false → path_at place bs ≡ steps_at place bs
+path_begins place [] h k = absurd (omega arith)
+path_begins place (b ∷ bs) h k = rw k refl
+
+pub path_again : (place : ℕ) (path : List PathStep) → AllByRecursion IsStep path → path_at place (words_of_path path) ≡ Ok path
+path_again place [] h = refl
+path_again place (s ∷ ss) h =
+    let begins = joined_begins (step_word s) (map step_word ss) (step_no_dot s h.0) (step_some s h.0) in
+    path_begins place (join_with_byte 46 (map step_word (s ∷ ss))) begins.0 begins.1 ∙ ap (parts_at place) (split_joined s ss h) ∙ parts_again place (s ∷ ss) h
 
 pub paths_read : PathsAreRead
-paths_read [] h = refl
-paths_read (s ∷ ss) h =
-    let begins = joined_begins (step_word s) (map step_word ss) (step_no_dot s h.0) (step_some s h.0) in
-    path_begins (join_with_byte 46 (map step_word (s ∷ ss))) begins.0 begins.1 ∙ ap (parts_at 0) (split_joined s ss h) ∙ parts_again 0 (s ∷ ss) h
+paths_read path h = path_again 0 path h

@@ -25,17 +25,17 @@ pub record CallText : Type 0 where
 
 -- ---- how a call is written ----
 
+abbrev pub op_word : List PathStep → CallOp → List ℕ
+op_word path Get = codes "get " ++ words_of_path path
+op_word path Has = codes "has " ++ words_of_path path
+op_word path Which = codes "which " ++ words_of_path path
+op_word path (Set value place) = codes "set " ++ (words_of_path path ++ 32 ∷ value)
+op_word path Init = codes "init " ++ words_of_path path
+op_word path (Initn size) = codes "initn " ++ (words_of_path path ++ 32 ∷ decimal size)
+op_word path Clear = codes "clear " ++ words_of_path path
+
 abbrev pub call_word : CallText → List ℕ
 call_word c = op_word c.path c.op
-  where
-    op_word : List PathStep → CallOp → List ℕ
-    op_word path Get = codes "get " ++ words_of_path path
-    op_word path Has = codes "has " ++ words_of_path path
-    op_word path Which = codes "which " ++ words_of_path path
-    op_word path (Set value place) = codes "set " ++ words_of_path path ++ codes " " ++ value
-    op_word path Init = codes "init " ++ words_of_path path
-    op_word path (Initn size) = codes "initn " ++ words_of_path path ++ codes " " ++ decimal size
-    op_word path Clear = codes "clear " ++ words_of_path path
 
 -- ---- how a word is read ----
 

@@ -1,5 +1,5 @@
 -- What holds of words, in their own terms.
-use Rattle.std.specs.Prelude.{ℕ, ◌≡◌, ◌≢◌, ◌<◌, ◌≤◌, pos, negsuc, List, Bool, true, false, All, length, slice_index, slice_get, Some, Ok}
+use Rattle.std.specs.Prelude.{ℕ, ◌+◌, ◌≡◌, ◌≢◌, ◌<◌, ◌≤◌, pos, negsuc, List, Bool, true, false, All, length, slice_index, slice_get, Some, Ok}
 use Rattle.std.specs.List.{AllByRecursion}
 use Rattle.std.specs.Char.{is_ascii, is_ascii_digit}
 use Rattle.capnp_schema.specs.Types.{SchemaType, VoidType, BoolType, IntType, UIntType, EnumType, TextType, DataType}
@@ -9,6 +9,7 @@ use Rattle.capnp_records.specs.Record as value
 use Rattle.capnp_records.specs.Record.{Value}
 use Rattle.capnp_records.specs.Text.{text_of}
 use Rattle.capnp_words.specs.Paths.{is_dot, is_space, path_at, words_of_path}
+use Rattle.capnp_words.specs.Calls.{CallOp, CallText, Get, Has, Which, Set, Init, Initn, Clear, call_at, call_word}
 use Rattle.capnp_words.specs.Values.{greatest_signed, greatest_unsigned, names_of, value_at}
 
 -- ---- paths ----
@@ -36,6 +37,26 @@ OnlyPathsAreRead = (word : List ℕ) (path : List PathStep) → path_at 0 word �
 
 abbrev pub PathsAreDifferent : Type 0
 PathsAreDifferent = (p q : List PathStep) → AllByRecursion IsStep p → AllByRecursion IsStep q → words_of_path p ≡ words_of_path q → p ≡ q
+
+-- ---- calls ----
+
+-- a path that is not empty
+abbrev pub IsPart : List PathStep → Type 0
+IsPart path = AllByRecursion IsStep path × (0 < length path)
+
+-- a value stands behind the space that follows the path
+abbrev pub IsCallOf : List PathStep → CallOp → Type 0
+IsCallOf path Get = IsPart path
+IsCallOf path Has = IsPart path
+IsCallOf path Which = AllByRecursion IsStep path
+IsCallOf path (Set value place) = IsPart path × (place ≡ 4 + (length (words_of_path path) + 1))
+IsCallOf path Init = IsPart path
+IsCallOf path (Initn size) = IsPart path × (size ≤ 4294967295)
+IsCallOf path Clear = IsPart path
+
+-- a call that is written as a word is read as that call
+abbrev pub CallsAreRead : Type 0
+CallsAreRead = (c : CallText) → IsCallOf c.path c.op → call_at (call_word c) ≡ Ok c
 
 -- ---- values ----
 

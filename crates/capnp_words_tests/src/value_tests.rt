@@ -3,7 +3,8 @@
 
 use capnp_base::introspect::{RawBrandedStructSchema, RawEnumSchema, Type, TypeVariant};
 use capnp_schema::builtin;
-use capnp_words::value::parse_value;
+use capnp_schema::set::SchemaSet;
+use capnp_words::value::{PlainValue, parse_value};
 use std::alloc::Global;
 use std::process::Abort;
 use std::test::Fail;
@@ -11,14 +12,25 @@ use std::test::Fail;
 /// A word, and what it is read as under a type of the built-in set: the value as it is printed, or the place.
 type Row = (&'static str, &'static str);
 
+/// The value as it is printed.
+fn printed(alloc: Global, value: &PlainValue<'_>) -> Result<String, Fail> {
+    let reader = value.as_reader();
+    Ok(format!(in alloc; "{reader:?}")?)
+}
+
+/// What a word is read as.
+fn told(alloc: Global, set: &SchemaSet, kind: TypeVariant, word: &str) -> Result<String, Fail> {
+    match parse_value(alloc, set, Type::from(kind), word.as_bytes())? {
+        Ok(value) => printed(alloc, &value),
+        Err(place) => Ok(format!(in alloc; "at {place}")?),
+    }
+}
+
 fn values_are(rt: &impl Abort, alloc: Global, kind: TypeVariant, rows: &[Row]) -> Result<(), Fail> {
     let set = builtin::new_set(alloc)?;
     for (word, expected) in rows {
-        let told = match parse_value(alloc, &set, Type::from(kind), word.as_bytes())? {
-            Ok(value) => format!(in alloc; "{:?}", value.as_reader())?,
-            Err(place) => format!(in alloc; "at {place}")?,
-        };
-        assert_eq!(rt; told.as_str(), *expected, "of {word:?}");
+        let answer = told(alloc, &set, kind, word)?;
+        assert_eq!(rt; answer.as_str(), *expected, "of {word:?}");
     }
     Ok(())
 }
