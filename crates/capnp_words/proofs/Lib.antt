@@ -1,0 +1,14 @@
+pub mod CallHeads
+pub mod CallsRead
+pub mod DigitsRead
+pub mod DigitsSigned
+pub mod EnumerantNames
+pub mod NamesRead
+pub mod PathSteps
+pub mod PathsOnly
+pub mod PathsRead
+pub mod PrintsRead
+pub mod QuotedRead
+pub mod ReadSteps
+pub mod RowsWords
+pub mod SharedBytes

@@ -1,0 +1,122 @@
+-- Worked rows of words.
+use Rattle.std.proofs.Common.{◌≡◌, ℕ, List, [], ◌∷◌, ◌++◌, true, Some, None, Ok, Err, refl, codes}
+use Rattle.std.specs.Prelude.{pos, negsuc}
+use Rattle.std.specs.Char.{encode_utf8}
+use Rattle.capnp_schema.specs.Types.{BoolType, IntType, UIntType, EnumType, TextType, DataType, ListType}
+use Rattle.capnp_schema.specs.Builtin.{builtin}
+use Rattle.capnp_schema.specs.Types.{StructType}
+use Rattle.capnp_records.specs.Call.{FieldNumber, FieldNamed, ElementAt}
+use Rattle.capnp_records.specs.Record as value
+use Rattle.capnp_words.specs.Paths.{path_at}
+use Rattle.capnp_words.specs.Calls.{call_at}
+use Rattle.capnp_words.specs.Calls as call
+use Rattle.capnp_words.specs.Values.{value_at}
+use Rattle.capnp_words.specs.Targets.{type_along}
+
+-- ---- paths ----
+
+path_whole : path_at 0 (codes "people.12.#3") ≡ Ok (FieldNamed (codes "people") ∷ ElementAt 12 ∷ FieldNumber 3 ∷ [])
+path_whole = refl
+
+path_empty : path_at 0 (codes ".") ≡ Ok []
+path_empty = refl
+
+path_nothing : path_at 0 [] ≡ Err 0
+path_nothing = refl
+
+path_two_dots : path_at 0 (codes "a..b") ≡ Err 2
+path_two_dots = refl
+
+path_ends_in_a_dot : path_at 0 (codes "a.") ≡ Err 2
+path_ends_in_a_dot = refl
+
+path_begins_with_a_dot : path_at 0 (codes ".a") ≡ Err 1
+path_begins_with_a_dot = refl
+
+path_field_past_the_last : path_at 0 (codes "#65536") ≡ Err 5
+path_field_past_the_last = refl
+
+path_zero_in_front : path_at 0 (codes "01") ≡ Err 1
+path_zero_in_front = refl
+
+path_space : path_at 0 (codes "a b") ≡ Err 1
+path_space = refl
+
+-- ---- calls ----
+
+call_set : call_at (codes "set a b c") ≡ Ok (record { path = FieldNamed (codes "a") ∷ []; op = call.Set (codes "b c") 6 })
+call_set = refl
+
+call_which : call_at (codes "which .") ≡ Ok (record { path = []; op = call.Which })
+call_which = refl
+
+call_initn : call_at (codes "initn a 7") ≡ Ok (record { path = FieldNamed (codes "a") ∷ []; op = call.Initn 7 })
+call_initn = refl
+
+call_get_of_nothing : call_at (codes "get .") ≡ Err 4
+call_get_of_nothing = refl
+
+call_without_a_value : call_at (codes "set a") ≡ Err 5
+call_without_a_value = refl
+
+call_of_another_name : call_at (codes "initm a") ≡ Err 4
+call_of_another_name = refl
+
+-- ---- values ----
+
+value_least : value_at builtin (IntType 1) (codes "-128") ≡ Ok (value.Number (negsuc 127))
+value_least = refl
+
+value_below_the_least : value_at builtin (IntType 1) (codes "-129") ≡ Err 3
+value_below_the_least = refl
+
+value_minus_zero : value_at builtin (IntType 8) (codes "-0") ≡ Err 1
+value_minus_zero = refl
+
+value_greatest : value_at builtin (UIntType 8) (codes "18446744073709551615") ≡ Ok (value.Number (pos 18446744073709551615))
+value_greatest = refl
+
+value_past_the_greatest : value_at builtin (UIntType 8) (codes "18446744073709551616") ≡ Err 19
+value_past_the_greatest = refl
+
+value_truth : value_at builtin BoolType (codes "true") ≡ Ok (value.Truth true)
+value_truth = refl
+
+value_no_truth : value_at builtin BoolType (codes "falsy") ≡ Err 4
+value_no_truth = refl
+
+value_enumerant : value_at builtin (EnumType 0) (codes "twoBytes") ≡ Ok (value.Enum 3)
+value_enumerant = refl
+
+value_enum_number : value_at builtin (EnumType 0) (codes "65535") ≡ Ok (value.Enum 65535)
+value_enum_number = refl
+
+value_no_enumerant : value_at builtin (EnumType 0) (codes "bytes") ≡ Err 4
+value_no_enumerant = refl
+
+value_text : value_at builtin TextType (codes "a b") ≡ Ok (value.Text (codes "a b"))
+value_text = refl
+
+value_quoted : value_at builtin TextType (34 ∷ 92 ∷ 34 ∷ 92 ∷ 110 ∷ (92 ∷ (codes "u{41}" ++ 34 ∷ []))) ≡ Ok (value.Text (34 ∷ 10 ∷ 65 ∷ []))
+unfolding encode_utf8
+value_quoted = refl
+
+value_half_a_character : value_at builtin TextType (34 ∷ 92 ∷ (codes "u{d800}" ++ 34 ∷ [])) ≡ Err 8
+value_half_a_character = refl
+
+value_data : value_at builtin DataType (codes "0x" ++ 34 ∷ (codes "00ff" ++ 34 ∷ [])) ≡ Ok (value.Data (0 ∷ 255 ∷ []))
+value_data = refl
+
+value_odd_data : value_at builtin DataType (codes "0x" ++ 34 ∷ (codes "00f" ++ 34 ∷ [])) ≡ Err 6
+value_odd_data = refl
+
+value_of_a_list : value_at builtin (ListType BoolType) (codes "[]") ≡ Err 0
+value_of_a_list = refl
+
+-- ---- types along paths ----
+
+type_in_a_list : type_along builtin (StructType 7 7) (FieldNamed (codes "items") ∷ ElementAt 9 ∷ FieldNumber 0 ∷ []) ≡ Some (UIntType 2)
+type_in_a_list = refl
+
+type_of_nothing : type_along builtin (StructType 0 0) (ElementAt 0 ∷ []) ≡ None
+type_of_nothing = refl

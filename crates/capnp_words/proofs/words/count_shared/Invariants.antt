@@ -1,0 +1,12 @@
+use Rattle.std.proofs.Common.{◌≡◌, ◌+◌, ◌-◌, ◌≤◌, length, drop}
+use Rattle.capnp_words.specs.Words.{shared}
+use Rattle.capnp_words.proofs.words.count_shared.Given as goal
+
+abbrev pub invariant-loop-count : goal.invariant-loop-count
+invariant-loop-count l = record {
+  rest : l.count + shared (drop l.count l.word) (drop l.count l.bytes) ≡ shared l.word l.bytes;
+  inside : l.count ≤ length l.bytes;
+}
+
+abbrev pub decreases-loop-count : goal.decreases-loop-count
+decreases-loop-count l = length l.bytes - l.count

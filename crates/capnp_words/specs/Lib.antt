@@ -1,0 +1,10 @@
+pub mod Calls
+pub mod Laws
+pub mod Numbers
+pub mod Paths
+pub mod Quoted
+pub mod Reads
+pub mod Seen
+pub mod Targets
+pub mod Values
+pub mod Words

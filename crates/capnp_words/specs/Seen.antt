@@ -1,0 +1,55 @@
+-- What the code's paths, calls and values stand for.
+use Rattle.std.specs.Prelude.{List, map, pos}
+use Rattle.std.specs.String.{string_bytes}
+use Rattle.capnp_records.specs.Call.{PathStep, FieldNumber, FieldNamed, ElementAt}
+use Rattle.capnp_records.specs.Record as value
+use Rattle.capnp_records.specs.Record.{Value}
+use Rattle.capnp_dynamic_readers.specs.Handles.{number_in}
+use Rattle.capnp_words.specs.Calls as text
+use Rattle.capnp_words.specs.Calls.{CallOp, CallText}
+use Rattle.capnp_words.specs.declared.path.PathStep.{PathStep as WordStep}
+use Rattle.capnp_words.specs.declared.path.PathStep.TheVariants as step
+use Rattle.capnp_words.specs.declared.path.Path.{Path}
+use Rattle.capnp_words.specs.declared.call.WordOp.{WordOp}
+use Rattle.capnp_words.specs.declared.call.WordOp.TheVariants as op
+use Rattle.capnp_words.specs.declared.call.CallWord.{CallWord}
+use Rattle.capnp_words.specs.declared.value.PlainValue.{PlainValue}
+use Rattle.capnp_words.specs.declared.value.PlainValue.TheVariants as plain
+
+abbrev pub step_seen : WordStep → PathStep
+step_seen (step.Named name) = FieldNamed (string_bytes name)
+step_seen (step.Field i) = FieldNumber i
+step_seen (step.Element i) = ElementAt i
+
+abbrev pub steps_seen : List WordStep → List PathStep
+steps_seen steps = map step_seen steps
+
+abbrev pub path_seen : Path → List PathStep
+path_seen path = steps_seen path.steps.items
+
+abbrev pub op_seen : WordOp → CallOp
+op_seen op.Get = text.Get
+op_seen op.Has = text.Has
+op_seen op.Which = text.Which
+op_seen (op.Set bytes place) = text.Set bytes.items place
+op_seen op.Init = text.Init
+op_seen (op.Initn size) = text.Initn size
+op_seen op.Clear = text.Clear
+
+abbrev pub call_seen : CallWord → CallText
+call_seen c = record { path = path_seen c.path; op = op_seen c.op }
+
+abbrev pub plain_seen : PlainValue → Value
+plain_seen plain.Void = value.Void
+plain_seen (plain.Bool b) = value.Truth b
+plain_seen (plain.Int8 x) = value.Number x
+plain_seen (plain.Int16 x) = value.Number x
+plain_seen (plain.Int32 x) = value.Number x
+plain_seen (plain.Int64 x) = value.Number x
+plain_seen (plain.UInt8 x) = value.Number (pos x)
+plain_seen (plain.UInt16 x) = value.Number (pos x)
+plain_seen (plain.UInt32 x) = value.Number (pos x)
+plain_seen (plain.UInt64 x) = value.Number (pos x)
+plain_seen (plain.Enum e) = value.Enum (number_in e)
+plain_seen (plain.Text bytes) = value.Text bytes.items
+plain_seen (plain.«Data» bytes) = value.Data bytes.items

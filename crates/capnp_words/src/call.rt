@@ -1,0 +1,195 @@
+//! Calls as words.
+ghost use Rattle.std.specs.Prelude.{◌≡◌, ◌+◌, ◌<◌, ◌≤◌, ◌^◌, length, IfErr, IfOk};
+ghost use Rattle.std.specs.Str.{IsCharBoundary};
+ghost use Rattle.capnp_device.specs.declared.error.ErrorKind.TheVariants.{OutOfMemory};
+ghost use Rattle.capnp_words.specs.Reads.{read_as};
+ghost use Rattle.capnp_words.specs.declared.call.Head.TheVariants as head;
+ghost use Rattle.capnp_words.specs.Words.{begins_with_one};
+ghost use Rattle.capnp_words.specs.Calls.{after_head, call_at, call_of, heads, to_part, value_given, size_given, unfinished, with_argument};
+ghost use Rattle.capnp_words.specs.Seen.{call_seen, op_seen, path_seen};
+
+use crate::numbers::read_decimal;
+use crate::path::{Path, Read, parse_path_at, parse_steps};
+use crate::words::is_front;
+use capnp_wire::error::Result;
+use std::alloc::Global;
+
+/// What a call does at the end of its path.
+#[derive(Debug, Drop, PartialEq, Eq)]
+pub enum WordOp {
+    Get,
+    Has,
+    Which,
+    /// Sets to the value of these bytes, which stand at this place in the call's word.
+    Set(Vec<u8>, usize),
+    Init,
+    /// Makes a list, text or data of this size.
+    Initn(u32),
+    Clear,
+}
+
+/// A call. Its path is empty only of `which`.
+#[derive(Debug, Drop, PartialEq, Eq)]
+pub struct CallWord {
+    pub path: Path,
+    pub op: WordOp,
+}
+
+/// What a call's word begins with.
+#[derive(Clone, Copy)]
+enum Head {
+    Set,
+    Init,
+    Initn,
+    Clear,
+    Get,
+    Has,
+    Which,
+}
+
+/// What the word begins with, and how many bytes that has. The word may be cut there.
+fn parse_head(word: &str) -> Read<(Head, usize)>
+    ensures read { result ≡ begins_with_one heads 0 word.now }
+    ensures inside { IfOk result (λ h. IsCharBoundary word.now h.1) }
+{
+    let bytes = word.as_bytes();
+    let mut longest = 0;
+    if is_front(b"set ", bytes, &mut longest) {
+        return Ok((Head::Set, 4));
+    }
+    if is_front(b"init ", bytes, &mut longest) {
+        return Ok((Head::Init, 5));
+    }
+    if is_front(b"initn ", bytes, &mut longest) {
+        return Ok((Head::Initn, 6));
+    }
+    if is_front(b"clear ", bytes, &mut longest) {
+        return Ok((Head::Clear, 6));
+    }
+    if is_front(b"get ", bytes, &mut longest) {
+        return Ok((Head::Get, 4));
+    }
+    if is_front(b"has ", bytes, &mut longest) {
+        return Ok((Head::Has, 4));
+    }
+    if is_front(b"which ", bytes, &mut longest) {
+        return Ok((Head::Which, 6));
+    }
+    Err(longest)
+}
+
+/// A call of a path alone, which is not empty.
+fn parse_part(alloc: Global, op: WordOp, rest: &str, place: usize) -> Result<Read<CallWord>>
+    requires { place + length rest.now < 2 ^ 64 }
+    ensures read { IfOk result (λ r. read_as call_seen r ≡ to_part (op_seen op) place rest.now) }
+    ensures memory { IfErr result (λ e. e.kind ≡ OutOfMemory) }
+{
+    match parse_steps(alloc, rest, place)? {
+        Ok(path) => Ok(Ok(CallWord { path, op })),
+        Err(fault) => Ok(Err(fault)),
+    }
+}
+
+/// The active member of a struct, whose path may be empty.
+fn parse_which(alloc: Global, rest: &str, place: usize) -> Result<Read<CallWord>>
+    requires { place + length rest.now < 2 ^ 64 }
+    ensures read { IfOk result (λ r. read_as call_seen r ≡ after_head head.Which place rest.now) }
+    ensures memory { IfErr result (λ e. e.kind ≡ OutOfMemory) }
+{
+    match parse_path_at(alloc, rest, place)? {
+        Ok(path) => Ok(Ok(CallWord {
+            path,
+            op: WordOp::Which,
+        })),
+        Err(fault) => Ok(Err(fault)),
+    }
+}
+
+/// A path that is not empty, and after a space a value.
+fn parse_set(alloc: Global, rest: &str, place: usize) -> Result<Read<CallWord>>
+    requires { place + length rest.now < 2 ^ 64 }
+    ensures read { IfOk result (λ r. read_as call_seen r ≡ with_argument value_given place rest.now) }
+    ensures memory { IfErr result (λ e. e.kind ≡ OutOfMemory) }
+{
+    let Some((steps, value)) = rest.split_once(' ') else {
+        return parse_unfinished(alloc, rest, place);
+    };
+    match parse_steps(alloc, steps, place)? {
+        Ok(path) => {
+            let bytes = value.as_bytes().to_vec(alloc)?;
+            let op = WordOp::Set(bytes, place + steps.len() + 1);
+            Ok(Ok(CallWord { path, op }))
+        }
+        Err(fault) => Ok(Err(fault)),
+    }
+}
+
+/// A path that is not empty, and after a space a size.
+fn parse_initn(alloc: Global, rest: &str, place: usize) -> Result<Read<CallWord>>
+    requires { place + length rest.now < 2 ^ 64 }
+    ensures read { IfOk result (λ r. read_as call_seen r ≡ with_argument size_given place rest.now) }
+    ensures memory { IfErr result (λ e. e.kind ≡ OutOfMemory) }
+{
+    let Some((steps, size)) = rest.split_once(' ') else {
+        return parse_unfinished(alloc, rest, place);
+    };
+    match parse_steps(alloc, steps, place)? {
+        Ok(path) => Ok(parse_size(path, size.as_bytes(), place + steps.len() + 1)),
+        Err(fault) => Ok(Err(fault)),
+    }
+}
+
+/// A size, to the end of the word.
+fn parse_size(path: Path, size: &[u8], place: usize) -> Read<CallWord>
+    requires { place + length size.now < 2 ^ 64 }
+    ensures { read_as call_seen result ≡ read_as (λ op. call_of op (path_seen path)) (size_given place size.now) }
+{
+    let count = read_decimal(size, place, u64::from(u32::MAX))?;
+    let op = WordOp::Initn(count as u32);
+    Ok(CallWord { path, op })
+}
+
+/// A path with no space behind it, where one has to stand: the path's fault, or the end of the word.
+fn parse_unfinished(alloc: Global, rest: &str, place: usize) -> Result<Read<CallWord>>
+    requires { place + length rest.now < 2 ^ 64 }
+    ensures read { IfOk result (λ r. read_as call_seen r ≡ unfinished place rest.now) }
+    ensures memory { IfErr result (λ e. e.kind ≡ OutOfMemory) }
+{
+    match parse_steps(alloc, rest, place)? {
+        Ok(_) => Ok(Err(place + rest.len())),
+        Err(fault) => Ok(Err(fault)),
+    }
+}
+
+/// What follows a call's first word.
+fn parse_rest(alloc: Global, head: Head, rest: &str, place: usize) -> Result<Read<CallWord>>
+    requires { place + length rest.now < 2 ^ 64 }
+    ensures read { IfOk result (λ r. read_as call_seen r ≡ after_head head place rest.now) }
+    ensures memory { IfErr result (λ e. e.kind ≡ OutOfMemory) }
+{
+    match head {
+        Head::Set => parse_set(alloc, rest, place),
+        Head::Init => parse_part(alloc, WordOp::Init, rest, place),
+        Head::Initn => parse_initn(alloc, rest, place),
+        Head::Clear => parse_part(alloc, WordOp::Clear, rest, place),
+        Head::Get => parse_part(alloc, WordOp::Get, rest, place),
+        Head::Has => parse_part(alloc, WordOp::Has, rest, place),
+        Head::Which => parse_which(alloc, rest, place),
+    }
+}
+
+/// The call that a word is, with one space between its parts: `set PATH VALUE`, `init PATH`, `initn PATH N`, `clear PATH`,
+/// `get PATH`, `has PATH` or `which PATH`. A path is as `parse_path` reads it, and empty only of `which`. A value is all that
+/// follows its space, also nothing; N is up to 2^32 - 1.
+///
+/// Any other word is refused, in the inner result, with the place of the first byte that can't stand, or with its length where
+/// it ends too soon. The outer result is refused with `OutOfMemory` alone.
+pub fn parse_call(alloc: Global, word: &str) -> Result<Read<CallWord>>
+    ensures read { IfOk result (λ r. read_as call_seen r ≡ call_at word.now) }
+    ensures memory { IfErr result (λ e. e.kind ≡ OutOfMemory) }
+{
+    match parse_head(word) {
+        Ok((head, count)) => parse_rest(alloc, head, &word[count..], count),
+        Err(fault) => Ok(Err(fault)),
+    }
+}
