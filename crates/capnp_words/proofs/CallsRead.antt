@@ -1,16 +1,14 @@
 -- Calls are read as they are written.
-use Rattle.std.proofs.Common.{◌≡◌, ℕ, zero, suc, ◌+◌, ◌^◌, ◌<◌, ◌≤◌, List, [], ◌∷◌, ◌++◌, length, get_or, take, drop, Bool, true, false, cond, Ok, Err, refl, ap, sym, ◌∙◌, map, arith, length-append}
+use Rattle.std.proofs.Common.{◌≡◌, ℕ, suc, ◌+◌, ◌^◌, ◌<◌, List, [], ◌∷◌, ◌++◌, length, get_or, take, drop, true, false, Ok, refl, ap, sym, ◌∙◌, map, arith, length-append}
 use Rattle.std.specs.Prelude.{decimal, nat_lt}
-use Rattle.std.specs.List.{AllByRecursion, after_first, before_first, join_with_byte, position_or_len}
+use Rattle.std.specs.List.{AllByRecursion, join_with_byte, position_or_len}
 use Rattle.std.specs.Char.{is_ascii_digit}
-use Rattle.std.proofs.Math.Seq.{drop-append_seam}
 use Rattle.std.proofs.lemmas.Bool.Decides.{nat_tests}
 use Rattle.capnp_records.specs.Call.{PathStep, FieldNumber, FieldNamed, ElementAt}
-use Rattle.capnp_words.specs.Reads.{Read, read_as, read_then}
-use Rattle.capnp_words.specs.Numbers.{decimal_at}
-use Rattle.capnp_words.specs.Paths.{is_space, path_at, steps_at, step_word, words_of_path, parts_at}
-use Rattle.capnp_words.specs.Calls.{CallOp, CallText, Get, Has, Which, Set, Init, Initn, Clear, call_at, call_of, op_word, size_given, value_given, with_argument}
-use Rattle.capnp_words.specs.Laws.{CallsAreRead, IsCallOf, IsName, IsPart, IsStep}
+use Rattle.capnp_words.specs.Reads.{Read, read_as}
+use Rattle.capnp_words.specs.Paths.{is_space, steps_at, step_word, words_of_path, parts_at}
+use Rattle.capnp_words.specs.Calls.{CallOp, Get, Has, Which, Set, Init, Initn, Clear, call_at, call_of, op_word, size_given, value_given, with_argument}
+use Rattle.capnp_words.specs.Laws.{CallsAreRead, IsCallOf, IsPart, IsStep}
 use Rattle.capnp_words.proofs.DigitsRead.{decimal_again, decimal_digits}
 use Rattle.capnp_words.proofs.PathsRead.{parts_again, path_again, split_joined}
 
@@ -80,7 +78,7 @@ call_again path (Set value place) h =
 call_again path Init h = ap (read_as (call_of Init)) (part_again 5 path h)
 call_again path (Initn size) h =
     with_again size_given 6 (words_of_path path) (decimal size) path (Initn size) (path_no_space path h.0.0) (part_again 6 path h.0)
-        (ap (read_as Initn) (decimal_again 4294967295 (6 + (length (words_of_path path) + 1)) size (omega arith) h.1))
+    (ap (read_as Initn) (decimal_again 4294967295 (6 + (length (words_of_path path) + 1)) size (omega arith) h.1))
 call_again path Clear h = ap (read_as (call_of Clear)) (part_again 6 path h)
 
 pub calls_read : CallsAreRead

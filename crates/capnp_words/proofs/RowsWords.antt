@@ -1,5 +1,5 @@
 -- Worked rows of words.
-use Rattle.std.proofs.Common.{◌≡◌, ℕ, List, [], ◌∷◌, ◌++◌, true, Some, None, Ok, Err, refl, codes}
+use Rattle.std.proofs.Common.{◌≡◌, [], ◌∷◌, ◌++◌, true, Some, None, Ok, Err, refl, codes}
 use Rattle.std.specs.Prelude.{pos, negsuc}
 use Rattle.std.specs.Char.{encode_utf8}
 use Rattle.capnp_schema.specs.Types.{BoolType, IntType, UIntType, EnumType, TextType, DataType, ListType}

@@ -62,7 +62,6 @@ CallsAreRead = (c : CallText) → IsCallOf c.path c.op → call_at (call_word c)
 
 -- the names of an enum are distinct, and none begins with a digit
 pub record AreNames (names : List (List ℕ)) : Type 0 where
-  pub few : length names ≤ 65536
   pub distinct : (i j : ℕ) (name : List ℕ) → slice_get names i ≡ Some name → slice_get names j ≡ Some name → i ≡ j
   pub begin : (i : ℕ) (name : List ℕ) → slice_get names i ≡ Some name → is_ascii_digit (slice_index name 0) ≡ false
 
