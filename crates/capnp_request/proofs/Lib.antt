@@ -1,9 +1,13 @@
+pub mod BindingsCompared
 pub mod BrandsMade
 pub mod FieldsRead
 pub mod NamesRead
+pub mod Numbering
 pub mod PartsSeen
 pub mod RefusedKinds
 pub mod Rows
 pub mod Sounds
 pub mod Taken
+pub mod TypesMeant
+pub mod TypesSeen
 pub mod ValuesRead

@@ -19,7 +19,7 @@ abbrev slot : List ℕ → ℕ → ℕ → TypeTerm → FieldTerm
 slot name discriminant offset t = field name discriminant (SlotTerm offset t (Stands VoidValue))
 
 abbrev struct_kind : (group : Bool) → (members : ℕ) → List FieldTerm → NodeKind
-struct_kind group members fields = StructNode (record { data_words = 1; pointers = 2; is_group = group; discriminant_count = members; discriminant_offset = 3; fields = Ok fields })
+struct_kind group members fields = StructNode (record { data_words = 1; pointers = 2; is_group = group; discriminant_count = members; discriminant_offset = 3; fields = Ok (map (λ (f : FieldTerm). Ok f) fields) })
 
 abbrev node : ℕ → List ℕ → ℕ → List ℕ → ℕ → NodeKind → SchemaNode
 node id name scope nested parameters kind = record { id = id; display_name = Ok name; scope = scope; nested = Ok nested; annotations = Ok []; parameters = Ok parameters; kind = kind }
@@ -102,7 +102,7 @@ annotated = request (
     file (2 ∷ [])
     ∷ node 7 (codes "x.capnp:note") 1 [] 0 (AnnotationNode (Plain TextType))
     ∷ node 2 (codes "x.capnp:A") 1 [] 0 (struct_kind false 0 (
-    record { name = Ok (codes "n"); discriminant_value = 65535; annotations = Ok (record { id = 7; value = Stands (TextValue (codes "hi")); brand = NoScopes } ∷ []); kind = SlotTerm 0 (Plain (UIntType 2)) (Stands (UIntValue 2 5)) }
+    record { name = Ok (codes "n"); discriminant_value = 65535; annotations = Ok (Ok (record { id = 7; value = Stands (TextValue (codes "hi")); brand = NoScopes }) ∷ []); kind = SlotTerm 0 (Plain (UIntType 2)) (Stands (UIntValue 2 5)) }
     ∷ slot (codes "f") 65535 0 Float64 ∷ []))
     ∷ [])
 

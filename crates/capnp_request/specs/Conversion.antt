@@ -6,10 +6,10 @@ use Rattle.capnp_wire.specs.Reading.{is_null_tree}
 use Rattle.capnp_schema.specs.Schema.{Annotation, Field, FieldKind, Group, Slot}
 use Rattle.capnp_schema.specs.Types.{SchemaType, AnyPointerType, StructType}
 use Rattle.capnp_request.specs.Scopes.{node_named, scopes_of}
-use Rattle.capnp_request.specs.Terms.{AnnotationNode, AnnotationTerm, BrandTerm, EnumNode, FieldKindTerm, FieldTerm, GroupTerm, ListWords, NodeKind, OtherNode, Said, SchemaNode, SlotTerm, Stands, StructNode, StructWords, UnreadField, UnreadValue, Untyped, ValueTerm}
+use Rattle.capnp_request.specs.Terms.{AnnotationNode, AnnotationTerm, BrandTerm, EnumNode, FieldKindTerm, FieldTerm, GroupTerm, ListWords, NodeKind, OtherNode, Said, SchemaNode, SlotTerm, Stands, StructNode, StructWords, TypeTerm, UnreadField, UnreadValue, Untyped, ValueTerm}
 use Rattle.capnp_request.specs.Types.{add_entry, bind_scope, brand_types, is_struct, type_of, where_node}
 use Rattle.capnp_request.specs.Values.{value_of}
-use Rattle.capnp_request.specs.Work.{◌>>=◌, Bound, GroupOf, Seen, Work, each, given, nothing_seen, refused, said}
+use Rattle.capnp_request.specs.Work.{◌>>=◌, Bound, GroupOf, Seen, Work, each, each_read, given, refused, said, seen_in, unnoted}
 
 -- ---- notes ----
 
@@ -39,10 +39,6 @@ notes_of entry field seen untyped_default =
     ++ note_where seen.interface (note_at entry field InterfaceNote)
     ++ note_where untyped_default (note_at entry field UntypedDefaultNote)
 
--- work with what was seen in it alone
-abbrev pub seen_in : {A : Type 0} → Work A → Work (A × Seen)
-seen_in w s = (w >>= (λ a s. Ok ((a, s.seen), s))) (record s { seen = nothing_seen })
-
 abbrev pub is_untyped : SchemaType → Bool
 is_untyped AnyPointerType = true
 is_untyped t = false
@@ -66,27 +62,35 @@ pub record Converted : Type 0 where
   pub annotation_types : List SchemaType
   pub notes : List Note
 
+-- the type that an annotation node is declared with
+abbrev pub kind_declared : NodeKind → Option TypeTerm
+kind_declared (AnnotationNode t) = Some t
+kind_declared (StructNode part) = None
+kind_declared (EnumNode enumerants) = None
+kind_declared OtherNode = None
+
+abbrev pub declared_term : Option SchemaNode → Option TypeTerm
+declared_term (Some n) = kind_declared n.kind
+declared_term None = None
+
 module _ (nodes : List SchemaNode) (strict : Bool) where
   -- ---- annotations ----
 
   -- the type of an annotation: that of its declaration, read inside what its brand binds there
-  abbrev pub declared_in : NodeKind → List Bound → Work SchemaType
-  declared_in (AnnotationNode t) bound = type_of nodes strict bound t
-  declared_in (StructNode part) bound = refused NodeNotFound
-  declared_in (EnumNode enumerants) bound = refused NodeNotFound
-  declared_in OtherNode bound = refused NodeNotFound
+  abbrev pub declared_in : Option TypeTerm → Work (List Bound) → Work SchemaType
+  declared_in (Some t) bindings = bindings >>= (λ bound. type_of nodes strict bound t)
+  declared_in None bindings = refused NodeNotFound
 
-  abbrev pub declared_type : Option SchemaNode → List Bound → BrandTerm → Work SchemaType
-  declared_type None inside brand = refused NodeNotFound
-  declared_type (Some n) inside brand =
-      said (scopes_of nodes n.id) >>= (λ scopes. each (bind_scope (brand_types nodes strict inside brand)) scopes >>= declared_in n.kind)
+  abbrev pub declared_type : ℕ → List Bound → BrandTerm → Work SchemaType
+  declared_type id inside brand =
+      declared_in (declared_term (node_named nodes id)) (said (scopes_of nodes id) >>= each (bind_scope (brand_types nodes strict inside brand)))
 
   abbrev pub annotation_of : List Bound → AnnotationTerm → Work (Annotation × SchemaType)
   annotation_of inside a =
-      said (value_of a.value) >>= (λ v. declared_type (node_named nodes a.id) inside a.brand >>= (λ t. given (record { id = a.id; value = v }, t)))
+      said (value_of a.value) >>= (λ v. unnoted (declared_type a.id inside a.brand) >>= (λ t. given (record { id = a.id; value = v }, t)))
 
-  abbrev pub annotations_of : List Bound → Said (List AnnotationTerm) → Work (List (Annotation × SchemaType))
-  annotations_of inside list = said list >>= each (annotation_of inside)
+  abbrev pub annotations_of : List Bound → Said (List (Said AnnotationTerm)) → Work (List (Annotation × SchemaType))
+  annotations_of inside list = said list >>= each_read (annotation_of inside)
 
   -- ---- fields ----
 
@@ -110,6 +114,6 @@ module _ (nodes : List SchemaNode) (strict : Bool) where
       })))))
 
   -- the fields of an entry, by index
-  abbrev pub fields_of : List Bound → (n i : ℕ) → List FieldTerm → Work (List Converted)
+  abbrev pub fields_of : List Bound → (n i : ℕ) → List (Said FieldTerm) → Work (List Converted)
   fields_of inside n i [] s = Ok ([], s)
-  fields_of inside n i (f ∷ fs) s = (field_of inside n i f >>= (λ first. fields_of inside n (i + 1) fs >>= (λ rest. given (first ∷ rest)))) s
+  fields_of inside n i (f ∷ fs) s = ((said f >>= field_of inside n i) >>= (λ first. fields_of inside n (i + 1) fs >>= (λ rest. given (first ∷ rest)))) s

@@ -1,7 +1,11 @@
+pub mod Bindings
 pub mod Conversion
+pub mod EntriesSeen
 pub mod Handles
+pub mod Meant
 pub mod Names
 pub mod Nodes
+pub mod Numbers
 pub mod Order
 pub mod Parts
 pub mod Reading

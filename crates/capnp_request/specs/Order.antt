@@ -10,7 +10,7 @@ use Rattle.capnp_request.specs.Names.{Holder, dotted_of, enum_name, group_name, 
 use Rattle.capnp_request.specs.Scopes.{is_met, node_named, scopes_of}
 use Rattle.capnp_request.specs.Terms.{AnnotationNode, EnumNode, EnumerantTerm, NodeKind, OtherNode, RequestTerm, Said, SchemaNode, StructNode, StructPart}
 use Rattle.capnp_request.specs.Types.{number_struct}
-use Rattle.capnp_request.specs.Work.{◌>>=◌, Entry, GroupOf, Named, Place, Whole, Work, each, given, nothing_seen, refused, said}
+use Rattle.capnp_request.specs.Work.{◌>>=◌, Entry, GroupOf, Named, Place, Whole, Work, each, each_read, given, nothing_seen, refused, said}
 
 -- what is made so far, and the dotted names that entries had
 pub record Made : Type 0 where
@@ -41,7 +41,7 @@ at_struct (EnumNode enumerants) f = refused NodeNotFound
 at_struct (AnnotationNode t) f = refused NodeNotFound
 at_struct OtherNode f = refused NodeNotFound
 
-abbrev pub at_enum : {A : Type 0} → NodeKind → (Said (List EnumerantTerm) → Work A) → Work A
+abbrev pub at_enum : {A : Type 0} → NodeKind → (Said (List (Said EnumerantTerm)) → Work A) → Work A
 at_enum (EnumNode enumerants) f = f enumerants
 at_enum (StructNode part) f = refused NodeNotFound
 at_enum (AnnotationNode t) f = refused NodeNotFound
@@ -89,9 +89,9 @@ module _ (nodes : List SchemaNode) (strict : Bool) where
       >>= (λ annotations. given (record { name = name; annotations = firsts annotations }, seconds annotations))))
 
   -- an enum: its enumerants, and then its own annotations; nothing is bound there
-  abbrev pub made_enum : Made → SchemaNode → ℕ → List ℕ → Said (List EnumerantTerm) → Work Made
+  abbrev pub made_enum : Made → SchemaNode → ℕ → List ℕ → Said (List (Said EnumerantTerm)) → Work Made
   made_enum m n id name enumerants =
-      said enumerants >>= (λ list. each enumerant_of list >>= (λ children. annotations_of nodes strict [] n.annotations
+      said enumerants >>= (λ list. each_read enumerant_of list >>= (λ children. annotations_of nodes strict [] n.annotations
       >>= (λ own. given (record m {
         enums = m.enums ++ record { id = id; display_name = name; annotations = firsts own; enumerants = map (λ (c : Enumerant × List SchemaType). c.0) children; annotation_types = record { own = seconds own; children = map (λ (c : Enumerant × List SchemaType). c.1) children } } ∷ [];
       }))))

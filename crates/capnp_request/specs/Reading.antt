@@ -40,18 +40,26 @@ text_in (value.Text bytes) = Ok bytes
 text_in (value.Fault kind) = Err kind
 text_in v = Err TypeMismatch
 
+-- what each struct of a list of them says
+abbrev pub each_said : {A : Type 0} → ℕ → (Record → A) → Values → List (Said A)
+each_said b f NoValues = []
+each_said b f (MoreValues v vs) = in_struct Err (λ r. Ok (f r)) (element_read b v) ∷ each_said b f vs
+
+abbrev pub list_said : {A : Type 0} → ℕ → (Record → A) → RecordValue → Said (List (Said A))
+list_said b f = in_list Err (λ vs. Ok (each_said b f vs))
+
 abbrev pub both_said : {A : Type 0} → Said A → Said (List A) → Said (List A)
 both_said (Ok a) (Ok rest) = Ok (a ∷ rest)
 both_said (Ok a) (Err kind) = Err kind
 both_said (Err kind) rest = Err kind
 
--- what each struct of a list of them says
-abbrev pub each_said : {A : Type 0} → ℕ → (Record → A) → Values → Said (List A)
-each_said b f NoValues = Ok []
-each_said b f (MoreValues v vs) = both_said (in_struct Err (λ r. Ok (f r)) (element_read b v)) (each_said b f vs)
+-- all of these, where each can be read
+abbrev pub all_said : {A : Type 0} → List (Said A) → Said (List A)
+all_said [] = Ok []
+all_said (x ∷ xs) = both_said x (all_said xs)
 
-abbrev pub list_said : {A : Type 0} → ℕ → (Record → A) → RecordValue → Said (List A)
-list_said b f = in_list Err (each_said b f)
+abbrev pub whole_list : {A : Type 0} → ℕ → (Record → A) → RecordValue → Said (List A)
+whole_list b f = in_list Err (λ vs. all_said (each_said b f vs))
 
 abbrev pub value_count : Values → ℕ
 value_count NoValues = 0
@@ -73,6 +81,9 @@ untyped = term.Plain AnyPointerType
 
 abbrev pub untyped_kinds : List (RecordValue → TypeTerm)
 untyped_kinds = (λ v. untyped) ∷ in_struct term.UnreadType parameter_said ∷ (λ v. untyped) ∷ []
+
+abbrev pub untyped_term : RecordValue → TypeTerm
+untyped_term = in_struct term.UnreadType (λ r. by_member (term.UnreadType UnknownKind) untyped_kinds 17 (which_of r) r)
 
 -- the parts of types, where a type inside another is read so
 module _ (inner : Record → TypeTerm) where
@@ -102,6 +113,9 @@ module _ (inner : Record → TypeTerm) where
   abbrev pub brand_in : RecordValue → BrandTerm
   brand_in = in_struct term.UnreadBrand (λ r. in_list term.UnreadBrand scopes_said (read_at 19 0 r))
 
+  abbrev pub struct_term : RecordValue → TypeTerm
+  struct_term = in_struct term.UnreadType (λ r. term.StructTerm (number_in (read_at 16 0 r)) (brand_in (read_at 16 1 r)))
+
   -- the members of a type, by index
   abbrev pub type_kinds : List (RecordValue → TypeTerm)
   type_kinds =
@@ -112,9 +126,9 @@ module _ (inner : Record → TypeTerm) where
       ∷ (λ v. term.Plain TextType) ∷ (λ v. term.Plain DataType)
       ∷ in_struct term.UnreadType (λ r. term.ListTerm (type_in (read_at 14 0 r)))
       ∷ in_struct term.UnreadType (λ r. term.EnumTerm (number_in (read_at 15 0 r)))
-      ∷ in_struct term.UnreadType (λ r. term.StructTerm (number_in (read_at 16 0 r)) (brand_in (read_at 16 1 r)))
+      ∷ struct_term
       ∷ (λ v. term.Interface)
-      ∷ in_struct term.UnreadType (λ r. by_member (term.UnreadType UnknownKind) untyped_kinds 17 (which_of r) r)
+      ∷ untyped_term
       ∷ []
 
 -- a type, through at most so many types in one another
@@ -171,7 +185,7 @@ value_in = in_struct term.UnreadValue value_said
 abbrev pub annotation_said : Record → AnnotationTerm
 annotation_said r = record { id = number_in (read_at 12 0 r); value = value_in (read_at 12 1 r); brand = brand_in whole_type (read_at 12 2 r) }
 
-abbrev pub annotations_in : RecordValue → Said (List AnnotationTerm)
+abbrev pub annotations_in : RecordValue → Said (List (Said AnnotationTerm))
 annotations_in = list_said 12 annotation_said
 
 abbrev pub slot_said : Record → FieldKindTerm
@@ -194,30 +208,36 @@ enumerant_said r = record { name = text_in (read_at 11 0 r); annotations = annot
 
 -- ---- nodes ----
 
-abbrev pub struct_said : Record → NodeKind
-struct_said r = term.StructNode (record {
-  data_words = number_in (read_at 3 0 r);
-  pointers = number_in (read_at 3 1 r);
-  is_group = truth_in (read_at 3 2 r);
-  discriminant_count = number_in (read_at 3 3 r);
-  discriminant_offset = number_in (read_at 3 4 r);
-  fields = list_said 8 field_said (read_at 3 5 r);
+abbrev pub number_at : ℕ → ℕ → RecordValue → ℕ
+number_at b i = in_struct (λ kind. 0) (λ r. number_in (read_at b i r))
+
+abbrev pub struct_in : RecordValue → NodeKind
+struct_in v = term.StructNode (record {
+  data_words = number_at 3 0 v;
+  pointers = number_at 3 1 v;
+  is_group = in_struct (λ kind. false) (λ r. truth_in (read_at 3 2 r)) v;
+  discriminant_count = number_at 3 3 v;
+  discriminant_offset = number_at 3 4 v;
+  fields = in_struct Err (λ r. list_said 8 field_said (read_at 3 5 r)) v;
 })
+
+abbrev pub enum_in : RecordValue → NodeKind
+enum_in v = term.EnumNode (in_struct Err (λ r. list_said 11 enumerant_said (read_at 4 0 r)) v)
+
+abbrev pub annotation_in : RecordValue → NodeKind
+annotation_in v = term.AnnotationNode (in_struct term.UnreadType (λ r. in_struct term.UnreadType whole_type (read_at 5 0 r)) v)
 
 abbrev pub other : RecordValue → NodeKind
 other v = term.OtherNode
-
-abbrev pub unread_node : ErrorKind → NodeKind
-unread_node kind = term.OtherNode
 
 -- the fields of a node by index, of which 5 to 10 are members; what is none of these three isn't looked at
 abbrev pub node_kinds : List (RecordValue → NodeKind)
 node_kinds =
     other ∷ other ∷ other ∷ other ∷ other ∷ other
-    ∷ in_struct unread_node struct_said
-    ∷ in_struct unread_node (λ r. term.EnumNode (list_said 11 enumerant_said (read_at 4 0 r)))
+    ∷ struct_in
+    ∷ enum_in
     ∷ other ∷ other
-    ∷ in_struct unread_node (λ r. term.AnnotationNode (in_struct term.UnreadType whole_type (read_at 5 0 r)))
+    ∷ annotation_in
     ∷ []
 
 -- an id that is listed, of a nested node or of a requested file
@@ -229,11 +249,15 @@ node_said r = record {
   id = number_in (read_at 2 0 r);
   display_name = text_in (read_at 2 1 r);
   scope = number_in (read_at 2 2 r);
-  nested = list_said 6 (id_said 6) (read_at 2 3 r);
+  nested = whole_list 6 (id_said 6) (read_at 2 3 r);
   annotations = annotations_in (read_at 2 4 r);
   parameters = in_list Err (λ vs. Ok (value_count vs)) (read_at 2 11 r);
   kind = by_member term.OtherNode node_kinds 2 (which_of r) r;
 }
+
+-- the nodes of a request
+abbrev pub nodes_in : Record → Said (List SchemaNode)
+nodes_in r = whole_list 2 node_said (read_at 0 0 r)
 
 abbrev pub request_with : Said (List ℕ) → Said (List SchemaNode) → Said RequestTerm
 request_with files (Ok nodes) = Ok (record { nodes = nodes; files = files })
@@ -241,4 +265,4 @@ request_with files (Err kind) = Err kind
 
 -- a whole request
 abbrev pub request_said : Record → Said RequestTerm
-request_said r = request_with (list_said 1 (id_said 1) (read_at 0 1 r)) (list_said 2 node_said (read_at 0 0 r))
+request_said r = request_with (whole_list 1 (id_said 1) (read_at 0 1 r)) (nodes_in r)

@@ -3,10 +3,14 @@ use Rattle.std.specs.Prelude.{ℕ, zero, suc, ◌+◌, List, [], ◌∷◌, Bool
 use Rattle.capnp_request.specs.Terms.{Said, SchemaNode}
 use Rattle.capnp_request.specs.Work.{Bound}
 
+abbrev pub some_where : {A : Type 0} → Bool → A → Option A → Option A
+some_where true a rest = Some a
+some_where false a rest = rest
+
 -- where two nodes have one id, the first counts
 abbrev pub node_named : List SchemaNode → ℕ → Option SchemaNode
 node_named [] id = None
-node_named (n ∷ ns) id = elim (n.id == id) [ true ↦ Some n | false ↦ node_named ns id ]
+node_named (n ∷ ns) id = some_where (n.id == id) n (node_named ns id)
 
 abbrev pub is_met : List ℕ → ℕ → Bool
 is_met [] id = false
@@ -36,7 +40,15 @@ scopes_from (suc steps) nodes met distance id =
 abbrev pub scopes_of : List SchemaNode → ℕ → Said (List Bound)
 scopes_of nodes id = scopes_from (suc (length nodes)) nodes [] 0 id
 
+-- the first scope of an id among those that are bound inside an entry
+abbrev pub scope_among : List Bound → ℕ → Option Bound
+scope_among [] id = None
+scope_among (b ∷ bs) id = some_where (b.scope == id) b (scope_among bs id)
+
+abbrev pub of_scope : {A : Type 0} → A → (Bound → A) → Option Bound → A
+of_scope none f None = none
+of_scope none f (Some b) = f b
+
 -- what is bound to the parameters of a scope inside an entry
 abbrev pub bound_types : {A : Type 0} → A → (Bound → A) → List Bound → ℕ → A
-bound_types none f [] id = none
-bound_types none f (b ∷ bs) id = elim (b.scope == id) [ true ↦ f b | false ↦ bound_types none f bs id ]
+bound_types none f inside id = of_scope none f (scope_among inside id)

@@ -1,5 +1,5 @@
 -- Brands and the nodes that they are of: brand i is of node i, and has a type for each of its fields and annotations.
-use Rattle.std.specs.Prelude.{ℕ, ◌≡◌, List, [], ◌∷◌, length, suc, ⊤, Ok}
+use Rattle.std.specs.Prelude.{ℕ, ◌≡◌, Bool, true, false, List, [], ◌∷◌, length, suc, ⊤, Ok}
 use Rattle.capnp_schema.specs.declared.record.BrandRecord.{BrandRecord}
 use Rattle.capnp_schema.specs.declared.record.FieldKind.{FieldKind as KindRecord}
 use Rattle.capnp_schema.specs.declared.record.NodeRecord.{NodeRecord}
@@ -12,6 +12,8 @@ use Rattle.capnp_schema.specs.Types.{SchemaType, StructType}
 use Rattle.capnp_request.specs.Parts.{read_at}
 use Rattle.capnp_request.specs.Reading.{number_in, truth_in, value_in}
 use Rattle.capnp_request.specs.Values.{value_of}
+use Rattle.capnp_request.specs.declared.notes.Note.{Note}
+use Rattle.capnp_request.specs.declared.notes.StandIn.{StandIn}
 
 -- a brand of node number i: a type for each field, for each annotation of its own, and a list of types for each field
 pub record IsBrandOf (i : ℕ) (n : NodeRecord) (b : BrandRecord) : Type 0 where
@@ -29,6 +31,14 @@ AreBrandsFrom i (n ∷ ns) (b ∷ bs) = IsBrandOf i n b × AreBrandsFrom (suc i)
 
 abbrev pub AreBrandsOf : List NodeRecord → List BrandRecord → Type 0
 AreBrandsOf nodes brands = AreBrandsFrom 0 nodes brands
+
+-- a note, and notes where something was seen
+abbrev pub note : (entry field : ℕ) → StandIn → Note
+note entry field stand_in = record { entry = entry; field = field; stand_in = stand_in }
+
+abbrev pub noted : Bool → Note → List Note
+noted true n = n ∷ []
+noted false n = []
 
 -- the sections, the group mark and the discriminant of a struct are those that the struct part of its node says
 pub record HasParts (part : Record) (body : StructRecord) : Type 0 where

@@ -60,7 +60,7 @@ pub data FieldKindTerm : Type 0 where
 pub record FieldTerm : Type 0 where
   pub name : Said (List ℕ)
   pub discriminant_value : ℕ
-  pub annotations : Said (List AnnotationTerm)
+  pub annotations : Said (List (Said AnnotationTerm))
   pub kind : FieldKindTerm
 
 pub record StructPart : Type 0 where
@@ -69,16 +69,16 @@ pub record StructPart : Type 0 where
   pub is_group : Bool
   pub discriminant_count : ℕ
   pub discriminant_offset : ℕ
-  pub fields : Said (List FieldTerm)
+  pub fields : Said (List (Said FieldTerm))
 
 pub record EnumerantTerm : Type 0 where
   pub name : Said (List ℕ)
-  pub annotations : Said (List AnnotationTerm)
+  pub annotations : Said (List (Said AnnotationTerm))
 
 -- what a schema node is; files, interfaces and constants are not looked at
 pub data NodeKind : Type 0 where
   StructNode : StructPart → NodeKind
-  EnumNode : Said (List EnumerantTerm) → NodeKind
+  EnumNode : Said (List (Said EnumerantTerm)) → NodeKind
   AnnotationNode : TypeTerm → NodeKind
   OtherNode : NodeKind
 
@@ -87,7 +87,7 @@ pub record SchemaNode : Type 0 where
   pub display_name : Said (List ℕ)
   pub scope : ℕ
   pub nested : Said (List ℕ)
-  pub annotations : Said (List AnnotationTerm)
+  pub annotations : Said (List (Said AnnotationTerm))
   -- how many type parameters it has
   pub parameters : Said ℕ
   pub kind : NodeKind

@@ -1,37 +1,60 @@
 -- The types that a request's types are converted to, and the numbers of what they name.
-use Rattle.std.specs.Prelude.{ℕ, zero, suc, ◌+◌, List, [], ◌∷◌, ◌++◌, Bool, true, false, ◌==◌, ◌&&◌, nat_lt, length, slice_get, Option, Some, None, Ok, Err}
+use Rattle.std.specs.Prelude.{ℕ, zero, suc, ◌+◌, List, [], ◌∷◌, ◌++◌, Bool, true, false, ◌==◌, ◌&&◌, cond, nat_lt, length, slice_get, Option, Some, None, Ok, Err}
 use Rattle.std.specs.Option.{unwrap_or}
 use Rattle.capnp_device.specs.declared.error.ErrorKind.TheVariants.{FloatType, InterfaceType, NodeNotFound, TooManyTypes}
 use Rattle.capnp_schema.specs.Types.{SchemaType, VoidType, BoolType, IntType, UIntType, EnumType, TextType, DataType, StructType, ListType, AnyPointerType}
 use Rattle.capnp_request.specs.Scopes.{bound_types, node_named, scopes_of}
 use Rattle.capnp_request.specs.Terms.{AnnotationNode, Binds, BindingTerms, BrandTerm, EnumNode, EnumTerm, Float32, Float64, Inherits, Interface, ListTerm, MoreBindings, MoreScopes, NoBindings, NoScopes, NodeKind, OtherNode, Parameter, Plain, SchemaNode, ScopeTerm, StructNode, StructTerm, TypeTerm, UnreadBrand, UnreadScope, UnreadType}
-use Rattle.capnp_request.specs.Work.{◌>>=◌, Bound, Entry, GroupOf, Place, Whole, Work, each, given, said}
+use Rattle.capnp_request.specs.Work.{◌>>=◌, Bound, Entry, GroupOf, Place, Whole, Work, each, given, said, where_else, where_so}
 
 -- ---- entries by number ----
 
--- the same type
+-- how many lists are around a type, and what is inside them
+abbrev pub lists_in : SchemaType → ℕ
+lists_in (ListType t) = suc (lists_in t)
+lists_in t = 0
+
+abbrev pub innermost : SchemaType → SchemaType
+innermost (ListType t) = innermost t
+innermost t = t
+
+abbrev pub by_bytes : ℕ → (one two four eight : ℕ) → ℕ
+by_bytes bytes one two four eight = cond (bytes == 1) one (cond (bytes == 2) two (cond (bytes == 4) four eight))
+
+-- a number for each kind of type, and the number of the struct or enum
+abbrev pub kind_number : SchemaType → ℕ
+kind_number VoidType = 0
+kind_number BoolType = 1
+kind_number (IntType bytes) = by_bytes bytes 2 3 4 5
+kind_number (UIntType bytes) = by_bytes bytes 6 7 8 9
+kind_number TextType = 10
+kind_number DataType = 11
+kind_number (StructType number generic) = 12
+kind_number AnyPointerType = 13
+kind_number (EnumType number) = 14
+kind_number (ListType t) = 15
+
+abbrev pub named_number : SchemaType → ℕ
+named_number (StructType number generic) = number
+named_number (EnumType number) = number
+named_number t = 0
+
+-- the same type: of the same kind, the struct or enum of one number, in as many lists
 abbrev pub same_type : SchemaType → SchemaType → Bool
-same_type VoidType VoidType = true
-same_type BoolType BoolType = true
-same_type (IntType m) (IntType n) = m == n
-same_type (UIntType m) (UIntType n) = m == n
-same_type (EnumType m) (EnumType n) = m == n
-same_type TextType TextType = true
-same_type DataType DataType = true
-same_type (StructType m g) (StructType n h) = m == n
-same_type (ListType t) (ListType u) = same_type t u
-same_type AnyPointerType AnyPointerType = true
-same_type t u = false
+same_type t u = ((kind_number (innermost t) == kind_number (innermost u)) && (named_number (innermost t) == named_number (innermost u))) && (lists_in t == lists_in u)
 
 abbrev pub same_types : List SchemaType → List SchemaType → Bool
 same_types [] [] = true
 same_types (t ∷ ts) (u ∷ us) = same_type t u && same_types ts us
 same_types ts us = false
 
--- the same types are bound, of one node's scopes
+-- the same types are bound to the same scopes
+abbrev pub same_scope : Bound → Bound → Bool
+same_scope b c = (b.scope == c.scope) && ((b.distance == c.distance) && ((b.parameters == c.parameters) && same_types b.types c.types))
+
 abbrev pub same_bound : List Bound → List Bound → Bool
 same_bound [] [] = true
-same_bound (b ∷ bs) (c ∷ cs) = same_types b.types c.types && same_bound bs cs
+same_bound (b ∷ bs) (c ∷ cs) = same_scope b c && same_bound bs cs
 same_bound bs cs = false
 
 -- a struct node with bindings is one entry; a group's is no other's
@@ -39,13 +62,18 @@ abbrev pub is_entry_of : ℕ → List Bound → Entry → Place → Bool
 is_entry_of id bound e Whole = (e.node == id) && same_bound e.bound bound
 is_entry_of id bound e (GroupOf parent field) = false
 
+-- a number where a test holds, else what else there is
+abbrev pub number_where : Bool → ℕ → Option ℕ → Option ℕ
+number_where true number rest = Some number
+number_where false number rest = rest
+
 abbrev pub entry_number : ℕ → List Bound → List Entry → ℕ → Option ℕ
 entry_number id bound [] number = None
-entry_number id bound (e ∷ es) number = elim (is_entry_of id bound e e.place) [ true ↦ Some number | false ↦ entry_number id bound es (number + 1) ]
+entry_number id bound (e ∷ es) number = number_where (is_entry_of id bound e e.place) number (entry_number id bound es (number + 1))
 
 -- an entry behind the others, where there are fewer than 65,536
 abbrev pub add_entry : Entry → Work ℕ
-add_entry e s = elim (nat_lt (length s.entries) 65536) [ true ↦ Ok (length s.entries, record s { entries = s.entries ++ e ∷ [] }) | false ↦ Err TooManyTypes ]
+add_entry e s = where_so (nat_lt (length s.entries) 65536) TooManyTypes (Ok (length s.entries, record s { entries = s.entries ++ e ∷ [] }))
 
 abbrev pub number_or_add : Option ℕ → Entry → Work ℕ
 number_or_add (Some number) e = given number
@@ -57,15 +85,7 @@ number_struct id bound s = number_or_add (entry_number id bound s.entries 0) (re
 
 abbrev pub enum_position : List ℕ → ℕ → ℕ → Option ℕ
 enum_position [] id number = None
-enum_position (x ∷ xs) id number = elim (x == id) [ true ↦ Some number | false ↦ enum_position xs id (number + 1) ]
-
-abbrev pub enum_or_add : Option ℕ → ℕ → Work ℕ
-enum_or_add (Some number) id s = Ok (number, s)
-enum_or_add None id s = Ok (length s.enums, record s { enums = s.enums ++ id ∷ [] })
-
--- the number of an enum, by its id
-abbrev pub number_enum : ℕ → Work ℕ
-number_enum id s = enum_or_add (enum_position s.enums id 0) id s
+enum_position (x ∷ xs) id number = number_where (x == id) number (enum_position xs id (number + 1))
 
 -- ---- nodes of a kind ----
 
@@ -87,7 +107,19 @@ is_of_kind test (Some n) = test n.kind
 
 -- work where the id's node is of a kind
 abbrev pub where_node : {A : Type 0} → (NodeKind → Bool) → List SchemaNode → ℕ → Work A → Work A
-where_node test nodes id w s = elim (is_of_kind test (node_named nodes id)) [ true ↦ w s | false ↦ Err NodeNotFound ]
+where_node test nodes id w s = where_so (is_of_kind test (node_named nodes id)) NodeNotFound (w s)
+
+-- an enum behind the others; numbers have 32 bits
+abbrev pub add_enum : ℕ → Work ℕ
+add_enum id s = where_so (nat_lt (length s.enums) 4294967295) TooManyTypes (Ok (length s.enums, record s { enums = s.enums ++ id ∷ [] }))
+
+abbrev pub enum_or_add : List SchemaNode → Option ℕ → ℕ → Work ℕ
+enum_or_add nodes (Some number) id s = Ok (number, s)
+enum_or_add nodes None id s = where_node is_enum nodes id (add_enum id) s
+
+-- the number of an enum, by its id, which it gets when it is first named
+abbrev pub number_enum : List SchemaNode → ℕ → Work ℕ
+number_enum nodes id s = enum_or_add nodes (enum_position s.enums id 0) id s
 
 -- ---- types ----
 
@@ -126,7 +158,7 @@ module _ (nodes : List SchemaNode) (strict : Bool) (inside : List Bound) where
     type_of Float64 s = float64 strict s
     type_of Interface s = interface strict s
     type_of (ListTerm t) s = (type_of t >>= (λ element. given (ListType element))) s
-    type_of (EnumTerm id) s = (where_node is_enum nodes id (number_enum id) >>= (λ number. given (EnumType number))) s
+    type_of (EnumTerm id) s = (number_enum nodes id >>= (λ number. given (EnumType number))) s
     -- bindings are numbered before the struct that they bind
     type_of (StructTerm id brand) s =
         where_node is_struct nodes id
@@ -136,7 +168,7 @@ module _ (nodes : List SchemaNode) (strict : Bool) (inside : List Bound) where
 
     pub brand_types : BrandTerm → Bound → Work (List SchemaType)
     brand_types NoScopes scope s = Ok ([], s)
-    brand_types (MoreScopes id says rest) scope s = elim (id == scope.scope) [ true ↦ scope_types says scope s | false ↦ brand_types rest scope s ]
+    brand_types (MoreScopes id says rest) scope s = where_else (id == scope.scope) (scope_types says scope s) (brand_types rest scope s)
     brand_types (UnreadBrand kind) scope s = Err kind
 
     pub scope_types : ScopeTerm → Bound → Work (List SchemaType)

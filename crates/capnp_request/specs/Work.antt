@@ -1,5 +1,5 @@
 -- What a conversion has named so far, and work that may name more or be refused.
-use Rattle.std.specs.Prelude.{ℕ, List, [], ◌∷◌, Bool, false, Result, Ok, Err}
+use Rattle.std.specs.Prelude.{ℕ, List, [], ◌∷◌, Bool, true, false, Result, Ok, Err}
 use Rattle.capnp_device.specs.declared.error.ErrorKind.{ErrorKind}
 use Rattle.capnp_schema.specs.Types.{SchemaType}
 use Rattle.capnp_request.specs.Terms.{Said}
@@ -37,8 +37,26 @@ pub record Named : Type 0 where
   pub enums : List ℕ
   pub seen : Seen
 
+-- the entries and enums alone
+pub record Numbered : Type 0 where
+  pub entries : List Entry
+  pub enums : List ℕ
+
+-- what was named, with what was seen of the type at hand
+abbrev pub named : Numbered → Seen → Named
+named numbered seen = record { entries = numbered.entries; enums = numbered.enums; seen = seen }
+
 abbrev pub Work : Type 0 → Type 0
 Work A = Named → Result (A × Named) ErrorKind
+
+-- a result where a test holds, else a refusal
+abbrev pub where_so : {A : Type 0} → Bool → ErrorKind → Result A ErrorKind → Result A ErrorKind
+where_so true kind r = r
+where_so false kind r = Err kind
+
+abbrev pub where_else : {A : Type 0} → Bool → Result A ErrorKind → Result A ErrorKind → Result A ErrorKind
+where_else true r other = r
+where_else false r other = other
 
 abbrev pub given : {A : Type 0} → A → Work A
 given a s = Ok (a, s)
@@ -60,7 +78,19 @@ abbrev pub said : {A : Type 0} → Said A → Work A
 said (Ok a) s = Ok (a, s)
 said (Err kind) s = Err kind
 
+-- work with what was seen in it alone; outside a type nothing is seen
+abbrev pub seen_in : {A : Type 0} → Work A → Work (A × Seen)
+seen_in w s = (w >>= (λ a t. Ok ((a, t.seen), record t { seen = nothing_seen }))) (record s { seen = nothing_seen })
+
+-- the same where nothing is noted
+abbrev pub unnoted : {A : Type 0} → Work A → Work A
+unnoted w = seen_in w >>= (λ p. given p.0)
+
 -- the same work for each of a list, from the first on
 abbrev pub each : {A B : Type 0} → (A → Work B) → List A → Work (List B)
 each f [] s = Ok ([], s)
 each f (x ∷ xs) s = (f x >>= (λ y. each f xs >>= (λ ys. given (y ∷ ys)))) s
+
+-- the same for what can be read of each
+abbrev pub each_read : {A B : Type 0} → (A → Work B) → List (Said A) → Work (List B)
+each_read f = each (λ x. said x >>= f)

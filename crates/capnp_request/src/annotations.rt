@@ -22,7 +22,7 @@ use capnp_wire::error::Result;
 /// The type of an annotation inside an entry of these scopes: that of its declaration, read with its brand.
 fn annotation_type<'a>(
     context: Context<'_, 'a>,
-    entries: &mut Entries<'a>,
+    entries: &mut Entries,
     inside: &[BoundScope],
     annotation: dynamic_struct::Reader<'a>,
     id: u64,
@@ -53,7 +53,7 @@ fn annotation_type<'a>(
 /// The annotations that a field of a record has, and the type of each.
 pub(crate) fn annotations_of<'a>(
     context: Context<'_, 'a>,
-    entries: &mut Entries<'a>,
+    entries: &mut Entries,
     inside: &[BoundScope],
     reader: dynamic_struct::Reader<'a>,
     brand: u32,

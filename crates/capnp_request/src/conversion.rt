@@ -7,11 +7,12 @@ ghost use Rattle.capnp_request.specs.Shapes.{AreBrandsOf};
 
 use crate::context::Context;
 use crate::entries::{BoundScope, Entries, Entry};
-use crate::enums::enum_of;
+use crate::enums::{EnumPlace, enum_of};
 use crate::names::{Named, Names, enum_name};
 use crate::notes::Note;
 use crate::roots::number_roots;
 use crate::schema_nodes::{SchemaNodes, display_name};
+use crate::scopes::copied_scopes;
 use crate::structs::{NodePlace, struct_of};
 use capnp_dynamic_readers::dynamic_struct;
 use capnp_schema::record::{BrandRecord, EnumRecord, NodeRecord};
@@ -53,16 +54,16 @@ impl Progress {
     }
 
     /// Names the enums that were named by types since.
-    fn name_enums<'a>(&mut self, context: Context<'_, 'a>, entries: &Entries<'a>) -> Result<()>
+    fn name_enums<'a>(&mut self, context: Context<'_, 'a>, entries: &Entries) -> Result<()>
         requires { AreNodes context.nodes.now }
         ensures same { self.new.made ≡ self.old.made }
         ensures kinds { IfErr result (λ e. IsPlain e.kind) }
     {
-        for number in self.enum_names.len()..entries.enums.len() {
-            let Some(named) = entries.enums.get(number) else {
+        for number in self.enum_names.len()..entries.enum_count() {
+            let Some(id) = entries.enum_id(number) else {
                 break;
             };
-            let display = display_name(context.nodes.node_of(named.node))?;
+            let display = display_name(context.nodes.found(id)?)?;
             let name = enum_name(context.alloc, display)?;
             self.enum_names.push(name)?;
         }
@@ -73,7 +74,7 @@ impl Progress {
     fn next_name<'a>(
         &mut self,
         context: Context<'_, 'a>,
-        entry: &Entry<'a>,
+        entry: &Entry,
     ) -> Result<(String, Vec<BoundScope>)>
         requires { AreNodes context.nodes.now }
         ensures same { self.new.made ≡ self.old.made }
@@ -84,24 +85,20 @@ impl Progress {
             enums: self.enum_names.as_slice(),
         };
         let name = self.names.entry_name(context.nodes, named, entry)?;
-        let scopes = entry.scopes.clone()?;
+        let scopes = copied_scopes(context.alloc, entry.scopes.as_slice())?;
         Ok((name, scopes))
     }
 
     /// Makes the next struct, where there is one that isn't made.
     #[tactic(auto, using(crate::proofs::BrandsMade::brand_made))]
-    fn make_struct<'a>(
-        &mut self,
-        context: Context<'_, 'a>,
-        entries: &mut Entries<'a>,
-    ) -> Result<bool>
+    fn make_struct<'a>(&mut self, context: Context<'_, 'a>, entries: &mut Entries) -> Result<bool>
         requires nodes { AreNodes context.nodes.now }
         requires brands { AreBrandsOf self.now.made.nodes.items self.now.made.brands.items }
         ensures brands { OnOk result (AreBrandsOf self.new.made.nodes.items self.new.made.brands.items) }
         ensures kinds { IfErr result (λ e. IsRefusal context.entry.strict e.kind) }
     {
         let number = self.made.nodes.len();
-        let Some(entry) = entries.structs.get(number) else {
+        let Some(entry) = entries.entry(number) else {
             return Ok(false);
         };
         let (name, scopes) = self.next_name(context, entry)?;
@@ -111,7 +108,7 @@ impl Progress {
         let place = NodePlace {
             number: counted,
             id: entry.id,
-            node: context.nodes.node_of(entry.node),
+            node: context.nodes.found(entry.id)?,
         };
         let (record, brand) = struct_of(
             context,
@@ -127,25 +124,27 @@ impl Progress {
     }
 
     /// Makes the next enum, where there is one that isn't made.
-    fn make_enum<'a>(&mut self, context: Context<'_, 'a>, entries: &mut Entries<'a>) -> Result<bool>
+    fn make_enum<'a>(&mut self, context: Context<'_, 'a>, entries: &mut Entries) -> Result<bool>
         requires nodes { AreNodes context.nodes.now }
         requires brands { AreBrandsOf self.now.made.nodes.items self.now.made.brands.items }
         ensures brands { OnOk result (AreBrandsOf self.new.made.nodes.items self.new.made.brands.items) }
         ensures kinds { IfErr result (λ e. IsRefusal context.entry.strict e.kind) }
     {
         let number = self.made.enums.len();
-        let Some(named) = entries.enums.get(number).copied() else {
+        let Some(id) = entries.enum_id(number) else {
             return Ok(false);
         };
-        let display = display_name(context.nodes.node_of(named.node))?;
+        let node = context.nodes.found(id)?;
+        let display = display_name(node)?;
         let name = enum_name(context.alloc, display)?;
-        let record = enum_of(context, entries, named, name)?;
+        let place = EnumPlace { id, node };
+        let record = enum_of(context, entries, place, name)?;
         self.made.enums.push(record)?;
         Ok(true)
     }
 
     /// Makes the next struct, or where all are made the next enum. False where there is neither.
-    fn make_next<'a>(&mut self, context: Context<'_, 'a>, entries: &mut Entries<'a>) -> Result<bool>
+    fn make_next<'a>(&mut self, context: Context<'_, 'a>, entries: &mut Entries) -> Result<bool>
         requires nodes { AreNodes context.nodes.now }
         requires brands { AreBrandsOf self.now.made.nodes.items self.now.made.brands.items }
         ensures brands { OnOk result (AreBrandsOf self.new.made.nodes.items self.new.made.brands.items) }

@@ -1,13 +1,18 @@
 //! The entries of a set while it is made: struct nodes with bindings, groups and enums, by the numbers that they got when
 //! they were first named.
-ghost use Rattle.std.specs.Prelude.{◌≡◌, ◌<◌, length, IfErr, IfOk};
+ghost use Rattle.std.specs.Prelude.{◌≡◌, ◌<◌, [], length, slice_get, option_map, IfErr, IfOk, Ok};
 ghost use Rattle.capnp_schema.specs.Types.{EnumType, StructType, seen_type};
+ghost use Rattle.capnp_request.specs.Bindings.{bounds};
+ghost use Rattle.capnp_request.specs.EntriesSeen.{group_entry, seen_entry};
 ghost use Rattle.capnp_request.specs.Nodes.{AreNodes};
+ghost use Rattle.capnp_request.specs.Numbers.{AreNumbered, numbered};
 ghost use Rattle.capnp_request.specs.Refusals.{IsPlain};
+ghost use Rattle.capnp_request.specs.Types.{add_entry, number_struct};
+ghost use Rattle.capnp_request.specs.Work.{Seen, named};
 
 use crate::schema_nodes::SchemaNodes;
+use crate::scopes::copied_scopes;
 use capnp_base::introspect::{RawBrandedStructSchema, RawEnumSchema, Type, TypeVariant};
-use capnp_wire::StructReader;
 use capnp_wire::error::{Error, ErrorKind, Result};
 use std::alloc::Global;
 use std::collections::HashMap;
@@ -16,7 +21,7 @@ use std::collections::HashMap;
 pub(crate) const MOST_ENTRIES: usize = 65_536;
 
 /// What is bound to the type parameters of a scope.
-#[derive(Clone, PartialEq, Eq, Hash, Drop)]
+#[derive(PartialEq, Eq, Hash, Drop)]
 pub(crate) struct BoundScope {
     pub(crate) id: u64,
     /// How many scopes are passed on the way out to it.
@@ -41,28 +46,20 @@ pub(crate) struct GroupPlace {
     pub(crate) field: usize,
 }
 
-/// An entry: the node that it is made of, the bindings in it, and of a group the field that names it.
+/// An entry: the id of the node that it is made of, the bindings in it, and of a group the field that names it.
 #[derive(Drop)]
-pub(crate) struct Entry<'a> {
+pub(crate) struct Entry {
     pub(crate) id: u64,
-    pub(crate) node: StructReader<'a>,
     pub(crate) scopes: Vec<BoundScope>,
     pub(crate) group: Option<GroupPlace>,
 }
 
-/// An enum that was named.
-#[derive(Clone, Copy)]
-pub(crate) struct NamedEnum<'a> {
-    pub(crate) id: u64,
-    pub(crate) node: StructReader<'a>,
-}
-
 /// The entries and enums that were named so far, by number.
 #[derive(Drop)]
-pub(crate) struct Entries<'a> {
-    pub(crate) structs: Vec<Entry<'a>>,
+pub(crate) struct Entries {
+    structs: Vec<Entry>,
     by_binding: HashMap<BoundNode, u32>,
-    pub(crate) enums: Vec<NamedEnum<'a>>,
+    enums: Vec<u64>,
     by_id: HashMap<u64, u32>,
 }
 
@@ -83,8 +80,11 @@ pub(crate) fn enum_type(number: u32) -> Type
     Type::from(TypeVariant::Enum(RawEnumSchema { number }))
 }
 
-impl<'a> Entries<'a> {
-    pub(crate) fn new(alloc: Global) -> Entries<'a> {
+impl Entries {
+    pub(crate) fn new(alloc: Global) -> Entries
+        ensures nothing { numbered result ≡ record { entries = []; enums = [] } }
+        ensures numbers { AreNumbered result }
+    {
         Entries {
             structs: Vec::new(alloc),
             by_binding: HashMap::new(alloc),
@@ -93,9 +93,30 @@ impl<'a> Entries<'a> {
         }
     }
 
-    /// Adds an entry behind the others, and answers its number. Refused with `TooManyTypes` where there are 65,536.
-    fn add(&mut self, entry: Entry<'a>) -> Result<u32>
-        ensures number { IfOk result (λ n. n ≡ length self.old.structs.items) }
+    /// The entry of a number.
+    pub(crate) fn entry(&self, number: usize) -> Option<&Entry>
+        ensures { option_map (λ e. seen_entry e.now) result ≡ slice_get (numbered self.now).entries number }
+    {
+        self.structs.get(number)
+    }
+
+    /// The id of the enum of a number.
+    pub(crate) fn enum_id(&self, number: usize) -> Option<u64>
+        ensures { result ≡ slice_get (numbered self.now).enums number }
+    {
+        self.enums.get(number).copied()
+    }
+
+    /// How many enums were named.
+    pub(crate) fn enum_count(&self) -> usize
+        ensures { result ≡ length (numbered self.now).enums }
+    {
+        self.enums.len()
+    }
+
+    /// The number of the next entry. Refused with `TooManyTypes` where there are 65,536.
+    fn next_number(&self) -> Result<u32>
+        ensures number { IfOk result (λ n. n ≡ length (numbered self.now).entries) }
         ensures bound { IfOk result (λ n. n < 65536) }
         ensures kinds { IfErr result (λ e. IsPlain e.kind) }
     {
@@ -103,24 +124,25 @@ impl<'a> Entries<'a> {
         if number >= MOST_ENTRIES {
             return Err(Error::from(ErrorKind::TooManyTypes));
         }
-        self.structs.push(entry)?;
         Ok(number as u32)
     }
 
     /// The number of a struct node with bindings, which it gets where it has none.
-    pub(crate) fn number_of(&mut self, node: StructReader<'a>, bound: BoundNode) -> Result<u32>
+    pub(crate) fn number_of(&mut self, alloc: Global, bound: BoundNode) -> Result<u32>
+        ensures done { AreNumbered self.old → IfOk result (λ n. (seen : Seen) → number_struct bound.id (bounds bound.scopes.items) (named (numbered self.old) seen) ≡ Ok (n, named (numbered self.new) seen)) }
+        ensures numbers { AreNumbered self.old → IfOk result (λ n. AreNumbered self.new) }
         ensures kinds { IfErr result (λ e. IsPlain e.kind) }
     {
         if let Some(number) = self.by_binding.get(&bound) {
             return Ok(*number);
         }
-        let scopes = bound.scopes.clone()?;
-        let number = self.add(Entry {
+        let number = self.next_number()?;
+        let entry = Entry {
             id: bound.id,
-            node,
-            scopes,
+            scopes: copied_scopes(alloc, bound.scopes.as_slice())?,
             group: None,
-        })?;
+        };
+        self.structs.push(entry)?;
         self.by_binding.insert(bound, number)?;
         Ok(number)
     }
@@ -128,38 +150,39 @@ impl<'a> Entries<'a> {
     /// The number of the group that a field names: an entry of its own, with the bindings of its parent.
     pub(crate) fn number_group(
         &mut self,
-        nodes: &SchemaNodes<'a>,
         id: u64,
         scopes: Vec<BoundScope>,
         place: GroupPlace,
     ) -> Result<u32>
-        requires { AreNodes nodes.now }
-        ensures own { IfOk result (λ n. n ≡ length self.old.structs.items) }
+        ensures own { IfOk result (λ n. n ≡ length (numbered self.old).entries) }
+        ensures done { AreNumbered self.old → IfOk result (λ n. (seen : Seen) → add_entry (group_entry id (bounds scopes.items) place) (named (numbered self.old) seen) ≡ Ok (n, named (numbered self.new) seen)) }
+        ensures numbers { AreNumbered self.old → IfOk result (λ n. AreNumbered self.new) }
         ensures kinds { IfErr result (λ e. IsPlain e.kind) }
     {
-        let node = nodes.struct_node(id)?.get_sections();
-        self.add(Entry {
+        let number = self.next_number()?;
+        self.structs.push(Entry {
             id,
-            node,
             scopes,
             group: Some(place),
-        })
+        })?;
+        Ok(number)
     }
 
     /// The number of an enum, which it gets where it has none. Refused with `NodeNotFound` where the id is no enum's.
-    pub(crate) fn number_enum(&mut self, nodes: &SchemaNodes<'a>, id: u64) -> Result<u32>
+    pub(crate) fn number_enum(&mut self, nodes: &SchemaNodes<'_>, id: u64) -> Result<u32>
         requires { AreNodes nodes.now }
+        ensures numbers { AreNumbered self.old → IfOk result (λ n. AreNumbered self.new) }
         ensures kinds { IfErr result (λ e. IsPlain e.kind) }
     {
         if let Some(number) = self.by_id.get(&id) {
             return Ok(*number);
         }
-        let node = nodes.enum_node(id)?.get_sections();
+        let _node = nodes.enum_node(id)?;
         let number = self.enums.len();
         if number >= u32::MAX as usize {
             return Err(Error::from(ErrorKind::TooManyTypes));
         }
-        self.enums.push(NamedEnum { id, node })?;
+        self.enums.push(id)?;
         self.by_id.insert(id, number as u32)?;
         Ok(number as u32)
     }

@@ -1,11 +1,12 @@
 //! Fields, as a request says them.
 ghost use Rattle.std.specs.Prelude.{◌≡◌, length, string_bytes, Some, Ok, IfErr, IfOk};
-ghost use Rattle.capnp_schema.specs.Schema.{seen_kind};
+ghost use Rattle.capnp_schema.specs.Schema.{Group, seen_kind};
 ghost use Rattle.capnp_schema.specs.Types.{seen_type};
 ghost use Rattle.capnp_records.specs.Part.{which_of};
 ghost use Rattle.capnp_dynamic_readers.specs.Seen.{record_seen};
 ghost use Rattle.capnp_request.specs.Handles.{IsRecord};
 ghost use Rattle.capnp_request.specs.Nodes.{AreNodes};
+ghost use Rattle.capnp_request.specs.Numbers.{numbered};
 ghost use Rattle.capnp_request.specs.Parts.{read_at};
 ghost use Rattle.capnp_request.specs.Reading.{number_in, text_in};
 ghost use Rattle.capnp_request.specs.Refusals.{IsRefusal};
@@ -20,7 +21,7 @@ use crate::places::{
     FIELD_ANNOTATIONS, FIELD_DISCRIMINANT, FIELD_GROUP, FIELD_NAME, FIELD_SLOT, GROUP_ID,
     SLOT_DEFAULT, SLOT_OFFSET, SLOT_TYPE, brands,
 };
-use crate::scopes::is_untyped;
+use crate::scopes::{copied_scopes, is_untyped};
 use crate::types::{TYPE_LEVELS, type_of};
 use crate::values::{is_untyped_value, value_of};
 use capnp_base::introspect::Type;
@@ -40,7 +41,7 @@ pub(crate) struct ConvertedField {
 /// A slot and its type.
 fn slot_of<'a>(
     context: Context<'_, 'a>,
-    entries: &mut Entries<'a>,
+    entries: &mut Entries,
     inside: &[BoundScope],
     field: dynamic_struct::Reader<'a>,
     seen: &mut Seen,
@@ -64,7 +65,7 @@ fn slot_of<'a>(
 /// A group and its type: an entry for itself.
 fn group_of<'a>(
     context: Context<'_, 'a>,
-    entries: &mut Entries<'a>,
+    entries: &mut Entries,
     inside: &[BoundScope],
     field: dynamic_struct::Reader<'a>,
     place: GroupPlace,
@@ -73,19 +74,21 @@ fn group_of<'a>(
     requires record { IsRecord 8 field }
     requires active { which_of (record_seen field) ≡ Some 4 }
     ensures group { IfOk result (λ r. IsGroupOf (seen_kind r.0) (seen_type r.1)) }
+    ensures own { IfOk result (λ r. seen_kind r.0 ≡ Group (length (numbered entries.old).entries)) }
     ensures kinds { IfErr result (λ e. IsRefusal context.entry.strict e.kind) }
 {
     let group = struct_at(field, brands::FIELD, FIELD_GROUP, brands::GROUP)?;
     let id = u64_at(group, brands::GROUP, GROUP_ID)?;
-    let scopes = inside.to_vec(context.alloc)?;
-    let number = entries.number_group(context.nodes, id, scopes, place)?;
+    let _node = context.nodes.struct_node(id)?;
+    let scopes = copied_scopes(context.alloc, inside)?;
+    let number = entries.number_group(id, scopes, place)?;
     Ok((FieldKind::Group { node: number }, entry_type(number)))
 }
 
 /// A field inside an entry of these scopes, at its place there.
 pub(crate) fn field_of<'a>(
     context: Context<'_, 'a>,
-    entries: &mut Entries<'a>,
+    entries: &mut Entries,
     inside: &[BoundScope],
     field: dynamic_struct::Reader<'a>,
     place: GroupPlace,

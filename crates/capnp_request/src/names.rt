@@ -255,12 +255,12 @@ impl Names {
         &mut self,
         nodes: &SchemaNodes<'a>,
         named: Named<'_>,
-        entry: &Entry<'a>,
+        entry: &Entry,
     ) -> Result<String>
         requires { AreNodes nodes.now }
         ensures kinds { IfErr result (λ e. IsPlain e.kind) }
     {
-        let display = display_name(nodes.node_of(entry.node))?;
+        let display = display_name(nodes.found(entry.id)?)?;
         let start = behind_colon(display);
         let dotted = &display[start..];
         let mut name = Vec::new(self.alloc);
@@ -289,7 +289,7 @@ impl Names {
         &mut self,
         nodes: &SchemaNodes<'a>,
         named: Named<'_>,
-        entry: &Entry<'a>,
+        entry: &Entry,
     ) -> Result<String>
         requires { AreNodes nodes.now }
         ensures kinds { IfErr result (λ e. IsPlain e.kind) }

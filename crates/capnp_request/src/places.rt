@@ -133,8 +133,6 @@ pub(crate) const NAMED_ID: u16 = 0;
 
 pub(crate) const STRUCT_BRAND: u16 = 1;
 
-pub(crate) const UNTYPED_PARAMETER: u16 = 1;
-
 pub(crate) const PARAMETER_SCOPE: u16 = 0;
 
 pub(crate) const PARAMETER_INDEX: u16 = 1;

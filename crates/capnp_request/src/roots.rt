@@ -45,7 +45,7 @@ fn put_ids(
 /// with nothing bound.
 pub(crate) fn number_roots<'a>(
     context: Context<'_, 'a>,
-    entries: &mut Entries<'a>,
+    entries: &mut Entries,
     request: dynamic_struct::Reader<'a>,
 ) -> Result<()>
     requires nodes { AreNodes context.nodes.now }
@@ -67,7 +67,7 @@ pub(crate) fn number_roots<'a>(
         put_ids(context.nodes, &mut queue, &mut met, nested, brands::NESTED)?;
         if is_plain_struct(node)? {
             let scopes = unbound(context.alloc, context.nodes, id)?;
-            let _number = entries.number_of(node.get_sections(), BoundNode { id, scopes })?;
+            let _number = entries.number_of(context.alloc, BoundNode { id, scopes })?;
         }
     }
     Ok(())

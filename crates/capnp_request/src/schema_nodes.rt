@@ -75,7 +75,7 @@ impl<'a> SchemaNodes<'a> {
     }
 
     /// The node of these sections.
-    pub(crate) fn node_of(&self, sections: StructReader<'a>) -> dynamic_struct::Reader<'a>
+    fn node_of(&self, sections: StructReader<'a>) -> dynamic_struct::Reader<'a>
         requires { AreNodes self.now }
         ensures { IsRecord 2 result }
     {
@@ -90,6 +90,18 @@ impl<'a> SchemaNodes<'a> {
         match self.by_id.get(&id) {
             Some(sections) => Some(self.node_of(*sections)),
             None => None,
+        }
+    }
+
+    /// The node of an id. Refused with `NodeNotFound` where no node has it.
+    pub(crate) fn found(&self, id: u64) -> Result<dynamic_struct::Reader<'a>>
+        requires { AreNodes self.now }
+        ensures record { IfOk result (IsRecord 2) }
+        ensures kinds { IfErr result (λ e. IsPlain e.kind) }
+    {
+        match self.get(id) {
+            Some(node) => Ok(node),
+            None => Err(not_found()),
         }
     }
 

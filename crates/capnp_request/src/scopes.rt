@@ -1,8 +1,12 @@
 //! What is bound to the type parameters of scopes.
-ghost use Rattle.std.specs.Prelude.{◌≡◌, IfErr};
+ghost use Rattle.std.specs.Prelude.{◌≡◌, map, option_map, IfErr, IfOk, Ok};
 ghost use Rattle.capnp_schema.specs.Types.{AnyPointerType, seen_type};
+ghost use Rattle.capnp_request.specs.Bindings.{bounds, seen_bound, with_nothing};
+ghost use Rattle.capnp_request.specs.Conversion.{is_untyped};
 ghost use Rattle.capnp_request.specs.Nodes.{AreNodes};
 ghost use Rattle.capnp_request.specs.Refusals.{IsPlain};
+ghost use Rattle.capnp_request.specs.Scopes.{scope_among};
+ghost use Rattle.capnp_request.specs.Types.{bound_to};
 
 use crate::entries::BoundScope;
 use crate::schema_nodes::{GenericScope, SchemaNodes};
@@ -11,7 +15,9 @@ use capnp_wire::error::Result;
 use std::alloc::Global;
 
 /// Whether a type is an untyped pointer.
-pub(crate) fn is_untyped(t: Type) -> bool {
+pub(crate) fn is_untyped(t: Type) -> bool
+    ensures { result ≡ is_untyped (seen_type t) }
+{
     match t.which() {
         TypeVariant::AnyPointer => true,
         _ => false,
@@ -39,7 +45,9 @@ pub(crate) fn unbound(alloc: Global, nodes: &SchemaNodes<'_>, id: u64) -> Result
 }
 
 /// A scope with the types of its first parameters.
-pub(crate) fn bound_scope(scope: GenericScope, types: Vec<Type>) -> BoundScope {
+pub(crate) fn bound_scope(scope: GenericScope, types: Vec<Type>) -> BoundScope
+    ensures { seen_bound result ≡ record (with_nothing scope) { types = map seen_type types.items } }
+{
     BoundScope {
         id: scope.id,
         distance: scope.distance,
@@ -48,8 +56,28 @@ pub(crate) fn bound_scope(scope: GenericScope, types: Vec<Type>) -> BoundScope {
     }
 }
 
+/// A copy of scopes and of what is bound to them.
+pub(crate) fn copied_scopes(alloc: Global, scopes: &[BoundScope]) -> Result<Vec<BoundScope>>
+    ensures read { IfOk result (λ copy. bounds copy.items ≡ bounds scopes.now) }
+    ensures kinds { IfErr result (λ e. IsPlain e.kind) }
+{
+    let mut copy = Vec::new(alloc);
+    for scope in scopes {
+        let types = scope.types.as_slice().to_vec(alloc)?;
+        copy.push(BoundScope {
+            id: scope.id,
+            distance: scope.distance,
+            parameters: scope.parameters,
+            types,
+        })?;
+    }
+    Ok(copy)
+}
+
 /// What is bound to a parameter of a scope: an untyped pointer where nothing is.
-pub(crate) fn bound_to(scopes: &[BoundScope], id: u64, index: u16) -> Type {
+pub(crate) fn bound_to(scopes: &[BoundScope], id: u64, index: u16) -> Type
+    ensures { seen_type result ≡ bound_to (bounds scopes.now) id index }
+{
     match scope_of(scopes, id) {
         Some(scope) => scope
             .types
@@ -61,7 +89,9 @@ pub(crate) fn bound_to(scopes: &[BoundScope], id: u64, index: u16) -> Type {
 }
 
 /// The first scope of an id.
-pub(crate) fn scope_of(scopes: &[BoundScope], id: u64) -> Option<&BoundScope> {
+pub(crate) fn scope_of(scopes: &[BoundScope], id: u64) -> Option<&BoundScope>
+    ensures { option_map (λ scope. seen_bound scope.now) result ≡ scope_among (bounds scopes.now) id }
+{
     for scope in scopes {
         if scope.id == id {
             return Some(scope);

@@ -1,10 +1,10 @@
 //! Structs, as a request says them.
-ghost use Rattle.std.specs.Prelude.{◌≡◌, length, IfErr, IfOk};
+ghost use Rattle.std.specs.Prelude.{◌≡◌, ◌++◌, length, IfErr, IfOk};
 ghost use Rattle.capnp_dynamic_readers.specs.Seen.{record_seen};
 ghost use Rattle.capnp_request.specs.Handles.{IsRecord};
 ghost use Rattle.capnp_request.specs.Nodes.{AreNodes};
 ghost use Rattle.capnp_request.specs.Refusals.{IsPlain, IsRefusal};
-ghost use Rattle.capnp_request.specs.Shapes.{HasParts, IsBrandOf};
+ghost use Rattle.capnp_request.specs.Shapes.{HasParts, IsBrandOf, note, noted};
 
 use crate::annotations::annotations_of;
 use crate::context::Context;
@@ -31,7 +31,9 @@ struct ConvertedFields {
 }
 
 /// A note on a field.
-fn note_at(entry: u32, field: u32, stand_in: StandIn) -> Note {
+fn note_at(entry: u32, field: u32, stand_in: StandIn) -> Note
+    ensures { result ≡ record { entry = entry; field = field; stand_in = stand_in } }
+{
     Note {
         entry,
         field,
@@ -41,6 +43,7 @@ fn note_at(entry: u32, field: u32, stand_in: StandIn) -> Note {
 
 /// Adds a note, where what it is of was seen.
 fn add_note(notes: &mut Vec<Note>, is_seen: bool, note: Note) -> Result<()>
+    ensures added { IfOk result (λ _. notes.new.items ≡ notes.old.items ++ noted is_seen note) }
     ensures kinds { IfErr result (λ e. IsPlain e.kind) }
 {
     if is_seen {
@@ -51,6 +54,9 @@ fn add_note(notes: &mut Vec<Note>, is_seen: bool, note: Note) -> Result<()>
 
 /// Adds what is noted of a field.
 fn add_notes(notes: &mut Vec<Note>, entry: u32, field: u32, seen: Seen) -> Result<()>
+    ensures added { IfOk result (λ _. notes.new.items ≡ notes.old.items
+        ++ noted seen.float32 (note entry field StandIn.Float32) ++ noted seen.float64 (note entry field StandIn.Float64)
+        ++ noted seen.interface (note entry field StandIn.Interface) ++ noted seen.untyped_default (note entry field StandIn.UntypedDefault)) }
     ensures kinds { IfErr result (λ e. IsPlain e.kind) }
 {
     add_note(notes, seen.float32, note_at(entry, field, StandIn::Float32))?;
@@ -64,13 +70,14 @@ fn add_notes(notes: &mut Vec<Note>, entry: u32, field: u32, seen: Seen) -> Resul
         notes,
         seen.untyped_default,
         note_at(entry, field, StandIn::UntypedDefault),
-    )
+    )?;
+    Ok(())
 }
 
 /// The fields of an entry, by index.
 fn fields_of<'a>(
     context: Context<'_, 'a>,
-    entries: &mut Entries<'a>,
+    entries: &mut Entries,
     inside: &[BoundScope],
     number: u32,
     part: dynamic_struct::Reader<'a>,
@@ -136,7 +143,7 @@ pub(crate) struct NodePlace<'a> {
 /// The node and the brand of an entry of that name, inside its own scopes.
 pub(crate) fn struct_of<'a>(
     context: Context<'_, 'a>,
-    entries: &mut Entries<'a>,
+    entries: &mut Entries,
     inside: &[BoundScope],
     place: NodePlace<'a>,
     display_name: String,

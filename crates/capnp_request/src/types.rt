@@ -1,13 +1,19 @@
 //! Types, as a request says them, with the bindings of their brands.
-ghost use Rattle.std.specs.Prelude.{◌≡◌, false, IfErr, IfOk, IfSome, Some};
+ghost use Rattle.std.specs.Prelude.{◌≡◌, false, map, [], IfErr, IfOk, IfSome, Ok, Some};
+ghost use Rattle.capnp_base.specs.Types.{type_from};
 ghost use Rattle.capnp_schema.specs.RequestSet.{request_set};
 ghost use Rattle.capnp_schema.specs.Schema.{field_at, is_member};
+ghost use Rattle.capnp_schema.specs.Types.{AnyPointerType, seen_type};
 ghost use Rattle.capnp_records.specs.Part.{which_of};
 ghost use Rattle.capnp_dynamic_readers.specs.Seen.{record_seen};
+ghost use Rattle.capnp_request.specs.Bindings.{bounds, flags};
 ghost use Rattle.capnp_request.specs.Handles.{IsField, IsListOf, IsRecord};
+ghost use Rattle.capnp_request.specs.Meant.{IsEntryType, IsPlainMember, Says, SaysFloat, SaysInterface, untyped_meant};
 ghost use Rattle.capnp_request.specs.Nodes.{AreNodes};
-ghost use Rattle.capnp_request.specs.Parts.{one};
+ghost use Rattle.capnp_request.specs.Parts.{one, read_at};
+ghost use Rattle.capnp_request.specs.Reading.{type_said};
 ghost use Rattle.capnp_request.specs.Refusals.{IsPlain, IsRefusal};
+ghost use Rattle.capnp_request.specs.Scopes.{bound_types};
 
 use crate::context::Context;
 use crate::entries::{BoundNode, BoundScope, Entries, entry_type, enum_type};
@@ -16,13 +22,14 @@ use crate::parts::{active_member, element_at, list_at, struct_at, u16_at, u64_at
 use crate::places::{
     BINDING_TYPE, BINDING_UNBOUND, BRAND_SCOPES, LIST_ELEMENT, NAMED_ID, PARAMETER_INDEX,
     PARAMETER_SCOPE, SCOPE_BIND, SCOPE_ID, SCOPE_INHERIT, STRUCT_BRAND, TYPE_ENUM, TYPE_LIST,
-    TYPE_STRUCT, TYPE_UNTYPED, UNTYPED_PARAMETER, brands,
+    TYPE_STRUCT, TYPE_UNTYPED, brands,
 };
 use crate::schema_nodes::GenericScope;
 use crate::scopes::{bound_scope, bound_to, is_untyped, scope_of, untyped};
 use capnp_base::introspect::{Type, TypeVariant};
 use capnp_dynamic_readers::{dynamic_list, dynamic_struct};
 use capnp_wire::error::{Error, ErrorKind, Result};
+use std::alloc::Global;
 
 /// Where a brand stands: a field of a record of a brand of the request set.
 #[derive(Clone, Copy)]
@@ -36,7 +43,19 @@ pub(crate) struct BrandPlace<'a> {
 pub(crate) const TYPE_LEVELS: u32 = 64;
 
 /// The type of a member of a type's union that says all of it.
-fn plain_type(member: u16) -> Option<TypeVariant> {
+fn plain_type(member: u16) -> Option<Type>
+    ensures { IfSome result (λ t. IsPlainMember member (seen_type t)) }
+{
+    match plain_variant(member) {
+        Some(variant) => Some(Type::from(variant)),
+        None => None,
+    }
+}
+
+/// The same as a variant.
+fn plain_variant(member: u16) -> Option<TypeVariant>
+    ensures { IfSome result (λ v. IsPlainMember member (seen_type (type_from v))) }
+{
     match member {
         0 => Some(TypeVariant::Void),
         1 => Some(TypeVariant::Bool),
@@ -56,6 +75,7 @@ fn plain_type(member: u16) -> Option<TypeVariant> {
 
 /// A `Float32` or `Float64` as an integer of its width, with a note. Refused with `FloatType` where that is asked for.
 fn float_type(strict: bool, is_double: bool, seen: &mut Seen) -> Result<Type>
+    ensures says { IfOk result (λ t. SaysFloat is_double strict (seen_type t) (flags seen.old) (flags seen.new)) }
     ensures kinds { IfErr result (λ e. IsRefusal strict e.kind) }
 {
     if strict {
@@ -71,6 +91,7 @@ fn float_type(strict: bool, is_double: bool, seen: &mut Seen) -> Result<Type>
 
 /// An interface as an untyped pointer, with a note. Refused with `InterfaceType` where that is asked for.
 fn interface_type(strict: bool, seen: &mut Seen) -> Result<Type>
+    ensures says { IfOk result (λ t. SaysInterface strict (seen_type t) (flags seen.old) (flags seen.new)) }
     ensures kinds { IfErr result (λ e. IsRefusal strict e.kind) }
 {
     if strict {
@@ -84,23 +105,23 @@ fn interface_type(strict: bool, seen: &mut Seen) -> Result<Type>
 fn untyped_or_bound(inside: &[BoundScope], term: dynamic_struct::Reader<'_>) -> Result<Type>
     requires record { IsRecord 13 term }
     requires active { which_of (record_seen term) ≡ Some 18 }
+    ensures read { IfOk result (λ t. untyped_meant (bounds inside.now) (read_at 13 18 (record_seen term.entry)) ≡ Ok (seen_type t)) }
     ensures kinds { IfErr result (λ e. IsPlain e.kind) }
 {
     let pointer = struct_at(term, brands::TYPE, TYPE_UNTYPED, brands::TYPE_UNTYPED)?;
-    match active_member(pointer) {
-        Some(UNTYPED_PARAMETER) => {
-            let parameter = struct_at(
-                pointer,
-                brands::TYPE_UNTYPED,
-                UNTYPED_PARAMETER,
-                brands::TYPE_PARAMETER,
-            )?;
+    let Some(member) = active_member(pointer) else {
+        return Err(Error::from(ErrorKind::UnknownKind));
+    };
+    match member {
+        0 => Ok(untyped()),
+        1 => {
+            let parameter = struct_at(pointer, brands::TYPE_UNTYPED, 1, brands::TYPE_PARAMETER)?;
             let scope = u64_at(parameter, brands::TYPE_PARAMETER, PARAMETER_SCOPE)?;
             let index = u16_at(parameter, brands::TYPE_PARAMETER, PARAMETER_INDEX)?;
             Ok(bound_to(inside, scope, index))
         }
-        Some(_) => Ok(untyped()),
-        None => Err(Error::from(ErrorKind::UnknownKind)),
+        2 => Ok(untyped()),
+        _ => Err(Error::from(ErrorKind::UnknownKind)),
     }
 }
 
@@ -108,7 +129,7 @@ fn untyped_or_bound(inside: &[BoundScope], term: dynamic_struct::Reader<'_>) -> 
 #[cycle(types)]
 fn struct_type<'a>(
     context: Context<'_, 'a>,
-    entries: &mut Entries<'a>,
+    entries: &mut Entries,
     inside: &[BoundScope],
     term: dynamic_struct::Reader<'a>,
     seen: &mut Seen,
@@ -117,18 +138,19 @@ fn struct_type<'a>(
     requires nodes { AreNodes context.nodes.now }
     requires record { IsRecord 13 term }
     requires active { which_of (record_seen term) ≡ Some 16 }
+    ensures entry { IfOk result (λ t. IsEntryType (read_at 13 16 (record_seen term.entry)) (seen_type t)) }
     ensures kinds { IfErr result (λ e. IsRefusal context.entry.strict e.kind) }
 {
     let named = struct_at(term, brands::TYPE, TYPE_STRUCT, brands::TYPE_STRUCT)?;
     let id = u64_at(named, brands::TYPE_STRUCT, NAMED_ID)?;
-    let node = context.nodes.struct_node(id)?;
+    let _node = context.nodes.struct_node(id)?;
     let place = BrandPlace {
         reader: named,
         holder: brands::TYPE_STRUCT,
         index: STRUCT_BRAND,
     };
     let scopes = bindings_of(context, entries, inside, id, place, seen, depth)?;
-    let number = entries.number_of(node.get_sections(), BoundNode { id, scopes })?;
+    let number = entries.number_of(context.alloc, BoundNode { id, scopes })?;
     Ok(entry_type(number))
 }
 
@@ -139,7 +161,7 @@ fn struct_type<'a>(
 #[cycle(types)]
 pub(crate) fn type_of<'a>(
     context: Context<'_, 'a>,
-    entries: &mut Entries<'a>,
+    entries: &mut Entries,
     inside: &[BoundScope],
     term: dynamic_struct::Reader<'a>,
     seen: &mut Seen,
@@ -147,6 +169,7 @@ pub(crate) fn type_of<'a>(
 ) -> Result<Type>
     requires nodes { AreNodes context.nodes.now }
     requires is_record { IsRecord 13 term }
+    ensures says { IfOk result (λ t. Says context.entry.strict (bounds inside.now) (type_said depth (record_seen term.entry)) (seen_type t) (flags seen.old) (flags seen.new)) }
     ensures kinds { IfErr result (λ e. IsRefusal context.entry.strict e.kind) }
 {
     if depth == 0 {
@@ -156,25 +179,41 @@ pub(crate) fn type_of<'a>(
         return Err(Error::from(ErrorKind::UnknownKind));
     };
     if let Some(plain) = plain_type(member) {
-        return Ok(Type::from(plain));
+        return Ok(plain);
     }
     match member {
-        10 | 11 => float_type(context.strict, member == 11, seen),
-        TYPE_LIST => {
+        10 => {
+            let float = float_type(context.strict, false, seen)?;
+            Ok(float)
+        }
+        11 => {
+            let double = float_type(context.strict, true, seen)?;
+            Ok(double)
+        }
+        14 => {
             let list = struct_at(term, brands::TYPE, TYPE_LIST, brands::TYPE_LIST)?;
             let element = struct_at(list, brands::TYPE_LIST, LIST_ELEMENT, brands::TYPE)?;
             let element_type = type_of(context, entries, inside, element, seen, depth - 1)?;
             Ok(Type::list_of(element_type))
         }
-        TYPE_ENUM => {
+        15 => {
             let named = struct_at(term, brands::TYPE, TYPE_ENUM, brands::TYPE_ENUM)?;
             let id = u64_at(named, brands::TYPE_ENUM, NAMED_ID)?;
             let number = entries.number_enum(context.nodes, id)?;
             Ok(enum_type(number))
         }
-        TYPE_STRUCT => struct_type(context, entries, inside, term, seen, depth - 1),
-        17 => interface_type(context.strict, seen),
-        TYPE_UNTYPED => untyped_or_bound(inside, term),
+        16 => {
+            let entry = struct_type(context, entries, inside, term, seen, depth - 1)?;
+            Ok(entry)
+        }
+        17 => {
+            let pointer = interface_type(context.strict, seen)?;
+            Ok(pointer)
+        }
+        18 => {
+            let pointer = untyped_or_bound(inside, term)?;
+            Ok(pointer)
+        }
         _ => Err(Error::from(ErrorKind::UnknownKind)),
     }
 }
@@ -183,7 +222,7 @@ pub(crate) fn type_of<'a>(
 #[cycle(types)]
 pub(crate) fn bindings_of<'a>(
     context: Context<'_, 'a>,
-    entries: &mut Entries<'a>,
+    entries: &mut Entries,
     inside: &[BoundScope],
     id: u64,
     place: BrandPlace<'a>,
@@ -228,11 +267,22 @@ fn brand_scope<'a>(
     Ok(None)
 }
 
-/// The types that a brand binds to a scope's parameters.
+/// A copy of the types that are bound to a scope's parameters inside an entry, none where it isn't there.
+fn inherited(alloc: Global, inside: &[BoundScope], id: u64) -> Result<Vec<Type>>
+    ensures read { IfOk result (λ types. bound_types [] (λ b. b.types) (bounds inside.now) id ≡ map seen_type types.items) }
+    ensures kinds { IfErr result (λ e. IsPlain e.kind) }
+{
+    match scope_of(inside, id) {
+        Some(own) => Ok(own.types.as_slice().to_vec(alloc)?),
+        None => Ok(Vec::new(alloc)),
+    }
+}
+
+/// The types that a brand binds to a scope's parameters: none where it doesn't speak of the scope.
 #[cycle(types)]
 fn scope_types<'a>(
     context: Context<'_, 'a>,
-    entries: &mut Entries<'a>,
+    entries: &mut Entries,
     inside: &[BoundScope],
     scope: GenericScope,
     listed: dynamic_list::Reader<'a>,
@@ -243,13 +293,32 @@ fn scope_types<'a>(
     requires is_list { IsListOf (one 20) listed }
     ensures kinds { IfErr result (λ e. IsRefusal context.entry.strict e.kind) }
 {
-    let Some(said) = brand_scope(listed, scope.id)? else {
-        return Ok(Vec::new(context.alloc));
-    };
+    match brand_scope(listed, scope.id)? {
+        Some(said) => said_types(context, entries, inside, scope, said, seen, depth),
+        None => Ok(Vec::new(context.alloc)),
+    }
+}
+
+/// The types that a scope of a brand binds to a scope's parameters.
+#[cycle(types)]
+fn said_types<'a>(
+    context: Context<'_, 'a>,
+    entries: &mut Entries,
+    inside: &[BoundScope],
+    scope: GenericScope,
+    said: dynamic_struct::Reader<'a>,
+    seen: &mut Seen,
+    depth: u32,
+) -> Result<Vec<Type>>
+    requires nodes { AreNodes context.nodes.now }
+    requires is_record { IsRecord 20 said }
+    ensures inherits { IfOk result (λ types. which_of (record_seen said.entry) ≡ Some 2 → bound_types [] (λ b. b.types) (bounds inside.now) scope.id ≡ map seen_type types.items) }
+    ensures kinds { IfErr result (λ e. IsRefusal context.entry.strict e.kind) }
+{
     match active_member(said) {
         Some(SCOPE_BIND) => {
             let bindings = list_at(said, brands::SCOPE, SCOPE_BIND, brands::BINDING)?;
-            bound_types(
+            let types = bound_types(
                 context,
                 entries,
                 inside,
@@ -257,12 +326,13 @@ fn scope_types<'a>(
                 bindings,
                 seen,
                 depth,
-            )
+            )?;
+            Ok(types)
         }
-        Some(SCOPE_INHERIT) => match scope_of(inside, scope.id) {
-            Some(own) => Ok(own.types.clone()?),
-            None => Ok(Vec::new(context.alloc)),
-        },
+        Some(SCOPE_INHERIT) => {
+            let types = inherited(context.alloc, inside, scope.id)?;
+            Ok(types)
+        }
         _ => Err(Error::from(ErrorKind::UnknownKind)),
     }
 }
@@ -271,7 +341,7 @@ fn scope_types<'a>(
 #[cycle(types)]
 fn bound_types<'a>(
     context: Context<'_, 'a>,
-    entries: &mut Entries<'a>,
+    entries: &mut Entries,
     inside: &[BoundScope],
     parameters: u32,
     bindings: dynamic_list::Reader<'a>,
@@ -285,20 +355,38 @@ fn bound_types<'a>(
     let mut types = Vec::new(context.alloc);
     for index in 0..bindings.len().min(parameters) {
         let binding = element_at(bindings, index, brands::BINDING)?;
-        let bound = match active_member(binding) {
-            Some(BINDING_UNBOUND) => untyped(),
-            Some(BINDING_TYPE) => {
-                let term = struct_at(binding, brands::BINDING, BINDING_TYPE, brands::TYPE)?;
-                type_of(context, entries, inside, term, seen, depth)?
-            }
-            _ => return Err(Error::from(ErrorKind::UnknownKind)),
-        };
+        let bound = binding_type(context, entries, inside, binding, seen, depth)?;
         if !is_untyped(bound) {
             fill(&mut types, index)?;
             types.push(bound)?;
         }
     }
     Ok(types)
+}
+
+/// The type of a binding: an untyped pointer where it is unbound.
+#[cycle(types)]
+fn binding_type<'a>(
+    context: Context<'_, 'a>,
+    entries: &mut Entries,
+    inside: &[BoundScope],
+    binding: dynamic_struct::Reader<'a>,
+    seen: &mut Seen,
+    depth: u32,
+) -> Result<Type>
+    requires nodes { AreNodes context.nodes.now }
+    requires is_record { IsRecord 21 binding }
+    ensures unbound { IfOk result (λ t. which_of (record_seen binding.entry) ≡ Some 0 → seen_type t ≡ AnyPointerType) }
+    ensures kinds { IfErr result (λ e. IsRefusal context.entry.strict e.kind) }
+{
+    match active_member(binding) {
+        Some(BINDING_UNBOUND) => Ok(untyped()),
+        Some(BINDING_TYPE) => {
+            let term = struct_at(binding, brands::BINDING, BINDING_TYPE, brands::TYPE)?;
+            type_of(context, entries, inside, term, seen, depth)
+        }
+        _ => Err(Error::from(ErrorKind::UnknownKind)),
+    }
 }
 
 /// Adds untyped pointers until there are so many types.

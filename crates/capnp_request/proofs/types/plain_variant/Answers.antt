@@ -1,0 +1,51 @@
+use Rattle.std.proofs.Common.{ap}
+use Rattle.capnp_request.specs.Meant.{IsPlainMember, type_kind}
+use Rattle.capnp_request.proofs.types.plain_variant.Goals as goal
+
+pub returns-in-0 : goal.returns-in-0
+unfolding IsPlainMember
+returns-in-0 c = λ inner v. ap (λ m. type_kind inner m v) c.in-0.is
+
+pub returns-in-1 : goal.returns-in-1
+unfolding IsPlainMember
+returns-in-1 c = λ inner v. ap (λ m. type_kind inner m v) c.in-1.is
+
+pub returns-in-2 : goal.returns-in-2
+unfolding IsPlainMember
+returns-in-2 c = λ inner v. ap (λ m. type_kind inner m v) c.in-2.is
+
+pub returns-in-3 : goal.returns-in-3
+unfolding IsPlainMember
+returns-in-3 c = λ inner v. ap (λ m. type_kind inner m v) c.in-3.is
+
+pub returns-in-4 : goal.returns-in-4
+unfolding IsPlainMember
+returns-in-4 c = λ inner v. ap (λ m. type_kind inner m v) c.in-4.is
+
+pub returns-in-5 : goal.returns-in-5
+unfolding IsPlainMember
+returns-in-5 c = λ inner v. ap (λ m. type_kind inner m v) c.in-5.is
+
+pub returns-in-6 : goal.returns-in-6
+unfolding IsPlainMember
+returns-in-6 c = λ inner v. ap (λ m. type_kind inner m v) c.in-6.is
+
+pub returns-in-7 : goal.returns-in-7
+unfolding IsPlainMember
+returns-in-7 c = λ inner v. ap (λ m. type_kind inner m v) c.in-7.is
+
+pub returns-in-8 : goal.returns-in-8
+unfolding IsPlainMember
+returns-in-8 c = λ inner v. ap (λ m. type_kind inner m v) c.in-8.is
+
+pub returns-in-9 : goal.returns-in-9
+unfolding IsPlainMember
+returns-in-9 c = λ inner v. ap (λ m. type_kind inner m v) c.in-9.is
+
+pub returns-in-12 : goal.returns-in-12
+unfolding IsPlainMember
+returns-in-12 c = λ inner v. ap (λ m. type_kind inner m v) c.in-12.is
+
+pub returns-in-13 : goal.returns-in-13
+unfolding IsPlainMember
+returns-in-13 c = λ inner v. ap (λ m. type_kind inner m v) c.in-13.is
