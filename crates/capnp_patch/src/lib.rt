@@ -5,3 +5,4 @@
 
 pub mod engine;
 pub mod lines;
+pub mod reach;
