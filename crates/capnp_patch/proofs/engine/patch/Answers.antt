@@ -1,0 +1,31 @@
+-- What was read, the calls on it, and what was written, together.
+use Rattle.std.proofs.Common.{inl}
+use Rattle.std.proofs.lemmas.Result.{err_from_is_err_and}
+use Rattle.capnp_wire.specs.Message.{builder_tree}
+use Rattle.capnp_patch.proofs.Patched.{cut_short, not_patched, patched}
+use Rattle.capnp_patch.proofs.engine.patch.Goals as goal
+
+pub returns-in_err-replies-clause-refused : goal.returns-in_err-replies-clause-refused
+returns-in_err-replies-clause-refused g c =
+    let p = err_from_is_err_and c.from_residual-in_err-replies.result c.from_residual-in_err-replies.ensures.1 in rw (p.1, p.2)
+    (λ m. record {
+      bytes = c.in_ok-bytes.bytes.items;
+      read = (c.in_ok-bytes.ensures.whole, c.in_ok-bytes.ensures.to_end);
+      cause = inl (rw c.deref.ensures.value at c.in_err-replies.ensures.refused m.0);
+    })
+
+pub returns-clause-patched : goal.returns-clause-patched
+returns-clause-patched g c =
+    patched c.args.asked.schema c.args.asked.calls.now c.args.asked.keep_going c.in_ok-replies.replies.items (builder_tree c.run_bytes.new.message) c.finish.result
+    c.in_ok-bytes.bytes.items _ _ (c.in_ok-bytes.ensures.whole, c.in_ok-bytes.ensures.to_end) (rw c.deref.ensures.value at c.in_ok-replies.ensures.left) _ _
+    c.finish.ensures.replies c.finish.ensures.output
+
+pub returns-clause-refused : goal.returns-clause-refused
+returns-clause-refused g c =
+    not_patched c.args.asked.schema c.args.asked.calls.now c.args.asked.keep_going c.in_ok-replies.replies.items (builder_tree c.run_bytes.new.message) c.finish.result
+    c.in_ok-bytes.bytes.items _ _ (c.in_ok-bytes.ensures.whole, c.in_ok-bytes.ensures.to_end) (rw c.deref.ensures.value at c.in_ok-replies.ensures.left) c.finish.ensures.large
+
+pub returns-clause-beginning : goal.returns-clause-beginning
+returns-clause-beginning g c =
+    cut_short c.args.asked.schema c.args.asked.calls.now c.args.asked.keep_going c.in_ok-replies.replies.items (builder_tree c.run_bytes.new.message) c.finish.result
+    c.in_ok-bytes.bytes.items _ _ (c.in_ok-bytes.ensures.whole, c.in_ok-bytes.ensures.to_end) (rw c.deref.ensures.value at c.in_ok-replies.ensures.left) _ _ c.finish.ensures.beginning

@@ -1,0 +1,127 @@
+-- What calls on a message's root, or on an empty one, leave, and what is written of it.
+use Rattle.std.specs.Prelude.{ℕ, suc, ◌≡◌, ◌⊎◌, ◌<◌, ◌≤◌, ◌^◌, List, [], ◌∷◌, ◌++◌, Bool, true, false, not, ◌||◌, length, take, Option, Some, None, Ok, Err}
+use Rattle.std.specs.Io.KnownBytes.{Appends}
+use Rattle.capnp_device.specs.declared.error.ErrorKind.{ErrorKind}
+use Rattle.capnp_device.specs.declared.error.ErrorKind.TheVariants.{TooLarge}
+use Rattle.capnp_wire.specs.Depth.{IsShallow}
+use Rattle.capnp_wire.specs.Edits.{extended, struct_in}
+use Rattle.capnp_wire.specs.Encoding.{message_of}
+use Rattle.capnp_wire.specs.Stream.{message_tree_of}
+use Rattle.capnp_wire.specs.Tree.{StructTree, Tree}
+use Rattle.capnp_wire.specs.Words.{words_of}
+use Rattle.capnp_schema.specs.Plan.{brand_size}
+use Rattle.capnp_schema.specs.StructHandles.{number_of, set_of}
+use Rattle.capnp_schema.specs.declared.schema.structs.StructSchema.{StructSchema}
+use Rattle.capnp_records.specs.Record.{Record}
+use Rattle.capnp_call.specs.declared.calls.Call.{Call}
+use Rattle.capnp_call.specs.declared.calls.Reply.{Reply}
+use Rattle.capnp_call.specs.declared.calls.Reply.TheVariants as reply
+use Rattle.capnp_run.specs.Messages.{LeavesRun, new_record, new_root, root_refusal}
+use Rattle.capnp_run.specs.Runs.{Makes, RestsWhole, record_in}
+use Rattle.capnp_show_engine.specs.Show.{IsRead}
+
+-- ---- what calls leave ----
+
+-- What calls leave of a root: a run of the machine leads from the record at the start to that of a struct; each call does to
+-- the struct, which at first had its schema's sections, what the machine does to records; and where no call takes memory none
+-- is refused for the want of it.
+pub record IsLeft (schema : StructSchema) (r : Record) (start : StructTree) (calls : List Call) (replies : List Reply) (t : Tree) : Type 0 where
+  pub run : LeavesRun schema r calls replies t
+  pub made : Makes (set_of schema) (number_of schema) start calls replies (struct_in t)
+  pub rests : RestsWhole schema start calls replies
+
+-- what they leave of an empty root
+abbrev pub IsLeftOfNew : StructSchema → List Call → List Reply → Tree → Type 0
+IsLeftOfNew schema calls replies t = IsLeft schema (new_record schema) (new_root schema) calls replies t
+
+-- what they leave of a copy of a root, and of the root of the first message in these bytes
+abbrev pub IsLeftOfCopy : StructSchema → Tree → List Call → List Reply → Tree → Type 0
+IsLeftOfCopy schema root calls replies t =
+    IsLeft schema (record_in schema (struct_in root)) (extended (brand_size (set_of schema) (number_of schema)) (struct_in root)) calls replies t
+
+pub record IsLeftOfBytes (schema : StructSchema) (bytes : List ℕ) (calls : List Call) (replies : List Reply) (t : Tree) : Type 0 where
+  pub root : Tree
+  pub message : message_tree_of bytes ≡ Ok root
+  pub sound : root_refusal root ≡ None
+  pub leaves : IsLeftOfCopy schema root calls replies t
+
+-- no root of the first message in these bytes is copied
+abbrev pub IsUnread : List ℕ → ErrorKind → Type 0
+IsUnread bytes kind = (message_tree_of bytes ≡ Err kind) ⊎ ((root : Tree) × (message_tree_of bytes ≡ Ok root) × (root_refusal root ≡ Some kind))
+
+-- ---- whether it is written ----
+
+abbrev pub is_refused : Reply → Bool
+is_refused reply.Done = false
+is_refused (reply.Value p) = false
+is_refused (reply.Flag b) = false
+is_refused (reply.Member i) = false
+is_refused (reply.Refused kind) = true
+
+abbrev pub any_refused : List Reply → Bool
+any_refused [] = false
+any_refused (r ∷ rs) = is_refused r || any_refused rs
+
+-- a message is written unless a call was refused, or where a run goes on all the same
+abbrev pub is_kept : (keep_going : Bool) → List Reply → Bool
+is_kept keep_going replies = keep_going || not (any_refused replies)
+
+-- the bytes of a message, which are read back as it where its pointers go at most 64 levels down
+pub record IsMessageOf (t : Tree) (bytes : List ℕ) : Type 0 where
+  pub fits : suc (words_of t) < 2 ^ 29
+  pub encoding : bytes ≡ message_of t
+  pub read_back : IsShallow t → (rest : List ℕ) → message_tree_of (bytes ++ rest) ≡ Ok t
+
+-- it is written and nothing else, or nothing is
+abbrev pub IsOutput : (kept : Bool) → Tree → (written written' : Option (List ℕ)) → Type 0
+IsOutput true t written written' = (bytes : List ℕ) × IsMessageOf t bytes × Appends written written' bytes
+IsOutput false t written written' = written' ≡ written
+
+-- a beginning of it, not the whole, is written
+abbrev pub IsBeginning : Tree → (written written' : Option (List ℕ)) → Type 0
+IsBeginning t written written' = (n : ℕ) × (n < length (message_of t)) × Appends written written' (take n (message_of t))
+
+-- ---- what was done to source and sink, by what was left before and after, and what was written ----
+
+-- some bytes were read to the end, calls were made on a copy of the root of the first message in them, and what they left was
+-- written or not
+pub record IsPatched (schema : StructSchema) (calls : List Call) (keep_going : Bool) (replies : List Reply) (left left' written written' : Option (List ℕ)) : Type 0 where
+  pub bytes : List ℕ
+  pub read : IsRead bytes left left'
+  pub root : Tree
+  pub leaves : IsLeftOfBytes schema bytes calls replies root
+  pub output : IsOutput (is_kept keep_going replies) root written written'
+
+-- what the calls left is to be written, and its message is too large
+pub record IsTooLarge (keep_going : Bool) (leaves : List Reply → Tree → Type 0) (kind : ErrorKind) : Type 0 where
+  pub kind_is : kind ≡ TooLarge
+  pub replies : List Reply
+  pub kept : is_kept keep_going replies ≡ true
+  pub root : Tree
+  pub left : leaves replies root
+  pub large : 2 ^ 29 ≤ suc (words_of root)
+
+-- some bytes were read to the end, of whose root no copy is made, or whose message would be too large after the calls
+pub record IsNotPatched (schema : StructSchema) (calls : List Call) (keep_going : Bool) (kind : ErrorKind) (left left' : Option (List ℕ)) : Type 0 where
+  pub bytes : List ℕ
+  pub read : IsRead bytes left left'
+  pub cause : IsUnread bytes kind ⊎ IsTooLarge keep_going (IsLeftOfBytes schema bytes calls) kind
+
+-- what the calls left is to be written, and a beginning of it was
+pub record IsCutShort (keep_going : Bool) (leaves : List Reply → Tree → Type 0) (written written' : Option (List ℕ)) : Type 0 where
+  pub replies : List Reply
+  pub kept : is_kept keep_going replies ≡ true
+  pub root : Tree
+  pub left : leaves replies root
+  pub beginning : IsBeginning root written written'
+
+pub record IsPatchCutShort (schema : StructSchema) (calls : List Call) (keep_going : Bool) (left left' written written' : Option (List ℕ)) : Type 0 where
+  pub bytes : List ℕ
+  pub read : IsRead bytes left left'
+  pub cut : IsCutShort keep_going (IsLeftOfBytes schema bytes calls) written written'
+
+-- the same of an empty root
+pub record IsMade (schema : StructSchema) (calls : List Call) (keep_going : Bool) (replies : List Reply) (written written' : Option (List ℕ)) : Type 0 where
+  pub root : Tree
+  pub leaves : IsLeftOfNew schema calls replies root
+  pub output : IsOutput (is_kept keep_going replies) root written written'

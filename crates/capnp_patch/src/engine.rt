@@ -1,0 +1,187 @@
+//! Calls on a message that is read, or on an empty root, and the message that they leave, written.
+ghost use Rattle.std.specs.Prelude.{[], ◌≡◌, ◌≢◌, ◌≤◌, ◌^◌, suc, true, false, IfErr, IfOk, OnErr, OnOk, string_bytes};
+ghost use Rattle.capnp_device.specs.Device.{HasFailed};
+ghost use Rattle.capnp_device.specs.declared.error.ErrorKind.TheVariants.{OutOfMemory, ReadFailed, TooLarge, WriteFailed};
+ghost use Rattle.capnp_wire.specs.Message.{builder_tree};
+ghost use Rattle.capnp_wire.specs.WellFormed.{IsWellFormed};
+ghost use Rattle.capnp_wire.specs.Words.{words_of};
+ghost use Rattle.capnp_schema.specs.StructHandles.{IsStruct};
+ghost use Rattle.capnp_patch.specs.Lines.{AreTold};
+ghost use Rattle.capnp_patch.specs.Patches.{IsBeginning, IsCutShort, IsLeftOfBytes, IsLeftOfNew, IsMade, IsNotPatched, IsOutput, IsPatchCutShort, IsPatched, IsTooLarge, IsUnread, any_refused, is_kept, is_refused};
+ghost use Rattle.capnp_show_engine.specs.Refusals.{IsOfRead};
+ghost use Rattle.capnp_show_engine.specs.Show.{IsOfMessage};
+
+use crate::lines::get_lines;
+use capnp_call::calls::{Call, Reply};
+use capnp_run::message::{run_copied, run_new};
+use capnp_schema::schema::StructSchema;
+use capnp_wire::device::{Sink, Source};
+use capnp_wire::error::Result;
+use capnp_wire::message::{Builder, Reader};
+use capnp_wire::transfer::read_all;
+use std::alloc::Global;
+
+/// Whether a call was refused.
+pub fn is_refused(reply: &Reply) -> bool
+    ensures { result ≡ is_refused reply.now }
+{
+    match reply {
+        Reply::Refused(_) => true,
+        Reply::Done | Reply::Value(_) | Reply::Flag(_) | Reply::Member(_) => false,
+    }
+}
+
+/// Whether one of these calls was refused.
+pub fn any_refused(replies: &[Reply]) -> bool
+    ensures { result ≡ any_refused replies.now }
+{
+    for index in 0..replies.len() {
+        if is_refused(&replies[index]) {
+            return true;
+        }
+    }
+    false
+}
+
+/// Makes calls on a copy of the root of the first message in these bytes.
+fn run_bytes(
+    alloc: Global,
+    message: &mut Builder,
+    bytes: &[u8],
+    schema: StructSchema<'_>,
+    calls: &[Call<'_>],
+) -> Result<Vec<Reply>>
+    requires { IsStruct schema }
+    ensures left { IfOk result (λ replies. IsLeftOfBytes schema.entry bytes.now calls.now replies.items (builder_tree message.new)) }
+    ensures refused { IfErr result (λ e. e.kind ≢ OutOfMemory → IsUnread bytes.now e.kind) }
+    ensures of_no_device { IfErr result (λ e. IsOfRead e.kind) }
+{
+    let reader = Reader::new(alloc, bytes)?;
+    run_copied(alloc, message, reader.get_root(), schema, calls)
+}
+
+/// Writes a message, unless a call was refused and the run doesn't go on all the same.
+fn put_message<W: Sink>(
+    message: &Builder,
+    replies: &[Reply],
+    sink: &mut W,
+    keep_going: bool,
+) -> Result<()>
+    requires { IsWellFormed (builder_tree message.now) }
+    ensures output { OnOk result (IsOutput (is_kept keep_going replies.now) (builder_tree message.now) (W.written sink.old) (W.written sink.new)) }
+    ensures unwritten { is_kept keep_going replies.now ≡ false → sink.new ≡ sink.old }
+    ensures kept { OnErr result (is_kept keep_going replies.now ≡ true) }
+    ensures large { IfErr result (λ e. IsOfMessage e.kind → (e.kind ≡ TooLarge) × (2 ^ 29 ≤ suc (words_of (builder_tree message.now)))) }
+    ensures unread { IfErr result (λ e. e.kind ≢ ReadFailed) }
+    ensures failed { IfErr result (λ e. e.kind ≡ WriteFailed → HasFailed (W.failures sink.old) (W.failures sink.new)) }
+    ensures beginning { IfErr result (λ e. e.kind ≡ WriteFailed → IsBeginning (builder_tree message.now) (W.written sink.old) (W.written sink.new)) }
+    ensures nothing { IfErr result (λ e. e.kind ≢ WriteFailed → sink.new ≡ sink.old) }
+{
+    if keep_going || !any_refused(replies) {
+        message.write_message_to(sink)
+    } else {
+        Ok(())
+    }
+}
+
+/// What is asked of a message: calls, each with the word that it is told by, on a root under a schema; and whether what they
+/// leave is written where one of them was refused.
+#[derive(Clone, Copy)]
+pub struct Asked<'c> {
+    pub schema: StructSchema<'c>,
+    pub calls: &'c [Call<'c>],
+    pub words: &'c [String],
+    pub keep_going: bool,
+}
+
+/// What came of it: a reply to each call, in order, and the lines that tell of them, as `crate::lines::get_lines`.
+#[derive(Drop)]
+pub struct Report {
+    pub replies: Vec<Reply>,
+    pub lines: String,
+}
+
+/// Makes the lines of replies, and then writes a message.
+fn finish<W: Sink>(
+    alloc: Global,
+    message: &Builder,
+    replies: Vec<Reply>,
+    asked: Asked<'_>,
+    sink: &mut W,
+) -> Result<Report>
+    requires { IsWellFormed (builder_tree message.now) }
+    ensures replies { IfOk result (λ r. r.replies.items ≡ replies.items) }
+    ensures lines { IfOk result (λ r. AreTold 1 asked.entry.words.now r.replies.items [] (string_bytes r.lines)) }
+    ensures output { OnOk result (IsOutput (is_kept asked.entry.keep_going replies.items) (builder_tree message.now) (W.written sink.old) (W.written sink.new)) }
+    ensures unwritten { IfOk result (λ r. is_kept asked.entry.keep_going r.replies.items ≡ false → sink.new ≡ sink.old) }
+    ensures large { IfErr result (λ e. IsOfMessage e.kind
+        → (e.kind ≡ TooLarge) × (is_kept asked.entry.keep_going replies.items ≡ true) × (2 ^ 29 ≤ suc (words_of (builder_tree message.now)))) }
+    ensures unread { IfErr result (λ e. e.kind ≢ ReadFailed) }
+    ensures failed { IfErr result (λ e. e.kind ≡ WriteFailed → HasFailed (W.failures sink.old) (W.failures sink.new)) }
+    ensures beginning { IfErr result (λ e. e.kind ≡ WriteFailed
+        → (is_kept asked.entry.keep_going replies.items ≡ true) × IsBeginning (builder_tree message.now) (W.written sink.old) (W.written sink.new)) }
+    ensures nothing { IfErr result (λ e. e.kind ≢ WriteFailed → sink.new ≡ sink.old) }
+{
+    let lines = get_lines(alloc, asked.words, &replies)?;
+    put_message(message, &replies, sink, asked.keep_going)?;
+    Ok(Report { replies, lines })
+}
+
+/// Reads the source to its end, makes calls on a copy of the first message's root, read as a struct of the schema, and writes
+/// the message that they leave: one segment, whose root has at least the schema's sections, with all that the calls didn't
+/// change. Where a call was refused nothing is written, unless `keep_going` says that what the run left is. What follows the
+/// message is not looked at. The replies and their lines are made before the first byte is written. The schema is one of an
+/// accepted set.
+///
+/// Refused with `ReadFailed` or `WriteFailed` where a call of the source or the sink failed, with `OutOfMemory`, as the
+/// message is (`Truncated`, `TooManySegments`), with `BadPointer`, `TooDeep` or `CapabilityPointer` where a pointer in it can't
+/// be followed, by the first of these in preorder, with `WrongPointerKind` where its root is a list, and with `TooLarge` where
+/// a message of 2^29 words or more would be written. After `WriteFailed` a proper beginning of the message was written, after
+/// any other refusal nothing.
+pub fn patch<R: Source, W: Sink>(
+    alloc: Global,
+    asked: Asked<'_>,
+    source: &mut R,
+    sink: &mut W,
+) -> Result<Report>
+    requires { IsStruct asked.schema }
+    ensures patched { IfOk result (λ r. IsPatched asked.entry.schema asked.entry.calls.now asked.entry.keep_going r.replies.items (R.left source.old) (R.left source.new)
+        (W.written sink.old) (W.written sink.new)) }
+    ensures lines { IfOk result (λ r. AreTold 1 asked.entry.words.now r.replies.items [] (string_bytes r.lines)) }
+    ensures unwritten { IfOk result (λ r. is_kept asked.entry.keep_going r.replies.items ≡ false → sink.new ≡ sink.old) }
+    ensures refused { IfErr result (λ e. IsOfMessage e.kind
+        → IsNotPatched asked.entry.schema asked.entry.calls.now asked.entry.keep_going e.kind (R.left source.old) (R.left source.new)) }
+    ensures read_failed { IfErr result (λ e. e.kind ≡ ReadFailed → HasFailed (R.failures source.old) (R.failures source.new)) }
+    ensures write_failed { IfErr result (λ e. e.kind ≡ WriteFailed → HasFailed (W.failures sink.old) (W.failures sink.new)) }
+    ensures beginning { IfErr result (λ e. e.kind ≡ WriteFailed → IsPatchCutShort asked.entry.schema asked.entry.calls.now asked.entry.keep_going
+        (R.left source.old) (R.left source.new) (W.written sink.old) (W.written sink.new)) }
+    ensures nothing { IfErr result (λ e. e.kind ≢ WriteFailed → sink.new ≡ sink.old) }
+{
+    let bytes = read_all(alloc, source)?;
+    let mut message = Builder::new(alloc);
+    let replies = run_bytes(alloc, &mut message, &bytes, asked.schema, asked.calls)?;
+    finish(alloc, &message, replies, asked, sink)
+}
+
+/// Makes calls on an empty root of the schema, all zero and null, and writes the message that they leave, as `patch`. The
+/// schema is one of an accepted set.
+///
+/// Refused with `WriteFailed` where a call of the sink failed, with `OutOfMemory`, and with `TooLarge` where a message of 2^29
+/// words or more would be written. After `WriteFailed` a proper beginning of the message was written, after any other refusal
+/// nothing.
+pub fn new_message<W: Sink>(alloc: Global, asked: Asked<'_>, sink: &mut W) -> Result<Report>
+    requires { IsStruct asked.schema }
+    ensures made { IfOk result (λ r. IsMade asked.entry.schema asked.entry.calls.now asked.entry.keep_going r.replies.items (W.written sink.old) (W.written sink.new)) }
+    ensures lines { IfOk result (λ r. AreTold 1 asked.entry.words.now r.replies.items [] (string_bytes r.lines)) }
+    ensures unwritten { IfOk result (λ r. is_kept asked.entry.keep_going r.replies.items ≡ false → sink.new ≡ sink.old) }
+    ensures refused { IfErr result (λ e. IsOfMessage e.kind → IsTooLarge asked.entry.keep_going (IsLeftOfNew asked.entry.schema asked.entry.calls.now) e.kind) }
+    ensures unread { IfErr result (λ e. e.kind ≢ ReadFailed) }
+    ensures write_failed { IfErr result (λ e. e.kind ≡ WriteFailed → HasFailed (W.failures sink.old) (W.failures sink.new)) }
+    ensures beginning { IfErr result (λ e. e.kind ≡ WriteFailed
+        → IsCutShort asked.entry.keep_going (IsLeftOfNew asked.entry.schema asked.entry.calls.now) (W.written sink.old) (W.written sink.new)) }
+    ensures nothing { IfErr result (λ e. e.kind ≢ WriteFailed → sink.new ≡ sink.old) }
+{
+    let mut message = Builder::new(alloc);
+    let replies = run_new(alloc, &mut message, asked.schema, asked.calls)?;
+    finish(alloc, &message, replies, asked, sink)
+}

@@ -1,0 +1,132 @@
+//! The lines that tell of the replies to calls.
+ghost use Rattle.std.specs.Prelude.{◌≡◌, ◌++◌, [], IfErr, IfOk, OnOk, string_bytes};
+ghost use Rattle.capnp_device.specs.declared.error.ErrorKind.TheVariants.{OutOfMemory};
+ghost use Rattle.capnp_dynamic_readers.specs.Pieces.{IsAppended};
+ghost use Rattle.capnp_patch.specs.Lines.{AreTold, IsTold, IsValueTold, answer_line, flag_word, member_word, plain_text, refusal_line, told_line};
+
+use capnp_base::text;
+use capnp_call::calls::{Plain, Reply};
+use capnp_dynamic_readers::dynamic_value::Reader as Value;
+use capnp_dynamic_readers::printer::print;
+use capnp_wire::error::{ErrorKind, Result};
+use std::alloc::Global;
+
+/// Appends a value as it is told.
+fn put_plain(out: &mut String, plain: &Plain) -> Result<()>
+    ensures put { OnOk result (IsAppended (string_bytes out.old) (plain_text plain.now) (string_bytes out.new)) }
+    ensures memory { IfErr result (λ e. e.kind ≡ OutOfMemory) }
+{
+    match plain {
+        Plain::Void => print(Value::Void, out, false),
+        Plain::Bool(x) => print(Value::Bool(*x), out, false),
+        Plain::Int8(x) => print(Value::Int8(*x), out, false),
+        Plain::Int16(x) => print(Value::Int16(*x), out, false),
+        Plain::Int32(x) => print(Value::Int32(*x), out, false),
+        Plain::Int64(x) => print(Value::Int64(*x), out, false),
+        Plain::UInt8(x) => print(Value::UInt8(*x), out, false),
+        Plain::UInt16(x) => print(Value::UInt16(*x), out, false),
+        Plain::UInt32(x) => print(Value::UInt32(*x), out, false),
+        Plain::UInt64(x) => print(Value::UInt64(*x), out, false),
+        Plain::Text(bytes) => print(Value::Text(text::Reader(bytes)), out, false),
+        Plain::Data(bytes) => print(Value::Data(bytes), out, false),
+        Plain::Enum(number) => Ok(write!(out, "{number}")?),
+        Plain::List(len) => Ok(write!(out, "[{len} elements]")?),
+        Plain::Struct => Ok(out.push_str("(..)")?),
+        Plain::AnyPointer(true) => Ok(out.push_str("null")?),
+        Plain::AnyPointer(false) => Ok(out.push_str("<opaque pointer>")?),
+    }
+}
+
+/// Appends a line: the number of a call, its word, and what is told.
+fn put_told(lines: &mut String, number: u64, word: &str, between: &str, text: &str) -> Result<()>
+    ensures put { OnOk result (string_bytes lines.new ≡ string_bytes lines.old ++ told_line number word.now between.now text.now) }
+    ensures memory { IfErr result (λ e. e.kind ≡ OutOfMemory) }
+{
+    write!(lines, "{number}: {word}{between}{text}\n")?;
+    Ok(())
+}
+
+/// Appends the line of an answer.
+fn put_answer(lines: &mut String, number: u64, word: &str, text: &str) -> Result<()>
+    ensures put { OnOk result (string_bytes lines.new ≡ string_bytes lines.old ++ answer_line number word.now text.now) }
+    ensures memory { IfErr result (λ e. e.kind ≡ OutOfMemory) }
+{
+    put_told(lines, number, word, " = ", text)
+}
+
+/// Appends the line of a value.
+fn put_value(lines: &mut String, number: u64, word: &str, plain: &Plain) -> Result<()>
+    ensures put { OnOk result (IsValueTold number word.now plain.now (string_bytes lines.old) (string_bytes lines.new)) }
+    ensures memory { IfErr result (λ e. e.kind ≡ OutOfMemory) }
+{
+    let mut text = String::new(*lines.allocator());
+    put_plain(&mut text, plain)?;
+    put_answer(lines, number, word, text.as_str())
+}
+
+/// Appends the line of a flag.
+fn put_flag(lines: &mut String, number: u64, word: &str, flag: bool) -> Result<()>
+    ensures put { OnOk result (string_bytes lines.new ≡ string_bytes lines.old ++ answer_line number word.now (flag_word flag)) }
+    ensures memory { IfErr result (λ e. e.kind ≡ OutOfMemory) }
+{
+    put_answer(lines, number, word, if flag { "true" } else { "false" })
+}
+
+/// Appends the line of a member.
+fn put_member(lines: &mut String, number: u64, word: &str, member: Option<u16>) -> Result<()>
+    ensures put { OnOk result (string_bytes lines.new ≡ string_bytes lines.old ++ answer_line number word.now (member_word member)) }
+    ensures memory { IfErr result (λ e. e.kind ≡ OutOfMemory) }
+{
+    match member {
+        None => put_answer(lines, number, word, "none"),
+        Some(index) => {
+            let text = format!(in *lines.allocator(); "#{index}")?;
+            put_answer(lines, number, word, text.as_str())
+        }
+    }
+}
+
+/// Appends the line of a refusal.
+fn put_refusal(lines: &mut String, number: u64, word: &str, kind: ErrorKind) -> Result<()>
+    ensures put { OnOk result (string_bytes lines.new ≡ string_bytes lines.old ++ refusal_line number word.now kind) }
+    ensures memory { IfErr result (λ e. e.kind ≡ OutOfMemory) }
+{
+    let refusal = kind.number();
+    let name = kind.name();
+    let text = format!(in *lines.allocator(); "{refusal} {name}")?;
+    put_told(lines, number, word, ": refused: ", text.as_str())
+}
+
+/// Appends the line of a reply.
+fn put_line(lines: &mut String, number: u64, word: &str, reply: &Reply) -> Result<()>
+    ensures put { OnOk result (IsTold number word.now reply.now (string_bytes lines.old) (string_bytes lines.new)) }
+    ensures memory { IfErr result (λ e. e.kind ≡ OutOfMemory) }
+{
+    match reply {
+        Reply::Done => Ok(()),
+        Reply::Value(plain) => put_value(lines, number, word, plain),
+        Reply::Flag(flag) => put_flag(lines, number, word, *flag),
+        Reply::Member(member) => put_member(lines, number, word, *member),
+        Reply::Refused(kind) => put_refusal(lines, number, word, *kind),
+    }
+}
+
+/// A line for each reply that answers or refuses, in order: the number of its call, from 1 on, the call's word, and the answer or
+/// the refusal's number and name. Refused with `OutOfMemory` alone.
+pub fn get_lines(alloc: Global, words: &[String], replies: &[Reply]) -> Result<String>
+    ensures lines { IfOk result (λ lines. AreTold 1 words.now replies.now [] (string_bytes lines)) }
+    ensures memory { IfErr result (λ e. e.kind ≡ OutOfMemory) }
+{
+    let mut lines = String::new(alloc);
+    let mut index = 0;
+    while index < words.len() && index < replies.len() {
+        put_line(
+            &mut lines,
+            index as u64 + 1,
+            words[index].as_str(),
+            &replies[index],
+        )?;
+        index += 1;
+    }
+    Ok(lines)
+}
