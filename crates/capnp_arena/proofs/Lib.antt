@@ -13,3 +13,4 @@ pub mod NewLists
 pub mod Elements
 pub mod Lookings
 pub mod Counted
+pub mod Encodings

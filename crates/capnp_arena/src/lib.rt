@@ -3,7 +3,9 @@
 
 pub mod arena;
 pub mod callers;
+mod append;
 mod count;
+mod encode;
 mod look;
 mod spell;
 mod target;
