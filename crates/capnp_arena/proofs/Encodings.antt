@@ -1,17 +1,15 @@
 -- The encoding of a tree by what its pointer leads to.
-use Rattle.std.proofs.Common.{◌≡◌, ℕ, zero, suc, ◌+◌, ◌-◌, ◌*◌, ◌/◌, ◌^◌, ◌<◌, ◌≤◌, ◌⊎◌, inl, inr, true, false, refl, sym, ap, subst, ◌∙◌, arith, List, [], ◌++◌, length, take, drop, ◌==◌, cond}
+use Rattle.std.proofs.Common.{◌≡◌, ℕ, zero, suc, ◌+◌, ◌-◌, ◌*◌, ◌/◌, ◌^◌, ◌<◌, ◌≤◌, inl, inr, refl, sym, ap, subst, ◌∙◌, arith, List, [], ◌++◌, length, take, drop, ◌==◌, cond}
 use Rattle.std.proofs.lemmas.List.{append-nil, append_assoc, take-append-drop}
-use Rattle.std.specs.Prelude.{None, Option}
 use Rattle.capnp_wire.specs.Encoding.{bytes_below, bytes_of, bytes_of_all, list_word, own_bytes, packed, pointer_row, pointer_word, struct_word}
 use Rattle.capnp_wire.specs.Facts.Bytes.{AreBytes-part, AreSegments-one}
 use Rattle.capnp_wire.specs.Facts.Places.{IsWellFormed-tree_at}
 use Rattle.capnp_wire.specs.Facts.Rows.{struct_count-structs_from, tree_count-trees_from}
 use Rattle.capnp_wire.specs.Filling.{HasRoom, HaveRoom, with_encoded_elements, with_pointers}
 use Rattle.capnp_wire.specs.Locate.{list_words}
-use Rattle.capnp_wire.specs.Place.{bits_from, bytes_at, list_tree, struct_tree, tree_with_level}
+use Rattle.capnp_wire.specs.Place.{bits_from, bytes_at, list_tree, tree_with_level}
 use Rattle.capnp_wire.specs.Tree.{Composite, MoreStructs, MoreTrees, NoStructs, NoTrees, Null, StructTree, Structs, Tree, Trees, structs_from, tree_count, trees_from}
 use Rattle.capnp_wire.specs.WellFormed.{AreBytes, AreElements, AreWellFormed, IsWellFormed}
-use Rattle.capnp_wire.specs.Words.{words_of, words_of_all}
 use Rattle.capnp_wire.proofs.Lists.{length-bits_from}
 use Rattle.capnp_arena.specs.Encoded.{HasSize, pointer_to}
 use Rattle.capnp_arena.specs.Forest.{Forest, struct_from, tree}

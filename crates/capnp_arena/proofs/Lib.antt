@@ -14,3 +14,4 @@ pub mod Elements
 pub mod Lookings
 pub mod Counted
 pub mod Encodings
+pub mod Whole

@@ -27,22 +27,39 @@ pub fn make_pointer(gap: u64, target: Target) -> u64
 {
     match target {
         Target::Null => 0,
-        Target::Struct { start: _, data_words, pointers } => {
+        Target::Struct {
+            start: _,
+            data_words,
+            pointers,
+        } => {
             if data_words as u64 + pointers as u64 == 0 {
                 return make_struct_word((1 << 30) - 1, 0, 0);
             }
             make_struct_word(gap, data_words as u64, pointers as u64)
         }
-        Target::List { start: _, element_size, count } => make_list_word(gap, element_size as u64, count as u64),
-        Target::Composite { tag: _, count, data_words, pointers } => {
-            make_list_word(gap, 7, count as u64 * (data_words as u64 + pointers as u64))
-        }
+        Target::List {
+            start: _,
+            element_size,
+            count,
+        } => make_list_word(gap, element_size as u64, count as u64),
+        Target::Composite {
+            tag: _,
+            count,
+            data_words,
+            pointers,
+        } => { make_list_word(gap, 7, count as u64 * (data_words as u64 + pointers as u64)) }
     }
 }
 
 /// A list of bits or numbers, or of nothing.
 #[inline(always)]
-fn append_plain(out: &mut Vec<u8>, bytes: &[u8], start: usize, element_size: u8, count: u32) -> Appended
+fn append_plain(
+    out: &mut Vec<u8>,
+    bytes: &[u8],
+    start: usize,
+    element_size: u8,
+    count: u32,
+) -> Appended
     requires plain { element_size < 6 }
     requires few { (count < 2 ^ 29) × (start < 2 ^ 30) }
     requires inside { start + list_words element_size count ≤ word_count bytes.now }
@@ -52,7 +69,11 @@ fn append_plain(out: &mut Vec<u8>, bytes: &[u8], start: usize, element_size: u8,
     if element_size == 0 {
         Ok(())
     } else if element_size == 1 {
-        append_bits(out, get_part(bytes, start, 8 * ((count + 63) / 64)), count as u32)
+        append_bits(
+            out,
+            get_part(bytes, start, 8 * ((count + 63) / 64)),
+            count as u32,
+        )
     } else if element_size == 2 {
         append_padded(out, get_part(bytes, start, count))
     } else if element_size == 3 {
@@ -74,20 +95,40 @@ pub fn append_tree(out: &mut Vec<u8>, bytes: &[u8], w: usize) -> Appended
 {
     match look(bytes, w) {
         Target::Null => Ok(()),
-        Target::Struct { start, data_words, pointers } => {
+        Target::Struct {
+            start,
+            data_words,
+            pointers,
+        } => {
             if data_words as usize + pointers as usize == 0 {
                 return Ok(());
             }
             append_struct(out, bytes, start, data_words as usize, pointers as usize)
         }
-        Target::List { start, element_size, count } => {
+        Target::List {
+            start,
+            element_size,
+            count,
+        } => {
             if element_size == 6 {
                 return append_row(out, bytes, start, count as usize);
             }
             append_plain(out, bytes, start, element_size, count)
         }
-        Target::Composite { tag, count, data_words, pointers } => {
-            append_composite(out, bytes, tag, count as usize, data_words as usize, pointers as usize)
+        Target::Composite {
+            tag,
+            count,
+            data_words,
+            pointers,
+        } => {
+            append_composite(
+                out,
+                bytes,
+                tag,
+                count as usize,
+                data_words as usize,
+                pointers as usize,
+            )
         }
     }
 }
@@ -95,7 +136,13 @@ pub fn append_tree(out: &mut Vec<u8>, bytes: &[u8], w: usize) -> Appended
 /// A struct, and then what its pointers lead to.
 #[cycle(append)]
 #[inline(always)]
-fn append_struct(out: &mut Vec<u8>, bytes: &[u8], start: usize, data_words: usize, pointers: usize) -> Appended
+fn append_struct(
+    out: &mut Vec<u8>,
+    bytes: &[u8],
+    start: usize,
+    data_words: usize,
+    pointers: usize,
+) -> Appended
     requires forests { AreForests bytes.now (start + data_words) pointers }
     requires inside { start + (data_words + pointers) ≤ word_count bytes.now }
     requires few { word_count bytes.now < 2 ^ 29 }
@@ -128,7 +175,14 @@ fn append_row(out: &mut Vec<u8>, bytes: &[u8], first: usize, count: usize) -> Ap
 /// A composite list: its tag and its elements, and then what their pointers lead to.
 #[cycle(append)]
 #[inline(never)]
-fn append_composite(out: &mut Vec<u8>, bytes: &[u8], tag: usize, count: usize, data_words: usize, pointers: usize) -> Appended
+fn append_composite(
+    out: &mut Vec<u8>,
+    bytes: &[u8],
+    tag: usize,
+    count: usize,
+    data_words: usize,
+    pointers: usize,
+) -> Appended
     requires forests { AreElementForests bytes.now (tag + 1) count data_words pointers }
     requires inside { tag + 1 + count * (data_words + pointers) ≤ word_count bytes.now }
     requires few { word_count bytes.now < 2 ^ 29 }
@@ -136,7 +190,10 @@ fn append_composite(out: &mut Vec<u8>, bytes: &[u8], tag: usize, count: usize, d
     requires small { count * (data_words + pointers) + words_below_all (structs_from (λ i. struct_from bytes.now (tag + 1 + i * (data_words + pointers)) data_words pointers) 0 count) < 2 ^ 29 }
     ensures { IfOk result (λ _. out.new.items ≡ out.old.items ++ bytes_of (Composite data_words pointers (structs_from (λ i. struct_from bytes.now (tag + 1 + i * (data_words + pointers)) data_words pointers) 0 count))) }
 {
-    append_word(out, make_struct_word(count as u64, data_words as u64, pointers as u64))?;
+    append_word(
+        out,
+        make_struct_word(count as u64, data_words as u64, pointers as u64),
+    )?;
     let at = out.len();
     append_room(out, count * (data_words + pointers))?;
     fill_elements(out, at, bytes, tag + 1, count, data_words, pointers)?;
@@ -165,7 +222,15 @@ fn fill_row(out: &mut Vec<u8>, at: usize, bytes: &[u8], first: usize, count: usi
 
 /// The same of structs in a row, each of this size: their data and their pointers.
 #[cycle(append)]
-fn fill_elements(out: &mut Vec<u8>, at: usize, bytes: &[u8], start: usize, count: usize, data_words: usize, pointers: usize) -> Appended
+fn fill_elements(
+    out: &mut Vec<u8>,
+    at: usize,
+    bytes: &[u8],
+    start: usize,
+    count: usize,
+    data_words: usize,
+    pointers: usize,
+) -> Appended
     requires forests { AreElementForests bytes.now start count data_words pointers }
     requires inside { start + count * (data_words + pointers) ≤ word_count bytes.now }
     requires few { word_count bytes.now < 2 ^ 29 }
@@ -175,7 +240,14 @@ fn fill_elements(out: &mut Vec<u8>, at: usize, bytes: &[u8], start: usize, count
 {
     let mut at = at;
     for i in 0..count {
-        fill_element(out, at, bytes, start + i * (data_words + pointers), data_words, pointers)?;
+        fill_element(
+            out,
+            at,
+            bytes,
+            start + i * (data_words + pointers),
+            data_words,
+            pointers,
+        )?;
         at += 8 * (data_words + pointers);
     }
     Ok(())
@@ -184,7 +256,14 @@ fn fill_elements(out: &mut Vec<u8>, at: usize, bytes: &[u8], start: usize, count
 /// The same of one struct.
 #[cycle(append)]
 #[inline(always)]
-fn fill_element(out: &mut Vec<u8>, at: usize, bytes: &[u8], start: usize, data_words: usize, pointers: usize) -> Appended
+fn fill_element(
+    out: &mut Vec<u8>,
+    at: usize,
+    bytes: &[u8],
+    start: usize,
+    data_words: usize,
+    pointers: usize,
+) -> Appended
     requires forests { AreForests bytes.now (start + data_words) pointers }
     requires inside { start + (data_words + pointers) ≤ word_count bytes.now }
     requires few { word_count bytes.now < 2 ^ 29 }
@@ -192,6 +271,12 @@ fn fill_element(out: &mut Vec<u8>, at: usize, bytes: &[u8], start: usize, data_w
     ensures { IfOk result (λ _. out.new.items ≡ with_encoded_element at (struct_from bytes.now start data_words pointers) out.old.items) }
 {
     put_bytes(out, at, get_part(bytes, start, 8 * data_words));
-    fill_row(out, at + 8 * data_words, bytes, start + data_words, pointers)?;
+    fill_row(
+        out,
+        at + 8 * data_words,
+        bytes,
+        start + data_words,
+        pointers,
+    )?;
     Ok(())
 }

@@ -1,11 +1,12 @@
 //! Messages in memory, as one segment of words that grows.
 #![tactic(auto)]
 
+mod append;
 pub mod arena;
 pub mod callers;
-mod append;
 mod count;
 mod encode;
 mod look;
+mod message;
 mod spell;
 mod target;

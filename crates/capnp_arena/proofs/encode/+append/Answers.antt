@@ -1,23 +1,20 @@
-use Rattle.std.proofs.Common.{rules, arith, ◌≡◌, ◌++◌, ◌+◌, ◌-◌, ◌*◌, ◌/◌, ◌<◌, ◌≤◌, ◌^◌, ◌⊎◌, inl, inr, ◌∙◌, refl, sym, ap, subst, length, List, ℕ}
+use Rattle.std.proofs.Common.{rules, arith, ◌≡◌, ◌++◌, ◌+◌, ◌-◌, ◌*◌, ◌/◌, ◌<◌, ◌≤◌, inl, inr, ◌∙◌, sym, ap, subst, length, List, ℕ}
 use Rattle.std.specs.Prelude.{IfOk}
 use Rattle.std.proofs.lemmas.List.{append-nil}
-use Rattle.capnp_wire.specs.Encoding.{bytes_of, pointer_word}
+use Rattle.capnp_wire.specs.Encoding.{pointer_word}
 use Rattle.capnp_wire.specs.Facts.Bytes.{AreBytes-fits}
 use Rattle.capnp_wire.specs.Facts.Rows.{struct_count-structs_from, tree_count-trees_from}
-use Rattle.capnp_wire.specs.Filling.{HasRoom, put, with_pointers, words_from}
-use Rattle.capnp_wire.specs.Tree.{Tree, structs_from, trees_from}
+use Rattle.capnp_wire.specs.Filling.{put, with_pointers, words_from}
+use Rattle.capnp_wire.specs.Tree.{trees_from}
 use Rattle.capnp_wire.specs.WellFormed.{AreBytes}
-use Rattle.capnp_wire.specs.Words.{words_of}
 use Rattle.capnp_wire.proofs.Filling.{composite_last, element_filled, element_put, elements_room, pointer_filled, row_last, row_room}
-use Rattle.capnp_arena.specs.Counts.{AreForests}
 use Rattle.capnp_arena.specs.Encoded.{pointer_to}
 use Rattle.capnp_arena.specs.Forest.{Forest, struct_from, tree}
 use Rattle.capnp_arena.specs.Looked.{shape_found}
 use Rattle.capnp_arena.specs.Shape.{CompositeIn, ListIn, NoShape, Points, StructIn, end_of, shape_at, word_count}
 use Rattle.capnp_arena.proofs.Counted.{element_rows, ends_at, list_row, struct_row, words_composite, words_pointers, words_struct}
-use Rattle.capnp_arena.proofs.Encodings.{bytes_composite, bytes_null, bytes_plain, bytes_pointers, bytes_struct, bytes_zero, element_room, elements_done, elements_held, elements_lie, has_size, pointer_is, row_done, row_held, row_next, structs_next}
+use Rattle.capnp_arena.proofs.Encodings.{bytes_composite, bytes_null, bytes_plain, bytes_pointers, bytes_struct, bytes_zero, element_room, elements_done, elements_held, elements_lie, pointer_is, row_done, row_held, row_next, structs_next}
 use Rattle.capnp_arena.proofs.Shapes.{element_end, itself_inside}
-use Rattle.capnp_arena.proofs.Forests.{points}
 use Rattle.capnp_arena.proofs.Written.{length_part}
 use Rattle.capnp_wire.specs.Place.{bytes_at}
 use Rattle.capnp_arena.proofs.encode.+append.Goals as goal
@@ -37,8 +34,9 @@ append_tree-returns-then-data_words-pointers-eq0 t c =
 -- a struct that has a word starts after its pointer
 struct_after : (bytes : List ℕ) (w a d p : ℕ) → Points bytes w (StructIn a d p) → (d + p ≡ 0 → ⊥) → (w < a) × (w < length bytes)
 struct_after bytes w a d p h some = elim h [
-    | inl z ↦ absurd (some (omega (arith, z.1, z.2)))
-    | inr z ↦ (z.0, omega (arith, z.0, z.5)) ]
+  | inl z ↦ absurd (some (omega (arith, z.1, z.2)))
+  | inr z ↦ (z.0, omega (arith, z.0, z.5))
+]
 
 pub append_tree-append_struct-requires : goal.append_tree-append_struct-requires
 append_tree-append_struct-requires t c =
@@ -100,9 +98,22 @@ pub append_composite-fill_elements-requires : goal.append_composite-fill_element
 append_composite-fill_elements-requires t c =
     let h : AreBytes c.args.bytes.now = AreBytes-fits c.args.bytes.now c.type_inv.bytes in
     let n = struct_count-structs_from (λ i. struct_from c.args.bytes.now (c.args.tag + 1 + i * (c.args.data_words + c.args.pointers)) c.args.data_words c.args.pointers) 0 c.args.count in
-    let b = elements_held c.args.bytes.now (c.args.tag + 1) c.args.data_words c.args.pointers 0 c.args.count h (elements_lie c.args.bytes.now (c.args.tag + 1) c.args.data_words c.args.pointers c.args.count c.requires.inside) in
-    (search rules, (c.requires.forests, (c.requires.inside, (c.requires.few, (c.requires.sizes,
-      elements_room _ _ _ c.args.count _ c.append_word.new.out.items _ (omega (arith, c.len-at.ensures)) (sym n) c.in_ok-append_room.ensures b (omega (arith, c.requires.small, ap (λ k. k * (c.args.data_words + c.args.pointers)) n)))))))
+    let b = elements_held c.args.bytes.now (c.args.tag + 1) c.args.data_words c.args.pointers 0 c.args.count h (elements_lie c.args.bytes.now (c.args.tag + 1) c.args.data_words c.args.pointers c.args.count c.requires.inside) in (
+      search rules,
+      (
+        c.requires.forests,
+        (
+          c.requires.inside,
+          (
+            c.requires.few,
+            (
+              c.requires.sizes,
+              elements_room _ _ _ c.args.count _ c.append_word.new.out.items _ (omega (arith, c.len-at.ensures)) (sym n) c.in_ok-append_room.ensures b (omega (arith, c.requires.small, ap (λ k. k * (c.args.data_words + c.args.pointers)) n)),
+            ),
+          ),
+        ),
+      ),
+    )
 
 pub append_composite-returns : goal.append_composite-returns
 append_composite-returns t c =
