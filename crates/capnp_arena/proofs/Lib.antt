@@ -15,3 +15,4 @@ pub mod Lookings
 pub mod Counted
 pub mod Encodings
 pub mod Whole
+pub mod Shallow

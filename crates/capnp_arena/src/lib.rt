@@ -8,5 +8,6 @@ mod count;
 mod encode;
 mod look;
 mod message;
+mod reader;
 mod spell;
 mod target;
