@@ -16,3 +16,4 @@ pub mod Counted
 pub mod Encodings
 pub mod Whole
 pub mod Shallow
+pub mod WrittenLists

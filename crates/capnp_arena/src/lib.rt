@@ -6,6 +6,7 @@ pub mod arena;
 pub mod callers;
 mod count;
 mod encode;
+pub mod lists;
 mod look;
 mod message;
 mod reader;
