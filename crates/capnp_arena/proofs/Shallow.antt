@@ -46,15 +46,15 @@ module _ (bytes : List ℕ) (l : ℕ) where
   level_deep f g (ListIn a size n) k h r q = list_deep f g a size n k.0 h (λ j e x y b. r j (e, x, y) b)
   level_deep f g (CompositeIn tag n d p) k h r q =
       rw (not_below l 2 h.0) (ap (Composite d p) (structs_same (λ i. struct_at (g bytes) bytes d p (tag + 1 + i * (d + p))) (λ i. struct_from bytes (tag + 1 + i * (d + p)) d p) 0 n
-        (λ i x y. struct_same bytes bytes (g bytes) (tree bytes) d p (tag + 1 + i * (d + p)) (λ j u v. refl)
-          (λ j u v. q j (i, omega (arith, y), u, v) (row_below (tree bytes) (tag + 1 + i * (d + p) + d) p (l - 2) (elements_below (λ i. struct_from bytes (tag + 1 + i * (d + p)) d p) 0 n (l - 2) h.1 i x y) j u v)))))
+      (λ i x y. struct_same bytes bytes (g bytes) (tree bytes) d p (tag + 1 + i * (d + p)) (λ j u v. refl)
+      (λ j u v. q j (i, omega (arith, y), u, v) (row_below (tree bytes) (tag + 1 + i * (d + p) + d) p (l - 2) (elements_below (λ i. struct_from bytes (tag + 1 + i * (d + p)) d p) 0 n (l - 2) h.1 i x y) j u v)))))
 
 pub deep : (bytes : List ℕ) (w : ℕ) → Forest bytes w → (l : ℕ) → IsBelow l (tree bytes w) → tree_below l (bytes ∷ []) bytes w ≡ tree bytes w
 deep bytes w (Grown _ p f a b) l h =
     below_step l (bytes ∷ []) bytes w
     ∙ ap (tree_at_depth l (tree_below (l - 1) (bytes ∷ [])) (tree_below (l - 2) (bytes ∷ []))) (target bytes w (shape_at bytes w) p)
     ∙ level_deep bytes l (tree_below (l - 1) (bytes ∷ [])) (tree_below (l - 2) (bytes ∷ [])) (shape_at bytes w) (has_size bytes w (shape_at bytes w) p) (subst (IsBelow l) (tree_step bytes w (Grown w p f a b)) h)
-      (λ j i k. deep bytes j (f j i) (l - 1) k) (λ j i k. deep bytes j (f j i) (l - 2) k)
+    (λ j i k. deep bytes j (f j i) (l - 1) k) (λ j i k. deep bytes j (f j i) (l - 2) k)
     ∙ sym (tree_step bytes w (Grown w p f a b))
 
 -- the root, with the levels that a message is read with

@@ -1,18 +1,18 @@
 -- The elements of a list, written; and a bit of a struct.
 use Rattle.std.proofs.Common.{◌≡◌, ℕ, suc, ◌+◌, ◌*◌, ◌<◌, ◌≤◌, ◌⊎◌, inl, inr, ap, subst, sym, ◌∙◌, arith, Bool, List, length}
 use Rattle.std.proofs.lemmas.Nat.{mul-le}
-use Rattle.capnp_wire.specs.Edits.{with_bit, with_bytes, with_number}
+use Rattle.capnp_wire.specs.Edits.{with_bit, with_number}
 use Rattle.capnp_wire.specs.Elements.{with_number_element}
 use Rattle.capnp_wire.specs.Facts.Bytes.{length-with_bit, length-with_number}
 use Rattle.capnp_wire.specs.Filling.{put}
 use Rattle.capnp_wire.specs.Locate.{list_words}
 use Rattle.capnp_wire.specs.Place.{bytes_at, list_tree}
-use Rattle.capnp_wire.specs.Tree.{Numbers, Tree}
+use Rattle.capnp_wire.specs.Tree.{Numbers}
 use Rattle.capnp_wire.specs.declared.size.ElementSize.{ElementSize}
 use Rattle.capnp_wire.specs.declared.size.ElementSize.TheVariants.{Void, Bit, Byte, TwoBytes, FourBytes, EightBytes, Pointer, InlineComposite}
 use Rattle.capnp_arena.specs.Made.{size_number, width_of}
 use Rattle.capnp_arena.specs.Shape.{IsPointerOf, IsTagOf, IsWithin, ListIn, StructIn, shape_at, word_count}
-use Rattle.capnp_arena.specs.Forest.{Changes, Forest, IsSame, PartChanges, Planted, struct_from, tree}
+use Rattle.capnp_arena.specs.Forest.{Changes, Forest, IsSame, PartChanges, Planted, tree}
 use Rattle.capnp_arena.proofs.Calls.{data_changes, data_planted, outer_changes, outer_forest, outer_shape, planted}
 use Rattle.capnp_arena.proofs.Puts.{put_before, put_behind, put_there}
 use Rattle.capnp_arena.proofs.Structs.{tree_list}
@@ -37,7 +37,9 @@ list_written old new at start size n x whole f e plain l same is =
       | inl b ↦ ap (λ z. bytes_at z k 8) is ∙ put_before (8 * start) x old k fits (omega (arith, b))
       | inr b ↦ elim b [
         | inl g ↦ ap (λ z. bytes_at z k 8) is ∙ put_behind (8 * start) x old k 8 fits (omega (arith, g, l))
-        | inr g ↦ absurd (h g) ] ] in
+        | inr g ↦ absurd (h g)
+      ]
+    ] in
     let g2 : Planted new (shape_at old at) = subst (Planted new) (sym e) (data_planted old new longer (ListIn start size n) fs (λ k. (start ≤ k) × (k < start + list_words size n)) is_data stay) in
     let c2 : PartChanges (shape_at old at) old new = subst (λ s. PartChanges s old new) (sym e) (data_changes old new longer (ListIn start size n) fs (λ k. (start ≤ k) × (k < start + list_words size n)) is_data stay) in
     let s : shape_at new at ≡ ListIn start size n = outer_shape old new at f g2 c2 ∙ e in
@@ -68,8 +70,9 @@ module _ (old new : List ℕ) (at start n i v : ℕ) (whole : length old ≡ 8 *
         place = w.place;
         changes = w.changes;
         tree = w.tree ∙ level new
-          ∙ ap (Numbers width) (ap (λ z. bytes_at z start m) is ∙ put_there start (with_number width i v (bytes_at old start m)) old m (omega (arith, xl, ends, few, whole)) xl)
-          ∙ sym (ap (with_number_element width i v) (tree_list old at start (size_number size) n f e ∙ level old)) }
+            ∙ ap (Numbers width) (ap (λ z. bytes_at z start m) is ∙ put_there start (with_number width i v (bytes_at old start m)) old m (omega (arith, xl, ends, few, whole)) xl)
+            ∙ sym (ap (with_number_element width i v) (tree_list old at start (size_number size) n f e ∙ level old));
+      }
 
   pub list_number_written : (size : ElementSize) (width m : ℕ) → shape_at old at ≡ ListIn start (size_number size) n → width ≡ width_of size → 0 < width → m ≡ width_of size * n → new ≡ put (8 * start) (with_number width i v (bytes_at old start m)) old → IsNumberWritten old new at start size n width i v
   list_number_written Void width m e w some q is = absurd (omega (arith, w, some))

@@ -51,11 +51,23 @@ impl Arena {
             with_bytes (struct_from (segment self.old) place.start place.data_words place.pointers)
             (with_bit offset value (struct_from (segment self.old) place.start place.data_words place.pointers).bytes) }
     {
-        write_bit(&mut self.bytes, 8 * place.start, 8 * place.data_words as usize, offset as usize, value);
+        write_bit(
+            &mut self.bytes,
+            8 * place.start,
+            8 * place.data_words as usize,
+            offset as usize,
+            value,
+        );
     }
 
     /// Stores a number in the list that the pointer at a word leads to.
-    pub fn set_list_number<T: PrimitiveElement>(&mut self, at: usize, list: ListPlace, index: u32, value: T)
+    pub fn set_list_number<T: PrimitiveElement>(
+        &mut self,
+        at: usize,
+        list: ListPlace,
+        index: u32,
+        value: T,
+    )
         requires forest { Forest (segment self.old) at }
         requires there { shape_at (segment self.old) at ≡ ListIn list.start (size_number list.size) list.count }
         requires width { (T.width ≡ width_of list.size) × (0 < T.width) }
@@ -65,6 +77,12 @@ impl Arena {
         ensures tree { tree (segment self.new) at ≡ with_number_element T.width index (T.to_number value) (tree (segment self.old) at) }
         ensures changes { Changes at (segment self.old) (segment self.new) }
     {
-        write_number(&mut self.bytes, 8 * list.start, get_width(list.size) * list.count as usize, index, value);
+        write_number(
+            &mut self.bytes,
+            8 * list.start,
+            get_width(list.size) * list.count as usize,
+            index,
+            value,
+        );
     }
 }

@@ -1,4 +1,4 @@
-use Rattle.std.proofs.Common.{◌≡◌, ◌∙◌, ap, [], ◌∷◌}
+use Rattle.std.proofs.Common.{◌∙◌, ap, [], ◌∷◌}
 use Rattle.capnp_wire.specs.Place.{root_tree}
 use Rattle.capnp_arena.proofs.Shallow.{root_is}
 use Rattle.capnp_arena.proofs.arena.Arena.as_reader.Goals as goal

@@ -1,4 +1,4 @@
-use Rattle.std.proofs.Common.{arith, ◌≡◌, ◌*◌, ap}
+use Rattle.std.proofs.Common.{◌*◌, ap}
 use Rattle.capnp_arena.proofs.WrittenLists.{list_number_written}
 use Rattle.capnp_arena.proofs.arena.Arena.set_list_number.Goals as goal
 
