@@ -15,6 +15,15 @@ pub struct ListPlace {
     pub count: u32,
 }
 
+/// Where the tag of a list of structs stands, and what its elements are.
+#[derive(Clone, Copy)]
+pub struct StructsPlace {
+    pub tag: usize,
+    pub count: u32,
+    pub data_words: u16,
+    pub pointers: u16,
+}
+
 /// The bytes of an element that is a number.
 #[inline(always)]
 fn get_width(size: ElementSize) -> usize
