@@ -13,3 +13,7 @@ pub mod NewLists
 pub mod Elements
 pub mod Lookings
 pub mod Counted
+pub mod Encodings
+pub mod Whole
+pub mod Shallow
+pub mod WrittenLists

@@ -4,3 +4,4 @@ pub mod Made
 pub mod Segment
 pub mod Looked
 pub mod Counts
+pub mod Encoded

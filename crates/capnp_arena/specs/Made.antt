@@ -36,3 +36,14 @@ struct_start end at words = cond (words == 0) at end
 
 abbrev pub struct_pointer : (end at data_words pointers : ℕ) → ℕ
 struct_pointer end at d p = cond (d + p == 0) (struct_word (2 ^ 30 - 1) 0 0) (struct_word (end - suc at) d p)
+
+-- the bytes of a number, by the number of its element size; no other element is one
+abbrev pub width_of : ElementSize → ℕ
+width_of Byte = 1
+width_of TwoBytes = 2
+width_of FourBytes = 4
+width_of EightBytes = 8
+width_of Void = 0
+width_of Bit = 0
+width_of Pointer = 0
+width_of InlineComposite = 0

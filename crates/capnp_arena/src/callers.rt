@@ -1,12 +1,14 @@
-//! A caller of the arena: two hops, and what the pointer at the top leads to then.
+//! Callers of the arena: two hops, or an element of a list, and what the pointer at the top leads to then.
 ghost use Rattle.std.specs.Prelude.{OnErr, OnOk, replicate, ◌*◌, ◌+◌, ◌<◌, ◌≡◌, ◌≤◌};
 ghost use Rattle.capnp_wire.specs.Edits.{with_bytes, with_number, with_pointer_tree, zero_struct};
+ghost use Rattle.capnp_wire.specs.Elements.{with_struct_element};
 ghost use Rattle.capnp_wire.specs.Place.{struct_tree};
 ghost use Rattle.capnp_arena.specs.Segment.{segment};
-ghost use Rattle.capnp_arena.specs.Shape.{StructIn, shape_at};
+ghost use Rattle.capnp_arena.specs.Shape.{CompositeIn, StructIn, shape_at};
 ghost use Rattle.capnp_arena.specs.Forest.{Changes, Forest, struct_from, tree};
 
 use crate::arena::{Arena, Place};
+use crate::lists::StructsPlace;
 use capnp_device::error::Result;
 use capnp_wire::primitive::PrimitiveElement;
 use capnp_wire::size::StructSize;
@@ -38,4 +40,34 @@ pub fn init_and_set<T: PrimitiveElement>(
     let made = arena.init_struct(pointer, size)?;
     arena.set_number(made, offset, value);
     Ok(())
+}
+
+/// Stores a number in a struct of the list that the pointer at a word leads to.
+pub fn set_element_number<T: PrimitiveElement>(
+    arena: &mut Arena,
+    at: usize,
+    list: StructsPlace,
+    index: u32,
+    offset: u32,
+    value: T,
+)
+    requires forest { Forest (segment arena.old) at }
+    requires there { shape_at (segment arena.old) at ≡ CompositeIn list.tag list.count list.data_words list.pointers }
+    requires element { index < list.count }
+    requires inside { (offset + 1) * T.width ≤ 8 * list.data_words }
+    ensures forest { Forest (segment arena.new) at }
+    ensures there { shape_at (segment arena.new) at ≡ CompositeIn list.tag list.count list.data_words list.pointers }
+    ensures changes { Changes at (segment arena.old) (segment arena.new) }
+    ensures tree { tree (segment arena.new) at ≡ with_struct_element index
+        (with_bytes (struct_from (segment arena.old) (list.tag + 1 + index * (list.data_words + list.pointers)) list.data_words list.pointers)
+        (with_number T.width offset (T.to_number value) (struct_from (segment arena.old) (list.tag + 1 + index * (list.data_words + list.pointers)) list.data_words list.pointers).bytes))
+        (tree (segment arena.old) at) }
+{
+    let step = list.data_words as usize + list.pointers as usize;
+    let place = Place {
+        start: list.tag + 1 + index as usize * step,
+        data_words: list.data_words,
+        pointers: list.pointers,
+    };
+    arena.set_number(place, offset, value);
 }

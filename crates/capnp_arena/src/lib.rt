@@ -1,9 +1,14 @@
 //! Messages in memory, as one segment of words that grows.
 #![tactic(auto)]
 
+mod append;
 pub mod arena;
 pub mod callers;
 mod count;
+mod encode;
+pub mod lists;
 mod look;
+mod message;
+mod reader;
 mod spell;
 mod target;

@@ -1,6 +1,6 @@
 //! Words of a segment as they are written.
 ghost use Rattle.std.specs.Prelude.{IfOk, OnErr, drop, replicate, take, ◌*◌, ◌++◌, ◌+◌, ◌<◌, ◌^◌, ◌≡◌, ◌≤◌, length};
-ghost use Rattle.capnp_wire.specs.Edits.{with_number};
+ghost use Rattle.capnp_wire.specs.Edits.{with_bit, with_number};
 ghost use Rattle.capnp_wire.specs.Encoding.{list_word, spelled, struct_word};
 ghost use Rattle.capnp_wire.specs.Filling.{put};
 
@@ -69,4 +69,30 @@ pub fn write_number<T: PrimitiveElement>(
     ensures put { out.new.items ≡ put at (with_number T.width offset (T.to_number value) (take count (drop at out.old.items))) out.old.items }
 {
     T::write(&mut out[at..at + count], offset, value);
+}
+
+/// A bit in a part of bytes, counted from the lowest of its first byte.
+#[inline(always)]
+pub fn write_bit(out: &mut Vec<u8>, at: usize, count: usize, index: usize, bit: bool)
+    requires part { at + count ≤ length out.old.items }
+    requires inside { index < 8 * count }
+    ensures long { length out.new.items ≡ length out.old.items }
+    ensures put { out.new.items ≡ put at (with_bit index bit (take count (drop at out.old.items))) out.old.items }
+{
+    set_bit(&mut out[at..at + count], index, bit);
+}
+
+/// Writes bit `i`, counted from the lowest of the first byte.
+#[inline]
+fn set_bit(bytes: &mut [u8], i: usize, bit: bool)
+    requires { i < 8 * length bytes.old }
+    ensures { bytes.new ≡ with_bit i bit bytes.old }
+{
+    let at = i / 8;
+    let place = 1u8 << (i % 8);
+    if bit {
+        bytes[at] = bytes[at] | place;
+    } else {
+        bytes[at] = bytes[at] & !place;
+    }
 }

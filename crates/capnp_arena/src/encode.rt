@@ -1,0 +1,282 @@
+//! The bytes of the tree that a pointer leads to: each object before what its pointers lead to, in their order, and
+//! nothing that no pointer leads to. Room is left for a row of pointers, and each is put there when its target is due.
+ghost use Rattle.std.specs.Prelude.{IfOk, ⊤, ℕ, ◌*◌, ◌++◌, ◌+◌, ◌-◌, ◌/◌, ◌<◌, ◌^◌, ◌≡◌, ◌≤◌, length};
+ghost use Rattle.capnp_wire.specs.Encoding.{bytes_below_all, bytes_of, bytes_of_all, element_row, own_bytes, pointer_row, struct_word, spelled};
+ghost use Rattle.capnp_wire.specs.Filling.{HasRoom, HaveRoom, with_encoded_element, with_encoded_elements, with_pointers};
+ghost use Rattle.capnp_wire.specs.Locate.{list_words};
+ghost use Rattle.capnp_wire.specs.Place.{bytes_at, list_tree};
+ghost use Rattle.capnp_wire.specs.Tree.{Composite, structs_from, trees_from};
+ghost use Rattle.capnp_wire.specs.Words.{words_below_all, words_of, words_of_all};
+ghost use Rattle.capnp_arena.specs.Counts.{AreElementForests, AreForests};
+ghost use Rattle.capnp_arena.specs.Encoded.{HasSize, pointer_to};
+ghost use Rattle.capnp_arena.specs.Forest.{Forest, struct_from, tree};
+ghost use Rattle.capnp_arena.specs.Looked.{shape_found};
+ghost use Rattle.capnp_arena.specs.Shape.{word_count};
+
+use crate::append::{Appended, append_bits, append_padded, append_room, append_word, get_part};
+use crate::look::Target;
+use crate::spell::{make_list_word, make_struct_word, put_bytes, put_word};
+use crate::target::look;
+
+/// The pointer to a target that starts `gap` words after it.
+#[inline(always)]
+pub fn make_pointer(gap: u64, target: Target) -> u64
+    requires near { gap < 2 ^ 29 }
+    requires sized { HasSize (shape_found target) }
+    ensures { result ≡ pointer_to gap (shape_found target) }
+{
+    match target {
+        Target::Null => 0,
+        Target::Struct {
+            start: _,
+            data_words,
+            pointers,
+        } => {
+            if data_words as u64 + pointers as u64 == 0 {
+                return make_struct_word((1 << 30) - 1, 0, 0);
+            }
+            make_struct_word(gap, data_words as u64, pointers as u64)
+        }
+        Target::List {
+            start: _,
+            element_size,
+            count,
+        } => make_list_word(gap, element_size as u64, count as u64),
+        Target::Composite {
+            tag: _,
+            count,
+            data_words,
+            pointers,
+        } => { make_list_word(gap, 7, count as u64 * (data_words as u64 + pointers as u64)) }
+    }
+}
+
+/// A list of bits or numbers, or of nothing.
+#[inline(always)]
+fn append_plain(
+    out: &mut Vec<u8>,
+    bytes: &[u8],
+    start: usize,
+    element_size: u8,
+    count: u32,
+) -> Appended
+    requires plain { element_size < 6 }
+    requires few { (count < 2 ^ 29) × (start < 2 ^ 30) }
+    requires inside { start + list_words element_size count ≤ word_count bytes.now }
+    ensures { IfOk result (λ _. out.new.items ≡ out.old.items ++ own_bytes (list_tree (tree bytes.now) bytes.now start element_size count)) }
+{
+    let count = count as usize;
+    if element_size == 0 {
+        Ok(())
+    } else if element_size == 1 {
+        append_bits(
+            out,
+            get_part(bytes, start, 8 * ((count + 63) / 64)),
+            count as u32,
+        )
+    } else if element_size == 2 {
+        append_padded(out, get_part(bytes, start, count))
+    } else if element_size == 3 {
+        append_padded(out, get_part(bytes, start, 2 * count))
+    } else if element_size == 4 {
+        append_padded(out, get_part(bytes, start, 4 * count))
+    } else {
+        append_padded(out, get_part(bytes, start, 8 * count))
+    }
+}
+
+/// What the pointer at a word leads to, and then what that leads to.
+#[cycle(append)]
+pub fn append_tree(out: &mut Vec<u8>, bytes: &[u8], w: usize) -> Appended
+    requires forest { Forest bytes.now w }
+    requires few { word_count bytes.now < 2 ^ 29 }
+    requires small { words_of (tree bytes.now w) < 2 ^ 29 }
+    ensures { IfOk result (λ _. out.new.items ≡ out.old.items ++ bytes_of (tree bytes.now w)) }
+{
+    match look(bytes, w) {
+        Target::Null => Ok(()),
+        Target::Struct {
+            start,
+            data_words,
+            pointers,
+        } => {
+            if data_words as usize + pointers as usize == 0 {
+                return Ok(());
+            }
+            append_struct(out, bytes, start, data_words as usize, pointers as usize)
+        }
+        Target::List {
+            start,
+            element_size,
+            count,
+        } => {
+            if element_size == 6 {
+                return append_row(out, bytes, start, count as usize);
+            }
+            append_plain(out, bytes, start, element_size, count)
+        }
+        Target::Composite {
+            tag,
+            count,
+            data_words,
+            pointers,
+        } => {
+            append_composite(
+                out,
+                bytes,
+                tag,
+                count as usize,
+                data_words as usize,
+                pointers as usize,
+            )
+        }
+    }
+}
+
+/// A struct, and then what its pointers lead to.
+#[cycle(append)]
+#[inline(always)]
+fn append_struct(
+    out: &mut Vec<u8>,
+    bytes: &[u8],
+    start: usize,
+    data_words: usize,
+    pointers: usize,
+) -> Appended
+    requires forests { AreForests bytes.now (start + data_words) pointers }
+    requires inside { start + (data_words + pointers) ≤ word_count bytes.now }
+    requires few { word_count bytes.now < 2 ^ 29 }
+    requires small { pointers + words_of_all (trees_from (tree bytes.now) (start + data_words) pointers) < 2 ^ 29 }
+    ensures { IfOk result (λ _. out.new.items ≡ out.old.items ++ (bytes_at bytes.now start (8 * data_words)
+        ++ (pointer_row 0 (trees_from (tree bytes.now) (start + data_words) pointers) ++ bytes_of_all (trees_from (tree bytes.now) (start + data_words) pointers)))) }
+{
+    out.extend_from_slice(get_part(bytes, start, 8 * data_words))?;
+    if pointers > 0 {
+        append_row(out, bytes, start + data_words, pointers)?;
+    }
+    Ok(())
+}
+
+/// Pointers in a row, and then what they lead to.
+#[cycle(append)]
+fn append_row(out: &mut Vec<u8>, bytes: &[u8], first: usize, count: usize) -> Appended
+    requires forests { AreForests bytes.now first count }
+    requires inside { first + count ≤ word_count bytes.now }
+    requires few { word_count bytes.now < 2 ^ 29 }
+    requires small { count + words_of_all (trees_from (tree bytes.now) first count) < 2 ^ 29 }
+    ensures { IfOk result (λ _. out.new.items ≡ out.old.items ++ (pointer_row 0 (trees_from (tree bytes.now) first count) ++ bytes_of_all (trees_from (tree bytes.now) first count))) }
+{
+    let at = out.len();
+    append_room(out, count)?;
+    fill_row(out, at, bytes, first, count)?;
+    Ok(())
+}
+
+/// A composite list: its tag and its elements, and then what their pointers lead to.
+#[cycle(append)]
+#[inline(never)]
+fn append_composite(
+    out: &mut Vec<u8>,
+    bytes: &[u8],
+    tag: usize,
+    count: usize,
+    data_words: usize,
+    pointers: usize,
+) -> Appended
+    requires forests { AreElementForests bytes.now (tag + 1) count data_words pointers }
+    requires inside { tag + 1 + count * (data_words + pointers) ≤ word_count bytes.now }
+    requires few { word_count bytes.now < 2 ^ 29 }
+    requires sizes { (count < 2 ^ 29) × (data_words < 2 ^ 16) × (pointers < 2 ^ 16) }
+    requires small { count * (data_words + pointers) + words_below_all (structs_from (λ i. struct_from bytes.now (tag + 1 + i * (data_words + pointers)) data_words pointers) 0 count) < 2 ^ 29 }
+    ensures { IfOk result (λ _. out.new.items ≡ out.old.items ++ bytes_of (Composite data_words pointers (structs_from (λ i. struct_from bytes.now (tag + 1 + i * (data_words + pointers)) data_words pointers) 0 count))) }
+{
+    append_word(
+        out,
+        make_struct_word(count as u64, data_words as u64, pointers as u64),
+    )?;
+    let at = out.len();
+    append_room(out, count * (data_words + pointers))?;
+    fill_elements(out, at, bytes, tag + 1, count, data_words, pointers)?;
+    Ok(())
+}
+
+/// Puts pointers in a row into the room that is left for them, from an index on, and appends what they lead to.
+#[cycle(append)]
+fn fill_row(out: &mut Vec<u8>, at: usize, bytes: &[u8], first: usize, count: usize) -> Appended
+    requires forests { AreForests bytes.now first count }
+    requires inside { first + count ≤ word_count bytes.now }
+    requires few { word_count bytes.now < 2 ^ 29 }
+    requires room { HasRoom at (trees_from (tree bytes.now) first count) out.old.items }
+    ensures { IfOk result (λ _. out.new.items ≡ with_pointers at (trees_from (tree bytes.now) first count) out.old.items) }
+{
+    let mut at = at;
+    for i in 0..count {
+        // its target will start where the bytes end now
+        let gap = (out.len() - at) / 8 - 1;
+        put_word(out, at, make_pointer(gap as u64, look(bytes, first + i)));
+        append_tree(out, bytes, first + i)?;
+        at += 8;
+    }
+    Ok(())
+}
+
+/// The same of structs in a row, each of this size: their data and their pointers.
+#[cycle(append)]
+fn fill_elements(
+    out: &mut Vec<u8>,
+    at: usize,
+    bytes: &[u8],
+    start: usize,
+    count: usize,
+    data_words: usize,
+    pointers: usize,
+) -> Appended
+    requires forests { AreElementForests bytes.now start count data_words pointers }
+    requires inside { start + count * (data_words + pointers) ≤ word_count bytes.now }
+    requires few { word_count bytes.now < 2 ^ 29 }
+    requires sizes { (count < 2 ^ 29) × (data_words < 2 ^ 16) × (pointers < 2 ^ 16) }
+    requires room { HaveRoom data_words pointers at (structs_from (λ i. struct_from bytes.now (start + i * (data_words + pointers)) data_words pointers) 0 count) out.old.items }
+    ensures { IfOk result (λ _. out.new.items ≡ with_encoded_elements (data_words + pointers) at (structs_from (λ i. struct_from bytes.now (start + i * (data_words + pointers)) data_words pointers) 0 count) out.old.items) }
+{
+    let mut at = at;
+    for i in 0..count {
+        fill_element(
+            out,
+            at,
+            bytes,
+            start + i * (data_words + pointers),
+            data_words,
+            pointers,
+        )?;
+        at += 8 * (data_words + pointers);
+    }
+    Ok(())
+}
+
+/// The same of one struct.
+#[cycle(append)]
+#[inline(always)]
+fn fill_element(
+    out: &mut Vec<u8>,
+    at: usize,
+    bytes: &[u8],
+    start: usize,
+    data_words: usize,
+    pointers: usize,
+) -> Appended
+    requires forests { AreForests bytes.now (start + data_words) pointers }
+    requires inside { start + (data_words + pointers) ≤ word_count bytes.now }
+    requires few { word_count bytes.now < 2 ^ 29 }
+    requires room { HasRoom (at + 8 * data_words) (trees_from (tree bytes.now) (start + data_words) pointers) out.old.items }
+    ensures { IfOk result (λ _. out.new.items ≡ with_encoded_element at (struct_from bytes.now start data_words pointers) out.old.items) }
+{
+    put_bytes(out, at, get_part(bytes, start, 8 * data_words));
+    fill_row(
+        out,
+        at + 8 * data_words,
+        bytes,
+        start + data_words,
+        pointers,
+    )?;
+    Ok(())
+}
