@@ -5,7 +5,7 @@ use Rattle.capnp_wire.specs.Locate.{list_words}
 use Rattle.capnp_wire.specs.Place.{bytes_at, list_tree, tree_with_level}
 use Rattle.capnp_wire.specs.Tree.{StructTree, Tree, structs_from, trees_from}
 use Rattle.capnp_wire.specs.Words.{words_below_all, words_of, words_of_all}
-use Rattle.capnp_wire.proofs.Lists.{length-bits_from}
+use Rattle.capnp_wire.specs.Facts.Indexed.{length-bits_from}
 use Rattle.capnp_arena.specs.Counts.{AreElementForests, AreForests}
 use Rattle.capnp_arena.specs.Forest.{Forest, struct_from, tree}
 use Rattle.capnp_arena.specs.Shape.{CompositeIn, IsPointerOf, ListIn, NoShape, Shape, StructIn, end_of, placed, shape_at, word_count}

@@ -10,7 +10,7 @@ use Rattle.capnp_wire.specs.Locate.{list_words}
 use Rattle.capnp_wire.specs.Place.{bits_from, bytes_at, list_tree, tree_with_level}
 use Rattle.capnp_wire.specs.Tree.{Composite, MoreStructs, MoreTrees, NoStructs, NoTrees, Null, StructTree, Structs, Tree, Trees, structs_from, tree_count, trees_from}
 use Rattle.capnp_wire.specs.WellFormed.{AreBytes, AreElements, AreWellFormed, IsWellFormed}
-use Rattle.capnp_wire.proofs.Lists.{length-bits_from}
+use Rattle.capnp_wire.specs.Facts.Indexed.{length-bits_from}
 use Rattle.capnp_arena.specs.Encoded.{HasSize, pointer_to}
 use Rattle.capnp_arena.specs.Forest.{Forest, struct_from, tree}
 use Rattle.capnp_arena.specs.Shape.{CompositeIn, ListIn, NoShape, Points, Shape, StructIn, placed, shape_at, word_count}

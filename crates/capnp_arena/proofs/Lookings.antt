@@ -4,7 +4,7 @@ use Rattle.capnp_wire.specs.Encoding.{list_word, struct_word}
 use Rattle.capnp_wire.specs.Facts.Bytes.{little_endian_spelled}
 use Rattle.capnp_wire.specs.Locate.{count, data_words, element_size, kind, offset, pointer_count}
 use Rattle.capnp_wire.specs.Slot.{little_endian, number_at}
-use Rattle.capnp_wire.proofs.PointerWords.{not_equal}
+use Rattle.capnp_wire.specs.Facts.PointerWords.{not_equal}
 use Rattle.capnp_arena.specs.Looked.{looked}
 use Rattle.capnp_arena.specs.Shape.{CompositeIn, IsWordAt, ListIn, NoShape, Points, Shape, StructIn}
 

@@ -12,7 +12,7 @@ use Rattle.capnp_wire.specs.Tree.{Bits, Null, Numbers, Pointers, Tree, Voids}
 use Rattle.capnp_wire.specs.declared.size.ElementSize.{ElementSize}
 use Rattle.capnp_wire.specs.declared.size.ElementSize.TheVariants.{Void, Bit, Byte, TwoBytes, FourBytes, EightBytes, Pointer, InlineComposite}
 use Rattle.capnp_wire.specs.declared.size.StructSize.{StructSize}
-use Rattle.capnp_wire.proofs.NewTrees.{no_bits}
+use Rattle.capnp_wire.specs.Facts.NewTrees.{no_bits}
 use Rattle.capnp_arena.specs.Made.{IsMade, filled_up, size_number}
 use Rattle.capnp_arena.specs.Shape.{CompositeIn, ListIn, Shape, shape_at, word_count}
 use Rattle.capnp_arena.specs.Forest.{Changes, Forest, tree}

@@ -3,7 +3,7 @@ use Rattle.std.proofs.Common.{refl, ◌≡◌, ℕ, suc, ◌+◌, ◌-◌, ◌*�
 use Rattle.std.proofs.lemmas.List.{append_assoc, take_at, drop_at, drop-drop, drop-take, take-take, take-append-le, drop-append-le, length-append, length-drop, length-take-le, drop-replicate, take-replicate}
 use Rattle.capnp_wire.specs.Place.{bytes_at}
 use Rattle.capnp_wire.specs.Filling.{put}
-use Rattle.capnp_wire.proofs.Filling.{put_after}
+use Rattle.capnp_wire.specs.Facts.Filling.{put_after}
 use Rattle.capnp_arena.specs.Forest.{IsSame}
 
 -- a word before

@@ -4,8 +4,8 @@ use Rattle.capnp_wire.specs.Depth.{AreBelow, ElementsAreBelow, IsBelow, IsShallo
 use Rattle.capnp_wire.specs.Level.{tree_at_depth}
 use Rattle.capnp_wire.specs.Place.{list_tree, root_tree, struct_at, struct_tree, tree_at, tree_below, tree_with_level}
 use Rattle.capnp_wire.specs.Tree.{Composite, Pointers, StructTree, Tree, structs_from, trees_from}
-use Rattle.capnp_wire.proofs.Levels.{below_step}
-use Rattle.capnp_wire.proofs.PointerWords.{not_below, not_equal}
+use Rattle.capnp_wire.specs.Facts.Levels.{below_step}
+use Rattle.capnp_wire.specs.Facts.PointerWords.{not_below, not_equal}
 use Rattle.capnp_arena.specs.Encoded.{HasSize}
 use Rattle.capnp_arena.specs.Forest.{Forest, Grown, struct_from, tree}
 use Rattle.capnp_arena.specs.Shape.{CompositeIn, IsPointerOf, ListIn, NoShape, Shape, StructIn, placed, shape_at}

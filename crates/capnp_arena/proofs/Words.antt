@@ -5,8 +5,8 @@ use Rattle.capnp_wire.specs.Place.{bytes_at}
 use Rattle.capnp_wire.specs.Encoding.{spelled, struct_word, list_word}
 use Rattle.capnp_wire.specs.Locate.{target_at, list_words, lies}
 use Rattle.capnp_wire.specs.Facts.Bytes.{length_spelled}
-use Rattle.capnp_wire.proofs.Stands.{Stands}
-use Rattle.capnp_wire.proofs.PointerWords.{target_null, target_zero, target_struct, target_list, target_composite, is_at_most}
+use Rattle.capnp_wire.specs.Facts.Stands.{Stands}
+use Rattle.capnp_wire.specs.Facts.PointerWords.{target_null, target_zero, target_struct, target_list, target_composite, is_at_most}
 use Rattle.std.proofs.Math.Seq.{take-add}
 use Rattle.capnp_arena.specs.Forest.{IsSame}
 use Rattle.capnp_arena.specs.Shape.{IsTagOf, Shape, NoShape, StructIn, ListIn, CompositeIn, shape_of, placed, shape_at, IsWordAt, Points}

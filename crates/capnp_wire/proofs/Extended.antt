@@ -8,7 +8,7 @@ use Rattle.capnp_wire.specs.declared.object.Object.{Object}
 use Rattle.capnp_wire.specs.declared.object.StructObject.{StructObject}
 use Rattle.capnp_wire.specs.declared.size.StructSize.{StructSize}
 use Rattle.capnp_wire.proofs.ObjectTrees.{tree-struct}
-use Rattle.capnp_wire.proofs.Lists.{tree_count-from, tree_count-of}
+use Rattle.capnp_wire.specs.Facts.Indexed.{tree_count-from, tree_count-of}
 
 -- so many objects are null
 pub count_nulls : (os : List Object) (n : ℕ) → object_trees os ≡ nulls n → length os ≡ n

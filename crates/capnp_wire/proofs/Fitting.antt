@@ -4,7 +4,7 @@ use Rattle.capnp_wire.specs.Tree.{MoreTrees, tree_count}
 use Rattle.capnp_wire.specs.Objects.{object_tree, object_trees}
 use Rattle.capnp_wire.specs.Edits.{nulls, append_trees, first_trees}
 use Rattle.capnp_wire.specs.declared.object.Object.{Object}
-use Rattle.capnp_wire.proofs.Lists.{tree_count-of}
+use Rattle.capnp_wire.specs.Facts.Indexed.{tree_count-of}
 
 -- the first ones, and then further ones
 first_objects : (n : ℕ) (os us : List Object) → object_trees (take n os ++ us) ≡ append_trees (first_trees n (object_trees os)) (object_trees us)

@@ -15,7 +15,7 @@ use Rattle.capnp_wire.specs.declared.object.ListObject.{ListObject, out-ListObje
 use Rattle.capnp_wire.specs.declared.object.ListObject.TheOpen as layer
 use Rattle.capnp_wire.specs.declared.object.StructObject.{StructObject}
 use Rattle.capnp_wire.specs.declared.size.StructSize.{StructSize}
-use Rattle.capnp_wire.proofs.Lists.{nth_struct-of, nth_tree-of, struct_count-of, tree_count-of}
+use Rattle.capnp_wire.specs.Facts.Indexed.{nth_struct-of, nth_tree-of, struct_count-of, tree_count-of}
 use Rattle.capnp_wire.specs.Facts.EmptyStructs.{nth-empty_structs}
 pub use Rattle.capnp_wire.specs.Facts.Objects.{layer_tree, tree-layer}
 

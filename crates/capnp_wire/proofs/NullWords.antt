@@ -4,7 +4,7 @@ use Rattle.capnp_wire.specs.Tree.{Null}
 use Rattle.capnp_wire.specs.Locate.{NoTarget, Segments, target_at}
 use Rattle.capnp_wire.specs.Level.{tree_at_depth}
 use Rattle.capnp_wire.specs.Place.{tree_below}
-use Rattle.capnp_wire.proofs.Levels.{below_step}
+use Rattle.capnp_wire.specs.Facts.Levels.{below_step}
 
 pub null_below : (depth : ℕ) (segments : Segments) (segment : List ℕ) (w : ℕ) → target_at segments segment w ≡ NoTarget → tree_below depth segments segment w ≡ Null
 null_below depth segments segment w e =

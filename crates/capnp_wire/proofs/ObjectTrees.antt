@@ -4,7 +4,7 @@ use Rattle.capnp_wire.specs.Tree.{StructTree, nth_tree, tree_count}
 use Rattle.capnp_wire.specs.Objects.{object_tree, struct_object_tree, object_trees}
 use Rattle.capnp_wire.specs.declared.object.Object.{Object}
 use Rattle.capnp_wire.specs.declared.object.StructObject.{StructObject}
-use Rattle.capnp_wire.proofs.Lists.{nth_tree-of, tree_count-of}
+use Rattle.capnp_wire.specs.Facts.Indexed.{nth_tree-of, tree_count-of}
 pub use Rattle.capnp_wire.specs.Facts.Objects.{tree-bits, tree-composite, tree-empty_structs, tree-null, tree-of_list, tree-of_struct, tree-pointers, tree-struct}
 
 -- an object of a row, by its index

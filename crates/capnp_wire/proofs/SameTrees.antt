@@ -7,7 +7,7 @@ use Rattle.std.proofs.lemmas.Bool.Decides.{nat_tests}
 use Rattle.capnp_wire.specs.Facts.EmptyStructs.{struct_count-empty_structs}
 use Rattle.capnp_wire.specs.Slot.{bit_at}
 use Rattle.capnp_wire.specs.Place.{bits_from}
-use Rattle.capnp_wire.proofs.Lists.{bit-start, length-bits_from}
+use Rattle.capnp_wire.specs.Facts.Indexed.{bit-start, length-bits_from}
 
 -- ---- heights: each part is lower than the whole ----
 

@@ -16,3 +16,16 @@ pub mod Places
 pub mod WellFormedRows
 pub mod ByteRuns
 pub mod Bits
+pub mod Indexed
+pub mod Appending
+pub mod BitBytes
+pub mod Stands
+pub mod EncodedSizes
+pub mod PackedBits
+pub mod PointerWords
+pub mod EncodedObjects
+pub mod ReadBack
+pub mod ReadMessage
+pub mod NewTrees
+pub mod Levels
+pub mod Filling

@@ -13,7 +13,7 @@ use capnp_device::error::{Error, ErrorKind, Result};
 
 /// The bit of a list at `index`; false where the elements are no bits.
 #[inline(always)]
-pub(crate) fn bit_at(list: Found<'_>, index: u32) -> bool
+pub fn bit_at(list: Found<'_>, index: u32) -> bool
     ensures { result ≡ element_bit (found_tree list.entry) index }
 {
     match list {
@@ -24,7 +24,7 @@ pub(crate) fn bit_at(list: Found<'_>, index: u32) -> bool
 
 /// The number of a list at `index`: of a struct, that at its start.
 #[inline(always)]
-pub(crate) fn number_at<T: PrimitiveElement>(list: Found<'_>, index: u32) -> T
+pub fn number_at<T: PrimitiveElement>(list: Found<'_>, index: u32) -> T
     ensures { result ≡ T.of_number (element_number T.width (found_tree list.entry) index) }
 {
     match list {
@@ -41,7 +41,7 @@ pub(crate) fn number_at<T: PrimitiveElement>(list: Found<'_>, index: u32) -> T
 ///
 /// Refused as `get_data`.
 #[inline(always)]
-pub(crate) fn data_of(found: Found<'_>) -> Result<&[u8]>
+pub fn data_of(found: Found<'_>) -> Result<&[u8]>
     ensures { bytes_read result ≡ as_data (found_tree found.entry) }
 {
     match found {
@@ -63,7 +63,7 @@ pub(crate) fn data_of(found: Found<'_>) -> Result<&[u8]>
 ///
 /// Refused as `get_text`.
 #[inline(always)]
-pub(crate) fn text_of(found: Found<'_>) -> Result<&[u8]>
+pub fn text_of(found: Found<'_>) -> Result<&[u8]>
     ensures { bytes_read result ≡ as_text (found_tree found.entry) }
 {
     match found {

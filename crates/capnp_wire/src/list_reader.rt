@@ -100,7 +100,7 @@ impl<'a> ListReader<'a> {
 
     /// A reader of a list.
     #[tactic(auto, unfolding(crate::specs::Standing::list_of, crate::specs::Standing::list_levels))]
-    pub(crate) fn new(found: Found<'a>, levels: u8) -> ListReader<'a>
+    pub fn new(found: Found<'a>, levels: u8) -> ListReader<'a>
         requires { IsWellFormed (found_tree found) }
         ensures list { list_of result ≡ found_tree found.entry }
         ensures levels { list_levels result ≡ levels }
@@ -137,7 +137,7 @@ impl<'a> ListReader<'a> {
 
     /// What the reader stands on.
     #[tactic(auto, unfolding(crate::specs::Standing::list_of))]
-    pub(crate) fn found(&self) -> Found<'a>
+    pub fn found(&self) -> Found<'a>
         ensures { found_tree result ≡ list_of self.now }
     {
         self.found
@@ -207,6 +207,7 @@ impl<'a> ListReader<'a> {
     /// Where no level is left for that, one that is not null can't be followed (`TooDeep`). Null where the elements have
     /// no pointers.
     #[tactic(auto, unfolding(crate::specs::Standing::list_of, crate::specs::Standing::list_levels))]
+    #[inline(always)]
     pub fn get_pointer_element(&self, index: u32) -> PointerReader<'a>
         ensures tree { tree_of result ≡ element_pointer (list_of self.now) index (list_levels self.now) }
         ensures levels { levels_of result ≡ element_levels (list_of self.now) (list_levels self.now) }

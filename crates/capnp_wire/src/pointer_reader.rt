@@ -38,7 +38,7 @@ impl<'a> PointerReader<'a> {
     /// A reader of a place.
     #[tactic(auto, unfolding(crate::specs::Standing::tree_of, crate::specs::Standing::levels_of))]
     #[inline(always)]
-    pub(crate) fn new(pointer: Pointer<'a>, levels: u8) -> PointerReader<'a>
+    pub fn new(pointer: Pointer<'a>, levels: u8) -> PointerReader<'a>
         requires { IsWellFormed (pointer_tree pointer) }
         ensures tree { tree_of result ≡ pointer_tree pointer.entry }
         ensures levels { levels_of result ≡ levels }
@@ -48,7 +48,7 @@ impl<'a> PointerReader<'a> {
 
     /// Where the pointer stands.
     #[tactic(auto, unfolding(crate::specs::Standing::tree_of))]
-    pub(crate) fn pointer(&self) -> Pointer<'a>
+    pub fn pointer(&self) -> Pointer<'a>
         ensures { pointer_tree result ≡ tree_of self.now }
     {
         self.pointer
@@ -70,6 +70,7 @@ impl<'a> PointerReader<'a> {
 
     /// Whether the pointer is null. A pointer that can't be followed is not.
     #[tactic(auto, unfolding(crate::specs::Standing::tree_of))]
+    #[inline(always)]
     pub fn is_null(&self) -> bool
         ensures { result ≡ is_null_tree (tree_of self.now) }
     {
@@ -139,6 +140,7 @@ impl<'a> PointerReader<'a> {
     /// level is left for it, then with `WrongPointerKind` for a struct, and with `WrongElementSize` for a list that is
     /// not read so (encoding, "Lists").
     #[tactic(auto, unfolding(crate::specs::Standing::tree_of, crate::specs::Standing::levels_of))]
+    #[inline(always)]
     pub fn get_list(&self, size: ElementSize) -> Result<ListReader<'a>>
         ensures read { list_read result ≡ as_list size (tree_of self.now) (levels_of self.now) }
         ensures levels { IfOk result (λ l. list_levels l + 1 ≡ levels_of self.now) }

@@ -35,7 +35,7 @@ impl<'a> StructReader<'a> {
     /// A reader of a struct's parts.
     #[tactic(auto, unfolding(crate::specs::Standing::struct_of, crate::specs::Standing::struct_levels))]
     #[inline(always)]
-    pub(crate) fn new(parts: StructParts<'a>, levels: u8) -> StructReader<'a>
+    pub fn new(parts: StructParts<'a>, levels: u8) -> StructReader<'a>
         requires { IsWellFormedStruct (parts_tree parts) }
         ensures parts { struct_of result ≡ parts_tree parts.entry }
         ensures levels { struct_levels result ≡ levels }
@@ -45,7 +45,7 @@ impl<'a> StructReader<'a> {
 
     /// A reader of a struct of size zero.
     #[inline(always)]
-    pub(crate) fn empty(levels: u8) -> StructReader<'a>
+    pub fn empty(levels: u8) -> StructReader<'a>
         ensures parts { struct_of result ≡ empty_struct }
         ensures levels { struct_levels result ≡ levels }
     {
@@ -54,7 +54,7 @@ impl<'a> StructReader<'a> {
 
     /// What the struct holds.
     #[tactic(auto, unfolding(crate::specs::Standing::struct_of))]
-    pub(crate) fn parts(&self) -> StructParts<'a>
+    pub fn parts(&self) -> StructParts<'a>
         ensures { parts_tree result ≡ struct_of self.now }
     {
         self.parts

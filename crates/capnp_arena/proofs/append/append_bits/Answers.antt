@@ -1,4 +1,4 @@
-use Rattle.capnp_wire.proofs.BitBytes.{packed_next}
+use Rattle.capnp_wire.specs.Facts.BitBytes.{packed_next}
 use Rattle.capnp_arena.proofs.append.append_bits.Goals as goal
 
 pub loop-k-preserved : goal.loop-k-preserved

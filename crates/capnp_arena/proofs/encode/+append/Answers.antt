@@ -7,7 +7,7 @@ use Rattle.capnp_wire.specs.Facts.Rows.{struct_count-structs_from, tree_count-tr
 use Rattle.capnp_wire.specs.Filling.{put, with_pointers, words_from}
 use Rattle.capnp_wire.specs.Tree.{trees_from}
 use Rattle.capnp_wire.specs.WellFormed.{AreBytes}
-use Rattle.capnp_wire.proofs.Filling.{composite_last, element_filled, element_put, elements_room, pointer_filled, row_last, row_room}
+use Rattle.capnp_wire.specs.Facts.Filling.{composite_last, element_filled, element_put, elements_room, pointer_filled, row_last, row_room}
 use Rattle.capnp_arena.specs.Encoded.{pointer_to}
 use Rattle.capnp_arena.specs.Forest.{Forest, struct_from, tree}
 use Rattle.capnp_arena.specs.Looked.{shape_found}

@@ -2,7 +2,7 @@ use Rattle.std.proofs.Common.{arith, suc, ◌+◌, ◌≡◌, ◌++◌, ◌∙�
 use Rattle.capnp_wire.specs.Facts.Bytes.{AreBytes-fits}
 use Rattle.capnp_wire.specs.Words.{words_of}
 use Rattle.capnp_wire.specs.Encoding.{spelled, pointer_word}
-use Rattle.capnp_wire.proofs.Appending.{append_four}
+use Rattle.capnp_wire.specs.Facts.Appending.{append_four}
 use Rattle.capnp_arena.specs.Encoded.{pointer_to}
 use Rattle.capnp_arena.specs.Forest.{tree}
 use Rattle.capnp_arena.proofs.Encodings.{pointer_is, tree_held}

@@ -1,6 +1,6 @@
 use Rattle.std.proofs.Common.{sym}
 use Rattle.capnp_wire.specs.Objects.{struct_object_tree}
-use Rattle.capnp_wire.proofs.Lists.{struct_count-from, struct_count-of}
+use Rattle.capnp_wire.specs.Facts.Indexed.{struct_count-from, struct_count-of}
 use Rattle.capnp_wire.proofs.block.count_elements.Goals as goal
 
 pub returns-in-Words : goal.returns-in-Words

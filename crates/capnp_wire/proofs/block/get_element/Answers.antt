@@ -1,6 +1,6 @@
 use Rattle.std.proofs.Common.{sym, ap, ◌∙◌}
 use Rattle.capnp_wire.specs.Objects.{struct_object_tree}
-use Rattle.capnp_wire.proofs.Lists.{nth_struct-start, nth_struct-past, nth_struct-of, nth_struct-of_past}
+use Rattle.capnp_wire.specs.Facts.Indexed.{nth_struct-start, nth_struct-past, nth_struct-of, nth_struct-of_past}
 use Rattle.capnp_wire.proofs.block.get_element.Goals as goal
 
 pub returns-then-index-count : goal.returns-then-index-count

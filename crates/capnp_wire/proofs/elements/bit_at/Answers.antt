@@ -1,5 +1,5 @@
 use Rattle.std.proofs.Common.{sym, ◌∙◌, ◌≡◌, false, nat_lt, rules}
-use Rattle.capnp_wire.proofs.Lists.{bit-start, bit-past}
+use Rattle.capnp_wire.specs.Facts.Indexed.{bit-start, bit-past}
 use Rattle.capnp_wire.proofs.elements.bit_at.Goals as goal
 
 pub returns-then-index-count : goal.returns-then-index-count

@@ -7,10 +7,10 @@ use Rattle.capnp_wire.specs.Locate.{list_words}
 use Rattle.capnp_wire.specs.Objects.{object_tree, object_trees, list_object_tree, struct_object_tree}
 use Rattle.capnp_wire.specs.Encoding.{pointer_word, packed, bytes_of}
 use Rattle.capnp_wire.specs.Filling.{put, words_from, with_pointers}
-use Rattle.capnp_wire.proofs.Lists.{length-bits_from, tree_count-of, struct_count-of}
+use Rattle.capnp_wire.specs.Facts.Indexed.{length-bits_from, tree_count-of, struct_count-of}
 use Rattle.capnp_wire.proofs.ObjectTrees.{tree-bits, tree-composite, tree-empty_structs, tree-pointers, tree-struct}
 use Rattle.capnp_wire.proofs.Measuring.{empty_structs_held, objects-next, structs-next}
-use Rattle.capnp_wire.proofs.Filling.{pointer_filled, element_put, element_filled, row_room, row_last, elements_room, composite_last}
+use Rattle.capnp_wire.specs.Facts.Filling.{pointer_filled, element_put, element_filled, row_room, row_last, elements_room, composite_last}
 use Rattle.capnp_wire.proofs.encode.+append.Goals as goal
 
 pub append_composite-make_struct_word-tag-requires : goal.append_composite-make_struct_word-tag-requires

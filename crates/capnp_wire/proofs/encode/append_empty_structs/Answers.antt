@@ -1,6 +1,6 @@
 use Rattle.std.proofs.Common.{◌++◌, ap, ◌∙◌}
 use Rattle.capnp_wire.specs.Encoding.{spelled}
-use Rattle.capnp_wire.proofs.Filling.{empty_structs_spelled}
+use Rattle.capnp_wire.specs.Facts.Filling.{empty_structs_spelled}
 use Rattle.capnp_wire.proofs.encode.append_empty_structs.Goals as goal
 
 pub returns : goal.returns

@@ -2,7 +2,7 @@ use Rattle.std.proofs.Common.{suc, ◌≡◌, ◌++◌, ◌∙◌, ap}
 use Rattle.capnp_wire.specs.Objects.{object_tree}
 use Rattle.capnp_wire.specs.Words.{words_of}
 use Rattle.capnp_wire.specs.Encoding.{spelled, pointer_word}
-use Rattle.capnp_wire.proofs.Appending.{append_four}
+use Rattle.capnp_wire.specs.Facts.Appending.{append_four}
 use Rattle.capnp_wire.proofs.encode.append_message.Goals as goal
 
 pub returns : goal.returns

@@ -1,7 +1,7 @@
 use Rattle.std.proofs.Common.{rules, arith, ◌≡◌, ◌<◌, ◌^◌, ◌-◌, ◌*◌, ◌%◌, get_or, sym, ◌∙◌}
 use Rattle.std.proofs.lemmas.Nat.{one_shl}
 use Rattle.std.proofs.lemmas.List.{get_or_past}
-use Rattle.capnp_wire.proofs.BitBytes.{bits_past, bits_whole, bits_some}
+use Rattle.capnp_wire.specs.Facts.BitBytes.{bits_past, bits_whole, bits_some}
 use Rattle.capnp_wire.proofs.encode.get_bits.Goals as goal
 
 pub returns-then-k-count : goal.returns-then-k-count

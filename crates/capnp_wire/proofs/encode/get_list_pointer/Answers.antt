@@ -2,7 +2,7 @@ use Rattle.std.proofs.Common.{arith, ◌≡◌, ◌+◌, ◌*◌, ◌-◌, lengt
 use Rattle.capnp_wire.specs.Encoding.{list_word}
 use Rattle.capnp_wire.specs.Objects.{object_tree, struct_object_tree, list_object_tree}
 use Rattle.capnp_wire.specs.Facts.EmptyStructs.{struct_count-empty_structs}
-use Rattle.capnp_wire.proofs.Lists.{length-bits_from, tree_count-of, struct_count-of}
+use Rattle.capnp_wire.specs.Facts.Indexed.{length-bits_from, tree_count-of, struct_count-of}
 use Rattle.capnp_wire.proofs.ObjectTrees.{tree-bits, tree-empty_structs, tree-pointers, tree-composite}
 use Rattle.capnp_wire.proofs.Measuring.{bits_held}
 use Rattle.capnp_wire.proofs.PointerParts.{composite_parts, word_of_composite, pointers_parts, word_of_pointers, word_of_bits}

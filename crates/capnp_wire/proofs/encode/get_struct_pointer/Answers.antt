@@ -1,6 +1,6 @@
 use Rattle.std.proofs.Common.{arith, ◌∙◌}
 use Rattle.capnp_wire.specs.Objects.{object_tree}
-use Rattle.capnp_wire.proofs.Lists.{tree_count-of}
+use Rattle.capnp_wire.specs.Facts.Indexed.{tree_count-of}
 use Rattle.capnp_wire.proofs.ObjectTrees.{tree-struct}
 use Rattle.capnp_wire.proofs.PointerParts.{struct_parts, word_of_empty, word_of_struct}
 use Rattle.capnp_wire.proofs.encode.get_struct_pointer.Goals as goal

@@ -3,7 +3,7 @@ use Rattle.capnp_wire.specs.Objects.{object_tree}
 use Rattle.capnp_wire.specs.Stream.{message_tree_of}
 use Rattle.capnp_wire.specs.Encoding.{message_of}
 use Rattle.capnp_wire.proofs.ObjectFaults.{object_whole}
-use Rattle.capnp_wire.proofs.ReadMessage.{message_reads}
+use Rattle.capnp_wire.specs.Facts.ReadMessage.{message_reads}
 use Rattle.capnp_wire.proofs.encode.write_object.Goals as goal
 
 pub returns-clause-read : goal.returns-clause-read

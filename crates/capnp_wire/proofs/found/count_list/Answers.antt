@@ -1,5 +1,5 @@
 use Rattle.std.proofs.Common.{sym}
-use Rattle.capnp_wire.proofs.Lists.{length-bits_from}
+use Rattle.capnp_wire.specs.Facts.Indexed.{length-bits_from}
 use Rattle.capnp_wire.proofs.found.count_list.Goals as goal
 
 pub returns-in-Bits : goal.returns-in-Bits

@@ -1,4 +1,4 @@
-use Rattle.capnp_wire.proofs.Levels.{below_step}
+use Rattle.capnp_wire.specs.Facts.Levels.{below_step}
 use Rattle.capnp_wire.proofs.look.look_at_word.Goals as goal
 
 pub returns : goal.returns

@@ -1,5 +1,5 @@
 use Rattle.capnp_wire.proofs.ObjectTrees.{tree-null}
-use Rattle.capnp_wire.proofs.NewTrees.{one_more_null}
+use Rattle.capnp_wire.specs.Facts.NewTrees.{one_more_null}
 use Rattle.capnp_wire.proofs.make.make_nulls.Goals as goal
 
 pub loop-preserved : goal.loop-preserved

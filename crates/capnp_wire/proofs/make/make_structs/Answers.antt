@@ -1,6 +1,6 @@
 use Rattle.std.proofs.Common.{sym, ◌∙◌}
 use Rattle.capnp_wire.specs.Facts.EmptyStructs.{zero_structs-empty}
-use Rattle.capnp_wire.proofs.NewTrees.{one_more_struct}
+use Rattle.capnp_wire.specs.Facts.NewTrees.{one_more_struct}
 use Rattle.capnp_wire.proofs.make.make_structs.Goals as goal
 
 pub returns-then-size-eq0-2-clause-list : goal.returns-then-size-eq0-2-clause-list

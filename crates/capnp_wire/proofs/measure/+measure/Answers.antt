@@ -2,7 +2,7 @@ use Rattle.std.proofs.Common.{arith, ap, subst, sym, ◌∙◌}
 use Rattle.capnp_wire.specs.Objects.{object_tree}
 use Rattle.capnp_wire.specs.WellFormed.{AreElements, AreWellFormed}
 use Rattle.capnp_wire.specs.Words.{words_below_all, words_of_all}
-use Rattle.capnp_wire.proofs.Lists.{length-bits_from, tree_count-of, struct_count-of}
+use Rattle.capnp_wire.specs.Facts.Indexed.{length-bits_from, tree_count-of, struct_count-of}
 use Rattle.capnp_wire.proofs.ObjectTrees.{tree-bits, tree-empty_structs, tree-pointers, tree-composite, tree-struct}
 use Rattle.capnp_wire.specs.Objects.{list_object_tree, struct_object_tree}
 use Rattle.capnp_wire.proofs.Measuring.{empty_structs_held, measured_empty_structs, measured_struct, struct_held, measured_element, element_held, measured_bits, bits_held, measured_pointers, pointers_held, measured_composite, composite_held, objects-next, structs-next}

@@ -1,6 +1,6 @@
 use Rattle.std.proofs.Common.{sym}
 use Rattle.capnp_wire.specs.Objects.{object_tree}
-use Rattle.capnp_wire.proofs.Lists.{tree_count-from, tree_count-of}
+use Rattle.capnp_wire.specs.Facts.Indexed.{tree_count-from, tree_count-of}
 use Rattle.capnp_wire.proofs.pointers.count_pointers.Goals as goal
 
 pub returns-in-Words : goal.returns-in-Words

@@ -1,8 +1,8 @@
 use Rattle.std.proofs.Common.{sym, ap, ◌∙◌, arith, ◌≡◌, ◌+◌, ◌-◌, take, drop}
 use Rattle.capnp_wire.specs.Objects.{object_tree, object_trees}
 use Rattle.capnp_wire.specs.Backing.{segments_in}
-use Rattle.capnp_wire.proofs.Levels.{alone_capped}
-use Rattle.capnp_wire.proofs.Lists.{only_tree-from, only_tree-past, only_tree-of, only_tree-of_past}
+use Rattle.capnp_wire.specs.Facts.Levels.{alone_capped}
+use Rattle.capnp_wire.specs.Facts.Indexed.{only_tree-from, only_tree-past, only_tree-of, only_tree-of_past}
 use Rattle.capnp_wire.proofs.pointers.get_only_pointer.Goals as goal
 
 pub returns-then-index-count : goal.returns-then-index-count

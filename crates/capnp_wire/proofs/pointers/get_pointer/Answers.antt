@@ -1,6 +1,6 @@
 use Rattle.std.proofs.Common.{sym, ap, ◌∙◌}
 use Rattle.capnp_wire.specs.Objects.{object_tree}
-use Rattle.capnp_wire.proofs.Lists.{nth_tree-from, nth_tree-past, nth_tree-of, nth_tree-of_past}
+use Rattle.capnp_wire.specs.Facts.Indexed.{nth_tree-from, nth_tree-past, nth_tree-of, nth_tree-of_past}
 use Rattle.capnp_wire.proofs.pointers.get_pointer.Goals as goal
 
 pub returns-then-index-count : goal.returns-then-index-count

@@ -7,7 +7,7 @@ use Rattle.capnp_wire.specs.Found.{parts_tree}
 use Rattle.capnp_wire.specs.Objects.{list_object_tree, struct_object_tree, struct_object_trees}
 use Rattle.capnp_wire.specs.Reading.{element_struct}
 use Rattle.capnp_wire.specs.Edits.{extended}
-use Rattle.capnp_wire.proofs.NewTrees.{one_more_by}
+use Rattle.capnp_wire.specs.Facts.NewTrees.{one_more_by}
 use Rattle.capnp_wire.proofs.ObjectFaults.{element_whole, list_whole}
 use Rattle.capnp_wire.proofs.struct_lists.copy_as_structs.Goals as goal
 

@@ -1,7 +1,7 @@
 use Rattle.std.proofs.Common.{arith, ◌≡◌, ◌++◌, ◌∙◌, ap}
 use Rattle.capnp_wire.specs.Encoding.{message_of}
 use Rattle.capnp_wire.specs.Stream.{message_tree_of}
-use Rattle.capnp_wire.proofs.ReadMessage.{message_reads}
+use Rattle.capnp_wire.specs.Facts.ReadMessage.{message_reads}
 use Rattle.capnp_arena.specs.Forest.{tree}
 use Rattle.capnp_arena.proofs.Whole.{forest_whole}
 use Rattle.capnp_arena.proofs.arena.Arena.write_message.Goals as goal

@@ -1,6 +1,6 @@
 use Rattle.std.proofs.Common.{ap, ◌∙◌}
 use Rattle.capnp_wire.specs.Place.{bits_from}
-use Rattle.capnp_wire.proofs.NewTrees.{no_bits}
+use Rattle.capnp_wire.specs.Facts.NewTrees.{no_bits}
 use Rattle.capnp_wire.proofs.bits.BitRow.zeros.Goals as goal
 
 pub returns : goal.returns

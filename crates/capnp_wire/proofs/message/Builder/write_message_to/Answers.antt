@@ -1,4 +1,4 @@
-use Rattle.capnp_wire.proofs.ReadMessage.{written_reads}
+use Rattle.capnp_wire.specs.Facts.ReadMessage.{written_reads}
 use Rattle.capnp_wire.proofs.message.Builder.write_message_to.Goals as goal
 
 pub returns-clause-read : goal.returns-clause-read

@@ -2,7 +2,7 @@ use Rattle.std.proofs.Common.{◌≡◌, ◌==◌, length, sym, ap, ◌∙◌, a
 use Rattle.capnp_wire.specs.Objects.{list_object_tree, object_tree, struct_object_tree}
 use Rattle.capnp_wire.specs.Reading.{list_length}
 use Rattle.capnp_wire.specs.Facts.EmptyStructs.{struct_count-empty_structs}
-use Rattle.capnp_wire.proofs.Lists.{length-bits_from, struct_count-of, tree_count-of}
+use Rattle.capnp_wire.specs.Facts.Indexed.{length-bits_from, struct_count-of, tree_count-of}
 use Rattle.capnp_wire.proofs.ObjectTrees.{tree-bits, tree-composite, tree-empty_structs, tree-pointers}
 use Rattle.capnp_wire.proofs.object.ListObject.is_empty.Goals as goal
 

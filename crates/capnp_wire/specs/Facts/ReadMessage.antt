@@ -10,10 +10,10 @@ use Rattle.capnp_wire.specs.Words.{words_of, first_fault}
 use Rattle.capnp_wire.specs.WellFormed.{IsWellFormed}
 use Rattle.capnp_wire.specs.Depth.{IsShallow}
 use Rattle.capnp_wire.specs.Encoding.{spelled, encoding_of, message_of}
-use Rattle.capnp_wire.proofs.Stands.{little_endian_spelled}
-use Rattle.capnp_wire.proofs.EncodedSizes.{length_encoding}
-use Rattle.capnp_wire.proofs.PointerWords.{not_below}
-use Rattle.capnp_wire.proofs.ReadBack.{encoding_reads}
+use Rattle.capnp_wire.specs.Facts.Stands.{little_endian_spelled}
+use Rattle.capnp_wire.specs.Facts.EncodedSizes.{length_encoding}
+use Rattle.capnp_wire.specs.Facts.PointerWords.{not_below}
+use Rattle.capnp_wire.specs.Facts.ReadBack.{encoding_reads}
 
 -- a stream of one segment, whatever follows it
 pub one_segment : (n : ℕ) (xs rest : List ℕ) → n < 2 ^ 32 → length xs ≡ 8 * n → segments_of (spelled 4 0 ++ (spelled 4 n ++ (xs ++ rest))) ≡ Ok (xs ∷ [])

@@ -7,8 +7,8 @@ use Rattle.capnp_wire.specs.WellFormed.{AreElements, AreWellFormed}
 use Rattle.capnp_wire.specs.Encoding.{spelled, struct_word, pointer_word, pointer_row, element_row, bytes_of, bytes_of_all, bytes_below_all}
 use Rattle.capnp_wire.specs.Filling.{put, words_from, row_end, HasRoom, with_pointers, with_encoded_element, elements_end, HaveRoom, with_encoded_elements}
 use Rattle.capnp_wire.specs.Facts.EmptyStructs.{bytes_below-empty_structs, element_row-empty_structs, struct_count-empty_structs}
-use Rattle.capnp_wire.proofs.Appending.{append_two}
-use Rattle.capnp_wire.proofs.EncodedSizes.{length_bytes_of, length_bytes_of_all, length_pointer_row, length_element, length_element_row}
+use Rattle.capnp_wire.specs.Facts.Appending.{append_two}
+use Rattle.capnp_wire.specs.Facts.EncodedSizes.{length_bytes_of, length_bytes_of_all, length_pointer_row, length_element, length_element_row}
 
 -- ---- bytes in the place of others ----
 

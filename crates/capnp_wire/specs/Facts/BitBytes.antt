@@ -6,8 +6,8 @@ use Rattle.std.proofs.lemmas.Bool.Decides.{nat_tests}
 use Rattle.capnp_wire.specs.Slot.{bit_at}
 use Rattle.capnp_wire.specs.Place.{bits_from}
 use Rattle.capnp_wire.specs.Encoding.{bits_number, packed}
-use Rattle.capnp_wire.proofs.Lists.{length-bits_from}
-use Rattle.capnp_wire.proofs.Appending.{part_next}
+use Rattle.capnp_wire.specs.Facts.Indexed.{length-bits_from}
+use Rattle.capnp_wire.specs.Facts.Appending.{part_next}
 
 -- so many of a number's bits, lowest first
 abbrev bits_of : ℕ → ℕ → List Bool

@@ -10,11 +10,11 @@ use Rattle.capnp_wire.specs.Level.{list_at_depth, tree_at_depth}
 use Rattle.capnp_wire.specs.Words.{byte_words}
 use Rattle.capnp_wire.specs.WellFormed.{is_width}
 use Rattle.capnp_wire.specs.Encoding.{spelled, packed, padded, number_size, struct_word, list_word}
-use Rattle.capnp_wire.proofs.Levels.{below_step}
-use Rattle.capnp_wire.proofs.Stands.{Stands, stands_first, stands_all, stands_lies}
-use Rattle.capnp_wire.proofs.EncodedSizes.{length_packed, length_padded}
-use Rattle.capnp_wire.proofs.PointerWords.{not_equal, not_below, target_zero, target_null, target_list}
-use Rattle.capnp_wire.proofs.PackedBits.{bits_packed}
+use Rattle.capnp_wire.specs.Facts.Levels.{below_step}
+use Rattle.capnp_wire.specs.Facts.Stands.{Stands, stands_first, stands_all, stands_lies}
+use Rattle.capnp_wire.specs.Facts.EncodedSizes.{length_packed, length_padded}
+use Rattle.capnp_wire.specs.Facts.PointerWords.{not_equal, not_below, target_zero, target_null, target_list}
+use Rattle.capnp_wire.specs.Facts.PackedBits.{bits_packed}
 
 -- no trees are counted
 no_trees_of_count : (ts : Trees) → tree_count ts ≡ 0 → ts ≡ NoTrees

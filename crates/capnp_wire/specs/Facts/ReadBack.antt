@@ -10,10 +10,10 @@ use Rattle.capnp_wire.specs.Words.{words_of, words_of_all, words_below_all, firs
 use Rattle.capnp_wire.specs.Depth.{IsBelow, AreBelow, ElementsAreBelow, IsShallow}
 use Rattle.capnp_wire.specs.Encoding.{spelled, packed, padded, struct_word, pointer_word, pointer_row, element_row, own_bytes, bytes_below, bytes_of_all, bytes_below_all, bytes_of, encoding_of}
 use Rattle.capnp_wire.specs.declared.fault.Fault.{Fault}
-use Rattle.capnp_wire.proofs.Stands.{Stands, stands_left, stands_right, stands_first, stands_lies, stands_at}
-use Rattle.capnp_wire.proofs.EncodedSizes.{length_pointer_row, length_element, length_element_row, length_bytes_of_all, length_bytes_of}
-use Rattle.capnp_wire.proofs.PointerWords.{not_equal, target_struct, target_list, target_composite}
-use Rattle.capnp_wire.proofs.EncodedObjects.{at_struct, at_list, at_composite, reads_null, reads_zero, reads_voids, reads_bits, reads_numbers}
+use Rattle.capnp_wire.specs.Facts.Stands.{Stands, stands_left, stands_right, stands_first, stands_lies, stands_at}
+use Rattle.capnp_wire.specs.Facts.EncodedSizes.{length_pointer_row, length_element, length_element_row, length_bytes_of_all, length_bytes_of}
+use Rattle.capnp_wire.specs.Facts.PointerWords.{not_equal, target_struct, target_list, target_composite}
+use Rattle.capnp_wire.specs.Facts.EncodedObjects.{at_struct, at_list, at_composite, reads_null, reads_zero, reads_voids, reads_bits, reads_numbers}
 
 -- where neither of two has a fault, the first has none
 none_first : (a b : Option Fault) → first_of a b ≡ None → a ≡ None

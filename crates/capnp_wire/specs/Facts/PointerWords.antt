@@ -4,7 +4,7 @@ use Rattle.std.proofs.lemmas.Bool.Decides.{nat_tests}
 use Rattle.capnp_wire.specs.Slot.{word_at}
 use Rattle.capnp_wire.specs.Locate.{Segments, NoTarget, StructAt, ListAt, CompositeAt, kind, offset, element_size, count, data_words, pointer_count, lies, start_of, list_words, word_target, target_at}
 use Rattle.capnp_wire.specs.Encoding.{spelled, struct_word, list_word}
-use Rattle.capnp_wire.proofs.Stands.{Stands, stands_word, stands_lies}
+use Rattle.capnp_wire.specs.Facts.Stands.{Stands, stands_word, stands_lies}
 
 -- ---- tests ----
 
