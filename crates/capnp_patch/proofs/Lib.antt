@@ -1,7 +1,10 @@
+pub mod Got
 pub mod Parts
 pub mod Patched
+pub mod PathSound
 pub mod Paths
 pub mod Reached
 pub mod RowsGets
 pub mod Steps
+pub mod TextSound
 pub mod Told

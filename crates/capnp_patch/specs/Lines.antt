@@ -1,5 +1,5 @@
 -- What is told of the replies to calls.
-use Rattle.std.specs.Prelude.{ℕ, suc, ◌≡◌, List, [], ◌∷◌, ◌++◌, Bool, true, false, cond, Option, Some, None, pos, codes, decimal, String, string_bytes}
+use Rattle.std.specs.Prelude.{ℕ, suc, ◌≡◌, List, [], ◌∷◌, ◌++◌, Bool, true, false, cond, Option, Some, None, pos, codes, decimal, get_or}
 use Rattle.capnp_device.specs.ErrorNumber.{error_name, error_number}
 use Rattle.capnp_device.specs.declared.error.ErrorKind.{ErrorKind}
 use Rattle.capnp_schema.specs.Types.{BoolType, DataType, IntType, TextType, UIntType, VoidType}
@@ -68,8 +68,8 @@ IsTold n word (reply.Flag b) old new = new ≡ old ++ answer_line n word (flag_w
 IsTold n word (reply.Member i) old new = new ≡ old ++ answer_line n word (member_word i)
 IsTold n word (reply.Refused kind) old new = new ≡ old ++ refusal_line n word kind
 
--- the lines of replies were, each with the word of its call; the first call has this number
-abbrev pub AreTold : {A : Type 0} → ℕ → List (String A) → List Reply → (old new : List ℕ) → Type 0
-AreTold n [] replies old new = new ≡ old
-AreTold n (word ∷ words) [] old new = new ≡ old
-AreTold n (word ∷ words) (r ∷ replies) old new = (mid : List ℕ) × IsTold n (string_bytes word) r old mid × AreTold (suc n) words replies mid new
+-- The lines of all these replies were, the first of them to the call at this index. Each has its call's number, from 1 on, and
+-- its word; a call that no word is given for has an empty one.
+abbrev pub AreTold : ℕ → (words : List (List ℕ)) → List Reply → (old new : List ℕ) → Type 0
+AreTold i words [] old new = new ≡ old
+AreTold i words (r ∷ replies) old new = (mid : List ℕ) × IsTold (suc i) (get_or words i []) r old mid × AreTold (suc i) words replies mid new

@@ -1,5 +1,5 @@
 //! Calls on a message that is read, or on an empty root, and the message that they leave, written.
-ghost use Rattle.std.specs.Prelude.{[], ◌≡◌, ◌≢◌, ◌≤◌, ◌^◌, suc, true, false, IfErr, IfOk, OnErr, OnOk, string_bytes};
+ghost use Rattle.std.specs.Prelude.{[], ◌≡◌, ◌≢◌, ◌≤◌, ◌^◌, suc, true, false, IfErr, IfOk, OnErr, OnOk, map, string_bytes};
 ghost use Rattle.capnp_device.specs.Device.{HasFailed};
 ghost use Rattle.capnp_device.specs.declared.error.ErrorKind.TheVariants.{OutOfMemory, ReadFailed, TooLarge, WriteFailed};
 ghost use Rattle.capnp_wire.specs.Message.{builder_tree};
@@ -111,7 +111,7 @@ fn finish<W: Sink>(
 ) -> Result<Report>
     requires { IsWellFormed (builder_tree message.now) }
     ensures replies { IfOk result (λ r. r.replies.items ≡ replies.items) }
-    ensures lines { IfOk result (λ r. AreTold 1 asked.entry.words.now r.replies.items [] (string_bytes r.lines)) }
+    ensures lines { IfOk result (λ r. AreTold 0 (map string_bytes asked.entry.words.now) r.replies.items [] (string_bytes r.lines)) }
     ensures output { OnOk result (IsOutput (is_kept asked.entry.keep_going replies.items) (builder_tree message.now) (W.written sink.old) (W.written sink.new)) }
     ensures unwritten { IfOk result (λ r. is_kept asked.entry.keep_going r.replies.items ≡ false → sink.new ≡ sink.old) }
     ensures large { IfErr result (λ e. IsOfMessage e.kind
@@ -147,7 +147,7 @@ pub fn patch<R: Source, W: Sink>(
     requires { IsStruct asked.schema }
     ensures patched { IfOk result (λ r. IsPatched asked.entry.schema asked.entry.calls.now asked.entry.keep_going r.replies.items (R.left source.old) (R.left source.new)
         (W.written sink.old) (W.written sink.new)) }
-    ensures lines { IfOk result (λ r. AreTold 1 asked.entry.words.now r.replies.items [] (string_bytes r.lines)) }
+    ensures lines { IfOk result (λ r. AreTold 0 (map string_bytes asked.entry.words.now) r.replies.items [] (string_bytes r.lines)) }
     ensures unwritten { IfOk result (λ r. is_kept asked.entry.keep_going r.replies.items ≡ false → sink.new ≡ sink.old) }
     ensures refused { IfErr result (λ e. IsOfMessage e.kind
         → IsNotPatched asked.entry.schema asked.entry.calls.now asked.entry.keep_going e.kind (R.left source.old) (R.left source.new)) }
@@ -172,7 +172,7 @@ pub fn patch<R: Source, W: Sink>(
 pub fn new_message<W: Sink>(alloc: Global, asked: Asked<'_>, sink: &mut W) -> Result<Report>
     requires { IsStruct asked.schema }
     ensures made { IfOk result (λ r. IsMade asked.entry.schema asked.entry.calls.now asked.entry.keep_going r.replies.items (W.written sink.old) (W.written sink.new)) }
-    ensures lines { IfOk result (λ r. AreTold 1 asked.entry.words.now r.replies.items [] (string_bytes r.lines)) }
+    ensures lines { IfOk result (λ r. AreTold 0 (map string_bytes asked.entry.words.now) r.replies.items [] (string_bytes r.lines)) }
     ensures unwritten { IfOk result (λ r. is_kept asked.entry.keep_going r.replies.items ≡ false → sink.new ≡ sink.old) }
     ensures refused { IfErr result (λ e. IsOfMessage e.kind → IsTooLarge asked.entry.keep_going (IsLeftOfNew asked.entry.schema asked.entry.calls.now) e.kind) }
     ensures unread { IfErr result (λ e. e.kind ≢ ReadFailed) }
@@ -181,7 +181,7 @@ pub fn new_message<W: Sink>(alloc: Global, asked: Asked<'_>, sink: &mut W) -> Re
         → IsCutShort asked.entry.keep_going (IsLeftOfNew asked.entry.schema asked.entry.calls.now) (W.written sink.old) (W.written sink.new)) }
     ensures nothing { IfErr result (λ e. e.kind ≢ WriteFailed → sink.new ≡ sink.old) }
 {
-    let mut message = Builder::new(alloc);
-    let replies = run_new(alloc, &mut message, asked.schema, asked.calls)?;
-    finish(alloc, &message, replies, asked, sink)
+    let mut made = Builder::new(alloc);
+    let replies = run_new(alloc, &mut made, asked.schema, asked.calls)?;
+    finish(alloc, &made, replies, asked, sink)
 }

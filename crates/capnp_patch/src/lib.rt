@@ -4,5 +4,6 @@
 #![tactic(auto)]
 
 pub mod engine;
+pub mod get;
 pub mod lines;
 pub mod reach;

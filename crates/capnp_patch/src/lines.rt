@@ -1,5 +1,5 @@
 //! The lines that tell of the replies to calls.
-ghost use Rattle.std.specs.Prelude.{◌≡◌, ◌++◌, [], IfErr, IfOk, OnOk, string_bytes};
+ghost use Rattle.std.specs.Prelude.{◌≡◌, ◌++◌, [], IfErr, IfOk, OnOk, get_or, map, string_bytes};
 ghost use Rattle.capnp_device.specs.declared.error.ErrorKind.TheVariants.{OutOfMemory};
 ghost use Rattle.capnp_dynamic_readers.specs.Pieces.{IsAppended};
 ghost use Rattle.capnp_patch.specs.Lines.{AreTold, IsTold, IsValueTold, answer_line, flag_word, member_word, plain_text, refusal_line, told_line};
@@ -111,22 +111,26 @@ fn put_line(lines: &mut String, number: u64, word: &str, reply: &Reply) -> Resul
     }
 }
 
+/// The word of the call at an index, empty where none is given.
+fn word_at(words: &[String], index: usize) -> &str
+    ensures { result.now ≡ get_or (map string_bytes words.now) index [] }
+{
+    match words.get(index) {
+        Some(word) => word.as_str(),
+        None => "",
+    }
+}
+
 /// A line for each reply that answers or refuses, in order: the number of its call, from 1 on, the call's word, and the answer or
-/// the refusal's number and name. Refused with `OutOfMemory` alone.
+/// the refusal's number and name. A call that no word is given for is told with an empty one. Refused with `OutOfMemory` alone.
 pub fn get_lines(alloc: Global, words: &[String], replies: &[Reply]) -> Result<String>
-    ensures lines { IfOk result (λ lines. AreTold 1 words.now replies.now [] (string_bytes lines)) }
+    ensures lines { IfOk result (λ lines. AreTold 0 (map string_bytes words.now) replies.now [] (string_bytes lines)) }
     ensures memory { IfErr result (λ e. e.kind ≡ OutOfMemory) }
 {
     let mut lines = String::new(alloc);
-    let mut index = 0;
-    while index < words.len() && index < replies.len() {
-        put_line(
-            &mut lines,
-            index as u64 + 1,
-            words[index].as_str(),
-            &replies[index],
-        )?;
-        index += 1;
+    for index in 0..replies.len() {
+        let number = index as u64 + 1;
+        put_line(&mut lines, number, word_at(words, index), &replies[index])?;
     }
     Ok(lines)
 }

@@ -1,0 +1,160 @@
+-- The text that is got is that of what a path leads to from the struct that the root's reader stands on.
+use Rattle.std.proofs.Common.{arith, ap, ap₂, refl, subst, sym, ◌∙◌, ◌≡◌, ℕ, ◌+◌, ◌++◌, Bool, List, [], ◌∷◌, true, false, Option, Some, None, Result, Ok, Err, IfErr, OnErr}
+use Rattle.capnp_device.specs.declared.error.ErrorKind.{ErrorKind}
+use Rattle.capnp_wire.specs.Reading.{as_struct}
+use Rattle.capnp_wire.specs.Tree as tree
+use Rattle.capnp_wire.specs.Tree.{StructTree, Tree}
+use Rattle.capnp_wire.specs.Standing.{struct_levels, struct_of}
+use Rattle.capnp_wire.specs.Stream.{message_tree_of}
+use Rattle.capnp_wire.specs.declared.struct_reader.StructReader.{StructReader}
+use Rattle.capnp_schema.specs.Schema.{Schemas, brand_at, node_of}
+use Rattle.capnp_schema.specs.StructHandles.{IsStruct, number_of, set_of}
+use Rattle.capnp_schema.specs.Types.{SchemaType, StructType}
+use Rattle.capnp_schema.specs.declared.schema.structs.StructSchema.{StructSchema}
+use Rattle.capnp_records.specs.Call.{PathStep}
+use Rattle.capnp_records.specs.Reading.{struct_record}
+use Rattle.capnp_records.specs.Record as value
+use Rattle.capnp_records.specs.Record.{Left, Record}
+use Rattle.capnp_records.specs.Run.{root_type}
+use Rattle.capnp_records.specs.Text.{Out, text_of}
+use Rattle.capnp_dynamic_readers.specs.Handles.{reader_of, schema_of}
+use Rattle.capnp_dynamic_readers.specs.Seen.{record_seen, value_seen}
+use Rattle.capnp_dynamic_readers.specs.Shown.{printed_text, struct_printed, type_seen}
+use Rattle.capnp_dynamic_readers.specs.Typed.{IsOf, struct_type}
+use Rattle.capnp_dynamic_readers.specs.declared.dynamic_struct.Reader.{Reader as StructHandle}
+use Rattle.capnp_dynamic_readers.specs.declared.dynamic_value.Reader.{Reader as DynamicValue}
+use Rattle.capnp_dynamic_readers.specs.declared.dynamic_value.Reader.TheVariants as dynamic
+use Rattle.capnp_dynamic_readers.specs.Pieces.{IsAppended}
+use Rattle.capnp_show_engine.specs.Show.{IsLineOf, root_value, struct_or_group}
+use Rattle.capnp_patch.specs.Gets.{Reached, got_text, part_seen, path_read, reached, reached_text, text_at}
+
+-- ---- the text of a part ----
+
+printed-is : (q : Bool) (h : StructHandle) → struct_printed q h ≡ struct_or_group q (record_seen h)
+printed-is true h = refl
+printed-is false h = refl
+
+-- the text of a value of a set is that of the part that it is seen as
+part_text : (set : Schemas) (indented : Bool) (v : DynamicValue) → IsOf set (type_seen v) v → printed_text indented v ≡ reached_text set indented (Ok (part_seen v))
+part_text set indented dynamic.Void is = refl
+part_text set indented (dynamic.Bool b) is = refl
+part_text set indented (dynamic.Int8 x) is = refl
+part_text set indented (dynamic.Int16 x) is = refl
+part_text set indented (dynamic.Int32 x) is = refl
+part_text set indented (dynamic.Int64 x) is = refl
+part_text set indented (dynamic.UInt8 x) is = refl
+part_text set indented (dynamic.UInt16 x) is = refl
+part_text set indented (dynamic.UInt32 x) is = refl
+part_text set indented (dynamic.UInt64 x) is = refl
+part_text set indented (dynamic.Enum e) is = ap (λ (y : Schemas). text_of y indented (type_seen (dynamic.Enum e)) (value_seen (dynamic.Enum e))) is.1
+part_text set indented (dynamic.Text t) is = refl
+part_text set indented (dynamic.«Data» bytes) is = refl
+part_text set indented (dynamic.Struct s) is =
+    ap (text_of (set_of (schema_of s)) indented (struct_type (schema_of s))) (printed-is (node_of (set_of (schema_of s)) (number_of (schema_of s))).is_group s)
+    ∙ ap (λ (y : Schemas). text_of y indented (struct_type (schema_of s)) (struct_or_group (node_of y (number_of (schema_of s))).is_group (record_seen s))) is.1
+part_text set indented (dynamic.List l) is = ap (λ (y : Schemas). text_of y indented (type_seen (dynamic.List l)) (value_seen (dynamic.List l))) is.0
+part_text set indented (dynamic.AnyPointer p) is = refl
+
+-- ---- the root ----
+
+abbrev entered : StructTree → Result StructTree ErrorKind
+entered s = Ok s
+
+abbrev refused : ErrorKind → Result StructTree ErrorKind
+refused kind = Err kind
+
+abbrev unreached : ErrorKind → Reached
+unreached kind = Err kind
+
+same-struct : (x y : StructTree) → entered x ≡ entered y → x ≡ y
+same-struct x y e = cc
+
+same-kind : (k j : ErrorKind) → refused k ≡ refused j → unreached j ≡ unreached k
+same-kind k j e = cc
+
+abbrev struct_part : SchemaType → Record → Reached
+struct_part t r = Ok (record { type = t; value = value.Struct r })
+
+module _ (set : Schemas) (b : ℕ) where
+  abbrev root_part : StructTree → Reached
+  root_part s = struct_part (root_type set b) (struct_record set (Left 63) s b)
+
+  abbrev root_reached : Tree → Reached
+  root_reached root = reached (root_type set b) (root_value set b root)
+
+  entered-root : (root : Tree) (s : StructTree) → Ok s ≡ as_struct root 64 → root_part s ≡ root_reached root
+  entered-root tree.Null s e = ap root_part (same-struct s _ e)
+  entered-root (tree.Struct bytes ps) s e = ap root_part (same-struct s _ e)
+  entered-root (tree.Voids n) s e = cc
+  entered-root (tree.Bits bs) s e = cc
+  entered-root (tree.Numbers w bytes) s e = cc
+  entered-root (tree.Pointers ps) s e = cc
+  entered-root (tree.Composite d p es) s e = cc
+  entered-root (tree.FaultLeaf k) s e = cc
+
+  refused-root : (root : Tree) (kind : ErrorKind) → Err kind ≡ as_struct root 64 → root_reached root ≡ Err kind
+  refused-root tree.Null kind e = cc
+  refused-root (tree.Struct bytes ps) kind e = cc
+  refused-root (tree.Voids n) kind e = same-kind kind _ e
+  refused-root (tree.Bits bs) kind e = same-kind kind _ e
+  refused-root (tree.Numbers w bytes) kind e = same-kind kind _ e
+  refused-root (tree.Pointers ps) kind e = same-kind kind _ e
+  refused-root (tree.Composite d p es) kind e = same-kind kind _ e
+  refused-root (tree.FaultLeaf k) kind e = same-kind kind _ e
+
+  abbrev along : List PathStep → (indented : Bool) → Reached → Out
+  along path indented y = reached_text set indented (path_read set path y)
+
+  -- a root that is no struct has no text
+  pub no_root : (path : List PathStep) (indented : Bool) (bytes : List ℕ) (root x : Tree) (n : ℕ) (kind : ErrorKind) →
+      Ok root ≡ message_tree_of bytes → x ≡ root → n ≡ 64 → Err kind ≡ as_struct x n → got_text set b path indented bytes ≡ Err kind
+  no_root path indented bytes root x n kind whole tree_is levels_are read =
+      ap (text_at set b path indented) (sym whole) ∙ ap (along path indented) (refused-root root kind (read ∙ ap₂ as_struct tree_is levels_are))
+
+module _ (schema : StructSchema) (path : List PathStep) (indented : Bool) (bytes : List ℕ) (root x : Tree) (n : ℕ) (h : StructHandle) (r : StructReader)
+    (whole : Ok root ≡ message_tree_of bytes) (tree_is : x ≡ root) (levels_are : n ≡ 64) (read : Ok (struct_of r) ≡ as_struct x n) (levels : struct_levels r + 1 ≡ n)
+    (same : schema_of h ≡ schema) (reader : reader_of h ≡ r) (stands : IsStruct schema) where
+  root-seen : Ok (part_seen (dynamic.Struct h)) ≡ root_reached (set_of schema) (number_of schema) root
+  root-seen =
+      let left : struct_levels r ≡ 63 = omega (arith, levels, levels_are) in
+      let typed : struct_type (schema_of h) ≡ root_type (set_of schema) (number_of schema) = ap struct_type same ∙ ap (λ (g : ℕ). StructType (number_of schema) g) stands.generic in
+      let seen : record_seen h ≡ struct_record (set_of schema) (Left (struct_levels r)) (struct_of r) (number_of schema) =
+          ap (λ (s : StructSchema). struct_record (set_of s) (Left (struct_levels (reader_of h))) (struct_of (reader_of h)) (number_of s)) same
+          ∙ ap (λ (y : StructReader). struct_record (set_of schema) (Left (struct_levels y)) (struct_of y) (number_of schema)) reader in
+      let known : record_seen h ≡ struct_record (set_of schema) (Left 63) (struct_of r) (number_of schema) = seen ∙ ap (λ (m : ℕ). struct_record (set_of schema) (Left m) (struct_of r) (number_of schema)) left in
+      ap₂ struct_part typed known ∙ entered-root (set_of schema) (number_of schema) root (struct_of r) (read ∙ ap₂ as_struct tree_is levels_are)
+
+  -- the text is that of what the path leads to from the root's struct
+  got-along : got_text (set_of schema) (number_of schema) path indented bytes ≡ along (set_of schema) (number_of schema) path indented (Ok (part_seen (dynamic.Struct h)))
+  got-along = ap (text_at (set_of schema) (number_of schema) path indented) (sym whole) ∙ ap (along (set_of schema) (number_of schema) path indented) (sym root-seen)
+
+  abbrev IsReached : Reached → Type 0
+  IsReached y = y ≡ path_read (set_of schema) path (Ok (part_seen (dynamic.Struct h)))
+
+  -- the root's struct is of the schema's set
+  pub root_is : IsOf (set_of schema) (type_seen (dynamic.Struct h)) (dynamic.Struct h)
+  root_is = (subst IsStruct (sym same) stands, ap set_of same, refl)
+
+  -- where the path leads to no value there is none
+  pub not_got : (kind : ErrorKind) → IsReached (Err kind) → got_text (set_of schema) (number_of schema) path indented bytes ≡ Err kind
+  not_got kind is = got-along ∙ ap (reached_text (set_of schema) indented) (sym is)
+
+  -- and else it is the value's, as it is printed
+  pub got_printed : (v : DynamicValue) → IsOf (set_of schema) (type_seen v) v → IsReached (Ok (part_seen v)) → printed_text indented v ≡ got_text (set_of schema) (number_of schema) path indented bytes
+  got_printed v is_of is = part_text (set_of schema) indented v is_of ∙ ap (reached_text (set_of schema) indented) is ∙ sym got-along
+
+-- a text that was put into an empty string, and a line break
+pub line_of : (o : Out) (text line : List ℕ) → IsAppended [] o text → line ≡ text ++ 10 ∷ [] → IsLineOf o line
+line_of (Ok (Some bytes)) text line put e = (text, put, e)
+line_of (Ok None) text line put e = (text, tt {0}, e)
+line_of (Err kind) text line put e = absurd put
+
+-- what each refusal says, of what it said before
+pub each_refusal : {T E : Type 0} {P Q : E → Type 0} (r : Result T E) → ((e : E) → P e → Q e) → IfErr r P → IfErr r Q
+each_refusal (Ok x) f h = tt {0}
+each_refusal (Err e) f h = f e h
+
+-- where each refusal comes with a fact, and that gives another, each refusal of a kind comes with the other
+pub refusal_gives : {T E P Q : Type 0} (K : E → Type 0) (r : Result T E) → (P → Q) → OnErr r P → IfErr r (λ e. K e → Q)
+refusal_gives K (Ok x) f h = tt {0}
+refusal_gives K (Err e) f h = λ k. f h
