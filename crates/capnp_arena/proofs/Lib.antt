@@ -17,3 +17,5 @@ pub mod Encodings
 pub mod Whole
 pub mod Shallow
 pub mod WrittenLists
+pub mod EncodedForests
+pub mod NewTrees
