@@ -19,3 +19,4 @@ pub mod Shallow
 pub mod WrittenLists
 pub mod EncodedForests
 pub mod NewTrees
+pub mod Padding

@@ -6,6 +6,7 @@ pub mod arena;
 pub mod callers;
 mod count;
 mod encode;
+mod extend;
 pub mod lists;
 mod look;
 mod message;
