@@ -20,3 +20,5 @@ pub mod WrittenLists
 pub mod EncodedForests
 pub mod NewTrees
 pub mod Padding
+pub mod TreeSizes
+pub mod Copying

@@ -4,6 +4,7 @@
 mod append;
 pub mod arena;
 pub mod callers;
+mod copy;
 mod count;
 mod encode;
 mod extend;
