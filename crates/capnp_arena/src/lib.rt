@@ -4,6 +4,7 @@
 mod append;
 pub mod arena;
 pub mod callers;
+mod compact;
 pub mod copies;
 mod copy;
 mod count;
