@@ -98,7 +98,7 @@ refusal-first (Some fault) g k h = h
 pub first_refused : (e : Error) (f g h : Option Fault) → first_of f g ≡ h → IsCopyRefusal e f → IsCopyRefusal e h
 first_refused e f g h q r = subst (IsCopyRefusal e) q (λ n. refusal-first f g e.kind (r n))
 
-first_none : (f g h : Option Fault) → f ≡ None → first_of f g ≡ h → g ≡ h
+pub first_none : (f g h : Option Fault) → f ≡ None → first_of f g ≡ h → g ≡ h
 first_none f g h e q = sym (ap (λ x. first_of x g) e) ∙ q
 
 -- ---- what is left of a row ----
@@ -113,7 +113,7 @@ trees_after-next i NoTrees h = absurd (omega (arith, h))
 trees_after-next zero (MoreTrees t ts) h = refl
 trees_after-next (suc i) (MoreTrees t ts) h = trees_after-next i ts (omega (arith, h))
 
-trees_after-end : (i : ℕ) (ts : Trees) → tree_count ts ≤ i → trees_after i ts ≡ NoTrees
+pub trees_after-end : (i : ℕ) (ts : Trees) → tree_count ts ≤ i → trees_after i ts ≡ NoTrees
 trees_after-end zero NoTrees h = refl
 trees_after-end (suc i) NoTrees h = refl
 trees_after-end zero (MoreTrees t ts) h = absurd (omega (arith, h))

@@ -22,3 +22,4 @@ pub mod NewTrees
 pub mod Padding
 pub mod TreeSizes
 pub mod Copying
+pub mod Replaced

@@ -192,7 +192,7 @@ fn append_composite(arena: &mut Arena, size: StructSize, elements: Elements<'_>)
 /// Puts a pointer into a word, and appends what it leads to.
 #[cycle(copy)]
 #[inline(always)]
-fn fill_pointer(arena: &mut Arena, at: usize, pointer: Pointer<'_>) -> Result<()>
+pub fn fill_pointer(arena: &mut Arena, at: usize, pointer: Pointer<'_>) -> Result<()>
     requires held { IsWellFormed (pointer_tree pointer) }
     requires inside { at < word_count (segment arena.old) }
     ensures copy { OnOk result (segment arena.new ≡

@@ -5,6 +5,7 @@ mod append;
 pub mod arena;
 pub mod callers;
 mod compact;
+mod contents;
 pub mod copies;
 mod copy;
 mod count;
