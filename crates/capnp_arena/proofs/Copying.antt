@@ -200,16 +200,6 @@ element_filled d p at bytes ps es o o2 h room e =
 pub bits_appended : (b : List ℕ) (n : ℕ) → packed (8 * list_words 1 n) (bits_from b 0 n) ≡ bytes_of (Bits (bits_from b 0 n))
 bits_appended b n = ap (λ k. packed (8 * list_words 1 k) (bits_from b 0 n)) (sym (length-bits_from b 0 n)) ∙ sym (append-nil (packed (8 * list_words 1 (length (bits_from b 0 n))) (bits_from b 0 n)))
 
-pub empty_appended : (d p n k : ℕ) (es : Structs) (old new : List ℕ) → d ≡ 0 → p ≡ 0 → es ≡ empty_structs k → n ≡ struct_count es → new ≡ old ++ spelled 8 (struct_word n d p) → new ≡ old ++ bytes_of (Composite d p es)
-empty_appended d p n k es old new zd zp ze zn h =
-    let m : n ≡ k = zn ∙ ap struct_count ze ∙ struct_count-empty_structs k in
-    h
-    ∙ ap (λ z. old ++ spelled 8 (struct_word z d p)) m
-    ∙ ap (λ z. old ++ spelled 8 (struct_word k z p)) zd
-    ∙ ap (λ z. old ++ spelled 8 (struct_word k 0 z)) zp
-    ∙ ap (λ z. old ++ z) (empty_structs_spelled k)
-    ∙ sym (ap (λ z. old ++ bytes_of (Composite z p es)) zd ∙ ap (λ z. old ++ bytes_of (Composite 0 z es)) zp ∙ ap (λ z. old ++ bytes_of (Composite 0 0 z)) ze)
-
 -- ---- loops ----
 
 -- a loop has filled the first pointers of a row, and met no fault

@@ -23,3 +23,4 @@ pub mod Padding
 pub mod TreeSizes
 pub mod Copying
 pub mod Replaced
+pub mod PlainRows

@@ -10,17 +10,18 @@ ghost use Rattle.capnp_wire.specs.Place.{struct_tree};
 ghost use Rattle.capnp_wire.specs.Tree.{Composite, struct_count, tree_count};
 ghost use Rattle.capnp_wire.specs.WellFormed.{AreElements, AreWellFormed, IsWellFormed, IsWellFormedStruct, is_width};
 ghost use Rattle.capnp_wire.specs.Words.{first_fault, first_fault_of_all, first_fault_of_elements};
-ghost use Rattle.capnp_arena.specs.Copies.{Spares};
+ghost use Rattle.capnp_arena.specs.Copies.{ArePlain, Spares};
 ghost use Rattle.capnp_arena.specs.Segment.{segment};
 ghost use Rattle.capnp_arena.specs.Shape.{word_count};
 
 use crate::arena::Arena;
 use crate::spell::{make_list_word, make_struct_word, put_bytes, put_word};
 use capnp_device::error::Result;
-use capnp_wire::block::{Elements, count_elements, count_empty_structs, get_element};
+use capnp_wire::block::{Elements, count_elements, get_element};
 use capnp_wire::bytes::divide;
 use capnp_wire::fault::refuse;
 use capnp_wire::found::{Found, StructParts};
+use capnp_wire::look::bytes_from;
 use capnp_wire::pointer::{Pointer, look};
 use capnp_wire::pointers::{Pointers, count_pointers, get_pointer};
 use capnp_wire::size::StructSize;
@@ -161,8 +162,26 @@ fn append_row(arena: &mut Arena, pointers: Pointers<'_>) -> Result<()>
     Ok(())
 }
 
-/// A composite list: its tag and its elements, and then what their pointers lead to. Of structs of size zero that a message
-/// says by their count there is the tag alone.
+/// The bytes of structs without pointers, where they lie one after another in a message: of such of size zero, which it
+/// says by their count alone, none.
+#[inline(always)]
+fn get_plain_bytes<'a>(size: StructSize, elements: Elements<'a>) -> Option<&'a [u8]>
+    ensures { ArePlain result size (element_structs size.data_words size.pointers elements.entry) }
+{
+    match elements {
+        Elements::Words { count, block, .. } => {
+            if size.pointers != 0 {
+                return None;
+            }
+            let words = count as usize * size.data_words as usize;
+            Some(bytes_from(block.segment, block.first, 8 * words))
+        }
+        Elements::Objects(_) => None,
+    }
+}
+
+/// A composite list: its tag and its elements, and then what their pointers lead to. Elements without pointers are one
+/// run of bytes.
 #[cycle(copy)]
 #[inline(never)]
 fn append_composite(arena: &mut Arena, size: StructSize, elements: Elements<'_>) -> Result<()>
@@ -178,7 +197,8 @@ fn append_composite(arena: &mut Arena, size: StructSize, elements: Elements<'_>)
         size.data_words as u64,
         size.pointers as u64,
     ))?;
-    if let Some(_) = count_empty_structs(size, elements) {
+    if let Some(plain) = get_plain_bytes(size, elements) {
+        arena.append_bytes(plain)?;
         return Ok(());
     }
     let at = arena.count_words();

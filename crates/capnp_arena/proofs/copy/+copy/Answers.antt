@@ -2,7 +2,7 @@ use Rattle.std.proofs.Common.{rules, arith, OnErr, OnOk, ◌++◌, ◌≡◌, �
 use Rattle.std.specs.Prelude.{None}
 use Rattle.std.proofs.lemmas.Result.{err_from_is_err_and}
 use Rattle.capnp_wire.specs.Encoding.{bytes_of, pointer_word, spelled}
-use Rattle.capnp_wire.specs.Facts.EmptyStructs.{first_fault-empty_structs}
+use Rattle.capnp_wire.specs.Facts.EncodedSizes.{length_element_row}
 use Rattle.capnp_wire.specs.Facts.Filling.{composite_last, element_put, row_last}
 use Rattle.capnp_wire.specs.Facts.Parts.{IsWellFormed-nth_tree}
 use Rattle.capnp_wire.specs.Facts.Rows.{IsElement-nth_struct}
@@ -13,10 +13,11 @@ use Rattle.capnp_wire.specs.Measured.{IsElement}
 use Rattle.capnp_wire.specs.Place.{struct_tree}
 use Rattle.capnp_wire.specs.Tree.{StructTree, nth_struct, nth_tree, struct_count, tree_count}
 use Rattle.capnp_wire.specs.WellFormed.{IsWellFormed}
-use Rattle.capnp_wire.specs.Words.{first_fault_of_elements}
 use Rattle.capnp_arena.specs.Copies.{Spares}
 use Rattle.capnp_arena.specs.Shape.{word_count}
-use Rattle.capnp_arena.proofs.Copying.{added_kept, bits_appended, element_kept, empty_appended, kept_then, pointer_kept, pointer_next, pointer_refused, pointer_spared, room_kept, row_filled, row_sound, struct_after, struct_kept, struct_refused, structs_filled, structs_sound}
+use Rattle.capnp_arena.proofs.Copying.{added_kept, bits_appended, element_kept, kept_then, pointer_kept, pointer_next, pointer_refused, pointer_spared, room_kept, row_filled, row_sound, struct_after, struct_kept, struct_refused, structs_filled, structs_sound}
+use Rattle.capnp_arena.proofs.Padding.{padded_whole}
+use Rattle.capnp_arena.proofs.PlainRows.{plain_list}
 use Rattle.capnp_arena.proofs.Shapes.{element_end}
 use Rattle.capnp_arena.proofs.TreeSizes.{nth_struct-smaller, nth_tree-smaller, structs_size, tree_size, trees_size}
 use Rattle.capnp_arena.proofs.copy.+copy.Goals as goal
@@ -54,15 +55,20 @@ append_row-returns-clause-copy t c =
 
 pub append_composite-returns-in-Some-clause-copy : goal.append_composite-returns-in-Some-clause-copy
 append_composite-returns-in-Some-clause-copy t c =
-    let s = c.in-Some.ensures.structs in
-    empty_appended c.args.size.data_words c.args.size.pointers c.count_elements-count.result c.in-Some.field-0 (element_structs c.args.size.data_words c.args.size.pointers c.args.elements) c.args.arena.now.bytes.items _ s.0 s.1 s.2 c.count_elements-count.ensures
+    let row : length c.in-Some.plain.now ≡ 8 * (struct_count (element_structs c.args.size.data_words c.args.size.pointers c.args.elements) * (c.args.size.data_words + c.args.size.pointers)) =
+    ap length (sym (c.in-Some.ensures.own 0)) ∙ length_element_row c.args.size.data_words c.args.size.pointers 0 (element_structs c.args.size.data_words c.args.size.pointers c.args.elements) c.requires.held.4 in
+    plain_list c.args.size.data_words c.args.size.pointers c.count_elements-count.result (element_structs c.args.size.data_words c.args.size.pointers c.args.elements) c.in-Some.plain.now c.args.arena.now.bytes.items c.append_word.new.self.bytes.items _ (sym c.count_elements-count.ensures) c.in-Some.ensures
     (c.in_ok-append_word.ensures.longer ∙ ap (λ w. c.args.arena.now.bytes.items ++ spelled 8 w) c.make_struct_word.ensures)
+    (c.in_ok-append_bytes.ensures.longer ∙ ap (λ z. c.append_word.new.self.bytes.items ++ z) (padded_whole c.in-Some.plain.now _ row))
 
 pub append_composite-returns-in-Some-clause-sound : goal.append_composite-returns-in-Some-clause-sound
-append_composite-returns-in-Some-clause-sound t c = ap first_fault_of_elements c.in-Some.ensures.structs.2 ∙ first_fault-empty_structs c.in-Some.field-0
+append_composite-returns-in-Some-clause-sound t c = c.in-Some.ensures.faults
 
 pub append_composite-returns-in-Some-clause-kept : goal.append_composite-returns-in-Some-clause-kept
-append_composite-returns-in-Some-clause-kept t c = added_kept c.append_word.result _ _ _ c.append_word.ensures.longer c.append_word.ensures.refused
+append_composite-returns-in-Some-clause-kept t c = kept_then _ _ _ (added_kept c.append_word.result _ _ _ c.append_word.ensures.longer c.append_word.ensures.refused) (added_kept c.append_bytes.result _ _ _ c.append_bytes.ensures.longer c.append_bytes.ensures.refused)
+
+pub append_composite-returns-in_err-append_bytes-clause-kept : goal.append_composite-returns-in_err-append_bytes-clause-kept
+append_composite-returns-in_err-append_bytes-clause-kept t c = kept_then _ _ _ (added_kept c.append_word.result _ _ _ c.append_word.ensures.longer c.append_word.ensures.refused) (added_kept c.append_bytes.result _ _ _ c.append_bytes.ensures.longer c.append_bytes.ensures.refused)
 
 pub append_composite-returns-in_err-grow-clause-kept : goal.append_composite-returns-in_err-grow-clause-kept
 append_composite-returns-in_err-grow-clause-kept t c = kept_then _ _ _ (added_kept c.append_word.result _ _ _ c.append_word.ensures.longer c.append_word.ensures.refused) (subst (Spares 0 0 c.append_word.new.self.bytes.items) (sym c.in_err-grow.ensures.refused) (record { longer = omega arith; stays = λ k l o. refl }))
