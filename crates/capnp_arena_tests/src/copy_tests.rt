@@ -57,7 +57,11 @@ fn write_twice(alloc: Global, source: PointerReader<'_>) -> Result<Vec<u8>> {
     write_copied(alloc, arena.as_reader())
 }
 
-fn write_over_text(alloc: Global, source: PointerReader<'_>, is_compacted: bool) -> Result<Vec<u8>> {
+fn write_over_text(
+    alloc: Global,
+    source: PointerReader<'_>,
+    is_compacted: bool,
+) -> Result<Vec<u8>> {
     let mut arena = Arena::new(alloc)?;
     arena.set_text(0, b"before")?;
     arena.copy_from(0, source)?;
@@ -324,7 +328,8 @@ fn contents_are_copied(rt: HostRuntime) {
 }
 
 /// A struct of a word and a pointer with 5 and "a".
-const ONE_EACH: &str = "00 00 00 00 01 00 01 00 | 05 00 00 00 00 00 00 00 | 01 00 00 00 12 00 00 00 | 61 00 00 00 00 00 00 00";
+const ONE_EACH: &str =
+    "00 00 00 00 01 00 01 00 | 05 00 00 00 00 00 00 00 | 01 00 00 00 12 00 00 00 | 61 00 00 00 00 00 00 00";
 
 const ONE_EACH_WRITTEN: &str =
     "00 00 00 00 04 00 00 00 | 00 00 00 00 01 00 01 00 | 05 00 00 00 00 00 00 00 | 01 00 00 00 12 00 00 00 | 61 00 00 00 00 00 00 00";

@@ -49,7 +49,11 @@ const COPIED_BY_TOOL: &str =
 
 /// Whole messages.
 pub static MESSAGES: [Row; 15] = [
-    ("a null", "00 00 00 00 01 00 00 00 | 0", "00 00 00 00 01 00 00 00 | 0"),
+    (
+        "a null",
+        "00 00 00 00 01 00 00 00 | 0",
+        "00 00 00 00 01 00 00 00 | 0",
+    ),
     ("a struct", WHOLE, WHOLE),
     ("a struct with a text", WITH_TEXT, WITH_TEXT),
     (
@@ -62,7 +66,11 @@ pub static MESSAGES: [Row; 15] = [
         "01 00 00 00 01 00 00 00 | 02 00 00 00 00 00 00 00 | 02 00 00 00 01 00 00 00 | 00 00 00 00 01 00 00 00 | 05 00 00 00 00 00 00 00",
         "00 00 00 00 02 00 00 00 | 00 00 00 00 01 00 00 00 | 05 00 00 00 00 00 00 00",
     ),
-    ("targets come in the order of their pointers", NESTED, NESTED),
+    (
+        "targets come in the order of their pointers",
+        NESTED,
+        NESTED,
+    ),
     (
         "also where they lay in another",
         "00 00 00 00 06 00 00 00 | 00 00 00 00 00 00 02 00 | 08 00 00 00 00 00 01 00 | 01 00 00 00 12 00 00 00 | 62 00 00 00 00 00 00 00 | 01 00 00 00 12 00 00 00 | 61 00 00 00 00 00 00 00",
