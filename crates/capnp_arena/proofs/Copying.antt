@@ -1,26 +1,24 @@
 -- Rows as a loop copies them: what it has made, and what it has left.
-use Rattle.std.proofs.Common.{◌≡◌, ℕ, zero, suc, ◌+◌, ◌-◌, ◌*◌, ◌/◌, ◌<◌, ◌≤◌, ◌⊎◌, inl, inr, List, [], ◌++◌, length, take, drop, refl, sym, ap, subst, ◌∙◌, arith}
+use Rattle.std.proofs.Common.{◌≡◌, ℕ, zero, suc, ◌+◌, ◌-◌, ◌*◌, ◌<◌, ◌≤◌, ◌⊎◌, inl, inr, List, ◌++◌, length, take, drop, refl, sym, ap, subst, ◌∙◌, arith}
 use Rattle.std.specs.Prelude.{Err, Ok, OnErr, OnOk, Option, Result, Some, None, ⊤, option_map}
-use Rattle.std.proofs.lemmas.List.{append_assoc, append-nil, drop-append-le, length-append, length-take-le, take-append-le}
+use Rattle.std.proofs.lemmas.List.{append-nil, length-append}
 use Rattle.capnp_device.specs.declared.error.Error.{Error}
 use Rattle.capnp_device.specs.declared.error.ErrorKind.{ErrorKind}
 use Rattle.capnp_wire.specs.Edits.{IsCopyRefusal}
-use Rattle.capnp_wire.specs.Encoding.{bytes_below_all, bytes_of, bytes_of_all, element_row, packed, pointer_row, pointer_word, spelled, struct_word}
+use Rattle.capnp_wire.specs.Encoding.{bytes_below_all, bytes_of, bytes_of_all, element_row, packed, pointer_row, pointer_word, spelled}
 use Rattle.capnp_wire.specs.Facts.Bytes.{length_spelled}
-use Rattle.capnp_wire.specs.Facts.EmptyStructs.{struct_count-empty_structs}
 use Rattle.capnp_wire.specs.Facts.Indexed.{length-bits_from}
 use Rattle.capnp_wire.specs.Facts.EncodedSizes.{length_bytes_of, length_bytes_of_all, length_element, length_element_row, length_pointer_row}
-use Rattle.capnp_wire.specs.Facts.Filling.{empty_structs_spelled, length_put, put_next}
+use Rattle.capnp_wire.specs.Facts.Filling.{length_put, put_next}
 use Rattle.capnp_wire.specs.Filling.{elements_end, put, row_end, with_encoded_element, with_encoded_elements, with_pointers, words_from}
 use Rattle.capnp_wire.specs.Locate.{list_words}
 use Rattle.capnp_wire.specs.Place.{bits_from}
 use Rattle.capnp_wire.specs.Reading.{refusal}
-use Rattle.capnp_wire.specs.Tree.{Bits, Composite, MoreStructs, MoreTrees, NoStructs, NoTrees, StructTree, Structs, Tree, Trees, empty_structs, nth_struct, nth_tree, struct_count, tree_count}
-use Rattle.capnp_wire.specs.WellFormed.{AreElements, AreWellFormed, IsWellFormed}
+use Rattle.capnp_wire.specs.Tree.{Bits, MoreStructs, MoreTrees, NoStructs, NoTrees, StructTree, Structs, Tree, Trees, nth_struct, nth_tree, struct_count, tree_count}
+use Rattle.capnp_wire.specs.WellFormed.{AreElements, AreWellFormed}
 use Rattle.capnp_wire.specs.Words.{first_fault, first_fault_of_all, first_fault_of_elements, first_of, words_of, words_of_all}
 use Rattle.capnp_wire.specs.declared.fault.Fault.{Fault}
 use Rattle.capnp_arena.specs.Copies.{Spares}
-use Rattle.capnp_arena.specs.Forest.{IsSame}
 use Rattle.capnp_arena.specs.Shape.{word_count}
 use Rattle.capnp_arena.proofs.Encodings.{no_elements, no_pointers}
 use Rattle.capnp_arena.proofs.Puts.{longer_same, put_before, put_behind}

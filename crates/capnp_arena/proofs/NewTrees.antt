@@ -1,6 +1,6 @@
 -- A tree whose encoding was added at the end, with the pointer to it, stands there.
-use Rattle.std.proofs.Common.{◌≡◌, ℕ, suc, ◌+◌, ◌-◌, ◌*◌, ◌^◌, ◌<◌, ◌≤◌, inr, refl, sym, ap, subst, ◌∙◌, arith, List, [], ◌++◌, length, take, drop, Option, None}
-use Rattle.std.proofs.lemmas.List.{append-nil, drop_at, length-append, take-append-drop, take_all, take_at}
+use Rattle.std.proofs.Common.{◌≡◌, ℕ, suc, ◌+◌, ◌-◌, ◌*◌, ◌^◌, ◌<◌, ◌≤◌, inr, refl, sym, ap, ◌∙◌, arith, List, ◌++◌, length, take, drop, None}
+use Rattle.std.proofs.lemmas.List.{drop_at, length-append, take-append-drop, take_all, take_at}
 use Rattle.capnp_wire.specs.Encoding.{bytes_of, encoding_of, pointer_word, spelled}
 use Rattle.capnp_wire.specs.Facts.Bytes.{length_spelled}
 use Rattle.capnp_wire.specs.Facts.EncodedSizes.{length_bytes_of}
@@ -13,7 +13,7 @@ use Rattle.capnp_wire.specs.Filling.{put}
 use Rattle.capnp_arena.specs.Copies.{Spares}
 use Rattle.capnp_arena.specs.Made.{IsMade}
 use Rattle.capnp_arena.specs.Shape.{IsWordAt, word_count}
-use Rattle.capnp_arena.specs.Forest.{Changes, Forest, Owns, tree}
+use Rattle.capnp_arena.specs.Forest.{Changes, Forest, tree}
 use Rattle.capnp_arena.proofs.EncodedForests.{IsTreeIn, tree_stands}
 use Rattle.capnp_arena.proofs.Words.{run_same}
 use Rattle.capnp_arena.proofs.Made.{made_added, made_length, made_longer, made_same, made_word}

@@ -1,9 +1,9 @@
 -- A struct in its place, replaced by another one of its size.
-use Rattle.std.proofs.Common.{◌≡◌, ℕ, zero, suc, ◌+◌, ◌-◌, ◌*◌, ◌/◌, ◌^◌, ◌<◌, ◌≤◌, ◌⊎◌, inl, inr, refl, sym, ap, subst, ◌∙◌, arith, List, [], ◌++◌, length, take, drop, replicate, min}
+use Rattle.std.proofs.Common.{◌≡◌, ℕ, zero, suc, ◌+◌, ◌-◌, ◌*◌, ◌^◌, ◌<◌, ◌≤◌, inl, inr, refl, sym, ap, ◌∙◌, arith, List, [], ◌++◌, length, take, drop, replicate}
 use Rattle.std.specs.Prelude.{Option, None, Some}
 use Rattle.std.proofs.lemmas.List.{append-nil, drop-take, length-append, length-drop, length-replicate, length-take-le, drop-drop, take-append-drop, take-take, take_all}
 use Rattle.capnp_device.specs.declared.error.Error.{Error}
-use Rattle.capnp_wire.specs.Edits.{IsCopyRefusal, append_trees, first_trees, fitted, nulls}
+use Rattle.capnp_wire.specs.Edits.{IsCopyRefusal, append_trees, first_trees, nulls}
 use Rattle.capnp_wire.specs.Encoding.{bytes_of_all, pointer_row}
 use Rattle.capnp_wire.specs.Facts.EncodedSizes.{length_bytes_of_all, length_element}
 use Rattle.capnp_wire.specs.Facts.Filling.{length_put, put_next}
@@ -17,10 +17,10 @@ use Rattle.capnp_wire.specs.WellFormed.{AreWellFormed}
 use Rattle.capnp_wire.specs.Words.{first_fault, first_fault_of_all, first_of, words_of_all}
 use Rattle.capnp_wire.specs.declared.fault.Fault.{Fault}
 use Rattle.capnp_arena.specs.Copies.{Spares, fitted_row}
-use Rattle.capnp_arena.specs.Forest.{Forest, IsSame, Owns, PartChanges, Planted, struct_from, tree}
-use Rattle.capnp_arena.specs.Shape.{IsPointerOf, IsWithin, StructIn, word_count}
+use Rattle.capnp_arena.specs.Forest.{PartChanges, Planted, struct_from, tree}
+use Rattle.capnp_arena.specs.Shape.{StructIn, word_count}
 use Rattle.capnp_arena.proofs.Copying.{first_none, first_refused, spares_append, spares_put, spares_then, trees_after, trees_after-end}
-use Rattle.capnp_arena.proofs.EncodedForests.{Apart, AreTreesIn, trees_stand}
+use Rattle.capnp_arena.proofs.EncodedForests.{AreTreesIn, trees_stand}
 use Rattle.capnp_arena.proofs.NewTrees.{stands_part}
 use Rattle.capnp_arena.proofs.Puts.{added_there, longer_same, put_there}
 use Rattle.capnp_arena.proofs.Structs.{two_parts}

@@ -4,7 +4,7 @@ use Rattle.capnp_arena.proofs.Laws.{in_struct, struct_planted}
 use Rattle.capnp_arena.proofs.callers.refill.Goals as goal
 
 pub copy_content_from-requires : goal.copy_content_from-requires
-copy_content_from-requires c = struct_planted _ _ _ _ _ c.requires.forest c.requires.there
+copy_content_from-requires c = record { planted = struct_planted _ _ _ _ _ c.requires.forest c.requires.there }
 
 pub returns-clause-forest : goal.returns-clause-forest
 returns-clause-forest c = (in_struct _ _ _ _ _ _ c.requires.forest c.requires.there c.in_ok-copy_content_from.ensures.planted c.in_ok-copy_content_from.ensures.changes).forest

@@ -1,4 +1,4 @@
-use Rattle.std.proofs.Common.{arith, ◌≡◌, ◌++◌, ◌∙◌, ap}
+use Rattle.std.proofs.Common.{arith, ◌++◌, ◌∙◌, ap}
 use Rattle.capnp_wire.specs.Encoding.{encoding_of}
 use Rattle.capnp_wire.specs.Facts.Bytes.{AreBytes-fits}
 use Rattle.capnp_arena.specs.Forest.{tree}

@@ -1,8 +1,8 @@
-use Rattle.std.proofs.Common.{arith, ◌≡◌, ◌+◌, ◌<◌, ◌≤◌, refl, sym, ap, subst, ◌∙◌}
+use Rattle.std.proofs.Common.{arith, ◌≡◌, sym, subst, ◌∙◌}
 use Rattle.std.proofs.lemmas.Result.{err_from_is_err_and}
 use Rattle.capnp_wire.specs.Facts.Parts.{IsWellFormed-nth_tree}
 use Rattle.capnp_wire.specs.Found.{pointer_tree, pointer_trees}
-use Rattle.capnp_wire.specs.Tree.{nth_tree, tree_count}
+use Rattle.capnp_wire.specs.Tree.{nth_tree}
 use Rattle.capnp_wire.specs.WellFormed.{IsWellFormed}
 use Rattle.capnp_arena.specs.Copies.{Spares, fitted_row}
 use Rattle.capnp_arena.proofs.Copying.{pointer_kept, pointer_next, pointer_refused, row_begins, row_filled, row_sound}

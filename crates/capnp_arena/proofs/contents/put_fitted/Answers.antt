@@ -1,5 +1,4 @@
-use Rattle.std.proofs.Common.{rules, arith, ◌≡◌, ◌∙◌, take, ap}
-use Rattle.capnp_wire.specs.Filling.{put}
+use Rattle.std.proofs.Common.{arith}
 use Rattle.capnp_arena.proofs.Replaced.{put_all_of, put_some_of}
 use Rattle.capnp_arena.proofs.contents.put_fitted.Goals as goal
 

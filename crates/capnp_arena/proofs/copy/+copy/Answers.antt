@@ -1,25 +1,22 @@
-use Rattle.std.proofs.Common.{rules, arith, OnErr, OnOk, ◌++◌, ◌≡◌, ◌+◌, ◌-◌, ◌*◌, ◌/◌, ◌<◌, ◌≤◌, ◌^◌, suc, length, refl, sym, ap, subst, ◌∙◌}
-use Rattle.std.specs.Prelude.{None}
+use Rattle.std.proofs.Common.{arith, OnOk, ◌++◌, ◌≡◌, ◌+◌, ◌*◌, ◌/◌, ◌<◌, ◌≤◌, length, refl, sym, ap, subst, ◌∙◌}
 use Rattle.std.proofs.lemmas.Result.{err_from_is_err_and}
-use Rattle.capnp_wire.specs.Encoding.{bytes_of, pointer_word, spelled}
+use Rattle.capnp_wire.specs.Encoding.{bytes_of, spelled}
 use Rattle.capnp_wire.specs.Facts.EncodedSizes.{length_element_row}
 use Rattle.capnp_wire.specs.Facts.Filling.{composite_last, element_put, row_last}
 use Rattle.capnp_wire.specs.Facts.Parts.{IsWellFormed-nth_tree}
 use Rattle.capnp_wire.specs.Facts.Rows.{IsElement-nth_struct}
 use Rattle.capnp_wire.specs.Facts.Structs.{IsWellFormed-element}
-use Rattle.capnp_wire.specs.Filling.{put, with_pointers}
+use Rattle.capnp_wire.specs.Filling.{with_pointers}
 use Rattle.capnp_wire.specs.Found.{element_structs, found_tree, parts_tree, pointer_tree, pointer_trees}
 use Rattle.capnp_wire.specs.Measured.{IsElement}
-use Rattle.capnp_wire.specs.Place.{struct_tree}
 use Rattle.capnp_wire.specs.Tree.{StructTree, nth_struct, nth_tree, struct_count, tree_count}
 use Rattle.capnp_wire.specs.WellFormed.{IsWellFormed}
 use Rattle.capnp_arena.specs.Copies.{Spares}
-use Rattle.capnp_arena.specs.Shape.{word_count}
 use Rattle.capnp_arena.proofs.Copying.{added_kept, bits_appended, element_kept, kept_then, pointer_kept, pointer_next, pointer_refused, pointer_spared, room_kept, row_filled, row_sound, struct_after, struct_kept, struct_refused, structs_filled, structs_sound}
 use Rattle.capnp_arena.proofs.Padding.{padded_whole}
 use Rattle.capnp_arena.proofs.PlainRows.{plain_list}
 use Rattle.capnp_arena.proofs.Shapes.{element_end}
-use Rattle.capnp_arena.proofs.TreeSizes.{nth_struct-smaller, nth_tree-smaller, structs_size, tree_size, trees_size}
+use Rattle.capnp_arena.proofs.TreeSizes.{nth_struct-smaller, nth_tree-smaller, tree_size, trees_size}
 use Rattle.capnp_arena.proofs.copy.+copy.Goals as goal
 
 -- ---- objects ----

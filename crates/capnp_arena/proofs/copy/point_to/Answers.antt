@@ -1,9 +1,8 @@
-use Rattle.std.proofs.Common.{arith, ◌≡◌, ◌<◌, ◌^◌, length, sym, ap, subst, ◌∙◌}
+use Rattle.std.proofs.Common.{arith, ◌<◌, ◌^◌, length, sym, ap, subst, ◌∙◌}
 use Rattle.capnp_wire.specs.Encoding.{list_word, pointer_word}
 use Rattle.capnp_wire.specs.Facts.Indexed.{length-bits_from}
 use Rattle.capnp_wire.specs.Found.{found_tree}
 use Rattle.capnp_wire.specs.Place.{bits_from}
-use Rattle.capnp_wire.specs.Tree.{Bits}
 use Rattle.capnp_wire.specs.WellFormed.{IsWellFormed}
 use Rattle.capnp_arena.proofs.copy.point_to.Goals as goal
 

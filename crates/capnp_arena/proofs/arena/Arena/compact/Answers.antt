@@ -1,5 +1,4 @@
-use Rattle.std.proofs.Common.{arith, ◌≡◌, ◌+◌, ◌*◌, ◌/◌, ◌<◌, ◌^◌, ℕ, List, suc, length, sym, ap, subst, ◌∙◌}
-use Rattle.std.specs.Prelude.{None}
+use Rattle.std.proofs.Common.{arith, ◌≡◌, ◌*◌, ◌<◌, ◌^◌, ℕ, List, suc, length, sym, ap, subst, ◌∙◌}
 use Rattle.capnp_wire.specs.Encoding.{encoding_of}
 use Rattle.capnp_wire.specs.Facts.EncodedSizes.{length_encoding}
 use Rattle.capnp_wire.specs.WellFormed.{IsWellFormed}

@@ -1,4 +1,4 @@
-use Rattle.std.proofs.Common.{◌≡◌, ◌∙◌}
+use Rattle.std.proofs.Common.{◌∙◌}
 use Rattle.capnp_wire.specs.Found.{found_tree}
 use Rattle.capnp_arena.proofs.NewTrees.{copy_is_made, cut_back}
 use Rattle.capnp_arena.proofs.arena.Arena.copy_found.Goals as goal

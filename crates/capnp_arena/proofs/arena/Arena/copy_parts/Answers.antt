@@ -1,4 +1,4 @@
-use Rattle.std.proofs.Common.{◌≡◌, ◌∙◌}
+use Rattle.std.proofs.Common.{◌∙◌}
 use Rattle.capnp_wire.specs.Edits.{rounded}
 use Rattle.capnp_wire.specs.Facts.Structs.{copied_struct_is_well_formed}
 use Rattle.capnp_wire.specs.Found.{parts_tree}

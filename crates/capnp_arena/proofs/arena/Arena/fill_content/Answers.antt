@@ -1,4 +1,4 @@
-use Rattle.std.proofs.Common.{rules, arith, ◌≡◌, ◌+◌, ◌*◌, ◌≤◌, length, sym, ap, subst, ◌∙◌, take}
+use Rattle.std.proofs.Common.{arith, ◌≡◌, ◌+◌, ◌*◌, length, ap, ◌∙◌}
 use Rattle.capnp_wire.specs.Edits.{fitted}
 use Rattle.capnp_wire.specs.Facts.Filling.{element_put}
 use Rattle.capnp_wire.specs.Facts.Structs.{length-fitted, tree_count-fitted}

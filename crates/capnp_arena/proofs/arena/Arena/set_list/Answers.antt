@@ -1,6 +1,5 @@
-use Rattle.std.proofs.Common.{◌≡◌, sym, ap, subst, ◌∙◌}
+use Rattle.std.proofs.Common.{sym, subst, ◌∙◌}
 use Rattle.capnp_wire.specs.Found.{found_tree}
-use Rattle.capnp_wire.specs.Standing.{list_of, tree_of}
 use Rattle.capnp_wire.specs.WellFormed.{IsWellFormed}
 use Rattle.capnp_arena.proofs.NewTrees.{tree_made}
 use Rattle.capnp_arena.proofs.arena.Arena.set_list.Goals as goal

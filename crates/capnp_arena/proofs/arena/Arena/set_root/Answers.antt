@@ -1,4 +1,4 @@
-use Rattle.std.proofs.Common.{◌≡◌, sym, ap, subst, ◌∙◌}
+use Rattle.std.proofs.Common.{sym, ap, subst, ◌∙◌}
 use Rattle.capnp_wire.specs.Encoding.{encoding_of}
 use Rattle.capnp_wire.specs.Found.{found_tree}
 use Rattle.capnp_wire.specs.WellFormed.{IsWellFormed}
