@@ -17,3 +17,10 @@ pub mod Encodings
 pub mod Whole
 pub mod Shallow
 pub mod WrittenLists
+pub mod EncodedForests
+pub mod NewTrees
+pub mod Padding
+pub mod TreeSizes
+pub mod Copying
+pub mod Replaced
+pub mod PlainRows

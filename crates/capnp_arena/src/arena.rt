@@ -110,6 +110,7 @@ impl Arena {
         ensures inside { IfOk result (λ arena. 0 < word_count (segment arena)) }
         ensures forest { IfOk result (λ arena. Forest (segment arena) 0) }
         ensures null { IfOk result (λ arena. tree (segment arena) 0 ≡ Null) }
+        ensures alone { IfOk result (λ arena. length (segment arena) ≡ 8) }
         ensures kind { IfErr result (λ e. e.kind ≡ OutOfMemory) }
     {
         let bytes = vec![in alloc; 0u8; 8]?;
@@ -119,7 +120,7 @@ impl Arena {
     /// So many words of zeros at the end.
     ///
     /// Refused with `OutOfMemory`, also where there would be 2^29 words; then nothing has changed.
-    fn grow(&mut self, words: usize) -> Result<()>
+    pub(crate) fn grow(&mut self, words: usize) -> Result<()>
         requires { words < 2 ^ 32 }
         ensures longer { IfOk result (λ _. segment self.new ≡ segment self.old ++ replicate (8 * words) 0) }
         ensures few { IfOk result (λ _. word_count (segment self.old) + words < 2 ^ 29) }

@@ -4,8 +4,13 @@
 mod append;
 pub mod arena;
 pub mod callers;
+mod compact;
+mod contents;
+pub mod copies;
+mod copy;
 mod count;
 mod encode;
+mod extend;
 pub mod lists;
 mod look;
 mod message;
