@@ -24,3 +24,4 @@ pub mod TreeSizes
 pub mod Copying
 pub mod Replaced
 pub mod PlainRows
+pub mod LaidOut

@@ -8,7 +8,7 @@ use Rattle.capnp_wire.specs.Tree.{Composite, Structs, Tree, struct_count, struct
 use Rattle.capnp_arena.specs.Copies.{IsPlain}
 
 -- two parts, one after the other
-joined : (x : List ℕ) (a d n : ℕ) → bytes_at x a (8 * d) ++ bytes_at x (a + d) n ≡ bytes_at x a (8 * d + n)
+pub joined : (x : List ℕ) (a d n : ℕ) → bytes_at x a (8 * d) ++ bytes_at x (a + d) n ≡ bytes_at x a (8 * d + n)
 joined x a d n =
     ap (λ k. bytes_at x a (8 * d) ++ take n (drop k x)) {x = 8 * (a + d)} {y = 8 * a + 8 * d} (omega arith)
     ∙ ap (λ z. bytes_at x a (8 * d) ++ take n z) (sym (drop-drop (8 * d) (8 * a) x))

@@ -47,7 +47,7 @@ pub fn append_padded(out: &mut Vec<u8>, bytes: &[u8]) -> Appended
 }
 
 /// Byte `k` of `count` bits, without what lies past them.
-fn get_bits(bits: &[u8], count: u32, k: usize) -> u8
+pub fn get_bits(bits: &[u8], count: u32, k: usize) -> u8
     ensures { result ≡ bits_number (take 8 (drop (8 * k) (bits_from bits.now 0 count))) }
 {
     let byte = if k < bits.len() { bits[k] } else { 0 };

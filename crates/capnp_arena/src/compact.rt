@@ -11,17 +11,23 @@ use crate::append::{Appended, append_word};
 use crate::arena::Arena;
 use crate::count::count_words;
 use crate::encode::{append_tree, make_pointer};
+use crate::in_order::is_in_order;
 use crate::target::look;
 use capnp_device::error::{Error, ErrorKind, Result};
 use std::alloc::Global;
 
-/// The root pointer, and what it leads to.
-fn append_encoding(out: &mut Vec<u8>, bytes: &[u8]) -> Appended
+/// The root pointer, and what it leads to: the segment as it is, where it is that already.
+pub fn append_encoding(out: &mut Vec<u8>, bytes: &[u8]) -> Appended
     requires forest { Forest bytes.now 0 }
     requires few { word_count bytes.now < 2 ^ 29 }
+    requires whole { length bytes.now ≡ 8 * word_count bytes.now }
     requires small { words_of (tree bytes.now 0) < 2 ^ 29 }
     ensures { IfOk result (λ _. out.new.items ≡ out.old.items ++ encoding_of (tree bytes.now 0)) }
 {
+    if is_in_order(bytes) {
+        out.extend_from_slice(bytes)?;
+        return Ok(());
+    }
     append_word(out, make_pointer(0, look(bytes, 0)))?;
     append_tree(out, bytes, 0)?;
     Ok(())
@@ -33,6 +39,7 @@ fn append_encoding(out: &mut Vec<u8>, bytes: &[u8]) -> Appended
 fn encode(alloc: Global, bytes: &[u8]) -> Result<Vec<u8>>
     requires forest { Forest bytes.now 0 }
     requires few { word_count bytes.now < 2 ^ 29 }
+    requires whole { length bytes.now ≡ 8 * word_count bytes.now }
     ensures bytes { IfOk result (λ v. v.items ≡ encoding_of (tree bytes.now 0)) }
     ensures held { IfOk result (λ _. IsWellFormed (tree bytes.now 0) × (suc (words_of (tree bytes.now 0)) < 2 ^ 29)) }
     ensures kind { IfErr result (λ e. e.kind ≡ OutOfMemory) }

@@ -11,6 +11,7 @@ mod copy;
 mod count;
 mod encode;
 mod extend;
+mod in_order;
 pub mod lists;
 mod look;
 mod message;

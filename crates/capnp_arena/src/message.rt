@@ -6,25 +6,24 @@ ghost use Rattle.capnp_wire.specs.Words.{words_of};
 ghost use Rattle.capnp_arena.specs.Forest.{Forest, tree};
 ghost use Rattle.capnp_arena.specs.Shape.{word_count};
 
-use crate::append::{Appended, append_half, append_word};
+use crate::append::{Appended, append_half};
 use crate::arena::Arena;
+use crate::compact::append_encoding;
 use crate::count::count_words;
-use crate::encode::{append_tree, make_pointer};
-use crate::target::look;
 use capnp_device::error::{Error, ErrorKind, Result};
 
 /// The table of one segment of so many words and a root pointer, the pointer, and what it leads to.
 fn append_message(out: &mut Vec<u8>, bytes: &[u8], words: u32) -> Appended
     requires forest { Forest bytes.now 0 }
     requires few { word_count bytes.now < 2 ^ 29 }
+    requires whole { length bytes.now ≡ 8 * word_count bytes.now }
     requires size { (words ≡ words_of (tree bytes.now 0)) × (suc words < 2 ^ 29) }
     ensures bytes { IfOk result (λ _. out.new.items ≡ out.old.items ++ message_of (tree bytes.now 0)) }
     ensures held { IfOk result (λ _. IsWellFormed (tree bytes.now 0)) }
 {
     append_half(out, 0)?;
     append_half(out, words + 1)?;
-    append_word(out, make_pointer(0, look(bytes, 0)))?;
-    append_tree(out, bytes, 0)?;
+    append_encoding(out, bytes)?;
     Ok(())
 }
 

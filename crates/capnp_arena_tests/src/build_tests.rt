@@ -60,18 +60,21 @@ const ONE_EACH: StructSize = StructSize {
     pointers: 1,
 };
 
-fn build_struct(mut arena: Arena) -> Result<Vec<u8>> {
+fn build_struct(alloc: Global) -> Result<Vec<u8>> {
+    let mut arena = Arena::new(alloc)?;
     arena.init_struct(0, ONE_EACH)?;
     arena.write_message()
 }
 
-fn build_cleared(mut arena: Arena) -> Result<Vec<u8>> {
+fn build_cleared(alloc: Global) -> Result<Vec<u8>> {
+    let mut arena = Arena::new(alloc)?;
     arena.init_struct(0, ONE_EACH)?;
     arena.clear(0);
     arena.write_message()
 }
 
-fn build_numbers(mut arena: Arena) -> Result<Vec<u8>> {
+fn build_numbers(alloc: Global) -> Result<Vec<u8>> {
+    let mut arena = Arena::new(alloc)?;
     let start = arena.init_list(0, ElementSize::TwoBytes, 3)?;
     let list = ListPlace {
         start,
@@ -82,12 +85,14 @@ fn build_numbers(mut arena: Arena) -> Result<Vec<u8>> {
     arena.write_message()
 }
 
-fn build_bits(mut arena: Arena) -> Result<Vec<u8>> {
+fn build_bits(alloc: Global) -> Result<Vec<u8>> {
+    let mut arena = Arena::new(alloc)?;
     arena.init_list(0, ElementSize::Bit, 3)?;
     arena.write_message()
 }
 
-fn build_structs(mut arena: Arena) -> Result<Vec<u8>> {
+fn build_structs(alloc: Global) -> Result<Vec<u8>> {
+    let mut arena = Arena::new(alloc)?;
     let tag = arena.init_struct_list(0, 2, ONE_EACH)?;
     let list = StructsPlace {
         tag,
@@ -99,39 +104,45 @@ fn build_structs(mut arena: Arena) -> Result<Vec<u8>> {
     arena.write_message()
 }
 
-fn build_nested(mut arena: Arena) -> Result<Vec<u8>> {
+fn build_nested(alloc: Global) -> Result<Vec<u8>> {
+    let mut arena = Arena::new(alloc)?;
     let place = arena.init_struct(0, ONE_EACH)?;
     init_and_set::<u8>(&mut arena, 0, place, 0, ONE_EACH, 1, 9)?;
     arena.write_message()
 }
 
-fn build_data(mut arena: Arena) -> Result<Vec<u8>> {
+fn build_data(alloc: Global) -> Result<Vec<u8>> {
+    let mut arena = Arena::new(alloc)?;
     arena.set_data(0, &[1, 2, 3])?;
     arena.write_message()
 }
 
-fn build_text(mut arena: Arena) -> Result<Vec<u8>> {
+fn build_text(alloc: Global) -> Result<Vec<u8>> {
+    let mut arena = Arena::new(alloc)?;
     arena.set_text(0, b"hi")?;
     arena.write_message()
 }
 
-fn build(arena: Arena, built: Built) -> Result<Vec<u8>> {
+fn build_nothing(alloc: Global) -> Result<Vec<u8>> {
+    Arena::new(alloc)?.write_message()
+}
+
+fn build(alloc: Global, built: Built) -> Result<Vec<u8>> {
     match built {
-        Built::Nothing => arena.write_message(),
-        Built::Cleared => build_cleared(arena),
-        Built::Struct => build_struct(arena),
-        Built::Nested => build_nested(arena),
-        Built::Numbers => build_numbers(arena),
-        Built::Bits => build_bits(arena),
-        Built::Structs => build_structs(arena),
-        Built::Data => build_data(arena),
-        Built::Text => build_text(arena),
+        Built::Nothing => build_nothing(alloc),
+        Built::Cleared => build_cleared(alloc),
+        Built::Struct => build_struct(alloc),
+        Built::Nested => build_nested(alloc),
+        Built::Numbers => build_numbers(alloc),
+        Built::Bits => build_bits(alloc),
+        Built::Structs => build_structs(alloc),
+        Built::Data => build_data(alloc),
+        Built::Text => build_text(alloc),
     }
 }
 
 fn is_built(alloc: Global, built: Built, text: &str) -> Result<bool> {
-    let arena = Arena::new(alloc)?;
-    is_spelled(alloc, &build(arena, built)?, text)
+    is_spelled(alloc, &build(alloc, built)?, text)
 }
 
 #[test]

@@ -1,10 +1,13 @@
-use Rattle.std.proofs.Common.{◌≡◌, ◌++◌, ◌∙◌, ap}
+use Rattle.std.proofs.Common.{◌≡◌, ◌++◌, ◌∙◌, ap, refl}
 use Rattle.capnp_wire.specs.Encoding.{pointer_word, spelled}
 use Rattle.capnp_wire.specs.Facts.Appending.{append_two}
 use Rattle.capnp_arena.specs.Encoded.{pointer_to}
 use Rattle.capnp_arena.specs.Forest.{tree}
 use Rattle.capnp_arena.proofs.Encodings.{pointer_is}
 use Rattle.capnp_arena.proofs.compact.append_encoding.Goals as goal
+
+pub returns-then-is_in_order : goal.returns-then-is_in_order
+returns-then-is_in_order c = c.in_ok-extend_from_slice.ensures.items ∙ ap (λ z. c.args.out.now.items ++ z) (c.if-is_in_order.ensures refl)
 
 pub returns : goal.returns
 returns c =

@@ -1,0 +1,213 @@
+//! Whether a segment is the encoding of its message already: each target lies where the one before it ends, with zeros
+//! behind its last element, and no word is left over.
+ghost use Rattle.std.specs.Prelude.{IsTrue, drop, replicate, take, ◌*◌, ◌+◌, ◌-◌, ◌/◌, ◌<◌, ◌^◌, ◌≡◌, ◌≤◌, length};
+ghost use Rattle.capnp_wire.specs.Encoding.{encoding_of, own_bytes, packed, padded};
+ghost use Rattle.capnp_wire.specs.Locate.{list_words};
+ghost use Rattle.capnp_wire.specs.Place.{bits_from, bytes_at, list_tree};
+ghost use Rattle.capnp_arena.specs.Counts.{AreElementForests, AreForests};
+ghost use Rattle.capnp_arena.specs.Forest.{Forest, tree};
+ghost use Rattle.capnp_arena.specs.InOrder.{AreLaid, IfKnown, IsLaid, IsRowLaid};
+ghost use Rattle.capnp_arena.specs.Shape.{word_count};
+
+use crate::append::{get_bits, get_part};
+use crate::look::Target;
+use crate::target::look;
+
+/// Whether bytes are zero.
+fn are_zeros(bytes: &[u8]) -> bool
+    ensures { IsTrue result → bytes.now ≡ replicate (length bytes.now) 0 }
+{
+    for i in 0..bytes.len() {
+        if bytes[i] != 0 {
+            return false;
+        }
+    }
+    true
+}
+
+/// Whether bytes are those that hold so many bits.
+fn are_packed(bytes: &[u8], count: u32) -> bool
+    ensures { IsTrue result → packed (length bytes.now) (bits_from bytes.now 0 count) ≡ bytes.now }
+{
+    for k in 0..bytes.len() {
+        if bytes[k] != get_bits(bytes, count, k) {
+            return false;
+        }
+    }
+    true
+}
+
+/// What lies behind so many bytes that start at a word, up to so many words.
+#[inline(always)]
+fn get_behind(bytes: &[u8], start: usize, count: usize, words: usize) -> &[u8]
+    requires inside { 8 * start + 8 * words ≤ length bytes.now }
+    requires fits { count ≤ 8 * words }
+    ensures part { result.now ≡ take (8 * words - count) (drop (8 * start + count) bytes.now) }
+    ensures long { length result.now ≡ 8 * words - count }
+{
+    &bytes[8 * start + count..8 * start + 8 * words]
+}
+
+/// Where so many bytes end that start at a word, if they have zeros behind them up to a whole word.
+#[inline(always)]
+fn end_of_bytes(bytes: &[u8], start: usize, count: usize) -> Option<usize>
+    requires inside { start + (count + 7) / 8 ≤ word_count bytes.now }
+    ensures { IfKnown result (λ next. (next ≡ start + (count + 7) / 8) × (bytes_at bytes.now start (8 * (next - start)) ≡ padded (bytes_at bytes.now start count))) }
+{
+    let words = count.div_ceil(8);
+    if are_zeros(get_behind(bytes, start, count, words)) {
+        Some(start + words)
+    } else {
+        None
+    }
+}
+
+/// Where a list of bits or numbers, or of nothing, ends that starts at a word.
+fn end_of_plain(bytes: &[u8], start: usize, element_size: u8, count: u32) -> Option<usize>
+    requires plain { element_size < 6 }
+    requires few { (count < 2 ^ 29) × (start < 2 ^ 30) }
+    requires inside { start + list_words element_size count ≤ word_count bytes.now }
+    ensures { IfKnown result (λ next. (start ≤ next) × (next ≤ word_count bytes.now) × (bytes_at bytes.now start (8 * (next - start)) ≡ own_bytes (list_tree (tree bytes.now) bytes.now start element_size count))) }
+{
+    let number = count as usize;
+    if element_size == 0 {
+        Some(start)
+    } else if element_size == 1 {
+        let words = (number + 63) / 64;
+        if are_packed(get_part(bytes, start, 8 * words), count) {
+            Some(start + words)
+        } else {
+            None
+        }
+    } else if element_size == 2 {
+        end_of_bytes(bytes, start, number)
+    } else if element_size == 3 {
+        end_of_bytes(bytes, start, 2 * number)
+    } else if element_size == 4 {
+        end_of_bytes(bytes, start, 4 * number)
+    } else {
+        end_of_bytes(bytes, start, 8 * number)
+    }
+}
+
+/// Where all ends that the pointer at a word leads to, if it starts at `end` and lies in order.
+#[cycle(order)]
+fn follow(bytes: &[u8], w: usize, end: usize) -> Option<usize>
+    requires forest { Forest bytes.now w }
+    requires few { word_count bytes.now < 2 ^ 29 }
+    requires inside { end ≤ word_count bytes.now }
+    ensures { IfKnown result (λ next. IsLaid bytes.now w end next) }
+{
+    match look(bytes, w) {
+        Target::Null => Some(end),
+        Target::Struct {
+            start,
+            data_words,
+            pointers,
+        } => {
+            let words = data_words as usize + pointers as usize;
+            if words == 0 {
+                return Some(end);
+            }
+            if start != end {
+                return None;
+            }
+            let row = start + data_words as usize;
+            follow_row(bytes, row, pointers as usize, row + pointers as usize)
+        }
+        Target::List {
+            start,
+            element_size,
+            count,
+        } => {
+            if start != end {
+                return None;
+            }
+            if element_size == 6 {
+                return follow_row(bytes, start, count as usize, start + count as usize);
+            }
+            end_of_plain(bytes, start, element_size, count)
+        }
+        Target::Composite {
+            tag,
+            count,
+            data_words,
+            pointers,
+        } => {
+            if tag != end {
+                return None;
+            }
+            let size = data_words as usize + pointers as usize;
+            let last = tag + 1 + count as usize * size;
+            if pointers == 0 {
+                return Some(last);
+            }
+            follow_elements(
+                bytes,
+                tag + 1,
+                count as usize,
+                data_words as usize,
+                pointers as usize,
+                last,
+            )
+        }
+    }
+}
+
+/// The same of so many pointers in a row.
+#[cycle(order)]
+fn follow_row(bytes: &[u8], first: usize, count: usize, end: usize) -> Option<usize>
+    requires forests { AreForests bytes.now first count }
+    requires few { word_count bytes.now < 2 ^ 29 }
+    requires before { first + count ≤ end }
+    requires inside { end ≤ word_count bytes.now }
+    ensures { IfKnown result (λ next. IsRowLaid bytes.now first count end next) }
+{
+    let mut next = end;
+    for i in 0..count {
+        next = follow(bytes, first + i, next)?;
+    }
+    Some(next)
+}
+
+/// The same of so many structs in a row.
+#[cycle(order)]
+fn follow_elements(
+    bytes: &[u8],
+    start: usize,
+    count: usize,
+    data_words: usize,
+    pointers: usize,
+    end: usize,
+) -> Option<usize>
+    requires forests { AreElementForests bytes.now start count data_words pointers }
+    requires few { word_count bytes.now < 2 ^ 29 }
+    requires before { start + count * (data_words + pointers) ≤ end }
+    requires inside { end ≤ word_count bytes.now }
+    requires sizes { (count < 2 ^ 29) × (data_words < 2 ^ 16) × (pointers < 2 ^ 16) }
+    ensures { IfKnown result (λ next. AreLaid bytes.now start data_words pointers 0 count end next) }
+{
+    let mut next = end;
+    for i in 0..count {
+        next = follow_row(
+            bytes,
+            start + i * (data_words + pointers) + data_words,
+            pointers,
+            next,
+        )?;
+    }
+    Some(next)
+}
+
+/// Whether a segment is the encoding of what its root leads to, so that it is written as it is.
+pub fn is_in_order(bytes: &[u8]) -> bool
+    requires forest { Forest bytes.now 0 }
+    requires few { word_count bytes.now < 2 ^ 29 }
+    requires whole { length bytes.now ≡ 8 * word_count bytes.now }
+    ensures { IsTrue result → bytes.now ≡ encoding_of (tree bytes.now 0) }
+{
+    match follow(bytes, 0, 1) {
+        Some(next) => next == bytes.len() / 8,
+        None => false,
+    }
+}
