@@ -17,3 +17,4 @@ pub mod Encodings
 pub mod Whole
 pub mod Shallow
 pub mod WrittenLists
+pub mod TreeKinds

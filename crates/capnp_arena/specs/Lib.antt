@@ -5,3 +5,4 @@ pub mod Segment
 pub mod Looked
 pub mod Counts
 pub mod Encoded
+pub mod Reads

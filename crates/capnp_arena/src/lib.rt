@@ -10,5 +10,6 @@ pub mod lists;
 mod look;
 mod message;
 mod reader;
+pub mod reads;
 mod spell;
 mod target;
