@@ -18,3 +18,4 @@ pub mod Whole
 pub mod Shallow
 pub mod WrittenLists
 pub mod TreeKinds
+pub mod Enlarged

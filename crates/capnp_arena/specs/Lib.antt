@@ -6,3 +6,4 @@ pub mod Looked
 pub mod Counts
 pub mod Encoded
 pub mod Reads
+pub mod Grown

@@ -6,6 +6,7 @@ pub mod arena;
 pub mod callers;
 mod count;
 mod encode;
+mod grown;
 pub mod lists;
 mod look;
 mod message;
