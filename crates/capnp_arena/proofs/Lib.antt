@@ -19,3 +19,6 @@ pub mod Shallow
 pub mod WrittenLists
 pub mod TreeKinds
 pub mod Enlarged
+pub mod EncodedForests
+pub mod NewTrees
+pub mod Padding

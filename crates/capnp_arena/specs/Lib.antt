@@ -7,3 +7,4 @@ pub mod Counts
 pub mod Encoded
 pub mod Reads
 pub mod Grown
+pub mod Copies

@@ -1,5 +1,5 @@
 //! Words, bytes and bits at the end of bytes.
-ghost use Rattle.std.specs.Prelude.{IfOk, drop, replicate, take, ◌*◌, ◌++◌, ◌+◌, ◌<◌, ◌^◌, ◌≡◌, ◌≤◌, length};
+ghost use Rattle.std.specs.Prelude.{IfOk, OnErr, drop, replicate, take, ◌*◌, ◌++◌, ◌+◌, ◌<◌, ◌^◌, ◌≡◌, ◌≤◌, length};
 ghost use Rattle.capnp_wire.specs.Encoding.{bits_number, packed, padded, spelled};
 ghost use Rattle.capnp_wire.specs.Locate.{list_words};
 ghost use Rattle.capnp_wire.specs.Place.{bits_from, bytes_at};
@@ -21,10 +21,13 @@ pub fn append_half(out: &mut Vec<u8>, half: u32) -> Appended
 }
 
 /// Fewer zeros than a word has.
+///
+/// Refused where memory is; then nothing has changed.
 #[inline(always)]
-fn append_few_zeros(out: &mut Vec<u8>, count: usize) -> Appended
-    requires { count < 8 }
-    ensures { IfOk result (λ _. out.new.items ≡ out.old.items ++ replicate count 0) }
+pub fn append_few_zeros(out: &mut Vec<u8>, count: usize) -> Appended
+    requires few { count < 8 }
+    ensures longer { IfOk result (λ _. out.new.items ≡ out.old.items ++ replicate count 0) }
+    ensures refused { OnErr result (out.new.items ≡ out.old.items) }
 {
     let zeros: [u8; 8] = [0; 8];
     out.extend_from_slice(&zeros[..count])

@@ -119,7 +119,7 @@ impl Arena {
     /// So many words of zeros at the end.
     ///
     /// Refused with `OutOfMemory`, also where there would be 2^29 words; then nothing has changed.
-    fn grow(&mut self, words: usize) -> Result<()>
+    pub(crate) fn grow(&mut self, words: usize) -> Result<()>
         requires { words < 2 ^ 32 }
         ensures longer { IfOk result (λ _. segment self.new ≡ segment self.old ++ replicate (8 * words) 0) }
         ensures few { IfOk result (λ _. word_count (segment self.old) + words < 2 ^ 29) }

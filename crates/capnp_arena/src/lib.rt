@@ -7,6 +7,7 @@ pub mod callers;
 mod count;
 mod encode;
 mod grown;
+mod extend;
 pub mod lists;
 mod look;
 mod message;
