@@ -22,3 +22,5 @@ pub mod Enlarged
 pub mod EncodedForests
 pub mod NewTrees
 pub mod Padding
+pub mod Extensions
+pub mod Refusals

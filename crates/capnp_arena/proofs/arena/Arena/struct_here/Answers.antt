@@ -1,10 +1,10 @@
-use Rattle.std.proofs.Common.{◌∙◌, ap, false, rules, sym, true, ◌≡◌}
+use Rattle.std.proofs.Common.{◌∙◌, ap, false, sym, true, ◌≡◌}
 use Rattle.capnp_arena.specs.Reads.{is_struct_shape}
 use Rattle.capnp_arena.proofs.TreeKinds.{struct_is}
 use Rattle.capnp_arena.proofs.arena.Arena.struct_here.Goals as goal
 
 no : false ≡ true → ⊥
-no h = search rules
+no h = cc
 
 pub unreachable-requires : goal.unreachable-requires
 unreachable-requires c = no (ap is_struct_shape c.in-Null.ensures.shape ∙ sym (struct_is _ _ c.requires.forest) ∙ c.requires.there)
