@@ -24,3 +24,4 @@ pub mod NewTrees
 pub mod Padding
 pub mod Extensions
 pub mod Refusals
+pub mod BlobReads

@@ -8,3 +8,4 @@ pub mod Encoded
 pub mod Reads
 pub mod Grown
 pub mod Copies
+pub mod Handles

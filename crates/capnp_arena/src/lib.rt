@@ -3,12 +3,14 @@
 
 mod append;
 pub mod arena;
+pub mod blobs;
 pub mod callers;
 mod count;
 mod encode;
 mod extend;
 mod get_struct;
 mod grown;
+pub mod handles;
 pub mod lists;
 mod look;
 mod message;

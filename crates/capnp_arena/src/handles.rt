@@ -1,0 +1,169 @@
+//! Builders as a reference to the arena beside a place.
+ghost use Rattle.std.specs.Prelude.{OnErr, OnOk, ◌*◌, ◌+◌, ◌≡◌, ◌≤◌};
+ghost use Rattle.capnp_arena.specs.Forest.{Changes, Forest};
+ghost use Rattle.capnp_arena.specs.Segment.{segment};
+
+use crate::arena::{Arena, Place};
+use capnp_device::error::Result;
+use capnp_wire::primitive::PrimitiveElement;
+use capnp_wire::size::StructSize;
+
+/// A pointer that is built: the whole arena, and the pointer's word.
+#[derive(Drop)]
+pub struct PointerBuilder<'a> {
+    pub arena: &'a mut Arena,
+    pub at: usize,
+}
+
+/// A struct that is built.
+#[derive(Drop)]
+pub struct StructBuilder<'a> {
+    pub arena: &'a mut Arena,
+    pub place: Place,
+}
+
+/// What is handed out by value.
+#[derive(Drop)]
+pub enum Value<'a> {
+    Number(u64),
+    Struct(StructBuilder<'a>),
+    Pointer(PointerBuilder<'a>),
+}
+
+impl<'a> PointerBuilder<'a> {
+    ghost use Rattle.std.specs.Prelude.{IfErr, IfOk, IsOk, None, OnErr, OnOk, ◌≡◌, ◌<◌};
+    ghost use Rattle.capnp_wire.specs.Edits.{HoldsStruct, IsStructRefusal, extended, struct_in, struct_refusal};
+    ghost use Rattle.capnp_wire.specs.Place.{struct_tree};
+    ghost use Rattle.capnp_arena.specs.Forest.{Changes, Forest, tree};
+    ghost use Rattle.std.specs.Borrow.{sem};
+    ghost use Rattle.capnp_arena.specs.Handles.{StructRests};
+    ghost use Rattle.capnp_arena.specs.Segment.{segment};
+    ghost use Rattle.capnp_arena.specs.Shape.{StructIn, shape_at};
+
+    /// The struct that stands here, with at least a size.
+    pub fn get_struct(self, size: StructSize) -> Result<StructBuilder<'a>>
+        requires forest { Forest (segment self.arena.now) self.at }
+        ensures* rests { sem 𝓛 (StructRests self.entry.arena result) }
+        ensures forest { IfOk result (λ s. Forest (segment s.arena.now) self.entry.at) }
+        ensures place { IfOk result (λ s. shape_at (segment s.arena.now) self.entry.at ≡ StructIn s.place.start s.place.data_words s.place.pointers) }
+        ensures tree { IfOk result (λ s. tree (segment s.arena.now) self.entry.at ≡ struct_tree (extended size (struct_in (tree (segment self.entry.arena.now) self.entry.at)))) }
+        ensures changes { IfOk result (λ s. Changes self.entry.at (segment self.entry.arena.now) (segment s.arena.now)) }
+        ensures cause { IfErr result (λ e. IsStructRefusal e (tree (segment self.entry.arena.now) self.entry.at)) }
+    {
+        let PointerBuilder { arena, at } = self;
+        let place = arena.get_struct(at, size)?;
+        Ok(StructBuilder { arena, place })
+    }
+}
+
+impl<'a> StructBuilder<'a> {
+    ghost use Rattle.std.specs.Borrow.{sem};
+    ghost use Rattle.std.specs.Prelude.{IfErr, IfOk, IsOk, None, OnErr, OnOk, ◌*◌, ◌+◌, ◌≡◌, ◌<◌, ◌≤◌};
+    ghost use Rattle.capnp_device.specs.declared.error.ErrorKind.TheVariants.{OutOfMemory};
+    ghost use Rattle.capnp_wire.specs.Edits.{with_bytes, with_number, zero_struct};
+    ghost use Rattle.capnp_wire.specs.Place.{struct_tree};
+    ghost use Rattle.capnp_arena.specs.Forest.{Changes, Forest, PartChanges, Planted, struct_from, tree};
+    ghost use Rattle.capnp_arena.specs.Handles.{HoldsArena, StructRests};
+    ghost use Rattle.capnp_arena.specs.Segment.{segment};
+    ghost use Rattle.capnp_arena.specs.Shape.{StructIn, shape_at};
+
+    /// Stores a number.
+    pub fn set_data_field<T: PrimitiveElement>(&mut self, offset: u32, value: T)
+        requires planted { Planted (segment self.old.arena.now) (StructIn self.old.place.start self.old.place.data_words self.old.place.pointers) }
+        requires inside { (offset + 1) * T.width ≤ 8 * self.old.place.data_words }
+        ensures same { self.new.arena.ghost_name ≡ self.old.arena.ghost_name }
+        ensures place { self.new.place ≡ self.old.place }
+        ensures planted { Planted (segment self.new.arena.now) (StructIn self.old.place.start self.old.place.data_words self.old.place.pointers) }
+        ensures changes { PartChanges (StructIn self.old.place.start self.old.place.data_words self.old.place.pointers) (segment self.old.arena.now) (segment self.new.arena.now) }
+        ensures tree { struct_from (segment self.new.arena.now) self.old.place.start self.old.place.data_words self.old.place.pointers ≡
+            with_bytes (struct_from (segment self.old.arena.now) self.old.place.start self.old.place.data_words self.old.place.pointers)
+            (with_number T.width offset (T.to_number value) (struct_from (segment self.old.arena.now) self.old.place.start self.old.place.data_words self.old.place.pointers).bytes) }
+    {
+        let place = self.place;
+        self.arena.set_number(place, offset, value);
+    }
+
+    /// The pointer at an index.
+    pub fn get_pointer_field(self, index: u16) -> PointerBuilder<'a>
+        requires planted { Planted (segment self.arena.now) (StructIn self.place.start self.place.data_words self.place.pointers) }
+        requires inside { index < self.place.pointers }
+        ensures same { result.arena.ghost_name ≡ self.entry.arena.ghost_name }
+        ensures now { result.arena.now ≡ self.entry.arena.now }
+        ensures at { result.at ≡ self.entry.place.start + self.entry.place.data_words + index }
+    {
+        let StructBuilder { arena, place } = self;
+        let at = arena.get_pointer_field(place, index);
+        PointerBuilder { arena, at }
+    }
+
+    /// Starts a pointer anew.
+    pub fn init(self, index: u16, size: StructSize) -> Result<StructBuilder<'a>>
+        requires planted { Planted (segment self.arena.now) (StructIn self.place.start self.place.data_words self.place.pointers) }
+        requires inside { index < self.place.pointers }
+        ensures* rests { sem 𝓛 (StructRests self.entry.arena result) }
+        ensures forest { IfOk result (λ s. Forest (segment s.arena.now) (self.entry.place.start + self.entry.place.data_words + index)) }
+        ensures tree { IfOk result (λ s. tree (segment s.arena.now) (self.entry.place.start + self.entry.place.data_words + index) ≡ struct_tree (zero_struct size)) }
+        ensures changes { IfOk result (λ s. Changes (self.entry.place.start + self.entry.place.data_words + index) (segment self.entry.arena.now) (segment s.arena.now)) }
+        ensures kind { IfErr result (λ e. e.kind ≡ OutOfMemory) }
+    {
+        let StructBuilder { arena, place } = self;
+        let at = arena.get_pointer_field(place, index);
+        let place = arena.init_struct(at, size)?;
+        Ok(StructBuilder { arena, place })
+    }
+
+    /// What a pointer leads to, or a number.
+    pub fn get(self, index: u16, size: StructSize) -> Result<Value<'a>>
+        requires planted { Planted (segment self.arena.now) (StructIn self.place.start self.place.data_words self.place.pointers) }
+        ensures same { IfOk result (λ v. HoldsArena v self.entry.arena.ghost_name) }
+    {
+        let StructBuilder { arena, place } = self;
+        if index >= place.pointers {
+            let number = arena.get_data_field::<u64>(place, index as u32);
+            return Ok(Value::Number(number));
+        }
+        let at = arena.get_pointer_field(place, index);
+        if arena.is_null(at) {
+            return Ok(Value::Pointer(PointerBuilder { arena, at }));
+        }
+        let place = arena.get_struct(at, size)?;
+        Ok(Value::Struct(StructBuilder { arena, place }))
+    }
+}
+
+/// A caller: a struct, and a number in it.
+pub fn get_and_set<T: PrimitiveElement>(
+    arena: &mut Arena,
+    at: usize,
+    size: StructSize,
+    offset: u32,
+    value: T,
+) -> Result<()>
+    requires forest { Forest (segment arena.old) at }
+    requires inside { (offset + 1) * T.width ≤ 8 * size.data_words }
+    ensures forest { OnOk result (Forest (segment arena.new) at) }
+    ensures changes { OnOk result (Changes at (segment arena.old) (segment arena.new)) }
+    ensures refused { OnErr result (segment arena.new ≡ segment arena.old) }
+{
+    let pointer = PointerBuilder { arena, at };
+    let mut built = pointer.get_struct(size)?;
+    if built.place.data_words >= size.data_words {
+        built.set_data_field(offset, value);
+    }
+    Ok(())
+}
+
+impl Arena {
+    ghost use Rattle.std.specs.Prelude.{IfOk, drop, length, take};
+    ghost use Rattle.std.specs.Borrow.{sem};
+    ghost use Rattle.capnp_arena.specs.Handles.{LendsBytes};
+
+    /// So many bytes of the segment, to be written.
+    pub fn lend_bytes(&mut self, start: usize, count: usize) -> Result<&mut [u8]>
+        requires inside { start + count ≤ length (segment self.old) }
+        ensures* lends { sem 𝓛 (LendsBytes self.entry start result) }
+        ensures now { IfOk result (λ bytes. bytes.now ≡ take count (drop start (segment self.old))) }
+    {
+        Ok(self.bytes.slice_mut(start..start + count))
+    }
+}
