@@ -25,3 +25,4 @@ pub mod Padding
 pub mod Extensions
 pub mod Refusals
 pub mod BlobReads
+pub mod ListsRead

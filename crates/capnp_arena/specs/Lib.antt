@@ -9,3 +9,4 @@ pub mod Reads
 pub mod Grown
 pub mod Copies
 pub mod Handles
+pub mod Listed

@@ -11,6 +11,7 @@ mod extend;
 mod get_struct;
 mod grown;
 pub mod handles;
+pub mod list_reads;
 pub mod lists;
 mod look;
 mod message;
