@@ -118,12 +118,12 @@ pub part_tree_count : (bytes : List ℕ) (row : PartRow) (i : ℕ) → tree_coun
 part_tree_count bytes row i = tree_count-trees_from (tree bytes) (row.first + i * row.pointer_step) row.pointers
 
 pub part_length : (bytes : List ℕ) (row : PartRow) (i : ℕ) → length (part_at bytes row i).bytes ≤ row.data_count
-part_length bytes row i = length-part-le row.data_count (row.data + i * row.data_step) bytes
+part_length bytes row i = length-part-le row.data_count (row.first_byte + i * row.data_step) bytes
 
 -- the format holds it
 pub part_held : (bytes : List ℕ) (row : PartRow) (i : ℕ) → AreBytes bytes → row.data_count ≤ 8 * 65535 → row.pointers < 2 ^ 16 → IsWellFormedStruct (part_at bytes row i)
 part_held bytes row i h d p = (
-  AreBytes-part row.data_count (row.data + i * row.data_step) bytes h,
+  AreBytes-part row.data_count (row.first_byte + i * row.data_step) bytes h,
   omega (arith, part_length bytes row i, d),
   omega (arith, part_tree_count bytes row i, p),
   row_held bytes (row.first + i * row.pointer_step) row.pointers h,

@@ -26,3 +26,4 @@ pub mod Extensions
 pub mod Refusals
 pub mod BlobReads
 pub mod ListsRead
+pub mod PartLists

@@ -58,7 +58,7 @@ fn encode_larger(
         return Err(Error::from(ErrorKind::OutOfMemory));
     }
     let row = PartRow {
-        data: 8 * place.start,
+        first_byte: 8 * place.start,
         data_count: 8 * place.data_words as usize,
         data_step: 0,
         first: place.start + place.data_words as usize,

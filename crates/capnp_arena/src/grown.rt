@@ -20,7 +20,7 @@ use std::alloc::{AllocError, Global};
 /// word on, with so much between two structs.
 #[derive(Clone, Copy)]
 pub struct PartRow {
-    pub data: usize,
+    pub first_byte: usize,
     pub data_count: usize,
     pub data_step: usize,
     pub first: usize,
@@ -57,7 +57,7 @@ fn fill_grown(
 {
     let words = size.data_words as usize + size.pointers as usize;
     put_zeros(out, at, 8 * words);
-    let data = row.data + index * row.data_step;
+    let data = row.first_byte + index * row.data_step;
     put_bytes(out, at, &bytes[data..data + row.data_count]);
     fill_row(
         out,

@@ -18,4 +18,5 @@ mod message;
 mod reader;
 pub mod reads;
 mod spell;
+mod struct_lists;
 mod target;
