@@ -27,3 +27,4 @@ pub mod Refusals
 pub mod BlobReads
 pub mod ListsRead
 pub mod PartLists
+pub mod StructListsMade
