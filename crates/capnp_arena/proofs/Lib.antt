@@ -28,3 +28,4 @@ pub mod BlobReads
 pub mod ListsRead
 pub mod PartLists
 pub mod StructListsMade
+pub mod StructListTrees

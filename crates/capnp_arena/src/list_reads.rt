@@ -21,7 +21,7 @@ pub enum ListTarget {
 
 /// The element size of a number.
 #[inline(always)]
-fn get_element_size(number: u8) -> ElementSize
+pub fn get_element_size(number: u8) -> ElementSize
     requires { number < 7 }
     ensures { size_number result ≡ number }
 {

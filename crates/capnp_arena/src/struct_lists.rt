@@ -6,13 +6,14 @@ ghost use Rattle.capnp_wire.specs.StructLists.{as_structs};
 ghost use Rattle.capnp_wire.specs.WellFormed.{IsWellFormed};
 ghost use Rattle.capnp_arena.specs.Forest.{Forest, tree};
 ghost use Rattle.capnp_arena.specs.Grown.{IsPartList, kind_pointers, kind_words, number_parts, plain_parts, struct_parts};
+ghost use Rattle.capnp_arena.specs.Made.{size_number};
 ghost use Rattle.capnp_arena.specs.Shape.{word_count};
 
 use crate::arena::Arena;
 use crate::count::count_words;
 use crate::grown::{PartRow, encode_all_grown};
-use crate::list_reads::ListTarget;
-use crate::lists::StructsPlace;
+use crate::list_reads::{ListTarget, get_element_size};
+use crate::lists::{ListPlace, StructsPlace};
 use crate::look::Target;
 use crate::spell::make_list_word;
 use capnp_device::error::{Error, ErrorKind, Result};
@@ -121,6 +122,35 @@ fn grow_plain(size: StructSize, number: u8) -> StructSize
     }
 }
 
+/// The same of structs.
+#[inline(always)]
+fn grow_structs(size: StructSize, list: StructsPlace) -> StructSize
+    ensures data { result.data_words ≡ max size.data_words list.data_words }
+    ensures pointers { result.pointers ≡ max size.pointers list.pointers }
+{
+    StructSize {
+        data_words: size.data_words.max(list.data_words),
+        pointers: size.pointers.max(list.pointers),
+    }
+}
+
+/// The number of an element size.
+#[inline(always)]
+fn get_number(size: ElementSize) -> u8
+    ensures { result ≡ size_number size }
+{
+    match size {
+        ElementSize::Void => 0,
+        ElementSize::Bit => 1,
+        ElementSize::Byte => 2,
+        ElementSize::TwoBytes => 3,
+        ElementSize::FourBytes => 4,
+        ElementSize::EightBytes => 5,
+        ElementSize::Pointer => 6,
+        ElementSize::InlineComposite => 7,
+    }
+}
+
 /// The encoding of the list that a pointer leads to as one of structs of at least a size.
 ///
 /// Refused with `OutOfMemory`.
@@ -154,13 +184,13 @@ fn encode_structs(
 }
 
 impl Arena {
-    ghost use Rattle.std.specs.Prelude.{IsOk, None, OnOk};
+    ghost use Rattle.std.specs.Prelude.{IsOk, None, OnOk, ◌≢◌};
     ghost use Rattle.capnp_wire.specs.Elements.{or_empty};
     ghost use Rattle.capnp_wire.specs.StructLists.{HoldsStructs, IsDueRefusal, past_format, struct_list, struct_list_refusal};
     ghost use Rattle.capnp_arena.specs.Forest.{Changes};
     ghost use Rattle.capnp_arena.specs.Listed.{list_shape, listed_tree};
     ghost use Rattle.capnp_arena.specs.Segment.{segment};
-    ghost use Rattle.capnp_arena.specs.Shape.{CompositeIn, shape_at};
+    ghost use Rattle.capnp_arena.specs.Shape.{CompositeIn, ListIn, shape_at};
 
     /// Makes the pointer at a word, which leads to a list, lead to one of structs of at least a size at the end, with
     /// copies of what its elements' pointers lead to.
@@ -202,5 +232,111 @@ impl Arena {
             data_words: size.data_words,
             pointers: size.pointers,
         })
+    }
+
+    /// The same of a list that is neither of structs nor of bits.
+    fn grow_plain_list(
+        &mut self,
+        at: usize,
+        list: ListPlace,
+        size: StructSize,
+    ) -> Result<StructsPlace>
+        requires forest { Forest (segment self.old) at }
+        requires there { shape_at (segment self.old) at ≡ ListIn list.start (size_number list.size) list.count }
+        requires simple { size_number list.size ≢ 1 }
+        ensures forest { IfOk result (λ _. Forest (segment self.new) at) }
+        ensures place { IfOk result (λ l. shape_at (segment self.new) at ≡ CompositeIn l.tag l.count l.data_words l.pointers) }
+        ensures tree { IfOk result (λ _. tree (segment self.new) at ≡ struct_list size (tree (segment self.old) at)) }
+        ensures changes { IfOk result (λ _. Changes at (segment self.old) (segment self.new)) }
+        ensures within { OnOk result (struct_list_refusal size (tree (segment self.old) at) ≡ None) }
+        ensures cause { IfErr result (λ e. IsDueRefusal e (struct_list_refusal size (tree (segment self.old) at))) }
+        ensures refused { OnErr result (segment self.new ≡ segment self.old) }
+    {
+        let number = get_number(list.size);
+        let row = get_plain_row(list.start, number);
+        self.make_structs(at, row, list.count, grow_plain(size, number))
+    }
+
+    /// The same of a list of structs.
+    fn grow_struct_list(
+        &mut self,
+        at: usize,
+        list: StructsPlace,
+        size: StructSize,
+    ) -> Result<StructsPlace>
+        requires forest { Forest (segment self.old) at }
+        requires there { shape_at (segment self.old) at ≡ CompositeIn list.tag list.count list.data_words list.pointers }
+        ensures forest { IfOk result (λ _. Forest (segment self.new) at) }
+        ensures place { IfOk result (λ l. shape_at (segment self.new) at ≡ CompositeIn l.tag l.count l.data_words l.pointers) }
+        ensures tree { IfOk result (λ _. tree (segment self.new) at ≡ struct_list size (tree (segment self.old) at)) }
+        ensures changes { IfOk result (λ _. Changes at (segment self.old) (segment self.new)) }
+        ensures within { OnOk result (struct_list_refusal size (tree (segment self.old) at) ≡ None) }
+        ensures cause { IfErr result (λ e. IsDueRefusal e (struct_list_refusal size (tree (segment self.old) at))) }
+        ensures refused { OnErr result (segment self.new ≡ segment self.old) }
+    {
+        let row = get_struct_row(list);
+        self.make_structs(at, row, list.count, grow_structs(size, list))
+    }
+
+    /// The list that the pointer at a word leads to, as one of structs of at least a size. A null is a list without
+    /// elements, and stays null. A list of other elements becomes one of structs at the end, and so does one of smaller
+    /// structs: each element then has at least the size, with zeros and nulls after what it had, and has lost nothing.
+    ///
+    /// Refused with `WrongPointerKind` for a struct, with `WrongElementSize` for a list of bits, with `SizePastFormat`
+    /// where the structs would take 2^29 words or more, and else with `OutOfMemory`; then nothing has changed. A null,
+    /// and a list of structs that have at least the size, take no memory and are never refused.
+    #[inline(always)]
+    pub fn get_struct_list(&mut self, at: usize, size: StructSize) -> Result<ListTarget>
+        requires forest { Forest (segment self.old) at }
+        ensures forest { IfOk result (λ _. Forest (segment self.new) at) }
+        ensures place { IfOk result (λ l. list_shape l ≡ shape_at (segment self.new) at) }
+        ensures tree { IfOk result (λ _. tree (segment self.new) at ≡ struct_list size (tree (segment self.old) at)) }
+        ensures reads { IfOk result (λ l. listed_tree (tree (segment self.new) at) l ≡ or_empty ElementSize.InlineComposite (struct_list size (tree (segment self.old) at))) }
+        ensures changes { IfOk result (λ _. Changes at (segment self.old) (segment self.new)) }
+        ensures within { OnOk result (struct_list_refusal size (tree (segment self.old) at) ≡ None) }
+        ensures cause { IfErr result (λ e. IsDueRefusal e (struct_list_refusal size (tree (segment self.old) at))) }
+        ensures refused { OnErr result (segment self.new ≡ segment self.old) }
+        ensures succeeds { HoldsStructs size (tree (segment self.old) at) → IsOk result }
+        ensures stays { HoldsStructs size (tree (segment self.old) at) → segment self.new ≡ segment self.old }
+    {
+        match self.look(at) {
+            Target::Null => Ok(ListTarget::Nothing(ElementSize::InlineComposite)),
+            Target::Struct { .. } => Err(Error::from(ErrorKind::WrongPointerKind)),
+            Target::List {
+                start,
+                element_size,
+                count,
+            } => {
+                if element_size == 1 {
+                    return Err(Error::from(ErrorKind::WrongElementSize));
+                }
+                let simple = get_element_size(element_size);
+                let list = ListPlace {
+                    start,
+                    size: simple,
+                    count,
+                };
+                let grown = self.grow_plain_list(at, list, size)?;
+                Ok(ListTarget::Structs(grown))
+            }
+            Target::Composite {
+                tag,
+                count,
+                data_words,
+                pointers,
+            } => {
+                let list = StructsPlace {
+                    tag,
+                    count,
+                    data_words,
+                    pointers,
+                };
+                if size.data_words <= data_words && size.pointers <= pointers {
+                    return Ok(ListTarget::Structs(list));
+                }
+                let grown = self.grow_struct_list(at, list, size)?;
+                Ok(ListTarget::Structs(grown))
+            }
+        }
     }
 }
