@@ -18,8 +18,9 @@ use Rattle.capnp_arena.specs.Grown.{kind_pointers, kind_words, plain_parts}
 use Rattle.capnp_arena.specs.Shape.{CompositeIn, ListIn, NoShape, Points, StructIn, shape_at, word_count}
 use Rattle.capnp_arena.proofs.Counted.{ends_at}
 use Rattle.capnp_arena.proofs.Forests.{points}
+use Rattle.capnp_arena.proofs.Levels.{structs_same}
 use Rattle.capnp_arena.proofs.ListsRead.{plain_count, struct_is_element, structs_count}
-use Rattle.capnp_arena.proofs.PartLists.{plain_pointers, plain_words, structs_each}
+use Rattle.capnp_arena.proofs.PartLists.{plain_pointers, plain_words}
 use Rattle.capnp_arena.proofs.Refusals.{null_is}
 use Rattle.capnp_arena.proofs.Shapes.{element_end}
 use Rattle.capnp_arena.proofs.Structs.{tree_composite, tree_list, tree_struct, two_parts}
@@ -144,7 +145,7 @@ extended_same size s h k = two_parts (extended size s) s
     (ap (λ n. append_trees s.pointers (nulls n)) {x = size.pointers - tree_count s.pointers} {y = 0} (omega (arith, k)) ∙ no_more s.pointers)
 
 module _ (bytes : List ℕ) (w : ℕ) (f : Forest bytes w) (tag n d p : ℕ) (e : shape_at bytes w ≡ CompositeIn tag n d p) where
-  own : StructSize
+  abbrev own : StructSize
   own = record { data_words = d; pointers = p }
 
   same_element : (i : ℕ) → i < n → struct_from bytes (tag + 1 + i * (d + p)) d p ≡ extended own (element_struct (tree bytes w) i)
@@ -158,7 +159,7 @@ module _ (bytes : List ℕ) (w : ℕ) (f : Forest bytes w) (tag n d p : ℕ) (e 
   pub structs_stay : (s : StructSize) → s.data_words ≤ d → s.pointers ≤ p → tree bytes w ≡ struct_list s (tree bytes w)
   structs_stay s l m =
       tree_composite bytes w tag n d p f e
-      ∙ ap (Composite d p) (structs_each (λ i. struct_from bytes (tag + 1 + i * (d + p)) d p) (λ i. extended own (element_struct (tree bytes w) i)) 0 n (λ i x y. same_element i (omega (arith, y))))
+      ∙ ap (Composite d p) (structs_same (λ i. struct_from bytes (tag + 1 + i * (d + p)) d p) (λ i. extended own (element_struct (tree bytes w) i)) 0 n (λ i x y. same_element i (omega (arith, y))))
       ∙ ap (λ k. Composite d p (structs_from (λ i. extended own (element_struct (tree bytes w) i)) 0 k)) (sym (structs_count bytes w f tag n d p e))
       ∙ structs_become bytes w f tag n d p e s own (sym (max-eq_right l)) (sym (max-eq_right m))
 
