@@ -44,6 +44,7 @@ impl<'a> PointerBuilder<'a> {
     pub fn get_struct(self, size: StructSize) -> Result<StructBuilder<'a>>
         requires forest { Forest (segment self.arena.now) self.at }
         ensures* rests { sem 𝓛 (StructRests self.entry.arena result) }
+        ensures same { IfOk result (λ s. s.arena.ghost_name ≡ self.entry.arena.ghost_name) }
         ensures forest { IfOk result (λ s. Forest (segment s.arena.now) self.entry.at) }
         ensures place { IfOk result (λ s. shape_at (segment s.arena.now) self.entry.at ≡ StructIn s.place.start s.place.data_words s.place.pointers) }
         ensures tree { IfOk result (λ s. tree (segment s.arena.now) self.entry.at ≡ struct_tree (extended size (struct_in (tree (segment self.entry.arena.now) self.entry.at)))) }
@@ -101,6 +102,7 @@ impl<'a> StructBuilder<'a> {
         requires planted { Planted (segment self.arena.now) (StructIn self.place.start self.place.data_words self.place.pointers) }
         requires inside { index < self.place.pointers }
         ensures* rests { sem 𝓛 (StructRests self.entry.arena result) }
+        ensures same { IfOk result (λ s. s.arena.ghost_name ≡ self.entry.arena.ghost_name) }
         ensures forest { IfOk result (λ s. Forest (segment s.arena.now) (self.entry.place.start + self.entry.place.data_words + index)) }
         ensures tree { IfOk result (λ s. tree (segment s.arena.now) (self.entry.place.start + self.entry.place.data_words + index) ≡ struct_tree (zero_struct size)) }
         ensures changes { IfOk result (λ s. Changes (self.entry.place.start + self.entry.place.data_words + index) (segment self.entry.arena.now) (segment s.arena.now)) }
