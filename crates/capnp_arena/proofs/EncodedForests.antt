@@ -1,9 +1,9 @@
 -- A tree whose encoding stands in a segment is a forest there: by induction on the tree.
-use Rattle.std.proofs.Common.{◌≡◌, ℕ, zero, suc, ◌+◌, ◌-◌, ◌*◌, ◌/◌, ◌^◌, ◌<◌, ◌≤◌, ◌⊎◌, inl, inr, refl, sym, ap, subst, ◌∙◌, arith, true, List, [], ◌++◌, length, replicate, cond, ◌==◌, Option, Some, None, Bool}
+use Rattle.std.proofs.Common.{◌≡◌, ℕ, zero, suc, ◌+◌, ◌-◌, ◌*◌, ◌/◌, ◌^◌, ◌<◌, ◌≤◌, ◌⊎◌, inl, inr, refl, sym, ap, subst, ◌∙◌, arith, List, [], ◌++◌, length, replicate, cond, ◌==◌, Option, Some, None, Bool}
 use Rattle.std.specs.Prelude.{IsTrue}
 use Rattle.std.proofs.lemmas.Bool.{cases_eq}
 use Rattle.std.proofs.lemmas.Bool.Decides.{nat_tests}
-use Rattle.capnp_wire.specs.Encoding.{bytes_below_all, bytes_of, bytes_of_all, bytes_below, element_row, list_word, number_size, own_bytes, packed, padded, pointer_row, pointer_word, spelled, struct_word}
+use Rattle.capnp_wire.specs.Encoding.{bytes_below_all, bytes_of_all, bytes_below, element_row, list_word, number_size, own_bytes, packed, padded, pointer_row, pointer_word, spelled, struct_word}
 use Rattle.capnp_wire.specs.Facts.EmptyStructs.{no_sections}
 use Rattle.capnp_wire.specs.Facts.EncodedSizes.{length_bytes_of, length_bytes_of_all, length_element, length_element_row, length_packed, length_padded, length_pointer_row}
 use Rattle.capnp_wire.specs.Facts.PackedBits.{bits_packed}
@@ -15,10 +15,10 @@ use Rattle.capnp_wire.specs.Tree.{Bits, Composite, FaultLeaf, MoreStructs, MoreT
 use Rattle.capnp_wire.specs.WellFormed.{AreElements, AreWellFormed, IsWellFormed, is_width}
 use Rattle.capnp_wire.specs.Words.{byte_words, first_fault, first_fault_of_all, first_fault_of_elements, first_of, words_below_all, words_of, words_of_all}
 use Rattle.capnp_wire.specs.declared.fault.Fault.{Fault}
-use Rattle.capnp_arena.specs.Shape.{CompositeIn, IsPointerOf, IsWithin, IsWordAt, ListIn, NoShape, Points, Shape, StructIn, shape_at, word_count}
+use Rattle.capnp_arena.specs.Shape.{CompositeIn, IsPointerOf, IsWithin, IsWordAt, ListIn, Points, Shape, StructIn, word_count}
 use Rattle.capnp_arena.specs.Forest.{Forest, OwnedBy, Owns, Planted, struct_from, tree}
 use Rattle.capnp_arena.proofs.Calls.{grown, null_forest, null_owns, null_tree, owned_by}
-use Rattle.capnp_arena.proofs.Shapes.{element_end, end_inside}
+use Rattle.capnp_arena.proofs.Shapes.{end_inside}
 use Rattle.capnp_arena.proofs.Structs.{tree_composite, tree_list, tree_struct}
 use Rattle.capnp_arena.proofs.Words.{shape}
 

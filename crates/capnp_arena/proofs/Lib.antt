@@ -29,3 +29,7 @@ pub mod ListsRead
 pub mod PartLists
 pub mod StructListsMade
 pub mod StructListTrees
+pub mod TreeSizes
+pub mod Copying
+pub mod Replaced
+pub mod PlainRows

@@ -1,6 +1,6 @@
 -- A tree whose encoding was added at the end, with the pointer to it, stands there.
-use Rattle.std.proofs.Common.{◌≡◌, ℕ, suc, ◌+◌, ◌-◌, ◌*◌, ◌^◌, ◌<◌, ◌≤◌, inr, refl, sym, ap, subst, ◌∙◌, arith, List, [], ◌++◌, length, take, drop, Option, None}
-use Rattle.std.proofs.lemmas.List.{append-nil, drop_at, length-append, take-append-drop, take_all, take_at}
+use Rattle.std.proofs.Common.{◌≡◌, ℕ, suc, ◌+◌, ◌-◌, ◌*◌, ◌^◌, ◌<◌, ◌≤◌, inr, refl, sym, ap, ◌∙◌, arith, List, ◌++◌, length, take, drop, None}
+use Rattle.std.proofs.lemmas.List.{drop_at, length-append, take-append-drop, take_all, take_at}
 use Rattle.capnp_wire.specs.Encoding.{bytes_of, encoding_of, pointer_word, spelled}
 use Rattle.capnp_wire.specs.Facts.Bytes.{length_spelled}
 use Rattle.capnp_wire.specs.Facts.EncodedSizes.{length_bytes_of}
@@ -9,10 +9,13 @@ use Rattle.capnp_wire.specs.Place.{bytes_at}
 use Rattle.capnp_wire.specs.Tree.{Tree}
 use Rattle.capnp_wire.specs.WellFormed.{IsWellFormed}
 use Rattle.capnp_wire.specs.Words.{first_fault, words_of}
+use Rattle.capnp_wire.specs.Filling.{put}
+use Rattle.capnp_arena.specs.Copies.{Spares}
 use Rattle.capnp_arena.specs.Made.{IsMade}
 use Rattle.capnp_arena.specs.Shape.{IsWordAt, word_count}
-use Rattle.capnp_arena.specs.Forest.{Changes, Forest, Owns, tree}
+use Rattle.capnp_arena.specs.Forest.{Changes, Forest, tree}
 use Rattle.capnp_arena.proofs.EncodedForests.{IsTreeIn, tree_stands}
+use Rattle.capnp_arena.proofs.Words.{run_same}
 use Rattle.capnp_arena.proofs.Made.{made_added, made_length, made_longer, made_same, made_word}
 
 -- bytes that are read at a word stand there
@@ -70,3 +73,32 @@ encoding_whole t well none few =
   where
     k' : length (spelled 8 (pointer_word 0 t)) ≡ length (spelled 8 (pointer_word 0 t))
     k' = refl
+
+-- ---- copies ----
+
+-- what was added, and then the pointer
+pub copy_is_made : (old mid new : List ℕ) (at end word : ℕ) (t : Tree) → IsWellFormed t → length old ≡ 8 * word_count old → at < word_count old → end ≡ word_count old → mid ≡ old ++ bytes_of t → word_count mid < 2 ^ 29 → word ≡ pointer_word (end - at - 1) t → new ≡ put (8 * at) (spelled 8 word) mid
+    → IsMade old new (bytes_of t) at (pointer_word (word_count old - suc at) t)
+copy_is_made old mid new at end word t well whole l e m few w p =
+    let n : length (bytes_of t) ≡ 8 * words_of t = length_bytes_of t well in
+    let k : word ≡ pointer_word (word_count old - suc at) t = w ∙ ap (λ z. pointer_word z t) {x = end - at - 1} {y = word_count old - suc at} (omega (arith, e)) in
+    record {
+      whole = whole;
+      inside = l;
+      words = omega (arith, n);
+      few = omega (arith, n, few, whole, ap length m, length-append old (bytes_of t));
+      is = p ∙ ap (λ z. put (8 * at) (spelled 8 z) mid) k ∙ ap (put (8 * at) (spelled 8 (pointer_word (word_count old - suc at) t))) m;
+    }
+
+-- what was added in vain is taken back
+pub cut_back : (old mid : List ℕ) (n : ℕ) → length old ≡ 8 * n → Spares 0 0 old mid → take (8 * n) mid ≡ old
+cut_back old mid n e s = run_same old mid 0 n (λ k x y. s.stays k (omega (arith, e, y)) (λ r. omega (arith, r.1))) ∙ take_all (8 * n) old (omega (arith, e))
+
+-- a segment that had the root pointer alone is the encoding then
+pub only_encoding : (old new : List ℕ) (t : Tree) → length old ≡ 8 → IsMade old new (bytes_of t) 0 (pointer_word (word_count old - 1) t) → new ≡ encoding_of t
+only_encoding old new t e h =
+    let x : List ℕ = spelled 8 (pointer_word 0 t) in
+    let k : length x ≡ 8 = length_spelled 8 (pointer_word 0 t) in
+    h.is
+    ∙ ap (λ n. put 0 (spelled 8 (pointer_word n t)) (old ++ bytes_of t)) {x = word_count old - 1} {y = 0} (omega (arith, e))
+    ∙ ap (λ z. x ++ z) (ap (λ n. drop n (old ++ bytes_of t)) {x = 0 + length x} {y = 8} (omega (arith, k)) ∙ drop_at old (bytes_of t) 8 e)

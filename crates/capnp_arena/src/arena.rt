@@ -110,6 +110,7 @@ impl Arena {
         ensures inside { IfOk result (λ arena. 0 < word_count (segment arena)) }
         ensures forest { IfOk result (λ arena. Forest (segment arena) 0) }
         ensures null { IfOk result (λ arena. tree (segment arena) 0 ≡ Null) }
+        ensures alone { IfOk result (λ arena. length (segment arena) ≡ 8) }
         ensures kind { IfErr result (λ e. e.kind ≡ OutOfMemory) }
     {
         let bytes = vec![in alloc; 0u8; 8]?;

@@ -1,6 +1,8 @@
 //! Callers of the arena: two hops, or an element of a list, and what the pointer at the top leads to then.
-ghost use Rattle.std.specs.Prelude.{OnErr, OnOk, replicate, ◌*◌, ◌+◌, ◌<◌, ◌≡◌, ◌≤◌};
-ghost use Rattle.capnp_wire.specs.Edits.{with_bytes, with_number, with_pointer_tree, zero_struct};
+ghost use Rattle.std.specs.Prelude.{IfErr, OnErr, OnOk, replicate, ◌*◌, ◌+◌, ◌<◌, ◌≡◌, ◌≤◌};
+ghost use Rattle.capnp_wire.specs.Standing.{struct_of};
+ghost use Rattle.capnp_wire.specs.Words.{first_fault_of_all};
+ghost use Rattle.capnp_wire.specs.Edits.{IsCopyRefusal, fitted, with_bytes, with_number, with_pointer_tree, zero_struct};
 ghost use Rattle.capnp_wire.specs.Elements.{with_struct_element};
 ghost use Rattle.capnp_wire.specs.Place.{struct_tree};
 ghost use Rattle.capnp_arena.specs.Segment.{segment};
@@ -10,6 +12,7 @@ ghost use Rattle.capnp_arena.specs.Forest.{Changes, Forest, struct_from, tree};
 use crate::arena::{Arena, Place};
 use crate::lists::StructsPlace;
 use capnp_device::error::Result;
+use capnp_wire::StructReader;
 use capnp_wire::primitive::PrimitiveElement;
 use capnp_wire::size::StructSize;
 
@@ -70,4 +73,21 @@ pub fn set_element_number<T: PrimitiveElement>(
         pointers: list.pointers,
     };
     arena.set_number(place, offset, value);
+}
+
+/// Replaces what the struct that the pointer at a word leads to holds by what fits of another one.
+///
+/// Refused as `copy_content_from`; then nothing has changed.
+pub fn refill(arena: &mut Arena, at: usize, place: Place, source: &StructReader<'_>) -> Result<()>
+    requires forest { Forest (segment arena.old) at }
+    requires there { shape_at (segment arena.old) at ≡ StructIn place.start place.data_words place.pointers }
+    ensures forest { OnOk result (Forest (segment arena.new) at) }
+    ensures there { OnOk result (shape_at (segment arena.new) at ≡ StructIn place.start place.data_words place.pointers) }
+    ensures changes { OnOk result (Changes at (segment arena.old) (segment arena.new)) }
+    ensures tree { OnOk result (tree (segment arena.new) at ≡ struct_tree (fitted (8 * place.data_words) place.pointers (struct_of source.now))) }
+    ensures cause { IfErr result (λ e. IsCopyRefusal e (first_fault_of_all (struct_of source.now).pointers)) }
+    ensures refused { OnErr result (segment arena.new ≡ segment arena.old) }
+{
+    arena.copy_content_from(place, source)?;
+    Ok(())
 }

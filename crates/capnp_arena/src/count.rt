@@ -99,6 +99,9 @@ pub fn count_words(bytes: &[u8], w: usize) -> Option<u64>
             pointers,
         } => {
             let own = 1 + count as u64 * (data_words as u64 + pointers as u64);
+            if pointers == 0 {
+                return add(own, 0);
+            }
             add_below(
                 own,
                 count_elements(

@@ -172,7 +172,8 @@ fn append_row(out: &mut Vec<u8>, bytes: &[u8], first: usize, count: usize) -> Ap
     Ok(())
 }
 
-/// A composite list: its tag and its elements, and then what their pointers lead to.
+/// A composite list: its tag and its elements, and then what their pointers lead to. Elements without pointers are one
+/// run of bytes.
 #[cycle(append)]
 #[inline(never)]
 fn append_composite(
@@ -194,6 +195,10 @@ fn append_composite(
         out,
         make_struct_word(count as u64, data_words as u64, pointers as u64),
     )?;
+    if pointers == 0 {
+        out.extend_from_slice(get_part(bytes, tag + 1, 8 * (count * data_words)))?;
+        return Ok(());
+    }
     let at = out.len();
     append_room(out, count * (data_words + pointers))?;
     fill_elements(out, at, bytes, tag + 1, count, data_words, pointers)?;

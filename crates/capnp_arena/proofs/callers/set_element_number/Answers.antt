@@ -1,12 +1,11 @@
-use Rattle.std.proofs.Common.{arith, ◌≡◌, ◌+◌, ◌*◌, ◌<◌, ◌≤◌, ◌^◌, List, ℕ, sym, ap, ◌∙◌, subst}
-use Rattle.capnp_wire.specs.Edits.{with_bytes, with_number}
+use Rattle.std.proofs.Common.{arith, ◌+◌, ◌*◌, ◌<◌, ◌≤◌, ◌^◌, ap, ◌∙◌, subst}
 use Rattle.capnp_wire.specs.Elements.{with_struct_element}
 use Rattle.capnp_wire.specs.Tree.{StructTree}
-use Rattle.capnp_arena.specs.Shape.{CompositeIn, StructIn, end_of, shape_at, word_count}
-use Rattle.capnp_arena.specs.Forest.{Changes, Forest, PartChanges, Planted, struct_from, tree}
+use Rattle.capnp_arena.specs.Shape.{CompositeIn, end_of, word_count}
+use Rattle.capnp_arena.specs.Forest.{Planted, tree}
 use Rattle.capnp_arena.proofs.Calls.{planted}
 use Rattle.capnp_arena.proofs.Counted.{ends_at}
-use Rattle.capnp_arena.proofs.Elements.{IsInElement, element_planted, in_element}
+use Rattle.capnp_arena.proofs.Elements.{element_planted, in_element}
 use Rattle.capnp_arena.proofs.Shapes.{element_end}
 use Rattle.capnp_arena.proofs.callers.set_element_number.Goals as goal
 

@@ -7,6 +7,7 @@ use Rattle.capnp_arena.specs.Looked.{shape_found}
 use Rattle.capnp_arena.specs.Forest.{struct_from, tree}
 use Rattle.capnp_arena.specs.Shape.{Points, CompositeIn, ListIn, NoShape, StructIn, shape_at}
 use Rattle.capnp_arena.proofs.Counted.{element_rows, row_step, structs_step, words_composite, words_list, words_null, words_pointers, words_struct}
+use Rattle.capnp_arena.proofs.PlainRows.{plain_row}
 use Rattle.capnp_arena.proofs.count.+count.Goals as goal
 
 pub count_row-loop-i-preserved : goal.count_row-loop-i-preserved
@@ -53,8 +54,8 @@ count_words-returns-else-element_size-eq6 t c =
     let n : words_of (tree c.args.bytes.now c.args.w) ≡ c.get_list_words.result + 0 = words_list _ _ c.requires.forest _ _ _ (omega (arith, q.2, c.if-element_size-eq6.false)) e ∙ omega (arith, c.get_list_words.ensures.value) in
     subst (IsCount _) (sym n) c.add-in-List.ensures
 
-pub count_words-returns-in-Composite : goal.count_words-returns-in-Composite
-count_words-returns-in-Composite t c =
+pub count_words-returns-else-pointers-eq0-2 : goal.count_words-returns-else-pointers-eq0-2
+count_words-returns-else-pointers-eq0-2 t c =
     let e : shape_at c.args.bytes.now c.args.w ≡ CompositeIn c.in-Composite.tag c.in-Composite.count c.in-Composite.data_words c.in-Composite.pointers = sym c.look.ensures.shape ∙ ap shape_found c.in-Composite.is in
     subst (IsCount _) (sym (words_composite _ _ c.requires.forest _ _ _ _ e)) (c.add_below-in-Composite.ensures _ c.count_elements.ensures)
 
@@ -63,3 +64,10 @@ count_words-count_elements-requires t c =
     let e : shape_at c.args.bytes.now c.args.w ≡ CompositeIn c.in-Composite.tag c.in-Composite.count c.in-Composite.data_words c.in-Composite.pointers = sym c.look.ensures.shape ∙ ap shape_found c.in-Composite.is in
     let q : Points c.args.bytes.now c.args.w (CompositeIn c.in-Composite.tag c.in-Composite.count c.in-Composite.data_words c.in-Composite.pointers) = subst (Points c.args.bytes.now c.args.w) (ap shape_found c.in-Composite.is) c.look.ensures.points in
     (omega (arith, q.0, q.6), (element_rows _ _ c.requires.forest _ _ _ _ e, (q.6, (c.requires.few, (q.4, q.2, q.3)))))
+
+-- structs without pointers lead to nothing
+pub count_words-returns-then-pointers-eq0-2 : goal.count_words-returns-then-pointers-eq0-2
+count_words-returns-then-pointers-eq0-2 t c =
+    let e : shape_at c.args.bytes.now c.args.w ≡ CompositeIn c.in-Composite.tag c.in-Composite.count c.in-Composite.data_words c.in-Composite.pointers = sym c.look.ensures.shape ∙ ap shape_found c.in-Composite.is in
+    let none = (plain_row (tree c.args.bytes.now) c.args.bytes.now (c.in-Composite.tag + 1) c.in-Composite.data_words c.in-Composite.pointers c.in-Composite.count c.if-pointers-eq0-2.true).words in
+    subst (IsCount c.add-then-pointers-eq0-2.result) (sym (words_composite _ _ c.requires.forest _ _ _ _ e ∙ ap (λ k. 1 + c.in-Composite.count * (c.in-Composite.data_words + c.in-Composite.pointers) + k) none)) c.add-then-pointers-eq0-2.ensures

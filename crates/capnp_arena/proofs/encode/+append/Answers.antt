@@ -1,7 +1,7 @@
 use Rattle.std.proofs.Common.{rules, arith, ◌≡◌, ◌++◌, ◌+◌, ◌-◌, ◌*◌, ◌/◌, ◌<◌, ◌≤◌, inl, inr, ◌∙◌, sym, ap, subst, length, List, ℕ}
 use Rattle.std.specs.Prelude.{IfOk}
 use Rattle.std.proofs.lemmas.List.{append-nil}
-use Rattle.capnp_wire.specs.Encoding.{pointer_word}
+use Rattle.capnp_wire.specs.Encoding.{pointer_word, spelled}
 use Rattle.capnp_wire.specs.Facts.Bytes.{AreBytes-fits}
 use Rattle.capnp_wire.specs.Facts.Rows.{struct_count-structs_from, tree_count-trees_from}
 use Rattle.capnp_wire.specs.Filling.{put, with_pointers, words_from}
@@ -17,6 +17,7 @@ use Rattle.capnp_arena.proofs.Encodings.{bytes_composite, bytes_null, bytes_plai
 use Rattle.capnp_arena.proofs.Shapes.{element_end, itself_inside}
 use Rattle.capnp_arena.proofs.Written.{length_part}
 use Rattle.capnp_wire.specs.Place.{bytes_at}
+use Rattle.capnp_arena.proofs.PlainRows.{plain_list, plain_row}
 use Rattle.capnp_arena.proofs.encode.+append.Goals as goal
 
 -- ---- one tree ----
@@ -121,6 +122,20 @@ append_composite-returns t c =
     let n = struct_count-structs_from (λ i. struct_from c.args.bytes.now (c.args.tag + 1 + i * (c.args.data_words + c.args.pointers)) c.args.data_words c.args.pointers) 0 c.args.count in
     let b = elements_held c.args.bytes.now (c.args.tag + 1) c.args.data_words c.args.pointers 0 c.args.count h (elements_lie c.args.bytes.now (c.args.tag + 1) c.args.data_words c.args.pointers c.args.count c.requires.inside) in
     composite_last _ _ _ c.args.count _ _ c.append_word.new.out.items _ _ _ c.make_struct_word.ensures c.in_ok-append_word.ensures (omega (arith, c.len-at.ensures)) (sym n) c.in_ok-append_room.ensures b c.in_ok-fill_elements.ensures
+
+pub append_composite-get_part-requires : goal.append_composite-get_part-requires
+append_composite-get_part-requires t c = omega (arith, c.requires.inside, c.if-pointers-eq0.true, ap (λ k. c.args.count * (c.args.data_words + k)) c.if-pointers-eq0.true)
+
+-- elements without pointers are one run of bytes
+pub append_composite-returns-then-pointers-eq0 : goal.append_composite-returns-then-pointers-eq0
+append_composite-returns-then-pointers-eq0 t c =
+    let d = c.args.data_words in
+    let p = c.args.pointers in
+    let plain = plain_row (tree c.args.bytes.now) c.args.bytes.now (c.args.tag + 1) c.args.data_words c.args.pointers c.args.count c.if-pointers-eq0.true in
+    let size : 8 * (c.args.count * c.args.data_words) ≡ 8 * (c.args.count * (c.args.data_words + c.args.pointers)) = sym (ap (λ k. 8 * (c.args.count * (c.args.data_words + k))) c.if-pointers-eq0.true ∙ omega arith) in
+    plain_list c.args.data_words c.args.pointers c.args.count _ _ c.args.out.now.items c.append_word.new.out.items _ (struct_count-structs_from _ 0 c.args.count) plain
+    (c.in_ok-append_word.ensures ∙ ap (λ w. c.args.out.now.items ++ spelled 8 w) c.make_struct_word.ensures)
+    (c.in_ok-extend_from_slice.ensures.items ∙ ap (λ z. c.append_word.new.out.items ++ z) (c.get_part.ensures.part ∙ ap (bytes_at c.args.bytes.now (c.args.tag + 1)) size))
 
 pub fill_row-overflow_sub-gap-in-loop-i : goal.fill_row-overflow_sub-gap-in-loop-i
 fill_row-overflow_sub-gap-in-loop-i t c =

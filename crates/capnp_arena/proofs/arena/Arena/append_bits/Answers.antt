@@ -1,4 +1,4 @@
-use Rattle.std.proofs.Common.{rules, ◌≡◌, ◌++◌, ◌*◌, length, ap, ◌∙◌}
+use Rattle.std.proofs.Common.{rules, ◌≡◌, ◌++◌, ◌*◌, ap, ◌∙◌}
 use Rattle.capnp_wire.specs.Encoding.{packed, padded}
 use Rattle.capnp_wire.specs.Facts.EncodedSizes.{length_packed}
 use Rattle.capnp_wire.specs.Locate.{list_words}
