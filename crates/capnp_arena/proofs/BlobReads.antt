@@ -6,7 +6,7 @@ use Rattle.capnp_wire.specs.Reading.{as_data, as_text}
 use Rattle.capnp_wire.specs.Tree.{Numbers, Tree}
 use Rattle.capnp_arena.specs.Forest.{Forest, tree}
 use Rattle.capnp_arena.specs.Shape.{ListIn, shape_at}
-use Rattle.capnp_arena.proofs.Structs.{tree_list}
+use Rattle.capnp_arena.specs.Facts.Structs.{tree_list}
 
 other_data : (f : ℕ → Tree) (bytes : List ℕ) (a size n : ℕ) → (size ≡ 2 → ⊥) → as_data (list_tree f bytes a size n) ≡ Err WrongElementSize
 other_data f bytes a zero n h = refl

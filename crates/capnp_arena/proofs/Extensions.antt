@@ -22,9 +22,9 @@ use Rattle.capnp_arena.proofs.Encodings.{row_held}
 use Rattle.capnp_arena.proofs.Enlarged.{words_more}
 use Rattle.capnp_arena.proofs.Made.{made_length, made_word}
 use Rattle.capnp_arena.proofs.NewTrees.{IsNewTree, tree_made}
-use Rattle.capnp_arena.proofs.Structs.{tree_struct}
+use Rattle.capnp_arena.specs.Facts.Structs.{tree_struct}
 use Rattle.capnp_arena.proofs.Whole.{forest_whole}
-use Rattle.capnp_arena.proofs.Words.{shape}
+use Rattle.capnp_arena.specs.Facts.Words.{shape}
 
 -- ---- nulls have no faults ----
 

@@ -1,16 +1,8 @@
-pub mod Words
-pub mod Shapes
-pub mod Levels
-pub mod Forests
-pub mod Calls
 pub mod Puts
-pub mod Structs
 pub mod Made
 pub mod Written
-pub mod Laws
 pub mod Rows
 pub mod NewLists
-pub mod Elements
 pub mod Lookings
 pub mod Counted
 pub mod Encodings
@@ -26,6 +18,7 @@ pub mod Extensions
 pub mod Refusals
 pub mod BlobReads
 pub mod ListsRead
+pub mod ElementsRead
 pub mod PartLists
 pub mod StructListsMade
 pub mod StructListTrees

@@ -16,8 +16,8 @@ use Rattle.capnp_arena.specs.Made.{size_number}
 use Rattle.capnp_arena.specs.Reads.{reads_kind}
 use Rattle.capnp_arena.specs.Shape.{CompositeIn, ListIn, Points, shape_at, word_count}
 use Rattle.capnp_arena.proofs.Counted.{ends_at}
-use Rattle.capnp_arena.proofs.Forests.{points}
-use Rattle.capnp_arena.proofs.Structs.{tree_composite, tree_list}
+use Rattle.capnp_arena.specs.Facts.Forests.{points}
+use Rattle.capnp_arena.specs.Facts.Structs.{tree_composite, tree_list}
 use Rattle.capnp_arena.proofs.Written.{length_part}
 
 plain_read : (f : ℕ → Tree) (bytes : List ℕ) (asked : ElementSize) (a size n : ℕ) → as_list asked (list_tree f bytes a size n) 1 ≡ cond (reads_kind asked size) (Ok (list_tree f bytes a size n)) (Err WrongElementSize)

@@ -24,10 +24,10 @@ use Rattle.capnp_arena.specs.declared.grown.PartRow.{PartRow}
 use Rattle.capnp_arena.proofs.Counted.{element_rows, ends_at, list_row, words_composite, words_pointers}
 use Rattle.capnp_arena.proofs.Enlarged.{parts_extended, words_more}
 use Rattle.capnp_arena.proofs.Extensions.{whole_more}
-use Rattle.capnp_arena.proofs.Levels.{structs_same}
+use Rattle.capnp_arena.specs.Facts.Levels.{structs_same}
 use Rattle.capnp_arena.proofs.ListsRead.{plain_count, struct_is_element, structs_count}
-use Rattle.capnp_arena.proofs.Shapes.{element_end}
-use Rattle.capnp_arena.proofs.Structs.{tree_composite, tree_list, two_parts}
+use Rattle.capnp_arena.specs.Facts.Shapes.{element_end}
+use Rattle.capnp_arena.specs.Facts.Structs.{tree_composite, tree_list, two_parts}
 use Rattle.capnp_arena.proofs.Whole.{forest_whole}
 
 -- ---- structs without pointers ----

@@ -13,8 +13,8 @@ use Rattle.capnp_arena.specs.Forest.{Forest, struct_from, tree}
 use Rattle.capnp_arena.specs.Shape.{CompositeIn, ListIn, NoShape, Shape, StructIn, end_of, placed, shape_at, word_count}
 use Rattle.capnp_arena.proofs.Counted.{ends_at}
 use Rattle.capnp_arena.proofs.Extensions.{larger_extended}
-use Rattle.capnp_arena.proofs.Forests.{tree_step}
-use Rattle.capnp_arena.proofs.Structs.{tree_composite, tree_list, tree_struct, two_parts}
+use Rattle.capnp_arena.specs.Facts.Forests.{tree_step}
+use Rattle.capnp_arena.specs.Facts.Structs.{tree_composite, tree_list, tree_struct, two_parts}
 use Rattle.capnp_arena.proofs.Written.{length_part}
 use Rattle.capnp_wire.specs.Place.{bytes_at}
 

@@ -17,13 +17,13 @@ use Rattle.capnp_arena.specs.Forest.{Forest, struct_from, tree}
 use Rattle.capnp_arena.specs.Grown.{kind_pointers, kind_words, plain_parts}
 use Rattle.capnp_arena.specs.Shape.{CompositeIn, ListIn, NoShape, Points, StructIn, shape_at, word_count}
 use Rattle.capnp_arena.proofs.Counted.{ends_at}
-use Rattle.capnp_arena.proofs.Forests.{points}
-use Rattle.capnp_arena.proofs.Levels.{structs_same}
+use Rattle.capnp_arena.specs.Facts.Forests.{points}
+use Rattle.capnp_arena.specs.Facts.Levels.{structs_same}
 use Rattle.capnp_arena.proofs.ListsRead.{plain_count, struct_is_element, structs_count}
 use Rattle.capnp_arena.proofs.PartLists.{plain_pointers, plain_words}
 use Rattle.capnp_arena.proofs.Refusals.{null_is}
-use Rattle.capnp_arena.proofs.Shapes.{element_end}
-use Rattle.capnp_arena.proofs.Structs.{tree_composite, tree_list, tree_struct, two_parts}
+use Rattle.capnp_arena.specs.Facts.Shapes.{element_end}
+use Rattle.capnp_arena.specs.Facts.Structs.{tree_composite, tree_list, tree_struct, two_parts}
 use Rattle.capnp_arena.proofs.Written.{length_part}
 
 -- sizes by their two numbers

@@ -21,7 +21,7 @@ use Rattle.capnp_arena.proofs.Extensions.{filled_whole}
 use Rattle.capnp_arena.proofs.Made.{made_added, made_length, made_word}
 use Rattle.capnp_arena.proofs.NewTrees.{IsNewTree, tree_made}
 use Rattle.capnp_arena.proofs.PartLists.{parts_as_structs, parts_whole}
-use Rattle.capnp_arena.proofs.Words.{shape}
+use Rattle.capnp_arena.specs.Facts.Words.{shape}
 
 pub record IsNewStructs (old new : List ℕ) (at tag count d p : ℕ) (t : Tree) : Type 0 where
   pub forest : Forest new at

@@ -7,7 +7,7 @@ use Rattle.capnp_wire.specs.Tree.{Tree}
 use Rattle.capnp_arena.specs.Forest.{Forest, tree}
 use Rattle.capnp_arena.specs.Reads.{is_list_shape, is_no_shape, is_struct_shape}
 use Rattle.capnp_arena.specs.Shape.{CompositeIn, ListIn, NoShape, Shape, StructIn, placed, shape_at}
-use Rattle.capnp_arena.proofs.Forests.{tree_step}
+use Rattle.capnp_arena.specs.Facts.Forests.{tree_step}
 
 -- ---- a list that is not composite, whatever its elements are ----
 

@@ -10,3 +10,4 @@ pub mod Grown
 pub mod Copies
 pub mod Handles
 pub mod Listed
+pub mod Facts

@@ -22,25 +22,20 @@ pub struct StructBuilder<'a> {
     pub place: Place,
 }
 
-/// What is handed out by value.
-#[derive(Drop)]
-pub enum Value<'a> {
-    Number(u64),
-    Struct(StructBuilder<'a>),
-    Pointer(PointerBuilder<'a>),
-}
-
 impl<'a> PointerBuilder<'a> {
     ghost use Rattle.std.specs.Prelude.{IfErr, IfOk, IsOk, None, OnErr, OnOk, ◌≡◌, ◌<◌};
-    ghost use Rattle.capnp_wire.specs.Edits.{HoldsStruct, IsStructRefusal, extended, struct_in, struct_refusal};
+    ghost use Rattle.capnp_wire.specs.Edits.{IsStructRefusal, extended, struct_in, zero_struct};
+    ghost use Rattle.capnp_device.specs.declared.error.ErrorKind.TheVariants.{OutOfMemory};
     ghost use Rattle.capnp_wire.specs.Place.{struct_tree};
     ghost use Rattle.capnp_arena.specs.Forest.{Changes, Forest, tree};
     ghost use Rattle.std.specs.Borrow.{sem};
     ghost use Rattle.capnp_arena.specs.Handles.{StructRests};
     ghost use Rattle.capnp_arena.specs.Segment.{segment};
-    ghost use Rattle.capnp_arena.specs.Shape.{StructIn, shape_at};
+    ghost use Rattle.capnp_arena.specs.Shape.{StructIn, shape_at, word_count};
 
     /// The struct that stands here, with at least a size.
+    ///
+    /// Refused with `WrongPointerKind` for a list, and else with `OutOfMemory`; then nothing has changed.
     pub fn get_struct(self, size: StructSize) -> Result<StructBuilder<'a>>
         requires forest { Forest (segment self.arena.now) self.at }
         ensures* rests { sem 𝓛 (StructRests self.entry.arena result) }
@@ -55,20 +50,34 @@ impl<'a> PointerBuilder<'a> {
         let place = arena.get_struct(at, size)?;
         Ok(StructBuilder { arena, place })
     }
+
+    /// Replaces what stands here by a struct of a size, all zero and null.
+    ///
+    /// Refused with `OutOfMemory`; then nothing has changed.
+    pub fn init_struct(self, size: StructSize) -> Result<StructBuilder<'a>>
+        requires { self.at < word_count (segment self.arena.now) }
+        ensures* rests { sem 𝓛 (StructRests self.entry.arena result) }
+        ensures same { IfOk result (λ s. s.arena.ghost_name ≡ self.entry.arena.ghost_name) }
+        ensures forest { IfOk result (λ s. Forest (segment s.arena.now) self.entry.at) }
+        ensures place { IfOk result (λ s. shape_at (segment s.arena.now) self.entry.at ≡ StructIn s.place.start s.place.data_words s.place.pointers) }
+        ensures tree { IfOk result (λ s. tree (segment s.arena.now) self.entry.at ≡ struct_tree (zero_struct size)) }
+        ensures changes { IfOk result (λ s. Changes self.entry.at (segment self.entry.arena.now) (segment s.arena.now)) }
+        ensures kind { IfErr result (λ e. e.kind ≡ OutOfMemory) }
+    {
+        let PointerBuilder { arena, at } = self;
+        let place = arena.init_struct(at, size)?;
+        Ok(StructBuilder { arena, place })
+    }
 }
 
 impl<'a> StructBuilder<'a> {
-    ghost use Rattle.std.specs.Borrow.{sem};
-    ghost use Rattle.std.specs.Prelude.{IfErr, IfOk, IsOk, None, OnErr, OnOk, ◌*◌, ◌+◌, ◌≡◌, ◌<◌, ◌≤◌};
-    ghost use Rattle.capnp_device.specs.declared.error.ErrorKind.TheVariants.{OutOfMemory};
-    ghost use Rattle.capnp_wire.specs.Edits.{with_bytes, with_number, zero_struct};
-    ghost use Rattle.capnp_wire.specs.Place.{struct_tree};
-    ghost use Rattle.capnp_arena.specs.Forest.{Changes, Forest, PartChanges, Planted, struct_from, tree};
-    ghost use Rattle.capnp_arena.specs.Handles.{HoldsArena, StructRests};
+    ghost use Rattle.std.specs.Prelude.{◌*◌, ◌+◌, ◌<◌, ◌≡◌, ◌≤◌};
+    ghost use Rattle.capnp_wire.specs.Edits.{with_bytes, with_number};
+    ghost use Rattle.capnp_arena.specs.Forest.{PartChanges, Planted, struct_from};
     ghost use Rattle.capnp_arena.specs.Segment.{segment};
-    ghost use Rattle.capnp_arena.specs.Shape.{StructIn, shape_at};
+    ghost use Rattle.capnp_arena.specs.Shape.{StructIn};
 
-    /// Stores a number.
+    /// Stores a number at `offset`, in units of its own size; it has to lie inside the data section.
     pub fn set_data_field<T: PrimitiveElement>(&mut self, offset: u32, value: T)
         requires planted { Planted (segment self.old.arena.now) (StructIn self.old.place.start self.old.place.data_words self.old.place.pointers) }
         requires inside { (offset + 1) * T.width ≤ 8 * self.old.place.data_words }
@@ -84,7 +93,7 @@ impl<'a> StructBuilder<'a> {
         self.arena.set_number(place, offset, value);
     }
 
-    /// The pointer at an index.
+    /// The pointer at `index`, which has to be below the number of pointers.
     pub fn get_pointer_field(self, index: u16) -> PointerBuilder<'a>
         requires planted { Planted (segment self.arena.now) (StructIn self.place.start self.place.data_words self.place.pointers) }
         requires inside { index < self.place.pointers }
@@ -95,41 +104,6 @@ impl<'a> StructBuilder<'a> {
         let StructBuilder { arena, place } = self;
         let at = arena.get_pointer_field(place, index);
         PointerBuilder { arena, at }
-    }
-
-    /// Starts a pointer anew.
-    pub fn init(self, index: u16, size: StructSize) -> Result<StructBuilder<'a>>
-        requires planted { Planted (segment self.arena.now) (StructIn self.place.start self.place.data_words self.place.pointers) }
-        requires inside { index < self.place.pointers }
-        ensures* rests { sem 𝓛 (StructRests self.entry.arena result) }
-        ensures same { IfOk result (λ s. s.arena.ghost_name ≡ self.entry.arena.ghost_name) }
-        ensures forest { IfOk result (λ s. Forest (segment s.arena.now) (self.entry.place.start + self.entry.place.data_words + index)) }
-        ensures tree { IfOk result (λ s. tree (segment s.arena.now) (self.entry.place.start + self.entry.place.data_words + index) ≡ struct_tree (zero_struct size)) }
-        ensures changes { IfOk result (λ s. Changes (self.entry.place.start + self.entry.place.data_words + index) (segment self.entry.arena.now) (segment s.arena.now)) }
-        ensures kind { IfErr result (λ e. e.kind ≡ OutOfMemory) }
-    {
-        let StructBuilder { arena, place } = self;
-        let at = arena.get_pointer_field(place, index);
-        let place = arena.init_struct(at, size)?;
-        Ok(StructBuilder { arena, place })
-    }
-
-    /// What a pointer leads to, or a number.
-    pub fn get(self, index: u16, size: StructSize) -> Result<Value<'a>>
-        requires planted { Planted (segment self.arena.now) (StructIn self.place.start self.place.data_words self.place.pointers) }
-        ensures same { IfOk result (λ v. HoldsArena v self.entry.arena.ghost_name) }
-    {
-        let StructBuilder { arena, place } = self;
-        if index >= place.pointers {
-            let number = arena.get_data_field::<u64>(place, index as u32);
-            return Ok(Value::Number(number));
-        }
-        let at = arena.get_pointer_field(place, index);
-        if arena.is_null(at) {
-            return Ok(Value::Pointer(PointerBuilder { arena, at }));
-        }
-        let place = arena.get_struct(at, size)?;
-        Ok(Value::Struct(StructBuilder { arena, place }))
     }
 }
 
@@ -153,19 +127,4 @@ pub fn get_and_set<T: PrimitiveElement>(
         built.set_data_field(offset, value);
     }
     Ok(())
-}
-
-impl Arena {
-    ghost use Rattle.std.specs.Prelude.{IfOk, drop, length, take};
-    ghost use Rattle.std.specs.Borrow.{sem};
-    ghost use Rattle.capnp_arena.specs.Handles.{LendsBytes};
-
-    /// So many bytes of the segment, to be written.
-    pub fn lend_bytes(&mut self, start: usize, count: usize) -> Result<&mut [u8]>
-        requires inside { start + count ≤ length (segment self.old) }
-        ensures* lends { sem 𝓛 (LendsBytes self.entry start result) }
-        ensures now { IfOk result (λ bytes. bytes.now ≡ take count (drop start (segment self.old))) }
-    {
-        Ok(self.bytes.slice_mut(start..start + count))
-    }
 }

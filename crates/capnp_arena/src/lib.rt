@@ -10,6 +10,7 @@ mod contents;
 pub mod copies;
 mod copy;
 mod count;
+pub mod element_reads;
 mod encode;
 mod extend;
 mod get_struct;

@@ -133,7 +133,7 @@ impl Arena {
 
     /// The data of a struct.
     #[inline(always)]
-    fn get_data_bytes(&self, place: Place) -> &[u8]
+    pub(crate) fn get_data_bytes(&self, place: Place) -> &[u8]
         requires { Planted (segment self.now) (StructIn place.start place.data_words place.pointers) }
         ensures { result.now ≡ (struct_from (segment self.now) place.start place.data_words place.pointers).bytes }
     {

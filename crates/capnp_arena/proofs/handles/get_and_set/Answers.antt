@@ -1,8 +1,8 @@
 use Rattle.std.proofs.Common.{rules, ◌≡◌, subst}
 use Rattle.capnp_arena.specs.Forest.{Changes, Forest}
 use Rattle.capnp_arena.specs.Segment.{segment}
-use Rattle.capnp_arena.proofs.Calls.{one_by_one}
-use Rattle.capnp_arena.proofs.Laws.{in_struct, struct_planted}
+use Rattle.capnp_arena.specs.Facts.Calls.{one_by_one}
+use Rattle.capnp_arena.specs.Facts.Laws.{in_struct, struct_planted}
 use Rattle.capnp_arena.proofs.handles.get_and_set.Goals as goal
 
 pub set_data_field-requires-clause-planted : goal.set_data_field-requires-clause-planted

@@ -2,8 +2,8 @@ use Rattle.std.proofs.Common.{rules, arith, ◌≡◌, ◌+◌, ◌*◌, ◌/◌
 use Rattle.capnp_wire.specs.Facts.Bytes.{AreBytes-fits}
 use Rattle.capnp_arena.specs.Shape.{word_count}
 use Rattle.capnp_arena.proofs.Extensions.{extension_made}
-use Rattle.capnp_arena.proofs.Forests.{points}
-use Rattle.capnp_arena.proofs.Shapes.{itself_inside}
+use Rattle.capnp_arena.specs.Facts.Forests.{points}
+use Rattle.capnp_arena.specs.Facts.Shapes.{itself_inside}
 use Rattle.capnp_arena.proofs.arena.Arena.extend_struct.Goals as goal
 
 pub make_with-requires-clause-inside : goal.make_with-requires-clause-inside

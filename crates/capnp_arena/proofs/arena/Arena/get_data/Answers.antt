@@ -3,7 +3,7 @@ use Rattle.capnp_wire.specs.Place.{bytes_at}
 use Rattle.capnp_wire.specs.Reading.{as_data}
 use Rattle.capnp_arena.proofs.BlobReads.{bytes_here, no_data}
 use Rattle.capnp_arena.proofs.Refusals.{null_is}
-use Rattle.capnp_arena.proofs.Structs.{tree_composite, tree_struct}
+use Rattle.capnp_arena.specs.Facts.Structs.{tree_composite, tree_struct}
 use Rattle.capnp_arena.proofs.arena.Arena.get_data.Goals as goal
 
 pub returns-in-Null : goal.returns-in-Null

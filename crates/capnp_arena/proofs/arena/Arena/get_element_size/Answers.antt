@@ -3,7 +3,7 @@ use Rattle.capnp_wire.specs.ElementSizes.{element_size_of}
 use Rattle.capnp_arena.specs.Forest.{tree}
 use Rattle.capnp_arena.specs.Listed.{list_shape, listed_tree}
 use Rattle.capnp_arena.proofs.ListsRead.{plain_size_is, size_is_simple}
-use Rattle.capnp_arena.proofs.Structs.{tree_composite}
+use Rattle.capnp_arena.specs.Facts.Structs.{tree_composite}
 use Rattle.capnp_arena.proofs.arena.Arena.get_element_size.Goals as goal
 
 pub returns-in-Plain : goal.returns-in-Plain

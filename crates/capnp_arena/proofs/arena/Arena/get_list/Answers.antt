@@ -3,7 +3,7 @@ use Rattle.capnp_wire.specs.Reading.{as_list, reads_structs}
 use Rattle.capnp_arena.specs.Reads.{reads_kind}
 use Rattle.capnp_arena.proofs.ListsRead.{plain_got, plain_refused, structs_got, structs_refused}
 use Rattle.capnp_arena.proofs.Refusals.{null_is}
-use Rattle.capnp_arena.proofs.Structs.{tree_struct}
+use Rattle.capnp_arena.specs.Facts.Structs.{tree_struct}
 use Rattle.capnp_arena.proofs.arena.Arena.get_list.Goals as goal
 
 pub returns-in-Null-clause-read : goal.returns-in-Null-clause-read

@@ -1,7 +1,7 @@
 use Rattle.std.proofs.Common.{subst}
 use Rattle.capnp_arena.specs.Forest.{Planted}
-use Rattle.capnp_arena.proofs.Calls.{planted}
-use Rattle.capnp_arena.proofs.Elements.{element_planted}
+use Rattle.capnp_arena.specs.Facts.Calls.{planted}
+use Rattle.capnp_arena.specs.Facts.Elements.{element_planted}
 use Rattle.capnp_arena.proofs.ListsRead.{struct_is_element}
 use Rattle.capnp_arena.proofs.arena.Arena.get_struct_element.Goals as goal
 

@@ -4,7 +4,7 @@ use Rattle.capnp_wire.specs.Reading.{as_text}
 use Rattle.capnp_wire.specs.Tree.{Numbers}
 use Rattle.capnp_arena.proofs.BlobReads.{bytes_here, no_text}
 use Rattle.capnp_arena.proofs.Refusals.{null_is}
-use Rattle.capnp_arena.proofs.Structs.{tree_composite, tree_struct}
+use Rattle.capnp_arena.specs.Facts.Structs.{tree_composite, tree_struct}
 use Rattle.capnp_arena.proofs.arena.Arena.get_text.Goals as goal
 
 pub returns-in-Null : goal.returns-in-Null

@@ -1,7 +1,7 @@
 use Rattle.std.proofs.Common.{rules, arith, ◌≡◌, ◌+◌, ◌*◌, ◌/◌, ◌<◌, ◌^◌, List, ℕ, ap, sym, ◌∙◌, length}
 use Rattle.capnp_arena.specs.Shape.{word_count}
-use Rattle.capnp_arena.proofs.Forests.{points}
-use Rattle.capnp_arena.proofs.Shapes.{itself_inside}
+use Rattle.capnp_arena.specs.Facts.Forests.{points}
+use Rattle.capnp_arena.specs.Facts.Shapes.{itself_inside}
 use Rattle.capnp_arena.proofs.StructListsMade.{structs_made}
 use Rattle.capnp_arena.proofs.arena.Arena.make_structs.Goals as goal
 
