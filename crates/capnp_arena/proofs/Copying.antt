@@ -22,7 +22,7 @@ use Rattle.capnp_arena.specs.Copies.{Spares}
 use Rattle.capnp_arena.specs.Shape.{word_count}
 use Rattle.capnp_arena.proofs.Encodings.{no_elements, no_pointers}
 use Rattle.capnp_arena.proofs.Puts.{longer_same, put_before, put_behind}
-use Rattle.capnp_arena.proofs.Shapes.{element_end}
+use Rattle.capnp_arena.specs.Facts.Shapes.{element_end}
 
 -- ---- words that are spared ----
 

@@ -9,9 +9,9 @@ use Rattle.capnp_wire.specs.Facts.Indexed.{length-bits_from}
 use Rattle.capnp_arena.specs.Counts.{AreElementForests, AreForests}
 use Rattle.capnp_arena.specs.Forest.{Forest, struct_from, tree}
 use Rattle.capnp_arena.specs.Shape.{CompositeIn, IsPointerOf, ListIn, NoShape, Shape, StructIn, end_of, placed, shape_at, word_count}
-use Rattle.capnp_arena.proofs.Forests.{child, points, tree_step}
-use Rattle.capnp_arena.proofs.Shapes.{end_inside}
-use Rattle.capnp_arena.proofs.Structs.{tree_composite, tree_list, tree_struct}
+use Rattle.capnp_arena.specs.Facts.Forests.{child, points, tree_step}
+use Rattle.capnp_arena.specs.Facts.Shapes.{end_inside}
+use Rattle.capnp_arena.specs.Facts.Structs.{tree_composite, tree_list, tree_struct}
 use Rattle.capnp_arena.proofs.Written.{length_part}
 
 module _ (bytes : List ℕ) (w : ℕ) (f : Forest bytes w) where

@@ -17,10 +17,10 @@ use Rattle.capnp_wire.specs.Words.{byte_words, first_fault, first_fault_of_all, 
 use Rattle.capnp_wire.specs.declared.fault.Fault.{Fault}
 use Rattle.capnp_arena.specs.Shape.{CompositeIn, IsPointerOf, IsWithin, IsWordAt, ListIn, Points, Shape, StructIn, word_count}
 use Rattle.capnp_arena.specs.Forest.{Forest, OwnedBy, Owns, Planted, struct_from, tree}
-use Rattle.capnp_arena.proofs.Calls.{grown, null_forest, null_owns, null_tree, owned_by}
-use Rattle.capnp_arena.proofs.Shapes.{end_inside}
-use Rattle.capnp_arena.proofs.Structs.{tree_composite, tree_list, tree_struct}
-use Rattle.capnp_arena.proofs.Words.{shape}
+use Rattle.capnp_arena.specs.Facts.Calls.{grown, null_forest, null_owns, null_tree, owned_by}
+use Rattle.capnp_arena.specs.Facts.Shapes.{end_inside}
+use Rattle.capnp_arena.specs.Facts.Structs.{tree_composite, tree_list, tree_struct}
+use Rattle.capnp_arena.specs.Facts.Words.{shape}
 
 -- ---- faults ----
 

@@ -15,9 +15,9 @@ use Rattle.capnp_arena.specs.Encoded.{HasSize, pointer_to}
 use Rattle.capnp_arena.specs.Forest.{Forest, struct_from, tree}
 use Rattle.capnp_arena.specs.Shape.{CompositeIn, ListIn, NoShape, Points, Shape, StructIn, placed, shape_at, word_count}
 use Rattle.capnp_arena.proofs.Counted.{ends_at}
-use Rattle.capnp_arena.proofs.Forests.{points, tree_step}
-use Rattle.capnp_arena.proofs.Shapes.{element_end}
-use Rattle.capnp_arena.proofs.Structs.{tree_composite, tree_list, tree_struct}
+use Rattle.capnp_arena.specs.Facts.Forests.{points, tree_step}
+use Rattle.capnp_arena.specs.Facts.Shapes.{element_end}
+use Rattle.capnp_arena.specs.Facts.Structs.{tree_composite, tree_list, tree_struct}
 use Rattle.capnp_arena.proofs.Written.{length_part}
 
 -- ---- sizes ----

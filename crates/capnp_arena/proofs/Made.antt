@@ -12,12 +12,12 @@ use Rattle.capnp_wire.specs.Facts.Filling.{length_put}
 use Rattle.capnp_arena.specs.Made.{IsMade, struct_pointer, struct_start}
 use Rattle.capnp_arena.specs.Shape.{NoShape, CompositeIn, ListIn, IsPointerOf, IsWithin, IsWordAt, Points, StructIn, shape_at, word_count}
 use Rattle.capnp_arena.specs.Forest.{Changes, Forest, IsSame, struct_from, tree}
-use Rattle.capnp_arena.proofs.Calls.{new_changes, new_forest, new_null, null_tree}
+use Rattle.capnp_arena.specs.Facts.Calls.{new_changes, new_forest, new_null, null_tree}
 use Rattle.capnp_arena.proofs.Puts.{longer_same, put_before, put_behind, put_there, added_there, zeros_part}
-use Rattle.capnp_arena.proofs.Structs.{null_row, tree_composite, tree_list, tree_struct, two_parts}
-use Rattle.capnp_arena.proofs.Shapes.{element_end}
-use Rattle.capnp_arena.proofs.Levels.{structs_same}
-use Rattle.capnp_arena.proofs.Words.{shape}
+use Rattle.capnp_arena.specs.Facts.Structs.{null_row, tree_composite, tree_list, tree_struct, two_parts}
+use Rattle.capnp_arena.specs.Facts.Shapes.{element_end}
+use Rattle.capnp_arena.specs.Facts.Levels.{structs_same}
+use Rattle.capnp_arena.specs.Facts.Words.{shape}
 
 -- a word put into bytes with others added
 module _ (old new added : List ℕ) (at word : ℕ) (h : IsMade old new added at word) where

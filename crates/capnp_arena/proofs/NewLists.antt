@@ -18,7 +18,7 @@ use Rattle.capnp_arena.specs.Shape.{CompositeIn, ListIn, Shape, shape_at, word_c
 use Rattle.capnp_arena.specs.Forest.{Changes, Forest, tree}
 use Rattle.capnp_arena.proofs.Made.{composite_changes, composite_forest, composite_is, composite_shape, list_changes, list_forest, list_is, list_null, list_shape, made_added}
 use Rattle.capnp_arena.proofs.Puts.{put_zeros, zeros_part}
-use Rattle.capnp_arena.proofs.Structs.{null_row}
+use Rattle.capnp_arena.specs.Facts.Structs.{null_row}
 
 -- what a pointer was made to lead to
 pub record IsNew (old new : List ℕ) (at : ℕ) (s : Shape) (t : Tree) : Type 0 where

@@ -15,7 +15,7 @@ use Rattle.capnp_arena.specs.Made.{IsMade}
 use Rattle.capnp_arena.specs.Shape.{IsWordAt, word_count}
 use Rattle.capnp_arena.specs.Forest.{Changes, Forest, tree}
 use Rattle.capnp_arena.proofs.EncodedForests.{IsTreeIn, tree_stands}
-use Rattle.capnp_arena.proofs.Words.{run_same}
+use Rattle.capnp_arena.specs.Facts.Words.{run_same}
 use Rattle.capnp_arena.proofs.Made.{made_added, made_length, made_longer, made_same, made_word}
 
 -- bytes that are read at a word stand there

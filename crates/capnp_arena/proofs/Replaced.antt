@@ -23,8 +23,8 @@ use Rattle.capnp_arena.proofs.Copying.{first_none, first_refused, spares_append,
 use Rattle.capnp_arena.proofs.EncodedForests.{AreTreesIn, trees_stand}
 use Rattle.capnp_arena.proofs.NewTrees.{stands_part}
 use Rattle.capnp_arena.proofs.Puts.{added_there, longer_same, put_there}
-use Rattle.capnp_arena.proofs.Structs.{two_parts}
-use Rattle.capnp_arena.proofs.Words.{run_same}
+use Rattle.capnp_arena.specs.Facts.Structs.{two_parts}
+use Rattle.capnp_arena.specs.Facts.Words.{run_same}
 
 -- ---- a row that is cut to so many pointers, or filled up with nulls ----
 

@@ -5,7 +5,7 @@ use Rattle.capnp_wire.specs.Place.{tree_at, tree_below}
 use Rattle.capnp_wire.specs.Tree.{MoreTrees, NoTrees, Null, Numbers, Struct}
 use Rattle.capnp_arena.specs.Shape.{CompositeIn, IsPointerOf, IsWithin, ListIn, NoShape, Points, StructIn, shape_at}
 use Rattle.capnp_arena.specs.Forest.{Below, Forest, Itself, Owns, tree}
-use Rattle.capnp_arena.proofs.Forests.{children_apart}
+use Rattle.capnp_arena.specs.Facts.Forests.{children_apart}
 
 -- the root: a struct of a word and two pointers, the first to a text of two bytes, the second null
 small : List ℕ

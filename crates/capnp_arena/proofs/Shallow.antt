@@ -10,9 +10,9 @@ use Rattle.capnp_arena.specs.Encoded.{HasSize}
 use Rattle.capnp_arena.specs.Forest.{Forest, Grown, struct_from, tree}
 use Rattle.capnp_arena.specs.Shape.{CompositeIn, IsPointerOf, ListIn, NoShape, Shape, StructIn, placed, shape_at}
 use Rattle.capnp_arena.proofs.Encodings.{has_size}
-use Rattle.capnp_arena.proofs.Forests.{tree_step}
-use Rattle.capnp_arena.proofs.Levels.{struct_same, structs_same, trees_same}
-use Rattle.capnp_arena.proofs.Words.{target}
+use Rattle.capnp_arena.specs.Facts.Forests.{tree_step}
+use Rattle.capnp_arena.specs.Facts.Levels.{struct_same, structs_same, trees_same}
+use Rattle.capnp_arena.specs.Facts.Words.{target}
 
 here_or_later : (a j : ℕ) → a ≤ j → (a ≡ j) ⊎ (suc a ≤ j)
 here_or_later a j x = grind arith

@@ -8,7 +8,7 @@ use Rattle.capnp_arena.specs.Encoded.{HasSize}
 use Rattle.capnp_arena.specs.Forest.{Forest, Grown, struct_from, tree}
 use Rattle.capnp_arena.specs.Shape.{CompositeIn, IsPointerOf, ListIn, NoShape, Shape, StructIn, placed, shape_at}
 use Rattle.capnp_arena.proofs.Encodings.{has_size}
-use Rattle.capnp_arena.proofs.Forests.{tree_step}
+use Rattle.capnp_arena.specs.Facts.Forests.{tree_step}
 
 neither : (a b : Option Fault) → a ≡ None → b ≡ None → first_of a b ≡ None
 neither a b e q = ap (λ x. first_of x b) e ∙ q

@@ -7,9 +7,9 @@ use Rattle.capnp_wire.specs.Filling.{put}
 use Rattle.capnp_wire.specs.Place.{bytes_at}
 use Rattle.capnp_arena.specs.Shape.{IsPointerOf, IsTagOf, IsWithin, StructIn, word_count}
 use Rattle.capnp_arena.specs.Forest.{IsSame, PartChanges, Planted, struct_from}
-use Rattle.capnp_arena.proofs.Calls.{data_changes, data_planted, data_tree}
+use Rattle.capnp_arena.specs.Facts.Calls.{data_changes, data_planted, data_tree}
 use Rattle.capnp_arena.proofs.Puts.{put_before, put_behind, put_there}
-use Rattle.capnp_arena.proofs.Structs.{data_changed}
+use Rattle.capnp_arena.specs.Facts.Structs.{data_changed}
 
 -- words that are put leave the others
 pub others_stay : (old new : List ℕ) (a d : ℕ) (x : List ℕ) → length x ≡ 8 * d → 8 * a + length x ≤ length old → new ≡ put (8 * a) x old → (k : ℕ) → 8 * suc k ≤ length old → ((a ≤ k) × (k < a + d) → ⊥) → IsSame old new k

@@ -13,9 +13,9 @@ use Rattle.capnp_wire.specs.declared.size.ElementSize.TheVariants.{Void, Bit, By
 use Rattle.capnp_arena.specs.Made.{size_number, width_of}
 use Rattle.capnp_arena.specs.Shape.{IsPointerOf, IsTagOf, IsWithin, ListIn, StructIn, shape_at, word_count}
 use Rattle.capnp_arena.specs.Forest.{Changes, Forest, IsSame, PartChanges, Planted, tree}
-use Rattle.capnp_arena.proofs.Calls.{data_changes, data_planted, outer_changes, outer_forest, outer_shape, planted}
+use Rattle.capnp_arena.specs.Facts.Calls.{data_changes, data_planted, outer_changes, outer_forest, outer_shape, planted}
 use Rattle.capnp_arena.proofs.Puts.{put_before, put_behind, put_there}
-use Rattle.capnp_arena.proofs.Structs.{tree_list}
+use Rattle.capnp_arena.specs.Facts.Structs.{tree_list}
 use Rattle.capnp_arena.proofs.Written.{IsWritten, data_written, length_part}
 
 -- ---- a list of numbers ----

@@ -5,5 +5,10 @@ pub mod Segment
 pub mod Looked
 pub mod Counts
 pub mod Encoded
+pub mod Reads
+pub mod Grown
 pub mod Copies
 pub mod InOrder
+pub mod Handles
+pub mod Listed
+pub mod Facts

@@ -154,7 +154,13 @@ impl Arena {
     ///
     /// Refused with `OutOfMemory`; then nothing has changed.
     #[inline(always)]
-    fn make_with(&mut self, at: usize, word: u64, words: usize, content: &[u8]) -> Result<()>
+    pub(crate) fn make_with(
+        &mut self,
+        at: usize,
+        word: u64,
+        words: usize,
+        content: &[u8],
+    ) -> Result<()>
         requires inside { at < word_count (segment self.old) }
         requires few { words < 2 ^ 32 }
         requires room { length content.now ≤ 8 * words }

@@ -207,7 +207,7 @@ fn append_composite(
 
 /// Puts pointers in a row into the room that is left for them, from an index on, and appends what they lead to.
 #[cycle(append)]
-fn fill_row(out: &mut Vec<u8>, at: usize, bytes: &[u8], first: usize, count: usize) -> Appended
+pub fn fill_row(out: &mut Vec<u8>, at: usize, bytes: &[u8], first: usize, count: usize) -> Appended
     requires forests { AreForests bytes.now first count }
     requires inside { first + count ≤ word_count bytes.now }
     requires few { word_count bytes.now < 2 ^ 29 }

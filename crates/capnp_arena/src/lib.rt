@@ -3,18 +3,26 @@
 
 mod append;
 pub mod arena;
+pub mod blobs;
 pub mod callers;
 mod compact;
 mod contents;
 pub mod copies;
 mod copy;
 mod count;
+pub mod element_reads;
 mod encode;
 mod extend;
+mod get_struct;
+mod grown;
+pub mod handles;
 mod in_order;
+pub mod list_reads;
 pub mod lists;
 mod look;
 mod message;
 mod reader;
+pub mod reads;
 mod spell;
+mod struct_lists;
 mod target;

@@ -26,7 +26,7 @@ pub struct StructsPlace {
 
 /// The bytes of an element that is a number.
 #[inline(always)]
-fn get_width(size: ElementSize) -> usize
+pub fn get_width(size: ElementSize) -> usize
     ensures { result ≡ width_of size }
 {
     match size {

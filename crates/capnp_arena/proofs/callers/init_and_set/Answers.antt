@@ -4,8 +4,8 @@ use Rattle.capnp_wire.specs.Place.{struct_tree}
 use Rattle.capnp_wire.specs.Tree.{StructTree}
 use Rattle.capnp_arena.specs.Shape.{StructIn, shape_at}
 use Rattle.capnp_arena.specs.Forest.{Changes, Forest, PartChanges, Planted, struct_from, tree}
-use Rattle.capnp_arena.proofs.Calls.{one_by_one}
-use Rattle.capnp_arena.proofs.Laws.{IsInPointer, IsInStruct, in_pointer, in_struct, struct_is, struct_planted}
+use Rattle.capnp_arena.specs.Facts.Calls.{one_by_one}
+use Rattle.capnp_arena.specs.Facts.Laws.{IsInPointer, IsInStruct, in_pointer, in_struct, struct_is, struct_planted}
 use Rattle.capnp_arena.proofs.callers.init_and_set.Goals as goal
 
 module _ (o m n : List ℕ) (at a d p i a2 d2 p2 : ℕ) (f : Forest o at) (e : shape_at o at ≡ StructIn a d p) (l : i < p)

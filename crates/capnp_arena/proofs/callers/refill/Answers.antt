@@ -1,6 +1,6 @@
 use Rattle.std.proofs.Common.{◌∙◌, ap}
 use Rattle.capnp_wire.specs.Place.{struct_tree}
-use Rattle.capnp_arena.proofs.Laws.{in_struct, struct_planted}
+use Rattle.capnp_arena.specs.Facts.Laws.{in_struct, struct_planted}
 use Rattle.capnp_arena.proofs.callers.refill.Goals as goal
 
 pub copy_content_from-requires : goal.copy_content_from-requires

@@ -3,10 +3,10 @@ use Rattle.capnp_wire.specs.Elements.{with_struct_element}
 use Rattle.capnp_wire.specs.Tree.{StructTree}
 use Rattle.capnp_arena.specs.Shape.{CompositeIn, end_of, word_count}
 use Rattle.capnp_arena.specs.Forest.{Planted, tree}
-use Rattle.capnp_arena.proofs.Calls.{planted}
+use Rattle.capnp_arena.specs.Facts.Calls.{planted}
 use Rattle.capnp_arena.proofs.Counted.{ends_at}
-use Rattle.capnp_arena.proofs.Elements.{element_planted, in_element}
-use Rattle.capnp_arena.proofs.Shapes.{element_end}
+use Rattle.capnp_arena.specs.Facts.Elements.{element_planted, in_element}
+use Rattle.capnp_arena.specs.Facts.Shapes.{element_end}
 use Rattle.capnp_arena.proofs.callers.set_element_number.Goals as goal
 
 pub set_number-requires-clause-planted : goal.set_number-requires-clause-planted

@@ -15,7 +15,7 @@ use Rattle.capnp_arena.specs.Copies.{Spares}
 use Rattle.capnp_arena.proofs.Copying.{added_kept, bits_appended, element_kept, kept_then, pointer_kept, pointer_next, pointer_refused, pointer_spared, room_kept, row_filled, row_sound, struct_after, struct_kept, struct_refused, structs_filled, structs_sound}
 use Rattle.capnp_arena.proofs.Padding.{padded_whole}
 use Rattle.capnp_arena.proofs.PlainRows.{plain_list}
-use Rattle.capnp_arena.proofs.Shapes.{element_end}
+use Rattle.capnp_arena.specs.Facts.Shapes.{element_end}
 use Rattle.capnp_arena.proofs.TreeSizes.{nth_struct-smaller, nth_tree-smaller, tree_size, trees_size}
 use Rattle.capnp_arena.proofs.copy.+copy.Goals as goal
 

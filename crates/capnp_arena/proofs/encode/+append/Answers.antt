@@ -14,7 +14,7 @@ use Rattle.capnp_arena.specs.Looked.{shape_found}
 use Rattle.capnp_arena.specs.Shape.{CompositeIn, ListIn, NoShape, Points, StructIn, end_of, shape_at, word_count}
 use Rattle.capnp_arena.proofs.Counted.{element_rows, ends_at, list_row, struct_row, words_composite, words_pointers, words_struct}
 use Rattle.capnp_arena.proofs.Encodings.{bytes_composite, bytes_null, bytes_plain, bytes_pointers, bytes_struct, bytes_zero, element_room, elements_done, elements_held, elements_lie, pointer_is, row_done, row_held, row_next, structs_next}
-use Rattle.capnp_arena.proofs.Shapes.{element_end, itself_inside}
+use Rattle.capnp_arena.specs.Facts.Shapes.{element_end, itself_inside}
 use Rattle.capnp_arena.proofs.Written.{length_part}
 use Rattle.capnp_wire.specs.Place.{bytes_at}
 use Rattle.capnp_arena.proofs.PlainRows.{plain_list, plain_row}

@@ -7,7 +7,7 @@ use Rattle.capnp_arena.specs.Looked.{shape_found}
 use Rattle.capnp_arena.specs.Shape.{CompositeIn, ListIn, NoShape, Points, StructIn, end_of, shape_at, word_count}
 use Rattle.capnp_arena.proofs.Counted.{element_rows, ends_at, list_row, struct_row}
 use Rattle.capnp_arena.proofs.LaidOut.{composite_laid, null_laid, plain_laid, plain_structs_laid, pointers_laid, row_end_laid, row_more_laid, struct_laid, structs_end_laid, structs_more_laid, zero_laid}
-use Rattle.capnp_arena.proofs.Shapes.{itself_inside}
+use Rattle.capnp_arena.specs.Facts.Shapes.{itself_inside}
 use Rattle.capnp_arena.proofs.in_order.+order.Goals as goal
 
 -- what is left of a row, and what is left of it after one more

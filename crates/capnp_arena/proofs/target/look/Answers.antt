@@ -1,6 +1,6 @@
 use Rattle.std.proofs.Common.{◌∙◌, subst, sym}
 use Rattle.capnp_arena.specs.Shape.{Points}
-use Rattle.capnp_arena.proofs.Forests.{points}
+use Rattle.capnp_arena.specs.Facts.Forests.{points}
 use Rattle.capnp_arena.proofs.Lookings.{looked_is}
 use Rattle.capnp_arena.proofs.target.look.Goals as goal
 

@@ -1,7 +1,7 @@
 use Rattle.std.proofs.Common.{rules, arith, ◌≡◌, replicate, refl, sym, subst}
 use Rattle.capnp_wire.specs.Tree.{Null}
 use Rattle.capnp_arena.specs.Forest.{Forest, tree}
-use Rattle.capnp_arena.proofs.Calls.{null_forest, null_tree}
+use Rattle.capnp_arena.specs.Facts.Calls.{null_forest, null_tree}
 use Rattle.capnp_arena.proofs.arena.Arena.new.Goals as goal
 
 pub returns-clause-forest : goal.returns-clause-forest

@@ -5,8 +5,8 @@ use Rattle.capnp_wire.specs.Place.{bytes_at, bits_from, struct_at, struct_tree, 
 use Rattle.capnp_wire.specs.Tree.{Tree, MoreTrees, Structs, MoreStructs, StructTree, trees_from, structs_from, Bits, Numbers, Pointers, Composite}
 use Rattle.capnp_arena.specs.Shape.{Shape, NoShape, StructIn, ListIn, CompositeIn, IsWithin, IsPointerOf, Points, placed}
 use Rattle.capnp_arena.specs.Forest.{IsSame}
-use Rattle.capnp_arena.proofs.Words.{run_same, part_same}
-use Rattle.capnp_arena.proofs.Shapes.{apart, element_end}
+use Rattle.capnp_arena.specs.Facts.Words.{run_same, part_same}
+use Rattle.capnp_arena.specs.Facts.Shapes.{apart, element_end}
 
 pub trees_same : (f g : ℕ → Tree) (at n : ℕ) → ((k : ℕ) → at ≤ k → k < at + n → f k ≡ g k) → trees_from f at n ≡ trees_from g at n
 trees_same f g at zero h = refl

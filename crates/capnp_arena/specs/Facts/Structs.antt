@@ -5,10 +5,10 @@ use Rattle.capnp_wire.specs.Place.{bytes_at, struct_tree, tree_with_level, list_
 use Rattle.capnp_wire.specs.Tree.{MoreTrees, Null, StructTree, Tree, trees_from, Composite, structs_from}
 use Rattle.capnp_arena.specs.Shape.{IsPointerOf, StructIn, placed, shape_at, CompositeIn, ListIn}
 use Rattle.capnp_arena.specs.Forest.{Changes, Forest, Planted, struct_from, tree}
-use Rattle.capnp_arena.proofs.Calls.{own_same, sibling_tree}
-use Rattle.capnp_arena.proofs.Forests.{tree_step}
-use Rattle.capnp_arena.proofs.Levels.{trees_same}
-use Rattle.capnp_arena.proofs.Words.{run_same}
+use Rattle.capnp_arena.specs.Facts.Calls.{own_same, sibling_tree}
+use Rattle.capnp_arena.specs.Facts.Forests.{tree_step}
+use Rattle.capnp_arena.specs.Facts.Levels.{trees_same}
+use Rattle.capnp_arena.specs.Facts.Words.{run_same}
 
 -- a pointer to a struct
 pub tree_struct : (bytes : List ℕ) (w a d p : ℕ) → Forest bytes w → shape_at bytes w ≡ StructIn a d p → tree bytes w ≡ struct_tree (struct_from bytes a d p)

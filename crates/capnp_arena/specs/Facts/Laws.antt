@@ -5,8 +5,8 @@ use Rattle.capnp_wire.specs.Place.{struct_tree}
 use Rattle.capnp_wire.specs.Tree.{StructTree}
 use Rattle.capnp_arena.specs.Shape.{IsPointerOf, StructIn, shape_at}
 use Rattle.capnp_arena.specs.Forest.{Changes, Forest, PartChanges, Planted, struct_from, tree}
-use Rattle.capnp_arena.proofs.Calls.{inner_changes, inner_planted, outer_changes, outer_forest, outer_shape, planted}
-use Rattle.capnp_arena.proofs.Structs.{pointer_changed, tree_struct}
+use Rattle.capnp_arena.specs.Facts.Calls.{inner_changes, inner_planted, outer_changes, outer_forest, outer_shape, planted}
+use Rattle.capnp_arena.specs.Facts.Structs.{pointer_changed, tree_struct}
 
 -- the struct that a pointer leads to
 pub struct_planted : (bytes : List ℕ) (at a d p : ℕ) → Forest bytes at → shape_at bytes at ≡ StructIn a d p → Planted bytes (StructIn a d p)

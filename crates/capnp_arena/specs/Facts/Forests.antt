@@ -3,9 +3,9 @@ use Rattle.std.proofs.Common.{◌≡◌, ℕ, zero, suc, ◌+◌, ◌<◌, ◌�
 use Rattle.capnp_wire.specs.Place.{tree_at, tree_below, tree_with_level}
 use Rattle.capnp_arena.specs.Shape.{IsWithin, IsPointerOf, IsTagOf, Points, placed, shape_at, word_count}
 use Rattle.capnp_arena.specs.Forest.{IsSame, Owns, Itself, Below, Forest, Grown, tree}
-use Rattle.capnp_arena.proofs.Words.{target, shape, points_kept}
-use Rattle.capnp_arena.proofs.Shapes.{pointer_within, tag_within, after, inside, itself_inside}
-use Rattle.capnp_arena.proofs.Levels.{level_same}
+use Rattle.capnp_arena.specs.Facts.Words.{target, shape, points_kept}
+use Rattle.capnp_arena.specs.Facts.Shapes.{pointer_within, tag_within, after, inside, itself_inside}
+use Rattle.capnp_arena.specs.Facts.Levels.{level_same}
 
 -- ---- the parts of a forest ----
 

@@ -5,9 +5,9 @@ use Rattle.capnp_wire.specs.Place.{tree_with_level}
 use Rattle.capnp_wire.specs.Tree.{Null}
 use Rattle.capnp_arena.specs.Shape.{Shape, NoShape, IsWithin, IsPointerOf, IsTagOf, IsWordAt, Points, end_of, placed, shape_at, word_count}
 use Rattle.capnp_arena.specs.Forest.{IsSame, Owns, Itself, Below, Forest, Grown, OwnedBy, Planted, Changes, PartChanges, tree}
-use Rattle.capnp_arena.proofs.Words.{shape, points_kept}
-use Rattle.capnp_arena.proofs.Shapes.{pointer_within, tag_within, tag_no_pointer, before_end, end_inside, itself_inside}
-use Rattle.capnp_arena.proofs.Forests.{points, child, child_apart, children_apart, owned_after, owned_inside, owns_back, forest_kept, same_tree, tree_step}
+use Rattle.capnp_arena.specs.Facts.Words.{shape, points_kept}
+use Rattle.capnp_arena.specs.Facts.Shapes.{pointer_within, tag_within, tag_no_pointer, before_end, end_inside, itself_inside}
+use Rattle.capnp_arena.specs.Facts.Forests.{points, child, child_apart, children_apart, owned_after, owned_inside, owns_back, forest_kept, same_tree, tree_step}
 
 -- ---- nulls ----
 

@@ -5,12 +5,12 @@ use Rattle.capnp_wire.specs.Elements.{with_pointer_element, with_struct, with_st
 use Rattle.capnp_wire.specs.Tree.{Composite, Pointers, StructTree, structs_from}
 use Rattle.capnp_arena.specs.Shape.{CompositeIn, IsPointerOf, IsWithin, ListIn, StructIn, shape_at, word_count}
 use Rattle.capnp_arena.specs.Forest.{Changes, Forest, IsSame, OwnedBy, Owns, PartChanges, Planted, struct_from, tree}
-use Rattle.capnp_arena.proofs.Calls.{inner_changes, inner_planted, outer_changes, outer_forest, outer_shape, planted, planted_inside, sibling_tree}
-use Rattle.capnp_arena.proofs.Forests.{forest_kept, owned_inside, owns_back, same_tree}
-use Rattle.capnp_arena.proofs.Levels.{more_structs, structs_same, trees_same}
-use Rattle.capnp_arena.proofs.Shapes.{element_end, pointer_within, tag_within}
-use Rattle.capnp_arena.proofs.Structs.{row_changed, tree_composite, tree_list, two_parts}
-use Rattle.capnp_arena.proofs.Words.{run_same}
+use Rattle.capnp_arena.specs.Facts.Calls.{inner_changes, inner_planted, outer_changes, outer_forest, outer_shape, planted, planted_inside, sibling_tree}
+use Rattle.capnp_arena.specs.Facts.Forests.{forest_kept, owned_inside, owns_back, same_tree}
+use Rattle.capnp_arena.specs.Facts.Levels.{more_structs, structs_same, trees_same}
+use Rattle.capnp_arena.specs.Facts.Shapes.{element_end, pointer_within, tag_within}
+use Rattle.capnp_arena.specs.Facts.Structs.{row_changed, tree_composite, tree_list, two_parts}
+use Rattle.capnp_arena.specs.Facts.Words.{run_same}
 
 -- ---- one struct of a list, as a part ----
 
