@@ -2,6 +2,7 @@
 //! answers a checksum; one that is refused answers 0.
 #![tactic(auto)]
 
+mod arena_builds;
 mod builds;
 mod reads;
 mod writes;
