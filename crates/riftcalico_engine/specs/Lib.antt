@@ -1,0 +1,4 @@
+pub mod Calls
+pub mod CallsSeen
+pub mod Command
+pub mod Run
