@@ -7,6 +7,8 @@ mod refused_tests;
 mod rows;
 #[cfg(test)]
 mod tests;
+#[cfg(test)]
+mod values;
 
 use capnp_show_engine::command::{report, words};
 use capnp_wire::device::{ReadSource, WriteSink};

@@ -13,12 +13,14 @@ use std::test::Fail;
 
 pub const USAGE: &str = "\
 usage: riftcalico get [--set FILE] NAME PATH [--indent]
-       riftcalico patch [--set FILE] [--keep-going] NAME CALL..
-       riftcalico new [--set FILE] [--keep-going] NAME CALL..
+       riftcalico patch [--set FILE] [--calls FILE] [--keep-going] NAME CALL..
+       riftcalico new [--set FILE] [--calls FILE] [--keep-going] NAME CALL..
 ";
 
-/// The only path that has a file.
-const PATH: &str = "set";
+/// The only paths that have a file: of a set and of calls.
+const SET: &str = "set";
+
+const CALLS: &str = "calls";
 
 /// What the program is run on.
 #[derive(Clone, Copy)]
@@ -26,12 +28,13 @@ pub struct Setting<'a> {
     /// The words, with `|` between them.
     pub words: &'a str,
     pub bytes: &'a [u8],
-    /// What the file holds.
+    /// What the files hold.
     pub set: &'a [u8],
+    pub calls: &'a [u8],
     /// Whether a call of a source or sink moves a byte, and else up to 4096.
     pub slow: bool,
-    /// Which calls fail: of the file, of the source, of the sink, and of the sink of errors, which takes a byte a call.
-    pub failing_set: Option<u64>,
+    /// Which calls fail: of a file, of the source, of the sink, and of the sink of errors, which takes a byte a call.
+    pub failing_file: Option<u64>,
     pub failing_read: Option<u64>,
     pub failing_write: Option<u64>,
     pub failing_error: Option<u64>,
@@ -53,35 +56,39 @@ struct Outcome {
     errors: MemorySink,
 }
 
-/// Opens one file in memory.
+/// Opens two files in memory.
 #[derive(Drop)]
-struct OneFile<'a> {
-    bytes: &'a [u8],
+struct TwoFiles<'a> {
+    set: &'a [u8],
+    calls: &'a [u8],
     slow: bool,
     failing: Option<u64>,
 }
 
-impl<'a> Opener for OneFile<'a> {
+impl<'a> Opener for TwoFiles<'a> {
     type File = MemorySource<'a>;
 
     ghost opens = { λ _ _ _ _. ⊤ };
 
     fn open(&mut self, path: &str) -> Result<MemorySource<'a>, DeviceFault> {
-        if path != PATH {
-            return Err(DeviceFault);
-        }
-        Ok(MemorySource::new(self.bytes, chunk(self.slow), self.failing))
+        let bytes = match path {
+            SET => self.set,
+            CALLS => self.calls,
+            _ => return Err(DeviceFault),
+        };
+        Ok(MemorySource::new(bytes, chunk(self.slow), self.failing))
     }
 }
 
-/// A setting of which no call fails, with a file that is empty.
+/// A setting of which no call fails, with files that are empty.
 pub fn run_on<'a>(words: &'a str, bytes: &'a [u8], slow: bool) -> Setting<'a> {
     Setting {
         words,
         bytes,
         set: &[],
         slow,
-        failing_set: None,
+        calls: &[],
+        failing_file: None,
         failing_read: None,
         failing_write: None,
         failing_error: None,
@@ -156,10 +163,11 @@ fn outcome_over(
     let words = words_of(alloc, on.words)?;
     let mut sink = MemorySink::new(alloc, chunk(on.slow), on.failing_write);
     let mut errors = MemorySink::new(alloc, 1, on.failing_error);
-    let mut opener = OneFile {
-        bytes: on.set,
+    let mut opener = TwoFiles {
+        set: on.set,
+        calls: on.calls,
         slow: on.slow,
-        failing: on.failing_set,
+        failing: on.failing_file,
     };
     let status = command_over(&mut opener, alloc, &words, source, &mut sink, &mut errors);
     Ok(Outcome {
@@ -194,6 +202,22 @@ pub fn comes_to(
 ) -> Result<(), Fail> {
     let mut source = source_of(on);
     comes_over(rt, alloc, &mut source, on, expected)
+}
+
+/// Asserts what a setting answers and tells.
+pub fn tells(
+    rt: &impl Abort,
+    alloc: Global,
+    on: &Setting<'_>,
+    status: u8,
+    lines: &str,
+) -> Result<(), Fail> {
+    let mut source = source_of(on);
+    let outcome = outcome_over(alloc, &mut source, on)?;
+    let words = on.words;
+    assert_eq!(rt; outcome.errors.as_slice(), lines.as_bytes(), "{words}");
+    assert_eq!(rt; outcome.status, status, "{words}");
+    Ok(())
 }
 
 /// Asserts that a source still has all its bytes.

@@ -1,5 +1,5 @@
 -- The calls that words stand for, under a struct of a set.
-use Rattle.std.specs.Prelude.{ℕ, ◌+◌, List, [], ◌∷◌, Option, Some, None, Result, Ok, Err, pos}
+use Rattle.std.specs.Prelude.{ℕ, ◌+◌, List, [], ◌∷◌, Option, Some, None, Ok, Err, pos}
 use Rattle.capnp_schema.specs.Schema.{Schemas}
 use Rattle.capnp_schema.specs.Types.{BoolType, DataType, EnumType, IntType, SchemaType, TextType, UIntType}
 use Rattle.capnp_records.specs.Call as call
@@ -7,7 +7,7 @@ use Rattle.capnp_records.specs.Call.{BoolSource, Call, DataSource, EnumSource, F
 use Rattle.capnp_records.specs.Record as value
 use Rattle.capnp_records.specs.Record.{Value}
 use Rattle.capnp_words.specs.Calls as text
-use Rattle.capnp_words.specs.Calls.{CallOp, CallText, call_at}
+use Rattle.capnp_words.specs.Calls.{CallOp, CallText}
 use Rattle.capnp_words.specs.Reads.{Read, read_as}
 use Rattle.capnp_words.specs.Targets.{type_along}
 use Rattle.capnp_words.specs.Values.{value_at}
@@ -27,55 +27,49 @@ abbrev pub shifted : {A : Type 0} → ℕ → Read A → Read A
 shifted place (Ok x) = Ok x
 shifted place (Err inner) = Err (place + inner)
 
--- The value of a set by the type that its path leads to. Where that leads to no type the call is refused for its path, whatever is given.
-abbrev pub given : Schemas → Option SchemaType → (bytes : List ℕ) → (place : ℕ) → Read Op
-given set None bytes place = Ok (call.Set VoidSource)
-given set (Some t) bytes place = shifted place (read_as (λ v. call.Set (source_of t v)) (value_at set t bytes))
+-- What a call is given: of a set the value, read under the type that its path leads to. Where that leads to no type the set is
+-- refused for its path, whatever it is given. Other calls are given nothing, which is a void here.
+abbrev pub source_given : Schemas → Option SchemaType → CallOp → Read Source
+source_given set None (text.Set bytes place) = Ok VoidSource
+source_given set (Some t) (text.Set bytes place) = shifted place (read_as (source_of t) (value_at set t bytes))
+source_given set t text.Get = Ok VoidSource
+source_given set t text.Has = Ok VoidSource
+source_given set t text.Which = Ok VoidSource
+source_given set t text.Init = Ok VoidSource
+source_given set t (text.Initn size) = Ok VoidSource
+source_given set t text.Clear = Ok VoidSource
 
-abbrev pub op_given : Schemas → Option SchemaType → CallOp → Read Op
-op_given set t text.Get = Ok call.Get
-op_given set t text.Has = Ok call.Has
-op_given set t text.Which = Ok call.Which
-op_given set t (text.Set bytes place) = given set t bytes place
-op_given set t text.Init = Ok call.Init
-op_given set t (text.Initn size) = Ok (call.Initn size)
-op_given set t text.Clear = Ok call.Clear
+abbrev pub op_given : Source → CallOp → Op
+op_given s text.Get = call.Get
+op_given s text.Has = call.Has
+op_given s text.Which = call.Which
+op_given s (text.Set bytes place) = call.Set s
+op_given s text.Init = call.Init
+op_given s (text.Initn size) = call.Initn size
+op_given s text.Clear = call.Clear
 
--- a path's last step, and those before it; the empty path is walked whole, and its last step is not looked at
+abbrev pub with_step : PathStep → Call → Call
+with_step s c = record { path = s ∷ c.path; last = c.last; op = c.op }
+
+-- the steps of a path before its last, which is what the operation is done to
 abbrev pub split : List PathStep → Op → Call
 split [] op = record { path = []; last = FieldNumber 0; op = op }
 split (s ∷ []) op = record { path = []; last = s; op = op }
-split (s ∷ t ∷ ss) op = let rest = split (t ∷ ss) op in record { path = s ∷ rest.path; last = rest.last; op = op }
+split (s ∷ t ∷ ss) op = with_step s (split (t ∷ ss) op)
 
--- a struct that is asked for its member stands at the whole path
+-- a struct that is asked for its member stands at the end of the whole path, and no last step is looked at
 abbrev pub placed : List PathStep → Op → Call
+placed path call.Get = split path call.Get
+placed path call.Has = split path call.Has
 placed path call.Which = record { path = path; last = FieldNumber 0; op = call.Which }
-placed path op = split path op
+placed path (call.Set s) = split path (call.Set s)
+placed path call.Init = split path call.Init
+placed path (call.Initn size) = split path (call.Initn size)
+placed path call.Clear = split path call.Clear
 
-abbrev pub call_given : Schemas → (root : SchemaType) → CallText → Read Call
-call_given set root c = read_as (placed c.path) (op_given set (type_along set root c.path) c.op)
+abbrev pub call_given : CallText → Source → Call
+call_given c s = placed c.path (op_given s c.op)
 
--- ---- words ----
-
--- the index of the first word that can't be read, and the place of its first byte that can't stand
-abbrev pub Reads : Type 0 → Type 0
-Reads A = Result A (ℕ × ℕ)
-
-abbrev pub at_word : {A : Type 0} → ℕ → Read A → Reads A
-at_word i (Ok x) = Ok x
-at_word i (Err place) = Err (i, place)
-
-abbrev pub joined : {A : Type 0} → Reads A → Reads (List A) → Reads (List A)
-joined (Err at) rest = Err at
-joined (Ok x) (Err at) = Err at
-joined (Ok x) (Ok xs) = Ok (x ∷ xs)
-
--- each word is read as a call, from an index on
-abbrev pub texts_at : ℕ → List (List ℕ) → Reads (List CallText)
-texts_at i [] = Ok []
-texts_at i (w ∷ ws) = joined (at_word i (call_at w)) (texts_at (i + 1) ws)
-
--- and then each call's value, under a struct
-abbrev pub calls_given : Schemas → (root : SchemaType) → ℕ → List CallText → Reads (List Call)
-calls_given set root i [] = Ok []
-calls_given set root i (c ∷ cs) = joined (at_word i (call_given set root c)) (calls_given set root (i + 1) cs)
+-- a call as it is read, with the type of the root
+abbrev pub call_read : Schemas → (root : SchemaType) → CallText → Read Call
+call_read set root c = read_as (call_given c) (source_given set (type_along set root c.path) c.op)

@@ -1,8 +1,10 @@
 //! What the program does with its words.
-ghost use Rattle.std.specs.Prelude.{◌≡◌, ◌≤◌};
+ghost use Rattle.std.specs.Prelude.{◌≡◌, ◌≤◌, None, Some, map, string_bytes};
+ghost use Rattle.capnp_show_engine.specs.Command.{IsTold};
+ghost use Rattle.riftcalico_engine.specs.Command.{Task, asked, usage_lines};
+ghost use Rattle.riftcalico_engine.specs.Ended.{IsDone, status_of, streams, told_of};
 
-use crate::calls::Unreadable;
-use crate::request::{Request, read_words};
+use crate::request::read_words;
 use crate::run::{Outcome, run};
 use capnp_patch::engine::any_refused;
 use capnp_show_engine::command::{report, tell};
@@ -14,44 +16,39 @@ use std::rt::Files;
 
 const USAGE: &str = "\
 usage: riftcalico get [--set FILE] NAME PATH [--indent]
-       riftcalico patch [--set FILE] [--keep-going] NAME CALL..
-       riftcalico new [--set FILE] [--keep-going] NAME CALL..
+       riftcalico patch [--set FILE] [--calls FILE] [--keep-going] NAME CALL..
+       riftcalico new [--set FILE] [--calls FILE] [--keep-going] NAME CALL..
 ";
 
-/// The line of a word that can't be read: its number among the words of its kind, the word, and the place.
-fn unreadable_line(alloc: Global, words: &[String], at: Unreadable) -> Result<String> {
-    let word = match words.get(at.index) {
-        Some(word) => word.as_str(),
-        None => "",
-    };
-    let number = at.index as u64 + 1;
-    let place = at.place;
-    Ok(format!(in alloc; "{number}: {word}: can't be read at {place}\n")?)
-}
-
-/// Tells of an outcome, and answers the status.
-fn tell_outcome<F: Sink>(
-    alloc: Global,
-    request: Request<'_>,
-    outcome: &Outcome,
-    errors: &mut F,
-) -> u8 {
-    match outcome {
-        Outcome::Shown => 0,
-        Outcome::Made(made) => {
+/// Tells what a task ended with, as far as the sink takes it, and answers the status.
+fn tell_ended<F: Sink>(ended: &Result<Outcome>, errors: &mut F) -> u8
+    ensures status { result ≡ status_of ended.now }
+    ensures told { IsTold (told_of ended.now) (F.written errors.old) (F.written errors.new) (F.failures errors.old) (F.failures errors.new) }
+{
+    match ended {
+        Ok(Outcome::Shown) => {
+            tell(b"", errors);
+            0
+        }
+        Ok(Outcome::Made(made)) => {
             tell(made.lines.as_bytes(), errors);
             u8::from(any_refused(&made.replies))
         }
-        Outcome::Unreadable(at) => {
-            if let Ok(line) = unreadable_line(alloc, request.words, *at) {
-                tell(line.as_bytes(), errors);
-            }
+        Ok(Outcome::Unreadable(line)) => {
+            tell(line.as_bytes(), errors);
             2
+        }
+        Err(error) => {
+            report(error.kind, errors);
+            1
         }
     }
 }
 
-/// Runs the program on its words over what opens files, and answers its exit status.
+/// Runs the program on its words over what opens files, and answers its exit status: 0 where a text or a message was written, 1
+/// where a call was refused, or the set, the message or a device, and 2 for other words, with the usage on `errors`, or for a word
+/// that can't be read, which is told with its place. Replies to calls and refusals are told on `errors`, a line each. Where a line
+/// can't be written there, the status is the same.
 pub fn command_over<O: Opener, R: Source, W: Sink, F: Sink>(
     opener: &mut O,
     alloc: Global,
@@ -61,21 +58,27 @@ pub fn command_over<O: Opener, R: Source, W: Sink, F: Sink>(
     errors: &mut F,
 ) -> u8
     ensures statuses { result ≤ 2 }
+    ensures other_words { asked (map string_bytes words.now) ≡ None → result ≡ 2 }
+    ensures usage { asked (map string_bytes words.now) ≡ None → IsTold usage_lines (F.written errors.old) (F.written errors.new)
+        (F.failures errors.old) (F.failures errors.new) }
+    ensures unopened { asked (map string_bytes words.now) ≡ None → opener.new ≡ opener.old }
+    ensures unread { result ≡ 2 → source.new ≡ source.old }
+    ensures unwritten { result ≡ 2 → sink.new ≡ sink.old }
+    ensures done { (t : Task) → asked (map string_bytes words.now) ≡ Some t
+        → IsDone O.opens O.File.left O.File.failures opener.old opener.new (source.new ≡ source.old) (sink.new ≡ sink.old)
+        (streams (R.left source.old) (R.left source.new) (W.written sink.old) (W.written sink.new)
+        (R.failures source.old) (R.failures source.new) (W.failures sink.old) (W.failures sink.new))
+        t result (F.written errors.old) (F.written errors.new) (F.failures errors.old) (F.failures errors.new) }
 {
-    let Some(request) = read_words(words) else {
+    let Some(asked) = read_words(words) else {
         tell(USAGE.as_bytes(), errors);
         return 2;
     };
-    match run(alloc, opener, request, source, sink) {
-        Ok(outcome) => tell_outcome(alloc, request, &outcome, errors),
-        Err(error) => {
-            report(error.kind, errors);
-            1
-        }
-    }
+    let ended = run(alloc, opener, asked, source, sink);
+    tell_ended(&ended, errors)
 }
 
-/// `command_over` over the system's files.
+/// `command_over` over the files of a runtime.
 pub fn command<S: Files, R: Source, W: Sink, F: Sink>(
     rt: &S,
     alloc: Global,

@@ -7,3 +7,4 @@ pub mod command;
 pub mod request;
 pub mod run;
 pub mod sets;
+pub mod words;

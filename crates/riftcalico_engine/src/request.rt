@@ -1,7 +1,8 @@
 //! What the program's words ask for.
-ghost use Rattle.std.specs.Prelude.{◌≡◌, Some, None, map, string_bytes};
+ghost use Rattle.std.specs.Prelude.{◌≡◌, codes, map, string_bytes};
 ghost use Rattle.std.specs.Option.{option_map};
-ghost use Rattle.riftcalico_engine.specs.Command.{asked, in_named, in_set, task_of, verb_of, with_calls};
+ghost use Rattle.riftcalico_engine.specs.Command.{asked, calls_asked, flag_word, get_asked, given_asked, in_set, named_asked, option_word, verb_of};
+ghost use Rattle.riftcalico_engine.specs.RequestSeen.{calls_task_of, get_task_of, given_of, task_of};
 
 /// What is done.
 #[derive(Clone, Copy, Debug, PartialEq, Eq)]
@@ -14,18 +15,45 @@ pub enum Verb {
     New,
 }
 
+/// The struct of a name, in the set that a file holds, or else in the built-in one.
+#[derive(Clone, Copy)]
+pub struct NamedRoot<'a> {
+    pub file: Option<&'a str>,
+    pub name: &'a str,
+}
+
+/// The text of the value at a path, and whether it is indented.
+#[derive(Clone, Copy)]
+pub struct GetRequest<'a> {
+    pub root: NamedRoot<'a>,
+    pub path: &'a str,
+    pub indented: bool,
+}
+
+/// Calls, each a word, or each a line of the file at a path.
+#[derive(Clone, Copy)]
+pub enum CallWords<'a> {
+    Words(&'a [String]),
+    Lines(&'a str),
+}
+
+/// Calls on a root, and whether what they leave is written where one was refused.
+#[derive(Clone, Copy)]
+pub struct CallsRequest<'a> {
+    pub root: NamedRoot<'a>,
+    pub calls: CallWords<'a>,
+    pub keep_going: bool,
+}
+
 /// What the words ask for.
 #[derive(Clone, Copy)]
-pub struct Request<'a> {
-    pub verb: Verb,
-    /// The file that the set is in; none for the built-in set.
-    pub file: Option<&'a str>,
-    /// The struct of the root.
-    pub name: &'a str,
-    /// The path, or the calls.
-    pub words: &'a [String],
-    /// Whether the text is indented, or a message written where a call was refused.
-    pub flag: bool,
+pub enum Asked<'a> {
+    /// A value of a message is shown.
+    Get(GetRequest<'a>),
+    /// Calls are made on a copy of a message.
+    Patch(CallsRequest<'a>),
+    /// Calls are made on an empty root.
+    New(CallsRequest<'a>),
 }
 
 /// What is done, by its word.
@@ -40,86 +68,127 @@ fn read_verb(word: &str) -> Option<Verb>
     }
 }
 
-/// A path under the struct of a name.
-fn read_get<'a>(file: Option<&'a str>, words: &'a [String]) -> Option<Request<'a>>
-    ensures { option_map task_of result ≡ in_named Verb.Get (option_map (λ f. f.now) file.entry) words.now }
+/// The word behind an option, where the words begin with it, and the words that follow.
+fn take_option<'a>(option: &str, words: &'a [String]) -> (Option<&'a str>, &'a [String])
+    ensures { (option_map (λ w. w.now) result.0, map string_bytes result.1.now) ≡ option_word option.now (map string_bytes words.now) }
 {
     match words {
-        [name, _] => Some(Request {
-            verb: Verb::Get,
-            file,
-            name: name.as_str(),
-            words: &words[1..],
-            flag: false,
-        }),
-        [name, _, last] if last.as_str() == "--indent" => Some(Request {
-            verb: Verb::Get,
-            file,
-            name: name.as_str(),
-            words: &words[1..2],
-            flag: true,
-        }),
+        [first, second, rest @ ..] => {
+            if first.as_str() == option {
+                (Some(second.as_str()), rest)
+            } else {
+                (None, words)
+            }
+        }
+        _ => (None, words),
+    }
+}
+
+/// Whether the words begin with a flag, and the words that follow.
+fn take_flag<'a>(flag: &str, words: &'a [String]) -> (bool, &'a [String])
+    ensures { (result.0, map string_bytes result.1.now) ≡ flag_word flag.now (map string_bytes words.now) }
+{
+    match words {
+        [first, rest @ ..] => {
+            if first.as_str() == flag {
+                (true, rest)
+            } else {
+                (false, words)
+            }
+        }
+        [] => (false, words),
+    }
+}
+
+/// A path under the struct of a name, and after it perhaps `--indent`.
+fn read_get<'a>(file: Option<&'a str>, words: &'a [String]) -> Option<GetRequest<'a>>
+    ensures { option_map get_task_of result ≡ get_asked (option_map (λ f. f.now) file.entry) (map string_bytes words.now) }
+{
+    match words {
+        [name, path] => {
+            let root = NamedRoot { file, name: name.as_str() };
+            Some(GetRequest { root, path: path.as_str(), indented: false })
+        }
+        [name, path, last] => {
+            if last.as_str() == "--indent" {
+                let root = NamedRoot { file, name: name.as_str() };
+                Some(GetRequest { root, path: path.as_str(), indented: true })
+            } else {
+                None
+            }
+        }
         _ => None,
     }
 }
 
-/// Calls on a root under the struct of a name.
-fn read_calls<'a>(
-    verb: Verb,
-    file: Option<&'a str>,
-    flag: bool,
-    words: &'a [String],
-) -> Option<Request<'a>>
-    ensures { option_map task_of result ≡ with_calls verb (option_map (λ f. f.now) file.entry) flag words.now }
+/// The words of calls: these, or where a file is named its lines, and then there are no other words.
+fn read_given<'a>(lines: Option<&'a str>, words: &'a [String]) -> Option<CallWords<'a>>
+    ensures { option_map given_of result ≡ given_asked (option_map (λ f. f.now) lines.entry) (map string_bytes words.now) }
 {
-    match words {
-        [] => None,
-        [name, calls @ ..] => Some(Request {
-            verb,
-            file,
-            name: name.as_str(),
-            words: calls,
-            flag,
-        }),
+    match lines {
+        None => Some(CallWords::Words(words)),
+        Some(path) => {
+            if words.is_empty() {
+                Some(CallWords::Lines(path))
+            } else {
+                None
+            }
+        }
     }
 }
 
-/// What is asked under the struct of a name, in a file's set or the built-in one.
-fn read_named<'a>(verb: Verb, file: Option<&'a str>, words: &'a [String]) -> Option<Request<'a>>
-    ensures { option_map task_of result ≡ in_named verb (option_map (λ f. f.now) file.entry) words.now }
+/// Calls on a root under the struct of a name.
+fn read_named<'a>(
+    file: Option<&'a str>,
+    lines: Option<&'a str>,
+    keep_going: bool,
+    words: &'a [String],
+) -> Option<CallsRequest<'a>>
+    ensures { option_map calls_task_of result ≡ named_asked (option_map (λ f. f.now) file.entry) (option_map (λ f. f.now) lines.entry) keep_going (map string_bytes words.now) }
 {
-    match verb {
-        Verb::Get => read_get(file, words),
-        Verb::Patch | Verb::New => match words {
-            [first, rest @ ..] if first.as_str() == "--keep-going" => {
-                read_calls(verb, file, true, rest)
-            }
-            _ => read_calls(verb, file, false, words),
-        },
+    match words {
+        [] => None,
+        [name, rest @ ..] => {
+            let calls = read_given(lines, rest)?;
+            let root = NamedRoot { file, name: name.as_str() };
+            Some(CallsRequest { root, calls, keep_going })
+        }
     }
+}
+
+/// Calls on a root, and before them where the calls stand and whether a refused one keeps the message from being written.
+fn read_calls<'a>(file: Option<&'a str>, words: &'a [String]) -> Option<CallsRequest<'a>>
+    ensures { option_map calls_task_of result ≡ calls_asked (option_map (λ f. f.now) file.entry) (map string_bytes words.now) }
+{
+    let (lines, behind_lines) = take_option("--calls", words);
+    let (keep_going, named) = take_flag("--keep-going", behind_lines);
+    read_named(file, lines, keep_going, named)
 }
 
 /// What is asked, after what is done.
-fn read_set<'a>(verb: Verb, words: &'a [String]) -> Option<Request<'a>>
-    ensures { option_map task_of result ≡ in_set (Some verb) words.now }
+fn read_verb_words<'a>(verb: Verb, words: &'a [String]) -> Option<Asked<'a>>
+    ensures { option_map task_of result ≡ in_set verb (option_word (codes "--set") (map string_bytes words.now)) }
 {
-    match words {
-        [first, file, rest @ ..] if first.as_str() == "--set" => {
-            read_named(verb, Some(file.as_str()), rest)
-        }
-        _ => read_named(verb, None, words),
+    let (file, rest) = take_option("--set", words);
+    match verb {
+        Verb::Get => Some(Asked::Get(read_get(file, rest)?)),
+        Verb::Patch => Some(Asked::Patch(read_calls(file, rest)?)),
+        Verb::New => Some(Asked::New(read_calls(file, rest)?)),
     }
 }
 
-/// What the words ask for; none for other words.
-pub fn read_words(words: &[String]) -> Option<Request<'_>>
-    ensures { option_map task_of result ≡ asked words.now }
+/// What the words ask for; none for other words:
+///
+/// - `get [--set FILE] NAME PATH [--indent]`;
+/// - `patch` or `new`, `[--set FILE] [--calls FILE] [--keep-going] NAME CALL..`, with no call where a file of calls is named.
+pub fn read_words(words: &[String]) -> Option<Asked<'_>>
+    ensures { option_map task_of result ≡ asked (map string_bytes words.now) }
 {
     match words {
         [] => None,
-        [first, rest @ ..] => match read_verb(first.as_str()) {
-            Some(verb) => read_set(verb, rest),
-            None => None,
-        },
+        [first, rest @ ..] => {
+            let verb = read_verb(first.as_str())?;
+            read_verb_words(verb, rest)
+        }
     }
 }

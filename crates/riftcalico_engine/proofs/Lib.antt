@@ -1,0 +1,6 @@
+pub mod CallsGiven
+pub mod Each
+pub mod Ended
+pub mod EndedTwo
+pub mod Outcomes
+pub mod Roots
