@@ -181,7 +181,7 @@ pub fn new_message<W: Sink>(alloc: Global, asked: Asked<'_>, sink: &mut W) -> Re
         → IsCutShort asked.entry.keep_going (IsLeftOfNew asked.entry.schema asked.entry.calls.now) (W.written sink.old) (W.written sink.new)) }
     ensures nothing { IfErr result (λ e. e.kind ≢ WriteFailed → sink.new ≡ sink.old) }
 {
-    let mut message = Builder::new(alloc);
-    let replies = run_new(alloc, &mut message, asked.schema, asked.calls)?;
-    finish(alloc, &message, replies, asked, sink)
+    let mut made = Builder::new(alloc);
+    let replies = run_new(alloc, &mut made, asked.schema, asked.calls)?;
+    finish(alloc, &made, replies, asked, sink)
 }

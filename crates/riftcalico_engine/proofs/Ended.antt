@@ -24,7 +24,7 @@ module _ {O F : Type 0} (opens : Opens O F) (holds : F → Option (List ℕ)) (f
   abbrev Ends : Result Outcome Error → Type 0
   Ends r = EndsSo
       (λ o. IsNoTextOutcome opens holds fails old new untouched unwritten t.calls o
-        ⊎ AreGiven opens holds old t.calls (λ mid words. IsCallsOutcome opens holds mid new t.root words t.keep_going untouched unwritten done o))
+      ⊎ AreGiven opens holds old t.calls (λ mid words. IsCallsOutcome opens holds mid new t.root words t.keep_going untouched unwritten done o))
       (λ e. IsCallsRefused opens holds fails old new untouched unwritten t e failed (refused e) cut writes writes') r
 
   -- the words were given
@@ -57,6 +57,7 @@ module _ {O F : Type 0} (opens : Opens O F) (holds : F → Option (List ℕ)) (f
     where
       no_read : ReadFailed ≡ WriteFailed → ⊥
       no_read q = cc
+
       no_write : e.kind ≡ OutOfMemory → e.kind ≡ WriteFailed → ⊥
       no_write p q = none (sym p ∙ q)
         where

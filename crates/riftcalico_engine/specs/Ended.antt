@@ -129,7 +129,7 @@ module _ {O F : Type 0} (opens : Opens O F) (holds : F → Option (List ℕ)) (f
   IsPatchEnded s t (Ok o) =
       IsNoTextOutcome t.calls o
       ⊎ AreGiven opens holds old t.calls (λ mid words. IsCallsOutcome opens holds mid new t.root words t.keep_going untouched unwritten
-        (λ schema calls replies. IsPatched schema calls t.keep_going replies s.left s.left' s.written s.written') o)
+      (λ schema calls replies. IsPatched schema calls t.keep_going replies s.left s.left' s.written s.written') o)
   IsPatchEnded s t (Err e) = IsCallsRefused t e (HasFailed s.reads s.reads')
       (λ schema calls. IsNotPatched schema calls t.keep_going e.kind s.left s.left')
       (λ schema calls. IsPatchCutShort schema calls t.keep_going s.left s.left' s.written s.written') s.writes s.writes'
@@ -139,7 +139,7 @@ module _ {O F : Type 0} (opens : Opens O F) (holds : F → Option (List ℕ)) (f
   IsNewEnded written written' writes writes' t (Ok o) =
       IsNoTextOutcome t.calls o
       ⊎ AreGiven opens holds old t.calls (λ mid words. IsCallsOutcome opens holds mid new t.root words t.keep_going untouched unwritten
-        (λ schema calls replies. IsMade schema calls t.keep_going replies written written') o)
+      (λ schema calls replies. IsMade schema calls t.keep_going replies written written') o)
   IsNewEnded written written' writes writes' t (Err e) = IsCallsRefused t e ⊥
       (λ schema calls. IsTooLarge t.keep_going (IsLeftOfNew schema calls) e.kind)
       (λ schema calls. IsCutShort t.keep_going (IsLeftOfNew schema calls) written written') writes writes'

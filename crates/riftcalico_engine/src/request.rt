@@ -106,13 +106,27 @@ fn read_get<'a>(file: Option<&'a str>, words: &'a [String]) -> Option<GetRequest
 {
     match words {
         [name, path] => {
-            let root = NamedRoot { file, name: name.as_str() };
-            Some(GetRequest { root, path: path.as_str(), indented: false })
+            let root = NamedRoot {
+                file,
+                name: name.as_str(),
+            };
+            Some(GetRequest {
+                root,
+                path: path.as_str(),
+                indented: false,
+            })
         }
         [name, path, last] => {
             if last.as_str() == "--indent" {
-                let root = NamedRoot { file, name: name.as_str() };
-                Some(GetRequest { root, path: path.as_str(), indented: true })
+                let root = NamedRoot {
+                    file,
+                    name: name.as_str(),
+                };
+                Some(GetRequest {
+                    root,
+                    path: path.as_str(),
+                    indented: true,
+                })
             } else {
                 None
             }
@@ -150,8 +164,15 @@ fn read_named<'a>(
         [] => None,
         [name, rest @ ..] => {
             let calls = read_given(lines, rest)?;
-            let root = NamedRoot { file, name: name.as_str() };
-            Some(CallsRequest { root, calls, keep_going })
+            let root = NamedRoot {
+                file,
+                name: name.as_str(),
+            };
+            Some(CallsRequest {
+                root,
+                calls,
+                keep_going,
+            })
         }
     }
 }

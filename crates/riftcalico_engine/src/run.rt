@@ -80,7 +80,15 @@ fn run_get<O: Opener, R: Source, W: Sink>(
     match parse_path(alloc, request.path)? {
         Ok(path) => {
             let steps = steps_of(alloc, &path)?;
-            get_at(alloc, opener, request.root, &steps, source, sink, request.indented)?;
+            get_at(
+                alloc,
+                opener,
+                request.root,
+                &steps,
+                source,
+                sink,
+                request.indented,
+            )?;
             Ok(Outcome::Shown)
         }
         Err(place) => {
@@ -115,7 +123,12 @@ fn patch_calls<R: Source, W: Sink>(
     match read_all_calls(alloc, schema, texts)? {
         Ok(read) => {
             let calls = make_calls(alloc, &read)?;
-            let asked = engine::Asked { schema, calls: &calls, words, keep_going };
+            let asked = engine::Asked {
+                schema,
+                calls: &calls,
+                words,
+                keep_going,
+            };
             Ok(Outcome::Made(patch(alloc, asked, source, sink)?))
         }
         Err(at) => Ok(Outcome::Unreadable(unreadable_line(alloc, words, at)?)),
@@ -146,7 +159,12 @@ fn new_calls<W: Sink>(
     match read_all_calls(alloc, schema, texts)? {
         Ok(read) => {
             let calls = make_calls(alloc, &read)?;
-            let asked = engine::Asked { schema, calls: &calls, words, keep_going };
+            let asked = engine::Asked {
+                schema,
+                calls: &calls,
+                words,
+                keep_going,
+            };
             Ok(Outcome::Made(new_message(alloc, asked, sink)?))
         }
         Err(at) => Ok(Outcome::Unreadable(unreadable_line(alloc, words, at)?)),
@@ -234,7 +252,15 @@ fn run_patch<O: Opener, R: Source, W: Sink>(
         }
         CallWords::Lines(path) => match read_lines(alloc, opener, path)? {
             Ok(words) => {
-                patch_words(alloc, opener, request.root, &words, keep_going, source, sink)
+                patch_words(
+                    alloc,
+                    opener,
+                    request.root,
+                    &words,
+                    keep_going,
+                    source,
+                    sink,
+                )
             }
             Err(line) => Ok(Outcome::Unreadable(line)),
         },
