@@ -11,7 +11,15 @@ use Rattle.capnp_words.specs.Seen.{plain_seen, plain_type}
 use Rattle.capnp_words.specs.Values.{value_at}
 use Rattle.capnp_words.specs.declared.value.PlainValue.{PlainValue}
 use Rattle.capnp_words.specs.declared.value.PlainValue.TheVariants as plain
-use Rattle.riftcalico_engine.specs.Calls.{shifted, source_of, split, with_step}
+use Rattle.capnp_call.specs.Seen.{call_seen}
+use Rattle.capnp_call.specs.declared.calls.Call.{Call as MadeCall}
+use Rattle.capnp_records.specs.Run.{root_type}
+use Rattle.capnp_schema.specs.StructHandles.{number_of, set_of}
+use Rattle.capnp_schema.specs.declared.schema.structs.StructSchema.{StructSchema}
+use Rattle.capnp_words.specs.Calls.{CallText}
+use Rattle.riftcalico_engine.specs.Calls.{call_read, shifted, source_of, split, with_step}
+use Rattle.riftcalico_engine.specs.Reads.{each_read}
+use Rattle.riftcalico_engine.specs.Words.{AreCalls}
 use Rattle.riftcalico_engine.specs.CallsSeen.{plain_source}
 
 -- a value is given by its type
@@ -47,3 +55,16 @@ pub split_seen : {S : Type 0} (seen : S → PathStep) (op : Op) (steps path : Li
     record { path = map seen path; last = seen last; op = op } ≡ split (map seen steps) op
 split_seen {S} seen op steps path last e =
     sym (ap (λ (xs : List S). split (map seen xs) op) e ∙ (ap (λ (xs : List PathStep). split xs op) (map-append seen path (last ∷ [])) ∙ split_last op (map seen path) (seen last)))
+
+-- calls that were read under a schema, as they are made
+pub calls_are : (schema : StructSchema) (texts : List CallText) (calls : List MadeCall) (read : List Call) (so : StructSchema → List MadeCall → Type 0) →
+    Ok read ≡ each_read (call_read (set_of schema) (root_type (set_of schema) (number_of schema))) 0 texts → map call_seen calls ≡ read → so schema calls →
+    AreCalls (set_of schema) (number_of schema) texts so
+calls_are schema texts calls read so said made is = record {
+  schema = schema;
+  of_set = refl;
+  of_struct = refl;
+  calls = calls;
+  read = sym said ∙ ap Ok (sym made);
+  are_so = is;
+}

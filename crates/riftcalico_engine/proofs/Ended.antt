@@ -8,9 +8,10 @@ use Rattle.capnp_schema.specs.declared.schema.structs.StructSchema.{StructSchema
 use Rattle.capnp_call.specs.declared.calls.Call.{Call}
 use Rattle.capnp_call.specs.declared.calls.Reply.{Reply}
 use Rattle.capnp_show_engine.specs.Show.{IsOfMessage}
-use Rattle.riftcalico_engine.specs.Command.{CallsTask}
-use Rattle.riftcalico_engine.specs.Ended.{AreGiven, AreUnder, IsCallsOutcome, IsCallsRefused, IsNoTextOutcome}
-use Rattle.riftcalico_engine.specs.Roots.{HasSetFailed, IsRootOr, Opens}
+use Rattle.riftcalico_engine.specs.Command.{CallsTask, GetTask}
+use Rattle.capnp_patch.specs.Gets.{IsGetCutShort, IsNotGot}
+use Rattle.riftcalico_engine.specs.Ended.{AreGiven, AreUnder, IsCallsOutcome, IsCallsRefused, IsGetEnded, IsGetOutcome, IsNoTextOutcome, IsPath, Streams}
+use Rattle.riftcalico_engine.specs.Roots.{HasReadFailed, HasSetFailed, IsNamed, IsRootOr, Opens}
 use Rattle.riftcalico_engine.specs.Words.{AreCalls, AreSaid, AreWords, HasGivenFailed}
 use Rattle.riftcalico_engine.specs.declared.run.Outcome.{Outcome}
 
@@ -63,3 +64,15 @@ module _ {O F : Type 0} (opens : Opens O F) (holds : F → Option (List ℕ)) (f
         where
           none : OutOfMemory ≡ WriteFailed → ⊥
           none q = cc
+
+-- what a get ended with, from what is said of its answer
+module _ {O F : Type 0} (opens : Opens O F) (holds : F → Option (List ℕ)) (fails : F → ℕ) (old new : O) (untouched unwritten : Type 0) (s : Streams) (t : GetTask) where
+  pub get_ended : (r : Result Outcome Error) →
+      IfOk r (IsGetOutcome opens holds fails old new untouched unwritten s t) →
+      IfErr r (λ e. IsOfMessage e.kind → IsPath t.path (λ path. IsRootOr opens holds old new t.root e untouched (λ set b. IsNotGot set b path t.indented e.kind s.left s.left'))) →
+      IfErr r (λ e. e.kind ≡ ReadFailed → HasReadFailed opens fails old new t.root.file untouched s.reads s.reads') →
+      IfErr r (λ e. e.kind ≡ WriteFailed → HasFailed s.writes s.writes') →
+      IfErr r (λ e. e.kind ≡ WriteFailed → IsPath t.path (λ path. IsNamed opens holds old new t.root (λ set b. IsGetCutShort set b path t.indented s.left s.left' s.written s.written'))) →
+      IfErr r (λ e. e.kind ≢ WriteFailed → unwritten) → IsGetEnded opens holds fails old new untouched unwritten s t r
+  get_ended (Ok o) outcome a b c d e = outcome
+  get_ended (Err x) outcome a b c d e = record { message = a; read_failed = b; write_failed = c; beginning = d; nothing = e }

@@ -1,4 +1,5 @@
 pub mod CallsGiven
+pub mod CommandDone
 pub mod Each
 pub mod Ended
 pub mod EndedTwo

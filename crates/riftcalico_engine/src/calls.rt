@@ -7,7 +7,7 @@ ghost use Rattle.capnp_slots.specs.SetValues.{source_of as given_source};
 ghost use Rattle.capnp_call.specs.Seen.{call_seen, op_seen, path_seen, step_seen};
 ghost use Rattle.capnp_words.specs.Calls.{call_at};
 ghost use Rattle.capnp_words.specs.Reads.{read_as};
-ghost use Rattle.capnp_words.specs.Seen as word;
+ghost use Rattle.capnp_words.specs.Seen as said;
 ghost use Rattle.capnp_words.specs.Targets.{type_along};
 ghost use Rattle.capnp_words.specs.Calls.{Set};
 ghost use Rattle.riftcalico_engine.specs.Calls.{call_read, op_given, placed, source_given, split};
@@ -37,15 +37,15 @@ pub type Read<T> = std::result::Result<T, Unreadable>;
 
 /// A call that was read under a schema: what its word says, the steps of its path, and the value that it sets.
 #[derive(Drop)]
-pub struct ReadCall<'c> {
+pub struct ReadCall<'s, 'c> {
     pub word: &'c CallWord,
     pub steps: Vec<Step<'c>>,
-    pub value: PlainValue<'c>,
+    pub value: PlainValue<'s>,
 }
 
 /// The calls that words say, or the first word that says none. Refused with `OutOfMemory` alone.
 pub fn read_calls(alloc: Global, words: &[String]) -> Result<Read<Vec<CallWord>>>
-    ensures read { IfOk result (λ r. all_seen word.call_seen r ≡ each_read call_at 0 (map string_bytes words.now)) }
+    ensures read { IfOk result (λ r. all_seen said.call_seen r ≡ each_read call_at 0 (map string_bytes words.now)) }
     ensures count { IfOk result (λ r. IfOk r (λ calls. length calls.items ≡ length words.now)) }
     ensures inside { IfOk result (λ r. IfErr r (λ at. at.index < length words.now)) }
     ensures memory { IfErr result (λ e. e.kind ≡ OutOfMemory) }
@@ -73,7 +73,7 @@ fn read_set<'s>(
 ) -> Result<std::result::Result<PlainValue<'s>, u128>>
     requires { IsStruct schema }
     ensures read { IfOk result (λ r. read_as plain_source r
-        ≡ source_given (set_of schema.entry) (type_along (set_of schema.entry) (root_type (set_of schema.entry) (number_of schema.entry)) (word.path_seen path.now)) (Set value.now place)) }
+        ≡ source_given (set_of schema.entry) (type_along (set_of schema.entry) (root_type (set_of schema.entry) (number_of schema.entry)) (said.path_seen path.now)) (Set value.now place)) }
     ensures memory { IfErr result (λ e. e.kind ≡ OutOfMemory) }
 {
     let Some(target) = target_type(schema, path) else {
@@ -94,7 +94,7 @@ fn read_value<'s>(
 ) -> Result<std::result::Result<PlainValue<'s>, u128>>
     requires { IsStruct schema }
     ensures read { IfOk result (λ r. read_as plain_source r
-        ≡ source_given (set_of schema.entry) (type_along (set_of schema.entry) (root_type (set_of schema.entry) (number_of schema.entry)) (word.path_seen call.now.path)) (word.op_seen call.now.op)) }
+        ≡ source_given (set_of schema.entry) (type_along (set_of schema.entry) (root_type (set_of schema.entry) (number_of schema.entry)) (said.path_seen call.now.path)) (said.op_seen call.now.op)) }
     ensures memory { IfErr result (λ e. e.kind ≡ OutOfMemory) }
 {
     match &call.op {
@@ -110,7 +110,7 @@ fn read_value<'s>(
 
 /// A step as calls have it.
 fn step_of(step: &PathStep) -> Step<'_>
-    ensures { step_seen result ≡ word.step_seen step.now }
+    ensures { step_seen result ≡ said.step_seen step.now }
 {
     match step {
         PathStep::Named(name) => Step::Named(name.as_str()),
@@ -121,7 +121,7 @@ fn step_of(step: &PathStep) -> Step<'_>
 
 /// The steps of a path as calls have them. Refused with `OutOfMemory` alone.
 pub fn steps_of(alloc: Global, path: &Path) -> Result<Vec<Step<'_>>>
-    ensures steps { IfOk result (λ steps. path_seen steps.items ≡ word.path_seen path.now) }
+    ensures steps { IfOk result (λ steps. path_seen steps.items ≡ said.path_seen path.now) }
     ensures memory { IfErr result (λ e. e.kind ≡ OutOfMemory) }
 {
     let mut steps = Vec::with_capacity(alloc, path.steps.len())?;
@@ -133,14 +133,14 @@ pub fn steps_of(alloc: Global, path: &Path) -> Result<Vec<Step<'_>>>
 
 /// A call with its value and its steps, or the place in its word where the value can't be read. Refused with `OutOfMemory`
 /// alone.
-fn read_call<'c>(
+fn read_call<'s, 'c>(
     alloc: Global,
-    schema: StructSchema<'c>,
+    schema: StructSchema<'s>,
     word: &'c CallWord,
-) -> Result<std::result::Result<ReadCall<'c>, u128>>
+) -> Result<std::result::Result<ReadCall<'s, 'c>, u128>>
     requires { IsStruct schema }
     ensures read { IfOk result (λ r. read_as read_call_seen r
-        ≡ call_read (set_of schema.entry) (root_type (set_of schema.entry) (number_of schema.entry)) (word.call_seen word.now)) }
+        ≡ call_read (set_of schema.entry) (root_type (set_of schema.entry) (number_of schema.entry)) (said.call_seen word.now)) }
     ensures memory { IfErr result (λ e. e.kind ≡ OutOfMemory) }
 {
     match read_value(alloc, schema, word)? {
@@ -154,14 +154,14 @@ fn read_call<'c>(
 
 /// Calls with their values and their steps under a schema, or the first whose value can't be read. Refused with `OutOfMemory`
 /// alone.
-pub fn read_all_calls<'c>(
+pub fn read_all_calls<'s, 'c>(
     alloc: Global,
-    schema: StructSchema<'c>,
+    schema: StructSchema<'s>,
     words: &'c [CallWord],
-) -> Result<Read<Vec<ReadCall<'c>>>>
+) -> Result<Read<Vec<ReadCall<'s, 'c>>>>
     requires { IsStruct schema }
     ensures read { IfOk result (λ r. all_seen read_call_seen r
-        ≡ each_read (call_read (set_of schema.entry) (root_type (set_of schema.entry) (number_of schema.entry))) 0 (map word.call_seen words.now)) }
+        ≡ each_read (call_read (set_of schema.entry) (root_type (set_of schema.entry) (number_of schema.entry))) 0 (map said.call_seen words.now)) }
     ensures inside { IfOk result (λ r. IfErr r (λ at. at.index < length words.now)) }
     ensures memory { IfErr result (λ e. e.kind ≡ OutOfMemory) }
 {
@@ -198,7 +198,7 @@ fn value_given<'c>(value: &'c PlainValue<'_>) -> Value<'c>
 
 /// What a call does, by its word, with the value that it sets.
 fn op_of<'c>(op: &WordOp, value: &'c PlainValue<'_>) -> Op<'c>
-    ensures { op_seen result ≡ op_given (plain_source value.now) (word.op_seen op.now) }
+    ensures { op_seen result ≡ op_given (plain_source value.now) (said.op_seen op.now) }
 {
     match op {
         WordOp::Get => Op::Get,
@@ -212,7 +212,7 @@ fn op_of<'c>(op: &WordOp, value: &'c PlainValue<'_>) -> Op<'c>
 }
 
 /// A call along these steps, the last of which is what the operation is done to.
-fn split_call<'c>(op: Op<'c>, steps: &'c [Step<'c>]) -> Call<'c>
+fn split_call<'a>(op: Op<'a>, steps: &'a [Step<'_>]) -> Call<'a>
     ensures { call_seen result ≡ split (path_seen steps.now) (op_seen op.entry) }
 {
     match steps.split_last() {
@@ -230,7 +230,7 @@ fn split_call<'c>(op: Op<'c>, steps: &'c [Step<'c>]) -> Call<'c>
 }
 
 /// A call along these steps. The struct that is asked for its member is the one that all steps lead to.
-fn call_of<'c>(op: Op<'c>, steps: &'c [Step<'c>]) -> Call<'c>
+fn call_of<'a>(op: Op<'a>, steps: &'a [Step<'_>]) -> Call<'a>
     ensures { call_seen result ≡ placed (path_seen steps.now) (op_seen op.entry) }
 {
     match op {
@@ -246,7 +246,7 @@ fn call_of<'c>(op: Op<'c>, steps: &'c [Step<'c>]) -> Call<'c>
 }
 
 /// Calls that were read, as they are made. Refused with `OutOfMemory` alone.
-pub fn make_calls<'c>(alloc: Global, read: &'c [ReadCall<'c>]) -> Result<Vec<Call<'c>>>
+pub fn make_calls<'a>(alloc: Global, read: &'a [ReadCall<'_, '_>]) -> Result<Vec<Call<'a>>>
     ensures calls { IfOk result (λ calls. map call_seen calls.items ≡ map read_call_seen read.now) }
     ensures memory { IfErr result (λ e. e.kind ≡ OutOfMemory) }
 {

@@ -8,7 +8,7 @@ ghost use Rattle.capnp_patch.specs.Gets.{IsGetCutShort, IsGot, IsNotGot};
 ghost use Rattle.capnp_patch.specs.Patches.{IsCutShort, IsLeftOfNew, IsMade, IsNotPatched, IsPatchCutShort, IsPatched, IsTooLarge};
 ghost use Rattle.capnp_show_engine.specs.Show.{IsOfMessage};
 ghost use Rattle.capnp_words.specs.Seen.{call_seen};
-ghost use Rattle.riftcalico_engine.specs.Ended.{AreUnder, IsCallsOutcome, IsEnded, IsGetEnded, IsNewEnded, IsPatchEnded, IsUnderOutcome, streams};
+ghost use Rattle.riftcalico_engine.specs.Ended.{AreUnder, IsCallsOutcome, IsEnded, IsGetOutcome, IsNewEnded, IsPatchEnded, IsPath, IsUnderOutcome, streams};
 ghost use Rattle.riftcalico_engine.specs.RequestSeen.{calls_task_of, get_task_of, root_of, task_of};
 ghost use Rattle.riftcalico_engine.specs.Roots.{HasReadFailed, HasSetFailed, IsNamed, IsRootOr};
 ghost use Rattle.riftcalico_engine.specs.Words.{AreCalls, AreSaid};
@@ -73,23 +73,29 @@ fn run_get<O: Opener, R: Source, W: Sink>(
     source: &mut R,
     sink: &mut W,
 ) -> Result<Outcome>
-    ensures { IsGetEnded O.opens O.File.left O.File.failures opener.old opener.new (source.new ≡ source.old) (sink.new ≡ sink.old)
+    ensures outcome { IfOk result (IsGetOutcome O.opens O.File.left O.File.failures opener.old opener.new (source.new ≡ source.old) (sink.new ≡ sink.old)
         (streams (R.left source.old) (R.left source.new) (W.written sink.old) (W.written sink.new)
-        (R.failures source.old) (R.failures source.new) (W.failures sink.old) (W.failures sink.new)) (get_task_of request.entry) result }
+        (R.failures source.old) (R.failures source.new) (W.failures sink.old) (W.failures sink.new)) (get_task_of request.entry)) }
+    ensures refused { IfErr result (λ e. IsOfMessage e.kind → IsPath request.entry.path.now (λ path.
+        IsRootOr O.opens O.File.left opener.old opener.new (root_of request.entry.root) e (source.new ≡ source.old) (λ set b.
+        IsNotGot set b path request.entry.indented e.kind (R.left source.old) (R.left source.new)))) }
+    ensures read_failed { IfErr result (λ e. e.kind ≡ ReadFailed → HasReadFailed O.opens O.File.failures opener.old opener.new (root_of request.entry.root).file
+        (source.new ≡ source.old) (R.failures source.old) (R.failures source.new)) }
+    ensures write_failed { IfErr result (λ e. e.kind ≡ WriteFailed → HasFailed (W.failures sink.old) (W.failures sink.new)) }
+    ensures beginning { IfErr result (λ e. e.kind ≡ WriteFailed → IsPath request.entry.path.now (λ path.
+        IsNamed O.opens O.File.left opener.old opener.new (root_of request.entry.root) (λ set b.
+        IsGetCutShort set b path request.entry.indented (R.left source.old) (R.left source.new) (W.written sink.old) (W.written sink.new)))) }
+    ensures nothing { IfErr result (λ e. e.kind ≢ WriteFailed → sink.new ≡ sink.old) }
 {
     match parse_path(alloc, request.path)? {
         Ok(path) => {
             let steps = steps_of(alloc, &path)?;
-            get_at(
-                alloc,
-                opener,
-                request.root,
-                &steps,
-                source,
-                sink,
-                request.indented,
-            )?;
-            Ok(Outcome::Shown)
+            let root = request.root;
+            let indented = request.indented;
+            match get_at(alloc, opener, root, &steps, source, sink, indented) {
+                Ok(()) => Ok(Outcome::Shown),
+                Err(error) => Err(error),
+            }
         }
         Err(place) => {
             let line = put_unreadable(alloc, 1, request.path, place as u128)?;
@@ -129,7 +135,10 @@ fn patch_calls<R: Source, W: Sink>(
                 words,
                 keep_going,
             };
-            Ok(Outcome::Made(patch(alloc, asked, source, sink)?))
+            match patch(alloc, asked, source, sink) {
+                Ok(report) => Ok(Outcome::Made(report)),
+                Err(error) => Err(error),
+            }
         }
         Err(at) => Ok(Outcome::Unreadable(unreadable_line(alloc, words, at)?)),
     }
@@ -165,10 +174,42 @@ fn new_calls<W: Sink>(
                 words,
                 keep_going,
             };
-            Ok(Outcome::Made(new_message(alloc, asked, sink)?))
+            match new_message(alloc, asked, sink) {
+                Ok(report) => Ok(Outcome::Made(report)),
+                Err(error) => Err(error),
+            }
         }
         Err(at) => Ok(Outcome::Unreadable(unreadable_line(alloc, words, at)?)),
     }
+}
+
+/// Makes calls on a copy of a message, under the struct of a name.
+fn patch_root<O: Opener, R: Source, W: Sink>(
+    alloc: Global,
+    opener: &mut O,
+    root: NamedRoot<'_>,
+    texts: &[CallWord],
+    words: &[String],
+    keep_going: bool,
+    source: &mut R,
+    sink: &mut W,
+) -> Result<Outcome>
+    requires { length texts.now ≡ length words.now }
+    ensures outcome { IfOk result (λ o. IsNamed O.opens O.File.left opener.old opener.new (root_of root.entry) (λ set b.
+        IsUnderOutcome set b (map call_seen texts.now) (map string_bytes words.now) keep_going (source.new ≡ source.old) (sink.new ≡ sink.old)
+        (λ schema calls replies. IsPatched schema calls keep_going replies (R.left source.old) (R.left source.new) (W.written sink.old) (W.written sink.new)) o)) }
+    ensures refused { IfErr result (λ e. IsOfMessage e.kind → IsRootOr O.opens O.File.left opener.old opener.new (root_of root.entry) e (source.new ≡ source.old) (λ set b.
+        AreCalls set b (map call_seen texts.now) (λ schema calls. IsNotPatched schema calls keep_going e.kind (R.left source.old) (R.left source.new)))) }
+    ensures read_failed { IfErr result (λ e. e.kind ≡ ReadFailed → HasReadFailed O.opens O.File.failures opener.old opener.new (root_of root.entry).file (source.new ≡ source.old)
+        (R.failures source.old) (R.failures source.new)) }
+    ensures write_failed { IfErr result (λ e. e.kind ≡ WriteFailed → HasFailed (W.failures sink.old) (W.failures sink.new)) }
+    ensures beginning { IfErr result (λ e. e.kind ≡ WriteFailed → IsNamed O.opens O.File.left opener.old opener.new (root_of root.entry) (λ set b.
+        AreCalls set b (map call_seen texts.now) (λ schema calls. IsPatchCutShort schema calls keep_going (R.left source.old) (R.left source.new) (W.written sink.old) (W.written sink.new)))) }
+    ensures nothing { IfErr result (λ e. e.kind ≢ WriteFailed → sink.new ≡ sink.old) }
+{
+    let set = read_set(alloc, opener, root.file)?;
+    let schema = find_schema(&set, root.name)?;
+    patch_calls(alloc, schema, texts, words, keep_going, source, sink)
 }
 
 /// Makes the calls that words say on a copy of a message.
@@ -194,13 +235,36 @@ fn patch_words<O: Opener, R: Source, W: Sink>(
     ensures nothing { IfErr result (λ e. e.kind ≢ WriteFailed → sink.new ≡ sink.old) }
 {
     match read_calls(alloc, words)? {
-        Ok(texts) => {
-            let set = read_set(alloc, opener, root.file)?;
-            let schema = find_schema(&set, root.name)?;
-            patch_calls(alloc, schema, &texts, words, keep_going, source, sink)
-        }
+        Ok(texts) => patch_root(alloc, opener, root, &texts, words, keep_going, source, sink),
         Err(at) => Ok(Outcome::Unreadable(unreadable_line(alloc, words, at)?)),
     }
+}
+
+/// Makes calls on an empty root, under the struct of a name.
+fn new_root<O: Opener, W: Sink>(
+    alloc: Global,
+    opener: &mut O,
+    root: NamedRoot<'_>,
+    texts: &[CallWord],
+    words: &[String],
+    keep_going: bool,
+    sink: &mut W,
+) -> Result<Outcome>
+    requires { length texts.now ≡ length words.now }
+    ensures outcome { IfOk result (λ o. IsNamed O.opens O.File.left opener.old opener.new (root_of root.entry) (λ set b.
+        IsUnderOutcome set b (map call_seen texts.now) (map string_bytes words.now) keep_going ⊤ (sink.new ≡ sink.old)
+        (λ schema calls replies. IsMade schema calls keep_going replies (W.written sink.old) (W.written sink.new)) o)) }
+    ensures refused { IfErr result (λ e. IsOfMessage e.kind → IsRootOr O.opens O.File.left opener.old opener.new (root_of root.entry) e ⊤ (λ set b.
+        AreCalls set b (map call_seen texts.now) (λ schema calls. IsTooLarge keep_going (IsLeftOfNew schema calls) e.kind))) }
+    ensures read_failed { IfErr result (λ e. e.kind ≡ ReadFailed → HasSetFailed O.opens O.File.failures opener.old opener.new (root_of root.entry).file) }
+    ensures write_failed { IfErr result (λ e. e.kind ≡ WriteFailed → HasFailed (W.failures sink.old) (W.failures sink.new)) }
+    ensures beginning { IfErr result (λ e. e.kind ≡ WriteFailed → IsNamed O.opens O.File.left opener.old opener.new (root_of root.entry) (λ set b.
+        AreCalls set b (map call_seen texts.now) (λ schema calls. IsCutShort keep_going (IsLeftOfNew schema calls) (W.written sink.old) (W.written sink.new)))) }
+    ensures nothing { IfErr result (λ e. e.kind ≢ WriteFailed → sink.new ≡ sink.old) }
+{
+    let set = read_set(alloc, opener, root.file)?;
+    let schema = find_schema(&set, root.name)?;
+    new_calls(alloc, schema, texts, words, keep_going, sink)
 }
 
 /// Makes the calls that words say on an empty root.
@@ -224,11 +288,7 @@ fn new_words<O: Opener, W: Sink>(
     ensures nothing { IfErr result (λ e. e.kind ≢ WriteFailed → sink.new ≡ sink.old) }
 {
     match read_calls(alloc, words)? {
-        Ok(texts) => {
-            let set = read_set(alloc, opener, root.file)?;
-            let schema = find_schema(&set, root.name)?;
-            new_calls(alloc, schema, &texts, words, keep_going, sink)
-        }
+        Ok(texts) => new_root(alloc, opener, root, &texts, words, keep_going, sink),
         Err(at) => Ok(Outcome::Unreadable(unreadable_line(alloc, words, at)?)),
     }
 }
@@ -250,8 +310,8 @@ fn run_patch<O: Opener, R: Source, W: Sink>(
         CallWords::Words(words) => {
             patch_words(alloc, opener, request.root, words, keep_going, source, sink)
         }
-        CallWords::Lines(path) => match read_lines(alloc, opener, path)? {
-            Ok(words) => {
+        CallWords::Lines(path) => match read_lines(alloc, opener, path) {
+            Ok(Ok(words)) => {
                 patch_words(
                     alloc,
                     opener,
@@ -262,7 +322,8 @@ fn run_patch<O: Opener, R: Source, W: Sink>(
                     sink,
                 )
             }
-            Err(line) => Ok(Outcome::Unreadable(line)),
+            Ok(Err(line)) => Ok(Outcome::Unreadable(line)),
+            Err(error) => Err(error),
         },
     }
 }
@@ -280,9 +341,10 @@ fn run_new<O: Opener, W: Sink>(
     let keep_going = request.keep_going;
     match request.calls {
         CallWords::Words(words) => new_words(alloc, opener, request.root, words, keep_going, sink),
-        CallWords::Lines(path) => match read_lines(alloc, opener, path)? {
-            Ok(words) => new_words(alloc, opener, request.root, &words, keep_going, sink),
-            Err(line) => Ok(Outcome::Unreadable(line)),
+        CallWords::Lines(path) => match read_lines(alloc, opener, path) {
+            Ok(Ok(words)) => new_words(alloc, opener, request.root, &words, keep_going, sink),
+            Ok(Err(line)) => Ok(Outcome::Unreadable(line)),
+            Err(error) => Err(error),
         },
     }
 }
