@@ -1,5 +1,5 @@
 -- The text that is got is that of what a path leads to from the struct that the root's reader stands on.
-use Rattle.std.proofs.Common.{arith, ap, ap₂, refl, subst, sym, ◌∙◌, ◌≡◌, ℕ, ◌+◌, ◌++◌, Bool, List, [], ◌∷◌, true, false, Option, Some, None, Result, Ok, Err, IfErr, OnErr}
+use Rattle.std.proofs.Common.{arith, ap, ap₂, refl, subst, sym, ◌∙◌, ◌≡◌, ℕ, ◌+◌, ◌++◌, Bool, List, [], ◌∷◌, true, false, Some, None, Result, Ok, Err, IfErr, OnErr}
 use Rattle.capnp_device.specs.declared.error.ErrorKind.{ErrorKind}
 use Rattle.capnp_wire.specs.Reading.{as_struct}
 use Rattle.capnp_wire.specs.Tree as tree
@@ -7,7 +7,7 @@ use Rattle.capnp_wire.specs.Tree.{StructTree, Tree}
 use Rattle.capnp_wire.specs.Standing.{struct_levels, struct_of}
 use Rattle.capnp_wire.specs.Stream.{message_tree_of}
 use Rattle.capnp_wire.specs.declared.struct_reader.StructReader.{StructReader}
-use Rattle.capnp_schema.specs.Schema.{Schemas, brand_at, node_of}
+use Rattle.capnp_schema.specs.Schema.{Schemas, node_of}
 use Rattle.capnp_schema.specs.StructHandles.{IsStruct, number_of, set_of}
 use Rattle.capnp_schema.specs.Types.{SchemaType, StructType}
 use Rattle.capnp_schema.specs.declared.schema.structs.StructSchema.{StructSchema}
@@ -119,8 +119,8 @@ module _ (schema : StructSchema) (path : List PathStep) (indented : Bool) (bytes
       let left : struct_levels r ≡ 63 = omega (arith, levels, levels_are) in
       let typed : struct_type (schema_of h) ≡ root_type (set_of schema) (number_of schema) = ap struct_type same ∙ ap (λ (g : ℕ). StructType (number_of schema) g) stands.generic in
       let seen : record_seen h ≡ struct_record (set_of schema) (Left (struct_levels r)) (struct_of r) (number_of schema) =
-          ap (λ (s : StructSchema). struct_record (set_of s) (Left (struct_levels (reader_of h))) (struct_of (reader_of h)) (number_of s)) same
-          ∙ ap (λ (y : StructReader). struct_record (set_of schema) (Left (struct_levels y)) (struct_of y) (number_of schema)) reader in
+      ap (λ (s : StructSchema). struct_record (set_of s) (Left (struct_levels (reader_of h))) (struct_of (reader_of h)) (number_of s)) same
+      ∙ ap (λ (y : StructReader). struct_record (set_of schema) (Left (struct_levels y)) (struct_of y) (number_of schema)) reader in
       let known : record_seen h ≡ struct_record (set_of schema) (Left 63) (struct_of r) (number_of schema) = seen ∙ ap (λ (m : ℕ). struct_record (set_of schema) (Left m) (struct_of r) (number_of schema)) left in
       ap₂ struct_part typed known ∙ entered-root (set_of schema) (number_of schema) root (struct_of r) (read ∙ ap₂ as_struct tree_is levels_are)
 

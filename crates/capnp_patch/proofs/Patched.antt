@@ -1,6 +1,6 @@
 -- What a patch did, by what its last step answered.
 use Rattle.std.specs.Prelude.{ℕ, suc, ◌≡◌, ◌≤◌, ◌^◌, List, Bool, true, Option}
-use Rattle.std.proofs.Common.{subst, sym, inl, inr, Result, Ok, Err, IfErr, IfOk, OnOk}
+use Rattle.std.proofs.Common.{subst, sym, inr, Result, Ok, Err, IfErr, IfOk, OnOk}
 use Rattle.capnp_device.specs.declared.error.Error.{Error}
 use Rattle.capnp_device.specs.declared.error.ErrorKind.TheVariants.{TooLarge, WriteFailed}
 use Rattle.capnp_wire.specs.Tree.{Tree}

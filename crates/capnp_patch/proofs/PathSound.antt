@@ -1,6 +1,6 @@
 -- What a path is refused with is no device's failure, nor is the text of what stands there.
 use Rattle.std.specs.Prelude.{ℕ, nat_lt, length, ⊤, List, [], ◌∷◌, Bool, true, false, Option, Some, None, Ok, Err}
-use Rattle.std.proofs.Common.{◌≡◌, ◌≢◌, ◌∙◌, ap, refl, subst, sym}
+use Rattle.std.proofs.Common.{◌≡◌, ◌≢◌, ◌∙◌, ap, subst, sym}
 use Rattle.std.proofs.lemmas.Bool.{true≢false}
 use Rattle.capnp_device.specs.declared.error.ErrorKind.{ErrorKind}
 use Rattle.capnp_device.specs.declared.error.ErrorKind.TheVariants.{FieldNotFound, InactiveMember, NoSuchElement, NotAContainer, OutOfMemory, ReadFailed, UntypedStep, WriteFailed}
@@ -10,7 +10,6 @@ use Rattle.capnp_schema.specs.Query.{field_named, records_of}
 use Rattle.capnp_schema.specs.Schema.{Schemas, VoidValue, field_at, fields_of}
 use Rattle.capnp_schema.specs.Types.{AnyPointerType, BoolType, DataType, EnumType, IntType, ListType, SchemaType, StructType, TextType, UIntType, VoidType}
 use Rattle.capnp_records.specs.Call.{ElementAt, FieldNamed, FieldNumber, PathStep}
-use Rattle.capnp_records.specs.Default.{read_of}
 use Rattle.capnp_records.specs.Facts.ReadFaults.{AllSound, IsReadKind, RecordSound, Sound, is_read_kind, nth-value-sound, part-sound, read_of-sound, value_of-sound}
 use Rattle.capnp_records.specs.Part.{value_count}
 use Rattle.capnp_records.specs.Reading.{value_of}
@@ -20,8 +19,8 @@ use Rattle.capnp_records.specs.Run.{root_type}
 use Rattle.capnp_records.specs.Step.{Found, Target, element_target, field_found, field_target, in_list, in_record, target_at, walked_by_type}
 use Rattle.capnp_records.specs.Text.{Out}
 use Rattle.capnp_show_engine.specs.Refusals.{IsOfRead}
-use Rattle.capnp_show_engine.specs.Show.{as_printed, root_value}
-use Rattle.capnp_patch.specs.Gets.{Part, Reached, handed, got_text, is_empty, is_group_type, path_read, reached, reached_text, step_read, target_read, tested, tested_found, tested_type, text_at, value_at}
+use Rattle.capnp_show_engine.specs.Show.{as_printed}
+use Rattle.capnp_patch.specs.Gets.{Reached, handed, got_text, is_empty, is_group_type, path_read, reached, reached_text, target_read, tested, tested_found, tested_type, text_at}
 use Rattle.capnp_patch.proofs.TextSound.{OutSound, whole-sound}
 
 -- a number of reads is no device's

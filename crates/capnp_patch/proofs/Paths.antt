@@ -1,10 +1,10 @@
 -- Where a path leads, by its first step.
-use Rattle.std.specs.Prelude.{ℕ, ◌-◌, ◌≤◌, List, [], ◌∷◌, Bool, drop, get_or, length, take}
-use Rattle.std.proofs.Common.{◌≡◌, ◌∙◌, ap, arith, refl, sym, Result, Ok, Err}
+use Rattle.std.specs.Prelude.{◌-◌, ◌≤◌, List, [], ◌∷◌, Bool, drop, get_or, length, take}
+use Rattle.std.proofs.Common.{◌≡◌, ◌∙◌, ap, arith, refl, sym, Ok}
 use Rattle.capnp_schema.specs.Schema.{Schemas}
 use Rattle.capnp_call.specs.Seen.{path_seen, step_seen}
 use Rattle.capnp_call.specs.declared.calls.Step.{Step}
-use Rattle.capnp_patch.specs.Gets.{Part, Reached, is_empty, path_read, step_read}
+use Rattle.capnp_patch.specs.Gets.{Part, is_empty, path_read, step_read}
 
 seen_empty : (ps : List Step) → is_empty (path_seen ps) ≡ is_empty ps
 seen_empty [] = refl

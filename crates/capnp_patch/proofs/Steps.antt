@@ -1,14 +1,14 @@
 -- Where a step leads, by what its tests and its read found.
-use Rattle.std.specs.Prelude.{ℕ, ◌+◌, ◌<◌, ◌≤◌, nat_lt, Bool, true, false, not, length}
-use Rattle.std.proofs.Common.{◌≡◌, refl, ap, ap₂, sym, subst, arith, ◌∙◌, Result, Ok, Err, IfOk}
+use Rattle.std.specs.Prelude.{ℕ, ◌<◌, ◌≤◌, nat_lt, Bool, true, false, not, length}
+use Rattle.std.proofs.Common.{◌≡◌, refl, ap, sym, subst, arith, ◌∙◌, Result, Ok, Err, IfOk}
 use Rattle.std.proofs.lemmas.Bool.{true≢false}
 use Rattle.capnp_device.specs.declared.error.Error.{Error}
 use Rattle.capnp_device.specs.declared.error.ErrorKind.{ErrorKind}
-use Rattle.capnp_device.specs.declared.error.ErrorKind.TheVariants.{InactiveMember, NoSuchElement}
+use Rattle.capnp_device.specs.declared.error.ErrorKind.TheVariants.{NoSuchElement}
 use Rattle.capnp_wire.specs.Reading.{list_length}
 use Rattle.capnp_wire.specs.Standing.{list_levels, list_of, struct_levels, struct_of}
 use Rattle.capnp_wire.specs.Tree.{StructTree}
-use Rattle.capnp_schema.specs.Schema.{FieldKind, Group, Schemas, Slot, TypedField, VoidValue, default_of, field_at, fields_of}
+use Rattle.capnp_schema.specs.Schema.{FieldKind, Group, Schemas, Slot, TypedField, VoidValue, field_at, fields_of}
 use Rattle.capnp_schema.specs.FieldLists.{IsFieldOf, index_of, typed_of}
 use Rattle.capnp_schema.specs.StructHandles.{number_of, set_of, struct_field, struct_fields}
 use Rattle.capnp_schema.specs.Types.{SchemaType}
@@ -18,8 +18,8 @@ use Rattle.capnp_records.specs.Call.{ElementAt, PathStep}
 use Rattle.capnp_records.specs.Default.{read_field, read_of}
 use Rattle.capnp_records.specs.Facts.Frame.{first-of, second-of}
 use Rattle.capnp_records.specs.Facts.ListValues.{below_of, count-values_from, nth-values_from}
-use Rattle.capnp_records.specs.Part.{is_inactive, nth_value, part_at, value_count}
-use Rattle.capnp_records.specs.Reading.{element_value, part_of, struct_record, values_of}
+use Rattle.capnp_records.specs.Part.{is_inactive, part_at, value_count}
+use Rattle.capnp_records.specs.Reading.{element_value, struct_record}
 use Rattle.capnp_records.specs.Record as value
 use Rattle.capnp_records.specs.Record.{Left, Levels, Record, Value, Values, values_from}
 use Rattle.capnp_records.specs.Step.{Found, Target, element_target, field_target, in_list, in_record, is_group_field}
@@ -31,7 +31,7 @@ use Rattle.capnp_dynamic_readers.specs.declared.dynamic_list.Reader.{Reader as L
 use Rattle.capnp_dynamic_readers.specs.declared.dynamic_struct.Reader.{Reader as StructHandle}
 use Rattle.capnp_dynamic_readers.specs.declared.dynamic_value.Reader.{Reader as DynamicValue}
 use Rattle.capnp_dynamic_readers.specs.declared.dynamic_value.Reader.TheVariants.{List as ListOf, Struct as StructOf}
-use Rattle.capnp_patch.specs.Gets.{Reached, handed, part_seen, reached, seen_read, step_read, target_read, tested, tested_found, tested_type}
+use Rattle.capnp_patch.specs.Gets.{handed, part_seen, reached, seen_read, step_read, target_read, tested, tested_found, tested_type}
 use Rattle.capnp_patch.proofs.Parts.{part_is}
 use Rattle.capnp_patch.proofs.Reached.{read_reached}
 

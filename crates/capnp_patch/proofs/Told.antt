@@ -1,6 +1,6 @@
 -- Lines that were told one after another.
 use Rattle.std.specs.Prelude.{ℕ, zero, suc, ◌+◌, ◌≤◌, ◌<◌, List, [], ◌∷◌, drop, get_or, length}
-use Rattle.std.proofs.Common.{◌≡◌, ◌∙◌, Option, Some, None, Ok, Err, ap, arith, refl, subst, sym}
+use Rattle.std.proofs.Common.{◌≡◌, ◌∙◌, Some, None, Ok, Err, ap, arith, refl, subst, sym}
 use Rattle.std.proofs.lemmas.List.{drop_more}
 use Rattle.capnp_records.specs.Text.{Out}
 use Rattle.capnp_dynamic_readers.specs.Pieces.{IsAppended}
@@ -23,9 +23,11 @@ pub told_then : (i : ℕ) (words : List (List ℕ)) (replies : List Reply) (word
     i < length replies → word ≡ get_or words i [] → r ≡ get_or replies i r → IsTold (i + 1) word r old mid →
     AreTold (i + 1) words (drop (i + 1) replies) mid new → AreTold i words (drop i replies) old new
 told_then i words replies word r old mid new inside w_is r_is told rest =
-    subst (λ (rs : List Reply). AreTold i words rs old new) (sym (step_from replies i r inside r_is))
-    (mid, subst (λ (n : ℕ). IsTold n (get_or words i []) r old mid) number (subst (λ (w : List ℕ). IsTold (i + 1) w r old mid) w_is told),
-    subst (λ (n : ℕ). AreTold n words (drop (i + 1) replies) mid new) number rest)
+    subst (λ (rs : List Reply). AreTold i words rs old new) (sym (step_from replies i r inside r_is)) (
+      mid,
+      subst (λ (n : ℕ). IsTold n (get_or words i []) r old mid) number (subst (λ (w : List ℕ). IsTold (i + 1) w r old mid) w_is told),
+      subst (λ (n : ℕ). AreTold n words (drop (i + 1) replies) mid new) number rest,
+    )
   where
     number : i + 1 ≡ suc i
     number = omega arith

@@ -1,5 +1,5 @@
 -- What is told of the replies to calls.
-use Rattle.std.specs.Prelude.{ℕ, suc, ◌≡◌, List, [], ◌∷◌, ◌++◌, Bool, true, false, cond, Option, Some, None, pos, codes, decimal, get_or}
+use Rattle.std.specs.Prelude.{ℕ, suc, ◌≡◌, List, [], ◌∷◌, ◌++◌, Bool, false, cond, Option, Some, None, pos, codes, decimal, get_or}
 use Rattle.capnp_device.specs.ErrorNumber.{error_name, error_number}
 use Rattle.capnp_device.specs.declared.error.ErrorKind.{ErrorKind}
 use Rattle.capnp_schema.specs.Types.{BoolType, DataType, IntType, TextType, UIntType, VoidType}

@@ -1,5 +1,5 @@
 -- An element that is named is read, or there is none, or the test of its type refuses it.
-use Rattle.std.proofs.Common.{ap, arith, rules}
+use Rattle.std.proofs.Common.{ap, arith}
 use Rattle.std.proofs.lemmas.Result.{err_from_is_err_and}
 use Rattle.capnp_schema.specs.Types.{seen_type}
 use Rattle.capnp_patch.proofs.Steps.{element_past, element_read_there, element_refused}
