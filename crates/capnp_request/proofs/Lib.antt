@@ -1,7 +1,11 @@
 pub mod BindingsCompared
 pub mod BrandsMade
 pub mod FieldsRead
+pub mod HoldersHeld
+pub mod NamesFinished
+pub mod NamesJoined
 pub mod NamesRead
+pub mod NamesSplit
 pub mod Numbering
 pub mod PartsSeen
 pub mod RefusedKinds

@@ -4,6 +4,7 @@ pub mod EntriesSeen
 pub mod Handles
 pub mod Meant
 pub mod Names
+pub mod NamesMade
 pub mod Nodes
 pub mod Numbers
 pub mod Order

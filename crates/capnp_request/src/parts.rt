@@ -1,5 +1,6 @@
 //! What is read of the fields of records of a request, by brand and index.
-ghost use Rattle.std.specs.Prelude.{◌≡◌, ◌<◌, pos, IfErr, IfOk, string_bytes, Ok};
+ghost use Rattle.std.specs.Prelude.{◌≡◌, ◌≢◌, ◌<◌, pos, IfErr, IfOk, string_bytes, Ok, Err};
+ghost use Rattle.capnp_device.specs.declared.error.ErrorKind.TheVariants.{OutOfMemory};
 ghost use Rattle.capnp_wire.specs.Reading.{list_length};
 ghost use Rattle.capnp_wire.specs.Standing.{list_of, tree_of};
 ghost use Rattle.capnp_base.specs.AnyPointer.{pointer_of};
@@ -292,6 +293,7 @@ pub(crate) fn untyped_at<'a>(
 /// A copy of a name's bytes. Refused with `NameNotUtf8` where they are no UTF-8.
 pub(crate) fn owned(alloc: Global, bytes: &[u8]) -> Result<String>
     ensures read { IfOk result (λ x. name_of bytes.now ≡ Ok (string_bytes x)) }
+    ensures refused { IfErr result (λ e. e.kind ≢ OutOfMemory → name_of bytes.now ≡ Err e.kind) }
     ensures kinds { IfErr result (λ e. IsPlain e.kind) }
 {
     match text::Reader(bytes).to_str() {
