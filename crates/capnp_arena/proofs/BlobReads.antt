@@ -1,5 +1,5 @@
 -- Trees that are read as data and as texts.
-use Rattle.std.proofs.Common.{◌≡◌, ℕ, zero, suc, refl, sym, ap, ◌∙◌, arith, Err, List, Ok}
+use Rattle.std.proofs.Common.{◌≡◌, ℕ, zero, suc, refl, ap, ◌∙◌, Err, List}
 use Rattle.capnp_device.specs.declared.error.ErrorKind.TheVariants.{WrongElementSize}
 use Rattle.capnp_wire.specs.Place.{bytes_at, list_tree}
 use Rattle.capnp_wire.specs.Reading.{as_data, as_text}

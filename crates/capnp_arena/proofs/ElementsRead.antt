@@ -1,5 +1,5 @@
 -- Elements of lists as they are read.
-use Rattle.std.proofs.Common.{◌≡◌, ℕ, zero, suc, ◌+◌, ◌*◌, ◌/◌, ◌<◌, ◌≤◌, refl, sym, ap, subst, ◌∙◌, arith, Bool, false, List, [], take, drop}
+use Rattle.std.proofs.Common.{◌≡◌, ℕ, zero, suc, ◌+◌, ◌*◌, ◌/◌, ◌≤◌, refl, sym, ap, ◌∙◌, arith, false, List, [], take}
 use Rattle.std.proofs.lemmas.List.{drop_all, take_all}
 use Rattle.capnp_wire.specs.Facts.Indexed.{nth_struct-past}
 use Rattle.capnp_wire.specs.Locate.{list_words}

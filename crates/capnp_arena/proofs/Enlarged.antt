@@ -1,6 +1,6 @@
 -- Structs with zeros and nulls after what they have, encoded.
-use Rattle.std.proofs.Common.{◌≡◌, ℕ, zero, suc, ◌+◌, ◌-◌, ◌*◌, ◌/◌, ◌^◌, ◌<◌, ◌≤◌, refl, sym, ap, ◌∙◌, arith, List, [], ◌++◌, length, take, drop, replicate}
-use Rattle.std.proofs.lemmas.List.{append_assoc, append-nil, drop-append-le, drop-drop, drop-replicate, drop_all, drop_at, length-append, length-drop, length-replicate, length-take-le, replicate-append-replicate, take-replicate, take_at, take-append-drop}
+use Rattle.std.proofs.Common.{◌≡◌, ℕ, zero, suc, ◌+◌, ◌-◌, ◌*◌, ◌^◌, ◌<◌, ◌≤◌, refl, sym, ap, ◌∙◌, arith, List, [], ◌++◌, length, take, drop, replicate}
+use Rattle.std.proofs.lemmas.List.{append_assoc, append-nil, drop-append-le, drop-drop, drop-replicate, drop_all, length-append, length-drop, length-replicate, length-take-le, replicate-append-replicate, take-append-drop}
 use Rattle.capnp_wire.specs.Edits.{append_trees, extended, nulls}
 use Rattle.capnp_wire.specs.Encoding.{bytes_of, bytes_of_all, pointer_row, pointer_word, spelled}
 use Rattle.capnp_wire.specs.Facts.Bytes.{AreBytes-part, length-part-le}
@@ -11,7 +11,7 @@ use Rattle.capnp_wire.specs.Facts.Structs.{IsElement-extended}
 use Rattle.capnp_wire.specs.Filling.{HasRoom, HaveRoom, put, row_end, with_encoded_element, with_pointers, words_from}
 use Rattle.capnp_wire.specs.Measured.{IsElement}
 use Rattle.capnp_wire.specs.Place.{struct_tree}
-use Rattle.capnp_wire.specs.Tree.{MoreStructs, MoreTrees, NoTrees, Null, StructTree, Structs, Tree, Trees, structs_from, tree_count, trees_from}
+use Rattle.capnp_wire.specs.Tree.{MoreStructs, MoreTrees, NoTrees, Null, StructTree, Structs, Trees, structs_from, tree_count, trees_from}
 use Rattle.capnp_wire.specs.WellFormed.{AreBytes, AreElements, AreWellFormed, IsWellFormedStruct}
 use Rattle.capnp_wire.specs.Words.{words_of, words_of_all}
 use Rattle.capnp_wire.specs.declared.size.StructSize.{StructSize}

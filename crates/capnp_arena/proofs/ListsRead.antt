@@ -1,6 +1,5 @@
 -- Lists as they are read.
-use Rattle.std.proofs.Common.{◌≡◌, ℕ, zero, suc, ◌+◌, ◌*◌, ◌<◌, ◌≤◌, refl, sym, ap, subst, ◌∙◌, arith, Bool, cond, false, true, Err, List, Ok, Result, length}
-use Rattle.capnp_device.specs.declared.error.ErrorKind.{ErrorKind}
+use Rattle.std.proofs.Common.{◌≡◌, ℕ, zero, suc, ◌+◌, ◌*◌, ◌<◌, ◌≤◌, refl, sym, ap, subst, ◌∙◌, arith, Bool, cond, false, true, Err, List, Ok, length}
 use Rattle.capnp_device.specs.declared.error.ErrorKind.TheVariants.{WrongElementSize}
 use Rattle.capnp_wire.specs.ElementSizes.{element_size_of}
 use Rattle.capnp_wire.specs.Facts.Indexed.{length-bits_from}

@@ -1,24 +1,24 @@
 -- The elements of a list as structs that stand in the segment.
-use Rattle.std.proofs.Common.{◌≡◌, ℕ, zero, suc, ◌+◌, ◌-◌, ◌*◌, ◌/◌, ◌^◌, ◌<◌, ◌≤◌, refl, sym, ap, subst, ◌∙◌, arith, List, [], length, take, drop, Option, None, Some}
+use Rattle.std.proofs.Common.{◌≡◌, ℕ, zero, suc, ◌+◌, ◌-◌, ◌*◌, ◌^◌, ◌<◌, ◌≤◌, refl, sym, ap, subst, ◌∙◌, arith, List, [], length, take, drop, Option, None, Some}
 use Rattle.std.proofs.lemmas.List.{drop-drop, drop-take, take-take}
 use Rattle.std.proofs.lemmas.Nat.{mul-le}
-use Rattle.capnp_wire.specs.Edits.{append_trees, extended, nulls}
+use Rattle.capnp_wire.specs.Edits.{extended}
 use Rattle.capnp_wire.specs.Facts.Indexed.{only_tree-from}
 use Rattle.capnp_wire.specs.Locate.{list_words}
 use Rattle.capnp_wire.specs.Place.{bytes_at, list_tree}
-use Rattle.capnp_wire.specs.Reading.{element_struct, list_length}
+use Rattle.capnp_wire.specs.Reading.{element_struct}
 use Rattle.capnp_wire.specs.Encoding.{bytes_of}
 use Rattle.capnp_wire.specs.Facts.EncodedSizes.{length_bytes_of}
 use Rattle.capnp_wire.specs.Facts.Rows.{struct_count-structs_from}
 use Rattle.capnp_wire.specs.StructLists.{as_structs, element_pointers, element_words}
 use Rattle.capnp_wire.specs.WellFormed.{AreBytes, IsWellFormed}
-use Rattle.capnp_wire.specs.Tree.{Composite, MoreTrees, NoTrees, StructTree, Structs, Tree, Trees, structs_from, tree_count, trees_from}
+use Rattle.capnp_wire.specs.Tree.{Composite, MoreTrees, NoTrees, StructTree, Tree, structs_from, tree_count, trees_from}
 use Rattle.capnp_wire.specs.Words.{first_fault, first_fault_of_all, first_fault_of_elements, first_of, words_below_all, words_of, words_of_all}
 use Rattle.capnp_wire.specs.declared.fault.Fault.{Fault}
 use Rattle.capnp_wire.specs.declared.size.StructSize.{StructSize}
 use Rattle.capnp_arena.specs.Counts.{AreForests}
 use Rattle.capnp_arena.specs.Forest.{Forest, struct_from, tree}
-use Rattle.capnp_arena.specs.Grown.{ArePartsIn, IsPartList, kind_pointers, kind_words, no_parts, number_parts, part_at, plain_parts, pointer_parts, struct_parts}
+use Rattle.capnp_arena.specs.Grown.{IsPartList, kind_pointers, kind_words, no_parts, number_parts, part_at, plain_parts, pointer_parts, struct_parts}
 use Rattle.capnp_arena.specs.Shape.{CompositeIn, ListIn, shape_at, word_count}
 use Rattle.capnp_arena.specs.declared.grown.PartRow.{PartRow}
 use Rattle.capnp_arena.proofs.Counted.{element_rows, ends_at, list_row, words_composite, words_pointers}

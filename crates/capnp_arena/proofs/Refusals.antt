@@ -1,22 +1,21 @@
 -- What a struct at a pointer is refused with, by the pointer's target.
-use Rattle.std.proofs.Common.{◌≡◌, ◌≢◌, ℕ, zero, suc, ◌+◌, ◌-◌, ◌*◌, ◌<◌, ◌≤◌, refl, sym, ap, subst, ◌∙◌, arith, rules, List, [], ◌++◌, length, replicate, Option, Some, None, max}
+use Rattle.std.proofs.Common.{◌≡◌, ℕ, zero, suc, ◌+◌, ◌-◌, ◌*◌, ◌≤◌, refl, sym, ap, subst, ◌∙◌, arith, List, ◌++◌, length, replicate, Option, Some, None, max}
 use Rattle.std.proofs.lemmas.List.{append-nil}
 use Rattle.capnp_device.specs.declared.error.Error.{Error}
 use Rattle.capnp_device.specs.declared.error.ErrorKind.{ErrorKind}
 use Rattle.capnp_device.specs.declared.error.ErrorKind.TheVariants.{OutOfMemory, WrongPointerKind}
-use Rattle.capnp_wire.specs.Edits.{HasAtLeast, HoldsStruct, IsDueRefusal, IsStructRefusal, append_trees, extended, nulls, struct_in, struct_refusal, zero_struct}
+use Rattle.capnp_wire.specs.Edits.{HasAtLeast, HoldsStruct, IsDueRefusal, append_trees, extended, nulls, struct_in, struct_refusal, zero_struct}
 use Rattle.capnp_wire.specs.Facts.Rows.{tree_count-trees_from}
 use Rattle.capnp_wire.specs.Place.{list_tree, struct_tree, tree_with_level}
-use Rattle.capnp_wire.specs.Tree.{MoreTrees, NoTrees, Null, StructTree, Tree, Trees, empty_struct, tree_count}
+use Rattle.capnp_wire.specs.Tree.{MoreTrees, NoTrees, Null, Tree, Trees, empty_struct, tree_count}
 use Rattle.capnp_wire.specs.declared.size.StructSize.{StructSize}
 use Rattle.capnp_arena.specs.Forest.{Forest, struct_from, tree}
-use Rattle.capnp_arena.specs.Shape.{CompositeIn, ListIn, NoShape, Shape, StructIn, end_of, placed, shape_at, word_count}
+use Rattle.capnp_arena.specs.Shape.{CompositeIn, ListIn, NoShape, StructIn, end_of, placed, shape_at, word_count}
 use Rattle.capnp_arena.proofs.Counted.{ends_at}
 use Rattle.capnp_arena.proofs.Extensions.{larger_extended}
 use Rattle.capnp_arena.specs.Facts.Forests.{tree_step}
 use Rattle.capnp_arena.specs.Facts.Structs.{tree_composite, tree_list, tree_struct, two_parts}
 use Rattle.capnp_arena.proofs.Written.{length_part}
-use Rattle.capnp_wire.specs.Place.{bytes_at}
 
 none_some : {A : Type 0} {a : A} → None ≡ Some a → ⊥
 none_some h = cc

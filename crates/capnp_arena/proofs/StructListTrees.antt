@@ -1,17 +1,16 @@
 -- What a list becomes that becomes one of structs, by its pointer's target.
-use Rattle.std.proofs.Common.{◌≡◌, ℕ, zero, suc, ◌+◌, ◌-◌, ◌*◌, ◌^◌, ◌<◌, ◌≤◌, cond, false, true, nat_lt, refl, rules, sym, ap, subst, ◌∙◌, arith, List, [], ◌++◌, length, replicate, max, Option, None, Some}
-use Rattle.std.proofs.Math.Nat.{le-max_left, le-max_right, max-eq_right}
+use Rattle.std.proofs.Common.{◌≡◌, ℕ, zero, suc, ◌+◌, ◌-◌, ◌*◌, ◌^◌, ◌<◌, ◌≤◌, cond, false, true, nat_lt, refl, rules, sym, ap, subst, ◌∙◌, arith, List, ◌++◌, length, replicate, max, None, Some}
+use Rattle.std.proofs.Math.Nat.{le-max_right, max-eq_right}
 use Rattle.std.proofs.lemmas.List.{append-nil}
-use Rattle.capnp_device.specs.declared.error.ErrorKind.{ErrorKind}
 use Rattle.capnp_device.specs.declared.error.ErrorKind.TheVariants.{SizePastFormat, WrongElementSize, WrongPointerKind}
 use Rattle.capnp_wire.specs.Edits.{append_trees, extended, nulls}
-use Rattle.capnp_wire.specs.Facts.Rows.{struct_count-structs_from, tree_count-trees_from}
-use Rattle.capnp_wire.specs.Place.{list_tree, struct_tree}
+use Rattle.capnp_wire.specs.Facts.Rows.{tree_count-trees_from}
+use Rattle.capnp_wire.specs.Place.{list_tree}
 use Rattle.capnp_wire.specs.Reading.{element_struct, empty_list, is_null_tree, list_length}
 use Rattle.capnp_wire.specs.Elements.{or_empty}
 use Rattle.capnp_wire.specs.declared.size.ElementSize.TheVariants.{InlineComposite}
 use Rattle.capnp_wire.specs.StructLists.{HoldsStructs, as_structs, grown, past_format, struct_list, struct_list_refusal}
-use Rattle.capnp_wire.specs.Tree.{Composite, MoreTrees, NoTrees, Null, StructTree, Tree, Trees, structs_from, tree_count}
+use Rattle.capnp_wire.specs.Tree.{Composite, MoreTrees, NoTrees, StructTree, Tree, Trees, structs_from, tree_count}
 use Rattle.capnp_wire.specs.declared.size.StructSize.{StructSize}
 use Rattle.capnp_arena.specs.Forest.{Forest, struct_from, tree}
 use Rattle.capnp_arena.specs.Grown.{kind_pointers, kind_words, plain_parts}

@@ -1,5 +1,5 @@
 -- A list of structs whose encoding was added at the end.
-use Rattle.std.proofs.Common.{◌≡◌, ℕ, suc, ◌+◌, ◌-◌, ◌*◌, ◌/◌, ◌^◌, ◌<◌, ◌≤◌, refl, sym, ap, subst, ◌∙◌, arith, List, ◌++◌, length, take, drop, Option, None}
+use Rattle.std.proofs.Common.{◌≡◌, ℕ, suc, ◌+◌, ◌-◌, ◌*◌, ◌≤◌, sym, ap, subst, ◌∙◌, arith, List, ◌++◌, length, take, None}
 use Rattle.std.proofs.lemmas.List.{append_assoc, take_at}
 use Rattle.capnp_wire.specs.Encoding.{bytes_below, bytes_of, element_row, list_word, pointer_word, spelled, struct_word}
 use Rattle.capnp_wire.specs.Facts.Bytes.{length_spelled}
@@ -10,7 +10,7 @@ use Rattle.capnp_wire.specs.Reading.{list_length}
 use Rattle.capnp_wire.specs.StructLists.{as_structs}
 use Rattle.capnp_wire.specs.Tree.{Composite, Structs, Tree, struct_count}
 use Rattle.capnp_wire.specs.WellFormed.{IsWellFormed}
-use Rattle.capnp_wire.specs.Words.{first_fault, words_below_all, words_of}
+use Rattle.capnp_wire.specs.Words.{first_fault, words_of}
 use Rattle.capnp_wire.specs.declared.size.StructSize.{StructSize}
 use Rattle.capnp_arena.specs.Forest.{Changes, Forest, tree}
 use Rattle.capnp_arena.specs.Grown.{IsPartList}
@@ -20,7 +20,7 @@ use Rattle.capnp_arena.specs.declared.grown.PartRow.{PartRow}
 use Rattle.capnp_arena.proofs.Extensions.{filled_whole}
 use Rattle.capnp_arena.proofs.Made.{made_added, made_length, made_word}
 use Rattle.capnp_arena.proofs.NewTrees.{IsNewTree, tree_made}
-use Rattle.capnp_arena.proofs.PartLists.{parts_as_structs, parts_whole}
+use Rattle.capnp_arena.proofs.PartLists.{parts_whole}
 use Rattle.capnp_arena.specs.Facts.Words.{shape}
 
 pub record IsNewStructs (old new : List ℕ) (at tag count d p : ℕ) (t : Tree) : Type 0 where

@@ -1,5 +1,5 @@
 -- The kind of a tree by its pointer's target.
-use Rattle.std.proofs.Common.{◌≡◌, ℕ, zero, suc, refl, ap, ◌∙◌, Bool, false, true, List}
+use Rattle.std.proofs.Common.{◌≡◌, ℕ, zero, suc, refl, ap, ◌∙◌, false, true, List}
 use Rattle.capnp_wire.specs.Edits.{is_struct}
 use Rattle.capnp_wire.specs.Place.{list_tree, tree_with_level}
 use Rattle.capnp_wire.specs.Reading.{is_list, is_null_tree}

@@ -1,5 +1,4 @@
-use Rattle.std.proofs.Common.{arith, rules, ◌+◌, ◌*◌, ◌≡◌, ◌<◌, ◌^◌, ap, length, List, ℕ}
-use Rattle.capnp_wire.specs.Edits.{extended}
+use Rattle.std.proofs.Common.{arith, rules, ◌+◌, ◌≡◌, ap, List, ℕ}
 use Rattle.capnp_wire.specs.Facts.Bytes.{AreBytes-fits}
 use Rattle.capnp_wire.specs.Tree.{trees_from}
 use Rattle.capnp_wire.specs.WellFormed.{AreBytes}

@@ -1,4 +1,4 @@
-use Rattle.std.proofs.Common.{arith, rules, ◌+◌, ◌*◌, ◌∙◌}
+use Rattle.std.proofs.Common.{arith, rules}
 use Rattle.capnp_wire.specs.Edits.{extended}
 use Rattle.capnp_wire.specs.Facts.Bytes.{AreBytes-fits}
 use Rattle.capnp_wire.specs.WellFormed.{AreBytes}

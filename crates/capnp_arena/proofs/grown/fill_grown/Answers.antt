@@ -1,4 +1,4 @@
-use Rattle.std.proofs.Common.{arith, rules, ◌+◌, ◌*◌, ◌∙◌, ap}
+use Rattle.std.proofs.Common.{arith, rules}
 use Rattle.capnp_arena.specs.Grown.{part_at}
 use Rattle.capnp_arena.proofs.Enlarged.{element_grown, part_length, part_tree_count}
 use Rattle.capnp_arena.proofs.grown.fill_grown.Goals as goal

@@ -1,5 +1,4 @@
-use Rattle.std.proofs.Common.{rules, arith, ◌≡◌, ◌+◌, ◌*◌, ◌/◌, ◌<◌, ◌^◌, List, ℕ, ap, sym, ◌∙◌, length}
-use Rattle.capnp_wire.specs.Facts.Bytes.{AreBytes-fits}
+use Rattle.std.proofs.Common.{rules, arith, ◌/◌, ◌<◌, ap}
 use Rattle.capnp_arena.specs.Shape.{word_count}
 use Rattle.capnp_arena.proofs.Extensions.{extension_made}
 use Rattle.capnp_arena.specs.Facts.Forests.{points}

@@ -1,7 +1,6 @@
 use Rattle.std.proofs.Common.{◌∙◌, ◌*◌, ap}
 use Rattle.capnp_wire.specs.Place.{bytes_at}
 use Rattle.capnp_wire.specs.Slot.{number_at}
-use Rattle.capnp_arena.specs.Made.{width_of}
 use Rattle.capnp_arena.proofs.ElementsRead.{plain_number_is}
 use Rattle.capnp_arena.proofs.ListsRead.{size_is_simple}
 use Rattle.capnp_arena.proofs.arena.Arena.get_number_bytes.Goals as goal

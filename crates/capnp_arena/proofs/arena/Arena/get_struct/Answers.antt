@@ -1,10 +1,7 @@
-use Rattle.std.proofs.Common.{rules, arith, ◌≡◌, ◌<◌, ◌≤◌, sym, ap, subst, ◌∙◌}
-use Rattle.std.specs.Prelude.{IfOk, IfErr, OnOk}
+use Rattle.std.proofs.Common.{rules, arith, ◌≡◌, sym, subst}
+use Rattle.std.specs.Prelude.{IfOk}
 use Rattle.std.proofs.lemmas.Result.{IfErr-weaker, IfOk-weaker}
-use Rattle.capnp_wire.specs.Edits.{IsStructRefusal}
-use Rattle.capnp_wire.specs.Place.{struct_tree}
 use Rattle.capnp_arena.specs.Forest.{tree}
-use Rattle.capnp_arena.specs.Shape.{CompositeIn, ListIn, NoShape, StructIn, shape_at}
 use Rattle.capnp_arena.proofs.Refusals.{composite_due, composite_holds, list_at_due, list_at_holds, none_due, null_due, null_extended, null_holds, some_due, struct_due, struct_grown, struct_holds, struct_stays}
 use Rattle.capnp_arena.proofs.arena.Arena.get_struct.Goals.{else-size-data_words-via-else-size-data_words, else-size-data_words-via-then-size-data_words+else-size-pointers}
 use Rattle.capnp_arena.proofs.arena.Arena.get_struct.Goals as goal

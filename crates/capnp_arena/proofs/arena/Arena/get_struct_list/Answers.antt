@@ -1,5 +1,4 @@
-use Rattle.std.proofs.Common.{rules, arith, ◌≡◌, ◌∙◌, ap, subst, sym}
-use Rattle.capnp_arena.specs.Forest.{Forest}
+use Rattle.std.proofs.Common.{rules, arith, ◌≡◌, ◌∙◌, ap, sym}
 use Rattle.capnp_arena.specs.Shape.{ListIn, shape_at}
 use Rattle.capnp_arena.proofs.Refusals.{some_due}
 use Rattle.capnp_arena.proofs.StructListTrees.{bits_due, list_reads, null_reads, null_stays, null_within, plain_holds_none, struct_holds_none, struct_list_due, structs_hold, structs_stay, structs_within}

@@ -1,4 +1,4 @@
-use Rattle.std.proofs.Common.{rules, Err, Ok, ap, sym, ◌∙◌}
+use Rattle.std.proofs.Common.{rules, Err, ap, sym, ◌∙◌}
 use Rattle.capnp_wire.specs.Place.{bytes_at}
 use Rattle.capnp_wire.specs.Reading.{as_text}
 use Rattle.capnp_wire.specs.Tree.{Numbers}

@@ -1,4 +1,4 @@
-use Rattle.std.proofs.Common.{rules, arith, ◌≡◌, ◌+◌, ◌*◌, ◌/◌, ◌<◌, ◌^◌, List, ℕ, ap, sym, ◌∙◌, length}
+use Rattle.std.proofs.Common.{rules, arith, ◌/◌, ◌<◌, ap}
 use Rattle.capnp_arena.specs.Shape.{word_count}
 use Rattle.capnp_arena.specs.Facts.Forests.{points}
 use Rattle.capnp_arena.specs.Facts.Shapes.{itself_inside}
