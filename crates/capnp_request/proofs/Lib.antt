@@ -1,6 +1,5 @@
 pub mod BindingsCompared
 pub mod BrandsMade
-pub mod FieldsRead
 pub mod NamesRead
 pub mod Numbering
 pub mod PartsSeen
@@ -8,6 +7,5 @@ pub mod RefusedKinds
 pub mod Rows
 pub mod Sounds
 pub mod Taken
-pub mod TypesMeant
 pub mod TypesSeen
 pub mod ValuesRead

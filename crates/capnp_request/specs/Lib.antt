@@ -1,5 +1,7 @@
 pub mod Bindings
 pub mod Conversion
+pub mod ConvertedSeen
+pub mod Done
 pub mod EntriesSeen
 pub mod Handles
 pub mod Meant

@@ -9,7 +9,7 @@ use Rattle.capnp_request.specs.Conversion.{Converted, Note, annotations_of, fiel
 use Rattle.capnp_request.specs.Names.{Holder, dotted_of, enum_name, group_name, struct_name}
 use Rattle.capnp_request.specs.Scopes.{is_met, node_named, scopes_of}
 use Rattle.capnp_request.specs.Terms.{AnnotationNode, EnumNode, EnumerantTerm, NodeKind, OtherNode, RequestTerm, Said, SchemaNode, StructNode, StructPart}
-use Rattle.capnp_request.specs.Types.{number_struct}
+use Rattle.capnp_request.specs.Types.{is_root, number_struct}
 use Rattle.capnp_request.specs.Work.{◌>>=◌, Entry, GroupOf, Named, Place, Whole, Work, each, each_read, given, nothing_seen, refused, said}
 
 -- what is made so far, and the dotted names that entries had
@@ -125,11 +125,9 @@ module _ (nodes : List SchemaNode) (strict : Bool) where
   new_ids (id ∷ ids) met = elim (not (is_met met id) && is_there (node_named nodes id)) [ true ↦ id ∷ new_ids ids (id ∷ met) | false ↦ new_ids ids met ]
 
   -- a struct that is no group is a root, with nothing bound
-  abbrev pub name_root : SchemaNode → NodeKind → Work (List ℕ)
-  name_root n (StructNode part) = elim part.is_group [ true ↦ given [] | false ↦ said (scopes_of nodes n.id) >>= (λ bound. number_struct n.id bound >>= (λ number. given [])) ]
-  name_root n (EnumNode enumerants) = given []
-  name_root n (AnnotationNode t) = given []
-  name_root n OtherNode = given []
+  abbrev pub name_root : SchemaNode → (is_root : Bool) → Work (List ℕ)
+  name_root n true = said (scopes_of nodes n.id) >>= (λ bound. number_struct n.id bound >>= (λ number. given []))
+  name_root n false = given []
 
   -- The nodes of a queue of ids, breadth first: what is nested in the first goes to the queue's end. There are at most as many
   -- as there are nodes.
@@ -137,7 +135,7 @@ module _ (nodes : List SchemaNode) (strict : Bool) where
   name_roots zero met queue = given []
   name_roots (suc steps) met [] = given []
   name_roots (suc steps) met (id ∷ ids) =
-      at_node (node_named nodes id) (λ n. said n.nested >>= (λ nested. name_root n n.kind
+      at_node (node_named nodes id) (λ n. said n.nested >>= (λ nested. name_root n (is_root n.kind)
       >>= (λ none. name_roots steps (new_ids nested met ++ met) (ids ++ new_ids nested met))))
 
 -- ---- a whole request ----

@@ -33,7 +33,7 @@ fn put_ids(
     ensures kinds { IfErr result (λ e. IsPlain e.kind) }
 {
     for index in 0..listed.len() {
-        let id = u64_at(element_at(listed, index, inner)?, inner, LISTED_ID)?;
+        let id = u64_at(element_at(listed, index, inner)?, inner, LISTED_ID);
         if nodes.get(id).is_some() && met.insert(id)? {
             queue.push(id)?;
         }
@@ -56,7 +56,7 @@ pub(crate) fn number_roots<'a>(
     let mut met = HashSet::new(context.alloc);
     let files = list_at(request, brands::REQUEST, REQUEST_FILES, brands::FILE)?;
     put_ids(context.nodes, &mut queue, &mut met, files, brands::FILE)?;
-    for position in 0..context.nodes.count() {
+    for position in 0..context.nodes.count() as usize {
         let Some(id) = queue.get(position).copied() else {
             break;
         };
@@ -65,7 +65,7 @@ pub(crate) fn number_roots<'a>(
         };
         let nested = list_at(node, brands::NODE, NODE_NESTED_NODES, brands::NESTED)?;
         put_ids(context.nodes, &mut queue, &mut met, nested, brands::NESTED)?;
-        if is_plain_struct(node)? {
+        if is_plain_struct(node) {
             let scopes = unbound(context.alloc, context.nodes, id)?;
             let _number = entries.number_of(context.alloc, BoundNode { id, scopes })?;
         }

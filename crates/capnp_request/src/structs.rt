@@ -117,11 +117,11 @@ fn body_of(part: dynamic_struct::Reader<'_>, fields: Vec<FieldRecord>) -> Result
     ensures fields { IfOk result (λ body. body.fields ≡ fields) }
     ensures kinds { IfErr result (λ e. IsPlain e.kind) }
 {
-    let data_word_count = u16_at(part, brands::STRUCT, STRUCT_DATA_WORDS)?;
-    let pointer_count = u16_at(part, brands::STRUCT, STRUCT_POINTERS)?;
-    let is_group = bool_at(part, brands::STRUCT, STRUCT_IS_GROUP)?;
-    let discriminant_count = u16_at(part, brands::STRUCT, STRUCT_DISCRIMINANTS)?;
-    let discriminant_offset = u32_at(part, brands::STRUCT, STRUCT_DISCRIMINANT_OFFSET)?;
+    let data_word_count = u16_at(part, brands::STRUCT, STRUCT_DATA_WORDS);
+    let pointer_count = u16_at(part, brands::STRUCT, STRUCT_POINTERS);
+    let is_group = bool_at(part, brands::STRUCT, STRUCT_IS_GROUP);
+    let discriminant_count = u16_at(part, brands::STRUCT, STRUCT_DISCRIMINANTS);
+    let discriminant_offset = u32_at(part, brands::STRUCT, STRUCT_DISCRIMINANT_OFFSET);
     Ok(StructRecord {
         data_word_count,
         pointer_count,
