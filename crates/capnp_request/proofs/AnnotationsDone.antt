@@ -7,14 +7,18 @@ use Rattle.capnp_schema.specs.Types.{SchemaType}
 use Rattle.capnp_records.specs.Record as value
 use Rattle.capnp_records.specs.Record.{Record}
 use Rattle.capnp_records.specs.Record.{Value as RecordValue}
-use Rattle.capnp_request.specs.Conversion.{annotation_of, declared_in, declared_term, declared_type}
+use Rattle.capnp_dynamic_readers.specs.Seen.{list_seen}
+use Rattle.capnp_dynamic_readers.specs.declared.dynamic_list.Reader.{Reader as ListHandle}
+use Rattle.capnp_request.specs.Handles.{values_left}
+use Rattle.capnp_request.proofs.ListsRead.{each_whole}
+use Rattle.capnp_request.specs.Conversion.{annotation_of, annotations_of, declared_in, declared_term, declared_type}
 use Rattle.capnp_request.specs.Parts.{read_at}
-use Rattle.capnp_request.specs.Reading.{annotation_said, brand_in, declaration_said, in_struct, number_in, type_levels, type_said, value_in, value_said, whole_type}
+use Rattle.capnp_request.specs.Reading.{annotation_said, annotations_in, brand_in, each_said, declaration_said, in_struct, number_in, type_levels, type_said, value_in, value_said, whole_type}
 use Rattle.capnp_request.specs.Scopes.{node_named}
 use Rattle.capnp_request.specs.Terms.{BrandTerm, SchemaNode, TypeTerm, UnreadType, ValueTerm}
 use Rattle.capnp_request.specs.Types.{named_scopes, type_of}
 use Rattle.capnp_request.specs.Values.{value_of}
-use Rattle.capnp_request.specs.Work.{◌>>=◌, Bound, Named, Numbered, Seen, Work, continued, given, named, nothing_seen, said, seen_in, unnoted}
+use Rattle.capnp_request.specs.Work.{◌>>=◌, Bound, Named, Numbered, Seen, Work, continued, each_read, given, named, nothing_seen, said, seen_in, unnoted}
 
 -- ---- work with what is seen in it alone ----
 
@@ -102,3 +106,12 @@ module _ (nodes : List SchemaNode) (strict : Bool) (inside : List Bound) (r : Re
 
       pub annotation_done : (z : SchemaType) (t : Named) → unnoted (declared_type nodes strict id inside (brand_in whole_type (read_at 12 2 r))) s ≡ Ok (z, t) → annotation_of nodes strict inside (annotation_said r) s ≡ Ok ((record { id = id; value = v }, z), t)
       annotation_done z t e = by_type ∙ ap (continued (λ t. given (record { id = id; value = v }, t))) e
+
+-- ---- annotations in a row ----
+
+module _ (nodes : List SchemaNode) (strict : Bool) (inside : List Bound) (s : Named) (v : RecordValue) where
+  pub annotations_unread : (kind : ErrorKind) → value.Fault kind ≡ v → annotations_of nodes strict inside (annotations_in v) s ≡ Err kind
+  annotations_unread kind e = ap (λ x. annotations_of nodes strict inside (annotations_in x) s) (sym e)
+
+  pub annotations_start : (l : ListHandle) → list_seen l ≡ v → annotations_of nodes strict inside (annotations_in v) s ≡ each_read (annotation_of nodes strict inside) (each_said 12 annotation_said (values_left l 0)) s
+  annotations_start l e = ap (λ x. annotations_of nodes strict inside (annotations_in x) s) (sym e) ∙ ap (λ x. (said x >>= each_read (annotation_of nodes strict inside)) s) (each_whole 12 annotation_said l)

@@ -1,5 +1,6 @@
 -- What `==` of nodes with bindings answers is what the definition compares.
-use Rattle.std.proofs.Common.{ℕ, ◌+◌, ◌-◌, ◌^◌, ◌<◌, ◌≡◌, ◌∙◌, zero, suc, min, arith, ap, refl, subst, ◌==◌, ◌&&◌, List, [], ◌∷◌, map}
+use Rattle.std.proofs.Common.{ℕ, ◌+◌, ◌-◌, ◌^◌, ◌<◌, ◌≤◌, ◌≡◌, ◌∙◌, zero, suc, min, arith, ap, refl, subst, sym, ◌==◌, ◌&&◌, Bool, true, false, List, [], ◌∷◌, map}
+use Rattle.std.proofs.lemmas.Bool.Decides.{nat_tests}
 use Rattle.std.specs.Cmp.Lexicographic.{pointwise}
 use Rattle.capnp_base.specs.Types.{kind, list_type, schema_number, base_variant}
 use Rattle.capnp_base.specs.declared.introspect.«Type».{«Type» as TypeHandle}
@@ -102,12 +103,47 @@ scopes_same [] (y ∷ ys) = refl
 scopes_same (x ∷ xs) [] = refl
 scopes_same (x ∷ xs) (y ∷ ys) = ap (λ b. b && same_bound (bounds xs) (bounds ys)) (scope_same x y) ∙ ap (λ b. (scope_eq.ghosts).eq x y && b) (scopes_same xs ys)
 
--- a list of a type, as long as its lists are counted
-pub list_of_seen : (t s : TypeHandle) → s ≡ list_type t → lists_in (seen_type t) < 2 ^ 64 - 1 → seen_type s ≡ ListType (seen_type t)
-list_of_seen t s e h =
-    let few : t.list_count < 2 ^ 64 - 1 = subst (λ n. n < 2 ^ 64 - 1) (depth_of t) h in
-    let count : min (t.list_count + 1) (2 ^ 64 - 1) ≡ suc t.list_count = omega (arith, few) in
-    ap seen_type e ∙ ap (λ n. lists_of n (seen_base t.base)) count
+and_right : (a b : Bool) → (a && b) ≡ true → b ≡ true
+and_right true b e = e
+and_right false b e = cc
+
+and_false : (a b : Bool) → a ≡ true → (a && b) ≡ false → b ≡ false
+and_false true b h e = e
+and_false false b h e = cc
+
+same_numbers : (n m : ℕ) → ((n == n) && (m == m)) ≡ true
+same_numbers n m = grind (arith, nat_tests)
+
+same_base : (b : BaseType) → (base_eq.ghosts).eq b b ≡ true
+same_base b = sym (base_same b b) ∙ same_numbers (kind (base_variant b)) (schema_number (base_variant b))
+
+-- a list of a type that is equal to it, where no more lists are counted
+pub full_lists : (t s : TypeHandle) (q : Bool) → s ≡ list_type t → q ≡ (type_eq.ghosts).eq s t → q ≡ true → 2 ^ 64 - 1 ≤ lists_in (seen_type t)
+full_lists t s q e is yes =
+    let whole : (type_eq.ghosts).eq (list_type t) t ≡ true = ap (λ (x : TypeHandle). (type_eq.ghosts).eq x t) (sym e) ∙ (sym is ∙ yes) in
+    let counts : (min (t.list_count + 1) (2 ^ 64 - 1) == t.list_count) ≡ true = and_right ((base_eq.ghosts).eq t.base t.base) (min (t.list_count + 1) (2 ^ 64 - 1) == t.list_count) whole in
+    let same : min (t.list_count + 1) (2 ^ 64 - 1) ≡ t.list_count = grind (arith, nat_tests, counts) in
+    subst (λ n. 2 ^ 64 - 1 ≤ n) (sym (depth_of t)) (omega (arith, same))
+
+-- and one that isn't
+module _ (t s : TypeHandle) (q : Bool) (e : s ≡ list_type t) (is : q ≡ (type_eq.ghosts).eq s t) (no : q ≡ false) (fits : t.list_count < 2 ^ 64) where
+  counted : t.list_count < 2 ^ 64 - 1
+  counted =
+      let whole : (type_eq.ghosts).eq (list_type t) t ≡ false = ap (λ (x : TypeHandle). (type_eq.ghosts).eq x t) (sym e) ∙ (sym is ∙ no) in
+      let counts : (min (t.list_count + 1) (2 ^ 64 - 1) == t.list_count) ≡ false = and_false ((base_eq.ghosts).eq t.base t.base) (min (t.list_count + 1) (2 ^ 64 - 1) == t.list_count) (same_base t.base) whole in
+      let other : min (t.list_count + 1) (2 ^ 64 - 1) ≡ t.list_count → ⊥ = λ same. differ counts same in
+      omega (arith, fits, other)
+    where
+      differ : (min (t.list_count + 1) (2 ^ 64 - 1) == t.list_count) ≡ false → min (t.list_count + 1) (2 ^ 64 - 1) ≡ t.list_count → ⊥
+      differ counts same = grind (arith, nat_tests, counts, same)
+
+  pub few_lists : lists_in (seen_type t) < 2 ^ 64 - 1
+  few_lists = subst (λ n. n < 2 ^ 64 - 1) (sym (depth_of t)) counted
+
+  pub list_of_seen : seen_type s ≡ ListType (seen_type t)
+  list_of_seen =
+      let count : min (t.list_count + 1) (2 ^ 64 - 1) ≡ suc t.list_count = omega (arith, counted) in
+      ap seen_type e ∙ ap (λ n. lists_of n (seen_base t.base)) count
 
 pub compared : (a b : BoundNode) → ((a.id == b.id) && same_bound (bounds a.scopes.items) (bounds b.scopes.items)) ≡ (node_eq.ghosts).eq a b
 compared a b = ap (λ q. (a.id == b.id) && q) (scopes_same a.scopes.items b.scopes.items)

@@ -174,6 +174,10 @@ module _ (nodes : List SchemaNode) (strict : Bool) (inside : List Bound) (n i : 
           pub field_done : (annotations : List (Annotation × SchemaType)) (u : Named) → annotations_of nodes strict inside (annotations_in (read_at 8 1 r)) t ≡ Ok (annotations, u) → field_of nodes strict inside n i (field_said r) s ≡ Ok (with_annotations name discriminant kind annotations, u)
           field_done annotations u e = kind_done ∙ ap (continued (λ annotations. given (with_annotations name discriminant kind annotations))) e
 
+-- nothing is noted of a group
+pub nothing_noted : (n i : ℕ) (s : Seen) (d : Bool) → s ≡ nothing_seen → d ≡ false → [] ≡ notes_of n i s d
+nothing_noted n i s d seen default = ap (λ (x : Seen). notes_of n i x false) (sym seen) ∙ ap (λ b. notes_of n i s b) (sym default)
+
 -- ---- annotations with their types ----
 
 pub firsts_typed : (xs : List AnnotationRecord) (ts : List TypeHandle) → length ts ≡ length xs → map (λ (p : Annotation × SchemaType). p.0) (typed_annotations xs ts) ≡ map seen_annotation xs

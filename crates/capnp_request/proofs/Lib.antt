@@ -9,9 +9,11 @@ pub mod NodesListed
 pub mod NodesRead
 pub mod Numbering
 pub mod PartsSeen
+pub mod Refused
 pub mod RefusedKinds
 pub mod Rows
 pub mod ScopesBound
+pub mod ScopesRead
 pub mod Sounds
 pub mod Taken
 pub mod TypesDone

@@ -19,7 +19,7 @@ use Rattle.capnp_dynamic_readers.specs.Seen.{list_seen, record_seen}
 use Rattle.capnp_dynamic_readers.specs.declared.dynamic_list.Reader.{Reader as ListHandle}
 use Rattle.capnp_dynamic_readers.specs.declared.dynamic_struct.Reader.{Reader as StructHandle}
 use Rattle.capnp_request.specs.Handles.{IsListOf, IsRecord, values_left}
-use Rattle.capnp_request.specs.Nodes.{node_record, nodes_of, or_none}
+use Rattle.capnp_request.specs.Nodes.{first_kept, node_record, nodes_of, or_none}
 use Rattle.capnp_request.specs.Parts.{one, read_at}
 use Rattle.capnp_request.specs.Reading.{all_said, both_said, each_said, node_said, nodes_in, whole_list}
 use Rattle.capnp_request.specs.Scopes.{node_named, some_where}
@@ -44,7 +44,7 @@ join_more : {A : Type 0} (xs : List A) (y : A) (r : Said (List A)) → joined xs
 join_more xs y (Ok ys) = ap (λ zs. Ok zs) (sym (append_assoc xs (y ∷ []) ys))
 join_more xs y (Err kind) = refl
 
-join_none : {A : Type 0} (r : Said (List A)) → r ≡ joined [] r
+pub join_none : {A : Type 0} (r : Said (List A)) → r ≡ joined [] r
 join_none (Ok ys) = refl
 join_none (Err kind) = refl
 
@@ -96,9 +96,6 @@ module _ {S : Type 0} where
     node_unread kind e = h.whole ∙ ap (λ xs. joined h.nodes (all_said xs)) (each_err 2 node_said l i kind is inside e)
 
     module _ (r : Record) (e : value.Struct r ≡ element_seen l i) (id : ℕ) (id_is : (node_said r).id ≡ id) where
-      n : SchemaNode
-      n = node_said r
-
       whole_more : all_said (each_said 2 node_said (values_left l 0)) ≡ joined (h.nodes ++ node_said r ∷ []) (all_said (each_said 2 node_said (values_left l (i + 1))))
       whole_more =
           h.whole
@@ -111,31 +108,24 @@ module _ {S : Type 0} where
       same_test : (q : ℕ) → ((node_said r).id == q) ≡ nat_eq id q
       same_test q = ap (λ k. k == q) id_is
 
-      -- the id was met
-      pub met_again : (x : StructReader) → get nat_eq m id ≡ Some x → ReadSoFar l m (i + 1)
-      met_again x there = record { nodes = h.nodes ++ node_said r ∷ []; whole = whole_more; count = count_more; by_id = λ q. h.by_id q ∙ (sym (named q (nat_eq id q) refl) ∙ sym (named_more h.nodes (node_said r) q)) }
-        where
-          named : (q : ℕ) (b : Bool) → nat_eq id q ≡ b → or_else (node_named h.nodes q) (some_where ((node_said r).id == q) (node_said r) None) ≡ node_named h.nodes q
-          named q true same =
-              let equal : id ≡ q = grind (arith, nat_tests, same) in
-              some_more (node_named h.nodes q) (some_where ((node_said r).id == q) (node_said r) None) (said_by x) (sym (h.by_id q) ∙ ap (option_map said_by) (ap (get nat_eq m) (sym equal) ∙ there))
-          named q false same =
-              ap (λ t. or_else (node_named h.nodes q) (some_where t (node_said r) None)) (same_test q ∙ same) ∙ nothing_more (node_named h.nodes q)
+      same_node : (q : ℕ) (o : Option StructReader) (t : Bool) → option_map said_by o ≡ node_named h.nodes q → nat_eq id q ≡ t → (x : StructReader) → node_record x ≡ r →
+          option_map said_by (first_kept o t x) ≡ or_else (node_named h.nodes q) (some_where ((node_said r).id == q) (node_said r) None)
+      same_node q (Some y) t there same x section = there ∙ sym (some_more (node_named h.nodes q) (some_where ((node_said r).id == q) (node_said r) None) (said_by y) (sym there))
+      same_node q None true there same x section =
+          ap (λ s. Some (node_said s)) section
+          ∙ (sym (ap (λ t. some_where t (node_said r) None) (same_test q ∙ same))
+          ∙ sym (none_more (node_named h.nodes q) (some_where ((node_said r).id == q) (node_said r) None) (sym there)))
+      same_node q None false there same x section =
+          sym (ap (λ t. some_where t (node_said r) None) (same_test q ∙ same))
+          ∙ sym (none_more (node_named h.nodes q) (some_where ((node_said r).id == q) (node_said r) None) (sym there))
 
-      -- it is new
-      pub newly_met : (m' : HashMap ℕ StructReader S) (x : StructReader) → get nat_eq m id ≡ None → Updates nat_eq m m' id (Some x) → node_record x ≡ r → ReadSoFar l m' (i + 1)
-      newly_met m' x absent updates section = record { nodes = h.nodes ++ node_said r ∷ []; whole = whole_more; count = count_more; by_id = λ q. named q (nat_eq id q) refl ∙ sym (named_more h.nodes (node_said r) q) }
-        where
-          named : (q : ℕ) (b : Bool) → nat_eq id q ≡ b → option_map said_by (get nat_eq m' q) ≡ or_else (node_named h.nodes q) (some_where ((node_said r).id == q) (node_said r) None)
-          named q true same =
-              let equal : id ≡ q = grind (arith, nat_tests, same) in
-              ap (option_map said_by) (updates.0 q ∙ ap (λ b. cond b (Some x) (get nat_eq m q)) same)
-              ∙ (ap (λ s. Some (node_said s)) section
-              ∙ (sym (ap (λ t. some_where t (node_said r) None) (same_test q ∙ same))
-              ∙ sym (none_more (node_named h.nodes q) (some_where ((node_said r).id == q) (node_said r) None) (sym (h.by_id q) ∙ ap (option_map said_by) (ap (get nat_eq m) (sym equal) ∙ absent)))))
-          named q false same =
-              ap (option_map said_by) (updates.0 q ∙ ap (λ b. cond b (Some x) (get nat_eq m q)) same)
-              ∙ (h.by_id q ∙ (sym (nothing_more (node_named h.nodes q)) ∙ ap (λ t. or_else (node_named h.nodes q) (some_where t (node_said r) None)) (sym (same_test q ∙ same))))
+      pub one_read : (m' : HashMap ℕ StructReader S) (x : StructReader) → ((q : ℕ) → get nat_eq m' q ≡ first_kept (get nat_eq m q) (nat_eq id q) x) → node_record x ≡ r → ReadSoFar l m' (i + 1)
+      one_read m' x kept section = record {
+        nodes = h.nodes ++ node_said r ∷ [];
+        whole = whole_more;
+        count = count_more;
+        by_id = λ q. ap (option_map said_by) (kept q) ∙ (same_node q (get nat_eq m q) (nat_eq id q) (h.by_id q) refl x section ∙ sym (named_more h.nodes (node_said r) q));
+      }
 
   -- all were read
   module _ (l : ListHandle) (m : HashMap ℕ StructReader S) (i : ℕ) (h : ReadSoFar l m i) (past : count_of l ≤ i) where
@@ -148,3 +138,7 @@ nodes_read r l e = ap (whole_list 2 node_said) (sym e) ∙ all_whole 2 node_said
 
 pub nodes_unread : (r : Record) (kind : ErrorKind) → value.Fault kind ≡ read_at 0 0 r → nodes_in r ≡ Err kind
 nodes_unread r kind e = ap (whole_list 2 node_said) (sym e)
+
+-- the nodes of what was made of a request
+pub nodes_made : (r : Record) (ns : List SchemaNode) → nodes_in r ≡ Ok ns → or_none (nodes_in r) ≡ ns
+nodes_made r ns e = ap or_none e

@@ -6,6 +6,9 @@ use Rattle.capnp_device.specs.declared.error.ErrorKind.{ErrorKind}
 use Rattle.capnp_records.specs.Part.{which_of}
 use Rattle.capnp_records.specs.Record as value
 use Rattle.capnp_records.specs.Record.{Record, Value, Values}
+use Rattle.capnp_dynamic_readers.specs.Seen.{list_seen}
+use Rattle.capnp_dynamic_readers.specs.declared.dynamic_list.Reader.{Reader as ListHandle}
+use Rattle.capnp_request.proofs.ListsRead.{all_left, count_left, count_of}
 use Rattle.capnp_request.specs.Conversion.{declared_term, kind_declared}
 use Rattle.capnp_request.specs.Parts.{read_at}
 use Rattle.capnp_request.specs.Reading.{annotations_in, by_member, declaration_said, enumerant_said, enumerants_said, id_said, in_list, list_said, node_kinds, node_said, number_in, struct_said, text_in, truth_in, value_count, whole_list}
@@ -170,3 +173,13 @@ undeclared o r there not = ap declared_term (sym there) ∙ go (node_said r).kin
 
 pub undeclared_none : (o : Option SchemaNode) → None ≡ o → declared_term o ≡ None
 undeclared_none o there = ap declared_term (sym there)
+
+-- how many parameters
+pub parameters_unread : (r : Record) (kind : ErrorKind) → value.Fault kind ≡ read_at 2 11 r → (node_said r).parameters ≡ Err kind
+parameters_unread r kind e = node_parameters r ∙ ap (in_list Err (λ (vs : Values). Ok (value_count vs))) (sym e)
+
+pub parameters_read : (r : Record) (l : ListHandle) → list_seen l ≡ read_at 2 11 r → (node_said r).parameters ≡ Ok (count_of l)
+parameters_read r l e =
+    node_parameters r
+    ∙ (ap (in_list Err (λ (vs : Values). Ok (value_count vs))) (sym e)
+    ∙ (ap (in_list Err (λ (vs : Values). Ok (value_count vs))) (all_left l) ∙ ap (λ n. Ok n) (count_left l)))

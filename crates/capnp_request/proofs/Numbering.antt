@@ -1,7 +1,7 @@
 -- The number of one more entry or enum.
 use Rattle.std.proofs.Common.{ℕ, ◌+◌, ◌<◌, ◌≤◌, ◌≡◌, nat_lt, ◌∙◌, suc, arith, ap, refl, sym, cond, Bool, true, false, ◌==◌, List, [], ◌∷◌, ◌++◌, length, map, Option, Some, None, Result, Ok, Err}
 use Rattle.std.proofs.lemmas.Bool.Decides.{nat_tests}
-use Rattle.std.proofs.lemmas.List.{map-append}
+use Rattle.std.proofs.lemmas.List.{length-append, length-map, map-append}
 use Rattle.std.specs.Cmp.{IsEquivalence}
 use Rattle.std.specs.HashMap.{HashMap, get, Updates}
 use Rattle.std.specs.Map.{lookup}
@@ -128,3 +128,10 @@ module _ (nodes : List SchemaNode) (id : ℕ) (s : Named) where
           found_enum
           ∙ (ap (λ q. where_so q TooManyTypes (Ok (length s.enums, record s { enums = s.enums ++ id ∷ [] }))) (test_true (length s.enums) 4294967295 h)
           ∙ (ap (λ n. Ok (n, record s { enums = s.enums ++ id ∷ [] })) (sym count) ∙ ap (λ (xs : List ℕ). Ok (number, record s { enums = xs })) (sym more)))
+
+-- one more of fewer than 65,536
+pub few_more : {A B : Type 0} (f : A → B) (xs ys : List A) (x : A) (n : ℕ) → ys ≡ xs ++ x ∷ [] → n ≡ length (map f xs) → n < 65536 → length ys ≤ 65536
+few_more f xs ys x n more count few =
+    let all : length ys ≡ length xs + 1 = ap length more ∙ length-append xs (x ∷ []) in
+    let same : length (map f xs) ≡ length xs = length-map xs f in
+    omega (arith, all, same, count, few)

@@ -1,6 +1,7 @@
 -- What brands bind to scopes: the scopes of a brand and bindings in a row, one more at a time.
-use Rattle.std.proofs.Common.{ℕ, ◌+◌, ◌-◌, ◌<◌, ◌≤◌, ◌≡◌, ◌≢◌, ◌∙◌, ap, arith, pos, refl, sym, zero, suc, ◌==◌, Bool, true, false, List, [], ◌∷◌, ◌++◌, length, map, take, drop, Option, Some, None, Result, Ok, Err}
+use Rattle.std.proofs.Common.{ℕ, ◌+◌, ◌-◌, ◌<◌, ◌≤◌, ◌≡◌, ◌≢◌, ◌⊎◌, inl, inr, min, ◌∙◌, ap, arith, pos, refl, sym, zero, suc, ◌==◌, Bool, true, false, List, [], ◌∷◌, ◌++◌, length, map, take, drop, Option, Some, None, Result, Ok, Err}
 use Rattle.std.proofs.lemmas.Bool.Decides.{nat_tests}
+use Rattle.std.proofs.lemmas.List.{append-nil}
 use Rattle.capnp_device.specs.declared.error.ErrorKind.{ErrorKind}
 use Rattle.capnp_schema.specs.Types.{SchemaType, VoidType, BoolType, IntType, UIntType, EnumType, TextType, DataType, StructType, ListType, AnyPointerType}
 use Rattle.capnp_records.specs.Record as value
@@ -72,6 +73,16 @@ module _ (nodes : List SchemaNode) (strict : Bool) (inside : List Bound) (inner 
 
   pub bindings_full : (i count : ℕ) (ys : List SchemaType) (s : Named) → count ≡ 0 → prefixed ys (binding_types nodes strict inside (bindings_said inner (values_left l i)) count s) ≡ prefixed ys (Ok ([], s))
   bindings_full i count ys s h = ap (λ n. prefixed ys (binding_types nodes strict inside (bindings_said inner (values_left l i)) n s)) h
+
+  pub bindings_all : (i count : ℕ) (ys : List SchemaType) (s : Named) → (min (count_of l) count ≤ i) → prefixed ys (binding_types nodes strict inside (bindings_said inner (values_left l i)) (count - i) s) ≡ Ok (ys, s)
+  bindings_all i count ys s h = go (le_either (count_of l) i) ∙ ap (λ (zs : List SchemaType). Ok (zs, s)) (append-nil ys)
+    where
+      le_either : (a b : ℕ) → (a ≤ b) ⊎ (b < a)
+      le_either a b = grind arith
+
+      go : (count_of l ≤ i) ⊎ (i < count_of l) → prefixed ys (binding_types nodes strict inside (bindings_said inner (values_left l i)) (count - i) s) ≡ Ok (ys ++ [], s)
+      go (inl past) = bindings_end i (count - i) ys s past
+      go (inr inside) = bindings_full i (count - i) ys s (omega (arith, h, inside))
 
   module _ (i count : ℕ) (ys : List SchemaType) (s : Named) (is : IsListOf (one 21) l) (within : i < count_of l) (below : i < count) where
     step : (k : TypeTerm) → bindings_said inner (values_left l i) ≡ MoreBindings k (left (i + 1)) →

@@ -1,19 +1,20 @@
 -- The type that a record says is that of its active member, and the work on it.
-use Rattle.std.proofs.Common.{ℕ, ◌+◌, ◌-◌, ◌^◌, ◌<◌, ◌≤◌, ◌≡◌, ◌≢◌, ◌∙◌, ap, arith, pos, refl, subst, sym, zero, suc, nat_lt, ◌==◌, Bool, true, false, List, [], ◌∷◌, length, map, Option, Some, None, Result, Ok, Err, slice_get}
+use Rattle.std.proofs.Common.{ℕ, ◌+◌, ◌-◌, ◌^◌, ◌<◌, ◌≤◌, ◌≡◌, ◌≢◌, ◌∙◌, ap, arith, pos, refl, subst, sym, zero, suc, nat_lt, ◌==◌, Bool, true, false, List, [], ◌∷◌, length, map, Option, Some, None, Result, Ok, Err, IfErr, IfOk, slice_get}
 use Rattle.std.proofs.lemmas.Bool.Decides.{nat_tests}
 use Rattle.std.proofs.lemmas.Option.{slice_get_past}
 use Rattle.std.specs.Option.{unwrap_or}
 use Rattle.capnp_device.specs.declared.error.Error.{Error}
 use Rattle.capnp_device.specs.declared.error.ErrorKind.{ErrorKind}
 use Rattle.capnp_device.specs.declared.error.ErrorKind.TheVariants.{NodeNotFound, OutOfMemory, TooManyTypes, UnknownKind}
-use Rattle.capnp_schema.specs.Types.{SchemaType, AnyPointerType, EnumType, ListType, StructType}
+use Rattle.capnp_base.specs.declared.introspect.«Type».{«Type» as TypeHandle}
+use Rattle.capnp_schema.specs.Types.{SchemaType, AnyPointerType, EnumType, ListType, StructType, seen_type}
 use Rattle.capnp_records.specs.Part.{which_of}
 use Rattle.capnp_records.specs.Record as value
 use Rattle.capnp_records.specs.Record.{Record, Value, Values}
 use Rattle.capnp_request.specs.Done.{IsDone, IsSaid}
 use Rattle.capnp_request.specs.Meant.{IsPlainMember, scope_in, says_or, type_kind}
 use Rattle.capnp_request.specs.Parts.{read_at}
-use Rattle.capnp_request.specs.Reading.{binding_kinds, binding_said, bindings_said, by_member, enum_term, in_list, in_struct, list_term, number_in, parameter_said, scope_kinds, scope_said, struct_term, type_in, type_kinds, type_said, untyped_kinds, untyped_term}
+use Rattle.capnp_request.specs.Reading.{binding_kinds, binding_said, bindings_said, brand_in, by_member, enum_term, in_list, in_struct, list_term, number_in, parameter_said, scope_kinds, scope_said, struct_term, type_in, type_kinds, type_said, untyped_kinds, untyped_term}
 use Rattle.capnp_request.specs.Scopes.{bound_types, node_named, scopes_of}
 use Rattle.capnp_request.specs.Terms.{BindingTerms, BrandTerm, Binds, EnumTerm, Float32, Float64, Inherits, Interface, ListTerm, MoreBindings, MoreScopes, NoBindings, NoScopes, Parameter, Plain, Said, SchemaNode, ScopeTerm, StructTerm, TypeTerm, UnreadBrand, UnreadScope, UnreadType}
 use Rattle.capnp_request.specs.Types.{bind_scope, binding_types, bound_to, brand_types, float32, float64, interface, is_of_kind, is_struct, lists_in, list_type, named_scopes, number_enum, number_struct, scope_types, type_of, without_untyped}
@@ -191,11 +192,21 @@ module _ (nodes : List SchemaNode) (strict : Bool) (inside : List Bound) where
       pub scope_binds : m ≡ 1 → (vs : Values) → value.Elements vs ≡ read_at 20 1 r → scope_types nodes strict inside (scope_said inner r) scope s ≡ continued (λ ts. given (without_untyped ts)) (binding_types nodes strict inside (bindings_said inner vs) scope.parameters s)
       scope_binds is vs there = ap scope_work (scope_by 1 is ∙ ap (in_list UnreadScope (λ vs. Binds (bindings_said inner vs))) (sym there))
 
+      pub scope_refused : m ≡ 1 → (vs : Values) → value.Elements vs ≡ read_at 20 1 r → (kind : ErrorKind) → binding_types nodes strict inside (bindings_said inner vs) scope.parameters s ≡ Err kind → scope_types nodes strict inside (scope_said inner r) scope s ≡ Err kind
+      scope_refused is vs there kind h = scope_binds is vs there ∙ ap (continued (λ ts. given (without_untyped ts))) h
+
+      pub scope_done : m ≡ 1 → (vs : Values) → value.Elements vs ≡ read_at 20 1 r → (ts kept : List SchemaType) (t : Named) → binding_types nodes strict inside (bindings_said inner vs) scope.parameters s ≡ Ok (ts, t) → kept ≡ without_untyped ts → scope_types nodes strict inside (scope_said inner r) scope s ≡ Ok (kept, t)
+      scope_done is vs there ts kept t h e = scope_binds is vs there ∙ (ap (continued (λ ts. given (without_untyped ts))) h ∙ ap (λ (xs : List SchemaType). Ok (xs, t)) (sym e))
+
       pub scope_unread : m ≡ 1 → (kind : ErrorKind) → value.Fault kind ≡ read_at 20 1 r → scope_types nodes strict inside (scope_said inner r) scope s ≡ Err kind
       scope_unread is kind there = ap scope_work (scope_by 1 is ∙ ap (in_list UnreadScope (λ vs. Binds (bindings_said inner vs))) (sym there))
 
       pub scope_inherits : m ≡ 2 → scope_types nodes strict inside (scope_said inner r) scope s ≡ Ok (bound_types [] (λ (b : Bound). b.types) inside scope.scope, s)
       scope_inherits is = ap scope_work (scope_by 2 is)
+
+      pub inherits_end : {X : Type 0} (f : X → List SchemaType) → m ≡ 2 → (x : Result X Error) → IfOk x (λ types. bound_types [] (λ (b : Bound). b.types) inside scope.scope ≡ f types) → IfErr x (λ e. e.kind ≡ OutOfMemory) → IsDone f (scope_types nodes strict inside (scope_said inner r) scope) s s x
+      inherits_end f is (Ok types) read kinds = scope_inherits is ∙ ap (λ (ts : List SchemaType). Ok (ts, s)) read
+      inherits_end f is (Err e) read kinds = λ n. absurd (n kinds)
 
       pub scope_other : m ≢ 1 → m ≢ 2 → scope_types nodes strict inside (scope_said inner r) scope s ≡ Err UnknownKind
       scope_other one two = ap scope_work (scope_by m refl) ∙ go m one two
@@ -233,3 +244,13 @@ module _ (nodes : List SchemaNode) (strict : Bool) (inside : List Bound) where
   pub brand_some : (brand : BrandTerm) (says : ScopeTerm) (scope : Bound) (s : Named) → scope_in brand scope.scope ≡ Ok (Some says) → brand_types nodes strict inside brand scope s ≡ scope_types nodes strict inside says scope s
   unfolding by_found
   brand_some brand says scope s e = brand_by brand scope s ∙ ap (λ o. by_found o scope s) e
+
+  -- the end of a list's type
+  module _ (inner : Record → TypeTerm) (v : Value) (list : Record) (there : value.Struct list ≡ v) (element : Record) (is : value.Struct element ≡ read_at 14 0 list) (s t : Named) (u : SchemaType) (done : work (inner element) s ≡ Ok (u, t)) where
+    pub list_end : (r : Result TypeHandle Error) → IfOk r (λ z. (lists_in u < 2 ^ 64 - 1) × (seen_type z ≡ ListType u)) → IfErr r (λ e. 2 ^ 64 - 1 ≤ lists_in u) → IfErr r (λ e. e.kind ≡ TooManyTypes) → IsDone seen_type (type_of nodes strict inside (list_term inner v)) s t r
+    list_end (Ok z) one full kinds = list_done inner v list there element is s t u (seen_type z) done one.0 one.1
+    list_end (Err e) one full kinds = λ n. list_full inner v list there element is s t u done full ∙ ap (λ k. Err k) (sym kinds)
+
+  -- what a struct's term names
+  pub struct_named : (inner : Record → TypeTerm) (n : Record) (id : ℕ) → value.Number (pos id) ≡ read_at 16 0 n → struct_term inner (value.Struct n) ≡ StructTerm id (brand_in inner (read_at 16 1 n))
+  struct_named inner n id e = ap (λ x. StructTerm (number_in x) (brand_in inner (read_at 16 1 n))) (sym e)

@@ -16,5 +16,6 @@ pub mod Scopes
 pub mod Shapes
 pub mod Terms
 pub mod Types
+pub mod ValueMembers
 pub mod Values
 pub mod Work

@@ -1,5 +1,5 @@
 -- The schema nodes of a request: those that it lists, and the look-up of one by its id.
-use Rattle.std.specs.Prelude.{ℕ, ◌≡◌, List, [], length, nat_eq, option_map, Ok, Err}
+use Rattle.std.specs.Prelude.{ℕ, ◌≡◌, Bool, true, false, List, [], length, nat_eq, Option, Some, None, option_map, Ok, Err}
 use Rattle.std.specs.HashMap.{get}
 use Rattle.capnp_wire.specs.Standing.{struct_levels, struct_of}
 use Rattle.capnp_wire.specs.declared.struct_reader.StructReader.{StructReader}
@@ -24,6 +24,12 @@ or_none (Err kind) = []
 -- the nodes that the request lists
 unfoldable pub nodes_of : SchemaNodes → List SchemaNode
 nodes_of nodes = or_none (nodes_in (record_seen nodes.request))
+
+-- what a map has of an id after a node of that id, or of another, was met
+abbrev pub first_kept : Option StructReader → (same : Bool) → StructReader → Option StructReader
+first_kept (Some x) same new = Some x
+first_kept None true new = Some new
+first_kept None false new = None
 
 -- They are read under the request set, all can be read, and the map says which has an id.
 pub record AreNodes (nodes : SchemaNodes) : Type 0 where

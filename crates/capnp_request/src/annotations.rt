@@ -116,7 +116,8 @@ pub(crate) fn annotations_of<'a>(
     let mut types = Vec::new(context.alloc);
     for at in 0..listed.len() {
         let annotation = element_at(listed, at, brands::ANNOTATION)?;
-        let (record, annotation_type) = annotation_of(context, entries, inside, annotation)?;
+        let made = annotation_of(context, entries, inside, annotation)?;
+        let (record, annotation_type) = made;
         records.push(record)?;
         types.push(annotation_type)?;
     }

@@ -127,9 +127,12 @@ fn kind_of<'a>(
     ensures numbers { IfOk result (λ _. AreNumbered entries.new) }
     ensures kinds { IfErr result (λ e. IsRefusal context.entry.strict e.kind) }
 {
-    match active_member(field) {
-        Some(FIELD_SLOT) => slot_of(context, entries, inside, field, place),
-        Some(FIELD_GROUP) => group_of(context, entries, inside, field, place),
+    let Some(member) = active_member(field) else {
+        return Err(Error::from(ErrorKind::UnknownKind));
+    };
+    match member {
+        FIELD_SLOT => slot_of(context, entries, inside, field, place),
+        FIELD_GROUP => group_of(context, entries, inside, field, place),
         _ => Err(Error::from(ErrorKind::UnknownKind)),
     }
 }
@@ -154,19 +157,15 @@ pub(crate) fn field_of<'a>(
     let text = text_at(field, brands::FIELD, FIELD_NAME)?;
     let name = owned(context.alloc, text)?;
     let discriminant_value = u16_at(field, brands::FIELD, FIELD_DISCRIMINANT);
+    let converted = kind_of(context, entries, inside, field, place)?;
+    let index = FIELD_ANNOTATIONS;
+    let listed = annotations_of(context, entries, inside, field, brands::FIELD, index)?;
+    let (annotations, annotation_types) = listed;
     let ConvertedKind {
         kind,
         field_type,
         seen,
-    } = kind_of(context, entries, inside, field, place)?;
-    let (annotations, annotation_types) = annotations_of(
-        context,
-        entries,
-        inside,
-        field,
-        brands::FIELD,
-        FIELD_ANNOTATIONS,
-    )?;
+    } = converted;
     Ok(ConvertedField {
         record: FieldRecord {
             name,

@@ -1,16 +1,17 @@
 //! The schema nodes of a request: by id, and by what they have.
-ghost use Rattle.std.specs.Prelude.{◌≡◌, ◌≢◌, IfErr, IfOk, IfSome, IsTrue, Some, None, Ok, Err, false, length, map, option_map, true};
+ghost use Rattle.std.specs.HashMap.{get};
+ghost use Rattle.std.specs.Prelude.{ℕ, [], ◌++◌, nat_eq, OnOk, ◌≡◌, ◌≢◌, IfErr, IfOk, IfSome, IsTrue, Some, None, Ok, Err, false, length, map, option_map, true};
 ghost use Rattle.capnp_device.specs.declared.error.ErrorKind.TheVariants.{NodeNotFound, OutOfMemory};
 ghost use Rattle.capnp_records.specs.Part.{which_of};
 ghost use Rattle.capnp_dynamic_readers.specs.Seen.{list_seen, record_seen};
 ghost use Rattle.capnp_request.specs.Bindings.{with_nothing};
 ghost use Rattle.capnp_request.specs.Conversion.{declared_term};
 ghost use Rattle.capnp_request.specs.Handles.{IsListOf, IsRecord};
-ghost use Rattle.capnp_request.specs.Nodes.{AreNodes, nodes_of, node_record};
+ghost use Rattle.capnp_request.specs.Nodes.{AreNodes, first_kept, node_record, nodes_of};
 ghost use Rattle.capnp_request.specs.Parts.{one};
 ghost use Rattle.capnp_request.specs.Reading.{declaration_said, enumerant_said, list_said, node_said, nodes_in, struct_said};
 ghost use Rattle.capnp_request.specs.Refusals.{IsPlain};
-ghost use Rattle.capnp_request.specs.Scopes.{node_named, scopes_of};
+ghost use Rattle.capnp_request.specs.Scopes.{node_named, scopes_of, with_scope};
 ghost use Rattle.capnp_request.specs.Terms.{EnumNode, StructNode};
 ghost use Rattle.capnp_request.specs.Types.{is_annotation, is_enum, is_of_kind, is_root, is_struct};
 
@@ -54,6 +55,43 @@ fn not_found() -> Error
     }
 }
 
+/// Adds a scope, where it has parameters.
+fn add_scope(
+    scopes: &mut Vec<GenericScope>,
+    id: u64,
+    distance: u32,
+    parameters: u32,
+) -> Result<()>
+    ensures added { OnOk result (map with_nothing scopes.new.items ≡ map with_nothing scopes.old.items ++ with_scope id distance parameters []) }
+    ensures kinds { IfErr result (λ e. e.kind ≡ OutOfMemory) }
+{
+    if parameters == 0 {
+        return Ok(());
+    }
+    scopes.push(GenericScope {
+        id,
+        distance,
+        parameters,
+    })?;
+    Ok(())
+}
+
+/// Keeps the sections of a node by its id, where none is kept of that id.
+fn keep_first<'a>(
+    by_id: &mut HashMap<u64, StructReader<'a>>,
+    id: u64,
+    sections: StructReader<'a>,
+) -> Result<()>
+    ensures kept { OnOk result ((q : ℕ) → get nat_eq by_id.new q ≡ first_kept (get nat_eq by_id.old q) (nat_eq id q) sections) }
+    ensures kinds { IfErr result (λ e. e.kind ≡ OutOfMemory) }
+{
+    if by_id.contains_key(&id) {
+        return Ok(());
+    }
+    by_id.insert(id, sections)?;
+    Ok(())
+}
+
 impl<'a> SchemaNodes<'a> {
     /// The nodes of a request.
     pub(crate) fn of_request(
@@ -71,9 +109,7 @@ impl<'a> SchemaNodes<'a> {
         for index in 0..listed.len() {
             let reader = element_at(listed, index, brands::NODE)?;
             let id = u64_at(reader, brands::NODE, NODE_ID);
-            if !by_id.contains_key(&id) {
-                by_id.insert(id, reader.get_sections())?;
-            }
+            keep_first(&mut by_id, id, reader.get_sections())?;
         }
         let set = request.get_schema().get_set();
         let count = listed.len();
@@ -192,19 +228,14 @@ impl<'a> SchemaNodes<'a> {
         let mut id = id;
         for distance in 0..self.count {
             let Some(node) = self.get(id) else {
-                break;
+                return Ok(scopes);
             };
-            if !met.insert(id)? {
-                break;
+            let is_new = met.insert(id)?;
+            if !is_new {
+                return Ok(scopes);
             }
-            let parameters = list_at(node, brands::NODE, NODE_PARAMETERS, brands::PARAMETER)?.len();
-            if parameters > 0 {
-                scopes.push(GenericScope {
-                    id,
-                    distance,
-                    parameters,
-                })?;
-            }
+            let listed = list_at(node, brands::NODE, NODE_PARAMETERS, brands::PARAMETER)?;
+            add_scope(&mut scopes, id, distance, listed.len())?;
             id = u64_at(node, brands::NODE, NODE_SCOPE_ID);
         }
         Ok(scopes)

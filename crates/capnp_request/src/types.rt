@@ -282,7 +282,8 @@ fn brand_list<'a>(place: BrandPlace<'a>) -> Result<dynamic_list::Reader<'a>>
     ensures kinds { IfErr result (λ e. IsPlain e.kind) }
 {
     let brand = struct_at(place.reader, place.holder, place.index, brands::BRAND)?;
-    list_at(brand, brands::BRAND, BRAND_SCOPES, brands::SCOPE)
+    let listed = list_at(brand, brands::BRAND, BRAND_SCOPES, brands::SCOPE)?;
+    Ok(listed)
 }
 
 /// The bindings of a node that is named with a brand inside an entry of these scopes.
@@ -307,7 +308,8 @@ pub(crate) fn bindings_of<'a>(
     ensures kinds { IfErr result (λ e. IsRefusal context.entry.strict e.kind) }
 {
     let generic = context.nodes.generic_scopes(context.alloc, id)?;
-    if generic.is_empty() {
+    let count = generic.len();
+    if count == 0 {
         return Ok(Vec::new(context.alloc));
     }
     let said = brand_list(place)?;
@@ -390,7 +392,8 @@ fn scope_types<'a>(
     ensures numbers { IfOk result (λ _. AreNumbered entries.new) }
     ensures kinds { IfErr result (λ e. IsRefusal context.entry.strict e.kind) }
 {
-    match brand_scope(said, scope.id)? {
+    let found = brand_scope(said, scope.id)?;
+    match found {
         Some(own) => said_types(context, entries, inside, scope, own, seen, depth),
         None => Ok(Vec::new(context.alloc)),
     }

@@ -4,12 +4,14 @@ ghost use Rattle.capnp_device.specs.declared.error.ErrorKind.TheVariants.{OutOfM
 ghost use Rattle.capnp_wire.specs.Reading.{refusal};
 ghost use Rattle.capnp_wire.specs.Message.{builder_tree};
 ghost use Rattle.capnp_wire.specs.Standing.{tree_of};
+ghost use Rattle.capnp_wire.specs.WellFormed.{IsWellFormed};
 ghost use Rattle.capnp_wire.specs.Words.{first_fault};
 ghost use Rattle.capnp_base.specs.AnyPointer.{pointer_of};
 ghost use Rattle.capnp_schema.specs.Schema.{seen_value};
 ghost use Rattle.capnp_records.specs.Part.{which_of};
 ghost use Rattle.capnp_dynamic_readers.specs.Seen.{record_seen};
 ghost use Rattle.capnp_request.specs.Handles.{IsRecord};
+ghost use Rattle.capnp_request.specs.ValueMembers.{IsDataMember};
 ghost use Rattle.capnp_request.specs.Conversion.{is_untyped_default};
 ghost use Rattle.capnp_request.specs.Reading.{value_said};
 ghost use Rattle.capnp_request.specs.Refusals.{IsPlain};
@@ -38,6 +40,7 @@ const TABLE_BYTES: usize = 8;
 fn copy_of(alloc: Global, pointer: any_pointer::Reader<'_>) -> Result<Builder>
     ensures read { IfOk result (λ m. builder_tree m ≡ tree_of (pointer_of pointer.entry)) }
     ensures sound { IfOk result (λ _. first_fault (tree_of (pointer_of pointer.entry)) ≡ None) }
+    ensures held { IfOk result (λ _. IsWellFormed (tree_of (pointer_of pointer.entry))) }
     ensures refused { IfErr result (λ e. e.kind ≢ OutOfMemory → option_map refusal (first_fault (tree_of (pointer_of pointer.entry))) ≡ Some e.kind) }
     ensures kinds { IfErr result (λ e. IsPlain e.kind) }
 {
@@ -70,11 +73,12 @@ fn copied(alloc: Global, bytes: &[u8]) -> Result<Vec<u8>>
     Ok(bytes.to_vec(alloc)?)
 }
 
-/// The value of a member that stands in the data section. Floats are their bits. Refused with `UnknownKind` for another
-/// member.
+/// The value of a member that stands in the data section. Floats are their bits. Refused with `UnknownKind` for a member
+/// that is none.
 fn data_value(reader: dynamic_struct::Reader<'_>, member: u16) -> Result<ValueRecord>
     requires is_record { IsRecord 22 reader }
     requires active { which_of (record_seen reader) ≡ Some member }
+    requires data { IsDataMember member }
     ensures read { IfOk result (λ v. value_of (value_said (record_seen reader.entry)) ≡ Ok (seen_value v)) }
     ensures refused { IfErr result (λ e. e.kind ≢ OutOfMemory → value_of (value_said (record_seen reader.entry)) ≡ Err e.kind) }
     ensures kinds { IfErr result (λ e. IsPlain e.kind) }
@@ -97,8 +101,8 @@ fn data_value(reader: dynamic_struct::Reader<'_>, member: u16) -> Result<ValueRe
     }
 }
 
-/// The value of a member that stands behind a pointer. Refused with `UnknownKind` for another member.
-fn pointer_value(
+/// The value of the active member.
+fn member_value(
     alloc: Global,
     reader: dynamic_struct::Reader<'_>,
     member: u16,
@@ -138,7 +142,7 @@ fn pointer_value(
             let null = copied(alloc, &[0; 8])?;
             Ok(ValueRecord::AnyPointer(null))
         }
-        _ => Err(Error::from(ErrorKind::UnknownKind)),
+        _ => data_value(reader, member),
     }
 }
 
@@ -155,10 +159,7 @@ pub(crate) fn value_of(alloc: Global, reader: dynamic_struct::Reader<'_>) -> Res
     let Some(member) = active_member(reader) else {
         return Err(Error::from(ErrorKind::UnknownKind));
     };
-    match member {
-        12 | 13 | 14 | 16 | 17 | 18 => pointer_value(alloc, reader, member),
-        _ => data_value(reader, member),
-    }
+    member_value(alloc, reader, member)
 }
 
 /// Whether a value is an untyped pointer that isn't null.

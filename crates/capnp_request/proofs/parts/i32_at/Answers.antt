@@ -1,8 +1,7 @@
-use Rattle.std.proofs.Common.{ap, refl, ◌∙◌}
+use Rattle.std.proofs.Common.{refl}
 use Rattle.capnp_schema.specs.RequestSet.{request_set}
 use Rattle.capnp_schema.specs.Schema.{field_at}
 use Rattle.capnp_schema.specs.Types.{IntType}
-use Rattle.capnp_dynamic_readers.specs.Seen.{value_seen}
 use Rattle.capnp_request.proofs.Always.{whole_field}
 use Rattle.capnp_request.proofs.Taken.{kind_is}
 use Rattle.capnp_request.proofs.parts.i32_at.Goals as goal
@@ -17,6 +16,3 @@ sure_part-value-requires c = record {
 
 pub int32_of-requires : goal.int32_of-requires
 int32_of-requires c = kind_is request_set (field_at request_set c.args.brand c.args.index).type (IntType 4) c.sure_part-value.result c.sure_part-value.ensures.typed c.requires.field.1
-
-pub returns : goal.returns
-returns c = ap value_seen c.int32_of.ensures ∙ c.sure_part-value.ensures.value

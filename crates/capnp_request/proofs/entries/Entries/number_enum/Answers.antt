@@ -12,6 +12,7 @@ returns-clause-numbers c =
     let count : c.len-number.result ≡ length c.args.self.now.enums.items = first_of (search rules, omega (arith, c.len-number.ensures, c.args.self.now.enums.ok.0)) in
     record {
       structs = numbers.structs;
+      few = numbers.few;
       enums = λ q. number_added nat_eq nat_eq_equiv c.args.self.now.by_id c.insert.new.self c.args.id _ absent c.in_ok-insert.ensures.updates q _ _ _
           (numbers.enums q) (added_enum q c.args.self.now.enums.items c.args.id _ _ c.in_ok-push.ensures.items count) (search rules);
     }

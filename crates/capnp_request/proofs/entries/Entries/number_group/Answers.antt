@@ -2,7 +2,7 @@ use Rattle.std.proofs.Common.{◌≡◌, ◌∙◌, refl, sym, map, List, [], �
 use Rattle.capnp_request.specs.Bindings.{bounds}
 use Rattle.capnp_request.specs.EntriesSeen.{group_entry, seen_entry}
 use Rattle.capnp_request.specs.Work.{Entry}
-use Rattle.capnp_request.proofs.Numbering.{added_group, map_more}
+use Rattle.capnp_request.proofs.Numbering.{added_group, few_more, map_more}
 use Rattle.capnp_request.specs.Numbers.{AreNumbered}
 use Rattle.capnp_request.proofs.entries.Entries.number_group.Goals as goal
 
@@ -15,4 +15,5 @@ returns-clause-numbers c =
     record {
       structs = λ q. numbers.structs q ∙ sym (added_group q.id (bounds q.scopes.items) es _ _ _ _ _ more);
       enums = numbers.enums;
+      few = few_more seen_entry c.args.self.now.structs.items _ _ _ c.in_ok-push.ensures.items c.in_ok-number.ensures.number c.in_ok-number.ensures.bound;
     }
