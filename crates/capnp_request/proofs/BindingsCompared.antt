@@ -119,17 +119,17 @@ same_base b = sym (base_same b b) ∙ same_numbers (kind (base_variant b)) (sche
 
 -- a list of a type that is equal to it, where no more lists are counted
 pub full_lists : (t s : TypeHandle) (q : Bool) → s ≡ list_type t → q ≡ (type_eq.ghosts).eq s t → q ≡ true → 2 ^ 64 - 1 ≤ lists_in (seen_type t)
-full_lists t s q e is yes =
-    let whole : (type_eq.ghosts).eq (list_type t) t ≡ true = ap (λ (x : TypeHandle). (type_eq.ghosts).eq x t) (sym e) ∙ (sym is ∙ yes) in
+full_lists t s q e is holds =
+    let whole : (type_eq.ghosts).eq (list_type t) t ≡ true = ap (λ (x : TypeHandle). (type_eq.ghosts).eq x t) (sym e) ∙ (sym is ∙ holds) in
     let counts : (min (t.list_count + 1) (2 ^ 64 - 1) == t.list_count) ≡ true = and_right ((base_eq.ghosts).eq t.base t.base) (min (t.list_count + 1) (2 ^ 64 - 1) == t.list_count) whole in
     let same : min (t.list_count + 1) (2 ^ 64 - 1) ≡ t.list_count = grind (arith, nat_tests, counts) in
     subst (λ n. 2 ^ 64 - 1 ≤ n) (sym (depth_of t)) (omega (arith, same))
 
 -- and one that isn't
-module _ (t s : TypeHandle) (q : Bool) (e : s ≡ list_type t) (is : q ≡ (type_eq.ghosts).eq s t) (no : q ≡ false) (fits : t.list_count < 2 ^ 64) where
+module _ (t s : TypeHandle) (q : Bool) (e : s ≡ list_type t) (is : q ≡ (type_eq.ghosts).eq s t) (fails : q ≡ false) (fits : t.list_count < 2 ^ 64) where
   counted : t.list_count < 2 ^ 64 - 1
   counted =
-      let whole : (type_eq.ghosts).eq (list_type t) t ≡ false = ap (λ (x : TypeHandle). (type_eq.ghosts).eq x t) (sym e) ∙ (sym is ∙ no) in
+      let whole : (type_eq.ghosts).eq (list_type t) t ≡ false = ap (λ (x : TypeHandle). (type_eq.ghosts).eq x t) (sym e) ∙ (sym is ∙ fails) in
       let counts : (min (t.list_count + 1) (2 ^ 64 - 1) == t.list_count) ≡ false = and_false ((base_eq.ghosts).eq t.base t.base) (min (t.list_count + 1) (2 ^ 64 - 1) == t.list_count) (same_base t.base) whole in
       let other : min (t.list_count + 1) (2 ^ 64 - 1) ≡ t.list_count → ⊥ = λ same. differ counts same in
       omega (arith, fits, other)

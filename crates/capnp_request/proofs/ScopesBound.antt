@@ -1,9 +1,10 @@
 -- What brands bind to scopes: the scopes of a brand and bindings in a row, one more at a time.
-use Rattle.std.proofs.Common.{ℕ, ◌+◌, ◌-◌, ◌<◌, ◌≤◌, ◌≡◌, ◌≢◌, ◌⊎◌, inl, inr, min, ◌∙◌, ap, arith, pos, refl, sym, zero, suc, ◌==◌, Bool, true, false, List, [], ◌∷◌, ◌++◌, length, map, take, drop, Option, Some, None, Result, Ok, Err}
+use Rattle.std.proofs.Common.{ℕ, ◌+◌, ◌-◌, ◌<◌, ◌≤◌, ◌≡◌, ◌≢◌, ◌⊎◌, inl, inr, min, ◌∙◌, ap, arith, pos, refl, sym, zero, suc, ◌==◌, Bool, true, false, List, [], ◌∷◌, ◌++◌, length, map, take, drop, cond, slice_get, Option, Some, None, Result, Ok, Err}
 use Rattle.std.proofs.lemmas.Bool.Decides.{nat_tests}
-use Rattle.std.proofs.lemmas.List.{append-nil}
+use Rattle.std.proofs.lemmas.List.{append-nil, map-append}
 use Rattle.capnp_device.specs.declared.error.ErrorKind.{ErrorKind}
-use Rattle.capnp_schema.specs.Types.{SchemaType, VoidType, BoolType, IntType, UIntType, EnumType, TextType, DataType, StructType, ListType, AnyPointerType}
+use Rattle.capnp_schema.specs.Types.{SchemaType, VoidType, BoolType, IntType, UIntType, EnumType, TextType, DataType, StructType, ListType, AnyPointerType, seen_type}
+use Rattle.capnp_base.specs.declared.introspect.«Type».{«Type» as TypeHandle}
 use Rattle.capnp_records.specs.Record as value
 use Rattle.capnp_records.specs.Record.{Record, Value}
 use Rattle.capnp_dynamic_readers.specs.Reads.{element_seen}
@@ -53,10 +54,10 @@ module _ (inner : Record → TypeTerm) (l : ListHandle) (i : ℕ) (id : ℕ) whe
           ∙ ap (λ (v : Value). says_or (number_in v == id) (scope_said inner r) (scope_in (scopes_said inner (values_left l (i + 1))) id)) (sym number))
 
       pub scope_next : x ≢ id → scope_in (scopes_said inner (values_left l i)) id ≡ scope_in (scopes_said inner (values_left l (i + 1))) id
-      scope_next other = scope_more ∙ ap (λ q. says_or q (scope_said inner r) (scope_in (scopes_said inner (values_left l (i + 1))) id)) (let no : (x == id) ≡ false = grind (arith, nat_tests, other) in no)
+      scope_next other = scope_more ∙ ap (λ q. says_or q (scope_said inner r) (scope_in (scopes_said inner (values_left l (i + 1))) id)) (let differs : (x == id) ≡ false = grind (arith, nat_tests, other) in differs)
 
       pub scope_here : x ≡ id → scope_in (scopes_said inner (values_left l i)) id ≡ Ok (Some (scope_said inner r))
-      scope_here same = scope_more ∙ ap (λ q. says_or q (scope_said inner r) (scope_in (scopes_said inner (values_left l (i + 1))) id)) (let yes : (x == id) ≡ true = grind (arith, nat_tests, same) in yes)
+      scope_here same = scope_more ∙ ap (λ q. says_or q (scope_said inner r) (scope_in (scopes_said inner (values_left l (i + 1))) id)) (let equals : (x == id) ≡ true = grind (arith, nat_tests, same) in equals)
 
 -- ---- bindings in a row ----
 
@@ -143,6 +144,31 @@ trim_other [] DataType e = refl
 trim_other [] (StructType number generic) e = refl
 trim_other [] (ListType element) e = refl
 trim_other (y ∷ xs) x e = ap (with_type y) (trim_other xs x e) ∙ before_one y x xs
+
+take_one : (xs : List TypeHandle) (i : ℕ) (x : TypeHandle) → slice_get xs i ≡ Some x → take (suc i) xs ≡ take i xs ++ x ∷ []
+take_one [] i x e = cc
+take_one (y ∷ xs) zero x e = let h : y ≡ x = cc in ap (λ (z : TypeHandle). z ∷ []) h
+take_one (y ∷ xs) (suc i) x e = ap (λ (zs : List TypeHandle). y ∷ zs) (take_one xs i x e)
+
+-- one type more, and how many are kept of them
+pub kept_more : (items : List TypeHandle) (i kept next : ℕ) (x : TypeHandle) → slice_get items i ≡ Some x → without_untyped (map seen_type (take i items)) ≡ map seen_type (take kept items) → next ≡ cond (is_untyped (seen_type x)) kept (i + 1) →
+    without_untyped (map seen_type (take (i + 1) items)) ≡ map seen_type (take next items)
+kept_more items i kept next x there so_far is = go (is_untyped (seen_type x)) refl
+  where
+    more : map seen_type (take (i + 1) items) ≡ map seen_type (take i items) ++ seen_type x ∷ []
+    more =
+        let e : i + 1 ≡ suc i = omega arith in
+        ap (λ n. map seen_type (take n items)) e ∙ (ap (map seen_type) (take_one items i x there) ∙ map-append seen_type (take i items) (x ∷ []))
+
+    go : (q : Bool) → is_untyped (seen_type x) ≡ q → without_untyped (map seen_type (take (i + 1) items)) ≡ map seen_type (take next items)
+    go true holds =
+        ap without_untyped more
+        ∙ (trim_any (map seen_type (take i items)) (seen_type x) holds
+        ∙ (so_far ∙ ap (λ n. map seen_type (take n items)) (sym (is ∙ ap (λ q. cond q kept (i + 1)) holds))))
+    go false fails =
+        ap without_untyped more
+        ∙ (trim_other (map seen_type (take i items)) (seen_type x) fails
+        ∙ (sym more ∙ ap (λ n. map seen_type (take n items)) (sym (is ∙ ap (λ q. cond q kept (i + 1)) fails))))
 
 -- ---- the scopes of a node ----
 

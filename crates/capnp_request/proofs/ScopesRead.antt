@@ -46,26 +46,26 @@ module _ {S : Type 0} (nodes : List SchemaNode) (first : ℕ) where
         go (suc n) q = ap (at_id n (is_met h.ids id)) (sym e) ∙ at n (is_met h.ids id)
 
     pub met_again : (added : Bool) → added ≡ not (contains nat_eq met id) → added ≡ false → scopes_of nodes first ≡ Ok (map with_nothing scopes)
-    met_again added is no = ended (go left)
+    met_again added is fails = ended (go left)
       where
-        yes : (q : Bool) → false ≡ not q → q ≡ true
-        yes true e = refl
-        yes false e = cc
+        was_there : (q : Bool) → false ≡ not q → q ≡ true
+        was_there true e = refl
+        was_there false e = cc
 
         there : is_met h.ids id ≡ true
-        there = sym (h.are_met id) ∙ yes (contains nat_eq met id) (sym no ∙ is)
+        there = sym (h.are_met id) ∙ was_there (contains nat_eq met id) (sym fails ∙ is)
 
         go : (n : ℕ) → scopes_from n nodes h.ids distance id ≡ Ok []
         go zero = refl
         go (suc n) = ap (λ q. at_id n q (node_named nodes id)) there
 
-    module _ (n : SchemaNode) (named : Some n ≡ node_named nodes id) (added : Bool) (is : added ≡ not (contains nat_eq met id)) (yes : added ≡ true) (steps : ℕ) (one : left ≡ suc steps) where
+    module _ (n : SchemaNode) (named : Some n ≡ node_named nodes id) (added : Bool) (is : added ≡ not (contains nat_eq met id)) (holds : added ≡ true) (steps : ℕ) (one : left ≡ suc steps) where
       new : is_met h.ids id ≡ false
-      new = sym (h.are_met id) ∙ no (contains nat_eq met id) (sym yes ∙ is)
+      new = sym (h.are_met id) ∙ was_new (contains nat_eq met id) (sym holds ∙ is)
         where
-          no : (q : Bool) → true ≡ not q → q ≡ false
-          no true e = cc
-          no false e = refl
+          was_new : (q : Bool) → true ≡ not q → q ≡ false
+          was_new true e = cc
+          was_new false e = refl
 
       step : scopes_from left nodes h.ids distance id ≡ and_scope id distance n.parameters (scopes_from steps nodes (id ∷ h.ids) (distance + 1) n.scope)
       step = ap (λ m. scopes_from m nodes h.ids distance id) one ∙ (ap (λ q. at_id steps q (node_named nodes id)) new ∙ ap (at_id steps false) (sym named))

@@ -51,7 +51,7 @@ plain_by levels depth r m t deep which plain = type_by levels depth r m m deep w
 pub past_by : (levels depth : ℕ) (r : Record) (m : ℕ) → depth ≡ suc levels → which_of r ≡ Some m → 19 ≤ m → type_said depth r ≡ UnreadType UnknownKind
 past_by levels depth r m deep which past =
     type_by levels depth r m m deep which refl
-    ∙ ap (λ o. unwrap_or o (λ (v : Value). UnreadType UnknownKind) (read_at 13 m r)) (slice_get_past (type_kinds (type_said levels)) m past)
+    ∙ ap (λ (o : Option (Value → TypeTerm)). unwrap_or o (λ (v : Value). UnreadType UnknownKind) (read_at 13 m r)) (slice_get_past (type_kinds (type_said levels)) m past)
 
 -- ---- work on a term ----
 
@@ -150,7 +150,7 @@ module _ (nodes : List SchemaNode) (strict : Bool) (inside : List Bound) where
           ∙ (ap (λ x. Ok (bound_to inside (number_in x) (number_in (read_at 18 1 q)), s)) (sym first) ∙ (ap (λ x. Ok (bound_to inside scope (number_in x), s)) (sym second) ∙ ap (λ y. Ok (y, s)) (sym same)))
 
       pub untyped_past : 3 ≤ m → work (untyped_term v) s ≡ Err UnknownKind
-      untyped_past past = ap (λ k. work k s) (untyped_by m refl ∙ ap (λ o. unwrap_or o (λ (u : Value). UnreadType UnknownKind) (read_at 17 m p)) (slice_get_past untyped_kinds m past))
+      untyped_past past = ap (λ k. work k s) (untyped_by m refl ∙ ap (λ (o : Option (Value → TypeTerm)). unwrap_or o (λ (u : Value). UnreadType UnknownKind) (read_at 17 m p)) (slice_get_past untyped_kinds m past))
 
   -- bindings
   module _ (inner : Record → TypeTerm) (r : Record) (s : Named) where
@@ -173,7 +173,7 @@ module _ (nodes : List SchemaNode) (strict : Bool) (inside : List Bound) where
       binding_unread is kind there = ap (λ k. work k s) (binding_by 1 is ∙ ap (type_in inner) (sym there))
 
       pub binding_past : 2 ≤ m → work (binding_said inner r) s ≡ Err UnknownKind
-      binding_past past = ap (λ k. work k s) (binding_by m refl ∙ ap (λ o. unwrap_or o (λ (u : Value). UnreadType UnknownKind) (read_at 21 m r)) (slice_get_past (binding_kinds inner) m past))
+      binding_past past = ap (λ k. work k s) (binding_by m refl ∙ ap (λ (o : Option (Value → TypeTerm)). unwrap_or o (λ (u : Value). UnreadType UnknownKind) (read_at 21 m r)) (slice_get_past (binding_kinds inner) m past))
 
   -- scopes of brands
   module _ (inner : Record → TypeTerm) (r : Record) (scope : Bound) (s : Named) where
@@ -223,15 +223,17 @@ module _ (nodes : List SchemaNode) (strict : Bool) (inside : List Bound) where
   by_found (Ok None) scope s = Ok ([], s)
   by_found (Err kind) scope s = Err kind
 
+  brand_one : (says : ScopeTerm) (rest : BrandTerm) (scope : Bound) (s : Named) → brand_types nodes strict inside rest scope s ≡ by_found (scope_in rest scope.scope) scope s → (q : Bool) →
+      where_else q (scope_types nodes strict inside says scope s) (brand_types nodes strict inside rest scope s) ≡ by_found (says_or q says (scope_in rest scope.scope)) scope s
+  unfolding by_found
+  brand_one says rest scope s e true = refl
+  brand_one says rest scope s e false = e
+
   brand_by : (brand : BrandTerm) (scope : Bound) (s : Named) → brand_types nodes strict inside brand scope s ≡ by_found (scope_in brand scope.scope) scope s
   unfolding by_found
   brand_by NoScopes scope s = refl
   brand_by (UnreadBrand kind) scope s = refl
-  brand_by (MoreScopes id says rest) scope s = go (id == scope.scope)
-    where
-      go : (q : Bool) → where_else q (scope_types nodes strict inside says scope s) (brand_types nodes strict inside rest scope s) ≡ by_found (says_or q says (scope_in rest scope.scope)) scope s
-      go true = refl
-      go false = brand_by rest scope s
+  brand_by (MoreScopes id says rest) scope s = brand_one says rest scope s (brand_by rest scope s) (id == scope.scope)
 
   pub brand_none : (brand : BrandTerm) (scope : Bound) (s : Named) → scope_in brand scope.scope ≡ Ok None → brand_types nodes strict inside brand scope s ≡ Ok ([], s)
   unfolding by_found

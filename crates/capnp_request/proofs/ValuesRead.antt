@@ -62,7 +62,7 @@ value_none r which = ap (λ o. value_of (by_member (UnreadValue UnknownKind) val
 pub value_past : (r : Record) (m : ℕ) → which_of r ≡ Some m → 19 ≤ m → value_of (value_said r) ≡ Err UnknownKind
 value_past r m which past =
     ap value_of (said_so r m m which refl)
-    ∙ ap (λ o. value_of (unwrap_or o (λ (v : RecordValue). UnreadValue UnknownKind) (read_at 22 m r))) (slice_get_past value_kinds m past)
+    ∙ ap (λ (o : Option (RecordValue → ValueTerm)). value_of (unwrap_or o (λ (v : RecordValue). UnreadValue UnknownKind) (read_at 22 m r))) (slice_get_past value_kinds m past)
 
 -- ---- the words of a message that was written ----
 

@@ -28,13 +28,13 @@ pub nothing_done : {B : Type 0} (r : Result (List B × Named) ErrorKind) → r �
 nothing_done (Ok p) = refl
 nothing_done (Err kind) = refl
 
-module _ {A B : Type 0} (f : A → Work B) (ys : List B) where
-  pub more_done : (y : B) (r : Result (List B × Named) ErrorKind) → prefixed ys (continued (λ zs. given (y ∷ zs)) r) ≡ prefixed (ys ++ y ∷ []) r
-  more_done y (Ok p) = ap (λ (zs : List B). Ok (zs, p.1)) (sym (append_assoc ys (y ∷ []) p.0))
-  more_done y (Err kind) = refl
+pub more_done : {B : Type 0} (ys : List B) (y : B) (r : Result (List B × Named) ErrorKind) → prefixed ys (continued (λ zs. given (y ∷ zs)) r) ≡ prefixed (ys ++ y ∷ []) r
+more_done {B = B} ys y (Ok p) = ap (λ (zs : List B). Ok (zs, p.1)) (sym (append_assoc ys (y ∷ []) p.0))
+more_done ys y (Err kind) = refl
 
+module _ {A B : Type 0} (f : A → Work B) (ys : List B) where
   pub step_ok : (x : A) (xs : List A) (y : B) (s t : Named) → f x s ≡ Ok (y, t) → prefixed ys (each f (x ∷ xs) s) ≡ prefixed (ys ++ y ∷ []) (each f xs t)
-  step_ok x xs y s t e = ap (λ r. prefixed ys (continued (λ y. each f xs >>= (λ zs. given (y ∷ zs))) r)) e ∙ more_done y (each f xs t)
+  step_ok x xs y s t e = ap (λ r. prefixed ys (continued (λ y. each f xs >>= (λ zs. given (y ∷ zs))) r)) e ∙ more_done ys y (each f xs t)
 
   pub step_err : (x : A) (xs : List A) (s : Named) (kind : ErrorKind) → f x s ≡ Err kind → prefixed ys (each f (x ∷ xs) s) ≡ Err kind
   step_err x xs s kind e = ap (λ r. prefixed ys (continued (λ y. each f xs >>= (λ zs. given (y ∷ zs))) r)) e

@@ -1,5 +1,5 @@
 //! Fields, as a request says them.
-ghost use Rattle.std.specs.Prelude.{◌≡◌, length, Some, IfErr, IfOk};
+ghost use Rattle.std.specs.Prelude.{◌≡◌, ◌&&◌, length, Some, IfErr, IfOk};
 ghost use Rattle.capnp_records.specs.Part.{which_of};
 ghost use Rattle.capnp_dynamic_readers.specs.Seen.{record_seen};
 ghost use Rattle.capnp_request.specs.Bindings.{bounds};
@@ -48,6 +48,16 @@ struct ConvertedKind {
     seen: Seen,
 }
 
+/// Whether both hold.
+fn both(first: bool, second: bool) -> bool
+    ensures { result ≡ (first && second) }
+{
+    if first {
+        return second;
+    }
+    false
+}
+
 /// A slot at its place in an entry of these scopes.
 fn slot_of<'a>(
     context: Context<'_, 'a>,
@@ -74,7 +84,9 @@ fn slot_of<'a>(
     let field_type = type_of(context, entries, inside, term, &mut seen, levels)?;
     let value = struct_at(slot, brands::SLOT, SLOT_DEFAULT, brands::VALUE)?;
     let default = value_of(context.alloc, value)?;
-    seen.untyped_default = is_untyped(field_type) && is_untyped_value(value);
+    let is_free = is_untyped(field_type);
+    let is_there = is_untyped_value(value);
+    seen.untyped_default = both(is_free, is_there);
     Ok(ConvertedKind {
         kind: FieldKind::Slot { offset, default },
         field_type,

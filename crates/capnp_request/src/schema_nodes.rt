@@ -82,7 +82,7 @@ fn keep_first<'a>(
     id: u64,
     sections: StructReader<'a>,
 ) -> Result<()>
-    ensures kept { OnOk result ((q : ℕ) → get nat_eq by_id.new q ≡ first_kept (get nat_eq by_id.old q) (nat_eq id q) sections) }
+    ensures kept { OnOk result ((q : ℕ) → get nat_eq by_id.new q ≡ first_kept (get nat_eq by_id.old q) (nat_eq id q) sections.entry) }
     ensures kinds { IfErr result (λ e. e.kind ≡ OutOfMemory) }
 {
     if by_id.contains_key(&id) {

@@ -1,5 +1,5 @@
 //! Types, as a request says them, with the bindings of their brands.
-ghost use Rattle.std.specs.Prelude.{ℕ, List, Bool, ◌≡◌, ◌≢◌, ◌<◌, ◌≤◌, ◌-◌, ◌^◌, false, map, option_map, [], IfErr, IfOk, IfSome, Ok, Err, Some};
+ghost use Rattle.std.specs.Prelude.{ℕ, List, Bool, cond, ◌≡◌, ◌≢◌, ◌<◌, ◌≤◌, ◌-◌, ◌^◌, false, map, option_map, [], IfErr, IfOk, IfSome, Ok, Err, Some};
 ghost use Rattle.capnp_device.specs.declared.error.ErrorKind.TheVariants.{OutOfMemory, TooManyTypes};
 ghost use Rattle.capnp_base.specs.Types.{type_from};
 ghost use Rattle.capnp_schema.specs.RequestSet.{request_set};
@@ -9,6 +9,7 @@ ghost use Rattle.capnp_records.specs.Part.{which_of};
 ghost use Rattle.capnp_records.specs.Record.{Record};
 ghost use Rattle.capnp_dynamic_readers.specs.Seen.{record_seen};
 ghost use Rattle.capnp_request.specs.Bindings.{bounds, flags, with_nothing};
+ghost use Rattle.capnp_request.specs.Conversion.{is_untyped};
 ghost use Rattle.capnp_request.specs.Done.{IsDone, IsSaid, so_far};
 ghost use Rattle.capnp_request.specs.Handles.{IsField, IsListOf, IsRecord, values_left};
 ghost use Rattle.capnp_request.specs.Meant.{IsPlainOr, float_type, scope_in};
@@ -355,7 +356,8 @@ fn brand_scope<'a>(
 {
     for index in 0..said.len() {
         let scope = element_at(said, index, brands::SCOPE)?;
-        if u64_at(scope, brands::SCOPE, SCOPE_ID) == id {
+        let scope_id = u64_at(scope, brands::SCOPE, SCOPE_ID);
+        if scope_id == id {
             return Ok(Some(scope));
         }
     }
@@ -493,15 +495,24 @@ fn binding_type<'a>(
     }
 }
 
+/// How many types are kept, where one more is looked at.
+fn kept_with(t: Type, kept: usize, with_it: usize) -> usize
+    ensures { result ≡ cond (is_untyped (seen_type t)) kept with_it }
+{
+    if is_untyped(t) {
+        return kept;
+    }
+    with_it
+}
+
 /// Drops the untyped pointers at the end.
 fn drop_untyped(types: &mut Vec<Type>)
     ensures { map seen_type types.new.items ≡ without_untyped (map seen_type types.old.items) }
 {
     let mut kept = 0;
     for index in 0..types.len() {
-        if !is_untyped(types[index]) {
-            kept = index + 1;
-        }
+        let looked_at = types[index];
+        kept = kept_with(looked_at, kept, index + 1);
     }
     types.truncate(kept);
 }

@@ -1,4 +1,4 @@
-use Rattle.std.proofs.Common.{◌+◌, ◌<◌, ◌≤◌, ◌≡◌, ◌∙◌, arith, ap, refl, sym, map, Err, Ok, Some, List, [], ◌∷◌, ◌++◌}
+use Rattle.std.proofs.Common.{◌&&◌, ◌+◌, ◌<◌, ◌≤◌, ◌≡◌, ◌∙◌, arith, ap, refl, sym, map, Err, Ok, Some, List, [], ◌∷◌, ◌++◌}
 use Rattle.capnp_schema.specs.Schema.{Annotation, seen_annotation, seen_value}
 use Rattle.capnp_schema.specs.Types.{SchemaType, seen_type}
 use Rattle.capnp_dynamic_readers.specs.Seen.{list_seen, record_seen}
@@ -36,4 +36,4 @@ returns-in_err-default-clause-done c =
 
 pub returns-clause-done : goal.returns-clause-done
 returns-clause-done c =
-    slot_done (nodes_of c.args.context.nodes.now) c.args.context.strict (bounds c.args.inside.now) c.args.place.parent c.args.place.field (read_at 8 3 (record_seen c.args.field)) (record_seen c.group_at-slot.result) c.u32_at-offset.result c.group_at-slot.ensures.read c.u32_at-offset.ensures (numbered c.args.entries.now) (record_seen c.in_ok-term.term) c.in_ok-term.ensures.read c.levels_of_types-levels.result c.levels_of_types-levels.ensures (seen_type c.in_ok-field_type.field_type) (numbered c.type_of.new.entries) (flags c.type_of.new.seen) ((ap (λ s. type_of (nodes_of c.args.context.nodes.now) c.args.context.strict (bounds c.args.inside.now) (type_said c.levels_of_types-levels.result (record_seen c.in_ok-term.term)) (named (numbered c.args.entries.now) s)) (sym c.nothing-seen.ensures.seen)) ∙ c.in_ok-field_type.ensures.done) (record_seen c.in_ok-value.value) c.in_ok-value.ensures.read (seen_value c.in_ok-default.default) _ c.in_ok-default.ensures.read ?
+    slot_done (nodes_of c.args.context.nodes.now) c.args.context.strict (bounds c.args.inside.now) c.args.place.parent c.args.place.field (read_at 8 3 (record_seen c.args.field)) (record_seen c.group_at-slot.result) c.u32_at-offset.result c.group_at-slot.ensures.read c.u32_at-offset.ensures (numbered c.args.entries.now) (record_seen c.in_ok-term.term) c.in_ok-term.ensures.read c.levels_of_types-levels.result c.levels_of_types-levels.ensures (seen_type c.in_ok-field_type.field_type) (numbered c.type_of.new.entries) (flags c.type_of.new.seen) ((ap (λ s. type_of (nodes_of c.args.context.nodes.now) c.args.context.strict (bounds c.args.inside.now) (type_said c.levels_of_types-levels.result (record_seen c.in_ok-term.term)) (named (numbered c.args.entries.now) s)) (sym c.nothing-seen.ensures.seen)) ∙ c.in_ok-field_type.ensures.done) (record_seen c.in_ok-value.value) c.in_ok-value.ensures.read (seen_value c.in_ok-default.default) c.both.result c.in_ok-default.ensures.read (c.both.ensures ∙ (λ i. c.is_untyped-is_free.ensures i && sym c.is_untyped_value-is_there.ensures i))

@@ -27,10 +27,10 @@ pub type_of-returns-then-depth-eq0-clause-done : goal.type_of-returns-then-depth
 type_of-returns-then-depth-eq0-clause-done t c =
     λ n. ap (λ k. type_of (nodes_of c.args.context.nodes.now) c.args.context.strict (bounds c.args.inside.now) k (so_far c.args.entries.now c.args.seen.now)) (by_depth c.args.depth (record_seen c.args.term) c.if-depth-eq0.true) ∙ ap (λ k. Err k) (sym c.from.ensures)
 
-pub type_of-returns-in_default-member-clause-done : goal.type_of-returns-in_default-member-clause-done
-type_of-returns-in_default-member-clause-done t c =
+pub type_of-returns-in_default-clause-done : goal.type_of-returns-in_default-clause-done
+type_of-returns-in_default-clause-done t c =
     let deep : c.args.depth ≡ suc (c.args.depth - 1) = omega (arith, c.if-depth-eq0.false) in
-    λ n. ap (λ k. type_of (nodes_of c.args.context.nodes.now) c.args.context.strict (bounds c.args.inside.now) k (so_far c.args.entries.now c.args.seen.now)) (by_none (c.args.depth - 1) c.args.depth (record_seen c.args.term) deep (sym c.active_member.ensures ∙ c.in_default-member.is)) ∙ ap (λ k. Err k) (sym c.from-in_default-member.ensures)
+    λ n. ap (λ k. type_of (nodes_of c.args.context.nodes.now) c.args.context.strict (bounds c.args.inside.now) k (so_far c.args.entries.now c.args.seen.now)) (by_none (c.args.depth - 1) c.args.depth (record_seen c.args.term) deep (sym c.active_member.ensures ∙ c.in_default.is)) ∙ ap (λ k. Err k) (sym c.from-in_default-member.ensures)
 
 pub type_of-returns-in-Some-plain_type-clause-done : goal.type_of-returns-in-Some-plain_type-clause-done
 type_of-returns-in-Some-plain_type-clause-done t c =
@@ -80,8 +80,8 @@ type_of-returns-in-18-clause-done t c =
     let which : which_of (record_seen c.args.term) ≡ Some c.in-Some.member = sym c.active_member.ensures ∙ c.in-Some.is in
     term_done (nodes_of c.args.context.nodes.now) c.args.context.strict (bounds c.args.inside.now) seen_type (type_said c.args.depth (record_seen c.args.term)) (untyped_term (read_at 13 18 (record_seen c.args.term))) _ _ _ (type_by (c.args.depth - 1) c.args.depth (record_seen c.args.term) c.in-Some.member 18 deep which c.in-18.is) (c.untyped_or_bound.ensures.done (nodes_of c.args.context.nodes.now) c.args.context.strict (so_far c.args.entries.now c.args.seen.now))
 
-pub type_of-returns-in_default-clause-done : goal.type_of-returns-in_default-clause-done
-type_of-returns-in_default-clause-done t c =
+pub type_of-returns-in_default-member-clause-done : goal.type_of-returns-in_default-member-clause-done
+type_of-returns-in_default-member-clause-done t c =
     let deep : c.args.depth ≡ suc (c.args.depth - 1) = omega (arith, c.if-depth-eq0.false) in
     let which : which_of (record_seen c.args.term) ≡ Some c.in-Some.member = sym c.active_member.ensures ∙ c.in-Some.is in
     λ n. ap (λ k. type_of (nodes_of c.args.context.nodes.now) c.args.context.strict (bounds c.args.inside.now) k (so_far c.args.entries.now c.args.seen.now)) (past_by (c.args.depth - 1) c.args.depth (record_seen c.args.term) c.in-Some.member deep which (omega (arith, c.in_default-plain_type.ensures, c.in_default.not-10, c.in_default.not-11, c.in_default.not-14, c.in_default.not-15, c.in_default.not-16, c.in_default.not-17, c.in_default.not-18))) ∙ ap (λ k. Err k) (sym c.from-in_default.ensures)
@@ -145,9 +145,9 @@ pub scope_types-returns-in-None-clause-done : goal.scope_types-returns-in-None-c
 scope_types-returns-in-None-clause-done t c =
     brand_none (nodes_of c.args.context.nodes.now) c.args.context.strict (bounds c.args.inside.now) (scopes_said (type_said c.args.depth) (values_left c.args.said 0)) (with_nothing c.args.scope) (so_far c.args.entries.now c.args.seen.now) (c.in_ok-found.ensures.said (type_said c.args.depth) ∙ ap (λ o. Ok (option_map (λ s. scope_said (type_said c.args.depth) (record_seen s)) o)) c.in-None.is)
 
-pub said_types-returns-in_default-member-clause-done : goal.said_types-returns-in_default-member-clause-done
-said_types-returns-in_default-member-clause-done t c =
-    λ n. scope_none (nodes_of c.args.context.nodes.now) c.args.context.strict (bounds c.args.inside.now) (type_said c.args.depth) (record_seen c.args.own) (with_nothing c.args.scope) (so_far c.args.entries.now c.args.seen.now) (sym c.active_member.ensures ∙ c.in_default-member.is) ∙ ap (λ k. Err k) (sym c.from.ensures)
+pub said_types-returns-in_default-clause-done : goal.said_types-returns-in_default-clause-done
+said_types-returns-in_default-clause-done t c =
+    λ n. scope_none (nodes_of c.args.context.nodes.now) c.args.context.strict (bounds c.args.inside.now) (type_said c.args.depth) (record_seen c.args.own) (with_nothing c.args.scope) (so_far c.args.entries.now c.args.seen.now) (sym c.active_member.ensures ∙ c.in_default.is) ∙ ap (λ k. Err k) (sym c.from.ensures)
 
 pub said_types-returns-in_err-bindings-in-1-clause-done : goal.said_types-returns-in_err-bindings-in-1-clause-done
 said_types-returns-in_err-bindings-in-1-clause-done t c =
@@ -166,13 +166,13 @@ pub said_types-returns-in-2-clause-done : goal.said_types-returns-in-2-clause-do
 said_types-returns-in-2-clause-done t c =
     inherits_end (nodes_of c.args.context.nodes.now) c.args.context.strict (bounds c.args.inside.now) (type_said c.args.depth) (record_seen c.args.own) (with_nothing c.args.scope) (so_far c.args.entries.now c.args.seen.now) c.in-Some.member (sym c.active_member.ensures ∙ c.in-Some.is) (λ types. map seen_type types.items) c.in-2.is c.inherited.result c.inherited.ensures.read c.inherited.ensures.kinds
 
-pub said_types-returns-in_default-clause-done : goal.said_types-returns-in_default-clause-done
-said_types-returns-in_default-clause-done t c =
+pub said_types-returns-in_default-member-clause-done : goal.said_types-returns-in_default-member-clause-done
+said_types-returns-in_default-member-clause-done t c =
     λ n. scope_other (nodes_of c.args.context.nodes.now) c.args.context.strict (bounds c.args.inside.now) (type_said c.args.depth) (record_seen c.args.own) (with_nothing c.args.scope) (so_far c.args.entries.now c.args.seen.now) c.in-Some.member (sym c.active_member.ensures ∙ c.in-Some.is) c.in_default.not-1 c.in_default.not-2 ∙ ap (λ k. Err k) (sym c.from-in_default.ensures)
 
-pub binding_type-returns-in_default-member-clause-done : goal.binding_type-returns-in_default-member-clause-done
-binding_type-returns-in_default-member-clause-done t c =
-    λ n. binding_none (nodes_of c.args.context.nodes.now) c.args.context.strict (bounds c.args.inside.now) (type_said c.args.depth) (record_seen c.args.binding) (so_far c.args.entries.now c.args.seen.now) (sym c.active_member.ensures ∙ c.in_default-member.is) ∙ ap (λ k. Err k) (sym c.from.ensures)
+pub binding_type-returns-in_default-clause-done : goal.binding_type-returns-in_default-clause-done
+binding_type-returns-in_default-clause-done t c =
+    λ n. binding_none (nodes_of c.args.context.nodes.now) c.args.context.strict (bounds c.args.inside.now) (type_said c.args.depth) (record_seen c.args.binding) (so_far c.args.entries.now c.args.seen.now) (sym c.active_member.ensures ∙ c.in_default.is) ∙ ap (λ k. Err k) (sym c.from.ensures)
 
 pub binding_type-returns-in-0-clause-done : goal.binding_type-returns-in-0-clause-done
 binding_type-returns-in-0-clause-done t c =
@@ -186,13 +186,14 @@ pub binding_type-returns-in_ok-term-in-1-clause-done : goal.binding_type-returns
 binding_type-returns-in_ok-term-in-1-clause-done t c =
     term_done (nodes_of c.args.context.nodes.now) c.args.context.strict (bounds c.args.inside.now) seen_type (binding_said (type_said c.args.depth) (record_seen c.args.binding)) (type_said c.args.depth (record_seen c.in_ok-term-in-1.term)) _ _ _ (binding_is (nodes_of c.args.context.nodes.now) c.args.context.strict (bounds c.args.inside.now) (type_said c.args.depth) (record_seen c.args.binding) (so_far c.args.entries.now c.args.seen.now) c.in-Some.member (sym c.active_member.ensures ∙ c.in-Some.is) c.in-1.is (record_seen c.in_ok-term-in-1.term) c.in_ok-term-in-1.ensures.read) c.type_of.ensures.done
 
-pub binding_type-returns-in_default-clause-done : goal.binding_type-returns-in_default-clause-done
-binding_type-returns-in_default-clause-done t c =
+pub binding_type-returns-in_default-member-clause-done : goal.binding_type-returns-in_default-member-clause-done
+binding_type-returns-in_default-member-clause-done t c =
     λ n. binding_past (nodes_of c.args.context.nodes.now) c.args.context.strict (bounds c.args.inside.now) (type_said c.args.depth) (record_seen c.args.binding) (so_far c.args.entries.now c.args.seen.now) c.in-Some.member (sym c.active_member.ensures ∙ c.in-Some.is) (omega (arith, c.in_default.not-0, c.in_default.not-1)) ∙ ap (λ k. Err k) (sym c.from-in_default.ensures)
 
 pub bound_types-loop-index-init : goal.bound_types-loop-index-init
 bound_types-loop-index-init t c =
-    record { numbers = c.requires.numbers; below = omega arith; done = nothing_done _ }
+    let e : c.args.parameters ≡ c.args.parameters - 0 = omega arith in
+    record { numbers = c.requires.numbers; below = omega arith; done = nothing_done _ ∙ ap (λ n. prefixed [] (binding_types (nodes_of c.args.context.nodes.now) c.args.context.strict (bounds c.args.inside.now) (bindings_said (type_said c.args.depth) (values_left c.args.bindings 0)) n (so_far c.args.entries.now c.args.seen.now))) e }
 
 pub bound_types-returns-in_err-binding-clause-done : goal.bound_types-returns-in_err-binding-clause-done
 bound_types-returns-in_err-binding-clause-done t c =

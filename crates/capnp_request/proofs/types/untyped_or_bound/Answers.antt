@@ -4,9 +4,9 @@ use Rattle.capnp_request.specs.Bindings.{bounds}
 use Rattle.capnp_request.proofs.TypesDone.{untyped_bound, untyped_free, untyped_method, untyped_none, untyped_past}
 use Rattle.capnp_request.proofs.types.untyped_or_bound.Goals as goal
 
-pub returns-in_default-member-clause-done : goal.returns-in_default-member-clause-done
-returns-in_default-member-clause-done c = λ nodes strict s n.
-    untyped_none nodes strict (bounds c.args.inside.now) _ (record_seen c.group_at-pointer.result) c.group_at-pointer.ensures.read s (sym c.active_member.ensures ∙ c.in_default-member.is) ∙ ap (λ k. Err k) (sym c.from.ensures)
+pub returns-in_default-clause-done : goal.returns-in_default-clause-done
+returns-in_default-clause-done c = λ nodes strict s n.
+    untyped_none nodes strict (bounds c.args.inside.now) _ (record_seen c.group_at-pointer.result) c.group_at-pointer.ensures.read s (sym c.active_member.ensures ∙ c.in_default.is) ∙ ap (λ k. Err k) (sym c.from.ensures)
 
 pub returns-in-0-clause-done : goal.returns-in-0-clause-done
 returns-in-0-clause-done c = λ nodes strict s.
@@ -21,7 +21,7 @@ returns-in-1-clause-done c = λ nodes strict s.
     untyped_bound nodes strict (bounds c.args.inside.now) _ (record_seen c.group_at-pointer.result) c.group_at-pointer.ensures.read s c.in-Some.member (sym c.active_member.ensures ∙ c.in-Some.is) _ c.in-1.is
     (record_seen c.group_at-parameter.result) c.u64_at-scope.result c.u16_at-index.result c.group_at-parameter.ensures.read c.u64_at-scope.ensures c.u16_at-index.ensures c.bound_to.ensures
 
-pub returns-in_default-clause-done : goal.returns-in_default-clause-done
-returns-in_default-clause-done c = λ nodes strict s n.
+pub returns-in_default-member-clause-done : goal.returns-in_default-member-clause-done
+returns-in_default-member-clause-done c = λ nodes strict s n.
     untyped_past nodes strict (bounds c.args.inside.now) _ (record_seen c.group_at-pointer.result) c.group_at-pointer.ensures.read s c.in-Some.member (sym c.active_member.ensures ∙ c.in-Some.is)
-    (omega (arith, c.in_default.not-0, c.in_default.not-1, c.in_default.not-2)) ∙ ap (λ k. Err k) (sym c.from-in_default.ensures)
+    (omega arith) ∙ ap (λ k. Err k) (sym c.from-in_default-member.ensures)

@@ -46,6 +46,5 @@ returns-in-15-clause-read c = ap value_of (said_by (record_seen c.args.reader) c
 pub returns-in_default-clause-refused : goal.returns-in_default-clause-refused
 returns-in_default-clause-refused c = λ n.
     value_past (record_seen c.args.reader) c.args.member c.requires.active
-    (omega (arith, c.in_default.not-0, c.in_default.not-1, c.in_default.not-2, c.in_default.not-3, c.in_default.not-4, c.in_default.not-5, c.in_default.not-6, c.in_default.not-7, c.in_default.not-8, c.in_default.not-9, c.in_default.not-10, c.in_default.not-11, c.in_default.not-15,
-    c.requires.data.text, c.requires.data.blob, c.requires.data.list, c.requires.data.inner, c.requires.data.interface, c.requires.data.untyped))
+    (omega (arith, c.requires.data.text, c.requires.data.blob, c.requires.data.list, c.requires.data.inner, c.requires.data.interface, c.requires.data.untyped))
     ∙ ap (λ k. Err k) (sym c.from.ensures)

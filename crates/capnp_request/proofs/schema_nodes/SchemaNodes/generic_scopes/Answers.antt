@@ -23,7 +23,7 @@ returns-in_err-listed-clause-refused c =
 pub loop-distance-preserved : goal.loop-distance-preserved
 loop-distance-preserved c =
     one_out (nodes_of c.args.self.now) c.args.id c.loop-distance.scopes.items c.loop-distance.met (c.args.self.now.count - c.loop-distance.distance) c.loop-distance.distance c.loop-distance.id c.loop-distance.invariant (node_said (record_seen c.in-Some.node)) c.in-Some.ensures.read c.in_ok-is_new.is_new c.in_ok-is_new.ensures.added c.if-not-is_new.false (c.args.self.now.count - (c.loop-distance.distance + 1)) (omega arith)
-    c.insert-is_new.new.self c.in_ok-is_new.ensures.updates c.u64_at-id.result (scope_read (record_seen c.in-Some.node) c.u64_at-id.result c.u64_at-id.ensures)
+    c.insert.new.self c.in_ok-is_new.ensures.updates c.u64_at-id.result (scope_read (record_seen c.in-Some.node) c.u64_at-id.result c.u64_at-id.ensures)
     c.len.result (parameters_read (record_seen c.in-Some.node) c.in_ok-listed.listed c.in_ok-listed.ensures.read ∙ ap (λ (n : ℕ). Ok n) (sym c.len.ensures))
     c.add_scope.new.scopes.items c.in_ok-add_scope.ensures.added
 
