@@ -1,5 +1,5 @@
 -- What the record of a value says, by its active member.
-use Rattle.std.proofs.Common.{ℕ, ◌≢◌, subst, Bool, ◌^◌, ◌<◌, ◌≤◌, ◌≡◌, suc, arith, nat_lt, true, false, ◌∙◌, ap, refl, sym, List, Ok, Err, Option, Some, None, slice_get, drop}
+use Rattle.std.proofs.Common.{ℕ, ◌≢◌, subst, zero, not, Bool, ◌^◌, ◌<◌, ◌≤◌, ◌≡◌, suc, arith, nat_lt, true, false, ◌∙◌, ap, refl, sym, List, Ok, Err, Option, Some, None, slice_get, drop}
 use Rattle.std.proofs.lemmas.Bool.Decides.{nat_tests}
 use Rattle.std.proofs.lemmas.Bool.{true≢false}
 use Rattle.std.proofs.lemmas.Option.{slice_get_past}
@@ -9,16 +9,18 @@ use Rattle.capnp_device.specs.declared.error.ErrorKind.TheVariants.{OutOfMemory,
 use Rattle.capnp_wire.specs.Encoding.{message_of}
 use Rattle.capnp_wire.specs.Tree.{Tree}
 use Rattle.capnp_wire.specs.Words.{first_fault, words_of}
-use Rattle.capnp_wire.specs.Reading.{refusal}
+use Rattle.capnp_wire.specs.Reading.{is_null_tree, refusal}
 use Rattle.capnp_wire.specs.WellFormed.{IsWellFormed}
 use Rattle.capnp_wire.specs.declared.fault.Fault.{Fault}
-use Rattle.capnp_schema.specs.Schema.{Value}
+use Rattle.capnp_schema.specs.Schema.{DataValue, TextValue, Value}
+use Rattle.capnp_records.specs.Record as record_value
 use Rattle.capnp_records.specs.Part.{which_of}
 use Rattle.capnp_records.specs.Record.{Record}
 use Rattle.capnp_records.specs.Record.{Value as RecordValue}
+use Rattle.capnp_request.specs.Conversion.{is_untyped_default}
 use Rattle.capnp_request.specs.Parts.{read_at}
-use Rattle.capnp_request.specs.Reading.{by_member, value_kinds, value_said}
-use Rattle.capnp_request.specs.Terms.{UnreadValue, ValueTerm}
+use Rattle.capnp_request.specs.Reading.{by_member, bytes_value, pointer_value, value_kinds, value_said}
+use Rattle.capnp_request.specs.Terms.{ListWords, StructWords, UnreadValue, ValueTerm}
 use Rattle.capnp_request.specs.Values.{value_of, words_or_fault, words_said, words_that_fit}
 
 -- what member i says, where this is read of it
@@ -89,3 +91,50 @@ module _ (m t : Tree) (same : m ≡ t) (sound : first_fault t ≡ None) where
           let many : 2 ^ 29 ≤ suc (words_of m) = large (large_by kind is) (subst IsWellFormed (sym same) held) in
           words_too_many t sound (subst (λ x. 2 ^ 29 ≤ suc (words_of x)) same many) ∙ ap (λ k. Err k) (sym (large_by kind is))
       go false is = absurd (memory (kinds (not_large kind is)))
+
+-- ---- which value is an untyped pointer ----
+
+bytes_typed : (f : List ℕ → Value) (v : RecordValue) → is_untyped_default (bytes_value f v) ≡ false
+bytes_typed f (record_value.Text bytes) = refl
+bytes_typed f (record_value.Data bytes) = refl
+bytes_typed f (record_value.Fault kind) = refl
+bytes_typed f v = refl
+
+words_typed : (v : RecordValue) → is_untyped_default (pointer_value ListWords v) ≡ false
+words_typed (record_value.Untyped t) = refl
+words_typed v = refl
+
+struct_typed : (v : RecordValue) → is_untyped_default (pointer_value StructWords v) ≡ false
+struct_typed (record_value.Untyped t) = refl
+struct_typed v = refl
+
+typed_member : (m : ℕ) (v : RecordValue) → (m ≡ 18 → ⊥) → is_untyped_default (kind_at m v) ≡ false
+typed_member zero v other = refl
+typed_member (suc zero) v other = refl
+typed_member (suc (suc zero)) v other = refl
+typed_member (suc (suc (suc zero))) v other = refl
+typed_member (suc (suc (suc (suc zero)))) v other = refl
+typed_member (suc (suc (suc (suc (suc zero))))) v other = refl
+typed_member (suc (suc (suc (suc (suc (suc zero)))))) v other = refl
+typed_member (suc (suc (suc (suc (suc (suc (suc zero))))))) v other = refl
+typed_member (suc (suc (suc (suc (suc (suc (suc (suc zero)))))))) v other = refl
+typed_member (suc (suc (suc (suc (suc (suc (suc (suc (suc zero))))))))) v other = refl
+typed_member (suc (suc (suc (suc (suc (suc (suc (suc (suc (suc zero)))))))))) v other = refl
+typed_member (suc (suc (suc (suc (suc (suc (suc (suc (suc (suc (suc zero))))))))))) v other = refl
+typed_member (suc (suc (suc (suc (suc (suc (suc (suc (suc (suc (suc (suc zero)))))))))))) v other = bytes_typed TextValue v
+typed_member (suc (suc (suc (suc (suc (suc (suc (suc (suc (suc (suc (suc (suc zero))))))))))))) v other = bytes_typed DataValue v
+typed_member (suc (suc (suc (suc (suc (suc (suc (suc (suc (suc (suc (suc (suc (suc zero)))))))))))))) v other = words_typed v
+typed_member (suc (suc (suc (suc (suc (suc (suc (suc (suc (suc (suc (suc (suc (suc (suc zero))))))))))))))) v other = refl
+typed_member (suc (suc (suc (suc (suc (suc (suc (suc (suc (suc (suc (suc (suc (suc (suc (suc zero)))))))))))))))) v other = struct_typed v
+typed_member (suc (suc (suc (suc (suc (suc (suc (suc (suc (suc (suc (suc (suc (suc (suc (suc (suc zero))))))))))))))))) v other = refl
+typed_member (suc (suc (suc (suc (suc (suc (suc (suc (suc (suc (suc (suc (suc (suc (suc (suc (suc (suc zero)))))))))))))))))) v other = absurd (other refl)
+typed_member (suc (suc (suc (suc (suc (suc (suc (suc (suc (suc (suc (suc (suc (suc (suc (suc (suc (suc (suc m))))))))))))))))))) v other = refl
+
+pub not_untyped : (r : Record) (m : ℕ) → which_of r ≡ Some m → (m ≡ 18 → ⊥) → is_untyped_default (value_said r) ≡ false
+not_untyped r m which other = ap is_untyped_default (said_so r m m which refl) ∙ typed_member m (read_at 22 m r) other
+
+pub no_member : (r : Record) → which_of r ≡ None → is_untyped_default (value_said r) ≡ false
+no_member r which = ap (λ o. is_untyped_default (by_member (UnreadValue UnknownKind) value_kinds 22 o r)) which
+
+pub is_untyped_member : (r : Record) (m : ℕ) (t : Tree) → which_of r ≡ Some m → m ≡ 18 → record_value.Untyped t ≡ read_at 22 18 r → is_untyped_default (value_said r) ≡ not (is_null_tree t)
+is_untyped_member r m t which is read = ap is_untyped_default (said_by r m 18 (record_value.Untyped t) which is read)

@@ -146,10 +146,15 @@ fn list_type(element: Type) -> Result<Type>
     ensures kinds { IfErr result (λ e. e.kind ≡ TooManyTypes) }
 {
     let list = Type::list_of(element);
-    if list == element {
-        return Err(Error::from(ErrorKind::TooManyTypes));
+    match list.which() {
+        TypeVariant::List(inner) => {
+            if inner == element {
+                return Ok(list);
+            }
+            Err(Error::from(ErrorKind::TooManyTypes))
+        }
+        _ => unreachable!(),
     }
-    Ok(list)
 }
 
 /// The enum that a type names.

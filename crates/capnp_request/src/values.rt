@@ -139,6 +139,7 @@ fn member_value(
             Ok(ValueRecord::AnyPointer(nothing))
         }
         18 => {
+            let _untyped = untyped_at(reader, brands::VALUE, 18);
             let null = copied(alloc, &[0; 8])?;
             Ok(ValueRecord::AnyPointer(null))
         }
@@ -168,7 +169,12 @@ pub(crate) fn is_untyped_value(reader: dynamic_struct::Reader<'_>) -> bool
     ensures { is_untyped_default (value_said (record_seen reader.entry)) ≡ result }
 {
     match active_member(reader) {
-        Some(VALUE_UNTYPED) => !untyped_at(reader, brands::VALUE, VALUE_UNTYPED).is_null(),
-        _ => false,
+        Some(member) => {
+            if member == VALUE_UNTYPED {
+                return !untyped_at(reader, brands::VALUE, VALUE_UNTYPED).is_null();
+            }
+            false
+        }
+        None => false,
     }
 }

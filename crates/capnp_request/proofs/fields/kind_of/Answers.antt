@@ -30,5 +30,5 @@ returns-in-4-clause-done c =
     done_as (seen_converted_kind c.args.place) (kind_of (nodes_of c.args.context.nodes.now) c.args.context.strict (bounds c.args.inside.now) c.args.place.parent c.args.place.field (in_struct UnreadField group_said (read_at 8 4 (record_seen c.args.field)))) (kind_of (nodes_of c.args.context.nodes.now) c.args.context.strict (bounds c.args.inside.now) c.args.place.parent c.args.place.field (field_said (record_seen c.args.field)).kind) (between c.args.entries.now) _ _
     (ap (λ k. kind_of (nodes_of c.args.context.nodes.now) c.args.context.strict (bounds c.args.inside.now) c.args.place.parent c.args.place.field k (between c.args.entries.now)) (is_group (nodes_of c.args.context.nodes.now) c.args.context.strict (bounds c.args.inside.now) c.args.place.parent c.args.place.field (record_seen c.args.field) (between c.args.entries.now) c.in-Some.member (sym c.active_member.ensures ∙ c.in-Some.is) c.in-4.is)) c.group_of.ensures.done
 
-pub returns-in_default-2-clause-done : goal.returns-in_default-2-clause-done
-returns-in_default-2-clause-done c = λ n. kind_other (nodes_of c.args.context.nodes.now) c.args.context.strict (bounds c.args.inside.now) c.args.place.parent c.args.place.field (record_seen c.args.field) (between c.args.entries.now) c.in-Some.member (sym c.active_member.ensures ∙ c.in-Some.is) c.in_default-2.not-3 c.in_default-2.not-4 ∙ ap (λ k. Err k) (sym c.from-2.ensures)
+pub returns-in_default-member-clause-done : goal.returns-in_default-member-clause-done
+returns-in_default-member-clause-done c = λ n. kind_other (nodes_of c.args.context.nodes.now) c.args.context.strict (bounds c.args.inside.now) c.args.place.parent c.args.place.field (record_seen c.args.field) (between c.args.entries.now) c.in-Some.member (sym c.active_member.ensures ∙ c.in-Some.is) (λ e. omega (arith, e)) (λ e. omega (arith, e)) ∙ ap (λ k. Err k) (sym c.from-in_default-member.ensures)

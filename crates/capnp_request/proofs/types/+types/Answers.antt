@@ -30,7 +30,7 @@ type_of-returns-then-depth-eq0-clause-done t c =
 pub type_of-returns-in_default-clause-done : goal.type_of-returns-in_default-clause-done
 type_of-returns-in_default-clause-done t c =
     let deep : c.args.depth ≡ suc (c.args.depth - 1) = omega (arith, c.if-depth-eq0.false) in
-    λ n. ap (λ k. type_of (nodes_of c.args.context.nodes.now) c.args.context.strict (bounds c.args.inside.now) k (so_far c.args.entries.now c.args.seen.now)) (by_none (c.args.depth - 1) c.args.depth (record_seen c.args.term) deep (sym c.active_member.ensures ∙ c.in_default.is)) ∙ ap (λ k. Err k) (sym c.from-in_default-member.ensures)
+    λ n. ap (λ k. type_of (nodes_of c.args.context.nodes.now) c.args.context.strict (bounds c.args.inside.now) k (so_far c.args.entries.now c.args.seen.now)) (by_none (c.args.depth - 1) c.args.depth (record_seen c.args.term) deep (sym c.active_member.ensures ∙ c.in_default.is)) ∙ ap (λ k. Err k) (sym c.from-in_default.ensures)
 
 pub type_of-returns-in-Some-plain_type-clause-done : goal.type_of-returns-in-Some-plain_type-clause-done
 type_of-returns-in-Some-plain_type-clause-done t c =
@@ -84,7 +84,7 @@ pub type_of-returns-in_default-member-clause-done : goal.type_of-returns-in_defa
 type_of-returns-in_default-member-clause-done t c =
     let deep : c.args.depth ≡ suc (c.args.depth - 1) = omega (arith, c.if-depth-eq0.false) in
     let which : which_of (record_seen c.args.term) ≡ Some c.in-Some.member = sym c.active_member.ensures ∙ c.in-Some.is in
-    λ n. ap (λ k. type_of (nodes_of c.args.context.nodes.now) c.args.context.strict (bounds c.args.inside.now) k (so_far c.args.entries.now c.args.seen.now)) (past_by (c.args.depth - 1) c.args.depth (record_seen c.args.term) c.in-Some.member deep which (omega (arith, c.in_default-plain_type.ensures, c.in_default.not-10, c.in_default.not-11, c.in_default.not-14, c.in_default.not-15, c.in_default.not-16, c.in_default.not-17, c.in_default.not-18))) ∙ ap (λ k. Err k) (sym c.from-in_default.ensures)
+    λ n. ap (λ k. type_of (nodes_of c.args.context.nodes.now) c.args.context.strict (bounds c.args.inside.now) k (so_far c.args.entries.now c.args.seen.now)) (past_by (c.args.depth - 1) c.args.depth (record_seen c.args.term) c.in-Some.member deep which (omega arith)) ∙ ap (λ k. Err k) (sym c.from-in_default-member.ensures)
 
 pub list_type_of-returns-in_err-element-clause-done : goal.list_type_of-returns-in_err-element-clause-done
 list_type_of-returns-in_err-element-clause-done t c =
@@ -168,7 +168,7 @@ said_types-returns-in-2-clause-done t c =
 
 pub said_types-returns-in_default-member-clause-done : goal.said_types-returns-in_default-member-clause-done
 said_types-returns-in_default-member-clause-done t c =
-    λ n. scope_other (nodes_of c.args.context.nodes.now) c.args.context.strict (bounds c.args.inside.now) (type_said c.args.depth) (record_seen c.args.own) (with_nothing c.args.scope) (so_far c.args.entries.now c.args.seen.now) c.in-Some.member (sym c.active_member.ensures ∙ c.in-Some.is) c.in_default.not-1 c.in_default.not-2 ∙ ap (λ k. Err k) (sym c.from-in_default.ensures)
+    λ n. scope_other (nodes_of c.args.context.nodes.now) c.args.context.strict (bounds c.args.inside.now) (type_said c.args.depth) (record_seen c.args.own) (with_nothing c.args.scope) (so_far c.args.entries.now c.args.seen.now) c.in-Some.member (sym c.active_member.ensures ∙ c.in-Some.is) (λ e. omega (arith, e)) (λ e. omega (arith, e)) ∙ ap (λ k. Err k) (sym c.from-in_default-member.ensures)
 
 pub binding_type-returns-in_default-clause-done : goal.binding_type-returns-in_default-clause-done
 binding_type-returns-in_default-clause-done t c =
@@ -188,7 +188,7 @@ binding_type-returns-in_ok-term-in-1-clause-done t c =
 
 pub binding_type-returns-in_default-member-clause-done : goal.binding_type-returns-in_default-member-clause-done
 binding_type-returns-in_default-member-clause-done t c =
-    λ n. binding_past (nodes_of c.args.context.nodes.now) c.args.context.strict (bounds c.args.inside.now) (type_said c.args.depth) (record_seen c.args.binding) (so_far c.args.entries.now c.args.seen.now) c.in-Some.member (sym c.active_member.ensures ∙ c.in-Some.is) (omega (arith, c.in_default.not-0, c.in_default.not-1)) ∙ ap (λ k. Err k) (sym c.from-in_default.ensures)
+    λ n. binding_past (nodes_of c.args.context.nodes.now) c.args.context.strict (bounds c.args.inside.now) (type_said c.args.depth) (record_seen c.args.binding) (so_far c.args.entries.now c.args.seen.now) c.in-Some.member (sym c.active_member.ensures ∙ c.in-Some.is) (omega arith) ∙ ap (λ k. Err k) (sym c.from-in_default-member.ensures)
 
 pub bound_types-loop-index-init : goal.bound_types-loop-index-init
 bound_types-loop-index-init t c =

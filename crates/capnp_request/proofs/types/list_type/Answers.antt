@@ -1,12 +1,11 @@
-use Rattle.std.proofs.Common.{◌<◌, ◌^◌, arith}
-use Rattle.capnp_request.proofs.BindingsCompared.{few_lists, full_lists, list_of_seen}
+use Rattle.capnp_request.proofs.BindingsCompared.{few_lists, full_lists, list_of_seen, not_list}
 use Rattle.capnp_request.proofs.types.list_type.Goals as goal
 
-pub returns-then-eq-clause-full : goal.returns-then-eq-clause-full
-returns-then-eq-clause-full c = full_lists c.args.element c.list_of-list.result c.eq.result c.list_of-list.ensures c.eq.ensures c.if-eq.true
+pub unreachable-requires : goal.unreachable-requires
+unreachable-requires c = not_list c.args.element c.list_of-list.result c.which.result c.list_of-list.ensures c.which.ensures c.in_default.not-List
 
-pub returns-clause-list : goal.returns-clause-list
-returns-clause-list c =
-    let fits : c.args.element.list_count < 2 ^ 64 = omega (arith, c.type_inv.element) in
-    (few_lists c.args.element c.list_of-list.result c.eq.result c.list_of-list.ensures c.eq.ensures c.if-eq.false fits,
-     list_of_seen c.args.element c.list_of-list.result c.eq.result c.list_of-list.ensures c.eq.ensures c.if-eq.false fits)
+pub returns-then-eq-clause-list : goal.returns-then-eq-clause-list
+returns-then-eq-clause-list c = (few_lists c.args.element c.list_of-list.result c.in-List.inner c.which.result c.eq.result c.list_of-list.ensures c.which.ensures c.in-List.is c.eq.ensures c.if-eq.true, list_of_seen c.args.element c.list_of-list.result c.in-List.inner c.which.result c.eq.result c.list_of-list.ensures c.which.ensures c.in-List.is c.eq.ensures c.if-eq.true)
+
+pub returns-in-List-clause-full : goal.returns-in-List-clause-full
+returns-in-List-clause-full c = full_lists c.args.element c.list_of-list.result c.in-List.inner c.which.result c.eq.result c.list_of-list.ensures c.which.ensures c.in-List.is c.eq.ensures c.if-eq.false
