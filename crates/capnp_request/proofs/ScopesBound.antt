@@ -170,6 +170,10 @@ kept_more items i kept next x there so_far is = go (is_untyped (seen_type x)) re
         ∙ (trim_other (map seen_type (take i items)) (seen_type x) fails
         ∙ (sym more ∙ ap (λ n. map seen_type (take n items)) (sym (is ∙ ap (λ q. cond q kept (i + 1)) fails))))
 
+pub kept_below : (q : Bool) (i kept next : ℕ) → next ≡ cond q kept (i + 1) → kept ≤ i → next ≤ i + 1
+kept_below true i kept next is below = omega (arith, is, below)
+kept_below false i kept next is below = omega (arith, is)
+
 -- ---- the scopes of a node ----
 
 module _ (nodes : List SchemaNode) (strict : Bool) (inside : List Bound) (id : ℕ) (brand : BrandTerm) (s : Named) where

@@ -7,5 +7,5 @@ unreachable-requires c = not_list c.args.element c.list_of-list.result c.which.r
 pub returns-then-eq-clause-list : goal.returns-then-eq-clause-list
 returns-then-eq-clause-list c = (few_lists c.args.element c.list_of-list.result c.in-List.inner c.which.result c.eq.result c.list_of-list.ensures c.which.ensures c.in-List.is c.eq.ensures c.if-eq.true, list_of_seen c.args.element c.list_of-list.result c.in-List.inner c.which.result c.eq.result c.list_of-list.ensures c.which.ensures c.in-List.is c.eq.ensures c.if-eq.true)
 
-pub returns-in-List-clause-full : goal.returns-in-List-clause-full
-returns-in-List-clause-full c = full_lists c.args.element c.list_of-list.result c.in-List.inner c.which.result c.eq.result c.list_of-list.ensures c.which.ensures c.in-List.is c.eq.ensures c.if-eq.false
+pub returns-clause-full : goal.returns-clause-full
+returns-clause-full c = full_lists c.args.element c.list_of-list.result c.in-List.inner c.which.result c.eq.result c.list_of-list.ensures c.which.ensures c.in-List.is c.eq.ensures c.if-eq.false
