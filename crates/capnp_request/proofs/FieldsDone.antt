@@ -205,24 +205,33 @@ typed_more xs ys ts us x t e more other = ap (λ a. typed_annotations a us) more
 -- a field as it was made
 pub field_made : (name : List ℕ) (discriminant : ℕ) (kind : FieldKind × SchemaType × List Note) (xs : List AnnotationRecord) (ts : List TypeHandle) (u : Named) → length ts ≡ length xs →
     ◌≡◌ {A = Result (Converted × Named) ErrorKind}
-    (Ok (record {
-      field = record { name = name; discriminant_value = discriminant; annotations = map (λ (p : Annotation × SchemaType). p.0) (typed_annotations xs ts); kind = kind.0 };
-      type = kind.1;
-      annotation_types = map (λ (p : Annotation × SchemaType). p.1) (typed_annotations xs ts);
-      notes = kind.2;
-    }, u))
-    (Ok (record {
-      field = record { name = name; discriminant_value = discriminant; annotations = map seen_annotation xs; kind = kind.0 };
-      type = kind.1;
-      annotation_types = map seen_type ts;
-      notes = kind.2;
-    }, u))
-field_made name discriminant kind xs ts u e = λ i. Ok (record {
-  field = record { name = name; discriminant_value = discriminant; annotations = firsts_typed xs ts e i; kind = kind.0 };
-  type = kind.1;
-  annotation_types = seconds_typed xs ts e i;
-  notes = kind.2;
-}, u)
+    (Ok (
+      record {
+        field = record { name = name; discriminant_value = discriminant; annotations = map (λ (p : Annotation × SchemaType). p.0) (typed_annotations xs ts); kind = kind.0 };
+        type = kind.1;
+        annotation_types = map (λ (p : Annotation × SchemaType). p.1) (typed_annotations xs ts);
+        notes = kind.2;
+      },
+      u,
+    ))
+    (Ok (
+      record {
+        field = record { name = name; discriminant_value = discriminant; annotations = map seen_annotation xs; kind = kind.0 };
+        type = kind.1;
+        annotation_types = map seen_type ts;
+        notes = kind.2;
+      },
+      u,
+    ))
+field_made name discriminant kind xs ts u e = λ i. Ok (
+  record {
+    field = record { name = name; discriminant_value = discriminant; annotations = firsts_typed xs ts e i; kind = kind.0 };
+    type = kind.1;
+    annotation_types = seconds_typed xs ts e i;
+    notes = kind.2;
+  },
+  u,
+)
 
 pub typed_longer : (xs : List AnnotationRecord) (ts : List TypeHandle) (x : AnnotationRecord) (t : TypeHandle) → length ts ≡ length xs → length (ts ++ t ∷ []) ≡ length (xs ++ x ∷ [])
 typed_longer xs ts x t e = length-append ts (t ∷ []) ∙ (ap (λ n. n + 1) e ∙ sym (length-append xs (x ∷ [])))
