@@ -1,8 +1,9 @@
 -- The names of a set's structs and enums.
-use Rattle.std.specs.Prelude.{ℕ, zero, suc, ◌+◌, ◌-◌, List, [], ◌∷◌, ◌++◌, Bool, true, false, not, ◌==◌, ◌&&◌, ◌||◌, nat_lt, bytes_eq, codes, length, slice_get, Ok, Err}
+use Rattle.std.specs.Prelude.{ℕ, zero, suc, ◌+◌, ◌-◌, List, [], ◌∷◌, ◌++◌, Bool, true, false, not, ◌==◌, ◌&&◌, ◌||◌, nat_lt, bytes_eq, codes, length, map, slice_get, Option, Some, None, Ok, Err}
 use Rattle.std.specs.Option.{unwrap_or}
 use Rattle.std.specs.Str.{is_utf8}
-use Rattle.capnp_device.specs.declared.error.ErrorKind.TheVariants.{NameNotUtf8, TooManyTypes}
+use Rattle.capnp_device.specs.declared.error.ErrorKind.TheVariants.{NameNotUtf8, NodeNotFound, TooManyTypes}
+use Rattle.capnp_schema.specs.Schema.{Field, Node}
 use Rattle.capnp_schema.specs.Types.{SchemaType, VoidType, BoolType, IntType, UIntType, EnumType, TextType, DataType, StructType, ListType, AnyPointerType}
 use Rattle.capnp_request.specs.Terms.{Said}
 use Rattle.capnp_request.specs.Work.{Bound}
@@ -94,8 +95,14 @@ struct_name structs enums holders id bound display =
     finished (file_where (is_taken holders id (dotted_of display)) display ++ bound_name structs enums bound (count_of 46 (dotted_of display)) 0 (dotted_of display))
 
 -- the name of a group: its parent's, a dot, and the field's
-abbrev pub group_name : (parent field : List ℕ) → Said (List ℕ)
-group_name parent field = finished (parent ++ 46 ∷ field)
+abbrev pub dotted_name : (parent : List ℕ) → (field : Option (List ℕ)) → Said (List ℕ)
+dotted_name parent (Some field) = finished (parent ++ 46 ∷ field)
+dotted_name parent None = Err NodeNotFound
+
+-- by the field that names it, which its parent has
+abbrev pub group_name : (parent : Option Node) → (field : ℕ) → Said (List ℕ)
+group_name (Some p) field = dotted_name p.display_name (slice_get (map (λ (f : Field). f.name) p.fields) field)
+group_name None field = Err NodeNotFound
 
 -- the name of an enum
 abbrev pub enum_name : List ℕ → Said (List ℕ)

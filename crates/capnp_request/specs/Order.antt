@@ -1,24 +1,31 @@
 -- Which entries a conversion makes, in which order, and the lists and notes that a request stands for.
-use Rattle.std.specs.Prelude.{ℕ, zero, suc, ◌+◌, List, [], ◌∷◌, ◌++◌, Bool, true, false, not, ◌&&◌, length, map, slice_get, Option, Some, None, Result, Ok, Err}
-use Rattle.std.specs.Option.{unwrap_or}
+use Rattle.std.specs.Prelude.{ℕ, zero, suc, ◌+◌, List, [], ◌∷◌, ◌++◌, Bool, true, false, not, ◌&&◌, drop, length, map, nat_lt, slice_get, Option, Some, None, Result, Ok, Err}
 use Rattle.capnp_device.specs.declared.error.ErrorKind.{ErrorKind}
 use Rattle.capnp_device.specs.declared.error.ErrorKind.TheVariants.{NodeNotFound, TooManyTypes}
-use Rattle.capnp_schema.specs.Schema.{Annotation, Brand, Enum, Enumerant, Field, Node, Schemas, no_node}
+use Rattle.capnp_schema.specs.Schema.{Annotation, Brand, Enum, Enumerant, Node, Schemas}
 use Rattle.capnp_schema.specs.Types.{SchemaType}
 use Rattle.capnp_request.specs.Conversion.{Converted, Note, annotations_of, fields_of, name_of}
 use Rattle.capnp_request.specs.Names.{Holder, dotted_of, enum_name, group_name, struct_name}
 use Rattle.capnp_request.specs.Scopes.{is_met, node_named, scopes_of}
-use Rattle.capnp_request.specs.Terms.{AnnotationNode, EnumNode, EnumerantTerm, NodeKind, OtherNode, RequestTerm, Said, SchemaNode, StructNode, StructPart}
-use Rattle.capnp_request.specs.Types.{number_struct}
-use Rattle.capnp_request.specs.Work.{◌>>=◌, Entry, GroupOf, Named, Place, Whole, Work, each, each_read, given, nothing_seen, refused, said}
+use Rattle.capnp_request.specs.Terms.{AnnotationNode, EnumNode, EnumerantTerm, FieldTerm, NodeKind, OtherNode, RequestTerm, Said, SchemaNode, StructNode, StructPart}
+use Rattle.capnp_request.specs.Types.{is_root, number_struct}
+use Rattle.capnp_request.specs.Work.{◌>>=◌, Bound, Entry, GroupOf, Named, Place, Whole, Work, each_read, given, nothing_seen, refused, said}
 
--- what is made so far, and the dotted names that entries had
+-- what is made so far, the names of the enums that were named by types, and the dotted names that entries had
 pub record Made : Type 0 where
   pub nodes : List Node
   pub brands : List Brand
   pub enums : List Enum
   pub notes : List Note
+  pub enum_names : List (List ℕ)
   pub holders : List Holder
+
+-- what an entry begins with: its name, who has a dotted name from then on, and its schema node
+pub record Begun : Type 0 where
+  pub enum_names : List (List ℕ)
+  pub name : List ℕ
+  pub holders : List Holder
+  pub node : SchemaNode
 
 abbrev pub firsts : List (Annotation × SchemaType) → List Annotation
 firsts annotations = map (λ (p : Annotation × SchemaType). p.0) annotations
@@ -35,6 +42,20 @@ abbrev pub at_node : {A : Type 0} → Option SchemaNode → (SchemaNode → Work
 at_node (Some n) f = f n
 at_node None f = refused NodeNotFound
 
+abbrev pub node_there : Option SchemaNode → Said SchemaNode
+node_there (Some n) = Ok n
+node_there None = Err NodeNotFound
+
+-- what is said, and then what is said of that
+abbrev pub and_said : {A B : Type 0} → Said A → (A → Said B) → Said B
+and_said (Ok a) f = f a
+and_said (Err kind) f = Err kind
+
+-- where a test holds, else a refusal
+abbrev pub said_where : {A : Type 0} → Bool → ErrorKind → Said A → Said A
+said_where true kind r = r
+said_where false kind r = Err kind
+
 abbrev pub at_struct : {A : Type 0} → NodeKind → (StructPart → Work A) → Work A
 at_struct (StructNode part) f = f part
 at_struct (EnumNode enumerants) f = refused NodeNotFound
@@ -47,39 +68,73 @@ at_enum (StructNode part) f = refused NodeNotFound
 at_enum (AnnotationNode t) f = refused NodeNotFound
 at_enum OtherNode f = refused NodeNotFound
 
-module _ (nodes : List SchemaNode) (strict : Bool) where
-  -- the dotted names of enums, by their ids
-  abbrev pub enum_names : List ℕ → Work (List (List ℕ))
-  enum_names ids = each (λ id. at_node (node_named nodes id) (λ n. said n.display_name >>= (λ display. said (enum_name display)))) ids
+abbrev pub is_there : Option SchemaNode → Bool
+is_there None = false
+is_there (Some n) = true
 
+-- the ids among these that a node has and that weren't met, each once
+abbrev pub new_ids : List SchemaNode → List ℕ → (met : List ℕ) → List ℕ
+new_ids nodes [] met = []
+new_ids nodes (id ∷ ids) met = elim (not (is_met met id) && is_there (node_named nodes id)) [ true ↦ id ∷ new_ids nodes ids (id ∷ met) | false ↦ new_ids nodes ids met ]
+
+-- ---- names ----
+
+module _ (nodes : List SchemaNode) where
+  -- the name of an enum, and its schema node
+  abbrev pub begin_enum : ℕ → Said (List ℕ × SchemaNode)
+  begin_enum id = and_said (node_there (node_named nodes id)) (λ n. and_said n.display_name (λ display. and_said (enum_name display) (λ name. Ok (name, n))))
+
+  -- the names of the enums of these ids, behind the names before them
+  abbrev pub enum_names : List ℕ → (before : List (List ℕ)) → Said (List (List ℕ))
+  enum_names [] before = Ok before
+  enum_names (id ∷ ids) before = and_said (begin_enum id) (λ b. enum_names ids (before ++ b.0 ∷ []))
+
+  -- the name of an entry among the structs that were made, and who has its dotted name from now on
+  abbrev pub name_entry : List Node → (enums : List (List ℕ)) → List Holder → Entry → Place → Said (List ℕ × List Holder)
+  name_entry made enums holders e Whole =
+      and_said (node_there (node_named nodes e.node)) (λ n. and_said n.display_name (λ display.
+      and_said (struct_name (map (λ (n : Node). n.display_name) made) enums holders e.node e.bound display)
+      (λ name. Ok (name, record { id = e.node; dotted = dotted_of display } ∷ holders))))
+  name_entry made enums holders e (GroupOf parent field) = and_said (group_name (slice_get made parent) field) (λ name. Ok (name, holders))
+
+  -- An entry begins with its name, among the names of all enums that were named; numbers have 32 bits.
+  abbrev pub begin_struct : Made → Entry → (enums : List ℕ) → Said Begun
+  begin_struct m e enums =
+      said_where (nat_lt (length m.nodes) 4294967296) TooManyTypes (and_said (enum_names (drop (length m.enum_names) enums) m.enum_names) (λ names.
+      and_said (name_entry m.nodes names m.holders e e.place) (λ named.
+      and_said (node_there (node_named nodes e.node)) (λ n. Ok (record { enum_names = names; name = named.0; holders = named.1; node = n })))))
+
+module _ (nodes : List SchemaNode) (strict : Bool) where
   -- ---- structs ----
 
-  -- the name of an entry, and who has its dotted name from now on
-  abbrev pub name_entry : Made → List (List ℕ) → Entry → Place → Work (List ℕ × List Holder)
-  name_entry m enums e Whole =
-      at_node (node_named nodes e.node) (λ n. said n.display_name >>= (λ display.
-      said (struct_name (map (λ (n : Node). n.display_name) m.nodes) enums m.holders e.node e.bound display)
-      >>= (λ name. given (name, record { id = e.node; dotted = dotted_of display } ∷ m.holders))))
-  name_entry m enums e (GroupOf parent field) =
-      let p : Node = unwrap_or (slice_get m.nodes parent) no_node in
-      said (group_name p.display_name (unwrap_or (slice_get (map (λ (f : Field). f.name) p.fields) field) [])) >>= (λ name. given (name, m.holders))
+  abbrev pub all_fields : List Bound → (number : ℕ) → Said (List (Said FieldTerm)) → Work (List Converted)
+  all_fields bound number fields = said fields >>= fields_of nodes strict bound number 0
 
-  -- the node and brand of an entry: its fields by index, and then its own annotations
-  abbrev pub made_struct : Made → SchemaNode → StructPart → Entry → (name : List ℕ) → List Holder → Work Made
-  made_struct m n part e name holders =
-      said part.fields >>= (λ terms. fields_of nodes strict e.bound (length m.nodes) 0 terms >>= (λ fields. annotations_of nodes strict e.bound n.annotations
-      >>= (λ own. given (record {
-        nodes = m.nodes ++ record { id = e.node; display_name = name; annotations = firsts own; data_word_count = part.data_words; pointer_count = part.pointers; is_group = part.is_group; discriminant_count = part.discriminant_count; discriminant_offset = part.discriminant_offset; fields = map (λ (f : Converted). f.field) fields } ∷ [];
-        brands = m.brands ++ record { node = length m.nodes; field_types = map (λ (f : Converted). f.type) fields; annotation_types = record { own = seconds own; children = map (λ (f : Converted). f.annotation_types) fields } } ∷ [];
-        enums = m.enums;
-        notes = m.notes ++ all_notes fields;
-        holders = holders;
-      }))))
+  -- The node, the brand and the notes of an entry of this number, name and schema node, inside what is bound there: its
+  -- fields by index, and then its own annotations.
+  abbrev pub struct_made : (number id : ℕ) → List Bound → (name : List ℕ) → SchemaNode → Work (Node × Brand × List Note)
+  struct_made number id bound name n =
+      at_struct n.kind (λ part. all_fields bound number part.fields >>= (λ fields. annotations_of nodes strict bound n.annotations
+      >>= (λ own. given (
+        record { id = id; display_name = name; annotations = firsts own; data_word_count = part.data_words; pointer_count = part.pointers; is_group = part.is_group; discriminant_count = part.discriminant_count; discriminant_offset = part.discriminant_offset; fields = map (λ (f : Converted). f.field) fields },
+        record { node = number; field_types = map (λ (f : Converted). f.type) fields; annotation_types = record { own = seconds own; children = map (λ (f : Converted). f.annotation_types) fields } },
+        all_notes fields,
+      ))))
+
+  -- with one more entry
+  abbrev pub with_struct : Made → Begun → Node × Brand × List Note → Made
+  with_struct m b made = record {
+    nodes = m.nodes ++ made.0 ∷ [];
+    brands = m.brands ++ made.1 ∷ [];
+    enums = m.enums;
+    notes = m.notes ++ made.2;
+    enum_names = b.enum_names;
+    holders = b.holders;
+  }
 
   abbrev pub make_struct : Made → Entry → Work Made
   make_struct m e s =
-      (enum_names s.enums >>= (λ enums. name_entry m enums e e.place >>= (λ named.
-      at_node (node_named nodes e.node) (λ n. at_struct n.kind (λ part. made_struct m n part e named.0 named.1))))) s
+      (said (begin_struct nodes m e s.enums) >>= (λ b. struct_made (length m.nodes) e.node e.bound b.name b.node >>= (λ made. given (with_struct m b made)))) s
 
   -- ---- enums ----
 
@@ -88,18 +143,23 @@ module _ (nodes : List SchemaNode) (strict : Bool) where
       said x.name >>= (λ bytes. said (name_of bytes) >>= (λ name. annotations_of nodes strict [] x.annotations
       >>= (λ annotations. given (record { name = name; annotations = firsts annotations }, seconds annotations))))
 
-  -- an enum: its enumerants, and then its own annotations; nothing is bound there
-  abbrev pub made_enum : Made → SchemaNode → ℕ → List ℕ → Said (List (Said EnumerantTerm)) → Work Made
-  made_enum m n id name enumerants =
-      said enumerants >>= (λ list. each_read enumerant_of list >>= (λ children. annotations_of nodes strict [] n.annotations
-      >>= (λ own. given (record m {
-        enums = m.enums ++ record { id = id; display_name = name; annotations = firsts own; enumerants = map (λ (c : Enumerant × List SchemaType). c.0) children; annotation_types = record { own = seconds own; children = map (λ (c : Enumerant × List SchemaType). c.1) children } } ∷ [];
+  abbrev pub all_enumerants : Said (List (Said EnumerantTerm)) → Work (List (Enumerant × List SchemaType))
+  all_enumerants enumerants = said enumerants >>= each_read enumerant_of
+
+  -- an enum of this name and schema node: its enumerants, and then its own annotations; nothing is bound there
+  abbrev pub enum_made : (id : ℕ) → (name : List ℕ) → SchemaNode → Work Enum
+  enum_made id name n =
+      at_enum n.kind (λ enumerants. all_enumerants enumerants >>= (λ children. annotations_of nodes strict [] n.annotations
+      >>= (λ own. given (record {
+        id = id;
+        display_name = name;
+        annotations = firsts own;
+        enumerants = map (λ (c : Enumerant × List SchemaType). c.0) children;
+        annotation_types = record { own = seconds own; children = map (λ (c : Enumerant × List SchemaType). c.1) children };
       }))))
 
   abbrev pub make_enum : Made → ℕ → Work Made
-  make_enum m id =
-      at_node (node_named nodes id) (λ n. said n.display_name >>= (λ display. said (enum_name display)
-      >>= (λ name. at_enum n.kind (made_enum m n id name))))
+  make_enum m id = said (begin_enum nodes id) >>= (λ b. enum_made id b.0 b.1 >>= (λ e. given (record m { enums = m.enums ++ e ∷ [] })))
 
   -- ---- the order ----
 
@@ -115,21 +175,10 @@ module _ (nodes : List SchemaNode) (strict : Bool) where
 
   -- ---- the roots ----
 
-  abbrev pub is_there : Option SchemaNode → Bool
-  is_there None = false
-  is_there (Some n) = true
-
-  -- the ids among these that a node has and that weren't met, each once
-  abbrev pub new_ids : List ℕ → (met : List ℕ) → List ℕ
-  new_ids [] met = []
-  new_ids (id ∷ ids) met = elim (not (is_met met id) && is_there (node_named nodes id)) [ true ↦ id ∷ new_ids ids (id ∷ met) | false ↦ new_ids ids met ]
-
   -- a struct that is no group is a root, with nothing bound
-  abbrev pub name_root : SchemaNode → NodeKind → Work (List ℕ)
-  name_root n (StructNode part) = elim part.is_group [ true ↦ given [] | false ↦ said (scopes_of nodes n.id) >>= (λ bound. number_struct n.id bound >>= (λ number. given [])) ]
-  name_root n (EnumNode enumerants) = given []
-  name_root n (AnnotationNode t) = given []
-  name_root n OtherNode = given []
+  abbrev pub name_root : (id : ℕ) → (is_root : Bool) → Work (List ℕ)
+  name_root id true = said (scopes_of nodes id) >>= (λ bound. number_struct id bound >>= (λ number. given []))
+  name_root id false = given []
 
   -- The nodes of a queue of ids, breadth first: what is nested in the first goes to the queue's end. There are at most as many
   -- as there are nodes.
@@ -137,21 +186,23 @@ module _ (nodes : List SchemaNode) (strict : Bool) where
   name_roots zero met queue = given []
   name_roots (suc steps) met [] = given []
   name_roots (suc steps) met (id ∷ ids) =
-      at_node (node_named nodes id) (λ n. said n.nested >>= (λ nested. name_root n n.kind
-      >>= (λ none. name_roots steps (new_ids nested met ++ met) (ids ++ new_ids nested met))))
+      at_node (node_named nodes id) (λ n. said n.nested >>= (λ nested. name_root id (is_root n.kind)
+      >>= (λ none. name_roots steps (new_ids nodes nested met ++ met) (ids ++ new_ids nodes nested met))))
 
 -- ---- a whole request ----
 
 abbrev pub nothing_made : Made
-nothing_made = record { nodes = []; brands = []; enums = []; notes = []; holders = [] }
+nothing_made = record { nodes = []; brands = []; enums = []; notes = []; enum_names = []; holders = [] }
 
 abbrev pub nothing_named : Named
 nothing_named = record { entries = []; enums = []; seen = nothing_seen }
 
+-- the structs of the requested files
+abbrev pub name_files : List SchemaNode → (strict : Bool) → Said (List ℕ) → Work (List ℕ)
+name_files nodes strict files = said files >>= (λ ids. name_roots nodes strict (length nodes) (new_ids nodes ids []) (new_ids nodes ids []))
+
 abbrev pub convert : RequestTerm → (strict : Bool) → Work Made
-convert r strict =
-    said r.files >>= (λ files. name_roots r.nodes strict (length r.nodes) (new_ids r.nodes strict files []) (new_ids r.nodes strict files [])
-    >>= (λ none. make_all r.nodes strict (65536 + suc (length r.nodes)) nothing_made))
+convert r strict = name_files r.nodes strict r.files >>= (λ none. make_all r.nodes strict (65536 + suc (length r.nodes)) nothing_made)
 
 abbrev pub schemas_made : Made → Schemas
 schemas_made m = record { nodes = m.nodes; brands = m.brands; enums = m.enums }

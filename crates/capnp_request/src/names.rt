@@ -1,9 +1,20 @@
 //! The names of a set's structs and enums.
-ghost use Rattle.std.specs.Prelude.{◌≤◌, length, IfErr};
-ghost use Rattle.capnp_request.specs.Nodes.{AreNodes};
+ghost use Rattle.std.specs.Prelude.{ℕ, List, [], ◌∷◌, ◌≡◌, ◌≢◌, ◌≤◌, ◌++◌, ◌-◌, true, drop, length, map, option_map, string_bytes, take, IfErr, IfOk, OnOk, Ok, Err};
+ghost use Rattle.capnp_device.specs.declared.error.ErrorKind.TheVariants.{OutOfMemory, TooManyTypes};
+ghost use Rattle.capnp_schema.specs.Schema.{seen_node};
+ghost use Rattle.capnp_schema.specs.Types.{seen_base, seen_type, seen_variant};
+ghost use Rattle.capnp_base.specs.Types.{base_of, list_depth};
+ghost use Rattle.capnp_request.specs.Bindings.{bounds, seen_bound};
+ghost use Rattle.capnp_request.specs.EntriesSeen.{seen_entry, seen_place};
+ghost use Rattle.capnp_request.specs.Names.{Holder as NameHolder, bindings_name, bound_name, count_of, dotted_of, enum_name, file_of, finished, group_name, is_taken, more_names, part_bindings, struct_name, type_name};
+ghost use Rattle.capnp_request.specs.NamesMade.{AreHolders, IsTooLong, file_when, name_at, names_nothing, one_more, repeated, struct_names, texts};
+ghost use Rattle.capnp_request.specs.Nodes.{AreNodes, listed};
+ghost use Rattle.capnp_request.specs.Order.{name_entry};
 ghost use Rattle.capnp_request.specs.Refusals.{IsPlain};
+ghost use Rattle.capnp_request.specs.Work.{Whole};
 
 use crate::entries::{BoundScope, Entry};
+use crate::parts::owned;
 use crate::schema_nodes::{SchemaNodes, display_name};
 use capnp_base::introspect::{Type, TypeVariant};
 use capnp_schema::record::{EnumRecord, NodeRecord};
@@ -37,7 +48,9 @@ pub(crate) struct Named<'m> {
 
 /// Where the part of a display name behind its last colon begins.
 fn behind_colon(name: &[u8]) -> usize
-    ensures { result ≤ length name.now }
+    ensures inside { result ≤ length name.now }
+    ensures file { take result name.now ≡ file_of name.now }
+    ensures dotted { drop result name.now ≡ dotted_of name.now }
 {
     let mut start = 0;
     for index in 0..name.len() {
@@ -50,7 +63,9 @@ fn behind_colon(name: &[u8]) -> usize
 
 /// Refused with `TooManyTypes` where a name has more than 1,024 bytes.
 fn check_length(name: &[u8]) -> Result<()>
-    ensures kinds { IfErr result (λ e. IsPlain e.kind) }
+    ensures fits { IfOk result (λ _. length name.now ≤ 1024) }
+    ensures refused { IfErr result (λ e. IsTooLong e.kind name.now) }
+    ensures kind { IfErr result (λ e. e.kind ≡ TooManyTypes) }
 {
     if name.len() > MOST_BYTES {
         return Err(Error::from(ErrorKind::TooManyTypes));
@@ -58,19 +73,21 @@ fn check_length(name: &[u8]) -> Result<()>
     Ok(())
 }
 
-/// Bytes as a name. Refused with `TooManyTypes` where there are more than 1,024, and with `NameNotUtf8`.
-fn finished(name: Vec<u8>) -> Result<String>
+/// A copy of bytes as a name. Refused with `TooManyTypes` where there are more than 1,024, and with `NameNotUtf8`.
+fn finished(alloc: Global, name: &[u8]) -> Result<String>
+    ensures read { IfOk result (λ x. finished name.now ≡ Ok (string_bytes x)) }
+    ensures refused { IfErr result (λ e. e.kind ≢ OutOfMemory → finished name.now ≡ Err e.kind) }
     ensures kinds { IfErr result (λ e. IsPlain e.kind) }
 {
-    check_length(name.as_slice())?;
-    match String::from_utf8(name) {
-        Ok(name) => Ok(name),
-        Err(_) => Err(Error::from(ErrorKind::NameNotUtf8)),
-    }
+    check_length(name)?;
+    let text = owned(alloc, name)?;
+    Ok(text)
 }
 
 /// Appends bytes to a name. Refused with `TooManyTypes` where it gets longer than 1,024 bytes.
 fn append(name: &mut Vec<u8>, piece: &[u8]) -> Result<()>
+    ensures appended { IfOk result (λ _. name.new.items ≡ name.old.items ++ piece.now) }
+    ensures refused { IfErr result (λ e. IsTooLong e.kind (name.old.items ++ piece.now)) }
     ensures kinds { IfErr result (λ e. IsPlain e.kind) }
 {
     name.extend_from_slice(piece)?;
@@ -79,14 +96,20 @@ fn append(name: &mut Vec<u8>, piece: &[u8]) -> Result<()>
 
 /// The name of a node without its file.
 pub(crate) fn enum_name(alloc: Global, display: &[u8]) -> Result<String>
+    ensures read { IfOk result (λ x. enum_name display.now ≡ Ok (string_bytes x)) }
+    ensures refused { IfErr result (λ e. e.kind ≢ OutOfMemory → enum_name display.now ≡ Err e.kind) }
     ensures kinds { IfErr result (λ e. IsPlain e.kind) }
 {
-    let dotted = &display[behind_colon(display)..];
-    finished(dotted.to_vec(alloc)?)
+    let start = behind_colon(display);
+    let dotted = &display[start..];
+    let name = finished(alloc, dotted)?;
+    Ok(name)
 }
 
 /// The word for a type that names nothing.
-fn type_word(base: TypeVariant) -> &'static [u8] {
+fn type_word(base: TypeVariant) -> &'static [u8]
+    ensures { names_nothing base ≡ true → (structs enums : List (List ℕ)) → result.now ≡ type_name structs enums (seen_variant base) }
+{
     match base {
         TypeVariant::Void => b"Void",
         TypeVariant::Bool => b"Bool",
@@ -104,11 +127,13 @@ fn type_word(base: TypeVariant) -> &'static [u8] {
     }
 }
 
-/// Appends the name of a type that is no list.
-fn append_base(name: &mut Vec<u8>, named: Named<'_>, base: TypeVariant) -> Result<()>
+/// Appends the name of what stands inside all lists of a type.
+fn append_base(name: &mut Vec<u8>, named: Named<'_>, bound: Type) -> Result<()>
+    ensures appended { IfOk result (λ _. name.new.items ≡ name.old.items ++ type_name (struct_names named.entry.structs.now) (texts named.entry.enums.now) (seen_base (base_of bound))) }
+    ensures refused { IfErr result (λ e. IsTooLong e.kind (name.old.items ++ type_name (struct_names named.entry.structs.now) (texts named.entry.enums.now) (seen_base (base_of bound)))) }
     ensures kinds { IfErr result (λ e. IsPlain e.kind) }
 {
-    match base {
+    match bound.innermost() {
         TypeVariant::Struct(entry) => match named.structs.get(entry.number as usize) {
             Some(node) => append(name, node.display_name.as_bytes()),
             None => Ok(()),
@@ -117,19 +142,18 @@ fn append_base(name: &mut Vec<u8>, named: Named<'_>, base: TypeVariant) -> Resul
             Some(enum_name) => append(name, enum_name.as_bytes()),
             None => Ok(()),
         },
-        _ => append(name, type_word(base)),
+        base => append(name, type_word(base)),
     }
 }
 
-/// Appends a piece for each list around a type, of a type that has at most so many as a name has bytes.
+/// Appends a piece for each list around a type.
 fn append_lists(name: &mut Vec<u8>, bound: Type, piece: &[u8]) -> Result<()>
+    ensures appended { IfOk result (λ _. name.new.items ≡ name.old.items ++ repeated (list_depth bound) piece.now) }
+    ensures refused { IfErr result (λ e. IsTooLong e.kind (name.old.items ++ repeated (list_depth bound) piece.now)) }
     ensures kinds { IfErr result (λ e. IsPlain e.kind) }
 {
     let mut inner = bound;
-    for _ in 0..MOST_BYTES {
-        let TypeVariant::List(element) = inner.which() else {
-            break;
-        };
+    while let TypeVariant::List(element) = inner.which() {
         append(name, piece)?;
         inner = element;
     }
@@ -138,40 +162,70 @@ fn append_lists(name: &mut Vec<u8>, bound: Type, piece: &[u8]) -> Result<()>
 
 /// Appends the name of a type.
 fn append_type(name: &mut Vec<u8>, named: Named<'_>, bound: Type) -> Result<()>
+    ensures appended { IfOk result (λ _. name.new.items ≡ name.old.items ++ type_name (struct_names named.entry.structs.now) (texts named.entry.enums.now) (seen_type bound)) }
+    ensures refused { IfErr result (λ e. IsTooLong e.kind (name.old.items ++ type_name (struct_names named.entry.structs.now) (texts named.entry.enums.now) (seen_type bound))) }
     ensures kinds { IfErr result (λ e. IsPlain e.kind) }
 {
     append_lists(name, bound, b"List(")?;
-    append_base(name, named, bound.innermost())?;
-    append_lists(name, bound, b")")
+    append_base(name, named, bound)?;
+    append_lists(name, bound, b")")?;
+    Ok(())
+}
+
+/// Appends the name of the type of a number among these, an untyped pointer's where there are fewer.
+fn append_bound(name: &mut Vec<u8>, named: Named<'_>, types: &[Type], index: u32) -> Result<()>
+    ensures appended { IfOk result (λ _. name.new.items ≡ name.old.items ++ name_at (struct_names named.entry.structs.now) (texts named.entry.enums.now) (map seen_type types.now) index) }
+    ensures refused { IfErr result (λ e. IsTooLong e.kind (name.old.items ++ name_at (struct_names named.entry.structs.now) (texts named.entry.enums.now) (map seen_type types.now) index)) }
+    ensures kinds { IfErr result (λ e. IsPlain e.kind) }
+{
+    match types.get(index as usize) {
+        Some(bound) => append_type(name, named, *bound),
+        None => append(name, b"AnyPointer"),
+    }
+}
+
+/// Appends what is bound to the parameters behind the first, each behind a comma.
+fn append_others(
+    name: &mut Vec<u8>,
+    named: Named<'_>,
+    types: &[Type],
+    parameters: u32,
+) -> Result<()>
+    ensures appended { IfOk result (λ _. name.new.items ≡ name.old.items ++ more_names (struct_names named.entry.structs.now) (texts named.entry.enums.now) (drop 1 (map seen_type types.now)) (parameters - 1)) }
+    ensures refused { IfErr result (λ e. IsTooLong e.kind (name.old.items ++ more_names (struct_names named.entry.structs.now) (texts named.entry.enums.now) (drop 1 (map seen_type types.now)) (parameters - 1))) }
+    ensures kinds { IfErr result (λ e. IsPlain e.kind) }
+{
+    for index in 1..parameters {
+        append(name, b", ")?;
+        append_bound(name, named, types, index)?;
+    }
+    Ok(())
 }
 
 /// Appends what is bound to a scope's parameters, in parentheses, where that isn't untyped pointers alone.
 fn append_bindings(name: &mut Vec<u8>, named: Named<'_>, scope: &BoundScope) -> Result<()>
+    ensures appended { IfOk result (λ _. name.new.items ≡ name.old.items ++ bindings_name (struct_names named.entry.structs.now) (texts named.entry.enums.now) (seen_bound scope.now).types scope.now.parameters) }
+    ensures refused { IfErr result (λ e. IsTooLong e.kind (name.old.items ++ bindings_name (struct_names named.entry.structs.now) (texts named.entry.enums.now) (seen_bound scope.now).types scope.now.parameters)) }
     ensures kinds { IfErr result (λ e. IsPlain e.kind) }
 {
-    if scope.types.is_empty() {
+    let types = scope.types.as_slice();
+    if types.is_empty() {
         return Ok(());
     }
-    for index in 0..scope.parameters {
-        if index == 0 {
-            append(name, b"(")?;
-        } else {
-            append(name, b", ")?;
-        }
-        match scope.types.get(index as usize) {
-            Some(bound) => append_type(name, named, *bound)?,
-            None => append(name, b"AnyPointer")?,
-        }
-    }
+    append(name, b"(")?;
+    append_bound(name, named, types, 0)?;
+    append_others(name, named, types, scope.parameters)?;
     append(name, b")")
 }
 
 /// How many dots a name has.
-fn dots_in(name: &[u8]) -> usize {
+fn dots_in(name: &[u8]) -> usize
+    ensures { result ≡ count_of 46 name.now }
+{
     let mut dots = 0usize;
     for byte in name {
         if *byte == b'.' {
-            dots = dots.saturating_add(1);
+            dots += 1;
         }
     }
     dots
@@ -179,7 +233,9 @@ fn dots_in(name: &[u8]) -> usize {
 
 /// The part of a dotted name that a scope is paired with, by the number of dots in the name: the last for the node itself,
 /// and the first for a scope that has no part of its own.
-fn part_of_scope(dots: usize, distance: u32) -> usize {
+fn part_of_scope(dots: usize, distance: u32) -> usize
+    ensures { result ≡ dots - distance }
+{
     dots.saturating_sub(distance as usize)
 }
 
@@ -191,6 +247,8 @@ fn append_part_bindings(
     dots: usize,
     part: usize,
 ) -> Result<()>
+    ensures appended { IfOk result (λ _. name.new.items ≡ name.old.items ++ part_bindings (struct_names named.entry.structs.now) (texts named.entry.enums.now) (bounds scopes.now) dots part) }
+    ensures refused { IfErr result (λ e. IsTooLong e.kind (name.old.items ++ part_bindings (struct_names named.entry.structs.now) (texts named.entry.enums.now) (bounds scopes.now) dots part)) }
     ensures kinds { IfErr result (λ e. IsPlain e.kind) }
 {
     for scope in scopes {
@@ -208,6 +266,8 @@ fn append_dotted(
     dotted: &[u8],
     scopes: &[BoundScope],
 ) -> Result<()>
+    ensures appended { IfOk result (λ _. name.new.items ≡ name.old.items ++ bound_name (struct_names named.entry.structs.now) (texts named.entry.enums.now) (bounds scopes.now) (count_of 46 dotted.now) 0 dotted.now) }
+    ensures refused { IfErr result (λ e. IsTooLong e.kind (name.old.items ++ bound_name (struct_names named.entry.structs.now) (texts named.entry.enums.now) (bounds scopes.now) (count_of 46 dotted.now) 0 dotted.now)) }
     ensures kinds { IfErr result (λ e. IsPlain e.kind) }
 {
     let dots = dots_in(dotted);
@@ -215,7 +275,7 @@ fn append_dotted(
     for byte in dotted {
         if *byte == b'.' {
             append_part_bindings(name, named, scopes, dots, part)?;
-            part = part.saturating_add(1);
+            part += 1;
         }
         name.push(*byte)?;
     }
@@ -223,8 +283,60 @@ fn append_dotted(
     check_length(name.as_slice())
 }
 
+/// What stands before a dotted name: the file where the name is taken.
+fn file_part(alloc: Global, file: &[u8], is_taken: bool) -> Result<Vec<u8>>
+    ensures read { IfOk result (λ name. name.items ≡ file_when is_taken file.now) }
+    ensures refused { IfErr result (λ e. IsTooLong e.kind (file_when is_taken file.now)) }
+    ensures kinds { IfErr result (λ e. IsPlain e.kind) }
+{
+    let mut name = Vec::new(alloc);
+    if is_taken {
+        append(&mut name, file)?;
+    }
+    Ok(name)
+}
+
+/// The name of a group: its parent's, a dot, and the name of the field. Refused with `NodeNotFound` where its parent isn't
+/// there or has no such field.
+fn group_name(alloc: Global, parent: Option<&NodeRecord>, field: usize) -> Result<String>
+    ensures read { IfOk result (λ name. group_name (option_map (λ n. seen_node n.now) parent.entry) field ≡ Ok (string_bytes name)) }
+    ensures refused { IfErr result (λ e. e.kind ≢ OutOfMemory → group_name (option_map (λ n. seen_node n.now) parent.entry) field ≡ Err e.kind) }
+    ensures kinds { IfErr result (λ e. IsPlain e.kind) }
+{
+    let Some(parent) = parent else {
+        return Err(Error::from(ErrorKind::NodeNotFound));
+    };
+    let Some(field) = parent.body.fields.get(field) else {
+        return Err(Error::from(ErrorKind::NodeNotFound));
+    };
+    let mut name = Vec::new(alloc);
+    append(&mut name, parent.display_name.as_bytes())?;
+    append(&mut name, b".")?;
+    append(&mut name, field.name.as_bytes())?;
+    let name = finished(alloc, name.as_slice())?;
+    Ok(name)
+}
+
+/// Who has a name from now on: the first entry that had it, shared where the entry of this id has another.
+fn one_more(id: u64, held: Option<Holder>) -> Holder
+    ensures { result ≡ one_more id held }
+{
+    match held {
+        Some(holder) => Holder {
+            id: holder.id,
+            is_shared: holder.is_shared || holder.id != id,
+        },
+        None => Holder {
+            id,
+            is_shared: false,
+        },
+    }
+}
+
 impl Names {
-    pub(crate) fn new(alloc: Global) -> Names {
+    pub(crate) fn new(alloc: Global) -> Names
+        ensures { AreHolders result [] }
+    {
         Names {
             alloc,
             holders: HashMap::new(alloc),
@@ -233,24 +345,41 @@ impl Names {
 
     /// Whether an entry of another id had the name before; the entry has it from now on.
     fn is_taken(&mut self, dotted: &[u8], id: u64) -> Result<bool>
-        ensures kinds { IfErr result (λ e. IsPlain e.kind) }
+        ensures taken { (hs : List NameHolder) → AreHolders self.old hs → IfOk result (λ t. t ≡ is_taken hs id dotted.now) }
+        ensures held { (hs : List NameHolder) → AreHolders self.old hs → OnOk result (AreHolders self.new (record { id = id; dotted = dotted.now } ∷ hs)) }
+        ensures refused { IfErr result (λ e. e.kind ≡ OutOfMemory) }
     {
-        let holder = match self.holders.get(dotted) {
-            Some(holder) => Holder {
-                id: holder.id,
-                is_shared: holder.is_shared || holder.id != id,
-            },
-            None => Holder {
-                id,
-                is_shared: false,
-            },
-        };
-        self.holders.insert(dotted.to_vec(self.alloc)?, holder)?;
+        let key = dotted.to_vec(self.alloc)?;
+        let holder = one_more(id, self.holders.get(&key).copied());
+        self.holders.insert(key, holder)?;
         Ok(holder.is_shared)
     }
 
-    /// The name of an entry that is no group: that of its node without the file, with what is bound to each scope behind
-    /// the scope's part. Where an entry of another id had the name without file before, the file stands before it.
+    /// The name of an entry that is no group, by the display name of its node: that without the file, with what is bound
+    /// to each scope behind the scope's part. Where an entry of another id had the name without file before, the file stands
+    /// before it.
+    fn name_by_display(
+        &mut self,
+        named: Named<'_>,
+        entry: &Entry,
+        display: &[u8],
+    ) -> Result<String>
+        ensures read { (hs : List NameHolder) → AreHolders self.old hs → IfOk result (λ name. struct_name (struct_names named.entry.structs.now) (texts named.entry.enums.now) hs entry.now.id (bounds entry.now.scopes.items) display.now ≡ Ok (string_bytes name)) }
+        ensures held { (hs : List NameHolder) → AreHolders self.old hs → OnOk result (AreHolders self.new (record { id = entry.now.id; dotted = dotted_of display.now } ∷ hs)) }
+        ensures refused { (hs : List NameHolder) → AreHolders self.old hs → IfErr result (λ e. e.kind ≢ OutOfMemory → struct_name (struct_names named.entry.structs.now) (texts named.entry.enums.now) hs entry.now.id (bounds entry.now.scopes.items) display.now ≡ Err e.kind) }
+        ensures kinds { IfErr result (λ e. IsPlain e.kind) }
+    {
+        let start = behind_colon(display);
+        let file = &display[..start];
+        let dotted = &display[start..];
+        let is_taken = self.is_taken(dotted, entry.id)?;
+        let mut name = file_part(self.alloc, file, is_taken)?;
+        append_dotted(&mut name, named, dotted, entry.scopes.as_slice())?;
+        let name = finished(self.alloc, name.as_slice())?;
+        Ok(name)
+    }
+
+    /// The name of an entry that is no group.
     fn struct_name<'a>(
         &mut self,
         nodes: &SchemaNodes<'a>,
@@ -258,30 +387,12 @@ impl Names {
         entry: &Entry,
     ) -> Result<String>
         requires { AreNodes nodes.now }
+        ensures done { (hs : List NameHolder) → AreHolders self.old hs → IfOk result (λ name. (after : List NameHolder) × AreHolders self.new after × (name_entry (listed nodes.now) (map seen_node named.entry.structs.now) (texts named.entry.enums.now) hs (seen_entry entry.now) Whole ≡ Ok (string_bytes name, after))) }
+        ensures refused { (hs : List NameHolder) → AreHolders self.old hs → IfErr result (λ e. e.kind ≢ OutOfMemory → name_entry (listed nodes.now) (map seen_node named.entry.structs.now) (texts named.entry.enums.now) hs (seen_entry entry.now) Whole ≡ Err e.kind) }
         ensures kinds { IfErr result (λ e. IsPlain e.kind) }
     {
         let display = display_name(nodes.found(entry.id)?)?;
-        let start = behind_colon(display);
-        let dotted = &display[start..];
-        let mut name = Vec::new(self.alloc);
-        if self.is_taken(dotted, entry.id)? {
-            append(&mut name, &display[..start])?;
-        }
-        append_dotted(&mut name, named, dotted, entry.scopes.as_slice())?;
-        finished(name)
-    }
-
-    /// The name of a group: its parent's, a dot, and the name of the field.
-    fn group_name(&self, parent: &NodeRecord, field: usize) -> Result<String>
-        ensures kinds { IfErr result (λ e. IsPlain e.kind) }
-    {
-        let mut name = Vec::new(self.alloc);
-        append(&mut name, parent.display_name.as_bytes())?;
-        if let Some(field) = parent.body.fields.get(field) {
-            append(&mut name, b".")?;
-            append(&mut name, field.name.as_bytes())?;
-        }
-        finished(name)
+        self.name_by_display(named, entry, display)
     }
 
     /// The name of an entry, where those of smaller numbers have their names.
@@ -292,13 +403,16 @@ impl Names {
         entry: &Entry,
     ) -> Result<String>
         requires { AreNodes nodes.now }
+        ensures done { (hs : List NameHolder) → AreHolders self.old hs → IfOk result (λ name. (after : List NameHolder) × AreHolders self.new after × (name_entry (listed nodes.now) (map seen_node named.entry.structs.now) (texts named.entry.enums.now) hs (seen_entry entry.now) (seen_place entry.now.group) ≡ Ok (string_bytes name, after))) }
+        ensures refused { (hs : List NameHolder) → AreHolders self.old hs → IfErr result (λ e. e.kind ≢ OutOfMemory → name_entry (listed nodes.now) (map seen_node named.entry.structs.now) (texts named.entry.enums.now) hs (seen_entry entry.now) (seen_place entry.now.group) ≡ Err e.kind) }
         ensures kinds { IfErr result (λ e. IsPlain e.kind) }
     {
         match entry.group {
-            Some(place) => match named.structs.get(place.parent as usize) {
-                Some(parent) => self.group_name(parent, place.field),
-                None => Err(Error::from(ErrorKind::NodeNotFound)),
-            },
+            Some(place) => group_name(
+                self.alloc,
+                named.structs.get(place.parent as usize),
+                place.field,
+            ),
             None => self.struct_name(nodes, named, entry),
         }
     }

@@ -1,0 +1,262 @@
+-- Names piece by piece.
+use Rattle.std.proofs.Common.{ℕ, zero, suc, ◌+◌, ◌-◌, ◌<◌, ◌≤◌, ◌≡◌, ◌≢◌, ◌==◌, ◌∙◌, arith, ap, refl, sym, subst, codes, Bool, true, false, List, [], ◌∷◌, ◌++◌, length, map, get_or, slice_get, drop, option_map, string_bytes, String, Option, Some, None}
+use Rattle.std.proofs.lemmas.List.{append-nil}
+use Rattle.std.proofs.lemmas.Option.{slice_get-map}
+use Rattle.std.specs.Option.{unwrap_or}
+use Rattle.std.proofs.Common.{append_assoc, drop-cons, length-append}
+use Rattle.capnp_device.specs.declared.error.ErrorKind.{ErrorKind}
+use Rattle.capnp_base.specs.Types.{base_of, base_variant, list_depth, variant_of}
+use Rattle.capnp_base.specs.declared.introspect.BaseType.{BaseType}
+use Rattle.capnp_base.specs.declared.introspect.BaseType.TheVariants as base
+use Rattle.capnp_base.specs.declared.introspect.RawBrandedStructSchema.{RawBrandedStructSchema}
+use Rattle.capnp_base.specs.declared.introspect.RawEnumSchema.{RawEnumSchema}
+use Rattle.capnp_base.specs.declared.introspect.TypeVariant.TheVariants as variant
+use Rattle.capnp_schema.specs.Schema.{Node, seen_node}
+use Rattle.capnp_schema.specs.declared.record.NodeRecord.{NodeRecord}
+use Rattle.capnp_schema.specs.Types.{SchemaType, lists_of, seen_base, seen_type, seen_variant}
+use Rattle.capnp_request.specs.Bindings.{bounds, seen_bound}
+use Rattle.capnp_request.specs.Names.{bindings_name, bound_name, more_names, part_bindings, type_name}
+use Rattle.capnp_request.specs.NamesMade.{IsTooLong, name_at, names_nothing, repeated, struct_names, texts}
+use Rattle.capnp_request.specs.declared.entries.BoundScope.{BoundScope}
+
+-- a name that begins with one that is too long is too long
+pub longer : {kind : ErrorKind} {xs : List ℕ} (zs : List ℕ) → IsTooLong kind xs → length xs ≤ length zs → IsTooLong kind zs
+longer zs h more = record { too_long = λ is. ((h.too_long is).0, omega (arith, (h.too_long is).1)) }
+
+pub begun : {kind : ErrorKind} (xs ys : List ℕ) → IsTooLong kind xs → IsTooLong kind (xs ++ ys)
+begun xs ys h = longer (xs ++ ys) h (simp length-append (omega arith))
+
+pub begun_two : {kind : ErrorKind} (name xs ys : List ℕ) → IsTooLong kind (name ++ xs) → IsTooLong kind (name ++ (xs ++ ys))
+begun_two name xs ys h = longer (name ++ (xs ++ ys)) h (simp length-append (omega arith))
+
+-- a name in three pieces
+module _ (name a b c whole : List ℕ) (is : whole ≡ (a ++ b) ++ c) where
+  pieces : name ++ whole ≡ ((name ++ a) ++ b) ++ c
+  pieces = ap (λ xs. name ++ xs) is ∙ simp append_assoc
+
+  pub first_long : (kind : ErrorKind) → IsTooLong kind (name ++ a) → IsTooLong kind (name ++ whole)
+  first_long kind h = subst (IsTooLong kind) (sym pieces) (begun ((name ++ a) ++ b) c (begun (name ++ a) b h))
+
+  pub second_long : (kind : ErrorKind) (next : List ℕ) → next ≡ name ++ a → IsTooLong kind (next ++ b) → IsTooLong kind (name ++ whole)
+  second_long kind next e h = subst (IsTooLong kind) (sym pieces) (begun ((name ++ a) ++ b) c (subst (λ xs. IsTooLong kind (xs ++ b)) e h))
+
+  pub third_long : (kind : ErrorKind) (next last : List ℕ) → next ≡ name ++ a → last ≡ next ++ b → IsTooLong kind (last ++ c) → IsTooLong kind (name ++ whole)
+  third_long kind next last e f h = subst (IsTooLong kind) (sym pieces) (subst (λ xs. IsTooLong kind (xs ++ c)) (f ∙ ap (λ xs. xs ++ b) e) h)
+
+  pub joined : (next last end : List ℕ) → next ≡ name ++ a → last ≡ next ++ b → end ≡ last ++ c → end ≡ name ++ whole
+  joined next last end e f g = g ∙ (ap (λ xs. xs ++ c) (f ∙ ap (λ xs. xs ++ b) e) ∙ sym pieces)
+
+-- ---- types ----
+
+repeated-end : (n : ℕ) (p : List ℕ) → repeated n p ++ p ≡ p ++ repeated n p
+repeated-end zero p = sym (append-nil p)
+repeated-end (suc n) p = append_assoc p (repeated n p) p ∙ ap (λ xs. p ++ xs) (repeated-end n p)
+
+wrapped : (l ls t rs r : List ℕ) → rs ++ r ≡ r ++ rs → (l ++ ((ls ++ t) ++ rs)) ++ r ≡ ((l ++ ls) ++ t) ++ (r ++ rs)
+wrapped l ls t rs r e = simp append_assoc (ap (λ xs. l ++ (ls ++ (t ++ xs))) e)
+
+pub lists_name : (structs enums : List (List ℕ)) (n : ℕ) (t : SchemaType) →
+    type_name structs enums (lists_of n t) ≡ (repeated n (codes "List(") ++ type_name structs enums t) ++ repeated n (codes ")")
+lists_name structs enums zero t = sym (append-nil (type_name structs enums t))
+lists_name structs enums (suc n) t =
+    ap (λ xs. (codes "List(" ++ xs) ++ codes ")") (lists_name structs enums n t)
+    ∙ wrapped (codes "List(") (repeated n (codes "List(")) (type_name structs enums t) (repeated n (codes ")")) (codes ")") (repeated-end n (codes ")"))
+
+pub variant_seen : (b : BaseType) → seen_variant (base_variant b) ≡ seen_base b
+variant_seen base.Void = refl
+variant_seen base.Bool = refl
+variant_seen base.Int8 = refl
+variant_seen base.Int16 = refl
+variant_seen base.Int32 = refl
+variant_seen base.Int64 = refl
+variant_seen base.UInt8 = refl
+variant_seen base.UInt16 = refl
+variant_seen base.UInt32 = refl
+variant_seen base.UInt64 = refl
+variant_seen base.Text = refl
+variant_seen base.«Data» = refl
+variant_seen (base.Struct s) = refl
+variant_seen base.AnyPointer = refl
+variant_seen (base.Enum e) = refl
+
+-- a variant that is none of a struct and an enum names nothing, where it is no list
+pub names_none : (b : BaseType) → ((s : RawBrandedStructSchema) → base_variant b ≢ variant.Struct s) → ((e : RawEnumSchema) → base_variant b ≢ variant.Enum e) → names_nothing (base_variant b) ≡ true
+names_none base.Void h g = refl
+names_none base.Bool h g = refl
+names_none base.Int8 h g = refl
+names_none base.Int16 h g = refl
+names_none base.Int32 h g = refl
+names_none base.Int64 h g = refl
+names_none base.UInt8 h g = refl
+names_none base.UInt16 h g = refl
+names_none base.UInt32 h g = refl
+names_none base.UInt64 h g = refl
+names_none base.Text h g = refl
+names_none base.«Data» h g = refl
+names_none (base.Struct s) h g = absurd (h s refl)
+names_none base.AnyPointer h g = refl
+names_none (base.Enum e) h g = absurd (g e refl)
+
+-- the name of a struct or enum, by the name of its number
+pub struct_word : (structs enums : List (List ℕ)) (b : BaseType) (s : RawBrandedStructSchema) (name : List ℕ) → variant.Struct s ≡ base_variant b → unwrap_or (slice_get structs s.number) [] ≡ name →
+    type_name structs enums (seen_base b) ≡ name
+struct_word structs enums b s name e h = ap (type_name structs enums) (sym (variant_seen b) ∙ ap seen_variant (sym e)) ∙ h
+
+pub enum_word : (structs enums : List (List ℕ)) (b : BaseType) (s : RawEnumSchema) (name : List ℕ) → variant.Enum s ≡ base_variant b → unwrap_or (slice_get enums s.number) [] ≡ name →
+    type_name structs enums (seen_base b) ≡ name
+enum_word structs enums b s name e h = ap (type_name structs enums) (sym (variant_seen b) ∙ ap seen_variant (sym e)) ∙ h
+
+pub name_there : (nodes : List NodeRecord) (i : ℕ) (n : NodeRecord) → slice_get nodes i ≡ Some n → unwrap_or (slice_get (struct_names nodes) i) [] ≡ string_bytes n.display_name
+name_there nodes i n e =
+    ap (λ o. unwrap_or o []) (slice_get-map (λ (n : Node). n.display_name) (map seen_node nodes) i ∙ ap (option_map (λ (n : Node). n.display_name)) (slice_get-map seen_node nodes i ∙ ap (option_map seen_node) e))
+
+pub name_missing : (nodes : List NodeRecord) (i : ℕ) → slice_get nodes i ≡ None → unwrap_or (slice_get (struct_names nodes) i) [] ≡ []
+name_missing nodes i e =
+    ap (λ o. unwrap_or o []) (slice_get-map (λ (n : Node). n.display_name) (map seen_node nodes) i ∙ ap (option_map (λ (n : Node). n.display_name)) (slice_get-map seen_node nodes i ∙ ap (option_map seen_node) e))
+
+pub text_there : {A : Type 0} (names : List (String A)) (i : ℕ) (n : String A) → slice_get names i ≡ Some n → unwrap_or (slice_get (texts names) i) [] ≡ string_bytes n
+text_there names i n e = ap (λ o. unwrap_or o []) (slice_get-map string_bytes names i ∙ ap (option_map string_bytes) e)
+
+pub text_missing : {A : Type 0} (names : List (String A)) (i : ℕ) → slice_get names i ≡ None → unwrap_or (slice_get (texts names) i) [] ≡ []
+text_missing names i e = ap (λ o. unwrap_or o []) (slice_get-map string_bytes names i ∙ ap (option_map string_bytes) e)
+
+-- ---- bindings ----
+
+more_at : (structs enums : List (List ℕ)) (ts : List SchemaType) (count : ℕ) →
+    more_names structs enums ts (suc count) ≡ (codes ", " ++ name_at structs enums ts 0) ++ more_names structs enums (drop 1 ts) count
+more_at structs enums [] count = refl
+more_at structs enums (t ∷ ts) count = refl
+
+name_behind : (structs enums : List (List ℕ)) (ts : List SchemaType) (i : ℕ) → name_at structs enums (drop i ts) 0 ≡ name_at structs enums ts i
+name_behind structs enums [] zero = refl
+name_behind structs enums [] (suc i) = refl
+name_behind structs enums (t ∷ ts) zero = refl
+name_behind structs enums (t ∷ ts) (suc i) = name_behind structs enums ts i
+
+pub drop_more : {A : Type 0} (xs : List A) (i : ℕ) → drop 1 (drop i xs) ≡ drop (i + 1) xs
+drop_more [] zero = refl
+drop_more [] (suc i) = let e : suc i + 1 ≡ suc (i + 1) = omega arith in ap (λ n. drop n []) (sym e)
+drop_more (x ∷ xs) zero = refl
+drop_more (x ∷ xs) (suc i) = let e : suc i + 1 ≡ suc (i + 1) = omega arith in drop_more xs i ∙ ap (λ n. drop n (x ∷ xs)) (sym e)
+
+pub more_left : (structs enums : List (List ℕ)) (ts : List SchemaType) (i p : ℕ) → i < p →
+    more_names structs enums (drop i ts) (p - i) ≡ (codes ", " ++ name_at structs enums ts i) ++ more_names structs enums (drop (i + 1) ts) (p - (i + 1))
+more_left structs enums ts i p h =
+    let e : p - i ≡ suc (p - (i + 1)) = omega (arith, h) in
+    ap (more_names structs enums (drop i ts)) e ∙ (more_at structs enums (drop i ts) (p - (i + 1))
+    ∙ (ap (λ n. (codes ", " ++ n) ++ more_names structs enums (drop 1 (drop i ts)) (p - (i + 1))) (name_behind structs enums ts i)
+    ∙ ap (λ us. (codes ", " ++ name_at structs enums ts i) ++ more_names structs enums us (p - (i + 1))) (drop_more ts i)))
+
+pub none_more : (structs enums : List (List ℕ)) (ts : List SchemaType) (i p : ℕ) → p ≤ i → more_names structs enums ts (p - i) ≡ []
+none_more structs enums ts i p h = let e : p - i ≡ 0 = omega (arith, h) in ap (more_names structs enums ts) e ∙ nothing ts
+  where
+    nothing : (ts : List SchemaType) → more_names structs enums ts 0 ≡ []
+    nothing [] = refl
+    nothing (t ∷ ts) = refl
+
+-- in parentheses: the first, and the others behind it
+pub bindings_joined : (structs enums : List (List ℕ)) (ts : List SchemaType) (p : ℕ) → 0 < length ts →
+    bindings_name structs enums ts p ≡ ((codes "(" ++ name_at structs enums ts 0) ++ more_names structs enums (drop 1 ts) (p - 1)) ++ codes ")"
+bindings_joined structs enums [] p h = absurd (omega (arith, h))
+bindings_joined structs enums (t ∷ ts) p h = refl
+
+pub bindings_none : (structs enums : List (List ℕ)) (ts : List SchemaType) (p : ℕ) → length ts ≡ 0 → bindings_name structs enums ts p ≡ []
+bindings_none structs enums [] p e = refl
+bindings_none structs enums (t ∷ ts) p e = absurd (omega (arith, e))
+
+-- ---- parts ----
+
+abbrev pub scope_by : Bool → List ℕ → List ℕ → List ℕ
+scope_by true name rest = name ++ rest
+scope_by false name rest = rest
+
+pub part_left : (structs enums : List (List ℕ)) (bs : List BoundScope) (i : ℕ) (b : BoundScope) (dots k : ℕ) → i < length bs → b ≡ get_or bs i b →
+    part_bindings structs enums (bounds (drop i bs)) dots k
+    ≡ scope_by (dots - b.distance == k) (bindings_name structs enums (seen_bound b).types b.parameters) (part_bindings structs enums (bounds (drop (i + 1) bs)) dots k)
+part_left structs enums bs i b dots k inside is =
+    let e : suc i ≡ i + 1 = omega arith in
+    ap (λ xs. part_bindings structs enums (bounds xs) dots k) (drop-cons bs i b inside ∙ (ap (λ x. x ∷ drop (suc i) bs) (sym is) ∙ ap (λ n. b ∷ drop n bs) e)) ∙ go (dots - b.distance == k)
+  where
+    go : (q : Bool) → (elim q as (λ _. List ℕ) [
+      | true ↦ bindings_name structs enums (seen_bound b).types b.parameters ++ part_bindings structs enums (bounds (drop (i + 1) bs)) dots k
+      | false ↦ part_bindings structs enums (bounds (drop (i + 1) bs)) dots k
+    ]) ≡ scope_by q (bindings_name structs enums (seen_bound b).types b.parameters) (part_bindings structs enums (bounds (drop (i + 1) bs)) dots k)
+    go true = refl
+    go false = refl
+
+-- a dotted name from byte i on
+abbrev pub byte_by : Bool → ℕ → (bindings dotted plain : List ℕ) → List ℕ
+byte_by true x bindings dotted plain = bindings ++ 46 ∷ dotted
+byte_by false x bindings dotted plain = x ∷ plain
+
+pub dotted_left : (structs enums : List (List ℕ)) (bs : List BoundScope) (dots k : ℕ) (xs : List ℕ) (i : ℕ) → i < length xs →
+    bound_name structs enums (bounds bs) dots k (drop i xs)
+    ≡ byte_by (get_or xs i 0 == 46) (get_or xs i 0) (part_bindings structs enums (bounds bs) dots k) (bound_name structs enums (bounds bs) dots (k + 1) (drop (i + 1) xs)) (bound_name structs enums (bounds bs) dots k (drop (i + 1) xs))
+dotted_left structs enums bs dots k xs i inside =
+    let e : suc i ≡ i + 1 = omega arith in
+    ap (bound_name structs enums (bounds bs) dots k) (drop-cons xs i 0 inside ∙ ap (λ n. get_or xs i 0 ∷ drop n xs) e) ∙ go (get_or xs i 0 == 46)
+  where
+    go : (q : Bool) → (elim q as (λ _. List ℕ) [
+      | true ↦ part_bindings structs enums (bounds bs) dots k ++ 46 ∷ bound_name structs enums (bounds bs) dots (k + 1) (drop (i + 1) xs)
+      | false ↦ get_or xs i 0 ∷ bound_name structs enums (bounds bs) dots k (drop (i + 1) xs)
+    ]) ≡ byte_by q (get_or xs i 0) (part_bindings structs enums (bounds bs) dots k) (bound_name structs enums (bounds bs) dots (k + 1) (drop (i + 1) xs)) (bound_name structs enums (bounds bs) dots k (drop (i + 1) xs))
+    go true = refl
+    go false = refl
+
+pub nothing_left : (structs enums : List (List ℕ)) (bs : List BoundScope) (dots k : ℕ) (xs : List ℕ) (i : ℕ) → length xs ≤ i → bound_name structs enums (bounds bs) dots k (drop i xs) ≡ part_bindings structs enums (bounds bs) dots k
+nothing_left structs enums bs dots k [] zero h = refl
+nothing_left structs enums bs dots k [] (suc i) h = refl
+nothing_left structs enums bs dots k (x ∷ xs) zero h = absurd (omega (arith, h))
+nothing_left structs enums bs dots k (x ∷ xs) (suc i) h = nothing_left structs enums bs dots k xs i (omega (arith, h))
+
+-- ---- one step of each loop ----
+
+module _ (structs enums : List (List ℕ)) (ts : List SchemaType) (i p : ℕ) (inside : i < p) (name whole : List ℕ) (left : name ++ more_names structs enums (drop i ts) (p - i) ≡ whole) where
+  pub comma_long : (kind : ErrorKind) → IsTooLong kind (name ++ codes ", ") → IsTooLong kind whole
+  comma_long kind h = subst (IsTooLong kind) left (first_long name (codes ", ") (name_at structs enums ts i) (more_names structs enums (drop (i + 1) ts) (p - (i + 1))) _ (more_left structs enums ts i p inside) kind h)
+
+  pub bound_long : (kind : ErrorKind) (next : List ℕ) → next ≡ name ++ codes ", " → IsTooLong kind (next ++ name_at structs enums ts i) → IsTooLong kind whole
+  bound_long kind next e h = subst (IsTooLong kind) left (second_long name (codes ", ") (name_at structs enums ts i) (more_names structs enums (drop (i + 1) ts) (p - (i + 1))) _ (more_left structs enums ts i p inside) kind next e h)
+
+  pub other_appended : (next last : List ℕ) → next ≡ name ++ codes ", " → last ≡ next ++ name_at structs enums ts i → last ++ more_names structs enums (drop (i + 1) ts) (p - (i + 1)) ≡ whole
+  other_appended next last e f = joined name (codes ", ") (name_at structs enums ts i) (more_names structs enums (drop (i + 1) ts) (p - (i + 1))) _ (more_left structs enums ts i p inside) next last _ e f refl ∙ left
+
+module _ (structs enums : List (List ℕ)) (bs : List BoundScope) (i : ℕ) (b : BoundScope) (dots k : ℕ) (inside : i < length bs) (is : b ≡ get_or bs i b) (name whole : List ℕ)
+    (left : name ++ part_bindings structs enums (bounds (drop i bs)) dots k ≡ whole) where
+  abbrev bindings : List ℕ
+  bindings = bindings_name structs enums (seen_bound b).types b.parameters
+
+  abbrev rest : List ℕ
+  rest = part_bindings structs enums (bounds (drop (i + 1) bs)) dots k
+
+  here : (q : Bool) → (dots - b.distance == k) ≡ q → name ++ scope_by q bindings rest ≡ whole
+  here q e = ap (λ t. name ++ scope_by t bindings rest) (sym e) ∙ (ap (λ xs. name ++ xs) (sym (part_left structs enums bs i b dots k inside is)) ∙ left)
+
+  pub scope_long : (kind : ErrorKind) → (dots - b.distance == k) ≡ true → IsTooLong kind (name ++ bindings) → IsTooLong kind whole
+  scope_long kind e h = subst (IsTooLong kind) (here true e) (begun_two name bindings rest h)
+
+  pub scope_appended : (next : List ℕ) → (dots - b.distance == k) ≡ true → next ≡ name ++ bindings → next ++ rest ≡ whole
+  scope_appended next e f = ap (λ xs. xs ++ rest) f ∙ (append_assoc name bindings rest ∙ here true e)
+
+  pub scope_passed : (dots - b.distance == k) ≡ false → name ++ rest ≡ whole
+  scope_passed e = here false e
+
+module _ (structs enums : List (List ℕ)) (bs : List BoundScope) (dots k : ℕ) (xs : List ℕ) (i : ℕ) (inside : i < length xs) (name whole : List ℕ)
+    (left : name ++ bound_name structs enums (bounds bs) dots k (drop i xs) ≡ whole) where
+  abbrev part : List ℕ
+  part = part_bindings structs enums (bounds bs) dots k
+
+  abbrev behind : ℕ → List ℕ
+  behind j = bound_name structs enums (bounds bs) dots j (drop (i + 1) xs)
+
+  at : (q : Bool) → (get_or xs i 0 == 46) ≡ q → name ++ byte_by q (get_or xs i 0) part (behind (k + 1)) (behind k) ≡ whole
+  at q e = ap (λ t. name ++ byte_by t (get_or xs i 0) part (behind (k + 1)) (behind k)) (sym e) ∙ (ap (λ ys. name ++ ys) (sym (dotted_left structs enums bs dots k xs i inside)) ∙ left)
+
+  pub part_long : (kind : ErrorKind) → (get_or xs i 0 == 46) ≡ true → IsTooLong kind (name ++ part) → IsTooLong kind whole
+  part_long kind e h = subst (IsTooLong kind) (at true e) (begun_two name part (46 ∷ behind (k + 1)) h)
+
+  pub dot_appended : (next last : List ℕ) → (get_or xs i 0 == 46) ≡ true → next ≡ name ++ part → last ≡ next ++ 46 ∷ [] → last ++ behind (k + 1) ≡ whole
+  dot_appended next last e f g = ap (λ ys. ys ++ behind (k + 1)) (g ∙ ap (λ ys. ys ++ 46 ∷ []) f) ∙ (simp append_assoc ∙ at true e)
+
+  pub byte_appended : (last : List ℕ) → (get_or xs i 0 == 46) ≡ false → last ≡ name ++ get_or xs i 0 ∷ [] → last ++ behind k ≡ whole
+  byte_appended last e g = ap (λ ys. ys ++ behind k) g ∙ (append_assoc name (get_or xs i 0 ∷ []) (behind k) ∙ at false e)
