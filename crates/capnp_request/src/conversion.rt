@@ -9,7 +9,7 @@ ghost use Rattle.capnp_request.specs.EntriesSeen.{seen_entry};
 ghost use Rattle.capnp_request.specs.Handles.{IsRecord};
 ghost use Rattle.capnp_request.specs.Names.{Holder};
 ghost use Rattle.capnp_request.specs.NamesMade.{AreHolders, texts};
-ghost use Rattle.capnp_request.specs.Nodes.{AreNodes, listed};
+ghost use Rattle.capnp_request.specs.Nodes.{AreNodes, nodes_of};
 ghost use Rattle.capnp_request.specs.Numbers.{AreNumbered, numbered};
 ghost use Rattle.capnp_request.specs.Order.{and_said, begin_enum, begin_struct, conversion_of, enum_names, make_all, make_enum, nothing_made, result_of, struct_made, with_struct};
 ghost use Rattle.capnp_request.specs.ProgressSeen.{begun_of, made_of, rest_of, seen_lists};
@@ -67,7 +67,7 @@ fn named_enum<'a>(
     id: u64,
 ) -> Result<(String, dynamic_struct::Reader<'a>)>
     requires { AreNodes context.nodes.now }
-    ensures said { IsSaid (λ r. (string_bytes r.0, node_said (record_seen r.1))) (begin_enum (listed context.entry.nodes.now) id) result }
+    ensures said { IsSaid (λ r. (string_bytes r.0, node_said (record_seen r.1))) (begin_enum (nodes_of context.entry.nodes.now) id) result }
     ensures record { IfOk result (λ r. IsRecord 2 r.1) }
     ensures kinds { IfErr result (λ e. IsPlain e.kind) }
 {
@@ -98,7 +98,7 @@ impl Progress {
     /// Names the enums that were named by types since.
     fn name_enums<'a>(&mut self, context: Context<'_, 'a>, entries: &Entries) -> Result<()>
         requires { AreNodes context.nodes.now }
-        ensures said { IsSaid (λ _. texts self.new.enum_names.items) (enum_names (listed context.entry.nodes.now) (drop (length (texts self.old.enum_names.items)) (numbered entries.now).enums) (texts self.old.enum_names.items)) result }
+        ensures said { IsSaid (λ _. texts self.new.enum_names.items) (enum_names (nodes_of context.entry.nodes.now) (drop (length (texts self.old.enum_names.items)) (numbered entries.now).enums) (texts self.old.enum_names.items)) result }
         ensures same { self.new.made ≡ self.old.made }
         ensures names { self.new.names ≡ self.old.names }
         ensures kinds { IfErr result (λ e. IsPlain e.kind) }
@@ -122,9 +122,9 @@ impl Progress {
     ) -> Result<NextStruct<'a>>
         requires { AreNodes context.nodes.now }
         ensures done { (hs : List Holder) → AreHolders self.old.names hs → IfOk result (λ next. (after : List Holder) × AreHolders self.new.names after
-            × (begin_struct (listed context.entry.nodes.now) (made_of self.old hs) (seen_entry entry.now) (numbered entries.now).enums ≡ Ok (begun_of self.new after next))) }
+            × (begin_struct (nodes_of context.entry.nodes.now) (made_of self.old hs) (seen_entry entry.now) (numbered entries.now).enums ≡ Ok (begun_of self.new after next))) }
         ensures refused { (hs : List Holder) → AreHolders self.old.names hs → IfErr result (λ e. e.kind ≢ OutOfMemory →
-            begin_struct (listed context.entry.nodes.now) (made_of self.old hs) (seen_entry entry.now) (numbered entries.now).enums ≡ Err e.kind) }
+            begin_struct (nodes_of context.entry.nodes.now) (made_of self.old hs) (seen_entry entry.now) (numbered entries.now).enums ≡ Err e.kind) }
         ensures number { IfOk result (λ next. next.place.number ≡ length self.old.made.nodes.items) }
         ensures id { IfOk result (λ next. next.place.id ≡ entry.now.id) }
         ensures scopes { IfOk result (λ next. bounds next.scopes.items ≡ bounds entry.now.scopes.items) }
@@ -169,7 +169,7 @@ impl Progress {
         requires number { next.place.number ≡ length self.now.made.nodes.items }
         requires node { IsRecord 2 next.place.node }
         ensures done { (hs : List Holder) → IsDone (λ _. made_of self.new hs)
-            (struct_made (listed context.entry.nodes.now) context.entry.strict next.entry.place.number next.entry.place.id (bounds next.entry.scopes.items) (string_bytes next.entry.name) (node_said (record_seen next.entry.place.node))
+            (struct_made (nodes_of context.entry.nodes.now) context.entry.strict next.entry.place.number next.entry.place.id (bounds next.entry.scopes.items) (string_bytes next.entry.name) (node_said (record_seen next.entry.place.node))
             >>= (λ made. given (with_struct (made_of self.old hs) (begun_of self.old hs next.entry) made))) (between entries.old) (between entries.new) result }
         ensures numbers { IfOk result (λ _. AreNumbered entries.new) }
         ensures names { self.new.names ≡ self.old.names }
@@ -202,7 +202,7 @@ impl Progress {
     ) -> Result<()>
         requires nodes { AreNodes context.nodes.now }
         requires numbers { AreNumbered entries.now }
-        ensures done { (hs : List Holder) → IsDone (λ _. made_of self.new hs) (make_enum (listed context.entry.nodes.now) context.entry.strict (made_of self.old hs) id) (between entries.old) (between entries.new) result }
+        ensures done { (hs : List Holder) → IsDone (λ _. made_of self.new hs) (make_enum (nodes_of context.entry.nodes.now) context.entry.strict (made_of self.old hs) id) (between entries.old) (between entries.new) result }
         ensures numbers { IfOk result (λ _. AreNumbered entries.new) }
         ensures names { self.new.names ≡ self.old.names }
         ensures structs { self.new.made.nodes ≡ self.old.made.nodes }
@@ -222,10 +222,10 @@ impl Progress {
         requires numbers { AreNumbered entries.now }
         requires brands { AreBrandsOf self.now.made.nodes.items self.now.made.brands.items }
         ensures done { (hs : List Holder) → AreHolders self.old.names hs → IfOk result (λ more. (after : List Holder) × AreHolders self.new.names after
-            × ((steps : ℕ) → make_all (listed context.entry.nodes.now) context.entry.strict (suc steps) (made_of self.old hs) (between entries.old)
-            ≡ rest_of (listed context.entry.nodes.now) context.entry.strict more steps (made_of self.new after) (between entries.new))) }
+            × ((steps : ℕ) → make_all (nodes_of context.entry.nodes.now) context.entry.strict (suc steps) (made_of self.old hs) (between entries.old)
+            ≡ rest_of (nodes_of context.entry.nodes.now) context.entry.strict more steps (made_of self.new after) (between entries.new))) }
         ensures refused { (hs : List Holder) → AreHolders self.old.names hs → IfErr result (λ e. e.kind ≢ OutOfMemory → (steps : ℕ) →
-            make_all (listed context.entry.nodes.now) context.entry.strict (suc steps) (made_of self.old hs) (between entries.old) ≡ Err e.kind) }
+            make_all (nodes_of context.entry.nodes.now) context.entry.strict (suc steps) (made_of self.old hs) (between entries.old) ≡ Err e.kind) }
         ensures numbers { IfOk result (λ _. AreNumbered entries.new) }
         ensures brands { IfOk result (λ _. AreBrandsOf self.new.made.nodes.items self.new.made.brands.items) }
         ensures kinds { IfErr result (λ e. IsRefusal context.entry.strict e.kind) }
@@ -247,8 +247,8 @@ impl Progress {
 fn make_all<'a>(context: Context<'_, 'a>, mut entries: Entries) -> Result<Converted>
     requires nodes { AreNodes context.nodes.now }
     requires numbers { AreNumbered entries }
-    ensures read { IfOk result (λ made. result_of (make_all (listed context.entry.nodes.now) context.entry.strict (65536 + suc (length (listed context.entry.nodes.now))) nothing_made (between entries)) ≡ Ok (seen_lists made)) }
-    ensures refused { IfErr result (λ e. e.kind ≢ OutOfMemory → make_all (listed context.entry.nodes.now) context.entry.strict (65536 + suc (length (listed context.entry.nodes.now))) nothing_made (between entries) ≡ Err e.kind) }
+    ensures read { IfOk result (λ made. result_of (make_all (nodes_of context.entry.nodes.now) context.entry.strict (65536 + suc (length (nodes_of context.entry.nodes.now))) nothing_made (between entries)) ≡ Ok (seen_lists made)) }
+    ensures refused { IfErr result (λ e. e.kind ≢ OutOfMemory → make_all (nodes_of context.entry.nodes.now) context.entry.strict (65536 + suc (length (nodes_of context.entry.nodes.now))) nothing_made (between entries) ≡ Err e.kind) }
     ensures brands { IfOk result (λ made. AreBrandsOf made.nodes.items made.brands.items) }
     ensures kinds { IfErr result (λ e. IsRefusal context.entry.strict e.kind) }
 {

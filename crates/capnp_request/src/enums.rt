@@ -5,7 +5,7 @@ ghost use Rattle.capnp_schema.specs.Schema.{seen_enum};
 ghost use Rattle.capnp_dynamic_readers.specs.Seen.{list_seen, record_seen};
 ghost use Rattle.capnp_request.specs.Done.{IsDone, between};
 ghost use Rattle.capnp_request.specs.Handles.{IsListOf, IsRecord, values_left};
-ghost use Rattle.capnp_request.specs.Nodes.{AreNodes, listed};
+ghost use Rattle.capnp_request.specs.Nodes.{AreNodes, nodes_of};
 ghost use Rattle.capnp_request.specs.Numbers.{AreNumbered};
 ghost use Rattle.capnp_request.specs.Order.{enum_made, enumerant_of};
 ghost use Rattle.capnp_request.specs.Parts.{one};
@@ -56,7 +56,7 @@ fn enumerant_of<'a>(
     requires nodes { AreNodes context.nodes.now }
     requires numbers { AreNumbered entries.now }
     requires is_record { IsRecord 11 enumerant }
-    ensures done { IsDone seen_converted_enumerant (enumerant_of (listed context.entry.nodes.now) context.entry.strict (enumerant_said (record_seen enumerant.entry)))
+    ensures done { IsDone seen_converted_enumerant (enumerant_of (nodes_of context.entry.nodes.now) context.entry.strict (enumerant_said (record_seen enumerant.entry)))
         (between entries.old) (between entries.new) result }
     ensures numbers { IfOk result (λ _. AreNumbered entries.new) }
     ensures kinds { IfErr result (λ e. IsRefusal context.entry.strict e.kind) }
@@ -86,7 +86,7 @@ fn enumerants_of<'a>(
     requires nodes { AreNodes context.nodes.now }
     requires numbers { AreNumbered entries.now }
     requires is_list { IsListOf (one 11) listed }
-    ensures done { IsDone (λ r. seen_enumerants r.items) (each_read (enumerant_of (listed context.entry.nodes.now) context.entry.strict) (each_said 11 enumerant_said (values_left listed.entry 0)))
+    ensures done { IsDone (λ r. seen_enumerants r.items) (each_read (enumerant_of (nodes_of context.entry.nodes.now) context.entry.strict) (each_said 11 enumerant_said (values_left listed.entry 0)))
         (between entries.old) (between entries.new) result }
     ensures numbers { IfOk result (λ _. AreNumbered entries.new) }
     ensures kinds { IfErr result (λ e. IsRefusal context.entry.strict e.kind) }
@@ -131,7 +131,7 @@ pub(crate) fn enum_of<'a>(
     requires nodes { AreNodes context.nodes.now }
     requires numbers { AreNumbered entries.now }
     requires is_record { IsRecord 2 place.node }
-    ensures done { IsDone seen_enum (enum_made (listed context.entry.nodes.now) context.entry.strict place.entry.id (string_bytes display_name) (node_said (record_seen place.entry.node)))
+    ensures done { IsDone seen_enum (enum_made (nodes_of context.entry.nodes.now) context.entry.strict place.entry.id (string_bytes display_name) (node_said (record_seen place.entry.node)))
         (between entries.old) (between entries.new) result }
     ensures numbers { IfOk result (λ _. AreNumbered entries.new) }
     ensures own { IfOk result (λ e. length e.annotation_types.own.items ≡ length e.annotations.items) }

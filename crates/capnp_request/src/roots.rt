@@ -8,7 +8,7 @@ ghost use Rattle.capnp_dynamic_readers.specs.Seen.{record_seen};
 ghost use Rattle.capnp_request.specs.Done.{IsDone, IsSaid, between};
 ghost use Rattle.capnp_request.specs.Handles.{IsField, IsListOf, IsRecord, values_left};
 ghost use Rattle.capnp_request.specs.Met.{AreMet};
-ghost use Rattle.capnp_request.specs.Nodes.{AreNodes, listed};
+ghost use Rattle.capnp_request.specs.Nodes.{AreNodes, nodes_of};
 ghost use Rattle.capnp_request.specs.Numbers.{AreNumbered};
 ghost use Rattle.capnp_request.specs.Order.{name_files, name_root, new_ids};
 ghost use Rattle.capnp_request.specs.Parts.{many, one, read_at};
@@ -60,8 +60,8 @@ fn put_ids(
     ids: &[u64],
 ) -> Result<()>
     requires { AreNodes nodes.now }
-    ensures queue { (before : List ℕ) → AreMet met.old before → IfOk result (λ _. queue.new.items ≡ queue.old.items ++ new_ids (listed nodes.now) ids.now before) }
-    ensures met { (before : List ℕ) → AreMet met.old before → IfOk result (λ _. AreMet met.new (new_ids (listed nodes.now) ids.now before ++ before)) }
+    ensures queue { (before : List ℕ) → AreMet met.old before → IfOk result (λ _. queue.new.items ≡ queue.old.items ++ new_ids (nodes_of nodes.now) ids.now before) }
+    ensures met { (before : List ℕ) → AreMet met.old before → IfOk result (λ _. AreMet met.new (new_ids (nodes_of nodes.now) ids.now before ++ before)) }
     ensures kinds { IfErr result (λ e. e.kind ≡ OutOfMemory) }
 {
     for id in ids {
@@ -82,7 +82,7 @@ fn number_root<'a>(
     requires nodes { AreNodes context.nodes.now }
     requires numbers { AreNumbered entries.now }
     requires is_record { IsRecord 2 node }
-    ensures done { IsDone (λ _. []) (name_root (listed context.entry.nodes.now) context.entry.strict id (is_root (node_said (record_seen node.entry)).kind)) (between entries.old) (between entries.new) result }
+    ensures done { IsDone (λ _. []) (name_root (nodes_of context.entry.nodes.now) context.entry.strict id (is_root (node_said (record_seen node.entry)).kind)) (between entries.old) (between entries.new) result }
     ensures numbers { IfOk result (λ _. AreNumbered entries.new) }
     ensures kinds { IfErr result (λ e. IsPlain e.kind) }
 {
@@ -104,7 +104,7 @@ pub(crate) fn number_roots<'a>(
     requires nodes { AreNodes context.nodes.now }
     requires numbers { AreNumbered entries.now }
     requires is_record { IsRecord 0 request }
-    ensures done { IsDone (λ _. []) (name_files (listed context.entry.nodes.now) context.entry.strict (whole_list 1 (id_said 1) (read_at 0 1 (record_seen request.entry)))) (between entries.old) (between entries.new) result }
+    ensures done { IsDone (λ _. []) (name_files (nodes_of context.entry.nodes.now) context.entry.strict (whole_list 1 (id_said 1) (read_at 0 1 (record_seen request.entry)))) (between entries.old) (between entries.new) result }
     ensures numbers { IfOk result (λ _. AreNumbered entries.new) }
     ensures kinds { IfErr result (λ e. IsPlain e.kind) }
 {

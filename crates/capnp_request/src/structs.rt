@@ -7,7 +7,7 @@ ghost use Rattle.capnp_request.specs.Bindings.{bounds, flags};
 ghost use Rattle.capnp_request.specs.Conversion.{notes_of};
 ghost use Rattle.capnp_request.specs.Done.{IsDone, between};
 ghost use Rattle.capnp_request.specs.Handles.{IsRecord};
-ghost use Rattle.capnp_request.specs.Nodes.{AreNodes, listed};
+ghost use Rattle.capnp_request.specs.Nodes.{AreNodes, nodes_of};
 ghost use Rattle.capnp_request.specs.Numbers.{AreNumbered};
 ghost use Rattle.capnp_request.specs.Order.{all_fields, all_notes, struct_made};
 ghost use Rattle.capnp_request.specs.Reading.{node_said, struct_said};
@@ -100,7 +100,7 @@ fn fields_of<'a>(
     requires nodes { AreNodes context.nodes.now }
     requires numbers { AreNumbered entries.now }
     requires is_record { IsRecord 3 part }
-    ensures done { IsDone (λ r. seen_fields number 0 r.fields.items) (all_fields (listed context.entry.nodes.now) context.entry.strict (bounds inside.now) number (struct_said (record_seen part.entry)).fields)
+    ensures done { IsDone (λ r. seen_fields number 0 r.fields.items) (all_fields (nodes_of context.entry.nodes.now) context.entry.strict (bounds inside.now) number (struct_said (record_seen part.entry)).fields)
         (between entries.old) (between entries.new) result }
     ensures notes { IfOk result (λ r. seen_notes r.notes.items ≡ all_notes (seen_fields number 0 r.fields.items)) }
     ensures numbers { IfOk result (λ _. AreNumbered entries.new) }
@@ -191,7 +191,7 @@ pub(crate) fn struct_of<'a>(
     requires nodes { AreNodes context.nodes.now }
     requires numbers { AreNumbered entries.now }
     requires is_record { IsRecord 2 place.node }
-    ensures done { IsDone seen_struct (struct_made (listed context.entry.nodes.now) context.entry.strict place.entry.number place.entry.id (bounds inside.now) (string_bytes display_name) (node_said (record_seen place.entry.node)))
+    ensures done { IsDone seen_struct (struct_made (nodes_of context.entry.nodes.now) context.entry.strict place.entry.number place.entry.id (bounds inside.now) (string_bytes display_name) (node_said (record_seen place.entry.node)))
         (between entries.old) (between entries.new) result }
     ensures numbers { IfOk result (λ _. AreNumbered entries.new) }
     ensures brand { IfOk result (λ r. IsBrandOf place.entry.number r.record r.brand) }

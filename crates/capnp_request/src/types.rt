@@ -1,24 +1,31 @@
 //! Types, as a request says them, with the bindings of their brands.
-ghost use Rattle.std.specs.Prelude.{◌≡◌, false, map, [], IfErr, IfOk, IfSome, Ok, Some};
+ghost use Rattle.std.specs.Prelude.{◌≡◌, ◌≢◌, ◌<◌, ◌≤◌, ◌-◌, ◌^◌, false, map, option_map, [], IfErr, IfOk, IfSome, Ok, Err, Some};
+ghost use Rattle.capnp_device.specs.declared.error.ErrorKind.TheVariants.{OutOfMemory, TooManyTypes};
 ghost use Rattle.capnp_base.specs.Types.{type_from};
 ghost use Rattle.capnp_schema.specs.RequestSet.{request_set};
 ghost use Rattle.capnp_schema.specs.Schema.{field_at, is_member};
-ghost use Rattle.capnp_schema.specs.Types.{AnyPointerType, seen_type};
+ghost use Rattle.capnp_schema.specs.Types.{ListType, seen_type};
 ghost use Rattle.capnp_records.specs.Part.{which_of};
+ghost use Rattle.capnp_records.specs.Record.{Record};
 ghost use Rattle.capnp_dynamic_readers.specs.Seen.{record_seen};
-ghost use Rattle.capnp_request.specs.Bindings.{bounds, flags};
-ghost use Rattle.capnp_request.specs.Handles.{IsField, IsListOf, IsRecord};
-ghost use Rattle.capnp_request.specs.Meant.{IsEntryType, IsPlainMember, Says, SaysFloat, SaysInterface, untyped_meant};
-ghost use Rattle.capnp_request.specs.Nodes.{AreNodes};
+ghost use Rattle.capnp_request.specs.Bindings.{bounds, flags, with_nothing};
+ghost use Rattle.capnp_request.specs.Done.{IsDone, IsSaid, so_far};
+ghost use Rattle.capnp_request.specs.Handles.{IsField, IsListOf, IsRecord, values_left};
+ghost use Rattle.capnp_request.specs.Meant.{IsPlainMember, float_type, scope_in, untyped_meant};
+ghost use Rattle.capnp_request.specs.Nodes.{AreNodes, nodes_of};
+ghost use Rattle.capnp_request.specs.Numbers.{AreNumbered};
 ghost use Rattle.capnp_request.specs.Parts.{one, read_at};
-ghost use Rattle.capnp_request.specs.Reading.{type_said};
+ghost use Rattle.capnp_request.specs.Reading.{binding_said, bindings_said, brand_in, scope_said, scopes_said, struct_term, type_said};
 ghost use Rattle.capnp_request.specs.Refusals.{IsPlain, IsRefusal};
 ghost use Rattle.capnp_request.specs.Scopes.{bound_types};
+ghost use Rattle.capnp_request.specs.Terms.{TypeTerm};
+ghost use Rattle.capnp_request.specs.Types.{bind_scope, binding_types, brand_types, interface, lists_in, named_scopes, scope_types, type_of, without_untyped};
+ghost use Rattle.capnp_request.specs.Work.{Numbered, each, named};
 
 use crate::context::Context;
 use crate::entries::{BoundNode, BoundScope, Entries, entry_type, enum_type};
 use crate::notes::Seen;
-use crate::parts::{active_member, element_at, list_at, struct_at, u16_at, u64_at};
+use crate::parts::{active_member, element_at, group_at, list_at, struct_at, u16_at, u64_at};
 use crate::places::{
     BINDING_TYPE, BINDING_UNBOUND, BRAND_SCOPES, LIST_ELEMENT, NAMED_ID, PARAMETER_INDEX,
     PARAMETER_SCOPE, SCOPE_BIND, SCOPE_ID, SCOPE_INHERIT, STRUCT_BRAND, TYPE_ENUM, TYPE_LIST,
@@ -75,7 +82,7 @@ fn plain_variant(member: u16) -> Option<TypeVariant>
 
 /// A `Float32` or `Float64` as an integer of its width, with a note. Refused with `FloatType` where that is asked for.
 fn float_type(strict: bool, is_double: bool, seen: &mut Seen) -> Result<Type>
-    ensures says { IfOk result (λ t. SaysFloat is_double strict (seen_type t) (flags seen.old) (flags seen.new)) }
+    ensures done { (n : Numbered) → IsDone seen_type (float_type is_double strict) (named n (flags seen.old)) (named n (flags seen.new)) result }
     ensures kinds { IfErr result (λ e. IsRefusal strict e.kind) }
 {
     if strict {
@@ -91,7 +98,7 @@ fn float_type(strict: bool, is_double: bool, seen: &mut Seen) -> Result<Type>
 
 /// An interface as an untyped pointer, with a note. Refused with `InterfaceType` where that is asked for.
 fn interface_type(strict: bool, seen: &mut Seen) -> Result<Type>
-    ensures says { IfOk result (λ t. SaysInterface strict (seen_type t) (flags seen.old) (flags seen.new)) }
+    ensures done { (n : Numbered) → IsDone seen_type (interface strict) (named n (flags seen.old)) (named n (flags seen.new)) result }
     ensures kinds { IfErr result (λ e. IsRefusal strict e.kind) }
 {
     if strict {
@@ -105,24 +112,37 @@ fn interface_type(strict: bool, seen: &mut Seen) -> Result<Type>
 fn untyped_or_bound(inside: &[BoundScope], term: dynamic_struct::Reader<'_>) -> Result<Type>
     requires record { IsRecord 13 term }
     requires active { which_of (record_seen term) ≡ Some 18 }
-    ensures read { IfOk result (λ t. untyped_meant (bounds inside.now) (read_at 13 18 (record_seen term.entry)) ≡ Ok (seen_type t)) }
+    ensures said { IsSaid seen_type (untyped_meant (bounds inside.now) (read_at 13 18 (record_seen term.entry))) result }
     ensures kinds { IfErr result (λ e. IsPlain e.kind) }
 {
-    let pointer = struct_at(term, brands::TYPE, TYPE_UNTYPED, brands::TYPE_UNTYPED)?;
+    let pointer = group_at(term, brands::TYPE, TYPE_UNTYPED, brands::TYPE_UNTYPED);
     let Some(member) = active_member(pointer) else {
         return Err(Error::from(ErrorKind::UnknownKind));
     };
     match member {
         0 => Ok(untyped()),
         1 => {
-            let parameter = struct_at(pointer, brands::TYPE_UNTYPED, 1, brands::TYPE_PARAMETER)?;
-            let scope = u64_at(parameter, brands::TYPE_PARAMETER, PARAMETER_SCOPE)?;
-            let index = u16_at(parameter, brands::TYPE_PARAMETER, PARAMETER_INDEX)?;
+            let parameter = group_at(pointer, brands::TYPE_UNTYPED, 1, brands::TYPE_PARAMETER);
+            let scope = u64_at(parameter, brands::TYPE_PARAMETER, PARAMETER_SCOPE);
+            let index = u16_at(parameter, brands::TYPE_PARAMETER, PARAMETER_INDEX);
             Ok(bound_to(inside, scope, index))
         }
         2 => Ok(untyped()),
         _ => Err(Error::from(ErrorKind::UnknownKind)),
     }
+}
+
+/// A list of a type. Refused with `TooManyTypes` where as many lists are around the type as are counted.
+fn list_type(element: Type) -> Result<Type>
+    ensures list { IfOk result (λ t. (lists_in (seen_type element) < 2 ^ 64 - 1) × (seen_type t ≡ ListType (seen_type element))) }
+    ensures full { IfErr result (λ _. 2 ^ 64 - 1 ≤ lists_in (seen_type element)) }
+    ensures kinds { IfErr result (λ e. e.kind ≡ TooManyTypes) }
+{
+    let list = Type::list_of(element);
+    if list == element {
+        return Err(Error::from(ErrorKind::TooManyTypes));
+    }
+    Ok(list)
 }
 
 /// The struct that a type names, with the bindings of its brand.
@@ -136,14 +156,17 @@ fn struct_type<'a>(
     depth: u32,
 ) -> Result<Type>
     requires nodes { AreNodes context.nodes.now }
+    requires numbers { AreNumbered entries.now }
     requires record { IsRecord 13 term }
     requires active { which_of (record_seen term) ≡ Some 16 }
-    ensures entry { IfOk result (λ t. IsEntryType (read_at 13 16 (record_seen term.entry)) (seen_type t)) }
+    ensures done { IsDone seen_type (type_of (nodes_of context.entry.nodes.now) context.entry.strict (bounds inside.now) (struct_term (type_said depth) (read_at 13 16 (record_seen term.entry))))
+        (so_far entries.old seen.old) (so_far entries.new seen.new) result }
+    ensures numbers { IfOk result (λ _. AreNumbered entries.new) }
     ensures kinds { IfErr result (λ e. IsRefusal context.entry.strict e.kind) }
 {
-    let named = struct_at(term, brands::TYPE, TYPE_STRUCT, brands::TYPE_STRUCT)?;
-    let id = u64_at(named, brands::TYPE_STRUCT, NAMED_ID)?;
-    let _node = context.nodes.struct_node(id)?;
+    let named = group_at(term, brands::TYPE, TYPE_STRUCT, brands::TYPE_STRUCT);
+    let id = u64_at(named, brands::TYPE_STRUCT, NAMED_ID);
+    context.nodes.struct_node(id)?;
     let place = BrandPlace {
         reader: named,
         holder: brands::TYPE_STRUCT,
@@ -168,8 +191,11 @@ pub(crate) fn type_of<'a>(
     depth: u32,
 ) -> Result<Type>
     requires nodes { AreNodes context.nodes.now }
+    requires numbers { AreNumbered entries.now }
     requires is_record { IsRecord 13 term }
-    ensures says { IfOk result (λ t. Says context.entry.strict (bounds inside.now) (type_said depth (record_seen term.entry)) (seen_type t) (flags seen.old) (flags seen.new)) }
+    ensures done { IsDone seen_type (type_of (nodes_of context.entry.nodes.now) context.entry.strict (bounds inside.now) (type_said depth (record_seen term.entry)))
+        (so_far entries.old seen.old) (so_far entries.new seen.new) result }
+    ensures numbers { IfOk result (λ _. AreNumbered entries.new) }
     ensures kinds { IfErr result (λ e. IsRefusal context.entry.strict e.kind) }
 {
     if depth == 0 {
@@ -191,14 +217,14 @@ pub(crate) fn type_of<'a>(
             Ok(double)
         }
         14 => {
-            let list = struct_at(term, brands::TYPE, TYPE_LIST, brands::TYPE_LIST)?;
+            let list = group_at(term, brands::TYPE, TYPE_LIST, brands::TYPE_LIST);
             let element = struct_at(list, brands::TYPE_LIST, LIST_ELEMENT, brands::TYPE)?;
             let element_type = type_of(context, entries, inside, element, seen, depth - 1)?;
-            Ok(Type::list_of(element_type))
+            list_type(element_type)
         }
         15 => {
-            let named = struct_at(term, brands::TYPE, TYPE_ENUM, brands::TYPE_ENUM)?;
-            let id = u64_at(named, brands::TYPE_ENUM, NAMED_ID)?;
+            let named = group_at(term, brands::TYPE, TYPE_ENUM, brands::TYPE_ENUM);
+            let id = u64_at(named, brands::TYPE_ENUM, NAMED_ID);
             let number = entries.number_enum(context.nodes, id)?;
             Ok(enum_type(number))
         }
@@ -230,9 +256,13 @@ pub(crate) fn bindings_of<'a>(
     depth: u32,
 ) -> Result<Vec<BoundScope>>
     requires nodes { AreNodes context.nodes.now }
+    requires numbers { AreNumbered entries.now }
     requires record { IsRecord place.holder place.reader }
     requires field { IsField place.holder place.index (one 19) }
     requires plain { is_member (field_at request_set place.holder place.index).field ≡ false }
+    ensures done { IsDone (λ scopes. bounds scopes.items) (named_scopes (nodes_of context.entry.nodes.now) context.entry.strict (bounds inside.now) id (brand_in (type_said depth) (read_at place.entry.holder place.entry.index (record_seen place.entry.reader))))
+        (so_far entries.old seen.old) (so_far entries.new seen.new) result }
+    ensures numbers { IfOk result (λ _. AreNumbered entries.new) }
     ensures kinds { IfErr result (λ e. IsRefusal context.entry.strict e.kind) }
 {
     let mut scopes = Vec::new(context.alloc);
@@ -256,11 +286,12 @@ fn brand_scope<'a>(
 ) -> Result<Option<dynamic_struct::Reader<'a>>>
     requires { IsListOf (one 20) listed }
     ensures record { IfOk result (λ found. IfSome found (IsRecord 20)) }
+    ensures said { (inner : Record → TypeTerm) → IsSaid (option_map (λ scope. scope_said inner (record_seen scope))) (scope_in (scopes_said inner (values_left listed.entry 0)) id) result }
     ensures kinds { IfErr result (λ e. IsPlain e.kind) }
 {
     for index in 0..listed.len() {
         let scope = element_at(listed, index, brands::SCOPE)?;
-        if u64_at(scope, brands::SCOPE, SCOPE_ID)? == id {
+        if u64_at(scope, brands::SCOPE, SCOPE_ID) == id {
             return Ok(Some(scope));
         }
     }
@@ -270,7 +301,7 @@ fn brand_scope<'a>(
 /// A copy of the types that are bound to a scope's parameters inside an entry, none where it isn't there.
 fn inherited(alloc: Global, inside: &[BoundScope], id: u64) -> Result<Vec<Type>>
     ensures read { IfOk result (λ types. bound_types [] (λ b. b.types) (bounds inside.now) id ≡ map seen_type types.items) }
-    ensures kinds { IfErr result (λ e. IsPlain e.kind) }
+    ensures kinds { IfErr result (λ e. e.kind ≡ OutOfMemory) }
 {
     match scope_of(inside, id) {
         Some(own) => Ok(own.types.as_slice().to_vec(alloc)?),
@@ -290,7 +321,11 @@ fn scope_types<'a>(
     depth: u32,
 ) -> Result<Vec<Type>>
     requires nodes { AreNodes context.nodes.now }
+    requires numbers { AreNumbered entries.now }
     requires is_list { IsListOf (one 20) listed }
+    ensures done { IsDone (λ types. map seen_type types.items) (brand_types (nodes_of context.entry.nodes.now) context.entry.strict (bounds inside.now) (scopes_said (type_said depth) (values_left listed.entry 0)) (with_nothing scope))
+        (so_far entries.old seen.old) (so_far entries.new seen.new) result }
+    ensures numbers { IfOk result (λ _. AreNumbered entries.new) }
     ensures kinds { IfErr result (λ e. IsRefusal context.entry.strict e.kind) }
 {
     match brand_scope(listed, scope.id)? {
@@ -311,8 +346,11 @@ fn said_types<'a>(
     depth: u32,
 ) -> Result<Vec<Type>>
     requires nodes { AreNodes context.nodes.now }
+    requires numbers { AreNumbered entries.now }
     requires is_record { IsRecord 20 said }
-    ensures inherits { IfOk result (λ types. which_of (record_seen said.entry) ≡ Some 2 → bound_types [] (λ b. b.types) (bounds inside.now) scope.id ≡ map seen_type types.items) }
+    ensures done { IsDone (λ types. map seen_type types.items) (scope_types (nodes_of context.entry.nodes.now) context.entry.strict (bounds inside.now) (scope_said (type_said depth) (record_seen said.entry)) (with_nothing scope))
+        (so_far entries.old seen.old) (so_far entries.new seen.new) result }
+    ensures numbers { IfOk result (λ _. AreNumbered entries.new) }
     ensures kinds { IfErr result (λ e. IsRefusal context.entry.strict e.kind) }
 {
     match active_member(said) {
@@ -349,18 +387,20 @@ fn bound_types<'a>(
     depth: u32,
 ) -> Result<Vec<Type>>
     requires nodes { AreNodes context.nodes.now }
+    requires numbers { AreNumbered entries.now }
     requires is_list { IsListOf (one 21) bindings }
+    ensures done { IsDone (λ types. map seen_type types.items) (binding_types (nodes_of context.entry.nodes.now) context.entry.strict (bounds inside.now) (bindings_said (type_said depth) (values_left bindings.entry 0)) parameters)
+        (so_far entries.old seen.old) (so_far entries.new seen.new) result }
+    ensures numbers { IfOk result (λ _. AreNumbered entries.new) }
     ensures kinds { IfErr result (λ e. IsRefusal context.entry.strict e.kind) }
 {
     let mut types = Vec::new(context.alloc);
     for index in 0..bindings.len().min(parameters) {
         let binding = element_at(bindings, index, brands::BINDING)?;
         let bound = binding_type(context, entries, inside, binding, seen, depth)?;
-        if !is_untyped(bound) {
-            fill(&mut types, index)?;
-            types.push(bound)?;
-        }
+        types.push(bound)?;
     }
+    drop_untyped(&mut types);
     Ok(types)
 }
 
@@ -375,8 +415,11 @@ fn binding_type<'a>(
     depth: u32,
 ) -> Result<Type>
     requires nodes { AreNodes context.nodes.now }
+    requires numbers { AreNumbered entries.now }
     requires is_record { IsRecord 21 binding }
-    ensures unbound { IfOk result (λ t. which_of (record_seen binding.entry) ≡ Some 0 → seen_type t ≡ AnyPointerType) }
+    ensures done { IsDone seen_type (type_of (nodes_of context.entry.nodes.now) context.entry.strict (bounds inside.now) (binding_said (type_said depth) (record_seen binding.entry)))
+        (so_far entries.old seen.old) (so_far entries.new seen.new) result }
+    ensures numbers { IfOk result (λ _. AreNumbered entries.new) }
     ensures kinds { IfErr result (λ e. IsRefusal context.entry.strict e.kind) }
 {
     match active_member(binding) {
@@ -389,12 +432,16 @@ fn binding_type<'a>(
     }
 }
 
-/// Adds untyped pointers until there are so many types.
-fn fill(types: &mut Vec<Type>, count: u32) -> Result<()>
-    ensures kinds { IfErr result (λ e. IsPlain e.kind) }
+/// Drops the untyped pointers at the end.
+fn drop_untyped(types: &mut Vec<Type>)
+    ensures { map seen_type types.new.items ≡ without_untyped (map seen_type types.old.items) }
 {
-    for _ in types.len()..count as usize {
-        types.push(untyped())?;
+    for _ in 0..types.len() {
+        match types.last() {
+            Some(last) if is_untyped(*last) => {
+                types.pop();
+            }
+            _ => break,
+        }
     }
-    Ok(())
 }

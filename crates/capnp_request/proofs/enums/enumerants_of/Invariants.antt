@@ -2,7 +2,7 @@
 use Rattle.std.proofs.Common.{◌≡◌}
 use Rattle.capnp_request.specs.Done.{between}
 use Rattle.capnp_request.specs.Handles.{values_left}
-use Rattle.capnp_request.specs.Nodes.{listed}
+use Rattle.capnp_request.specs.Nodes.{nodes_of}
 use Rattle.capnp_request.specs.Numbers.{AreNumbered}
 use Rattle.capnp_request.specs.Order.{enumerant_of}
 use Rattle.capnp_request.specs.Reading.{each_said, enumerant_said}
@@ -15,6 +15,6 @@ abbrev pub invariant-loop-index : goal.invariant-loop-index
 invariant-loop-index l = record {
   numbers : AreNumbered l.entries;
   left : ahead (seen_enumerants l.made.items)
-      (each_read (enumerant_of (listed l.context.nodes.now) l.context.strict) (each_said 11 enumerant_said (values_left l.listed l.index)) (between l.entries))
-      ≡ each_read (enumerant_of (listed l.context.nodes.now) l.context.strict) (each_said 11 enumerant_said (values_left l.listed 0)) (between l.fn.entries);
+      (each_read (enumerant_of (nodes_of l.context.nodes.now) l.context.strict) (each_said 11 enumerant_said (values_left l.listed l.index)) (between l.entries))
+      ≡ each_read (enumerant_of (nodes_of l.context.nodes.now) l.context.strict) (each_said 11 enumerant_said (values_left l.listed 0)) (between l.fn.entries);
 }
