@@ -1,13 +1,15 @@
-pub mod Begins
 pub mod BindingsCompared
 pub mod BrandsMade
+pub mod EnumsMade
 pub mod HoldersHeld
 pub mod ListsSaid
+pub mod ListsWalked
 pub mod NamesFinished
 pub mod NamesJoined
 pub mod NamesRead
 pub mod NamesSplit
 pub mod Numbering
+pub mod OrderMade
 pub mod PartsSeen
 pub mod RefusedKinds
 pub mod RootsNamed

@@ -11,7 +11,8 @@ use Rattle.capnp_base.specs.declared.introspect.BaseType.TheVariants as base
 use Rattle.capnp_base.specs.declared.introspect.RawBrandedStructSchema.{RawBrandedStructSchema}
 use Rattle.capnp_base.specs.declared.introspect.RawEnumSchema.{RawEnumSchema}
 use Rattle.capnp_base.specs.declared.introspect.TypeVariant.TheVariants as variant
-use Rattle.capnp_schema.specs.Schema.{Node, seen_node}
+use Rattle.capnp_schema.specs.Schema.{Field, Node, seen_field, seen_node}
+use Rattle.capnp_schema.specs.declared.record.FieldRecord.{FieldRecord}
 use Rattle.capnp_schema.specs.declared.record.NodeRecord.{NodeRecord}
 use Rattle.capnp_schema.specs.Types.{SchemaType, lists_of, seen_base, seen_type, seen_variant}
 use Rattle.capnp_request.specs.Bindings.{bounds, seen_bound}
@@ -260,3 +261,14 @@ module _ (structs enums : List (List ℕ)) (bs : List BoundScope) (dots k : ℕ)
 
   pub byte_appended : (last : List ℕ) → (get_or xs i 0 == 46) ≡ false → last ≡ name ++ get_or xs i 0 ∷ [] → last ++ behind k ≡ whole
   byte_appended last e g = ap (λ ys. ys ++ behind k) g ∙ (append_assoc name (get_or xs i 0 ∷ []) (behind k) ∙ at false e)
+
+pub dot_pushed : (name next last : List ℕ) (x : ℕ) → name ≡ next → last ≡ name ++ x ∷ [] → x ≡ 46 → last ≡ next ++ 46 ∷ []
+dot_pushed name next last x e f g = f ∙ (ap (λ ys. ys ++ x ∷ []) e ∙ ap (λ y. next ++ y ∷ []) g)
+
+-- ---- fields ----
+
+pub field_there : (fields : List FieldRecord) (i : ℕ) (f : FieldRecord) → slice_get fields i ≡ Some f → slice_get (map (λ (f : Field). f.name) (map seen_field fields)) i ≡ Some (string_bytes f.name)
+field_there fields i f e = slice_get-map (λ (f : Field). f.name) (map seen_field fields) i ∙ ap (option_map (λ (f : Field). f.name)) (slice_get-map seen_field fields i ∙ ap (option_map seen_field) e)
+
+pub field_missing : (fields : List FieldRecord) (i : ℕ) → slice_get fields i ≡ None → slice_get (map (λ (f : Field). f.name) (map seen_field fields)) i ≡ None
+field_missing fields i e = slice_get-map (λ (f : Field). f.name) (map seen_field fields) i ∙ ap (option_map (λ (f : Field). f.name)) (slice_get-map seen_field fields i ∙ ap (option_map seen_field) e)

@@ -3,17 +3,27 @@ use Rattle.std.proofs.Common.{ℕ, ◌+◌, ◌≡◌, ◌∙◌, suc, arith, ap
 use Rattle.std.proofs.lemmas.List.{append-nil, map-append}
 use Rattle.capnp_base.specs.declared.introspect.«Type».{«Type» as TypeHandle}
 use Rattle.capnp_device.specs.declared.error.ErrorKind.{ErrorKind}
-use Rattle.capnp_schema.specs.Schema.{Annotation, Field, seen_annotation, seen_annotations, seen_field}
+use Rattle.std.specs.Global.{Global}
+use Rattle.std.specs.Prelude.{Vec}
+use Rattle.capnp_device.specs.declared.error.ErrorKind.TheVariants.{NodeNotFound}
+use Rattle.capnp_records.specs.Record.{Record, Value}
+use Rattle.capnp_schema.specs.Schema.{Annotation, Brand, Node, seen_annotation, seen_annotations, seen_field}
 use Rattle.capnp_schema.specs.Types.{SchemaType, seen_type}
 use Rattle.capnp_schema.specs.declared.record.AnnotationRecord.{AnnotationRecord}
-use Rattle.capnp_request.specs.Conversion.{Converted, Note, note_at, note_where}
+use Rattle.capnp_request.specs.Conversion.{Converted, Note, annotations_of, fields_of, note_at, note_where}
 use Rattle.capnp_request.specs.ConvertedSeen.{seen_converted, typed_annotations}
-use Rattle.capnp_request.specs.Order.{all_notes, firsts, seconds}
+use Rattle.capnp_request.specs.Order.{all_fields, all_notes, at_struct, firsts, seconds, struct_made}
+use Rattle.capnp_request.specs.Parts.{read_at}
+use Rattle.capnp_request.specs.Reading.{annotations_in, field_said, list_said, node_said, struct_said}
 use Rattle.capnp_request.specs.Shapes.{note, noted}
 use Rattle.capnp_request.specs.StructsSeen.{child_types, field_records, field_types, seen_fields, seen_note, seen_notes, seen_stand_in}
+use Rattle.capnp_request.specs.Terms.{AnnotationNode, EnumNode, FieldTerm, NodeKind, OtherNode, Said, SchemaNode, StructNode, StructPart}
+use Rattle.capnp_request.specs.Types.{is_struct}
+use Rattle.capnp_request.specs.Work.{◌>>=◌, Bound, Named, Work, continued, given, said}
 use Rattle.capnp_request.specs.declared.fields.ConvertedField.{ConvertedField}
 use Rattle.capnp_request.specs.declared.notes.Note.{Note as NoteRecord}
 use Rattle.capnp_request.specs.declared.notes.StandIn.{StandIn as StandInRecord}
+use Rattle.capnp_request.proofs.Works.{then_err, then_ok}
 
 -- ---- annotations ----
 
@@ -65,3 +75,73 @@ types_seen n i (f ∷ fs) = ap (λ xs. seen_type f.field_type ∷ xs) (types_see
 pub children_seen : (n i : ℕ) (fs : List ConvertedField) → map (λ (c : Converted). c.annotation_types) (seen_fields n i fs) ≡ map (λ types. map seen_type types) (child_types fs)
 children_seen n i [] = refl
 children_seen n i (f ∷ fs) = ap (λ xs. map seen_type f.annotation_types.items ∷ xs) (children_seen n (i + 1) fs)
+
+-- ---- a struct ----
+
+pub fields_opened : (nodes : List SchemaNode) (strict : Bool) (bound : List Bound) (number : ℕ) (fields : Said (List (Said FieldTerm))) (terms : List (Said FieldTerm)) (s : Named) → fields ≡ Ok terms →
+    all_fields nodes strict bound number fields s ≡ fields_of nodes strict bound number 0 terms s
+fields_opened nodes strict bound number fields terms s e = ap (λ r. continued (fields_of nodes strict bound number 0) (said r s)) e
+
+pub fields_unread : (nodes : List SchemaNode) (strict : Bool) (bound : List Bound) (number : ℕ) (fields : Said (List (Said FieldTerm))) (kind : ErrorKind) (s : Named) → fields ≡ Err kind →
+    all_fields nodes strict bound number fields s ≡ Err kind
+fields_unread nodes strict bound number fields kind s e = ap (λ r. continued (fields_of nodes strict bound number 0) (said r s)) e
+
+-- what the struct part of a node says of its fields
+pub fields_in : (part : Record) (v : Value) → v ≡ read_at 3 5 part → (struct_said part).fields ≡ list_said 8 field_said v
+unfolding struct_said
+fields_in part v e = ap (list_said 8 field_said) (sym e)
+
+pub annotations_on : (r : Record) → (node_said r).annotations ≡ annotations_in (read_at 2 4 r)
+unfolding node_said
+annotations_on r = refl
+
+no_struct : {A : Type 0} (kind : NodeKind) (f : StructPart → Work A) (s : Named) → is_struct kind ≡ false → at_struct kind f s ≡ Err NodeNotFound
+no_struct (StructNode part) f s e = cc
+no_struct (EnumNode enumerants) f s e = refl
+no_struct (AnnotationNode t) f s e = refl
+no_struct OtherNode f s e = refl
+
+module _ (nodes : List SchemaNode) (strict : Bool) (number id : ℕ) (bound : List Bound) (name : List ℕ) (n : SchemaNode) (s : Named) where
+  abbrev node_made : StructPart → List Converted → List (Annotation × SchemaType) → Node
+  node_made part fields own = record { id = id; display_name = name; annotations = firsts own; data_word_count = part.data_words; pointer_count = part.pointers; is_group = part.is_group; discriminant_count = part.discriminant_count; discriminant_offset = part.discriminant_offset; fields = map (λ (f : Converted). f.field) fields }
+
+  abbrev brand_made : List Converted → List (Annotation × SchemaType) → Brand
+  brand_made fields own = record { node = number; field_types = map (λ (f : Converted). f.type) fields; annotation_types = record { own = seconds own; children = map (λ (f : Converted). f.annotation_types) fields } }
+
+  abbrev with_own : StructPart → List Converted → List (Annotation × SchemaType) → Work (Node × Brand × List Note)
+  with_own part fields own = given (node_made part fields own, brand_made fields own, all_notes fields)
+
+  abbrev with_fields : StructPart → List Converted → Work (Node × Brand × List Note)
+  with_fields part fields = annotations_of nodes strict bound n.annotations >>= with_own part fields
+
+  abbrev with_part : StructPart → Work (Node × Brand × List Note)
+  with_part part = all_fields nodes strict bound number part.fields >>= with_fields part
+
+  pub struct_missing : (kind : ErrorKind) → is_struct n.kind ≡ false → kind ≡ NodeNotFound → struct_made nodes strict number id bound name n s ≡ Err kind
+  struct_missing kind e k = no_struct n.kind with_part s e ∙ ap (λ (x : ErrorKind). Err x) (sym k)
+
+  module _ (part : StructPart) (is : n.kind ≡ StructNode part) where
+    opened : struct_made nodes strict number id bound name n s ≡ with_part part s
+    opened = ap (λ k. at_struct k with_part s) is
+
+    pub struct_fields_refused : (kind : ErrorKind) → all_fields nodes strict bound number part.fields s ≡ Err kind → struct_made nodes strict number id bound name n s ≡ Err kind
+    struct_fields_refused kind e = opened ∙ then_err (all_fields nodes strict bound number part.fields) (with_fields part) s kind e
+
+    module _ (fields : List Converted) (after : Named) (made : all_fields nodes strict bound number part.fields s ≡ Ok (fields, after)) where
+      behind : struct_made nodes strict number id bound name n s ≡ with_fields part fields after
+      behind = opened ∙ then_ok (all_fields nodes strict bound number part.fields) (with_fields part) s after fields made
+
+      pub struct_annotations_refused : (kind : ErrorKind) → annotations_of nodes strict bound n.annotations after ≡ Err kind → struct_made nodes strict number id bound name n s ≡ Err kind
+      struct_annotations_refused kind e = behind ∙ then_err (annotations_of nodes strict bound n.annotations) (with_own part fields) after kind e
+
+      pub struct_given : (own : List (Annotation × SchemaType)) (last : Named) → annotations_of nodes strict bound n.annotations after ≡ Ok (own, last) →
+          struct_made nodes strict number id bound name n s ≡ Ok ((node_made part fields own, brand_made fields own, all_notes fields), last)
+      struct_given own last e = behind ∙ then_ok (annotations_of nodes strict bound n.annotations) (with_own part fields) after last own e
+
+map-map : {A B C : Type 0} (f : B → C) (g : A → B) (xs : List A) → map (λ x. f (g x)) xs ≡ map f (map g xs)
+map-map f g [] = refl
+map-map f g (x ∷ xs) = ap (λ ys. f (g x) ∷ ys) (map-map f g xs)
+
+-- the parts of a struct, as they are seen
+pub children_of : (ts : List (Vec TypeHandle Global)) (types : List (List TypeHandle)) → map (λ (v : Vec TypeHandle Global). v.items) ts ≡ types → map (λ (v : Vec TypeHandle Global). map seen_type v.items) ts ≡ map (λ (xs : List TypeHandle). map seen_type xs) types
+children_of ts types e = map-map (λ (xs : List TypeHandle). map seen_type xs) (λ (v : Vec TypeHandle Global). v.items) ts ∙ ap (map (λ (xs : List TypeHandle). map seen_type xs)) e

@@ -132,9 +132,12 @@ module _ (nodes : List SchemaNode) (strict : Bool) where
     holders = b.holders;
   }
 
+  -- the next entry, which begins so
+  abbrev pub add_struct : Made → (id : ℕ) → List Bound → Begun → Work Made
+  add_struct m id bound b = struct_made (length m.nodes) id bound b.name b.node >>= (λ made. given (with_struct m b made))
+
   abbrev pub make_struct : Made → Entry → Work Made
-  make_struct m e s =
-      (said (begin_struct nodes m e s.enums) >>= (λ b. struct_made (length m.nodes) e.node e.bound b.name b.node >>= (λ made. given (with_struct m b made)))) s
+  make_struct m e s = (said (begin_struct nodes m e s.enums) >>= add_struct m e.node e.bound) s
 
   -- ---- enums ----
 

@@ -11,12 +11,11 @@ ghost use Rattle.capnp_request.specs.Names.{Holder};
 ghost use Rattle.capnp_request.specs.NamesMade.{AreHolders, texts};
 ghost use Rattle.capnp_request.specs.Nodes.{AreNodes, nodes_of};
 ghost use Rattle.capnp_request.specs.Numbers.{AreNumbered, numbered};
-ghost use Rattle.capnp_request.specs.Order.{and_said, begin_enum, begin_struct, conversion_of, enum_names, make_all, make_enum, nothing_made, result_of, struct_made, with_struct};
+ghost use Rattle.capnp_request.specs.Order.{add_struct, and_said, begin_enum, begin_struct, conversion_of, enum_names, make_all, make_enum, nothing_made, result_of};
 ghost use Rattle.capnp_request.specs.ProgressSeen.{begun_of, made_of, rest_of, seen_lists};
 ghost use Rattle.capnp_request.specs.Reading.{node_said, request_said};
 ghost use Rattle.capnp_request.specs.Refusals.{IsPlain, IsRefusal};
 ghost use Rattle.capnp_request.specs.Shapes.{AreBrandsOf};
-ghost use Rattle.capnp_request.specs.Work.{◌>>=◌, given};
 
 use crate::context::Context;
 use crate::entries::{BoundScope, Entries, Entry};
@@ -168,9 +167,7 @@ impl Progress {
         requires brands { AreBrandsOf self.now.made.nodes.items self.now.made.brands.items }
         requires number { next.place.number ≡ length self.now.made.nodes.items }
         requires node { IsRecord 2 next.place.node }
-        ensures done { (hs : List Holder) → IsDone (λ _. made_of self.new hs)
-            (struct_made (nodes_of context.entry.nodes.now) context.entry.strict next.entry.place.number next.entry.place.id (bounds next.entry.scopes.items) (string_bytes next.entry.name) (node_said (record_seen next.entry.place.node))
-            >>= (λ made. given (with_struct (made_of self.old hs) (begun_of self.old hs next.entry) made))) (between entries.old) (between entries.new) result }
+        ensures done { (hs : List Holder) → IsDone (λ _. made_of self.new hs) (add_struct (nodes_of context.entry.nodes.now) context.entry.strict (made_of self.old hs) next.entry.place.id (bounds next.entry.scopes.items) (begun_of self.old hs next.entry)) (between entries.old) (between entries.new) result }
         ensures numbers { IfOk result (λ _. AreNumbered entries.new) }
         ensures names { self.new.names ≡ self.old.names }
         ensures brands { IfOk result (λ _. AreBrandsOf self.new.made.nodes.items self.new.made.brands.items) }

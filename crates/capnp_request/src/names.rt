@@ -1,5 +1,5 @@
 //! The names of a set's structs and enums.
-ghost use Rattle.std.specs.Prelude.{ℕ, List, [], ◌∷◌, ◌≡◌, ◌≢◌, ◌≤◌, ◌++◌, ◌-◌, true, drop, length, map, option_map, string_bytes, take, IfErr, IfOk, OnOk, Ok, Err};
+ghost use Rattle.std.specs.Prelude.{ℕ, List, [], ◌∷◌, ◌≡◌, ◌≢◌, ◌≤◌, ◌++◌, ◌-◌, true, drop, length, map, option_map, string_bytes, take, IfErr, IfOk, OnOk, Ok, Err, Some};
 ghost use Rattle.capnp_device.specs.declared.error.ErrorKind.TheVariants.{OutOfMemory, TooManyTypes};
 ghost use Rattle.capnp_schema.specs.Schema.{seen_node};
 ghost use Rattle.capnp_schema.specs.Types.{seen_base, seen_type, seen_variant};
@@ -296,6 +296,49 @@ fn file_part(alloc: Global, file: &[u8], is_taken: bool) -> Result<Vec<u8>>
     Ok(name)
 }
 
+/// A name, a dot, and another.
+fn with_dot(alloc: Global, parent: &[u8], field: &[u8]) -> Result<Vec<u8>>
+    ensures made { IfOk result (λ name. name.items ≡ parent.now ++ 46 ∷ field.now) }
+    ensures refused { IfErr result (λ e. IsTooLong e.kind (parent.now ++ 46 ∷ field.now)) }
+    ensures kinds { IfErr result (λ e. IsPlain e.kind) }
+{
+    let mut name = Vec::new(alloc);
+    append(&mut name, parent)?;
+    append(&mut name, b".")?;
+    append(&mut name, field)?;
+    Ok(name)
+}
+
+/// The name of the group that a field names: its parent's, a dot, and the field's.
+fn dotted_name(alloc: Global, parent: &[u8], field: &[u8]) -> Result<String>
+    ensures read { IfOk result (λ name. finished (parent.now ++ 46 ∷ field.now) ≡ Ok (string_bytes name)) }
+    ensures refused { IfErr result (λ e. e.kind ≢ OutOfMemory → finished (parent.now ++ 46 ∷ field.now) ≡ Err e.kind) }
+    ensures kinds { IfErr result (λ e. IsPlain e.kind) }
+{
+    let bytes = with_dot(alloc, parent, field)?;
+    let name = finished(alloc, bytes.as_slice())?;
+    Ok(name)
+}
+
+/// The name of the group that a field of a struct names. Refused with `NodeNotFound` where the struct has no such field.
+fn member_name(alloc: Global, parent: &NodeRecord, field: usize) -> Result<String>
+    ensures read { IfOk result (λ name. group_name (Some (seen_node parent.now)) field ≡ Ok (string_bytes name)) }
+    ensures refused { IfErr result (λ e. e.kind ≢ OutOfMemory → group_name (Some (seen_node parent.now)) field ≡ Err e.kind) }
+    ensures kinds { IfErr result (λ e. IsPlain e.kind) }
+{
+    match parent.body.fields.get(field) {
+        Some(member) => {
+            let name = dotted_name(
+                alloc,
+                parent.display_name.as_bytes(),
+                member.name.as_bytes(),
+            )?;
+            Ok(name)
+        }
+        None => Err(Error::from(ErrorKind::NodeNotFound)),
+    }
+}
+
 /// The name of a group: its parent's, a dot, and the name of the field. Refused with `NodeNotFound` where its parent isn't
 /// there or has no such field.
 fn group_name(alloc: Global, parent: Option<&NodeRecord>, field: usize) -> Result<String>
@@ -303,18 +346,10 @@ fn group_name(alloc: Global, parent: Option<&NodeRecord>, field: usize) -> Resul
     ensures refused { IfErr result (λ e. e.kind ≢ OutOfMemory → group_name (option_map (λ n. seen_node n.now) parent.entry) field ≡ Err e.kind) }
     ensures kinds { IfErr result (λ e. IsPlain e.kind) }
 {
-    let Some(parent) = parent else {
-        return Err(Error::from(ErrorKind::NodeNotFound));
-    };
-    let Some(field) = parent.body.fields.get(field) else {
-        return Err(Error::from(ErrorKind::NodeNotFound));
-    };
-    let mut name = Vec::new(alloc);
-    append(&mut name, parent.display_name.as_bytes())?;
-    append(&mut name, b".")?;
-    append(&mut name, field.name.as_bytes())?;
-    let name = finished(alloc, name.as_slice())?;
-    Ok(name)
+    match parent {
+        Some(parent) => member_name(alloc, parent, field),
+        None => Err(Error::from(ErrorKind::NodeNotFound)),
+    }
 }
 
 /// Who has a name from now on: the first entry that had it, shared where the entry of this id has another.
@@ -391,8 +426,10 @@ impl Names {
         ensures refused { (hs : List NameHolder) → AreHolders self.old hs → IfErr result (λ e. e.kind ≢ OutOfMemory → name_entry (nodes_of nodes.now) (map seen_node named.entry.structs.now) (texts named.entry.enums.now) hs (seen_entry entry.now) Whole ≡ Err e.kind) }
         ensures kinds { IfErr result (λ e. IsPlain e.kind) }
     {
-        let display = display_name(nodes.found(entry.id)?)?;
-        self.name_by_display(named, entry, display)
+        let node = nodes.found(entry.id)?;
+        let display = display_name(node)?;
+        let name = self.name_by_display(named, entry, display)?;
+        Ok(name)
     }
 
     /// The name of an entry, where those of smaller numbers have their names.

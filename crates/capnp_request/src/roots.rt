@@ -1,5 +1,5 @@
 //! The structs with which a conversion begins: those of the requested files.
-ghost use Rattle.std.specs.Prelude.{ℕ, List, [], ◌≡◌, ◌++◌, false, IfErr, IfOk, OnOk};
+ghost use Rattle.std.specs.Prelude.{ℕ, List, [], ◌∷◌, ◌≡◌, ◌++◌, false, IfErr, IfOk, OnOk};
 ghost use Rattle.capnp_device.specs.declared.error.ErrorKind.TheVariants.{OutOfMemory};
 ghost use Rattle.capnp_schema.specs.RequestSet.{request_set};
 ghost use Rattle.capnp_schema.specs.Schema.{field_at, is_member};
@@ -52,6 +52,28 @@ fn listed_ids(
     Ok(ids)
 }
 
+/// Puts an id at the queue's end, but one that was put there before or that no node has.
+fn put_id(
+    nodes: &SchemaNodes<'_>,
+    queue: &mut Vec<u64>,
+    met: &mut HashSet<u64>,
+    id: u64,
+) -> Result<()>
+    requires { AreNodes nodes.now }
+    ensures queue { (before : List ℕ) → AreMet met.old before → IfOk result (λ _. queue.new.items ≡ queue.old.items ++ new_ids (nodes_of nodes.now) (id ∷ []) before) }
+    ensures met { (before : List ℕ) → AreMet met.old before → IfOk result (λ _. AreMet met.new (new_ids (nodes_of nodes.now) (id ∷ []) before ++ before)) }
+    ensures kinds { IfErr result (λ e. e.kind ≡ OutOfMemory) }
+{
+    if nodes.get(id).is_none() {
+        return Ok(());
+    }
+    if !met.insert(id)? {
+        return Ok(());
+    }
+    queue.push(id)?;
+    Ok(())
+}
+
 /// Puts ids at the queue's end, but those that were put there before or that no node has.
 fn put_ids(
     nodes: &SchemaNodes<'_>,
@@ -65,9 +87,7 @@ fn put_ids(
     ensures kinds { IfErr result (λ e. e.kind ≡ OutOfMemory) }
 {
     for id in ids {
-        if nodes.get(*id).is_some() && met.insert(*id)? {
-            queue.push(*id)?;
-        }
+        put_id(nodes, queue, met, *id)?;
     }
     Ok(())
 }
