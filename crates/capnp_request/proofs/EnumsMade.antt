@@ -1,16 +1,20 @@
 -- The parts of enums, as the definition sees them.
-use Rattle.std.proofs.Common.{ℕ, ◌≡◌, ◌∙◌, ap, refl, sym, map, Bool, false, List, [], ◌∷◌, Ok, Err}
+use Rattle.std.proofs.Common.{ℕ, ◌≡◌, ◌∙◌, ap, refl, sym, map, string_bytes, Bool, true, false, List, [], ◌∷◌, Result, Ok, Err}
+use Rattle.std.specs.Global.{Global}
+use Rattle.std.specs.Prelude.{Vec}
+use Rattle.capnp_base.specs.declared.introspect.«Type».{«Type» as TypeHandle}
 use Rattle.capnp_device.specs.declared.error.ErrorKind.{ErrorKind}
 use Rattle.capnp_device.specs.declared.error.ErrorKind.TheVariants.{NodeNotFound}
 use Rattle.capnp_records.specs.Record as value
 use Rattle.capnp_records.specs.Record.{Record, Value}
-use Rattle.capnp_schema.specs.Schema.{Annotation, Enum, Enumerant, seen_enumerant}
+use Rattle.capnp_schema.specs.Schema.{Annotation, Enum, Enumerant, seen_annotations, seen_enum, seen_enumerant}
+use Rattle.capnp_schema.specs.declared.record.EnumRecord.{EnumRecord}
 use Rattle.capnp_schema.specs.Types.{SchemaType, seen_type}
 use Rattle.capnp_request.specs.Conversion.{annotations_of, name_of}
 use Rattle.capnp_request.specs.Order.{all_enumerants, at_enum, enum_made, enumerant_of, firsts, seconds}
 use Rattle.capnp_request.specs.Parts.{read_at}
 use Rattle.capnp_request.specs.Reading.{annotations_in, enumerant_said, text_in}
-use Rattle.capnp_request.specs.StructsSeen.{enumerant_records, enumerant_types, seen_enumerants}
+use Rattle.capnp_request.specs.StructsSeen.{enumerant_records, enumerant_types, seen_converted_enumerant, seen_enumerants}
 use Rattle.capnp_request.specs.Terms.{AnnotationNode, EnumNode, EnumerantTerm, NodeKind, OtherNode, Said, SchemaNode, StructNode}
 use Rattle.capnp_request.specs.Types.{is_enum}
 use Rattle.capnp_request.specs.Work.{◌>>=◌, Named, Work, continued, each_read, given, said}
@@ -117,3 +121,32 @@ enumerants_seen (e ∷ es) = ap (λ xs. seen_enumerant e.record ∷ xs) (enumera
 pub enumerant_types_seen : (es : List ConvertedEnumerant) → map (λ (c : Enumerant × List SchemaType). c.1) (seen_enumerants es) ≡ map (λ types. map seen_type types) (enumerant_types es)
 enumerant_types_seen [] = refl
 enumerant_types_seen (e ∷ es) = ap (λ xs. map seen_type e.annotation_types.items ∷ xs) (enumerant_types_seen es)
+
+abbrev enum_by : ℕ → List ℕ → List Annotation → List Enumerant → List SchemaType → List (List SchemaType) → Enum
+enum_by id name own enumerants types children = record { id = id; display_name = name; annotations = own; enumerants = enumerants; annotation_types = record { own = types; children = children } }
+
+pub enum_seen : (e : EnumRecord) (id : ℕ) (name : List ℕ) (own : List Annotation) (enumerants : List Enumerant) (types : List SchemaType) (children : List (List SchemaType)) → id ≡ e.id → name ≡ string_bytes e.display_name → own ≡ seen_annotations e.annotations.items → enumerants ≡ map seen_enumerant e.enumerants.items → types ≡ map seen_type e.annotation_types.own.items → children ≡ map (λ (v : Vec TypeHandle Global). map seen_type v.items) e.annotation_types.children.items
+    → enum_by id name own enumerants types children ≡ seen_enum e
+enum_seen e id name own enumerants types children e0 e1 e2 e3 e4 e5 =
+    ap (λ (x : ℕ). enum_by x name own enumerants types children) e0
+    ∙ (ap (λ (x : List ℕ). enum_by (e.id) x own enumerants types children) e1
+    ∙ (ap (λ (x : List Annotation). enum_by (e.id) (string_bytes e.display_name) x enumerants types children) e2
+    ∙ (ap (λ (x : List Enumerant). enum_by (e.id) (string_bytes e.display_name) (seen_annotations e.annotations.items) x types children) e3
+    ∙ (ap (λ (x : List SchemaType). enum_by (e.id) (string_bytes e.display_name) (seen_annotations e.annotations.items) (map seen_enumerant e.enumerants.items) x children) e4
+    ∙ (ap (λ (x : List (List SchemaType)). enum_by (e.id) (string_bytes e.display_name) (seen_annotations e.annotations.items) (map seen_enumerant e.enumerants.items) (map seen_type e.annotation_types.own.items) x) e5)))))
+
+-- what an enum is refused with before its enumerants are looked at
+pub enum_off : (nodes : List SchemaNode) (strict : Bool) (id : ℕ) (name : List ℕ) (n : SchemaNode) (s : Named) (kind : ErrorKind) → (is_enum n.kind ≡ false → kind ≡ NodeNotFound) → (is_enum n.kind ≡ true → n.kind ≡ EnumNode (Err kind)) →
+    enum_made nodes strict id name n s ≡ Err kind
+enum_off nodes strict id name n s kind missing unread = go (is_enum n.kind) refl
+  where
+    go : (q : Bool) → is_enum n.kind ≡ q → enum_made nodes strict id name n s ≡ Err kind
+    go false e = enum_missing nodes strict id name n s kind e (missing e)
+    go true e = enum_unread nodes strict id name n s kind (unread e)
+
+pub enumerant_pair : (e : ConvertedEnumerant) (name : List ℕ) (own : List Annotation) (types : List SchemaType) (s : Named) → name ≡ string_bytes e.record.name → own ≡ seen_annotations e.record.annotations.items → types ≡ map seen_type e.annotation_types.items →
+    ◌≡◌ {A = Result ((Enumerant × List SchemaType) × Named) ErrorKind} (Ok ((record { name = name; annotations = own }, types), s)) (Ok (seen_converted_enumerant e, s))
+enumerant_pair e name own types s p q r =
+    ap (λ (x : List ℕ). Ok ((record { name = x; annotations = own }, types), s)) p
+    ∙ (ap (λ (x : List Annotation). Ok ((record { name = string_bytes e.record.name; annotations = x }, types), s)) q
+    ∙ ap (λ (x : List SchemaType). Ok ((record { name = string_bytes e.record.name; annotations = seen_annotations e.record.annotations.items }, x), s)) r)

@@ -11,6 +11,7 @@ pub mod NamesSplit
 pub mod Numbering
 pub mod OrderMade
 pub mod PartsSeen
+pub mod ProgressMade
 pub mod RefusedKinds
 pub mod RootsNamed
 pub mod Rows

@@ -1,10 +1,11 @@
 -- Names piece by piece.
-use Rattle.std.proofs.Common.{ℕ, zero, suc, ◌+◌, ◌-◌, ◌<◌, ◌≤◌, ◌≡◌, ◌≢◌, ◌==◌, ◌∙◌, arith, ap, refl, sym, subst, codes, Bool, true, false, List, [], ◌∷◌, ◌++◌, length, map, get_or, slice_get, drop, option_map, string_bytes, String, Option, Some, None}
+use Rattle.std.proofs.Common.{ℕ, zero, suc, ◌+◌, ◌-◌, ◌<◌, ◌≤◌, ◌≡◌, ◌≢◌, ◌==◌, ◌∙◌, arith, ap, refl, sym, subst, codes, Bool, true, false, List, [], ◌∷◌, ◌++◌, length, map, get_or, slice_get, drop, option_map, string_bytes, String, Option, Some, None, Err}
 use Rattle.std.proofs.lemmas.List.{append-nil}
 use Rattle.std.proofs.lemmas.Option.{slice_get-map}
 use Rattle.std.specs.Option.{unwrap_or}
 use Rattle.std.proofs.Common.{append_assoc, drop-cons, length-append}
 use Rattle.capnp_device.specs.declared.error.ErrorKind.{ErrorKind}
+use Rattle.capnp_device.specs.declared.error.ErrorKind.TheVariants.{NodeNotFound}
 use Rattle.capnp_base.specs.Types.{base_of, base_variant, list_depth, variant_of}
 use Rattle.capnp_base.specs.declared.introspect.BaseType.{BaseType}
 use Rattle.capnp_base.specs.declared.introspect.BaseType.TheVariants as base
@@ -16,7 +17,7 @@ use Rattle.capnp_schema.specs.declared.record.FieldRecord.{FieldRecord}
 use Rattle.capnp_schema.specs.declared.record.NodeRecord.{NodeRecord}
 use Rattle.capnp_schema.specs.Types.{SchemaType, lists_of, seen_base, seen_type, seen_variant}
 use Rattle.capnp_request.specs.Bindings.{bounds, seen_bound}
-use Rattle.capnp_request.specs.Names.{bindings_name, bound_name, more_names, part_bindings, type_name}
+use Rattle.capnp_request.specs.Names.{bindings_name, bound_name, dotted_name, finished, group_name, more_names, part_bindings, type_name}
 use Rattle.capnp_request.specs.NamesMade.{IsTooLong, name_at, names_nothing, repeated, struct_names, texts}
 use Rattle.capnp_request.specs.declared.entries.BoundScope.{BoundScope}
 
@@ -257,7 +258,9 @@ module _ (structs enums : List (List ℕ)) (bs : List BoundScope) (dots k : ℕ)
   part_long kind e h = subst (IsTooLong kind) (at true e) (begun_two name part (46 ∷ behind (k + 1)) h)
 
   pub dot_appended : (next last : List ℕ) → (get_or xs i 0 == 46) ≡ true → next ≡ name ++ part → last ≡ next ++ 46 ∷ [] → last ++ behind (k + 1) ≡ whole
-  dot_appended next last e f g = ap (λ ys. ys ++ behind (k + 1)) (g ∙ ap (λ ys. ys ++ 46 ∷ []) f) ∙ (simp append_assoc ∙ at true e)
+  dot_appended next last e f g =
+      let join : ((name ++ part) ++ 46 ∷ []) ++ behind (k + 1) ≡ name ++ (part ++ 46 ∷ behind (k + 1)) = simp append_assoc in
+      ap (λ ys. ys ++ behind (k + 1)) (g ∙ ap (λ ys. ys ++ 46 ∷ []) f) ∙ (join ∙ at true e)
 
   pub byte_appended : (last : List ℕ) → (get_or xs i 0 == 46) ≡ false → last ≡ name ++ get_or xs i 0 ∷ [] → last ++ behind k ≡ whole
   byte_appended last e g = ap (λ ys. ys ++ behind k) g ∙ (append_assoc name (get_or xs i 0 ∷ []) (behind k) ∙ at false e)
@@ -272,3 +275,12 @@ field_there fields i f e = slice_get-map (λ (f : Field). f.name) (map seen_fiel
 
 pub field_missing : (fields : List FieldRecord) (i : ℕ) → slice_get fields i ≡ None → slice_get (map (λ (f : Field). f.name) (map seen_field fields)) i ≡ None
 field_missing fields i e = slice_get-map (λ (f : Field). f.name) (map seen_field fields) i ∙ ap (option_map (λ (f : Field). f.name)) (slice_get-map seen_field fields i ∙ ap (option_map seen_field) e)
+
+pub member_named : (p : NodeRecord) (i : ℕ) (f : FieldRecord) (parent field : List ℕ) → slice_get p.body.fields.items i ≡ Some f → parent ≡ string_bytes p.display_name → field ≡ string_bytes f.name →
+    group_name (Some (seen_node p)) i ≡ finished (parent ++ 46 ∷ field)
+member_named p i f parent field e g h =
+    ap (dotted_name (string_bytes p.display_name)) (field_there p.body.fields.items i f e)
+    ∙ (ap (λ xs. finished (xs ++ 46 ∷ string_bytes f.name)) (sym g) ∙ ap (λ xs. finished (parent ++ 46 ∷ xs)) (sym h))
+
+pub member_missing : (p : NodeRecord) (i : ℕ) (kind : ErrorKind) → slice_get p.body.fields.items i ≡ None → kind ≡ NodeNotFound → group_name (Some (seen_node p)) i ≡ Err kind
+member_missing p i kind e k = ap (dotted_name (string_bytes p.display_name)) (field_missing p.body.fields.items i e) ∙ ap (λ (x : ErrorKind). Err x) (sym k)

@@ -1,17 +1,25 @@
 -- The ids that a request lists, those that are put into a queue, and the roots among them.
-use Rattle.std.proofs.Common.{ℕ, zero, suc, ◌+◌, ◌-◌, ◌<◌, ◌≤◌, ◌≡◌, ◌==◌, ◌∙◌, arith, ap, cond, refl, sym, append_assoc, drop, get_or, length, nat_eq, Bool, true, false, not, ◌&&◌, ◌||◌, List, [], ◌∷◌, ◌++◌, Option, Some, None, Ok, Err}
+use Rattle.std.proofs.Common.{ℕ, zero, suc, ◌+◌, ◌-◌, ◌<◌, ◌≤◌, ◌≡◌, ◌==◌, ◌∙◌, arith, ap, cond, refl, sym, append_assoc, drop, get_or, length, nat_eq, slice_get, Bool, true, false, not, ◌&&◌, ◌||◌, List, [], ◌∷◌, ◌++◌, Option, Some, None, Ok, Err}
 use Rattle.std.proofs.lemmas.Bool.{eqb-true}
 use Rattle.std.proofs.lemmas.List.{append-nil}
+use Rattle.std.proofs.lemmas.Option.{slice_get_within}
 use Rattle.std.specs.HashSet.{HashSet, Updates, contains}
 use Rattle.capnp_device.specs.declared.error.ErrorKind.{ErrorKind}
 use Rattle.capnp_device.specs.declared.error.ErrorKind.TheVariants.{NodeNotFound}
+use Rattle.capnp_records.specs.Record.{Record, values_from}
+use Rattle.capnp_dynamic_readers.specs.Seen.{list_seen}
+use Rattle.capnp_dynamic_readers.specs.declared.dynamic_list.Reader.{Reader as ListHandle}
+use Rattle.capnp_request.specs.Handles.{element_in, values_left}
 use Rattle.capnp_request.specs.Met.{AreMet}
 use Rattle.capnp_request.specs.Order.{at_node, is_there, name_root, name_roots, new_ids}
-use Rattle.capnp_request.specs.Reading.{all_said, both_said}
-use Rattle.capnp_request.specs.Scopes.{is_met, node_named}
+use Rattle.capnp_request.specs.Reading.{all_said, both_said, each_said, node_said, whole_list, id_said}
+use Rattle.capnp_request.specs.Parts.{read_at}
+use Rattle.capnp_request.specs.Scopes.{is_met, node_named, scopes_of}
 use Rattle.capnp_request.specs.Terms.{Said, SchemaNode}
-use Rattle.capnp_request.specs.Types.{is_root}
-use Rattle.capnp_request.specs.Work.{◌>>=◌, Named, Work, continued, said}
+use Rattle.capnp_request.specs.Types.{is_root, number_struct}
+use Rattle.capnp_request.specs.Work.{◌>>=◌, Bound, Named, Work, continued, given, said}
+use Rattle.capnp_request.proofs.ListsSaid.{length_of}
+use Rattle.capnp_request.proofs.OrderMade.{drop_at}
 use Rattle.capnp_request.proofs.Works.{then_err, then_ok}
 
 -- ---- lists of what is said ----
@@ -36,6 +44,11 @@ behind_more xs x all rest e = sym (ap (λ r. said_behind xs (all_said r)) e ∙ 
 
 pub behind_refused : {A : Type 0} (xs : List A) (kind : ErrorKind) (all rest : List (Said A)) → all ≡ Err kind ∷ rest → said_behind xs (all_said all) ≡ Err kind
 behind_refused xs kind all rest e = ap (λ r. said_behind xs (all_said r)) e
+
+-- what the structs of a list say, all of them
+pub whole_read : {A : Type 0} (l : ListHandle) (b : ℕ) (f : Record → A) → whole_list b f (list_seen l) ≡ all_said (each_said b f (values_left l 0))
+unfolding values_left
+whole_read l b f = let e : length_of l ≡ length_of l - 0 = omega arith in ap (λ n. all_said (each_said b f (values_from (element_in l) 0 n))) e
 
 -- ---- ids that were met ----
 
@@ -129,6 +142,29 @@ nothing_left [] (suc i) h = refl
 nothing_left (x ∷ xs) zero h = absurd (omega (arith, h))
 nothing_left (x ∷ xs) (suc i) h = nothing_left xs i (omega (arith, h))
 
+-- what is nested in a node
+pub nested_in : (r : Record) → (node_said r).nested ≡ whole_list 6 (id_said 6) (read_at 2 3 r)
+unfolding node_said
+nested_in r = refl
+
+module _ (nodes : List SchemaNode) (strict : Bool) (id : ℕ) (root : Bool) (s : Named) where
+  abbrev numbered_root : List Bound → Work (List ℕ)
+  numbered_root bound = number_struct id bound >>= (λ number. given [])
+
+  pub no_root : root ≡ false → name_root nodes strict id root s ≡ Ok ([], s)
+  no_root e = ap (λ b. name_root nodes strict id b s) e
+
+  module _ (is : root ≡ true) where
+    pub root_unscoped : (kind : ErrorKind) → scopes_of nodes id ≡ Err kind → name_root nodes strict id root s ≡ Err kind
+    root_unscoped kind e = ap (λ b. name_root nodes strict id b s) is ∙ ap (λ r. continued numbered_root (said r s)) e
+
+    module _ (bound : List Bound) (scopes : scopes_of nodes id ≡ Ok bound) where
+      pub root_unnumbered : (kind : ErrorKind) → number_struct id bound s ≡ Err kind → name_root nodes strict id root s ≡ Err kind
+      root_unnumbered kind e = ap (λ b. name_root nodes strict id b s) is ∙ (ap (λ r. continued numbered_root (said r s)) scopes ∙ ap (continued (λ number. given [])) e)
+
+      pub root_numbered : (number : ℕ) (after : Named) → number_struct id bound s ≡ Ok (number, after) → name_root nodes strict id root s ≡ Ok ([], after)
+      root_numbered number after e = ap (λ b. name_root nodes strict id b s) is ∙ (ap (λ r. continued numbered_root (said r s)) scopes ∙ ap (continued (λ number. given [])) e)
+
 module _ (nodes : List SchemaNode) (strict : Bool) where
   pub no_queue : (steps : ℕ) (met : List ℕ) (s : Named) → name_roots nodes strict steps met [] s ≡ Ok ([], s)
   no_queue zero met s = refl
@@ -164,3 +200,34 @@ module _ (nodes : List SchemaNode) (strict : Bool) where
         pub root_named : (after : Named) → name_root nodes strict id (is_root n.kind) s ≡ Ok ([], after) →
             name_roots nodes strict (suc steps) met (id ∷ ids) s ≡ name_roots nodes strict steps (new_ids nodes nested met ++ met) (ids ++ new_ids nodes nested met) after
         root_named after e = opened ∙ then_ok (name_root nodes strict id (is_root n.kind)) (rest nested) s after [] e
+
+-- ---- one step of each loop ----
+
+module _ (nodes : List SchemaNode) (ids : List ℕ) (i : ℕ) (ms : List ℕ) where
+  abbrev new_here : List ℕ
+  new_here = new_ids nodes (get_or ids i 0 ∷ []) ms
+
+  abbrev met_here : List ℕ
+  met_here = new_here ++ ms
+
+  split_here : i < length ids → new_ids nodes (drop i ids) ms ≡ new_here ++ new_ids nodes (drop (i + 1) ids) met_here
+  split_here inside = ap (λ xs. new_ids nodes xs ms) (queue_left ids i inside) ∙ new_first nodes (get_or ids i 0) (drop (i + 1) ids) ms
+
+  pub put_more : (queue after whole : List ℕ) → i < length ids → queue ++ new_ids nodes (drop i ids) ms ≡ whole → after ≡ queue ++ new_here → after ++ new_ids nodes (drop (i + 1) ids) met_here ≡ whole
+  put_more queue after whole inside e f =
+      ap (λ xs. xs ++ new_ids nodes (drop (i + 1) ids) met_here) f ∙ (append_assoc queue new_here (new_ids nodes (drop (i + 1) ids) met_here) ∙ (ap (λ xs. queue ++ xs) (sym (split_here inside)) ∙ e))
+
+  pub met_stays : (id : ℕ) → i < length ids → is_met (new_ids nodes (drop (i + 1) ids) met_here ++ met_here) id ≡ is_met (new_ids nodes (drop i ids) ms ++ ms) id
+  met_stays id inside = met_moved new_here (new_ids nodes (drop (i + 1) ids) met_here) ms id ∙ ap (λ xs. is_met (xs ++ ms) id) (sym (split_here inside))
+
+  pub none_new : length ids ≤ i → new_ids nodes (drop i ids) ms ≡ []
+  none_new past = ap (λ xs. new_ids nodes xs ms) (nothing_left ids i past)
+
+module _ (nodes : List SchemaNode) (strict : Bool) (count position : ℕ) (met queue : List ℕ) (id : ℕ) (s : Named) (inside : position < count) (here : slice_get queue position ≡ Some id) where
+  pub at_id : name_roots nodes strict (count - position) met (drop position queue) s ≡ name_roots nodes strict (suc (count - (position + 1))) met (id ∷ drop (position + 1) queue) s
+  at_id =
+      let e : count - position ≡ suc (count - (position + 1)) = omega (arith, inside) in
+      ap (λ n. name_roots nodes strict n met (drop position queue) s) e ∙ ap (λ xs. name_roots nodes strict (suc (count - (position + 1))) met xs s) (drop_at queue position id here)
+
+  pub behind_id : (added after : List ℕ) → after ≡ queue ++ added → drop (position + 1) after ≡ drop (position + 1) queue ++ added
+  behind_id added after e = ap (drop (position + 1)) e ∙ drop_behind queue added (position + 1) (omega (arith, slice_get_within queue position id here))

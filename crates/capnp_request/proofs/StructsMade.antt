@@ -4,17 +4,22 @@ use Rattle.std.proofs.lemmas.List.{append-nil, map-append}
 use Rattle.capnp_base.specs.declared.introspect.«Type».{«Type» as TypeHandle}
 use Rattle.capnp_device.specs.declared.error.ErrorKind.{ErrorKind}
 use Rattle.std.specs.Global.{Global}
-use Rattle.std.specs.Prelude.{Vec}
+use Rattle.std.specs.Prelude.{Vec, string_bytes}
 use Rattle.capnp_device.specs.declared.error.ErrorKind.TheVariants.{NodeNotFound}
 use Rattle.capnp_records.specs.Record.{Record, Value}
-use Rattle.capnp_schema.specs.Schema.{Annotation, Brand, Node, seen_annotation, seen_annotations, seen_field}
+use Rattle.capnp_dynamic_readers.specs.Seen.{list_seen}
+use Rattle.capnp_dynamic_readers.specs.declared.dynamic_list.Reader.{Reader as ListHandle}
+use Rattle.capnp_schema.specs.Schema.{Annotation, Brand, Field, Node, seen_annotation, seen_annotations, seen_brand, seen_field, seen_node}
 use Rattle.capnp_schema.specs.Types.{SchemaType, seen_type}
 use Rattle.capnp_schema.specs.declared.record.AnnotationRecord.{AnnotationRecord}
+use Rattle.capnp_schema.specs.declared.record.BrandRecord.{BrandRecord}
+use Rattle.capnp_schema.specs.declared.record.NodeRecord.{NodeRecord}
 use Rattle.capnp_request.specs.Conversion.{Converted, Note, annotations_of, fields_of, note_at, note_where}
 use Rattle.capnp_request.specs.ConvertedSeen.{seen_converted, typed_annotations}
 use Rattle.capnp_request.specs.Order.{all_fields, all_notes, at_struct, firsts, seconds, struct_made}
+use Rattle.capnp_request.specs.Handles.{values_left}
 use Rattle.capnp_request.specs.Parts.{read_at}
-use Rattle.capnp_request.specs.Reading.{annotations_in, field_said, list_said, node_said, struct_said}
+use Rattle.capnp_request.specs.Reading.{annotations_in, each_said, field_said, list_said, node_said, struct_said}
 use Rattle.capnp_request.specs.Shapes.{note, noted}
 use Rattle.capnp_request.specs.StructsSeen.{child_types, field_records, field_types, seen_fields, seen_note, seen_notes, seen_stand_in}
 use Rattle.capnp_request.specs.Terms.{AnnotationNode, EnumNode, FieldTerm, NodeKind, OtherNode, Said, SchemaNode, StructNode, StructPart}
@@ -23,6 +28,7 @@ use Rattle.capnp_request.specs.Work.{◌>>=◌, Bound, Named, Work, continued, g
 use Rattle.capnp_request.specs.declared.fields.ConvertedField.{ConvertedField}
 use Rattle.capnp_request.specs.declared.notes.Note.{Note as NoteRecord}
 use Rattle.capnp_request.specs.declared.notes.StandIn.{StandIn as StandInRecord}
+use Rattle.capnp_request.proofs.ListsSaid.{said_all}
 use Rattle.capnp_request.proofs.Works.{then_err, then_ok}
 
 -- ---- annotations ----
@@ -91,6 +97,17 @@ pub fields_in : (part : Record) (v : Value) → v ≡ read_at 3 5 part → (stru
 unfolding struct_said
 fields_in part v e = ap (list_said 8 field_said) (sym e)
 
+-- and where a list was read
+pub listed_fields : (part : Record) (l : ListHandle) → list_seen l ≡ read_at 3 5 part → (struct_said part).fields ≡ Ok (each_said 8 field_said (values_left l 0))
+listed_fields part l e = fields_in part (list_seen l) e ∙ said_all l 8 field_said
+
+-- the notes of one field more
+pub notes_of_fields : (n i : ℕ) (fs : List ConvertedField) (f : ConvertedField) (all : List ConvertedField) (notes after : List NoteRecord) → seen_notes notes ≡ all_notes (seen_fields n 0 fs) → length fs ≡ i → all ≡ fs ++ f ∷ [] →
+    seen_notes after ≡ seen_notes notes ++ (seen_converted n i f).notes → seen_notes after ≡ all_notes (seen_fields n 0 all)
+notes_of_fields n i fs f all notes after e count more is =
+    let at : 0 + length fs ≡ i = omega (arith, count) in
+    is ∙ (ap (λ ns. ns ++ (seen_converted n i f).notes) e ∙ (sym (notes_of_more (seen_fields n 0 fs) (seen_converted n i f)) ∙ ap all_notes (sym (ap (seen_fields n 0) more ∙ fields_more n 0 fs f i at))))
+
 pub annotations_on : (r : Record) → (node_said r).annotations ≡ annotations_in (read_at 2 4 r)
 unfolding node_said
 annotations_on r = refl
@@ -145,3 +162,34 @@ map-map f g (x ∷ xs) = ap (λ ys. f (g x) ∷ ys) (map-map f g xs)
 -- the parts of a struct, as they are seen
 pub children_of : (ts : List (Vec TypeHandle Global)) (types : List (List TypeHandle)) → map (λ (v : Vec TypeHandle Global). v.items) ts ≡ types → map (λ (v : Vec TypeHandle Global). map seen_type v.items) ts ≡ map (λ (xs : List TypeHandle). map seen_type xs) types
 children_of ts types e = map-map (λ (xs : List TypeHandle). map seen_type xs) (λ (v : Vec TypeHandle Global). v.items) ts ∙ ap (map (λ (xs : List TypeHandle). map seen_type xs)) e
+
+-- a node by its parts, and a brand by its
+abbrev node_by : ℕ → List ℕ → List Annotation → ℕ → ℕ → Bool → ℕ → ℕ → List Field → Node
+node_by id name own words pointers group count offset fields = record { id = id; display_name = name; annotations = own; data_word_count = words; pointer_count = pointers; is_group = group; discriminant_count = count; discriminant_offset = offset; fields = fields }
+
+pub node_seen : (r : NodeRecord) (id : ℕ) (name : List ℕ) (own : List Annotation) (words : ℕ) (pointers : ℕ) (group : Bool) (count : ℕ) (offset : ℕ) (fields : List Field) → id ≡ r.id → name ≡ string_bytes r.display_name → own ≡ seen_annotations r.annotations.items → words ≡ r.body.data_word_count → pointers ≡ r.body.pointer_count → group ≡ r.body.is_group → count ≡ r.body.discriminant_count → offset ≡ r.body.discriminant_offset → fields ≡ map seen_field r.body.fields.items
+    → node_by id name own words pointers group count offset fields ≡ seen_node r
+node_seen r id name own words pointers group count offset fields e0 e1 e2 e3 e4 e5 e6 e7 e8 =
+    ap (λ (x : ℕ). node_by x name own words pointers group count offset fields) e0
+    ∙ (ap (λ (x : List ℕ). node_by (r.id) x own words pointers group count offset fields) e1
+    ∙ (ap (λ (x : List Annotation). node_by (r.id) (string_bytes r.display_name) x words pointers group count offset fields) e2
+    ∙ (ap (λ (x : ℕ). node_by (r.id) (string_bytes r.display_name) (seen_annotations r.annotations.items) x pointers group count offset fields) e3
+    ∙ (ap (λ (x : ℕ). node_by (r.id) (string_bytes r.display_name) (seen_annotations r.annotations.items) (r.body.data_word_count) x group count offset fields) e4
+    ∙ (ap (λ (x : Bool). node_by (r.id) (string_bytes r.display_name) (seen_annotations r.annotations.items) (r.body.data_word_count) (r.body.pointer_count) x count offset fields) e5
+    ∙ (ap (λ (x : ℕ). node_by (r.id) (string_bytes r.display_name) (seen_annotations r.annotations.items) (r.body.data_word_count) (r.body.pointer_count) (r.body.is_group) x offset fields) e6
+    ∙ (ap (λ (x : ℕ). node_by (r.id) (string_bytes r.display_name) (seen_annotations r.annotations.items) (r.body.data_word_count) (r.body.pointer_count) (r.body.is_group) (r.body.discriminant_count) x fields) e7
+    ∙ (ap (λ (x : List Field). node_by (r.id) (string_bytes r.display_name) (seen_annotations r.annotations.items) (r.body.data_word_count) (r.body.pointer_count) (r.body.is_group) (r.body.discriminant_count) (r.body.discriminant_offset) x) e8))))))))
+
+abbrev brand_by : ℕ → List SchemaType → List SchemaType → List (List SchemaType) → Brand
+brand_by number types own children = record { node = number; field_types = types; annotation_types = record { own = own; children = children } }
+
+pub brand_seen : (b : BrandRecord) (number : ℕ) (types : List SchemaType) (own : List SchemaType) (children : List (List SchemaType)) → number ≡ b.node → types ≡ map seen_type b.field_types.items → own ≡ map seen_type b.annotation_types.own.items → children ≡ map (λ (v : Vec TypeHandle Global). map seen_type v.items) b.annotation_types.children.items
+    → brand_by number types own children ≡ seen_brand b
+brand_seen b number types own children e0 e1 e2 e3 =
+    ap (λ (x : ℕ). brand_by x types own children) e0
+    ∙ (ap (λ (x : List SchemaType). brand_by (b.node) x own children) e1
+    ∙ (ap (λ (x : List SchemaType). brand_by (b.node) (map seen_type b.field_types.items) x children) e2
+    ∙ (ap (λ (x : List (List SchemaType)). brand_by (b.node) (map seen_type b.field_types.items) (map seen_type b.annotation_types.own.items) x) e3)))
+
+pub three_seen : (n u : Node) (b v : Brand) (t w : List Note) (s : Named) → n ≡ u → b ≡ v → t ≡ w → ◌≡◌ {A = Result ((Node × Brand × List Note) × Named) ErrorKind} (Ok ((n, b, t), s)) (Ok ((u, v, w), s))
+three_seen n u b v t w s p q r = ap (λ (x : Node). Ok ((x, b, t), s)) p ∙ (ap (λ (x : Brand). Ok ((u, x, t), s)) q ∙ ap (λ (x : List Note). Ok ((u, v, x), s)) r)

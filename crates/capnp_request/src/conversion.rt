@@ -1,6 +1,6 @@
 //! From a compiler's request to the lists of a set of schemas.
-ghost use Rattle.std.specs.Prelude.{ℕ, List, [], suc, ◌≡◌, ◌≢◌, ◌+◌, drop, length, map, string_bytes, IfErr, IfOk, OnOk, Ok, Err};
-ghost use Rattle.capnp_device.specs.declared.error.ErrorKind.TheVariants.{OutOfMemory};
+ghost use Rattle.std.specs.Prelude.{ℕ, List, [], suc, ◌≡◌, ◌≢◌, ◌<◌, ◌≤◌, ◌+◌, drop, length, map, string_bytes, IfErr, IfOk, OnOk, Ok, Err};
+ghost use Rattle.capnp_device.specs.declared.error.ErrorKind.TheVariants.{OutOfMemory, TooManyTypes};
 ghost use Rattle.capnp_schema.specs.Schema.{seen_node};
 ghost use Rattle.capnp_dynamic_readers.specs.Seen.{record_seen};
 ghost use Rattle.capnp_request.specs.Bindings.{bounds};
@@ -60,6 +60,19 @@ struct NextStruct<'a> {
     scopes: Vec<BoundScope>,
 }
 
+/// A count as the number of the next. Refused with `TooManyTypes` where it has more than 32 bits.
+fn counted(count: usize) -> Result<u32>
+    ensures number { IfOk result (λ n. n ≡ count) }
+    ensures few { IfOk result (λ n. count < 4294967296) }
+    ensures many { IfErr result (λ _. 4294967296 ≤ count) }
+    ensures kind { IfErr result (λ e. e.kind ≡ TooManyTypes) }
+{
+    if count > u32::MAX as usize {
+        return Err(Error::from(ErrorKind::TooManyTypes));
+    }
+    Ok(count as u32)
+}
+
 /// The name of an enum, and its node.
 fn named_enum<'a>(
     context: Context<'_, 'a>,
@@ -106,7 +119,8 @@ impl Progress {
             let Some(id) = entries.enum_id(number) else {
                 break;
             };
-            let (name, _node) = named_enum(context, id)?;
+            let named = named_enum(context, id)?;
+            let (name, _node) = named;
             self.enum_names.push(name)?;
         }
         Ok(())
@@ -131,9 +145,7 @@ impl Progress {
         ensures same { self.new.made ≡ self.old.made }
         ensures kinds { IfErr result (λ e. IsPlain e.kind) }
     {
-        let Ok(number) = u32::try_from(self.made.nodes.len()) else {
-            return Err(Error::from(ErrorKind::TooManyTypes));
-        };
+        let number = counted(self.made.nodes.len())?;
         self.name_enums(context, entries)?;
         let named = Named {
             structs: self.made.nodes.as_slice(),
@@ -206,7 +218,8 @@ impl Progress {
         ensures brands { self.new.made.brands ≡ self.old.made.brands }
         ensures kinds { IfErr result (λ e. IsRefusal context.entry.strict e.kind) }
     {
-        let (name, node) = named_enum(context, id)?;
+        let named = named_enum(context, id)?;
+        let (name, node) = named;
         let place = EnumPlace { id, node };
         let record = enum_of(context, entries, place, name)?;
         self.made.enums.push(record)?;

@@ -63,7 +63,7 @@ fn enumerant_of<'a>(
 {
     let text = text_at(enumerant, brands::ENUMERANT, ENUMERANT_NAME)?;
     let name = owned(context.alloc, text)?;
-    let (annotations, types) = annotations_of(
+    let annotated = annotations_of(
         context,
         entries,
         &[],
@@ -71,6 +71,7 @@ fn enumerant_of<'a>(
         brands::ENUMERANT,
         ENUMERANT_ANNOTATIONS,
     )?;
+    let (annotations, types) = annotated;
     Ok(ConvertedEnumerant {
         record: EnumerantRecord { name, annotations },
         annotation_types: types,
@@ -140,7 +141,7 @@ pub(crate) fn enum_of<'a>(
 {
     let members = enumerants(place.node)?;
     let made = enumerants_of(context, entries, members)?;
-    let (annotations, own) = annotations_of(
+    let annotated = annotations_of(
         context,
         entries,
         &[],
@@ -148,6 +149,7 @@ pub(crate) fn enum_of<'a>(
         brands::NODE,
         NODE_ANNOTATIONS,
     )?;
+    let (annotations, own) = annotated;
     let parts = parts_of(context.alloc, made)?;
     let EnumerantParts {
         records,

@@ -302,8 +302,7 @@ fn with_dot(alloc: Global, parent: &[u8], field: &[u8]) -> Result<Vec<u8>>
     ensures refused { IfErr result (λ e. IsTooLong e.kind (parent.now ++ 46 ∷ field.now)) }
     ensures kinds { IfErr result (λ e. IsPlain e.kind) }
 {
-    let mut name = Vec::new(alloc);
-    append(&mut name, parent)?;
+    let mut name = parent.to_vec(alloc)?;
     append(&mut name, b".")?;
     append(&mut name, field)?;
     Ok(name)
@@ -326,7 +325,8 @@ fn member_name(alloc: Global, parent: &NodeRecord, field: usize) -> Result<Strin
     ensures refused { IfErr result (λ e. e.kind ≢ OutOfMemory → group_name (Some (seen_node parent.now)) field ≡ Err e.kind) }
     ensures kinds { IfErr result (λ e. IsPlain e.kind) }
 {
-    match parent.body.fields.get(field) {
+    let fields = parent.body.fields.as_slice();
+    match fields.get(field) {
         Some(member) => {
             let name = dotted_name(
                 alloc,

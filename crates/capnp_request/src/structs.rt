@@ -199,7 +199,7 @@ pub(crate) fn struct_of<'a>(
 {
     let part = struct_part(place.node)?;
     let made = fields_of(context, entries, inside, place.number, part)?;
-    let (annotations, own) = annotations_of(
+    let annotated = annotations_of(
         context,
         entries,
         inside,
@@ -207,6 +207,7 @@ pub(crate) fn struct_of<'a>(
         brands::NODE,
         NODE_ANNOTATIONS,
     )?;
+    let (annotations, own) = annotated;
     let MadeFields { fields, notes } = made;
     let parts = parts_of(context.alloc, fields)?;
     let FieldParts {

@@ -1,4 +1,4 @@
-use Rattle.std.proofs.Common.{ℕ, List, [], ◌∷◌, ◌++◌, ◌∙◌, ap, arith}
+use Rattle.std.proofs.Common.{ℕ, List, [], ◌∷◌, ◌++◌, ◌∙◌, ap, arith, get_or}
 use Rattle.std.proofs.lemmas.Bool.{eq-eqb, ne_eqb}
 use Rattle.std.proofs.lemmas.Result.{err_from_is_err_and}
 use Rattle.capnp_request.specs.NamesMade.{struct_names, texts}
@@ -22,5 +22,5 @@ loop-byte-preserved c =
       | then-byte-eq46+in_ok-append_part_bindings w ↦
           (omega arith, rw w.part-is (dot_appended (struct_names c.args.named.structs.now) (texts c.args.named.enums.now) c.args.scopes.now c.dots_in-dots.result c.loop-byte.part c.args.dotted.now c.loop-byte.byte-index c.loop-byte-test.true _ _ c.loop-byte.invariant.1 w.append_part_bindings.new.name.items _ (eq-eqb _ _ w.if-byte-eq46.true) w.in_ok-append_part_bindings.ensures.appended (dot_pushed _ _ _ _ (ap (λ n. n.items) w.name-is) c.in_ok-push.ensures.items w.if-byte-eq46.true)))
       | else-byte-eq46 w ↦
-          (omega arith, rw w.part-is (byte_appended (struct_names c.args.named.structs.now) (texts c.args.named.enums.now) c.args.scopes.now c.dots_in-dots.result c.loop-byte.part c.args.dotted.now c.loop-byte.byte-index c.loop-byte-test.true _ _ c.loop-byte.invariant.1 _ (ne_eqb _ _ w.if-byte-eq46.false) (c.in_ok-push.ensures.items ∙ ap (λ n. n.items ++ _ ∷ []) w.name-is)))
+          (omega arith, rw w.part-is (byte_appended (struct_names c.args.named.structs.now) (texts c.args.named.enums.now) c.args.scopes.now c.dots_in-dots.result c.loop-byte.part c.args.dotted.now c.loop-byte.byte-index c.loop-byte-test.true _ _ c.loop-byte.invariant.1 _ (ne_eqb _ _ w.if-byte-eq46.false) (c.in_ok-push.ensures.items ∙ ap (λ n. n.items ++ get_or c.args.dotted.now c.loop-byte.byte-index 0 ∷ []) w.name-is)))
     ]

@@ -21,6 +21,6 @@ returns-in_err-append_lists-2-clause-refused c =
     let p = err_from_is_err_and c.from_residual-in_err-append_lists-2.result c.from_residual-in_err-append_lists-2.ensures.1 in
     rw (p.1, p.2) (third_long _ _ _ _ _ (lists_name (struct_names c.args.named.structs.now) (texts c.args.named.enums.now) (list_depth c.args.bound) (seen_base (base_of c.args.bound))) _ _ _ c.in_ok-append_lists.ensures.appended c.in_ok-append_base.ensures.appended c.in_err-append_lists-2.ensures.refused)
 
-pub returns-in_ok-append_lists-2-clause-appended : goal.returns-in_ok-append_lists-2-clause-appended
-returns-in_ok-append_lists-2-clause-appended c =
+pub returns-clause-appended : goal.returns-clause-appended
+returns-clause-appended c =
     joined _ _ _ _ _ (lists_name (struct_names c.args.named.structs.now) (texts c.args.named.enums.now) (list_depth c.args.bound) (seen_base (base_of c.args.bound))) _ _ _ c.in_ok-append_lists.ensures.appended c.in_ok-append_base.ensures.appended c.in_ok-append_lists-2.ensures.appended

@@ -13,5 +13,5 @@ returns-in_err-text-clause-refused c =
     let p = err_from_is_err_and c.from_residual-in_err-text.result c.from_residual-in_err-text.ensures.1 in
     rw (p.1, p.2) (λ is. finished_short c.args.name.now c.in_ok-check_length.ensures.fits ∙ c.in_err-text.ensures.refused is)
 
-pub returns-in_ok-text-clause-read : goal.returns-in_ok-text-clause-read
-returns-in_ok-text-clause-read c = finished_short c.args.name.now c.in_ok-check_length.ensures.fits ∙ c.in_ok-text.ensures.read
+pub returns-clause-read : goal.returns-clause-read
+returns-clause-read c = finished_short c.args.name.now c.in_ok-check_length.ensures.fits ∙ c.in_ok-text.ensures.read
