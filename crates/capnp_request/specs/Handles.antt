@@ -6,7 +6,7 @@ use Rattle.capnp_schema.specs.Accepted.{NamesEntries}
 use Rattle.capnp_schema.specs.RequestSet.{request_set}
 use Rattle.capnp_schema.specs.Schema.{FieldKind, Group, Slot, field_at, fields_of, is_member}
 use Rattle.capnp_schema.specs.StructHandles.{number_of, set_of}
-use Rattle.capnp_schema.specs.Types.{SchemaType}
+use Rattle.capnp_schema.specs.Types.{SchemaType, VoidType, BoolType, IntType, UIntType, EnumType, TextType, DataType, StructType, ListType, AnyPointerType}
 use Rattle.capnp_records.specs.Facts.ReadFaults.{Sound}
 use Rattle.capnp_records.specs.Facts.ListValues.{below_of}
 use Rattle.capnp_records.specs.Part.{which_of}
@@ -36,6 +36,26 @@ is_group_kind (Group node) = true
 
 abbrev pub IsGroupField : ℕ → ℕ → Type 0
 IsGroupField b i = is_group_kind (field_at request_set b i).field.kind ≡ true
+
+-- numbers, untyped pointers and groups can always be read
+abbrev pub is_whole : SchemaType → Bool
+is_whole VoidType = true
+is_whole BoolType = true
+is_whole (IntType bytes) = true
+is_whole (UIntType bytes) = true
+is_whole (EnumType number) = true
+is_whole TextType = false
+is_whole DataType = false
+is_whole (StructType number generic) = false
+is_whole (ListType element) = false
+is_whole AnyPointerType = true
+
+abbrev pub is_always_read : FieldKind → SchemaType → Bool
+is_always_read (Slot offset default) t = is_whole t
+is_always_read (Group node) t = true
+
+abbrev pub IsAlwaysRead : ℕ → ℕ → Type 0
+IsAlwaysRead b i = is_always_read (field_at request_set b i).field.kind (field_at request_set b i).type ≡ true
 
 -- a list of elements of a type of the request set, whose faults are those of reads
 pub record IsListOf (t : SchemaType) (l : ListHandle) : Type 0 where

@@ -1,23 +1,13 @@
--- What the records of types mean inside an entry.
-use Rattle.std.specs.Prelude.{ℕ, ◌≡◌, ◌==◌, List, Bool, true, false, Option, Some, None, slice_get, Ok, Err}
+-- What the records of types mean.
+use Rattle.std.specs.Prelude.{ℕ, ◌≤◌, ◌≡◌, ◌==◌, List, Bool, true, false, Option, Some, None, slice_get, Ok, Err}
 use Rattle.std.specs.Option.{unwrap_or}
 use Rattle.capnp_device.specs.declared.error.ErrorKind.TheVariants.{UnknownKind}
 use Rattle.capnp_schema.specs.Types.{SchemaType}
 use Rattle.capnp_records.specs.Record.{Record, Value}
-use Rattle.capnp_request.specs.Reading.{type_kinds, untyped_term}
-use Rattle.capnp_request.specs.Terms.{BrandTerm, MoreScopes, NoScopes, Parameter, Plain, Said, ScopeTerm, TypeTerm, UnreadBrand, UnreadType}
-use Rattle.capnp_request.specs.Types.{bound_to, float32, float64}
-use Rattle.capnp_request.specs.Work.{Bound, Work}
-
--- an untyped pointer, or what is bound to the parameter that it is
-abbrev pub untyped_by : List Bound → TypeTerm → Said SchemaType
-untyped_by inside (Plain t) = Ok t
-untyped_by inside (Parameter scope index) = Ok (bound_to inside scope index)
-untyped_by inside (UnreadType kind) = Err kind
-untyped_by inside t = Err UnknownKind
-
-unfoldable pub untyped_meant : List Bound → Value → Said SchemaType
-untyped_meant inside v = untyped_by inside (untyped_term v)
+use Rattle.capnp_request.specs.Reading.{type_kinds}
+use Rattle.capnp_request.specs.Terms.{BrandTerm, MoreScopes, NoScopes, Plain, Said, ScopeTerm, TypeTerm, UnreadBrand, UnreadType}
+use Rattle.capnp_request.specs.Types.{float32, float64}
+use Rattle.capnp_request.specs.Work.{Work}
 
 -- what member m of a type says
 abbrev pub type_kind : (Record → TypeTerm) → ℕ → Value → TypeTerm
@@ -26,6 +16,11 @@ type_kind inner m = unwrap_or (slice_get (type_kinds inner) m) (λ v. UnreadType
 -- a member that says all of a type
 unfoldable pub IsPlainMember : ℕ → SchemaType → Type 0
 IsPlainMember m t = (inner : Record → TypeTerm) (v : Value) → type_kind inner m v ≡ Plain t
+
+-- the type that a member says, or that it is 10, 11 or 14 and above, of which none is such a member
+abbrev pub IsPlainOr : ℕ → Option SchemaType → Type 0
+IsPlainOr m (Some t) = IsPlainMember m t
+IsPlainOr m None = (10 ≤ m) × (12 ≤ m → 14 ≤ m)
 
 -- a float of one of two widths
 abbrev pub float_type : (is_double strict : Bool) → Work SchemaType

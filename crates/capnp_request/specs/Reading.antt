@@ -90,18 +90,22 @@ module _ (inner : Record → TypeTerm) where
   abbrev pub type_in : RecordValue → TypeTerm
   type_in = in_struct term.UnreadType inner
 
+  abbrev pub binding_kinds : List (RecordValue → TypeTerm)
+  binding_kinds = (λ v. untyped) ∷ type_in ∷ []
+
   abbrev pub binding_said : Record → TypeTerm
-  binding_said r = by_member (term.UnreadType UnknownKind) ((λ v. untyped) ∷ type_in ∷ []) 21 (which_of r) r
+  binding_said r = by_member (term.UnreadType UnknownKind) binding_kinds 21 (which_of r) r
 
   abbrev pub bindings_said : Values → BindingTerms
   bindings_said NoValues = term.NoBindings
   bindings_said (MoreValues v vs) = term.MoreBindings (in_struct term.UnreadType binding_said (element_read 21 v)) (bindings_said vs)
 
   -- the first field of a scope is its id, and the members stand behind it
+  abbrev pub scope_kinds : List (RecordValue → ScopeTerm)
+  scope_kinds = (λ v. term.UnreadScope UnknownKind) ∷ in_list term.UnreadScope (λ vs. term.Binds (bindings_said vs)) ∷ (λ v. term.Inherits) ∷ []
+
   abbrev pub scope_said : Record → ScopeTerm
-  scope_said r =
-      by_member (term.UnreadScope UnknownKind)
-      ((λ v. term.UnreadScope UnknownKind) ∷ in_list term.UnreadScope (λ vs. term.Binds (bindings_said vs)) ∷ (λ v. term.Inherits) ∷ []) 20 (which_of r) r
+  scope_said r = by_member (term.UnreadScope UnknownKind) scope_kinds 20 (which_of r) r
 
   abbrev pub with_scope : BrandTerm → RecordValue → BrandTerm
   with_scope rest = in_struct term.UnreadBrand (λ r. term.MoreScopes (number_in (read_at 20 0 r)) (scope_said r) rest)
@@ -116,6 +120,12 @@ module _ (inner : Record → TypeTerm) where
   abbrev pub struct_term : RecordValue → TypeTerm
   struct_term = in_struct term.UnreadType (λ r. term.StructTerm (number_in (read_at 16 0 r)) (brand_in (read_at 16 1 r)))
 
+  abbrev pub list_term : RecordValue → TypeTerm
+  list_term = in_struct term.UnreadType (λ r. term.ListTerm (type_in (read_at 14 0 r)))
+
+  abbrev pub enum_term : RecordValue → TypeTerm
+  enum_term = in_struct term.UnreadType (λ r. term.EnumTerm (number_in (read_at 15 0 r)))
+
   -- the members of a type, by index
   abbrev pub type_kinds : List (RecordValue → TypeTerm)
   type_kinds =
@@ -124,8 +134,8 @@ module _ (inner : Record → TypeTerm) where
       ∷ (λ v. term.Plain (UIntType 1)) ∷ (λ v. term.Plain (UIntType 2)) ∷ (λ v. term.Plain (UIntType 4)) ∷ (λ v. term.Plain (UIntType 8))
       ∷ (λ v. term.Float32) ∷ (λ v. term.Float64)
       ∷ (λ v. term.Plain TextType) ∷ (λ v. term.Plain DataType)
-      ∷ in_struct term.UnreadType (λ r. term.ListTerm (type_in (read_at 14 0 r)))
-      ∷ in_struct term.UnreadType (λ r. term.EnumTerm (number_in (read_at 15 0 r)))
+      ∷ list_term
+      ∷ enum_term
       ∷ struct_term
       ∷ (λ v. term.Interface)
       ∷ untyped_term
@@ -137,8 +147,11 @@ type_said zero r = term.UnreadType TooDeep
 type_said (suc levels) r = by_member (term.UnreadType UnknownKind) (type_kinds (type_said levels)) 13 (which_of r) r
 
 -- as many as a message has levels
-unfoldable pub whole_type : Record → TypeTerm
-whole_type = type_said 64
+unfoldable pub type_levels : ℕ
+type_levels = 64
+
+abbrev pub whole_type : Record → TypeTerm
+whole_type = type_said type_levels
 
 -- ---- values ----
 
@@ -226,9 +239,8 @@ enumerants_said r = list_said 11 enumerant_said (read_at 4 0 r)
 unfoldable pub declaration_said : Record → TypeTerm
 declaration_said r = in_struct term.UnreadType whole_type (read_at 5 0 r)
 
--- a group can always be read
-abbrev pub of_group : (Record → NodeKind) → RecordValue → NodeKind
-of_group f = in_struct (λ kind. term.OtherNode) f
+abbrev pub unread_part : ErrorKind → StructPart
+unread_part kind = record { data_words = 0; pointers = 0; is_group = false; discriminant_count = 0; discriminant_offset = 0; fields = Err kind }
 
 abbrev pub other : RecordValue → NodeKind
 other v = term.OtherNode
@@ -237,10 +249,10 @@ other v = term.OtherNode
 abbrev pub node_kinds : List (RecordValue → NodeKind)
 node_kinds =
     other ∷ other ∷ other ∷ other ∷ other ∷ other
-    ∷ of_group (λ r. term.StructNode (struct_said r))
-    ∷ of_group (λ r. term.EnumNode (enumerants_said r))
+    ∷ (λ v. term.StructNode (in_struct unread_part struct_said v))
+    ∷ (λ v. term.EnumNode (in_struct Err enumerants_said v))
     ∷ other ∷ other
-    ∷ of_group (λ r. term.AnnotationNode (declaration_said r))
+    ∷ (λ v. term.AnnotationNode (in_struct term.UnreadType declaration_said v))
     ∷ []
 
 -- an id that is listed, of a nested node or of a requested file

@@ -121,6 +121,12 @@ enum_or_add nodes None id s = where_node is_enum nodes id (add_enum id) s
 abbrev pub number_enum : List SchemaNode → ℕ → Work ℕ
 number_enum nodes id s = enum_or_add nodes (enum_position s.enums id 0) id s
 
+abbrev pub is_annotation : NodeKind → Bool
+is_annotation (StructNode part) = false
+is_annotation (EnumNode enumerants) = false
+is_annotation (AnnotationNode t) = true
+is_annotation OtherNode = false
+
 -- a struct that is no group
 abbrev pub is_root : NodeKind → Bool
 is_root (StructNode part) = not part.is_group
@@ -177,7 +183,7 @@ module _ (nodes : List SchemaNode) (strict : Bool) (inside : List Bound) where
     -- bindings are numbered before the struct that they bind
     type_of (StructTerm id brand) s =
         where_node is_struct nodes id
-        (said (scopes_of nodes id) >>= (λ scopes. each (bind_scope (brand_types brand)) scopes >>= (λ bound. number_struct id bound >>= (λ number. given (StructType number number))))) s
+        ((said (scopes_of nodes id) >>= each (bind_scope (brand_types brand))) >>= (λ bound. number_struct id bound >>= (λ number. given (StructType number number)))) s
     type_of (Parameter scope index) s = Ok (bound_to inside scope index, s)
     type_of (UnreadType kind) s = Err kind
 

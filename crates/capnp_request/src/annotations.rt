@@ -1,18 +1,18 @@
 //! Annotations, as a request says them.
 ghost use Rattle.std.specs.Prelude.{◌≡◌, false, length, IfErr, IfOk};
 ghost use Rattle.capnp_schema.specs.RequestSet.{request_set};
-ghost use Rattle.capnp_schema.specs.Schema.{field_at, is_member};
+ghost use Rattle.capnp_schema.specs.Schema.{field_at, is_member, seen_annotation};
 ghost use Rattle.capnp_schema.specs.Types.{seen_type};
 ghost use Rattle.capnp_dynamic_readers.specs.Seen.{record_seen};
 ghost use Rattle.capnp_request.specs.Bindings.{bounds};
-ghost use Rattle.capnp_request.specs.Conversion.{annotations_of, declared_type};
+ghost use Rattle.capnp_request.specs.Conversion.{annotation_of, annotations_of, declared_type};
 ghost use Rattle.capnp_request.specs.ConvertedSeen.{typed_annotations};
 ghost use Rattle.capnp_request.specs.Done.{IsDone, between};
 ghost use Rattle.capnp_request.specs.Handles.{IsField, IsRecord};
 ghost use Rattle.capnp_request.specs.Nodes.{AreNodes, nodes_of};
 ghost use Rattle.capnp_request.specs.Numbers.{AreNumbered};
 ghost use Rattle.capnp_request.specs.Parts.{many, read_at};
-ghost use Rattle.capnp_request.specs.Reading.{annotations_in, brand_in, whole_type};
+ghost use Rattle.capnp_request.specs.Reading.{annotation_said, annotations_in, brand_in, whole_type};
 ghost use Rattle.capnp_request.specs.Refusals.{IsRefusal};
 ghost use Rattle.capnp_request.specs.Work.{unnoted};
 
@@ -21,7 +21,7 @@ use crate::entries::{BoundScope, Entries};
 use crate::notes::Seen;
 use crate::parts::{element_at, list_at, struct_at, u64_at};
 use crate::places::{ANNOTATION_BRAND, ANNOTATION_ID, ANNOTATION_VALUE, DECLARED_TYPE, brands};
-use crate::types::{BrandPlace, TYPE_LEVELS, bindings_of, type_of};
+use crate::types::{BrandPlace, bindings_of, levels_of_types, type_of};
 use crate::values::value_of;
 use capnp_base::introspect::Type;
 use capnp_dynamic_readers::dynamic_struct;
@@ -52,21 +52,43 @@ fn annotation_type<'a>(
     };
     // Nothing is noted of an annotation.
     let mut seen = Seen::nothing();
-    let scopes = bindings_of(context, entries, inside, id, place, &mut seen, TYPE_LEVELS)?;
+    let levels = levels_of_types();
+    let scopes = bindings_of(context, entries, inside, id, place, &mut seen, levels)?;
     let term = struct_at(
         declaration,
         brands::DECLARATION,
         DECLARED_TYPE,
         brands::TYPE,
     )?;
-    type_of(
-        context,
-        entries,
-        scopes.as_slice(),
-        term,
-        &mut seen,
-        TYPE_LEVELS,
-    )
+    let annotation_type = type_of(context, entries, scopes.as_slice(), term, &mut seen, levels)?;
+    Ok(annotation_type)
+}
+
+/// An annotation inside an entry of these scopes, and its type.
+fn annotation_of<'a>(
+    context: Context<'_, 'a>,
+    entries: &mut Entries,
+    inside: &[BoundScope],
+    annotation: dynamic_struct::Reader<'a>,
+) -> Result<(AnnotationRecord, Type)>
+    requires nodes { AreNodes context.nodes.now }
+    requires numbers { AreNumbered entries.now }
+    requires is_record { IsRecord 12 annotation }
+    ensures done { IsDone (λ r. (seen_annotation r.0, seen_type r.1)) (annotation_of (nodes_of context.entry.nodes.now) context.entry.strict (bounds inside.now) (annotation_said (record_seen annotation.entry)))
+        (between entries.old) (between entries.new) result }
+    ensures numbers { IfOk result (λ _. AreNumbered entries.new) }
+    ensures kinds { IfErr result (λ e. IsRefusal context.entry.strict e.kind) }
+{
+    let id = u64_at(annotation, brands::ANNOTATION, ANNOTATION_ID);
+    let said = struct_at(
+        annotation,
+        brands::ANNOTATION,
+        ANNOTATION_VALUE,
+        brands::VALUE,
+    )?;
+    let value = value_of(context.alloc, said)?;
+    let annotation_type = annotation_type(context, entries, inside, annotation, id)?;
+    Ok((AnnotationRecord { id, value }, annotation_type))
 }
 
 /// The annotations that a field of a record has, and the type of each.
@@ -94,16 +116,8 @@ pub(crate) fn annotations_of<'a>(
     let mut types = Vec::new(context.alloc);
     for at in 0..listed.len() {
         let annotation = element_at(listed, at, brands::ANNOTATION)?;
-        let id = u64_at(annotation, brands::ANNOTATION, ANNOTATION_ID);
-        let said = struct_at(
-            annotation,
-            brands::ANNOTATION,
-            ANNOTATION_VALUE,
-            brands::VALUE,
-        )?;
-        let value = value_of(context.alloc, said)?;
-        let annotation_type = annotation_type(context, entries, inside, annotation, id)?;
-        records.push(AnnotationRecord { id, value })?;
+        let (record, annotation_type) = annotation_of(context, entries, inside, annotation)?;
+        records.push(record)?;
         types.push(annotation_type)?;
     }
     Ok((records, types))

@@ -24,7 +24,7 @@ use crate::places::{
     SLOT_DEFAULT, SLOT_OFFSET, SLOT_TYPE, brands,
 };
 use crate::scopes::{copied_scopes, is_untyped};
-use crate::types::{TYPE_LEVELS, type_of};
+use crate::types::{levels_of_types, type_of};
 use crate::values::{is_untyped_value, value_of};
 use capnp_base::introspect::Type;
 use capnp_dynamic_readers::dynamic_struct;
@@ -70,7 +70,8 @@ fn slot_of<'a>(
     let offset = u32_at(slot, brands::SLOT, SLOT_OFFSET);
     let term = struct_at(slot, brands::SLOT, SLOT_TYPE, brands::TYPE)?;
     let mut seen = Seen::nothing();
-    let field_type = type_of(context, entries, inside, term, &mut seen, TYPE_LEVELS)?;
+    let levels = levels_of_types();
+    let field_type = type_of(context, entries, inside, term, &mut seen, levels)?;
     let value = struct_at(slot, brands::SLOT, SLOT_DEFAULT, brands::VALUE)?;
     let default = value_of(context.alloc, value)?;
     seen.untyped_default = is_untyped(field_type) && is_untyped_value(value);

@@ -12,11 +12,11 @@ ghost use Rattle.capnp_records.specs.Record as value;
 ghost use Rattle.capnp_dynamic_readers.specs.Handles.{list_reader_of};
 ghost use Rattle.capnp_dynamic_readers.specs.Kinds.{Int16Kind, Int32Kind, Int64Kind, Int8Kind, kind_of};
 ghost use Rattle.capnp_dynamic_readers.specs.Reads.{element_seen};
-ghost use Rattle.capnp_dynamic_readers.specs.Seen.{answered, list_seen, record_seen};
+ghost use Rattle.capnp_dynamic_readers.specs.Seen.{answered, list_seen, record_seen, value_seen};
 ghost use Rattle.capnp_dynamic_readers.specs.Typed.{IsOf};
 ghost use Rattle.capnp_dynamic_readers.specs.declared.dynamic_value.Reader.TheVariants as dynamic;
 ghost use Rattle.capnp_request.specs.Conversion.{name_of};
-ghost use Rattle.capnp_request.specs.Handles.{IsActive, IsField, IsGroupField, IsListOf, IsRecord};
+ghost use Rattle.capnp_request.specs.Handles.{IsActive, IsAlwaysRead, IsField, IsGroupField, IsListOf, IsRecord};
 ghost use Rattle.capnp_request.specs.Parts.{many, one, read_at};
 ghost use Rattle.capnp_request.specs.Refusals.{IsPlain};
 
@@ -54,6 +54,21 @@ fn part<'a>(reader: dynamic_struct::Reader<'a>, brand: u32, index: u16) -> Resul
     reader.get(field)
 }
 
+/// The same of a field that can always be read.
+fn sure_part<'a>(reader: dynamic_struct::Reader<'a>, brand: u32, index: u16) -> Value<'a>
+    requires record { IsRecord brand reader }
+    requires field { IsField brand index (field_at request_set brand index).type }
+    requires always { IsAlwaysRead brand index }
+    requires active { IsActive brand index reader }
+    ensures value { value_seen result ≡ read_at brand index (record_seen reader.entry) }
+    ensures typed { IsOf request_set (field_at request_set brand index).type result }
+{
+    let Ok(value) = part(reader, brand, index) else {
+        unreachable!()
+    };
+    value
+}
+
 /// A `u8`.
 pub(crate) fn u8_at(reader: dynamic_struct::Reader<'_>, brand: u32, index: u16) -> u8
     requires record { IsRecord brand reader }
@@ -61,9 +76,7 @@ pub(crate) fn u8_at(reader: dynamic_struct::Reader<'_>, brand: u32, index: u16) 
     requires active { IsActive brand index reader }
     ensures { value.Number (pos result) ≡ read_at brand index (record_seen reader.entry) }
 {
-    let Ok(value) = part(reader, brand, index) else {
-        unreachable!()
-    };
+    let value = sure_part(reader, brand, index);
     value.downcast::<u8>()
 }
 
@@ -74,9 +87,7 @@ pub(crate) fn u16_at(reader: dynamic_struct::Reader<'_>, brand: u32, index: u16)
     requires active { IsActive brand index reader }
     ensures { value.Number (pos result) ≡ read_at brand index (record_seen reader.entry) }
 {
-    let Ok(value) = part(reader, brand, index) else {
-        unreachable!()
-    };
+    let value = sure_part(reader, brand, index);
     value.downcast::<u16>()
 }
 
@@ -87,9 +98,7 @@ pub(crate) fn u32_at(reader: dynamic_struct::Reader<'_>, brand: u32, index: u16)
     requires active { IsActive brand index reader }
     ensures { value.Number (pos result) ≡ read_at brand index (record_seen reader.entry) }
 {
-    let Ok(value) = part(reader, brand, index) else {
-        unreachable!()
-    };
+    let value = sure_part(reader, brand, index);
     value.downcast::<u32>()
 }
 
@@ -100,9 +109,7 @@ pub(crate) fn u64_at(reader: dynamic_struct::Reader<'_>, brand: u32, index: u16)
     requires active { IsActive brand index reader }
     ensures { value.Number (pos result) ≡ read_at brand index (record_seen reader.entry) }
 {
-    let Ok(value) = part(reader, brand, index) else {
-        unreachable!()
-    };
+    let value = sure_part(reader, brand, index);
     value.downcast::<u64>()
 }
 
@@ -124,9 +131,7 @@ pub(crate) fn i8_at(reader: dynamic_struct::Reader<'_>, brand: u32, index: u16) 
     requires active { IsActive brand index reader }
     ensures { value.Number result ≡ read_at brand index (record_seen reader.entry) }
 {
-    let Ok(value) = part(reader, brand, index) else {
-        unreachable!()
-    };
+    let value = sure_part(reader, brand, index);
     int8_of(value)
 }
 
@@ -148,9 +153,7 @@ pub(crate) fn i16_at(reader: dynamic_struct::Reader<'_>, brand: u32, index: u16)
     requires active { IsActive brand index reader }
     ensures { value.Number result ≡ read_at brand index (record_seen reader.entry) }
 {
-    let Ok(value) = part(reader, brand, index) else {
-        unreachable!()
-    };
+    let value = sure_part(reader, brand, index);
     int16_of(value)
 }
 
@@ -172,9 +175,7 @@ pub(crate) fn i32_at(reader: dynamic_struct::Reader<'_>, brand: u32, index: u16)
     requires active { IsActive brand index reader }
     ensures { value.Number result ≡ read_at brand index (record_seen reader.entry) }
 {
-    let Ok(value) = part(reader, brand, index) else {
-        unreachable!()
-    };
+    let value = sure_part(reader, brand, index);
     int32_of(value)
 }
 
@@ -196,9 +197,7 @@ pub(crate) fn i64_at(reader: dynamic_struct::Reader<'_>, brand: u32, index: u16)
     requires active { IsActive brand index reader }
     ensures { value.Number result ≡ read_at brand index (record_seen reader.entry) }
 {
-    let Ok(value) = part(reader, brand, index) else {
-        unreachable!()
-    };
+    let value = sure_part(reader, brand, index);
     int64_of(value)
 }
 
@@ -209,9 +208,7 @@ pub(crate) fn bool_at(reader: dynamic_struct::Reader<'_>, brand: u32, index: u16
     requires active { IsActive brand index reader }
     ensures { value.Truth result ≡ read_at brand index (record_seen reader.entry) }
 {
-    let Ok(value) = part(reader, brand, index) else {
-        unreachable!()
-    };
+    let value = sure_part(reader, brand, index);
     value.downcast::<bool>()
 }
 
@@ -264,9 +261,7 @@ pub(crate) fn untyped_at<'a>(
     requires active { IsActive brand index reader }
     ensures { value.Untyped (tree_of (pointer_of result)) ≡ read_at brand index (record_seen reader.entry) }
 {
-    let Ok(value) = part(reader, brand, index) else {
-        unreachable!()
-    };
+    let value = sure_part(reader, brand, index);
     value.downcast::<any_pointer::Reader<'a>>()
 }
 
@@ -321,9 +316,7 @@ pub(crate) fn group_at<'a>(
     ensures record { IsRecord inner result }
 {
     let _inner = inner;
-    let Ok(value) = part(reader, brand, index) else {
-        unreachable!()
-    };
+    let value = sure_part(reader, brand, index);
     value.downcast::<dynamic_struct::Reader<'a>>()
 }
 

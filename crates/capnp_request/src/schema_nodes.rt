@@ -1,5 +1,5 @@
 //! The schema nodes of a request: by id, and by what they have.
-ghost use Rattle.std.specs.Prelude.{◌≡◌, ◌≢◌, ◌↔◌, IfErr, IfOk, IfSome, IsTrue, Some, None, Ok, Err, false, length, map, option_map, true};
+ghost use Rattle.std.specs.Prelude.{◌≡◌, ◌≢◌, IfErr, IfOk, IfSome, IsTrue, Some, None, Ok, Err, false, length, map, option_map, true};
 ghost use Rattle.capnp_device.specs.declared.error.ErrorKind.TheVariants.{NodeNotFound, OutOfMemory};
 ghost use Rattle.capnp_records.specs.Part.{which_of};
 ghost use Rattle.capnp_dynamic_readers.specs.Seen.{list_seen, record_seen};
@@ -12,7 +12,7 @@ ghost use Rattle.capnp_request.specs.Reading.{declaration_said, enumerant_said, 
 ghost use Rattle.capnp_request.specs.Refusals.{IsPlain};
 ghost use Rattle.capnp_request.specs.Scopes.{node_named, scopes_of};
 ghost use Rattle.capnp_request.specs.Terms.{EnumNode, StructNode};
-ghost use Rattle.capnp_request.specs.Types.{is_enum, is_of_kind, is_root, is_struct};
+ghost use Rattle.capnp_request.specs.Types.{is_annotation, is_enum, is_of_kind, is_root, is_struct};
 
 use crate::parts::{active_member, bool_at, element_at, group_at, list_at, text_at, u64_at};
 use crate::places::{
@@ -172,15 +172,11 @@ impl<'a> SchemaNodes<'a> {
         let Some(node) = self.get(id) else {
             return Err(not_found());
         };
-        match active_member(node) {
-            Some(NODE_ANNOTATION) => Ok(group_at(
-                node,
-                brands::NODE,
-                NODE_ANNOTATION,
-                brands::DECLARATION,
-            )),
-            _ => Err(not_found()),
+        if !is_annotation_node(node) {
+            return Err(not_found());
         }
+        let declaration = group_at(node, brands::NODE, NODE_ANNOTATION, brands::DECLARATION);
+        Ok(declaration)
     }
 
     /// The scopes of an id's node that have type parameters, inmost first. The scopes are the node, the node of its scope
@@ -219,11 +215,11 @@ impl<'a> SchemaNodes<'a> {
 fn is_struct_node(node: dynamic_struct::Reader<'_>) -> bool
     requires { IsRecord 2 node }
     ensures kind { is_struct (node_said (record_seen node.entry)).kind ≡ result }
-    ensures active { IsTrue result ↔ (which_of (record_seen node.entry) ≡ Some 6) }
+    ensures active { IsTrue result → which_of (record_seen node.entry) ≡ Some 6 }
 {
     match active_member(node) {
-        Some(NODE_STRUCT) => true,
-        _ => false,
+        Some(member) => member == NODE_STRUCT,
+        None => false,
     }
 }
 
@@ -231,11 +227,23 @@ fn is_struct_node(node: dynamic_struct::Reader<'_>) -> bool
 fn is_enum_node(node: dynamic_struct::Reader<'_>) -> bool
     requires { IsRecord 2 node }
     ensures kind { is_enum (node_said (record_seen node.entry)).kind ≡ result }
-    ensures active { IsTrue result ↔ (which_of (record_seen node.entry) ≡ Some 7) }
+    ensures active { IsTrue result → which_of (record_seen node.entry) ≡ Some 7 }
 {
     match active_member(node) {
-        Some(NODE_ENUM) => true,
-        _ => false,
+        Some(member) => member == NODE_ENUM,
+        None => false,
+    }
+}
+
+/// Whether a node is an annotation.
+fn is_annotation_node(node: dynamic_struct::Reader<'_>) -> bool
+    requires { IsRecord 2 node }
+    ensures kind { is_annotation (node_said (record_seen node.entry)).kind ≡ result }
+    ensures active { IsTrue result → which_of (record_seen node.entry) ≡ Some 10 }
+{
+    match active_member(node) {
+        Some(member) => member == NODE_ANNOTATION,
+        None => false,
     }
 }
 
@@ -252,7 +260,8 @@ pub(crate) fn struct_part<'a>(
     if !is_struct_node(node) {
         return Err(not_found());
     }
-    Ok(group_at(node, brands::NODE, NODE_STRUCT, brands::STRUCT))
+    let part = group_at(node, brands::NODE, NODE_STRUCT, brands::STRUCT);
+    Ok(part)
 }
 
 /// The enumerants of an enum's node. Refused with `NodeNotFound` where the node is no enum.
@@ -268,7 +277,8 @@ pub(crate) fn enumerants<'a>(node: dynamic_struct::Reader<'a>) -> Result<dynamic
         return Err(not_found());
     }
     let part = group_at(node, brands::NODE, NODE_ENUM, brands::ENUM);
-    list_at(part, brands::ENUM, ENUM_ENUMERANTS, brands::ENUMERANT)
+    let listed = list_at(part, brands::ENUM, ENUM_ENUMERANTS, brands::ENUMERANT)?;
+    Ok(listed)
 }
 
 /// Whether a node is a struct that is no group.
@@ -289,5 +299,6 @@ pub(crate) fn display_name<'a>(node: dynamic_struct::Reader<'a>) -> Result<&'a [
     ensures refused { IfErr result (λ e. (node_said (record_seen node.entry)).display_name ≡ Err e.kind) }
     ensures kinds { IfErr result (λ e. IsPlain e.kind) }
 {
-    text_at(node, brands::NODE, NODE_DISPLAY_NAME)
+    let name = text_at(node, brands::NODE, NODE_DISPLAY_NAME)?;
+    Ok(name)
 }

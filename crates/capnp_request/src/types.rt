@@ -1,5 +1,5 @@
 //! Types, as a request says them, with the bindings of their brands.
-ghost use Rattle.std.specs.Prelude.{◌≡◌, ◌≢◌, ◌<◌, ◌≤◌, ◌-◌, ◌^◌, false, map, option_map, [], IfErr, IfOk, IfSome, Ok, Err, Some};
+ghost use Rattle.std.specs.Prelude.{ℕ, List, Bool, ◌≡◌, ◌≢◌, ◌<◌, ◌≤◌, ◌-◌, ◌^◌, false, map, option_map, [], IfErr, IfOk, IfSome, Ok, Err, Some};
 ghost use Rattle.capnp_device.specs.declared.error.ErrorKind.TheVariants.{OutOfMemory, TooManyTypes};
 ghost use Rattle.capnp_base.specs.Types.{type_from};
 ghost use Rattle.capnp_schema.specs.RequestSet.{request_set};
@@ -11,16 +11,17 @@ ghost use Rattle.capnp_dynamic_readers.specs.Seen.{record_seen};
 ghost use Rattle.capnp_request.specs.Bindings.{bounds, flags, with_nothing};
 ghost use Rattle.capnp_request.specs.Done.{IsDone, IsSaid, so_far};
 ghost use Rattle.capnp_request.specs.Handles.{IsField, IsListOf, IsRecord, values_left};
-ghost use Rattle.capnp_request.specs.Meant.{IsPlainMember, float_type, scope_in, untyped_meant};
+ghost use Rattle.capnp_request.specs.Meant.{IsPlainOr, float_type, scope_in};
 ghost use Rattle.capnp_request.specs.Nodes.{AreNodes, nodes_of};
-ghost use Rattle.capnp_request.specs.Numbers.{AreNumbered};
+ghost use Rattle.capnp_request.specs.Numbers.{AreNumbered, numbered};
 ghost use Rattle.capnp_request.specs.Parts.{one, read_at};
-ghost use Rattle.capnp_request.specs.Reading.{binding_said, bindings_said, brand_in, scope_said, scopes_said, struct_term, type_said};
+ghost use Rattle.capnp_request.specs.Reading.{binding_said, bindings_said, brand_in, enum_term, list_term, scope_said, scopes_said, struct_term, type_levels, type_said, untyped_term};
 ghost use Rattle.capnp_request.specs.Refusals.{IsPlain, IsRefusal};
 ghost use Rattle.capnp_request.specs.Scopes.{bound_types};
-ghost use Rattle.capnp_request.specs.Terms.{TypeTerm};
+ghost use Rattle.capnp_request.specs.Terms.{SchemaNode, TypeTerm, UnreadBrand};
 ghost use Rattle.capnp_request.specs.Types.{bind_scope, binding_types, brand_types, interface, lists_in, named_scopes, scope_types, type_of, without_untyped};
-ghost use Rattle.capnp_request.specs.Work.{Numbered, each, named};
+ghost use Rattle.capnp_request.specs.Work.{Bound, Named, Numbered, each, named};
+ghost use Rattle.capnp_request.specs.Work.{Seen as WorkSeen};
 
 use crate::context::Context;
 use crate::entries::{BoundNode, BoundScope, Entries, entry_type, enum_type};
@@ -47,11 +48,16 @@ pub(crate) struct BrandPlace<'a> {
 }
 
 /// The levels that a type is read through, as many as a message has.
-pub(crate) const TYPE_LEVELS: u32 = 64;
+#[tactic(auto, unfolding(crate::specs::Reading::type_levels))]
+pub(crate) fn levels_of_types() -> u32
+    ensures { result ≡ type_levels }
+{
+    64
+}
 
 /// The type of a member of a type's union that says all of it.
 fn plain_type(member: u16) -> Option<Type>
-    ensures { IfSome result (λ t. IsPlainMember member (seen_type t)) }
+    ensures { IsPlainOr member (option_map seen_type result) }
 {
     match plain_variant(member) {
         Some(variant) => Some(Type::from(variant)),
@@ -61,7 +67,7 @@ fn plain_type(member: u16) -> Option<Type>
 
 /// The same as a variant.
 fn plain_variant(member: u16) -> Option<TypeVariant>
-    ensures { IfSome result (λ v. IsPlainMember member (seen_type (type_from v))) }
+    ensures { IsPlainOr member (option_map (λ v. seen_type (type_from v)) result) }
 {
     match member {
         0 => Some(TypeVariant::Void),
@@ -112,7 +118,7 @@ fn interface_type(strict: bool, seen: &mut Seen) -> Result<Type>
 fn untyped_or_bound(inside: &[BoundScope], term: dynamic_struct::Reader<'_>) -> Result<Type>
     requires record { IsRecord 13 term }
     requires active { which_of (record_seen term) ≡ Some 18 }
-    ensures said { IsSaid seen_type (untyped_meant (bounds inside.now) (read_at 13 18 (record_seen term.entry))) result }
+    ensures done { (nodes : List SchemaNode) → (strict : Bool) → (s : Named) → IsDone seen_type (type_of nodes strict (bounds inside.now) (untyped_term (read_at 13 18 (record_seen term.entry)))) s s result }
     ensures kinds { IfErr result (λ e. IsPlain e.kind) }
 {
     let pointer = group_at(term, brands::TYPE, TYPE_UNTYPED, brands::TYPE_UNTYPED);
@@ -145,9 +151,30 @@ fn list_type(element: Type) -> Result<Type>
     Ok(list)
 }
 
-/// The struct that a type names, with the bindings of its brand.
+/// The enum that a type names.
+fn enum_type_of<'a>(
+    context: Context<'_, 'a>,
+    entries: &mut Entries,
+    term: dynamic_struct::Reader<'a>,
+) -> Result<Type>
+    requires nodes { AreNodes context.nodes.now }
+    requires numbers { AreNumbered entries.now }
+    requires is_record { IsRecord 13 term }
+    requires active { which_of (record_seen term) ≡ Some 15 }
+    ensures done { (inside : List Bound) → (levels : ℕ) → (seen : WorkSeen) → IsDone seen_type (type_of (nodes_of context.entry.nodes.now) context.entry.strict inside (enum_term (type_said levels) (read_at 13 15 (record_seen term.entry))))
+        (named (numbered entries.old) seen) (named (numbered entries.new) seen) result }
+    ensures numbers { IfOk result (λ _. AreNumbered entries.new) }
+    ensures kinds { IfErr result (λ e. IsPlain e.kind) }
+{
+    let named = group_at(term, brands::TYPE, TYPE_ENUM, brands::TYPE_ENUM);
+    let id = u64_at(named, brands::TYPE_ENUM, NAMED_ID);
+    let number = entries.number_enum(context.nodes, id)?;
+    Ok(enum_type(number))
+}
+
+/// The list that a type is, of its element's type.
 #[cycle(types)]
-fn struct_type<'a>(
+fn list_type_of<'a>(
     context: Context<'_, 'a>,
     entries: &mut Entries,
     inside: &[BoundScope],
@@ -157,7 +184,32 @@ fn struct_type<'a>(
 ) -> Result<Type>
     requires nodes { AreNodes context.nodes.now }
     requires numbers { AreNumbered entries.now }
-    requires record { IsRecord 13 term }
+    requires is_record { IsRecord 13 term }
+    requires active { which_of (record_seen term) ≡ Some 14 }
+    ensures done { IsDone seen_type (type_of (nodes_of context.entry.nodes.now) context.entry.strict (bounds inside.now) (list_term (type_said depth) (read_at 13 14 (record_seen term.entry))))
+        (so_far entries.old seen.old) (so_far entries.new seen.new) result }
+    ensures numbers { IfOk result (λ _. AreNumbered entries.new) }
+    ensures kinds { IfErr result (λ e. IsRefusal context.entry.strict e.kind) }
+{
+    let list = group_at(term, brands::TYPE, TYPE_LIST, brands::TYPE_LIST);
+    let element = struct_at(list, brands::TYPE_LIST, LIST_ELEMENT, brands::TYPE)?;
+    let element_type = type_of(context, entries, inside, element, seen, depth)?;
+    list_type(element_type)
+}
+
+/// The struct that a type names, with the bindings of its brand.
+#[cycle(types)]
+fn struct_type_of<'a>(
+    context: Context<'_, 'a>,
+    entries: &mut Entries,
+    inside: &[BoundScope],
+    term: dynamic_struct::Reader<'a>,
+    seen: &mut Seen,
+    depth: u32,
+) -> Result<Type>
+    requires nodes { AreNodes context.nodes.now }
+    requires numbers { AreNumbered entries.now }
+    requires is_record { IsRecord 13 term }
     requires active { which_of (record_seen term) ≡ Some 16 }
     ensures done { IsDone seen_type (type_of (nodes_of context.entry.nodes.now) context.entry.strict (bounds inside.now) (struct_term (type_said depth) (read_at 13 16 (record_seen term.entry))))
         (so_far entries.old seen.old) (so_far entries.new seen.new) result }
@@ -208,40 +260,29 @@ pub(crate) fn type_of<'a>(
         return Ok(plain);
     }
     match member {
-        10 => {
-            let float = float_type(context.strict, false, seen)?;
-            Ok(float)
-        }
-        11 => {
-            let double = float_type(context.strict, true, seen)?;
-            Ok(double)
-        }
-        14 => {
-            let list = group_at(term, brands::TYPE, TYPE_LIST, brands::TYPE_LIST);
-            let element = struct_at(list, brands::TYPE_LIST, LIST_ELEMENT, brands::TYPE)?;
-            let element_type = type_of(context, entries, inside, element, seen, depth - 1)?;
-            list_type(element_type)
-        }
-        15 => {
-            let named = group_at(term, brands::TYPE, TYPE_ENUM, brands::TYPE_ENUM);
-            let id = u64_at(named, brands::TYPE_ENUM, NAMED_ID);
-            let number = entries.number_enum(context.nodes, id)?;
-            Ok(enum_type(number))
-        }
-        16 => {
-            let entry = struct_type(context, entries, inside, term, seen, depth - 1)?;
-            Ok(entry)
-        }
-        17 => {
-            let pointer = interface_type(context.strict, seen)?;
-            Ok(pointer)
-        }
-        18 => {
-            let pointer = untyped_or_bound(inside, term)?;
-            Ok(pointer)
-        }
+        10 => float_type(context.strict, false, seen),
+        11 => float_type(context.strict, true, seen),
+        14 => list_type_of(context, entries, inside, term, seen, depth - 1),
+        15 => enum_type_of(context, entries, term),
+        16 => struct_type_of(context, entries, inside, term, seen, depth - 1),
+        17 => interface_type(context.strict, seen),
+        18 => untyped_or_bound(inside, term),
         _ => Err(Error::from(ErrorKind::UnknownKind)),
     }
+}
+
+/// The scopes of the brand at a place.
+fn brand_list<'a>(place: BrandPlace<'a>) -> Result<dynamic_list::Reader<'a>>
+    requires record { IsRecord place.holder place.reader }
+    requires field { IsField place.holder place.index (one 19) }
+    requires plain { is_member (field_at request_set place.holder place.index).field ≡ false }
+    ensures elements { IfOk result (IsListOf (one 20)) }
+    ensures read { (inner : Record → TypeTerm) → IfOk result (λ l. brand_in inner (read_at place.entry.holder place.entry.index (record_seen place.entry.reader)) ≡ scopes_said inner (values_left l 0)) }
+    ensures refused { (inner : Record → TypeTerm) → IfErr result (λ e. brand_in inner (read_at place.entry.holder place.entry.index (record_seen place.entry.reader)) ≡ UnreadBrand e.kind) }
+    ensures kinds { IfErr result (λ e. IsPlain e.kind) }
+{
+    let brand = struct_at(place.reader, place.holder, place.index, brands::BRAND)?;
+    list_at(brand, brands::BRAND, BRAND_SCOPES, brands::SCOPE)
 }
 
 /// The bindings of a node that is named with a brand inside an entry of these scopes.
@@ -265,15 +306,36 @@ pub(crate) fn bindings_of<'a>(
     ensures numbers { IfOk result (λ _. AreNumbered entries.new) }
     ensures kinds { IfErr result (λ e. IsRefusal context.entry.strict e.kind) }
 {
-    let mut scopes = Vec::new(context.alloc);
     let generic = context.nodes.generic_scopes(context.alloc, id)?;
     if generic.is_empty() {
-        return Ok(scopes);
+        return Ok(Vec::new(context.alloc));
     }
-    let brand = struct_at(place.reader, place.holder, place.index, brands::BRAND)?;
-    let listed = list_at(brand, brands::BRAND, BRAND_SCOPES, brands::SCOPE)?;
-    for scope in generic.as_slice() {
-        let types = scope_types(context, entries, inside, *scope, listed, seen, depth)?;
+    let said = brand_list(place)?;
+    bound_scopes(context, entries, inside, generic.as_slice(), said, seen, depth)
+}
+
+/// Scopes with the types that the scopes of a brand bind to each.
+#[cycle(types)]
+fn bound_scopes<'a>(
+    context: Context<'_, 'a>,
+    entries: &mut Entries,
+    inside: &[BoundScope],
+    generic: &[GenericScope],
+    said: dynamic_list::Reader<'a>,
+    seen: &mut Seen,
+    depth: u32,
+) -> Result<Vec<BoundScope>>
+    requires nodes { AreNodes context.nodes.now }
+    requires numbers { AreNumbered entries.now }
+    requires is_list { IsListOf (one 20) said }
+    ensures done { IsDone (λ scopes. bounds scopes.items) (each (bind_scope (brand_types (nodes_of context.entry.nodes.now) context.entry.strict (bounds inside.now) (scopes_said (type_said depth) (values_left said.entry 0)))) (map with_nothing generic.now))
+        (so_far entries.old seen.old) (so_far entries.new seen.new) result }
+    ensures numbers { IfOk result (λ _. AreNumbered entries.new) }
+    ensures kinds { IfErr result (λ e. IsRefusal context.entry.strict e.kind) }
+{
+    let mut scopes = Vec::new(context.alloc);
+    for scope in generic {
+        let types = scope_types(context, entries, inside, *scope, said, seen, depth)?;
         scopes.push(bound_scope(*scope, types))?;
     }
     Ok(scopes)
@@ -281,16 +343,16 @@ pub(crate) fn bindings_of<'a>(
 
 /// The first scope of an id in a brand.
 fn brand_scope<'a>(
-    listed: dynamic_list::Reader<'a>,
+    said: dynamic_list::Reader<'a>,
     id: u64,
 ) -> Result<Option<dynamic_struct::Reader<'a>>>
-    requires { IsListOf (one 20) listed }
+    requires { IsListOf (one 20) said }
     ensures record { IfOk result (λ found. IfSome found (IsRecord 20)) }
-    ensures said { (inner : Record → TypeTerm) → IsSaid (option_map (λ scope. scope_said inner (record_seen scope))) (scope_in (scopes_said inner (values_left listed.entry 0)) id) result }
+    ensures said { (inner : Record → TypeTerm) → IsSaid (option_map (λ scope. scope_said inner (record_seen scope))) (scope_in (scopes_said inner (values_left said.entry 0)) id) result }
     ensures kinds { IfErr result (λ e. IsPlain e.kind) }
 {
-    for index in 0..listed.len() {
-        let scope = element_at(listed, index, brands::SCOPE)?;
+    for index in 0..said.len() {
+        let scope = element_at(said, index, brands::SCOPE)?;
         if u64_at(scope, brands::SCOPE, SCOPE_ID) == id {
             return Ok(Some(scope));
         }
@@ -316,66 +378,60 @@ fn scope_types<'a>(
     entries: &mut Entries,
     inside: &[BoundScope],
     scope: GenericScope,
-    listed: dynamic_list::Reader<'a>,
+    said: dynamic_list::Reader<'a>,
     seen: &mut Seen,
     depth: u32,
 ) -> Result<Vec<Type>>
     requires nodes { AreNodes context.nodes.now }
     requires numbers { AreNumbered entries.now }
-    requires is_list { IsListOf (one 20) listed }
-    ensures done { IsDone (λ types. map seen_type types.items) (brand_types (nodes_of context.entry.nodes.now) context.entry.strict (bounds inside.now) (scopes_said (type_said depth) (values_left listed.entry 0)) (with_nothing scope))
+    requires is_list { IsListOf (one 20) said }
+    ensures done { IsDone (λ types. map seen_type types.items) (brand_types (nodes_of context.entry.nodes.now) context.entry.strict (bounds inside.now) (scopes_said (type_said depth) (values_left said.entry 0)) (with_nothing scope))
         (so_far entries.old seen.old) (so_far entries.new seen.new) result }
     ensures numbers { IfOk result (λ _. AreNumbered entries.new) }
     ensures kinds { IfErr result (λ e. IsRefusal context.entry.strict e.kind) }
 {
-    match brand_scope(listed, scope.id)? {
-        Some(said) => said_types(context, entries, inside, scope, said, seen, depth),
+    match brand_scope(said, scope.id)? {
+        Some(own) => said_types(context, entries, inside, scope, own, seen, depth),
         None => Ok(Vec::new(context.alloc)),
     }
 }
 
-/// The types that a scope of a brand binds to a scope's parameters.
+/// The types that a scope of a brand binds to a scope's parameters. Untyped pointers at the end are left out.
 #[cycle(types)]
 fn said_types<'a>(
     context: Context<'_, 'a>,
     entries: &mut Entries,
     inside: &[BoundScope],
     scope: GenericScope,
-    said: dynamic_struct::Reader<'a>,
+    own: dynamic_struct::Reader<'a>,
     seen: &mut Seen,
     depth: u32,
 ) -> Result<Vec<Type>>
     requires nodes { AreNodes context.nodes.now }
     requires numbers { AreNumbered entries.now }
-    requires is_record { IsRecord 20 said }
-    ensures done { IsDone (λ types. map seen_type types.items) (scope_types (nodes_of context.entry.nodes.now) context.entry.strict (bounds inside.now) (scope_said (type_said depth) (record_seen said.entry)) (with_nothing scope))
+    requires is_record { IsRecord 20 own }
+    ensures done { IsDone (λ types. map seen_type types.items) (scope_types (nodes_of context.entry.nodes.now) context.entry.strict (bounds inside.now) (scope_said (type_said depth) (record_seen own.entry)) (with_nothing scope))
         (so_far entries.old seen.old) (so_far entries.new seen.new) result }
     ensures numbers { IfOk result (λ _. AreNumbered entries.new) }
     ensures kinds { IfErr result (λ e. IsRefusal context.entry.strict e.kind) }
 {
-    match active_member(said) {
-        Some(SCOPE_BIND) => {
-            let bindings = list_at(said, brands::SCOPE, SCOPE_BIND, brands::BINDING)?;
-            let types = bound_types(
-                context,
-                entries,
-                inside,
-                scope.parameters,
-                bindings,
-                seen,
-                depth,
-            )?;
+    let Some(member) = active_member(own) else {
+        return Err(Error::from(ErrorKind::UnknownKind));
+    };
+    match member {
+        SCOPE_BIND => {
+            let bindings = list_at(own, brands::SCOPE, SCOPE_BIND, brands::BINDING)?;
+            let count = scope.parameters;
+            let mut types = bound_types(context, entries, inside, count, bindings, seen, depth)?;
+            drop_untyped(&mut types);
             Ok(types)
         }
-        Some(SCOPE_INHERIT) => {
-            let types = inherited(context.alloc, inside, scope.id)?;
-            Ok(types)
-        }
+        SCOPE_INHERIT => inherited(context.alloc, inside, scope.id),
         _ => Err(Error::from(ErrorKind::UnknownKind)),
     }
 }
 
-/// The types of the first bindings, as many as there are parameters. Untyped pointers at the end are left out.
+/// The types of the first bindings, as many as there are parameters.
 #[cycle(types)]
 fn bound_types<'a>(
     context: Context<'_, 'a>,
@@ -400,7 +456,6 @@ fn bound_types<'a>(
         let bound = binding_type(context, entries, inside, binding, seen, depth)?;
         types.push(bound)?;
     }
-    drop_untyped(&mut types);
     Ok(types)
 }
 
@@ -422,9 +477,12 @@ fn binding_type<'a>(
     ensures numbers { IfOk result (λ _. AreNumbered entries.new) }
     ensures kinds { IfErr result (λ e. IsRefusal context.entry.strict e.kind) }
 {
-    match active_member(binding) {
-        Some(BINDING_UNBOUND) => Ok(untyped()),
-        Some(BINDING_TYPE) => {
+    let Some(member) = active_member(binding) else {
+        return Err(Error::from(ErrorKind::UnknownKind));
+    };
+    match member {
+        BINDING_UNBOUND => Ok(untyped()),
+        BINDING_TYPE => {
             let term = struct_at(binding, brands::BINDING, BINDING_TYPE, brands::TYPE)?;
             type_of(context, entries, inside, term, seen, depth)
         }
@@ -436,12 +494,11 @@ fn binding_type<'a>(
 fn drop_untyped(types: &mut Vec<Type>)
     ensures { map seen_type types.new.items ≡ without_untyped (map seen_type types.old.items) }
 {
-    for _ in 0..types.len() {
-        match types.last() {
-            Some(last) if is_untyped(*last) => {
-                types.pop();
-            }
-            _ => break,
+    let mut kept = 0;
+    for index in 0..types.len() {
+        if !is_untyped(types[index]) {
+            kept = index + 1;
         }
     }
+    types.truncate(kept);
 }
