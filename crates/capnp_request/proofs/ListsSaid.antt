@@ -18,11 +18,11 @@ use Rattle.capnp_request.specs.Parts.{element_read, one}
 use Rattle.capnp_request.specs.Reading.{each_said, in_struct, list_said}
 use Rattle.capnp_request.specs.Terms.{Said}
 
-abbrev length_of : ListHandle → ℕ
+abbrev pub length_of : ListHandle → ℕ
 length_of l = list_length (list_of (list_reader_of l))
 
 module _ {A : Type 0} (l : ListHandle) (b : ℕ) (f : Record → A) where
-  abbrev says : Value → Said A
+  abbrev pub says : Value → Said A
   says v = in_struct Err (λ r. Ok (f r)) v
 
   -- the whole list

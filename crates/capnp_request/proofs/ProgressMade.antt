@@ -1,11 +1,12 @@
 -- What was made so far.
-use Rattle.std.proofs.Common.{ℕ, ◌<◌, ◌≤◌, ◌≡◌, ◌∙◌, ap, arith, length, map, refl, slice_get, sym, suc, Bool, List, [], ◌∷◌, Option, Result, Ok}
+use Rattle.std.proofs.Common.{ℕ, ◌<◌, ◌≤◌, ◌≡◌, ◌∙◌, ap, arith, length, map, refl, slice_get, sym, suc, ◌+◌, ◌-◌, Bool, true, false, List, [], ◌∷◌, Option, Result, Ok, Err}
 use Rattle.capnp_device.specs.declared.error.ErrorKind.{ErrorKind}
+use Rattle.capnp_device.specs.declared.error.ErrorKind.TheVariants.{TooManyTypes}
 use Rattle.capnp_schema.specs.Schema.{seen_brand, seen_enum, seen_node}
 use Rattle.capnp_request.specs.Bindings.{bounds}
 use Rattle.capnp_request.specs.Names.{Holder}
-use Rattle.capnp_request.specs.Order.{Begun, Made, add_struct, begin_struct, make_struct}
-use Rattle.capnp_request.specs.ProgressSeen.{begun_of, made_of}
+use Rattle.capnp_request.specs.Order.{Begun, Made, add_struct, begin_struct, make_all, make_struct, nothing_made}
+use Rattle.capnp_request.specs.ProgressSeen.{begun_of, made_of, rest_of}
 use Rattle.capnp_request.specs.StructsSeen.{seen_notes}
 use Rattle.capnp_request.specs.Terms.{SchemaNode}
 use Rattle.capnp_request.specs.Work.{Bound, Entry, Named}
@@ -46,3 +47,27 @@ struct_so nodes strict old mid hs after next e s begun same id scopes =
     ∙ (same_added nodes strict e.node e.bound (begun_of mid after next) s old mid hs after same
     ∙ (ap (λ i. add_struct nodes strict (made_of mid after) i e.bound (begun_of mid after next) s) (sym id)
     ∙ ap (λ bs. add_struct nodes strict (made_of mid after) next.place.id bs (begun_of mid after next) s) (sym scopes)))
+
+-- one step of what is left
+module _ (nodes : List SchemaNode) (strict : Bool) (steps : ℕ) (m : Made) (s : Named) (whole : Result (Made × Named) ErrorKind) (left : make_all nodes strict steps m s ≡ whole) (some : 0 < steps) where
+  one_fewer : steps ≡ suc (steps - 1)
+  one_fewer = omega (arith, some)
+
+  at_step : make_all nodes strict (suc (steps - 1)) m s ≡ whole
+  at_step = ap (λ k. make_all nodes strict k m s) (sym one_fewer) ∙ left
+
+  module _ (more : Bool) (new : Made) (after : Named) (next : (k : ℕ) → make_all nodes strict (suc k) m s ≡ rest_of nodes strict more k new after) where
+    pub steps_more : more ≡ true → make_all nodes strict (steps - 1) new after ≡ whole
+    steps_more e = sym (next (steps - 1) ∙ ap (λ q. rest_of nodes strict q (steps - 1) new after) e) ∙ at_step
+
+    pub steps_done : more ≡ false → whole ≡ Ok (new, after)
+    steps_done e = sym at_step ∙ (next (steps - 1) ∙ ap (λ q. rest_of nodes strict q (steps - 1) new after) e)
+
+  pub steps_refused : (kind : ErrorKind) → ((k : ℕ) → make_all nodes strict (suc k) m s ≡ Err kind) → whole ≡ Err kind
+  steps_refused kind h = sym at_step ∙ h (steps - 1)
+
+pub steps_over : (nodes : List SchemaNode) (strict : Bool) (steps : ℕ) (m : Made) (s : Named) (whole : Result (Made × Named) ErrorKind) (kind : ErrorKind) → make_all nodes strict steps m s ≡ whole → steps ≡ 0 → kind ≡ TooManyTypes → whole ≡ Err kind
+steps_over nodes strict steps m s whole kind left e k = sym left ∙ (ap (λ n. make_all nodes strict n m s) e ∙ ap (λ (x : ErrorKind). Err x) (sym k))
+
+pub steps_begun : (nodes : List SchemaNode) (strict : Bool) (steps : ℕ) (m : Made) (s : Named) → steps ≡ 65536 + suc (length nodes) → m ≡ nothing_made → make_all nodes strict steps m s ≡ make_all nodes strict (65536 + suc (length nodes)) nothing_made s
+steps_begun nodes strict steps m s e is = ap (λ n. make_all nodes strict n m s) e ∙ ap (λ x. make_all nodes strict (65536 + suc (length nodes)) x s) is

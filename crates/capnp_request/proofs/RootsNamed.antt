@@ -11,7 +11,7 @@ use Rattle.capnp_dynamic_readers.specs.Seen.{list_seen}
 use Rattle.capnp_dynamic_readers.specs.declared.dynamic_list.Reader.{Reader as ListHandle}
 use Rattle.capnp_request.specs.Handles.{element_in, values_left}
 use Rattle.capnp_request.specs.Met.{AreMet}
-use Rattle.capnp_request.specs.Order.{at_node, is_there, name_root, name_roots, new_ids}
+use Rattle.capnp_request.specs.Order.{at_node, is_there, name_files, name_root, name_roots, new_ids}
 use Rattle.capnp_request.specs.Reading.{all_said, both_said, each_said, node_said, whole_list, id_said}
 use Rattle.capnp_request.specs.Parts.{read_at}
 use Rattle.capnp_request.specs.Scopes.{is_met, node_named, scopes_of}
@@ -36,7 +36,7 @@ pub behind_end : {A : Type 0} (xs : List A) (rest : List (Said A)) → rest ≡ 
 behind_end xs rest e = ap (λ r. said_behind xs (all_said r)) e ∙ ap (λ ys. Ok ys) (append-nil xs)
 
 pub behind_more : {A : Type 0} (xs : List A) (x : A) (all rest : List (Said A)) → all ≡ Ok x ∷ rest → said_behind (xs ++ x ∷ []) (all_said rest) ≡ said_behind xs (all_said all)
-behind_more xs x all rest e = sym (ap (λ r. said_behind xs (all_said r)) e ∙ go (all_said rest))
+behind_more {A = A} xs x all rest e = sym (ap (λ r. said_behind xs (all_said r)) e ∙ go (all_said rest))
   where
     go : (r : Said (List A)) → said_behind xs (both_said (Ok x) r) ≡ said_behind (xs ++ x ∷ []) r
     go (Ok ys) = ap (λ zs. Ok zs) (sym (append_assoc xs (x ∷ []) ys))
@@ -231,3 +231,15 @@ module _ (nodes : List SchemaNode) (strict : Bool) (count position : ℕ) (met q
 
   pub behind_id : (added after : List ℕ) → after ≡ queue ++ added → drop (position + 1) after ≡ drop (position + 1) queue ++ added
   behind_id added after e = ap (drop (position + 1)) e ∙ drop_behind queue added (position + 1) (omega (arith, slice_get_within queue position id here))
+
+-- ---- the requested files ----
+
+module _ (nodes : List SchemaNode) (strict : Bool) (files : Said (List ℕ)) (s : Named) where
+  abbrev from_ids : List ℕ → Work (List ℕ)
+  from_ids ids = name_roots nodes strict (length nodes) (new_ids nodes ids []) (new_ids nodes ids [])
+
+  pub files_refused : (kind : ErrorKind) → files ≡ Err kind → name_files nodes strict files s ≡ Err kind
+  files_refused kind e = ap (λ r. continued from_ids (said r s)) e
+
+  pub files_opened : (ids : List ℕ) → files ≡ Ok ids → name_files nodes strict files s ≡ name_roots nodes strict (length nodes) (new_ids nodes ids []) (new_ids nodes ids []) s
+  files_opened ids e = ap (λ r. continued from_ids (said r s)) e

@@ -33,16 +33,16 @@ use Rattle.capnp_request.proofs.Works.{then_err, then_ok}
 
 -- ---- annotations ----
 
-pub first_annotations : (as : List AnnotationRecord) (ts : List TypeHandle) → length ts ≡ length as → firsts (typed_annotations as ts) ≡ seen_annotations as
+pub first_annotations : (xs : List AnnotationRecord) (ts : List TypeHandle) → length ts ≡ length xs → firsts (typed_annotations xs ts) ≡ seen_annotations xs
 first_annotations [] ts e = refl
-first_annotations (a ∷ as) [] e = absurd (omega (arith, e))
-first_annotations (a ∷ as) (t ∷ ts) e = ap (λ xs. seen_annotation a ∷ xs) (first_annotations as ts (omega (arith, e)))
+first_annotations (a ∷ xs) [] e = absurd (omega (arith, e))
+first_annotations (a ∷ xs) (t ∷ ts) e = ap (λ ys. seen_annotation a ∷ ys) (first_annotations xs ts (omega (arith, e)))
 
-pub second_types : (as : List AnnotationRecord) (ts : List TypeHandle) → length ts ≡ length as → seconds (typed_annotations as ts) ≡ map seen_type ts
+pub second_types : (xs : List AnnotationRecord) (ts : List TypeHandle) → length ts ≡ length xs → seconds (typed_annotations xs ts) ≡ map seen_type ts
 second_types [] [] e = refl
 second_types [] (t ∷ ts) e = absurd (omega (arith, e))
-second_types (a ∷ as) [] e = absurd (omega (arith, e))
-second_types (a ∷ as) (t ∷ ts) e = ap (λ xs. seen_type t ∷ xs) (second_types as ts (omega (arith, e)))
+second_types (a ∷ xs) [] e = absurd (omega (arith, e))
+second_types (a ∷ xs) (t ∷ ts) e = ap (λ ys. seen_type t ∷ ys) (second_types xs ts (omega (arith, e)))
 
 -- ---- notes ----
 

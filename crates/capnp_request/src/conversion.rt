@@ -266,7 +266,8 @@ fn make_all<'a>(context: Context<'_, 'a>, mut entries: Entries) -> Result<Conver
     let mut steps = u64::from(context.nodes.count()) + MORE_STEPS;
     while steps > 0 {
         steps -= 1;
-        if !progress.make_next(context, &mut entries)? {
+        let more = progress.make_next(context, &mut entries)?;
+        if !more {
             return Ok(progress.made);
         }
     }
@@ -302,5 +303,6 @@ pub fn read_request(
     };
     let mut entries = Entries::new(alloc);
     number_roots(context, &mut entries, reader)?;
-    make_all(context, entries)
+    let made = make_all(context, entries)?;
+    Ok(made)
 }

@@ -1,4 +1,4 @@
-use Rattle.std.proofs.Common.{ℕ, ◌+◌, ◌<◌, ◌≤◌, ◌≡◌, ◌∙◌, ap, arith, rules, sym}
+use Rattle.std.proofs.Common.{ℕ, [], ◌+◌, ◌<◌, ◌≤◌, ◌≡◌, ◌∙◌, ap, arith, rules, sym}
 use Rattle.std.proofs.lemmas.Result.{err_from_is_err_and}
 use Rattle.capnp_dynamic_readers.specs.Seen.{record_seen}
 use Rattle.capnp_request.specs.Done.{between}
@@ -27,7 +27,9 @@ returns-in_err-converted-clause-done c =
     rw (p.1, p.2) (λ is. item_refused 11 enumerant_said (enumerant_of (nodes_of c.args.context.nodes.now) c.args.context.strict) c.args.listed c.requires.is_list c.loop-index.index (seen_enumerants c.loop-index.made.items) (between c.loop-index.entries) _ c.loop-index.invariant.left (record_seen c.in_ok-enumerant.enumerant) _ within c.in_ok-enumerant.ensures.read (c.in_err-converted.ensures.done is))
 
 pub loop-index-init : goal.loop-index-init
-loop-index-init c = record { numbers = c.requires.numbers; left = ahead_none _ }
+loop-index-init c =
+    let none : c.new-made.result.items ≡ [] = search rules in
+    record { numbers = c.requires.numbers; left = ap (λ es. ahead (seen_enumerants es) (each_read (enumerant_of (nodes_of c.args.context.nodes.now) c.args.context.strict) (each_said 11 enumerant_said (values_left c.args.listed 0)) (between c.args.entries.now))) none ∙ ahead_none (each_read (enumerant_of (nodes_of c.args.context.nodes.now) c.args.context.strict) (each_said 11 enumerant_said (values_left c.args.listed 0)) (between c.args.entries.now)) }
 
 pub loop-index-preserved : goal.loop-index-preserved
 loop-index-preserved c =

@@ -10,13 +10,13 @@ returns-in_err-name-in-Some-clause-refused c =
     let h = c.in-Some.ensures.lookup in
     let there : slice_get c.args.parent.now.body.fields.items c.args.field ≡ Some c.in-Some.member.now = ap (λ xs. slice_get xs c.args.field) (sym c.as_slice-fields.ensures.value) ∙ slice_get_read _ _ _ _ refl h.3.0 h.1 in
     let p = err_from_is_err_and c.from_residual.result c.from_residual.ensures.1 in
-    rw (p.1, p.2) (λ is. member_named c.args.parent.now c.args.field c.in-Some.member.now _ _ there c.as_bytes.ensures.value c.as_bytes-2.ensures.value ∙ c.in_err-name-in-Some.ensures.refused is)
+    rw (p.1, p.2) (λ is. member_named c.args.parent.now c.args.field c.in-Some.member.now _ _ there c.as_bytes.ensures.value c.as_bytes-in-Some.ensures.value ∙ c.in_err-name-in-Some.ensures.refused is)
 
 pub returns-in_ok-name-in-Some-clause-read : goal.returns-in_ok-name-in-Some-clause-read
 returns-in_ok-name-in-Some-clause-read c =
     let h = c.in-Some.ensures.lookup in
     let there : slice_get c.args.parent.now.body.fields.items c.args.field ≡ Some c.in-Some.member.now = ap (λ xs. slice_get xs c.args.field) (sym c.as_slice-fields.ensures.value) ∙ slice_get_read _ _ _ _ refl h.3.0 h.1 in
-    member_named c.args.parent.now c.args.field c.in-Some.member.now _ _ there c.as_bytes.ensures.value c.as_bytes-2.ensures.value ∙ c.in_ok-name-in-Some.ensures.read
+    member_named c.args.parent.now c.args.field c.in-Some.member.now _ _ there c.as_bytes.ensures.value c.as_bytes-in-Some.ensures.value ∙ c.in_ok-name-in-Some.ensures.read
 
 pub returns-in-None-clause-refused : goal.returns-in-None-clause-refused
 returns-in-None-clause-refused c = λ is.

@@ -1,4 +1,4 @@
-use Rattle.std.proofs.Common.{ℕ, ◌+◌, ◌<◌, ◌≤◌, ◌≡◌, ◌∙◌, ◌∷◌, ap, arith, sym, Ok}
+use Rattle.std.proofs.Common.{ℕ, [], rules, ◌+◌, ◌<◌, ◌≤◌, ◌≡◌, ◌∙◌, ◌∷◌, ap, arith, sym, Ok}
 use Rattle.std.proofs.lemmas.Result.{err_from_is_err_and}
 use Rattle.capnp_request.specs.Handles.{values_left}
 use Rattle.capnp_dynamic_readers.specs.Seen.{record_seen}
@@ -20,7 +20,9 @@ returns-in_err-element-clause-said c =
     ∙ (sym c.loop-at.invariant ∙ behind_refused c.loop-at.ids.items _ _ _ (said_fault c.in_ok-listed.listed c.args.inner (id_said c.args.inner) c.loop-at.at _ c.in_ok-listed.ensures.elements within c.in_err-element.ensures.refused))))
 
 pub loop-at-init : goal.loop-at-init
-loop-at-init c = behind_none _
+loop-at-init c =
+    let e : c.new-ids.result.items ≡ [] = search rules in
+    ap (λ xs. said_behind xs (all_said (each_said c.args.inner (id_said c.args.inner) (values_left c.in_ok-listed.listed 0)))) e ∙ behind_none (all_said (each_said c.args.inner (id_said c.args.inner) (values_left c.in_ok-listed.listed 0)))
 
 pub loop-at-preserved : goal.loop-at-preserved
 loop-at-preserved c =
