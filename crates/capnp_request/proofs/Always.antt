@@ -73,12 +73,12 @@ never s b i kind record_is inside active always e =
     let set : Schemas = set_of (schema_of s) in
     let n : ℕ = number_of (schema_of s) in
     let here : is_always_read (field_at set n i).field.kind (field_at set n i).type ≡ true =
-        subst (λ (z : Schemas). is_always_read (field_at z n i).field.kind (field_at z n i).type ≡ true) (sym record_is.set)
-        (subst (λ m. is_always_read (field_at request_set m i).field.kind (field_at request_set m i).type ≡ true) (sym record_is.number) always) in
+    subst (λ (z : Schemas). is_always_read (field_at z n i).field.kind (field_at z n i).type ≡ true) (sym record_is.set)
+    (subst (λ m. is_always_read (field_at request_set m i).field.kind (field_at request_set m i).type ≡ true) (sym record_is.number) always) in
     never_by set (Left (struct_levels (reader_of s))) (struct_of (reader_of s)).bytes (struct_of (reader_of s)).pointers
-        (record_within (length set.brands) set (Left (struct_levels (reader_of s))) (struct_of (reader_of s)).bytes (values_of set (struct_of (reader_of s)).pointers))
-        (default_of (field_at set n i).field) (field_at set n i).field.kind (field_at set n i).type kind here
-        (e ∙ sym (seen_part s b i record_is inside active))
+    (record_within (length set.brands) set (Left (struct_levels (reader_of s))) (struct_of (reader_of s)).bytes (values_of set (struct_of (reader_of s)).pointers))
+    (default_of (field_at set n i).field) (field_at set n i).field.kind (field_at set n i).type kind here
+    (e ∙ sym (seen_part s b i record_is inside active))
 
 -- a type of numbers, or an untyped pointer
 pub whole_field : (k : FieldKind) (t u : SchemaType) → t ≡ u → is_whole u ≡ true → is_always_read k t ≡ true

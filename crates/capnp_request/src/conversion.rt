@@ -74,10 +74,7 @@ fn counted(count: usize) -> Result<u32>
 }
 
 /// The name of an enum, and its node.
-fn named_enum<'a>(
-    context: Context<'_, 'a>,
-    id: u64,
-) -> Result<(String, dynamic_struct::Reader<'a>)>
+fn named_enum<'a>(context: Context<'_, 'a>, id: u64) -> Result<(String, dynamic_struct::Reader<'a>)>
     requires { AreNodes context.nodes.now }
     ensures said { IsSaid (λ r. (string_bytes r.0, node_said (record_seen r.1))) (begin_enum (nodes_of context.entry.nodes.now) id) result }
     ensures record { IfOk result (λ r. IsRecord 2 r.1) }

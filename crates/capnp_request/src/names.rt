@@ -393,12 +393,7 @@ impl Names {
     /// The name of an entry that is no group, by the display name of its node: that without the file, with what is bound
     /// to each scope behind the scope's part. Where an entry of another id had the name without file before, the file stands
     /// before it.
-    fn name_by_display(
-        &mut self,
-        named: Named<'_>,
-        entry: &Entry,
-        display: &[u8],
-    ) -> Result<String>
+    fn name_by_display(&mut self, named: Named<'_>, entry: &Entry, display: &[u8]) -> Result<String>
         ensures read { (hs : List NameHolder) → AreHolders self.old hs → IfOk result (λ name. struct_name (struct_names named.entry.structs.now) (texts named.entry.enums.now) hs entry.now.id (bounds entry.now.scopes.items) display.now ≡ Ok (string_bytes name)) }
         ensures held { (hs : List NameHolder) → AreHolders self.old hs → OnOk result (AreHolders self.new (record { id = entry.now.id; dotted = dotted_of display.now } ∷ hs)) }
         ensures refused { (hs : List NameHolder) → AreHolders self.old hs → IfErr result (λ e. e.kind ≢ OutOfMemory → struct_name (struct_names named.entry.structs.now) (texts named.entry.enums.now) hs entry.now.id (bounds entry.now.scopes.items) display.now ≡ Err e.kind) }

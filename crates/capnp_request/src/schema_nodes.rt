@@ -16,8 +16,8 @@ ghost use Rattle.capnp_request.specs.Types.{is_annotation, is_enum, is_of_kind, 
 
 use crate::parts::{active_member, bool_at, element_at, group_at, list_at, text_at, u64_at};
 use crate::places::{
-    ENUM_ENUMERANTS, NODE_ANNOTATION, NODE_DISPLAY_NAME, NODE_ENUM, NODE_ID,
-    NODE_PARAMETERS, NODE_SCOPE_ID, NODE_STRUCT, REQUEST_NODES, STRUCT_IS_GROUP, brands,
+    ENUM_ENUMERANTS, NODE_ANNOTATION, NODE_DISPLAY_NAME, NODE_ENUM, NODE_ID, NODE_PARAMETERS,
+    NODE_SCOPE_ID, NODE_STRUCT, REQUEST_NODES, STRUCT_IS_GROUP, brands,
 };
 use capnp_dynamic_readers::{dynamic_list, dynamic_struct};
 use capnp_schema::set::SchemaSet;

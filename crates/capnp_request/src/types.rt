@@ -311,7 +311,15 @@ pub(crate) fn bindings_of<'a>(
         return Ok(Vec::new(context.alloc));
     }
     let said = brand_list(place)?;
-    bound_scopes(context, entries, inside, generic.as_slice(), said, seen, depth)
+    bound_scopes(
+        context,
+        entries,
+        inside,
+        generic.as_slice(),
+        said,
+        seen,
+        depth,
+    )
 }
 
 /// Scopes with the types that the scopes of a brand bind to each.

@@ -32,6 +32,6 @@ pub returns-clause-done : goal.returns-clause-done
 returns-clause-done c =
     enum_given (nodes_of c.args.context.nodes.now) c.args.context.strict c.args.place.id (string_bytes c.args.display_name) (node_said (record_seen c.args.place.node)) (between c.args.entries.now) _ (c.in_ok-members.ensures.read ∙ ap EnumNode (said_all c.in_ok-members.members 11 enumerant_said)) (seen_enumerants c.in_ok-made.made.items) (between c.enumerants_of-made.new.entries) c.in_ok-made.ensures.done _ _ (ap (λ a. annotations_of (nodes_of c.args.context.nodes.now) c.args.context.strict [] a (between c.enumerants_of-made.new.entries)) (annotations_on (record_seen c.args.place.node)) ∙ c.in_ok-annotated.ensures.done)
     ∙ ap (λ e. Ok (e, between c.annotations_of-annotated.new.entries)) (enum_seen _ _ _ _ _ _ _ refl refl (first_annotations _ _ c.in_ok-annotated.ensures.typed)
-      (enumerants_seen c.in_ok-made.made.items ∙ ap (map seen_enumerant) (sym c.in_ok-parts.ensures.records))
-      (second_types _ _ c.in_ok-annotated.ensures.typed)
-      (enumerant_types_seen c.in_ok-made.made.items ∙ sym (children_of _ _ c.in_ok-parts.ensures.types)))
+    (enumerants_seen c.in_ok-made.made.items ∙ ap (map seen_enumerant) (sym c.in_ok-parts.ensures.records))
+    (second_types _ _ c.in_ok-annotated.ensures.typed)
+    (enumerant_types_seen c.in_ok-made.made.items ∙ sym (children_of _ _ c.in_ok-parts.ensures.types)))

@@ -12,11 +12,12 @@ loop-id-init c = λ before h. (before, h, refl, λ id. refl)
 pub loop-id-preserved : goal.loop-id-preserved
 loop-id-preserved c = λ before h.
     let inv = c.loop-id.invariant before h in
-    let inside : c.loop-id.id-index < length c.args.ids.now = omega arith in
-    (new_ids (nodes_of c.args.nodes.now) (get_or c.args.ids.now c.loop-id.id-index 0 ∷ []) inv.0 ++ inv.0,
-    c.in_ok-put_id.ensures.met inv.0 inv.1,
-    put_more (nodes_of c.args.nodes.now) c.args.ids.now c.loop-id.id-index inv.0 _ _ _ inside inv.2 (c.in_ok-put_id.ensures.queue inv.0 inv.1),
-    λ id. met_stays (nodes_of c.args.nodes.now) c.args.ids.now c.loop-id.id-index inv.0 id inside ∙ inv.3 id)
+    let inside : c.loop-id.id-index < length c.args.ids.now = omega arith in (
+      new_ids (nodes_of c.args.nodes.now) (get_or c.args.ids.now c.loop-id.id-index 0 ∷ []) inv.0 ++ inv.0,
+      c.in_ok-put_id.ensures.met inv.0 inv.1,
+      put_more (nodes_of c.args.nodes.now) c.args.ids.now c.loop-id.id-index inv.0 _ _ _ inside inv.2 (c.in_ok-put_id.ensures.queue inv.0 inv.1),
+      λ id. met_stays (nodes_of c.args.nodes.now) c.args.ids.now c.loop-id.id-index inv.0 id inside ∙ inv.3 id,
+    )
 
 pub returns-clause-queue : goal.returns-clause-queue
 returns-clause-queue c = λ before h.

@@ -32,8 +32,8 @@ returns-clause-done c =
     let body = c.body_of.ensures.parts in
     struct_given (nodes_of c.args.context.nodes.now) c.args.context.strict c.args.place.number c.args.place.id (bounds c.args.inside.now) (string_bytes c.args.display_name) (node_said (record_seen c.args.place.node)) (between c.args.entries.now) (struct_said (record_seen c.in_ok-part.part)) c.in_ok-part.ensures.read (seen_fields c.args.place.number 0 c.in_ok-made.made.fields.items) (between c.fields_of-made.new.entries) c.in_ok-made.ensures.done _ _ (ap (λ a. annotations_of (nodes_of c.args.context.nodes.now) c.args.context.strict (bounds c.args.inside.now) a (between c.fields_of-made.new.entries)) (annotations_on (record_seen c.args.place.node)) ∙ c.in_ok-annotated.ensures.done)
     ∙ three_seen _ _ _ _ _ _ _
-      (node_seen _ _ _ _ _ _ _ _ _ _ refl refl (first_annotations _ _ c.in_ok-annotated.ensures.typed) body.data_words body.pointers body.group body.discriminant_count body.discriminant_offset
-      (fields_seen c.args.place.number 0 c.in_ok-made.made.fields.items ∙ ap (map seen_field) (sym c.in_ok-parts.ensures.records)))
-      (brand_seen _ _ _ _ _ refl (types_seen c.args.place.number 0 c.in_ok-made.made.fields.items ∙ ap (map seen_type) (sym c.in_ok-parts.ensures.types)) (second_types _ _ c.in_ok-annotated.ensures.typed)
-      (children_seen c.args.place.number 0 c.in_ok-made.made.fields.items ∙ sym (children_of _ _ c.in_ok-parts.ensures.children)))
-      (sym c.in_ok-made.ensures.notes)
+    (node_seen _ _ _ _ _ _ _ _ _ _ refl refl (first_annotations _ _ c.in_ok-annotated.ensures.typed) body.data_words body.pointers body.group body.discriminant_count body.discriminant_offset
+    (fields_seen c.args.place.number 0 c.in_ok-made.made.fields.items ∙ ap (map seen_field) (sym c.in_ok-parts.ensures.records)))
+    (brand_seen _ _ _ _ _ refl (types_seen c.args.place.number 0 c.in_ok-made.made.fields.items ∙ ap (map seen_type) (sym c.in_ok-parts.ensures.types)) (second_types _ _ c.in_ok-annotated.ensures.typed)
+    (children_seen c.args.place.number 0 c.in_ok-made.made.fields.items ∙ sym (children_of _ _ c.in_ok-parts.ensures.children)))
+    (sym c.in_ok-made.ensures.notes)

@@ -26,7 +26,7 @@ returns-clause-done c = λ hs.
     let number : length (made_of c.args.self.now hs).nodes ≡ c.args.next.place.number = map_length seen_node c.args.self.now.made.nodes.items ∙ sym c.requires.number in
     then_ok _ _ (between c.args.entries.now) _ _ (ap (λ (n : ℕ). struct_made (nodes_of c.args.context.nodes.now) c.args.context.strict n c.args.next.place.id (bounds c.args.next.scopes.items) (string_bytes c.args.next.name) (node_said (record_seen c.args.next.place.node)) (between c.args.entries.now)) number ∙ c.in_ok-made.ensures.done)
     ∙ ap (λ m. Ok (m, between c.struct_of-made.new.entries)) (same_made _ _ _ _ _ _ _ _ _ _
-      (sym (map_more seen_node c.args.self.now.made.nodes.items _ _ _ c.in_ok-push.ensures.items refl))
-      (sym (map_more seen_brand c.args.self.now.made.brands.items _ _ _ c.in_ok-push-2.ensures.items refl))
-      refl
-      (sym (notes_more c.args.self.now.made.notes.items _ _ _ (search rules) refl)))
+    (sym (map_more seen_node c.args.self.now.made.nodes.items _ _ _ c.in_ok-push.ensures.items refl))
+    (sym (map_more seen_brand c.args.self.now.made.brands.items _ _ _ c.in_ok-push-2.ensures.items refl))
+    refl
+    (sym (notes_more c.args.self.now.made.notes.items _ _ _ (search rules) refl)))

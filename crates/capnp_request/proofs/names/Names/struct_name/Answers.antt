@@ -26,7 +26,8 @@ returns-in_err-name-clause-refused c = λ hs h.
     rw (p.1, p.2) (λ is. entry_unnamed (nodes_of c.args.nodes.now) (map seen_node c.args.named.structs.now) (texts c.args.named.enums.now) hs (seen_entry c.args.entry.now) (node_said (record_seen c.in_ok-node.node)) c.in_ok-node.ensures.read _ c.in_ok-display.ensures.read _ (c.in_err-name.ensures.refused hs h is))
 
 pub returns-clause-done : goal.returns-clause-done
-returns-clause-done c = λ hs h.
-    (record { id = c.args.entry.now.id; dotted = dotted_of c.in_ok-display.display.now } ∷ hs,
-    c.in_ok-name.ensures.held hs h,
-    entry_named (nodes_of c.args.nodes.now) (map seen_node c.args.named.structs.now) (texts c.args.named.enums.now) hs (seen_entry c.args.entry.now) (node_said (record_seen c.in_ok-node.node)) c.in_ok-node.ensures.read _ c.in_ok-display.ensures.read _ (c.in_ok-name.ensures.read hs h))
+returns-clause-done c = λ hs h. (
+  record { id = c.args.entry.now.id; dotted = dotted_of c.in_ok-display.display.now } ∷ hs,
+  c.in_ok-name.ensures.held hs h,
+  entry_named (nodes_of c.args.nodes.now) (map seen_node c.args.named.structs.now) (texts c.args.named.enums.now) hs (seen_entry c.args.entry.now) (node_said (record_seen c.in_ok-node.node)) c.in_ok-node.ensures.read _ c.in_ok-display.ensures.read _ (c.in_ok-name.ensures.read hs h),
+)
