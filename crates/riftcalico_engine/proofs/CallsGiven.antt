@@ -19,7 +19,7 @@ use Rattle.capnp_schema.specs.declared.schema.structs.StructSchema.{StructSchema
 use Rattle.capnp_words.specs.Calls.{CallText}
 use Rattle.riftcalico_engine.specs.Calls.{call_read, shifted, source_of, split, with_step}
 use Rattle.riftcalico_engine.specs.Reads.{each_read}
-use Rattle.riftcalico_engine.specs.Words.{AreCalls}
+use Rattle.riftcalico_engine.specs.Words.{AreCalls, AreMadeOf}
 use Rattle.riftcalico_engine.specs.CallsSeen.{plain_source}
 
 -- a value is given by its type
@@ -68,3 +68,8 @@ calls_are schema texts calls read so said made is = record {
   read = sym said ∙ ap Ok (sym made);
   are_so = is;
 }
+
+-- what is so of calls that were read is so of calls under the schema
+pub under_schema : (schema : StructSchema) (texts : List CallText) (read : List Call) (so : StructSchema → List MadeCall → Type 0) →
+    Ok read ≡ each_read (call_read (set_of schema) (root_type (set_of schema) (number_of schema))) 0 texts → AreMadeOf read (so schema) → AreCalls (set_of schema) (number_of schema) texts so
+under_schema schema texts read so said made = calls_are schema texts made.calls read so said made.are made.are_so

@@ -1,19 +1,21 @@
 //! What is asked, done.
-ghost use Rattle.std.specs.Prelude.{◌≡◌, ◌≢◌, ⊤, IfErr, IfOk, OnOk, length, map, string_bytes};
+ghost use Rattle.std.specs.Prelude.{[], ◌≡◌, ◌≢◌, ⊤, false, IfErr, IfOk, OnOk, length, map, string_bytes};
 ghost use Rattle.capnp_device.specs.Device.{HasFailed};
 ghost use Rattle.capnp_device.specs.declared.error.ErrorKind.TheVariants.{ReadFailed, WriteFailed};
 ghost use Rattle.capnp_schema.specs.StructHandles.{IsStruct, number_of, set_of};
 ghost use Rattle.capnp_call.specs.Seen.{path_seen};
+ghost use Rattle.capnp_patch.specs.Lines.{AreTold};
 ghost use Rattle.capnp_patch.specs.Gets.{IsGetCutShort, IsGot, IsNotGot};
-ghost use Rattle.capnp_patch.specs.Patches.{IsCutShort, IsLeftOfNew, IsMade, IsNotPatched, IsPatchCutShort, IsPatched, IsTooLarge};
+ghost use Rattle.capnp_patch.specs.Patches.{IsCutShort, IsLeftOfNew, IsMade, IsNotPatched, IsPatchCutShort, IsPatched, IsTooLarge, is_kept};
 ghost use Rattle.capnp_show_engine.specs.Show.{IsOfMessage};
 ghost use Rattle.capnp_words.specs.Seen.{call_seen};
 ghost use Rattle.riftcalico_engine.specs.Ended.{AreUnder, IsCallsOutcome, IsEnded, IsGetOutcome, IsNewEnded, IsPatchEnded, IsPath, IsUnderOutcome, streams};
 ghost use Rattle.riftcalico_engine.specs.RequestSeen.{calls_task_of, get_task_of, root_of, task_of};
 ghost use Rattle.riftcalico_engine.specs.Roots.{HasReadFailed, HasSetFailed, IsNamed, IsRootOr};
-ghost use Rattle.riftcalico_engine.specs.Words.{AreCalls, AreSaid};
+ghost use Rattle.riftcalico_engine.specs.CallsSeen.{read_call_seen};
+ghost use Rattle.riftcalico_engine.specs.Words.{AreCalls, AreMadeOf, AreSaid};
 
-use crate::calls::{make_calls, read_all_calls, read_calls, steps_of};
+use crate::calls::{ReadCall, make_calls, read_all_calls, read_calls, steps_of};
 use crate::request::{Asked, CallWords, CallsRequest, GetRequest, NamedRoot};
 use crate::sets::{find_schema, read_set};
 use crate::words::{put_unreadable, read_lines, unreadable_line};
@@ -104,6 +106,39 @@ fn run_get<O: Opener, R: Source, W: Sink>(
     }
 }
 
+/// Makes calls that were read under a schema on a copy of a message.
+fn patch_read<R: Source, W: Sink>(
+    alloc: Global,
+    schema: StructSchema<'_>,
+    read: &[ReadCall<'_, '_>],
+    words: &[String],
+    keep_going: bool,
+    source: &mut R,
+    sink: &mut W,
+) -> Result<Report>
+    requires { IsStruct schema }
+    ensures made { IfOk result (λ r. AreMadeOf (map read_call_seen read.now) (λ calls.
+        IsPatched schema.entry calls keep_going r.replies.items (R.left source.old) (R.left source.new) (W.written sink.old) (W.written sink.new))) }
+    ensures lines { IfOk result (λ r. AreTold 0 (map string_bytes words.now) r.replies.items [] (string_bytes r.lines)) }
+    ensures unwritten { IfOk result (λ r. is_kept keep_going r.replies.items ≡ false → sink.new ≡ sink.old) }
+    ensures refused { IfErr result (λ e. IsOfMessage e.kind → AreMadeOf (map read_call_seen read.now) (λ calls.
+        IsNotPatched schema.entry calls keep_going e.kind (R.left source.old) (R.left source.new))) }
+    ensures read_failed { IfErr result (λ e. e.kind ≡ ReadFailed → HasFailed (R.failures source.old) (R.failures source.new)) }
+    ensures write_failed { IfErr result (λ e. e.kind ≡ WriteFailed → HasFailed (W.failures sink.old) (W.failures sink.new)) }
+    ensures beginning { IfErr result (λ e. e.kind ≡ WriteFailed → AreMadeOf (map read_call_seen read.now) (λ calls.
+        IsPatchCutShort schema.entry calls keep_going (R.left source.old) (R.left source.new) (W.written sink.old) (W.written sink.new))) }
+    ensures nothing { IfErr result (λ e. e.kind ≢ WriteFailed → sink.new ≡ sink.old) }
+{
+    let calls = make_calls(alloc, read)?;
+    let asked = engine::Asked {
+        schema,
+        calls: &calls,
+        words,
+        keep_going,
+    };
+    patch(alloc, asked, source, sink)
+}
+
 /// Makes calls on a copy of a message.
 fn patch_calls<R: Source, W: Sink>(
     alloc: Global,
@@ -127,21 +162,47 @@ fn patch_calls<R: Source, W: Sink>(
     ensures nothing { IfErr result (λ e. e.kind ≢ WriteFailed → sink.new ≡ sink.old) }
 {
     match read_all_calls(alloc, schema, texts)? {
-        Ok(read) => {
-            let calls = make_calls(alloc, &read)?;
-            let asked = engine::Asked {
-                schema,
-                calls: &calls,
-                words,
-                keep_going,
-            };
-            match patch(alloc, asked, source, sink) {
-                Ok(report) => Ok(Outcome::Made(report)),
-                Err(error) => Err(error),
-            }
+        Ok(read) => match patch_read(alloc, schema, &read, words, keep_going, source, sink) {
+            Ok(report) => Ok(Outcome::Made(report)),
+            Err(error) => Err(error),
+        },
+        Err(at) => {
+            let line = unreadable_line(alloc, words, at)?;
+            Ok(Outcome::Unreadable(line))
         }
-        Err(at) => Ok(Outcome::Unreadable(unreadable_line(alloc, words, at)?)),
     }
+}
+
+/// Makes calls that were read under a schema on an empty root.
+fn new_read<W: Sink>(
+    alloc: Global,
+    schema: StructSchema<'_>,
+    read: &[ReadCall<'_, '_>],
+    words: &[String],
+    keep_going: bool,
+    sink: &mut W,
+) -> Result<Report>
+    requires { IsStruct schema }
+    ensures made { IfOk result (λ r. AreMadeOf (map read_call_seen read.now) (λ calls.
+        IsMade schema.entry calls keep_going r.replies.items (W.written sink.old) (W.written sink.new))) }
+    ensures lines { IfOk result (λ r. AreTold 0 (map string_bytes words.now) r.replies.items [] (string_bytes r.lines)) }
+    ensures unwritten { IfOk result (λ r. is_kept keep_going r.replies.items ≡ false → sink.new ≡ sink.old) }
+    ensures refused { IfErr result (λ e. IsOfMessage e.kind → AreMadeOf (map read_call_seen read.now) (λ calls.
+        IsTooLarge keep_going (IsLeftOfNew schema.entry calls) e.kind)) }
+    ensures read_failed { IfErr result (λ e. e.kind ≢ ReadFailed) }
+    ensures write_failed { IfErr result (λ e. e.kind ≡ WriteFailed → HasFailed (W.failures sink.old) (W.failures sink.new)) }
+    ensures beginning { IfErr result (λ e. e.kind ≡ WriteFailed → AreMadeOf (map read_call_seen read.now) (λ calls.
+        IsCutShort keep_going (IsLeftOfNew schema.entry calls) (W.written sink.old) (W.written sink.new))) }
+    ensures nothing { IfErr result (λ e. e.kind ≢ WriteFailed → sink.new ≡ sink.old) }
+{
+    let calls = make_calls(alloc, read)?;
+    let asked = engine::Asked {
+        schema,
+        calls: &calls,
+        words,
+        keep_going,
+    };
+    new_message(alloc, asked, sink)
 }
 
 /// Makes calls on an empty root.
@@ -166,20 +227,14 @@ fn new_calls<W: Sink>(
     ensures nothing { IfErr result (λ e. e.kind ≢ WriteFailed → sink.new ≡ sink.old) }
 {
     match read_all_calls(alloc, schema, texts)? {
-        Ok(read) => {
-            let calls = make_calls(alloc, &read)?;
-            let asked = engine::Asked {
-                schema,
-                calls: &calls,
-                words,
-                keep_going,
-            };
-            match new_message(alloc, asked, sink) {
-                Ok(report) => Ok(Outcome::Made(report)),
-                Err(error) => Err(error),
-            }
+        Ok(read) => match new_read(alloc, schema, &read, words, keep_going, sink) {
+            Ok(report) => Ok(Outcome::Made(report)),
+            Err(error) => Err(error),
+        },
+        Err(at) => {
+            let line = unreadable_line(alloc, words, at)?;
+            Ok(Outcome::Unreadable(line))
         }
-        Err(at) => Ok(Outcome::Unreadable(unreadable_line(alloc, words, at)?)),
     }
 }
 
