@@ -19,7 +19,7 @@ use crate::calls::{ReadCall, make_calls, read_all_calls, read_calls, steps_of};
 use crate::request::{Asked, CallWords, CallsRequest, GetRequest, NamedRoot};
 use crate::sets::{find_schema, read_set};
 use crate::words::{put_unreadable, read_lines, unreadable_line};
-use capnp_call::calls::Step;
+use capnp_call::calls::{Call, Step};
 use capnp_patch::engine::{self, Report, new_message, patch};
 use capnp_patch::get::get;
 use capnp_schema::schema::StructSchema;
@@ -106,6 +106,35 @@ fn run_get<O: Opener, R: Source, W: Sink>(
     }
 }
 
+/// Makes calls under a schema on a copy of a message.
+fn patch_made<R: Source, W: Sink>(
+    alloc: Global,
+    schema: StructSchema<'_>,
+    calls: &[Call<'_>],
+    words: &[String],
+    keep_going: bool,
+    source: &mut R,
+    sink: &mut W,
+) -> Result<Report>
+    requires { IsStruct schema }
+    ensures made { IfOk result (λ r. (IsPatched schema.entry calls.now keep_going r.replies.items (R.left source.old) (R.left source.new) (W.written sink.old) (W.written sink.new))) }
+    ensures lines { IfOk result (λ r. AreTold 0 (map string_bytes words.now) r.replies.items [] (string_bytes r.lines)) }
+    ensures unwritten { IfOk result (λ r. is_kept keep_going r.replies.items ≡ false → sink.new ≡ sink.old) }
+    ensures refused { IfErr result (λ e. IsOfMessage e.kind → (IsNotPatched schema.entry calls.now keep_going e.kind (R.left source.old) (R.left source.new))) }
+    ensures read_failed { IfErr result (λ e. e.kind ≡ ReadFailed → HasFailed (R.failures source.old) (R.failures source.new)) }
+    ensures write_failed { IfErr result (λ e. e.kind ≡ WriteFailed → HasFailed (W.failures sink.old) (W.failures sink.new)) }
+    ensures beginning { IfErr result (λ e. e.kind ≡ WriteFailed → (IsPatchCutShort schema.entry calls.now keep_going (R.left source.old) (R.left source.new) (W.written sink.old) (W.written sink.new))) }
+    ensures nothing { IfErr result (λ e. e.kind ≢ WriteFailed → sink.new ≡ sink.old) }
+{
+    let asked = engine::Asked {
+        schema,
+        calls,
+        words,
+        keep_going,
+    };
+    patch(alloc, asked, source, sink)
+}
+
 /// Makes calls that were read under a schema on a copy of a message.
 fn patch_read<R: Source, W: Sink>(
     alloc: Global,
@@ -130,13 +159,7 @@ fn patch_read<R: Source, W: Sink>(
     ensures nothing { IfErr result (λ e. e.kind ≢ WriteFailed → sink.new ≡ sink.old) }
 {
     let calls = make_calls(alloc, read)?;
-    let asked = engine::Asked {
-        schema,
-        calls: &calls,
-        words,
-        keep_going,
-    };
-    patch(alloc, asked, source, sink)
+    patch_made(alloc, schema, &calls, words, keep_going, source, sink)
 }
 
 /// Makes calls on a copy of a message.
@@ -173,6 +196,34 @@ fn patch_calls<R: Source, W: Sink>(
     }
 }
 
+/// Makes calls under a schema on an empty root.
+fn new_made<W: Sink>(
+    alloc: Global,
+    schema: StructSchema<'_>,
+    calls: &[Call<'_>],
+    words: &[String],
+    keep_going: bool,
+    sink: &mut W,
+) -> Result<Report>
+    requires { IsStruct schema }
+    ensures made { IfOk result (λ r. (IsMade schema.entry calls.now keep_going r.replies.items (W.written sink.old) (W.written sink.new))) }
+    ensures lines { IfOk result (λ r. AreTold 0 (map string_bytes words.now) r.replies.items [] (string_bytes r.lines)) }
+    ensures unwritten { IfOk result (λ r. is_kept keep_going r.replies.items ≡ false → sink.new ≡ sink.old) }
+    ensures refused { IfErr result (λ e. IsOfMessage e.kind → (IsTooLarge keep_going (IsLeftOfNew schema.entry calls.now) e.kind)) }
+    ensures read_failed { IfErr result (λ e. e.kind ≢ ReadFailed) }
+    ensures write_failed { IfErr result (λ e. e.kind ≡ WriteFailed → HasFailed (W.failures sink.old) (W.failures sink.new)) }
+    ensures beginning { IfErr result (λ e. e.kind ≡ WriteFailed → (IsCutShort keep_going (IsLeftOfNew schema.entry calls.now) (W.written sink.old) (W.written sink.new))) }
+    ensures nothing { IfErr result (λ e. e.kind ≢ WriteFailed → sink.new ≡ sink.old) }
+{
+    let asked = engine::Asked {
+        schema,
+        calls,
+        words,
+        keep_going,
+    };
+    new_message(alloc, asked, sink)
+}
+
 /// Makes calls that were read under a schema on an empty root.
 fn new_read<W: Sink>(
     alloc: Global,
@@ -196,13 +247,7 @@ fn new_read<W: Sink>(
     ensures nothing { IfErr result (λ e. e.kind ≢ WriteFailed → sink.new ≡ sink.old) }
 {
     let calls = make_calls(alloc, read)?;
-    let asked = engine::Asked {
-        schema,
-        calls: &calls,
-        words,
-        keep_going,
-    };
-    new_message(alloc, asked, sink)
+    new_made(alloc, schema, &calls, words, keep_going, sink)
 }
 
 /// Makes calls on an empty root.
