@@ -4,7 +4,9 @@ use Rattle.std.specs.String.{string_bytes}
 use Rattle.capnp_records.specs.Call.{PathStep, FieldNumber, FieldNamed, ElementAt}
 use Rattle.capnp_records.specs.Record as value
 use Rattle.capnp_records.specs.Record.{Value}
-use Rattle.capnp_dynamic_readers.specs.Handles.{number_in}
+use Rattle.capnp_schema.specs.Enums.{enum_number}
+use Rattle.capnp_schema.specs.Types.{BoolType, DataType, EnumType, IntType, SchemaType, TextType, UIntType, VoidType}
+use Rattle.capnp_dynamic_readers.specs.Handles.{enum_of, number_in}
 use Rattle.capnp_words.specs.Calls as text
 use Rattle.capnp_words.specs.Calls.{CallOp, CallText}
 use Rattle.capnp_words.specs.declared.path.PathStep.{PathStep as WordStep}
@@ -53,3 +55,19 @@ plain_seen (plain.UInt64 x) = value.Number (pos x)
 plain_seen (plain.Enum e) = value.Enum (number_in e)
 plain_seen (plain.Text bytes) = value.Text bytes.items
 plain_seen (plain.«Data» bytes) = value.Data bytes.items
+
+-- the type whose value it is; the integers by their bytes
+abbrev pub plain_type : PlainValue → SchemaType
+plain_type plain.Void = VoidType
+plain_type (plain.Bool b) = BoolType
+plain_type (plain.Int8 x) = IntType 1
+plain_type (plain.Int16 x) = IntType 2
+plain_type (plain.Int32 x) = IntType 4
+plain_type (plain.Int64 x) = IntType 8
+plain_type (plain.UInt8 x) = UIntType 1
+plain_type (plain.UInt16 x) = UIntType 2
+plain_type (plain.UInt32 x) = UIntType 4
+plain_type (plain.UInt64 x) = UIntType 8
+plain_type (plain.Enum e) = EnumType (enum_number (enum_of e))
+plain_type (plain.Text bytes) = TextType
+plain_type (plain.«Data» bytes) = DataType

@@ -5,7 +5,7 @@ ghost use Rattle.capnp_schema.specs.Entries.{lists_seen};
 ghost use Rattle.capnp_schema.specs.Annotated.{enumerant_at as enumerant_record};
 ghost use Rattle.capnp_schema.specs.Enumerants.{enum_of_list, enumerants_in};
 ghost use Rattle.capnp_schema.specs.Enums.{enum_number, enum_set};
-ghost use Rattle.capnp_schema.specs.Types.{seen_type, seen_variant};
+ghost use Rattle.capnp_schema.specs.Types.{BoolType, EnumType, IntType, UIntType, VoidType, seen_type, seen_variant};
 ghost use Rattle.capnp_dynamic_readers.specs.Seen.{value_seen};
 ghost use Rattle.capnp_words.specs.Reads.{read_as};
 ghost use Rattle.capnp_words.specs.Quoted.{text_at, data_at};
@@ -13,7 +13,7 @@ ghost use Rattle.capnp_records.specs.Record.{Truth};
 ghost use Rattle.capnp_records.specs.Record.{Enum as EnumNumber};
 ghost use Rattle.capnp_words.specs.Words.{name_among};
 ghost use Rattle.capnp_words.specs.Values.{IsSmall, enumerant_at, enumerant_names, int_at, truth_at, uint_at, value_at, void_at};
-ghost use Rattle.capnp_words.specs.Seen.{plain_seen};
+ghost use Rattle.capnp_words.specs.Seen.{plain_seen, plain_type};
 
 use crate::numbers::{read_decimal, read_signed};
 use crate::path::Read;
@@ -70,7 +70,8 @@ impl<'s> PlainValue<'s> {
 
 /// `()`.
 fn read_void<'s>(word: &[u8]) -> Read<PlainValue<'s>>
-    ensures { read_as plain_seen result ≡ void_at word.now }
+    ensures read { read_as plain_seen result ≡ void_at word.now }
+    ensures typed { IfOk result (λ v. plain_type v ≡ VoidType) }
 {
     let mut longest = 0;
     if is_word(b"()", word, &mut longest) {
@@ -151,7 +152,8 @@ fn read_text(alloc: Global, word: &[u8]) -> Result<Read<Vec<u8>>>
 
 /// A number of a signed type of one byte.
 fn read_int8<'s>(word: &[u8]) -> Read<PlainValue<'s>>
-    ensures { read_as plain_seen result ≡ int_at 1 word.now }
+    ensures read { read_as plain_seen result ≡ int_at 1 word.now }
+    ensures typed { IfOk result (λ v. plain_type v ≡ IntType 1) }
 {
     let number = read_signed(word, 0, 0x7F)?;
     Ok(PlainValue::Int8(number as i8))
@@ -159,7 +161,8 @@ fn read_int8<'s>(word: &[u8]) -> Read<PlainValue<'s>>
 
 /// A number of a signed type of two bytes.
 fn read_int16<'s>(word: &[u8]) -> Read<PlainValue<'s>>
-    ensures { read_as plain_seen result ≡ int_at 2 word.now }
+    ensures read { read_as plain_seen result ≡ int_at 2 word.now }
+    ensures typed { IfOk result (λ v. plain_type v ≡ IntType 2) }
 {
     let number = read_signed(word, 0, 0x7FFF)?;
     Ok(PlainValue::Int16(number as i16))
@@ -167,7 +170,8 @@ fn read_int16<'s>(word: &[u8]) -> Read<PlainValue<'s>>
 
 /// A number of a signed type of four bytes.
 fn read_int32<'s>(word: &[u8]) -> Read<PlainValue<'s>>
-    ensures { read_as plain_seen result ≡ int_at 4 word.now }
+    ensures read { read_as plain_seen result ≡ int_at 4 word.now }
+    ensures typed { IfOk result (λ v. plain_type v ≡ IntType 4) }
 {
     let number = read_signed(word, 0, 0x7FFF_FFFF)?;
     Ok(PlainValue::Int32(number as i32))
@@ -175,7 +179,8 @@ fn read_int32<'s>(word: &[u8]) -> Read<PlainValue<'s>>
 
 /// A number of a signed type of eight bytes.
 fn read_int64<'s>(word: &[u8]) -> Read<PlainValue<'s>>
-    ensures { read_as plain_seen result ≡ int_at 8 word.now }
+    ensures read { read_as plain_seen result ≡ int_at 8 word.now }
+    ensures typed { IfOk result (λ v. plain_type v ≡ IntType 8) }
 {
     let number = read_signed(word, 0, 0x7FFF_FFFF_FFFF_FFFF)?;
     Ok(PlainValue::Int64(number))
@@ -183,7 +188,8 @@ fn read_int64<'s>(word: &[u8]) -> Read<PlainValue<'s>>
 
 /// A number of an unsigned type of one byte.
 fn read_uint8<'s>(word: &[u8]) -> Read<PlainValue<'s>>
-    ensures { read_as plain_seen result ≡ uint_at 1 word.now }
+    ensures read { read_as plain_seen result ≡ uint_at 1 word.now }
+    ensures typed { IfOk result (λ v. plain_type v ≡ UIntType 1) }
 {
     let number = read_decimal(word, 0, 0xFF)?;
     Ok(PlainValue::UInt8(number as u8))
@@ -191,7 +197,8 @@ fn read_uint8<'s>(word: &[u8]) -> Read<PlainValue<'s>>
 
 /// A number of an unsigned type of two bytes.
 fn read_uint16<'s>(word: &[u8]) -> Read<PlainValue<'s>>
-    ensures { read_as plain_seen result ≡ uint_at 2 word.now }
+    ensures read { read_as plain_seen result ≡ uint_at 2 word.now }
+    ensures typed { IfOk result (λ v. plain_type v ≡ UIntType 2) }
 {
     let number = read_decimal(word, 0, 0xFFFF)?;
     Ok(PlainValue::UInt16(number as u16))
@@ -199,7 +206,8 @@ fn read_uint16<'s>(word: &[u8]) -> Read<PlainValue<'s>>
 
 /// A number of an unsigned type of four bytes.
 fn read_uint32<'s>(word: &[u8]) -> Read<PlainValue<'s>>
-    ensures { read_as plain_seen result ≡ uint_at 4 word.now }
+    ensures read { read_as plain_seen result ≡ uint_at 4 word.now }
+    ensures typed { IfOk result (λ v. plain_type v ≡ UIntType 4) }
 {
     let number = read_decimal(word, 0, 0xFFFF_FFFF)?;
     Ok(PlainValue::UInt32(number as u32))
@@ -207,7 +215,8 @@ fn read_uint32<'s>(word: &[u8]) -> Read<PlainValue<'s>>
 
 /// A number of an unsigned type of eight bytes.
 fn read_uint64<'s>(word: &[u8]) -> Read<PlainValue<'s>>
-    ensures { read_as plain_seen result ≡ uint_at 8 word.now }
+    ensures read { read_as plain_seen result ≡ uint_at 8 word.now }
+    ensures typed { IfOk result (λ v. plain_type v ≡ UIntType 8) }
 {
     let number = read_decimal(word, 0, 0xFFFF_FFFF_FFFF_FFFF)?;
     Ok(PlainValue::UInt64(number))
@@ -215,7 +224,8 @@ fn read_uint64<'s>(word: &[u8]) -> Read<PlainValue<'s>>
 
 /// A truth value.
 fn read_bool<'s>(word: &[u8]) -> Read<PlainValue<'s>>
-    ensures { read_as plain_seen result ≡ read_as Truth (truth_at word.now) }
+    ensures read { read_as plain_seen result ≡ read_as Truth (truth_at word.now) }
+    ensures typed { IfOk result (λ v. plain_type v ≡ BoolType) }
 {
     let truth = read_truth(word)?;
     Ok(PlainValue::Bool(truth))
@@ -223,7 +233,8 @@ fn read_bool<'s>(word: &[u8]) -> Read<PlainValue<'s>>
 
 /// An enumerant of an enum.
 fn read_enum<'s>(schema: EnumSchema<'s>, word: &[u8]) -> Read<PlainValue<'s>>
-    ensures { read_as plain_seen result ≡ read_as EnumNumber (enumerant_at (enumerant_names schema.entry) word.now) }
+    ensures read { read_as plain_seen result ≡ read_as EnumNumber (enumerant_at (enumerant_names schema.entry) word.now) }
+    ensures typed { IfOk result (λ v. plain_type v ≡ EnumType (enum_number schema.entry)) }
 {
     let number = read_enumerant(schema, word)?;
     Ok(PlainValue::Enum(Enum::new(number, schema)))
@@ -232,7 +243,8 @@ fn read_enum<'s>(schema: EnumSchema<'s>, word: &[u8]) -> Read<PlainValue<'s>>
 /// The value under a type that takes no memory; one under another type has none.
 fn read_small<'s>(set: &'s SchemaSet, kind: TypeVariant, word: &[u8]) -> Read<PlainValue<'s>>
     requires { IsSmall (seen_variant kind) }
-    ensures { read_as plain_seen result ≡ value_at (lists_seen set.now) (seen_variant kind) word.now }
+    ensures read { read_as plain_seen result ≡ value_at (lists_seen set.now) (seen_variant kind) word.now }
+    ensures typed { IfOk result (λ v. plain_type v ≡ seen_variant kind) }
 {
     match kind {
         TypeVariant::Void => read_void(word),
@@ -270,6 +282,7 @@ pub fn parse_value<'s>(
     word: &[u8],
 ) -> Result<Read<PlainValue<'s>>>
     ensures read { IfOk result (λ r. read_as plain_seen r ≡ value_at (lists_seen set.now) (seen_type target) word.now) }
+    ensures typed { IfOk result (λ r. IfOk r (λ v. plain_type v ≡ seen_type target)) }
     ensures memory { IfErr result (λ e. e.kind ≡ OutOfMemory) }
 {
     match target.which() {
