@@ -39,5 +39,6 @@ uint64_t bench_wire_next(const uint8_t *message, size_t length, uint64_t rounds)
 uint64_t bench_wire_total_size(const uint8_t *message, size_t length, uint64_t rounds);
 uint64_t bench_wire_copy(const uint8_t *message, size_t length, uint64_t rounds);
 uint64_t bench_wire_build(const uint8_t *message, size_t length, uint64_t rounds);
+uint64_t bench_arena_build(const uint8_t *message, size_t length, uint64_t rounds);
 uint64_t bench_wire_encode(const uint8_t *message, size_t length, uint64_t rounds);
 }
