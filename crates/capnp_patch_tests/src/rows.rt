@@ -3,10 +3,10 @@
 //! A row is a call: its operation, its path and, of `initn`, a size, or, of `set`, a value, as `set items.1.a UInt16 7`. Rows
 //! stand in one text, a line each.
 //!
-//! Operations are `get`, `has`, `which`, `set`, `init`, `initn` and `clear`. A path has dots between its steps: a name is the
-//! field of that name, a number an element, and `#` with a number the field of that index. The last step is what the operation
-//! is done to; but `which` asks the struct that all steps lead to, and `.` is no step. A value is a type and a number or text:
-//! `Int8 -1`, `Bool true`, `Void`, `Text hi`.
+//! Operations are `get`, `has`, `which`, `set`, `init`, `initn` and `clear`. A path has dots between its steps, of which a call
+//! has at most three: a name is the field of that name, a number an element, and `#` with a number the field of that index. The
+//! last step is what the operation is done to; but `which` asks the struct that all steps lead to, and `.` is no step. A value
+//! is a type and a number or text: `Int8 -1`, `Bool true`, `Void`, `Text hi`.
 
 use capnp_base::text;
 use capnp_call::calls::{Call, Op, Step};
@@ -14,10 +14,12 @@ use capnp_dynamic_readers::dynamic_value::Reader as Value;
 use capnp_wire::error::Result;
 use std::alloc::Global;
 
-/// What a row asks, with all steps of its path.
-#[derive(Drop)]
+/// What a row asks: the first `length` steps of `path`, then the last.
+#[derive(Clone, Copy)]
 pub struct Row<'c> {
-    steps: Vec<Step<'c>>,
+    path: [Step<'c>; 2],
+    length: usize,
+    last: Step<'c>,
     op: Op<'c>,
 }
 
@@ -64,6 +66,13 @@ fn value_of(words: &str) -> Option<Value<'_>> {
     }
 }
 
+fn set_of(words: &str) -> Option<Op<'_>> {
+    match value_of(words) {
+        Some(value) => Some(Op::Set(value)),
+        None => None,
+    }
+}
+
 fn op_of<'c>(word: &str, rest: &'c str) -> Option<Op<'c>> {
     match word {
         "get" => Some(Op::Get),
@@ -72,8 +81,32 @@ fn op_of<'c>(word: &str, rest: &'c str) -> Option<Op<'c>> {
         "init" => Some(Op::Init),
         "initn" => Some(Op::Initn(rest.parse::<u32>().unwrap_or(0))),
         "clear" => Some(Op::Clear),
-        "set" => value_of(rest).map(|value| Op::Set(value)),
+        "set" => set_of(rest),
         _ => None,
+    }
+}
+
+fn row_along<'c>(steps: &'c str, op: Op<'c>) -> Row<'c> {
+    let (path, last) = match op {
+        Op::Which => (steps, "#0"),
+        _ => steps.rsplit_once('.').unwrap_or(("", steps)),
+    };
+    let (first, second) = path.split_once('.').unwrap_or((path, ""));
+    Row {
+        path: [step_of(first), step_of(second)],
+        length: (!first.is_empty()) as usize + (!second.is_empty()) as usize,
+        last: step_of(last),
+        op,
+    }
+}
+
+/// What a row asks; nothing where there is no such operation or value.
+fn row_of(line: &str) -> Option<Row<'_>> {
+    let (word, rest) = line.split_once(' ').unwrap_or((line, ""));
+    let (steps, rest) = rest.split_once(' ').unwrap_or((rest, ""));
+    match op_of(word, rest) {
+        Some(op) => Some(row_along(steps, op)),
+        None => None,
     }
 }
 
@@ -81,26 +114,23 @@ fn op_of<'c>(word: &str, rest: &'c str) -> Option<Op<'c>> {
 pub fn rows_in<'c>(alloc: Global, text: &'c str) -> Result<Vec<Row<'c>>> {
     let mut rows = Vec::new(alloc);
     for line in text.lines() {
-        let (word, rest) = line.split_once(' ').unwrap_or((line, ""));
-        let (path, rest) = rest.split_once(' ').unwrap_or((rest, ""));
-        let Some(op) = op_of(word, rest) else {
+        let Some(row) = row_of(line) else {
             break;
         };
-        let steps = steps_of(alloc, path)?;
-        rows.push(Row { steps, op })?;
+        rows.push(row)?;
     }
     Ok(rows)
 }
 
 fn call_of<'c>(row: &'c Row<'c>) -> Call<'c> {
-    let steps = row.steps.as_slice();
-    let (path, last) = match (row.op, steps) {
-        (Op::Which, _) | (_, []) => (steps, Step::Field(0)),
-        (_, [path @ .., last]) => (path, *last),
+    let path: &[Step<'c>] = match row.length {
+        0 => &[],
+        1 => &row.path[..1],
+        _ => &row.path,
     };
     Call {
         path,
-        last,
+        last: row.last,
         op: row.op,
     }
 }
