@@ -54,12 +54,20 @@ pub struct Devices {
     pub failing_write: Option<u64>,
 }
 
-/// What came of it: the number of its refusal, the lines, and the sink.
+/// What came of it: the number of its refusal, what is told, and the sink.
 #[derive(Drop)]
 struct Outcome {
     refusal: u32,
-    lines: String,
+    report: Report,
     sink: MemorySink,
+}
+
+/// A report of nothing.
+fn no_report(alloc: Global) -> Report {
+    Report {
+        replies: Vec::new(alloc),
+        lines: String::new(alloc),
+    }
 }
 
 fn chunk(slow: bool) -> usize
@@ -68,87 +76,87 @@ fn chunk(slow: bool) -> usize
     if slow { 1 } else { 4096 }
 }
 
-/// The text at a path: no lines are told.
+/// Writes the text at a path; nothing is told.
 fn show(
     alloc: Global,
     schema: StructSchema<'_>,
     case: &Case<'_>,
     source: &mut MemorySource<'_>,
     sink: &mut MemorySink,
-) -> Result<String>
+) -> Result<Report>
     requires { IsStruct schema }
 {
     let steps = steps_of(alloc, case.text)?;
     get(alloc, schema, &steps, source, sink, case.flag)?;
-    Ok(String::new(alloc))
+    Ok(no_report(alloc))
 }
 
-fn report_of(
+/// Makes calls, which have these words.
+fn call_all(
     alloc: Global,
-    verb: Verb,
-    asked: Asked<'_>,
+    schema: StructSchema<'_>,
+    case: &Case<'_>,
+    calls: &[Call<'_>],
+    words: &[String],
     source: &mut MemorySource<'_>,
     sink: &mut MemorySink,
 ) -> Result<Report>
-    requires { IsStruct asked.schema }
+    requires { IsStruct schema }
 {
-    match verb {
+    let asked = Asked {
+        schema,
+        calls,
+        words,
+        keep_going: case.flag,
+    };
+    match case.verb {
         Verb::New => new_message(alloc, asked, sink),
         Verb::Patch | Verb::Get => patch(alloc, asked, source, sink),
     }
 }
 
-/// The lines of calls.
-fn tell(
-    alloc: Global,
-    schema: StructSchema<'_>,
-    case: &Case<'_>,
-    calls: &[Call<'_>],
-    source: &mut MemorySource<'_>,
-    sink: &mut MemorySink,
-) -> Result<String>
-    requires { IsStruct schema }
-{
-    let words = words_in(alloc, case.text)?;
-    let asked = Asked {
-        schema,
-        calls,
-        words: &words,
-        keep_going: case.flag,
-    };
-    let Report { replies: _, lines } = report_of(alloc, case.verb, asked, source, sink)?;
-    Ok(lines)
-}
-
-/// The lines of rows.
-fn tell_rows(
+/// Makes the calls of rows, which have these words.
+fn make(
     alloc: Global,
     schema: StructSchema<'_>,
     case: &Case<'_>,
     rows: &[Row<'_>],
+    words: &[String],
     source: &mut MemorySource<'_>,
     sink: &mut MemorySink,
-) -> Result<String>
+) -> Result<Report>
     requires { IsStruct schema }
 {
     let calls = calls_of(alloc, rows)?;
-    tell(alloc, schema, case, &calls, source, sink)
+    call_all(alloc, schema, case, &calls, words, source, sink)
 }
 
-/// The lines of what is asked.
-fn lines_of(
+/// Makes the calls of a case.
+fn make_all(
+    alloc: Global,
+    schema: StructSchema<'_>,
+    case: &Case<'_>,
+    source: &mut MemorySource<'_>,
+    sink: &mut MemorySink,
+) -> Result<Report>
+    requires { IsStruct schema }
+{
+    let words = words_in(alloc, case.text)?;
+    let rows = rows_in(alloc, case.text)?;
+    make(alloc, schema, case, &rows, &words, source, sink)
+}
+
+/// Does what is asked.
+fn run(
     alloc: Global,
     case: &Case<'_>,
     source: &mut MemorySource<'_>,
     sink: &mut MemorySink,
-) -> Result<String> {
+) -> Result<Report> {
     let schema = schema_of(case.set, case.brand)?;
     match case.verb {
         Verb::Get => show(alloc, schema, case, source, sink),
-        Verb::Patch | Verb::New => {
-            let rows = rows_in(alloc, case.text)?;
-            tell_rows(alloc, schema, case, &rows, source, sink)
-        }
+        Verb::Patch | Verb::New => make_all(alloc, schema, case, source, sink),
     }
 }
 
@@ -157,15 +165,15 @@ fn outcome_of(alloc: Global, case: &Case<'_>, devices: Devices) -> Outcome {
     let step = chunk(devices.slow);
     let mut source = MemorySource::new(case.message, step, devices.failing_read);
     let mut sink = MemorySink::new(alloc, step, devices.failing_write);
-    match lines_of(alloc, case, &mut source, &mut sink) {
-        Ok(lines) => Outcome {
+    match run(alloc, case, &mut source, &mut sink) {
+        Ok(report) => Outcome {
             refusal: 0,
-            lines,
+            report,
             sink,
         },
         Err(error) => Outcome {
             refusal: error.kind.number(),
-            lines: String::new(alloc),
+            report: no_report(alloc),
             sink,
         },
     }
@@ -182,7 +190,7 @@ pub fn comes_over(
     let text = case.text;
     let outcome = outcome_of(alloc, case, devices);
     assert_eq!(rt; outcome.refusal, expected.refusal, "{text}");
-    assert_eq!(rt; outcome.lines.as_str(), expected.lines);
+    assert_eq!(rt; outcome.report.lines.as_str(), expected.lines);
     assert_eq!(rt; outcome.sink.as_slice(), expected.written, "{text}");
 }
 
