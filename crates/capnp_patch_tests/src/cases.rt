@@ -1,5 +1,5 @@
 //! Cases: what is asked of a message, over devices in memory, and what comes of it.
-ghost use Rattle.std.specs.Prelude.{◌<◌};
+ghost use Rattle.std.specs.Prelude.{◌≡◌, ◌<◌};
 ghost use Rattle.capnp_schema.specs.StructHandles.{IsStruct};
 
 use crate::rows::{Row, calls_of, rows_in, steps_of, words_in};
@@ -91,27 +91,35 @@ fn show(
     Ok(no_report(alloc))
 }
 
-/// Makes calls, which have these words.
-fn call_all(
+fn report_of(
     alloc: Global,
-    schema: StructSchema<'_>,
-    case: &Case<'_>,
-    calls: &[Call<'_>],
-    words: &[String],
+    verb: Verb,
+    asked: Asked<'_>,
     source: &mut MemorySource<'_>,
     sink: &mut MemorySink,
 ) -> Result<Report>
-    requires { IsStruct schema }
+    requires { IsStruct asked.schema }
 {
-    let asked = Asked {
+    match verb {
+        Verb::New => new_message(alloc, asked, sink),
+        Verb::Patch | Verb::Get => patch(alloc, asked, source, sink),
+    }
+}
+
+/// What is asked by calls, which have these words.
+fn asked_of<'c>(
+    schema: StructSchema<'c>,
+    calls: &'c [Call<'c>],
+    words: &'c [String],
+    keep_going: bool,
+) -> Asked<'c>
+    ensures { result.schema ≡ schema.entry }
+{
+    Asked {
         schema,
         calls,
         words,
-        keep_going: case.flag,
-    };
-    match case.verb {
-        Verb::New => new_message(alloc, asked, sink),
-        Verb::Patch | Verb::Get => patch(alloc, asked, source, sink),
+        keep_going,
     }
 }
 
@@ -128,7 +136,8 @@ fn make(
     requires { IsStruct schema }
 {
     let calls = calls_of(alloc, rows)?;
-    call_all(alloc, schema, case, &calls, words, source, sink)
+    let asked = asked_of(schema, &calls, words, case.flag);
+    report_of(alloc, case.verb, asked, source, sink)
 }
 
 /// Makes the calls of a case.
