@@ -25,5 +25,11 @@ pub mod StructListTrees
 pub mod TreeSizes
 pub mod Copying
 pub mod Replaced
+pub mod Restored
 pub mod PlainRows
 pub mod LaidOut
+pub mod FilledDefaults
+pub mod EnteredLists
+pub mod ElementPlaces
+pub mod BitRows
+pub mod WrittenElements

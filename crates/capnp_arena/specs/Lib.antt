@@ -2,6 +2,7 @@ pub mod Shape
 pub mod Forest
 pub mod Made
 pub mod Segment
+pub mod Leaves
 pub mod Looked
 pub mod Counts
 pub mod Encoded

@@ -10,7 +10,10 @@ mod contents;
 pub mod copies;
 mod copy;
 mod count;
+pub mod defaults;
+mod due;
 pub mod element_reads;
+pub mod element_writes;
 mod encode;
 mod extend;
 mod get_struct;
@@ -23,6 +26,7 @@ mod look;
 mod message;
 mod reader;
 pub mod reads;
+
 mod spell;
 mod struct_lists;
 mod target;

@@ -1,0 +1,72 @@
+use Rattle.std.proofs.Common.{◌≡◌, sym, ap, ◌∙◌, subst}
+use Rattle.std.specs.Prelude.{Option, None, IfErr, IfOk, OnOk}
+use Rattle.capnp_device.specs.declared.error.ErrorKind.{ErrorKind}
+use Rattle.capnp_wire.specs.Defaults.{default_tree, list_default_refusal}
+use Rattle.capnp_wire.specs.Edits.{IsDueRefusal}
+use Rattle.capnp_wire.specs.Elements.{or_empty}
+use Rattle.capnp_arena.specs.Forest.{tree}
+use Rattle.capnp_arena.specs.Listed.{listed_tree}
+use Rattle.capnp_arena.specs.Segment.{segment}
+use Rattle.capnp_arena.proofs.FilledDefaults.{is_taken, left_list, left_tree, not_taken, taken_list, taken_tree}
+use Rattle.std.specs.Prelude.{Err, Ok, Result}
+use Rattle.capnp_arena.proofs.arena.Arena.get_list_or_default.Goals as goal
+
+-- ---- a default that is copied ----
+
+pub returns-in-Some-clause-tree : goal.returns-in-Some-clause-tree
+returns-in-Some-clause-tree c =
+    let t = tree (segment c.args.self.now) c.args.at in
+    let taken = is_taken c.args.default t c.in-Some.reader (sym c.in-Some.is ∙ c.take_default.ensures) in
+    subst (λ u. IfOk c.put_list.result (λ _. tree (segment c.put_list.new.self) c.args.at ≡ u)) (taken.is ∙ taken_tree (default_tree c.args.default) t taken.null) c.put_list.ensures.tree
+
+pub returns-in-Some-clause-reads : goal.returns-in-Some-clause-reads
+returns-in-Some-clause-reads c =
+    let t = tree (segment c.args.self.now) c.args.at in
+    let taken = is_taken c.args.default t c.in-Some.reader (sym c.in-Some.is ∙ c.take_default.ensures) in
+    subst (λ u. IfOk c.put_list.result (λ l. listed_tree (tree (segment c.put_list.new.self) c.args.at) l ≡ or_empty c.args.size u)) (taken.is ∙ taken_tree (default_tree c.args.default) t taken.null) c.put_list.ensures.reads
+
+pub returns-in-Some-clause-within : goal.returns-in-Some-clause-within
+returns-in-Some-clause-within c =
+    let t = tree (segment c.args.self.now) c.args.at in
+    let taken = is_taken c.args.default t c.in-Some.reader (sym c.in-Some.is ∙ c.take_default.ensures) in
+    subst (λ (u : Option ErrorKind). OnOk c.put_list.result (u ≡ None)) (ap (list_default_refusal c.args.size) taken.is ∙ taken_list (default_tree c.args.default) c.args.size t taken.null) c.put_list.ensures.within
+
+pub returns-in-Some-clause-cause : goal.returns-in-Some-clause-cause
+returns-in-Some-clause-cause c =
+    let t = tree (segment c.args.self.now) c.args.at in
+    let taken = is_taken c.args.default t c.in-Some.reader (sym c.in-Some.is ∙ c.take_default.ensures) in
+    subst (λ u. IfErr c.put_list.result (λ e. IsDueRefusal e u)) (ap (list_default_refusal c.args.size) taken.is ∙ taken_list (default_tree c.args.default) c.args.size t taken.null) c.put_list.ensures.cause
+
+pub returns-in-Some-clause-succeeds : goal.returns-in-Some-clause-succeeds
+returns-in-Some-clause-succeeds c = λ h _.
+    let t = tree (segment c.args.self.now) c.args.at in
+    not_taken c.args.default t c.in-Some.reader (is_taken c.args.default t c.in-Some.reader (sym c.in-Some.is ∙ c.take_default.ensures)) h
+
+-- ---- none ----
+
+pub returns-in-None-clause-tree : goal.returns-in-None-clause-tree
+returns-in-None-clause-tree c = left c.enter_list.result (left_tree c.args.default _ (sym c.in-None.is ∙ c.take_default.ensures))
+  where
+    left : {A E : Type 0} {P : Type 0} (r : Result A E) → P → IfOk r (λ _. P)
+    left (Ok x) p = p
+    left (Err e) p = tt
+
+pub returns-in-None-clause-reads : goal.returns-in-None-clause-reads
+returns-in-None-clause-reads c =
+    let t = tree (segment c.args.self.now) c.args.at in
+    subst (λ u. IfOk c.enter_list.result (λ l. listed_tree t l ≡ or_empty c.args.size u)) (left_tree c.args.default t (sym c.in-None.is ∙ c.take_default.ensures)) c.enter_list.ensures.reads
+
+pub returns-in-None-clause-within : goal.returns-in-None-clause-within
+returns-in-None-clause-within c =
+    let t = tree (segment c.args.self.now) c.args.at in
+    subst (λ (u : Option ErrorKind). OnOk c.enter_list.result (u ≡ None)) (left_list (default_tree c.args.default) c.args.size t (left_tree c.args.default t (sym c.in-None.is ∙ c.take_default.ensures))) c.enter_list.ensures.within
+
+pub returns-in-None-clause-cause : goal.returns-in-None-clause-cause
+returns-in-None-clause-cause c =
+    let t = tree (segment c.args.self.now) c.args.at in
+    subst (λ u. IfErr c.enter_list.result (λ e. IsDueRefusal e u)) (left_list (default_tree c.args.default) c.args.size t (left_tree c.args.default t (sym c.in-None.is ∙ c.take_default.ensures))) c.enter_list.ensures.cause
+
+pub returns-in-None-clause-succeeds : goal.returns-in-None-clause-succeeds
+returns-in-None-clause-succeeds c = λ _ h.
+    let t = tree (segment c.args.self.now) c.args.at in
+    c.enter_list.ensures.succeeds (left_list (default_tree c.args.default) c.args.size t (left_tree c.args.default t (sym c.in-None.is ∙ c.take_default.ensures)) ∙ h)

@@ -1,0 +1,33 @@
+use Rattle.std.proofs.Common.{sym}
+use Rattle.capnp_arena.proofs.ElementPlaces.{first_forest, first_index, first_inside, first_leaves, first_tree, list_forest, list_inside, list_leaves, list_pointer, null_pointer, struct_pointer}
+use Rattle.capnp_arena.proofs.arena.Arena.get_pointer_element.Goals as goal
+
+pub unreachable-in-Null-requires : goal.unreachable-in-Null-requires
+unreachable-in-Null-requires c = null_pointer _ _ c.requires.forest c.args.index c.requires.pointer (sym c.in-Null.ensures.shape)
+
+pub unreachable-in-Struct-requires : goal.unreachable-in-Struct-requires
+unreachable-in-Struct-requires c = struct_pointer _ _ c.requires.forest c.args.index c.requires.pointer _ _ _ (sym c.in-Struct.ensures.shape)
+
+pub returns-in-List-clause-inside : goal.returns-in-List-clause-inside
+returns-in-List-clause-inside c = list_inside _ _ c.requires.forest c.args.index c.requires.pointer _ _ _ (sym c.in-List.ensures.shape)
+
+pub returns-in-List-clause-forest : goal.returns-in-List-clause-forest
+returns-in-List-clause-forest c = list_forest _ _ c.requires.forest c.args.index c.requires.pointer _ _ _ (sym c.in-List.ensures.shape)
+
+pub returns-in-List-clause-tree : goal.returns-in-List-clause-tree
+returns-in-List-clause-tree c = list_pointer _ _ c.requires.forest c.args.index c.requires.pointer _ _ _ (sym c.in-List.ensures.shape)
+
+pub returns-in-List-clause-leaves : goal.returns-in-List-clause-leaves
+returns-in-List-clause-leaves c = list_leaves _ _ c.requires.forest c.args.index c.requires.pointer _ _ _ (sym c.in-List.ensures.shape)
+
+pub returns-in-Composite-clause-inside : goal.returns-in-Composite-clause-inside
+returns-in-Composite-clause-inside c = first_inside _ _ c.requires.forest c.args.index c.requires.pointer _ _ _ _ (sym c.in-Composite.ensures.shape)
+
+pub returns-in-Composite-clause-forest : goal.returns-in-Composite-clause-forest
+returns-in-Composite-clause-forest c = first_forest _ _ c.requires.forest c.args.index c.requires.pointer _ _ _ _ (sym c.in-Composite.ensures.shape)
+
+pub returns-in-Composite-clause-tree : goal.returns-in-Composite-clause-tree
+returns-in-Composite-clause-tree c = first_tree _ _ c.requires.forest c.args.index c.requires.pointer _ _ _ _ (sym c.in-Composite.ensures.shape)
+
+pub returns-in-Composite-clause-leaves : goal.returns-in-Composite-clause-leaves
+returns-in-Composite-clause-leaves c = first_leaves _ _ c.requires.forest c.args.index c.requires.pointer _ _ _ _ (sym c.in-Composite.ensures.shape)
