@@ -2,7 +2,7 @@
 use Rattle.std.proofs.Common.{◌≡◌, ℕ, zero, suc, ◌+◌, ◌*◌, ◌<◌, ◌≤◌, refl, sym, ap, subst, ◌∙◌, arith, false, true, Bool, cond, List}
 use Rattle.capnp_wire.specs.Edits.{with_pointer_tree}
 use Rattle.capnp_wire.specs.Elements.{HasPointer, HasStruct, with_pointer_element, with_struct, with_struct_element}
-use Rattle.capnp_wire.specs.Facts.Indexed.{nth_struct-from, nth_tree-from, struct_count-from, tree_count-from}
+use Rattle.capnp_wire.specs.Facts.Indexed.{nth_struct-start, nth_tree-from, struct_count-from, tree_count-from}
 use Rattle.capnp_wire.specs.Locate.{list_words}
 use Rattle.capnp_wire.specs.Place.{list_tree}
 use Rattle.capnp_wire.specs.Reading.{cut_pointer, element_pointer, element_struct, is_null_tree}
@@ -16,6 +16,7 @@ use Rattle.capnp_arena.specs.Facts.Structs.{tree_composite, tree_list, tree_stru
 use Rattle.capnp_arena.specs.Forest.{Changes, Forest, PartChanges, Planted, struct_from, tree}
 use Rattle.capnp_arena.specs.Leaves.{Leaves}
 use Rattle.capnp_arena.specs.Shape.{CompositeIn, IsPointerOf, ListIn, NoShape, Points, StructIn, shape_at, word_count}
+use Rattle.capnp_arena.specs.declared.arena.Place.{Place}
 use Rattle.capnp_arena.proofs.Refusals.{null_is}
 
 whole_pointer : (t : Tree) → cut_pointer 1 t ≡ t
@@ -91,7 +92,7 @@ module _ (bytes : List ℕ) (w : ℕ) (f : Forest bytes w) (i : ℕ) where
       first_index = omega (arith, held.0, struct_count-from part_of 0 n)
 
       pub first_pointer : 0 < p
-      first_pointer = omega (arith, held.1, ap (λ (x : StructTree). tree_count x.pointers) (nth_struct-from part_of 0 n i first_index), tree_count-from (tree bytes) (tag + 1 + i * (d + p) + d) p)
+      first_pointer = omega (arith, held.1, ap (λ (x : StructTree). tree_count x.pointers) (nth_struct-start part_of n i first_index), tree_count-from (tree bytes) (tag + 1 + i * (d + p) + d) p)
 
       structs : Planted bytes (CompositeIn tag n d p)
       structs = subst (Planted bytes) e (planted bytes w f)
@@ -112,7 +113,7 @@ module _ (bytes : List ℕ) (w : ℕ) (f : Forest bytes w) (i : ℕ) where
       first_tree = sym (
           ap (λ t. element_pointer t i 1) (tree_composite bytes w tag n d p f e)
           ∙ whole_pointer (nth_tree (nth_struct (structs_from part_of 0 n) i).pointers 0)
-          ∙ ap (λ (x : StructTree). nth_tree x.pointers 0) (nth_struct-from part_of 0 n i first_index)
+          ∙ ap (λ (x : StructTree). nth_tree x.pointers 0) (nth_struct-start part_of n i first_index)
           ∙ nth_tree-from (tree bytes) (tag + 1 + i * (d + p) + d) p 0 first_pointer
           ∙ ap (tree bytes) {x = tag + 1 + i * (d + p) + d + 0} {y = tag + 1 + i * (d + p) + d} (omega arith))
 
@@ -127,7 +128,7 @@ module _ (bytes : List ℕ) (w : ℕ) (f : Forest bytes w) (i : ℕ) where
             tree = z.tree
                 ∙ ap (λ y. with_struct_element i y (tree bytes w)) (x.struct ∙ ap (λ q. with_pointer_tree (part_of i) 0 (tree new q)) (sym k))
                 ∙ ap (with_struct_element i (with_pointer_tree (part_of i) 0 (tree new (tag + 1 + i * (d + p) + d)))) (tree_composite bytes w tag n d p f e)
-                ∙ ap (λ y. Composite d p (with_struct (structs_from part_of 0 n) i (with_pointer_tree y 0 (tree new (tag + 1 + i * (d + p) + d))))) (sym (nth_struct-from part_of 0 n i first_index))
+                ∙ ap (λ y. Composite d p (with_struct (structs_from part_of 0 n) i (with_pointer_tree y 0 (tree new (tag + 1 + i * (d + p) + d))))) (sym (nth_struct-start part_of n i first_index))
                 ∙ ap (with_pointer_element i (tree new (tag + 1 + i * (d + p) + d))) (sym (tree_composite bytes w tag n d p f e));
             changes = z.changes;
           }
@@ -154,3 +155,14 @@ module _ (bytes : List ℕ) (w : ℕ) (f : Forest bytes w) (i : ℕ) where
     struct_leaves tag n d p e new g c =
         let z : IsInElement bytes new w tag n d p i = in_element bytes new w tag n d p i f e (struct_index tag n d p e) g c in
         record { forest = z.forest; tree = z.tree; changes = z.changes }
+
+    -- by the place
+    pub place_leaves : (tag n d p : ℕ) → shape_at bytes w ≡ CompositeIn tag n d p → (q : Place) → q.start ≡ tag + 1 + i * (d + p) → q.data_words ≡ d → q.pointers ≡ p
+        → (new : List ℕ) → Planted new (StructIn q.start q.data_words q.pointers) → PartChanges (StructIn q.start q.data_words q.pointers) bytes new
+        → Leaves w (with_struct_element i (struct_from new q.start q.data_words q.pointers) (tree bytes w)) bytes new
+    place_leaves tag n d p e q x y z new g c =
+        let s : StructIn q.start q.data_words q.pointers ≡ StructIn (tag + 1 + i * (d + p)) d p = ap (λ k. StructIn k q.data_words q.pointers) x ∙ ap (λ k. StructIn (tag + 1 + i * (d + p)) k q.pointers) y ∙ ap (StructIn (tag + 1 + i * (d + p)) d) z in
+        let t : struct_from new q.start q.data_words q.pointers ≡ struct_from new (tag + 1 + i * (d + p)) d p =
+        ap (λ k. struct_from new k q.data_words q.pointers) x ∙ ap (λ k. struct_from new (tag + 1 + i * (d + p)) k q.pointers) y ∙ ap (struct_from new (tag + 1 + i * (d + p)) d) z in
+        let l : Leaves w (with_struct_element i (struct_from new (tag + 1 + i * (d + p)) d p) (tree bytes w)) bytes new = struct_leaves tag n d p e new (subst (Planted new) s g) (subst (λ k. PartChanges k bytes new) s c) in
+        subst (λ k. Leaves w (with_struct_element i k (tree bytes w)) bytes new) (sym t) l

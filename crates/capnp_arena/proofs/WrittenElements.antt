@@ -3,11 +3,13 @@ use Rattle.std.proofs.Common.{◌≡◌, ℕ, zero, suc, ◌+◌, ◌*◌, ◌/�
 use Rattle.capnp_wire.specs.Edits.{with_bit, with_bytes, with_number}
 use Rattle.capnp_wire.specs.Elements.{HasBit, HasNumber, HasStruct, with_bit_element, with_number_element, with_struct, with_struct_element}
 use Rattle.capnp_wire.specs.Facts.Bytes.{length-part-le, length-with_bit, length-with_number}
-use Rattle.capnp_wire.specs.Facts.Indexed.{length-bits_from, nth_struct-from, struct_count-from}
+use Rattle.capnp_wire.specs.Facts.Indexed.{length-bits_from}
 use Rattle.capnp_wire.specs.Filling.{put}
 use Rattle.capnp_wire.specs.Locate.{list_words}
 use Rattle.capnp_wire.specs.Place.{bits_from, bytes_at, list_tree}
+use Rattle.capnp_wire.specs.Reading.{element_struct}
 use Rattle.capnp_wire.specs.Tree.{Bits, Composite, Numbers, StructTree, Tree, nth_struct, structs_from}
+use Rattle.capnp_arena.specs.declared.arena.Place.{Place}
 use Rattle.capnp_wire.specs.declared.size.ElementSize.{ElementSize}
 use Rattle.capnp_wire.specs.declared.size.ElementSize.TheVariants.{Void, Bit, Byte, TwoBytes, FourBytes, EightBytes, Pointer, InlineComposite}
 use Rattle.capnp_arena.specs.Facts.Calls.{planted}
@@ -15,7 +17,10 @@ use Rattle.capnp_arena.specs.Facts.Forests.{points}
 use Rattle.capnp_arena.specs.Facts.Structs.{tree_composite, tree_list, tree_struct}
 use Rattle.capnp_arena.specs.Forest.{Forest, PartChanges, Planted, struct_from, tree}
 use Rattle.capnp_arena.specs.Leaves.{Leaves}
+use Rattle.capnp_arena.specs.Looked.{shape_found}
 use Rattle.capnp_arena.specs.Made.{size_number, width_of}
+use Rattle.capnp_arena.specs.declared.look.Target.{Target}
+use Rattle.capnp_arena.specs.declared.look.Target.TheVariants as target
 use Rattle.capnp_arena.specs.Shape.{CompositeIn, ListIn, NoShape, Points, StructIn, shape_at, word_count}
 use Rattle.capnp_arena.proofs.BitRows.{bits_with}
 use Rattle.capnp_arena.proofs.ElementPlaces.{struct_leaves}
@@ -57,6 +62,7 @@ module _ (old new : List ℕ) (at start n width i v : ℕ) (whole : length old �
   number_leaves Pointer m e q h is = absurd (subst (λ x. HasNumber width x i) (tree_list old at start 6 n f e) h)
   number_leaves InlineComposite m e q h is = let p : Points old at (ListIn start 7 n) = subst (Points old at) e (points old at f) in absurd (omega (arith, p.2))
 
+module _ (old : List ℕ) (at start n width i : ℕ) (f : Forest old at) where
   -- it lies inside
   pub number_inside : (size : ElementSize) → shape_at old at ≡ ListIn start (size_number size) n → HasNumber width (tree old at) i → (i + 1) * width ≤ width_of size * n
   number_inside Void e h = absurd (subst (λ x. HasNumber width x i) (tree_list old at start 0 n f e) h)
@@ -87,19 +93,23 @@ module _ (bytes : List ℕ) (w : ℕ) (f : Forest bytes w) (width i : ℕ) (h : 
     pub number_struct : HasStruct (tree bytes w) i
     number_struct = subst (λ t. HasStruct t i) (sym (tree_composite bytes w tag n d p f e)) held.0
 
-    pub number_first : width ≤ length (nth_struct (structs_from part_of 0 n) i).bytes
-    number_first = held.1
+    pub number_fits : (q : Place) → Planted bytes (StructIn q.start q.data_words q.pointers) → struct_from bytes q.start q.data_words q.pointers ≡ element_struct (tree bytes w) i → width ≤ 8 * q.data_words
+    number_fits q g k =
+        let l : length (struct_from bytes q.start q.data_words q.pointers).bytes ≤ 8 * q.data_words = length-part-le (8 * q.data_words) (8 * q.start) bytes in
+        let m : element_struct (tree bytes w) i ≡ nth_struct (structs_from part_of 0 n) i = ap (λ t. element_struct t i) (tree_composite bytes w tag n d p f e) in
+        omega (arith, held.1, l, ap (λ (x : StructTree). length x.bytes) (k ∙ m))
 
-    pub struct_number_is : (s : StructTree) (v : ℕ) → s ≡ nth_struct (structs_from part_of 0 n) i
+    pub struct_number_is : (s : StructTree) (v : ℕ) → s ≡ element_struct (tree bytes w) i
         → with_struct_element i (with_bytes s (with_number width 0 v s.bytes)) (tree bytes w) ≡ with_number_element width i v (tree bytes w)
     struct_number_is s v q =
+        let m : element_struct (tree bytes w) i ≡ nth_struct (structs_from part_of 0 n) i = ap (λ t. element_struct t i) (tree_composite bytes w tag n d p f e) in
         ap (λ t. with_struct_element i (with_bytes s (with_number width 0 v s.bytes)) t) (tree_composite bytes w tag n d p f e)
-        ∙ ap (λ (x : StructTree). Composite d p (with_struct (structs_from part_of 0 n) i (with_bytes x (with_number width 0 v x.bytes)))) q
+        ∙ ap (λ (x : StructTree). Composite d p (with_struct (structs_from part_of 0 n) i (with_bytes x (with_number width 0 v x.bytes)))) (q ∙ m)
         ∙ ap (with_number_element width i v) (sym (tree_composite bytes w tag n d p f e))
 
 -- ---- a bit ----
 
-module _ (old new : List ℕ) (at i : ℕ) (bit : Bool) (whole : length old ≡ 8 * word_count old) (f : Forest old at) (h : HasBit (tree old at) i) where
+module _ (old : List ℕ) (at i : ℕ) (f : Forest old at) (h : HasBit (tree old at) i) where
   pub null_bit : shape_at old at ≡ NoShape → ⊥
   null_bit e = subst (λ t. HasBit t i) (null_is old at f e) h
 
@@ -109,6 +119,14 @@ module _ (old new : List ℕ) (at i : ℕ) (bit : Bool) (whole : length old ≡ 
   pub composite_bit : (tag n d p : ℕ) → shape_at old at ≡ CompositeIn tag n d p → ⊥
   composite_bit tag n d p e = subst (λ t. HasBit t i) (tree_composite old at tag n d p f e) h
 
+  -- a bit stands in no other target
+  pub no_bit_there : (t : Target) → shape_found t ≡ shape_at old at → ((start size n : ℕ) → t ≡ target.List start size n → ⊥) → ⊥
+  no_bit_there target.Null e none = null_bit (sym e)
+  no_bit_there (target.Struct a d p) e none = struct_bit a d p (sym e)
+  no_bit_there (target.List a size n) e none = none a size n refl
+  no_bit_there (target.Composite tag n d p) e none = composite_bit tag n d p (sym e)
+
+module _ (old new : List ℕ) (at i : ℕ) (bit : Bool) (whole : length old ≡ 8 * word_count old) (f : Forest old at) (h : HasBit (tree old at) i) where
   plain_bit : (g : ℕ → Tree) (bytes : List ℕ) (a size n : ℕ) → HasBit (list_tree g bytes a size n) i → (size ≡ 1) × (i < n)
   plain_bit g bytes a zero n l = absurd l
   plain_bit g bytes a (suc zero) n l = (refl, omega (arith, l, length-bits_from (bytes_at bytes a (8 * list_words 1 n)) 0 n))
@@ -142,7 +160,7 @@ module _ (old new : List ℕ) (at i : ℕ) (bit : Bool) (whole : length old ≡ 
           forest = w.forest;
           tree = w.tree ∙ ap (λ k. Bits (bits_from (bytes_at new start k) 0 n)) (sym q)
               ∙ ap (λ b. Bits (bits_from b 0 n)) (ap (λ z. bytes_at z start m) is ∙ put_there start (with_bit i bit (bytes_at old start m)) old m (omega (arith, xl, bit_ends)) xl)
-              ∙ ap Bits (bits_with (bytes_at old start m) i bit 0 n i (omega (arith, long, bit_inside)) refl)
+              ∙ ap Bits (bits_with (bytes_at old start m) i bit 0 n i (omega (arith, long, bit_inside)) (omega arith))
               ∙ sym (ap (with_bit_element i bit) t);
           changes = w.changes;
         }

@@ -140,12 +140,6 @@ impl Arena {
             unreachable!()
         };
         let words = (count as usize + 63) / 64;
-        write_bit(
-            &mut self.bytes,
-            8 * start,
-            8 * words,
-            index as usize,
-            value,
-        );
+        write_bit(&mut self.bytes, 8 * start, 8 * words, index as usize, value);
     }
 }

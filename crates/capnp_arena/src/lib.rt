@@ -26,7 +26,6 @@ mod look;
 mod message;
 mod reader;
 pub mod reads;
-
 mod spell;
 mod struct_lists;
 mod target;

@@ -20,9 +20,13 @@ enum Built {
     Structs,
     Data,
     Text,
+    Pair,
+    Bit,
+    First,
+    Texts,
 }
 
-static BUILT: [(Built, &str); 9] = [
+static BUILT: [(Built, &str); 13] = [
     (Built::Nothing, "00 00 00 00 01 00 00 00 | 0"),
     (Built::Cleared, "00 00 00 00 01 00 00 00 | 0"),
     (
@@ -52,6 +56,22 @@ static BUILT: [(Built, &str); 9] = [
     (
         Built::Text,
         "00 00 00 00 02 00 00 00 | 01 00 00 00 1a 00 00 00 | 68 69 00 00 00 00 00 00",
+    ),
+    (
+        Built::Pair,
+        "00 00 00 00 02 00 00 00 | 01 00 00 00 1b 00 00 00 | 00 00 00 00 01 02 00 00",
+    ),
+    (
+        Built::Bit,
+        "00 00 00 00 02 00 00 00 | 01 00 00 00 19 00 00 00 | 04 00 00 00 00 00 00 00",
+    ),
+    (
+        Built::First,
+        "00 00 00 00 06 00 00 00 | 01 00 00 00 27 00 00 00 | 08 00 00 00 01 00 01 00 | 0 | 0 | 05 00 00 00 00 00 00 00 | 0",
+    ),
+    (
+        Built::Texts,
+        "00 00 00 00 04 00 00 00 | 01 00 00 00 16 00 00 00 | 0 | 01 00 00 00 1a 00 00 00 | 68 69 00 00 00 00 00 00",
     ),
 ];
 
@@ -123,6 +143,37 @@ fn build_text(alloc: Global) -> Result<Vec<u8>> {
     arena.write_message()
 }
 
+fn build_pair(alloc: Global) -> Result<Vec<u8>> {
+    let mut arena = Arena::new(alloc)?;
+    arena.init_list(0, ElementSize::TwoBytes, 3)?;
+    arena.set_data_element::<u16>(0, 2, 0x0201);
+    arena.write_message()
+}
+
+fn build_bit(alloc: Global) -> Result<Vec<u8>> {
+    let mut arena = Arena::new(alloc)?;
+    arena.init_list(0, ElementSize::Bit, 3)?;
+    arena.set_bool_element(0, 2, true);
+    arena.write_message()
+}
+
+/// The number at the start of the second of two structs.
+fn build_first(alloc: Global) -> Result<Vec<u8>> {
+    let mut arena = Arena::new(alloc)?;
+    arena.init_struct_list(0, 2, ONE_EACH)?;
+    arena.set_data_element::<u8>(0, 1, 5);
+    arena.write_message()
+}
+
+/// The second of two texts, of which the first is null.
+fn build_texts(alloc: Global) -> Result<Vec<u8>> {
+    let mut arena = Arena::new(alloc)?;
+    arena.init_list(0, ElementSize::Pointer, 2)?;
+    let pointer = arena.get_pointer_element(0, 1);
+    arena.set_text(pointer, b"hi")?;
+    arena.write_message()
+}
+
 fn build_nothing(alloc: Global) -> Result<Vec<u8>> {
     Arena::new(alloc)?.write_message()
 }
@@ -138,6 +189,10 @@ fn build(alloc: Global, built: Built) -> Result<Vec<u8>> {
         Built::Structs => build_structs(alloc),
         Built::Data => build_data(alloc),
         Built::Text => build_text(alloc),
+        Built::Pair => build_pair(alloc),
+        Built::Bit => build_bit(alloc),
+        Built::First => build_first(alloc),
+        Built::Texts => build_texts(alloc),
     }
 }
 

@@ -9,4 +9,6 @@ mod copy_tests;
 #[cfg(test)]
 mod fixtures;
 #[cfg(test)]
+mod got_tests;
+#[cfg(test)]
 mod rows;

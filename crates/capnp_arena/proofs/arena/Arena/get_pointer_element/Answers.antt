@@ -2,11 +2,11 @@ use Rattle.std.proofs.Common.{sym}
 use Rattle.capnp_arena.proofs.ElementPlaces.{first_forest, first_index, first_inside, first_leaves, first_tree, list_forest, list_inside, list_leaves, list_pointer, null_pointer, struct_pointer}
 use Rattle.capnp_arena.proofs.arena.Arena.get_pointer_element.Goals as goal
 
-pub unreachable-in-Null-requires : goal.unreachable-in-Null-requires
-unreachable-in-Null-requires c = null_pointer _ _ c.requires.forest c.args.index c.requires.pointer (sym c.in-Null.ensures.shape)
+pub unreachable-requires : goal.unreachable-requires
+unreachable-requires c = null_pointer _ _ c.requires.forest c.args.index c.requires.pointer (sym c.in-Null.ensures.shape)
 
-pub unreachable-in-Struct-requires : goal.unreachable-in-Struct-requires
-unreachable-in-Struct-requires c = struct_pointer _ _ c.requires.forest c.args.index c.requires.pointer _ _ _ (sym c.in-Struct.ensures.shape)
+pub unreachable-requires-in-Struct : goal.unreachable-requires-in-Struct
+unreachable-requires-in-Struct c = struct_pointer _ _ c.requires.forest c.args.index c.requires.pointer _ _ _ (sym c.in-Struct.ensures.shape)
 
 pub returns-in-List-clause-inside : goal.returns-in-List-clause-inside
 returns-in-List-clause-inside c = list_inside _ _ c.requires.forest c.args.index c.requires.pointer _ _ _ (sym c.in-List.ensures.shape)

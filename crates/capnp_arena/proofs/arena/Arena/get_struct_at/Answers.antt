@@ -1,15 +1,18 @@
 use Rattle.std.proofs.Common.{sym}
-use Rattle.capnp_arena.proofs.ElementPlaces.{list_struct, null_struct, struct_index, struct_leaves, struct_struct}
+use Rattle.capnp_arena.proofs.ElementPlaces.{list_struct, null_struct, place_leaves as leaves, struct_index, struct_struct}
 use Rattle.capnp_arena.proofs.arena.Arena.get_struct_at.Goals as goal
 
-pub unreachable-in-Null-requires : goal.unreachable-in-Null-requires
-unreachable-in-Null-requires c = null_struct _ _ c.requires.forest c.args.index c.requires.there (sym c.in-Null.ensures.shape)
+pub unreachable-requires : goal.unreachable-requires
+unreachable-requires c = null_struct _ _ c.requires.forest c.args.index c.requires.there (sym c.in-Null.ensures.shape)
 
-pub unreachable-in-Struct-requires : goal.unreachable-in-Struct-requires
-unreachable-in-Struct-requires c = struct_struct _ _ c.requires.forest c.args.index c.requires.there _ _ _ (sym c.in-Struct.ensures.shape)
+pub unreachable-requires-in-Struct : goal.unreachable-requires-in-Struct
+unreachable-requires-in-Struct c = struct_struct _ _ c.requires.forest c.args.index c.requires.there _ _ _ (sym c.in-Struct.ensures.shape)
 
-pub unreachable-in-List-requires : goal.unreachable-in-List-requires
-unreachable-in-List-requires c = list_struct _ _ c.requires.forest c.args.index c.requires.there _ _ _ (sym c.in-List.ensures.shape)
+pub unreachable-requires-in-List : goal.unreachable-requires-in-List
+unreachable-requires-in-List c = list_struct _ _ c.requires.forest c.args.index c.requires.there _ _ _ (sym c.in-List.ensures.shape)
 
 pub get_struct_element-requires-clause-inside : goal.get_struct_element-requires-clause-inside
 get_struct_element-requires-clause-inside c = struct_index _ _ c.requires.forest c.args.index c.requires.there _ _ _ _ (sym c.in-Composite.ensures.shape)
+
+pub returns-clause-leaves : goal.returns-clause-leaves
+returns-clause-leaves c = leaves _ _ c.requires.forest c.args.index c.requires.there _ _ _ _ (sym c.in-Composite.ensures.shape) c.get_struct_element.result c.get_struct_element.ensures.place.0 c.get_struct_element.ensures.place.1 c.get_struct_element.ensures.place.2

@@ -1,12 +1,12 @@
-use Rattle.std.proofs.Common.{◌*◌, ap, arith, refl}
+use Rattle.std.proofs.Common.{◌*◌, ap, arith}
 use Rattle.capnp_arena.proofs.WrittenElements.{number_inside, number_leaves}
 use Rattle.capnp_arena.proofs.arena.Arena.set_plain_number.Goals as goal
 
 pub write_number-requires-clause-inside : goal.write_number-requires-clause-inside
 write_number-requires-clause-inside g c =
-    let l = number_inside _ _ _ _ _ _ _ c.args.self.now.whole c.requires.forest refl c.args.list.size c.requires.there c.requires.number in
+    let l = number_inside _ _ _ _ _ _ c.requires.forest c.args.list.size c.requires.there c.requires.number in
     omega (arith, l, ap (λ k. k * c.args.list.count) c.get_width.ensures)
 
 pub returns : goal.returns
 returns g c =
-    record { leaves = number_leaves _ _ _ _ _ _ _ c.args.self.now.whole c.requires.forest c.write_number.ensures.long c.args.list.size _ c.requires.there (ap (λ k. k * c.args.list.count) c.get_width.ensures) c.requires.number c.write_number.ensures.put }
+    record { leaves = number_leaves _ _ _ _ _ _ _ _ c.args.self.now.whole c.requires.forest c.write_number.ensures.long c.args.list.size _ c.requires.there (ap (λ k. k * c.args.list.count) c.get_width.ensures) c.requires.number c.write_number.ensures.put }
