@@ -31,6 +31,7 @@ fn size_of(data_words: u16, pointers: u16) -> StructSize {
 /// A struct of a word and a null, and the same with a text.
 const FIVE: &str =
     "00 00 00 00 03 00 00 00 | 00 00 00 00 01 00 01 00 | 05 00 00 00 00 00 00 00 | 0";
+
 const FIVE_AND_TEXT: &str =
     "00 00 00 00 04 00 00 00 | 00 00 00 00 01 00 01 00 | 05 00 00 00 00 00 00 00 | 01 00 00 00 1a 00 00 00 | 68 69 00 00 00 00 00 00";
 /// A word more of zeros before the text.
@@ -38,19 +39,23 @@ const LARGER: &str =
     "00 00 00 00 06 00 00 00 | 00 00 00 00 02 00 02 00 | 05 00 00 00 00 00 00 00 | 0 | 05 00 00 00 1a 00 00 00 | 0 | 68 69 00 00 00 00 00 00";
 
 const NULL: &str = "00 00 00 00 01 00 00 00 | 0";
-const PAIRS: &str =
-    "00 00 00 00 02 00 00 00 | 01 00 00 00 1b 00 00 00 | 00 00 01 02 00 00 00 00";
+
+const PAIRS: &str = "00 00 00 00 02 00 00 00 | 01 00 00 00 1b 00 00 00 | 00 00 01 02 00 00 00 00";
+
 const PAIRS_AS_STRUCTS: &str =
     "00 00 00 00 08 00 00 00 | 01 00 00 00 37 00 00 00 | 0c 00 00 00 01 00 01 00 | 0 | 0 | 01 02 00 00 00 00 00 00 | 0 | 0 | 0";
-const BITS: &str =
-    "00 00 00 00 02 00 00 00 | 01 00 00 00 19 00 00 00 | 05 00 00 00 00 00 00 00";
+
+const BITS: &str = "00 00 00 00 02 00 00 00 | 01 00 00 00 19 00 00 00 | 05 00 00 00 00 00 00 00";
 /// Two structs of a word each, and the same with a null each.
 const WORDS: &str =
     "00 00 00 00 04 00 00 00 | 01 00 00 00 17 00 00 00 | 08 00 00 00 01 00 00 00 | 05 00 00 00 00 00 00 00 | 06 00 00 00 00 00 00 00";
+
 const WORDS_AND_NULLS: &str =
     "00 00 00 00 06 00 00 00 | 01 00 00 00 27 00 00 00 | 08 00 00 00 01 00 01 00 | 05 00 00 00 00 00 00 00 | 0 | 06 00 00 00 00 00 00 00 | 0";
+
 const TEXTS: &str =
     "00 00 00 00 03 00 00 00 | 01 00 00 00 0e 00 00 00 | 01 00 00 00 12 00 00 00 | 61 00 00 00 00 00 00 00";
+
 const TEXTS_AS_STRUCTS: &str =
     "00 00 00 00 04 00 00 00 | 01 00 00 00 0f 00 00 00 | 04 00 00 00 00 00 01 00 | 01 00 00 00 12 00 00 00 | 61 00 00 00 00 00 00 00";
 /// A pointer of a struct that leads past the end.
@@ -59,14 +64,24 @@ const BROKEN: &str =
 
 /// The message, the default, what the root is got as, and what is written then.
 static GOT: [(&str, Option<&str>, Got, &str); 21] = [
-    (NULL, None, Got::Struct(1, 1), "00 00 00 00 03 00 00 00 | 00 00 00 00 01 00 01 00 | 0 | 0"),
+    (
+        NULL,
+        None,
+        Got::Struct(1, 1),
+        "00 00 00 00 03 00 00 00 | 00 00 00 00 01 00 01 00 | 0 | 0",
+    ),
     (FIVE, None, Got::Struct(1, 1), FIVE),
     (FIVE, None, Got::Struct(0, 0), FIVE),
     (FIVE_AND_TEXT, None, Got::Struct(2, 2), LARGER),
     (FIVE_AND_TEXT, Some(FIVE), Got::Struct(1, 1), FIVE_AND_TEXT),
     (NULL, Some(FIVE_AND_TEXT), Got::Struct(1, 1), FIVE_AND_TEXT),
     (NULL, Some(FIVE_AND_TEXT), Got::Struct(2, 2), LARGER),
-    (NULL, Some(NULL), Got::Struct(0, 0), "00 00 00 00 01 00 00 00 | fc ff ff ff 00 00 00 00"),
+    (
+        NULL,
+        Some(NULL),
+        Got::Struct(0, 0),
+        "00 00 00 00 01 00 00 00 | fc ff ff ff 00 00 00 00",
+    ),
     (NULL, None, Got::Structs(1, 1), NULL),
     (PAIRS, None, Got::Structs(1, 1), PAIRS_AS_STRUCTS),
     (NULL, Some(PAIRS), Got::Structs(1, 1), PAIRS_AS_STRUCTS),
@@ -85,12 +100,27 @@ static GOT: [(&str, Option<&str>, Got, &str); 21] = [
 /// The same, and what the call is refused with. The message is then as it was.
 static REFUSED: [(&str, Option<&str>, Got, ErrorKind); 10] = [
     (PAIRS, None, Got::Struct(1, 1), ErrorKind::WrongPointerKind),
-    (NULL, Some(PAIRS), Got::Struct(1, 1), ErrorKind::WrongPointerKind),
+    (
+        NULL,
+        Some(PAIRS),
+        Got::Struct(1, 1),
+        ErrorKind::WrongPointerKind,
+    ),
     (NULL, Some(BROKEN), Got::Struct(2, 2), ErrorKind::BadPointer),
     (FIVE, None, Got::Structs(1, 1), ErrorKind::WrongPointerKind),
-    (NULL, Some(FIVE), Got::Structs(1, 1), ErrorKind::WrongPointerKind),
+    (
+        NULL,
+        Some(FIVE),
+        Got::Structs(1, 1),
+        ErrorKind::WrongPointerKind,
+    ),
     (BITS, None, Got::Structs(1, 1), ErrorKind::WrongElementSize),
-    (NULL, Some(BITS), Got::Structs(1, 1), ErrorKind::WrongElementSize),
+    (
+        NULL,
+        Some(BITS),
+        Got::Structs(1, 1),
+        ErrorKind::WrongElementSize,
+    ),
     (PAIRS, None, Got::Bytes, ErrorKind::WrongElementSize),
     (NULL, Some(PAIRS), Got::Bytes, ErrorKind::WrongElementSize),
     (NULL, Some(FIVE), Got::Bytes, ErrorKind::WrongPointerKind),
@@ -143,7 +173,13 @@ fn write_got(alloc: Global, stream: &str, default: Option<&str>, got: Got) -> Re
     arena.write_message()
 }
 
-fn is_got(alloc: Global, stream: &str, default: Option<&str>, got: Got, text: &str) -> Result<bool> {
+fn is_got(
+    alloc: Global,
+    stream: &str,
+    default: Option<&str>,
+    got: Got,
+    text: &str,
+) -> Result<bool> {
     is_spelled(alloc, &write_got(alloc, stream, default, got)?, text)
 }
 
