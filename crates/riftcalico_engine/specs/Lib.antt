@@ -1,0 +1,9 @@
+pub mod Calls
+pub mod CallsSeen
+pub mod Command
+pub mod Ended
+pub mod LinesSeen
+pub mod Reads
+pub mod RequestSeen
+pub mod Roots
+pub mod Words
