@@ -38,7 +38,7 @@ fn hostile_messages_are_refused_and_nothing_is_written(rt: HostRuntime) -> Resul
 }
 
 /// Words that ask for nothing.
-static OTHER_WORDS: [&str; 22] = [
+static OTHER_WORDS: [&str; 30] = [
     "",
     "show",
     "Get|Flat|a",
@@ -61,6 +61,15 @@ static OTHER_WORDS: [&str; 22] = [
     "new|--keep-going",
     "new|--set|set|--keep-going",
     "new|--calls|calls|Flat|",
+    // no struct of the built-in set
+    "get|Nope|a",
+    "patch|Nope|get a",
+    "new|Shapes.circle",
+    "structs|Nope",
+    "structs|Flat|a",
+    "structs|--set",
+    "structs|--set|set|Flat|a",
+    "structs|--indent",
 ];
 
 /// A message of which nothing is read.
@@ -87,23 +96,23 @@ fn other_words_are_told_the_usage(rt: HostRuntime) -> Result<(), Fail> {
     Ok(())
 }
 
-/// Words of paths and calls that can't be read, whatever there is in the set, and what is told. The struct's name isn't looked up.
+/// Words of paths and calls that can't be read, whatever there is in the set, and what is told.
 static UNREADABLE: [(&str, &str); 15] = [
-    ("get|Nope|", "1: : can't be read at 0\n"),
-    ("get|Nope|a..b", "1: a..b: can't be read at 2\n"),
-    ("get|Nope|a.", "1: a.: can't be read at 2\n"),
-    ("get|Nope|#", "1: #: can't be read at 1\n"),
-    ("get|Nope|#65536", "1: #65536: can't be read at 5\n"),
-    ("get|Nope|4294967296", "1: 4294967296: can't be read at 9\n"),
-    ("get|Nope|a b", "1: a b: can't be read at 1\n"),
-    ("patch|Nope|get a|sets a 1", "2: sets a 1: can't be read at 3\n"),
-    ("patch|Nope|get a|get .|get", "2: get .: can't be read at 4\n"),
-    ("patch|Nope|", "1: : can't be read at 0\n"),
-    ("patch|--keep-going|Nope|set a", "1: set a: can't be read at 5\n"),
-    ("new|Nope|initn a 4294967296", "1: initn a 4294967296: can't be read at 17\n"),
-    ("new|Nope|initn a", "1: initn a: can't be read at 7\n"),
-    ("new|Nope|which", "1: which: can't be read at 5\n"),
-    ("new|Nope|clear a b", "1: clear a b: can't be read at 7\n"),
+    ("get|Flat|", "1: : can't be read at 0\n"),
+    ("get|Flat|a..b", "1: a..b: can't be read at 2\n"),
+    ("get|Flat|a.", "1: a.: can't be read at 2\n"),
+    ("get|Flat|#", "1: #: can't be read at 1\n"),
+    ("get|Flat|#65536", "1: #65536: can't be read at 5\n"),
+    ("get|Flat|4294967296", "1: 4294967296: can't be read at 9\n"),
+    ("get|Flat|a b", "1: a b: can't be read at 1\n"),
+    ("patch|Flat|get a|sets a 1", "2: sets a 1: can't be read at 3\n"),
+    ("patch|Flat|get a|get .|get", "2: get .: can't be read at 4\n"),
+    ("patch|Flat|", "1: : can't be read at 0\n"),
+    ("patch|--keep-going|Flat|set a", "1: set a: can't be read at 5\n"),
+    ("new|Flat|initn a 4294967296", "1: initn a 4294967296: can't be read at 17\n"),
+    ("new|Flat|initn a", "1: initn a: can't be read at 7\n"),
+    ("new|Flat|which", "1: which: can't be read at 5\n"),
+    ("new|Flat|clear a b", "1: clear a b: can't be read at 7\n"),
 ];
 
 #[test]
@@ -116,14 +125,13 @@ fn words_that_cannot_be_read_are_told_with_their_place(rt: HostRuntime) -> Resul
 }
 
 /// Words under sets and names that there are none of.
-static NO_ROOTS: [(&str, &str); 7] = [
-    ("get|Nope|a", "64"),
-    ("patch|Nope|get a", "64"),
-    ("new|Shapes.circle", "64"),
+static NO_ROOTS: [(&str, &str); 6] = [
     ("get|--set|nowhere|Flat|a", "12"),
     ("patch|--set|nowhere|Flat|get a", "12"),
     ("new|--set|set|Flat", "2"),
     ("patch|--calls|nowhere|Flat", "12"),
+    ("structs|--set|nowhere", "12"),
+    ("structs|--set|set|Flat", "2"),
 ];
 
 #[test]
@@ -192,10 +200,11 @@ fn lines_that_cannot_be_read_are_told_with_their_place(rt: HostRuntime) -> Resul
 }
 
 /// Words, and what they write and tell with no failure.
-static FAILING: [(&str, &str, &str); 3] = [
+static FAILING: [(&str, &str, &str); 4] = [
     ("get|Flat|a", "35 0a", ""),
     ("patch|Flat|set a 7|get a", "0000000002000000 0000000001000000 0700000000000000", "2: get a = 7\n"),
     ("new|Flat|set a 7|get a", "0000000002000000 0000000001000000 0700000000000000", "2: get a = 7\n"),
+    ("structs", "466c61740a 4d697865640a 4d616e790a 5368617065730a 4c6f6f700a 4c697374730a 4e6f64650a", ""),
 ];
 
 /// Asserts what a setting comes to where a write fails, each in turn: what was written before it, and the refusal.
@@ -279,7 +288,7 @@ fn what_cannot_be_told_changes_no_status(rt: HostRuntime) -> Result<(), Fail> {
         ("patch|Flat|get b", 1, "1: get"),
         ("patch|Flat|get .", 2, "1: get"),
         ("patch", 2, "usage:"),
-        ("get|Nope|a", 1, "refuse"),
+        ("structs|--set|nowhere", 1, "refuse"),
     ] {
         let on = Setting {
             failing_error: Some(6),

@@ -380,3 +380,25 @@ pub const PATCHED: &str = "\
 !2: get size = 7
 !4: get size = 9
 ";
+
+/// The structs of a set, and the fields of one.
+pub const LISTED: &str = "\
+# all
+:structs
+<
+=0
+\"Flat
+\"Mixed
+\"Many
+\"Shapes
+\"Loop
+\"Lists
+\"Node
+
+# numbers and a union
+:structs
+:Mixed
+<
+=0
+\"a: UInt16, data bit 0, default 0
+";

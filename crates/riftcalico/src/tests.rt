@@ -1,7 +1,7 @@
 //! What the program writes and answers, by its public call, over sources and sinks in memory.
 ghost use Rattle.std.specs.Prelude.{⊤, ◌<◌};
 
-use crate::rows::{GOT, PATCHED};
+use crate::rows::{GOT, LISTED, PATCHED};
 use capnp_show_engine::opener::Opener;
 use capnp_wire::device::DeviceFault;
 use capnp_wire::memory::{MemorySink, MemorySource};
@@ -15,6 +15,7 @@ pub const USAGE: &str = "\
 usage: riftcalico get [--set FILE] NAME PATH [--indent]
        riftcalico patch [--set FILE] [--calls FILE] [--keep-going] NAME CALL..
        riftcalico new [--set FILE] [--calls FILE] [--keep-going] NAME CALL..
+       riftcalico structs [--set FILE] [NAME]
 ";
 
 /// The only paths that have a file: of a set and of calls.
@@ -313,4 +314,9 @@ fn values_are_shown(rt: HostRuntime) -> Result<(), Fail> {
 #[test]
 fn messages_are_patched(rt: HostRuntime) -> Result<(), Fail> {
     rows_are_so(&rt, rt.alloc(), PATCHED)
+}
+
+#[test]
+fn structs_are_listed(rt: HostRuntime) -> Result<(), Fail> {
+    rows_are_so(&rt, rt.alloc(), LISTED)
 }

@@ -6,7 +6,7 @@ use Rattle.capnp_schema.specs.declared.schema.structs.StructSchema.{StructSchema
 use Rattle.capnp_call.specs.declared.calls.Call.{Call}
 use Rattle.capnp_call.specs.declared.calls.Reply.{Reply}
 use Rattle.capnp_patch.specs.Patches.{any_refused}
-use Rattle.riftcalico_engine.specs.Command.{CallsTask, GetTask, Given, Root, Task, get_task, new_task, patch_task}
+use Rattle.riftcalico_engine.specs.Command.{CallsTask, GetTask, Given, Root, Task, fields_task, get_task, new_task, patch_task, structs_task}
 use Rattle.riftcalico_engine.specs.Ended.{AreGiven, IsCallsOutcome, IsEnded, IsNoCallOutcome, IsNoTextOutcome, IsUnderOutcome, Streams, status_of}
 use Rattle.riftcalico_engine.specs.Roots.{Opens}
 use Rattle.riftcalico_engine.specs.declared.run.Outcome.{Outcome}
@@ -46,3 +46,9 @@ module _ {O F : Type 0} (opens : Opens O F) (holds : F → Option (List ℕ)) (f
   nothing_done (get_task t) (Ok (Unreadable line)) x q = (x.2, x.3)
   nothing_done (patch_task t) (Ok o) x q = given opens holds fails old new untouched unwritten t _ o q x
   nothing_done (new_task t) (Ok o) x q = (x.0, (given opens holds fails old new ⊤ unwritten t _ o q x.1).1)
+  nothing_done (structs_task file) (Ok Shown) x q = absurd (no_zero q)
+  nothing_done (structs_task file) (Ok (Made report)) x q = absurd x.1
+  nothing_done (structs_task file) (Ok (Unreadable line)) x q = absurd x.1
+  nothing_done (fields_task r) (Ok Shown) x q = absurd (no_zero q)
+  nothing_done (fields_task r) (Ok (Made report)) x q = absurd x.1
+  nothing_done (fields_task r) (Ok (Unreadable line)) x q = absurd x.1

@@ -17,7 +17,8 @@ use Rattle.capnp_show_engine.specs.Command.{IsTold, refusal_line}
 use Rattle.capnp_show_engine.specs.Show.{IsOfMessage}
 use Rattle.capnp_words.specs.Calls.{CallText}
 use Rattle.capnp_words.specs.Paths.{path_at}
-use Rattle.riftcalico_engine.specs.Command.{CallsTask, GetTask, Given, Root, Task, get_task, new_task, patch_task}
+use Rattle.riftcalico_engine.specs.Command.{CallsTask, GetTask, Given, Root, Task, fields_task, get_task, new_task, patch_task, structs_task}
+use Rattle.riftcalico_engine.specs.Listed.{IsFieldsEnded, IsStructsEnded}
 use Rattle.riftcalico_engine.specs.Reads.{unreadable_line}
 use Rattle.riftcalico_engine.specs.Roots.{HasReadFailed, HasSetFailed, IsNamed, IsRootOr, Opens}
 use Rattle.riftcalico_engine.specs.Words.{AreCalls, AreSaid, AreWords, HasGivenFailed, IsNoCall, IsNoText, IsNoValue}
@@ -151,6 +152,8 @@ module _ {O F : Type 0} (opens : Opens O F) (holds : F → Option (List ℕ)) (f
   IsEnded s (get_task t) x = IsGetEnded opens holds fails old new untouched unwritten s t x
   IsEnded s (patch_task t) x = IsPatchEnded opens holds fails old new untouched unwritten s t x
   IsEnded s (new_task t) x = untouched × IsNewEnded opens holds fails old new ⊤ unwritten s.written s.written' s.writes s.writes' t x
+  IsEnded s (structs_task file) x = untouched × IsStructsEnded opens holds fails old new unwritten s.written s.written' s.writes s.writes' file x
+  IsEnded s (fields_task r) x = untouched × IsFieldsEnded opens holds fails old new unwritten s.written s.written' s.writes s.writes' r x
 
 -- the exit status: 1 where a call was refused too
 abbrev pub status_of : Result Outcome Error → ℕ

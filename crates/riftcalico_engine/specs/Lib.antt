@@ -3,6 +3,7 @@ pub mod CallsSeen
 pub mod Command
 pub mod Ended
 pub mod LinesSeen
+pub mod Listed
 pub mod Reads
 pub mod RequestSeen
 pub mod Roots

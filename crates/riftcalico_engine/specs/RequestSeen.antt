@@ -1,7 +1,7 @@
 -- The tasks that the code's requests stand for.
 use Rattle.std.specs.Prelude.{map, string_bytes}
 use Rattle.std.specs.Option.{option_map}
-use Rattle.riftcalico_engine.specs.Command.{CallsTask, GetTask, Given, Root, Task, get_task, in_lines, in_words, new_task, patch_task}
+use Rattle.riftcalico_engine.specs.Command.{CallsTask, GetTask, Given, Root, Task, fields_task, get_task, in_lines, in_words, new_task, patch_task, structs_task}
 use Rattle.riftcalico_engine.specs.declared.request.Asked.{Asked}
 use Rattle.riftcalico_engine.specs.declared.request.Asked.TheVariants as asked
 use Rattle.riftcalico_engine.specs.declared.request.CallWords.{CallWords}
@@ -27,3 +27,5 @@ abbrev pub task_of : Asked → Task
 task_of (asked.Get r) = get_task (get_task_of r)
 task_of (asked.Patch r) = patch_task (calls_task_of r)
 task_of (asked.New r) = new_task (calls_task_of r)
+task_of (asked.Structs file) = structs_task (option_map (λ f. f.now) file)
+task_of (asked.Fields r) = fields_task (root_of r)

@@ -18,6 +18,7 @@ const USAGE: &str = "\
 usage: riftcalico get [--set FILE] NAME PATH [--indent]
        riftcalico patch [--set FILE] [--calls FILE] [--keep-going] NAME CALL..
        riftcalico new [--set FILE] [--calls FILE] [--keep-going] NAME CALL..
+       riftcalico structs [--set FILE] [NAME]
 ";
 
 /// Tells what a task ended with, as far as the sink takes it, and answers the status.

@@ -7,4 +7,5 @@ pub mod command;
 pub mod request;
 pub mod run;
 pub mod sets;
+pub mod structs;
 pub mod words;

@@ -1,8 +1,11 @@
 //! What the program's words ask for.
-ghost use Rattle.std.specs.Prelude.{◌≡◌, codes, map, string_bytes};
+ghost use Rattle.std.specs.Prelude.{[], ◌≡◌, codes, get_or, length, map, string_bytes};
 ghost use Rattle.std.specs.Option.{option_map};
-ghost use Rattle.riftcalico_engine.specs.Command.{asked, calls_asked, flag_word, get_asked, given_asked, in_set, named_asked, option_word, verb_of};
-ghost use Rattle.riftcalico_engine.specs.RequestSeen.{calls_task_of, get_task_of, given_of, task_of};
+ghost use Rattle.riftcalico_engine.specs.Command.{asked, calls_asked, flag_word, get_at, given_asked, in_set, is_known, kept_asked, option_word, root_asked, structs_asked, verb_of};
+ghost use Rattle.riftcalico_engine.specs.declared.request.Verb.TheVariants as verb;
+ghost use Rattle.riftcalico_engine.specs.RequestSeen.{calls_task_of, get_task_of, given_of, root_of, task_of};
+
+use capnp_show_engine::request as show;
 
 /// What is done.
 #[derive(Clone, Copy, Debug, PartialEq, Eq)]
@@ -13,6 +16,8 @@ pub enum Verb {
     Patch,
     /// Calls are made on an empty root.
     New,
+    /// The structs of a set are shown, or the fields of one.
+    Structs,
 }
 
 /// The struct of a name, in the set that a file holds, or else in the built-in one.
@@ -54,6 +59,10 @@ pub enum Asked<'a> {
     Patch(CallsRequest<'a>),
     /// Calls are made on an empty root.
     New(CallsRequest<'a>),
+    /// The structs of the set that a file holds, or else of the built-in one.
+    Structs(Option<&'a str>),
+    /// The fields of a struct.
+    Fields(NamedRoot<'a>),
 }
 
 /// What is done, by its word.
@@ -64,6 +73,7 @@ fn read_verb(word: &str) -> Option<Verb>
         "get" => Some(Verb::Get),
         "patch" => Some(Verb::Patch),
         "new" => Some(Verb::New),
+        "structs" => Some(Verb::Structs),
         _ => None,
     }
 }
@@ -100,28 +110,50 @@ fn take_flag<'a>(flag: &str, words: &'a [String]) -> (bool, &'a [String])
     }
 }
 
-/// A path under the struct of a name, and after it perhaps `--indent`.
-fn read_get<'a>(file: Option<&'a str>, words: &'a [String]) -> Option<GetRequest<'a>>
-    ensures { option_map get_task_of result ≡ get_asked (option_map (λ f. f.now) file.entry) (map string_bytes words.now) }
+/// Whether a struct may have the name, which stands alone in these words: in the built-in set one has it or none, which takes no
+/// memory to tell, and a file's set isn't read yet.
+fn is_known(file: Option<&str>, name: &[String]) -> bool
+    requires { length name.now ≡ 1 }
+    ensures { result ≡ is_known (option_map (λ f. f.now) file.entry) (get_or (map string_bytes name.now) 0 []) }
+{
+    match file {
+        Some(_) => true,
+        None => show::read_words(name).is_some(),
+    }
+}
+
+/// The struct that the first of these words names, and the words that follow.
+fn read_root<'a>(
+    file: Option<&'a str>,
+    words: &'a [String],
+) -> Option<(NamedRoot<'a>, &'a [String])>
+    ensures { option_map (λ x. (root_of x.0, map string_bytes x.1.now)) result ≡ root_asked (option_map (λ f. f.now) file.entry) (map string_bytes words.now) }
 {
     match words {
-        [name, path] => {
-            let root = NamedRoot {
-                file,
-                name: name.as_str(),
-            };
-            Some(GetRequest {
-                root,
-                path: path.as_str(),
-                indented: false,
-            })
+        [] => None,
+        [name, rest @ ..] => {
+            if is_known(file, &words[..1]) {
+                let name = name.as_str();
+                Some((NamedRoot { file, name }, rest))
+            } else {
+                None
+            }
         }
-        [name, path, last] => {
+    }
+}
+
+/// A path under a struct, and after it perhaps `--indent`.
+fn read_get<'a>(root: NamedRoot<'a>, words: &'a [String]) -> Option<GetRequest<'a>>
+    ensures { option_map get_task_of result ≡ get_at (root_of root.entry) (map string_bytes words.now) }
+{
+    match words {
+        [path] => Some(GetRequest {
+            root,
+            path: path.as_str(),
+            indented: false,
+        }),
+        [path, last] => {
             if last.as_str() == "--indent" {
-                let root = NamedRoot {
-                    file,
-                    name: name.as_str(),
-                };
                 Some(GetRequest {
                     root,
                     path: path.as_str(),
@@ -151,30 +183,22 @@ fn read_given<'a>(lines: Option<&'a str>, words: &'a [String]) -> Option<CallWor
     }
 }
 
-/// Calls on a root under the struct of a name.
+/// Calls on a root under the struct that the first word names.
 fn read_named<'a>(
     file: Option<&'a str>,
     lines: Option<&'a str>,
     keep_going: bool,
     words: &'a [String],
 ) -> Option<CallsRequest<'a>>
-    ensures { option_map calls_task_of result ≡ named_asked (option_map (λ f. f.now) file.entry) (option_map (λ f. f.now) lines.entry) keep_going (map string_bytes words.now) }
+    ensures { option_map calls_task_of result ≡ kept_asked (option_map (λ f. f.now) file.entry) (option_map (λ f. f.now) lines.entry) (keep_going, map string_bytes words.now) }
 {
-    match words {
-        [] => None,
-        [name, rest @ ..] => {
-            let calls = read_given(lines, rest)?;
-            let root = NamedRoot {
-                file,
-                name: name.as_str(),
-            };
-            Some(CallsRequest {
-                root,
-                calls,
-                keep_going,
-            })
-        }
-    }
+    let (root, rest) = read_root(file, words)?;
+    let calls = read_given(lines, rest)?;
+    Some(CallsRequest {
+        root,
+        calls,
+        keep_going,
+    })
 }
 
 /// Calls on a root, and before them where the calls stand and whether a refused one keeps the message from being written.
@@ -186,22 +210,49 @@ fn read_calls<'a>(file: Option<&'a str>, words: &'a [String]) -> Option<CallsReq
     read_named(file, lines, keep_going, named)
 }
 
+/// A value of the struct that the first word names.
+fn read_get_words<'a>(file: Option<&'a str>, words: &'a [String]) -> Option<Asked<'a>>
+    ensures { option_map task_of result ≡ in_set verb.Get (option_map (λ f. f.now) file.entry, map string_bytes words.now) }
+{
+    let (root, rest) = read_root(file, words)?;
+    Some(Asked::Get(read_get(root, rest)?))
+}
+
+/// The structs of a set, or the fields of the one that the word names.
+fn read_structs<'a>(file: Option<&'a str>, words: &'a [String]) -> Option<Asked<'a>>
+    ensures { option_map task_of result ≡ structs_asked (option_map (λ f. f.now) file.entry) (map string_bytes words.now) }
+{
+    if words.is_empty() {
+        return Some(Asked::Structs(file));
+    }
+    let (root, rest) = read_root(file, words)?;
+    if rest.is_empty() {
+        Some(Asked::Fields(root))
+    } else {
+        None
+    }
+}
+
 /// What is asked, after what is done.
 fn read_verb_words<'a>(verb: Verb, words: &'a [String]) -> Option<Asked<'a>>
     ensures { option_map task_of result ≡ in_set verb (option_word (codes "--set") (map string_bytes words.now)) }
 {
     let (file, rest) = take_option("--set", words);
     match verb {
-        Verb::Get => Some(Asked::Get(read_get(file, rest)?)),
+        Verb::Get => read_get_words(file, rest),
         Verb::Patch => Some(Asked::Patch(read_calls(file, rest)?)),
         Verb::New => Some(Asked::New(read_calls(file, rest)?)),
+        Verb::Structs => read_structs(file, rest),
     }
 }
 
 /// What the words ask for; none for other words:
 ///
 /// - `get [--set FILE] NAME PATH [--indent]`;
-/// - `patch` or `new`, `[--set FILE] [--calls FILE] [--keep-going] NAME CALL..`, with no call where a file of calls is named.
+/// - `patch` or `new`, `[--set FILE] [--calls FILE] [--keep-going] NAME CALL..`, with no call where a file of calls is named;
+/// - `structs [--set FILE] [NAME]`.
+///
+/// Without `--set` a NAME that is no struct's of the built-in set makes them other words.
 pub fn read_words(words: &[String]) -> Option<Asked<'_>>
     ensures { option_map task_of result ≡ asked (map string_bytes words.now) }
 {

@@ -1,5 +1,6 @@
 //! What is asked, done.
 ghost use Rattle.std.specs.Prelude.{[], ◌≡◌, ◌≢◌, ⊤, false, IfErr, IfOk, OnOk, length, map, string_bytes};
+ghost use Rattle.std.specs.Option.{option_map};
 ghost use Rattle.capnp_device.specs.Device.{HasFailed};
 ghost use Rattle.capnp_device.specs.declared.error.ErrorKind.TheVariants.{ReadFailed, WriteFailed};
 ghost use Rattle.capnp_schema.specs.StructHandles.{IsStruct, number_of, set_of};
@@ -10,6 +11,7 @@ ghost use Rattle.capnp_patch.specs.Patches.{IsCutShort, IsLeftOfNew, IsMade, IsN
 ghost use Rattle.capnp_show_engine.specs.Show.{IsOfMessage};
 ghost use Rattle.capnp_words.specs.Seen.{call_seen};
 ghost use Rattle.riftcalico_engine.specs.Ended.{AreUnder, IsCallsOutcome, IsEnded, IsGetOutcome, IsNewEnded, IsPatchEnded, IsPath, IsUnderOutcome, streams};
+ghost use Rattle.riftcalico_engine.specs.Listed.{IsFieldsEnded, IsStructsEnded};
 ghost use Rattle.riftcalico_engine.specs.RequestSeen.{calls_task_of, get_task_of, root_of, task_of};
 ghost use Rattle.riftcalico_engine.specs.Roots.{HasReadFailed, HasSetFailed, IsNamed, IsRootOr};
 ghost use Rattle.riftcalico_engine.specs.CallsSeen.{read_call_seen};
@@ -18,6 +20,7 @@ ghost use Rattle.riftcalico_engine.specs.Words.{AreCalls, AreMadeOf, AreSaid};
 use crate::calls::{ReadCall, make_calls, read_all_calls, read_calls, steps_of};
 use crate::request::{Asked, CallWords, CallsRequest, GetRequest, NamedRoot};
 use crate::sets::{find_schema, read_set};
+use crate::structs::{show_fields, show_structs};
 use crate::words::{put_unreadable, read_lines, unreadable_line};
 use capnp_call::calls::Step;
 use capnp_patch::engine::{Report, new_message, patch};
@@ -392,6 +395,38 @@ fn run_new<O: Opener, W: Sink>(
     }
 }
 
+/// Shows the structs of a set.
+fn run_structs<O: Opener, W: Sink>(
+    alloc: Global,
+    opener: &mut O,
+    file: Option<&str>,
+    sink: &mut W,
+) -> Result<Outcome>
+    ensures { IsStructsEnded O.opens O.File.left O.File.failures opener.old opener.new (sink.new ≡ sink.old) (W.written sink.old) (W.written sink.new)
+        (W.failures sink.old) (W.failures sink.new) (option_map (λ f. f.now) file.entry) result }
+{
+    match show_structs(alloc, opener, file, sink) {
+        Ok(()) => Ok(Outcome::Shown),
+        Err(error) => Err(error),
+    }
+}
+
+/// Shows the fields of a struct.
+fn run_fields<O: Opener, W: Sink>(
+    alloc: Global,
+    opener: &mut O,
+    root: NamedRoot<'_>,
+    sink: &mut W,
+) -> Result<Outcome>
+    ensures { IsFieldsEnded O.opens O.File.left O.File.failures opener.old opener.new (sink.new ≡ sink.old) (W.written sink.old) (W.written sink.new)
+        (W.failures sink.old) (W.failures sink.new) (root_of root.entry) result }
+{
+    match show_fields(alloc, opener, root, sink) {
+        Ok(()) => Ok(Outcome::Shown),
+        Err(error) => Err(error),
+    }
+}
+
 /// Does what is asked.
 pub fn run<O: Opener, R: Source, W: Sink>(
     alloc: Global,
@@ -408,5 +443,7 @@ pub fn run<O: Opener, R: Source, W: Sink>(
         Asked::Get(request) => run_get(alloc, opener, request, source, sink),
         Asked::Patch(request) => run_patch(alloc, opener, request, source, sink),
         Asked::New(request) => run_new(alloc, opener, request, sink),
+        Asked::Structs(file) => run_structs(alloc, opener, file, sink),
+        Asked::Fields(root) => run_fields(alloc, opener, root, sink),
     }
 }

@@ -1,0 +1,71 @@
+-- Lines, as walks over a set's brands and a struct's fields make them.
+use Rattle.std.specs.Prelude.{ℕ, zero, suc, ◌+◌, ◌-◌, ◌<◌, ◌≤◌, List, [], ◌∷◌, ◌++◌, drop, get_or, length, slice_get}
+use Rattle.std.specs.Option.{unwrap_or}
+use Rattle.std.proofs.Common.{◌≡◌, ◌∙◌, ap, append_assoc, arith, refl, subst, sym}
+use Rattle.std.proofs.lemmas.List.{drop_more}
+use Rattle.capnp_schema.specs.Schema.{Schemas, Brand, TypedField, field_at, fields_of, no_brand, no_field}
+use Rattle.capnp_records.specs.Text.{Out, after, said}
+use Rattle.capnp_dynamic_readers.specs.Pieces.{IsAppended}
+use Rattle.capnp_structs.specs.Fields.{all_lines, field_lines, fields_within}
+use Rattle.capnp_structs.specs.Names.{struct_line, struct_lines}
+use Rattle.capnp_structs.proofs.Appended.{both, nothing}
+
+next : (i : ℕ) → i + 1 ≡ suc i
+next i = omega arith
+
+-- the lines of the brands from one on are that brand's line and those of the rest
+lines_from : (set : Schemas) (i : ℕ) → i < length set.brands → struct_lines set (drop i set.brands) i ≡ struct_line set i ++ struct_lines set (drop (i + 1) set.brands) (i + 1)
+lines_from set i inside =
+    ap (λ (bs : List Brand). struct_lines set bs i) (drop_more set.brands i (no_brand set) inside)
+    ∙ ap (λ (n : ℕ). struct_line set i ++ struct_lines set (drop (i + 1) set.brands) n) (sym (next i))
+
+pub next_struct : (set : Schemas) (i : ℕ) (text text' whole : List ℕ) → i < length set.brands → text ++ struct_lines set (drop i set.brands) i ≡ whole →
+    text' ≡ text ++ struct_line set i → text' ++ struct_lines set (drop (i + 1) set.brands) (i + 1) ≡ whole
+next_struct set i text text' whole inside before put =
+    ap (λ (xs : List ℕ). xs ++ struct_lines set (drop (i + 1) set.brands) (i + 1)) put
+    ∙ (append_assoc text (struct_line set i) (struct_lines set (drop (i + 1) set.brands) (i + 1))
+    ∙ (sym (ap (λ (xs : List ℕ). text ++ xs) (lines_from set i inside)) ∙ before))
+
+-- ---- fields ----
+
+-- a field stands before those that follow
+from_field : (fs : List TypedField) (i : ℕ) → i < length fs → drop i fs ≡ unwrap_or (slice_get fs i) no_field ∷ drop (i + 1) fs
+from_field [] i inside = absurd (omega (arith, inside))
+from_field (f ∷ fs) zero inside = refl
+from_field (f ∷ fs) (suc i) inside = from_field fs i (omega (arith, inside))
+
+none_left : (fs : List TypedField) (i : ℕ) → length fs ≤ i → drop i fs ≡ []
+none_left [] zero past = refl
+none_left [] (suc i) past = refl
+none_left (f ∷ fs) zero past = absurd (omega (arith, past))
+none_left (f ∷ fs) (suc i) past = none_left fs i (omega (arith, past))
+
+module _ (set : Schemas) (b : ℕ) (lines : TypedField → Out) (start : List ℕ) where
+  -- what is appended of the fields from one on is appended of all
+  abbrev pub AreLeft : ℕ → List ℕ → Type 0
+  AreLeft i text = (new : List ℕ) → IsAppended text (all_lines lines (drop i (fields_of set b))) new → IsAppended start (all_lines lines (fields_of set b)) new
+
+  pub next_field : (i : ℕ) (text text' : List ℕ) → i < length (fields_of set b) → AreLeft i text → IsAppended text (lines (field_at set b i)) text' → AreLeft (i + 1) text'
+  next_field i text text' inside left put new rest =
+      left new (subst (λ (fs : List TypedField). IsAppended text (all_lines lines fs) new) (sym (from_field (fields_of set b) i inside))
+      (both (lines (field_at set b i)) (all_lines lines (drop (i + 1) (fields_of set b))) text text' new put rest))
+
+  pub all_fields : (i : ℕ) (text : List ℕ) → length (fields_of set b) ≤ i → AreLeft i text → IsAppended start (all_lines lines (fields_of set b)) text
+  all_fields i text past left =
+      left text (subst (λ (fs : List TypedField). IsAppended text (all_lines lines fs) text) (sym (none_left (fields_of set b) i past)) (nothing text))
+
+-- through no group nothing is said
+pub within_none : (set : Schemas) (groups : ℕ) (prefix : List ℕ) (b : ℕ) → groups ≡ 0 → fields_within set groups prefix b ≡ said []
+unfolding fields_within
+within_none set zero prefix b e = refl
+within_none set (suc groups) prefix b e = absurd (omega (arith, e))
+
+-- through one more group the fields are said one after another
+pub within_next : (set : Schemas) (groups : ℕ) (prefix : List ℕ) (b : ℕ) → 0 < groups →
+    fields_within set groups prefix b ≡ all_lines (field_lines set b (fields_within set (groups - 1)) prefix) (fields_of set b)
+unfolding fields_within
+within_next set zero prefix b e = absurd (omega (arith, e))
+within_next set (suc groups) prefix b e = ap (λ (n : ℕ). all_lines (field_lines set b (fields_within set n) prefix) (fields_of set b)) (fewer groups)
+  where
+    fewer : (n : ℕ) → n ≡ suc n - 1
+    fewer n = omega arith
