@@ -1,5 +1,7 @@
 -- The fields of a struct: a line for each, with its type, its place and its default.
-use Rattle.std.specs.Prelude.{ℕ, zero, suc, ◌*◌, ◌/◌, List, [], ◌∷◌, ◌++◌, Bool, false, Option, Some, None, codes, decimal, length, pos}
+use Rattle.std.specs.Prelude.{ℕ, zero, suc, ◌*◌, ◌/◌, List, [], ◌∷◌, ◌++◌, Bool, true, false, Option, Some, None, codes, decimal, length, pos}
+use Rattle.capnp_wire.specs.Reading.{is_null_tree}
+use Rattle.capnp_schema.specs.Accepted.{root_of}
 use Rattle.capnp_schema.specs.Plan.{member_plan, place_of, plan_of}
 use Rattle.capnp_schema.specs.Schema.{Schemas, Node, TypedField, BoolValue, IntValue, UIntValue, EnumValue, TextValue, DataValue, StructValue, ListValue, AnyPointerValue, VoidValue, default_of, enum_at, fields_of, kind_target, node_of}
 use Rattle.capnp_schema.specs.Schema.{Value as SchemaValue}
@@ -37,13 +39,13 @@ abbrev pub member_text : Option (ℕ × ℕ) → List ℕ
 member_text None = []
 member_text (Some member) = codes ", member " ++ decimal member.1
 
--- A default, as a value is printed; an enum by its number, a struct and a list by how many words they have. A void and an
--- untyped pointer have none.
+-- A default, as a value is printed; an enum by its number; a struct, a list and an untyped pointer by how many words there are. A
+-- void has none, and a null is none.
 abbrev pub default_said : Out → Out
 default_said text = after (said (codes ", default ")) text
 
 abbrev pub words_said : List ℕ → Out
-words_said words = default_said (said (decimal (length words / 8) ++ codes " words"))
+words_said words = elim (is_null_tree (root_of words)) [ true ↦ said [] | false ↦ default_said (said (codes "words: " ++ decimal (length words / 8))) ]
 
 abbrev pub default_text : SchemaValue → Out
 default_text VoidValue = said []
@@ -55,7 +57,7 @@ default_text (TextValue bytes) = default_said (text_of no_schemas false TextType
 default_text (DataValue bytes) = default_said (text_of no_schemas false DataType (value.Data bytes))
 default_text (StructValue words) = words_said words
 default_text (ListValue words) = words_said words
-default_text (AnyPointerValue words) = said []
+default_text (AnyPointerValue words) = words_said words
 
 -- ---- lines ----
 

@@ -20,6 +20,7 @@ use capnp_schema::plan::Place;
 use capnp_schema::record::{FieldKind, ValueRecord};
 use capnp_schema::schema::{Field, StructSchema};
 use capnp_schema::set::SchemaSet;
+use capnp_wire::PointerReader;
 use capnp_wire::error::Result;
 use std::alloc::Global;
 
@@ -102,13 +103,16 @@ fn put_value(out: &mut String, value: Value<'_>) -> Result<()>
     print(value, out, false)
 }
 
-/// Appends how many words a default has.
+/// Appends how many words a default has, and nothing of a null.
 fn put_words(out: &mut String, words: &[u8]) -> Result<()>
     ensures put { OnOk result (IsAppended (string_bytes out.old) (words_said words.now) (string_bytes out.new)) }
     ensures memory { IfErr result (λ e. e.kind ≡ OutOfMemory) }
 {
+    if PointerReader::from_words(words).is_null() {
+        return Ok(());
+    }
     let count = words.len() / 8;
-    Ok(write!(out, ", default {count} words")?)
+    Ok(write!(out, ", default words: {count}")?)
 }
 
 /// Appends a default.
@@ -117,7 +121,7 @@ fn put_default(out: &mut String, default: &ValueRecord) -> Result<()>
     ensures memory { IfErr result (λ e. e.kind ≡ OutOfMemory) }
 {
     match default {
-        ValueRecord::Void | ValueRecord::AnyPointer(_) => Ok(()),
+        ValueRecord::Void => Ok(()),
         ValueRecord::Bool(x) => put_value(out, Value::Bool(*x)),
         ValueRecord::Int8(x) => put_value(out, Value::Int8(*x)),
         ValueRecord::Int16(x) => put_value(out, Value::Int16(*x)),
@@ -130,7 +134,9 @@ fn put_default(out: &mut String, default: &ValueRecord) -> Result<()>
         ValueRecord::Enum(number) => Ok(write!(out, ", default {number}")?),
         ValueRecord::Text(bytes) => put_value(out, Value::Text(text::Reader(bytes))),
         ValueRecord::Data(bytes) => put_value(out, Value::Data(bytes)),
-        ValueRecord::Struct(words) | ValueRecord::List(words) => put_words(out, words),
+        ValueRecord::Struct(words) => put_words(out, words),
+        ValueRecord::List(words) => put_words(out, words),
+        ValueRecord::AnyPointer(words) => put_words(out, words),
     }
 }
 

@@ -1,10 +1,11 @@
 //! Messages that are refused, devices that fail, and words that can't be read.
 use crate::tests::{
-    Expected, Setting, USAGE, bytes_of, comes_over, comes_to, is_unread, run_on, source_of, tells, told,
+    Expected, Setting, USAGE, bytes_of, comes_over, comes_to, is_unread, run_on, source_of, tells,
+    told,
 };
-use std::test::Fail;
-use std::process::Abort;
 use std::alloc::Global;
+use std::process::Abort;
+use std::test::Fail;
 
 /// Messages that a patch under `Lists` refuses, each with its number.
 static HOSTILE: [(&str, &str); 9] = [
@@ -31,8 +32,18 @@ fn hostile_messages_are_refused_and_nothing_is_written(rt: HostRuntime) -> Resul
         let bytes = bytes_of(rt.alloc(), message)?;
         let line = format!(in rt.alloc(); "refused: {number}\n")?;
         let expected = told(1, line.as_str());
-        comes_to(&rt, rt.alloc(), &run_on("patch|Lists|set t \"x\"", &bytes, false), &expected)?;
-        comes_to(&rt, rt.alloc(), &run_on("patch|--keep-going|Lists|set t \"x\"", &bytes, true), &expected)?;
+        comes_to(
+            &rt,
+            rt.alloc(),
+            &run_on("patch|Lists|set t \"x\"", &bytes, false),
+            &expected,
+        )?;
+        comes_to(
+            &rt,
+            rt.alloc(),
+            &run_on("patch|--keep-going|Lists|set t \"x\"", &bytes, true),
+            &expected,
+        )?;
     }
     Ok(())
 }
@@ -105,11 +116,23 @@ static UNREADABLE: [(&str, &str); 15] = [
     ("get|Flat|#65536", "1: #65536: can't be read at 5\n"),
     ("get|Flat|4294967296", "1: 4294967296: can't be read at 9\n"),
     ("get|Flat|a b", "1: a b: can't be read at 1\n"),
-    ("patch|Flat|get a|sets a 1", "2: sets a 1: can't be read at 3\n"),
-    ("patch|Flat|get a|get .|get", "2: get .: can't be read at 4\n"),
+    (
+        "patch|Flat|get a|sets a 1",
+        "2: sets a 1: can't be read at 3\n",
+    ),
+    (
+        "patch|Flat|get a|get .|get",
+        "2: get .: can't be read at 4\n",
+    ),
     ("patch|Flat|", "1: : can't be read at 0\n"),
-    ("patch|--keep-going|Flat|set a", "1: set a: can't be read at 5\n"),
-    ("new|Flat|initn a 4294967296", "1: initn a 4294967296: can't be read at 17\n"),
+    (
+        "patch|--keep-going|Flat|set a",
+        "1: set a: can't be read at 5\n",
+    ),
+    (
+        "new|Flat|initn a 4294967296",
+        "1: initn a 4294967296: can't be read at 17\n",
+    ),
     ("new|Flat|initn a", "1: initn a: can't be read at 7\n"),
     ("new|Flat|which", "1: which: can't be read at 5\n"),
     ("new|Flat|clear a b", "1: clear a b: can't be read at 7\n"),
@@ -155,7 +178,10 @@ fn calls_are_the_lines_of_a_file(rt: HostRuntime) -> Result<(), Fail> {
             calls: calls.as_bytes(),
             ..run_on("patch|--calls|calls|Flat", &bytes, true)
         };
-        let written = bytes_of(rt.alloc(), "0000000002000000 0000000001000000 0600000000000000")?;
+        let written = bytes_of(
+            rt.alloc(),
+            "0000000002000000 0000000001000000 0600000000000000",
+        )?;
         let expected = Expected {
             status: 0,
             written: &written,
@@ -167,7 +193,10 @@ fn calls_are_the_lines_of_a_file(rt: HostRuntime) -> Result<(), Fail> {
         calls: &[],
         ..run_on("new|--calls|calls|--keep-going|Flat", &UNREAD, false)
     };
-    let empty = bytes_of(rt.alloc(), "0000000002000000 0000000001000000 0000000000000000")?;
+    let empty = bytes_of(
+        rt.alloc(),
+        "0000000002000000 0000000001000000 0000000000000000",
+    )?;
     let expected = Expected {
         status: 0,
         written: &empty,
@@ -179,7 +208,10 @@ fn calls_are_the_lines_of_a_file(rt: HostRuntime) -> Result<(), Fail> {
 /// Files of calls, one of which can't be read, and what is told.
 static CALL_FILES: [(&[u8], &str); 5] = [
     (b"get a\n\nget a\n", "2: : can't be read at 0\n"),
-    (b"get a\nset a 65536", "2: set a 65536: can't be read at 10\n"),
+    (
+        b"get a\nset a 65536",
+        "2: set a 65536: can't be read at 10\n",
+    ),
     (b"get a \n", "1: get a : can't be read at 5\n"),
     (b"get a\n\xFF", "calls: can't be read at 6\n"),
     (b"set a \xC3", "calls: can't be read at 6\n"),
@@ -188,7 +220,10 @@ static CALL_FILES: [(&[u8], &str); 5] = [
 #[test]
 fn lines_that_cannot_be_read_are_told_with_their_place(rt: HostRuntime) -> Result<(), Fail> {
     for (calls, line) in &CALL_FILES {
-        for words in ["patch|--calls|calls|Flat", "new|--calls|calls|--keep-going|Flat"] {
+        for words in [
+            "patch|--calls|calls|Flat",
+            "new|--calls|calls|--keep-going|Flat",
+        ] {
             let on = Setting {
                 calls,
                 ..run_on(words, &UNREAD, false)
@@ -202,9 +237,21 @@ fn lines_that_cannot_be_read_are_told_with_their_place(rt: HostRuntime) -> Resul
 /// Words, and what they write and tell with no failure.
 static FAILING: [(&str, &str, &str); 4] = [
     ("get|Flat|a", "35 0a", ""),
-    ("patch|Flat|set a 7|get a", "0000000002000000 0000000001000000 0700000000000000", "2: get a = 7\n"),
-    ("new|Flat|set a 7|get a", "0000000002000000 0000000001000000 0700000000000000", "2: get a = 7\n"),
-    ("structs", "466c61740a 4d697865640a 4d616e790a 5368617065730a 4c6f6f700a 4c697374730a 4e6f64650a", ""),
+    (
+        "patch|Flat|set a 7|get a",
+        "0000000002000000 0000000001000000 0700000000000000",
+        "2: get a = 7\n",
+    ),
+    (
+        "new|Flat|set a 7|get a",
+        "0000000002000000 0000000001000000 0700000000000000",
+        "2: get a = 7\n",
+    ),
+    (
+        "structs",
+        "466c61740a 4d697865640a 4d616e790a 5368617065730a 4c6f6f700a 4c697374730a 4e6f64650a",
+        "",
+    ),
 ];
 
 /// Asserts what a setting comes to where a write fails, each in turn: what was written before it, and the refusal.

@@ -395,10 +395,68 @@ pub const LISTED: &str = "\
 \"Lists
 \"Node
 
-# numbers and a union
+# numbers, a union and a text
 :structs
 :Mixed
 <
 =0
 \"a: UInt16, data bit 0, default 0
+\"x: Void, member 0
+\"y: UInt8, data bit 32, default 0, member 1
+\"b: Text, pointer 0, default \"\"
+
+# defaults
+:structs
+:Many
+<
+=0
+\"flag: Bool, data bit 0, default true
+\"s: Int8, data bit 8, default -1
+\"n: UInt16, data bit 16, default 7
+\"w: Int32, data bit 32, default 0
+\"q: UInt64, data bit 64, default 0
+\"z: Void
+
+# groups, and a union in one
+:structs
+:Shapes
+<
+=0
+\"id: UInt16, data bit 0, default 0
+\"circle: group, member 0
+\"circle.r: UInt32, data bit 32, default 0
+\"tag: group, member 1
+\"tag.n: UInt16, data bit 32, default 0
+\"tag.u0: Void, member 0
+\"tag.u1: UInt8, data bit 64, default 0, member 1
+\"tag.any: AnyPointer, pointer 0
+\"tag.q: Text, pointer 1, default \"\"
+\"word: Text, pointer 0, default \"\", member 2
+
+# a default of words
+:structs
+:Loop
+<
+=0
+\"end: Void, member 0
+\"again: Loop, pointer 0, default words: 3, member 1
+
+# lists and data
+:structs
+:Lists
+<
+=0
+\"bytes: List(UInt8), pointer 0
+\"raw: Data, pointer 1, default 0x\"\"
+\"t: Text, pointer 2, default \"\"
+\"items: List(Flat), pointer 3
+
+# an enum
+:structs
+:Node
+<
+=0
+\"id: UInt64, data bit 0, default 0
+\"displayName: Text, pointer 0, default \"\"
+\"size: ElementSize, data bit 64, default 0
 ";

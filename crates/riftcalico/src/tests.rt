@@ -294,7 +294,12 @@ fn row_is_so(rt: &impl Abort, alloc: Global, text: &str) -> Result<(), Fail> {
         told: &row.told,
     };
     for slow in [true, false] {
-        comes_to(rt, alloc, &run_on(row.words.as_str(), &row.message, slow), &expected)?;
+        comes_to(
+            rt,
+            alloc,
+            &run_on(row.words.as_str(), &row.message, slow),
+            &expected,
+        )?;
     }
     Ok(())
 }

@@ -42,7 +42,8 @@ const SET: &str = "\
 0000000001000000 0000000001000000";
 
 /// Values of all fields, and the message that the public tool makes of them.
-const ALL_WORDS: &str = "new|--set|set|Values|set int64 -1|set uint64 18446744073709551615|set int32 -2147483648|\
+const ALL_WORDS: &str =
+    "new|--set|set|Values|set int64 -1|set uint64 18446744073709551615|set int32 -2147483648|\
 set uint32 4294967295|set int16 -32768|set uint16 65535|set int8 -128|set uint8 255|set color green|set flag true|\
 set text \"a\\\"b\\\\\\n\\u{1}\\u{7f}\\u{e9}\"|set bytes 0x\"00ff\"|set nothing ()";
 
@@ -185,7 +186,9 @@ fn value_is_unread(
     row: &(&str, &str, usize),
 ) -> Result<(), Fail> {
     let (path, word, place) = *row;
-    let words = format!(in alloc; "patch|--set|set|--keep-going|Values|get {path}|set {path} {word}")?;
+    let words = format!(in alloc;
+        "patch|--set|set|--keep-going|Values|get {path}|set {path} {word}"
+    )?;
     let line = format!(in alloc; "2: set {path} {word}: can't be read at {place}\n")?;
     let message = [0, 0, 0, 0, 1, 0, 0, 0, 0, 0, 0, 0, 0, 0, 0, 0];
     let setting = Setting {
