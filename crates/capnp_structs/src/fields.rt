@@ -1,5 +1,5 @@
 //! The fields of a struct.
-ghost use Rattle.std.specs.Prelude.{[], ◌≡◌, ◌≢◌, ◌++◌, Err, IfErr, IfOk, OnOk, string_bytes};
+ghost use Rattle.std.specs.Prelude.{[], ◌≡◌, ◌≢◌, ◌++◌, Err, IfErr, IfOk, OnOk, false, string_bytes};
 ghost use Rattle.capnp_device.specs.declared.error.ErrorKind.TheVariants.{OutOfMemory};
 ghost use Rattle.capnp_schema.specs.Entries.{lists_seen};
 ghost use Rattle.capnp_schema.specs.FieldLists.{schema_of, typed_of};
@@ -26,7 +26,7 @@ use std::alloc::Global;
 
 /// Appends the name of a type that is no list, and nothing of a list.
 fn put_type(out: &mut String, set: &SchemaSet, of: Type) -> Result<()>
-    ensures put { OnOk result (string_bytes out.new ≡ string_bytes out.old ++ type_text (lists_seen set.now) (seen_type of.entry)) }
+    ensures put { OnOk result (string_bytes out.new ≡ string_bytes out.old ++ type_text (lists_seen set.now) (seen_type of)) }
     ensures memory { IfErr result (λ e. e.kind ≡ OutOfMemory) }
 {
     match of.which() {
