@@ -1,14 +1,14 @@
 -- Lines, as walks over a set's brands and a struct's fields make them.
-use Rattle.std.specs.Prelude.{ℕ, zero, suc, ◌+◌, ◌-◌, ◌<◌, ◌≤◌, List, [], ◌∷◌, ◌++◌, drop, get_or, length, slice_get}
+use Rattle.std.specs.Prelude.{ℕ, zero, suc, ◌+◌, ◌-◌, ◌<◌, ◌≤◌, List, [], ◌∷◌, ◌++◌, drop, length, slice_get}
 use Rattle.std.specs.Option.{unwrap_or}
-use Rattle.std.proofs.Common.{◌≡◌, ◌∙◌, Option, Some, None, Result, Ok, Err, OnOk, ap, append_assoc, arith, refl, subst, sym}
+use Rattle.std.proofs.Common.{◌≡◌, ◌∙◌, Option, Some, Result, OnOk, ap, append_assoc, arith, refl, subst, sym}
 use Rattle.std.proofs.lemmas.List.{drop_more}
 use Rattle.capnp_schema.specs.FieldLists.{index_of, schema_of, typed_of}
 use Rattle.capnp_schema.specs.Schema.{Schemas, Brand, TypedField, field_at, fields_of, kind_target, no_brand, no_field}
 use Rattle.capnp_schema.specs.StructHandles.{number_of, set_of, struct_field, struct_fields}
 use Rattle.capnp_schema.specs.declared.schema.fields.Field.{Field}
 use Rattle.capnp_schema.specs.declared.schema.structs.StructSchema.{StructSchema}
-use Rattle.capnp_records.specs.Text.{Out, after, said}
+use Rattle.capnp_records.specs.Text.{Out, said}
 use Rattle.capnp_dynamic_readers.specs.Pieces.{IsAppended}
 use Rattle.capnp_structs.specs.Fields.{all_lines, field_lines, fields_within, group_line, inside, lines_of}
 use Rattle.capnp_structs.specs.Names.{struct_line, struct_lines}

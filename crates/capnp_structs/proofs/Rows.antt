@@ -1,5 +1,5 @@
 -- Worked rows of structs and fields, as equations. They judge the definitions.
-use Rattle.std.specs.Prelude.{ℕ, ◌≡◌, ◌++◌, refl, List, codes}
+use Rattle.std.specs.Prelude.{◌≡◌, ◌++◌, refl, codes}
 use Rattle.std.specs.Fmt.{debug_escape, digits}
 use Rattle.std.specs.Str.{is_utf8, chars}
 use lib.Utf8.{encode}

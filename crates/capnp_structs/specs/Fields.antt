@@ -1,9 +1,9 @@
 -- The fields of a struct: a line for each, with its type, its place and its default.
-use Rattle.std.specs.Prelude.{ℕ, zero, suc, ◌*◌, ◌/◌, List, [], ◌∷◌, ◌++◌, Bool, true, false, Option, Some, None, codes, decimal, length, pos}
+use Rattle.std.specs.Prelude.{ℕ, zero, suc, ◌*◌, ◌/◌, List, [], ◌∷◌, ◌++◌, true, false, Option, Some, None, codes, decimal, length, pos}
 use Rattle.capnp_wire.specs.Reading.{is_null_tree}
 use Rattle.capnp_schema.specs.Accepted.{root_of}
-use Rattle.capnp_schema.specs.Plan.{member_plan, place_of, plan_of}
-use Rattle.capnp_schema.specs.Schema.{Schemas, Node, TypedField, BoolValue, IntValue, UIntValue, EnumValue, TextValue, DataValue, StructValue, ListValue, AnyPointerValue, VoidValue, default_of, enum_at, fields_of, kind_target, node_of}
+use Rattle.capnp_schema.specs.Plan.{plan_of}
+use Rattle.capnp_schema.specs.Schema.{Schemas, TypedField, BoolValue, IntValue, UIntValue, EnumValue, TextValue, DataValue, StructValue, ListValue, AnyPointerValue, VoidValue, default_of, enum_at, fields_of, kind_target, node_of}
 use Rattle.capnp_schema.specs.Schema.{Value as SchemaValue}
 use Rattle.capnp_schema.specs.Types.{SchemaType, AnyPointerType, BoolType, DataType, EnumType, IntType, ListType, StructType, TextType, UIntType, VoidType}
 use Rattle.capnp_schema.specs.declared.plan.Place.{Place}

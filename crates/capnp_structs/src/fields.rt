@@ -1,5 +1,5 @@
 //! The fields of a struct.
-ghost use Rattle.std.specs.Prelude.{[], ◌≡◌, ◌≢◌, ◌++◌, Err, IfErr, IfOk, OnOk, false, string_bytes};
+ghost use Rattle.std.specs.Prelude.{[], ◌≡◌, ◌≢◌, ◌++◌, Err, IfErr, IfOk, OnOk, decimal, false, string_bytes};
 ghost use Rattle.capnp_device.specs.declared.error.ErrorKind.TheVariants.{OutOfMemory};
 ghost use Rattle.capnp_schema.specs.Entries.{lists_seen};
 ghost use Rattle.capnp_schema.specs.FieldLists.{schema_of, typed_of};
@@ -10,7 +10,7 @@ ghost use Rattle.capnp_schema.specs.Types.{seen_type};
 ghost use Rattle.capnp_records.specs.Text.{after, said};
 ghost use Rattle.capnp_dynamic_readers.specs.Pieces.{IsAppended};
 ghost use Rattle.capnp_dynamic_readers.specs.Shown.{printed_text};
-ghost use Rattle.capnp_structs.specs.Fields.{default_said, default_text, field_lines, fields_text, fields_within, group_line, line_end, place_text, slot_head, slot_line, type_text, words_said};
+ghost use Rattle.capnp_structs.specs.Fields.{default_said, default_text, field_lines, fields_text, fields_within, group_line, inside, line_end, place_text, slot_head, slot_line, type_text, words_said};
 
 use capnp_base::introspect::{Type, TypeVariant};
 use capnp_base::text;
@@ -24,7 +24,15 @@ use capnp_wire::PointerReader;
 use capnp_wire::error::Result;
 use std::alloc::Global;
 
-/// Appends the name of a type that is no list, and nothing of a list.
+/// Appends the name of an integer type.
+fn put_width(out: &mut String, name: &str, bits: u8) -> Result<()>
+    ensures put { OnOk result (string_bytes out.new ≡ string_bytes out.old ++ (name.now ++ decimal bits)) }
+    ensures memory { IfErr result (λ e. e.kind ≡ OutOfMemory) }
+{
+    Ok(write!(out, "{name}{bits}")?)
+}
+
+/// Appends a type.
 fn put_type(out: &mut String, set: &SchemaSet, of: Type) -> Result<()>
     ensures put { OnOk result (string_bytes out.new ≡ string_bytes out.old ++ type_text (lists_seen set.now) (seen_type of)) }
     ensures memory { IfErr result (λ e. e.kind ≡ OutOfMemory) }
@@ -32,14 +40,14 @@ fn put_type(out: &mut String, set: &SchemaSet, of: Type) -> Result<()>
     match of.which() {
         TypeVariant::Void => Ok(out.push_str("Void")?),
         TypeVariant::Bool => Ok(out.push_str("Bool")?),
-        TypeVariant::Int8 => Ok(out.push_str("Int8")?),
-        TypeVariant::Int16 => Ok(out.push_str("Int16")?),
-        TypeVariant::Int32 => Ok(out.push_str("Int32")?),
-        TypeVariant::Int64 => Ok(out.push_str("Int64")?),
-        TypeVariant::UInt8 => Ok(out.push_str("UInt8")?),
-        TypeVariant::UInt16 => Ok(out.push_str("UInt16")?),
-        TypeVariant::UInt32 => Ok(out.push_str("UInt32")?),
-        TypeVariant::UInt64 => Ok(out.push_str("UInt64")?),
+        TypeVariant::Int8 => put_width(out, "Int", 8),
+        TypeVariant::Int16 => put_width(out, "Int", 16),
+        TypeVariant::Int32 => put_width(out, "Int", 32),
+        TypeVariant::Int64 => put_width(out, "Int", 64),
+        TypeVariant::UInt8 => put_width(out, "UInt", 8),
+        TypeVariant::UInt16 => put_width(out, "UInt", 16),
+        TypeVariant::UInt32 => put_width(out, "UInt", 32),
+        TypeVariant::UInt64 => put_width(out, "UInt", 64),
         TypeVariant::Text => Ok(out.push_str("Text")?),
         TypeVariant::Data => Ok(out.push_str("Data")?),
         TypeVariant::AnyPointer => Ok(out.push_str("AnyPointer")?),
@@ -190,6 +198,18 @@ fn put_group(out: &mut String, prefix: &str, field: Field<'_>) -> Result<()>
     put_end(out, field.plan().member)
 }
 
+/// What stands before the names of a group's fields.
+fn path_inside(alloc: Global, prefix: &str, field: Field<'_>) -> Result<String>
+    ensures path { IfOk result (λ path. string_bytes path ≡ inside prefix.now (typed_of field.entry)) }
+    ensures memory { IfErr result (λ e. e.kind ≡ OutOfMemory) }
+{
+    let mut path = String::new(alloc);
+    path.push_str(prefix)?;
+    path.push_str(field.get_proto().name.as_str())?;
+    path.push_str(".")?;
+    Ok(path)
+}
+
 /// Appends the lines of a field, through at most so many groups.
 #[cycle(fields)]
 fn put_field(out: &mut String, prefix: &str, field: Field<'_>, groups: usize) -> Result<()>
@@ -200,8 +220,7 @@ fn put_field(out: &mut String, prefix: &str, field: Field<'_>, groups: usize) ->
     match field.get_group() {
         Some(group) => {
             put_group(out, prefix, field)?;
-            let name = field.get_proto().name.as_str();
-            let inside = format!(in *out.allocator(); "{prefix}{name}.")?;
+            let inside = path_inside(*out.allocator(), prefix, field)?;
             put_fields(out, inside.as_str(), group, groups)
         }
         None => put_slot(out, prefix, field),

@@ -1,11 +1,9 @@
 -- What stands before the default, the default, and what stands behind it.
-use Rattle.std.proofs.Common.{OnOk, ap, sym, subst, ◌≡◌, string_bytes}
-use Rattle.capnp_schema.specs.FieldLists.{schema_of, typed_of}
-use Rattle.capnp_schema.specs.Plan.{plan_of}
+use Rattle.std.proofs.Common.{subst, string_bytes}
+use Rattle.capnp_schema.specs.FieldLists.{typed_of}
 use Rattle.capnp_schema.specs.Schema.{Field, default_of}
-use Rattle.capnp_schema.specs.StructHandles.{number_of, set_of}
 use Rattle.capnp_dynamic_readers.specs.Pieces.{IsAppended}
-use Rattle.capnp_structs.specs.Fields.{default_text, line_end, slot_head}
+use Rattle.capnp_structs.specs.Fields.{default_text}
 use Rattle.capnp_structs.proofs.Appended.{slot_put}
 use Rattle.capnp_structs.proofs.fields.put_slot.Goals as goal
 

@@ -1,5 +1,5 @@
 -- The lines so far, and those of the brands that are left, are those of all.
-use Rattle.std.proofs.Common.{◌≡◌, ◌++◌, drop, map, string_bytes}
+use Rattle.std.proofs.Common.{◌≡◌, ◌++◌, drop, string_bytes}
 use Rattle.capnp_schema.specs.Entries.{lists_seen}
 use Rattle.capnp_structs.specs.Names.{struct_lines, structs_text}
 use Rattle.capnp_structs.proofs.names.get_structs.Given as goal
