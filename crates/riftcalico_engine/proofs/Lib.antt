@@ -3,5 +3,6 @@ pub mod CommandDone
 pub mod Each
 pub mod Ended
 pub mod EndedTwo
+pub mod Known
 pub mod Outcomes
 pub mod Roots

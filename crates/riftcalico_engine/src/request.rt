@@ -112,6 +112,7 @@ fn take_flag<'a>(flag: &str, words: &'a [String]) -> (bool, &'a [String])
 
 /// Whether a struct may have the name, which stands alone in these words: in the built-in set one has it or none, which takes no
 /// memory to tell, and a file's set isn't read yet.
+#[tactic(auto, using(crate::proofs::Known::known_by))]
 fn is_known(file: Option<&str>, name: &[String]) -> bool
     requires { length name.now ≡ 1 }
     ensures { result ≡ is_known (option_map (λ f. f.now) file.entry) (get_or (map string_bytes name.now) 0 []) }
