@@ -1,5 +1,5 @@
 // Times this library and the C++ library side by side and prints one table. Its words are the folder of schema.capnp, one for
-// large files, and our program.
+// large files, and our two programs.
 #include "prints.h"
 #include "program.h"
 #include "reads.h"
@@ -13,8 +13,8 @@
 #include <kj/filesystem.h>
 
 int main(int count, char **words) {
-  if (count != 4) {
-    std::fprintf(stderr, "usage: bench FOLDER SCRATCH PROGRAM\n");
+  if (count != 5) {
+    std::fprintf(stderr, "usage: bench FOLDER SCRATCH CAPNP_SHOW RIFTCALICO\n");
     return 2;
   }
   auto disk = kj::newDiskFilesystem();
@@ -30,6 +30,6 @@ int main(int count, char **words) {
   set_messages::add_rows(table);
   requests::add_rows(table);
   prints::add_rows(table, file.getNested("Lists").asStruct());
-  program::add_rows(table, file.getNested("Lists").asStruct(), words[1], words[2], words[3]);
+  program::add_rows(table, file.getNested("Lists").asStruct(), words[1], words[2], words[3], words[4]);
   return table.status();
 }

@@ -1,5 +1,6 @@
 #!/bin/sh
-# Runs ./capnp_show on the messages of this folder and on what it refuses, and compares what it prints and answers.
+# Runs ./capnp_show and ./riftcalico on the messages of this folder and on what they refuse, and compares what they print and
+# answer.
 # Where the tool `capnp` is installed, the messages are also made again, and each has to come out the same.
 
 cd -- "$(dirname -- "$0")/.." || exit 1
@@ -194,6 +195,100 @@ expect 'a full output' $? 1 "" 'refused: 13'
 status=$?
 : > "$scratch/err"
 expect 'closed standard error' $status 1 "" ""
+
+# ---- ./riftcalico ----
+
+./capnp_set < examples/addressbook.request > "$scratch/addressbook.set" || exit 1
+# builds the program where needed, so that the runs below write nothing else
+./riftcalico get Flat a < examples/flat.bin > "$scratch/out" || exit 1
+
+# got FILE LINE WORD..: what stands at a path of the message in FILE
+got() {
+    file=$1
+    line=$2
+    shift 2
+    ./riftcalico get "$@" < "examples/$file" > "$scratch/out" 2> "$scratch/err"
+    expect "get $*" $? 0 "$line" ''
+}
+
+got mixed.bin '"hi"' Mixed b
+got mixed.bin '(a = 5, y = 9, b = "hi")' Mixed .
+got lists_segments.bin 2 Lists items.1.a
+got lists.bin 0x"00ff" Lists '#1'
+got shapes_tag.bin 9 Shapes tag.u1
+got many_defaults.bin 7 Many n
+got station.bin '"mid"' --set examples/station_set.bin Station neighbours.0.title
+got station.bin '(
+  tenths = -2,
+  hour = 18
+)' --set examples/station_set.bin Station readings.1 --indent
+
+# patched SCHEMA NAME FILE TEXT TOLD WORD..: what these calls leave of the message in FILE, as `capnp decode` reads it
+patched() {
+    schema=$1
+    name=$2
+    file=$3
+    text=$4
+    told=$5
+    shift 5
+    ./riftcalico patch "$@" < "examples/$file" > "$scratch/message" 2> "$scratch/err"
+    status=$?
+    expect "patch $*" $status 0 '' "$told"
+    if command -v capnp > "$scratch/which"; then
+        capnp decode --short "examples/$schema" "$name" < "$scratch/message" > "$scratch/out"
+        expect "patch $*, decoded" $? 0 "$text" "$told"
+    fi
+}
+
+patched built_in.capnp Mixed mixed_segments.bin '(a = 6, y = 255, b = "a \"word\"")' '3: get y = 255' \
+    Mixed 'set a 6' 'set y 255' 'get y' 'set b a "word"'
+patched built_in.capnp Lists lists.bin '(bytes = [1, 2, 255], raw = "A", t = "x", items = [(a = 1), (a = 7)])' '4: get items.1.a = 7' \
+    Lists 'set raw 0x"41"' 'set t x' 'set items.1.a 7' 'get items.1.a'
+patched built_in.capnp Shapes shapes.bin '(id = 1, word = "w")' '1: which . = #1
+3: which . = #3' \
+    Shapes 'which .' 'set word w' 'which .'
+patched sets/addressbook.capnp AddressBook addressbook.bin \
+    '(people = [(id = 123, name = "Alice", email = "alice@example.com", phones = [(number = "555-1212", type = mobile)], employment = (school = "MIT")), (id = 456, name = "Bob", email = "bob@example.org", phones = [(number = "555-4567", type = home), (number = "555-7654", type = work)], employment = (employer = "us"))])' \
+    '3: get people.1.name = "Bob"' --set "$scratch/addressbook.set" AddressBook 'set people.1.email bob@example.org' \
+    'set people.1.employment.employer us' 'get people.1.name'
+
+# made_new FILE WORD..: these calls on an empty root make the message in FILE, which the public tool made
+made_new() {
+    file=$1
+    shift
+    ./riftcalico new "$@" > "$scratch/made" 2> "$scratch/err"
+    expect "new $*" $? 0 '' ''
+    cmp -- "$scratch/made" "examples/$file" || fail "new $*: capnp makes other bytes than these calls"
+}
+
+made_new flat.bin Flat 'set a 5'
+made_new mixed.bin Mixed 'set b hi' 'set y 9' 'set a 5'
+made_new node.bin Node 'set size inlineComposite' 'set displayName a name' 'set id 18446744073709551615'
+made_new addressbook.bin --set "$scratch/addressbook.set" --calls examples/addressbook.calls AddressBook
+
+# a refused call: nothing is written, unless the run is to go on
+./riftcalico patch Mixed 'set a 6' 'set c 1' < examples/mixed.bin > "$scratch/out" 2> "$scratch/err"
+expect 'a refused call' $? 1 '' '2: set c 1: refused: 20 FieldNotFound'
+./riftcalico patch --keep-going Mixed 'set a 6' 'set c 1' < examples/mixed.bin > "$scratch/message" 2> "$scratch/err"
+expect 'a refused call that is passed over' $? 1 '' '2: set c 1: refused: 20 FieldNotFound'
+./capnp_show Mixed < "$scratch/message" > "$scratch/out" 2> "$scratch/err"
+expect 'what it leaves' $? 0 '(a = 6, y = 9, b = "hi")' ''
+
+# words that can't be read, and other words
+./riftcalico patch Mixed 'set a 65536' < examples/mixed.bin > "$scratch/out" 2> "$scratch/err"
+expect 'a number past its type' $? 2 '' "1: set a 65536: can't be read at 10"
+./riftcalico get Mixed a..b < examples/mixed.bin > "$scratch/out" 2> "$scratch/err"
+expect 'a path with an empty name' $? 2 '' "1: a..b: can't be read at 2"
+./riftcalico show Mixed a < examples/mixed.bin > "$scratch/out" 2> "$scratch/err"
+expect 'another form' $? 2 '' 'usage: riftcalico get [--set FILE] NAME PATH [--indent]
+       riftcalico patch [--set FILE] [--calls FILE] [--keep-going] NAME CALL..
+       riftcalico new [--set FILE] [--calls FILE] [--keep-going] NAME CALL..'
+./riftcalico get Flat a < /dev/null > "$scratch/out" 2> "$scratch/err"
+expect 'a path of no bytes' $? 1 '' 'refused: 2'
+./riftcalico get Shapes circle.r < examples/shapes_tag.bin > "$scratch/out" 2> "$scratch/err"
+expect "a member that isn't active" $? 1 '' 'refused: 30'
+./riftcalico new Flat 'set a 5' > /dev/full 2> "$scratch/err"
+expect 'a full output' $? 1 '' 'refused: 13'
 
 [ "$failures" -eq 0 ] || exit 1
 echo "$checks cases: all as expected"

@@ -84,16 +84,6 @@ fn put_message<W: Sink>(
     }
 }
 
-/// What is asked of a message: calls, each with the word that it is told by, on a root under a schema; and whether what they
-/// leave is written where one of them was refused.
-#[derive(Clone, Copy)]
-pub struct Asked<'c> {
-    pub schema: StructSchema<'c>,
-    pub calls: &'c [Call<'c>],
-    pub words: &'c [String],
-    pub keep_going: bool,
-}
-
 /// What came of it: a reply to each call, in order, and the lines that tell of them, as `crate::lines::get_lines`.
 #[derive(Drop)]
 pub struct Report {
@@ -106,24 +96,25 @@ fn finish<W: Sink>(
     alloc: Global,
     message: &Builder,
     replies: Vec<Reply>,
-    asked: Asked<'_>,
+    words: &[String],
+    keep_going: bool,
     sink: &mut W,
 ) -> Result<Report>
     requires { IsWellFormed (builder_tree message.now) }
     ensures replies { IfOk result (λ r. r.replies.items ≡ replies.items) }
-    ensures lines { IfOk result (λ r. AreTold 0 (map string_bytes asked.entry.words.now) r.replies.items [] (string_bytes r.lines)) }
-    ensures output { OnOk result (IsOutput (is_kept asked.entry.keep_going replies.items) (builder_tree message.now) (W.written sink.old) (W.written sink.new)) }
-    ensures unwritten { IfOk result (λ r. is_kept asked.entry.keep_going r.replies.items ≡ false → sink.new ≡ sink.old) }
+    ensures lines { IfOk result (λ r. AreTold 0 (map string_bytes words.now) r.replies.items [] (string_bytes r.lines)) }
+    ensures output { OnOk result (IsOutput (is_kept keep_going replies.items) (builder_tree message.now) (W.written sink.old) (W.written sink.new)) }
+    ensures unwritten { IfOk result (λ r. is_kept keep_going r.replies.items ≡ false → sink.new ≡ sink.old) }
     ensures large { IfErr result (λ e. IsOfMessage e.kind
-        → (e.kind ≡ TooLarge) × (is_kept asked.entry.keep_going replies.items ≡ true) × (2 ^ 29 ≤ suc (words_of (builder_tree message.now)))) }
+        → (e.kind ≡ TooLarge) × (is_kept keep_going replies.items ≡ true) × (2 ^ 29 ≤ suc (words_of (builder_tree message.now)))) }
     ensures unread { IfErr result (λ e. e.kind ≢ ReadFailed) }
     ensures failed { IfErr result (λ e. e.kind ≡ WriteFailed → HasFailed (W.failures sink.old) (W.failures sink.new)) }
     ensures beginning { IfErr result (λ e. e.kind ≡ WriteFailed
-        → (is_kept asked.entry.keep_going replies.items ≡ true) × IsBeginning (builder_tree message.now) (W.written sink.old) (W.written sink.new)) }
+        → (is_kept keep_going replies.items ≡ true) × IsBeginning (builder_tree message.now) (W.written sink.old) (W.written sink.new)) }
     ensures nothing { IfErr result (λ e. e.kind ≢ WriteFailed → sink.new ≡ sink.old) }
 {
-    let lines = get_lines(alloc, asked.words, &replies)?;
-    put_message(message, &replies, sink, asked.keep_going)?;
+    let lines = get_lines(alloc, words, &replies)?;
+    put_message(message, &replies, sink, keep_going)?;
     Ok(Report { replies, lines })
 }
 
@@ -140,27 +131,30 @@ fn finish<W: Sink>(
 /// any other refusal nothing.
 pub fn patch<R: Source, W: Sink>(
     alloc: Global,
-    asked: Asked<'_>,
+    schema: StructSchema<'_>,
+    calls: &[Call<'_>],
+    words: &[String],
+    keep_going: bool,
     source: &mut R,
     sink: &mut W,
 ) -> Result<Report>
-    requires { IsStruct asked.schema }
-    ensures patched { IfOk result (λ r. IsPatched asked.entry.schema asked.entry.calls.now asked.entry.keep_going r.replies.items (R.left source.old) (R.left source.new)
+    requires { IsStruct schema }
+    ensures patched { IfOk result (λ r. IsPatched schema.entry calls.now keep_going r.replies.items (R.left source.old) (R.left source.new)
         (W.written sink.old) (W.written sink.new)) }
-    ensures lines { IfOk result (λ r. AreTold 0 (map string_bytes asked.entry.words.now) r.replies.items [] (string_bytes r.lines)) }
-    ensures unwritten { IfOk result (λ r. is_kept asked.entry.keep_going r.replies.items ≡ false → sink.new ≡ sink.old) }
+    ensures lines { IfOk result (λ r. AreTold 0 (map string_bytes words.now) r.replies.items [] (string_bytes r.lines)) }
+    ensures unwritten { IfOk result (λ r. is_kept keep_going r.replies.items ≡ false → sink.new ≡ sink.old) }
     ensures refused { IfErr result (λ e. IsOfMessage e.kind
-        → IsNotPatched asked.entry.schema asked.entry.calls.now asked.entry.keep_going e.kind (R.left source.old) (R.left source.new)) }
+        → IsNotPatched schema.entry calls.now keep_going e.kind (R.left source.old) (R.left source.new)) }
     ensures read_failed { IfErr result (λ e. e.kind ≡ ReadFailed → HasFailed (R.failures source.old) (R.failures source.new)) }
     ensures write_failed { IfErr result (λ e. e.kind ≡ WriteFailed → HasFailed (W.failures sink.old) (W.failures sink.new)) }
-    ensures beginning { IfErr result (λ e. e.kind ≡ WriteFailed → IsPatchCutShort asked.entry.schema asked.entry.calls.now asked.entry.keep_going
+    ensures beginning { IfErr result (λ e. e.kind ≡ WriteFailed → IsPatchCutShort schema.entry calls.now keep_going
         (R.left source.old) (R.left source.new) (W.written sink.old) (W.written sink.new)) }
     ensures nothing { IfErr result (λ e. e.kind ≢ WriteFailed → sink.new ≡ sink.old) }
 {
     let bytes = read_all(alloc, source)?;
     let mut message = Builder::new(alloc);
-    let replies = run_bytes(alloc, &mut message, &bytes, asked.schema, asked.calls)?;
-    finish(alloc, &message, replies, asked, sink)
+    let replies = run_bytes(alloc, &mut message, &bytes, schema, calls)?;
+    finish(alloc, &message, replies, words, keep_going, sink)
 }
 
 /// Makes calls on an empty root of the schema, all zero and null, and writes the message that they leave, as `patch`. The
@@ -169,19 +163,26 @@ pub fn patch<R: Source, W: Sink>(
 /// Refused with `WriteFailed` where a call of the sink failed, with `OutOfMemory`, and with `TooLarge` where a message of 2^29
 /// words or more would be written. After `WriteFailed` a proper beginning of the message was written, after any other refusal
 /// nothing.
-pub fn new_message<W: Sink>(alloc: Global, asked: Asked<'_>, sink: &mut W) -> Result<Report>
-    requires { IsStruct asked.schema }
-    ensures made { IfOk result (λ r. IsMade asked.entry.schema asked.entry.calls.now asked.entry.keep_going r.replies.items (W.written sink.old) (W.written sink.new)) }
-    ensures lines { IfOk result (λ r. AreTold 0 (map string_bytes asked.entry.words.now) r.replies.items [] (string_bytes r.lines)) }
-    ensures unwritten { IfOk result (λ r. is_kept asked.entry.keep_going r.replies.items ≡ false → sink.new ≡ sink.old) }
-    ensures refused { IfErr result (λ e. IsOfMessage e.kind → IsTooLarge asked.entry.keep_going (IsLeftOfNew asked.entry.schema asked.entry.calls.now) e.kind) }
+pub fn new_message<W: Sink>(
+    alloc: Global,
+    schema: StructSchema<'_>,
+    calls: &[Call<'_>],
+    words: &[String],
+    keep_going: bool,
+    sink: &mut W,
+) -> Result<Report>
+    requires { IsStruct schema }
+    ensures made { IfOk result (λ r. IsMade schema.entry calls.now keep_going r.replies.items (W.written sink.old) (W.written sink.new)) }
+    ensures lines { IfOk result (λ r. AreTold 0 (map string_bytes words.now) r.replies.items [] (string_bytes r.lines)) }
+    ensures unwritten { IfOk result (λ r. is_kept keep_going r.replies.items ≡ false → sink.new ≡ sink.old) }
+    ensures refused { IfErr result (λ e. IsOfMessage e.kind → IsTooLarge keep_going (IsLeftOfNew schema.entry calls.now) e.kind) }
     ensures unread { IfErr result (λ e. e.kind ≢ ReadFailed) }
     ensures write_failed { IfErr result (λ e. e.kind ≡ WriteFailed → HasFailed (W.failures sink.old) (W.failures sink.new)) }
     ensures beginning { IfErr result (λ e. e.kind ≡ WriteFailed
-        → IsCutShort asked.entry.keep_going (IsLeftOfNew asked.entry.schema asked.entry.calls.now) (W.written sink.old) (W.written sink.new)) }
+        → IsCutShort keep_going (IsLeftOfNew schema.entry calls.now) (W.written sink.old) (W.written sink.new)) }
     ensures nothing { IfErr result (λ e. e.kind ≢ WriteFailed → sink.new ≡ sink.old) }
 {
     let mut made = Builder::new(alloc);
-    let replies = run_new(alloc, &mut made, asked.schema, asked.calls)?;
-    finish(alloc, &made, replies, asked, sink)
+    let replies = run_new(alloc, &mut made, schema, calls)?;
+    finish(alloc, &made, replies, words, keep_going, sink)
 }

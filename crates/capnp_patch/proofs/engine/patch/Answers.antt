@@ -16,16 +16,16 @@ returns-in_err-replies-clause-refused g c =
 
 pub returns-clause-patched : goal.returns-clause-patched
 returns-clause-patched g c =
-    patched c.args.asked.schema c.args.asked.calls.now c.args.asked.keep_going c.in_ok-replies.replies.items (builder_tree c.run_bytes.new.message) c.finish.result
+    patched c.args.schema c.args.calls.now c.args.keep_going c.in_ok-replies.replies.items (builder_tree c.run_bytes.new.message) c.finish.result
     c.in_ok-bytes.bytes.items _ _ (c.in_ok-bytes.ensures.whole, c.in_ok-bytes.ensures.to_end) (rw c.deref.ensures.value at c.in_ok-replies.ensures.left) _ _
     c.finish.ensures.replies c.finish.ensures.output
 
 pub returns-clause-refused : goal.returns-clause-refused
 returns-clause-refused g c =
-    not_patched c.args.asked.schema c.args.asked.calls.now c.args.asked.keep_going c.in_ok-replies.replies.items (builder_tree c.run_bytes.new.message) c.finish.result
+    not_patched c.args.schema c.args.calls.now c.args.keep_going c.in_ok-replies.replies.items (builder_tree c.run_bytes.new.message) c.finish.result
     c.in_ok-bytes.bytes.items _ _ (c.in_ok-bytes.ensures.whole, c.in_ok-bytes.ensures.to_end) (rw c.deref.ensures.value at c.in_ok-replies.ensures.left) c.finish.ensures.large
 
 pub returns-clause-beginning : goal.returns-clause-beginning
 returns-clause-beginning g c =
-    cut_short c.args.asked.schema c.args.asked.calls.now c.args.asked.keep_going c.in_ok-replies.replies.items (builder_tree c.run_bytes.new.message) c.finish.result
+    cut_short c.args.schema c.args.calls.now c.args.keep_going c.in_ok-replies.replies.items (builder_tree c.run_bytes.new.message) c.finish.result
     c.in_ok-bytes.bytes.items _ _ (c.in_ok-bytes.ensures.whole, c.in_ok-bytes.ensures.to_end) (rw c.deref.ensures.value at c.in_ok-replies.ensures.left) _ _ c.finish.ensures.beginning

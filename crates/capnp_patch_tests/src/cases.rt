@@ -1,0 +1,201 @@
+//! Cases: what is asked of a message, over devices in memory, and what comes of it.
+ghost use Rattle.std.specs.Prelude.{◌≡◌, ◌<◌};
+ghost use Rattle.capnp_schema.specs.StructHandles.{IsStruct};
+
+use crate::rows::{Row, calls_of, rows_in, steps_of, words_in};
+use capnp_call::calls::Call;
+use capnp_patch::engine::{Report, new_message, patch};
+use capnp_patch::get::get;
+use capnp_schema::schema::StructSchema;
+use capnp_schema::set::SchemaSet;
+use capnp_schema_fixtures::fixtures::schema_of;
+use capnp_wire::error::Result;
+use capnp_wire::memory::{MemorySink, MemorySource};
+use std::alloc::Global;
+use std::process::Abort;
+
+/// What is done.
+#[derive(Clone, Copy, Debug, PartialEq, Eq)]
+pub enum Verb {
+    /// The text at a path is written, on several lines where the flag is set.
+    Get,
+    /// Calls are made on a copy of the message, which is written; where one is refused only if the flag is set.
+    Patch,
+    /// The same on an empty root.
+    New,
+}
+
+/// What is asked of a message.
+#[derive(Clone, Copy)]
+pub struct Case<'c> {
+    pub set: &'c SchemaSet,
+    /// The struct of the root, by number.
+    pub brand: u32,
+    pub message: &'c [u8],
+    pub verb: Verb,
+    pub flag: bool,
+    /// The path, or rows of calls.
+    pub text: &'c str,
+}
+
+/// What comes of it: the refusal's number, 0 where it isn't refused; the lines that are told; and what is written.
+#[derive(Clone, Copy)]
+pub struct Expected<'c> {
+    pub refusal: u32,
+    pub lines: &'c str,
+    pub written: &'c [u8],
+}
+
+/// How the devices go: whether a call moves one byte, and else up to 4096; and which calls fail.
+#[derive(Clone, Copy)]
+pub struct Devices {
+    pub slow: bool,
+    pub failing_read: Option<u64>,
+    pub failing_write: Option<u64>,
+}
+
+/// What came of it: the number of its refusal, what is told, and the sink.
+#[derive(Drop)]
+struct Outcome {
+    refusal: u32,
+    report: Report,
+    sink: MemorySink,
+}
+
+/// A report of nothing.
+fn no_report(alloc: Global) -> Report {
+    Report {
+        replies: Vec::new(alloc),
+        lines: String::new(alloc),
+    }
+}
+
+fn chunk(slow: bool) -> usize
+    ensures { 0 < result }
+{
+    if slow { 1 } else { 4096 }
+}
+
+/// Writes the text at a path; nothing is told.
+fn show(
+    alloc: Global,
+    schema: StructSchema<'_>,
+    case: &Case<'_>,
+    source: &mut MemorySource<'_>,
+    sink: &mut MemorySink,
+) -> Result<Report>
+    requires { IsStruct schema }
+{
+    let steps = steps_of(alloc, case.text)?;
+    get(alloc, schema, &steps, source, sink, case.flag)?;
+    Ok(no_report(alloc))
+}
+
+/// Makes calls on a message or on an empty root.
+fn report_of(
+    alloc: Global,
+    schema: StructSchema<'_>,
+    case: &Case<'_>,
+    calls: &[Call<'_>],
+    words: &[String],
+    source: &mut MemorySource<'_>,
+    sink: &mut MemorySink,
+) -> Result<Report>
+    requires { IsStruct schema }
+{
+    match case.verb {
+        Verb::New => new_message(alloc, schema, calls, words, case.flag, sink),
+        Verb::Patch | Verb::Get => patch(alloc, schema, calls, words, case.flag, source, sink),
+    }
+}
+
+/// Makes the calls of rows, which have these words.
+fn make(
+    alloc: Global,
+    schema: StructSchema<'_>,
+    case: &Case<'_>,
+    rows: &[Row<'_>],
+    words: &[String],
+    source: &mut MemorySource<'_>,
+    sink: &mut MemorySink,
+) -> Result<Report>
+    requires { IsStruct schema }
+{
+    let calls = calls_of(alloc, rows)?;
+    report_of(alloc, schema, case, &calls, words, source, sink)
+}
+
+/// Makes the calls of a case.
+fn make_all(
+    alloc: Global,
+    schema: StructSchema<'_>,
+    case: &Case<'_>,
+    source: &mut MemorySource<'_>,
+    sink: &mut MemorySink,
+) -> Result<Report>
+    requires { IsStruct schema }
+{
+    let words = words_in(alloc, case.text)?;
+    let rows = rows_in(alloc, case.text)?;
+    make(alloc, schema, case, &rows, &words, source, sink)
+}
+
+/// Does what is asked.
+fn run(
+    alloc: Global,
+    case: &Case<'_>,
+    source: &mut MemorySource<'_>,
+    sink: &mut MemorySink,
+) -> Result<Report> {
+    let schema = schema_of(case.set, case.brand)?;
+    match case.verb {
+        Verb::Get => show(alloc, schema, case, source, sink),
+        Verb::Patch | Verb::New => make_all(alloc, schema, case, source, sink),
+    }
+}
+
+/// What comes of a case over devices.
+fn outcome_of(alloc: Global, case: &Case<'_>, devices: Devices) -> Outcome {
+    let step = chunk(devices.slow);
+    let mut source = MemorySource::new(case.message, step, devices.failing_read);
+    let mut sink = MemorySink::new(alloc, step, devices.failing_write);
+    match run(alloc, case, &mut source, &mut sink) {
+        Ok(report) => Outcome {
+            refusal: 0,
+            report,
+            sink,
+        },
+        Err(error) => Outcome {
+            refusal: error.kind.number(),
+            report: no_report(alloc),
+            sink,
+        },
+    }
+}
+
+/// Asserts what comes of a case over devices.
+pub fn comes_over(
+    rt: &impl Abort,
+    alloc: Global,
+    case: &Case<'_>,
+    devices: Devices,
+    expected: &Expected<'_>,
+) {
+    let text = case.text;
+    let outcome = outcome_of(alloc, case, devices);
+    assert_eq!(rt; outcome.refusal, expected.refusal, "{text}");
+    assert_eq!(rt; outcome.report.lines.as_str(), expected.lines);
+    assert_eq!(rt; outcome.sink.as_slice(), expected.written, "{text}");
+}
+
+/// Asserts what comes of a case, whatever a call of a device moves.
+pub fn comes_to(rt: &impl Abort, alloc: Global, case: &Case<'_>, expected: &Expected<'_>) {
+    for slow in [true, false] {
+        let devices = Devices {
+            slow,
+            failing_read: None,
+            failing_write: None,
+        };
+        comes_over(rt, alloc, case, devices, expected);
+    }
+}

@@ -1,0 +1,4 @@
+pub mod Appended
+pub mod Lines
+pub mod Rows
+pub mod TypesNamed

@@ -1,0 +1,8 @@
+-- The lines so far, and those of the brands that are left, are those of all.
+use Rattle.std.proofs.Common.{◌≡◌, ◌++◌, drop, string_bytes}
+use Rattle.capnp_schema.specs.Entries.{lists_seen}
+use Rattle.capnp_structs.specs.Names.{struct_lines, structs_text}
+use Rattle.capnp_structs.proofs.names.get_structs.Given as goal
+
+abbrev pub invariant-loop-index : goal.invariant-loop-index
+invariant-loop-index l = string_bytes l.lines ++ struct_lines (lists_seen l.set) (drop l.index (lists_seen l.set).brands) l.index ≡ structs_text (lists_seen l.set)

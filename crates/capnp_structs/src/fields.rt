@@ -1,0 +1,260 @@
+//! The fields of a struct.
+ghost use Rattle.std.specs.Prelude.{[], ◌≡◌, ◌≢◌, ◌++◌, Err, IfErr, IfOk, OnOk, decimal, false, string_bytes};
+ghost use Rattle.capnp_device.specs.declared.error.ErrorKind.TheVariants.{OutOfMemory};
+ghost use Rattle.capnp_schema.specs.Entries.{lists_seen};
+ghost use Rattle.capnp_schema.specs.FieldLists.{schema_of, typed_of};
+ghost use Rattle.capnp_schema.specs.Plan.{plan_of};
+ghost use Rattle.capnp_schema.specs.Schema.{default_of, kind_default, seen_kind, seen_value};
+ghost use Rattle.capnp_schema.specs.StructHandles.{IsStruct, number_of, set_of};
+ghost use Rattle.capnp_schema.specs.Types.{seen_type};
+ghost use Rattle.capnp_records.specs.Text.{after, said};
+ghost use Rattle.capnp_dynamic_readers.specs.Pieces.{IsAppended};
+ghost use Rattle.capnp_dynamic_readers.specs.Shown.{printed_text};
+ghost use Rattle.capnp_structs.specs.Fields.{default_said, default_text, field_lines, fields_text, fields_within, group_line, inside, line_end, place_text, slot_head, slot_line, type_text, words_said};
+
+use capnp_base::introspect::{Type, TypeVariant};
+use capnp_base::text;
+use capnp_dynamic_readers::dynamic_value::Reader as Value;
+use capnp_dynamic_readers::printer::print;
+use capnp_schema::plan::Place;
+use capnp_schema::record::{FieldKind, ValueRecord};
+use capnp_schema::schema::{Field, StructSchema};
+use capnp_schema::set::SchemaSet;
+use capnp_wire::PointerReader;
+use capnp_wire::error::Result;
+use std::alloc::Global;
+
+/// Appends the name of an integer type.
+fn put_width(out: &mut String, name: &str, bits: u8) -> Result<()>
+    ensures put { OnOk result (string_bytes out.new ≡ string_bytes out.old ++ (name.now ++ decimal bits)) }
+    ensures memory { IfErr result (λ e. e.kind ≡ OutOfMemory) }
+{
+    Ok(write!(out, "{name}{bits}")?)
+}
+
+/// Appends a type.
+fn put_type(out: &mut String, set: &SchemaSet, of: Type) -> Result<()>
+    ensures put { OnOk result (string_bytes out.new ≡ string_bytes out.old ++ type_text (lists_seen set.now) (seen_type of)) }
+    ensures memory { IfErr result (λ e. e.kind ≡ OutOfMemory) }
+{
+    match of.which() {
+        TypeVariant::Void => Ok(out.push_str("Void")?),
+        TypeVariant::Bool => Ok(out.push_str("Bool")?),
+        TypeVariant::Int8 => put_width(out, "Int", 8),
+        TypeVariant::Int16 => put_width(out, "Int", 16),
+        TypeVariant::Int32 => put_width(out, "Int", 32),
+        TypeVariant::Int64 => put_width(out, "Int", 64),
+        TypeVariant::UInt8 => put_width(out, "UInt", 8),
+        TypeVariant::UInt16 => put_width(out, "UInt", 16),
+        TypeVariant::UInt32 => put_width(out, "UInt", 32),
+        TypeVariant::UInt64 => put_width(out, "UInt", 64),
+        TypeVariant::Text => Ok(out.push_str("Text")?),
+        TypeVariant::Data => Ok(out.push_str("Data")?),
+        TypeVariant::AnyPointer => Ok(out.push_str("AnyPointer")?),
+        TypeVariant::Enum(raw) => {
+            Ok(out.push_str(
+                set.enum_schema(raw.number)
+                    .get_proto()
+                    .display_name
+                    .as_str(),
+            )?)
+        }
+        TypeVariant::Struct(raw) => {
+            Ok(out.push_str(
+                set.struct_schema(raw.number)
+                    .get_proto()
+                    .display_name
+                    .as_str(),
+            )?)
+        }
+        TypeVariant::List(element) => {
+            out.push_str("List(")?;
+            put_type(out, set, element)?;
+            Ok(out.push_str(")")?)
+        }
+    }
+}
+
+/// Appends where a field stands.
+fn put_place(out: &mut String, place: Place) -> Result<()>
+    ensures put { OnOk result (string_bytes out.new ≡ string_bytes out.old ++ place_text place) }
+    ensures memory { IfErr result (λ e. e.kind ≡ OutOfMemory) }
+{
+    match place {
+        Place::Bits {
+            start,
+            width: _,
+            mask: _,
+        } => Ok(write!(out, ", data bit {start}")?),
+        Place::Pointer(number) => Ok(write!(out, ", pointer {number}")?),
+        Place::Nothing | Place::Group(_) => Ok(()),
+    }
+}
+
+/// Appends the value by which a union has its member, and a line break.
+fn put_end(out: &mut String, member: Option<(u32, u16)>) -> Result<()>
+    ensures put { OnOk result (string_bytes out.new ≡ string_bytes out.old ++ line_end member) }
+    ensures memory { IfErr result (λ e. e.kind ≡ OutOfMemory) }
+{
+    match member {
+        Some((_, number)) => Ok(write!(out, ", member {number}\n")?),
+        None => Ok(out.push_str("\n")?),
+    }
+}
+
+/// Appends a default as its value is printed.
+fn put_value(out: &mut String, value: Value<'_>) -> Result<()>
+    ensures put { OnOk result (IsAppended (string_bytes out.old) (default_said (printed_text false value.entry)) (string_bytes out.new)) }
+    ensures refused { IfErr result (λ e. e.kind ≢ OutOfMemory → printed_text false value.entry ≡ Err e.kind) }
+{
+    out.push_str(", default ")?;
+    print(value, out, false)
+}
+
+/// Appends how many words a default has, and nothing of a null.
+fn put_words(out: &mut String, words: &[u8]) -> Result<()>
+    ensures put { OnOk result (IsAppended (string_bytes out.old) (words_said words.now) (string_bytes out.new)) }
+    ensures memory { IfErr result (λ e. e.kind ≡ OutOfMemory) }
+{
+    if PointerReader::from_words(words).is_null() {
+        return Ok(());
+    }
+    let count = words.len() / 8;
+    Ok(write!(out, ", default words: {count}")?)
+}
+
+/// Appends a default.
+fn put_default(out: &mut String, default: &ValueRecord) -> Result<()>
+    ensures put { OnOk result (IsAppended (string_bytes out.old) (default_text (seen_value default.now)) (string_bytes out.new)) }
+    ensures memory { IfErr result (λ e. e.kind ≡ OutOfMemory) }
+{
+    match default {
+        ValueRecord::Void => Ok(()),
+        ValueRecord::Bool(x) => put_value(out, Value::Bool(*x)),
+        ValueRecord::Int8(x) => put_value(out, Value::Int8(*x)),
+        ValueRecord::Int16(x) => put_value(out, Value::Int16(*x)),
+        ValueRecord::Int32(x) => put_value(out, Value::Int32(*x)),
+        ValueRecord::Int64(x) => put_value(out, Value::Int64(*x)),
+        ValueRecord::UInt8(x) => put_value(out, Value::UInt8(*x)),
+        ValueRecord::UInt16(x) => put_value(out, Value::UInt16(*x)),
+        ValueRecord::UInt32(x) => put_value(out, Value::UInt32(*x)),
+        ValueRecord::UInt64(x) => put_value(out, Value::UInt64(*x)),
+        ValueRecord::Enum(number) => Ok(write!(out, ", default {number}")?),
+        ValueRecord::Text(bytes) => put_value(out, Value::Text(text::Reader(bytes))),
+        ValueRecord::Data(bytes) => put_value(out, Value::Data(bytes)),
+        ValueRecord::Struct(words) => put_words(out, words),
+        ValueRecord::List(words) => put_words(out, words),
+        ValueRecord::AnyPointer(words) => put_words(out, words),
+    }
+}
+
+/// Appends the default of a slot, and nothing of a group.
+fn put_kind(out: &mut String, kind: &FieldKind) -> Result<()>
+    ensures put { OnOk result (IsAppended (string_bytes out.old) (default_text (kind_default (seen_kind kind.now))) (string_bytes out.new)) }
+    ensures memory { IfErr result (λ e. e.kind ≡ OutOfMemory) }
+{
+    match kind {
+        FieldKind::Slot { offset: _, default } => put_default(out, default),
+        FieldKind::Group { node: _ } => Ok(()),
+    }
+}
+
+/// Appends what stands before a slot's default.
+fn put_head(out: &mut String, prefix: &str, field: Field<'_>) -> Result<()>
+    ensures put { OnOk result (string_bytes out.new ≡ string_bytes out.old ++ slot_head (set_of (schema_of field.entry)) prefix.now (typed_of field.entry)
+        (plan_of (set_of (schema_of field.entry)) (number_of (schema_of field.entry)) (typed_of field.entry)).place) }
+    ensures memory { IfErr result (λ e. e.kind ≡ OutOfMemory) }
+{
+    out.push_str(prefix)?;
+    out.push_str(field.get_proto().name.as_str())?;
+    out.push_str(": ")?;
+    put_type(
+        out,
+        field.get_containing_struct().get_set(),
+        field.get_type(),
+    )?;
+    put_place(out, field.plan().place)
+}
+
+/// Appends the line of a slot.
+fn put_slot(out: &mut String, prefix: &str, field: Field<'_>) -> Result<()>
+    ensures put { OnOk result (IsAppended (string_bytes out.old) (slot_line (set_of (schema_of field.entry)) (number_of (schema_of field.entry)) prefix.now (typed_of field.entry))
+        (string_bytes out.new)) }
+    ensures memory { IfErr result (λ e. e.kind ≡ OutOfMemory) }
+{
+    put_head(out, prefix, field)?;
+    put_kind(out, &field.get_proto().kind)?;
+    put_end(out, field.plan().member)
+}
+
+/// Appends the line of a group.
+fn put_group(out: &mut String, prefix: &str, field: Field<'_>) -> Result<()>
+    ensures put { OnOk result (string_bytes out.new ≡ string_bytes out.old ++ group_line (set_of (schema_of field.entry)) (number_of (schema_of field.entry)) prefix.now (typed_of field.entry)) }
+    ensures memory { IfErr result (λ e. e.kind ≡ OutOfMemory) }
+{
+    out.push_str(prefix)?;
+    out.push_str(field.get_proto().name.as_str())?;
+    out.push_str(": group")?;
+    put_end(out, field.plan().member)
+}
+
+/// What stands before the names of a group's fields.
+fn path_inside(alloc: Global, prefix: &str, field: Field<'_>) -> Result<String>
+    ensures path { IfOk result (λ path. string_bytes path ≡ inside prefix.now (typed_of field.entry)) }
+    ensures memory { IfErr result (λ e. e.kind ≡ OutOfMemory) }
+{
+    let mut path = String::new(alloc);
+    path.push_str(prefix)?;
+    path.push_str(field.get_proto().name.as_str())?;
+    path.push_str(".")?;
+    Ok(path)
+}
+
+/// Appends the lines of a field, through at most so many groups.
+#[cycle(fields)]
+fn put_field(out: &mut String, prefix: &str, field: Field<'_>, groups: usize) -> Result<()>
+    ensures put { OnOk result (IsAppended (string_bytes out.old) (field_lines (set_of (schema_of field.entry)) (number_of (schema_of field.entry))
+        (fields_within (set_of (schema_of field.entry)) groups) prefix.now (typed_of field.entry)) (string_bytes out.new)) }
+    ensures memory { IfErr result (λ e. e.kind ≡ OutOfMemory) }
+{
+    match field.get_group() {
+        Some(group) => {
+            put_group(out, prefix, field)?;
+            let inside = path_inside(*out.allocator(), prefix, field)?;
+            put_fields(out, inside.as_str(), group, groups)
+        }
+        None => put_slot(out, prefix, field),
+    }
+}
+
+/// Appends the lines of all fields of a struct or group, through at most so many groups.
+#[cycle(fields)]
+fn put_fields(out: &mut String, prefix: &str, schema: StructSchema<'_>, groups: usize) -> Result<()>
+    requires { IsStruct schema }
+    ensures put { OnOk result (IsAppended (string_bytes out.old) (fields_within (set_of schema.entry) groups prefix.now (number_of schema.entry)) (string_bytes out.new)) }
+    ensures memory { IfErr result (λ e. e.kind ≡ OutOfMemory) }
+{
+    if groups == 0 {
+        return Ok(());
+    }
+    let Ok(fields) = schema.get_fields() else {
+        unreachable!()
+    };
+    for index in 0..fields.len() {
+        put_field(out, prefix, fields.get(index), groups - 1)?;
+    }
+    Ok(())
+}
+
+/// The fields of a struct, by index, one a line: its name and type, the first bit of its slot in the data section or the
+/// number of its pointer, its default, and of a union's member its discriminant value. Behind a group's line stand those of its
+/// fields, each by its path. The schema is one of an accepted set. Refused with `OutOfMemory` alone.
+pub fn get_fields(alloc: Global, schema: StructSchema<'_>) -> Result<String>
+    requires { IsStruct schema }
+    ensures text { IfOk result (λ text. IsAppended [] (fields_text (set_of schema.entry) (number_of schema.entry)) (string_bytes text)) }
+    ensures memory { IfErr result (λ e. e.kind ≡ OutOfMemory) }
+{
+    let mut lines = String::new(alloc);
+    put_fields(&mut lines, "", schema, schema.get_set().brands().len())?;
+    Ok(lines)
+}

@@ -1,0 +1,462 @@
+//! Words and messages, and what is answered, written and told, as texts.
+//!
+//! A row is lines, and an empty line ends it. The first says what the row shows. The others begin with what they have: `:` a word of
+//! the program, `<` hexadecimal words of the message, `=` the status, `>` hexadecimal words that are written, `"` a line that is
+//! written, and `!` a line that is told.
+
+/// Values at paths.
+pub const GOT: &str = "\
+# the root, as capnp_show prints it
+:get
+:Mixed
+:.
+<0000000004000000 0000000001000100 0500010009000000 010000001a000000 6869000000000000
+=0
+\"(a = 5, y = 9, b = \"hi\")
+
+# on lines
+:get
+:Mixed
+:.
+:--indent
+<0000000003000000 0000000001000100 0500010009000000 0000000000000000
+=0
+\"(
+\"  a = 5,
+\"  y = 9
+\")
+
+# a field by its name
+:get
+:Mixed
+:b
+<0000000004000000 0000000001000100 0500010009000000 010000001a000000 6869000000000000
+=0
+\"\"hi\"
+
+# a field by its number
+:get
+:Mixed
+:#2
+<0000000004000000 0000000001000100 0500010009000000 010000001a000000 6869000000000000
+=0
+\"9
+
+# a null text
+:get
+:Mixed
+:b
+<0000000003000000 0000000001000100 0500010009000000 0000000000000000
+=0
+\"\"\"
+
+# a default
+:get
+:Many
+:n
+<0000000001000000 fcffffff00000000
+=0
+\"7
+
+# a member that isn't active
+:get
+:Mixed
+:x
+<0000000003000000 0000000001000100 0500010009000000 0000000000000000
+=1
+!refused: 30
+
+# no field of the name
+:get
+:Mixed
+:c
+<0000000003000000 0000000001000100 0500010009000000 0000000000000000
+=1
+!refused: 20
+
+# no field of the number
+:get
+:Mixed
+:#4
+<0000000003000000 0000000001000100 0500010009000000 0000000000000000
+=1
+!refused: 20
+
+# a field of a number
+:get
+:Mixed
+:a.b
+<0000000003000000 0000000001000100 0500010009000000 0000000000000000
+=1
+!refused: 33
+
+# a group, and a union in it
+:get
+:Shapes
+:tag
+<0000000005000000 0000000002000200 0000010003000000 0000000000000000 0000000000000000 0000000000000000
+=0
+\"(n = 3, u0 = ())
+
+:get
+:Shapes
+:tag.u0
+<0000000005000000 0000000002000200 0000010003000000 0000000000000000 0000000000000000 0000000000000000
+=0
+\"()
+
+:get
+:Shapes
+:tag.u1
+<0000000005000000 0000000002000200 0000010003000000 0000000000000000 0000000000000000 0000000000000000
+=1
+!refused: 30
+
+# a group that isn't active
+:get
+:Shapes
+:circle.r
+<0000000005000000 0000000002000200 0000010003000000 0000000000000000 0000000000000000 0000000000000000
+=1
+!refused: 30
+
+# a step past an untyped pointer
+:get
+:Shapes
+:tag.any.#0
+<0000000005000000 0000000002000200 0000010003000000 0000000000000000 0000000000000000 0000000000000000
+=1
+!refused: 31
+
+# an element of a list of structs, and its field
+:get
+:Lists
+:items.1
+<000000000b000000 0000000000000400 0d0000001a000000 0d00000012000000 0d00000012000000 0d00000017000000 0102ff0000000000 00ff000000000000 7800000000000000 0800000001000000 0100000000000000 0200000000000000
+=0
+\"(a = 2)
+
+:get
+:Lists
+:items.1.a
+<000000000b000000 0000000000000400 0d0000001a000000 0d00000012000000 0d00000012000000 0d00000017000000 0102ff0000000000 00ff000000000000 7800000000000000 0800000001000000 0100000000000000 0200000000000000
+=0
+\"2
+
+# an element of a list of numbers
+:get
+:Lists
+:bytes.2
+<000000000b000000 0000000000000400 0d0000001a000000 0d00000012000000 0d00000012000000 0d00000017000000 0102ff0000000000 00ff000000000000 7800000000000000 0800000001000000 0100000000000000 0200000000000000
+=0
+\"255
+
+# past the end
+:get
+:Lists
+:items.2.a
+<000000000b000000 0000000000000400 0d0000001a000000 0d00000012000000 0d00000012000000 0d00000017000000 0102ff0000000000 00ff000000000000 7800000000000000 0800000001000000 0100000000000000 0200000000000000
+=1
+!refused: 32
+
+# a field of a list
+:get
+:Lists
+:items.a
+<000000000b000000 0000000000000400 0d0000001a000000 0d00000012000000 0d00000012000000 0d00000017000000 0102ff0000000000 00ff000000000000 7800000000000000 0800000001000000 0100000000000000 0200000000000000
+=1
+!refused: 33
+
+# what the path doesn't touch is not looked at: `bytes` is a capability
+:get
+:Lists
+:t
+<0000000006000000 0000000000000400 0300000000000000 0000000000000000 0500000012000000 0000000000000000 7800000000000000
+=0
+\"\"x\"
+
+:get
+:Lists
+:bytes
+<0000000006000000 0000000000000400 0300000000000000 0000000000000000 0500000012000000 0000000000000000 7800000000000000
+=1
+!refused: 9
+
+# a message that ends too soon
+:get
+:Flat
+:a
+<0000000002000000 0000000001000000
+=1
+!refused: 2
+
+# a default that leads to itself is entered as far as the path goes
+:get
+:Loop
+:again.again.again.end
+<0000000003000000 0000000001000100 0100000000000000 0000000000000000
+=1
+!refused: 30
+";
+
+/// Calls on messages and on empty roots.
+pub const PATCHED: &str = "\
+# a number and a text
+:patch
+:Mixed
+:set a 5
+:set y 9
+:set b \"hi\"
+<0000000001000000 0000000000000000
+=0
+>0000000004000000 0000000001000100 0500010009000000 010000001a000000 6869000000000000
+
+# no call: the message in one segment
+:patch
+:Flat
+<0100000001000000 0200000000000000 0200000001000000 0000000001000000 0500000000000000
+=0
+>0000000002000000 0000000001000000 0500000000000000
+
+# what follows the first message is not copied
+:patch
+:Flat
+:get a
+<0000000002000000 0000000001000000 0500000000000000 010203
+=0
+>0000000002000000 0000000001000000 0500000000000000
+!1: get a = 5
+
+# what the schema doesn't know stays
+:patch
+:Flat
+:set a 6
+<0000000003000000 0000000001000100 0500010009000000 0000000000000000
+=0
+>0000000003000000 0000000001000100 0600010009000000 0000000000000000
+
+# in an element
+:patch
+:Lists
+:set items.1.a 7
+:get items.1.a
+<000000000b000000 0000000000000400 0d0000001a000000 0d00000012000000 0d00000012000000 0d00000017000000 0102ff0000000000 00ff000000000000 7800000000000000 0800000001000000 0100000000000000 0200000000000000
+=0
+>000000000b000000 0000000000000400 0d0000001a000000 0d00000012000000 0d00000012000000 0d00000017000000 0102ff0000000000 00ff000000000000 7800000000000000 0800000001000000 0100000000000000 0700000000000000
+!2: get items.1.a = 7
+
+# each kind of answer
+:patch
+:Lists
+:get bytes
+:get raw
+:get t
+:get items.0
+:has t
+:has items
+:which .
+<000000000b000000 0000000000000400 0d0000001a000000 0d00000012000000 0d00000012000000 0d00000017000000 0102ff0000000000 00ff000000000000 7800000000000000 0800000001000000 0100000000000000 0200000000000000
+=0
+>000000000b000000 0000000000000400 0d0000001a000000 0d00000012000000 0d00000012000000 0d00000017000000 0102ff0000000000 00ff000000000000 7800000000000000 0800000001000000 0100000000000000 0200000000000000
+!1: get bytes = [3 elements]
+!2: get raw = 0x\"00ff\"
+!3: get t = \"x\"
+!4: get items.0 = (..)
+!5: has t = true
+!6: has items = true
+!7: which . = none
+
+# a refused call in the middle: nothing is written
+:patch
+:Mixed
+:set a 5
+:get x
+:set c 1
+:get y
+<0000000003000000 0000000001000100 0500010009000000 0000000000000000
+=1
+!2: get x: refused: 30 InactiveMember
+!3: set c 1: refused: 20 FieldNotFound
+!4: get y = 9
+
+# the same where the run goes on: what it leaves is written
+:patch
+:--keep-going
+:Mixed
+:set a 6
+:get x
+:set c 1
+:get y
+<0000000003000000 0000000001000100 0500010009000000 0000000000000000
+=1
+>0000000003000000 0000000001000100 0600010009000000 0000000000000000
+!2: get x: refused: 30 InactiveMember
+!3: set c 1: refused: 20 FieldNotFound
+!4: get y = 9
+
+# calls on an empty union: its group is made before it is set
+:new
+:--keep-going
+:Shapes
+:set tag.n 3
+:init tag
+:set tag.n 3
+:which tag
+:which .
+:get tag.u1
+:has word
+<
+=1
+>0000000005000000 0000000002000200 0000010003000000 0000000000000000 0000000000000000 0000000000000000
+!1: set tag.n 3: refused: 30 InactiveMember
+!4: which tag = #1
+!5: which . = #2
+!6: get tag.u1: refused: 30 InactiveMember
+!7: has word = false
+
+# the same, nothing of which is written
+:new
+:Shapes
+:set tag.n 3
+:init tag
+<
+=1
+!1: set tag.n 3: refused: 30 InactiveMember
+
+# one member after another, each made anew
+:new
+:--keep-going
+:Shapes
+:set circle.r 4294967295
+:init tag
+:get tag.n
+:which tag
+:init circle
+:get circle.r
+:get #9
+:set any 1
+:init tag
+:get tag.any.#0
+<
+=1
+>0000000005000000 0000000002000200 0000010000000000 0000000000000000 0000000000000000 0000000000000000
+!3: get tag.n = 0
+!4: which tag = #1
+!6: get circle.r = 0
+!7: get #9: refused: 20 FieldNotFound
+!8: set any 1: refused: 20 FieldNotFound
+!10: get tag.any.#0: refused: 31 UntypedStep
+
+# an empty root
+:new
+:Flat
+<
+=0
+>0000000002000000 0000000001000000 0000000000000000
+
+# a list is made, and its elements are set
+:new
+:Lists
+:initn items 2
+:set items.0.a 1
+:set items.1.a 2
+:initn bytes 3
+:set bytes.2 255
+:clear bytes
+<
+=0
+>0000000008000000 0000000000000400 0000000000000000 0000000000000000 0000000000000000 0100000017000000 0800000001000000 0100000000000000 0200000000000000
+
+# an enumerant
+:new
+:Node
+:set size inlineComposite
+:get size
+:set size 9
+:get size
+<
+=0
+>0000000004000000 0000000002000100 0000000000000000 0900000000000000 0000000000000000
+!2: get size = 7
+!4: get size = 9
+";
+
+/// The structs of a set, and the fields of one.
+pub const LISTED: &str = "\
+# all
+:structs
+<
+=0
+\"Flat
+\"Mixed
+\"Many
+\"Shapes
+\"Loop
+\"Lists
+\"Node
+
+# numbers, a union and a text
+:structs
+:Mixed
+<
+=0
+\"a: UInt16, data bit 0, default 0
+\"x: Void, member 0
+\"y: UInt8, data bit 32, default 0, member 1
+\"b: Text, pointer 0, default \"\"
+
+# defaults
+:structs
+:Many
+<
+=0
+\"flag: Bool, data bit 0, default true
+\"s: Int8, data bit 8, default -1
+\"n: UInt16, data bit 16, default 7
+\"w: Int32, data bit 32, default 0
+\"q: UInt64, data bit 64, default 0
+\"z: Void
+
+# groups, and a union in one
+:structs
+:Shapes
+<
+=0
+\"id: UInt16, data bit 0, default 0
+\"circle: group, member 0
+\"circle.r: UInt32, data bit 32, default 0
+\"tag: group, member 1
+\"tag.n: UInt16, data bit 32, default 0
+\"tag.u0: Void, member 0
+\"tag.u1: UInt8, data bit 64, default 0, member 1
+\"tag.any: AnyPointer, pointer 0
+\"tag.q: Text, pointer 1, default \"\"
+\"word: Text, pointer 0, default \"\", member 2
+
+# a default of words
+:structs
+:Loop
+<
+=0
+\"end: Void, member 0
+\"again: Loop, pointer 0, default words: 3, member 1
+
+# lists and data
+:structs
+:Lists
+<
+=0
+\"bytes: List(UInt8), pointer 0
+\"raw: Data, pointer 1, default 0x\"\"
+\"t: Text, pointer 2, default \"\"
+\"items: List(Flat), pointer 3
+
+# an enum
+:structs
+:Node
+<
+=0
+\"id: UInt64, data bit 0, default 0
+\"displayName: Text, pointer 0, default \"\"
+\"size: ElementSize, data bit 64, default 0
+";

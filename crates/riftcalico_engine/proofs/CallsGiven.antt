@@ -1,0 +1,75 @@
+-- Calls as they are read and as they are made.
+use Rattle.std.specs.Prelude.{ℕ, zero, suc, List, [], ◌∷◌, ◌++◌, map}
+use Rattle.std.proofs.Common.{◌≡◌, ◌∙◌, Option, Some, None, Result, Ok, Err, ap, refl, sym}
+use Rattle.std.proofs.lemmas.List.{map-append}
+use Rattle.capnp_schema.specs.Schema.{Schemas}
+use Rattle.capnp_schema.specs.Types.{SchemaType}
+use Rattle.capnp_records.specs.Call.{Call, Op, PathStep}
+use Rattle.capnp_records.specs.Record.{Value}
+use Rattle.capnp_words.specs.Reads.{Read, read_as}
+use Rattle.capnp_words.specs.Seen.{plain_seen, plain_type}
+use Rattle.capnp_words.specs.Values.{value_at}
+use Rattle.capnp_words.specs.declared.value.PlainValue.{PlainValue}
+use Rattle.capnp_words.specs.declared.value.PlainValue.TheVariants as plain
+use Rattle.capnp_call.specs.Seen.{call_seen}
+use Rattle.capnp_call.specs.declared.calls.Call.{Call as MadeCall}
+use Rattle.capnp_records.specs.Run.{root_type}
+use Rattle.capnp_schema.specs.StructHandles.{number_of, set_of}
+use Rattle.capnp_schema.specs.declared.schema.structs.StructSchema.{StructSchema}
+use Rattle.capnp_words.specs.Calls.{CallText}
+use Rattle.riftcalico_engine.specs.Calls.{call_read, shifted, source_of, split, with_step}
+use Rattle.riftcalico_engine.specs.Reads.{each_read}
+use Rattle.riftcalico_engine.specs.Words.{AreCalls, AreMadeOf}
+use Rattle.riftcalico_engine.specs.CallsSeen.{plain_source}
+
+-- a value is given by its type
+pub source_is : (v : PlainValue) → source_of (plain_type v) (plain_seen v) ≡ plain_source v
+source_is plain.Void = refl
+source_is (plain.Bool b) = refl
+source_is (plain.Int8 x) = refl
+source_is (plain.Int16 x) = refl
+source_is (plain.Int32 x) = refl
+source_is (plain.Int64 x) = refl
+source_is (plain.UInt8 x) = refl
+source_is (plain.UInt16 x) = refl
+source_is (plain.UInt32 x) = refl
+source_is (plain.UInt64 x) = refl
+source_is (plain.Enum e) = refl
+source_is (plain.Text bytes) = refl
+source_is (plain.«Data» bytes) = refl
+
+-- one that was read under a type
+pub source_read : (set : Schemas) (t : SchemaType) (bytes : List ℕ) (place : ℕ) (v : PlainValue) → plain_type v ≡ t → Ok (plain_seen v) ≡ value_at set t bytes →
+    Ok (plain_source v) ≡ shifted place (read_as (source_of t) (value_at set t bytes))
+source_read set t bytes place v typed read =
+    ap Ok (sym (source_is v) ∙ ap (λ (u : SchemaType). source_of u (plain_seen v)) typed) ∙ ap (λ (r : Read Value). shifted place (read_as (source_of t) r)) read
+
+-- the last step of a path, and those before it
+pub split_last : (op : Op) (steps : List PathStep) (last : PathStep) → split (steps ++ last ∷ []) op ≡ record { path = steps; last = last; op = op }
+split_last op [] last = refl
+split_last op (s ∷ []) last = refl
+split_last op (s ∷ t ∷ ss) last = ap (with_step s) (split_last op (t ∷ ss) last)
+
+-- the same of a call's steps
+pub split_seen : {S : Type 0} (seen : S → PathStep) (op : Op) (steps path : List S) (last : S) → steps ≡ path ++ last ∷ [] →
+    record { path = map seen path; last = seen last; op = op } ≡ split (map seen steps) op
+split_seen {S} seen op steps path last e =
+    sym (ap (λ (xs : List S). split (map seen xs) op) e ∙ (ap (λ (xs : List PathStep). split xs op) (map-append seen path (last ∷ [])) ∙ split_last op (map seen path) (seen last)))
+
+-- calls that were read under a schema, as they are made
+pub calls_are : (schema : StructSchema) (texts : List CallText) (calls : List MadeCall) (read : List Call) (so : StructSchema → List MadeCall → Type 0) →
+    Ok read ≡ each_read (call_read (set_of schema) (root_type (set_of schema) (number_of schema))) 0 texts → map call_seen calls ≡ read → so schema calls →
+    AreCalls (set_of schema) (number_of schema) texts so
+calls_are schema texts calls read so said made is = record {
+  schema = schema;
+  of_set = refl;
+  of_struct = refl;
+  calls = calls;
+  read = sym said ∙ ap Ok (sym made);
+  are_so = is;
+}
+
+-- what is so of calls that were read is so of calls under the schema
+pub under_schema : (schema : StructSchema) (texts : List CallText) (read : List Call) (so : StructSchema → List MadeCall → Type 0) →
+    Ok read ≡ each_read (call_read (set_of schema) (root_type (set_of schema) (number_of schema))) 0 texts → AreMadeOf read (so schema) → AreCalls (set_of schema) (number_of schema) texts so
+under_schema schema texts read so said made = calls_are schema texts made.calls read so said made.are made.are_so

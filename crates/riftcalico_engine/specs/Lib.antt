@@ -1,0 +1,10 @@
+pub mod Calls
+pub mod CallsSeen
+pub mod Command
+pub mod Ended
+pub mod LinesSeen
+pub mod Listed
+pub mod Reads
+pub mod RequestSeen
+pub mod Roots
+pub mod Words

@@ -1,0 +1,29 @@
+-- What several words are read as, or where they can't be.
+use Rattle.std.specs.Prelude.{ℕ, suc, ◌+◌, ◌++◌, List, [], ◌∷◌, Result, Ok, Err, codes, decimal, get_or}
+use Rattle.capnp_words.specs.Reads.{Read}
+
+-- the index of the first that can't be read, and the place in it of the first byte that can't stand
+abbrev pub Reads : Type 0 → Type 0
+Reads A = Result A (ℕ × ℕ)
+
+abbrev pub at_word : {A : Type 0} → ℕ → Read A → Reads A
+at_word i (Ok x) = Ok x
+at_word i (Err place) = Err (i, place)
+
+abbrev pub joined : {A : Type 0} → Reads A → Reads (List A) → Reads (List A)
+joined (Err at) rest = Err at
+joined (Ok x) (Err at) = Err at
+joined (Ok x) (Ok xs) = Ok (x ∷ xs)
+
+-- each is read in the same way, the first of them at this index
+abbrev pub each_read : {A B : Type 0} → (A → Read B) → ℕ → List A → Reads (List B)
+each_read f i [] = Ok []
+each_read f i (x ∷ xs) = joined (at_word i (f x)) (each_read f (suc i) xs)
+
+-- how that is told: the number of a word among its kind, from 1 on, the word, and the place
+abbrev pub unreadable_line : (number : ℕ) → (word : List ℕ) → (place : ℕ) → List ℕ
+unreadable_line number word place = decimal number ++ codes ": " ++ word ++ codes ": can't be read at " ++ decimal place ++ 10 ∷ []
+
+-- the same of words by their index
+abbrev pub line_at : List (List ℕ) → ℕ × ℕ → List ℕ
+line_at words at = unreadable_line (suc at.0) (get_or words at.0 []) at.1

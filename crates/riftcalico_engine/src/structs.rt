@@ -1,0 +1,70 @@
+//! The structs of a set, or the fields of one, shown.
+ghost use Rattle.std.specs.Prelude.{◌≡◌, ◌≢◌, ⊤, IfErr, OnOk};
+ghost use Rattle.std.specs.Option.{option_map};
+ghost use Rattle.capnp_device.specs.Device.{HasFailed};
+ghost use Rattle.capnp_device.specs.declared.error.ErrorKind.TheVariants.{ReadFailed, WriteFailed};
+ghost use Rattle.capnp_records.specs.Text.{said};
+ghost use Rattle.capnp_show_engine.specs.Show.{IsOfMessage};
+ghost use Rattle.capnp_structs.specs.Fields.{fields_text};
+ghost use Rattle.capnp_structs.specs.Names.{structs_text};
+ghost use Rattle.riftcalico_engine.specs.Listed.{IsBegun, IsOfSet, IsWritten};
+ghost use Rattle.riftcalico_engine.specs.RequestSeen.{root_of};
+ghost use Rattle.riftcalico_engine.specs.Roots.{HasSetFailed, IsNamed, IsNoSet, IsRootOr};
+
+use crate::request::NamedRoot;
+use crate::sets::{find_schema, read_set};
+use capnp_show_engine::opener::Opener;
+use capnp_structs::fields::get_fields;
+use capnp_structs::names::get_structs;
+use capnp_wire::device::Sink;
+use capnp_wire::error::Result;
+use capnp_wire::transfer::write_all;
+use std::alloc::Global;
+
+/// Writes the names of the structs of a set, one a line: of the set that a file holds, or else of the built-in one.
+///
+/// Refused as `crate::sets::read_set`, and with `WriteFailed` where a call of the sink failed: a proper beginning of the text was
+/// written then, and nothing after any other refusal.
+pub fn show_structs<O: Opener, W: Sink>(
+    alloc: Global,
+    opener: &mut O,
+    file: Option<&str>,
+    sink: &mut W,
+) -> Result<()>
+    ensures shown { OnOk result (IsOfSet O.opens O.File.left opener.old opener.new (option_map (λ f. f.now) file.entry) (λ set.
+        IsWritten (said (structs_text set)) (W.written sink.old) (W.written sink.new))) }
+    ensures refused { IfErr result (λ e. IsOfMessage e.kind → IsNoSet O.opens O.File.left opener.old opener.new (option_map (λ f. f.now) file.entry) e) }
+    ensures read_failed { IfErr result (λ e. e.kind ≡ ReadFailed → HasSetFailed O.opens O.File.failures opener.old opener.new (option_map (λ f. f.now) file.entry)) }
+    ensures write_failed { IfErr result (λ e. e.kind ≡ WriteFailed → HasFailed (W.failures sink.old) (W.failures sink.new)) }
+    ensures beginning { IfErr result (λ e. e.kind ≡ WriteFailed → IsOfSet O.opens O.File.left opener.old opener.new (option_map (λ f. f.now) file.entry) (λ set.
+        IsBegun (said (structs_text set)) (W.written sink.old) (W.written sink.new))) }
+    ensures nothing { IfErr result (λ e. e.kind ≢ WriteFailed → sink.new ≡ sink.old) }
+{
+    let set = read_set(alloc, opener, file)?;
+    let text = get_structs(alloc, &set)?;
+    write_all(sink, text.as_bytes())
+}
+
+/// Writes the fields of a struct, one a line, as `capnp_structs::fields::get_fields` has them.
+///
+/// Refused as `show_structs`, and with `NameNotFound` where the set has no struct of the name.
+pub fn show_fields<O: Opener, W: Sink>(
+    alloc: Global,
+    opener: &mut O,
+    root: NamedRoot<'_>,
+    sink: &mut W,
+) -> Result<()>
+    ensures shown { OnOk result (IsNamed O.opens O.File.left opener.old opener.new (root_of root.entry) (λ set b.
+        IsWritten (fields_text set b) (W.written sink.old) (W.written sink.new))) }
+    ensures refused { IfErr result (λ e. IsOfMessage e.kind → IsRootOr O.opens O.File.left opener.old opener.new (root_of root.entry) e ⊤ (λ set b. ⊥)) }
+    ensures read_failed { IfErr result (λ e. e.kind ≡ ReadFailed → HasSetFailed O.opens O.File.failures opener.old opener.new (root_of root.entry).file) }
+    ensures write_failed { IfErr result (λ e. e.kind ≡ WriteFailed → HasFailed (W.failures sink.old) (W.failures sink.new)) }
+    ensures beginning { IfErr result (λ e. e.kind ≡ WriteFailed → IsNamed O.opens O.File.left opener.old opener.new (root_of root.entry) (λ set b.
+        IsBegun (fields_text set b) (W.written sink.old) (W.written sink.new))) }
+    ensures nothing { IfErr result (λ e. e.kind ≢ WriteFailed → sink.new ≡ sink.old) }
+{
+    let set = read_set(alloc, opener, root.file)?;
+    let schema = find_schema(&set, root.name)?;
+    let text = get_fields(alloc, schema)?;
+    write_all(sink, text.as_bytes())
+}
