@@ -73,3 +73,8 @@ calls_are schema texts calls read so said made is = record {
 pub under_schema : (schema : StructSchema) (texts : List CallText) (read : List Call) (so : StructSchema → List MadeCall → Type 0) →
     Ok read ≡ each_read (call_read (set_of schema) (root_type (set_of schema) (number_of schema))) 0 texts → AreMadeOf read (so schema) → AreCalls (set_of schema) (number_of schema) texts so
 under_schema schema texts read so said made = calls_are schema texts made.calls read so said made.are made.are_so
+
+-- the same of calls that are those
+pub under_seen : (schema : StructSchema) (texts : List CallText) (given read : List Call) (so : StructSchema → List MadeCall → Type 0) → given ≡ read →
+    Ok read ≡ each_read (call_read (set_of schema) (root_type (set_of schema) (number_of schema))) 0 texts → AreMadeOf given (so schema) → AreCalls (set_of schema) (number_of schema) texts so
+under_seen schema texts given read so same said made = under_schema schema texts given so (ap Ok same ∙ said) made

@@ -12,14 +12,14 @@ use Rattle.riftcalico_engine.specs.Roots.{Opens}
 use Rattle.riftcalico_engine.specs.declared.run.Outcome.{Outcome}
 use Rattle.riftcalico_engine.specs.declared.run.Outcome.TheVariants.{Made, Shown, Unreadable}
 
-no_two : (q : Bool) → cond q 1 0 ≡ 2 → ⊥
+no_two : (q : Bool) → ◌≡◌ {A = ℕ} (cond q 1 0) 2 → ⊥
 no_two true e = cc
 no_two false e = cc
 
-no_one : 1 ≡ 2 → ⊥
+no_one : ◌≡◌ {A = ℕ} 1 2 → ⊥
 no_one e = cc
 
-no_zero : 0 ≡ 2 → ⊥
+no_zero : ◌≡◌ {A = ℕ} 0 2 → ⊥
 no_zero e = cc
 
 module _ {O F : Type 0} (opens : Opens O F) (holds : F → Option (List ℕ)) (fails : F → ℕ) (old new : O) (untouched unwritten : Type 0) where

@@ -4,8 +4,11 @@ use Rattle.capnp_schema.specs.ByName.{brand_asked}
 use Rattle.capnp_schema.specs.Schema.{Schemas}
 use Rattle.capnp_schema.specs.StructHandles.{number_of, set_of}
 use Rattle.capnp_schema.specs.declared.schema.structs.StructSchema.{StructSchema}
+use Rattle.capnp_records.specs.Call.{PathStep}
 use Rattle.capnp_words.specs.Calls.{CallText, call_at}
+use Rattle.capnp_words.specs.Paths.{path_at}
 use Rattle.riftcalico_engine.specs.Command.{Root}
+use Rattle.riftcalico_engine.specs.Ended.{IsPath}
 use Rattle.riftcalico_engine.specs.Reads.{each_read}
 use Rattle.riftcalico_engine.specs.Roots.{IsNamed, IsSetOf, Opens}
 use Rattle.riftcalico_engine.specs.Words.{AreSaid}
@@ -23,3 +26,10 @@ named_by opens holds old new r so set s read same named is = record {
 -- words that are calls
 pub said_by : (words : List (List ℕ)) (texts : List CallText) (so : List CallText → Type 0) → Ok texts ≡ each_read call_at 0 words → so texts → AreSaid words so
 said_by words texts so said is = record { texts = texts; said = sym said; are_so = is }
+
+pub said_seen : (words : List (List ℕ)) (given texts : List CallText) (so : List CallText → Type 0) → given ≡ texts → Ok texts ≡ each_read call_at 0 words → so given → AreSaid words so
+said_seen words given texts so same said is = said_by words given so (ap Ok same ∙ said) is
+
+-- a word that is a path
+pub path_seen_by : (word : List ℕ) (given path : List PathStep) (so : List PathStep → Type 0) → given ≡ path → Ok path ≡ path_at 0 word → so given → IsPath word so
+path_seen_by word given path so same said is = record { path = given; said = sym (ap Ok same ∙ said); is_so = is }

@@ -14,7 +14,7 @@ returns-clause-lines g c = record {
     read = (c.in_ok-bytes.ensures.whole, c.in_ok-bytes.ensures.to_end);
     are_so = (
       rw c.deref.ensures.value at c.in-Err.ensures.cases.0,
-      c.in_ok-line.ensures.line ∙ ap (no_text_line c.args.path.now) (c.valid_up_to-place.ensures ∙ (c.in-Err.ensures.valid_len ∙ ap utf8_valid_len c.deref.ensures.value)),
+      c.in_ok-line-in-Err.ensures.line ∙ ap (no_text_line c.args.path.now) (c.valid_up_to-place.ensures ∙ (c.in-Err.ensures.valid_len ∙ ap utf8_valid_len c.deref.ensures.value)),
     );
   };
 }
