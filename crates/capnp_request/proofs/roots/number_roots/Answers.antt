@@ -1,0 +1,38 @@
+use Rattle.std.proofs.Common.{ℕ, ◌≡◌, ◌<◌, ◌≤◌, ◌+◌, ◌-◌, ◌∙◌, ap, arith, drop, length, rules, slice_get, sym, Some, Err}
+use Rattle.std.proofs.lemmas.Result.{err_from_is_err_and}
+use Rattle.capnp_device.specs.declared.error.ErrorKind.{ErrorKind}
+use Rattle.capnp_dynamic_readers.specs.Seen.{record_seen}
+use Rattle.capnp_request.specs.Done.{between}
+use Rattle.capnp_request.specs.Nodes.{nodes_of}
+use Rattle.capnp_request.specs.Reading.{node_said}
+use Rattle.capnp_request.proofs.RootsNamed.{at_id, behind_id, files_opened, files_refused, nested_in, nested_refused, no_queue, root_missing, root_named, root_refused}
+use Rattle.capnp_request.proofs.roots.number_roots.Goals as goal
+
+pub returns-in_err-files-clause-done : goal.returns-in_err-files-clause-done
+returns-in_err-files-clause-done c =
+    let p = err_from_is_err_and c.from_residual.result c.from_residual.ensures.1 in
+    rw (p.1, p.2) (λ is. files_refused (nodes_of c.args.context.nodes.now) c.args.context.strict _ (between c.args.entries.now) _ (c.in_err-files.ensures.said is))
+
+pub returns-in_err-node-clause-done : goal.returns-in_err-node-clause-done
+returns-in_err-node-clause-done c =
+    let inv = c.loop-position.invariant in
+    let inside : c.loop-position.position < length (nodes_of c.args.context.nodes.now) = omega arith in
+    let here : slice_get c.loop-position.queue.items c.loop-position.position ≡ Some c.in-Some.id = search rules in
+    let p = err_from_is_err_and c.from_residual-in_err-node.result c.from_residual-in_err-node.ensures.1 in
+    rw (p.1, p.2) (λ is. files_opened (nodes_of c.args.context.nodes.now) c.args.context.strict _ (between c.args.entries.now) c.in_ok-files.files.items c.in_ok-files.ensures.said ∙ (sym inv.3 ∙ (at_id (nodes_of c.args.context.nodes.now) c.args.context.strict (length (nodes_of c.args.context.nodes.now)) c.loop-position.position inv.0 c.loop-position.queue.items c.in-Some.id (between c.loop-position.entries) inside here ∙ (root_missing (nodes_of c.args.context.nodes.now) c.args.context.strict (length (nodes_of c.args.context.nodes.now) - (c.loop-position.position + 1)) inv.0 c.in-Some.id (drop (c.loop-position.position + 1) c.loop-position.queue.items) (between c.loop-position.entries) c.in_err-node.ensures.missing ∙ ap (λ (x : ErrorKind). Err x) (sym c.in_err-node.ensures.kinds)))))
+
+pub returns-in_err-nested-clause-done : goal.returns-in_err-nested-clause-done
+returns-in_err-nested-clause-done c =
+    let inv = c.loop-position.invariant in
+    let inside : c.loop-position.position < length (nodes_of c.args.context.nodes.now) = omega arith in
+    let here : slice_get c.loop-position.queue.items c.loop-position.position ≡ Some c.in-Some.id = search rules in
+    let p = err_from_is_err_and c.from_residual-in_err-nested.result c.from_residual-in_err-nested.ensures.1 in
+    rw (p.1, p.2) (λ is. files_opened (nodes_of c.args.context.nodes.now) c.args.context.strict _ (between c.args.entries.now) c.in_ok-files.files.items c.in_ok-files.ensures.said ∙ (sym inv.3 ∙ (at_id (nodes_of c.args.context.nodes.now) c.args.context.strict (length (nodes_of c.args.context.nodes.now)) c.loop-position.position inv.0 c.loop-position.queue.items c.in-Some.id (between c.loop-position.entries) inside here ∙ nested_refused (nodes_of c.args.context.nodes.now) c.args.context.strict (length (nodes_of c.args.context.nodes.now) - (c.loop-position.position + 1)) inv.0 c.in-Some.id (drop (c.loop-position.position + 1) c.loop-position.queue.items) (between c.loop-position.entries) (node_said (record_seen c.in_ok-node.node)) c.in_ok-node.ensures.read _ (nested_in (record_seen c.in_ok-node.node) ∙ c.in_err-nested.ensures.said is))))
+
+pub returns-in_err-number_root-clause-done : goal.returns-in_err-number_root-clause-done
+returns-in_err-number_root-clause-done c =
+    let inv = c.loop-position.invariant in
+    let inside : c.loop-position.position < length (nodes_of c.args.context.nodes.now) = omega arith in
+    let here : slice_get c.loop-position.queue.items c.loop-position.position ≡ Some c.in-Some.id = search rules in
+    let p = err_from_is_err_and c.from_residual-in_err-number_root.result c.from_residual-in_err-number_root.ensures.1 in
+    rw (p.1, p.2) (λ is. files_opened (nodes_of c.args.context.nodes.now) c.args.context.strict _ (between c.args.entries.now) c.in_ok-files.files.items c.in_ok-files.ensures.said ∙ (sym inv.3 ∙ (at_id (nodes_of c.args.context.nodes.now) c.args.context.strict (length (nodes_of c.args.context.nodes.now)) c.loop-position.position inv.0 c.loop-position.queue.items c.in-Some.id (between c.loop-position.entries) inside here ∙ root_refused (nodes_of c.args.context.nodes.now) c.args.context.strict (length (nodes_of c.args.context.nodes.now) - (c.loop-position.position + 1)) inv.0 c.in-Some.id (drop (c.loop-position.position + 1) c.loop-position.queue.items) (between c.loop-position.entries) (node_said (record_seen c.in_ok-node.node)) c.in_ok-node.ensures.read c.in_ok-nested.nested.items (nested_in (record_seen c.in_ok-node.node) ∙ c.in_ok-nested.ensures.said) _ (c.in_err-number_root.ensures.done is))))
