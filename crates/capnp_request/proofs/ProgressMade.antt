@@ -1,18 +1,20 @@
 -- What was made so far.
-use Rattle.std.proofs.Common.{ℕ, ◌<◌, ◌≤◌, ◌≡◌, ◌∙◌, ap, arith, length, map, refl, slice_get, sym, suc, ◌+◌, ◌-◌, Bool, true, false, List, [], ◌∷◌, Option, Result, Ok, Err}
+use Rattle.std.proofs.Common.{ℕ, ◌<◌, ◌≤◌, ◌≡◌, ◌∙◌, ap, arith, length, map, refl, slice_get, subst, sym, suc, ◌+◌, ◌-◌, Bool, true, false, List, [], ◌∷◌, Option, Result, Ok, Err}
 use Rattle.capnp_device.specs.declared.error.ErrorKind.{ErrorKind}
 use Rattle.capnp_device.specs.declared.error.ErrorKind.TheVariants.{TooManyTypes}
 use Rattle.capnp_schema.specs.Schema.{seen_brand, seen_enum, seen_node}
 use Rattle.capnp_request.specs.Bindings.{bounds}
 use Rattle.capnp_request.specs.Names.{Holder}
-use Rattle.capnp_request.specs.Order.{Begun, Made, add_struct, begin_struct, make_all, make_struct, nothing_made}
+use Rattle.capnp_request.specs.NamesMade.{AreHolders}
+use Rattle.capnp_request.specs.Order.{Begun, Made, add_struct, begin_struct, make_all, make_struct, name_entry, nothing_made}
 use Rattle.capnp_request.specs.ProgressSeen.{begun_of, made_of, rest_of}
 use Rattle.capnp_request.specs.StructsSeen.{seen_notes}
-use Rattle.capnp_request.specs.Terms.{SchemaNode}
-use Rattle.capnp_request.specs.Work.{Bound, Entry, Named}
+use Rattle.capnp_request.specs.Terms.{Said, SchemaNode}
+use Rattle.capnp_request.specs.Work.{Bound, Entry, Named, Place}
 use Rattle.capnp_request.specs.declared.conversion.Converted.{Converted}
 use Rattle.capnp_request.specs.declared.conversion.NextStruct.{NextStruct}
 use Rattle.capnp_request.specs.declared.conversion.Progress.{Progress}
+use Rattle.capnp_request.specs.declared.names.Names.{Names}
 use Rattle.capnp_request.proofs.OrderMade.{struct_begun}
 
 pub map_length : {A B : Type 0} (f : A → B) (xs : List A) → length (map f xs) ≡ length xs
@@ -31,6 +33,14 @@ next_node p hs n xs o e h = ap (slice_get xs) (map_length seen_node p.made.nodes
 
 pub next_enum_id : {A : Type 0} (p : Progress) (hs : List Holder) (n : ℕ) (xs : List A) (o : Option A) → n ≡ length p.made.enums.items → slice_get xs n ≡ o → slice_get xs (length (made_of p hs).enums) ≡ o
 next_enum_id p hs n xs o e h = ap (slice_get xs) (map_length seen_enum p.made.enums.items ∙ sym e) ∙ h
+
+-- what names are held by, and what an entry is named among, where enums alone were named since
+pub held_since : (old mid : Names) (hs : List Holder) → mid ≡ old → AreHolders old hs → AreHolders mid hs
+held_since old mid hs same h = subst (λ (names : Names). AreHolders names hs) (sym same) h
+
+pub named_since : (nodes : List SchemaNode) (old mid : Converted) (names : List (List ℕ)) (hs : List Holder) (e : Entry) (place : Place) (r : Said (List ℕ × List Holder)) → mid ≡ old →
+    name_entry nodes (map seen_node mid.nodes.items) names hs e place ≡ r → name_entry nodes (map seen_node old.nodes.items) names hs e place ≡ r
+named_since nodes old mid names hs e place r same is = ap (λ (c : Converted). name_entry nodes (map seen_node c.nodes.items) names hs e place) (sym same) ∙ is
 
 -- an entry is added to what was made before it began
 module _ (nodes : List SchemaNode) (strict : Bool) (id : ℕ) (bound : List Bound) (b : Begun) (s : Named) where

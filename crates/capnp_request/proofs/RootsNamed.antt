@@ -3,6 +3,7 @@ use Rattle.std.proofs.Common.{ℕ, zero, suc, ◌+◌, ◌-◌, ◌<◌, ◌≤�
 use Rattle.std.proofs.lemmas.Bool.{eqb-true}
 use Rattle.std.proofs.lemmas.List.{append-nil}
 use Rattle.std.proofs.lemmas.Option.{slice_get_within}
+use Rattle.core.specs.List.{list_any}
 use Rattle.std.specs.HashSet.{HashSet, Updates, contains}
 use Rattle.capnp_device.specs.declared.error.ErrorKind.{ErrorKind}
 use Rattle.capnp_device.specs.declared.error.ErrorKind.TheVariants.{NodeNotFound}
@@ -19,7 +20,7 @@ use Rattle.capnp_request.specs.Terms.{Said, SchemaNode}
 use Rattle.capnp_request.specs.Types.{is_root, number_struct}
 use Rattle.capnp_request.specs.Work.{◌>>=◌, Bound, Named, Work, continued, given, said}
 use Rattle.capnp_request.proofs.ListsSaid.{length_of}
-use Rattle.capnp_request.proofs.OrderMade.{drop_at}
+use Rattle.capnp_request.proofs.OrderMade.{drop_at, drop_past}
 use Rattle.capnp_request.proofs.Works.{then_err, then_ok}
 
 -- ---- lists of what is said ----
@@ -123,6 +124,10 @@ met_kept false c m e h = e
 pub met_now : {S : Type 0} (old new : HashSet ℕ S) (id : ℕ) (met : List ℕ) (added : Bool) → AreMet old met → added ≡ not (contains nat_eq old id) → Updates nat_eq old new id true → AreMet new (one_if added id ++ met)
 met_now old new id met true h is updates = λ q. updates.0 q ∙ met_more (nat_eq id q) (contains nat_eq old q) (is_met met q) (h q)
 met_now old new id met false h is updates = λ q. updates.0 q ∙ met_kept (nat_eq id q) (contains nat_eq old q) (is_met met q) (h q) (λ e. ap (is_met met) (sym (eqb-true id q e)) ∙ (sym (h id) ∙ is_true (contains nat_eq old id) is))
+
+-- at the beginning none was met
+pub none_met : {S : Type 0} (set : HashSet ℕ S) → set.keys ≡ [] → AreMet set []
+none_met set e = λ q. ap (λ (ks : List ℕ). list_any (nat_eq q) ks) e
 
 -- ---- the queue ----
 
@@ -231,6 +236,20 @@ module _ (nodes : List SchemaNode) (strict : Bool) (count position : ℕ) (met q
 
   pub behind_id : (added after : List ℕ) → after ≡ queue ++ added → drop (position + 1) after ≡ drop (position + 1) queue ++ added
   behind_id added after e = ap (drop (position + 1)) e ∙ drop_behind queue added (position + 1) (omega (arith, slice_get_within queue position id here))
+
+-- the queue at the beginning, and at its end
+module _ (nodes : List SchemaNode) (strict : Bool) (s : Named) where
+  pub roots_begun : (queue before ids : List ℕ) → queue ≡ before ++ ids → before ≡ [] → name_roots nodes strict (length nodes - 0) ids (drop 0 queue) s ≡ name_roots nodes strict (length nodes) ids ids s
+  roots_begun queue before ids e none =
+      let all : length nodes - 0 ≡ length nodes = omega arith in
+      let same : queue ≡ ids = e ∙ ap (λ (xs : List ℕ). xs ++ ids) none in
+      ap (λ n. name_roots nodes strict n ids (drop 0 queue) s) all ∙ ap (λ (xs : List ℕ). name_roots nodes strict (length nodes) ids xs s) same
+
+  pub queue_over : (steps position : ℕ) (met queue : List ℕ) → slice_get queue position ≡ None → name_roots nodes strict steps met (drop position queue) s ≡ Ok ([], s)
+  queue_over steps position met queue none = ap (λ (xs : List ℕ). name_roots nodes strict steps met xs s) (drop_past queue position none) ∙ no_queue nodes strict steps met s
+
+  pub steps_over : (steps : ℕ) (met queue : List ℕ) → steps ≡ 0 → name_roots nodes strict steps met queue s ≡ Ok ([], s)
+  steps_over steps met queue none = ap (λ n. name_roots nodes strict n met queue s) none ∙ no_steps nodes strict met queue s
 
 -- ---- the requested files ----
 

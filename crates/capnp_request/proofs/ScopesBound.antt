@@ -1,5 +1,5 @@
 -- What brands bind to scopes: the scopes of a brand and bindings in a row, one more at a time.
-use Rattle.std.proofs.Common.{ℕ, ◌+◌, ◌-◌, ◌<◌, ◌≤◌, ◌≡◌, ◌≢◌, ◌⊎◌, inl, inr, min, ◌∙◌, ap, arith, pos, refl, sym, zero, suc, ◌==◌, Bool, true, false, List, [], ◌∷◌, ◌++◌, length, map, take, drop, cond, slice_get, Option, Some, None, Result, Ok, Err}
+use Rattle.std.proofs.Common.{ℕ, ◌+◌, ◌-◌, ◌<◌, ◌≤◌, ◌≡◌, ◌≢◌, ◌⊎◌, inl, inr, min, ◌∙◌, ap, arith, pos, refl, sym, zero, suc, ◌==◌, Bool, true, false, List, [], ◌∷◌, ◌++◌, length, map, take, drop, cond, get_or, slice_get, Option, Some, None, Result, Ok, Err}
 use Rattle.std.proofs.lemmas.Bool.Decides.{nat_tests}
 use Rattle.std.proofs.lemmas.List.{append-nil, map-append}
 use Rattle.capnp_device.specs.declared.error.ErrorKind.{ErrorKind}
@@ -21,7 +21,7 @@ use Rattle.capnp_request.specs.Types.{bind_scope, binding_types, brand_types, na
 use Rattle.capnp_request.specs.Work.{◌>>=◌, Bound, Named, Work, continued, each, given, said}
 use Rattle.capnp_request.specs.declared.schema_nodes.GenericScope.{GenericScope}
 use Rattle.capnp_request.proofs.ListsRead.{all_left, count_of, element_is, none_left, one_left}
-use Rattle.capnp_request.proofs.Walks.{more_done, prefixed}
+use Rattle.capnp_request.proofs.Walks.{all_done, more_done, prefixed, step_err, step_ok}
 
 -- ---- a brand's list ----
 
@@ -102,12 +102,13 @@ module _ (nodes : List SchemaNode) (strict : Bool) (inside : List Bound) (inner 
       pub binding_refused : (kind : ErrorKind) → type_of nodes strict inside (binding_said inner r) s ≡ Err kind → prefixed ys (binding_types nodes strict inside (bindings_said inner (values_left l i)) (count - i) s) ≡ Err kind
       binding_refused kind h = step (binding_said inner r) here ∙ ap (λ o. prefixed ys (continued (λ y. binding_types nodes strict inside (left (i + 1)) (count - (i + 1)) >>= (λ zs. given (y ∷ zs))) o)) h
 
-      pub binding_more : (y : SchemaType) (t : Named) → type_of nodes strict inside (binding_said inner r) s ≡ Ok (y, t) →
-          prefixed ys (binding_types nodes strict inside (bindings_said inner (values_left l i)) (count - i) s) ≡ prefixed (ys ++ y ∷ []) (binding_types nodes strict inside (bindings_said inner (values_left l (i + 1))) (count - (i + 1)) t)
-      binding_more y t h =
+      pub binding_more : (y : SchemaType) (t : Named) (after : List SchemaType) → type_of nodes strict inside (binding_said inner r) s ≡ Ok (y, t) → after ≡ ys ++ y ∷ [] →
+          prefixed ys (binding_types nodes strict inside (bindings_said inner (values_left l i)) (count - i) s) ≡ prefixed after (binding_types nodes strict inside (bindings_said inner (values_left l (i + 1))) (count - (i + 1)) t)
+      binding_more y t after h all =
           step (binding_said inner r) here
           ∙ (ap (λ o. prefixed ys (continued (λ y. binding_types nodes strict inside (left (i + 1)) (count - (i + 1)) >>= (λ zs. given (y ∷ zs))) o)) h
-          ∙ more_done ys y (binding_types nodes strict inside (left (i + 1)) (count - (i + 1)) t))
+          ∙ (more_done ys y (binding_types nodes strict inside (left (i + 1)) (count - (i + 1)) t)
+          ∙ ap (λ (zs : List SchemaType). prefixed zs (binding_types nodes strict inside (left (i + 1)) (count - (i + 1)) t)) (sym all)))
 
 -- ---- untyped pointers at the end ----
 
@@ -184,8 +185,8 @@ module _ (nodes : List SchemaNode) (strict : Bool) (inside : List Bound) (id : �
   scopes_unread kind e = ap (work brand) e
 
   module _ (items : List GenericScope) (generic : scopes_of nodes id ≡ Ok (map with_nothing items)) where
-    pub scopes_none : length items ≡ 0 → named_scopes nodes strict inside id brand s ≡ Ok ([], s)
-    scopes_none none = ap (work brand) generic ∙ go items none
+    pub scopes_none : length items ≡ 0 → (bound : List Bound) → bound ≡ [] → named_scopes nodes strict inside id brand s ≡ Ok (bound, s)
+    scopes_none none bound empty = ap (work brand) generic ∙ (go items none ∙ ap (λ (bs : List Bound). Ok (bs, s)) (sym empty))
       where
         go : (xs : List GenericScope) → length xs ≡ 0 → work brand (Ok (map with_nothing xs)) ≡ Ok ([], s)
         go [] e = refl
@@ -200,3 +201,40 @@ module _ (nodes : List SchemaNode) (strict : Bool) (inside : List Bound) (id : �
 
     pub scopes_by : (b : BrandTerm) → brand ≡ b → named_scopes nodes strict inside id brand s ≡ each (bind_scope (brand_types nodes strict inside b)) (map with_nothing items) s
     scopes_by b e = ap (work brand) generic ∙ ap (λ x. work x (Ok (map with_nothing items))) e
+
+-- ---- one scope more is bound ----
+
+item_left : {A : Type 0} (xs : List A) (i : ℕ) (x : A) → i < length xs → x ≡ get_or xs i x → drop i xs ≡ x ∷ drop (i + 1) xs
+item_left [] i x h e = absurd (omega (arith, h))
+item_left {A = A} (y ∷ xs) zero x h e = ap (λ (z : A). z ∷ xs) (sym e)
+item_left {A = A} (y ∷ xs) (suc i) x h e = let k : suc i + 1 ≡ suc (i + 1) = omega arith in item_left xs i x (omega (arith, h)) e ∙ ap (λ n. x ∷ drop n (y ∷ xs)) (sym k)
+
+items_over : {A : Type 0} (xs : List A) (i : ℕ) → length xs ≤ i → drop i xs ≡ []
+items_over [] zero h = refl
+items_over [] (suc i) h = refl
+items_over (x ∷ xs) zero h = absurd (omega (arith, h))
+items_over (x ∷ xs) (suc i) h = items_over xs i (omega (arith, h))
+
+module _ (nodes : List SchemaNode) (strict : Bool) (inside : List Bound) (brand : BrandTerm) (generic : List GenericScope) (i : ℕ) (ys : List Bound) (s : Named) where
+  abbrev each_bound : List GenericScope → Named → Result (List Bound × Named) ErrorKind
+  each_bound xs u = each (bind_scope (brand_types nodes strict inside brand)) (map with_nothing xs) u
+
+  pub bind_over : length generic ≤ i → prefixed ys (each (bind_scope (brand_types nodes strict inside brand)) (map with_nothing (drop i generic)) s) ≡ Ok (ys, s)
+  bind_over past = ap (λ (xs : List GenericScope). prefixed ys (each_bound xs s)) (items_over generic i past) ∙ all_done (bind_scope (brand_types nodes strict inside brand)) ys s
+
+  module _ (g : GenericScope) (within : i < length generic) (is : g ≡ get_or generic i g) where
+    next_bound : prefixed ys (each_bound (drop i generic) s) ≡ prefixed ys (each_bound (g ∷ drop (i + 1) generic) s)
+    next_bound = ap (λ (xs : List GenericScope). prefixed ys (each_bound xs s)) (item_left generic i g within is)
+
+    pub bind_refused : (kind : ErrorKind) → brand_types nodes strict inside brand (with_nothing g) s ≡ Err kind → prefixed ys (each (bind_scope (brand_types nodes strict inside brand)) (map with_nothing (drop i generic)) s) ≡ Err kind
+    bind_refused kind e =
+        next_bound ∙ step_err (bind_scope (brand_types nodes strict inside brand)) ys (with_nothing g) (map with_nothing (drop (i + 1) generic)) s kind
+        (ap (continued (λ ts. given (record (with_nothing g) { types = ts }))) e)
+
+    pub bind_more : (ts : List SchemaType) (t : Named) (after : List Bound) → brand_types nodes strict inside brand (with_nothing g) s ≡ Ok (ts, t) → after ≡ ys ++ record (with_nothing g) { types = ts } ∷ [] →
+        prefixed ys (each (bind_scope (brand_types nodes strict inside brand)) (map with_nothing (drop i generic)) s) ≡ prefixed after (each (bind_scope (brand_types nodes strict inside brand)) (map with_nothing (drop (i + 1) generic)) t)
+    bind_more ts t after e all =
+        next_bound
+        ∙ (step_ok (bind_scope (brand_types nodes strict inside brand)) ys (with_nothing g) (map with_nothing (drop (i + 1) generic)) (record (with_nothing g) { types = ts }) s t
+        (ap (continued (λ us. given (record (with_nothing g) { types = us }))) e)
+        ∙ ap (λ (zs : List Bound). prefixed zs (each_bound (drop (i + 1) generic) t)) (sym all))

@@ -12,7 +12,7 @@ use Rattle.capnp_records.specs.Part.{which_of}
 use Rattle.capnp_records.specs.Record as value
 use Rattle.capnp_records.specs.Record.{Record, Value, Values}
 use Rattle.capnp_request.specs.Done.{IsDone, IsSaid}
-use Rattle.capnp_request.specs.Meant.{IsPlainMember, scope_in, says_or, type_kind}
+use Rattle.capnp_request.specs.Meant.{IsPlainMember, IsPlainOr, says_or, scope_in, type_kind}
 use Rattle.capnp_request.specs.Parts.{read_at}
 use Rattle.capnp_request.specs.Reading.{binding_kinds, binding_said, bindings_said, brand_in, by_member, enum_term, in_list, in_struct, list_term, number_in, parameter_said, scope_kinds, scope_said, struct_term, type_in, type_kinds, type_said, untyped_kinds, untyped_term}
 use Rattle.capnp_request.specs.Scopes.{bound_types, node_named, scopes_of}
@@ -47,6 +47,11 @@ type_by levels depth r m i deep which is =
 pub plain_by : (levels depth : ℕ) (r : Record) (m : ℕ) (t : SchemaType) → depth ≡ suc levels → which_of r ≡ Some m → IsPlainMember m t → type_said depth r ≡ Plain t
 unfolding IsPlainMember
 plain_by levels depth r m t deep which plain = type_by levels depth r m m deep which refl ∙ plain (type_said levels) (read_at 13 m r)
+
+-- a member that says all of a type is none of these
+pub none_plain : (m : ℕ) (o : Option SchemaType) → IsPlainOr m o → o ≡ None → (10 ≤ m) × (12 ≤ m → 14 ≤ m)
+none_plain m None plain none = plain
+none_plain m (Some t) plain none = cc
 
 pub past_by : (levels depth : ℕ) (r : Record) (m : ℕ) → depth ≡ suc levels → which_of r ≡ Some m → 19 ≤ m → type_said depth r ≡ UnreadType UnknownKind
 past_by levels depth r m deep which past =
@@ -235,9 +240,12 @@ module _ (nodes : List SchemaNode) (strict : Bool) (inside : List Bound) where
   brand_by (UnreadBrand kind) scope s = refl
   brand_by (MoreScopes id says rest) scope s = brand_one says rest scope s (brand_by rest scope s) (id == scope.scope)
 
-  pub brand_none : (brand : BrandTerm) (scope : Bound) (s : Named) → scope_in brand scope.scope ≡ Ok None → brand_types nodes strict inside brand scope s ≡ Ok ([], s)
+  nothing_said : (brand : BrandTerm) (scope : Bound) (s : Named) → scope_in brand scope.scope ≡ Ok None → brand_types nodes strict inside brand scope s ≡ Ok ([], s)
   unfolding by_found
-  brand_none brand scope s e = brand_by brand scope s ∙ ap (λ o. by_found o scope s) e
+  nothing_said brand scope s e = brand_by brand scope s ∙ ap (λ o. by_found o scope s) e
+
+  pub brand_none : (brand : BrandTerm) (scope : Bound) (s : Named) (types : List SchemaType) → scope_in brand scope.scope ≡ Ok None → types ≡ [] → brand_types nodes strict inside brand scope s ≡ Ok (types, s)
+  brand_none brand scope s types e none = nothing_said brand scope s e ∙ ap (λ (ts : List SchemaType). Ok (ts, s)) (sym none)
 
   pub brand_unread : (brand : BrandTerm) (scope : Bound) (s : Named) (kind : ErrorKind) → scope_in brand scope.scope ≡ Err kind → brand_types nodes strict inside brand scope s ≡ Err kind
   unfolding by_found

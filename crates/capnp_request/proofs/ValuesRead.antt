@@ -1,5 +1,5 @@
 -- What the record of a value says, by its active member.
-use Rattle.std.proofs.Common.{ℕ, ◌≢◌, subst, zero, not, Bool, ◌^◌, ◌<◌, ◌≤◌, ◌≡◌, suc, arith, nat_lt, true, false, ◌∙◌, ap, refl, sym, List, Ok, Err, Option, Some, None, slice_get, drop}
+use Rattle.std.proofs.Common.{ℕ, ◌≢◌, subst, zero, not, Bool, ◌^◌, ◌<◌, ◌≤◌, ◌≡◌, suc, arith, nat_lt, true, false, ◌∙◌, ap, refl, sym, List, [], ◌∷◌, length, min, ◌⊎◌, inl, inr, Ok, Err, Option, Some, None, slice_get, drop}
 use Rattle.std.proofs.lemmas.Bool.Decides.{nat_tests}
 use Rattle.std.proofs.lemmas.Bool.{true≢false}
 use Rattle.std.proofs.lemmas.Option.{slice_get_past}
@@ -91,6 +91,24 @@ module _ (m t : Tree) (same : m ≡ t) (sound : first_fault t ≡ None) where
           let many : 2 ^ 29 ≤ suc (words_of m) = large (large_by kind is) (subst IsWellFormed (sym same) held) in
           words_too_many t sound (subst (λ x. 2 ^ 29 ≤ suc (words_of x)) same many) ∙ ap (λ k. Err k) (sym (large_by kind is))
       go false is = absurd (memory (kinds (not_large kind is)))
+
+-- ---- what stands behind a message's table ----
+
+nothing_left : (n : ℕ) (xs : List ℕ) → length xs ≤ n → drop n xs ≡ []
+nothing_left zero [] h = refl
+nothing_left (suc n) [] h = refl
+nothing_left zero (x ∷ xs) h = absurd (omega (arith, h))
+nothing_left (suc n) (x ∷ xs) h = nothing_left n xs (omega (arith, h))
+
+pub behind_table : (bytes rest : List ℕ) (start : ℕ) → rest ≡ drop start bytes → start ≡ min (length bytes) 8 → rest ≡ drop 8 bytes
+behind_table bytes rest start e is = go (either (length bytes))
+  where
+    either : (n : ℕ) → (8 ≤ n) ⊎ (n < 8)
+    either n = grind arith
+
+    go : (8 ≤ length bytes) ⊎ (length bytes < 8) → rest ≡ drop 8 bytes
+    go (inl long) = e ∙ ap (λ n. drop n bytes) (let same : start ≡ 8 = omega (arith, is, long) in same)
+    go (inr short) = e ∙ (nothing_left start bytes (omega (arith, is, short)) ∙ sym (nothing_left 8 bytes (omega (arith, short))))
 
 -- ---- which value is an untyped pointer ----
 

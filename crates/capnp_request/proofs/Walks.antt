@@ -28,6 +28,10 @@ pub nothing_done : {B : Type 0} (r : Result (List B × Named) ErrorKind) → r �
 nothing_done (Ok p) = refl
 nothing_done (Err kind) = refl
 
+-- at the beginning nothing is done
+pub begun_with : {B : Type 0} (ys : List B) (r : Result (List B × Named) ErrorKind) → ys ≡ [] → r ≡ prefixed ys r
+begun_with {B = B} ys r none = nothing_done r ∙ ap (λ (zs : List B). prefixed zs r) (sym none)
+
 pub more_done : {B : Type 0} (ys : List B) (y : B) (r : Result (List B × Named) ErrorKind) → prefixed ys (continued (λ zs. given (y ∷ zs)) r) ≡ prefixed (ys ++ y ∷ []) r
 more_done {B = B} ys y (Ok p) = ap (λ (zs : List B). Ok (zs, p.1)) (sym (append_assoc ys (y ∷ []) p.0))
 more_done ys y (Err kind) = refl

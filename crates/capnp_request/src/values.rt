@@ -1,5 +1,5 @@
 //! Values of defaults and annotations, as a request says them.
-ghost use Rattle.std.specs.Prelude.{◌≡◌, ◌≢◌, None, Some, Ok, Err, IfErr, IfOk, option_map};
+ghost use Rattle.std.specs.Prelude.{◌≡◌, ◌≢◌, None, Some, Ok, Err, drop, IfErr, IfOk, option_map};
 ghost use Rattle.capnp_device.specs.declared.error.ErrorKind.TheVariants.{OutOfMemory};
 ghost use Rattle.capnp_wire.specs.Reading.{refusal};
 ghost use Rattle.capnp_wire.specs.Message.{builder_tree};
@@ -50,6 +50,15 @@ fn copy_of(alloc: Global, pointer: any_pointer::Reader<'_>) -> Result<Builder>
     Ok(message)
 }
 
+/// What stands behind the table of a message.
+#[tactic(auto, using(crate::proofs::ValuesRead::behind_table))]
+fn behind_table(bytes: &[u8]) -> &[u8]
+    ensures { result.now ≡ drop 8 bytes.now }
+{
+    let start = bytes.len().min(TABLE_BYTES);
+    &bytes[start..]
+}
+
 /// The words of one segment whose root pointer leads to a copy of what stands at a pointer. Refused as the first pointer
 /// there that can't be followed, in preorder, and with `TooLarge` or `OutOfMemory`.
 #[tactic(auto, using(crate::proofs::RefusedKinds::write_kinds))]
@@ -60,8 +69,8 @@ fn words_of(alloc: Global, pointer: any_pointer::Reader<'_>) -> Result<Vec<u8>>
 {
     let message = copy_of(alloc, pointer)?;
     let bytes = message.write_message()?;
-    let start = bytes.len().min(TABLE_BYTES);
-    let words = bytes[start..].to_vec(alloc)?;
+    let behind = behind_table(bytes.as_slice());
+    let words = copied(alloc, behind)?;
     Ok(words)
 }
 

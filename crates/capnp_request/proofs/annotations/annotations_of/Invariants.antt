@@ -18,6 +18,6 @@ abbrev pub invariant-loop-at : goal.invariant-loop-at
 invariant-loop-at l = record {
   numbers : AreNumbered l.entries;
   typed : length l.types.items ≡ length l.records.items;
-  done : annotations_of (nodes_of l.context.nodes) l.context.strict (bounds l.inside) (annotations_in (read_at l.brand l.index (record_seen l.reader))) (between l.fn.entries)
-      ≡ prefixed (typed_annotations l.records.items l.types.items) (each_read (annotation_of (nodes_of l.context.nodes) l.context.strict (bounds l.inside)) (each_said 12 annotation_said (values_left l.listed l.at)) (between l.entries));
+  done : annotations_of (nodes_of l.context.nodes.now) l.context.strict (bounds l.inside) (annotations_in (read_at l.brand l.index (record_seen l.reader))) (between l.fn.entries)
+      ≡ prefixed (typed_annotations l.records.items l.types.items) (each_read (annotation_of (nodes_of l.context.nodes.now) l.context.strict (bounds l.inside)) (each_said 12 annotation_said (values_left l.listed l.at)) (between l.entries));
 }

@@ -29,7 +29,7 @@ loop-at-preserved c =
     let within : c.loop-at.at < length_of c.in_ok-listed.listed = omega arith in
     ap (λ ids. said_behind ids (all_said (each_said c.args.inner (id_said c.args.inner) (values_left c.in_ok-listed.listed (c.loop-at.at + 1))))) c.in_ok-push.ensures.items
     ∙ (behind_more c.loop-at.ids.items _ _ _ (said_record c.in_ok-listed.listed c.args.inner (id_said c.args.inner) c.loop-at.at (record_seen c.in_ok-element.element) c.in_ok-listed.ensures.elements within c.in_ok-element.ensures.read
-    ∙ ap (λ n. Ok n ∷ _) (ap number_in (sym c.u64_at.ensures))) ∙ c.loop-at.invariant)
+    ∙ ap (λ (n : ℕ). Ok n ∷ each_said c.args.inner (id_said c.args.inner) (values_left c.in_ok-listed.listed (c.loop-at.at + 1))) (ap number_in (sym c.u64_at.ensures))) ∙ c.loop-at.invariant)
 
 pub returns-clause-said : goal.returns-clause-said
 returns-clause-said c =

@@ -1,11 +1,15 @@
-use Rattle.std.proofs.Common.{ℕ, ◌≡◌, ◌<◌, ◌≤◌, ◌+◌, ◌-◌, ◌∙◌, ap, arith, drop, length, rules, slice_get, sym, Some, Err}
+use Rattle.std.proofs.Common.{ℕ, ◌≡◌, ◌<◌, ◌≤◌, ◌+◌, ◌-◌, ◌∙◌, ◌++◌, [], List, ap, arith, drop, length, rules, slice_get, sym, None, Some, Err}
+use Rattle.std.proofs.lemmas.List.{append-nil}
 use Rattle.std.proofs.lemmas.Result.{err_from_is_err_and}
 use Rattle.capnp_device.specs.declared.error.ErrorKind.{ErrorKind}
 use Rattle.capnp_dynamic_readers.specs.Seen.{record_seen}
 use Rattle.capnp_request.specs.Done.{between}
+use Rattle.capnp_request.specs.Met.{AreMet}
 use Rattle.capnp_request.specs.Nodes.{nodes_of}
+use Rattle.capnp_request.specs.Order.{name_roots, new_ids}
 use Rattle.capnp_request.specs.Reading.{node_said}
-use Rattle.capnp_request.proofs.RootsNamed.{at_id, behind_id, files_opened, files_refused, nested_in, nested_refused, no_queue, root_missing, root_named, root_refused}
+use Rattle.capnp_request.specs.Scopes.{is_met}
+use Rattle.capnp_request.proofs.RootsNamed.{at_id, behind_id, files_opened, files_refused, nested_in, nested_refused, none_met, queue_over, root_missing, root_named, root_refused, roots_begun, steps_over}
 use Rattle.capnp_request.proofs.roots.number_roots.Goals as goal
 
 pub returns-in_err-files-clause-done : goal.returns-in_err-files-clause-done
@@ -36,3 +40,43 @@ returns-in_err-number_root-clause-done c =
     let here : slice_get c.loop-position.queue.items c.loop-position.position ≡ Some c.in-Some.id = search rules in
     let p = err_from_is_err_and c.from_residual-in_err-number_root.result c.from_residual-in_err-number_root.ensures.1 in
     rw (p.1, p.2) (λ is. files_opened (nodes_of c.args.context.nodes.now) c.args.context.strict _ (between c.args.entries.now) c.in_ok-files.files.items c.in_ok-files.ensures.said ∙ (sym inv.3 ∙ (at_id (nodes_of c.args.context.nodes.now) c.args.context.strict (length (nodes_of c.args.context.nodes.now)) c.loop-position.position inv.0 c.loop-position.queue.items c.in-Some.id (between c.loop-position.entries) inside here ∙ root_refused (nodes_of c.args.context.nodes.now) c.args.context.strict (length (nodes_of c.args.context.nodes.now) - (c.loop-position.position + 1)) inv.0 c.in-Some.id (drop (c.loop-position.position + 1) c.loop-position.queue.items) (between c.loop-position.entries) (node_said (record_seen c.in_ok-node.node)) c.in_ok-node.ensures.read c.in_ok-nested.nested.items (nested_in (record_seen c.in_ok-node.node) ∙ c.in_ok-nested.ensures.said) _ (c.in_err-number_root.ensures.done is))))
+
+pub loop-position-init : goal.loop-position-init
+loop-position-init c =
+    let none : AreMet c.new-met.result [] = none_met c.new-met.result c.new-met.ensures.empty in
+    let no_ids : c.new-queue.result.items ≡ [] = search rules in
+    let first : List ℕ = new_ids (nodes_of c.args.context.nodes.now) c.in_ok-files.files.items [] in (
+      first,
+      λ id. c.in_ok-put_ids.ensures.met [] none id ∙ ap (λ (xs : List ℕ). is_met xs id) (append-nil first),
+      c.requires.numbers,
+      roots_begun (nodes_of c.args.context.nodes.now) c.args.context.strict (between c.args.entries.now) _ _ first (c.in_ok-put_ids.ensures.queue [] none) no_ids,
+    )
+
+pub loop-position-preserved : goal.loop-position-preserved
+loop-position-preserved c =
+    let inv = c.loop-position.invariant in
+    let inside : c.loop-position.position < length (nodes_of c.args.context.nodes.now) = omega arith in
+    let here : slice_get c.loop-position.queue.items c.loop-position.position ≡ Some c.in-Some.id = search rules in
+    let more : List ℕ = new_ids (nodes_of c.args.context.nodes.now) c.in_ok-nested.nested.items inv.0 in (
+      more ++ inv.0,
+      c.in_ok-put_ids-2.ensures.met inv.0 inv.1,
+      c.in_ok-number_root.ensures.numbers,
+      ap (λ (xs : List ℕ). name_roots (nodes_of c.args.context.nodes.now) c.args.context.strict (length (nodes_of c.args.context.nodes.now) - (c.loop-position.position + 1)) (more ++ inv.0) xs (between c.number_root.new.entries))
+      (behind_id (nodes_of c.args.context.nodes.now) c.args.context.strict (length (nodes_of c.args.context.nodes.now)) c.loop-position.position inv.0 c.loop-position.queue.items c.in-Some.id (between c.loop-position.entries) inside here more _ (c.in_ok-put_ids-2.ensures.queue inv.0 inv.1))
+      ∙ (sym (root_named (nodes_of c.args.context.nodes.now) c.args.context.strict (length (nodes_of c.args.context.nodes.now) - (c.loop-position.position + 1)) inv.0 c.in-Some.id (drop (c.loop-position.position + 1) c.loop-position.queue.items) (between c.loop-position.entries) (node_said (record_seen c.in_ok-node.node)) c.in_ok-node.ensures.read c.in_ok-nested.nested.items (nested_in (record_seen c.in_ok-node.node) ∙ c.in_ok-nested.ensures.said) (between c.number_root.new.entries) c.in_ok-number_root.ensures.done)
+      ∙ (sym (at_id (nodes_of c.args.context.nodes.now) c.args.context.strict (length (nodes_of c.args.context.nodes.now)) c.loop-position.position inv.0 c.loop-position.queue.items c.in-Some.id (between c.loop-position.entries) inside here) ∙ inv.3)),
+    )
+
+pub returns-in_default-clause-done : goal.returns-in_default-clause-done
+returns-in_default-clause-done c =
+    let inv = c.loop-position.invariant in
+    let none : slice_get c.loop-position.queue.items c.loop-position.position ≡ None = search rules in
+    files_opened (nodes_of c.args.context.nodes.now) c.args.context.strict _ (between c.args.entries.now) c.in_ok-files.files.items c.in_ok-files.ensures.said
+    ∙ (sym inv.3 ∙ queue_over (nodes_of c.args.context.nodes.now) c.args.context.strict (between c.loop-position.entries) (length (nodes_of c.args.context.nodes.now) - c.loop-position.position) c.loop-position.position inv.0 c.loop-position.queue.items none)
+
+pub returns-clause-done : goal.returns-clause-done
+returns-clause-done c =
+    let inv = c.loop-position.invariant in
+    let none : length (nodes_of c.args.context.nodes.now) - c.loop-position.position ≡ 0 = omega arith in
+    files_opened (nodes_of c.args.context.nodes.now) c.args.context.strict _ (between c.args.entries.now) c.in_ok-files.files.items c.in_ok-files.ensures.said
+    ∙ (sym inv.3 ∙ steps_over (nodes_of c.args.context.nodes.now) c.args.context.strict (between c.loop-position.entries) (length (nodes_of c.args.context.nodes.now) - c.loop-position.position) inv.0 (drop c.loop-position.position c.loop-position.queue.items) none)

@@ -1,9 +1,9 @@
-use Rattle.std.proofs.Common.{◌+◌, ◌-◌, ◌<◌, ◌≤◌, ◌≡◌, ◌≢◌, ◌∙◌, arith, ap, refl, suc, sym, map, option_map, Err, Ok, Some, rules, List, [], ◌∷◌, ◌++◌}
+use Rattle.std.proofs.Common.{true, false, length, drop, None, ◌+◌, ◌-◌, ◌<◌, ◌≤◌, ◌≡◌, ◌≢◌, ◌∙◌, arith, ap, refl, suc, sym, map, option_map, Err, Ok, Some, rules, List, [], ◌∷◌, ◌++◌}
 use Rattle.capnp_schema.specs.Types.{SchemaType, seen_type}
 use Rattle.capnp_records.specs.Part.{which_of}
 use Rattle.capnp_records.specs.Record.{Record}
 use Rattle.capnp_dynamic_readers.specs.Seen.{list_seen, record_seen}
-use Rattle.capnp_request.specs.Bindings.{bounds, flags, with_nothing}
+use Rattle.capnp_request.specs.Bindings.{bounds, flags, seen_bound, with_nothing}
 use Rattle.capnp_request.specs.Done.{so_far}
 use Rattle.capnp_request.specs.Handles.{values_left}
 use Rattle.capnp_request.specs.Meant.{float_type}
@@ -18,9 +18,9 @@ use Rattle.capnp_request.specs.declared.schema_nodes.GenericScope.{GenericScope}
 use Rattle.capnp_request.proofs.ListsRead.{all_left}
 use Rattle.capnp_request.proofs.Numbering.{map_more}
 use Rattle.capnp_request.proofs.Refused.{err_done}
-use Rattle.capnp_request.proofs.ScopesBound.{binding_fault, binding_more, binding_refused, bindings_all, scopes_by, scopes_fault, scopes_none, scopes_unread}
-use Rattle.capnp_request.proofs.TypesDone.{binding_is, binding_none, binding_past, binding_unbound, binding_unread, brand_none, brand_some, brand_unread, by_depth, by_none, done_as, inherits_end, list_end, list_refused, list_unread, past_by, plain_by, scope_done, scope_none, scope_other, scope_refused, scope_unread, struct_done, struct_missing, struct_named, struct_refused, struct_unbound, term_done, type_by, work_done}
-use Rattle.capnp_request.proofs.Walks.{nothing_done, prefixed}
+use Rattle.capnp_request.proofs.ScopesBound.{bind_more, bind_over, bind_refused, binding_fault, binding_more, binding_refused, bindings_all, scopes_by, scopes_fault, scopes_none, scopes_unread}
+use Rattle.capnp_request.proofs.TypesDone.{binding_is, binding_none, binding_past, binding_unbound, binding_unread, brand_none, brand_some, brand_unread, by_depth, by_none, done_as, inherits_end, list_end, list_refused, list_unread, none_plain, past_by, plain_by, scope_done, scope_none, scope_other, scope_refused, scope_unread, struct_done, struct_missing, struct_named, struct_refused, struct_unbound, term_done, type_by, work_done}
+use Rattle.capnp_request.proofs.Walks.{begun_with, prefixed}
 use Rattle.capnp_request.proofs.types.+types.Goals as goal
 
 pub type_of-returns-then-depth-eq0-clause-done : goal.type_of-returns-then-depth-eq0-clause-done
@@ -84,7 +84,12 @@ pub type_of-returns-in_default-member-clause-done : goal.type_of-returns-in_defa
 type_of-returns-in_default-member-clause-done t c =
     let deep : c.args.depth ≡ suc (c.args.depth - 1) = omega (arith, c.if-depth-eq0.false) in
     let which : which_of (record_seen c.args.term) ≡ Some c.in-Some.member = sym c.active_member.ensures ∙ c.in-Some.is in
-    λ n. ap (λ k. type_of (nodes_of c.args.context.nodes.now) c.args.context.strict (bounds c.args.inside.now) k (so_far c.args.entries.now c.args.seen.now)) (past_by (c.args.depth - 1) c.args.depth (record_seen c.args.term) c.in-Some.member deep which (omega arith)) ∙ ap (λ k. Err k) (sym c.from-in_default-member.ensures)
+    let none : c.plain_type.result ≡ None = search rules in
+    let other = none_plain c.in-Some.member (option_map seen_type c.plain_type.result) c.plain_type.ensures (ap (option_map seen_type) none) in
+    let no_float : 12 ≤ c.in-Some.member = omega (arith, other.0) in
+    let behind : 14 ≤ c.in-Some.member = other.1 no_float in
+    let past : 19 ≤ c.in-Some.member = omega (arith, behind) in
+    λ n. ap (λ k. type_of (nodes_of c.args.context.nodes.now) c.args.context.strict (bounds c.args.inside.now) k (so_far c.args.entries.now c.args.seen.now)) (past_by (c.args.depth - 1) c.args.depth (record_seen c.args.term) c.in-Some.member deep which past) ∙ ap (λ k. Err k) (sym c.from-in_default-member.ensures)
 
 pub list_type_of-returns-in_err-element-clause-done : goal.list_type_of-returns-in_err-element-clause-done
 list_type_of-returns-in_err-element-clause-done t c =
@@ -121,7 +126,8 @@ bindings_of-returns-in_err-generic-clause-done t c =
 
 pub bindings_of-returns-then-count-eq0-clause-done : goal.bindings_of-returns-then-count-eq0-clause-done
 bindings_of-returns-then-count-eq0-clause-done t c =
-    scopes_none (nodes_of c.args.context.nodes.now) c.args.context.strict (bounds c.args.inside.now) c.args.id (brand_in (type_said c.args.depth) (read_at c.args.place.holder c.args.place.index (record_seen c.args.place.reader))) (so_far c.args.entries.now c.args.seen.now) c.in_ok-generic.generic.items c.in_ok-generic.ensures.read (omega (arith, c.len-count.ensures))
+    let none : c.new.result.items ≡ [] = search rules in
+    scopes_none (nodes_of c.args.context.nodes.now) c.args.context.strict (bounds c.args.inside.now) c.args.id (brand_in (type_said c.args.depth) (read_at c.args.place.holder c.args.place.index (record_seen c.args.place.reader))) (so_far c.args.entries.now c.args.seen.now) c.in_ok-generic.generic.items c.in_ok-generic.ensures.read (omega (arith, c.len-count.ensures)) _ (ap bounds none)
 
 pub bindings_of-returns-in_err-said-clause-done : goal.bindings_of-returns-in_err-said-clause-done
 bindings_of-returns-in_err-said-clause-done t c =
@@ -143,7 +149,8 @@ scope_types-returns-in-Some-clause-done t c =
 
 pub scope_types-returns-in-None-clause-done : goal.scope_types-returns-in-None-clause-done
 scope_types-returns-in-None-clause-done t c =
-    brand_none (nodes_of c.args.context.nodes.now) c.args.context.strict (bounds c.args.inside.now) (scopes_said (type_said c.args.depth) (values_left c.args.said 0)) (with_nothing c.args.scope) (so_far c.args.entries.now c.args.seen.now) (c.in_ok-found.ensures.said (type_said c.args.depth) ∙ ap (λ o. Ok (option_map (λ s. scope_said (type_said c.args.depth) (record_seen s)) o)) c.in-None.is)
+    let none : c.new.result.items ≡ [] = search rules in
+    brand_none (nodes_of c.args.context.nodes.now) c.args.context.strict (bounds c.args.inside.now) (scopes_said (type_said c.args.depth) (values_left c.args.said 0)) (with_nothing c.args.scope) (so_far c.args.entries.now c.args.seen.now) _ (c.in_ok-found.ensures.said (type_said c.args.depth) ∙ ap (λ o. Ok (option_map (λ s. scope_said (type_said c.args.depth) (record_seen s)) o)) c.in-None.is) (ap (map seen_type) none)
 
 pub said_types-returns-in_default-clause-done : goal.said_types-returns-in_default-clause-done
 said_types-returns-in_default-clause-done t c =
@@ -192,8 +199,14 @@ binding_type-returns-in_default-member-clause-done t c =
 
 pub bound_types-loop-index-init : goal.bound_types-loop-index-init
 bound_types-loop-index-init t c =
+    let none : c.new-types.result.items ≡ [] = search rules in
     let e : c.args.parameters ≡ c.args.parameters - 0 = omega arith in
-    record { numbers = c.requires.numbers; below = omega arith; done = nothing_done _ ∙ ap (λ n. prefixed [] (binding_types (nodes_of c.args.context.nodes.now) c.args.context.strict (bounds c.args.inside.now) (bindings_said (type_said c.args.depth) (values_left c.args.bindings 0)) n (so_far c.args.entries.now c.args.seen.now))) e }
+    record {
+      numbers = c.requires.numbers;
+      below = omega arith;
+      done = begun_with (map seen_type c.new-types.result.items) (binding_types (nodes_of c.args.context.nodes.now) c.args.context.strict (bounds c.args.inside.now) (bindings_said (type_said c.args.depth) (values_left c.args.bindings 0)) c.args.parameters (so_far c.args.entries.now c.args.seen.now)) (ap (map seen_type) none)
+          ∙ ap (λ n. prefixed (map seen_type c.new-types.result.items) (binding_types (nodes_of c.args.context.nodes.now) c.args.context.strict (bounds c.args.inside.now) (bindings_said (type_said c.args.depth) (values_left c.args.bindings 0)) n (so_far c.args.entries.now c.args.seen.now))) e;
+    }
 
 pub bound_types-returns-in_err-binding-clause-done : goal.bound_types-returns-in_err-binding-clause-done
 bound_types-returns-in_err-binding-clause-done t c =
@@ -209,10 +222,32 @@ bound_types-loop-index-preserved t c =
       numbers = c.in_ok-bound.ensures.numbers;
       below = omega arith;
       done = c.loop-index.invariant.done
-          ∙ (binding_more (nodes_of c.args.context.nodes.now) c.args.context.strict (bounds c.args.inside.now) (type_said c.args.depth) c.args.bindings c.loop-index.index c.args.parameters (map seen_type c.loop-index.types.items) (so_far c.loop-index.entries c.loop-index.seen) c.requires.is_list (omega arith) (omega arith) (record_seen c.in_ok-binding.binding) c.in_ok-binding.ensures.read (seen_type c.in_ok-bound.bound) _ c.in_ok-bound.ensures.done
-          ∙ ap (λ (ys : List SchemaType). prefixed ys _) (sym (map_more seen_type c.loop-index.types.items _ _ (seen_type c.in_ok-bound.bound) c.in_ok-push.ensures.items refl)));
+          ∙ binding_more (nodes_of c.args.context.nodes.now) c.args.context.strict (bounds c.args.inside.now) (type_said c.args.depth) c.args.bindings c.loop-index.index c.args.parameters (map seen_type c.loop-index.types.items) (so_far c.loop-index.entries c.loop-index.seen) c.requires.is_list (omega arith) (omega arith) (record_seen c.in_ok-binding.binding) c.in_ok-binding.ensures.read (seen_type c.in_ok-bound.bound) _ _ c.in_ok-bound.ensures.done
+          (map_more seen_type c.loop-index.types.items _ _ (seen_type c.in_ok-bound.bound) c.in_ok-push.ensures.items refl);
     }
 
 pub bound_types-returns-clause-done : goal.bound_types-returns-clause-done
 bound_types-returns-clause-done t c =
     c.loop-index.invariant.done ∙ bindings_all (nodes_of c.args.context.nodes.now) c.args.context.strict (bounds c.args.inside.now) (type_said c.args.depth) c.args.bindings c.loop-index.index c.args.parameters (map seen_type c.loop-index.types.items) (so_far c.loop-index.entries c.loop-index.seen) (omega arith)
+
+pub bound_scopes-loop-scope-init : goal.bound_scopes-loop-scope-init
+bound_scopes-loop-scope-init t c =
+    let none : c.new-scopes.result.items ≡ [] = search rules in
+    record { numbers = c.requires.numbers; done = begun_with (bounds c.new-scopes.result.items) (each (bind_scope (brand_types (nodes_of c.args.context.nodes.now) c.args.context.strict (bounds c.args.inside.now) (scopes_said (type_said c.args.depth) (values_left c.args.said 0)))) (map with_nothing c.args.generic.now) (so_far c.args.entries.now c.args.seen.now)) (ap bounds none) }
+
+pub bound_scopes-returns-in_err-types-clause-done : goal.bound_scopes-returns-in_err-types-clause-done
+bound_scopes-returns-in_err-types-clause-done t c =
+    err_done (λ scopes. bounds scopes.items) (each (bind_scope (brand_types (nodes_of c.args.context.nodes.now) c.args.context.strict (bounds c.args.inside.now) (scopes_said (type_said c.args.depth) (values_left c.args.said 0)))) (map with_nothing c.args.generic.now)) (so_far c.args.entries.now c.args.seen.now) _ c.from_residual.result _ c.from_residual.ensures.1 (λ n.
+    c.loop-scope.invariant.done ∙ bind_refused (nodes_of c.args.context.nodes.now) c.args.context.strict (bounds c.args.inside.now) (scopes_said (type_said c.args.depth) (values_left c.args.said 0)) c.args.generic.now c.loop-scope.scope-index (bounds c.loop-scope.scopes.items) (so_far c.loop-scope.entries c.loop-scope.seen) c.scope-item.result c.loop-scope-test.true c.scope-item.is _ (c.in_err-types.ensures.done n))
+
+pub bound_scopes-loop-scope-preserved : goal.bound_scopes-loop-scope-preserved
+bound_scopes-loop-scope-preserved t c = record {
+  numbers = c.in_ok-types.ensures.numbers;
+  done = c.loop-scope.invariant.done
+      ∙ bind_more (nodes_of c.args.context.nodes.now) c.args.context.strict (bounds c.args.inside.now) (scopes_said (type_said c.args.depth) (values_left c.args.said 0)) c.args.generic.now c.loop-scope.scope-index (bounds c.loop-scope.scopes.items) (so_far c.loop-scope.entries c.loop-scope.seen) c.scope-item.result c.loop-scope-test.true c.scope-item.is (map seen_type c.in_ok-types.types.items) _ _ c.in_ok-types.ensures.done
+      (map_more seen_bound c.loop-scope.scopes.items _ _ _ c.in_ok-push.ensures.items c.bound_scope.ensures);
+}
+
+pub bound_scopes-returns-clause-done : goal.bound_scopes-returns-clause-done
+bound_scopes-returns-clause-done t c =
+    c.loop-scope.invariant.done ∙ bind_over (nodes_of c.args.context.nodes.now) c.args.context.strict (bounds c.args.inside.now) (scopes_said (type_said c.args.depth) (values_left c.args.said 0)) c.args.generic.now c.loop-scope.scope-index (bounds c.loop-scope.scopes.items) (so_far c.loop-scope.entries c.loop-scope.seen) (omega arith)

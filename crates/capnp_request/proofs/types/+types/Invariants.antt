@@ -42,8 +42,8 @@ decreases-struct_type_of l = 8 * l.depth + 7
 abbrev pub invariant-bound_scopes-loop-scope : goal.invariant-bound_scopes-loop-scope
 invariant-bound_scopes-loop-scope l = record {
   numbers : AreNumbered l.entries;
-  done : each (bind_scope (brand_types (nodes_of l.context.nodes) l.context.strict (bounds l.inside) (scopes_said (type_said l.depth) (values_left l.said 0)))) (map with_nothing l.generic) (so_far l.fn.entries l.fn.seen)
-      ≡ prefixed (bounds l.scopes.items) (each (bind_scope (brand_types (nodes_of l.context.nodes) l.context.strict (bounds l.inside) (scopes_said (type_said l.depth) (values_left l.said 0)))) (map with_nothing (drop l.scope-index l.generic)) (so_far l.entries l.seen));
+  done : each (bind_scope (brand_types (nodes_of l.context.nodes.now) l.context.strict (bounds l.inside) (scopes_said (type_said l.depth) (values_left l.said 0)))) (map with_nothing l.generic) (so_far l.fn.entries l.fn.seen)
+      ≡ prefixed (bounds l.scopes.items) (each (bind_scope (brand_types (nodes_of l.context.nodes.now) l.context.strict (bounds l.inside) (scopes_said (type_said l.depth) (values_left l.said 0)))) (map with_nothing (drop l.scope-index l.generic)) (so_far l.entries l.seen));
 }
 
 -- So many bindings were read.
@@ -51,6 +51,6 @@ abbrev pub invariant-bound_types-loop-index : goal.invariant-bound_types-loop-in
 invariant-bound_types-loop-index l = record {
   numbers : AreNumbered l.entries;
   below : l.index ≤ l.parameters;
-  done : binding_types (nodes_of l.context.nodes) l.context.strict (bounds l.inside) (bindings_said (type_said l.depth) (values_left l.bindings 0)) l.parameters (so_far l.fn.entries l.fn.seen)
-      ≡ prefixed (map seen_type l.types.items) (binding_types (nodes_of l.context.nodes) l.context.strict (bounds l.inside) (bindings_said (type_said l.depth) (values_left l.bindings l.index)) (l.parameters - l.index) (so_far l.entries l.seen));
+  done : binding_types (nodes_of l.context.nodes.now) l.context.strict (bounds l.inside) (bindings_said (type_said l.depth) (values_left l.bindings 0)) l.parameters (so_far l.fn.entries l.fn.seen)
+      ≡ prefixed (map seen_type l.types.items) (binding_types (nodes_of l.context.nodes.now) l.context.strict (bounds l.inside) (bindings_said (type_said l.depth) (values_left l.bindings l.index)) (l.parameters - l.index) (so_far l.entries l.seen));
 }
