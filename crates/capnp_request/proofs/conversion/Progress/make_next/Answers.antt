@@ -6,7 +6,7 @@ use Rattle.capnp_request.specs.Nodes.{nodes_of}
 use Rattle.capnp_request.specs.Numbers.{numbered}
 use Rattle.capnp_request.specs.ProgressSeen.{made_of}
 use Rattle.capnp_request.proofs.OrderMade.{next_enum, next_enum_refused, next_made, next_none, next_refused, struct_refused}
-use Rattle.capnp_request.proofs.ProgressMade.{next_enum_id, next_node, struct_so}
+use Rattle.capnp_request.proofs.ProgressMade.{held_since, next_enum_id, next_node, struct_so}
 use Rattle.capnp_request.proofs.conversion.Progress.make_next.Goals as goal
 
 pub returns-in_err-next-clause-refused : goal.returns-in_err-next-clause-refused
@@ -29,7 +29,7 @@ returns-in_ok-add_struct-clause-done c = λ hs h.
     let count : c.len.result ≡ length c.args.self.now.made.nodes.items = search rules in
     let here : slice_get (numbered c.args.entries.now).entries (length (made_of c.args.self.now hs).nodes) ≡ Some (seen_entry c.in-Some.entry.now) = next_node c.args.self.now hs c.len.result _ _ count (sym c.in-Some.ensures) in
     let begun = c.in_ok-next.ensures.done hs h in
-    (begun.0, search rules, λ steps. next_made (nodes_of c.args.context.nodes.now) c.args.context.strict (made_of c.args.self.now hs) (between c.args.entries.now) steps _ here _ _ (struct_so (nodes_of c.args.context.nodes.now) c.args.context.strict c.args.self.now c.begin-next.new.self hs begun.0 c.in_ok-next.next (seen_entry c.in-Some.entry.now) (between c.args.entries.now) begun.2 c.begin-next.ensures.same c.in_ok-next.ensures.id c.in_ok-next.ensures.scopes ∙ c.in_ok-add_struct.ensures.done begun.0))
+    (begun.0, held_since c.begin-next.new.self.names c.add_struct.new.self.names begun.0 c.add_struct.ensures.names begun.1, λ steps. next_made (nodes_of c.args.context.nodes.now) c.args.context.strict (made_of c.args.self.now hs) (between c.args.entries.now) steps _ here _ _ (struct_so (nodes_of c.args.context.nodes.now) c.args.context.strict c.args.self.now c.begin-next.new.self hs begun.0 c.in_ok-next.next (seen_entry c.in-Some.entry.now) (between c.args.entries.now) begun.2 c.begin-next.ensures.same c.in_ok-next.ensures.id c.in_ok-next.ensures.scopes ∙ c.in_ok-add_struct.ensures.done begun.0))
 
 pub returns-in_err-add_enum-clause-refused : goal.returns-in_err-add_enum-clause-refused
 returns-in_err-add_enum-clause-refused c = λ hs h.
@@ -46,7 +46,7 @@ returns-in_ok-add_enum-clause-done c = λ hs h.
     let none : slice_get (numbered c.args.entries.now).entries (length (made_of c.args.self.now hs).nodes) ≡ None = next_node c.args.self.now hs c.len.result _ _ count (search rules) in
     let count_enums : c.len-2.result ≡ length c.args.self.now.made.enums.items = search rules in
     let here : slice_get (numbered c.args.entries.now).enums (length (made_of c.args.self.now hs).enums) ≡ Some c.in-Some-enum_id.id = next_enum_id c.args.self.now hs c.len-2.result _ _ count_enums (search rules) in
-    (hs, search rules, λ steps. next_enum (nodes_of c.args.context.nodes.now) c.args.context.strict (made_of c.args.self.now hs) (between c.args.entries.now) steps none _ here _ _ (c.in_ok-add_enum.ensures.done hs))
+    (hs, held_since c.args.self.now.names c.add_enum.new.self.names hs c.add_enum.ensures.names h, λ steps. next_enum (nodes_of c.args.context.nodes.now) c.args.context.strict (made_of c.args.self.now hs) (between c.args.entries.now) steps none _ here _ _ (c.in_ok-add_enum.ensures.done hs))
 
 pub returns-clause-done : goal.returns-clause-done
 returns-clause-done c = λ hs h.
