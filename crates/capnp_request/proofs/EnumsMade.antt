@@ -1,5 +1,5 @@
 -- The parts of enums, as the definition sees them.
-use Rattle.std.proofs.Common.{ℕ, ◌≡◌, ◌∙◌, ap, refl, sym, map, string_bytes, Bool, true, false, List, [], ◌∷◌, Result, Ok, Err}
+use Rattle.std.proofs.Common.{ℕ, length, suc, ◌≡◌, ◌∙◌, ap, refl, sym, map, string_bytes, Bool, true, false, List, [], ◌∷◌, Result, Ok, Err}
 use Rattle.std.specs.Global.{Global}
 use Rattle.std.specs.Prelude.{Vec}
 use Rattle.capnp_base.specs.declared.introspect.«Type».{«Type» as TypeHandle}
@@ -9,6 +9,7 @@ use Rattle.capnp_records.specs.Record as value
 use Rattle.capnp_records.specs.Record.{Record, Value}
 use Rattle.capnp_schema.specs.Schema.{Annotation, Enum, Enumerant, seen_annotations, seen_enum, seen_enumerant}
 use Rattle.capnp_schema.specs.declared.record.EnumRecord.{EnumRecord}
+use Rattle.capnp_schema.specs.declared.record.EnumerantRecord.{EnumerantRecord}
 use Rattle.capnp_schema.specs.Types.{SchemaType, seen_type}
 use Rattle.capnp_request.specs.Conversion.{annotations_of, name_of}
 use Rattle.capnp_request.specs.Order.{all_enumerants, at_enum, enum_made, enumerant_of, firsts, seconds}
@@ -134,6 +135,16 @@ enum_seen e id name own enumerants types children e0 e1 e2 e3 e4 e5 =
     ∙ (ap (λ (x : List Enumerant). enum_by (e.id) (string_bytes e.display_name) (seen_annotations e.annotations.items) x types children) e3
     ∙ (ap (λ (x : List SchemaType). enum_by (e.id) (string_bytes e.display_name) (seen_annotations e.annotations.items) (map seen_enumerant e.enumerants.items) x children) e4
     ∙ (ap (λ (x : List (List SchemaType)). enum_by (e.id) (string_bytes e.display_name) (seen_annotations e.annotations.items) (map seen_enumerant e.enumerants.items) (map seen_type e.annotation_types.own.items) x) e5)))))
+
+counted : {A B : Type 0} (f : A → B) (xs : List A) → length (map f xs) ≡ length xs
+counted f [] = refl
+counted f (x ∷ xs) = ap suc (counted f xs)
+
+-- as many lists of types as enumerants
+pub enumerants_counted : (es : List ConvertedEnumerant) (rs : List EnumerantRecord) (ts : List (Vec TypeHandle Global)) → rs ≡ enumerant_records es → map (λ (v : Vec TypeHandle Global). v.items) ts ≡ enumerant_types es → length ts ≡ length rs
+enumerants_counted es rs ts records types =
+    sym (counted (λ (v : Vec TypeHandle Global). v.items) ts) ∙ (ap length types ∙ (counted (λ (e : ConvertedEnumerant). e.annotation_types.items) es
+    ∙ (sym (counted (λ (e : ConvertedEnumerant). e.record) es) ∙ ap length (sym records))))
 
 -- what an enum is refused with before its enumerants are looked at
 pub enum_off : (nodes : List SchemaNode) (strict : Bool) (id : ℕ) (name : List ℕ) (n : SchemaNode) (s : Named) (kind : ErrorKind) → (is_enum n.kind ≡ false → kind ≡ NodeNotFound) → (is_enum n.kind ≡ true → n.kind ≡ EnumNode (Err kind)) →

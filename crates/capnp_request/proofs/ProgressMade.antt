@@ -1,12 +1,15 @@
 -- What was made so far.
 use Rattle.std.proofs.Common.{ℕ, ◌<◌, ◌≤◌, ◌≡◌, ◌∙◌, ap, arith, length, map, refl, slice_get, subst, sym, suc, ◌+◌, ◌-◌, Bool, true, false, List, [], ◌∷◌, Option, Result, Ok, Err}
+use Rattle.std.specs.Prelude.{String}
 use Rattle.capnp_device.specs.declared.error.ErrorKind.{ErrorKind}
 use Rattle.capnp_device.specs.declared.error.ErrorKind.TheVariants.{TooManyTypes}
-use Rattle.capnp_schema.specs.Schema.{seen_brand, seen_enum, seen_node}
+use Rattle.capnp_schema.specs.Schema.{Brand, Node, seen_brand, seen_enum, seen_node}
+use Rattle.capnp_schema.specs.declared.record.NodeRecord.{NodeRecord}
 use Rattle.capnp_request.specs.Bindings.{bounds}
+use Rattle.capnp_request.specs.Conversion.{Note}
 use Rattle.capnp_request.specs.Names.{Holder}
-use Rattle.capnp_request.specs.NamesMade.{AreHolders}
-use Rattle.capnp_request.specs.Order.{Begun, Made, add_struct, begin_struct, make_all, make_struct, name_entry, nothing_made}
+use Rattle.capnp_request.specs.NamesMade.{AreHolders, texts}
+use Rattle.capnp_request.specs.Order.{Begun, Made, add_struct, begin_struct, make_all, make_struct, name_entry, nothing_made, struct_made}
 use Rattle.capnp_request.specs.ProgressSeen.{begun_of, made_of, rest_of}
 use Rattle.capnp_request.specs.StructsSeen.{seen_notes}
 use Rattle.capnp_request.specs.Terms.{Said, SchemaNode}
@@ -14,6 +17,7 @@ use Rattle.capnp_request.specs.Work.{Bound, Entry, Named, Place}
 use Rattle.capnp_request.specs.declared.conversion.Converted.{Converted}
 use Rattle.capnp_request.specs.declared.conversion.NextStruct.{NextStruct}
 use Rattle.capnp_request.specs.declared.conversion.Progress.{Progress}
+use Rattle.capnp_request.specs.declared.entries.BoundScope.{BoundScope}
 use Rattle.capnp_request.specs.declared.names.Names.{Names}
 use Rattle.capnp_request.proofs.OrderMade.{struct_begun}
 
@@ -38,9 +42,12 @@ next_enum_id p hs n xs o e h = ap (slice_get xs) (map_length seen_enum p.made.en
 pub held_since : (old mid : Names) (hs : List Holder) → mid ≡ old → AreHolders old hs → AreHolders mid hs
 held_since old mid hs same h = subst (λ (names : Names). AreHolders names hs) (sym same) h
 
-pub named_since : (nodes : List SchemaNode) (old mid : Converted) (names : List (List ℕ)) (hs : List Holder) (e : Entry) (place : Place) (r : Said (List ℕ × List Holder)) → mid ≡ old →
-    name_entry nodes (map seen_node mid.nodes.items) names hs e place ≡ r → name_entry nodes (map seen_node old.nodes.items) names hs e place ≡ r
-named_since nodes old mid names hs e place r same is = ap (λ (c : Converted). name_entry nodes (map seen_node c.nodes.items) names hs e place) (sym same) ∙ is
+pub named_since : {A : Type 0} (nodes : List SchemaNode) (structs : List NodeRecord) (enums : List (String A)) (old mid : Progress) (hs : List Holder) (e : Entry) (place : Place) (r : Said (List ℕ × List Holder)) → structs ≡ mid.made.nodes.items → texts enums ≡ texts mid.enum_names.items → mid.made ≡ old.made →
+    name_entry nodes (map seen_node structs) (texts enums) hs e place ≡ r → name_entry nodes (map seen_node old.made.nodes.items) (texts mid.enum_names.items) hs e place ≡ r
+named_since nodes structs enums old mid hs e place r is all same named =
+    ap (λ (c : Converted). name_entry nodes (map seen_node c.nodes.items) (texts mid.enum_names.items) hs e place) (sym same)
+    ∙ (ap (λ (xs : List NodeRecord). name_entry nodes (map seen_node xs) (texts mid.enum_names.items) hs e place) (sym is)
+    ∙ (ap (λ (xs : List (List ℕ)). name_entry nodes (map seen_node structs) xs hs e place) (sym all) ∙ named))
 
 -- an entry is added to what was made before it began
 module _ (nodes : List SchemaNode) (strict : Bool) (id : ℕ) (bound : List Bound) (b : Begun) (s : Named) where
@@ -49,6 +56,12 @@ module _ (nodes : List SchemaNode) (strict : Bool) (id : ℕ) (bound : List Boun
 
   same_added : (old mid : Progress) (hs after : List Holder) → mid.made ≡ old.made → add_struct nodes strict (made_of old hs) id bound b s ≡ add_struct nodes strict (made_of mid after) id bound b s
   same_added old mid hs after e = sym (ap added_to e)
+
+-- a struct of the same number, inside the same scopes
+pub struct_moved : (nodes : List SchemaNode) (strict : Bool) (number count : ℕ) (id : ℕ) (slice scopes : List BoundScope) (name : List ℕ) (n : SchemaNode) (s : Named) (r : Result ((Node × Brand × List Note) × Named) ErrorKind) → count ≡ number → slice ≡ scopes →
+    struct_made nodes strict number id (bounds slice) name n s ≡ r → struct_made nodes strict count id (bounds scopes) name n s ≡ r
+struct_moved nodes strict number count id slice scopes name n s r same is done =
+    ap (λ k. struct_made nodes strict k id (bounds scopes) name n s) same ∙ (ap (λ (xs : List BoundScope). struct_made nodes strict number id (bounds xs) name n s) (sym is) ∙ done)
 
 pub struct_so : (nodes : List SchemaNode) (strict : Bool) (old mid : Progress) (hs after : List Holder) (next : NextStruct) (e : Entry) (s : Named) → begin_struct nodes (made_of old hs) e s.enums ≡ Ok (begun_of mid after next) → mid.made ≡ old.made →
     next.place.id ≡ e.node → bounds next.scopes.items ≡ e.bound → make_struct nodes strict (made_of old hs) e s ≡ add_struct nodes strict (made_of mid after) next.place.id (bounds next.scopes.items) (begun_of mid after next) s

@@ -20,7 +20,7 @@ use Rattle.capnp_request.specs.Order.{all_fields, all_notes, at_struct, firsts, 
 use Rattle.capnp_request.specs.Handles.{values_left}
 use Rattle.capnp_request.specs.Parts.{read_at}
 use Rattle.capnp_request.specs.Reading.{annotations_in, each_said, field_said, list_said, node_said, struct_said}
-use Rattle.capnp_request.specs.Shapes.{note, noted}
+use Rattle.capnp_request.specs.Shapes.{IsBrandOf, note, noted}
 use Rattle.capnp_request.specs.StructsSeen.{child_types, field_records, field_types, seen_fields, seen_note, seen_notes, seen_stand_in}
 use Rattle.capnp_request.specs.Terms.{AnnotationNode, EnumNode, FieldTerm, NodeKind, OtherNode, Said, SchemaNode, StructNode, StructPart}
 use Rattle.capnp_request.specs.Types.{is_struct}
@@ -190,6 +190,23 @@ brand_seen b number types own children e0 e1 e2 e3 =
     ∙ (ap (λ (x : List SchemaType). brand_by (b.node) x own children) e1
     ∙ (ap (λ (x : List SchemaType). brand_by (b.node) (map seen_type b.field_types.items) x children) e2
     ∙ (ap (λ (x : List (List SchemaType)). brand_by (b.node) (map seen_type b.field_types.items) (map seen_type b.annotation_types.own.items) x) e3)))
+
+counted : {A B : Type 0} (f : A → B) (xs : List A) → length (map f xs) ≡ length xs
+counted f [] = refl
+counted f (x ∷ xs) = ap suc (counted f xs)
+
+-- as many types, and lists of them, as fields
+pub brand_counted : (n : NodeRecord) (b : BrandRecord) (i : ℕ) (fs : List ConvertedField) → b.node ≡ i → b.field_types.items ≡ field_types fs → n.body.fields.items ≡ field_records fs → length b.annotation_types.own.items ≡ length n.annotations.items
+    → map (λ (v : Vec TypeHandle Global). v.items) b.annotation_types.children.items ≡ child_types fs → IsBrandOf i n b
+brand_counted n b i fs number types records own children = record {
+  number = number;
+  fields = ap length types ∙ (counted (λ (f : ConvertedField). f.field_type) fs ∙ all);
+  own = own;
+  children = sym (counted (λ (v : Vec TypeHandle Global). v.items) b.annotation_types.children.items) ∙ (ap length children ∙ (counted (λ (f : ConvertedField). f.annotation_types.items) fs ∙ all));
+}
+  where
+    all : length fs ≡ length n.body.fields.items
+    all = sym (counted (λ (f : ConvertedField). f.record) fs) ∙ ap length (sym records)
 
 pub three_seen : (n u : Node) (b v : Brand) (t w : List Note) (s : Named) → n ≡ u → b ≡ v → t ≡ w → ◌≡◌ {A = Result ((Node × Brand × List Note) × Named) ErrorKind} (Ok ((n, b, t), s)) (Ok ((u, v, w), s))
 three_seen n u b v t w s p q r = ap (λ (x : Node). Ok ((x, b, t), s)) p ∙ (ap (λ (x : Brand). Ok ((u, x, t), s)) q ∙ ap (λ (x : List Note). Ok ((u, v, x), s)) r)

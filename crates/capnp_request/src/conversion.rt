@@ -1,5 +1,5 @@
 //! From a compiler's request to the lists of a set of schemas.
-ghost use Rattle.std.specs.Prelude.{ℕ, List, [], suc, ◌≡◌, ◌≢◌, ◌<◌, ◌≤◌, ◌+◌, drop, length, map, string_bytes, IfErr, IfOk, OnOk, Ok, Err};
+ghost use Rattle.std.specs.Prelude.{ℕ, List, [], ◌∷◌, ◌++◌, suc, ◌≡◌, ◌≢◌, ◌<◌, ◌≤◌, ◌+◌, drop, length, map, string_bytes, IfErr, IfOk, OnOk, Ok, Err};
 ghost use Rattle.capnp_device.specs.declared.error.ErrorKind.TheVariants.{OutOfMemory, TooManyTypes};
 ghost use Rattle.capnp_schema.specs.Schema.{seen_node};
 ghost use Rattle.capnp_dynamic_readers.specs.Seen.{record_seen};
@@ -86,6 +86,25 @@ fn named_enum<'a>(context: Context<'_, 'a>, id: u64) -> Result<(String, dynamic_
     Ok((name, node))
 }
 
+/// Adds a struct, its brand, and what is noted of it.
+fn put_struct(all: &mut Converted, one: MadeStruct) -> Result<()>
+    ensures nodes { IfOk result (λ _. all.new.nodes.items ≡ all.old.nodes.items ++ one.record ∷ []) }
+    ensures brands { IfOk result (λ _. all.new.brands.items ≡ all.old.brands.items ++ one.brand ∷ []) }
+    ensures notes { IfOk result (λ _. all.new.notes.items ≡ all.old.notes.items ++ one.notes.items) }
+    ensures enums { IfOk result (λ _. all.new.enums ≡ all.old.enums) }
+    ensures kinds { IfErr result (λ e. e.kind ≡ OutOfMemory) }
+{
+    let MadeStruct {
+        record,
+        brand,
+        notes,
+    } = one;
+    all.notes.extend_from_slice(notes.as_slice())?;
+    all.nodes.push(record)?;
+    all.brands.push(brand)?;
+    Ok(())
+}
+
 impl Progress {
     fn new(alloc: Global) -> Progress
         ensures brands { AreBrandsOf result.made.nodes.items result.made.brands.items }
@@ -144,10 +163,9 @@ impl Progress {
     {
         let number = counted(self.made.nodes.len())?;
         self.name_enums(context, entries)?;
-        let named = Named {
-            structs: self.made.nodes.as_slice(),
-            enums: self.enum_names.as_slice(),
-        };
+        let structs = self.made.nodes.as_slice();
+        let enums = self.enum_names.as_slice();
+        let named = Named { structs, enums };
         let name = self.names.entry_name(context.nodes, named, entry)?;
         let node = context.nodes.found(entry.id)?;
         let scopes = copied_scopes(context.alloc, entry.scopes.as_slice())?;
@@ -164,7 +182,6 @@ impl Progress {
     }
 
     /// Makes the struct of an entry.
-    #[tactic(auto, using(crate::proofs::BrandsMade::brand_made))]
     fn add_struct<'a>(
         &mut self,
         context: Context<'_, 'a>,
@@ -188,14 +205,7 @@ impl Progress {
             scopes,
         } = next;
         let made = struct_of(context, entries, scopes.as_slice(), place, name)?;
-        let MadeStruct {
-            record,
-            brand,
-            notes,
-        } = made;
-        self.made.notes.extend_from_slice(notes.as_slice())?;
-        self.made.nodes.push(record)?;
-        self.made.brands.push(brand)?;
+        put_struct(&mut self.made, made)?;
         Ok(())
     }
 

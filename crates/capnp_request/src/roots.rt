@@ -1,5 +1,5 @@
 //! The structs with which a conversion begins: those of the requested files.
-ghost use Rattle.std.specs.Prelude.{ℕ, List, [], ◌∷◌, ◌≡◌, ◌++◌, false, IfErr, IfOk, OnOk};
+ghost use Rattle.std.specs.Prelude.{ℕ, List, [], ◌∷◌, ◌≡◌, ◌++◌, false, slice_get, IfErr, IfOk, OnOk};
 ghost use Rattle.capnp_device.specs.declared.error.ErrorKind.TheVariants.{OutOfMemory};
 ghost use Rattle.capnp_schema.specs.RequestSet.{request_set};
 ghost use Rattle.capnp_schema.specs.Schema.{field_at, is_member};
@@ -92,6 +92,13 @@ fn put_ids(
     Ok(())
 }
 
+/// The id at a place of the queue.
+fn queued(queue: &[u64], position: u32) -> Option<u64>
+    ensures { result ≡ slice_get queue.now position }
+{
+    queue.get(position as usize).copied()
+}
+
 /// Numbers the struct of a node, where it is one and no group, with nothing bound.
 fn number_root<'a>(
     context: Context<'_, 'a>,
@@ -137,9 +144,11 @@ pub(crate) fn number_roots<'a>(
         REQUEST_FILES,
         brands::FILE,
     )?;
-    put_ids(context.nodes, &mut queue, &mut met, files.as_slice())?;
+    let listed = files.as_slice();
+    put_ids(context.nodes, &mut queue, &mut met, listed)?;
     for position in 0..context.nodes.count() {
-        let Some(id) = queue.get(position as usize).copied() else {
+        let waiting = queue.as_slice();
+        let Some(id) = queued(waiting, position) else {
             break;
         };
         let node = context.nodes.found(id)?;
@@ -151,7 +160,8 @@ pub(crate) fn number_roots<'a>(
             brands::NESTED,
         )?;
         number_root(context, entries, id, node)?;
-        put_ids(context.nodes, &mut queue, &mut met, nested.as_slice())?;
+        let inner = nested.as_slice();
+        put_ids(context.nodes, &mut queue, &mut met, inner)?;
     }
     Ok(())
 }

@@ -48,7 +48,7 @@ loop-at-preserved c =
       typed = ap length c.in_ok-push-2.ensures.items ∙ (more ∙ ap length (sym c.in_ok-push.ensures.items));
       done = c.loop-at.invariant.done
           ∙ (walk_ok (annotation_of (nodes_of c.args.context.nodes.now) c.args.context.strict (bounds c.args.inside.now)) 12 annotation_said c.in_ok-listed.listed c.loop-at.at (typed_annotations c.loop-at.records.items c.loop-at.types.items) (between c.loop-at.entries) (record_seen c.in_ok-annotation.annotation) _ _ c.in_ok-listed.ensures.elements (omega arith) c.in_ok-annotation.ensures.read c.in_ok-made.ensures.done
-          ∙ ap (λ (ys : List (Annotation × SchemaType)). prefixed ys (each_read (annotation_of (nodes_of c.args.context.nodes.now) c.args.context.strict (bounds c.args.inside.now)) (each_said 12 annotation_said (values_left c.in_ok-listed.listed (c.loop-at.at + 1))) (between c.annotation_of-made.new.entries))) (sym (typed_more c.loop-at.records.items _ c.loop-at.types.items _ c.in_ok-made.made.0 c.in_ok-made.made.1 c.loop-at.invariant.typed c.in_ok-push.ensures.items c.in_ok-push-2.ensures.items)));
+          ∙ ap (λ (ys : List (Annotation × SchemaType)). prefixed ys (each_read (annotation_of (nodes_of c.args.context.nodes.now) c.args.context.strict (bounds c.args.inside.now)) (each_said 12 annotation_said (values_left c.in_ok-listed.listed (c.loop-at.at + 1))) (between c.annotation_of.new.entries))) (sym (typed_more c.loop-at.records.items _ c.loop-at.types.items _ c.in_ok-made.made.0 c.in_ok-made.made.1 c.loop-at.invariant.typed c.in_ok-push.ensures.items c.in_ok-push-2.ensures.items)));
     }
 
 pub returns-clause-done : goal.returns-clause-done

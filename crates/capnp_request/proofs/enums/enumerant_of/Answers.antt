@@ -27,4 +27,4 @@ returns-in_err-annotated-clause-done c =
 pub returns-clause-done : goal.returns-clause-done
 returns-clause-done c =
     enumerant_given (nodes_of c.args.context.nodes.now) c.args.context.strict (enumerant_said (record_seen c.args.enumerant)) (between c.args.entries.now) _ (name_on (record_seen c.args.enumerant) _ c.in_ok-text.ensures.read) _ c.in_ok-name.ensures.read _ _ (ap (λ a. annotations_of (nodes_of c.args.context.nodes.now) c.args.context.strict [] a (between c.args.entries.now)) (annotations_on (record_seen c.args.enumerant)) ∙ c.in_ok-annotated.ensures.done)
-    ∙ enumerant_pair _ _ _ _ _ refl (first_annotations _ _ c.in_ok-annotated.ensures.typed) (second_types _ _ c.in_ok-annotated.ensures.typed)
+    ∙ enumerant_pair (record { «record» = record { name = c.in_ok-name.name; annotations = c.in_ok-annotated.annotated.0 }; annotation_types = c.in_ok-annotated.annotated.1 }) _ _ _ _ refl (first_annotations _ _ c.in_ok-annotated.ensures.typed) (second_types _ _ c.in_ok-annotated.ensures.typed)

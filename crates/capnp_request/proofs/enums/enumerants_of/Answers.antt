@@ -36,8 +36,8 @@ loop-index-preserved c =
     let within : c.loop-index.index < length_of c.args.listed = omega arith in
     record {
       numbers = c.in_ok-converted.ensures.numbers;
-      left = ap (λ ys. ahead ys (each_read (enumerant_of (nodes_of c.args.context.nodes.now) c.args.context.strict) (each_said 11 enumerant_said (values_left c.args.listed (c.loop-index.index + 1))) (between c.enumerant_of-converted.new.entries))) (map_more seen_converted_enumerant c.loop-index.made.items _ _ _ c.in_ok-push.ensures.items (search rules))
-          ∙ item_given 11 enumerant_said (enumerant_of (nodes_of c.args.context.nodes.now) c.args.context.strict) c.args.listed c.requires.is_list c.loop-index.index (seen_enumerants c.loop-index.made.items) (between c.loop-index.entries) _ c.loop-index.invariant.left (record_seen c.in_ok-enumerant.enumerant) (seen_converted_enumerant c.in_ok-converted.converted) (between c.enumerant_of-converted.new.entries) within c.in_ok-enumerant.ensures.read c.in_ok-converted.ensures.done;
+      left = ap (λ ys. ahead ys (each_read (enumerant_of (nodes_of c.args.context.nodes.now) c.args.context.strict) (each_said 11 enumerant_said (values_left c.args.listed (c.loop-index.index + 1))) (between c.enumerant_of.new.entries))) (map_more seen_converted_enumerant c.loop-index.made.items _ c.in_ok-converted.converted (seen_converted_enumerant c.in_ok-converted.converted) c.in_ok-push.ensures.items refl)
+          ∙ item_given 11 enumerant_said (enumerant_of (nodes_of c.args.context.nodes.now) c.args.context.strict) c.args.listed c.requires.is_list c.loop-index.index (seen_enumerants c.loop-index.made.items) (between c.loop-index.entries) _ c.loop-index.invariant.left (record_seen c.in_ok-enumerant.enumerant) (seen_converted_enumerant c.in_ok-converted.converted) (between c.enumerant_of.new.entries) within c.in_ok-enumerant.ensures.read c.in_ok-converted.ensures.done;
     }
 
 pub returns-clause-done : goal.returns-clause-done

@@ -21,7 +21,7 @@ pub returns-in_err-node-clause-done : goal.returns-in_err-node-clause-done
 returns-in_err-node-clause-done c =
     let inv = c.loop-position.invariant in
     let inside : c.loop-position.position < length (nodes_of c.args.context.nodes.now) = omega arith in
-    let here : slice_get c.loop-position.queue.items c.loop-position.position ≡ Some c.in-Some.id = search rules in
+    let here : slice_get c.loop-position.queue.items c.loop-position.position ≡ Some c.in-Some.id = ap (λ (xs : List ℕ). slice_get xs c.loop-position.position) (sym c.as_slice-waiting.ensures.value) ∙ (sym c.queued.ensures ∙ c.in-Some.is) in
     let p = err_from_is_err_and c.from_residual-in_err-node.result c.from_residual-in_err-node.ensures.1 in
     rw (p.1, p.2) (λ is. files_opened (nodes_of c.args.context.nodes.now) c.args.context.strict _ (between c.args.entries.now) c.in_ok-files.files.items c.in_ok-files.ensures.said ∙ (sym inv.3 ∙ (at_id (nodes_of c.args.context.nodes.now) c.args.context.strict (length (nodes_of c.args.context.nodes.now)) c.loop-position.position inv.0 c.loop-position.queue.items c.in-Some.id (between c.loop-position.entries) inside here ∙ (root_missing (nodes_of c.args.context.nodes.now) c.args.context.strict (length (nodes_of c.args.context.nodes.now) - (c.loop-position.position + 1)) inv.0 c.in-Some.id (drop (c.loop-position.position + 1) c.loop-position.queue.items) (between c.loop-position.entries) c.in_err-node.ensures.missing ∙ ap (λ (x : ErrorKind). Err x) (sym c.in_err-node.ensures.kinds)))))
 
@@ -29,7 +29,7 @@ pub returns-in_err-nested-clause-done : goal.returns-in_err-nested-clause-done
 returns-in_err-nested-clause-done c =
     let inv = c.loop-position.invariant in
     let inside : c.loop-position.position < length (nodes_of c.args.context.nodes.now) = omega arith in
-    let here : slice_get c.loop-position.queue.items c.loop-position.position ≡ Some c.in-Some.id = search rules in
+    let here : slice_get c.loop-position.queue.items c.loop-position.position ≡ Some c.in-Some.id = ap (λ (xs : List ℕ). slice_get xs c.loop-position.position) (sym c.as_slice-waiting.ensures.value) ∙ (sym c.queued.ensures ∙ c.in-Some.is) in
     let p = err_from_is_err_and c.from_residual-in_err-nested.result c.from_residual-in_err-nested.ensures.1 in
     rw (p.1, p.2) (λ is. files_opened (nodes_of c.args.context.nodes.now) c.args.context.strict _ (between c.args.entries.now) c.in_ok-files.files.items c.in_ok-files.ensures.said ∙ (sym inv.3 ∙ (at_id (nodes_of c.args.context.nodes.now) c.args.context.strict (length (nodes_of c.args.context.nodes.now)) c.loop-position.position inv.0 c.loop-position.queue.items c.in-Some.id (between c.loop-position.entries) inside here ∙ nested_refused (nodes_of c.args.context.nodes.now) c.args.context.strict (length (nodes_of c.args.context.nodes.now) - (c.loop-position.position + 1)) inv.0 c.in-Some.id (drop (c.loop-position.position + 1) c.loop-position.queue.items) (between c.loop-position.entries) (node_said (record_seen c.in_ok-node.node)) c.in_ok-node.ensures.read _ (nested_in (record_seen c.in_ok-node.node) ∙ c.in_err-nested.ensures.said is))))
 
@@ -37,7 +37,7 @@ pub returns-in_err-number_root-clause-done : goal.returns-in_err-number_root-cla
 returns-in_err-number_root-clause-done c =
     let inv = c.loop-position.invariant in
     let inside : c.loop-position.position < length (nodes_of c.args.context.nodes.now) = omega arith in
-    let here : slice_get c.loop-position.queue.items c.loop-position.position ≡ Some c.in-Some.id = search rules in
+    let here : slice_get c.loop-position.queue.items c.loop-position.position ≡ Some c.in-Some.id = ap (λ (xs : List ℕ). slice_get xs c.loop-position.position) (sym c.as_slice-waiting.ensures.value) ∙ (sym c.queued.ensures ∙ c.in-Some.is) in
     let p = err_from_is_err_and c.from_residual-in_err-number_root.result c.from_residual-in_err-number_root.ensures.1 in
     rw (p.1, p.2) (λ is. files_opened (nodes_of c.args.context.nodes.now) c.args.context.strict _ (between c.args.entries.now) c.in_ok-files.files.items c.in_ok-files.ensures.said ∙ (sym inv.3 ∙ (at_id (nodes_of c.args.context.nodes.now) c.args.context.strict (length (nodes_of c.args.context.nodes.now)) c.loop-position.position inv.0 c.loop-position.queue.items c.in-Some.id (between c.loop-position.entries) inside here ∙ root_refused (nodes_of c.args.context.nodes.now) c.args.context.strict (length (nodes_of c.args.context.nodes.now) - (c.loop-position.position + 1)) inv.0 c.in-Some.id (drop (c.loop-position.position + 1) c.loop-position.queue.items) (between c.loop-position.entries) (node_said (record_seen c.in_ok-node.node)) c.in_ok-node.ensures.read c.in_ok-nested.nested.items (nested_in (record_seen c.in_ok-node.node) ∙ c.in_ok-nested.ensures.said) _ (c.in_err-number_root.ensures.done is))))
 
@@ -45,24 +45,26 @@ pub loop-position-init : goal.loop-position-init
 loop-position-init c =
     let none : AreMet c.new-met.result [] = none_met c.new-met.result c.new-met.ensures.empty in
     let no_ids : c.new-queue.result.items ≡ [] = search rules in
-    let first : List ℕ = new_ids (nodes_of c.args.context.nodes.now) c.in_ok-files.files.items [] in (
+    let first : List ℕ = new_ids (nodes_of c.args.context.nodes.now) c.in_ok-files.files.items [] in
+    let same : new_ids (nodes_of c.args.context.nodes.now) c.as_slice-listed.result.now [] ≡ first = ap (λ (xs : List ℕ). new_ids (nodes_of c.args.context.nodes.now) xs []) c.as_slice-listed.ensures.value in (
       first,
-      λ id. c.in_ok-put_ids.ensures.met [] none id ∙ ap (λ (xs : List ℕ). is_met xs id) (append-nil first),
+      λ id. c.in_ok-put_ids.ensures.met [] none id ∙ (ap (λ (xs : List ℕ). is_met (xs ++ []) id) same ∙ ap (λ (xs : List ℕ). is_met xs id) (append-nil first)),
       c.requires.numbers,
-      roots_begun (nodes_of c.args.context.nodes.now) c.args.context.strict (between c.args.entries.now) _ _ first (c.in_ok-put_ids.ensures.queue [] none) no_ids,
+      roots_begun (nodes_of c.args.context.nodes.now) c.args.context.strict (between c.args.entries.now) _ c.new-queue.result.items first (c.in_ok-put_ids.ensures.queue [] none ∙ ap (λ (xs : List ℕ). c.new-queue.result.items ++ xs) same) no_ids,
     )
 
 pub loop-position-preserved : goal.loop-position-preserved
 loop-position-preserved c =
     let inv = c.loop-position.invariant in
     let inside : c.loop-position.position < length (nodes_of c.args.context.nodes.now) = omega arith in
-    let here : slice_get c.loop-position.queue.items c.loop-position.position ≡ Some c.in-Some.id = search rules in
-    let more : List ℕ = new_ids (nodes_of c.args.context.nodes.now) c.in_ok-nested.nested.items inv.0 in (
+    let here : slice_get c.loop-position.queue.items c.loop-position.position ≡ Some c.in-Some.id = ap (λ (xs : List ℕ). slice_get xs c.loop-position.position) (sym c.as_slice-waiting.ensures.value) ∙ (sym c.queued.ensures ∙ c.in-Some.is) in
+    let more : List ℕ = new_ids (nodes_of c.args.context.nodes.now) c.in_ok-nested.nested.items inv.0 in
+    let same : new_ids (nodes_of c.args.context.nodes.now) c.as_slice-inner.result.now inv.0 ≡ more = ap (λ (xs : List ℕ). new_ids (nodes_of c.args.context.nodes.now) xs inv.0) c.as_slice-inner.ensures.value in (
       more ++ inv.0,
-      c.in_ok-put_ids-2.ensures.met inv.0 inv.1,
+      λ id. c.in_ok-put_ids-2.ensures.met inv.0 inv.1 id ∙ ap (λ (xs : List ℕ). is_met (xs ++ inv.0) id) same,
       c.in_ok-number_root.ensures.numbers,
       ap (λ (xs : List ℕ). name_roots (nodes_of c.args.context.nodes.now) c.args.context.strict (length (nodes_of c.args.context.nodes.now) - (c.loop-position.position + 1)) (more ++ inv.0) xs (between c.number_root.new.entries))
-      (behind_id (nodes_of c.args.context.nodes.now) c.args.context.strict (length (nodes_of c.args.context.nodes.now)) c.loop-position.position inv.0 c.loop-position.queue.items c.in-Some.id (between c.loop-position.entries) inside here more _ (c.in_ok-put_ids-2.ensures.queue inv.0 inv.1))
+      (behind_id (nodes_of c.args.context.nodes.now) c.args.context.strict (length (nodes_of c.args.context.nodes.now)) c.loop-position.position inv.0 c.loop-position.queue.items c.in-Some.id (between c.loop-position.entries) inside here more _ (c.in_ok-put_ids-2.ensures.queue inv.0 inv.1 ∙ ap (λ (xs : List ℕ). c.loop-position.queue.items ++ xs) same))
       ∙ (sym (root_named (nodes_of c.args.context.nodes.now) c.args.context.strict (length (nodes_of c.args.context.nodes.now) - (c.loop-position.position + 1)) inv.0 c.in-Some.id (drop (c.loop-position.position + 1) c.loop-position.queue.items) (between c.loop-position.entries) (node_said (record_seen c.in_ok-node.node)) c.in_ok-node.ensures.read c.in_ok-nested.nested.items (nested_in (record_seen c.in_ok-node.node) ∙ c.in_ok-nested.ensures.said) (between c.number_root.new.entries) c.in_ok-number_root.ensures.done)
       ∙ (sym (at_id (nodes_of c.args.context.nodes.now) c.args.context.strict (length (nodes_of c.args.context.nodes.now)) c.loop-position.position inv.0 c.loop-position.queue.items c.in-Some.id (between c.loop-position.entries) inside here) ∙ inv.3)),
     )
@@ -70,7 +72,7 @@ loop-position-preserved c =
 pub returns-in_default-clause-done : goal.returns-in_default-clause-done
 returns-in_default-clause-done c =
     let inv = c.loop-position.invariant in
-    let none : slice_get c.loop-position.queue.items c.loop-position.position ≡ None = search rules in
+    let none : slice_get c.loop-position.queue.items c.loop-position.position ≡ None = ap (λ (xs : List ℕ). slice_get xs c.loop-position.position) (sym c.as_slice-waiting.ensures.value) ∙ (sym c.queued.ensures ∙ c.in_default.is) in
     files_opened (nodes_of c.args.context.nodes.now) c.args.context.strict _ (between c.args.entries.now) c.in_ok-files.files.items c.in_ok-files.ensures.said
     ∙ (sym inv.3 ∙ queue_over (nodes_of c.args.context.nodes.now) c.args.context.strict (between c.loop-position.entries) (length (nodes_of c.args.context.nodes.now) - c.loop-position.position) c.loop-position.position inv.0 c.loop-position.queue.items none)
 

@@ -49,7 +49,7 @@ loop-index-preserved c =
     record {
       numbers = c.in_ok-converted.ensures.numbers;
       notes = notes_of_fields c.args.number c.loop-index.index c.loop-index.fields.items c.in_ok-converted.converted _ c.loop-index.notes.items _ c.loop-index.invariant.notes c.loop-index.invariant.count c.in_ok-push.ensures.items c.in_ok-add_notes.ensures.added;
-      left = field_made (nodes_of c.args.context.nodes.now) c.args.context.strict (bounds c.args.inside.now) c.args.number c.in_ok-listed.listed c.in_ok-listed.ensures.elements c.loop-index.index c.loop-index.fields.items (between c.loop-index.entries) _ c.loop-index.invariant.left (record_seen c.in_ok-field.field) c.in_ok-converted.converted (between c.field_of-converted.new.entries) _ within c.in_ok-field.ensures.read c.in_ok-converted.ensures.done c.loop-index.invariant.count c.in_ok-push.ensures.items;
+      left = field_made (nodes_of c.args.context.nodes.now) c.args.context.strict (bounds c.args.inside.now) c.args.number c.in_ok-listed.listed c.in_ok-listed.ensures.elements c.loop-index.index c.loop-index.fields.items (between c.loop-index.entries) _ c.loop-index.invariant.left (record_seen c.in_ok-field.field) c.in_ok-converted.converted (between c.field_of.new.entries) _ within c.in_ok-field.ensures.read c.in_ok-converted.ensures.done c.loop-index.invariant.count c.in_ok-push.ensures.items;
       count = omega (arith, ap length c.in_ok-push.ensures.items, c.loop-index.invariant.count, length-append c.loop-index.fields.items);
     }
 

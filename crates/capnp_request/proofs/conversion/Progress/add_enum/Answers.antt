@@ -23,4 +23,4 @@ returns-in_err-record-clause-done c = λ hs.
 pub returns-clause-done : goal.returns-clause-done
 returns-clause-done c = λ hs.
     enum_done (nodes_of c.args.context.nodes.now) c.args.context.strict (made_of c.args.self.now hs) (between c.args.entries.now) c.args.id _ _ c.in_ok-named.ensures.said _ _ c.in_ok-record.ensures.done
-    ∙ ap (λ m. Ok (m, between c.enum_of-record.new.entries)) (same_made _ _ _ _ _ _ _ _ _ _ refl refl (sym (map_more seen_enum c.args.self.now.made.enums.items _ _ _ c.in_ok-push.ensures.items refl)) refl)
+    ∙ ap (λ m. Ok (m, between c.enum_of.new.entries)) (same_made _ _ _ _ _ _ _ _ _ _ refl refl (sym (map_more seen_enum c.args.self.now.made.enums.items _ _ _ c.in_ok-push.ensures.items refl)) refl)

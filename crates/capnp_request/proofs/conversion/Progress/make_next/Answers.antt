@@ -22,14 +22,14 @@ returns-in_err-add_struct-clause-refused c = λ hs h.
     let here : slice_get (numbered c.args.entries.now).entries (length (made_of c.args.self.now hs).nodes) ≡ Some (seen_entry c.in-Some.entry.now) = next_node c.args.self.now hs c.len.result _ _ count (sym c.in-Some.ensures) in
     let begun = c.in_ok-next.ensures.done hs h in
     let p = err_from_is_err_and c.from_residual-in_err-add_struct.result c.from_residual-in_err-add_struct.ensures.1 in
-    rw (p.1, p.2) (λ is steps. next_refused (nodes_of c.args.context.nodes.now) c.args.context.strict (made_of c.args.self.now hs) (between c.args.entries.now) steps _ here _ (struct_so (nodes_of c.args.context.nodes.now) c.args.context.strict c.args.self.now c.begin-next.new.self hs begun.0 c.in_ok-next.next (seen_entry c.in-Some.entry.now) (between c.args.entries.now) begun.2 c.begin-next.ensures.same c.in_ok-next.ensures.id c.in_ok-next.ensures.scopes ∙ c.in_err-add_struct.ensures.done begun.0 is))
+    rw (p.1, p.2) (λ is steps. next_refused (nodes_of c.args.context.nodes.now) c.args.context.strict (made_of c.args.self.now hs) (between c.args.entries.now) steps _ here _ (struct_so (nodes_of c.args.context.nodes.now) c.args.context.strict c.args.self.now c.begin.new.self hs begun.0 c.in_ok-next.next (seen_entry c.in-Some.entry.now) (between c.args.entries.now) begun.2 c.begin.ensures.same c.in_ok-next.ensures.id c.in_ok-next.ensures.scopes ∙ c.in_err-add_struct.ensures.done begun.0 is))
 
-pub returns-in_ok-add_struct-clause-done : goal.returns-in_ok-add_struct-clause-done
-returns-in_ok-add_struct-clause-done c = λ hs h.
+pub returns-in-Some-clause-done : goal.returns-in-Some-clause-done
+returns-in-Some-clause-done c = λ hs h.
     let count : c.len.result ≡ length c.args.self.now.made.nodes.items = search rules in
     let here : slice_get (numbered c.args.entries.now).entries (length (made_of c.args.self.now hs).nodes) ≡ Some (seen_entry c.in-Some.entry.now) = next_node c.args.self.now hs c.len.result _ _ count (sym c.in-Some.ensures) in
     let begun = c.in_ok-next.ensures.done hs h in
-    (begun.0, held_since c.begin-next.new.self.names c.add_struct.new.self.names begun.0 c.add_struct.ensures.names begun.1, λ steps. next_made (nodes_of c.args.context.nodes.now) c.args.context.strict (made_of c.args.self.now hs) (between c.args.entries.now) steps _ here _ _ (struct_so (nodes_of c.args.context.nodes.now) c.args.context.strict c.args.self.now c.begin-next.new.self hs begun.0 c.in_ok-next.next (seen_entry c.in-Some.entry.now) (between c.args.entries.now) begun.2 c.begin-next.ensures.same c.in_ok-next.ensures.id c.in_ok-next.ensures.scopes ∙ c.in_ok-add_struct.ensures.done begun.0))
+    (begun.0, held_since c.begin.new.self.names c.add_struct.new.self.names begun.0 c.add_struct.ensures.names begun.1, λ steps. next_made (nodes_of c.args.context.nodes.now) c.args.context.strict (made_of c.args.self.now hs) (between c.args.entries.now) steps _ here _ _ (struct_so (nodes_of c.args.context.nodes.now) c.args.context.strict c.args.self.now c.begin.new.self hs begun.0 c.in_ok-next.next (seen_entry c.in-Some.entry.now) (between c.args.entries.now) begun.2 c.begin.ensures.same c.in_ok-next.ensures.id c.in_ok-next.ensures.scopes ∙ c.in_ok-add_struct.ensures.done begun.0))
 
 pub returns-in_err-add_enum-clause-refused : goal.returns-in_err-add_enum-clause-refused
 returns-in_err-add_enum-clause-refused c = λ hs h.
@@ -40,8 +40,8 @@ returns-in_err-add_enum-clause-refused c = λ hs h.
     let p = err_from_is_err_and c.from_residual-in_err-add_enum.result c.from_residual-in_err-add_enum.ensures.1 in
     rw (p.1, p.2) (λ is steps. next_enum_refused (nodes_of c.args.context.nodes.now) c.args.context.strict (made_of c.args.self.now hs) (between c.args.entries.now) steps none _ here _ (c.in_err-add_enum.ensures.done hs is))
 
-pub returns-in_ok-add_enum-clause-done : goal.returns-in_ok-add_enum-clause-done
-returns-in_ok-add_enum-clause-done c = λ hs h.
+pub returns-in-Some-enum_id-clause-done : goal.returns-in-Some-enum_id-clause-done
+returns-in-Some-enum_id-clause-done c = λ hs h.
     let count : c.len.result ≡ length c.args.self.now.made.nodes.items = search rules in
     let none : slice_get (numbered c.args.entries.now).entries (length (made_of c.args.self.now hs).nodes) ≡ None = next_node c.args.self.now hs c.len.result _ _ count (search rules) in
     let count_enums : c.len-2.result ≡ length c.args.self.now.made.enums.items = search rules in
