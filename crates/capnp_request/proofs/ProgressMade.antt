@@ -9,17 +9,18 @@ use Rattle.capnp_request.specs.Bindings.{bounds}
 use Rattle.capnp_request.specs.Conversion.{Note}
 use Rattle.capnp_request.specs.Names.{Holder}
 use Rattle.capnp_request.specs.NamesMade.{AreHolders, texts}
-use Rattle.capnp_request.specs.Order.{Begun, Made, add_struct, begin_struct, make_all, make_struct, name_entry, nothing_made, struct_made}
+use Rattle.capnp_request.specs.Order.{Begun, Made, add_struct, begin_struct, make_all, make_struct, name_entry, nothing_made, struct_made, with_struct}
 use Rattle.capnp_request.specs.ProgressSeen.{begun_of, made_of, rest_of}
 use Rattle.capnp_request.specs.StructsSeen.{seen_notes}
 use Rattle.capnp_request.specs.Terms.{Said, SchemaNode}
-use Rattle.capnp_request.specs.Work.{Bound, Entry, Named, Place}
+use Rattle.capnp_request.specs.Work.{Bound, Entry, Named, Place, given}
 use Rattle.capnp_request.specs.declared.conversion.Converted.{Converted}
 use Rattle.capnp_request.specs.declared.conversion.NextStruct.{NextStruct}
 use Rattle.capnp_request.specs.declared.conversion.Progress.{Progress}
 use Rattle.capnp_request.specs.declared.entries.BoundScope.{BoundScope}
 use Rattle.capnp_request.specs.declared.names.Names.{Names}
 use Rattle.capnp_request.proofs.OrderMade.{struct_begun}
+use Rattle.capnp_request.proofs.Works.{then_err, then_ok}
 
 pub map_length : {A B : Type 0} (f : A → B) (xs : List A) → length (map f xs) ≡ length xs
 map_length f [] = refl
@@ -62,6 +63,13 @@ pub struct_moved : (nodes : List SchemaNode) (strict : Bool) (number count : ℕ
     struct_made nodes strict number id (bounds slice) name n s ≡ r → struct_made nodes strict count id (bounds scopes) name n s ≡ r
 struct_moved nodes strict number count id slice scopes name n s r same is done =
     ap (λ k. struct_made nodes strict k id (bounds scopes) name n s) same ∙ (ap (λ (xs : List BoundScope). struct_made nodes strict number id (bounds xs) name n s) (sym is) ∙ done)
+
+module _ (nodes : List SchemaNode) (strict : Bool) (m : Made) (id : ℕ) (bound : List Bound) (b : Begun) (s : Named) where
+  pub struct_unmade : (kind : ErrorKind) → struct_made nodes strict (length m.nodes) id bound b.name b.node s ≡ Err kind → add_struct nodes strict m id bound b s ≡ Err kind
+  struct_unmade kind e = then_err (struct_made nodes strict (length m.nodes) id bound b.name b.node) (λ made. given (with_struct m b made)) s kind e
+
+  pub struct_added : (made : Node × Brand × List Note) (t : Named) → struct_made nodes strict (length m.nodes) id bound b.name b.node s ≡ Ok (made, t) → add_struct nodes strict m id bound b s ≡ Ok (with_struct m b made, t)
+  struct_added made t e = then_ok (struct_made nodes strict (length m.nodes) id bound b.name b.node) (λ x. given (with_struct m b x)) s t made e
 
 pub struct_so : (nodes : List SchemaNode) (strict : Bool) (old mid : Progress) (hs after : List Holder) (next : NextStruct) (e : Entry) (s : Named) → begin_struct nodes (made_of old hs) e s.enums ≡ Ok (begun_of mid after next) → mid.made ≡ old.made →
     next.place.id ≡ e.node → bounds next.scopes.items ≡ e.bound → make_struct nodes strict (made_of old hs) e s ≡ add_struct nodes strict (made_of mid after) next.place.id (bounds next.scopes.items) (begun_of mid after next) s

@@ -204,10 +204,10 @@ module _ (nodes : List SchemaNode) (strict : Bool) (inside : List Bound) (id : �
 
 -- ---- one scope more is bound ----
 
-item_left : {A : Type 0} (xs : List A) (i : ℕ) (x : A) → i < length xs → x ≡ get_or xs i x → drop i xs ≡ x ∷ drop (i + 1) xs
-item_left [] i x h e = absurd (omega (arith, h))
-item_left {A = A} (y ∷ xs) zero x h e = ap (λ (z : A). z ∷ xs) (sym e)
-item_left {A = A} (y ∷ xs) (suc i) x h e = let k : suc i + 1 ≡ suc (i + 1) = omega arith in item_left xs i x (omega (arith, h)) e ∙ ap (λ n. x ∷ drop n (y ∷ xs)) (sym k)
+item_left : {A : Type 0} (xs : List A) (i : ℕ) (d : A) → i < length xs → drop i xs ≡ get_or xs i d ∷ drop (i + 1) xs
+item_left [] i d h = absurd (omega (arith, h))
+item_left (y ∷ xs) zero d h = refl
+item_left {A = A} (y ∷ xs) (suc i) d h = let k : suc i + 1 ≡ suc (i + 1) = omega arith in item_left xs i d (omega (arith, h)) ∙ ap (λ n. get_or xs i d ∷ drop n (y ∷ xs)) (sym k)
 
 items_over : {A : Type 0} (xs : List A) (i : ℕ) → length xs ≤ i → drop i xs ≡ []
 items_over [] zero h = refl
@@ -222,19 +222,22 @@ module _ (nodes : List SchemaNode) (strict : Bool) (inside : List Bound) (brand 
   pub bind_over : length generic ≤ i → prefixed ys (each (bind_scope (brand_types nodes strict inside brand)) (map with_nothing (drop i generic)) s) ≡ Ok (ys, s)
   bind_over past = ap (λ (xs : List GenericScope). prefixed ys (each_bound xs s)) (items_over generic i past) ∙ all_done (bind_scope (brand_types nodes strict inside brand)) ys s
 
-  module _ (g : GenericScope) (within : i < length generic) (is : g ≡ get_or generic i g) where
-    next_bound : prefixed ys (each_bound (drop i generic) s) ≡ prefixed ys (each_bound (g ∷ drop (i + 1) generic) s)
-    next_bound = ap (λ (xs : List GenericScope). prefixed ys (each_bound xs s)) (item_left generic i g within is)
+  module _ (d : GenericScope) (within : i < length generic) where
+    abbrev here_bound : GenericScope
+    here_bound = get_or generic i d
 
-    pub bind_refused : (kind : ErrorKind) → brand_types nodes strict inside brand (with_nothing g) s ≡ Err kind → prefixed ys (each (bind_scope (brand_types nodes strict inside brand)) (map with_nothing (drop i generic)) s) ≡ Err kind
+    next_bound : prefixed ys (each_bound (drop i generic) s) ≡ prefixed ys (each_bound (here_bound ∷ drop (i + 1) generic) s)
+    next_bound = ap (λ (xs : List GenericScope). prefixed ys (each_bound xs s)) (item_left generic i d within)
+
+    pub bind_refused : (kind : ErrorKind) → brand_types nodes strict inside brand (with_nothing (get_or generic i d)) s ≡ Err kind → prefixed ys (each (bind_scope (brand_types nodes strict inside brand)) (map with_nothing (drop i generic)) s) ≡ Err kind
     bind_refused kind e =
-        next_bound ∙ step_err (bind_scope (brand_types nodes strict inside brand)) ys (with_nothing g) (map with_nothing (drop (i + 1) generic)) s kind
-        (ap (continued (λ ts. given (record (with_nothing g) { types = ts }))) e)
+        next_bound ∙ step_err (bind_scope (brand_types nodes strict inside brand)) ys (with_nothing (get_or generic i d)) (map with_nothing (drop (i + 1) generic)) s kind
+        (ap (continued (λ ts. given (record (with_nothing (get_or generic i d)) { types = ts }))) e)
 
-    pub bind_more : (ts : List SchemaType) (t : Named) (after : List Bound) → brand_types nodes strict inside brand (with_nothing g) s ≡ Ok (ts, t) → after ≡ ys ++ record (with_nothing g) { types = ts } ∷ [] →
+    pub bind_more : (ts : List SchemaType) (t : Named) (after : List Bound) → brand_types nodes strict inside brand (with_nothing (get_or generic i d)) s ≡ Ok (ts, t) → after ≡ ys ++ record (with_nothing (get_or generic i d)) { types = ts } ∷ [] →
         prefixed ys (each (bind_scope (brand_types nodes strict inside brand)) (map with_nothing (drop i generic)) s) ≡ prefixed after (each (bind_scope (brand_types nodes strict inside brand)) (map with_nothing (drop (i + 1) generic)) t)
     bind_more ts t after e all =
         next_bound
-        ∙ (step_ok (bind_scope (brand_types nodes strict inside brand)) ys (with_nothing g) (map with_nothing (drop (i + 1) generic)) (record (with_nothing g) { types = ts }) s t
-        (ap (continued (λ us. given (record (with_nothing g) { types = us }))) e)
+        ∙ (step_ok (bind_scope (brand_types nodes strict inside brand)) ys (with_nothing (get_or generic i d)) (map with_nothing (drop (i + 1) generic)) (record (with_nothing (get_or generic i d)) { types = ts }) s t
+        (ap (continued (λ us. given (record (with_nothing (get_or generic i d)) { types = us }))) e)
         ∙ ap (λ (zs : List Bound). prefixed zs (each_bound (drop (i + 1) generic) t)) (sym all))

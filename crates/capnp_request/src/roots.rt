@@ -149,7 +149,7 @@ pub(crate) fn number_roots<'a>(
     for position in 0..context.nodes.count() {
         let waiting = queue.as_slice();
         let Some(id) = queued(waiting, position) else {
-            break;
+            return Ok(());
         };
         let node = context.nodes.found(id)?;
         let nested = listed_ids(

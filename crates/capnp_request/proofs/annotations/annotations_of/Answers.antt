@@ -1,4 +1,4 @@
-use Rattle.std.proofs.Common.{length, ◌+◌, ◌<◌, ◌≤◌, ◌≡◌, ◌∙◌, arith, ap, refl, sym, map, Err, Ok, Some, List, [], ◌∷◌, ◌++◌}
+use Rattle.std.proofs.Common.{rules, length, ◌+◌, ◌<◌, ◌≤◌, ◌≡◌, ◌∙◌, arith, ap, refl, sym, map, Err, Ok, Some, List, [], ◌∷◌, ◌++◌}
 use Rattle.capnp_schema.specs.Schema.{Annotation, seen_annotation, seen_value}
 use Rattle.capnp_schema.specs.Types.{SchemaType, seen_type}
 use Rattle.capnp_schema.specs.declared.record.AnnotationRecord.{AnnotationRecord}

@@ -64,9 +64,9 @@ loop-position-preserved c =
       λ id. c.in_ok-put_ids-2.ensures.met inv.0 inv.1 id ∙ ap (λ (xs : List ℕ). is_met (xs ++ inv.0) id) same,
       c.in_ok-number_root.ensures.numbers,
       ap (λ (xs : List ℕ). name_roots (nodes_of c.args.context.nodes.now) c.args.context.strict (length (nodes_of c.args.context.nodes.now) - (c.loop-position.position + 1)) (more ++ inv.0) xs (between c.number_root.new.entries))
-      (behind_id (nodes_of c.args.context.nodes.now) c.args.context.strict (length (nodes_of c.args.context.nodes.now)) c.loop-position.position inv.0 c.loop-position.queue.items c.in-Some.id (between c.loop-position.entries) inside here more _ (c.in_ok-put_ids-2.ensures.queue inv.0 inv.1 ∙ ap (λ (xs : List ℕ). c.loop-position.queue.items ++ xs) same))
-      ∙ (sym (root_named (nodes_of c.args.context.nodes.now) c.args.context.strict (length (nodes_of c.args.context.nodes.now) - (c.loop-position.position + 1)) inv.0 c.in-Some.id (drop (c.loop-position.position + 1) c.loop-position.queue.items) (between c.loop-position.entries) (node_said (record_seen c.in_ok-node.node)) c.in_ok-node.ensures.read c.in_ok-nested.nested.items (nested_in (record_seen c.in_ok-node.node) ∙ c.in_ok-nested.ensures.said) (between c.number_root.new.entries) c.in_ok-number_root.ensures.done)
-      ∙ (sym (at_id (nodes_of c.args.context.nodes.now) c.args.context.strict (length (nodes_of c.args.context.nodes.now)) c.loop-position.position inv.0 c.loop-position.queue.items c.in-Some.id (between c.loop-position.entries) inside here) ∙ inv.3)),
+          (behind_id (nodes_of c.args.context.nodes.now) c.args.context.strict (length (nodes_of c.args.context.nodes.now)) c.loop-position.position inv.0 c.loop-position.queue.items c.in-Some.id (between c.loop-position.entries) inside here more _ (c.in_ok-put_ids-2.ensures.queue inv.0 inv.1 ∙ ap (λ (xs : List ℕ). c.loop-position.queue.items ++ xs) same))
+          ∙ (sym (root_named (nodes_of c.args.context.nodes.now) c.args.context.strict (length (nodes_of c.args.context.nodes.now) - (c.loop-position.position + 1)) inv.0 c.in-Some.id (drop (c.loop-position.position + 1) c.loop-position.queue.items) (between c.loop-position.entries) (node_said (record_seen c.in_ok-node.node)) c.in_ok-node.ensures.read c.in_ok-nested.nested.items (nested_in (record_seen c.in_ok-node.node) ∙ c.in_ok-nested.ensures.said) (between c.number_root.new.entries) c.in_ok-number_root.ensures.done)
+          ∙ (sym (at_id (nodes_of c.args.context.nodes.now) c.args.context.strict (length (nodes_of c.args.context.nodes.now)) c.loop-position.position inv.0 c.loop-position.queue.items c.in-Some.id (between c.loop-position.entries) inside here) ∙ inv.3)),
     )
 
 pub returns-in_default-clause-done : goal.returns-in_default-clause-done

@@ -238,13 +238,13 @@ bound_scopes-loop-scope-init t c =
 pub bound_scopes-returns-in_err-types-clause-done : goal.bound_scopes-returns-in_err-types-clause-done
 bound_scopes-returns-in_err-types-clause-done t c =
     err_done (λ scopes. bounds scopes.items) (each (bind_scope (brand_types (nodes_of c.args.context.nodes.now) c.args.context.strict (bounds c.args.inside.now) (scopes_said (type_said c.args.depth) (values_left c.args.said 0)))) (map with_nothing c.args.generic.now)) (so_far c.args.entries.now c.args.seen.now) _ c.from_residual.result _ c.from_residual.ensures.1 (λ n.
-    c.loop-scope.invariant.done ∙ bind_refused (nodes_of c.args.context.nodes.now) c.args.context.strict (bounds c.args.inside.now) (scopes_said (type_said c.args.depth) (values_left c.args.said 0)) c.args.generic.now c.loop-scope.scope-index (bounds c.loop-scope.scopes.items) (so_far c.loop-scope.entries c.loop-scope.seen) c.scope-item.result c.loop-scope-test.true c.scope-item.is _ (c.in_err-types.ensures.done n))
+    c.loop-scope.invariant.done ∙ bind_refused (nodes_of c.args.context.nodes.now) c.args.context.strict (bounds c.args.inside.now) (scopes_said (type_said c.args.depth) (values_left c.args.said 0)) c.args.generic.now c.loop-scope.scope-index (bounds c.loop-scope.scopes.items) (so_far c.loop-scope.entries c.loop-scope.seen) _ c.loop-scope-test.true _ (c.in_err-types.ensures.done n))
 
 pub bound_scopes-loop-scope-preserved : goal.bound_scopes-loop-scope-preserved
 bound_scopes-loop-scope-preserved t c = record {
   numbers = c.in_ok-types.ensures.numbers;
   done = c.loop-scope.invariant.done
-      ∙ bind_more (nodes_of c.args.context.nodes.now) c.args.context.strict (bounds c.args.inside.now) (scopes_said (type_said c.args.depth) (values_left c.args.said 0)) c.args.generic.now c.loop-scope.scope-index (bounds c.loop-scope.scopes.items) (so_far c.loop-scope.entries c.loop-scope.seen) c.scope-item.result c.loop-scope-test.true c.scope-item.is (map seen_type c.in_ok-types.types.items) _ _ c.in_ok-types.ensures.done
+      ∙ bind_more (nodes_of c.args.context.nodes.now) c.args.context.strict (bounds c.args.inside.now) (scopes_said (type_said c.args.depth) (values_left c.args.said 0)) c.args.generic.now c.loop-scope.scope-index (bounds c.loop-scope.scopes.items) (so_far c.loop-scope.entries c.loop-scope.seen) _ c.loop-scope-test.true (map seen_type c.in_ok-types.types.items) _ _ c.in_ok-types.ensures.done
       (map_more seen_bound c.loop-scope.scopes.items _ _ _ c.in_ok-push.ensures.items c.bound_scope.ensures);
 }
 
