@@ -66,10 +66,10 @@ struct_moved nodes strict number count id slice scopes name n s r same is done =
 
 module _ (nodes : List SchemaNode) (strict : Bool) (m : Made) (id : ℕ) (bound : List Bound) (b : Begun) (s : Named) where
   pub struct_unmade : (kind : ErrorKind) → struct_made nodes strict (length m.nodes) id bound b.name b.node s ≡ Err kind → add_struct nodes strict m id bound b s ≡ Err kind
-  struct_unmade kind e = then_err (struct_made nodes strict (length m.nodes) id bound b.name b.node) (λ made. given (with_struct m b made)) s kind e
+  struct_unmade kind e = then_err (struct_made nodes strict (length m.nodes) id bound b.name b.node) (λ made. given (with_struct nodes strict m b made)) s kind e
 
-  pub struct_added : (made : Node × Brand × List Note) (t : Named) → struct_made nodes strict (length m.nodes) id bound b.name b.node s ≡ Ok (made, t) → add_struct nodes strict m id bound b s ≡ Ok (with_struct m b made, t)
-  struct_added made t e = then_ok (struct_made nodes strict (length m.nodes) id bound b.name b.node) (λ x. given (with_struct m b x)) s t made e
+  pub struct_added : (made : Node × Brand × List Note) (t : Named) → struct_made nodes strict (length m.nodes) id bound b.name b.node s ≡ Ok (made, t) → add_struct nodes strict m id bound b s ≡ Ok (with_struct nodes strict m b made, t)
+  struct_added made t e = then_ok (struct_made nodes strict (length m.nodes) id bound b.name b.node) (λ x. given (with_struct nodes strict m b x)) s t made e
 
 pub struct_so : (nodes : List SchemaNode) (strict : Bool) (old mid : Progress) (hs after : List Holder) (next : NextStruct) (e : Entry) (s : Named) → begin_struct nodes (made_of old hs) e s.enums ≡ Ok (begun_of mid after next) → mid.made ≡ old.made →
     next.place.id ≡ e.node → bounds next.scopes.items ≡ e.bound → make_struct nodes strict (made_of old hs) e s ≡ add_struct nodes strict (made_of mid after) next.place.id (bounds next.scopes.items) (begun_of mid after next) s
