@@ -266,6 +266,26 @@ made_new mixed.bin Mixed 'set b hi' 'set y 9' 'set a 5'
 made_new node.bin Node 'set size inlineComposite' 'set displayName a name' 'set id 18446744073709551615'
 made_new addressbook.bin --set "$scratch/addressbook.set" --calls examples/addressbook.calls AddressBook
 
+# listed TEXT WORD..: the structs of a set, or the fields of one
+listed() {
+    text=$1
+    shift
+    ./riftcalico structs "$@" > "$scratch/out" 2> "$scratch/err"
+    expect "structs $*" $? 0 "$text" ''
+}
+
+listed 'Flat
+Mixed
+Many
+Shapes
+Loop
+Lists
+Node'
+listed 'a: UInt16, data bit 0, default 0
+x: Void, member 0
+y: UInt8, data bit 32, default 0, member 1
+b: Text, pointer 0, default ""' Mixed
+
 # a refused call: nothing is written, unless the run is to go on
 ./riftcalico patch Mixed 'set a 6' 'set c 1' < examples/mixed.bin > "$scratch/out" 2> "$scratch/err"
 expect 'a refused call' $? 1 '' '2: set c 1: refused: 20 FieldNotFound'
@@ -282,7 +302,8 @@ expect 'a path with an empty name' $? 2 '' "1: a..b: can't be read at 2"
 ./riftcalico show Mixed a < examples/mixed.bin > "$scratch/out" 2> "$scratch/err"
 expect 'another form' $? 2 '' 'usage: riftcalico get [--set FILE] NAME PATH [--indent]
        riftcalico patch [--set FILE] [--calls FILE] [--keep-going] NAME CALL..
-       riftcalico new [--set FILE] [--calls FILE] [--keep-going] NAME CALL..'
+       riftcalico new [--set FILE] [--calls FILE] [--keep-going] NAME CALL..
+       riftcalico structs [--set FILE] [NAME]'
 ./riftcalico get Flat a < /dev/null > "$scratch/out" 2> "$scratch/err"
 expect 'a path of no bytes' $? 1 '' 'refused: 2'
 ./riftcalico get Shapes circle.r < examples/shapes_tag.bin > "$scratch/out" 2> "$scratch/err"

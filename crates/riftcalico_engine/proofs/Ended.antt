@@ -94,7 +94,7 @@ module _ {O F : Type 0} (opens : Opens O F) (holds : F → Option (List ℕ)) (f
   pub new_ended : (written written' : Option (List ℕ)) (writes writes' : ℕ) →
       IfOk r (IsCallsOutcome opens holds mid new t.root words t.keep_going ⊤ unwritten (λ schema calls replies. IsMade schema calls t.keep_going replies written written')) →
       IfErr r (λ e. IsOfMessage e.kind → AreSaid words (λ texts. IsRootOr opens holds mid new t.root e ⊤ (λ set b. AreCalls set b texts (λ schema calls.
-          IsTooLarge t.keep_going (IsLeftOfNew schema calls) e.kind)))) →
+      IsTooLarge t.keep_going (IsLeftOfNew schema calls) e.kind)))) →
       IfErr r (λ e. e.kind ≡ ReadFailed → HasSetFailed opens fails mid new t.root.file) →
       IfErr r (λ e. e.kind ≡ WriteFailed → HasFailed writes writes') →
       IfErr r (λ e. e.kind ≡ WriteFailed → AreUnder opens holds mid new t.root words (λ schema calls. IsCutShort t.keep_going (IsLeftOfNew schema calls) written written')) →
@@ -104,7 +104,7 @@ module _ {O F : Type 0} (opens : Opens O F) (holds : F → Option (List ℕ)) (f
       go : (r : Result Outcome Error) →
           IfOk r (IsCallsOutcome opens holds mid new t.root words t.keep_going ⊤ unwritten (λ schema calls replies. IsMade schema calls t.keep_going replies written written')) →
           IfErr r (λ e. IsOfMessage e.kind → AreSaid words (λ texts. IsRootOr opens holds mid new t.root e ⊤ (λ set b. AreCalls set b texts (λ schema calls.
-              IsTooLarge t.keep_going (IsLeftOfNew schema calls) e.kind)))) →
+          IsTooLarge t.keep_going (IsLeftOfNew schema calls) e.kind)))) →
           IfErr r (λ e. e.kind ≡ ReadFailed → HasSetFailed opens fails mid new t.root.file) →
           IfErr r (λ e. e.kind ≡ WriteFailed → HasFailed writes writes') →
           IfErr r (λ e. e.kind ≡ WriteFailed → AreUnder opens holds mid new t.root words (λ schema calls. IsCutShort t.keep_going (IsLeftOfNew schema calls) written written')) →
@@ -121,9 +121,9 @@ module _ {O F : Type 0} (opens : Opens O F) (holds : F → Option (List ℕ)) (f
   -- what calls on a message ended with
   pub patch_ended : (untouched : Type 0) (s : Streams) →
       IfOk r (IsCallsOutcome opens holds mid new t.root words t.keep_going untouched unwritten
-          (λ schema calls replies. IsPatched schema calls t.keep_going replies s.left s.left' s.written s.written')) →
+      (λ schema calls replies. IsPatched schema calls t.keep_going replies s.left s.left' s.written s.written')) →
       IfErr r (λ e. IsOfMessage e.kind → AreSaid words (λ texts. IsRootOr opens holds mid new t.root e untouched (λ set b. AreCalls set b texts (λ schema calls.
-          IsNotPatched schema calls t.keep_going e.kind s.left s.left')))) →
+      IsNotPatched schema calls t.keep_going e.kind s.left s.left')))) →
       IfErr r (λ e. e.kind ≡ ReadFailed → HasReadFailed opens fails mid new t.root.file untouched s.reads s.reads') →
       IfErr r (λ e. e.kind ≡ WriteFailed → HasFailed s.writes s.writes') →
       IfErr r (λ e. e.kind ≡ WriteFailed → AreUnder opens holds mid new t.root words (λ schema calls. IsPatchCutShort schema calls t.keep_going s.left s.left' s.written s.written')) →
@@ -132,9 +132,9 @@ module _ {O F : Type 0} (opens : Opens O F) (holds : F → Option (List ℕ)) (f
     where
       go : (r : Result Outcome Error) →
           IfOk r (IsCallsOutcome opens holds mid new t.root words t.keep_going untouched unwritten
-              (λ schema calls replies. IsPatched schema calls t.keep_going replies s.left s.left' s.written s.written')) →
+          (λ schema calls replies. IsPatched schema calls t.keep_going replies s.left s.left' s.written s.written')) →
           IfErr r (λ e. IsOfMessage e.kind → AreSaid words (λ texts. IsRootOr opens holds mid new t.root e untouched (λ set b. AreCalls set b texts (λ schema calls.
-              IsNotPatched schema calls t.keep_going e.kind s.left s.left')))) →
+          IsNotPatched schema calls t.keep_going e.kind s.left s.left')))) →
           IfErr r (λ e. e.kind ≡ ReadFailed → HasReadFailed opens fails mid new t.root.file untouched s.reads s.reads') →
           IfErr r (λ e. e.kind ≡ WriteFailed → HasFailed s.writes s.writes') →
           IfErr r (λ e. e.kind ≡ WriteFailed → AreUnder opens holds mid new t.root words (λ schema calls. IsPatchCutShort schema calls t.keep_going s.left s.left' s.written s.written')) →

@@ -79,7 +79,7 @@ pub fn command_over<O: Opener, R: Source, W: Sink, F: Sink>(
     tell_ended(&ended, errors)
 }
 
-/// `command_over` over the files of a runtime.
+/// `command_over` over the files of a runtime, of which nothing is said: no contract of the system tells what a file holds.
 pub fn command<S: Files, R: Source, W: Sink, F: Sink>(
     rt: &S,
     alloc: Global,
@@ -89,6 +89,11 @@ pub fn command<S: Files, R: Source, W: Sink, F: Sink>(
     errors: &mut F,
 ) -> u8
     ensures statuses { result ≤ 2 }
+    ensures other_words { asked (map string_bytes words.now) ≡ None → result ≡ 2 }
+    ensures usage { asked (map string_bytes words.now) ≡ None → IsTold usage_lines (F.written errors.old) (F.written errors.new)
+        (F.failures errors.old) (F.failures errors.new) }
+    ensures unread { result ≡ 2 → source.new ≡ source.old }
+    ensures unwritten { result ≡ 2 → sink.new ≡ sink.old }
 {
     let mut opener = FilesOpener::new(rt);
     command_over(&mut opener, alloc, words, source, sink, errors)
