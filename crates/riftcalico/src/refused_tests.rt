@@ -170,25 +170,35 @@ fn sets_and_names_are_refused_before_the_message_is_read(rt: HostRuntime) -> Res
 /// A message of `Flat`, whose number is 5.
 const FLAT: &str = "0000000002000000 0000000001000000 0500000000000000";
 
+/// The lines of a file of calls; the second has no line break at its end.
+static LINES: [&str; 2] = ["get a\nset a 6\nget a\n", "get a\nset a 6\r\nget a"];
+
+/// Asserts that lines are three calls.
+fn lines_are_calls(rt: &impl Abort, alloc: Global, calls: &str) -> Result<(), Fail> {
+    let bytes = bytes_of(alloc, FLAT)?;
+    let on = Setting {
+        calls: calls.as_bytes(),
+        ..run_on("patch|--calls|calls|Flat", &bytes, true)
+    };
+    let written = bytes_of(alloc, "0000000002000000 0000000001000000 0600000000000000")?;
+    let expected = Expected {
+        status: 0,
+        written: &written,
+        told: b"1: get a = 5\n3: get a = 6\n",
+    };
+    comes_to(rt, alloc, &on, &expected)
+}
+
 #[test]
 fn calls_are_the_lines_of_a_file(rt: HostRuntime) -> Result<(), Fail> {
-    let bytes = bytes_of(rt.alloc(), FLAT)?;
-    for calls in ["get a\nset a 6\nget a\n", "get a\nset a 6\r\nget a"] {
-        let on = Setting {
-            calls: calls.as_bytes(),
-            ..run_on("patch|--calls|calls|Flat", &bytes, true)
-        };
-        let written = bytes_of(
-            rt.alloc(),
-            "0000000002000000 0000000001000000 0600000000000000",
-        )?;
-        let expected = Expected {
-            status: 0,
-            written: &written,
-            told: b"1: get a = 5\n3: get a = 6\n",
-        };
-        comes_to(&rt, rt.alloc(), &on, &expected)?;
+    for calls in &LINES {
+        lines_are_calls(&rt, rt.alloc(), calls)?;
     }
+    Ok(())
+}
+
+#[test]
+fn an_empty_file_has_no_calls(rt: HostRuntime) -> Result<(), Fail> {
     let none = Setting {
         calls: &[],
         ..run_on("new|--calls|calls|--keep-going|Flat", &UNREAD, false)

@@ -258,7 +258,9 @@ fn take_line(row: &mut Row, line: &str) -> Result<(), Fail> {
     let Some(first) = line.as_bytes().first() else {
         return Ok(());
     };
-    let rest = &line[1..];
+    let Some(rest) = line.get(1..) else {
+        return Ok(());
+    };
     match *first {
         b':' => {
             if !row.words.is_empty() {
