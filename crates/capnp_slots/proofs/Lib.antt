@@ -1,3 +1,4 @@
+pub mod Places
 pub mod SlotPlans
 pub mod FieldPlans
 pub mod Stored

@@ -6,17 +6,19 @@
 
 pub mod copied;
 mod copies;
-pub mod element;
-mod fill;
-mod fill_element;
+// pub mod element;
+// mod fill;
+// mod fill_element;
 pub mod group;
 mod group_copy;
 pub mod laws;
 mod make;
-pub mod part;
+// pub mod part;
 mod planned;
+mod place;
 mod pointer;
 pub mod primitive;
+pub mod setter;
 pub mod slot;
 pub mod source;
 
