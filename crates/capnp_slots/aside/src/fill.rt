@@ -1,0 +1,153 @@
+//! What stands at a struct's pointers, filled from defaults and extended.
+ghost use Rattle.std.specs.Prelude.{None, Some, false, ◌≡◌, ◌≢◌, ◌<◌, IfErr, IsOk, OnErr, OnOk};
+ghost use Rattle.capnp_wire.specs.Defaults.{default_tree, error_of, filled_list_refusal, filled_struct, filled_struct_refusal, filled_structs, filled_structs_refusal, or_default, takes_default};
+ghost use Rattle.capnp_wire.specs.Edits.{HoldsStruct, IsDueRefusal, extended, struct_in, struct_refusal};
+ghost use Rattle.capnp_arena.specs.Segment.{segment};
+ghost use Rattle.capnp_slots.specs.Built.{ChangesIn, IsBuilt, built};
+ghost use Rattle.capnp_wire.specs.Place.{struct_tree};
+ghost use Rattle.capnp_wire.specs.Reading.{as_data, as_text};
+ghost use Rattle.capnp_wire.specs.StructLists.{HoldsStructs};
+ghost use Rattle.capnp_wire.specs.WellFormed.{IsWellFormed};
+ghost use Rattle.capnp_slots.specs.Fills.{HoldsThere, IsThere, tree_there};
+
+use crate::place::pointer_at;
+use capnp_wire::PointerReader;
+use capnp_wire::error::Result;
+use capnp_wire::laws::kept_defaults::{
+    filled_lists_are_well_formed, filled_struct_lists_are_well_formed,
+    filled_structs_are_well_formed,
+};
+use capnp_wire::laws::pointer_is_well_formed;
+use capnp_arena::arena::{Arena, Place as StructPlace};
+use capnp_wire::size::{ElementSize, StructSize};
+
+/// What a default's pointer leads to is well-formed.
+fn default_is_well_formed(default: Option<PointerReader<'_>>)
+    ensures { IsWellFormed (default_tree default.entry) }
+{
+    if let Some(reader) = default {
+        pointer_is_well_formed(&reader);
+    }
+}
+
+/// Fills the struct at a pointer. A refusal changes nothing; so it is with each call below.
+pub(crate) fn fill_struct(
+    arena: &mut Arena, place: StructPlace,
+    index: u16,
+    size: StructSize,
+    default: Option<PointerReader<'_>>,
+) -> Result<()>
+    requires planted { IsBuilt arena.old place }
+    requires inside { IsThere (built arena.old place) index }
+    ensures planted { OnOk result (IsBuilt arena.new place) }
+    ensures changes { OnOk result (ChangesIn place arena.old arena.new) }
+    ensures ok { OnOk result (HoldsThere (built arena.old place) index (built arena.new place)
+        (struct_tree (filled_struct (default_tree default.entry) size (tree_there (built arena.old place) index)))) }
+    ensures formed { IsWellFormed (tree_there (built arena.old place) index)
+        → IsWellFormed (struct_tree (filled_struct (default_tree default.entry) size (tree_there (built arena.old place) index))) }
+    ensures within { OnOk result (filled_struct_refusal (default_tree default.entry) (tree_there (built arena.old place) index) ≡ None) }
+    ensures refused { OnErr result (segment arena.new ≡ segment arena.old) }
+    ensures cause { IfErr result (λ e. IsDueRefusal e (filled_struct_refusal (default_tree default.entry) (tree_there (built arena.old place) index))) }
+    ensures succeeds { HoldsStruct size (tree_there (built arena.old place) index) → IsOk result }
+{
+    default_is_well_formed(default);
+    filled_structs_are_well_formed();
+    let at = pointer_at(arena, place, index);
+    arena.get_struct_or_default(at, size, default)?;
+    Ok(())
+}
+
+/// Gives the struct at a pointer at least a size; a null becomes a new one.
+#[inline(always)]
+pub(crate) fn extend_struct(arena: &mut Arena, place: StructPlace, index: u16, size: StructSize) -> Result<()>
+    requires planted { IsBuilt arena.old place }
+    requires inside { IsThere (built arena.old place) index }
+    ensures planted { OnOk result (IsBuilt arena.new place) }
+    ensures changes { OnOk result (ChangesIn place arena.old arena.new) }
+    ensures ok { OnOk result (HoldsThere (built arena.old place) index (built arena.new place) (struct_tree (extended size (struct_in (tree_there (built arena.old place) index))))) }
+    ensures formed { IsWellFormed (tree_there (built arena.old place) index)
+        → IsWellFormed (struct_tree (extended size (struct_in (tree_there (built arena.old place) index)))) }
+    ensures within { OnOk result (struct_refusal (tree_there (built arena.old place) index) ≡ None) }
+    ensures refused { OnErr result (segment arena.new ≡ segment arena.old) }
+    ensures cause { IfErr result (λ e. IsDueRefusal e (struct_refusal (tree_there (built arena.old place) index))) }
+    ensures succeeds { HoldsStruct size (tree_there (built arena.old place) index) → IsOk result }
+{
+    let at = pointer_at(arena, place, index);
+    arena.get_struct(at, size)?;
+    Ok(())
+}
+
+/// Fills the list at a pointer, of elements that are no structs.
+pub(crate) fn fill_list(
+    arena: &mut Arena, place: StructPlace,
+    index: u16,
+    size: ElementSize,
+    default: Option<PointerReader<'_>>,
+) -> Result<()>
+    requires planted { IsBuilt arena.old place }
+    requires inside { IsThere (built arena.old place) index }
+    requires simple { size ≢ ElementSize.InlineComposite }
+    ensures planted { OnOk result (IsBuilt arena.new place) }
+    ensures changes { OnOk result (ChangesIn place arena.old arena.new) }
+    ensures ok { OnOk result (HoldsThere (built arena.old place) index (built arena.new place) (or_default (default_tree default.entry) (tree_there (built arena.old place) index))) }
+    ensures formed { IsWellFormed (tree_there (built arena.old place) index) → IsWellFormed (or_default (default_tree default.entry) (tree_there (built arena.old place) index)) }
+    ensures within { OnOk result (filled_list_refusal (default_tree default.entry) size (tree_there (built arena.old place) index) ≡ None) }
+    ensures refused { OnErr result (segment arena.new ≡ segment arena.old) }
+    ensures cause { IfErr result (λ e. IsDueRefusal e (filled_list_refusal (default_tree default.entry) size (tree_there (built arena.old place) index))) }
+    ensures succeeds { takes_default (default_tree default.entry) (tree_there (built arena.old place) index) ≡ false
+        → filled_list_refusal (default_tree default.entry) size (tree_there (built arena.old place) index) ≡ None → IsOk result }
+{
+    default_is_well_formed(default);
+    filled_lists_are_well_formed();
+    let at = pointer_at(arena, place, index);
+    arena.get_list_or_default(at, size, default)?;
+    Ok(())
+}
+
+/// Fills the list of structs at a pointer.
+#[inline(always)]
+pub(crate) fn fill_structs(
+    arena: &mut Arena, place: StructPlace,
+    index: u16,
+    size: StructSize,
+    default: Option<PointerReader<'_>>,
+) -> Result<()>
+    requires planted { IsBuilt arena.old place }
+    requires inside { IsThere (built arena.old place) index }
+    requires formed { IsWellFormed (tree_there (built arena.old place) index) }
+    ensures planted { OnOk result (IsBuilt arena.new place) }
+    ensures changes { OnOk result (ChangesIn place arena.old arena.new) }
+    ensures ok { OnOk result (HoldsThere (built arena.old place) index (built arena.new place) (filled_structs (default_tree default.entry) size (tree_there (built arena.old place) index))) }
+    ensures kept { OnOk result (IsWellFormed (filled_structs (default_tree default.entry) size (tree_there (built arena.old place) index))) }
+    ensures within { OnOk result (filled_structs_refusal (default_tree default.entry) size (tree_there (built arena.old place) index) ≡ None) }
+    ensures refused { OnErr result (segment arena.new ≡ segment arena.old) }
+    ensures cause { IfErr result (λ e. IsDueRefusal e (filled_structs_refusal (default_tree default.entry) size (tree_there (built arena.old place) index))) }
+    ensures succeeds { takes_default (default_tree default.entry) (tree_there (built arena.old place) index) ≡ false → HoldsStructs size (tree_there (built arena.old place) index)
+        → IsOk result }
+{
+    let at = pointer_at(arena, place, index);
+    arena.get_struct_list_or_default(at, size, default)?;
+    Ok(())
+}
+
+/// Refuses what is not read as a text.
+pub(crate) fn check_text(arena: &Arena, place: StructPlace, index: u16) -> Result<()>
+    requires planted { IsBuilt arena.now place }
+    requires inside { IsThere (built arena.now place) index }
+    ensures within { OnOk result (error_of (as_text (tree_there (built arena.now place) index)) ≡ None) }
+    ensures cause { IfErr result (λ e. error_of (as_text (tree_there (built arena.now place) index)) ≡ Some e.kind) }
+{
+    arena.get_text(pointer_at(arena, place, index))?;
+    Ok(())
+}
+
+/// Refuses what is not read as data.
+pub(crate) fn check_data(arena: &Arena, place: StructPlace, index: u16) -> Result<()>
+    requires planted { IsBuilt arena.now place }
+    requires inside { IsThere (built arena.now place) index }
+    ensures within { OnOk result (error_of (as_data (tree_there (built arena.now place) index)) ≡ None) }
+    ensures cause { IfErr result (λ e. error_of (as_data (tree_there (built arena.now place) index)) ≡ Some e.kind) }
+{
+    arena.get_data(pointer_at(arena, place, index))?;
+    Ok(())
+}
