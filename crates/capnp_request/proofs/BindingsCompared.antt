@@ -1,7 +1,10 @@
 -- What `==` of nodes with bindings answers is what the definition compares.
-use Rattle.std.proofs.Common.{ℕ, ◌+◌, ◌-◌, ◌^◌, ◌<◌, ◌≡◌, ◌∙◌, zero, suc, min, arith, ap, refl, subst, ◌==◌, ◌&&◌, List, [], ◌∷◌, map}
+use Rattle.std.proofs.Common.{ℕ, ◌+◌, ◌-◌, ◌^◌, ◌<◌, ◌≤◌, ◌≡◌, ◌∙◌, zero, suc, min, arith, ap, refl, subst, sym, ◌==◌, ◌&&◌, Bool, true, false, List, [], ◌∷◌, map}
+use Rattle.std.proofs.lemmas.Bool.Decides.{nat_tests}
 use Rattle.std.specs.Cmp.Lexicographic.{pointwise}
-use Rattle.capnp_base.specs.Types.{kind, list_type, schema_number, base_variant}
+use Rattle.capnp_base.specs.Types.{kind, list_type, schema_number, base_variant, variant_by, variant_of}
+use Rattle.capnp_base.specs.declared.introspect.TypeVariant.{TypeVariant}
+use Rattle.capnp_base.specs.declared.introspect.TypeVariant.TheVariants as variant
 use Rattle.capnp_base.specs.declared.introspect.«Type».{«Type» as TypeHandle}
 use Rattle.capnp_base.specs.declared.introspect.BaseType.{BaseType}
 use Rattle.capnp_base.specs.declared.introspect.BaseType.TheVariants as base
@@ -102,12 +105,62 @@ scopes_same [] (y ∷ ys) = refl
 scopes_same (x ∷ xs) [] = refl
 scopes_same (x ∷ xs) (y ∷ ys) = ap (λ b. b && same_bound (bounds xs) (bounds ys)) (scope_same x y) ∙ ap (λ b. (scope_eq.ghosts).eq x y && b) (scopes_same xs ys)
 
--- a list of a type, as long as its lists are counted
-pub list_of_seen : (t s : TypeHandle) → s ≡ list_type t → lists_in (seen_type t) < 2 ^ 64 - 1 → seen_type s ≡ ListType (seen_type t)
-list_of_seen t s e h =
-    let few : t.list_count < 2 ^ 64 - 1 = subst (λ n. n < 2 ^ 64 - 1) (depth_of t) h in
-    let count : min (t.list_count + 1) (2 ^ 64 - 1) ≡ suc t.list_count = omega (arith, few) in
-    ap seen_type e ∙ ap (λ n. lists_of n (seen_base t.base)) count
+and_right : (a b : Bool) → (a && b) ≡ true → b ≡ true
+and_right true b e = e
+and_right false b e = cc
+
+and_false : (a b : Bool) → a ≡ true → (a && b) ≡ false → b ≡ false
+and_false true b h e = e
+and_false false b h e = cc
+
+same_numbers : (n m : ℕ) → ((n == n) && (m == m)) ≡ true
+same_numbers n m = grind (arith, nat_tests)
+
+same_base : (b : BaseType) → (base_eq.ghosts).eq b b ≡ true
+same_base b = sym (base_same b b) ∙ same_numbers (kind (base_variant b)) (schema_number (base_variant b))
+
+-- what is inside a list of a type: the type, as long as its lists are counted
+abbrev inside_list : TypeHandle → TypeHandle
+inside_list t = record { base = t.base; list_count = min t.list_count (2 ^ 64 - 2) }
+
+inner_of : (t : TypeHandle) → variant_of (list_type t) ≡ variant.List (inside_list t)
+inner_of t =
+    let count : min (t.list_count + 1) (2 ^ 64 - 1) ≡ suc (min t.list_count (2 ^ 64 - 2)) = omega arith in
+    ap (variant_by t.base) count
+
+pub not_list : (t s : TypeHandle) (v : TypeVariant) → s ≡ list_type t → v ≡ variant_of s → ((x : TypeHandle) → v ≡ variant.List x → ⊥) → ⊥
+not_list t s v e is other = other (inside_list t) (is ∙ (ap variant_of e ∙ inner_of t))
+
+module _ (t s x : TypeHandle) (v : TypeVariant) (q : Bool) (e : s ≡ list_type t) (which : v ≡ variant_of s) (inner : v ≡ variant.List x) (is : q ≡ (type_eq.ghosts).eq x t) where
+  inside : x ≡ inside_list t
+  inside = let same : variant.List x ≡ variant.List (inside_list t) = sym inner ∙ (which ∙ (ap variant_of e ∙ inner_of t)) in cc
+
+  compared_by : q ≡ (type_eq.ghosts).eq (inside_list t) t
+  compared_by = is ∙ ap (λ (y : TypeHandle). (type_eq.ghosts).eq y t) inside
+
+  pub full_lists : q ≡ false → 2 ^ 64 - 1 ≤ lists_in (seen_type t)
+  full_lists fails =
+      let counts : (min t.list_count (2 ^ 64 - 2) == t.list_count) ≡ false = and_false ((base_eq.ghosts).eq t.base t.base) (min t.list_count (2 ^ 64 - 2) == t.list_count) (same_base t.base) (sym compared_by ∙ fails) in
+      let other : min t.list_count (2 ^ 64 - 2) ≡ t.list_count → ⊥ = λ same. differ counts same in
+      subst (λ n. 2 ^ 64 - 1 ≤ n) (sym (depth_of t)) (omega (arith, other))
+    where
+      differ : (min t.list_count (2 ^ 64 - 2) == t.list_count) ≡ false → min t.list_count (2 ^ 64 - 2) ≡ t.list_count → ⊥
+      differ counts same = grind (arith, nat_tests, counts, same)
+
+  counted : q ≡ true → t.list_count < 2 ^ 64 - 1
+  counted holds =
+      let counts : (min t.list_count (2 ^ 64 - 2) == t.list_count) ≡ true = and_right ((base_eq.ghosts).eq t.base t.base) (min t.list_count (2 ^ 64 - 2) == t.list_count) (sym compared_by ∙ holds) in
+      let same : min t.list_count (2 ^ 64 - 2) ≡ t.list_count = grind (arith, nat_tests, counts) in
+      omega (arith, same)
+
+  pub few_lists : q ≡ true → lists_in (seen_type t) < 2 ^ 64 - 1
+  few_lists holds = subst (λ n. n < 2 ^ 64 - 1) (sym (depth_of t)) (counted holds)
+
+  pub list_of_seen : q ≡ true → seen_type s ≡ ListType (seen_type t)
+  list_of_seen holds =
+      let few : t.list_count < 2 ^ 64 - 1 = counted holds in
+      let count : min (t.list_count + 1) (2 ^ 64 - 1) ≡ suc t.list_count = omega (arith, few) in
+      ap seen_type e ∙ ap (λ n. lists_of n (seen_base t.base)) count
 
 pub compared : (a b : BoundNode) → ((a.id == b.id) && same_bound (bounds a.scopes.items) (bounds b.scopes.items)) ≡ (node_eq.ghosts).eq a b
 compared a b = ap (λ q. (a.id == b.id) && q) (scopes_same a.scopes.items b.scopes.items)

@@ -1,12 +1,16 @@
 -- The number of one more entry or enum.
-use Rattle.std.proofs.Common.{ℕ, ◌+◌, ◌≡◌, ◌∙◌, suc, arith, ap, refl, sym, cond, Bool, true, false, ◌==◌, List, [], ◌∷◌, ◌++◌, length, map, Option, Some, None, Result}
-use Rattle.std.proofs.lemmas.List.{map-append}
+use Rattle.std.proofs.Common.{ℕ, ◌+◌, ◌<◌, ◌≤◌, ◌≡◌, nat_lt, ◌∙◌, suc, arith, ap, refl, sym, cond, Bool, true, false, ◌==◌, List, [], ◌∷◌, ◌++◌, length, map, Option, Some, None, Result, Ok, Err}
+use Rattle.std.proofs.lemmas.Bool.Decides.{nat_tests}
+use Rattle.std.proofs.lemmas.List.{length-append, length-map, map-append}
 use Rattle.std.specs.Cmp.{IsEquivalence}
 use Rattle.std.specs.HashMap.{HashMap, get, Updates}
 use Rattle.std.specs.Map.{lookup}
 use Rattle.capnp_device.specs.declared.error.ErrorKind.{ErrorKind}
-use Rattle.capnp_request.specs.Types.{entry_number, enum_position, is_entry_of, number_where}
-use Rattle.capnp_request.specs.Work.{Bound, Entry, GroupOf, where_so}
+use Rattle.capnp_device.specs.declared.error.ErrorKind.TheVariants.{NodeNotFound, TooManyTypes}
+use Rattle.capnp_request.specs.Scopes.{node_named}
+use Rattle.capnp_request.specs.Terms.{SchemaNode}
+use Rattle.capnp_request.specs.Types.{add_entry, add_enum, entry_number, enum_or_add, enum_position, is_entry_of, is_enum, is_of_kind, number_enum, number_or_add, number_struct, number_where}
+use Rattle.capnp_request.specs.Work.{Bound, Entry, GroupOf, Named, Whole, where_so}
 
 -- the first of two
 abbrev pub or_else : {A : Type 0} → Option A → Option A → Option A
@@ -82,3 +86,52 @@ pub added_enum : (id : ℕ) (xs : List ℕ) (x : ℕ) (all : List ℕ) (number :
 added_enum id xs x all number more is =
     let at : 0 + length xs ≡ number = omega (arith, is) in
     ap (λ ys. enum_position ys id 0) more ∙ (one_more_enum id xs x 0 ∙ ap (λ n. or_else (enum_position xs id 0) (number_where (x == id) n None)) at)
+
+-- ---- refusals ----
+
+test_false : (a b : ℕ) → b ≤ a → nat_lt a b ≡ false
+test_false a b h = grind (arith, nat_tests)
+
+test_true : (a b : ℕ) → a < b → nat_lt a b ≡ true
+test_true a b h = grind (arith, nat_tests)
+
+pub full_entries : (e : Entry) (s : Named) → 65536 ≤ length s.entries → add_entry e s ≡ Err TooManyTypes
+full_entries e s h = ap (λ q. where_so q TooManyTypes (Ok (length s.entries, record s { entries = s.entries ++ e ∷ [] }))) (test_false (length s.entries) 65536 h)
+
+pub full_struct : (id : ℕ) (bound : List Bound) (s : Named) → entry_number id bound s.entries 0 ≡ None → 65536 ≤ length s.entries → number_struct id bound s ≡ Err TooManyTypes
+full_struct id bound s none h =
+    let e : Entry = record { node = id; bound = bound; place = Whole } in
+    ap (λ o. number_or_add o e s) none ∙ full_entries e s h
+
+-- ---- enums ----
+
+module _ (nodes : List SchemaNode) (id : ℕ) (s : Named) where
+  pub old_enum : (number : ℕ) → enum_position s.enums id 0 ≡ Some number → number_enum nodes id s ≡ Ok (number, s)
+  old_enum number e = ap (λ o. enum_or_add nodes o id s) e
+
+  module _ (none : enum_position s.enums id 0 ≡ None) where
+    at_enum : number_enum nodes id s ≡ where_so (is_of_kind is_enum (node_named nodes id)) NodeNotFound (add_enum id s)
+    at_enum = ap (λ o. enum_or_add nodes o id s) none
+
+    pub missing_enum : is_of_kind is_enum (node_named nodes id) ≡ false → number_enum nodes id s ≡ Err NodeNotFound
+    missing_enum h = at_enum ∙ ap (λ q. where_so q NodeNotFound (add_enum id s)) h
+
+    module _ (found : is_of_kind is_enum (node_named nodes id) ≡ true) where
+      found_enum : number_enum nodes id s ≡ add_enum id s
+      found_enum = at_enum ∙ ap (λ q. where_so q NodeNotFound (add_enum id s)) found
+
+      pub full_enums : 4294967295 ≤ length s.enums → number_enum nodes id s ≡ Err TooManyTypes
+      full_enums h = found_enum ∙ ap (λ q. where_so q TooManyTypes (Ok (length s.enums, record s { enums = s.enums ++ id ∷ [] }))) (test_false (length s.enums) 4294967295 h)
+
+      pub new_enum : (number : ℕ) (all : List ℕ) → length s.enums < 4294967295 → number ≡ length s.enums → all ≡ s.enums ++ id ∷ [] → number_enum nodes id s ≡ Ok (number, record s { enums = all })
+      new_enum number all h count more =
+          found_enum
+          ∙ (ap (λ q. where_so q TooManyTypes (Ok (length s.enums, record s { enums = s.enums ++ id ∷ [] }))) (test_true (length s.enums) 4294967295 h)
+          ∙ (ap (λ n. Ok (n, record s { enums = s.enums ++ id ∷ [] })) (sym count) ∙ ap (λ (xs : List ℕ). Ok (number, record s { enums = xs })) (sym more)))
+
+-- one more of fewer than 65,536
+pub few_more : {A B : Type 0} (f : A → B) (xs ys : List A) (x : A) (n : ℕ) → ys ≡ xs ++ x ∷ [] → n ≡ length (map f xs) → n < 65536 → length ys ≤ 65536
+few_more f xs ys x n more count few =
+    let all : length ys ≡ length xs + 1 = ap length more ∙ length-append xs (x ∷ []) in
+    let same : length (map f xs) ≡ length xs = length-map xs f in
+    omega (arith, all, same, count, few)

@@ -5,11 +5,11 @@ use Rattle.capnp_device.specs.declared.error.ErrorKind.TheVariants.{NameNotUtf8,
 use Rattle.capnp_wire.specs.Reading.{is_null_tree}
 use Rattle.capnp_schema.specs.Schema.{Annotation, Field, FieldKind, Group, Slot}
 use Rattle.capnp_schema.specs.Types.{SchemaType, AnyPointerType, StructType}
-use Rattle.capnp_request.specs.Scopes.{node_named, scopes_of}
+use Rattle.capnp_request.specs.Scopes.{node_named}
 use Rattle.capnp_request.specs.Terms.{AnnotationNode, AnnotationTerm, BrandTerm, EnumNode, FieldKindTerm, FieldTerm, GroupTerm, ListWords, NodeKind, OtherNode, Said, SchemaNode, SlotTerm, Stands, StructNode, StructWords, TypeTerm, UnreadField, UnreadValue, Untyped, ValueTerm}
-use Rattle.capnp_request.specs.Types.{add_entry, bind_scope, brand_types, is_struct, type_of, where_node}
+use Rattle.capnp_request.specs.Types.{add_entry, is_struct, named_scopes, type_of, where_node}
 use Rattle.capnp_request.specs.Values.{value_of}
-use Rattle.capnp_request.specs.Work.{◌>>=◌, Bound, GroupOf, Seen, Work, each, each_read, given, refused, said, seen_in, unnoted}
+use Rattle.capnp_request.specs.Work.{◌>>=◌, Bound, GroupOf, Seen, Work, each_read, given, refused, said, seen_in, unnoted}
 
 -- ---- notes ----
 
@@ -83,7 +83,7 @@ module _ (nodes : List SchemaNode) (strict : Bool) where
 
   abbrev pub declared_type : ℕ → List Bound → BrandTerm → Work SchemaType
   declared_type id inside brand =
-      declared_in (declared_term (node_named nodes id)) (said (scopes_of nodes id) >>= each (bind_scope (brand_types nodes strict inside brand)))
+      declared_in (declared_term (node_named nodes id)) (named_scopes nodes strict inside id brand)
 
   abbrev pub annotation_of : List Bound → AnnotationTerm → Work (Annotation × SchemaType)
   annotation_of inside a =

@@ -1,5 +1,5 @@
--- The maps of the entries and enums that were named: they say the number of each.
-use Rattle.std.specs.Prelude.{ℕ, ◌≡◌, map, nat_eq}
+-- The maps of the entries and enums that were named say the number of each, and there are at most 65,536 entries.
+use Rattle.std.specs.Prelude.{ℕ, ◌≤◌, ◌≡◌, length, map, nat_eq}
 use Rattle.std.specs.HashMap.{get}
 use Rattle.capnp_request.specs.Bindings.{bounds}
 use Rattle.capnp_request.specs.EntriesSeen.{seen_entry}
@@ -15,3 +15,4 @@ numbered e = record { entries = map seen_entry e.structs.items; enums = e.enums.
 pub record AreNumbered (e : Entries) : Type 0 where
   pub structs : (b : BoundNode) → get (node_eq.ghosts).eq e.by_binding b ≡ entry_number b.id (bounds b.scopes.items) (map seen_entry e.structs.items) 0
   pub enums : (id : ℕ) → get nat_eq e.by_id id ≡ enum_position e.enums.items id 0
+  pub few : length e.structs.items ≤ 65536

@@ -8,7 +8,7 @@ use Rattle.capnp_request.specs.Conversion.{Converted, Note, annotations_of, fiel
 use Rattle.capnp_request.specs.Names.{Holder, dotted_of, enum_name, group_name, struct_name}
 use Rattle.capnp_request.specs.Scopes.{is_met, node_named, scopes_of}
 use Rattle.capnp_request.specs.Terms.{AnnotationNode, EnumNode, EnumerantTerm, FieldTerm, NodeKind, OtherNode, RequestTerm, Said, SchemaNode, StructNode, StructPart}
-use Rattle.capnp_request.specs.Types.{number_struct}
+use Rattle.capnp_request.specs.Types.{is_root, number_struct}
 use Rattle.capnp_request.specs.Work.{◌>>=◌, Bound, Entry, GroupOf, Named, Place, Whole, Work, each_read, given, nothing_seen, refused, said}
 
 -- what is made so far, the names of the enums that were named by types, and the dotted names that entries had
@@ -179,11 +179,9 @@ module _ (nodes : List SchemaNode) (strict : Bool) where
   -- ---- the roots ----
 
   -- a struct that is no group is a root, with nothing bound
-  abbrev pub name_root : (id : ℕ) → NodeKind → Work (List ℕ)
-  name_root id (StructNode part) = elim part.is_group [ true ↦ given [] | false ↦ said (scopes_of nodes id) >>= (λ bound. number_struct id bound >>= (λ number. given [])) ]
-  name_root id (EnumNode enumerants) = given []
-  name_root id (AnnotationNode t) = given []
-  name_root id OtherNode = given []
+  abbrev pub name_root : (id : ℕ) → (is_root : Bool) → Work (List ℕ)
+  name_root id true = said (scopes_of nodes id) >>= (λ bound. number_struct id bound >>= (λ number. given []))
+  name_root id false = given []
 
   -- The nodes of a queue of ids, breadth first: what is nested in the first goes to the queue's end. There are at most as many
   -- as there are nodes.
@@ -191,7 +189,7 @@ module _ (nodes : List SchemaNode) (strict : Bool) where
   name_roots zero met queue = given []
   name_roots (suc steps) met [] = given []
   name_roots (suc steps) met (id ∷ ids) =
-      at_node (node_named nodes id) (λ n. said n.nested >>= (λ nested. name_root id n.kind
+      at_node (node_named nodes id) (λ n. said n.nested >>= (λ nested. name_root id (is_root n.kind)
       >>= (λ none. name_roots steps (new_ids nodes nested met ++ met) (ids ++ new_ids nodes nested met))))
 
 -- ---- a whole request ----

@@ -1,5 +1,5 @@
 -- What the record of a request says: its parts as terms, each missing part as it is read.
-use Rattle.std.specs.Prelude.{ℕ, zero, suc, ℤ, pos, List, [], ◌∷◌, Bool, true, false, ◌==◌, slice_get, Option, Some, None, Ok, Err}
+use Rattle.std.specs.Prelude.{ℕ, zero, suc, ℤ, pos, List, [], ◌∷◌, Bool, true, false, slice_get, Option, Some, None, Ok, Err}
 use Rattle.std.specs.Option.{unwrap_or}
 use Rattle.capnp_device.specs.declared.error.ErrorKind.{ErrorKind}
 use Rattle.capnp_device.specs.declared.error.ErrorKind.TheVariants.{TooDeep, TypeMismatch, UnknownKind}
@@ -90,18 +90,22 @@ module _ (inner : Record → TypeTerm) where
   abbrev pub type_in : RecordValue → TypeTerm
   type_in = in_struct term.UnreadType inner
 
+  abbrev pub binding_kinds : List (RecordValue → TypeTerm)
+  binding_kinds = (λ v. untyped) ∷ type_in ∷ []
+
   abbrev pub binding_said : Record → TypeTerm
-  binding_said r = by_member (term.UnreadType UnknownKind) ((λ v. untyped) ∷ type_in ∷ []) 21 (which_of r) r
+  binding_said r = by_member (term.UnreadType UnknownKind) binding_kinds 21 (which_of r) r
 
   abbrev pub bindings_said : Values → BindingTerms
   bindings_said NoValues = term.NoBindings
   bindings_said (MoreValues v vs) = term.MoreBindings (in_struct term.UnreadType binding_said (element_read 21 v)) (bindings_said vs)
 
   -- the first field of a scope is its id, and the members stand behind it
+  abbrev pub scope_kinds : List (RecordValue → ScopeTerm)
+  scope_kinds = (λ v. term.UnreadScope UnknownKind) ∷ in_list term.UnreadScope (λ vs. term.Binds (bindings_said vs)) ∷ (λ v. term.Inherits) ∷ []
+
   abbrev pub scope_said : Record → ScopeTerm
-  scope_said r =
-      by_member (term.UnreadScope UnknownKind)
-      ((λ v. term.UnreadScope UnknownKind) ∷ in_list term.UnreadScope (λ vs. term.Binds (bindings_said vs)) ∷ (λ v. term.Inherits) ∷ []) 20 (which_of r) r
+  scope_said r = by_member (term.UnreadScope UnknownKind) scope_kinds 20 (which_of r) r
 
   abbrev pub with_scope : BrandTerm → RecordValue → BrandTerm
   with_scope rest = in_struct term.UnreadBrand (λ r. term.MoreScopes (number_in (read_at 20 0 r)) (scope_said r) rest)
@@ -116,6 +120,12 @@ module _ (inner : Record → TypeTerm) where
   abbrev pub struct_term : RecordValue → TypeTerm
   struct_term = in_struct term.UnreadType (λ r. term.StructTerm (number_in (read_at 16 0 r)) (brand_in (read_at 16 1 r)))
 
+  abbrev pub list_term : RecordValue → TypeTerm
+  list_term = in_struct term.UnreadType (λ r. term.ListTerm (type_in (read_at 14 0 r)))
+
+  abbrev pub enum_term : RecordValue → TypeTerm
+  enum_term = in_struct term.UnreadType (λ r. term.EnumTerm (number_in (read_at 15 0 r)))
+
   -- the members of a type, by index
   abbrev pub type_kinds : List (RecordValue → TypeTerm)
   type_kinds =
@@ -124,8 +134,8 @@ module _ (inner : Record → TypeTerm) where
       ∷ (λ v. term.Plain (UIntType 1)) ∷ (λ v. term.Plain (UIntType 2)) ∷ (λ v. term.Plain (UIntType 4)) ∷ (λ v. term.Plain (UIntType 8))
       ∷ (λ v. term.Float32) ∷ (λ v. term.Float64)
       ∷ (λ v. term.Plain TextType) ∷ (λ v. term.Plain DataType)
-      ∷ in_struct term.UnreadType (λ r. term.ListTerm (type_in (read_at 14 0 r)))
-      ∷ in_struct term.UnreadType (λ r. term.EnumTerm (number_in (read_at 15 0 r)))
+      ∷ list_term
+      ∷ enum_term
       ∷ struct_term
       ∷ (λ v. term.Interface)
       ∷ untyped_term
@@ -137,8 +147,11 @@ type_said zero r = term.UnreadType TooDeep
 type_said (suc levels) r = by_member (term.UnreadType UnknownKind) (type_kinds (type_said levels)) 13 (which_of r) r
 
 -- as many as a message has levels
+unfoldable pub type_levels : ℕ
+type_levels = 64
+
 abbrev pub whole_type : Record → TypeTerm
-whole_type = type_said 64
+whole_type = type_said type_levels
 
 -- ---- values ----
 
@@ -182,50 +195,52 @@ value_in = in_struct term.UnreadValue value_said
 
 -- ---- annotations, fields, enumerants ----
 
-abbrev pub annotation_said : Record → AnnotationTerm
+unfoldable pub annotation_said : Record → AnnotationTerm
 annotation_said r = record { id = number_in (read_at 12 0 r); value = value_in (read_at 12 1 r); brand = brand_in whole_type (read_at 12 2 r) }
 
 abbrev pub annotations_in : RecordValue → Said (List (Said AnnotationTerm))
 annotations_in = list_said 12 annotation_said
 
-abbrev pub slot_said : Record → FieldKindTerm
+unfoldable pub slot_said : Record → FieldKindTerm
 slot_said r = term.SlotTerm (number_in (read_at 9 0 r)) (in_struct term.UnreadType whole_type (read_at 9 1 r)) (value_in (read_at 9 2 r))
 
--- members 3 and 4 of a field are a slot and a group
-abbrev pub kind_said : Option ℕ → Record → FieldKindTerm
-kind_said None r = term.UnreadField UnknownKind
-kind_said (Some i) r =
-    elim (i == 3) [
-      | true ↦ in_struct term.UnreadField slot_said (read_at 8 3 r)
-      | false ↦ in_struct term.UnreadField (λ g. term.GroupTerm (number_in (read_at 10 0 g))) (read_at 8 4 r)
-    ]
+-- the members of a field by index: a slot and a group, behind its plain fields
+abbrev pub no_kind : RecordValue → FieldKindTerm
+no_kind v = term.UnreadField UnknownKind
 
-abbrev pub field_said : Record → FieldTerm
-field_said r = record { name = text_in (read_at 8 0 r); discriminant_value = number_in (read_at 8 2 r); annotations = annotations_in (read_at 8 1 r); kind = kind_said (which_of r) r }
+abbrev pub group_said : Record → FieldKindTerm
+group_said r = term.GroupTerm (number_in (read_at 10 0 r))
 
-abbrev pub enumerant_said : Record → EnumerantTerm
+abbrev pub field_kinds : List (RecordValue → FieldKindTerm)
+field_kinds = no_kind ∷ no_kind ∷ no_kind ∷ in_struct term.UnreadField slot_said ∷ in_struct term.UnreadField group_said ∷ []
+
+unfoldable pub field_said : Record → FieldTerm
+field_said r = record { name = text_in (read_at 8 0 r); discriminant_value = number_in (read_at 8 2 r); annotations = annotations_in (read_at 8 1 r); kind = by_member (term.UnreadField UnknownKind) field_kinds 8 (which_of r) r }
+
+unfoldable pub enumerant_said : Record → EnumerantTerm
 enumerant_said r = record { name = text_in (read_at 11 0 r); annotations = annotations_in (read_at 11 1 r) }
 
 -- ---- nodes ----
 
-abbrev pub number_at : ℕ → ℕ → RecordValue → ℕ
-number_at b i = in_struct (λ kind. 0) (λ r. number_in (read_at b i r))
+unfoldable pub struct_said : Record → StructPart
+struct_said r = record {
+  data_words = number_in (read_at 3 0 r);
+  pointers = number_in (read_at 3 1 r);
+  is_group = truth_in (read_at 3 2 r);
+  discriminant_count = number_in (read_at 3 3 r);
+  discriminant_offset = number_in (read_at 3 4 r);
+  fields = list_said 8 field_said (read_at 3 5 r);
+}
 
-abbrev pub struct_in : RecordValue → NodeKind
-struct_in v = term.StructNode (record {
-  data_words = number_at 3 0 v;
-  pointers = number_at 3 1 v;
-  is_group = in_struct (λ kind. false) (λ r. truth_in (read_at 3 2 r)) v;
-  discriminant_count = number_at 3 3 v;
-  discriminant_offset = number_at 3 4 v;
-  fields = in_struct Err (λ r. list_said 8 field_said (read_at 3 5 r)) v;
-})
+unfoldable pub enumerants_said : Record → Said (List (Said EnumerantTerm))
+enumerants_said r = list_said 11 enumerant_said (read_at 4 0 r)
 
-abbrev pub enum_in : RecordValue → NodeKind
-enum_in v = term.EnumNode (in_struct Err (λ r. list_said 11 enumerant_said (read_at 4 0 r)) v)
+-- the type that an annotation is declared with
+unfoldable pub declaration_said : Record → TypeTerm
+declaration_said r = in_struct term.UnreadType whole_type (read_at 5 0 r)
 
-abbrev pub annotation_in : RecordValue → NodeKind
-annotation_in v = term.AnnotationNode (in_struct term.UnreadType (λ r. in_struct term.UnreadType whole_type (read_at 5 0 r)) v)
+abbrev pub unread_part : ErrorKind → StructPart
+unread_part kind = record { data_words = 0; pointers = 0; is_group = false; discriminant_count = 0; discriminant_offset = 0; fields = Err kind }
 
 abbrev pub other : RecordValue → NodeKind
 other v = term.OtherNode
@@ -234,17 +249,17 @@ other v = term.OtherNode
 abbrev pub node_kinds : List (RecordValue → NodeKind)
 node_kinds =
     other ∷ other ∷ other ∷ other ∷ other ∷ other
-    ∷ struct_in
-    ∷ enum_in
+    ∷ (λ v. term.StructNode (in_struct unread_part struct_said v))
+    ∷ (λ v. term.EnumNode (in_struct Err enumerants_said v))
     ∷ other ∷ other
-    ∷ annotation_in
+    ∷ (λ v. term.AnnotationNode (in_struct term.UnreadType declaration_said v))
     ∷ []
 
 -- an id that is listed, of a nested node or of a requested file
 abbrev pub id_said : ℕ → Record → ℕ
 id_said b r = number_in (read_at b 0 r)
 
-abbrev pub node_said : Record → SchemaNode
+unfoldable pub node_said : Record → SchemaNode
 node_said r = record {
   id = number_in (read_at 2 0 r);
   display_name = text_in (read_at 2 1 r);

@@ -38,7 +38,7 @@ scopes_from (suc steps) nodes met distance id =
     elim (is_met met id) [ true ↦ Ok [] | false ↦ scopes_of_node (scopes_from steps nodes (id ∷ met) (distance + 1)) distance id (node_named nodes id) ]
 
 abbrev pub scopes_of : List SchemaNode → ℕ → Said (List Bound)
-scopes_of nodes id = scopes_from (suc (length nodes)) nodes [] 0 id
+scopes_of nodes id = scopes_from (length nodes) nodes [] 0 id
 
 -- the first scope of an id among those that are bound inside an entry
 abbrev pub scope_among : List Bound → ℕ → Option Bound

@@ -1,17 +1,9 @@
 -- Brands and the nodes that they are of: brand i is of node i, and has a type for each of its fields and annotations.
-use Rattle.std.specs.Prelude.{ℕ, ◌≡◌, Bool, true, false, List, [], ◌∷◌, length, suc, ⊤, Ok}
+use Rattle.std.specs.Prelude.{ℕ, ◌≡◌, Bool, true, false, List, [], ◌∷◌, length, suc, ⊤}
 use Rattle.capnp_schema.specs.declared.record.BrandRecord.{BrandRecord}
-use Rattle.capnp_schema.specs.declared.record.FieldKind.{FieldKind as KindRecord}
 use Rattle.capnp_schema.specs.declared.record.NodeRecord.{NodeRecord}
 use Rattle.capnp_schema.specs.declared.record.StructRecord.{StructRecord}
-use Rattle.capnp_records.specs.Record as value
-use Rattle.capnp_records.specs.Record.{Record}
-use Rattle.capnp_records.specs.Record.{Value as RecordValue}
-use Rattle.capnp_schema.specs.Schema.{FieldKind, Group, Slot, Value, seen_kind}
-use Rattle.capnp_schema.specs.Types.{SchemaType, StructType}
-use Rattle.capnp_request.specs.Parts.{read_at}
-use Rattle.capnp_request.specs.Reading.{number_in, truth_in, value_in}
-use Rattle.capnp_request.specs.Values.{value_of}
+use Rattle.capnp_request.specs.Terms.{StructPart}
 use Rattle.capnp_request.specs.declared.notes.Note.{Note}
 use Rattle.capnp_request.specs.declared.notes.StandIn.{StandIn}
 
@@ -41,19 +33,9 @@ noted true n = n ∷ []
 noted false n = []
 
 -- the sections, the group mark and the discriminant of a struct are those that the struct part of its node says
-pub record HasParts (part : Record) (body : StructRecord) : Type 0 where
-  pub data_words : number_in (read_at 3 0 part) ≡ body.data_word_count
-  pub pointers : number_in (read_at 3 1 part) ≡ body.pointer_count
-  pub group : truth_in (read_at 3 2 part) ≡ body.is_group
-  pub discriminant_count : number_in (read_at 3 3 part) ≡ body.discriminant_count
-  pub discriminant_offset : number_in (read_at 3 4 part) ≡ body.discriminant_offset
-
--- a slot has the offset that it says, and the value of its default
-abbrev pub IsSlotOf : RecordValue → KindRecord → Type 0
-IsSlotOf (value.Struct s) k = (v : Value) × (seen_kind k ≡ Slot (number_in (read_at 9 0 s)) v) × (value_of (value_in (read_at 9 2 s)) ≡ Ok v)
-IsSlotOf part k = ⊥
-
--- a group's field is of the entry that the group is
-abbrev pub IsGroupOf : FieldKind → SchemaType → Type 0
-IsGroupOf (Group number) t = t ≡ StructType number number
-IsGroupOf (Slot offset default) t = ⊥
+pub record HasParts (part : StructPart) (body : StructRecord) : Type 0 where
+  pub data_words : part.data_words ≡ body.data_word_count
+  pub pointers : part.pointers ≡ body.pointer_count
+  pub group : part.is_group ≡ body.is_group
+  pub discriminant_count : part.discriminant_count ≡ body.discriminant_count
+  pub discriminant_offset : part.discriminant_offset ≡ body.discriminant_offset

@@ -1,5 +1,5 @@
 -- The types that a request's types are converted to, and the numbers of what they name.
-use Rattle.std.specs.Prelude.{ℕ, zero, suc, ◌+◌, List, [], ◌∷◌, ◌++◌, Bool, true, false, ◌==◌, ◌&&◌, cond, nat_lt, length, slice_get, Option, Some, None, Ok, Err}
+use Rattle.std.specs.Prelude.{ℕ, zero, suc, ◌+◌, List, [], ◌∷◌, ◌++◌, Bool, true, false, not, ◌==◌, ◌&&◌, cond, nat_lt, length, slice_get, Option, Some, None, Ok, Err}
 use Rattle.std.specs.Option.{unwrap_or}
 use Rattle.capnp_device.specs.declared.error.ErrorKind.TheVariants.{FloatType, InterfaceType, NodeNotFound, TooManyTypes}
 use Rattle.capnp_schema.specs.Types.{SchemaType, VoidType, BoolType, IntType, UIntType, EnumType, TextType, DataType, StructType, ListType, AnyPointerType}
@@ -121,6 +121,19 @@ enum_or_add nodes None id s = where_node is_enum nodes id (add_enum id) s
 abbrev pub number_enum : List SchemaNode → ℕ → Work ℕ
 number_enum nodes id s = enum_or_add nodes (enum_position s.enums id 0) id s
 
+abbrev pub is_annotation : NodeKind → Bool
+is_annotation (StructNode part) = false
+is_annotation (EnumNode enumerants) = false
+is_annotation (AnnotationNode t) = true
+is_annotation OtherNode = false
+
+-- a struct that is no group
+abbrev pub is_root : NodeKind → Bool
+is_root (StructNode part) = not part.is_group
+is_root (EnumNode enumerants) = false
+is_root (AnnotationNode t) = false
+is_root OtherNode = false
+
 -- ---- types ----
 
 -- floats and interfaces are refused where that is asked for, and else noted
@@ -140,10 +153,18 @@ interface false s = Ok (AnyPointerType, record s { seen = record s.seen { interf
 abbrev pub bound_to : List Bound → (scope index : ℕ) → SchemaType
 bound_to inside scope index = bound_types AnyPointerType (λ b. unwrap_or (slice_get b.types index) AnyPointerType) inside scope
 
+-- a list of a type; the lists around a type are counted in 64 bits
+abbrev pub list_type : SchemaType → Work SchemaType
+list_type element s = where_so (nat_lt (lists_in element) 18446744073709551615) TooManyTypes (Ok (ListType element, s))
+
 -- one type more before the others; untyped pointers at the end are left out
 abbrev pub with_type : SchemaType → List SchemaType → List SchemaType
 with_type AnyPointerType [] = []
 with_type t ts = t ∷ ts
+
+abbrev pub without_untyped : List SchemaType → List SchemaType
+without_untyped [] = []
+without_untyped (t ∷ ts) = with_type t (without_untyped ts)
 
 -- a scope with the types that are bound to its parameters
 abbrev pub bind_scope : (Bound → Work (List SchemaType)) → Bound → Work Bound
@@ -157,12 +178,12 @@ module _ (nodes : List SchemaNode) (strict : Bool) (inside : List Bound) where
     type_of Float32 s = float32 strict s
     type_of Float64 s = float64 strict s
     type_of Interface s = interface strict s
-    type_of (ListTerm t) s = (type_of t >>= (λ element. given (ListType element))) s
+    type_of (ListTerm t) s = (type_of t >>= list_type) s
     type_of (EnumTerm id) s = (number_enum nodes id >>= (λ number. given (EnumType number))) s
     -- bindings are numbered before the struct that they bind
     type_of (StructTerm id brand) s =
         where_node is_struct nodes id
-        (said (scopes_of nodes id) >>= (λ scopes. each (bind_scope (brand_types brand)) scopes >>= (λ bound. number_struct id bound >>= (λ number. given (StructType number number))))) s
+        ((said (scopes_of nodes id) >>= each (bind_scope (brand_types brand))) >>= (λ bound. number_struct id bound >>= (λ number. given (StructType number number)))) s
     type_of (Parameter scope index) s = Ok (bound_to inside scope index, s)
     type_of (UnreadType kind) s = Err kind
 
@@ -172,11 +193,15 @@ module _ (nodes : List SchemaNode) (strict : Bool) (inside : List Bound) where
     brand_types (UnreadBrand kind) scope s = Err kind
 
     pub scope_types : ScopeTerm → Bound → Work (List SchemaType)
-    scope_types (Binds terms) scope s = binding_types terms scope.parameters s
+    scope_types (Binds terms) scope s = (binding_types terms scope.parameters >>= (λ ts. given (without_untyped ts))) s
     scope_types Inherits scope s = Ok (bound_types [] (λ b. b.types) inside scope.scope, s)
     scope_types (UnreadScope kind) scope s = Err kind
 
     pub binding_types : BindingTerms → (parameters : ℕ) → Work (List SchemaType)
     binding_types terms zero s = Ok ([], s)
     binding_types NoBindings (suc count) s = Ok ([], s)
-    binding_types (MoreBindings t rest) (suc count) s = (type_of t >>= (λ first. binding_types rest count >>= (λ others. given (with_type first others)))) s
+    binding_types (MoreBindings t rest) (suc count) s = (type_of t >>= (λ first. binding_types rest count >>= (λ others. given (first ∷ others)))) s
+
+  -- the scopes of an id with what a brand binds there
+  abbrev pub named_scopes : ℕ → BrandTerm → Work (List Bound)
+  named_scopes id brand = said (scopes_of nodes id) >>= each (bind_scope (brand_types brand))

@@ -1,18 +1,27 @@
 //! Annotations, as a request says them.
 ghost use Rattle.std.specs.Prelude.{◌≡◌, false, length, IfErr, IfOk};
 ghost use Rattle.capnp_schema.specs.RequestSet.{request_set};
-ghost use Rattle.capnp_schema.specs.Schema.{field_at, is_member};
+ghost use Rattle.capnp_schema.specs.Schema.{field_at, is_member, seen_annotation};
+ghost use Rattle.capnp_schema.specs.Types.{seen_type};
+ghost use Rattle.capnp_dynamic_readers.specs.Seen.{record_seen};
+ghost use Rattle.capnp_request.specs.Bindings.{bounds};
+ghost use Rattle.capnp_request.specs.Conversion.{annotation_of, annotations_of, declared_type};
+ghost use Rattle.capnp_request.specs.ConvertedSeen.{typed_annotations};
+ghost use Rattle.capnp_request.specs.Done.{IsDone, between};
 ghost use Rattle.capnp_request.specs.Handles.{IsField, IsRecord};
-ghost use Rattle.capnp_request.specs.Nodes.{AreNodes};
-ghost use Rattle.capnp_request.specs.Parts.{many};
+ghost use Rattle.capnp_request.specs.Nodes.{AreNodes, nodes_of};
+ghost use Rattle.capnp_request.specs.Numbers.{AreNumbered};
+ghost use Rattle.capnp_request.specs.Parts.{many, read_at};
+ghost use Rattle.capnp_request.specs.Reading.{annotation_said, annotations_in, brand_in, whole_type};
 ghost use Rattle.capnp_request.specs.Refusals.{IsRefusal};
+ghost use Rattle.capnp_request.specs.Work.{unnoted};
 
 use crate::context::Context;
 use crate::entries::{BoundScope, Entries};
 use crate::notes::Seen;
 use crate::parts::{element_at, list_at, struct_at, u64_at};
-use crate::places::{ANNOTATION_BRAND, ANNOTATION_ID, ANNOTATION_VALUE, brands};
-use crate::types::{BrandPlace, TYPE_LEVELS, bindings_of, type_of};
+use crate::places::{ANNOTATION_BRAND, ANNOTATION_ID, ANNOTATION_VALUE, DECLARED_TYPE, brands};
+use crate::types::{BrandPlace, bindings_of, levels_of_types, type_of};
 use crate::values::value_of;
 use capnp_base::introspect::Type;
 use capnp_dynamic_readers::dynamic_struct;
@@ -28,10 +37,14 @@ fn annotation_type<'a>(
     id: u64,
 ) -> Result<Type>
     requires nodes { AreNodes context.nodes.now }
+    requires numbers { AreNumbered entries.now }
     requires is_record { IsRecord 12 annotation }
+    ensures done { IsDone seen_type (unnoted (declared_type (nodes_of context.entry.nodes.now) context.entry.strict id (bounds inside.now) (brand_in whole_type (read_at 12 2 (record_seen annotation.entry)))))
+        (between entries.old) (between entries.new) result }
+    ensures numbers { IfOk result (λ _. AreNumbered entries.new) }
     ensures kinds { IfErr result (λ e. IsRefusal context.entry.strict e.kind) }
 {
-    let term = context.nodes.declared_type(id)?;
+    let declaration = context.nodes.declaration(id)?;
     let place = BrandPlace {
         reader: annotation,
         holder: brands::ANNOTATION,
@@ -39,15 +52,43 @@ fn annotation_type<'a>(
     };
     // Nothing is noted of an annotation.
     let mut seen = Seen::nothing();
-    let scopes = bindings_of(context, entries, inside, id, place, &mut seen, TYPE_LEVELS)?;
-    type_of(
-        context,
-        entries,
-        scopes.as_slice(),
-        term,
-        &mut seen,
-        TYPE_LEVELS,
-    )
+    let levels = levels_of_types();
+    let scopes = bindings_of(context, entries, inside, id, place, &mut seen, levels)?;
+    let term = struct_at(
+        declaration,
+        brands::DECLARATION,
+        DECLARED_TYPE,
+        brands::TYPE,
+    )?;
+    let annotation_type = type_of(context, entries, scopes.as_slice(), term, &mut seen, levels)?;
+    Ok(annotation_type)
+}
+
+/// An annotation inside an entry of these scopes, and its type.
+fn annotation_of<'a>(
+    context: Context<'_, 'a>,
+    entries: &mut Entries,
+    inside: &[BoundScope],
+    annotation: dynamic_struct::Reader<'a>,
+) -> Result<(AnnotationRecord, Type)>
+    requires nodes { AreNodes context.nodes.now }
+    requires numbers { AreNumbered entries.now }
+    requires is_record { IsRecord 12 annotation }
+    ensures done { IsDone (λ r. (seen_annotation r.0, seen_type r.1)) (annotation_of (nodes_of context.entry.nodes.now) context.entry.strict (bounds inside.now) (annotation_said (record_seen annotation.entry)))
+        (between entries.old) (between entries.new) result }
+    ensures numbers { IfOk result (λ _. AreNumbered entries.new) }
+    ensures kinds { IfErr result (λ e. IsRefusal context.entry.strict e.kind) }
+{
+    let id = u64_at(annotation, brands::ANNOTATION, ANNOTATION_ID);
+    let said = struct_at(
+        annotation,
+        brands::ANNOTATION,
+        ANNOTATION_VALUE,
+        brands::VALUE,
+    )?;
+    let value = value_of(context.alloc, said)?;
+    let annotation_type = annotation_type(context, entries, inside, annotation, id)?;
+    Ok((AnnotationRecord { id, value }, annotation_type))
 }
 
 /// The annotations that a field of a record has, and the type of each.
@@ -60,9 +101,13 @@ pub(crate) fn annotations_of<'a>(
     index: u16,
 ) -> Result<(Vec<AnnotationRecord>, Vec<Type>)>
     requires nodes { AreNodes context.nodes.now }
+    requires numbers { AreNumbered entries.now }
     requires record { IsRecord brand reader }
     requires field { IsField brand index (many 12) }
     requires plain { is_member (field_at request_set brand index).field ≡ false }
+    ensures done { IsDone (λ r. typed_annotations r.0.items r.1.items) (annotations_of (nodes_of context.entry.nodes.now) context.entry.strict (bounds inside.now) (annotations_in (read_at brand index (record_seen reader.entry))))
+        (between entries.old) (between entries.new) result }
+    ensures numbers { IfOk result (λ _. AreNumbered entries.new) }
     ensures typed { IfOk result (λ r. length r.1.items ≡ length r.0.items) }
     ensures kinds { IfErr result (λ e. IsRefusal context.entry.strict e.kind) }
 {
@@ -71,16 +116,9 @@ pub(crate) fn annotations_of<'a>(
     let mut types = Vec::new(context.alloc);
     for at in 0..listed.len() {
         let annotation = element_at(listed, at, brands::ANNOTATION)?;
-        let id = u64_at(annotation, brands::ANNOTATION, ANNOTATION_ID)?;
-        let said = struct_at(
-            annotation,
-            brands::ANNOTATION,
-            ANNOTATION_VALUE,
-            brands::VALUE,
-        )?;
-        let value = value_of(context.alloc, said)?;
-        let annotation_type = annotation_type(context, entries, inside, annotation, id)?;
-        records.push(AnnotationRecord { id, value })?;
+        let made = annotation_of(context, entries, inside, annotation)?;
+        let (record, annotation_type) = made;
+        records.push(record)?;
         types.push(annotation_type)?;
     }
     Ok((records, types))

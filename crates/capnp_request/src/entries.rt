@@ -1,13 +1,14 @@
 //! The entries of a set while it is made: struct nodes with bindings, groups and enums, by the numbers that they got when
 //! they were first named.
-ghost use Rattle.std.specs.Prelude.{◌≡◌, ◌<◌, [], length, slice_get, option_map, IfErr, IfOk, Ok};
+ghost use Rattle.std.specs.Prelude.{◌≡◌, ◌≢◌, ◌<◌, ◌≤◌, [], length, slice_get, option_map, IfErr, IfOk, Ok, Err};
+ghost use Rattle.capnp_device.specs.declared.error.ErrorKind.TheVariants.{OutOfMemory, TooManyTypes};
 ghost use Rattle.capnp_schema.specs.Types.{EnumType, StructType, seen_type};
 ghost use Rattle.capnp_request.specs.Bindings.{bounds};
 ghost use Rattle.capnp_request.specs.EntriesSeen.{group_entry, seen_entry};
-ghost use Rattle.capnp_request.specs.Nodes.{AreNodes};
+ghost use Rattle.capnp_request.specs.Nodes.{AreNodes, nodes_of};
 ghost use Rattle.capnp_request.specs.Numbers.{AreNumbered, numbered};
 ghost use Rattle.capnp_request.specs.Refusals.{IsPlain};
-ghost use Rattle.capnp_request.specs.Types.{add_entry, number_struct};
+ghost use Rattle.capnp_request.specs.Types.{add_entry, number_enum, number_struct};
 ghost use Rattle.capnp_request.specs.Work.{Seen, named};
 
 use crate::schema_nodes::SchemaNodes;
@@ -118,7 +119,8 @@ impl Entries {
     fn next_number(&self) -> Result<u32>
         ensures number { IfOk result (λ n. n ≡ length (numbered self.now).entries) }
         ensures bound { IfOk result (λ n. n < 65536) }
-        ensures kinds { IfErr result (λ e. IsPlain e.kind) }
+        ensures full { IfErr result (λ _. 65536 ≤ length (numbered self.now).entries) }
+        ensures kinds { IfErr result (λ e. e.kind ≡ TooManyTypes) }
     {
         let number = self.structs.len();
         if number >= MOST_ENTRIES {
@@ -129,8 +131,10 @@ impl Entries {
 
     /// The number of a struct node with bindings, which it gets where it has none.
     pub(crate) fn number_of(&mut self, alloc: Global, bound: BoundNode) -> Result<u32>
-        ensures done { AreNumbered self.old → IfOk result (λ n. (seen : Seen) → number_struct bound.id (bounds bound.scopes.items) (named (numbered self.old) seen) ≡ Ok (n, named (numbered self.new) seen)) }
-        ensures numbers { AreNumbered self.old → IfOk result (λ n. AreNumbered self.new) }
+        requires { AreNumbered self.now }
+        ensures done { IfOk result (λ n. (seen : Seen) → number_struct bound.id (bounds bound.scopes.items) (named (numbered self.old) seen) ≡ Ok (n, named (numbered self.new) seen)) }
+        ensures numbers { IfOk result (λ n. AreNumbered self.new) }
+        ensures refused { IfErr result (λ e. e.kind ≢ OutOfMemory → (seen : Seen) → number_struct bound.id (bounds bound.scopes.items) (named (numbered self.old) seen) ≡ Err e.kind) }
         ensures kinds { IfErr result (λ e. IsPlain e.kind) }
     {
         if let Some(number) = self.by_binding.get(&bound) {
@@ -154,9 +158,10 @@ impl Entries {
         scopes: Vec<BoundScope>,
         place: GroupPlace,
     ) -> Result<u32>
-        ensures own { IfOk result (λ n. n ≡ length (numbered self.old).entries) }
-        ensures done { AreNumbered self.old → IfOk result (λ n. (seen : Seen) → add_entry (group_entry id (bounds scopes.items) place) (named (numbered self.old) seen) ≡ Ok (n, named (numbered self.new) seen)) }
-        ensures numbers { AreNumbered self.old → IfOk result (λ n. AreNumbered self.new) }
+        requires { AreNumbered self.now }
+        ensures done { IfOk result (λ n. (seen : Seen) → add_entry (group_entry id (bounds scopes.items) place) (named (numbered self.old) seen) ≡ Ok (n, named (numbered self.new) seen)) }
+        ensures numbers { IfOk result (λ n. AreNumbered self.new) }
+        ensures refused { IfErr result (λ e. e.kind ≢ OutOfMemory → (seen : Seen) → add_entry (group_entry id (bounds scopes.items) place) (named (numbered self.old) seen) ≡ Err e.kind) }
         ensures kinds { IfErr result (λ e. IsPlain e.kind) }
     {
         let number = self.next_number()?;
@@ -170,14 +175,17 @@ impl Entries {
 
     /// The number of an enum, which it gets where it has none. Refused with `NodeNotFound` where the id is no enum's.
     pub(crate) fn number_enum(&mut self, nodes: &SchemaNodes<'_>, id: u64) -> Result<u32>
-        requires { AreNodes nodes.now }
-        ensures numbers { AreNumbered self.old → IfOk result (λ n. AreNumbered self.new) }
+        requires nodes { AreNodes nodes.now }
+        requires numbers { AreNumbered self.now }
+        ensures done { IfOk result (λ n. (seen : Seen) → number_enum (nodes_of nodes.now) id (named (numbered self.old) seen) ≡ Ok (n, named (numbered self.new) seen)) }
+        ensures numbers { IfOk result (λ n. AreNumbered self.new) }
+        ensures refused { IfErr result (λ e. e.kind ≢ OutOfMemory → (seen : Seen) → number_enum (nodes_of nodes.now) id (named (numbered self.old) seen) ≡ Err e.kind) }
         ensures kinds { IfErr result (λ e. IsPlain e.kind) }
     {
         if let Some(number) = self.by_id.get(&id) {
             return Ok(*number);
         }
-        let _node = nodes.enum_node(id)?;
+        nodes.enum_node(id)?;
         let number = self.enums.len();
         if number >= u32::MAX as usize {
             return Err(Error::from(ErrorKind::TooManyTypes));

@@ -1,28 +1,30 @@
 //! Fields, as a request says them.
-ghost use Rattle.std.specs.Prelude.{◌≡◌, length, string_bytes, Some, Ok, IfErr, IfOk};
-ghost use Rattle.capnp_schema.specs.Schema.{Group, seen_kind};
-ghost use Rattle.capnp_schema.specs.Types.{seen_type};
+ghost use Rattle.std.specs.Prelude.{◌≡◌, ◌&&◌, length, Some, IfErr, IfOk};
 ghost use Rattle.capnp_records.specs.Part.{which_of};
 ghost use Rattle.capnp_dynamic_readers.specs.Seen.{record_seen};
+ghost use Rattle.capnp_request.specs.Bindings.{bounds};
+ghost use Rattle.capnp_request.specs.Conversion.{field_of, kind_of};
+ghost use Rattle.capnp_request.specs.ConvertedSeen.{seen_converted, seen_converted_kind};
+ghost use Rattle.capnp_request.specs.Done.{IsDone, between};
 ghost use Rattle.capnp_request.specs.Handles.{IsRecord};
-ghost use Rattle.capnp_request.specs.Nodes.{AreNodes};
-ghost use Rattle.capnp_request.specs.Numbers.{numbered};
+ghost use Rattle.capnp_request.specs.Nodes.{AreNodes, nodes_of};
+ghost use Rattle.capnp_request.specs.Numbers.{AreNumbered};
 ghost use Rattle.capnp_request.specs.Parts.{read_at};
-ghost use Rattle.capnp_request.specs.Reading.{number_in, text_in};
+ghost use Rattle.capnp_request.specs.Reading.{field_said, group_said, in_struct, slot_said};
 ghost use Rattle.capnp_request.specs.Refusals.{IsRefusal};
-ghost use Rattle.capnp_request.specs.Shapes.{IsGroupOf, IsSlotOf};
+ghost use Rattle.capnp_request.specs.Terms.{UnreadField};
 
 use crate::annotations::annotations_of;
 use crate::context::Context;
 use crate::entries::{BoundScope, Entries, GroupPlace, entry_type};
 use crate::notes::Seen;
-use crate::parts::{active_member, owned, struct_at, text_at, u16_at, u32_at, u64_at};
+use crate::parts::{active_member, group_at, owned, struct_at, text_at, u16_at, u32_at, u64_at};
 use crate::places::{
     FIELD_ANNOTATIONS, FIELD_DISCRIMINANT, FIELD_GROUP, FIELD_NAME, FIELD_SLOT, GROUP_ID,
     SLOT_DEFAULT, SLOT_OFFSET, SLOT_TYPE, brands,
 };
 use crate::scopes::{copied_scopes, is_untyped};
-use crate::types::{TYPE_LEVELS, type_of};
+use crate::types::{levels_of_types, type_of};
 use crate::values::{is_untyped_value, value_of};
 use capnp_base::introspect::Type;
 use capnp_dynamic_readers::dynamic_struct;
@@ -38,51 +40,113 @@ pub(crate) struct ConvertedField {
     pub(crate) seen: Seen,
 }
 
-/// A slot and its type.
+/// The kind of a field, its type, and what is noted of it.
+#[derive(Drop)]
+struct ConvertedKind {
+    kind: FieldKind,
+    field_type: Type,
+    seen: Seen,
+}
+
+/// Whether both hold.
+fn both(first: bool, second: bool) -> bool
+    ensures { result ≡ (first && second) }
+{
+    if first {
+        return second;
+    }
+    false
+}
+
+/// A slot at its place in an entry of these scopes.
 fn slot_of<'a>(
     context: Context<'_, 'a>,
     entries: &mut Entries,
     inside: &[BoundScope],
     field: dynamic_struct::Reader<'a>,
-    seen: &mut Seen,
-) -> Result<(FieldKind, Type)>
+    place: GroupPlace,
+) -> Result<ConvertedKind>
     requires nodes { AreNodes context.nodes.now }
+    requires numbers { AreNumbered entries.now }
     requires record { IsRecord 8 field }
     requires active { which_of (record_seen field) ≡ Some 3 }
-    ensures slot { IfOk result (λ r. IsSlotOf (read_at 8 3 (record_seen field.entry)) r.0) }
+    ensures done { IsDone (seen_converted_kind place) (kind_of (nodes_of context.entry.nodes.now) context.entry.strict (bounds inside.now) place.parent place.field (in_struct UnreadField slot_said (read_at 8 3 (record_seen field.entry))))
+        (between entries.old) (between entries.new) result }
+    ensures numbers { IfOk result (λ _. AreNumbered entries.new) }
     ensures kinds { IfErr result (λ e. IsRefusal context.entry.strict e.kind) }
 {
-    let slot = struct_at(field, brands::FIELD, FIELD_SLOT, brands::SLOT)?;
-    let offset = u32_at(slot, brands::SLOT, SLOT_OFFSET)?;
+    let _place = place;
+    let slot = group_at(field, brands::FIELD, FIELD_SLOT, brands::SLOT);
+    let offset = u32_at(slot, brands::SLOT, SLOT_OFFSET);
     let term = struct_at(slot, brands::SLOT, SLOT_TYPE, brands::TYPE)?;
-    let field_type = type_of(context, entries, inside, term, seen, TYPE_LEVELS)?;
+    let mut seen = Seen::nothing();
+    let levels = levels_of_types();
+    let field_type = type_of(context, entries, inside, term, &mut seen, levels)?;
     let value = struct_at(slot, brands::SLOT, SLOT_DEFAULT, brands::VALUE)?;
     let default = value_of(context.alloc, value)?;
-    seen.untyped_default = is_untyped(field_type) && is_untyped_value(value)?;
-    Ok((FieldKind::Slot { offset, default }, field_type))
+    let is_free = is_untyped(field_type);
+    let is_there = is_untyped_value(value);
+    seen.untyped_default = both(is_free, is_there);
+    Ok(ConvertedKind {
+        kind: FieldKind::Slot { offset, default },
+        field_type,
+        seen,
+    })
 }
 
-/// A group and its type: an entry for itself.
+/// A group at its place in an entry of these scopes: an entry for itself.
 fn group_of<'a>(
     context: Context<'_, 'a>,
     entries: &mut Entries,
     inside: &[BoundScope],
     field: dynamic_struct::Reader<'a>,
     place: GroupPlace,
-) -> Result<(FieldKind, Type)>
+) -> Result<ConvertedKind>
     requires nodes { AreNodes context.nodes.now }
+    requires numbers { AreNumbered entries.now }
     requires record { IsRecord 8 field }
     requires active { which_of (record_seen field) ≡ Some 4 }
-    ensures group { IfOk result (λ r. IsGroupOf (seen_kind r.0) (seen_type r.1)) }
-    ensures own { IfOk result (λ r. seen_kind r.0 ≡ Group (length (numbered entries.old).entries)) }
+    ensures done { IsDone (seen_converted_kind place) (kind_of (nodes_of context.entry.nodes.now) context.entry.strict (bounds inside.now) place.parent place.field (in_struct UnreadField group_said (read_at 8 4 (record_seen field.entry))))
+        (between entries.old) (between entries.new) result }
+    ensures numbers { IfOk result (λ _. AreNumbered entries.new) }
     ensures kinds { IfErr result (λ e. IsRefusal context.entry.strict e.kind) }
 {
-    let group = struct_at(field, brands::FIELD, FIELD_GROUP, brands::GROUP)?;
-    let id = u64_at(group, brands::GROUP, GROUP_ID)?;
-    let _node = context.nodes.struct_node(id)?;
+    let group = group_at(field, brands::FIELD, FIELD_GROUP, brands::GROUP);
+    let id = u64_at(group, brands::GROUP, GROUP_ID);
+    context.nodes.struct_node(id)?;
     let scopes = copied_scopes(context.alloc, inside)?;
     let number = entries.number_group(id, scopes, place)?;
-    Ok((FieldKind::Group { node: number }, entry_type(number)))
+    Ok(ConvertedKind {
+        kind: FieldKind::Group { node: number },
+        field_type: entry_type(number),
+        seen: Seen::nothing(),
+    })
+}
+
+/// The kind of a field at its place in an entry of these scopes. Refused with `UnknownKind` where it is no slot and no group.
+fn kind_of<'a>(
+    context: Context<'_, 'a>,
+    entries: &mut Entries,
+    inside: &[BoundScope],
+    field: dynamic_struct::Reader<'a>,
+    place: GroupPlace,
+) -> Result<ConvertedKind>
+    requires nodes { AreNodes context.nodes.now }
+    requires numbers { AreNumbered entries.now }
+    requires record { IsRecord 8 field }
+    ensures done { IsDone (seen_converted_kind place) (kind_of (nodes_of context.entry.nodes.now) context.entry.strict (bounds inside.now) place.parent place.field (field_said (record_seen field.entry)).kind)
+        (between entries.old) (between entries.new) result }
+    ensures numbers { IfOk result (λ _. AreNumbered entries.new) }
+    ensures kinds { IfErr result (λ e. IsRefusal context.entry.strict e.kind) }
+{
+    let Some(member) = active_member(field) else {
+        return Err(Error::from(ErrorKind::UnknownKind));
+    };
+    match member {
+        FIELD_SLOT => slot_of(context, entries, inside, field, place),
+        FIELD_GROUP => group_of(context, entries, inside, field, place),
+        _ => Err(Error::from(ErrorKind::UnknownKind)),
+    }
 }
 
 /// A field inside an entry of these scopes, at its place there.
@@ -94,29 +158,26 @@ pub(crate) fn field_of<'a>(
     place: GroupPlace,
 ) -> Result<ConvertedField>
     requires nodes { AreNodes context.nodes.now }
+    requires numbers { AreNumbered entries.now }
     requires is_record { IsRecord 8 field }
-    ensures name { IfOk result (λ f. text_in (read_at 8 0 (record_seen field.entry)) ≡ Ok (string_bytes f.record.name)) }
-    ensures discriminant { IfOk result (λ f. number_in (read_at 8 2 (record_seen field.entry)) ≡ f.record.discriminant_value) }
+    ensures done { IsDone (seen_converted place.parent place.field) (field_of (nodes_of context.entry.nodes.now) context.entry.strict (bounds inside.now) place.parent place.field (field_said (record_seen field.entry)))
+        (between entries.old) (between entries.new) result }
+    ensures numbers { IfOk result (λ _. AreNumbered entries.new) }
     ensures typed { IfOk result (λ f. length f.annotation_types.items ≡ length f.record.annotations.items) }
     ensures kinds { IfErr result (λ e. IsRefusal context.entry.strict e.kind) }
 {
     let text = text_at(field, brands::FIELD, FIELD_NAME)?;
     let name = owned(context.alloc, text)?;
-    let discriminant_value = u16_at(field, brands::FIELD, FIELD_DISCRIMINANT)?;
-    let mut seen = Seen::nothing();
-    let (kind, field_type) = match active_member(field) {
-        Some(FIELD_SLOT) => slot_of(context, entries, inside, field, &mut seen)?,
-        Some(FIELD_GROUP) => group_of(context, entries, inside, field, place)?,
-        _ => return Err(Error::from(ErrorKind::UnknownKind)),
-    };
-    let (annotations, annotation_types) = annotations_of(
-        context,
-        entries,
-        inside,
-        field,
-        brands::FIELD,
-        FIELD_ANNOTATIONS,
-    )?;
+    let discriminant_value = u16_at(field, brands::FIELD, FIELD_DISCRIMINANT);
+    let converted = kind_of(context, entries, inside, field, place)?;
+    let index = FIELD_ANNOTATIONS;
+    let listed = annotations_of(context, entries, inside, field, brands::FIELD, index)?;
+    let (annotations, annotation_types) = listed;
+    let ConvertedKind {
+        kind,
+        field_type,
+        seen,
+    } = converted;
     Ok(ConvertedField {
         record: FieldRecord {
             name,

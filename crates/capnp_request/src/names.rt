@@ -5,10 +5,13 @@ ghost use Rattle.capnp_schema.specs.Schema.{seen_node};
 ghost use Rattle.capnp_schema.specs.Types.{seen_base, seen_type, seen_variant};
 ghost use Rattle.capnp_base.specs.Types.{base_of, list_depth};
 ghost use Rattle.capnp_request.specs.Bindings.{bounds, seen_bound};
+ghost use Rattle.capnp_request.specs.EntriesSeen.{seen_entry, seen_place};
 ghost use Rattle.capnp_request.specs.Names.{Holder as NameHolder, bindings_name, bound_name, count_of, dotted_of, enum_name, file_of, finished, group_name, is_taken, more_names, part_bindings, struct_name, type_name};
 ghost use Rattle.capnp_request.specs.NamesMade.{AreHolders, IsTooLong, file_when, name_at, names_nothing, one_more, repeated, struct_names, texts};
-ghost use Rattle.capnp_request.specs.Nodes.{AreNodes};
+ghost use Rattle.capnp_request.specs.Nodes.{AreNodes, nodes_of};
+ghost use Rattle.capnp_request.specs.Order.{name_entry};
 ghost use Rattle.capnp_request.specs.Refusals.{IsPlain};
+ghost use Rattle.capnp_request.specs.Work.{Whole};
 
 use crate::entries::{BoundScope, Entry};
 use crate::parts::owned;
@@ -414,6 +417,8 @@ impl Names {
         entry: &Entry,
     ) -> Result<String>
         requires { AreNodes nodes.now }
+        ensures done { (hs : List NameHolder) → AreHolders self.old hs → IfOk result (λ name. (after : List NameHolder) × AreHolders self.new after × (name_entry (nodes_of nodes.now) (map seen_node named.entry.structs.now) (texts named.entry.enums.now) hs (seen_entry entry.now) Whole ≡ Ok (string_bytes name, after))) }
+        ensures refused { (hs : List NameHolder) → AreHolders self.old hs → IfErr result (λ e. e.kind ≢ OutOfMemory → name_entry (nodes_of nodes.now) (map seen_node named.entry.structs.now) (texts named.entry.enums.now) hs (seen_entry entry.now) Whole ≡ Err e.kind) }
         ensures kinds { IfErr result (λ e. IsPlain e.kind) }
     {
         let node = nodes.found(entry.id)?;
@@ -430,6 +435,8 @@ impl Names {
         entry: &Entry,
     ) -> Result<String>
         requires { AreNodes nodes.now }
+        ensures done { (hs : List NameHolder) → AreHolders self.old hs → IfOk result (λ name. (after : List NameHolder) × AreHolders self.new after × (name_entry (nodes_of nodes.now) (map seen_node named.entry.structs.now) (texts named.entry.enums.now) hs (seen_entry entry.now) (seen_place entry.now.group) ≡ Ok (string_bytes name, after))) }
+        ensures refused { (hs : List NameHolder) → AreHolders self.old hs → IfErr result (λ e. e.kind ≢ OutOfMemory → name_entry (nodes_of nodes.now) (map seen_node named.entry.structs.now) (texts named.entry.enums.now) hs (seen_entry entry.now) (seen_place entry.now.group) ≡ Err e.kind) }
         ensures kinds { IfErr result (λ e. IsPlain e.kind) }
     {
         match entry.group {

@@ -1,4 +1,7 @@
 //! Notes on what stands for something else in a converted set.
+ghost use Rattle.std.specs.Prelude.{◌≡◌, false};
+ghost use Rattle.capnp_request.specs.Bindings.{flags};
+ghost use Rattle.capnp_request.specs.Work.{nothing_seen};
 
 /// What stands for a type or default that sets of schemas do not have.
 #[derive(Clone, Copy, Debug, PartialEq, Eq)]
@@ -33,7 +36,10 @@ pub(crate) struct Seen {
 
 impl Seen {
     /// Nothing that is noted.
-    pub(crate) fn nothing() -> Seen {
+    pub(crate) fn nothing() -> Seen
+        ensures seen { flags result ≡ nothing_seen }
+        ensures default { result.untyped_default ≡ false }
+    {
         Seen {
             float32: false,
             float64: false,

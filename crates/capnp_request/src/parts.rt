@@ -12,11 +12,11 @@ ghost use Rattle.capnp_records.specs.Record as value;
 ghost use Rattle.capnp_dynamic_readers.specs.Handles.{list_reader_of};
 ghost use Rattle.capnp_dynamic_readers.specs.Kinds.{Int16Kind, Int32Kind, Int64Kind, Int8Kind, kind_of};
 ghost use Rattle.capnp_dynamic_readers.specs.Reads.{element_seen};
-ghost use Rattle.capnp_dynamic_readers.specs.Seen.{answered, list_seen, record_seen};
+ghost use Rattle.capnp_dynamic_readers.specs.Seen.{answered, list_seen, record_seen, value_seen};
 ghost use Rattle.capnp_dynamic_readers.specs.Typed.{IsOf};
 ghost use Rattle.capnp_dynamic_readers.specs.declared.dynamic_value.Reader.TheVariants as dynamic;
 ghost use Rattle.capnp_request.specs.Conversion.{name_of};
-ghost use Rattle.capnp_request.specs.Handles.{IsActive, IsField, IsListOf, IsRecord};
+ghost use Rattle.capnp_request.specs.Handles.{IsActive, IsAlwaysRead, IsField, IsGroupField, IsListOf, IsRecord};
 ghost use Rattle.capnp_request.specs.Parts.{many, one, read_at};
 ghost use Rattle.capnp_request.specs.Refusals.{IsPlain};
 
@@ -54,64 +54,63 @@ fn part<'a>(reader: dynamic_struct::Reader<'a>, brand: u32, index: u16) -> Resul
     reader.get(field)
 }
 
+/// The same of a field that can always be read.
+fn sure_part<'a>(reader: dynamic_struct::Reader<'a>, brand: u32, index: u16) -> Value<'a>
+    requires record { IsRecord brand reader }
+    requires field { IsField brand index (field_at request_set brand index).type }
+    requires always { IsAlwaysRead brand index }
+    requires active { IsActive brand index reader }
+    ensures value { value_seen result ≡ read_at brand index (record_seen reader.entry) }
+    ensures typed { IsOf request_set (field_at request_set brand index).type result }
+{
+    let Ok(value) = part(reader, brand, index) else {
+        unreachable!()
+    };
+    value
+}
+
 /// A `u8`.
-pub(crate) fn u8_at(reader: dynamic_struct::Reader<'_>, brand: u32, index: u16) -> Result<u8>
+pub(crate) fn u8_at(reader: dynamic_struct::Reader<'_>, brand: u32, index: u16) -> u8
     requires record { IsRecord brand reader }
     requires field { IsField brand index (UIntType 1) }
     requires active { IsActive brand index reader }
-    ensures read { IfOk result (λ x. value.Number (pos x) ≡ read_at brand index (record_seen reader.entry)) }
-    ensures refused { IfErr result (λ e. value.Fault e.kind ≡ read_at brand index (record_seen reader.entry)) }
-    ensures kinds { IfErr result (λ e. IsPlain e.kind) }
+    ensures { value.Number (pos result) ≡ read_at brand index (record_seen reader.entry) }
 {
-    match part(reader, brand, index) {
-        Ok(value) => Ok(value.downcast::<u8>()),
-        Err(error) => Err(error),
-    }
+    let value = sure_part(reader, brand, index);
+    value.downcast::<u8>()
 }
 
 /// A `u16`.
-pub(crate) fn u16_at(reader: dynamic_struct::Reader<'_>, brand: u32, index: u16) -> Result<u16>
+pub(crate) fn u16_at(reader: dynamic_struct::Reader<'_>, brand: u32, index: u16) -> u16
     requires record { IsRecord brand reader }
     requires field { IsField brand index (UIntType 2) }
     requires active { IsActive brand index reader }
-    ensures read { IfOk result (λ x. value.Number (pos x) ≡ read_at brand index (record_seen reader.entry)) }
-    ensures refused { IfErr result (λ e. value.Fault e.kind ≡ read_at brand index (record_seen reader.entry)) }
-    ensures kinds { IfErr result (λ e. IsPlain e.kind) }
+    ensures { value.Number (pos result) ≡ read_at brand index (record_seen reader.entry) }
 {
-    match part(reader, brand, index) {
-        Ok(value) => Ok(value.downcast::<u16>()),
-        Err(error) => Err(error),
-    }
+    let value = sure_part(reader, brand, index);
+    value.downcast::<u16>()
 }
 
 /// A `u32`.
-pub(crate) fn u32_at(reader: dynamic_struct::Reader<'_>, brand: u32, index: u16) -> Result<u32>
+pub(crate) fn u32_at(reader: dynamic_struct::Reader<'_>, brand: u32, index: u16) -> u32
     requires record { IsRecord brand reader }
     requires field { IsField brand index (UIntType 4) }
     requires active { IsActive brand index reader }
-    ensures read { IfOk result (λ x. value.Number (pos x) ≡ read_at brand index (record_seen reader.entry)) }
-    ensures refused { IfErr result (λ e. value.Fault e.kind ≡ read_at brand index (record_seen reader.entry)) }
-    ensures kinds { IfErr result (λ e. IsPlain e.kind) }
+    ensures { value.Number (pos result) ≡ read_at brand index (record_seen reader.entry) }
 {
-    match part(reader, brand, index) {
-        Ok(value) => Ok(value.downcast::<u32>()),
-        Err(error) => Err(error),
-    }
+    let value = sure_part(reader, brand, index);
+    value.downcast::<u32>()
 }
 
 /// A `u64`.
-pub(crate) fn u64_at(reader: dynamic_struct::Reader<'_>, brand: u32, index: u16) -> Result<u64>
+pub(crate) fn u64_at(reader: dynamic_struct::Reader<'_>, brand: u32, index: u16) -> u64
     requires record { IsRecord brand reader }
     requires field { IsField brand index (UIntType 8) }
     requires active { IsActive brand index reader }
-    ensures read { IfOk result (λ x. value.Number (pos x) ≡ read_at brand index (record_seen reader.entry)) }
-    ensures refused { IfErr result (λ e. value.Fault e.kind ≡ read_at brand index (record_seen reader.entry)) }
-    ensures kinds { IfErr result (λ e. IsPlain e.kind) }
+    ensures { value.Number (pos result) ≡ read_at brand index (record_seen reader.entry) }
 {
-    match part(reader, brand, index) {
-        Ok(value) => Ok(value.downcast::<u64>()),
-        Err(error) => Err(error),
-    }
+    let value = sure_part(reader, brand, index);
+    value.downcast::<u64>()
 }
 
 /// The number of a value that is an `i8`.
@@ -126,18 +125,14 @@ fn int8_of(value: Value<'_>) -> i8
 }
 
 /// An `i8`.
-pub(crate) fn i8_at(reader: dynamic_struct::Reader<'_>, brand: u32, index: u16) -> Result<i8>
+pub(crate) fn i8_at(reader: dynamic_struct::Reader<'_>, brand: u32, index: u16) -> i8
     requires record { IsRecord brand reader }
     requires field { IsField brand index (IntType 1) }
     requires active { IsActive brand index reader }
-    ensures read { IfOk result (λ x. value.Number x ≡ read_at brand index (record_seen reader.entry)) }
-    ensures refused { IfErr result (λ e. value.Fault e.kind ≡ read_at brand index (record_seen reader.entry)) }
-    ensures kinds { IfErr result (λ e. IsPlain e.kind) }
+    ensures { value.Number result ≡ read_at brand index (record_seen reader.entry) }
 {
-    match part(reader, brand, index) {
-        Ok(value) => Ok(int8_of(value)),
-        Err(error) => Err(error),
-    }
+    let value = sure_part(reader, brand, index);
+    int8_of(value)
 }
 
 /// The number of a value that is an `i16`.
@@ -152,18 +147,14 @@ fn int16_of(value: Value<'_>) -> i16
 }
 
 /// An `i16`.
-pub(crate) fn i16_at(reader: dynamic_struct::Reader<'_>, brand: u32, index: u16) -> Result<i16>
+pub(crate) fn i16_at(reader: dynamic_struct::Reader<'_>, brand: u32, index: u16) -> i16
     requires record { IsRecord brand reader }
     requires field { IsField brand index (IntType 2) }
     requires active { IsActive brand index reader }
-    ensures read { IfOk result (λ x. value.Number x ≡ read_at brand index (record_seen reader.entry)) }
-    ensures refused { IfErr result (λ e. value.Fault e.kind ≡ read_at brand index (record_seen reader.entry)) }
-    ensures kinds { IfErr result (λ e. IsPlain e.kind) }
+    ensures { value.Number result ≡ read_at brand index (record_seen reader.entry) }
 {
-    match part(reader, brand, index) {
-        Ok(value) => Ok(int16_of(value)),
-        Err(error) => Err(error),
-    }
+    let value = sure_part(reader, brand, index);
+    int16_of(value)
 }
 
 /// The number of a value that is an `i32`.
@@ -178,18 +169,14 @@ fn int32_of(value: Value<'_>) -> i32
 }
 
 /// An `i32`.
-pub(crate) fn i32_at(reader: dynamic_struct::Reader<'_>, brand: u32, index: u16) -> Result<i32>
+pub(crate) fn i32_at(reader: dynamic_struct::Reader<'_>, brand: u32, index: u16) -> i32
     requires record { IsRecord brand reader }
     requires field { IsField brand index (IntType 4) }
     requires active { IsActive brand index reader }
-    ensures read { IfOk result (λ x. value.Number x ≡ read_at brand index (record_seen reader.entry)) }
-    ensures refused { IfErr result (λ e. value.Fault e.kind ≡ read_at brand index (record_seen reader.entry)) }
-    ensures kinds { IfErr result (λ e. IsPlain e.kind) }
+    ensures { value.Number result ≡ read_at brand index (record_seen reader.entry) }
 {
-    match part(reader, brand, index) {
-        Ok(value) => Ok(int32_of(value)),
-        Err(error) => Err(error),
-    }
+    let value = sure_part(reader, brand, index);
+    int32_of(value)
 }
 
 /// The number of a value that is an `i64`.
@@ -204,33 +191,25 @@ fn int64_of(value: Value<'_>) -> i64
 }
 
 /// An `i64`.
-pub(crate) fn i64_at(reader: dynamic_struct::Reader<'_>, brand: u32, index: u16) -> Result<i64>
+pub(crate) fn i64_at(reader: dynamic_struct::Reader<'_>, brand: u32, index: u16) -> i64
     requires record { IsRecord brand reader }
     requires field { IsField brand index (IntType 8) }
     requires active { IsActive brand index reader }
-    ensures read { IfOk result (λ x. value.Number x ≡ read_at brand index (record_seen reader.entry)) }
-    ensures refused { IfErr result (λ e. value.Fault e.kind ≡ read_at brand index (record_seen reader.entry)) }
-    ensures kinds { IfErr result (λ e. IsPlain e.kind) }
+    ensures { value.Number result ≡ read_at brand index (record_seen reader.entry) }
 {
-    match part(reader, brand, index) {
-        Ok(value) => Ok(int64_of(value)),
-        Err(error) => Err(error),
-    }
+    let value = sure_part(reader, brand, index);
+    int64_of(value)
 }
 
 /// A truth value.
-pub(crate) fn bool_at(reader: dynamic_struct::Reader<'_>, brand: u32, index: u16) -> Result<bool>
+pub(crate) fn bool_at(reader: dynamic_struct::Reader<'_>, brand: u32, index: u16) -> bool
     requires record { IsRecord brand reader }
     requires field { IsField brand index BoolType }
     requires active { IsActive brand index reader }
-    ensures read { IfOk result (λ x. value.Truth x ≡ read_at brand index (record_seen reader.entry)) }
-    ensures refused { IfErr result (λ e. value.Fault e.kind ≡ read_at brand index (record_seen reader.entry)) }
-    ensures kinds { IfErr result (λ e. IsPlain e.kind) }
+    ensures { value.Truth result ≡ read_at brand index (record_seen reader.entry) }
 {
-    match part(reader, brand, index) {
-        Ok(value) => Ok(value.downcast::<bool>()),
-        Err(error) => Err(error),
-    }
+    let value = sure_part(reader, brand, index);
+    value.downcast::<bool>()
 }
 
 /// The bytes of a text.
@@ -276,18 +255,14 @@ pub(crate) fn untyped_at<'a>(
     reader: dynamic_struct::Reader<'a>,
     brand: u32,
     index: u16,
-) -> Result<any_pointer::Reader<'a>>
+) -> any_pointer::Reader<'a>
     requires record { IsRecord brand reader }
     requires field { IsField brand index AnyPointerType }
     requires active { IsActive brand index reader }
-    ensures read { IfOk result (λ x. value.Untyped (tree_of (pointer_of x)) ≡ read_at brand index (record_seen reader.entry)) }
-    ensures refused { IfErr result (λ e. value.Fault e.kind ≡ read_at brand index (record_seen reader.entry)) }
-    ensures kinds { IfErr result (λ e. IsPlain e.kind) }
+    ensures { value.Untyped (tree_of (pointer_of result)) ≡ read_at brand index (record_seen reader.entry) }
 {
-    match part(reader, brand, index) {
-        Ok(value) => Ok(value.downcast::<any_pointer::Reader<'a>>()),
-        Err(error) => Err(error),
-    }
+    let value = sure_part(reader, brand, index);
+    value.downcast::<any_pointer::Reader<'a>>()
 }
 
 /// A copy of a name's bytes. Refused with `NameNotUtf8` where they are no UTF-8.
@@ -304,7 +279,7 @@ pub(crate) fn owned(alloc: Global, bytes: &[u8]) -> Result<String>
     }
 }
 
-/// The struct or group of a brand.
+/// The struct of a brand.
 pub(crate) fn struct_at<'a>(
     reader: dynamic_struct::Reader<'a>,
     brand: u32,
@@ -324,6 +299,25 @@ pub(crate) fn struct_at<'a>(
         Ok(value) => Ok(value.downcast::<dynamic_struct::Reader<'a>>()),
         Err(error) => Err(error),
     }
+}
+
+/// The group of a brand: the same struct, of which nothing is entered.
+pub(crate) fn group_at<'a>(
+    reader: dynamic_struct::Reader<'a>,
+    brand: u32,
+    index: u16,
+    inner: u32,
+) -> dynamic_struct::Reader<'a>
+    requires record { IsRecord brand reader }
+    requires field { IsField brand index (one inner) }
+    requires group { IsGroupField brand index }
+    requires active { IsActive brand index reader }
+    ensures read { value.Struct (record_seen result) ≡ read_at brand index (record_seen reader.entry) }
+    ensures record { IsRecord inner result }
+{
+    let _inner = inner;
+    let value = sure_part(reader, brand, index);
+    value.downcast::<dynamic_struct::Reader<'a>>()
 }
 
 /// The list of structs of a brand that a field has.

@@ -1,12 +1,20 @@
 //! The structs with which a conversion begins: those of the requested files.
-ghost use Rattle.std.specs.Prelude.{◌≡◌, false, IfErr};
+ghost use Rattle.std.specs.Prelude.{ℕ, List, [], ◌∷◌, ◌≡◌, ◌++◌, false, slice_get, IfErr, IfOk, OnOk};
+ghost use Rattle.capnp_device.specs.declared.error.ErrorKind.TheVariants.{OutOfMemory};
 ghost use Rattle.capnp_schema.specs.RequestSet.{request_set};
 ghost use Rattle.capnp_schema.specs.Schema.{field_at, is_member};
 ghost use Rattle.capnp_schema.specs.Types.{UIntType};
-ghost use Rattle.capnp_request.specs.Handles.{IsField, IsListOf, IsRecord};
-ghost use Rattle.capnp_request.specs.Nodes.{AreNodes};
-ghost use Rattle.capnp_request.specs.Parts.{one};
+ghost use Rattle.capnp_dynamic_readers.specs.Seen.{record_seen};
+ghost use Rattle.capnp_request.specs.Done.{IsDone, IsSaid, between};
+ghost use Rattle.capnp_request.specs.Handles.{IsField, IsListOf, IsRecord, values_left};
+ghost use Rattle.capnp_request.specs.Met.{AreMet};
+ghost use Rattle.capnp_request.specs.Nodes.{AreNodes, nodes_of};
+ghost use Rattle.capnp_request.specs.Numbers.{AreNumbered};
+ghost use Rattle.capnp_request.specs.Order.{name_files, name_root, new_ids};
+ghost use Rattle.capnp_request.specs.Parts.{many, one, read_at};
+ghost use Rattle.capnp_request.specs.Reading.{all_said, each_said, id_said, node_said, whole_list};
 ghost use Rattle.capnp_request.specs.Refusals.{IsPlain};
+ghost use Rattle.capnp_request.specs.Types.{is_root};
 
 use crate::context::Context;
 use crate::entries::{BoundNode, Entries};
@@ -14,30 +22,102 @@ use crate::parts::{element_at, list_at, u64_at};
 use crate::places::{LISTED_ID, NODE_NESTED_NODES, REQUEST_FILES, brands};
 use crate::schema_nodes::{SchemaNodes, is_plain_struct};
 use crate::scopes::unbound;
-use capnp_dynamic_readers::{dynamic_list, dynamic_struct};
+use capnp_dynamic_readers::dynamic_struct;
 use capnp_wire::error::Result;
+use std::alloc::Global;
 use std::collections::HashSet;
 
-/// Puts the ids of a list's records at the queue's end, but those that were put there before or that no node has.
+/// The ids of the records that a field lists.
+fn listed_ids(
+    alloc: Global,
+    reader: dynamic_struct::Reader<'_>,
+    brand: u32,
+    index: u16,
+    inner: u32,
+) -> Result<Vec<u64>>
+    requires record { IsRecord brand reader }
+    requires field { IsField brand index (many inner) }
+    requires plain { is_member (field_at request_set brand index).field ≡ false }
+    requires id { IsField inner 0 (UIntType 8) }
+    requires id_plain { is_member (field_at request_set inner 0).field ≡ false }
+    ensures said { IsSaid (λ ids. ids.items) (whole_list inner (id_said inner) (read_at brand index (record_seen reader.entry))) result }
+    ensures kinds { IfErr result (λ e. IsPlain e.kind) }
+{
+    let listed = list_at(reader, brand, index, inner)?;
+    let mut ids = Vec::new(alloc);
+    for at in 0..listed.len() {
+        let element = element_at(listed, at, inner)?;
+        ids.push(u64_at(element, inner, LISTED_ID))?;
+    }
+    Ok(ids)
+}
+
+/// Puts an id at the queue's end, but one that was put there before or that no node has.
+fn put_id(
+    nodes: &SchemaNodes<'_>,
+    queue: &mut Vec<u64>,
+    met: &mut HashSet<u64>,
+    id: u64,
+) -> Result<()>
+    requires { AreNodes nodes.now }
+    ensures queue { (before : List ℕ) → AreMet met.old before → IfOk result (λ _. queue.new.items ≡ queue.old.items ++ new_ids (nodes_of nodes.now) (id ∷ []) before) }
+    ensures met { (before : List ℕ) → AreMet met.old before → IfOk result (λ _. AreMet met.new (new_ids (nodes_of nodes.now) (id ∷ []) before ++ before)) }
+    ensures kinds { IfErr result (λ e. e.kind ≡ OutOfMemory) }
+{
+    if nodes.get(id).is_none() {
+        return Ok(());
+    }
+    if !met.insert(id)? {
+        return Ok(());
+    }
+    queue.push(id)?;
+    Ok(())
+}
+
+/// Puts ids at the queue's end, but those that were put there before or that no node has.
 fn put_ids(
     nodes: &SchemaNodes<'_>,
     queue: &mut Vec<u64>,
     met: &mut HashSet<u64>,
-    listed: dynamic_list::Reader<'_>,
-    inner: u32,
+    ids: &[u64],
 ) -> Result<()>
-    requires nodes { AreNodes nodes.now }
-    requires listed { IsListOf (one inner) listed }
-    requires id { IsField inner 0 (UIntType 8) }
-    requires plain { is_member (field_at request_set inner 0).field ≡ false }
+    requires { AreNodes nodes.now }
+    ensures queue { (before : List ℕ) → AreMet met.old before → IfOk result (λ _. queue.new.items ≡ queue.old.items ++ new_ids (nodes_of nodes.now) ids.now before) }
+    ensures met { (before : List ℕ) → AreMet met.old before → IfOk result (λ _. AreMet met.new (new_ids (nodes_of nodes.now) ids.now before ++ before)) }
+    ensures kinds { IfErr result (λ e. e.kind ≡ OutOfMemory) }
+{
+    for id in ids {
+        put_id(nodes, queue, met, *id)?;
+    }
+    Ok(())
+}
+
+/// The id at a place of the queue.
+fn queued(queue: &[u64], position: u32) -> Option<u64>
+    ensures { result ≡ slice_get queue.now position }
+{
+    queue.get(position as usize).copied()
+}
+
+/// Numbers the struct of a node, where it is one and no group, with nothing bound.
+fn number_root<'a>(
+    context: Context<'_, 'a>,
+    entries: &mut Entries,
+    id: u64,
+    node: dynamic_struct::Reader<'a>,
+) -> Result<()>
+    requires nodes { AreNodes context.nodes.now }
+    requires numbers { AreNumbered entries.now }
+    requires is_record { IsRecord 2 node }
+    ensures done { IsDone (λ _. []) (name_root (nodes_of context.entry.nodes.now) context.entry.strict id (is_root (node_said (record_seen node.entry)).kind)) (between entries.old) (between entries.new) result }
+    ensures numbers { IfOk result (λ _. AreNumbered entries.new) }
     ensures kinds { IfErr result (λ e. IsPlain e.kind) }
 {
-    for index in 0..listed.len() {
-        let id = u64_at(element_at(listed, index, inner)?, inner, LISTED_ID)?;
-        if nodes.get(id).is_some() && met.insert(id)? {
-            queue.push(id)?;
-        }
+    if !is_plain_struct(node) {
+        return Ok(());
     }
+    let scopes = unbound(context.alloc, context.nodes, id)?;
+    let _number = entries.number_of(context.alloc, BoundNode { id, scopes })?;
     Ok(())
 }
 
@@ -49,26 +129,39 @@ pub(crate) fn number_roots<'a>(
     request: dynamic_struct::Reader<'a>,
 ) -> Result<()>
     requires nodes { AreNodes context.nodes.now }
+    requires numbers { AreNumbered entries.now }
     requires is_record { IsRecord 0 request }
+    ensures done { IsDone (λ _. []) (name_files (nodes_of context.entry.nodes.now) context.entry.strict (whole_list 1 (id_said 1) (read_at 0 1 (record_seen request.entry)))) (between entries.old) (between entries.new) result }
+    ensures numbers { IfOk result (λ _. AreNumbered entries.new) }
     ensures kinds { IfErr result (λ e. IsPlain e.kind) }
 {
     let mut queue = Vec::new(context.alloc);
     let mut met = HashSet::new(context.alloc);
-    let files = list_at(request, brands::REQUEST, REQUEST_FILES, brands::FILE)?;
-    put_ids(context.nodes, &mut queue, &mut met, files, brands::FILE)?;
+    let files = listed_ids(
+        context.alloc,
+        request,
+        brands::REQUEST,
+        REQUEST_FILES,
+        brands::FILE,
+    )?;
+    let listed = files.as_slice();
+    put_ids(context.nodes, &mut queue, &mut met, listed)?;
     for position in 0..context.nodes.count() {
-        let Some(id) = queue.get(position).copied() else {
-            break;
+        let waiting = queue.as_slice();
+        let Some(id) = queued(waiting, position) else {
+            return Ok(());
         };
-        let Some(node) = context.nodes.get(id) else {
-            continue;
-        };
-        let nested = list_at(node, brands::NODE, NODE_NESTED_NODES, brands::NESTED)?;
-        put_ids(context.nodes, &mut queue, &mut met, nested, brands::NESTED)?;
-        if is_plain_struct(node)? {
-            let scopes = unbound(context.alloc, context.nodes, id)?;
-            let _number = entries.number_of(context.alloc, BoundNode { id, scopes })?;
-        }
+        let node = context.nodes.found(id)?;
+        let nested = listed_ids(
+            context.alloc,
+            node,
+            brands::NODE,
+            NODE_NESTED_NODES,
+            brands::NESTED,
+        )?;
+        number_root(context, entries, id, node)?;
+        let inner = nested.as_slice();
+        put_ids(context.nodes, &mut queue, &mut met, inner)?;
     }
     Ok(())
 }

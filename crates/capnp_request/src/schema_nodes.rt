@@ -1,17 +1,24 @@
 //! The schema nodes of a request: by id, and by what they have.
-ghost use Rattle.std.specs.Prelude.{◌≡◌, ◌↔◌, IfErr, IfOk, IfSome, IsTrue, Some};
+ghost use Rattle.std.specs.HashMap.{get};
+ghost use Rattle.std.specs.Prelude.{ℕ, [], ◌++◌, nat_eq, OnOk, ◌≡◌, ◌≢◌, IfErr, IfOk, IfSome, IsTrue, Some, None, Ok, Err, false, length, map, option_map, true};
+ghost use Rattle.capnp_device.specs.declared.error.ErrorKind.TheVariants.{NodeNotFound, OutOfMemory};
 ghost use Rattle.capnp_records.specs.Part.{which_of};
-ghost use Rattle.capnp_records.specs.Record as value;
-ghost use Rattle.capnp_dynamic_readers.specs.Seen.{record_seen};
+ghost use Rattle.capnp_dynamic_readers.specs.Seen.{list_seen, record_seen};
+ghost use Rattle.capnp_request.specs.Bindings.{with_nothing};
+ghost use Rattle.capnp_request.specs.Conversion.{declared_term};
 ghost use Rattle.capnp_request.specs.Handles.{IsListOf, IsRecord};
-ghost use Rattle.capnp_request.specs.Nodes.{AreNodes};
-ghost use Rattle.capnp_request.specs.Parts.{one, read_at};
+ghost use Rattle.capnp_request.specs.Nodes.{AreNodes, first_kept, node_record, nodes_of};
+ghost use Rattle.capnp_request.specs.Parts.{one};
+ghost use Rattle.capnp_request.specs.Reading.{declaration_said, enumerant_said, list_said, node_said, nodes_in, struct_said};
 ghost use Rattle.capnp_request.specs.Refusals.{IsPlain};
+ghost use Rattle.capnp_request.specs.Scopes.{node_named, scopes_of, with_scope};
+ghost use Rattle.capnp_request.specs.Terms.{EnumNode, StructNode};
+ghost use Rattle.capnp_request.specs.Types.{is_annotation, is_enum, is_of_kind, is_root, is_struct};
 
-use crate::parts::{active_member, bool_at, element_at, list_at, struct_at, text_at, u64_at};
+use crate::parts::{active_member, bool_at, element_at, group_at, list_at, text_at, u64_at};
 use crate::places::{
-    DECLARED_TYPE, ENUM_ENUMERANTS, NODE_ANNOTATION, NODE_DISPLAY_NAME, NODE_ENUM, NODE_ID,
-    NODE_PARAMETERS, NODE_SCOPE_ID, NODE_STRUCT, REQUEST_NODES, STRUCT_IS_GROUP, brands,
+    ENUM_ENUMERANTS, NODE_ANNOTATION, NODE_DISPLAY_NAME, NODE_ENUM, NODE_ID, NODE_PARAMETERS,
+    NODE_SCOPE_ID, NODE_STRUCT, REQUEST_NODES, STRUCT_IS_GROUP, brands,
 };
 use capnp_dynamic_readers::{dynamic_list, dynamic_struct};
 use capnp_schema::set::SchemaSet;
@@ -20,10 +27,12 @@ use capnp_wire::error::{Error, ErrorKind, Result};
 use std::alloc::Global;
 use std::collections::{HashMap, HashSet};
 
-/// The schema nodes of a request by their ids. Where two have one id, the first counts.
+/// The schema nodes of a request, by their ids. Where two have one id, the first counts.
 #[derive(Drop)]
 pub(crate) struct SchemaNodes<'a> {
+    request: dynamic_struct::Reader<'a>,
     set: &'a SchemaSet,
+    count: u32,
     by_id: HashMap<u64, StructReader<'a>>,
 }
 
@@ -39,11 +48,43 @@ pub(crate) struct GenericScope {
 
 /// The refusal of an id that no node of the kind has.
 fn not_found() -> Error
-    ensures { IsPlain result.kind }
+    ensures { result.kind ≡ NodeNotFound }
 {
     Error {
         kind: ErrorKind::NodeNotFound,
     }
+}
+
+/// Adds a scope, where it has parameters.
+fn add_scope(scopes: &mut Vec<GenericScope>, id: u64, distance: u32, parameters: u32) -> Result<()>
+    ensures added { OnOk result (map with_nothing scopes.new.items ≡ map with_nothing scopes.old.items ++ with_scope id distance parameters []) }
+    ensures kinds { IfErr result (λ e. e.kind ≡ OutOfMemory) }
+{
+    if parameters == 0 {
+        return Ok(());
+    }
+    scopes.push(GenericScope {
+        id,
+        distance,
+        parameters,
+    })?;
+    Ok(())
+}
+
+/// Keeps the sections of a node by its id, where none is kept of that id.
+fn keep_first<'a>(
+    by_id: &mut HashMap<u64, StructReader<'a>>,
+    id: u64,
+    sections: StructReader<'a>,
+) -> Result<()>
+    ensures kept { OnOk result ((q : ℕ) → get nat_eq by_id.new q ≡ first_kept (get nat_eq by_id.old q) (nat_eq id q) sections.entry) }
+    ensures kinds { IfErr result (λ e. e.kind ≡ OutOfMemory) }
+{
+    if by_id.contains_key(&id) {
+        return Ok(());
+    }
+    by_id.insert(id, sections)?;
+    Ok(())
 }
 
 impl<'a> SchemaNodes<'a> {
@@ -54,30 +95,40 @@ impl<'a> SchemaNodes<'a> {
     ) -> Result<SchemaNodes<'a>>
         requires { IsRecord 0 request }
         ensures nodes { IfOk result AreNodes }
+        ensures read { IfOk result (λ nodes. nodes_in (record_seen request.entry) ≡ Ok (nodes_of nodes)) }
+        ensures refused { IfErr result (λ e. e.kind ≢ OutOfMemory → nodes_in (record_seen request.entry) ≡ Err e.kind) }
         ensures kinds { IfErr result (λ e. IsPlain e.kind) }
     {
         let listed = list_at(request, brands::REQUEST, REQUEST_NODES, brands::NODE)?;
         let mut by_id = HashMap::new(alloc);
         for index in 0..listed.len() {
             let reader = element_at(listed, index, brands::NODE)?;
-            let id = u64_at(reader, brands::NODE, NODE_ID)?;
-            if !by_id.contains_key(&id) {
-                by_id.insert(id, reader.get_sections())?;
-            }
+            let id = u64_at(reader, brands::NODE, NODE_ID);
+            keep_first(&mut by_id, id, reader.get_sections())?;
         }
         let set = request.get_schema().get_set();
-        Ok(SchemaNodes { set, by_id })
+        let count = listed.len();
+        Ok(SchemaNodes {
+            request,
+            set,
+            count,
+            by_id,
+        })
     }
 
-    /// How many ids the nodes have.
-    pub(crate) fn count(&self) -> usize {
-        self.by_id.len()
+    /// How many nodes the request lists.
+    pub(crate) fn count(&self) -> u32
+        requires { AreNodes self.now }
+        ensures { result ≡ length (nodes_of self.now) }
+    {
+        self.count
     }
 
     /// The node of these sections.
     fn node_of(&self, sections: StructReader<'a>) -> dynamic_struct::Reader<'a>
         requires { AreNodes self.now }
-        ensures { IsRecord 2 result }
+        ensures record { IsRecord 2 result }
+        ensures read { record_seen result ≡ node_record sections.entry }
     {
         dynamic_struct::Reader::new(sections, self.set.struct_schema(brands::NODE))
     }
@@ -85,7 +136,8 @@ impl<'a> SchemaNodes<'a> {
     /// The node of an id; none where no node has it.
     pub(crate) fn get(&self, id: u64) -> Option<dynamic_struct::Reader<'a>>
         requires { AreNodes self.now }
-        ensures { IfSome result (IsRecord 2) }
+        ensures record { IfSome result (IsRecord 2) }
+        ensures read { option_map (λ node. node_said (record_seen node)) result ≡ node_named (nodes_of self.now) id }
     {
         match self.by_id.get(&id) {
             Some(sections) => Some(self.node_of(*sections)),
@@ -97,7 +149,9 @@ impl<'a> SchemaNodes<'a> {
     pub(crate) fn found(&self, id: u64) -> Result<dynamic_struct::Reader<'a>>
         requires { AreNodes self.now }
         ensures record { IfOk result (IsRecord 2) }
-        ensures kinds { IfErr result (λ e. IsPlain e.kind) }
+        ensures read { IfOk result (λ node. node_named (nodes_of self.now) id ≡ Some (node_said (record_seen node))) }
+        ensures missing { IfErr result (λ _. node_named (nodes_of self.now) id ≡ None) }
+        ensures kinds { IfErr result (λ e. e.kind ≡ NodeNotFound) }
     {
         match self.get(id) {
             Some(node) => Ok(node),
@@ -105,94 +159,116 @@ impl<'a> SchemaNodes<'a> {
         }
     }
 
-    /// The struct node of an id. Refused with `NodeNotFound` where no node has the id, or one that is no struct.
-    pub(crate) fn struct_node(&self, id: u64) -> Result<dynamic_struct::Reader<'a>>
+    /// That an id is a struct's. Refused with `NodeNotFound` where no node has the id, or one that is no struct.
+    pub(crate) fn struct_node(&self, id: u64) -> Result<()>
         requires { AreNodes self.now }
-        ensures record { IfOk result (IsRecord 2) }
-        ensures kinds { IfErr result (λ e. IsPlain e.kind) }
+        ensures found { IfOk result (λ _. is_of_kind is_struct (node_named (nodes_of self.now) id) ≡ true) }
+        ensures missing { IfErr result (λ _. is_of_kind is_struct (node_named (nodes_of self.now) id) ≡ false) }
+        ensures kinds { IfErr result (λ e. e.kind ≡ NodeNotFound) }
     {
         let Some(node) = self.get(id) else {
             return Err(not_found());
         };
-        if is_of_kind(node, NODE_STRUCT) {
-            return Ok(node);
+        if is_struct_node(node) {
+            return Ok(());
         }
         Err(not_found())
     }
 
-    /// The enum node of an id. Refused with `NodeNotFound` where no node has the id, or one that is no enum.
-    pub(crate) fn enum_node(&self, id: u64) -> Result<dynamic_struct::Reader<'a>>
+    /// That an id is an enum's. Refused with `NodeNotFound` where no node has the id, or one that is no enum.
+    pub(crate) fn enum_node(&self, id: u64) -> Result<()>
         requires { AreNodes self.now }
-        ensures record { IfOk result (IsRecord 2) }
-        ensures kinds { IfErr result (λ e. IsPlain e.kind) }
+        ensures found { IfOk result (λ _. is_of_kind is_enum (node_named (nodes_of self.now) id) ≡ true) }
+        ensures missing { IfErr result (λ _. is_of_kind is_enum (node_named (nodes_of self.now) id) ≡ false) }
+        ensures kinds { IfErr result (λ e. e.kind ≡ NodeNotFound) }
     {
         let Some(node) = self.get(id) else {
             return Err(not_found());
         };
-        if is_of_kind(node, NODE_ENUM) {
-            return Ok(node);
+        if is_enum_node(node) {
+            return Ok(());
         }
         Err(not_found())
     }
 
-    /// The type that the annotation of an id is declared with. Refused with `NodeNotFound` where no node has the id, or one
-    /// that is no annotation.
-    pub(crate) fn declared_type(&self, id: u64) -> Result<dynamic_struct::Reader<'a>>
+    /// The declaration of an annotation by its id. Refused with `NodeNotFound` where no node has the id, or one that is no
+    /// annotation.
+    pub(crate) fn declaration(&self, id: u64) -> Result<dynamic_struct::Reader<'a>>
         requires { AreNodes self.now }
-        ensures record { IfOk result (IsRecord 13) }
-        ensures kinds { IfErr result (λ e. IsPlain e.kind) }
+        ensures record { IfOk result (IsRecord 5) }
+        ensures read { IfOk result (λ d. declared_term (node_named (nodes_of self.now) id) ≡ Some (declaration_said (record_seen d))) }
+        ensures missing { IfErr result (λ _. declared_term (node_named (nodes_of self.now) id) ≡ None) }
+        ensures kinds { IfErr result (λ e. e.kind ≡ NodeNotFound) }
     {
         let Some(node) = self.get(id) else {
             return Err(not_found());
         };
-        if !is_of_kind(node, NODE_ANNOTATION) {
+        if !is_annotation_node(node) {
             return Err(not_found());
         }
-        let declaration = struct_at(node, brands::NODE, NODE_ANNOTATION, brands::DECLARATION)?;
-        struct_at(
-            declaration,
-            brands::DECLARATION,
-            DECLARED_TYPE,
-            brands::TYPE,
-        )
+        let declaration = group_at(node, brands::NODE, NODE_ANNOTATION, brands::DECLARATION);
+        Ok(declaration)
     }
 
     /// The scopes of an id's node that have type parameters, inmost first. The scopes are the node, the node of its scope
     /// id, and so on, up to an id that no node has or that was met.
     pub(crate) fn generic_scopes(&self, alloc: Global, id: u64) -> Result<Vec<GenericScope>>
         requires { AreNodes self.now }
+        ensures read { IfOk result (λ scopes. scopes_of (nodes_of self.now) id ≡ Ok (map with_nothing scopes.items)) }
+        ensures refused { IfErr result (λ e. e.kind ≢ OutOfMemory → scopes_of (nodes_of self.now) id ≡ Err e.kind) }
         ensures kinds { IfErr result (λ e. IsPlain e.kind) }
     {
         let mut scopes = Vec::new(alloc);
         let mut met: HashSet<u64> = HashSet::new(alloc);
         let mut id = id;
-        for distance in 0..u32::MAX {
+        for distance in 0..self.count {
             let Some(node) = self.get(id) else {
-                break;
+                return Ok(scopes);
             };
-            if !met.insert(id)? {
-                break;
+            let is_new = met.insert(id)?;
+            if !is_new {
+                return Ok(scopes);
             }
-            let parameters = list_at(node, brands::NODE, NODE_PARAMETERS, brands::PARAMETER)?.len();
-            if parameters > 0 {
-                scopes.push(GenericScope {
-                    id,
-                    distance,
-                    parameters,
-                })?;
-            }
-            id = u64_at(node, brands::NODE, NODE_SCOPE_ID)?;
+            let listed = list_at(node, brands::NODE, NODE_PARAMETERS, brands::PARAMETER)?;
+            add_scope(&mut scopes, id, distance, listed.len())?;
+            id = u64_at(node, brands::NODE, NODE_SCOPE_ID);
         }
         Ok(scopes)
     }
 }
 
-/// Whether a node is of the kind of a member.
-fn is_of_kind(node: dynamic_struct::Reader<'_>, kind: u16) -> bool
-    ensures { IsTrue result ↔ (which_of (record_seen node.entry) ≡ Some kind) }
+/// Whether a node is a struct.
+fn is_struct_node(node: dynamic_struct::Reader<'_>) -> bool
+    requires { IsRecord 2 node }
+    ensures kind { is_struct (node_said (record_seen node.entry)).kind ≡ result }
+    ensures active { IsTrue result → which_of (record_seen node.entry) ≡ Some 6 }
 {
     match active_member(node) {
-        Some(member) => member == kind,
+        Some(member) => member == NODE_STRUCT,
+        None => false,
+    }
+}
+
+/// Whether a node is an enum.
+fn is_enum_node(node: dynamic_struct::Reader<'_>) -> bool
+    requires { IsRecord 2 node }
+    ensures kind { is_enum (node_said (record_seen node.entry)).kind ≡ result }
+    ensures active { IsTrue result → which_of (record_seen node.entry) ≡ Some 7 }
+{
+    match active_member(node) {
+        Some(member) => member == NODE_ENUM,
+        None => false,
+    }
+}
+
+/// Whether a node is an annotation.
+fn is_annotation_node(node: dynamic_struct::Reader<'_>) -> bool
+    requires { IsRecord 2 node }
+    ensures kind { is_annotation (node_said (record_seen node.entry)).kind ≡ result }
+    ensures active { IsTrue result → which_of (record_seen node.entry) ≡ Some 10 }
+{
+    match active_member(node) {
+        Some(member) => member == NODE_ANNOTATION,
         None => false,
     }
 }
@@ -203,47 +279,52 @@ pub(crate) fn struct_part<'a>(
 ) -> Result<dynamic_struct::Reader<'a>>
     requires { IsRecord 2 node }
     ensures record { IfOk result (IsRecord 3) }
-    ensures read { IfOk result (λ s. value.Struct (record_seen s) ≡ read_at 2 6 (record_seen node.entry)) }
-    ensures kinds { IfErr result (λ e. IsPlain e.kind) }
+    ensures read { IfOk result (λ s. (node_said (record_seen node.entry)).kind ≡ StructNode (struct_said (record_seen s))) }
+    ensures missing { IfErr result (λ _. is_struct (node_said (record_seen node.entry)).kind ≡ false) }
+    ensures kinds { IfErr result (λ e. e.kind ≡ NodeNotFound) }
 {
-    if !is_of_kind(node, NODE_STRUCT) {
+    if !is_struct_node(node) {
         return Err(not_found());
     }
-    struct_at(node, brands::NODE, NODE_STRUCT, brands::STRUCT)
+    let part = group_at(node, brands::NODE, NODE_STRUCT, brands::STRUCT);
+    Ok(part)
 }
 
 /// The enumerants of an enum's node. Refused with `NodeNotFound` where the node is no enum.
 pub(crate) fn enumerants<'a>(node: dynamic_struct::Reader<'a>) -> Result<dynamic_list::Reader<'a>>
     requires { IsRecord 2 node }
     ensures elements { IfOk result (IsListOf (one 11)) }
+    ensures read { IfOk result (λ l. (node_said (record_seen node.entry)).kind ≡ EnumNode (list_said 11 enumerant_said (list_seen l))) }
+    ensures missing { IfErr result (λ e. is_enum (node_said (record_seen node.entry)).kind ≡ false → e.kind ≡ NodeNotFound) }
+    ensures refused { IfErr result (λ e. is_enum (node_said (record_seen node.entry)).kind ≡ true → (node_said (record_seen node.entry)).kind ≡ EnumNode (Err e.kind)) }
     ensures kinds { IfErr result (λ e. IsPlain e.kind) }
 {
-    if !is_of_kind(node, NODE_ENUM) {
+    if !is_enum_node(node) {
         return Err(not_found());
     }
-    let part = struct_at(node, brands::NODE, NODE_ENUM, brands::ENUM)?;
-    list_at(part, brands::ENUM, ENUM_ENUMERANTS, brands::ENUMERANT)
+    let part = group_at(node, brands::NODE, NODE_ENUM, brands::ENUM);
+    let listed = list_at(part, brands::ENUM, ENUM_ENUMERANTS, brands::ENUMERANT)?;
+    Ok(listed)
 }
 
 /// Whether a node is a struct that is no group.
-pub(crate) fn is_plain_struct(node: dynamic_struct::Reader<'_>) -> Result<bool>
+pub(crate) fn is_plain_struct(node: dynamic_struct::Reader<'_>) -> bool
     requires { IsRecord 2 node }
-    ensures kinds { IfErr result (λ e. IsPlain e.kind) }
+    ensures { is_root (node_said (record_seen node.entry)).kind ≡ result }
 {
-    if !is_of_kind(node, NODE_STRUCT) {
-        return Ok(false);
+    match struct_part(node) {
+        Ok(part) => !bool_at(part, brands::STRUCT, STRUCT_IS_GROUP),
+        Err(_) => false,
     }
-    let part = struct_part(node)?;
-    let is_group = bool_at(part, brands::STRUCT, STRUCT_IS_GROUP)?;
-    Ok(!is_group)
 }
 
 /// The display name of a node, as it stands.
 pub(crate) fn display_name<'a>(node: dynamic_struct::Reader<'a>) -> Result<&'a [u8]>
     requires { IsRecord 2 node }
-    ensures read { IfOk result (λ x. value.Text x.now ≡ read_at 2 1 (record_seen node.entry)) }
-    ensures refused { IfErr result (λ e. value.Fault e.kind ≡ read_at 2 1 (record_seen node.entry)) }
+    ensures read { IfOk result (λ x. (node_said (record_seen node.entry)).display_name ≡ Ok x.now) }
+    ensures refused { IfErr result (λ e. (node_said (record_seen node.entry)).display_name ≡ Err e.kind) }
     ensures kinds { IfErr result (λ e. IsPlain e.kind) }
 {
-    text_at(node, brands::NODE, NODE_DISPLAY_NAME)
+    let name = text_at(node, brands::NODE, NODE_DISPLAY_NAME)?;
+    Ok(name)
 }

@@ -1,11 +1,12 @@
 //! What is bound to the type parameters of scopes.
-ghost use Rattle.std.specs.Prelude.{◌≡◌, map, option_map, IfErr, IfOk, Ok};
+ghost use Rattle.std.specs.Prelude.{◌≡◌, ◌≢◌, map, option_map, IfErr, IfOk, Ok, Err};
+ghost use Rattle.capnp_device.specs.declared.error.ErrorKind.TheVariants.{OutOfMemory};
 ghost use Rattle.capnp_schema.specs.Types.{AnyPointerType, seen_type};
 ghost use Rattle.capnp_request.specs.Bindings.{bounds, seen_bound, with_nothing};
 ghost use Rattle.capnp_request.specs.Conversion.{is_untyped};
-ghost use Rattle.capnp_request.specs.Nodes.{AreNodes};
+ghost use Rattle.capnp_request.specs.Nodes.{AreNodes, nodes_of};
 ghost use Rattle.capnp_request.specs.Refusals.{IsPlain};
-ghost use Rattle.capnp_request.specs.Scopes.{scope_among};
+ghost use Rattle.capnp_request.specs.Scopes.{scope_among, scopes_of};
 ghost use Rattle.capnp_request.specs.Types.{bound_to};
 
 use crate::entries::BoundScope;
@@ -34,6 +35,8 @@ pub(crate) fn untyped() -> Type
 /// The scopes of a node with nothing bound.
 pub(crate) fn unbound(alloc: Global, nodes: &SchemaNodes<'_>, id: u64) -> Result<Vec<BoundScope>>
     requires { AreNodes nodes.now }
+    ensures read { IfOk result (λ scopes. scopes_of (nodes_of nodes.now) id ≡ Ok (bounds scopes.items)) }
+    ensures refused { IfErr result (λ e. e.kind ≢ OutOfMemory → scopes_of (nodes_of nodes.now) id ≡ Err e.kind) }
     ensures kinds { IfErr result (λ e. IsPlain e.kind) }
 {
     let generic = nodes.generic_scopes(alloc, id)?;
@@ -59,7 +62,7 @@ pub(crate) fn bound_scope(scope: GenericScope, types: Vec<Type>) -> BoundScope
 /// A copy of scopes and of what is bound to them.
 pub(crate) fn copied_scopes(alloc: Global, scopes: &[BoundScope]) -> Result<Vec<BoundScope>>
     ensures read { IfOk result (λ copy. bounds copy.items ≡ bounds scopes.now) }
-    ensures kinds { IfErr result (λ e. IsPlain e.kind) }
+    ensures kinds { IfErr result (λ e. e.kind ≡ OutOfMemory) }
 {
     let mut copy = Vec::new(alloc);
     for scope in scopes {

@@ -1,15 +1,24 @@
 //! Structs, as a request says them.
-ghost use Rattle.std.specs.Prelude.{◌≡◌, ◌++◌, length, IfErr, IfOk};
+ghost use Rattle.std.specs.Prelude.{◌≡◌, ◌++◌, length, map, string_bytes, IfErr, IfOk};
+ghost use Rattle.capnp_device.specs.declared.error.ErrorKind.TheVariants.{OutOfMemory};
+ghost use Rattle.capnp_schema.specs.Types.{seen_type};
 ghost use Rattle.capnp_dynamic_readers.specs.Seen.{record_seen};
+ghost use Rattle.capnp_request.specs.Bindings.{bounds, flags};
+ghost use Rattle.capnp_request.specs.Conversion.{notes_of};
+ghost use Rattle.capnp_request.specs.Done.{IsDone, between};
 ghost use Rattle.capnp_request.specs.Handles.{IsRecord};
-ghost use Rattle.capnp_request.specs.Nodes.{AreNodes};
-ghost use Rattle.capnp_request.specs.Refusals.{IsPlain, IsRefusal};
+ghost use Rattle.capnp_request.specs.Nodes.{AreNodes, nodes_of};
+ghost use Rattle.capnp_request.specs.Numbers.{AreNumbered};
+ghost use Rattle.capnp_request.specs.Order.{all_fields, all_notes, struct_made};
+ghost use Rattle.capnp_request.specs.Reading.{node_said, struct_said};
+ghost use Rattle.capnp_request.specs.Refusals.{IsRefusal};
 ghost use Rattle.capnp_request.specs.Shapes.{HasParts, IsBrandOf, note, noted};
+ghost use Rattle.capnp_request.specs.StructsSeen.{child_types, field_records, field_types, seen_fields, seen_notes, seen_struct};
 
 use crate::annotations::annotations_of;
 use crate::context::Context;
 use crate::entries::{BoundScope, Entries, GroupPlace};
-use crate::fields::field_of;
+use crate::fields::{ConvertedField, field_of};
 use crate::notes::{Note, Seen, StandIn};
 use crate::parts::{bool_at, element_at, list_at, u16_at, u32_at};
 use crate::places::{
@@ -21,10 +30,18 @@ use capnp_base::introspect::Type;
 use capnp_dynamic_readers::dynamic_struct;
 use capnp_schema::record::{AnnotationTypes, BrandRecord, FieldRecord, NodeRecord, StructRecord};
 use capnp_wire::error::Result;
+use std::alloc::Global;
 
-/// The fields of an entry with their types and those of their annotations.
+/// The fields of an entry, by index, and what is noted of them.
 #[derive(Drop)]
-struct ConvertedFields {
+struct MadeFields {
+    fields: Vec<ConvertedField>,
+    notes: Vec<Note>,
+}
+
+/// The records of fields with their types and those of their annotations.
+#[derive(Drop)]
+struct FieldParts {
     records: Vec<FieldRecord>,
     types: Vec<Type>,
     annotation_types: Vec<Vec<Type>>,
@@ -44,7 +61,7 @@ fn note_at(entry: u32, field: u32, stand_in: StandIn) -> Note
 /// Adds a note, where what it is of was seen.
 fn add_note(notes: &mut Vec<Note>, is_seen: bool, note: Note) -> Result<()>
     ensures added { IfOk result (λ _. notes.new.items ≡ notes.old.items ++ noted is_seen note) }
-    ensures kinds { IfErr result (λ e. IsPlain e.kind) }
+    ensures kinds { IfErr result (λ e. e.kind ≡ OutOfMemory) }
 {
     if is_seen {
         notes.push(note)?;
@@ -54,10 +71,8 @@ fn add_note(notes: &mut Vec<Note>, is_seen: bool, note: Note) -> Result<()>
 
 /// Adds what is noted of a field.
 fn add_notes(notes: &mut Vec<Note>, entry: u32, field: u32, seen: Seen) -> Result<()>
-    ensures added { IfOk result (λ _. notes.new.items ≡ notes.old.items
-        ++ noted seen.float32 (note entry field StandIn.Float32) ++ noted seen.float64 (note entry field StandIn.Float64)
-        ++ noted seen.interface (note entry field StandIn.Interface) ++ noted seen.untyped_default (note entry field StandIn.UntypedDefault)) }
-    ensures kinds { IfErr result (λ e. IsPlain e.kind) }
+    ensures added { IfOk result (λ _. seen_notes notes.new.items ≡ seen_notes notes.old.items ++ notes_of entry field (flags seen) seen.untyped_default) }
+    ensures kinds { IfErr result (λ e. e.kind ≡ OutOfMemory) }
 {
     add_note(notes, seen.float32, note_at(entry, field, StandIn::Float32))?;
     add_note(notes, seen.float64, note_at(entry, field, StandIn::Float64))?;
@@ -74,27 +89,26 @@ fn add_notes(notes: &mut Vec<Note>, entry: u32, field: u32, seen: Seen) -> Resul
     Ok(())
 }
 
-/// The fields of an entry, by index.
+/// The fields of an entry, by index, and what is noted of them.
 fn fields_of<'a>(
     context: Context<'_, 'a>,
     entries: &mut Entries,
     inside: &[BoundScope],
     number: u32,
     part: dynamic_struct::Reader<'a>,
-    notes: &mut Vec<Note>,
-) -> Result<ConvertedFields>
+) -> Result<MadeFields>
     requires nodes { AreNodes context.nodes.now }
+    requires numbers { AreNumbered entries.now }
     requires is_record { IsRecord 3 part }
-    ensures typed { IfOk result (λ fields. length fields.types.items ≡ length fields.records.items) }
-    ensures children { IfOk result (λ fields. length fields.annotation_types.items ≡ length fields.records.items) }
+    ensures done { IsDone (λ r. seen_fields number 0 r.fields.items) (all_fields (nodes_of context.entry.nodes.now) context.entry.strict (bounds inside.now) number (struct_said (record_seen part.entry)).fields)
+        (between entries.old) (between entries.new) result }
+    ensures notes { IfOk result (λ r. seen_notes r.notes.items ≡ all_notes (seen_fields number 0 r.fields.items)) }
+    ensures numbers { IfOk result (λ _. AreNumbered entries.new) }
     ensures kinds { IfErr result (λ e. IsRefusal context.entry.strict e.kind) }
 {
     let listed = list_at(part, brands::STRUCT, STRUCT_FIELDS, brands::FIELD)?;
-    let mut fields = ConvertedFields {
-        records: Vec::new(context.alloc),
-        types: Vec::new(context.alloc),
-        annotation_types: Vec::new(context.alloc),
-    };
+    let mut fields = Vec::new(context.alloc);
+    let mut notes = Vec::new(context.alloc);
     for index in 0..listed.len() {
         let field = element_at(listed, index, brands::FIELD)?;
         let place = GroupPlace {
@@ -102,34 +116,60 @@ fn fields_of<'a>(
             field: index as usize,
         };
         let converted = field_of(context, entries, inside, field, place)?;
-        add_notes(notes, number, index, converted.seen)?;
-        fields.records.push(converted.record)?;
-        fields.types.push(converted.field_type)?;
-        fields.annotation_types.push(converted.annotation_types)?;
+        add_notes(&mut notes, number, index, converted.seen)?;
+        fields.push(converted)?;
     }
-    Ok(fields)
+    Ok(MadeFields { fields, notes })
+}
+
+/// The parts of fields, each in a list of its own.
+fn parts_of(alloc: Global, fields: Vec<ConvertedField>) -> Result<FieldParts>
+    ensures records { IfOk result (λ parts. parts.records.items ≡ field_records fields.items) }
+    ensures types { IfOk result (λ parts. parts.types.items ≡ field_types fields.items) }
+    ensures children { IfOk result (λ parts. map (λ types. types.items) parts.annotation_types.items ≡ child_types fields.items) }
+    ensures kinds { IfErr result (λ e. e.kind ≡ OutOfMemory) }
+{
+    let mut parts = FieldParts {
+        records: Vec::new(alloc),
+        types: Vec::new(alloc),
+        annotation_types: Vec::new(alloc),
+    };
+    for field in fields {
+        let ConvertedField {
+            record,
+            field_type,
+            annotation_types,
+            seen: _,
+        } = field;
+        parts.records.push(record)?;
+        parts.types.push(field_type)?;
+        parts.annotation_types.push(annotation_types)?;
+    }
+    Ok(parts)
 }
 
 /// What a struct has beside its name and annotations, with these fields.
-fn body_of(part: dynamic_struct::Reader<'_>, fields: Vec<FieldRecord>) -> Result<StructRecord>
+fn body_of(part: dynamic_struct::Reader<'_>, fields: Vec<FieldRecord>) -> StructRecord
     requires { IsRecord 3 part }
-    ensures parts { IfOk result (HasParts (record_seen part.entry)) }
-    ensures fields { IfOk result (λ body. body.fields ≡ fields) }
-    ensures kinds { IfErr result (λ e. IsPlain e.kind) }
+    ensures parts { HasParts (struct_said (record_seen part.entry)) result }
+    ensures fields { result.fields ≡ fields }
 {
-    let data_word_count = u16_at(part, brands::STRUCT, STRUCT_DATA_WORDS)?;
-    let pointer_count = u16_at(part, brands::STRUCT, STRUCT_POINTERS)?;
-    let is_group = bool_at(part, brands::STRUCT, STRUCT_IS_GROUP)?;
-    let discriminant_count = u16_at(part, brands::STRUCT, STRUCT_DISCRIMINANTS)?;
-    let discriminant_offset = u32_at(part, brands::STRUCT, STRUCT_DISCRIMINANT_OFFSET)?;
-    Ok(StructRecord {
-        data_word_count,
-        pointer_count,
-        is_group,
-        discriminant_count,
-        discriminant_offset,
+    StructRecord {
+        data_word_count: u16_at(part, brands::STRUCT, STRUCT_DATA_WORDS),
+        pointer_count: u16_at(part, brands::STRUCT, STRUCT_POINTERS),
+        is_group: bool_at(part, brands::STRUCT, STRUCT_IS_GROUP),
+        discriminant_count: u16_at(part, brands::STRUCT, STRUCT_DISCRIMINANTS),
+        discriminant_offset: u32_at(part, brands::STRUCT, STRUCT_DISCRIMINANT_OFFSET),
         fields,
-    })
+    }
+}
+
+/// The node and the brand of an entry, and what is noted of its fields.
+#[derive(Drop)]
+pub(crate) struct MadeStruct {
+    pub(crate) record: NodeRecord,
+    pub(crate) brand: BrandRecord,
+    pub(crate) notes: Vec<Note>,
 }
 
 /// A struct node, and the number of the entry that is made of it.
@@ -147,17 +187,19 @@ pub(crate) fn struct_of<'a>(
     inside: &[BoundScope],
     place: NodePlace<'a>,
     display_name: String,
-    notes: &mut Vec<Note>,
-) -> Result<(NodeRecord, BrandRecord)>
+) -> Result<MadeStruct>
     requires nodes { AreNodes context.nodes.now }
+    requires numbers { AreNumbered entries.now }
     requires is_record { IsRecord 2 place.node }
-    ensures brand { IfOk result (λ r. IsBrandOf place.entry.number r.0 r.1) }
-    ensures id { IfOk result (λ r. r.0.id ≡ place.entry.id) }
+    ensures done { IsDone seen_struct (struct_made (nodes_of context.entry.nodes.now) context.entry.strict place.entry.number place.entry.id (bounds inside.now) (string_bytes display_name) (node_said (record_seen place.entry.node)))
+        (between entries.old) (between entries.new) result }
+    ensures numbers { IfOk result (λ _. AreNumbered entries.new) }
+    ensures brand { IfOk result (λ r. IsBrandOf place.entry.number r.record r.brand) }
     ensures kinds { IfErr result (λ e. IsRefusal context.entry.strict e.kind) }
 {
     let part = struct_part(place.node)?;
-    let fields = fields_of(context, entries, inside, place.number, part, notes)?;
-    let (annotations, own) = annotations_of(
+    let made = fields_of(context, entries, inside, place.number, part)?;
+    let annotated = annotations_of(
         context,
         entries,
         inside,
@@ -165,20 +207,31 @@ pub(crate) fn struct_of<'a>(
         brands::NODE,
         NODE_ANNOTATIONS,
     )?;
-    let body = body_of(part, fields.records)?;
+    let (annotations, own) = annotated;
+    let MadeFields { fields, notes } = made;
+    let parts = parts_of(context.alloc, fields)?;
+    let FieldParts {
+        records,
+        types,
+        annotation_types,
+    } = parts;
     let record = NodeRecord {
         id: place.id,
         display_name,
         annotations,
-        body,
+        body: body_of(part, records),
     };
     let brand = BrandRecord {
         node: place.number,
-        field_types: fields.types,
+        field_types: types,
         annotation_types: AnnotationTypes {
             own,
-            children: fields.annotation_types,
+            children: annotation_types,
         },
     };
-    Ok((record, brand))
+    Ok(MadeStruct {
+        record,
+        brand,
+        notes,
+    })
 }

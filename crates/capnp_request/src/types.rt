@@ -1,24 +1,33 @@
 //! Types, as a request says them, with the bindings of their brands.
-ghost use Rattle.std.specs.Prelude.{◌≡◌, false, map, [], IfErr, IfOk, IfSome, Ok, Some};
+ghost use Rattle.std.specs.Prelude.{ℕ, List, Bool, cond, ◌≡◌, ◌≢◌, ◌<◌, ◌≤◌, ◌-◌, ◌^◌, false, map, option_map, [], IfErr, IfOk, IfSome, Ok, Err, Some};
+ghost use Rattle.capnp_device.specs.declared.error.ErrorKind.TheVariants.{OutOfMemory, TooManyTypes};
 ghost use Rattle.capnp_base.specs.Types.{type_from};
 ghost use Rattle.capnp_schema.specs.RequestSet.{request_set};
 ghost use Rattle.capnp_schema.specs.Schema.{field_at, is_member};
-ghost use Rattle.capnp_schema.specs.Types.{AnyPointerType, seen_type};
+ghost use Rattle.capnp_schema.specs.Types.{ListType, seen_type};
 ghost use Rattle.capnp_records.specs.Part.{which_of};
+ghost use Rattle.capnp_records.specs.Record.{Record};
 ghost use Rattle.capnp_dynamic_readers.specs.Seen.{record_seen};
-ghost use Rattle.capnp_request.specs.Bindings.{bounds, flags};
-ghost use Rattle.capnp_request.specs.Handles.{IsField, IsListOf, IsRecord};
-ghost use Rattle.capnp_request.specs.Meant.{IsEntryType, IsPlainMember, Says, SaysFloat, SaysInterface, untyped_meant};
-ghost use Rattle.capnp_request.specs.Nodes.{AreNodes};
+ghost use Rattle.capnp_request.specs.Bindings.{bounds, flags, with_nothing};
+ghost use Rattle.capnp_request.specs.Conversion.{is_untyped};
+ghost use Rattle.capnp_request.specs.Done.{IsDone, IsSaid, so_far};
+ghost use Rattle.capnp_request.specs.Handles.{IsField, IsListOf, IsRecord, values_left};
+ghost use Rattle.capnp_request.specs.Meant.{IsPlainOr, float_type, scope_in};
+ghost use Rattle.capnp_request.specs.Nodes.{AreNodes, nodes_of};
+ghost use Rattle.capnp_request.specs.Numbers.{AreNumbered, numbered};
 ghost use Rattle.capnp_request.specs.Parts.{one, read_at};
-ghost use Rattle.capnp_request.specs.Reading.{type_said};
+ghost use Rattle.capnp_request.specs.Reading.{binding_said, bindings_said, brand_in, enum_term, list_term, scope_said, scopes_said, struct_term, type_levels, type_said, untyped_term};
 ghost use Rattle.capnp_request.specs.Refusals.{IsPlain, IsRefusal};
 ghost use Rattle.capnp_request.specs.Scopes.{bound_types};
+ghost use Rattle.capnp_request.specs.Terms.{SchemaNode, TypeTerm, UnreadBrand};
+ghost use Rattle.capnp_request.specs.Types.{bind_scope, binding_types, brand_types, interface, lists_in, named_scopes, scope_types, type_of, without_untyped};
+ghost use Rattle.capnp_request.specs.Work.{Bound, Named, Numbered, each, named};
+ghost use Rattle.capnp_request.specs.Work.{Seen as WorkSeen};
 
 use crate::context::Context;
 use crate::entries::{BoundNode, BoundScope, Entries, entry_type, enum_type};
 use crate::notes::Seen;
-use crate::parts::{active_member, element_at, list_at, struct_at, u16_at, u64_at};
+use crate::parts::{active_member, element_at, group_at, list_at, struct_at, u16_at, u64_at};
 use crate::places::{
     BINDING_TYPE, BINDING_UNBOUND, BRAND_SCOPES, LIST_ELEMENT, NAMED_ID, PARAMETER_INDEX,
     PARAMETER_SCOPE, SCOPE_BIND, SCOPE_ID, SCOPE_INHERIT, STRUCT_BRAND, TYPE_ENUM, TYPE_LIST,
@@ -40,11 +49,16 @@ pub(crate) struct BrandPlace<'a> {
 }
 
 /// The levels that a type is read through, as many as a message has.
-pub(crate) const TYPE_LEVELS: u32 = 64;
+#[tactic(auto, unfolding(crate::specs::Reading::type_levels))]
+pub(crate) fn levels_of_types() -> u32
+    ensures { result ≡ type_levels }
+{
+    64
+}
 
 /// The type of a member of a type's union that says all of it.
 fn plain_type(member: u16) -> Option<Type>
-    ensures { IfSome result (λ t. IsPlainMember member (seen_type t)) }
+    ensures { IsPlainOr member (option_map seen_type result) }
 {
     match plain_variant(member) {
         Some(variant) => Some(Type::from(variant)),
@@ -54,7 +68,7 @@ fn plain_type(member: u16) -> Option<Type>
 
 /// The same as a variant.
 fn plain_variant(member: u16) -> Option<TypeVariant>
-    ensures { IfSome result (λ v. IsPlainMember member (seen_type (type_from v))) }
+    ensures { IsPlainOr member (option_map (λ v. seen_type (type_from v)) result) }
 {
     match member {
         0 => Some(TypeVariant::Void),
@@ -75,7 +89,7 @@ fn plain_variant(member: u16) -> Option<TypeVariant>
 
 /// A `Float32` or `Float64` as an integer of its width, with a note. Refused with `FloatType` where that is asked for.
 fn float_type(strict: bool, is_double: bool, seen: &mut Seen) -> Result<Type>
-    ensures says { IfOk result (λ t. SaysFloat is_double strict (seen_type t) (flags seen.old) (flags seen.new)) }
+    ensures done { (n : Numbered) → IsDone seen_type (float_type is_double strict) (named n (flags seen.old)) (named n (flags seen.new)) result }
     ensures kinds { IfErr result (λ e. IsRefusal strict e.kind) }
 {
     if strict {
@@ -91,7 +105,7 @@ fn float_type(strict: bool, is_double: bool, seen: &mut Seen) -> Result<Type>
 
 /// An interface as an untyped pointer, with a note. Refused with `InterfaceType` where that is asked for.
 fn interface_type(strict: bool, seen: &mut Seen) -> Result<Type>
-    ensures says { IfOk result (λ t. SaysInterface strict (seen_type t) (flags seen.old) (flags seen.new)) }
+    ensures done { (n : Numbered) → IsDone seen_type (interface strict) (named n (flags seen.old)) (named n (flags seen.new)) result }
     ensures kinds { IfErr result (λ e. IsRefusal strict e.kind) }
 {
     if strict {
@@ -105,19 +119,19 @@ fn interface_type(strict: bool, seen: &mut Seen) -> Result<Type>
 fn untyped_or_bound(inside: &[BoundScope], term: dynamic_struct::Reader<'_>) -> Result<Type>
     requires record { IsRecord 13 term }
     requires active { which_of (record_seen term) ≡ Some 18 }
-    ensures read { IfOk result (λ t. untyped_meant (bounds inside.now) (read_at 13 18 (record_seen term.entry)) ≡ Ok (seen_type t)) }
+    ensures done { (nodes : List SchemaNode) → (strict : Bool) → (s : Named) → IsDone seen_type (type_of nodes strict (bounds inside.now) (untyped_term (read_at 13 18 (record_seen term.entry)))) s s result }
     ensures kinds { IfErr result (λ e. IsPlain e.kind) }
 {
-    let pointer = struct_at(term, brands::TYPE, TYPE_UNTYPED, brands::TYPE_UNTYPED)?;
+    let pointer = group_at(term, brands::TYPE, TYPE_UNTYPED, brands::TYPE_UNTYPED);
     let Some(member) = active_member(pointer) else {
         return Err(Error::from(ErrorKind::UnknownKind));
     };
     match member {
         0 => Ok(untyped()),
         1 => {
-            let parameter = struct_at(pointer, brands::TYPE_UNTYPED, 1, brands::TYPE_PARAMETER)?;
-            let scope = u64_at(parameter, brands::TYPE_PARAMETER, PARAMETER_SCOPE)?;
-            let index = u16_at(parameter, brands::TYPE_PARAMETER, PARAMETER_INDEX)?;
+            let parameter = group_at(pointer, brands::TYPE_UNTYPED, 1, brands::TYPE_PARAMETER);
+            let scope = u64_at(parameter, brands::TYPE_PARAMETER, PARAMETER_SCOPE);
+            let index = u16_at(parameter, brands::TYPE_PARAMETER, PARAMETER_INDEX);
             Ok(bound_to(inside, scope, index))
         }
         2 => Ok(untyped()),
@@ -125,9 +139,48 @@ fn untyped_or_bound(inside: &[BoundScope], term: dynamic_struct::Reader<'_>) -> 
     }
 }
 
-/// The struct that a type names, with the bindings of its brand.
+/// A list of a type. Refused with `TooManyTypes` where as many lists are around the type as are counted.
+fn list_type(element: Type) -> Result<Type>
+    ensures list { IfOk result (λ t. (lists_in (seen_type element) < 2 ^ 64 - 1) × (seen_type t ≡ ListType (seen_type element))) }
+    ensures full { IfErr result (λ _. 2 ^ 64 - 1 ≤ lists_in (seen_type element)) }
+    ensures kinds { IfErr result (λ e. e.kind ≡ TooManyTypes) }
+{
+    let list = Type::list_of(element);
+    match list.which() {
+        TypeVariant::List(inner) => {
+            if inner == element {
+                return Ok(list);
+            }
+            Err(Error::from(ErrorKind::TooManyTypes))
+        }
+        _ => unreachable!(),
+    }
+}
+
+/// The enum that a type names.
+fn enum_type_of<'a>(
+    context: Context<'_, 'a>,
+    entries: &mut Entries,
+    term: dynamic_struct::Reader<'a>,
+) -> Result<Type>
+    requires nodes { AreNodes context.nodes.now }
+    requires numbers { AreNumbered entries.now }
+    requires is_record { IsRecord 13 term }
+    requires active { which_of (record_seen term) ≡ Some 15 }
+    ensures done { (inside : List Bound) → (levels : ℕ) → (seen : WorkSeen) → IsDone seen_type (type_of (nodes_of context.entry.nodes.now) context.entry.strict inside (enum_term (type_said levels) (read_at 13 15 (record_seen term.entry))))
+        (named (numbered entries.old) seen) (named (numbered entries.new) seen) result }
+    ensures numbers { IfOk result (λ _. AreNumbered entries.new) }
+    ensures kinds { IfErr result (λ e. IsPlain e.kind) }
+{
+    let named = group_at(term, brands::TYPE, TYPE_ENUM, brands::TYPE_ENUM);
+    let id = u64_at(named, brands::TYPE_ENUM, NAMED_ID);
+    let number = entries.number_enum(context.nodes, id)?;
+    Ok(enum_type(number))
+}
+
+/// The list that a type is, of its element's type.
 #[cycle(types)]
-fn struct_type<'a>(
+fn list_type_of<'a>(
     context: Context<'_, 'a>,
     entries: &mut Entries,
     inside: &[BoundScope],
@@ -136,14 +189,42 @@ fn struct_type<'a>(
     depth: u32,
 ) -> Result<Type>
     requires nodes { AreNodes context.nodes.now }
-    requires record { IsRecord 13 term }
-    requires active { which_of (record_seen term) ≡ Some 16 }
-    ensures entry { IfOk result (λ t. IsEntryType (read_at 13 16 (record_seen term.entry)) (seen_type t)) }
+    requires numbers { AreNumbered entries.now }
+    requires is_record { IsRecord 13 term }
+    requires active { which_of (record_seen term) ≡ Some 14 }
+    ensures done { IsDone seen_type (type_of (nodes_of context.entry.nodes.now) context.entry.strict (bounds inside.now) (list_term (type_said depth) (read_at 13 14 (record_seen term.entry))))
+        (so_far entries.old seen.old) (so_far entries.new seen.new) result }
+    ensures numbers { IfOk result (λ _. AreNumbered entries.new) }
     ensures kinds { IfErr result (λ e. IsRefusal context.entry.strict e.kind) }
 {
-    let named = struct_at(term, brands::TYPE, TYPE_STRUCT, brands::TYPE_STRUCT)?;
-    let id = u64_at(named, brands::TYPE_STRUCT, NAMED_ID)?;
-    let _node = context.nodes.struct_node(id)?;
+    let list = group_at(term, brands::TYPE, TYPE_LIST, brands::TYPE_LIST);
+    let element = struct_at(list, brands::TYPE_LIST, LIST_ELEMENT, brands::TYPE)?;
+    let element_type = type_of(context, entries, inside, element, seen, depth)?;
+    list_type(element_type)
+}
+
+/// The struct that a type names, with the bindings of its brand.
+#[cycle(types)]
+fn struct_type_of<'a>(
+    context: Context<'_, 'a>,
+    entries: &mut Entries,
+    inside: &[BoundScope],
+    term: dynamic_struct::Reader<'a>,
+    seen: &mut Seen,
+    depth: u32,
+) -> Result<Type>
+    requires nodes { AreNodes context.nodes.now }
+    requires numbers { AreNumbered entries.now }
+    requires is_record { IsRecord 13 term }
+    requires active { which_of (record_seen term) ≡ Some 16 }
+    ensures done { IsDone seen_type (type_of (nodes_of context.entry.nodes.now) context.entry.strict (bounds inside.now) (struct_term (type_said depth) (read_at 13 16 (record_seen term.entry))))
+        (so_far entries.old seen.old) (so_far entries.new seen.new) result }
+    ensures numbers { IfOk result (λ _. AreNumbered entries.new) }
+    ensures kinds { IfErr result (λ e. IsRefusal context.entry.strict e.kind) }
+{
+    let named = group_at(term, brands::TYPE, TYPE_STRUCT, brands::TYPE_STRUCT);
+    let id = u64_at(named, brands::TYPE_STRUCT, NAMED_ID);
+    context.nodes.struct_node(id)?;
     let place = BrandPlace {
         reader: named,
         holder: brands::TYPE_STRUCT,
@@ -168,8 +249,11 @@ pub(crate) fn type_of<'a>(
     depth: u32,
 ) -> Result<Type>
     requires nodes { AreNodes context.nodes.now }
+    requires numbers { AreNumbered entries.now }
     requires is_record { IsRecord 13 term }
-    ensures says { IfOk result (λ t. Says context.entry.strict (bounds inside.now) (type_said depth (record_seen term.entry)) (seen_type t) (flags seen.old) (flags seen.new)) }
+    ensures done { IsDone seen_type (type_of (nodes_of context.entry.nodes.now) context.entry.strict (bounds inside.now) (type_said depth (record_seen term.entry)))
+        (so_far entries.old seen.old) (so_far entries.new seen.new) result }
+    ensures numbers { IfOk result (λ _. AreNumbered entries.new) }
     ensures kinds { IfErr result (λ e. IsRefusal context.entry.strict e.kind) }
 {
     if depth == 0 {
@@ -182,40 +266,30 @@ pub(crate) fn type_of<'a>(
         return Ok(plain);
     }
     match member {
-        10 => {
-            let float = float_type(context.strict, false, seen)?;
-            Ok(float)
-        }
-        11 => {
-            let double = float_type(context.strict, true, seen)?;
-            Ok(double)
-        }
-        14 => {
-            let list = struct_at(term, brands::TYPE, TYPE_LIST, brands::TYPE_LIST)?;
-            let element = struct_at(list, brands::TYPE_LIST, LIST_ELEMENT, brands::TYPE)?;
-            let element_type = type_of(context, entries, inside, element, seen, depth - 1)?;
-            Ok(Type::list_of(element_type))
-        }
-        15 => {
-            let named = struct_at(term, brands::TYPE, TYPE_ENUM, brands::TYPE_ENUM)?;
-            let id = u64_at(named, brands::TYPE_ENUM, NAMED_ID)?;
-            let number = entries.number_enum(context.nodes, id)?;
-            Ok(enum_type(number))
-        }
-        16 => {
-            let entry = struct_type(context, entries, inside, term, seen, depth - 1)?;
-            Ok(entry)
-        }
-        17 => {
-            let pointer = interface_type(context.strict, seen)?;
-            Ok(pointer)
-        }
-        18 => {
-            let pointer = untyped_or_bound(inside, term)?;
-            Ok(pointer)
-        }
+        10 => float_type(context.strict, false, seen),
+        11 => float_type(context.strict, true, seen),
+        14 => list_type_of(context, entries, inside, term, seen, depth - 1),
+        15 => enum_type_of(context, entries, term),
+        16 => struct_type_of(context, entries, inside, term, seen, depth - 1),
+        17 => interface_type(context.strict, seen),
+        18 => untyped_or_bound(inside, term),
         _ => Err(Error::from(ErrorKind::UnknownKind)),
     }
+}
+
+/// The scopes of the brand at a place.
+fn brand_list<'a>(place: BrandPlace<'a>) -> Result<dynamic_list::Reader<'a>>
+    requires record { IsRecord place.holder place.reader }
+    requires field { IsField place.holder place.index (one 19) }
+    requires plain { is_member (field_at request_set place.holder place.index).field ≡ false }
+    ensures elements { IfOk result (IsListOf (one 20)) }
+    ensures read { (inner : Record → TypeTerm) → IfOk result (λ l. brand_in inner (read_at place.entry.holder place.entry.index (record_seen place.entry.reader)) ≡ scopes_said inner (values_left l 0)) }
+    ensures refused { (inner : Record → TypeTerm) → IfErr result (λ e. brand_in inner (read_at place.entry.holder place.entry.index (record_seen place.entry.reader)) ≡ UnreadBrand e.kind) }
+    ensures kinds { IfErr result (λ e. IsPlain e.kind) }
+{
+    let brand = struct_at(place.reader, place.holder, place.index, brands::BRAND)?;
+    let listed = list_at(brand, brands::BRAND, BRAND_SCOPES, brands::SCOPE)?;
+    Ok(listed)
 }
 
 /// The bindings of a node that is named with a brand inside an entry of these scopes.
@@ -230,20 +304,54 @@ pub(crate) fn bindings_of<'a>(
     depth: u32,
 ) -> Result<Vec<BoundScope>>
     requires nodes { AreNodes context.nodes.now }
+    requires numbers { AreNumbered entries.now }
     requires record { IsRecord place.holder place.reader }
     requires field { IsField place.holder place.index (one 19) }
     requires plain { is_member (field_at request_set place.holder place.index).field ≡ false }
+    ensures done { IsDone (λ scopes. bounds scopes.items) (named_scopes (nodes_of context.entry.nodes.now) context.entry.strict (bounds inside.now) id (brand_in (type_said depth) (read_at place.entry.holder place.entry.index (record_seen place.entry.reader))))
+        (so_far entries.old seen.old) (so_far entries.new seen.new) result }
+    ensures numbers { IfOk result (λ _. AreNumbered entries.new) }
+    ensures kinds { IfErr result (λ e. IsRefusal context.entry.strict e.kind) }
+{
+    let generic = context.nodes.generic_scopes(context.alloc, id)?;
+    let count = generic.len();
+    if count == 0 {
+        return Ok(Vec::new(context.alloc));
+    }
+    let said = brand_list(place)?;
+    bound_scopes(
+        context,
+        entries,
+        inside,
+        generic.as_slice(),
+        said,
+        seen,
+        depth,
+    )
+}
+
+/// Scopes with the types that the scopes of a brand bind to each.
+#[cycle(types)]
+fn bound_scopes<'a>(
+    context: Context<'_, 'a>,
+    entries: &mut Entries,
+    inside: &[BoundScope],
+    generic: &[GenericScope],
+    said: dynamic_list::Reader<'a>,
+    seen: &mut Seen,
+    depth: u32,
+) -> Result<Vec<BoundScope>>
+    requires nodes { AreNodes context.nodes.now }
+    requires numbers { AreNumbered entries.now }
+    requires is_list { IsListOf (one 20) said }
+    ensures done { IsDone (λ scopes. bounds scopes.items) (each (bind_scope (brand_types (nodes_of context.entry.nodes.now) context.entry.strict (bounds inside.now) (scopes_said (type_said depth) (values_left said.entry 0)))) (map with_nothing generic.now))
+        (so_far entries.old seen.old) (so_far entries.new seen.new) result }
+    ensures numbers { IfOk result (λ _. AreNumbered entries.new) }
     ensures kinds { IfErr result (λ e. IsRefusal context.entry.strict e.kind) }
 {
     let mut scopes = Vec::new(context.alloc);
-    let generic = context.nodes.generic_scopes(context.alloc, id)?;
-    if generic.is_empty() {
-        return Ok(scopes);
-    }
-    let brand = struct_at(place.reader, place.holder, place.index, brands::BRAND)?;
-    let listed = list_at(brand, brands::BRAND, BRAND_SCOPES, brands::SCOPE)?;
-    for scope in generic.as_slice() {
-        let types = scope_types(context, entries, inside, *scope, listed, seen, depth)?;
+    for scope in generic {
+        let types = scope_types(context, entries, inside, *scope, said, seen, depth)?;
         scopes.push(bound_scope(*scope, types))?;
     }
     Ok(scopes)
@@ -251,16 +359,18 @@ pub(crate) fn bindings_of<'a>(
 
 /// The first scope of an id in a brand.
 fn brand_scope<'a>(
-    listed: dynamic_list::Reader<'a>,
+    said: dynamic_list::Reader<'a>,
     id: u64,
 ) -> Result<Option<dynamic_struct::Reader<'a>>>
-    requires { IsListOf (one 20) listed }
+    requires { IsListOf (one 20) said }
     ensures record { IfOk result (λ found. IfSome found (IsRecord 20)) }
+    ensures said { (inner : Record → TypeTerm) → IsSaid (option_map (λ scope. scope_said inner (record_seen scope))) (scope_in (scopes_said inner (values_left said.entry 0)) id) result }
     ensures kinds { IfErr result (λ e. IsPlain e.kind) }
 {
-    for index in 0..listed.len() {
-        let scope = element_at(listed, index, brands::SCOPE)?;
-        if u64_at(scope, brands::SCOPE, SCOPE_ID)? == id {
+    for index in 0..said.len() {
+        let scope = element_at(said, index, brands::SCOPE)?;
+        let scope_id = u64_at(scope, brands::SCOPE, SCOPE_ID);
+        if scope_id == id {
             return Ok(Some(scope));
         }
     }
@@ -270,7 +380,7 @@ fn brand_scope<'a>(
 /// A copy of the types that are bound to a scope's parameters inside an entry, none where it isn't there.
 fn inherited(alloc: Global, inside: &[BoundScope], id: u64) -> Result<Vec<Type>>
     ensures read { IfOk result (λ types. bound_types [] (λ b. b.types) (bounds inside.now) id ≡ map seen_type types.items) }
-    ensures kinds { IfErr result (λ e. IsPlain e.kind) }
+    ensures kinds { IfErr result (λ e. e.kind ≡ OutOfMemory) }
 {
     match scope_of(inside, id) {
         Some(own) => Ok(own.types.as_slice().to_vec(alloc)?),
@@ -285,59 +395,61 @@ fn scope_types<'a>(
     entries: &mut Entries,
     inside: &[BoundScope],
     scope: GenericScope,
-    listed: dynamic_list::Reader<'a>,
+    said: dynamic_list::Reader<'a>,
     seen: &mut Seen,
     depth: u32,
 ) -> Result<Vec<Type>>
     requires nodes { AreNodes context.nodes.now }
-    requires is_list { IsListOf (one 20) listed }
+    requires numbers { AreNumbered entries.now }
+    requires is_list { IsListOf (one 20) said }
+    ensures done { IsDone (λ types. map seen_type types.items) (brand_types (nodes_of context.entry.nodes.now) context.entry.strict (bounds inside.now) (scopes_said (type_said depth) (values_left said.entry 0)) (with_nothing scope))
+        (so_far entries.old seen.old) (so_far entries.new seen.new) result }
+    ensures numbers { IfOk result (λ _. AreNumbered entries.new) }
     ensures kinds { IfErr result (λ e. IsRefusal context.entry.strict e.kind) }
 {
-    match brand_scope(listed, scope.id)? {
-        Some(said) => said_types(context, entries, inside, scope, said, seen, depth),
+    let found = brand_scope(said, scope.id)?;
+    match found {
+        Some(own) => said_types(context, entries, inside, scope, own, seen, depth),
         None => Ok(Vec::new(context.alloc)),
     }
 }
 
-/// The types that a scope of a brand binds to a scope's parameters.
+/// The types that a scope of a brand binds to a scope's parameters. Untyped pointers at the end are left out.
 #[cycle(types)]
 fn said_types<'a>(
     context: Context<'_, 'a>,
     entries: &mut Entries,
     inside: &[BoundScope],
     scope: GenericScope,
-    said: dynamic_struct::Reader<'a>,
+    own: dynamic_struct::Reader<'a>,
     seen: &mut Seen,
     depth: u32,
 ) -> Result<Vec<Type>>
     requires nodes { AreNodes context.nodes.now }
-    requires is_record { IsRecord 20 said }
-    ensures inherits { IfOk result (λ types. which_of (record_seen said.entry) ≡ Some 2 → bound_types [] (λ b. b.types) (bounds inside.now) scope.id ≡ map seen_type types.items) }
+    requires numbers { AreNumbered entries.now }
+    requires is_record { IsRecord 20 own }
+    ensures done { IsDone (λ types. map seen_type types.items) (scope_types (nodes_of context.entry.nodes.now) context.entry.strict (bounds inside.now) (scope_said (type_said depth) (record_seen own.entry)) (with_nothing scope))
+        (so_far entries.old seen.old) (so_far entries.new seen.new) result }
+    ensures numbers { IfOk result (λ _. AreNumbered entries.new) }
     ensures kinds { IfErr result (λ e. IsRefusal context.entry.strict e.kind) }
 {
-    match active_member(said) {
-        Some(SCOPE_BIND) => {
-            let bindings = list_at(said, brands::SCOPE, SCOPE_BIND, brands::BINDING)?;
-            let types = bound_types(
-                context,
-                entries,
-                inside,
-                scope.parameters,
-                bindings,
-                seen,
-                depth,
-            )?;
+    let Some(member) = active_member(own) else {
+        return Err(Error::from(ErrorKind::UnknownKind));
+    };
+    match member {
+        SCOPE_BIND => {
+            let bindings = list_at(own, brands::SCOPE, SCOPE_BIND, brands::BINDING)?;
+            let count = scope.parameters;
+            let mut types = bound_types(context, entries, inside, count, bindings, seen, depth)?;
+            drop_untyped(&mut types);
             Ok(types)
         }
-        Some(SCOPE_INHERIT) => {
-            let types = inherited(context.alloc, inside, scope.id)?;
-            Ok(types)
-        }
+        SCOPE_INHERIT => inherited(context.alloc, inside, scope.id),
         _ => Err(Error::from(ErrorKind::UnknownKind)),
     }
 }
 
-/// The types of the first bindings, as many as there are parameters. Untyped pointers at the end are left out.
+/// The types of the first bindings, as many as there are parameters.
 #[cycle(types)]
 fn bound_types<'a>(
     context: Context<'_, 'a>,
@@ -349,17 +461,18 @@ fn bound_types<'a>(
     depth: u32,
 ) -> Result<Vec<Type>>
     requires nodes { AreNodes context.nodes.now }
+    requires numbers { AreNumbered entries.now }
     requires is_list { IsListOf (one 21) bindings }
+    ensures done { IsDone (λ types. map seen_type types.items) (binding_types (nodes_of context.entry.nodes.now) context.entry.strict (bounds inside.now) (bindings_said (type_said depth) (values_left bindings.entry 0)) parameters)
+        (so_far entries.old seen.old) (so_far entries.new seen.new) result }
+    ensures numbers { IfOk result (λ _. AreNumbered entries.new) }
     ensures kinds { IfErr result (λ e. IsRefusal context.entry.strict e.kind) }
 {
     let mut types = Vec::new(context.alloc);
     for index in 0..bindings.len().min(parameters) {
         let binding = element_at(bindings, index, brands::BINDING)?;
         let bound = binding_type(context, entries, inside, binding, seen, depth)?;
-        if !is_untyped(bound) {
-            fill(&mut types, index)?;
-            types.push(bound)?;
-        }
+        types.push(bound)?;
     }
     Ok(types)
 }
@@ -375,13 +488,19 @@ fn binding_type<'a>(
     depth: u32,
 ) -> Result<Type>
     requires nodes { AreNodes context.nodes.now }
+    requires numbers { AreNumbered entries.now }
     requires is_record { IsRecord 21 binding }
-    ensures unbound { IfOk result (λ t. which_of (record_seen binding.entry) ≡ Some 0 → seen_type t ≡ AnyPointerType) }
+    ensures done { IsDone seen_type (type_of (nodes_of context.entry.nodes.now) context.entry.strict (bounds inside.now) (binding_said (type_said depth) (record_seen binding.entry)))
+        (so_far entries.old seen.old) (so_far entries.new seen.new) result }
+    ensures numbers { IfOk result (λ _. AreNumbered entries.new) }
     ensures kinds { IfErr result (λ e. IsRefusal context.entry.strict e.kind) }
 {
-    match active_member(binding) {
-        Some(BINDING_UNBOUND) => Ok(untyped()),
-        Some(BINDING_TYPE) => {
+    let Some(member) = active_member(binding) else {
+        return Err(Error::from(ErrorKind::UnknownKind));
+    };
+    match member {
+        BINDING_UNBOUND => Ok(untyped()),
+        BINDING_TYPE => {
             let term = struct_at(binding, brands::BINDING, BINDING_TYPE, brands::TYPE)?;
             type_of(context, entries, inside, term, seen, depth)
         }
@@ -389,12 +508,24 @@ fn binding_type<'a>(
     }
 }
 
-/// Adds untyped pointers until there are so many types.
-fn fill(types: &mut Vec<Type>, count: u32) -> Result<()>
-    ensures kinds { IfErr result (λ e. IsPlain e.kind) }
+/// How many types are kept, where one more is looked at.
+fn kept_with(t: Type, kept: usize, with_it: usize) -> usize
+    ensures { result ≡ cond (is_untyped (seen_type t)) kept with_it }
 {
-    for _ in types.len()..count as usize {
-        types.push(untyped())?;
+    if is_untyped(t) {
+        return kept;
     }
-    Ok(())
+    with_it
+}
+
+/// Drops the untyped pointers at the end.
+fn drop_untyped(types: &mut Vec<Type>)
+    ensures { map seen_type types.new.items ≡ without_untyped (map seen_type types.old.items) }
+{
+    let mut kept = 0;
+    for index in 0..types.len() {
+        let looked_at = types[index];
+        kept = kept_with(looked_at, kept, index + 1);
+    }
+    types.truncate(kept);
 }

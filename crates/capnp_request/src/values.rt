@@ -1,13 +1,18 @@
 //! Values of defaults and annotations, as a request says them.
-ghost use Rattle.std.specs.Prelude.{◌≡◌, None, Some, Ok, IfErr, IfOk};
+ghost use Rattle.std.specs.Prelude.{◌≡◌, ◌≢◌, None, Some, Ok, Err, drop, IfErr, IfOk, option_map};
+ghost use Rattle.capnp_device.specs.declared.error.ErrorKind.TheVariants.{OutOfMemory};
+ghost use Rattle.capnp_wire.specs.Reading.{refusal};
 ghost use Rattle.capnp_wire.specs.Message.{builder_tree};
 ghost use Rattle.capnp_wire.specs.Standing.{tree_of};
+ghost use Rattle.capnp_wire.specs.WellFormed.{IsWellFormed};
 ghost use Rattle.capnp_wire.specs.Words.{first_fault};
 ghost use Rattle.capnp_base.specs.AnyPointer.{pointer_of};
 ghost use Rattle.capnp_schema.specs.Schema.{seen_value};
 ghost use Rattle.capnp_records.specs.Part.{which_of};
 ghost use Rattle.capnp_dynamic_readers.specs.Seen.{record_seen};
 ghost use Rattle.capnp_request.specs.Handles.{IsRecord};
+ghost use Rattle.capnp_request.specs.ValueMembers.{IsDataMember};
+ghost use Rattle.capnp_request.specs.Conversion.{is_untyped_default};
 ghost use Rattle.capnp_request.specs.Reading.{value_said};
 ghost use Rattle.capnp_request.specs.Refusals.{IsPlain};
 ghost use Rattle.capnp_request.specs.Values.{value_of, words_or_fault};
@@ -35,6 +40,8 @@ const TABLE_BYTES: usize = 8;
 fn copy_of(alloc: Global, pointer: any_pointer::Reader<'_>) -> Result<Builder>
     ensures read { IfOk result (λ m. builder_tree m ≡ tree_of (pointer_of pointer.entry)) }
     ensures sound { IfOk result (λ _. first_fault (tree_of (pointer_of pointer.entry)) ≡ None) }
+    ensures held { IfOk result (λ _. IsWellFormed (tree_of (pointer_of pointer.entry))) }
+    ensures refused { IfErr result (λ e. e.kind ≢ OutOfMemory → option_map refusal (first_fault (tree_of (pointer_of pointer.entry))) ≡ Some e.kind) }
     ensures kinds { IfErr result (λ e. IsPlain e.kind) }
 {
     let mut message = Builder::new(alloc);
@@ -43,56 +50,68 @@ fn copy_of(alloc: Global, pointer: any_pointer::Reader<'_>) -> Result<Builder>
     Ok(message)
 }
 
+/// What stands behind the table of a message.
+#[tactic(auto, using(crate::proofs::ValuesRead::behind_table))]
+fn behind_table(bytes: &[u8]) -> &[u8]
+    ensures { result.now ≡ drop 8 bytes.now }
+{
+    let start = bytes.len().min(TABLE_BYTES);
+    &bytes[start..]
+}
+
 /// The words of one segment whose root pointer leads to a copy of what stands at a pointer. Refused as the first pointer
 /// there that can't be followed, in preorder, and with `TooLarge` or `OutOfMemory`.
 #[tactic(auto, using(crate::proofs::RefusedKinds::write_kinds))]
 fn words_of(alloc: Global, pointer: any_pointer::Reader<'_>) -> Result<Vec<u8>>
     ensures read { IfOk result (λ w. words_or_fault (first_fault (tree_of (pointer_of pointer.entry))) (tree_of (pointer_of pointer.entry)) ≡ Ok w.items) }
+    ensures refused { IfErr result (λ e. e.kind ≢ OutOfMemory → words_or_fault (first_fault (tree_of (pointer_of pointer.entry))) (tree_of (pointer_of pointer.entry)) ≡ Err e.kind) }
     ensures kinds { IfErr result (λ e. IsPlain e.kind) }
 {
     let message = copy_of(alloc, pointer)?;
     let bytes = message.write_message()?;
-    let start = bytes.len().min(TABLE_BYTES);
-    let words = bytes[start..].to_vec(alloc)?;
+    let behind = behind_table(bytes.as_slice());
+    let words = copied(alloc, behind)?;
     Ok(words)
 }
 
 /// A copy of bytes.
 fn copied(alloc: Global, bytes: &[u8]) -> Result<Vec<u8>>
     ensures read { IfOk result (λ copy. copy.items ≡ bytes.now) }
-    ensures kinds { IfErr result (λ e. IsPlain e.kind) }
+    ensures kinds { IfErr result (λ e. e.kind ≡ OutOfMemory) }
 {
     Ok(bytes.to_vec(alloc)?)
 }
 
-/// The value of a member that stands in the data section. Floats are their bits. Refused with `UnknownKind` for another
-/// member.
+/// The value of a member that stands in the data section. Floats are their bits. Refused with `UnknownKind` for a member
+/// that is none.
 fn data_value(reader: dynamic_struct::Reader<'_>, member: u16) -> Result<ValueRecord>
     requires is_record { IsRecord 22 reader }
     requires active { which_of (record_seen reader) ≡ Some member }
+    requires data { IsDataMember member }
     ensures read { IfOk result (λ v. value_of (value_said (record_seen reader.entry)) ≡ Ok (seen_value v)) }
+    ensures refused { IfErr result (λ e. e.kind ≢ OutOfMemory → value_of (value_said (record_seen reader.entry)) ≡ Err e.kind) }
     ensures kinds { IfErr result (λ e. IsPlain e.kind) }
 {
     match member {
         0 => Ok(ValueRecord::Void),
-        1 => Ok(ValueRecord::Bool(bool_at(reader, brands::VALUE, 1)?)),
-        2 => Ok(ValueRecord::Int8(i8_at(reader, brands::VALUE, 2)?)),
-        3 => Ok(ValueRecord::Int16(i16_at(reader, brands::VALUE, 3)?)),
-        4 => Ok(ValueRecord::Int32(i32_at(reader, brands::VALUE, 4)?)),
-        5 => Ok(ValueRecord::Int64(i64_at(reader, brands::VALUE, 5)?)),
-        6 => Ok(ValueRecord::UInt8(u8_at(reader, brands::VALUE, 6)?)),
-        7 => Ok(ValueRecord::UInt16(u16_at(reader, brands::VALUE, 7)?)),
-        8 => Ok(ValueRecord::UInt32(u32_at(reader, brands::VALUE, 8)?)),
-        9 => Ok(ValueRecord::UInt64(u64_at(reader, brands::VALUE, 9)?)),
-        10 => Ok(ValueRecord::UInt32(u32_at(reader, brands::VALUE, 10)?)),
-        11 => Ok(ValueRecord::UInt64(u64_at(reader, brands::VALUE, 11)?)),
-        15 => Ok(ValueRecord::Enum(u16_at(reader, brands::VALUE, 15)?)),
+        1 => Ok(ValueRecord::Bool(bool_at(reader, brands::VALUE, 1))),
+        2 => Ok(ValueRecord::Int8(i8_at(reader, brands::VALUE, 2))),
+        3 => Ok(ValueRecord::Int16(i16_at(reader, brands::VALUE, 3))),
+        4 => Ok(ValueRecord::Int32(i32_at(reader, brands::VALUE, 4))),
+        5 => Ok(ValueRecord::Int64(i64_at(reader, brands::VALUE, 5))),
+        6 => Ok(ValueRecord::UInt8(u8_at(reader, brands::VALUE, 6))),
+        7 => Ok(ValueRecord::UInt16(u16_at(reader, brands::VALUE, 7))),
+        8 => Ok(ValueRecord::UInt32(u32_at(reader, brands::VALUE, 8))),
+        9 => Ok(ValueRecord::UInt64(u64_at(reader, brands::VALUE, 9))),
+        10 => Ok(ValueRecord::UInt32(u32_at(reader, brands::VALUE, 10))),
+        11 => Ok(ValueRecord::UInt64(u64_at(reader, brands::VALUE, 11))),
+        15 => Ok(ValueRecord::Enum(u16_at(reader, brands::VALUE, 15))),
         _ => Err(Error::from(ErrorKind::UnknownKind)),
     }
 }
 
-/// The value of a member that stands behind a pointer. Refused with `UnknownKind` for another member.
-fn pointer_value(
+/// The value of the active member.
+fn member_value(
     alloc: Global,
     reader: dynamic_struct::Reader<'_>,
     member: u16,
@@ -100,6 +119,7 @@ fn pointer_value(
     requires is_record { IsRecord 22 reader }
     requires active { which_of (record_seen reader) ≡ Some member }
     ensures read { IfOk result (λ v. value_of (value_said (record_seen reader.entry)) ≡ Ok (seen_value v)) }
+    ensures refused { IfErr result (λ e. e.kind ≢ OutOfMemory → value_of (value_said (record_seen reader.entry)) ≡ Err e.kind) }
     ensures kinds { IfErr result (λ e. IsPlain e.kind) }
 {
     match member {
@@ -114,12 +134,12 @@ fn pointer_value(
             Ok(ValueRecord::Data(bytes))
         }
         14 => {
-            let list = untyped_at(reader, brands::VALUE, 14)?;
+            let list = untyped_at(reader, brands::VALUE, 14);
             let elements = words_of(alloc, list)?;
             Ok(ValueRecord::List(elements))
         }
         16 => {
-            let inner = untyped_at(reader, brands::VALUE, 16)?;
+            let inner = untyped_at(reader, brands::VALUE, 16);
             let words = words_of(alloc, inner)?;
             Ok(ValueRecord::Struct(words))
         }
@@ -128,11 +148,11 @@ fn pointer_value(
             Ok(ValueRecord::AnyPointer(nothing))
         }
         18 => {
-            let _untyped = untyped_at(reader, brands::VALUE, 18)?;
+            let _untyped = untyped_at(reader, brands::VALUE, 18);
             let null = copied(alloc, &[0; 8])?;
             Ok(ValueRecord::AnyPointer(null))
         }
-        _ => Err(Error::from(ErrorKind::UnknownKind)),
+        _ => data_value(reader, member),
     }
 }
 
@@ -143,27 +163,27 @@ fn pointer_value(
 pub(crate) fn value_of(alloc: Global, reader: dynamic_struct::Reader<'_>) -> Result<ValueRecord>
     requires { IsRecord 22 reader }
     ensures read { IfOk result (λ v. value_of (value_said (record_seen reader.entry)) ≡ Ok (seen_value v)) }
+    ensures refused { IfErr result (λ e. e.kind ≢ OutOfMemory → value_of (value_said (record_seen reader.entry)) ≡ Err e.kind) }
     ensures kinds { IfErr result (λ e. IsPlain e.kind) }
 {
     let Some(member) = active_member(reader) else {
         return Err(Error::from(ErrorKind::UnknownKind));
     };
-    match member {
-        12 | 13 | 14 | 16 | 17 | 18 => pointer_value(alloc, reader, member),
-        _ => data_value(reader, member),
-    }
+    member_value(alloc, reader, member)
 }
 
 /// Whether a value is an untyped pointer that isn't null.
-pub(crate) fn is_untyped_value(reader: dynamic_struct::Reader<'_>) -> Result<bool>
+pub(crate) fn is_untyped_value(reader: dynamic_struct::Reader<'_>) -> bool
     requires { IsRecord 22 reader }
-    ensures kinds { IfErr result (λ e. IsPlain e.kind) }
+    ensures { is_untyped_default (value_said (record_seen reader.entry)) ≡ result }
 {
     match active_member(reader) {
-        Some(VALUE_UNTYPED) => {
-            let pointer = untyped_at(reader, brands::VALUE, VALUE_UNTYPED)?;
-            Ok(!pointer.is_null())
+        Some(member) => {
+            if member == VALUE_UNTYPED {
+                return !untyped_at(reader, brands::VALUE, VALUE_UNTYPED).is_null();
+            }
+            false
         }
-        _ => Ok(false),
+        None => false,
     }
 }

@@ -1,12 +1,18 @@
-use Rattle.std.proofs.Common.{rules}
+use Rattle.std.proofs.Common.{refl}
 use Rattle.capnp_schema.specs.RequestSet.{request_set}
 use Rattle.capnp_schema.specs.Schema.{field_at}
 use Rattle.capnp_schema.specs.Types.{IntType}
+use Rattle.capnp_request.proofs.Always.{whole_field}
 use Rattle.capnp_request.proofs.Taken.{kind_is}
 use Rattle.capnp_request.proofs.parts.i32_at.Goals as goal
 
-pub int32_of-requires : goal.int32_of-requires
-int32_of-requires c = kind_is request_set (field_at request_set c.args.brand c.args.index).type (IntType 4) c.in-Ok.value c.in-Ok.ensures.typed c.requires.field.1
+pub sure_part-value-requires : goal.sure_part-value-requires
+sure_part-value-requires c = record {
+  «record» = c.requires.record;
+  field = (c.requires.field.0, refl);
+  always = whole_field (field_at request_set c.args.brand c.args.index).field.kind (field_at request_set c.args.brand c.args.index).type (IntType 4) c.requires.field.1 refl;
+  active = c.requires.active;
+}
 
-pub returns-in-Ok-clause-read : goal.returns-in-Ok-clause-read
-returns-in-Ok-clause-read c = search rules
+pub int32_of-requires : goal.int32_of-requires
+int32_of-requires c = kind_is request_set (field_at request_set c.args.brand c.args.index).type (IntType 4) c.sure_part-value.result c.sure_part-value.ensures.typed c.requires.field.1

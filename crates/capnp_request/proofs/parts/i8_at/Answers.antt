@@ -1,12 +1,18 @@
-use Rattle.std.proofs.Common.{rules}
+use Rattle.std.proofs.Common.{refl}
 use Rattle.capnp_schema.specs.RequestSet.{request_set}
 use Rattle.capnp_schema.specs.Schema.{field_at}
 use Rattle.capnp_schema.specs.Types.{IntType}
+use Rattle.capnp_request.proofs.Always.{whole_field}
 use Rattle.capnp_request.proofs.Taken.{kind_is}
 use Rattle.capnp_request.proofs.parts.i8_at.Goals as goal
 
-pub int8_of-requires : goal.int8_of-requires
-int8_of-requires c = kind_is request_set (field_at request_set c.args.brand c.args.index).type (IntType 1) c.in-Ok.value c.in-Ok.ensures.typed c.requires.field.1
+pub sure_part-value-requires : goal.sure_part-value-requires
+sure_part-value-requires c = record {
+  «record» = c.requires.record;
+  field = (c.requires.field.0, refl);
+  always = whole_field (field_at request_set c.args.brand c.args.index).field.kind (field_at request_set c.args.brand c.args.index).type (IntType 1) c.requires.field.1 refl;
+  active = c.requires.active;
+}
 
-pub returns-in-Ok-clause-read : goal.returns-in-Ok-clause-read
-returns-in-Ok-clause-read c = search rules
+pub int8_of-requires : goal.int8_of-requires
+int8_of-requires c = kind_is request_set (field_at request_set c.args.brand c.args.index).type (IntType 1) c.sure_part-value.result c.sure_part-value.ensures.typed c.requires.field.1

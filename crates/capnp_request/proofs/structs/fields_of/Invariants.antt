@@ -1,6 +1,23 @@
--- There is one type, and one list of types of annotations, for each field.
+-- What is left are the fields from the next one on.
 use Rattle.std.proofs.Common.{◌≡◌, length}
+use Rattle.capnp_request.specs.Bindings.{bounds}
+use Rattle.capnp_request.specs.Conversion.{fields_of}
+use Rattle.capnp_request.specs.Done.{between}
+use Rattle.capnp_request.specs.Handles.{values_left}
+use Rattle.capnp_request.specs.Nodes.{nodes_of}
+use Rattle.capnp_request.specs.Numbers.{AreNumbered}
+use Rattle.capnp_request.specs.Order.{all_notes}
+use Rattle.capnp_request.specs.Reading.{each_said, field_said}
+use Rattle.capnp_request.specs.StructsSeen.{seen_fields, seen_notes}
+use Rattle.capnp_request.proofs.Works.{ahead}
 use Rattle.capnp_request.proofs.structs.fields_of.Given as goal
 
 abbrev pub invariant-loop-index : goal.invariant-loop-index
-invariant-loop-index l = (length l.fields.types.items ≡ length l.fields.records.items) × (length l.fields.annotation_types.items ≡ length l.fields.records.items)
+invariant-loop-index l = record {
+  numbers : AreNumbered l.entries;
+  notes : seen_notes l.notes.items ≡ all_notes (seen_fields l.number 0 l.fields.items);
+  left : ahead (seen_fields l.number 0 l.fields.items)
+      (fields_of (nodes_of l.context.nodes.now) l.context.strict (bounds l.inside) l.number l.index (each_said 8 field_said (values_left l.listed l.index)) (between l.entries))
+      ≡ fields_of (nodes_of l.context.nodes.now) l.context.strict (bounds l.inside) l.number 0 (each_said 8 field_said (values_left l.listed 0)) (between l.fn.entries);
+  count : length l.fields.items ≡ l.index;
+}

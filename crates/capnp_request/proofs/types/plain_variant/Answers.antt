@@ -1,4 +1,4 @@
-use Rattle.std.proofs.Common.{ap}
+use Rattle.std.proofs.Common.{ap, arith}
 use Rattle.capnp_request.specs.Meant.{IsPlainMember, type_kind}
 use Rattle.capnp_request.proofs.types.plain_variant.Goals as goal
 
@@ -49,3 +49,6 @@ returns-in-12 c = λ inner v. ap (λ m. type_kind inner m v) c.in-12.is
 pub returns-in-13 : goal.returns-in-13
 unfolding IsPlainMember
 returns-in-13 c = λ inner v. ap (λ m. type_kind inner m v) c.in-13.is
+
+pub returns-in_default : goal.returns-in_default
+returns-in_default c = (omega arith, λ h. omega (arith, h))

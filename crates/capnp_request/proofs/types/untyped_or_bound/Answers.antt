@@ -1,14 +1,27 @@
-use Rattle.std.proofs.Common.{sym, ◌∙◌}
-use Rattle.capnp_request.proofs.TypesMeant.{says_method, says_nothing, says_parameter}
+use Rattle.std.proofs.Common.{ap, arith, sym, ◌∙◌, Err}
+use Rattle.capnp_dynamic_readers.specs.Seen.{record_seen}
+use Rattle.capnp_request.specs.Bindings.{bounds}
+use Rattle.capnp_request.proofs.TypesDone.{untyped_bound, untyped_free, untyped_method, untyped_none, untyped_past}
 use Rattle.capnp_request.proofs.types.untyped_or_bound.Goals as goal
 
-pub returns-in-0-clause-read : goal.returns-in-0-clause-read
-returns-in-0-clause-read c = says_nothing _ _ _ c.in-Some.member c.in_ok-pointer.ensures.read (sym c.active_member.ensures ∙ c.in-Some.is) _ c.untyped.ensures c.in-0.is
+pub returns-in_default-clause-done : goal.returns-in_default-clause-done
+returns-in_default-clause-done c = λ nodes strict s n.
+    untyped_none nodes strict (bounds c.args.inside.now) _ (record_seen c.group_at-pointer.result) c.group_at-pointer.ensures.read s (sym c.active_member.ensures ∙ c.in_default.is) ∙ ap (λ k. Err k) (sym c.from.ensures)
 
-pub returns-in-2-clause-read : goal.returns-in-2-clause-read
-returns-in-2-clause-read c = says_method _ _ _ c.in-Some.member c.in_ok-pointer.ensures.read (sym c.active_member.ensures ∙ c.in-Some.is) _ c.untyped-in-2.ensures c.in-2.is
+pub returns-in-0-clause-done : goal.returns-in-0-clause-done
+returns-in-0-clause-done c = λ nodes strict s.
+    untyped_free nodes strict (bounds c.args.inside.now) _ (record_seen c.group_at-pointer.result) c.group_at-pointer.ensures.read s c.in-Some.member (sym c.active_member.ensures ∙ c.in-Some.is) _ c.in-0.is c.untyped.ensures
 
-pub returns-in_ok-index-in-1-clause-read : goal.returns-in_ok-index-in-1-clause-read
-returns-in_ok-index-in-1-clause-read c =
-    says_parameter _ _ _ c.in-Some.member c.in_ok-pointer.ensures.read (sym c.active_member.ensures ∙ c.in-Some.is) _ c.in-1.is _ _ _
-    c.in_ok-parameter-in-1.ensures.read c.in_ok-scope-in-1.ensures.read c.in_ok-index-in-1.ensures.read c.bound_to.ensures
+pub returns-in-2-clause-done : goal.returns-in-2-clause-done
+returns-in-2-clause-done c = λ nodes strict s.
+    untyped_method nodes strict (bounds c.args.inside.now) _ (record_seen c.group_at-pointer.result) c.group_at-pointer.ensures.read s c.in-Some.member (sym c.active_member.ensures ∙ c.in-Some.is) _ c.in-2.is c.untyped-in-2.ensures
+
+pub returns-in-1-clause-done : goal.returns-in-1-clause-done
+returns-in-1-clause-done c = λ nodes strict s.
+    untyped_bound nodes strict (bounds c.args.inside.now) _ (record_seen c.group_at-pointer.result) c.group_at-pointer.ensures.read s c.in-Some.member (sym c.active_member.ensures ∙ c.in-Some.is) _ c.in-1.is
+    (record_seen c.group_at-parameter.result) c.u64_at-scope.result c.u16_at-index.result c.group_at-parameter.ensures.read c.u64_at-scope.ensures c.u16_at-index.ensures c.bound_to.ensures
+
+pub returns-in_default-member-clause-done : goal.returns-in_default-member-clause-done
+returns-in_default-member-clause-done c = λ nodes strict s n.
+    untyped_past nodes strict (bounds c.args.inside.now) _ (record_seen c.group_at-pointer.result) c.group_at-pointer.ensures.read s c.in-Some.member (sym c.active_member.ensures ∙ c.in-Some.is)
+    (omega arith) ∙ ap (λ k. Err k) (sym c.from-in_default-member.ensures)

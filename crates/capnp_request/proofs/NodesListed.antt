@@ -1,0 +1,144 @@
+-- The nodes of a request, one more at a time, and the map that says which has an id.
+use Rattle.std.proofs.Common.{ℕ, ◌+◌, ◌<◌, ◌≤◌, ◌≡◌, ◌∙◌, ap, arith, refl, subst, sym, nat_eq, ◌==◌, cond, Bool, true, false, List, [], ◌∷◌, ◌++◌, length, length-append, append_assoc, Option, Some, None, Ok, Err}
+use Rattle.std.proofs.lemmas.Bool.Decides.{nat_tests}
+use Rattle.std.proofs.lemmas.List.{append-nil}
+use Rattle.std.specs.HashMap.{HashMap, get, Updates}
+use Rattle.std.specs.Option.{option_map}
+use Rattle.capnp_device.specs.declared.error.ErrorKind.{ErrorKind}
+use Rattle.capnp_wire.specs.Standing.{struct_levels, struct_of}
+use Rattle.capnp_wire.specs.declared.struct_reader.StructReader.{StructReader}
+use Rattle.capnp_schema.specs.RequestSet.{request_set}
+use Rattle.capnp_schema.specs.Schema.{Schemas}
+use Rattle.capnp_schema.specs.StructHandles.{number_of, set_of}
+use Rattle.capnp_records.specs.Reading.{struct_record}
+use Rattle.capnp_records.specs.Record as value
+use Rattle.capnp_records.specs.Record.{Left, Record, Value}
+use Rattle.capnp_dynamic_readers.specs.Handles.{reader_of, schema_of}
+use Rattle.capnp_dynamic_readers.specs.Reads.{element_seen}
+use Rattle.capnp_dynamic_readers.specs.Seen.{list_seen, record_seen}
+use Rattle.capnp_dynamic_readers.specs.declared.dynamic_list.Reader.{Reader as ListHandle}
+use Rattle.capnp_dynamic_readers.specs.declared.dynamic_struct.Reader.{Reader as StructHandle}
+use Rattle.capnp_request.specs.Handles.{IsListOf, IsRecord, values_left}
+use Rattle.capnp_request.specs.Nodes.{first_kept, node_record, nodes_of, or_none}
+use Rattle.capnp_request.specs.Parts.{one, read_at}
+use Rattle.capnp_request.specs.Reading.{all_said, both_said, each_said, node_said, nodes_in, whole_list}
+use Rattle.capnp_request.specs.Scopes.{node_named, some_where}
+use Rattle.capnp_request.specs.Terms.{Said, SchemaNode}
+use Rattle.capnp_request.proofs.ListsRead.{all_whole, count_of, each_err, each_none, each_ok}
+
+-- the record of a node's sections is that of its reader
+pub section_record : (s : StructHandle) (x : StructReader) → IsRecord 2 s → x ≡ reader_of s → node_record x ≡ record_seen s
+unfolding node_record
+section_record s x is e =
+    ap (λ (y : StructReader). struct_record request_set (Left (struct_levels y)) (struct_of y) 2) e
+    ∙ (ap (λ (z : Schemas). struct_record z (Left (struct_levels (reader_of s))) (struct_of (reader_of s)) 2) (sym is.set)
+    ∙ ap (λ n. struct_record (set_of (schema_of s)) (Left (struct_levels (reader_of s))) (struct_of (reader_of s)) n) (sym is.number))
+
+-- ---- lists ----
+
+abbrev pub joined : {A : Type 0} → List A → Said (List A) → Said (List A)
+joined xs (Ok ys) = Ok (xs ++ ys)
+joined xs (Err kind) = Err kind
+
+join_more : {A : Type 0} (xs : List A) (y : A) (r : Said (List A)) → joined xs (both_said (Ok y) r) ≡ joined (xs ++ y ∷ []) r
+join_more xs y (Ok ys) = ap (λ zs. Ok zs) (sym (append_assoc xs (y ∷ []) ys))
+join_more xs y (Err kind) = refl
+
+pub join_none : {A : Type 0} (r : Said (List A)) → r ≡ joined [] r
+join_none (Ok ys) = refl
+join_none (Err kind) = refl
+
+or_else : Option SchemaNode → Option SchemaNode → Option SchemaNode
+or_else (Some x) other = Some x
+or_else None other = other
+
+or_some : (q : Bool) (n : SchemaNode) (rest other : Option SchemaNode) → some_where q n (or_else rest other) ≡ or_else (some_where q n rest) other
+unfolding or_else
+or_some true n rest other = refl
+or_some false n rest other = refl
+
+named_more : (ns : List SchemaNode) (n : SchemaNode) (id : ℕ) → node_named (ns ++ n ∷ []) id ≡ or_else (node_named ns id) (some_where (n.id == id) n None)
+unfolding or_else
+named_more [] n id = refl
+named_more (x ∷ ns) n id = ap (some_where (x.id == id) x) (named_more ns n id) ∙ or_some (x.id == id) x (node_named ns id) (some_where (n.id == id) n None)
+
+some_more : (o other : Option SchemaNode) (x : SchemaNode) → o ≡ Some x → or_else o other ≡ o
+unfolding or_else
+some_more o other x e = ap (λ p. or_else p other) e ∙ sym e
+
+none_more : (o other : Option SchemaNode) → o ≡ None → or_else o other ≡ other
+unfolding or_else
+none_more o other e = ap (λ p. or_else p other) e
+
+nothing_more : (o : Option SchemaNode) → or_else o None ≡ o
+unfolding or_else
+nothing_more None = refl
+nothing_more (Some x) = refl
+
+-- ---- the loop ----
+
+abbrev pub said_by : StructReader → SchemaNode
+said_by s = node_said (node_record s)
+
+module _ {S : Type 0} where
+  pub record ReadSoFar (l : ListHandle) (m : HashMap ℕ StructReader S) (i : ℕ) : Type 0 where
+    pub nodes : List SchemaNode
+    pub whole : all_said (each_said 2 node_said (values_left l 0)) ≡ joined nodes (all_said (each_said 2 node_said (values_left l i)))
+    pub count : length nodes ≡ i
+    pub by_id : (id : ℕ) → option_map said_by (get nat_eq m id) ≡ node_named nodes id
+
+  pub nothing_read : (l : ListHandle) (m : HashMap ℕ StructReader S) → ((id : ℕ) → get nat_eq m id ≡ None) → ReadSoFar l m 0
+  nothing_read l m empty = record { nodes = []; whole = join_none (all_said (each_said 2 node_said (values_left l 0))); count = refl; by_id = λ id. ap (option_map said_by) (empty id) }
+
+  module _ (l : ListHandle) (m : HashMap ℕ StructReader S) (i : ℕ) (h : ReadSoFar l m i) (is : IsListOf (one 2) l) (inside : i < count_of l) where
+    -- an element that can't be read
+    pub node_unread : (kind : ErrorKind) → value.Fault kind ≡ element_seen l i → all_said (each_said 2 node_said (values_left l 0)) ≡ Err kind
+    node_unread kind e = h.whole ∙ ap (λ xs. joined h.nodes (all_said xs)) (each_err 2 node_said l i kind is inside e)
+
+    module _ (r : Record) (e : value.Struct r ≡ element_seen l i) (id : ℕ) (id_is : (node_said r).id ≡ id) where
+      whole_more : all_said (each_said 2 node_said (values_left l 0)) ≡ joined (h.nodes ++ node_said r ∷ []) (all_said (each_said 2 node_said (values_left l (i + 1))))
+      whole_more =
+          h.whole
+          ∙ (ap (λ xs. joined h.nodes (all_said xs)) (each_ok 2 node_said l i r is inside e)
+          ∙ join_more h.nodes (node_said r) (all_said (each_said 2 node_said (values_left l (i + 1)))))
+
+      count_more : length (h.nodes ++ node_said r ∷ []) ≡ i + 1
+      count_more = length-append h.nodes (node_said r ∷ []) ∙ ap (λ k. k + 1) h.count
+
+      same_test : (q : ℕ) → ((node_said r).id == q) ≡ nat_eq id q
+      same_test q = ap (λ k. k == q) id_is
+
+      same_node : (q : ℕ) (o : Option StructReader) (t : Bool) → option_map said_by o ≡ node_named h.nodes q → nat_eq id q ≡ t → (x : StructReader) → node_record x ≡ r →
+          option_map said_by (first_kept o t x) ≡ or_else (node_named h.nodes q) (some_where ((node_said r).id == q) (node_said r) None)
+      same_node q (Some y) t there same x section = there ∙ sym (some_more (node_named h.nodes q) (some_where ((node_said r).id == q) (node_said r) None) (said_by y) (sym there))
+      same_node q None true there same x section =
+          ap (λ s. Some (node_said s)) section
+          ∙ (sym (ap (λ t. some_where t (node_said r) None) (same_test q ∙ same))
+          ∙ sym (none_more (node_named h.nodes q) (some_where ((node_said r).id == q) (node_said r) None) (sym there)))
+      same_node q None false there same x section =
+          sym (ap (λ t. some_where t (node_said r) None) (same_test q ∙ same))
+          ∙ sym (none_more (node_named h.nodes q) (some_where ((node_said r).id == q) (node_said r) None) (sym there))
+
+      pub one_read : (m' : HashMap ℕ StructReader S) (x : StructReader) → ((q : ℕ) → get nat_eq m' q ≡ first_kept (get nat_eq m q) (nat_eq id q) x) → node_record x ≡ r → ReadSoFar l m' (i + 1)
+      one_read m' x kept section = record {
+        nodes = h.nodes ++ node_said r ∷ [];
+        whole = whole_more;
+        count = count_more;
+        by_id = λ q. ap (option_map said_by) (kept q) ∙ (same_node q (get nat_eq m q) (nat_eq id q) (h.by_id q) refl x section ∙ sym (named_more h.nodes (node_said r) q));
+      }
+
+  -- all were read
+  module _ (l : ListHandle) (m : HashMap ℕ StructReader S) (i : ℕ) (h : ReadSoFar l m i) (past : count_of l ≤ i) where
+    pub all_read : all_said (each_said 2 node_said (values_left l 0)) ≡ Ok h.nodes
+    all_read = h.whole ∙ (ap (λ xs. joined h.nodes (all_said xs)) (each_none 2 node_said l i past) ∙ ap (λ xs. Ok xs) (append-nil h.nodes))
+
+-- what a request's list of nodes says
+pub nodes_read : (r : Record) (l : ListHandle) → list_seen l ≡ read_at 0 0 r → nodes_in r ≡ all_said (each_said 2 node_said (values_left l 0))
+nodes_read r l e = ap (whole_list 2 node_said) (sym e) ∙ all_whole 2 node_said l
+
+pub nodes_unread : (r : Record) (kind : ErrorKind) → value.Fault kind ≡ read_at 0 0 r → nodes_in r ≡ Err kind
+nodes_unread r kind e = ap (whole_list 2 node_said) (sym e)
+
+-- the nodes of what was made of a request
+pub nodes_made : (r : Record) (ns : List SchemaNode) → nodes_in r ≡ Ok ns → or_none (nodes_in r) ≡ ns
+nodes_made r ns e = ap or_none e

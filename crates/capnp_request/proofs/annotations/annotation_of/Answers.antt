@@ -1,0 +1,27 @@
+use Rattle.std.proofs.Common.{◌+◌, ◌<◌, ◌≤◌, ◌≡◌, ◌∙◌, arith, ap, refl, sym, map, Err, Ok, Some, List, [], ◌∷◌, ◌++◌}
+use Rattle.capnp_schema.specs.Schema.{Annotation, seen_annotation, seen_value}
+use Rattle.capnp_schema.specs.Types.{SchemaType, seen_type}
+use Rattle.capnp_dynamic_readers.specs.Seen.{list_seen, record_seen}
+use Rattle.capnp_request.specs.Bindings.{bounds, flags}
+use Rattle.capnp_request.specs.Done.{between}
+use Rattle.capnp_request.specs.Nodes.{nodes_of}
+use Rattle.capnp_request.specs.Numbers.{numbered}
+use Rattle.capnp_request.specs.Parts.{read_at}
+use Rattle.capnp_request.specs.Work.{nothing_seen}
+use Rattle.capnp_request.proofs.Refused.{err_done}
+use Rattle.capnp_request.specs.Conversion.{annotation_of}
+use Rattle.capnp_request.specs.Reading.{annotation_said}
+use Rattle.capnp_request.proofs.AnnotationsDone.{annotation_done, type_refused, value_refused, value_unread}
+use Rattle.capnp_request.proofs.annotations.annotation_of.Goals as goal
+
+pub returns-in_err-said-clause-done : goal.returns-in_err-said-clause-done
+returns-in_err-said-clause-done c = err_done (λ r. (seen_annotation r.0, seen_type r.1)) (annotation_of (nodes_of c.args.context.nodes.now) c.args.context.strict (bounds c.args.inside.now) (annotation_said (record_seen c.args.annotation))) (between c.args.entries.now) _ c.from_residual.result _ c.from_residual.ensures.1 (λ n. value_unread (nodes_of c.args.context.nodes.now) c.args.context.strict (bounds c.args.inside.now) (record_seen c.args.annotation) c.u64_at-id.result c.u64_at-id.ensures (between c.args.entries.now) _ c.in_err-said.ensures.refused)
+
+pub returns-in_err-value-clause-done : goal.returns-in_err-value-clause-done
+returns-in_err-value-clause-done c = err_done (λ r. (seen_annotation r.0, seen_type r.1)) (annotation_of (nodes_of c.args.context.nodes.now) c.args.context.strict (bounds c.args.inside.now) (annotation_said (record_seen c.args.annotation))) (between c.args.entries.now) _ c.from_residual-in_err-value.result _ c.from_residual-in_err-value.ensures.1 (λ n. value_refused (nodes_of c.args.context.nodes.now) c.args.context.strict (bounds c.args.inside.now) (record_seen c.args.annotation) c.u64_at-id.result c.u64_at-id.ensures (between c.args.entries.now) (record_seen c.in_ok-said.said) c.in_ok-said.ensures.read _ (c.in_err-value.ensures.refused n))
+
+pub returns-in_err-annotation_type-clause-done : goal.returns-in_err-annotation_type-clause-done
+returns-in_err-annotation_type-clause-done c = err_done (λ r. (seen_annotation r.0, seen_type r.1)) (annotation_of (nodes_of c.args.context.nodes.now) c.args.context.strict (bounds c.args.inside.now) (annotation_said (record_seen c.args.annotation))) (between c.args.entries.now) _ c.from_residual-in_err-annotation_type.result _ c.from_residual-in_err-annotation_type.ensures.1 (λ n. type_refused (nodes_of c.args.context.nodes.now) c.args.context.strict (bounds c.args.inside.now) (record_seen c.args.annotation) c.u64_at-id.result c.u64_at-id.ensures (between c.args.entries.now) (record_seen c.in_ok-said.said) c.in_ok-said.ensures.read (seen_value c.in_ok-value.value) c.in_ok-value.ensures.read _ (c.in_err-annotation_type.ensures.done n))
+
+pub returns-clause-done : goal.returns-clause-done
+returns-clause-done c = annotation_done (nodes_of c.args.context.nodes.now) c.args.context.strict (bounds c.args.inside.now) (record_seen c.args.annotation) c.u64_at-id.result c.u64_at-id.ensures (between c.args.entries.now) (record_seen c.in_ok-said.said) c.in_ok-said.ensures.read (seen_value c.in_ok-value.value) c.in_ok-value.ensures.read (seen_type c.in_ok-annotation_type.annotation_type) _ c.in_ok-annotation_type.ensures.done

@@ -1,0 +1,9 @@
+use Rattle.std.proofs.Common.{ap, sym, ◌∙◌}
+use Rattle.capnp_dynamic_readers.specs.Seen.{record_seen}
+use Rattle.std.proofs.Common.{rules}
+use Rattle.capnp_request.specs.Handles.{IsRecord}
+use Rattle.capnp_request.proofs.NodesListed.{section_record}
+use Rattle.capnp_request.proofs.schema_nodes.SchemaNodes.node_of.Goals as goal
+
+pub returns-clause-read : goal.returns-clause-read
+returns-clause-read c = let is : IsRecord 2 c.new.result = search rules in sym (section_record c.new.result c.args.sections is (sym c.new.ensures.reader))

@@ -1,0 +1,8 @@
+-- So many nodes were read, and the map says which has an id.
+use Rattle.std.proofs.Common.{◌≡◌}
+use Rattle.capnp_dynamic_readers.specs.Seen.{list_seen, record_seen}
+use Rattle.capnp_request.proofs.NodesListed.{ReadSoFar}
+use Rattle.capnp_request.proofs.schema_nodes.SchemaNodes.of_request.Given as goal
+
+abbrev pub invariant-loop-index : goal.invariant-loop-index
+invariant-loop-index l = ReadSoFar l.listed l.by_id l.index
