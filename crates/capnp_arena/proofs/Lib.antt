@@ -28,8 +28,6 @@ pub mod Replaced
 pub mod Restored
 pub mod PlainRows
 pub mod LaidOut
-pub mod FilledDefaults
 pub mod EnteredLists
 pub mod ElementPlaces
-pub mod BitRows
 pub mod WrittenElements

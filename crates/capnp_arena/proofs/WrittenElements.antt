@@ -22,7 +22,7 @@ use Rattle.capnp_arena.specs.Made.{size_number, width_of}
 use Rattle.capnp_arena.specs.declared.look.Target.{Target}
 use Rattle.capnp_arena.specs.declared.look.Target.TheVariants as target
 use Rattle.capnp_arena.specs.Shape.{CompositeIn, ListIn, NoShape, Points, StructIn, shape_at, word_count}
-use Rattle.capnp_arena.proofs.BitRows.{bits_with}
+use Rattle.capnp_wire.specs.Facts.BitRows.{bits_with}
 use Rattle.capnp_arena.proofs.ElementPlaces.{struct_leaves}
 use Rattle.capnp_arena.proofs.Puts.{put_there}
 use Rattle.capnp_arena.proofs.Refusals.{null_is}

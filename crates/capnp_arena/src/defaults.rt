@@ -3,11 +3,11 @@
 //! The default is copied in the place of the null first. What was made of it is taken back where it is refused after that.
 
 use crate::arena::{Arena, Place};
-use crate::due::{refuse_as_list, refuse_as_struct, refuse_as_structs};
 use crate::list_reads::ListTarget;
 use crate::spell::put_word;
 use capnp_device::error::{Error, ErrorKind, Result};
 use capnp_wire::PointerReader;
+use capnp_wire::due::{refuse_as_list, refuse_as_struct, refuse_as_structs};
 use capnp_wire::fault::refuse;
 use capnp_wire::laws::pointer_is_well_formed;
 use capnp_wire::pointer::look;

@@ -11,7 +11,6 @@ pub mod copies;
 mod copy;
 mod count;
 pub mod defaults;
-mod due;
 pub mod element_reads;
 pub mod element_writes;
 mod encode;

@@ -1,6 +1,5 @@
 //! Lists, read where they stand.
 ghost use Rattle.std.specs.Prelude.{◌<◌, ◌≡◌};
-ghost use Rattle.capnp_wire.specs.Reading.{reads_numbers, reads_structs};
 ghost use Rattle.capnp_arena.specs.Made.{size_number};
 ghost use Rattle.capnp_arena.specs.Reads.{reads_kind};
 
@@ -8,7 +7,8 @@ use crate::arena::{Arena, Place};
 use crate::lists::{ListPlace, StructsPlace};
 use crate::look::Target;
 use capnp_device::error::{Error, ErrorKind, Result};
-use capnp_wire::size::ElementSize;
+use capnp_wire::due::{reads_numbers_as, reads_structs_as};
+use capnp_wire::size::{ElementSize, StructSize};
 
 /// Where a list stands. A null is read as one without elements, of the size that was asked.
 #[derive(Clone, Copy)]
@@ -33,38 +33,6 @@ pub fn get_element_size(number: u8) -> ElementSize
         4 => ElementSize::FourBytes,
         5 => ElementSize::EightBytes,
         _ => ElementSize::Pointer,
-    }
-}
-
-/// Whether numbers of so many bytes are read as elements of the size that is asked.
-fn reads_numbers_as(asked: ElementSize, width: u8) -> bool
-    ensures { result ≡ reads_numbers asked width }
-{
-    match asked {
-        ElementSize::Void => true,
-        ElementSize::Bit => false,
-        ElementSize::Byte => width == 1,
-        ElementSize::TwoBytes => width == 2,
-        ElementSize::FourBytes => width == 4,
-        ElementSize::EightBytes => width == 8,
-        ElementSize::Pointer => false,
-        ElementSize::InlineComposite => true,
-    }
-}
-
-/// Whether structs of a size are.
-fn reads_structs_as(asked: ElementSize, list: StructsPlace) -> bool
-    ensures { result ≡ reads_structs asked list.data_words list.pointers }
-{
-    match asked {
-        ElementSize::Void => true,
-        ElementSize::Bit => false,
-        ElementSize::Byte => 0 < list.data_words,
-        ElementSize::TwoBytes => 0 < list.data_words,
-        ElementSize::FourBytes => 0 < list.data_words,
-        ElementSize::EightBytes => 0 < list.data_words,
-        ElementSize::Pointer => 0 < list.pointers,
-        ElementSize::InlineComposite => true,
     }
 }
 
@@ -128,15 +96,19 @@ impl Arena {
                 data_words,
                 pointers,
             } => {
+                let of_elements = StructSize {
+                    data_words,
+                    pointers,
+                };
+                if !reads_structs_as(size, of_elements) {
+                    return Err(Error::from(ErrorKind::WrongElementSize));
+                }
                 let list = StructsPlace {
                     tag,
                     count,
                     data_words,
                     pointers,
                 };
-                if !reads_structs_as(size, list) {
-                    return Err(Error::from(ErrorKind::WrongElementSize));
-                }
                 Ok(ListTarget::Structs(list))
             }
         }

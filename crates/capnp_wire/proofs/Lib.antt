@@ -29,11 +29,9 @@ pub mod TreeSizes
 pub mod Copies
 pub mod RowsEdits
 pub mod RowsElements
-pub mod FilledDefaults
 pub mod FirstFaults
 pub mod Fitting
 pub mod Measuring
-pub mod BitRows
 pub mod PointerParts
 pub mod ObjectFaults
 pub mod Blobs

@@ -29,3 +29,5 @@ pub mod ReadMessage
 pub mod NewTrees
 pub mod Levels
 pub mod Filling
+pub mod BitRows
+pub mod FilledDefaults

@@ -22,14 +22,14 @@ use Rattle.capnp_wire.specs.declared.found.Found.TheVariants as found
 abbrev pub pointer_tree : Pointer → Tree
 pointer_tree pointer.Null = tree.Null
 pointer_tree (pointer.Bad fault) = tree.FaultLeaf fault
-pointer_tree (pointer.Word depth is_stream bytes segment index) = tree_below depth (segments_in is_stream bytes.now) segment.now index
+pointer_tree (pointer.Word is_stream depth bytes segment index) = tree_below depth (segments_in is_stream bytes.now) segment.now index
 pointer_tree (pointer.Object object) = object_tree object.now
 
 abbrev pub row_trees : ℕ → Bool → ℕ → PointerRow → Trees
 row_trees depth is_stream count row = trees_from (tree_below depth (segments_in is_stream row.bytes.now) row.segment.now) row.first count
 
 abbrev pub pointer_trees : Pointers → Trees
-pointer_trees (pointers.Words depth is_stream count row) = row_trees depth is_stream count row
+pointer_trees (pointers.Words is_stream depth count row) = row_trees depth is_stream count row
 pointer_trees (pointers.Objects objects) = object_trees objects.now
 
 abbrev pub block_struct : ℕ → ℕ → ℕ → Bool → Block → ℕ → StructTree
@@ -40,7 +40,7 @@ abbrev pub block_structs : ℕ → ℕ → ℕ → Bool → ℕ → Block → St
 block_structs d p depth is_stream count block = structs_from (block_struct d p depth is_stream block) 0 count
 
 abbrev pub element_structs : ℕ → ℕ → Elements → Structs
-element_structs d p (elements.Words depth is_stream count block) = block_structs d p depth is_stream count block
+element_structs d p (elements.Words is_stream depth count block) = block_structs d p depth is_stream count block
 element_structs d p (elements.Objects objects) = struct_object_trees objects.now
 
 abbrev pub parts_tree : StructParts → StructTree
@@ -63,10 +63,10 @@ AreEmptyStructs None size es = ⊤
 
 -- how many structs of size zero elements are, where a message says them by their count alone
 abbrev pub counted_structs : StructSize → Elements → Option ℕ
-counted_structs size (elements.Words depth is_stream count block) = cond ((size.data_words == 0) && (size.pointers == 0)) (Some count) None
+counted_structs size (elements.Words is_stream depth count block) = cond ((size.data_words == 0) && (size.pointers == 0)) (Some count) None
 counted_structs size (elements.Objects objects) = None
 
 -- whether elements lie in a message and their size has no pointers
 abbrev pub lack_pointers : StructSize → Elements → Bool
-lack_pointers size (elements.Words depth is_stream count block) = size.pointers == 0
+lack_pointers size (elements.Words is_stream depth count block) = size.pointers == 0
 lack_pointers size (elements.Objects objects) = false

@@ -17,8 +17,8 @@ use crate::size::StructSize;
 pub enum Elements<'a> {
     /// So many elements, whose pointers' trees have one level less than `depth`.
     Words {
-        depth: u8,
         is_stream: bool,
+        depth: u32,
         count: u32,
         block: Block<'a>,
     },

@@ -3,83 +3,28 @@
 //! The default is tested and copied whole before anything is put in the place of the null, so a refusal changes nothing.
 ghost use Rattle.std.specs.Prelude.{None, false, ◌≡◌, ◌≢◌, IfErr, IfOk, IsOk, OnOk};
 ghost use Rattle.std.specs.Borrow.{sem};
-ghost use Rattle.capnp_wire.specs.Found.{found_tree};
 ghost use Rattle.capnp_wire.specs.Objects.{list_object_tree, object_tree, struct_object_tree};
 ghost use Rattle.capnp_wire.specs.Place.{struct_tree};
 ghost use Rattle.capnp_wire.specs.Reading.{is_null_tree};
 ghost use Rattle.capnp_wire.specs.Standing.{tree_of};
 ghost use Rattle.capnp_wire.specs.WellFormed.{IsWellFormed};
-ghost use Rattle.capnp_wire.specs.Edits.{HoldsStruct, IsDueRefusal, extended, struct_in, struct_refusal};
+ghost use Rattle.capnp_wire.specs.Edits.{HoldsStruct, IsDueRefusal, extended, struct_in};
 ghost use Rattle.capnp_wire.specs.Elements.{built_list, or_empty};
 ghost use Rattle.capnp_wire.specs.Lends.{LendsList, LendsStruct};
-ghost use Rattle.capnp_wire.specs.StructLists.{HoldsStructs, struct_list, struct_list_refusal};
-ghost use Rattle.capnp_wire.specs.Defaults.{default_tree, fault_refusal, filled_list_refusal, filled_struct, filled_struct_refusal, filled_structs, filled_structs_refusal, list_default_refusal, list_refusal, or_default, struct_default_refusal, structs_default_refusal, taken_default, takes_default};
+ghost use Rattle.capnp_wire.specs.StructLists.{HoldsStructs, struct_list};
+ghost use Rattle.capnp_wire.specs.Defaults.{default_tree, fault_refusal, filled_list_refusal, filled_struct, filled_struct_refusal, filled_structs, filled_structs_refusal, list_default_refusal, or_default, struct_default_refusal, structs_default_refusal, taken_default, takes_default};
 
 use crate::copy::copy_pointer;
+use crate::due::{refuse_as_list, refuse_as_struct, refuse_as_structs};
 use crate::fault::refuse;
-use crate::found::{Found, count_list};
 use crate::laws::pointer_is_well_formed;
-use crate::list_reader::reads_list_as;
 use crate::object::Object;
 use crate::pointer::look;
 use crate::pointer_builder::{ListBuilder, StructBuilder};
 use crate::pointer_reader::PointerReader;
 use crate::size::{ElementSize, StructSize};
-use crate::struct_lists::grow;
 use capnp_device::error::{Error, ErrorKind, Result};
 use std::alloc::Global;
-
-/// Why what was found is no struct, but for what can't be followed.
-fn refuse_as_struct(found: Found<'_>) -> Option<ErrorKind>
-    ensures { result ≡ struct_refusal (found_tree found.entry) }
-{
-    match found {
-        Found::Null => None,
-        Found::Bad(_) => None,
-        Found::Struct(_) => None,
-        _ => Some(ErrorKind::WrongPointerKind),
-    }
-}
-
-/// Why what was found is not read as a list of elements of a size.
-fn refuse_as_list(size: ElementSize, found: Found<'_>) -> Option<ErrorKind>
-    ensures { result ≡ list_refusal size (found_tree found.entry) }
-{
-    match found {
-        Found::Null => None,
-        Found::Bad(fault) => Some(refuse(fault).kind),
-        Found::Struct(_) => Some(ErrorKind::WrongPointerKind),
-        list => {
-            if reads_list_as(size, list) {
-                None
-            } else {
-                Some(ErrorKind::WrongElementSize)
-            }
-        }
-    }
-}
-
-/// Why what was found does not become a list of structs of at least a size, but for what can't be followed.
-fn refuse_as_structs(size: StructSize, found: Found<'_>) -> Option<ErrorKind>
-    requires { IsWellFormed (found_tree found) }
-    ensures { result ≡ struct_list_refusal size (found_tree found.entry) }
-{
-    match found {
-        Found::Null => None,
-        Found::Bad(_) => None,
-        Found::Struct(_) => Some(ErrorKind::WrongPointerKind),
-        Found::Bits(_, _) => Some(ErrorKind::WrongElementSize),
-        list => {
-            let count = count_list(list) as u32;
-            let size = grow(size, list);
-            if size.is_past_format(count) {
-                Some(ErrorKind::SizePastFormat)
-            } else {
-                None
-            }
-        }
-    }
-}
 
 /// A copy of a default.
 ///

@@ -10,6 +10,7 @@ pub mod block;
 pub mod bytes;
 mod copy;
 mod defaults;
+pub mod due;
 pub mod elements;
 mod encode;
 mod equal;

@@ -14,9 +14,10 @@ ghost use Rattle.capnp_wire.specs.Unchanged.{ListEndsUnchanged};
 ghost use Rattle.capnp_wire.specs.Lends.{HasObjects, HasStructs, LendsElement, LendsObject, LendsObjects, LendsStructs, is_counted};
 
 use crate::bytes::divide;
+use crate::due::reads_list_as;
 use crate::elements::{bit_at, number_at};
 use crate::found::{count_list, size_of_elements};
-use crate::list_reader::{ListReader, reads_list_as};
+use crate::list_reader::ListReader;
 use crate::look_objects::{look_at_built_list, look_at_list_object};
 use crate::make::make_empty_struct;
 use crate::object::{ListObject, Object, StructObject};

@@ -1,11 +1,10 @@
 //! Readers of lists.
 ghost use Rattle.std.specs.Prelude.{◌≡◌};
 ghost use Rattle.capnp_wire.specs.Found.{found_tree};
-ghost use Rattle.capnp_wire.specs.Elements.{reads_list};
-ghost use Rattle.capnp_wire.specs.Reading.{reads_numbers, reads_structs};
 ghost use Rattle.capnp_wire.specs.WellFormed.{IsWellFormed, IsWellFormed-prop};
 
 use crate::block::get_element;
+use crate::due::reads_list_as;
 use crate::elements::{bit_at, number_at};
 use crate::fault::Fault;
 use crate::found::{Found, count_list, get_element_parts, size_of_elements};
@@ -39,58 +38,7 @@ pub struct ListReader<'a> {
 }
 
 // A reader is copied at each step, so it is kept small.
-const _: () = prove!(size_of::<ListReader<'static>>() <= 80);
-
-/// Whether structs of a size are read as elements of the size that is asked.
-fn reads_structs_as(asked: ElementSize, size: StructSize) -> bool
-    ensures { result ≡ reads_structs asked size.data_words size.pointers }
-{
-    match asked {
-        ElementSize::Void => true,
-        ElementSize::Bit => false,
-        ElementSize::Byte => 0 < size.data_words,
-        ElementSize::TwoBytes => 0 < size.data_words,
-        ElementSize::FourBytes => 0 < size.data_words,
-        ElementSize::EightBytes => 0 < size.data_words,
-        ElementSize::Pointer => 0 < size.pointers,
-        ElementSize::InlineComposite => true,
-    }
-}
-
-/// Whether numbers of so many bytes are.
-fn reads_numbers_as(asked: ElementSize, width: u8) -> bool
-    ensures { result ≡ reads_numbers asked width }
-{
-    match asked {
-        ElementSize::Void => true,
-        ElementSize::Bit => false,
-        ElementSize::Byte => width == 1,
-        ElementSize::TwoBytes => width == 2,
-        ElementSize::FourBytes => width == 4,
-        ElementSize::EightBytes => width == 8,
-        ElementSize::Pointer => false,
-        ElementSize::InlineComposite => true,
-    }
-}
-
-/// Whether a list is read as one of elements of the size that is asked.
-pub(crate) fn reads_list_as(asked: ElementSize, list: Found<'_>) -> bool
-    ensures { result ≡ reads_list asked (found_tree list.entry) }
-{
-    match list {
-        Found::Null => false,
-        Found::Bad(_) => false,
-        Found::Struct(_) => false,
-        Found::Voids(_) => matches!(asked, ElementSize::Void | ElementSize::InlineComposite),
-        Found::Bits(_, _) => matches!(asked, ElementSize::Void | ElementSize::Bit),
-        Found::Numbers(width, _) => reads_numbers_as(asked, width),
-        Found::Pointers(_) => matches!(
-            asked,
-            ElementSize::Void | ElementSize::Pointer | ElementSize::InlineComposite
-        ),
-        Found::Composite(size, _) => reads_structs_as(asked, size),
-    }
-}
+const _: () = prove!(size_of::<ListReader<'static>>() <= 88);
 
 impl<'a> ListReader<'a> {
     ghost use Rattle.capnp_wire.specs.ElementSizes.{element_size_of};

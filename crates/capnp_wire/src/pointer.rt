@@ -21,8 +21,8 @@ pub enum Pointer<'a> {
     Bad(Fault),
     /// A word of a segment, whose tree has one level less than `depth`.
     Word {
-        depth: u8,
         is_stream: bool,
+        depth: u32,
         bytes: &'a [u8],
         segment: &'a [u8],
         index: usize,
@@ -58,7 +58,7 @@ pub fn get_root_pointer(segments: Segments<'_>) -> Pointer<'_>
     ensures { pointer_tree result ≡ root_tree (segment_list segments.entry) }
 {
     Pointer::Word {
-        depth: ROOT_LEVELS + 1,
+        depth: ROOT_LEVELS as u32 + 1,
         is_stream: segments.is_stream,
         bytes: segments.bytes,
         segment: get_first_segment(segments),

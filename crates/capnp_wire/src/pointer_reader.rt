@@ -28,7 +28,7 @@ const _: () = prove!(size_of::<PointerReader<'static>>() <= 56);
 
 impl<'a> PointerReader<'a> {
     ghost use Rattle.std.specs.Prelude.{[], ◌∷◌, ◌≡◌, ◌+◌, IfErr, IfOk};
-    ghost use Rattle.capnp_wire.specs.Place.{root_tree};
+    ghost use Rattle.capnp_wire.specs.Place.{root_tree, tree_below};
     ghost use Rattle.capnp_wire.specs.Reading.{as_data, as_list, as_struct, as_text, is_list, is_null_tree};
     ghost use Rattle.capnp_wire.specs.Edits.{is_struct};
     ghost use Rattle.capnp_wire.specs.Standing.{bytes_read, levels_of, list_levels, list_read, struct_levels, struct_read, tree_of};
@@ -66,6 +66,22 @@ impl<'a> PointerReader<'a> {
             is_stream: false,
         };
         PointerReader::new(get_root_pointer(segments), ROOT_LEVELS)
+    }
+
+    /// A reader of the pointer at the word `index` of one segment that stands alone, whose tree has one level less than
+    /// `depth`.
+    pub fn of_word(words: &'a [u8], index: usize, depth: u32, levels: u8) -> PointerReader<'a>
+        ensures tree { tree_of result ≡ tree_below depth (words.now ∷ []) words.now index }
+        ensures levels { levels_of result ≡ levels }
+    {
+        let pointer = Pointer::Word {
+            depth,
+            is_stream: false,
+            bytes: words,
+            segment: words,
+            index,
+        };
+        PointerReader::new(pointer, levels)
     }
 
     /// Whether the pointer is null. A pointer that can't be followed is not.

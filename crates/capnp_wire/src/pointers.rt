@@ -12,8 +12,8 @@ use crate::row::PointerRow;
 pub enum Pointers<'a> {
     /// So many words, whose trees have one level less than `depth`.
     Words {
-        depth: u8,
         is_stream: bool,
+        depth: u32,
         count: u32,
         row: PointerRow<'a>,
     },

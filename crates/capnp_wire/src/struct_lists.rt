@@ -1,7 +1,6 @@
 //! Lists that become lists of structs.
 ghost use Rattle.std.specs.Prelude.{None, false, true, ◌≡◌, IfErr, IfOk, IsOk, IsTrue, OnErr, OnOk};
 ghost use Rattle.std.specs.Borrow.{sem};
-ghost use Rattle.capnp_wire.specs.Found.{found_tree};
 ghost use Rattle.capnp_wire.specs.Tree.{structs_from};
 ghost use Rattle.capnp_wire.specs.Objects.{list_object_tree, object_tree, struct_object_trees};
 ghost use Rattle.capnp_wire.specs.Reading.{element_struct, is_list, is_null_tree};
@@ -13,7 +12,8 @@ ghost use Rattle.capnp_wire.specs.Kinds.{has_size, is_bits};
 ghost use Rattle.capnp_wire.specs.Lends.{LendsList, holds_list};
 
 use crate::copy::copy_struct;
-use crate::found::{Found, get_element_parts};
+use crate::due::grow;
+use crate::found::get_element_parts;
 use crate::look_objects::look_at_list_object;
 use crate::make::make_empty_structs;
 use crate::object::{ListObject, Object, StructObject};
@@ -21,31 +21,6 @@ use crate::pointer_builder::ListBuilder;
 use crate::size::{ElementSize, StructSize};
 use capnp_device::error::{Error, ErrorKind, Result};
 use std::alloc::Global;
-
-/// At least a size, and what an element of a list takes as a struct.
-pub(crate) fn grow(size: StructSize, list: Found<'_>) -> StructSize
-    ensures { result ≡ grown size (found_tree list.entry) }
-{
-    let own = match list {
-        Found::Numbers(_, _) => StructSize {
-            data_words: 1,
-            pointers: 0,
-        },
-        Found::Pointers(_) => StructSize {
-            data_words: 0,
-            pointers: 1,
-        },
-        Found::Composite(own, _) => own,
-        _ => StructSize {
-            data_words: 0,
-            pointers: 0,
-        },
-    };
-    StructSize {
-        data_words: size.data_words.max(own.data_words),
-        pointers: size.pointers.max(own.pointers),
-    }
-}
 
 /// The elements of a list as structs of at least a size.
 ///

@@ -5,8 +5,10 @@ ghost use Rattle.capnp_wire.specs.WellFormed.{IsWellFormedStruct, IsWellFormedSt
 use crate::bytes::get_bit;
 use crate::found::{StructParts, empty_parts};
 use crate::pointer_reader::PointerReader;
-use crate::pointers::{count_pointers, get_pointer};
+use crate::look::bytes_from;
+use crate::pointers::{Pointers, count_pointers, get_pointer};
 use crate::primitive::PrimitiveElement;
+use crate::row::PointerRow;
 use crate::size::{MessageSize, StructSize};
 use crate::total::size_of_parts;
 use capnp_device::error::Result;
@@ -22,10 +24,11 @@ pub struct StructReader<'a> {
 }
 
 // A reader is copied at each step, so it is kept small.
-const _: () = prove!(size_of::<StructReader<'static>>() <= 72);
+const _: () = prove!(size_of::<StructReader<'static>>() <= 80);
 
 impl<'a> StructReader<'a> {
-    ghost use Rattle.std.specs.Prelude.{◌≡◌, ◌/◌, bit_xor, length, IfErr, IfOk};
+    ghost use Rattle.std.specs.Prelude.{[], ◌∷◌, ◌≡◌, ◌≤◌, ◌^◌, ◌/◌, bit_xor, length, IfErr, IfOk};
+    ghost use Rattle.capnp_wire.specs.Place.{struct_at, tree_below};
     ghost use Rattle.capnp_wire.specs.Tree.{empty_struct, nth_tree, tree_count};
     ghost use Rattle.capnp_wire.specs.Slot.{bit_at, masked_bit, number_at};
     ghost use Rattle.capnp_wire.specs.Standing.{levels_of, struct_levels, struct_of, tree_of};
@@ -50,6 +53,36 @@ impl<'a> StructReader<'a> {
         ensures levels { struct_levels result ≡ levels }
     {
         StructReader::new(empty_parts(), levels)
+    }
+
+    /// A reader of the struct that starts at the word `start` of one segment that stands alone. Its pointers' trees have one
+    /// level less than `depth`.
+    pub fn of_words(
+        words: &'a [u8],
+        start: usize,
+        size: StructSize,
+        depth: u32,
+        levels: u8,
+    ) -> StructReader<'a>
+        requires { start ≤ 2 ^ 60 }
+        ensures parts { struct_of result ≡ struct_at (tree_below depth (words.now ∷ []) words.now) words.now size.data_words size.pointers start }
+        ensures levels { struct_levels result ≡ levels }
+    {
+        let row = PointerRow {
+            bytes: words,
+            segment: words,
+            first: start + size.data_words as usize,
+        };
+        let parts = StructParts {
+            data: bytes_from(words, start, 8 * size.data_words as usize),
+            pointers: Pointers::Words {
+                depth,
+                is_stream: false,
+                count: size.pointers as u32,
+                row,
+            },
+        };
+        StructReader::new(parts, levels)
     }
 
     /// What the struct holds.

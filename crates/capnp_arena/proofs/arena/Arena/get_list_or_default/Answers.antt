@@ -7,7 +7,7 @@ use Rattle.capnp_wire.specs.Elements.{or_empty}
 use Rattle.capnp_arena.specs.Forest.{tree}
 use Rattle.capnp_arena.specs.Listed.{listed_tree}
 use Rattle.capnp_arena.specs.Segment.{segment}
-use Rattle.capnp_arena.proofs.FilledDefaults.{is_taken, left_list, left_tree, not_taken, taken_list, taken_tree}
+use Rattle.capnp_wire.specs.Facts.FilledDefaults.{is_taken, left_list, left_tree, not_taken, taken_list, taken_tree}
 use Rattle.std.specs.Prelude.{Err, Ok, Result}
 use Rattle.capnp_arena.proofs.arena.Arena.get_list_or_default.Goals as goal
 

@@ -9,7 +9,7 @@ use Rattle.capnp_wire.specs.declared.size.ElementSize.TheVariants.{InlineComposi
 use Rattle.capnp_arena.specs.Forest.{tree}
 use Rattle.capnp_arena.specs.Listed.{listed_tree}
 use Rattle.capnp_arena.specs.Segment.{segment}
-use Rattle.capnp_arena.proofs.FilledDefaults.{is_taken, left_structs, left_tree, not_taken, taken_structs, taken_tree}
+use Rattle.capnp_wire.specs.Facts.FilledDefaults.{is_taken, left_structs, left_tree, not_taken, taken_structs, taken_tree}
 use Rattle.capnp_arena.proofs.arena.Arena.get_struct_list_or_default.Goals as goal
 
 -- ---- a default that is copied ----

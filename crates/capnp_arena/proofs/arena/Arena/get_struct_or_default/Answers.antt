@@ -6,7 +6,7 @@ use Rattle.capnp_wire.specs.Edits.{IsDueRefusal, extended, struct_in}
 use Rattle.capnp_wire.specs.Place.{struct_tree}
 use Rattle.capnp_arena.specs.Forest.{tree}
 use Rattle.capnp_arena.specs.Segment.{segment}
-use Rattle.capnp_arena.proofs.FilledDefaults.{is_taken, left_struct, left_tree, no_struct, taken_struct, taken_tree}
+use Rattle.capnp_wire.specs.Facts.FilledDefaults.{is_taken, left_struct, left_tree, no_struct, taken_struct, taken_tree}
 use Rattle.capnp_arena.proofs.arena.Arena.get_struct_or_default.Goals as goal
 
 -- ---- a default that is copied ----

@@ -1,5 +1,5 @@
 use Rattle.std.proofs.Common.{arith, ◌≤◌, ◌*◌}
-use Rattle.capnp_wire.proofs.BitRows.{bits_copied}
+use Rattle.capnp_wire.specs.Facts.BitRows.{bits_copied}
 use Rattle.capnp_wire.proofs.bits.BitRow.copy.Goals as goal
 
 pub returns : goal.returns

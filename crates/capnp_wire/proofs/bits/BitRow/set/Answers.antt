@@ -4,7 +4,7 @@ use Rattle.std.specs.Vec.{with_items}
 use Rattle.std.proofs.lemmas.List.{with_items_is}
 use Rattle.capnp_wire.specs.Edits.{with_bit}
 use Rattle.capnp_wire.specs.Facts.Indexed.{length-bits_from}
-use Rattle.capnp_wire.proofs.BitRows.{bits_with}
+use Rattle.capnp_wire.specs.Facts.BitRows.{bits_with}
 use Rattle.capnp_wire.proofs.bits.BitRow.set.Goals as goal
 
 pub set_bit-requires : goal.set_bit-requires

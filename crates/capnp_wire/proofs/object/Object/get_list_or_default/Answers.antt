@@ -7,7 +7,7 @@ use Rattle.capnp_wire.specs.Elements.{built_list, or_empty}
 use Rattle.capnp_wire.specs.Defaults.{default_tree, filled_list_refusal, list_default_refusal, or_default}
 use Rattle.capnp_wire.specs.declared.object.ListObject.{ListObject}
 use Rattle.capnp_device.specs.declared.error.ErrorKind.{ErrorKind}
-use Rattle.capnp_wire.proofs.FilledDefaults.{is_taken, left_list, left_tree, not_taken, taken_list, taken_tree}
+use Rattle.capnp_wire.specs.Facts.FilledDefaults.{is_taken, left_list, left_tree, not_taken, taken_list, taken_tree}
 use Rattle.capnp_wire.proofs.ReadLists.{entered_reads, entered_refused, entered_succeeds, entered_within, some_list}
 use Rattle.capnp_wire.proofs.object.Object.get_list_or_default.Goals as goal
 

@@ -9,7 +9,7 @@ use Rattle.capnp_wire.specs.Defaults.{default_tree, filled_structs_refusal, or_d
 use Rattle.capnp_wire.specs.declared.object.ListObject.{ListObject}
 use Rattle.capnp_wire.specs.declared.size.ElementSize.TheVariants.{InlineComposite}
 use Rattle.capnp_device.specs.declared.error.ErrorKind.{ErrorKind}
-use Rattle.capnp_wire.proofs.FilledDefaults.{is_taken, left_structs, left_tree, not_taken, taken_structs, taken_tree}
+use Rattle.capnp_wire.specs.Facts.FilledDefaults.{is_taken, left_structs, left_tree, not_taken, taken_structs, taken_tree}
 use Rattle.capnp_wire.proofs.ReadLists.{some_list, some_structs}
 use Rattle.capnp_wire.proofs.object.Object.get_struct_list_or_default.Goals as goal
 

@@ -6,7 +6,7 @@ use Rattle.capnp_wire.specs.Edits.{IsDueRefusal, extended, struct_in}
 use Rattle.capnp_wire.specs.Defaults.{default_tree, filled_struct_refusal, or_default, struct_default_refusal}
 use Rattle.capnp_wire.specs.declared.object.StructObject.{StructObject}
 use Rattle.capnp_device.specs.declared.error.ErrorKind.{ErrorKind}
-use Rattle.capnp_wire.proofs.FilledDefaults.{is_taken, left_struct, left_tree, no_struct, taken_struct, taken_tree}
+use Rattle.capnp_wire.specs.Facts.FilledDefaults.{is_taken, left_struct, left_tree, no_struct, taken_struct, taken_tree}
 use Rattle.capnp_wire.proofs.object.Object.get_struct_or_default.Goals as goal
 
 pub returns-in-Some : goal.returns-in-Some

@@ -1,5 +1,5 @@
-//! Why what a reader stands on is refused as a struct or list that is built.
-ghost use Rattle.std.specs.Prelude.{IsTrue, ◌*◌, ◌+◌, ◌^◌, ◌≡◌, ◌≤◌, ◌↔◌};
+//! What is read as a struct, or as a list of elements of a size, and why else it is refused as one that is built.
+ghost use Rattle.std.specs.Prelude.{None, ◌≡◌};
 ghost use Rattle.capnp_wire.specs.Defaults.{list_refusal};
 ghost use Rattle.capnp_wire.specs.Edits.{struct_refusal};
 ghost use Rattle.capnp_wire.specs.Elements.{reads_list};
@@ -8,10 +8,10 @@ ghost use Rattle.capnp_wire.specs.Reading.{reads_numbers, reads_structs};
 ghost use Rattle.capnp_wire.specs.StructLists.{grown, struct_list_refusal};
 ghost use Rattle.capnp_wire.specs.WellFormed.{IsWellFormed};
 
+use crate::fault::refuse;
+use crate::found::{Found, count_list};
+use crate::size::{ElementSize, StructSize};
 use capnp_device::error::ErrorKind;
-use capnp_wire::fault::refuse;
-use capnp_wire::found::{Found, count_list};
-use capnp_wire::size::{ElementSize, StructSize};
 
 /// Why what was found is no struct, but for what can't be followed.
 pub fn refuse_as_struct(found: Found<'_>) -> Option<ErrorKind>
@@ -26,7 +26,7 @@ pub fn refuse_as_struct(found: Found<'_>) -> Option<ErrorKind>
 }
 
 /// Whether structs of a size are read as elements of the size that is asked.
-fn reads_structs_as(asked: ElementSize, size: StructSize) -> bool
+pub fn reads_structs_as(asked: ElementSize, size: StructSize) -> bool
     ensures { result ≡ reads_structs asked size.data_words size.pointers }
 {
     match asked {
@@ -42,7 +42,7 @@ fn reads_structs_as(asked: ElementSize, size: StructSize) -> bool
 }
 
 /// Whether numbers of so many bytes are.
-fn reads_numbers_as(asked: ElementSize, width: u8) -> bool
+pub fn reads_numbers_as(asked: ElementSize, width: u8) -> bool
     ensures { result ≡ reads_numbers asked width }
 {
     match asked {
@@ -58,7 +58,7 @@ fn reads_numbers_as(asked: ElementSize, width: u8) -> bool
 }
 
 /// Whether a list is read as one of elements of the size that is asked.
-fn reads_list_as(asked: ElementSize, list: Found<'_>) -> bool
+pub fn reads_list_as(asked: ElementSize, list: Found<'_>) -> bool
     ensures { result ≡ reads_list asked (found_tree list.entry) }
 {
     match list {
@@ -95,7 +95,7 @@ pub fn refuse_as_list(size: ElementSize, found: Found<'_>) -> Option<ErrorKind>
 }
 
 /// At least a size, and what an element of a list takes as a struct.
-fn grow(size: StructSize, list: Found<'_>) -> StructSize
+pub fn grow(size: StructSize, list: Found<'_>) -> StructSize
     ensures { result ≡ grown size (found_tree list.entry) }
 {
     let own = match list {
@@ -119,14 +119,6 @@ fn grow(size: StructSize, list: Found<'_>) -> StructSize
     }
 }
 
-/// Whether so many structs of a size are 2^29 words or more, which no list can have.
-#[inline(always)]
-fn is_past_format(size: StructSize, count: u32) -> bool
-    ensures { IsTrue result ↔ 2 ^ 29 ≤ count * (size.data_words + size.pointers) }
-{
-    count as u64 * (size.data_words as u64 + size.pointers as u64) >= 1 << 29
-}
-
 /// Why what was found does not become a list of structs of at least a size, but for what can't be followed.
 pub fn refuse_as_structs(size: StructSize, found: Found<'_>) -> Option<ErrorKind>
     requires { IsWellFormed (found_tree found) }
@@ -139,7 +131,7 @@ pub fn refuse_as_structs(size: StructSize, found: Found<'_>) -> Option<ErrorKind
         Found::Bits(_, _) => Some(ErrorKind::WrongElementSize),
         list => {
             let count = count_list(list) as u32;
-            if is_past_format(grow(size, list), count) {
+            if grow(size, list).is_past_format(count) {
                 Some(ErrorKind::SizePastFormat)
             } else {
                 None
