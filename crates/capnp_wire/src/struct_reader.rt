@@ -4,8 +4,8 @@ ghost use Rattle.capnp_wire.specs.WellFormed.{IsWellFormedStruct, IsWellFormedSt
 
 use crate::bytes::get_bit;
 use crate::found::{StructParts, empty_parts};
-use crate::pointer_reader::PointerReader;
 use crate::look::bytes_from;
+use crate::pointer_reader::PointerReader;
 use crate::pointers::{Pointers, count_pointers, get_pointer};
 use crate::primitive::PrimitiveElement;
 use crate::row::PointerRow;
