@@ -18,7 +18,7 @@ pub enum Elements<'a> {
     /// So many elements, whose pointers' trees have one level less than `depth`.
     Words {
         is_stream: bool,
-        depth: u32,
+        depth: u16,
         count: u32,
         block: Block<'a>,
     },

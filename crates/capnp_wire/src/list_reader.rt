@@ -38,7 +38,7 @@ pub struct ListReader<'a> {
 }
 
 // A reader is copied at each step, so it is kept small.
-const _: () = prove!(size_of::<ListReader<'static>>() <= 88);
+const _: () = prove!(size_of::<ListReader<'static>>() <= 80);
 
 impl<'a> ListReader<'a> {
     ghost use Rattle.capnp_wire.specs.ElementSizes.{element_size_of};

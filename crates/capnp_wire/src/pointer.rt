@@ -22,7 +22,7 @@ pub enum Pointer<'a> {
     /// A word of a segment, whose tree has one level less than `depth`.
     Word {
         is_stream: bool,
-        depth: u32,
+        depth: u16,
         bytes: &'a [u8],
         segment: &'a [u8],
         index: usize,
@@ -58,7 +58,7 @@ pub fn get_root_pointer(segments: Segments<'_>) -> Pointer<'_>
     ensures { pointer_tree result ≡ root_tree (segment_list segments.entry) }
 {
     Pointer::Word {
-        depth: ROOT_LEVELS as u32 + 1,
+        depth: ROOT_LEVELS as u16 + 1,
         is_stream: segments.is_stream,
         bytes: segments.bytes,
         segment: get_first_segment(segments),

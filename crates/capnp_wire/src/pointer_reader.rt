@@ -70,7 +70,7 @@ impl<'a> PointerReader<'a> {
 
     /// A reader of the pointer at the word `index` of one segment that stands alone, whose tree has one level less than
     /// `depth`.
-    pub fn of_word(words: &'a [u8], index: usize, depth: u32, levels: u8) -> PointerReader<'a>
+    pub fn of_word(words: &'a [u8], index: usize, depth: u16, levels: u8) -> PointerReader<'a>
         ensures tree { tree_of result ≡ tree_below depth (words.now ∷ []) words.now index }
         ensures levels { levels_of result ≡ levels }
     {

@@ -13,7 +13,7 @@ pub enum Pointers<'a> {
     /// So many words, whose trees have one level less than `depth`.
     Words {
         is_stream: bool,
-        depth: u32,
+        depth: u16,
         count: u32,
         row: PointerRow<'a>,
     },

@@ -24,7 +24,7 @@ pub struct StructReader<'a> {
 }
 
 // A reader is copied at each step, so it is kept small.
-const _: () = prove!(size_of::<StructReader<'static>>() <= 80);
+const _: () = prove!(size_of::<StructReader<'static>>() <= 72);
 
 impl<'a> StructReader<'a> {
     ghost use Rattle.std.specs.Prelude.{[], ◌∷◌, ◌≡◌, ◌≤◌, ◌^◌, ◌/◌, bit_xor, length, IfErr, IfOk};
@@ -61,7 +61,7 @@ impl<'a> StructReader<'a> {
         words: &'a [u8],
         start: usize,
         size: StructSize,
-        depth: u32,
+        depth: u16,
         levels: u8,
     ) -> StructReader<'a>
         requires { start ≤ 2 ^ 60 }
