@@ -3,6 +3,7 @@ pub mod Forest
 pub mod Made
 pub mod Segment
 pub mod Leaves
+pub mod Built
 pub mod Looked
 pub mod Counts
 pub mod Encoded
@@ -11,5 +12,10 @@ pub mod Grown
 pub mod Copies
 pub mod InOrder
 pub mod Handles
+pub mod Ends
+pub mod Parts
+pub mod Blobs
+pub mod Message
 pub mod Listed
+pub mod Same
 pub mod Facts
