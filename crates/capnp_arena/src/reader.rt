@@ -1,15 +1,27 @@
 //! The segment, read where it lies by the code that reads what is received.
+ghost use Rattle.std.specs.Prelude.{ℕ, ◌+◌, ◌^◌, ◌<◌, ◌≤◌};
+ghost use Rattle.capnp_wire.specs.Place.{struct_tree};
+ghost use Rattle.capnp_wire.specs.WellFormed.{IsWellFormed};
+ghost use Rattle.capnp_arena.specs.Forest.{struct_from, tree};
+ghost use Rattle.capnp_arena.specs.Shape.{word_count};
 
 use crate::arena::{Arena, Place};
 use capnp_wire::size::StructSize;
 use capnp_wire::{PointerReader, StructReader};
+
+/// What stands in the words of a segment is well-formed.
+fn words_are_well_formed(_words: &[u8])
+    ensures trees { (w : ℕ) → IsWellFormed (tree _words.now w) }
+    ensures structs { (a d p : ℕ) → d < 2 ^ 16 → p < 2 ^ 16 → a + d ≤ word_count _words.now
+        → IsWellFormed (struct_tree (struct_from _words.now a d p)) }
+{}
 
 impl Arena {
     ghost use Rattle.std.specs.Prelude.{[], ◌∷◌, ◌≡◌};
     ghost use Rattle.capnp_wire.specs.Depth.{AreBelow, IsBelow};
     ghost use Rattle.capnp_wire.specs.Place.{struct_at, tree_below};
     ghost use Rattle.capnp_wire.specs.Standing.{levels_of, struct_levels, struct_of, tree_of};
-    ghost use Rattle.capnp_arena.specs.Forest.{Forest, Planted, struct_from, tree};
+    ghost use Rattle.capnp_arena.specs.Forest.{Forest, Planted};
     ghost use Rattle.capnp_arena.specs.Segment.{segment};
     ghost use Rattle.capnp_arena.specs.Shape.{StructIn};
 
@@ -37,6 +49,15 @@ impl Arena {
             pointers: place.pointers,
         };
         StructReader::of_words(self.bytes.as_slice(), place.start, size, u16::MAX, 64)
+    }
+
+    /// What stands in the segment is well-formed, at any word.
+    pub fn trees_are_well_formed(&self)
+        ensures trees { (w : ℕ) → IsWellFormed (tree (segment self.now) w) }
+        ensures structs { (a d p : ℕ) → d < 2 ^ 16 → p < 2 ^ 16 → a + d ≤ word_count (segment self.now)
+            → IsWellFormed (struct_tree (struct_from (segment self.now) a d p)) }
+    {
+        words_are_well_formed(self.bytes.as_slice());
     }
 
     /// A reader of the root pointer, as `get_pointer_reader`.

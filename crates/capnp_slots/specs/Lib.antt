@@ -1,3 +1,4 @@
+pub mod Built
 pub mod Planned
 pub mod Fields
 pub mod Primitives

@@ -15,8 +15,10 @@ pub mod laws;
 mod make;
 pub mod part;
 mod planned;
+mod place;
 mod pointer;
 pub mod primitive;
+pub mod setter;
 pub mod slot;
 pub mod source;
 

@@ -2,7 +2,7 @@
 ghost use Rattle.std.specs.Prelude.{◌≡◌, MatchOption};
 ghost use Rattle.capnp_wire.specs.Edits.{IsCopyRefusal, rounded};
 ghost use Rattle.capnp_wire.specs.Place.{struct_tree};
-ghost use Rattle.capnp_wire.specs.Standing.{list_of, struct_of};
+ghost use Rattle.capnp_wire.specs.Standing.{list_of, struct_of, tree_of};
 ghost use Rattle.capnp_wire.specs.Words.{first_fault, first_fault_of_all};
 ghost use Rattle.capnp_records.specs.Writes.Contents.{SourceFits};
 ghost use Rattle.capnp_slots.specs.Primitives.{primitive_source};
@@ -11,15 +11,17 @@ ghost use Rattle.capnp_slots.specs.Sources.{IsPointed, source_seen};
 
 use crate::primitive::{Primitive, number_fits};
 use capnp_base::introspect::Type;
-use capnp_base::traits::SetterInput;
+use crate::setter::SetterInput;
+use capnp_arena::handles::PointerBuilder;
 use capnp_base::{any_pointer, data, text};
 use capnp_dynamic_readers::dynamic_value::Reader as Value;
 use capnp_schema::schema::StructSchema;
 use capnp_wire::error::Result;
 use capnp_wire::laws::{
-    copied_structs_are_well_formed, list_is_well_formed, struct_is_well_formed,
+    copied_structs_are_well_formed, list_is_well_formed, pointer_is_well_formed,
+    struct_is_well_formed,
 };
-use capnp_wire::{ListReader, PointerBuilder, StructReader};
+use capnp_wire::{ListReader, PointerReader, StructReader};
 
 /// What a field or element is set to.
 #[derive(Clone, Copy)]
@@ -108,7 +110,8 @@ impl<'a> SetterInput<any_pointer::Owned> for StructInput<'a> {
     ) -> Result<()> {
         struct_is_well_formed(&input.0);
         copied_structs_are_well_formed();
-        builder.set_struct(&input.0)
+        let PointerBuilder { arena, at } = builder;
+        arena.set_struct(at, &input.0)
     }
 }
 
@@ -127,6 +130,27 @@ impl<'a> SetterInput<any_pointer::Owned> for ListInput<'a> {
         _canonicalize: bool,
     ) -> Result<()> {
         list_is_well_formed(&input.0);
-        builder.set_list(&input.0)
+        let PointerBuilder { arena, at } = builder;
+        arena.set_list(at, &input.0)
+    }
+}
+
+/// What a pointer leads to, that another pointer is set to.
+#[derive(Clone, Copy)]
+pub struct PointerInput<'a>(pub PointerReader<'a>);
+
+impl<'a> SetterInput<any_pointer::Owned> for PointerInput<'a> {
+    ghost set_tree = { λ input. tree_of input.0 };
+
+    ghost set_refusal = { λ input error. IsCopyRefusal error (first_fault (tree_of input.0)) };
+
+    fn set_pointer_builder(
+        builder: PointerBuilder<'_>,
+        input: PointerInput<'a>,
+        _canonicalize: bool,
+    ) -> Result<()> {
+        pointer_is_well_formed(&input.0);
+        let PointerBuilder { arena, at } = builder;
+        arena.copy_from(at, input.0)
     }
 }
