@@ -5,7 +5,7 @@ use Rattle.capnp_wire.specs.Tree.{StructTree, Tree, structs_from, trees_from}
 use Rattle.capnp_wire.specs.Words.{first_fault, first_fault_of_all, first_fault_of_elements, first_of}
 use Rattle.capnp_wire.specs.declared.fault.Fault.{Fault}
 use Rattle.capnp_arena.specs.Encoded.{HasSize}
-use Rattle.capnp_arena.specs.Forest.{Forest, Grown, struct_from, tree}
+use Rattle.capnp_arena.specs.Forest.{Forest, Grown, Planted, struct_from, tree}
 use Rattle.capnp_arena.specs.Shape.{CompositeIn, IsPointerOf, ListIn, NoShape, Shape, StructIn, placed, shape_at}
 use Rattle.capnp_arena.proofs.Encodings.{has_size}
 use Rattle.capnp_arena.specs.Facts.Forests.{tree_step}
@@ -41,3 +41,6 @@ module _ (bytes : List ℕ) where
 pub forest_whole : (bytes : List ℕ) (w : ℕ) → Forest bytes w → first_fault (tree bytes w) ≡ None
 forest_whole bytes w (Grown _ p f a b) =
     ap first_fault (tree_step bytes w (Grown w p f a b)) ∙ level_whole bytes (shape_at bytes w) (has_size bytes w (shape_at bytes w) p) (λ j i. forest_whole bytes j (f j i))
+
+pub struct_whole : (bytes : List ℕ) (a d p : ℕ) → Planted bytes (StructIn a d p) → first_fault_of_all (struct_from bytes a d p).pointers ≡ None
+struct_whole bytes a d p h = row_whole (tree bytes) (a + d) p (λ j x y. forest_whole bytes j (h.child j (x, y)))

@@ -12,4 +12,5 @@ pub mod Copies
 pub mod InOrder
 pub mod Handles
 pub mod Listed
+pub mod Same
 pub mod Facts

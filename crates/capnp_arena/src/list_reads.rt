@@ -128,6 +128,20 @@ impl Arena {
         }
     }
 
+    /// How many elements the list has that the pointer at a word leads to; what is no list has none.
+    #[inline(always)]
+    pub fn get_length(&self, at: usize) -> u32
+        requires { Forest (segment self.now) at }
+        ensures { result ≡ list_length (tree (segment self.now) at) }
+    {
+        match self.look(at) {
+            Target::Null => 0,
+            Target::Struct { .. } => 0,
+            Target::List { count, .. } => count,
+            Target::Composite { count, .. } => count,
+        }
+    }
+
     /// The size of a list's elements, as the list has it: of a null, the size that was asked.
     pub fn get_element_size(&self, at: usize, list: ListTarget) -> ElementSize
         requires forest { Forest (segment self.now) at }

@@ -6,8 +6,10 @@ ghost use Rattle.capnp_arena.specs.Forest.{struct_from, tree};
 ghost use Rattle.capnp_arena.specs.Shape.{word_count};
 
 use crate::arena::{Arena, Place};
+use capnp_wire::laws::pointer_is_well_formed;
+use capnp_wire::pointer::look;
 use capnp_wire::size::StructSize;
-use capnp_wire::{PointerReader, StructReader};
+use capnp_wire::{ListReader, PointerReader, StructReader};
 
 /// What stands in the words of a segment is well-formed.
 fn words_are_well_formed(_words: &[u8])
@@ -17,11 +19,13 @@ fn words_are_well_formed(_words: &[u8])
 {}
 
 impl Arena {
-    ghost use Rattle.std.specs.Prelude.{[], ◌∷◌, ◌≡◌};
+    ghost use Rattle.std.specs.Prelude.{None, [], ◌∷◌, ◌≡◌};
+    ghost use Rattle.capnp_wire.specs.Words.{first_fault, first_fault_of_all};
     ghost use Rattle.capnp_wire.specs.Depth.{AreBelow, IsBelow};
     ghost use Rattle.capnp_wire.specs.Place.{struct_at, tree_below};
-    ghost use Rattle.capnp_wire.specs.Standing.{levels_of, struct_levels, struct_of, tree_of};
+    ghost use Rattle.capnp_wire.specs.Standing.{levels_of, list_levels, list_of, struct_levels, struct_of, tree_of};
     ghost use Rattle.capnp_arena.specs.Forest.{Forest, Planted};
+    ghost use Rattle.capnp_arena.specs.Same.{IsCutOf, IsStructCutOf};
     ghost use Rattle.capnp_arena.specs.Segment.{segment};
     ghost use Rattle.capnp_arena.specs.Shape.{StructIn};
 
@@ -30,6 +34,7 @@ impl Arena {
     pub fn get_pointer_reader(&self, at: usize) -> PointerReader<'_>
         requires forest { Forest (segment self.now) at }
         ensures read { tree_of result ≡ tree_below 65535 (segment self.now ∷ []) (segment self.now) at }
+        ensures cut { IsCutOf (tree_of result) (tree (segment self.now) at) }
         ensures tree { IsBelow 65535 (tree (segment self.now) at) → tree_of result ≡ tree (segment self.now) at }
         ensures levels { levels_of result ≡ 64 }
     {
@@ -40,6 +45,7 @@ impl Arena {
     pub fn get_struct_reader(&self, place: Place) -> StructReader<'_>
         requires planted { Planted (segment self.now) (StructIn place.start place.data_words place.pointers) }
         ensures read { struct_of result ≡ struct_at (tree_below 65535 (segment self.now ∷ []) (segment self.now)) (segment self.now) place.data_words place.pointers place.start }
+        ensures cut { IsStructCutOf (struct_of result) (struct_from (segment self.now) place.start place.data_words place.pointers) }
         ensures parts { AreBelow 65535 (struct_from (segment self.now) place.start place.data_words place.pointers).pointers
             → struct_of result ≡ struct_from (segment self.now) place.start place.data_words place.pointers }
         ensures levels { struct_levels result ≡ 64 }
@@ -51,11 +57,32 @@ impl Arena {
         StructReader::of_words(self.bytes.as_slice(), place.start, size, u16::MAX, 64)
     }
 
-    /// What stands in the segment is well-formed, at any word.
-    pub fn trees_are_well_formed(&self)
-        ensures trees { (w : ℕ) → IsWellFormed (tree (segment self.now) w) }
-        ensures structs { (a d p : ℕ) → d < 2 ^ 16 → p < 2 ^ 16 → a + d ≤ word_count (segment self.now)
-            → IsWellFormed (struct_tree (struct_from (segment self.now) a d p)) }
+    /// A reader of the list that the pointer at a word leads to, as it stands, with 64 levels. It is cut off as by
+    /// `get_pointer_reader`.
+    pub fn get_list_reader(&self, at: usize) -> ListReader<'_>
+        requires forest { Forest (segment self.now) at }
+        ensures cut { IsCutOf (list_of result) (tree (segment self.now) at) }
+        ensures levels { list_levels result ≡ 64 }
+    {
+        let pointer = self.get_pointer_reader(at);
+        pointer_is_well_formed(&pointer);
+        ListReader::new(look(pointer.pointer()), 64)
+    }
+
+    /// What a pointer of the segment leads to is well-formed, and each pointer in it can be followed.
+    pub fn tree_is_sound(&self, at: usize)
+        requires { Forest (segment self.now) at }
+        ensures formed { IsWellFormed (tree (segment self.now) at) }
+        ensures whole { first_fault (tree (segment self.now) at) ≡ None }
+    {
+        words_are_well_formed(self.bytes.as_slice());
+    }
+
+    /// So is a struct.
+    pub fn struct_is_sound(&self, place: Place)
+        requires { Planted (segment self.now) (StructIn place.start place.data_words place.pointers) }
+        ensures formed { IsWellFormed (struct_tree (struct_from (segment self.now) place.start place.data_words place.pointers)) }
+        ensures whole { first_fault_of_all (struct_from (segment self.now) place.start place.data_words place.pointers).pointers ≡ None }
     {
         words_are_well_formed(self.bytes.as_slice());
     }

@@ -20,12 +20,12 @@ use crate::planned::{copy_bits, slot_plan, switch_member};
 use crate::pointer::{make_empty_at, pointer_slot};
 use crate::slot::set_pointer;
 use crate::source::PointerInput;
+use capnp_arena::arena::{Arena, Place as StructPlace};
 use capnp_base::introspect::TypeVariant;
 use capnp_base::{any_pointer, data, text};
 use capnp_schema::schema::Field;
 use capnp_schema::value::Value;
 use capnp_wire::error::{Error, ErrorKind, Result};
-use capnp_arena::arena::{Arena, Place as StructPlace};
 use capnp_wire::{PointerReader, StructReader};
 
 /// The variant of a field's type.
@@ -66,7 +66,12 @@ fn check_read(variant: TypeVariant, pointer: &PointerReader<'_>) -> Result<()>
 
 /// Copies what a reader stands on into a pointer's slot, which becomes active after it. A refusal changes nothing; so it is
 /// with each call below.
-fn put(arena: &mut Arena, place: StructPlace, field: Field<'_>, pointer: PointerReader<'_>) -> Result<()>
+fn put(
+    arena: &mut Arena,
+    place: StructPlace,
+    field: Field<'_>,
+    pointer: PointerReader<'_>,
+) -> Result<()>
     requires planted { IsBuilt arena.old place }
     requires slot { IsSlot field }
     requires pointer { IsPointer field }
@@ -79,9 +84,7 @@ fn put(arena: &mut Arena, place: StructPlace, field: Field<'_>, pointer: Pointer
     ensures refused { OnErr result (segment arena.new ≡ segment arena.old) }
     ensures cause { IfErr result (λ e. IsCopyRefusal e (first_fault (tree_of pointer.entry))) }
 {
-    set_pointer::<any_pointer::Owned, PointerInput<'_>>(arena, place, field,
-        PointerInput(pointer),
-    )
+    set_pointer::<any_pointer::Owned, PointerInput<'_>>(arena, place, field, PointerInput(pointer))
 }
 
 /// Copies what stands in the place of a default that is none: no bytes, a struct of size zero, or a list of no elements.
@@ -107,7 +110,12 @@ fn put_empty(arena: &mut Arena, place: StructPlace, field: Field<'_>) -> Result<
 }
 
 /// Copies the words of a default, where they are no null.
-fn put_words(arena: &mut Arena, place: StructPlace, field: Field<'_>, pointer: PointerReader<'_>) -> Result<()>
+fn put_words(
+    arena: &mut Arena,
+    place: StructPlace,
+    field: Field<'_>,
+    pointer: PointerReader<'_>,
+) -> Result<()>
     requires planted { IsBuilt arena.old place }
     requires slot { IsSlot field }
     requires pointer { IsPointer field }
@@ -144,8 +152,12 @@ fn put_default(arena: &mut Arena, place: StructPlace, field: Field<'_>) -> Resul
     ensures cause { IfErr result (λ e. e.kind ≡ OutOfMemory) }
 {
     match field.get_default() {
-        Value::Text(text) => set_pointer::<text::Owned, text::Reader<'_>>(arena, place, field, text),
-        Value::Data(bytes) => set_pointer::<data::Owned, data::Reader<'_>>(arena, place, field, bytes),
+        Value::Text(text) => set_pointer::<text::Owned, text::Reader<'_>>(
+            arena, place, field, text,
+        ),
+        Value::Data(bytes) => set_pointer::<data::Owned, data::Reader<'_>>(
+            arena, place, field, bytes,
+        ),
         Value::Struct(words) => put_words(arena, place, field, words),
         Value::List(words) => put_words(arena, place, field, words),
         _ => put_empty(arena, place, field),
@@ -172,7 +184,8 @@ fn check_copy(field: Field<'_>, pointer: &PointerReader<'_>) -> Result<()>
 
 /// Copies a pointer into a slot, which becomes active after it: what it leads to, and a null as the slot's default.
 fn copy_pointer(
-    arena: &mut Arena, place: StructPlace,
+    arena: &mut Arena,
+    place: StructPlace,
     field: Field<'_>,
     pointer: PointerReader<'_>,
 ) -> Result<()>
@@ -197,7 +210,8 @@ fn copy_pointer(
 
 /// Copies a pointer's slot out of a struct.
 fn copy_behind(
-    arena: &mut Arena, place: StructPlace,
+    arena: &mut Arena,
+    place: StructPlace,
     field: Field<'_>,
     source: &StructReader<'_>,
     index: u16,
@@ -252,7 +266,12 @@ pub fn is_behind(variant: TypeVariant) -> bool
 /// what it leads to can't be followed, by the first of these in preorder; and with `OutOfMemory`. Then nothing has changed.
 ///
 /// The field has to be a slot, and the struct to have the sections of the field's schema.
-pub fn copy(arena: &mut Arena, place: StructPlace, field: Field<'_>, source: StructReader<'_>) -> Result<()>
+pub fn copy(
+    arena: &mut Arena,
+    place: StructPlace,
+    field: Field<'_>,
+    source: StructReader<'_>,
+) -> Result<()>
     requires planted { IsBuilt arena.old place }
     requires slot { IsSlot field }
     requires room { IsRoomFor field (built arena.old place) }

@@ -16,11 +16,11 @@ ghost use Rattle.capnp_slots.specs.Sources.{GivesCopy, GivesUntyped, IsCopy, IsC
 
 use crate::slot::set_pointer;
 use crate::source::{ListInput, Source, StructInput};
+use capnp_arena::arena::{Arena, Place as StructPlace};
 use capnp_base::introspect::TypeVariant;
 use capnp_base::{any_pointer, data, text};
 use capnp_schema::schema::Field;
 use capnp_wire::error::{Error, ErrorKind, Result};
-use capnp_arena::arena::{Arena, Place as StructPlace};
 
 /// Whether a slot of a type takes a copy of a text.
 fn copies_text(variant: TypeVariant) -> Result<bool>
@@ -115,7 +115,12 @@ pub(crate) fn copies_to(field: Field<'_>, source: Source<'_>) -> Result<bool>
 /// Copies a source into a pointer's slot, which becomes active after it.
 ///
 /// Refused with the first fault in the source, with `SizePastFormat` or with `OutOfMemory`, and then nothing has changed.
-pub(crate) fn copy_to(arena: &mut Arena, place: StructPlace, field: Field<'_>, source: Source<'_>) -> Result<()>
+pub(crate) fn copy_to(
+    arena: &mut Arena,
+    place: StructPlace,
+    field: Field<'_>,
+    source: Source<'_>,
+) -> Result<()>
     requires planted { IsBuilt arena.old place }
     requires slot { IsSlot field }
     requires pointer { IsPointer field }
@@ -132,12 +137,22 @@ pub(crate) fn copy_to(arena: &mut Arena, place: StructPlace, field: Field<'_>, s
 {
     match source {
         Source::Primitive(_) => unreachable!(),
-        Source::Text(text) => set_pointer::<text::Owned, text::Reader<'_>>(arena, place, field, text),
-        Source::Data(bytes) => set_pointer::<data::Owned, data::Reader<'_>>(arena, place, field, bytes),
-        Source::Struct(reader, _) => set_pointer::<any_pointer::Owned, StructInput<'_>>(arena, place, field,
+        Source::Text(text) => set_pointer::<text::Owned, text::Reader<'_>>(
+            arena, place, field, text,
+        ),
+        Source::Data(bytes) => set_pointer::<data::Owned, data::Reader<'_>>(
+            arena, place, field, bytes,
+        ),
+        Source::Struct(reader, _) => set_pointer::<any_pointer::Owned, StructInput<'_>>(
+            arena,
+            place,
+            field,
             StructInput(reader),
         ),
-        Source::List(reader, _) => set_pointer::<any_pointer::Owned, ListInput<'_>>(arena, place, field,
+        Source::List(reader, _) => set_pointer::<any_pointer::Owned, ListInput<'_>>(
+            arena,
+            place,
+            field,
             ListInput(reader),
         ),
         Source::AnyPointer(_) => unreachable!(),

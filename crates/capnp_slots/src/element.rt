@@ -30,16 +30,16 @@ use crate::copies::copies_source;
 use crate::fill_element::{check_list, extend_structs, fill_behind};
 use crate::make::{make_sized, size_of};
 use crate::primitive::{Primitive, number_fits, number_given};
-use crate::source::{ListInput, Source};
-use capnp_base::introspect::{RawBrandedStructSchema, Type, TypeVariant};
 use crate::setter::SetterInput;
+use crate::source::{ListInput, Source};
+use capnp_arena::arena::Arena;
+use capnp_arena::handles::PointerBuilder;
+use capnp_base::introspect::{RawBrandedStructSchema, Type, TypeVariant};
 use capnp_base::{any_pointer, data, text};
 use capnp_schema::schema::StructSchema;
 use capnp_schema::set::SchemaSet;
 use capnp_wire::StructReader;
 use capnp_wire::error::{Error, ErrorKind, Result};
-use capnp_arena::arena::Arena;
-use capnp_arena::handles::PointerBuilder;
 
 /// Stores a number in an element of a type.
 fn store_element(arena: &mut Arena, at: usize, variant: TypeVariant, index: u32, number: u64)
@@ -61,7 +61,9 @@ fn store_element(arena: &mut Arena, at: usize, variant: TypeVariant, index: u32,
         TypeVariant::Int32 | TypeVariant::UInt32 => {
             arena.set_data_element::<u32>(at, index, number as u32)
         }
-        TypeVariant::Int64 | TypeVariant::UInt64 => arena.set_data_element::<u64>(at, index, number),
+        TypeVariant::Int64 | TypeVariant::UInt64 => arena.set_data_element::<u64>(
+            at, index, number,
+        ),
         _ => {}
     }
 }
@@ -89,7 +91,8 @@ fn number_in(set: &SchemaSet, element: Type, value: Primitive) -> Result<u64>
 /// Refused with `ListAnyPointerNotSupported` for an untyped element, and with `TypeMismatch` where the element is of
 /// another kind than the value; then nothing has changed. An element of that type has to be there.
 pub fn set_primitive(
-    arena: &mut Arena, at: usize,
+    arena: &mut Arena,
+    at: usize,
     set: &SchemaSet,
     element: Type,
     index: u32,
@@ -162,7 +165,10 @@ fn set_copied(arena: &mut Arena, at: usize, index: u32, source: Source<'_>) -> R
         Source::Text(text) => set_at::<text::Owned, text::Reader<'_>>(arena, at, index, text),
         Source::Data(bytes) => set_at::<data::Owned, data::Reader<'_>>(arena, at, index, bytes),
         Source::Struct(_, _) => unreachable!(),
-        Source::List(reader, _) => set_at::<any_pointer::Owned, ListInput<'_>>(arena, at, index,
+        Source::List(reader, _) => set_at::<any_pointer::Owned, ListInput<'_>>(
+            arena,
+            at,
+            index,
             ListInput(reader),
         ),
         Source::AnyPointer(_) => unreachable!(),
@@ -171,7 +177,8 @@ fn set_copied(arena: &mut Arena, at: usize, index: u32, source: Source<'_>) -> R
 
 /// Sets an element to a text, data, a list or an untyped pointer.
 fn set_pointed(
-    arena: &mut Arena, at: usize,
+    arena: &mut Arena,
+    at: usize,
     set: &SchemaSet,
     element: Type,
     index: u32,
@@ -210,7 +217,8 @@ fn copies_into(set: &SchemaSet, element: Type, source: Source<'_>) -> Result<boo
 
 /// Sets an element to a struct: of the element's own schema, of which it keeps what fits its size.
 fn set_struct(
-    arena: &mut Arena, at: usize,
+    arena: &mut Arena,
+    at: usize,
     set: &SchemaSet,
     element: Type,
     index: u32,
@@ -252,7 +260,8 @@ fn set_struct(
 ///
 /// An element of that type has to be there.
 pub fn set(
-    arena: &mut Arena, at: usize,
+    arena: &mut Arena,
+    at: usize,
     set: &SchemaSet,
     element: Type,
     index: u32,
@@ -269,7 +278,9 @@ pub fn set(
 {
     match source {
         Source::Primitive(value) => set_primitive(arena, at, set, element, index, value),
-        Source::Struct(reader, schema) => set_struct(arena, at, set, element, index, reader, schema),
+        Source::Struct(reader, schema) => set_struct(
+            arena, at, set, element, index, reader, schema,
+        ),
         Source::Text(_) | Source::Data(_) | Source::List(_, _) | Source::AnyPointer(_) => {
             set_pointed(arena, at, set, element, index, source)
         }
@@ -278,7 +289,8 @@ pub fn set(
 
 /// Makes the pointer of an element lead to a new text, data or list of a type, with so many bytes or elements.
 fn init_at(
-    arena: &mut Arena, at: usize,
+    arena: &mut Arena,
+    at: usize,
     set: &SchemaSet,
     variant: TypeVariant,
     index: u32,
@@ -310,7 +322,8 @@ fn init_at(
 ///
 /// An element of that type has to be there.
 pub fn init(
-    arena: &mut Arena, at: usize,
+    arena: &mut Arena,
+    at: usize,
     set: &SchemaSet,
     element: Type,
     index: u32,
@@ -364,7 +377,13 @@ pub fn fill(arena: &mut Arena, at: usize, set: &SchemaSet, element: Type, index:
 }
 
 /// Fills what stands behind the pointer of an element of a type.
-fn fill_at(arena: &mut Arena, at: usize, set: &SchemaSet, variant: TypeVariant, index: u32) -> Result<()>
+fn fill_at(
+    arena: &mut Arena,
+    at: usize,
+    set: &SchemaSet,
+    variant: TypeVariant,
+    index: u32,
+) -> Result<()>
     requires forest { Forest (segment arena.old) at }
     requires behind { is_behind (seen_variant variant) ≡ true }
     requires pointer { HasPointer (tree (segment arena.old) at) index }

@@ -10,14 +10,15 @@ ghost use Rattle.capnp_wire.specs.StructLists.{HoldsStructs};
 ghost use Rattle.capnp_slots.specs.Fills.{HoldsThere, IsThere, tree_there};
 
 use crate::place::pointer_at;
+use capnp_arena::arena::{Arena, Place as StructPlace};
 use capnp_wire::PointerReader;
 use capnp_wire::error::Result;
-use capnp_arena::arena::{Arena, Place as StructPlace};
 use capnp_wire::size::{ElementSize, StructSize};
 
 /// Fills the struct at a pointer. A refusal changes nothing; so it is with each call below.
 pub(crate) fn fill_struct(
-    arena: &mut Arena, place: StructPlace,
+    arena: &mut Arena,
+    place: StructPlace,
     index: u16,
     size: StructSize,
     default: Option<PointerReader<'_>>,
@@ -40,7 +41,12 @@ pub(crate) fn fill_struct(
 
 /// Gives the struct at a pointer at least a size; a null becomes a new one.
 #[inline(always)]
-pub(crate) fn extend_struct(arena: &mut Arena, place: StructPlace, index: u16, size: StructSize) -> Result<()>
+pub(crate) fn extend_struct(
+    arena: &mut Arena,
+    place: StructPlace,
+    index: u16,
+    size: StructSize,
+) -> Result<()>
     requires planted { IsBuilt arena.old place }
     requires inside { IsThere (built arena.old place) index }
     ensures planted { OnOk result (IsBuilt arena.new place) }
@@ -58,7 +64,8 @@ pub(crate) fn extend_struct(arena: &mut Arena, place: StructPlace, index: u16, s
 
 /// Fills the list at a pointer, of elements that are no structs.
 pub(crate) fn fill_list(
-    arena: &mut Arena, place: StructPlace,
+    arena: &mut Arena,
+    place: StructPlace,
     index: u16,
     size: ElementSize,
     default: Option<PointerReader<'_>>,
@@ -83,7 +90,8 @@ pub(crate) fn fill_list(
 /// Fills the list of structs at a pointer.
 #[inline(always)]
 pub(crate) fn fill_structs(
-    arena: &mut Arena, place: StructPlace,
+    arena: &mut Arena,
+    place: StructPlace,
     index: u16,
     size: StructSize,
     default: Option<PointerReader<'_>>,

@@ -12,10 +12,10 @@ ghost use Rattle.capnp_slots.specs.Copied.{refusal_of};
 ghost use Rattle.capnp_slots.specs.Fills.{ElementRests, element_due, element_filled, is_behind};
 
 use crate::make::size_of;
+use capnp_arena::arena::Arena;
 use capnp_base::introspect::{Type, TypeVariant};
 use capnp_schema::set::SchemaSet;
 use capnp_wire::error::Result;
-use capnp_arena::arena::Arena;
 use capnp_wire::size::{ElementSize, StructSize};
 
 /// Refuses what is not read as a text.
@@ -88,7 +88,12 @@ fn fill_elements(arena: &mut Arena, at: usize, set: &SchemaSet, element: Type) -
 /// sections, and everything else stays.
 ///
 /// Refused where it is not read as the type, and as `extend_structs`; then nothing has changed.
-pub(crate) fn fill_behind(arena: &mut Arena, at: usize, set: &SchemaSet, variant: TypeVariant) -> Result<()>
+pub(crate) fn fill_behind(
+    arena: &mut Arena,
+    at: usize,
+    set: &SchemaSet,
+    variant: TypeVariant,
+) -> Result<()>
     requires forest { Forest (segment arena.old) at }
     requires behind { is_behind (seen_variant variant) ≡ true }
     ensures forest { OnOk result (Forest (segment arena.new) at) }

@@ -15,6 +15,7 @@ ghost use Rattle.capnp_slots.specs.Sources.{source_seen};
 use crate::group_copy::copy_group;
 use crate::slot;
 use crate::source::Source;
+use capnp_arena::arena::{Arena, Place as StructPlace};
 use capnp_base::introspect::RawBrandedStructSchema;
 use capnp_records::laws::{group_is_cleared, group_is_copied};
 use capnp_schema::laws::{heights_fall, numbers_fit};
@@ -22,7 +23,6 @@ use capnp_schema::plan::Place;
 use capnp_schema::schema::{Field, StructSchema};
 use capnp_wire::StructReader;
 use capnp_wire::error::{Error, ErrorKind, Result};
-use capnp_arena::arena::{Arena, Place as StructPlace};
 
 /// The schema of a field's group; none for a slot.
 #[inline(always)]
@@ -99,7 +99,12 @@ fn clear_plain(arena: &mut Arena, place: StructPlace, schema: StructSchema<'_>, 
 
 /// Clears a group of a struct: its member of discriminant value 0, and then its non-union fields by index.
 #[cycle(clear)]
-pub(crate) fn clear_group(arena: &mut Arena, place: StructPlace, schema: StructSchema<'_>, groups: usize)
+pub(crate) fn clear_group(
+    arena: &mut Arena,
+    place: StructPlace,
+    schema: StructSchema<'_>,
+    groups: usize,
+)
     requires planted { IsBuilt arena.old place }
     requires room { Fits (set_of schema) (number_of schema) (built arena.old place) }
     ensures planted { IsBuilt arena.new place }
@@ -154,7 +159,8 @@ pub fn init(arena: &mut Arena, place: StructPlace, field: Field<'_>)
 
 /// Copies a struct of the schema of a field's group into the group.
 fn copy(
-    arena: &mut Arena, place: StructPlace,
+    arena: &mut Arena,
+    place: StructPlace,
     field: Field<'_>,
     group: StructSchema<'_>,
     source: StructReader<'_>,
@@ -185,7 +191,12 @@ fn copy(
 ///
 /// The field has to be a group, and the struct to have the sections of the field's schema.
 #[inline(never)]
-pub fn set(arena: &mut Arena, place: StructPlace, field: Field<'_>, source: Source<'_>) -> Result<()>
+pub fn set(
+    arena: &mut Arena,
+    place: StructPlace,
+    field: Field<'_>,
+    source: Source<'_>,
+) -> Result<()>
     requires planted { IsBuilt arena.old place }
     requires group { IsGroup field }
     requires room { IsRoomFor field (built arena.old place) }

@@ -15,11 +15,11 @@ ghost use Rattle.capnp_slots.specs.GroupSets.{AreCopied, IsCopiedThrough, active
 use crate::copied::copy;
 use crate::group::{clear_group, group_of};
 use crate::slot::switch;
+use capnp_arena::arena::{Arena, Place as StructPlace};
 use capnp_dynamic_readers::presence;
 use capnp_schema::schema::{Field, StructSchema};
 use capnp_wire::StructReader;
 use capnp_wire::error::Result;
-use capnp_arena::arena::{Arena, Place as StructPlace};
 
 /// The active member of a struct that is read; none without a union and for an unknown number.
 fn active_member<'s>(schema: StructSchema<'s>, source: &StructReader<'_>) -> Option<Field<'s>>
@@ -40,7 +40,8 @@ fn has(field: Field<'_>, source: &StructReader<'_>) -> bool
 /// Copies a field, through at most so many groups.
 #[cycle(copy)]
 fn copy_field(
-    arena: &mut Arena, place: StructPlace,
+    arena: &mut Arena,
+    place: StructPlace,
     field: Field<'_>,
     source: StructReader<'_>,
     groups: usize,
@@ -66,7 +67,8 @@ fn copy_field(
 /// Copies a field that the source has.
 #[cycle(copy)]
 fn copy_present(
-    arena: &mut Arena, place: StructPlace,
+    arena: &mut Arena,
+    place: StructPlace,
     field: Field<'_>,
     source: StructReader<'_>,
     groups: usize,
@@ -90,7 +92,8 @@ fn copy_present(
 /// Copies the active member, where there is one.
 #[cycle(copy)]
 fn copy_member(
-    arena: &mut Arena, place: StructPlace,
+    arena: &mut Arena,
+    place: StructPlace,
     schema: StructSchema<'_>,
     source: StructReader<'_>,
     groups: usize,
@@ -113,7 +116,8 @@ fn copy_member(
 /// Copies the non-union fields that the source has, by index, up to the first that is refused.
 #[cycle(copy)]
 fn copy_plain(
-    arena: &mut Arena, place: StructPlace,
+    arena: &mut Arena,
+    place: StructPlace,
     schema: StructSchema<'_>,
     source: StructReader<'_>,
     groups: usize,
@@ -142,7 +146,8 @@ fn copy_plain(
 /// copied up to the first that is refused.
 #[cycle(copy)]
 pub(crate) fn copy_group(
-    arena: &mut Arena, place: StructPlace,
+    arena: &mut Arena,
+    place: StructPlace,
     schema: StructSchema<'_>,
     source: StructReader<'_>,
     groups: usize,

@@ -20,6 +20,7 @@ ghost use Rattle.capnp_schema.specs.Plan.{brand_size};
 ghost use Rattle.capnp_slots.specs.Copied.{empty_tree};
 ghost use Rattle.capnp_slots.specs.Inits.{IsInitnRefusal, IsRoomless, is_sized};
 
+use capnp_arena::arena::Arena;
 use capnp_base::introspect::{Type, TypeVariant};
 use capnp_schema::schema::StructSchema;
 use capnp_schema::set::SchemaSet;
@@ -28,7 +29,6 @@ use capnp_wire::laws::kept::new_structs_are_well_formed;
 use capnp_wire::laws::kept_lists::{
     new_lists_are_well_formed, new_struct_lists_are_well_formed, new_texts_are_well_formed,
 };
-use capnp_arena::arena::Arena;
 use capnp_wire::size::{ElementSize, StructSize};
 
 /// The sections of a schema's structs.
@@ -126,7 +126,13 @@ fn make_structs(arena: &mut Arena, at: usize, size: StructSize, count: u32) -> R
 /// Makes a pointer lead to a list of so many elements of a type.
 ///
 /// Refused as `make_structs` for structs, and else as `make_list`.
-fn make_elements(arena: &mut Arena, at: usize, set: &SchemaSet, element: Type, count: u32) -> Result<()>
+fn make_elements(
+    arena: &mut Arena,
+    at: usize,
+    set: &SchemaSet,
+    element: Type,
+    count: u32,
+) -> Result<()>
     requires there { at < word_count (segment arena.old) }
     ensures forest { OnOk result (Forest (segment arena.new) at) }
     ensures changes { OnOk result (Changes at (segment arena.old) (segment arena.new)) }
@@ -159,7 +165,8 @@ pub(crate) fn is_sized(variant: TypeVariant) -> bool
 
 /// Makes a pointer lead to a text, data or list of a type with so many bytes or elements.
 pub(crate) fn make_sized(
-    arena: &mut Arena, at: usize,
+    arena: &mut Arena,
+    at: usize,
     set: &SchemaSet,
     variant: TypeVariant,
     count: u32,

@@ -19,15 +19,15 @@ use crate::fill::{check_data, check_text, extend_struct, fill_list, fill_struct,
 use crate::make::size_of;
 use crate::place::pointer_at;
 use crate::pointer::{pointer_slot, set_at};
-use capnp_base::introspect::{Type, TypeVariant};
 use crate::setter::SetterInput;
+use capnp_arena::arena::{Arena, Place as StructPlace};
+use capnp_base::introspect::{Type, TypeVariant};
 use capnp_base::{data, text};
 use capnp_schema::schema::{Field, StructSchema};
 use capnp_schema::set::SchemaSet;
 use capnp_schema::value::Value;
-use capnp_wire::error::Result;
-use capnp_arena::arena::{Arena, Place as StructPlace};
 use capnp_wire::PointerReader;
+use capnp_wire::error::Result;
 
 /// The root pointer of a field's default, where it has one.
 #[inline(always)]
@@ -40,7 +40,8 @@ fn default_pointer<'s>(field: Field<'s>) -> Option<PointerReader<'s>>
 /// Fills the list at a pointer, of elements of a type.
 #[inline(always)]
 fn fill_elements(
-    arena: &mut Arena, place: StructPlace,
+    arena: &mut Arena,
+    place: StructPlace,
     index: u16,
     set: &SchemaSet,
     element: Type,
@@ -58,7 +59,13 @@ fn fill_elements(
             let size = size_of(set.struct_schema(raw.number));
             fill_structs(arena, place, index, size, default)
         }
-        _ => fill_list(arena, place, index, element.expected_element_size(), default),
+        _ => fill_list(
+            arena,
+            place,
+            index,
+            element.expected_element_size(),
+            default,
+        ),
     }
 }
 
@@ -155,7 +162,12 @@ fn fill_text(arena: &mut Arena, place: StructPlace, index: u16, field: Field<'_>
 }
 
 /// Puts a default in the place of a null.
-fn put<R, S: SetterInput<R> + Copy>(arena: &mut Arena, place: StructPlace, index: u16, input: S) -> Result<()>
+fn put<R, S: SetterInput<R> + Copy>(
+    arena: &mut Arena,
+    place: StructPlace,
+    index: u16,
+    input: S,
+) -> Result<()>
     requires planted { IsBuilt arena.old place }
     requires inside { IsThere (built arena.old place) index }
     ensures planted { OnOk result (IsBuilt arena.new place) }
@@ -223,7 +235,8 @@ pub fn fill(arena: &mut Arena, place: StructPlace, field: Field<'_>) -> Result<(
 /// Fills the pointer of a slot of a struct's type, by the type's schema.
 #[inline(always)]
 fn fill_struct_at(
-    arena: &mut Arena, place: StructPlace,
+    arena: &mut Arena,
+    place: StructPlace,
     field: Field<'_>,
     schema: StructSchema<'_>,
     index: u16,
@@ -251,7 +264,8 @@ fn fill_struct_at(
 /// Refused as `fill`. The schema has to be that of the slot's type, and the struct as `fill` asks.
 #[inline(always)]
 pub fn fill_struct_slot(
-    arena: &mut Arena, place: StructPlace,
+    arena: &mut Arena,
+    place: StructPlace,
     field: Field<'_>,
     schema: StructSchema<'_>,
 ) -> Result<()>
@@ -277,7 +291,8 @@ pub fn fill_struct_slot(
 /// Fills the pointer of a slot of a list's type, by the type of the elements.
 #[inline(always)]
 fn fill_list_at(
-    arena: &mut Arena, place: StructPlace,
+    arena: &mut Arena,
+    place: StructPlace,
     field: Field<'_>,
     element: Type,
     index: u16,
@@ -304,7 +319,12 @@ fn fill_list_at(
 ///
 /// Refused as `fill`. The type has to be that of the slot's elements, and the struct as `fill` asks.
 #[inline(always)]
-pub fn fill_list_slot(arena: &mut Arena, place: StructPlace, field: Field<'_>, element: Type) -> Result<()>
+pub fn fill_list_slot(
+    arena: &mut Arena,
+    place: StructPlace,
+    field: Field<'_>,
+    element: Type,
+) -> Result<()>
     requires planted { IsBuilt arena.old place }
     requires slot { IsSlot field }
     requires type_is { ListType (seen_type element) ≡ (typed_of field).type }

@@ -12,14 +12,14 @@ ghost use Rattle.capnp_slots.specs.Planned.{place_bits};
 ghost use Rattle.capnp_slots.specs.Fields.{IsFieldPlan, IsSlot, IsSlotPlan};
 ghost use Rattle.capnp_slots.specs.Planned.{HoldsNumber, member_switched, place_cleared, place_mask, place_written, plan_written};
 
+use crate::place::{pointer_at, set_bool_field, set_data_field};
+use capnp_arena::arena::{Arena, Place as StructPlace};
 use capnp_records::laws::slot_is_written;
 use capnp_schema::laws::numbers_fit;
 use capnp_schema::loaded::load_bits;
-use crate::place::{pointer_at, set_bool_field, set_data_field};
 use capnp_schema::plan::{Place, SlotPlan, plans_stand};
 use capnp_schema::schema::Field;
 use capnp_wire::StructReader;
-use capnp_arena::arena::{Arena, Place as StructPlace};
 
 /// The plan of a field, as far as its union goes.
 #[inline(always)]
@@ -139,7 +139,12 @@ pub(crate) fn clear_plan(arena: &mut Arena, place: StructPlace, plan: SlotPlan)
 }
 
 /// Switches the union to a plan's member, and stores the bits that a struct that is read has at the plan's place.
-pub(crate) fn copy_bits(arena: &mut Arena, place: StructPlace, plan: SlotPlan, source: &StructReader<'_>)
+pub(crate) fn copy_bits(
+    arena: &mut Arena,
+    place: StructPlace,
+    plan: SlotPlan,
+    source: &StructReader<'_>,
+)
     requires planted { IsBuilt arena.old place }
     requires slot { IsSlotPlace plan.place }
     requires inside { PlanFits plan (built arena.old place) }

@@ -20,14 +20,14 @@ ghost use Rattle.capnp_slots.specs.Fields.{IsPointer, IsPointerSlot, IsSlot};
 use crate::make::{make_empty, make_sized, make_struct};
 use crate::place::pointer_at;
 use crate::planned::slot_plan;
-use capnp_base::introspect::TypeVariant;
 use crate::setter::SetterInput;
+use capnp_arena::arena::{Arena, Place as StructPlace};
+use capnp_arena::handles::PointerBuilder;
+use capnp_base::introspect::TypeVariant;
 use capnp_schema::plan::Place;
 use capnp_schema::schema::Field;
 use capnp_schema::set::SchemaSet;
 use capnp_wire::error::Result;
-use capnp_arena::handles::PointerBuilder;
-use capnp_arena::arena::{Arena, Place as StructPlace};
 use capnp_wire::size::StructSize;
 
 /// The pointer of a slot, and the discriminant of its field.
@@ -46,7 +46,8 @@ pub(crate) fn pointer_slot(field: Field<'_>) -> (u16, Option<(u32, u16)>)
 
 /// Sets a pointer of a struct.
 pub(crate) fn set_at<R, S: SetterInput<R>>(
-    arena: &mut Arena, place: StructPlace,
+    arena: &mut Arena,
+    place: StructPlace,
     index: u16,
     input: S,
 ) -> Result<()>
@@ -68,7 +69,12 @@ pub(crate) fn set_at<R, S: SetterInput<R>>(
 /// Makes a pointer of a struct lead to a new struct of a size.
 ///
 /// Refused with `OutOfMemory`, and then nothing has changed.
-pub(crate) fn make_struct_at(arena: &mut Arena, place: StructPlace, index: u16, size: StructSize) -> Result<()>
+pub(crate) fn make_struct_at(
+    arena: &mut Arena,
+    place: StructPlace,
+    index: u16,
+    size: StructSize,
+) -> Result<()>
     requires planted { IsBuilt arena.old place }
     requires inside { index < tree_count (built arena.old place).pointers }
     ensures planted { OnOk result (IsBuilt arena.new place) }
@@ -85,7 +91,8 @@ pub(crate) fn make_struct_at(arena: &mut Arena, place: StructPlace, index: u16, 
 
 /// Makes a pointer of a struct lead to a new text, data or list of a type, with so many bytes or elements.
 pub(crate) fn make_sized_at(
-    arena: &mut Arena, place: StructPlace,
+    arena: &mut Arena,
+    place: StructPlace,
     index: u16,
     set: &SchemaSet,
     variant: TypeVariant,
@@ -113,7 +120,8 @@ pub(crate) fn make_sized_at(
 ///
 /// Refused with `OutOfMemory`, and then nothing has changed.
 pub(crate) fn make_empty_at(
-    arena: &mut Arena, place: StructPlace,
+    arena: &mut Arena,
+    place: StructPlace,
     index: u16,
     variant: TypeVariant,
 ) -> Result<()>

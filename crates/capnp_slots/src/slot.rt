@@ -22,13 +22,13 @@ use crate::make::{is_sized, size_of};
 use crate::planned::{clear_plan, field_plan, slot_plan, store_number, switch_member};
 use crate::pointer::{make_sized_at, make_struct_at, pointer_slot, set_at};
 use crate::primitive::{Primitive, number_at_once, number_fits, refusal_at};
-use crate::source::Source;
-use capnp_base::introspect::TypeVariant;
 use crate::setter::SetterInput;
+use crate::source::Source;
+use capnp_arena::arena::{Arena, Place as StructPlace};
+use capnp_base::introspect::TypeVariant;
 use capnp_schema::plan::Place;
 use capnp_schema::schema::Field;
 use capnp_wire::error::{Error, ErrorKind, Result};
-use capnp_arena::arena::{Arena, Place as StructPlace};
 use capnp_wire::size::StructSize;
 
 /// Whether a field is a slot and no group.
@@ -82,7 +82,12 @@ fn refuse_at(field: Field<'_>) -> Error
 ///
 /// The field has to be a slot, and the struct to have the sections of the field's schema.
 #[inline(always)]
-pub fn set_primitive(arena: &mut Arena, place: StructPlace, field: Field<'_>, value: Primitive) -> Result<()>
+pub fn set_primitive(
+    arena: &mut Arena,
+    place: StructPlace,
+    field: Field<'_>,
+    value: Primitive,
+) -> Result<()>
     requires planted { IsBuilt arena.old place }
     requires slot { IsSlot field }
     requires room { IsRoomFor field (built arena.old place) }
@@ -111,7 +116,8 @@ pub fn set_primitive(arena: &mut Arena, place: StructPlace, field: Field<'_>, va
 ///
 /// The field has to be a slot of a pointer type, and the struct to have the sections of the field's schema.
 pub fn set_pointer<R, S: SetterInput<R>>(
-    arena: &mut Arena, place: StructPlace,
+    arena: &mut Arena,
+    place: StructPlace,
     field: Field<'_>,
     input: S,
 ) -> Result<()>
@@ -147,7 +153,12 @@ pub fn set_pointer<R, S: SetterInput<R>>(
 /// The field has to be a slot, and the struct to have the sections of the field's schema.
 #[tactic(auto, using(crate::proofs::Kept::set_keeps, crate::proofs::Kept::object_keeps))]
 #[inline(always)]
-pub fn set(arena: &mut Arena, place: StructPlace, field: Field<'_>, source: Source<'_>) -> Result<()>
+pub fn set(
+    arena: &mut Arena,
+    place: StructPlace,
+    field: Field<'_>,
+    source: Source<'_>,
+) -> Result<()>
     requires planted { IsBuilt arena.old place }
     requires slot { IsSlot field }
     requires room { IsRoomFor field (built arena.old place) }
@@ -166,7 +177,12 @@ pub fn set(arena: &mut Arena, place: StructPlace, field: Field<'_>, source: Sour
 
 /// Sets a slot to what stands behind a pointer.
 #[inline(never)]
-fn set_pointed(arena: &mut Arena, place: StructPlace, field: Field<'_>, source: Source<'_>) -> Result<()>
+fn set_pointed(
+    arena: &mut Arena,
+    place: StructPlace,
+    field: Field<'_>,
+    source: Source<'_>,
+) -> Result<()>
     requires planted { IsBuilt arena.old place }
     requires slot { IsSlot field }
     requires room { IsRoomFor field (built arena.old place) }
@@ -217,7 +233,12 @@ pub fn init(arena: &mut Arena, place: StructPlace, field: Field<'_>) -> Result<(
 }
 
 /// Makes a pointer's slot a struct of a size, and then its field active.
-fn init_struct(arena: &mut Arena, place: StructPlace, field: Field<'_>, size: StructSize) -> Result<()>
+fn init_struct(
+    arena: &mut Arena,
+    place: StructPlace,
+    field: Field<'_>,
+    size: StructSize,
+) -> Result<()>
     requires planted { IsBuilt arena.old place }
     requires slot { IsSlot field }
     requires pointer { IsPointer field }

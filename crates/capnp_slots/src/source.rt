@@ -10,9 +10,9 @@ ghost use Rattle.capnp_slots.specs.SetValues.{source_of};
 ghost use Rattle.capnp_slots.specs.Sources.{IsPointed, source_seen};
 
 use crate::primitive::{Primitive, number_fits};
-use capnp_base::introspect::Type;
 use crate::setter::SetterInput;
 use capnp_arena::handles::PointerBuilder;
+use capnp_base::introspect::Type;
 use capnp_base::{any_pointer, data, text};
 use capnp_dynamic_readers::dynamic_value::Reader as Value;
 use capnp_schema::schema::StructSchema;

@@ -1,6 +1,8 @@
-use Rattle.std.proofs.Common.{[], ◌∷◌, ◌∙◌, ap, arith}
+use Rattle.std.proofs.Common.{[], ◌∷◌, ◌∙◌, ap, arith, subst, sym}
 use Rattle.capnp_wire.specs.Place.{struct_at, tree_below}
-use Rattle.capnp_arena.proofs.Shallow.{deep_struct}
+use Rattle.capnp_arena.specs.Forest.{struct_from}
+use Rattle.capnp_arena.specs.Same.{IsStructCutOf}
+use Rattle.capnp_arena.proofs.Shallow.{cut_struct, deep_struct}
 use Rattle.capnp_arena.proofs.arena.Arena.get_struct_reader.Goals as goal
 
 pub of_words-requires : goal.of_words-requires
@@ -12,3 +14,9 @@ returns-clause-read c =
 
 pub returns-clause-parts : goal.returns-clause-parts
 returns-clause-parts c = λ below. returns-clause-read c ∙ deep_struct c.args.self.now.bytes.items c.args.place.start c.args.place.data_words c.args.place.pointers c.requires.planted 65535 below
+
+pub returns-clause-cut : goal.returns-clause-cut
+returns-clause-cut c =
+    let bytes = c.args.self.now.bytes.items in
+    let place = c.args.place in
+    subst (λ s. IsStructCutOf s (struct_from bytes place.start place.data_words place.pointers)) (sym (returns-clause-read c)) (cut_struct bytes place.start place.data_words place.pointers c.requires.planted)
