@@ -18,7 +18,7 @@ use Rattle.capnp_schema.specs.SlotValue.{bit_number, unsigned}
 use Rattle.capnp_schema.specs.Types.{SchemaType}
 use Rattle.capnp_set_writer.specs.Kept.{AnnotationKept, BrandKept, EnumKept, EnumerantKept, FieldKept, IsName, KindKept, NodeKept, SetKept, TypeKept, ValueKept}
 use Rattle.capnp_set_writer.specs.Limits.{AnnotationFits, AnnotationsFit, BrandFits, DefaultFits, EnumFits, EnumerantFits, FieldFits, IsTextLength, ListFits, NodeFits, SetFits, TypeFits, TypeListsFit, TypesFit, ValueFits}
-use Rattle.capnp_set_writer.specs.Sizes.{value_size}
+use Rattle.capnp_set_writer.proofs.Sizes.{value_size}
 use Rattle.capnp_set_writer.specs.Trees.{annotation_tree, annotations_tree, base_number, brand_tree, enum_tree, enumerant_tree, field_kind_tree, field_tree, in_word, list_count, named_number, node_tree, set_tree, struct_list, type_lists_tree, type_tree, types_tree, value_tree, width_place, zeros}
 use Rattle.capnp_set_writer.proofs.Lists.{all-head, all-tail}
 use Rattle.capnp_set_writer.proofs.Records.{numbers-bytes, row-bytes}

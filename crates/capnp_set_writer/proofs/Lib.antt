@@ -5,8 +5,10 @@ pub mod Layers
 pub mod Lists
 pub mod Named
 pub mod Numbers
+pub mod Places
 pub mod Records
 pub mod Sets
+pub mod Sizes
 pub mod Trees
 pub mod TypesRead
 pub mod ValuesRead

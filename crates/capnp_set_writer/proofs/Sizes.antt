@@ -1,15 +1,14 @@
--- The struct of each part has the size that its list has.
+-- The struct of a value has the size of a record of one.
 use Rattle.std.specs.Prelude.{ℕ, ◌+◌, ◌*◌, ◌≡◌, ◌⊎◌, true, refl}
 use Rattle.std.proofs.Common.{arith, inl, inr, subst, sym}
 use Rattle.std.proofs.lemmas.Bool.Decides.{nat_tests}
 use Rattle.capnp_wire.specs.Sizes.{KeepsSize}
 use Rattle.capnp_wire.specs.Tree.{Null}
 use Rattle.capnp_wire.specs.WellFormed.{is_width}
-use Rattle.capnp_schema.specs.Schema.{Field, FieldKind, Group, Slot}
 use Rattle.capnp_schema.specs.Schema.{Value, VoidValue, BoolValue, IntValue, UIntValue, EnumValue, TextValue, DataValue, StructValue, ListValue, AnyPointerValue}
 use Rattle.capnp_schema.specs.SlotValue.{unsigned}
-use Rattle.capnp_set_writer.specs.Kept.{FieldKept, ValueKept}
-use Rattle.capnp_set_writer.specs.Trees.{field_kind_tree, field_tree, in_word, value_row, value_tree, width_place}
+use Rattle.capnp_set_writer.specs.Kept.{ValueKept}
+use Rattle.capnp_set_writer.specs.Trees.{in_word, value_row, value_tree, width_place}
 use Rattle.capnp_set_writer.specs.Writes.{blank}
 
 bytes_are : (k : ℕ) → is_width k ≡ true → (k ≡ 1) ⊎ ((k ≡ 2) ⊎ ((k ≡ 4) ⊎ (k ≡ 8)))
@@ -43,10 +42,3 @@ value_size (DataValue bytes) k = record { bytes = refl; pointers = refl }
 value_size (StructValue words) k = record { bytes = refl; pointers = refl }
 value_size (ListValue words) k = record { bytes = refl; pointers = refl }
 value_size (AnyPointerValue words) k = record { bytes = refl; pointers = refl }
-
-kind_size : (f : Field) (kind : FieldKind) → KeepsSize (blank 1 3) (field_kind_tree f kind)
-kind_size f (Slot offset default) = record { bytes = refl; pointers = refl }
-kind_size f (Group node) = record { bytes = refl; pointers = refl }
-
-pub field_size : (f : Field) → FieldKept f → KeepsSize (blank 1 3) (field_tree f)
-field_size f k = kind_size f f.kind
