@@ -1,5 +1,4 @@
 pub mod Depth
-pub mod Formed
 pub mod HaveKinds
 pub mod Layers
 pub mod Lists
@@ -8,7 +7,7 @@ pub mod Numbers
 pub mod Places
 pub mod Records
 pub mod Sets
-pub mod Sizes
 pub mod Trees
 pub mod TypesRead
 pub mod ValuesRead
+pub mod Widths

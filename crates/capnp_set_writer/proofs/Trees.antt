@@ -46,10 +46,6 @@ no-memory kind a b = cc
 no-memory-either : (kind : ErrorKind) → kind ≡ OutOfMemory → kind ≡ SizePastFormat → ⊥
 no-memory-either kind a b = cc
 
--- want of memory refuses whatever it is
-pub memory-refused : {K F : Type 0} (kind : ErrorKind) → kind ≡ OutOfMemory → IsPartRefusal K F kind
-memory-refused kind e = ((λ memory size. absurd (memory e)), (λ unknown k. no-memory kind e unknown), (λ past k. no-memory-either kind e past))
-
 no-size : (kind : ErrorKind) → kind ≡ SizePastFormat → kind ≡ UnknownKind → ⊥
 no-size kind a b = cc
 

@@ -80,12 +80,7 @@ fn put_struct<T: Part>(arena: &mut Arena, at: usize, part: &T) -> Result<()>
 /// Puts a part at a pointer of a struct.
 ///
 /// Refused as `Part::put`.
-pub(crate) fn put_part<T: Part>(
-    arena: &mut Arena,
-    place: Place,
-    index: u16,
-    part: &T,
-) -> Result<()>
+pub(crate) fn put_part<T: Part>(arena: &mut Arena, place: Place, index: u16, part: &T) -> Result<()>
     requires planted { IsBuilt arena.old place }
     requires inside { index < place.pointers }
     ensures planted { OnOk result (IsBuilt arena.new place) }

@@ -24,7 +24,8 @@ use capnp_wire::size::StructSize;
 
 /// Stores the number of a value's kind, and the value's number in the second word. Never refused.
 fn put_kind<T: PrimitiveElement>(
-    arena: &mut Arena, place: Place,
+    arena: &mut Arena,
+    place: Place,
     kind: u16,
     offset: u32,
     value: T,
