@@ -63,7 +63,8 @@ fn put_root(arena: &mut Arena, set: &SchemaSet) -> Result<()>
 ///
 /// Refused with `UnknownKind` where a value is untyped and isn't one zero word, or is a list without words, for which the
 /// form has no kind; with `SizePastFormat` where a type has more than 65,535 lists around it, or a text, data or list is
-/// too long for the format; with `TooLarge` where the message would be 2^29 words or more; and else with `OutOfMemory`.
+/// too long for the format; and else with `OutOfMemory`, also where the message would be 2^29 words or more. `TooLarge` is
+/// given there alone.
 pub fn write_set(alloc: Global, set: &SchemaSet) -> Result<Vec<u8>>
     ensures read { IfOk result (λ bytes. IsReadAsSet (lists_seen set.now) bytes.items) }
     ensures kinds { OnOk result (SetHasKinds (lists_seen set.now)) }
