@@ -6,4 +6,5 @@ pub mod Forests
 pub mod Calls
 pub mod Structs
 pub mod Laws
+pub mod Places
 pub mod Elements

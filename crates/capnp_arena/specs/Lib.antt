@@ -3,6 +3,7 @@ pub mod Forest
 pub mod Made
 pub mod Segment
 pub mod Leaves
+pub mod Built
 pub mod Looked
 pub mod Counts
 pub mod Encoded

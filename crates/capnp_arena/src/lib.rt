@@ -27,4 +27,5 @@ mod reader;
 pub mod reads;
 mod spell;
 mod struct_lists;
+pub mod structs;
 mod target;

@@ -1,12 +1,13 @@
 pub mod Depth
-pub mod Formed
 pub mod HaveKinds
 pub mod Layers
 pub mod Lists
 pub mod Named
 pub mod Numbers
+pub mod Places
 pub mod Records
 pub mod Sets
 pub mod Trees
 pub mod TypesRead
 pub mod ValuesRead
+pub mod Widths

@@ -19,12 +19,11 @@ use Rattle.capnp_sets.specs.Fields.{node_of}
 use Rattle.capnp_sets.specs.Lists.{brand_of, enum_of, read_or_none, set_of}
 use Rattle.capnp_sets.specs.Parts.{read_at, structs}
 use Rattle.capnp_set_writer.specs.Kept.{NodeKept, SetKept}
-use Rattle.capnp_set_writer.specs.Limits.{SetFits, message_words}
+use Rattle.capnp_set_writer.specs.Limits.{message_words}
 use Rattle.capnp_set_writer.specs.Message.{IsReadAsSet}
 use Rattle.capnp_sets.specs.Message.{root_set, root_struct}
 use Rattle.capnp_set_writer.specs.Trees.{brand_tree, enum_tree, node_tree, set_tree}
 use Rattle.capnp_set_writer.proofs.Depth.{shallow}
-use Rattle.capnp_set_writer.proofs.Formed.{set-formed}
 use Rattle.capnp_set_writer.proofs.Lists.{structs-there}
 use Rattle.capnp_set_writer.proofs.Named.{brand_values, brands-named, enums-named}
 use Rattle.capnp_set_writer.proofs.Numbers.{applied}
@@ -57,5 +56,5 @@ module _ (s : Schemas) where
   pub message-small : (t : Tree) → t ≡ struct_tree (set_tree s) → IsWellFormed t × (suc (words_of t) < 2 ^ 29) → message_words s < 2 ^ 29
   message-small t e held = subst (λ (x : Tree). suc (words_of x) < 2 ^ 29) e held.1
 
-  pub message-large : (t : Tree) (kind : ErrorKind) → t ≡ struct_tree (set_tree s) → SetKept s → SetFits s → (kind ≡ TooLarge → IsWellFormed t → 2 ^ 29 ≤ suc (words_of t)) → kind ≡ TooLarge → 2 ^ 29 ≤ message_words s
-  message-large t kind e k f h large = subst (λ (x : Tree). 2 ^ 29 ≤ suc (words_of x)) e (h large (subst IsWellFormed (sym e) (set-formed s k f)))
+  pub message-large : (t : Tree) (kind : ErrorKind) → t ≡ struct_tree (set_tree s) → (kind ≡ TooLarge → 2 ^ 29 ≤ suc (words_of t)) → kind ≡ TooLarge → 2 ^ 29 ≤ message_words s
+  message-large t kind e h large = subst (λ (x : Tree). 2 ^ 29 ≤ suc (words_of x)) e (h large)

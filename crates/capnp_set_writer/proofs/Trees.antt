@@ -1,30 +1,20 @@
--- Trees of lent parts, and rows that are filled one by one.
+-- Results of calls, and rows that are filled one by one.
 use Rattle.std.proofs.Common.{◌≡◌, ◌≢◌, ◌⊎◌, inl, inr, ℕ, zero, suc, ◌+◌, ◌*◌, ◌^◌, ◌<◌, ◌≤◌, refl, ap, sym, subst, ◌∙◌, arith, List, [], ◌∷◌, length, get_or}
 use Rattle.std.specs.Prelude.{All, Result, Ok, Err, IfErr, IfOk, OnOk, map}
-use Rattle.std.proofs.lemmas.List.{length-map, length-replicate}
+use Rattle.std.proofs.lemmas.List.{length-map}
 use borrow.Author.Count.{below_more}
 use Rattle.capnp_device.specs.declared.error.Error.{Error}
 use Rattle.capnp_device.specs.declared.error.ErrorKind.{ErrorKind}
 use Rattle.capnp_device.specs.declared.error.ErrorKind.TheVariants.{OutOfMemory, SizePastFormat, TooLarge, UnknownKind}
 use Rattle.capnp_wire.specs.Tree.{Composite, MoreStructs, MoreTrees, Null, Pointers, StructTree, Tree, nth_struct, struct_count, structs_from, tree_count, trees_from}
-use Rattle.capnp_wire.specs.Edits.{IsRoomRefusal, nulls, with_pointer_tree, with_tree, zero_struct, zero_structs}
+use Rattle.capnp_wire.specs.Edits.{IsRoomRefusal, nulls, with_tree, zero_struct, zero_structs}
 use Rattle.capnp_wire.specs.Elements.{HasPointer, HasStruct, with_pointer_element, with_struct, with_struct_element}
-use Rattle.capnp_wire.specs.Place.{struct_tree}
 use Rattle.capnp_wire.specs.Reading.{element_struct}
-use Rattle.capnp_wire.specs.Sizes.{KeepsSize}
-use Rattle.capnp_wire.specs.Lends.{with_pointer}
-use Rattle.capnp_wire.specs.Objects.{list_object_tree, object_tree, struct_object_tree, structs_of, trees_of}
-use Rattle.capnp_wire.specs.declared.object.Object.{Object}
-use Rattle.capnp_wire.specs.declared.object.StructObject.{StructObject}
+use Rattle.capnp_wire.specs.Objects.{structs_of, trees_of}
 use Rattle.capnp_wire.specs.declared.size.StructSize.{StructSize}
-use Rattle.capnp_wire.specs.declared.object.Object.TheVariants as object
-use Rattle.capnp_wire.specs.declared.object.ListObject.{ListObject}
-use Rattle.capnp_wire.specs.Facts.Objects.{tree-of_list, tree-of_struct}
-use Rattle.capnp_wire.specs.Facts.Rows.{tree_count-nulls}
-use Rattle.capnp_wire.specs.Facts.Written.{pointer_written}
 use Rattle.capnp_set_writer.specs.Limits.{ListFits}
 use Rattle.capnp_set_writer.specs.Trees.{struct_list, zeros}
-use Rattle.capnp_set_writer.specs.Writes.{IsBlank, IsPartRefusal, IsWriteRefusal, blank, filled, filled_trees}
+use Rattle.capnp_set_writer.specs.Writes.{IsPartRefusal, IsWriteRefusal, blank, filled, filled_trees}
 
 pub on_ok : {A E : Type 0} {P Q : Type 0} (r : Result A E) → (P → Q) → OnOk r P → OnOk r Q
 on_ok (Ok a) f p = f p
@@ -33,6 +23,10 @@ on_ok (Err e) f p = p
 pub both_ok : {A E : Type 0} {P Q R : Type 0} (r : Result A E) → (P → Q → R) → OnOk r P → OnOk r Q → OnOk r R
 both_ok (Ok a) f p q = f p q
 both_ok (Err e) f p q = p
+
+pub three_ok : {A E : Type 0} {P Q R S : Type 0} (r : Result A E) → (P → Q → R → S) → OnOk r P → OnOk r Q → OnOk r R → OnOk r S
+three_ok (Ok a) f p q s = f p q s
+three_ok (Err e) f p q s = p
 
 -- what there is no room for is refused as a part is
 pub room-refused : (e : Error) (past : Type 0) → IsRoomRefusal e past → IsWriteRefusal e.kind
@@ -51,10 +45,6 @@ no-memory kind a b = cc
 
 no-memory-either : (kind : ErrorKind) → kind ≡ OutOfMemory → kind ≡ SizePastFormat → ⊥
 no-memory-either kind a b = cc
-
--- want of memory refuses whatever it is
-pub memory-refused : {K F : Type 0} (kind : ErrorKind) → kind ≡ OutOfMemory → IsPartRefusal K F kind
-memory-refused kind e = ((λ memory size. absurd (memory e)), (λ unknown k. no-memory kind e unknown), (λ past k. no-memory-either kind e past))
 
 no-size : (kind : ErrorKind) → kind ≡ SizePastFormat → kind ≡ UnknownKind → ⊥
 no-size kind a b = cc
@@ -127,29 +117,9 @@ module _ {P S : Type 0} (seen : P → S) (parts : List P) (count : ℕ) (size : 
   long-list (inl many) f = omega (arith, subst (λ n. 2 ^ 29 ≤ n) same-count many, f.count.0)
   long-list (inr long) f = omega (arith, subst (λ n. 2 ^ 29 ≤ n) same-words long, f.count.1)
 
--- a struct, and a list, at a pointer
-pub struct_stands : (s : StructObject) → object_tree (object.Struct s) ≡ struct_tree (struct_object_tree s)
-struct_stands = tree-of_struct
-
-pub list_stands : (l : ListObject) → object_tree (object.List l) ≡ list_object_tree l
-list_stands = tree-of_list
-
 pub if_ok : {A E : Type 0} {P Q : A → Type 0} (r : Result A E) → ((a : A) → P a → Q a) → IfOk r P → IfOk r Q
 if_ok (Ok a) f p = f a p
 if_ok (Err e) f p = p
-
--- ---- new structs ----
-
--- a pointer that was lent
-pub pointer-left : (s : StructObject) (i : ℕ) (o : Object) (t : Tree) → object_tree o ≡ t → struct_object_tree (with_pointer s i o) ≡ with_pointer_tree (struct_object_tree s) i t
-pointer-left s i o t e = pointer_written s i o ∙ ap (with_pointer_tree (struct_object_tree s) i) e
-
-pub is-blank : (d p : ℕ) (s : StructTree) → s ≡ blank d p → IsBlank d p s
-is-blank d p s e = subst (IsBlank d p) (sym e) (record { is = refl; bytes = length-replicate (8 * d) 0; pointers = tree_count-nulls p })
-
--- a new struct of a size
-pub new-blank : (d p : ℕ) (size : StructSize) (s : StructTree) → size.data_words ≡ d → size.pointers ≡ p → s ≡ zero_struct size → IsBlank d p s
-new-blank d p size s a b e = is-blank d p s (e ∙ (ap (λ n. record { bytes = zeros (8 * n); pointers = nulls size.pointers }) a ∙ ap (λ n. record { bytes = zeros (8 * d); pointers = nulls n }) b))
 
 -- ---- rows of structs ----
 
@@ -224,10 +194,6 @@ pub kept-more : {P S : Type 0} (Kept : S → Type 0) (seen : P → S) (parts : L
 kept-more {S = S} Kept seen parts i part inside is here below =
     below_more (λ k. (d : S) → Kept (get_or (map seen parts) k d)) i below
     (λ d. subst Kept (sym (same-there (map seen parts) i d (seen part) (omega (arith, inside, length-map parts seen)) ∙ (map-at seen parts i part ∙ ap seen (sym is)))) here)
-
--- what is new in a list has the element's size
-pub keeps-blank : (d p : ℕ) (old x : StructTree) → old ≡ blank d p → KeepsSize (blank d p) x → KeepsSize old x
-keeps-blank d p old x e h = subst (λ (z : StructTree). KeepsSize z x) (sym e) h
 
 -- ---- rows of trees ----
 

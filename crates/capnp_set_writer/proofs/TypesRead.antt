@@ -15,7 +15,7 @@ use Rattle.capnp_sets.specs.Causes.{Read, flat}
 use Rattle.capnp_sets.specs.Parts.{number, read_at}
 use Rattle.capnp_sets.specs.Types.{base_type, generic_in, type_lists, type_of, types}
 use Rattle.capnp_set_writer.specs.Kept.{TypeKept}
-use Rattle.capnp_set_writer.specs.Sizes.{by-width}
+use Rattle.capnp_set_writer.proofs.Widths.{by-width}
 use Rattle.capnp_set_writer.specs.Trees.{base_number, list_count, named_number, type_lists_tree, type_row, type_tree, types_tree, width_place}
 use Rattle.capnp_set_writer.proofs.Lists.{HasLevels, lists-there, structs-there}
 use Rattle.capnp_set_writer.proofs.Numbers.{applied, read_ok, uint-slot}

@@ -20,7 +20,7 @@ use Rattle.capnp_sets.specs.Parts.{number, read_at, read_under, struct, text}
 use Rattle.capnp_sets.specs.Values.{annotation_of, annotations, value_by, value_of}
 use Rattle.capnp_schema.specs.Schema.{field_at}
 use Rattle.capnp_set_writer.specs.Kept.{AnnotationKept, ValueKept}
-use Rattle.capnp_set_writer.specs.Sizes.{by-width}
+use Rattle.capnp_set_writer.proofs.Widths.{by-width}
 use Rattle.capnp_set_writer.specs.Trees.{annotation_tree, annotations_tree, in_word, value_tree, zeros}
 use Rattle.capnp_set_writer.proofs.Lists.{HasLevel, HasLevels, struct-entered, structs-there}
 use Rattle.capnp_set_writer.proofs.Numbers.{applied, int-slot, read_ok, text_in, uint-slot}

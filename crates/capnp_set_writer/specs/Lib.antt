@@ -1,6 +1,5 @@
 pub mod Kept
 pub mod Limits
 pub mod Message
-pub mod Sizes
 pub mod Trees
 pub mod Writes

@@ -1,10 +1,13 @@
 -- What the calls of the writer do to a tree, one after another.
-use Rattle.std.specs.Prelude.{ℕ, zero, suc, ◌≡◌, ◌≢◌, ◌*◌, ⊤, List, [], ◌∷◌, length}
+use Rattle.std.specs.Prelude.{ℕ, zero, suc, ◌≡◌, ◌≢◌, ◌*◌, ⊤, List, [], ◌∷◌}
 use Rattle.capnp_device.specs.declared.error.ErrorKind.{ErrorKind}
 use Rattle.capnp_device.specs.declared.error.ErrorKind.TheVariants.{OutOfMemory, SizePastFormat, UnknownKind}
 use Rattle.capnp_wire.specs.Edits.{nulls, with_bytes, with_number, with_pointer_tree}
 use Rattle.capnp_wire.specs.Place.{struct_tree}
-use Rattle.capnp_wire.specs.Tree.{MoreStructs, MoreTrees, NoStructs, NoTrees, Null, StructTree, Structs, Tree, Trees, tree_count}
+use Rattle.capnp_wire.specs.Tree.{MoreStructs, MoreTrees, NoStructs, NoTrees, Null, StructTree, Structs, Tree, Trees}
+use Rattle.capnp_arena.specs.Built.{IsBuilt, built}
+use Rattle.capnp_arena.specs.declared.arena.Arena.{Arena}
+use Rattle.capnp_arena.specs.declared.arena.Place.{Place}
 use Rattle.capnp_base.specs.declared.introspect.TypeVariant.{TypeVariant}
 use Rattle.capnp_base.specs.declared.introspect.TypeVariant.TheVariants as variant
 use Rattle.capnp_schema.specs.Schema.{FieldKind, Group, Node, Slot}
@@ -24,23 +27,22 @@ IsPartRefusal kinds fits kind = IsWriteRefusal kind × (kind ≡ UnknownKind →
 abbrev pub blank : (data_words pointers : ℕ) → StructTree
 blank data_words pointers = record { bytes = zeros (8 * data_words); pointers = nulls pointers }
 
-pub record IsBlank (d p : ℕ) (s : StructTree) : Type 0 where
-  pub is : s ≡ blank d p
-  pub bytes : length s.bytes ≡ 8 * d
-  pub pointers : tree_count s.pointers ≡ p
+-- it stands at a place
+pub record IsNew (d p : ℕ) (a : Arena) (place : Place) : Type 0 where
+  pub planted : IsBuilt a place
+  pub is : built a place ≡ blank d p
+  pub data_words : place.data_words ≡ d
+  pub pointers : place.pointers ≡ p
 
 -- with a number of so many bytes at an offset in units of its width
 abbrev pub numbered : (width offset number : ℕ) → StructTree → StructTree
 numbered width offset number s = with_bytes s (with_number width offset number s.bytes)
 
--- a struct of the sections of a field, and of a node
-pub record HasFieldSize (s : StructTree) : Type 0 where
-  pub bytes : length s.bytes ≡ 8
-  pub pointers : tree_count s.pointers ≡ 3
-
-pub record HasNodeSize (s : StructTree) : Type 0 where
-  pub bytes : length s.bytes ≡ 24
-  pub pointers : tree_count s.pointers ≡ 3
+-- a struct of these sections stands at a place
+pub record HasSections (d p : ℕ) (a : Arena) (place : Place) : Type 0 where
+  pub planted : IsBuilt a place
+  pub data_words : place.data_words ≡ d
+  pub pointers : place.pointers ≡ p
 
 -- with the numbers of a node
 abbrev pub sections_written : Node → StructTree → StructTree

@@ -1,5 +1,5 @@
 //! Brands and enums, as their records are written.
-ghost use Rattle.std.specs.Prelude.{◌≡◌, ⊤, refl};
+ghost use Rattle.std.specs.Prelude.{◌≡◌, ⊤};
 ghost use Rattle.capnp_schema.specs.Schema.{Brand, Enum, Enumerant, seen_brand, seen_enum, seen_enumerant};
 ghost use Rattle.capnp_set_writer.specs.Kept.{BrandKept, EnumKept, EnumerantKept};
 ghost use Rattle.capnp_set_writer.specs.Limits.{BrandFits, EnumFits, EnumHasKinds, EnumerantFits, EnumerantHasKinds};
@@ -7,10 +7,10 @@ ghost use Rattle.capnp_set_writer.specs.Trees.{brand_tree, enum_tree, enumerant_
 
 use crate::rows::{Part, put_parts};
 use crate::types::put_type_lists;
-use crate::writes::{put_name, put_number};
+use crate::writes::put_name;
+use capnp_arena::arena::{Arena, Place};
 use capnp_schema::record::{BrandRecord, EnumRecord, EnumerantRecord};
 use capnp_wire::error::Result;
-use capnp_wire::object::StructObject;
 use capnp_wire::size::StructSize;
 
 impl Part for BrandRecord {
@@ -30,8 +30,6 @@ impl Part for BrandRecord {
 
     ghost fits = { BrandFits };
 
-    ghost has_size = { λ b kept. record { bytes = refl; pointers = refl } };
-
     fn size() -> StructSize {
         StructSize {
             data_words: 1,
@@ -39,11 +37,11 @@ impl Part for BrandRecord {
         }
     }
 
-    fn put(&self, to: &mut StructObject) -> Result<()> {
-        put_number::<u32>(to, 0, self.node);
-        put_parts(to, 0, self.field_types.as_slice())?;
-        put_parts(to, 1, self.annotation_types.own.as_slice())?;
-        put_type_lists(to, 2, self.annotation_types.children.as_slice())
+    fn put(&self, arena: &mut Arena, place: Place) -> Result<()> {
+        arena.set_number::<u32>(place, 0, self.node);
+        put_parts(arena, place, 0, self.field_types.as_slice())?;
+        put_parts(arena, place, 1, self.annotation_types.own.as_slice())?;
+        put_type_lists(arena, place, 2, self.annotation_types.children.as_slice())
     }
 }
 
@@ -64,8 +62,6 @@ impl Part for EnumerantRecord {
 
     ghost fits = { EnumerantFits };
 
-    ghost has_size = { λ e kept. record { bytes = refl; pointers = refl } };
-
     fn size() -> StructSize {
         StructSize {
             data_words: 0,
@@ -73,9 +69,9 @@ impl Part for EnumerantRecord {
         }
     }
 
-    fn put(&self, to: &mut StructObject) -> Result<()> {
-        put_name(to, 0, self.name.as_str())?;
-        put_parts(to, 1, self.annotations.as_slice())
+    fn put(&self, arena: &mut Arena, place: Place) -> Result<()> {
+        put_name(arena, place, 0, self.name.as_str())?;
+        put_parts(arena, place, 1, self.annotations.as_slice())
     }
 }
 
@@ -96,8 +92,6 @@ impl Part for EnumRecord {
 
     ghost fits = { EnumFits };
 
-    ghost has_size = { λ e kept. record { bytes = refl; pointers = refl } };
-
     fn size() -> StructSize {
         StructSize {
             data_words: 1,
@@ -105,12 +99,12 @@ impl Part for EnumRecord {
         }
     }
 
-    fn put(&self, to: &mut StructObject) -> Result<()> {
-        put_number::<u64>(to, 0, self.id);
-        put_name(to, 0, self.display_name.as_str())?;
-        put_parts(to, 1, self.annotations.as_slice())?;
-        put_parts(to, 2, self.enumerants.as_slice())?;
-        put_parts(to, 3, self.annotation_types.own.as_slice())?;
-        put_type_lists(to, 4, self.annotation_types.children.as_slice())
+    fn put(&self, arena: &mut Arena, place: Place) -> Result<()> {
+        arena.set_number::<u64>(place, 0, self.id);
+        put_name(arena, place, 0, self.display_name.as_str())?;
+        put_parts(arena, place, 1, self.annotations.as_slice())?;
+        put_parts(arena, place, 2, self.enumerants.as_slice())?;
+        put_parts(arena, place, 3, self.annotation_types.own.as_slice())?;
+        put_type_lists(arena, place, 4, self.annotation_types.children.as_slice())
     }
 }

@@ -1,21 +1,23 @@
 //! Sets of schemas as messages.
 ghost use Rattle.std.specs.Prelude.{◌≡◌, ◌≢◌, ◌≤◌, ◌<◌, ◌^◌, IfErr, IfOk, OnOk};
 ghost use Rattle.capnp_device.specs.declared.error.ErrorKind.TheVariants.{SizePastFormat, TooLarge, UnknownKind};
-ghost use Rattle.capnp_wire.specs.Objects.{object_tree, struct_object_tree};
 ghost use Rattle.capnp_wire.specs.Place.{struct_tree};
+ghost use Rattle.capnp_arena.specs.Built.{ChangesIn, IsBuilt, built};
+ghost use Rattle.capnp_arena.specs.Forest.{Forest, tree};
+ghost use Rattle.capnp_arena.specs.Segment.{segment};
+ghost use Rattle.capnp_arena.specs.Shape.{word_count};
 ghost use Rattle.capnp_schema.specs.Accepted.{IsAccepted};
 ghost use Rattle.capnp_schema.specs.Entries.{lists_seen};
 ghost use Rattle.capnp_set_writer.specs.Kept.{SetKept};
 ghost use Rattle.capnp_set_writer.specs.Limits.{HasFormless, IsPastFormat, SetFits, SetHasKinds, message_words};
 ghost use Rattle.capnp_set_writer.specs.Message.{IsReadAsSet};
 ghost use Rattle.capnp_set_writer.specs.Trees.{set_tree};
-ghost use Rattle.capnp_set_writer.specs.Writes.{IsBlank, IsPartRefusal, IsWriteRefusal};
+ghost use Rattle.capnp_set_writer.specs.Writes.{IsNew, IsPartRefusal, IsWriteRefusal};
 
 use crate::rows::put_parts;
+use capnp_arena::arena::{Arena, Place};
 use capnp_schema::set::SchemaSet;
 use capnp_wire::error::Result;
-use capnp_wire::message::Builder;
-use capnp_wire::object::{Object, StructObject};
 use capnp_wire::size::StructSize;
 use std::alloc::Global;
 
@@ -26,30 +28,33 @@ const ROOT: StructSize = StructSize {
 };
 
 /// Puts the three lists of a set.
-fn put_lists(to: &mut StructObject, set: &SchemaSet) -> Result<()>
-    requires { IsBlank 0 3 (struct_object_tree to.old) }
-    ensures written { OnOk result (struct_object_tree to.new ≡ set_tree (lists_seen set.now)) }
+fn put_lists(arena: &mut Arena, place: Place, set: &SchemaSet) -> Result<()>
+    requires { IsNew 0 3 arena.old place }
+    ensures planted { OnOk result (IsBuilt arena.new place) }
+    ensures changes { OnOk result (ChangesIn place arena.old arena.new) }
+    ensures written { OnOk result (built arena.new place ≡ set_tree (lists_seen set.now)) }
     ensures kept { OnOk result (SetKept (lists_seen set.now)) }
     ensures accepted { IsAccepted (lists_seen set.now) }
     ensures fits { OnOk result (SetFits (lists_seen set.now)) }
     ensures cause { IfErr result (λ e. IsPartRefusal (SetHasKinds (lists_seen set.now)) (SetFits (lists_seen set.now)) e.kind) }
 {
-    put_parts(to, 0, set.nodes())?;
-    put_parts(to, 1, set.brands())?;
-    put_parts(to, 2, set.enums())
+    put_parts(arena, place, 0, set.nodes())?;
+    put_parts(arena, place, 1, set.brands())?;
+    put_parts(arena, place, 2, set.enums())
 }
 
-/// Makes a pointer lead to the record of a set.
-#[tactic(auto, using(crate::proofs::Trees::struct_stands))]
-fn put_root(to: &mut Object, set: &SchemaSet) -> Result<()>
-    ensures written { OnOk result (object_tree to.new ≡ struct_tree (set_tree (lists_seen set.now))) }
+/// Makes the root pointer lead to the record of a set.
+fn put_root(arena: &mut Arena, set: &SchemaSet) -> Result<()>
+    requires inside { 0 < word_count (segment arena.old) }
+    ensures forest { OnOk result (Forest (segment arena.new) 0) }
+    ensures written { OnOk result (tree (segment arena.new) 0 ≡ struct_tree (set_tree (lists_seen set.now))) }
     ensures kept { OnOk result (SetKept (lists_seen set.now)) }
     ensures accepted { OnOk result (IsAccepted (lists_seen set.now)) }
     ensures fits { OnOk result (SetFits (lists_seen set.now)) }
     ensures cause { IfErr result (λ e. IsPartRefusal (SetHasKinds (lists_seen set.now)) (SetFits (lists_seen set.now)) e.kind) }
 {
-    let root = to.init_struct(ROOT)?;
-    put_lists(root, set)
+    let root = arena.init_struct(0, ROOT)?;
+    put_lists(arena, root, set)
 }
 
 /// The message of a set of schemas: a stream of one segment, whose root is the record of the set. These bytes, whatever
@@ -58,7 +63,8 @@ fn put_root(to: &mut Object, set: &SchemaSet) -> Result<()>
 ///
 /// Refused with `UnknownKind` where a value is untyped and isn't one zero word, or is a list without words, for which the
 /// form has no kind; with `SizePastFormat` where a type has more than 65,535 lists around it, or a text, data or list is
-/// too long for the format; with `TooLarge` where the message would be 2^29 words or more; and else with `OutOfMemory`.
+/// too long for the format; and else with `OutOfMemory`, also where the message would be 2^29 words or more. `TooLarge` is
+/// given there alone.
 pub fn write_set(alloc: Global, set: &SchemaSet) -> Result<Vec<u8>>
     ensures read { IfOk result (λ bytes. IsReadAsSet (lists_seen set.now) bytes.items) }
     ensures kinds { OnOk result (SetHasKinds (lists_seen set.now)) }
@@ -69,7 +75,7 @@ pub fn write_set(alloc: Global, set: &SchemaSet) -> Result<Vec<u8>>
     ensures past { IfErr result (λ e. e.kind ≡ SizePastFormat → IsPastFormat (lists_seen set.now)) }
     ensures large { IfErr result (λ e. e.kind ≡ TooLarge → 2 ^ 29 ≤ message_words (lists_seen set.now)) }
 {
-    let mut message = Builder::new(alloc);
-    put_root(message.root(), set)?;
-    message.write_message()
+    let mut arena = Arena::new(alloc)?;
+    put_root(&mut arena, set)?;
+    arena.write_message()
 }

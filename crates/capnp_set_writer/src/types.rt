@@ -1,11 +1,13 @@
 //! Types, as their records are written.
 ghost use Rattle.std.specs.Prelude.{◌≡◌, ◌≤◌, ◌<◌, ◌*◌, ◌^◌, ⊤, All, List, length, map, IfErr, IfOk, OnOk};
 ghost use Rattle.capnp_device.specs.declared.error.ErrorKind.TheVariants.{SizePastFormat};
-ghost use Rattle.capnp_wire.specs.Tree.{Pointers, tree_count};
-ghost use Rattle.capnp_wire.specs.Edits.{nulls, with_pointer_tree};
+ghost use Rattle.capnp_wire.specs.Tree.{Pointers};
+ghost use Rattle.capnp_wire.specs.Edits.{with_pointer_tree};
 ghost use Rattle.capnp_wire.specs.Elements.{HasPointer, with_pointer_element};
-ghost use Rattle.capnp_wire.specs.Objects.{list_object_tree, object_tree, struct_object_tree};
-ghost use Rattle.capnp_wire.specs.Sizes.{KeepsSize};
+ghost use Rattle.capnp_arena.specs.Built.{ChangesIn, IsBuilt, built};
+ghost use Rattle.capnp_arena.specs.Forest.{Changes, Forest, tree};
+ghost use Rattle.capnp_arena.specs.Segment.{segment};
+ghost use Rattle.capnp_arena.specs.Shape.{word_count};
 ghost use Rattle.capnp_schema.specs.Types.{SchemaType, seen_type, seen_variant};
 ghost use Rattle.capnp_set_writer.specs.Kept.{TypeKept};
 ghost use Rattle.capnp_set_writer.specs.Limits.{TypeFits, TypeListsFit, TypesFit};
@@ -13,10 +15,10 @@ ghost use Rattle.capnp_set_writer.specs.Trees.{base_number, list_count, named_nu
 ghost use Rattle.capnp_set_writer.specs.Writes.{IsBare, IsPartRefusal, filled_trees};
 
 use crate::rows::{Part, count_of, put_list};
-use crate::writes::put_number;
+use capnp_arena::arena::{Arena, Place};
+use capnp_arena::structs::pointer_at;
 use capnp_base::introspect::{Type, TypeVariant};
 use capnp_wire::error::{Error, ErrorKind, Result};
-use capnp_wire::object::{ListObject, Object, StructObject};
 use capnp_wire::size::{ElementSize, StructSize};
 
 /// The number of a type that is no list.
@@ -90,8 +92,6 @@ fn count_lists(of: Type) -> Result<u16>
 }
 
 impl Part for Type {
-    ghost use Rattle.std.proofs.Common.{refl};
-
     ghost Seen = { SchemaType };
 
     ghost seen = { seen_type };
@@ -108,8 +108,6 @@ impl Part for Type {
 
     ghost fits = { TypeFits };
 
-    ghost has_size = { λ t kept. record { bytes = refl; pointers = refl } };
-
     fn size() -> StructSize {
         StructSize {
             data_words: 1,
@@ -117,12 +115,12 @@ impl Part for Type {
         }
     }
 
-    fn put(&self, to: &mut StructObject) -> Result<()> {
+    fn put(&self, arena: &mut Arena, place: Place) -> Result<()> {
         let lists = count_lists(*self)?;
         let inner = self.innermost();
-        put_number::<u16>(to, 0, base_number(inner));
-        put_number::<u16>(to, 1, lists);
-        put_number::<u32>(to, 1, named_number(inner));
+        arena.set_number::<u16>(place, 0, base_number(inner));
+        arena.set_number::<u16>(place, 1, lists);
+        arena.set_number::<u32>(place, 1, named_number(inner));
         Ok(())
     }
 }
@@ -130,27 +128,34 @@ impl Part for Type {
 /// Makes an element of a list of pointers lead to a list of types.
 ///
 /// Refused as `put_list`.
-fn put_row(list: &mut ListObject, index: u32, types: &[Type]) -> Result<()>
-    requires { HasPointer (list_object_tree list.old) index }
-    ensures written { OnOk result (list_object_tree list.new ≡ with_pointer_element index (types_tree (map seen_type types.now)) (list_object_tree list.old)) }
+fn put_row(arena: &mut Arena, at: usize, index: u32, types: &[Type]) -> Result<()>
+    requires forest { Forest (segment arena.old) at }
+    requires there { HasPointer (tree (segment arena.old) at) index }
+    ensures forest { OnOk result (Forest (segment arena.new) at) }
+    ensures changes { OnOk result (Changes at (segment arena.old) (segment arena.new)) }
+    ensures written { OnOk result (tree (segment arena.new) at ≡ with_pointer_element index (types_tree (map seen_type types.now)) (tree (segment arena.old) at)) }
     ensures kept { OnOk result (All TypeKept (map seen_type types.now)) }
     ensures fits { OnOk result (TypesFit (map seen_type types.now)) }
     ensures cause { IfErr result (λ e. IsPartRefusal ⊤ (TypesFit (map seen_type types.now)) e.kind) }
 {
-    put_list(list.get_pointer_element(index), types)
+    let pointer = arena.get_pointer_element(at, index);
+    put_list(arena, pointer, types)
 }
 
 /// Fills a new list of pointers, each with a list of types.
-fn fill_rows(list: &mut ListObject, rows: &[Vec<Type>]) -> Result<()>
-    requires new { list_object_tree list.old ≡ Pointers (filled_trees (map types_tree (map (λ row. map seen_type row.items) rows.now)) 0) }
+fn fill_rows(arena: &mut Arena, at: usize, rows: &[Vec<Type>]) -> Result<()>
+    requires forest { Forest (segment arena.old) at }
+    requires new { tree (segment arena.old) at ≡ Pointers (filled_trees (map types_tree (map (λ row. map seen_type row.items) rows.now)) 0) }
     requires few { length rows.now < 2 ^ 29 }
-    ensures written { OnOk result (list_object_tree list.new ≡ type_lists_tree (map (λ row. map seen_type row.items) rows.now)) }
+    ensures forest { OnOk result (Forest (segment arena.new) at) }
+    ensures changes { OnOk result (Changes at (segment arena.old) (segment arena.new)) }
+    ensures written { OnOk result (tree (segment arena.new) at ≡ type_lists_tree (map (λ row. map seen_type row.items) rows.now)) }
     ensures kept { OnOk result (All (All TypeKept) (map (λ row. map seen_type row.items) rows.now)) }
     ensures fits { OnOk result (All TypesFit (map (λ row. map seen_type row.items) rows.now)) }
     ensures cause { IfErr result (λ e. IsPartRefusal ⊤ (All TypesFit (map (λ row. map seen_type row.items) rows.now)) e.kind) }
 {
     for index in 0..rows.len() {
-        put_row(list, index as u32, rows[index].as_slice())?;
+        put_row(arena, at, index as u32, rows[index].as_slice())?;
     }
     Ok(())
 }
@@ -158,29 +163,39 @@ fn fill_rows(list: &mut ListObject, rows: &[Vec<Type>]) -> Result<()>
 /// Makes a pointer lead to a list of lists of types.
 ///
 /// Refused with `SizePastFormat` where there are 2^29 lists or more, and as `put_list`.
-#[tactic(auto, using(crate::proofs::Trees::list_stands))]
-fn put_rows(to: &mut Object, rows: &[Vec<Type>]) -> Result<()>
-    ensures written { OnOk result (object_tree to.new ≡ type_lists_tree (map (λ row. map seen_type row.items) rows.now)) }
+fn put_rows(arena: &mut Arena, at: usize, rows: &[Vec<Type>]) -> Result<()>
+    requires inside { at < word_count (segment arena.old) }
+    ensures forest { OnOk result (Forest (segment arena.new) at) }
+    ensures changes { OnOk result (Changes at (segment arena.old) (segment arena.new)) }
+    ensures written { OnOk result (tree (segment arena.new) at ≡ type_lists_tree (map (λ row. map seen_type row.items) rows.now)) }
     ensures kept { OnOk result (All (All TypeKept) (map (λ row. map seen_type row.items) rows.now)) }
     ensures fits { OnOk result (TypeListsFit (map (λ row. map seen_type row.items) rows.now)) }
     ensures cause { IfErr result (λ e. IsPartRefusal ⊤ (TypeListsFit (map (λ row. map seen_type row.items) rows.now)) e.kind) }
 {
     let count = count_of(rows.len())?;
-    let list = to.init_list(ElementSize::Pointer, count)?;
-    fill_rows(list, rows)
+    arena.init_list(at, ElementSize::Pointer, count)?;
+    fill_rows(arena, at, rows)
 }
 
 /// Puts a list of lists of types at a pointer of a struct.
 ///
 /// Refused as `put_rows`.
-pub(crate) fn put_type_lists(to: &mut StructObject, index: u16, rows: &[Vec<Type>]) -> Result<()>
-    requires { index < tree_count (struct_object_tree to.old).pointers }
-    ensures written { OnOk result (struct_object_tree to.new ≡
-        with_pointer_tree (struct_object_tree to.old) index (type_lists_tree (map (λ row. map seen_type row.items) rows.now))) }
-    ensures size { OnOk result (KeepsSize (struct_object_tree to.old) (struct_object_tree to.new)) }
+pub(crate) fn put_type_lists(
+    arena: &mut Arena,
+    place: Place,
+    index: u16,
+    rows: &[Vec<Type>],
+) -> Result<()>
+    requires planted { IsBuilt arena.old place }
+    requires inside { index < place.pointers }
+    ensures planted { OnOk result (IsBuilt arena.new place) }
+    ensures changes { OnOk result (ChangesIn place arena.old arena.new) }
+    ensures written { OnOk result (built arena.new place ≡
+        with_pointer_tree (built arena.old place) index (type_lists_tree (map (λ row. map seen_type row.items) rows.now))) }
     ensures kept { OnOk result (All (All TypeKept) (map (λ row. map seen_type row.items) rows.now)) }
     ensures fits { OnOk result (TypeListsFit (map (λ row. map seen_type row.items) rows.now)) }
     ensures cause { IfErr result (λ e. IsPartRefusal ⊤ (TypeListsFit (map (λ row. map seen_type row.items) rows.now)) e.kind) }
 {
-    put_rows(to.get_pointer_field(index), rows)
+    let at = pointer_at(arena, place, index);
+    put_rows(arena, at, rows)
 }

@@ -1,13 +1,24 @@
--- The element that was lent is new, and has the part's tree afterwards.
-use Rattle.std.proofs.Common.{◌∙◌}
-use Rattle.capnp_records.specs.Facts.LentElements.{element_left}
-use Rattle.capnp_set_writer.proofs.Trees.{both_ok, is-blank, keeps-blank}
+-- The element is new, and what the call leaves of it is what it leaves in the list.
+use Rattle.std.proofs.Common.{ap, ◌∙◌}
+use Rattle.capnp_wire.specs.Elements.{with_struct_element}
+use Rattle.capnp_wire.specs.Tree.{StructTree}
+use Rattle.capnp_arena.specs.Forest.{tree}
+use Rattle.capnp_arena.specs.Segment.{segment}
+use Rattle.capnp_set_writer.proofs.Places.{new_by_tree}
+use Rattle.capnp_set_writer.proofs.Trees.{both_ok, three_ok}
 use Rattle.capnp_set_writer.proofs.rows.put_element.Goals as goal
 
 pub put-requires : goal.put-requires
-put-requires g c = is-blank _ _ _ (c.get_struct_element.ensures.now ∙ c.requires.blank)
+put-requires g c =
+    new_by_tree c.args.arena.now c.get_struct_at-place.result g.T.Part.data_words g.T.Part.pointers c.get_struct_at-place.ensures.planted (c.get_struct_at-place.ensures.tree ∙ c.requires.blank)
+
+pub returns-clause-forest : goal.returns-clause-forest
+returns-clause-forest g c = both_ok c.put.result (λ h k. (c.get_struct_at-place.ensures.leaves _ h k).forest) c.put.ensures.planted c.put.ensures.changes
+
+pub returns-clause-changes : goal.returns-clause-changes
+returns-clause-changes g c = both_ok c.put.result (λ h k. (c.get_struct_at-place.ensures.leaves _ h k).changes) c.put.ensures.planted c.put.ensures.changes
 
 pub returns-clause-written : goal.returns-clause-written
-returns-clause-written g c = both_ok c.put.result
-    (λ e k. element_left c.args.list.now c.args.index c.put.new.to _ (keeps-blank _ _ _ _ c.requires.blank (g.met.T.Part.has_size (g.T.Part.seen c.args.part.now) k)) e)
-    c.put.ensures.written c.put.ensures.kept
+returns-clause-written g c = three_ok c.put.result
+    (λ h k e. (c.get_struct_at-place.ensures.leaves _ h k).tree ∙ ap (λ (s : StructTree). with_struct_element c.args.index s (tree (segment c.args.arena.now) c.args.at)) e)
+    c.put.ensures.planted c.put.ensures.changes c.put.ensures.written

@@ -2,6 +2,7 @@
 use Rattle.std.proofs.Common.{arith, sym, ◌+◌, ◌∙◌, map}
 use Rattle.std.proofs.lemmas.List.{length-map}
 use Rattle.std.proofs.lemmas.Result.{err_from_is_err_and}
+use Rattle.capnp_arena.specs.Facts.Places.{at_then}
 use Rattle.capnp_set_writer.specs.Limits.{ListFits}
 use Rattle.capnp_set_writer.proofs.Trees.{if_err, long-list, new-filled, on_ok, parts-fit, refused-up, room-part-refused, size-refused}
 use Rattle.capnp_set_writer.proofs.rows.put_list.Goals as goal
@@ -9,11 +10,11 @@ use Rattle.capnp_set_writer.proofs.rows.put_list.Goals as goal
 pub fill_list-requires-clause-new : goal.fill_list-requires-clause-new
 fill_list-requires-clause-new g c =
     new-filled _ _ c.size.result _ (map g.T.Part.tree (map g.T.Part.seen c.args.parts.now)) _ c.size.ensures.data_words c.size.ensures.pointers
-    (c.in_ok-count.ensures.is ∙ sym (length-map (map g.T.Part.seen c.args.parts.now) g.T.Part.tree ∙ length-map c.args.parts.now g.T.Part.seen)) c.in_ok-list.ensures.now
+    (c.in_ok-count.ensures.is ∙ sym (length-map (map g.T.Part.seen c.args.parts.now) g.T.Part.tree ∙ length-map c.args.parts.now g.T.Part.seen)) c.in_ok-init_struct_list.ensures.tree
 
 pub returns-clause-fits : goal.returns-clause-fits
 returns-clause-fits g c = on_ok c.fill_list.result
-    (λ each. parts-fit g.T.Part.seen c.args.parts.now c.in_ok-count.count c.size.result g.T.Part.data_words g.T.Part.pointers c.in_ok-count.ensures.is c.size.ensures.data_words c.size.ensures.pointers c.in_ok-list.ensures.within.0 c.in_ok-list.ensures.within.1 each)
+    (λ each. parts-fit g.T.Part.seen c.args.parts.now c.in_ok-count.count c.size.result g.T.Part.data_words g.T.Part.pointers c.in_ok-count.ensures.is c.size.ensures.data_words c.size.ensures.pointers c.in_ok-init_struct_list.ensures.within.0 c.in_ok-init_struct_list.ensures.within.1 each)
     c.fill_list.ensures.fits
 
 pub returns-clause-cause : goal.returns-clause-cause
@@ -25,8 +26,11 @@ returns-in_err-count-clause-cause g c =
     rw (p.1, p.2) (size-refused _ c.in_err-count.ensures.cause
     (λ (f : ListFits (g.T.Part.data_words + g.T.Part.pointers) g.T.Part.fits (map g.T.Part.seen c.args.parts.now)). omega (arith, f.count.0, c.in_err-count.ensures.past, length-map c.args.parts.now g.T.Part.seen)))
 
-pub returns-in_err-list-clause-cause : goal.returns-in_err-list-clause-cause
-returns-in_err-list-clause-cause g c =
-    let p = err_from_is_err_and c.from_residual-in_err-list.result c.from_residual-in_err-list.ensures.1 in
-    rw (p.1, p.2) (room-part-refused _ _ c.in_err-list.ensures.refused
+pub returns-in_err-init_struct_list-clause-cause : goal.returns-in_err-init_struct_list-clause-cause
+returns-in_err-init_struct_list-clause-cause g c =
+    let p = err_from_is_err_and c.from_residual-in_err-init_struct_list.result c.from_residual-in_err-init_struct_list.ensures.1 in
+    rw (p.1, p.2) (room-part-refused _ _ c.in_err-init_struct_list.ensures.cause
     (long-list g.T.Part.seen c.args.parts.now c.in_ok-count.count c.size.result g.T.Part.data_words g.T.Part.pointers c.in_ok-count.ensures.is c.size.ensures.data_words c.size.ensures.pointers))
+
+pub returns-clause-changes : goal.returns-clause-changes
+returns-clause-changes g c = on_ok c.fill_list.result (λ h. at_then c.in_ok-init_struct_list.ensures.changes h) c.fill_list.ensures.changes

@@ -1,12 +1,24 @@
 -- The struct is new, and of the part's size.
-use Rattle.std.proofs.lemmas.Result.{err_from_is_err_and}
-use Rattle.capnp_set_writer.proofs.Trees.{memory-refused, new-blank}
+use Rattle.capnp_set_writer.proofs.Places.{made, new_struct}
+use Rattle.capnp_set_writer.proofs.Trees.{three_ok}
 use Rattle.capnp_set_writer.proofs.rows.put_struct.Goals as goal
 
 pub put-requires : goal.put-requires
-put-requires g c = new-blank _ _ c.size.result _ c.size.ensures.data_words c.size.ensures.pointers c.in_ok-made.ensures.now
+put-requires g c =
+    new_struct c.init_struct.new.self c.args.at c.in_ok-place.place g.T.Part.data_words g.T.Part.pointers c.size.result c.in_ok-place.ensures.forest c.in_ok-place.ensures.place
+    c.in_ok-place.ensures.tree c.size.ensures.data_words c.size.ensures.pointers
 
-pub returns-in_err-made-clause-cause : goal.returns-in_err-made-clause-cause
-returns-in_err-made-clause-cause g c =
-    let p = err_from_is_err_and c.from_residual.result c.from_residual.ensures.1 in
-    rw (p.1, p.2) (memory-refused _ c.in_err-made.ensures.refused)
+pub returns-clause-forest : goal.returns-clause-forest
+returns-clause-forest g c = three_ok c.put.result
+    (λ h k e. (made c.args.at c.in_ok-place.place c.in_ok-place.ensures.forest c.in_ok-place.ensures.place c.in_ok-place.ensures.changes h k e).forest)
+    c.put.ensures.planted c.put.ensures.changes c.put.ensures.written
+
+pub returns-clause-changes : goal.returns-clause-changes
+returns-clause-changes g c = three_ok c.put.result
+    (λ h k e. (made c.args.at c.in_ok-place.place c.in_ok-place.ensures.forest c.in_ok-place.ensures.place c.in_ok-place.ensures.changes h k e).changes)
+    c.put.ensures.planted c.put.ensures.changes c.put.ensures.written
+
+pub returns-clause-written : goal.returns-clause-written
+returns-clause-written g c = three_ok c.put.result
+    (λ h k e. (made c.args.at c.in_ok-place.place c.in_ok-place.ensures.forest c.in_ok-place.ensures.place c.in_ok-place.ensures.changes h k e).tree)
+    c.put.ensures.planted c.put.ensures.changes c.put.ensures.written

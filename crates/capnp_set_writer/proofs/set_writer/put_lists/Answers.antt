@@ -2,7 +2,8 @@
 use Rattle.std.proofs.lemmas.Result.{err_from_is_err_and}
 use Rattle.capnp_schema.specs.Entries.{lists_seen}
 use Rattle.capnp_set_writer.specs.Limits.{SetFits, SetHasKinds}
-use Rattle.capnp_set_writer.proofs.Trees.{if_err, refused-up}
+use Rattle.capnp_arena.specs.Facts.Places.{then}
+use Rattle.capnp_set_writer.proofs.Trees.{if_err, on_ok, refused-up}
 use Rattle.capnp_set_writer.proofs.set_writer.put_lists.Goals as goal
 
 pub returns-in_err-put_parts-clause-cause : goal.returns-in_err-put_parts-clause-cause
@@ -20,3 +21,8 @@ pub returns-clause-cause : goal.returns-clause-cause
 returns-clause-cause c = if_err c.put_parts-3.result
     (λ e h. refused-up e.kind h (λ (k : SetHasKinds (lists_seen c.args.set.now)). k.enums) (λ (f : SetFits (lists_seen c.args.set.now)). f.enums))
     (rw c.enums.ensures at c.put_parts-3.ensures.cause)
+
+-- one call after another
+
+pub returns-clause-changes : goal.returns-clause-changes
+returns-clause-changes c = on_ok c.put_parts-3.result (λ h. then (then c.in_ok-put_parts.ensures.changes c.in_ok-put_parts-2.ensures.changes) h) c.put_parts-3.ensures.changes

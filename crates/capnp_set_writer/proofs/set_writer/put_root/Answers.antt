@@ -1,8 +1,18 @@
-use Rattle.std.proofs.lemmas.Result.{err_from_is_err_and}
-use Rattle.capnp_set_writer.proofs.Trees.{memory-refused}
+-- The root is new, of the size of a set's record.
+use Rattle.std.proofs.Common.{refl}
+use Rattle.capnp_set_writer.proofs.Places.{made, new_struct}
+use Rattle.capnp_set_writer.proofs.Trees.{three_ok}
 use Rattle.capnp_set_writer.proofs.set_writer.put_root.Goals as goal
 
-pub returns-in_err-root-clause-cause : goal.returns-in_err-root-clause-cause
-returns-in_err-root-clause-cause c =
-    let p = err_from_is_err_and c.from_residual.result c.from_residual.ensures.1 in
-    rw (p.1, p.2) (memory-refused _ c.in_err-root.ensures.refused)
+pub put_lists-requires : goal.put_lists-requires
+put_lists-requires c = new_struct c.init_struct.new.self 0 c.in_ok-root.root 0 3 _ c.in_ok-root.ensures.forest c.in_ok-root.ensures.place c.in_ok-root.ensures.tree refl refl
+
+pub returns-clause-forest : goal.returns-clause-forest
+returns-clause-forest c = three_ok c.put_lists.result
+    (λ h k e. (made 0 c.in_ok-root.root c.in_ok-root.ensures.forest c.in_ok-root.ensures.place c.in_ok-root.ensures.changes h k e).forest)
+    c.put_lists.ensures.planted c.put_lists.ensures.changes c.put_lists.ensures.written
+
+pub returns-clause-written : goal.returns-clause-written
+returns-clause-written c = three_ok c.put_lists.result
+    (λ h k e. (made 0 c.in_ok-root.root c.in_ok-root.ensures.forest c.in_ok-root.ensures.place c.in_ok-root.ensures.changes h k e).tree)
+    c.put_lists.ensures.planted c.put_lists.ensures.changes c.put_lists.ensures.written

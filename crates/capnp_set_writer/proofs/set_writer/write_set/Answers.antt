@@ -1,6 +1,5 @@
 -- The message is read as its tree, and that tree as the set.
 use Rattle.std.proofs.lemmas.Result.{err_from_is_err_and}
-use Rattle.capnp_wire.specs.Message.{builder_tree}
 use Rattle.capnp_schema.specs.Entries.{lists_seen}
 use Rattle.capnp_set_writer.proofs.HaveKinds.{set-kinds}
 use Rattle.capnp_set_writer.proofs.Sets.{message-large, message-read, message-small}
@@ -8,7 +7,6 @@ use Rattle.capnp_set_writer.proofs.Trees.{always-ok, if_err, if_ok, on-if-ok, pa
 use Rattle.capnp_set_writer.proofs.set_writer.write_set.Goals as goal
 
 pub returns-clause-read : goal.returns-clause-read
-unfolding builder_tree
 returns-clause-read c = if_ok c.write_message.result
     (λ v reads. message-read (lists_seen c.args.set.now) _ v.items c.in_ok-put_root.ensures.written c.in_ok-put_root.ensures.accepted c.in_ok-put_root.ensures.kept reads)
     c.write_message.ensures.read
@@ -20,7 +18,6 @@ pub returns-clause-fits : goal.returns-clause-fits
 returns-clause-fits c = always-ok c.write_message.result c.in_ok-put_root.ensures.fits
 
 pub returns-clause-small : goal.returns-clause-small
-unfolding builder_tree
 returns-clause-small c = on-if-ok c.write_message.result (λ v held. message-small (lists_seen c.args.set.now) _ c.in_ok-put_root.ensures.written held) c.write_message.ensures.held
 
 pub returns-clause-cause : goal.returns-clause-cause
@@ -33,27 +30,26 @@ pub returns-clause-past : goal.returns-clause-past
 returns-clause-past c = if_err c.write_message.result (λ e h past. absurd (whole-no-size e.kind h past)) c.write_message.ensures.kinds
 
 pub returns-clause-large : goal.returns-clause-large
-unfolding builder_tree
 returns-clause-large c = if_err c.write_message.result
-    (λ e h. message-large (lists_seen c.args.set.now) _ e.kind c.in_ok-put_root.ensures.written c.in_ok-put_root.ensures.kept c.in_ok-put_root.ensures.fits h)
+    (λ e h. message-large (lists_seen c.args.set.now) _ e.kind c.in_ok-put_root.ensures.written h)
     c.write_message.ensures.refused
 
 pub returns-in_err-put_root-clause-cause : goal.returns-in_err-put_root-clause-cause
 returns-in_err-put_root-clause-cause c =
-    let p = err_from_is_err_and c.from_residual.result c.from_residual.ensures.1 in
+    let p = err_from_is_err_and c.from_residual-in_err-put_root.result c.from_residual-in_err-put_root.ensures.1 in
     rw (p.1, p.2) (λ small. c.in_err-put_root.ensures.cause.0)
 
 pub returns-in_err-put_root-clause-unknown : goal.returns-in_err-put_root-clause-unknown
 returns-in_err-put_root-clause-unknown c =
-    let p = err_from_is_err_and c.from_residual.result c.from_residual.ensures.1 in
+    let p = err_from_is_err_and c.from_residual-in_err-put_root.result c.from_residual-in_err-put_root.ensures.1 in
     rw (p.1, p.2) (c.in_err-put_root.ensures.cause.1)
 
 pub returns-in_err-put_root-clause-past : goal.returns-in_err-put_root-clause-past
 returns-in_err-put_root-clause-past c =
-    let p = err_from_is_err_and c.from_residual.result c.from_residual.ensures.1 in
+    let p = err_from_is_err_and c.from_residual-in_err-put_root.result c.from_residual-in_err-put_root.ensures.1 in
     rw (p.1, p.2) (c.in_err-put_root.ensures.cause.2)
 
 pub returns-in_err-put_root-clause-large : goal.returns-in_err-put_root-clause-large
 returns-in_err-put_root-clause-large c =
-    let p = err_from_is_err_and c.from_residual.result c.from_residual.ensures.1 in
+    let p = err_from_is_err_and c.from_residual-in_err-put_root.result c.from_residual-in_err-put_root.ensures.1 in
     rw (p.1, p.2) (λ large. absurd (part-not-large _ c.in_err-put_root.ensures.cause.0 large))

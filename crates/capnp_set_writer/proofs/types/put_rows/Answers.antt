@@ -2,6 +2,7 @@
 use Rattle.std.proofs.Common.{arith, sym, ◌∙◌, map, Vec, Global, List}
 use Rattle.std.proofs.lemmas.List.{length-map}
 use Rattle.std.proofs.lemmas.Result.{err_from_is_err_and}
+use Rattle.capnp_arena.specs.Facts.Places.{at_then}
 use Rattle.capnp_base.specs.declared.introspect.«Type».{«Type» as TypeHandle}
 use Rattle.capnp_schema.specs.Types.{SchemaType, seen_type}
 use Rattle.capnp_set_writer.specs.Limits.{TypeListsFit}
@@ -15,14 +16,14 @@ seen_row row = map seen_type row.items
 pub fill_rows-requires-clause-new : goal.fill_rows-requires-clause-new
 fill_rows-requires-clause-new c =
     new-rows c.in_ok-count.count (map types_tree (map seen_row c.args.rows.now)) _
-    (c.in_ok-count.ensures.is ∙ sym (length-map (map seen_row c.args.rows.now) types_tree ∙ length-map c.args.rows.now seen_row)) c.in_ok-list.ensures.now
+    (c.in_ok-count.ensures.is ∙ sym (length-map (map seen_row c.args.rows.now) types_tree ∙ length-map c.args.rows.now seen_row)) c.in_ok-init_list.ensures.tree
 
 pub returns-clause-fits : goal.returns-clause-fits
 returns-clause-fits c = on_ok c.fill_rows.result
     (λ each. record {
       count = (
-        omega (arith, c.in_ok-list.ensures.within, c.in_ok-count.ensures.is, length-map c.args.rows.now seen_row),
-        omega (arith, c.in_ok-list.ensures.within, c.in_ok-count.ensures.is, length-map c.args.rows.now seen_row),
+        omega (arith, c.in_ok-init_list.ensures.within, c.in_ok-count.ensures.is, length-map c.args.rows.now seen_row),
+        omega (arith, c.in_ok-init_list.ensures.within, c.in_ok-count.ensures.is, length-map c.args.rows.now seen_row),
       );
       each = each;
     })
@@ -37,8 +38,11 @@ returns-in_err-count-clause-cause c =
     rw (p.1, p.2) (size-refused _ c.in_err-count.ensures.cause
     (λ (f : TypeListsFit (map seen_row c.args.rows.now)). omega (arith, f.count.0, c.in_err-count.ensures.past, length-map c.args.rows.now seen_row)))
 
-pub returns-in_err-list-clause-cause : goal.returns-in_err-list-clause-cause
-returns-in_err-list-clause-cause c =
-    let p = err_from_is_err_and c.from_residual-in_err-list.result c.from_residual-in_err-list.ensures.1 in
-    rw (p.1, p.2) (room-part-refused _ _ c.in_err-list.ensures.refused
+pub returns-in_err-init_list-clause-cause : goal.returns-in_err-init_list-clause-cause
+returns-in_err-init_list-clause-cause c =
+    let p = err_from_is_err_and c.from_residual-in_err-init_list.result c.from_residual-in_err-init_list.ensures.1 in
+    rw (p.1, p.2) (room-part-refused _ _ c.in_err-init_list.ensures.cause
     (λ past (f : TypeListsFit (map seen_row c.args.rows.now)). omega (arith, past, f.count.0, c.in_ok-count.ensures.is, length-map c.args.rows.now seen_row)))
+
+pub returns-clause-changes : goal.returns-clause-changes
+returns-clause-changes c = on_ok c.fill_rows.result (λ h. at_then c.in_ok-init_list.ensures.changes h) c.fill_rows.ensures.changes

@@ -1,12 +1,24 @@
--- The pointer that was lent leads to the lists.
-use Rattle.capnp_wire.specs.Objects.{struct_object_tree}
-use Rattle.capnp_wire.specs.Sizes.{pointer_size}
-use Rattle.capnp_set_writer.proofs.Trees.{on_ok, pointer-left}
+-- What the call leaves at the pointer is what it leaves in the struct.
+use Rattle.std.proofs.Common.{arith, ap, ◌∙◌}
+use Rattle.capnp_wire.specs.Edits.{with_pointer_tree}
+use Rattle.capnp_arena.specs.Built.{built}
+use Rattle.capnp_arena.specs.Facts.Places.{pointers_of}
+use Rattle.capnp_arena.specs.Segment.{segment}
+use Rattle.capnp_set_writer.proofs.Trees.{both_ok, three_ok}
 use Rattle.capnp_set_writer.proofs.types.put_type_lists.Goals as goal
 
-pub returns-clause-written : goal.returns-clause-written
-returns-clause-written c = on_ok c.put_rows.result (λ e. pointer-left c.args.to.now c.args.index c.put_rows.new.to _ e) c.put_rows.ensures.written
+pub pointer_at-at-requires-clause-inside : goal.pointer_at-at-requires-clause-inside
+pointer_at-at-requires-clause-inside c =
+    let e = pointers_of (segment c.args.arena.now) c.args.place.start c.args.place.data_words c.args.place.pointers in
+    omega (arith, c.requires.inside, e)
 
-pub returns-clause-size : goal.returns-clause-size
-returns-clause-size c =
-    on_ok c.put_rows.result (λ e. pointer_size c.args.index _ (struct_object_tree c.args.to.now) _ (pointer-left c.args.to.now c.args.index c.put_rows.new.to _ e)) c.put_rows.ensures.written
+pub returns-clause-planted : goal.returns-clause-planted
+returns-clause-planted c = both_ok c.put_rows.result (λ f h. (c.pointer_at-at.ensures.leaves _ f h).planted) c.put_rows.ensures.forest c.put_rows.ensures.changes
+
+pub returns-clause-changes : goal.returns-clause-changes
+returns-clause-changes c = both_ok c.put_rows.result (λ f h. (c.pointer_at-at.ensures.leaves _ f h).changes) c.put_rows.ensures.forest c.put_rows.ensures.changes
+
+pub returns-clause-written : goal.returns-clause-written
+returns-clause-written c = three_ok c.put_rows.result
+    (λ f h e. (c.pointer_at-at.ensures.leaves _ f h).struct ∙ ap (with_pointer_tree (built c.args.arena.now c.args.place) c.args.index) e)
+    c.put_rows.ensures.forest c.put_rows.ensures.changes c.put_rows.ensures.written

@@ -1,17 +1,28 @@
--- The pointer that was lent has the bytes.
-use Rattle.std.proofs.Common.{arith, ◌^◌, ◌≤◌, length}
+-- What the call leaves at the pointer is what it leaves in the struct.
+use Rattle.std.proofs.Common.{arith, ap, ◌∙◌, ◌^◌, ◌≤◌, length}
+use Rattle.capnp_wire.specs.Edits.{with_pointer_tree}
 use Rattle.capnp_wire.specs.Facts.Bytes.{AreBytes-fits}
-use Rattle.capnp_wire.specs.Objects.{struct_object_tree}
-use Rattle.capnp_wire.specs.Sizes.{pointer_size}
-use Rattle.capnp_set_writer.proofs.Trees.{if_err, on_ok, pointer-left, room-part-refused}
+use Rattle.capnp_arena.specs.Built.{built}
+use Rattle.capnp_arena.specs.Facts.Places.{pointers_of}
+use Rattle.capnp_arena.specs.Segment.{segment}
+use Rattle.capnp_set_writer.proofs.Trees.{both_ok, if_err, room-part-refused, three_ok}
 use Rattle.capnp_set_writer.proofs.writes.put_data.Goals as goal
 
-pub returns-clause-written : goal.returns-clause-written
-returns-clause-written c = on_ok c.set_data.result (λ e. pointer-left c.args.to.now c.args.index c.set_data.new.self _ e) c.set_data.ensures.ok
+pub pointer_at-at-requires-clause-inside : goal.pointer_at-at-requires-clause-inside
+pointer_at-at-requires-clause-inside c =
+    let e = pointers_of (segment c.args.arena.now) c.args.place.start c.args.place.data_words c.args.place.pointers in
+    omega (arith, c.requires.inside, e)
 
-pub returns-clause-size : goal.returns-clause-size
-returns-clause-size c =
-    on_ok c.set_data.result (λ e. pointer_size c.args.index _ (struct_object_tree c.args.to.now) _ (pointer-left c.args.to.now c.args.index c.set_data.new.self _ e)) c.set_data.ensures.ok
+pub returns-clause-planted : goal.returns-clause-planted
+returns-clause-planted c = both_ok c.set_data.result (λ f h. (c.pointer_at-at.ensures.leaves _ f h).planted) c.set_data.ensures.forest c.set_data.ensures.changes
+
+pub returns-clause-changes : goal.returns-clause-changes
+returns-clause-changes c = both_ok c.set_data.result (λ f h. (c.pointer_at-at.ensures.leaves _ f h).changes) c.set_data.ensures.forest c.set_data.ensures.changes
+
+pub returns-clause-written : goal.returns-clause-written
+returns-clause-written c = three_ok c.set_data.result
+    (λ f h e. (c.pointer_at-at.ensures.leaves _ f h).struct ∙ ap (with_pointer_tree (built c.args.arena.now c.args.place) c.args.index) e)
+    c.set_data.ensures.forest c.set_data.ensures.changes c.set_data.ensures.tree
 
 pub returns-clause-bytes : goal.returns-clause-bytes
 returns-clause-bytes c = AreBytes-fits _ c.type_inv.bytes

@@ -3,6 +3,7 @@ use Rattle.std.proofs.Common.{arith}
 use Rattle.std.proofs.lemmas.Result.{err_from_is_err_and}
 use Rattle.capnp_schema.specs.Schema.{seen_brand}
 use Rattle.capnp_set_writer.specs.Limits.{BrandFits}
+use Rattle.capnp_arena.specs.Facts.Places.{then}
 use Rattle.capnp_set_writer.proofs.Trees.{if_err, on_ok, refused-up}
 use Rattle.capnp_set_writer.proofs.entries.BrandRecordPart.put.Goals as goal
 
@@ -32,3 +33,8 @@ pub returns-clause-cause : goal.returns-clause-cause
 returns-clause-cause c = if_err c.put_type_lists.result
     (λ e h. refused-up e.kind h (λ k. tt) (λ (f : BrandFits (seen_brand c.args.self.now)). f.children))
     (rw c.as_slice-3.ensures.value at c.put_type_lists.ensures.cause)
+
+-- one call after another
+
+pub returns-clause-changes : goal.returns-clause-changes
+returns-clause-changes c = on_ok c.put_type_lists.result (λ h. then (then (then c.set_number.ensures.changes c.in_ok-put_parts.ensures.changes) c.in_ok-put_parts-2.ensures.changes) h) c.put_type_lists.ensures.changes

@@ -2,7 +2,8 @@
 use Rattle.std.proofs.lemmas.Result.{err_from_is_err_and}
 use Rattle.capnp_schema.specs.Schema.{seen_enumerant}
 use Rattle.capnp_set_writer.specs.Limits.{EnumerantFits, EnumerantHasKinds}
-use Rattle.capnp_set_writer.proofs.Trees.{if_err, refused-up}
+use Rattle.capnp_arena.specs.Facts.Places.{then}
+use Rattle.capnp_set_writer.proofs.Trees.{if_err, on_ok, refused-up}
 use Rattle.capnp_set_writer.proofs.entries.EnumerantRecordPart.put.Goals as goal
 
 pub returns-in_err-put_name-clause-cause : goal.returns-in_err-put_name-clause-cause
@@ -14,3 +15,8 @@ pub returns-clause-cause : goal.returns-clause-cause
 returns-clause-cause c = if_err c.put_parts.result
     (λ e h. refused-up e.kind h (λ (k : EnumerantHasKinds (seen_enumerant c.args.self.now)). k) (λ (f : EnumerantFits (seen_enumerant c.args.self.now)). f.annotations))
     (rw c.as_slice.ensures.value at c.put_parts.ensures.cause)
+
+-- one call after another
+
+pub returns-clause-changes : goal.returns-clause-changes
+returns-clause-changes c = on_ok c.put_parts.result (λ h. then c.in_ok-put_name.ensures.changes h) c.put_parts.ensures.changes

@@ -2,7 +2,8 @@
 use Rattle.std.proofs.lemmas.Result.{err_from_is_err_and}
 use Rattle.capnp_schema.specs.Schema.{seen_field}
 use Rattle.capnp_set_writer.specs.Limits.{FieldFits, FieldHasKinds}
-use Rattle.capnp_set_writer.proofs.Trees.{if_err, refused-up}
+use Rattle.capnp_arena.specs.Facts.Places.{then}
+use Rattle.capnp_set_writer.proofs.Trees.{if_err, on_ok, refused-up}
 use Rattle.capnp_set_writer.proofs.nodes.FieldRecordPart.put.Goals as goal
 
 pub returns-in_err-put_name-clause-cause : goal.returns-in_err-put_name-clause-cause
@@ -20,3 +21,8 @@ pub returns-clause-cause : goal.returns-clause-cause
 returns-clause-cause c = if_err c.put_kind.result
     (λ e h. refused-up e.kind h (λ (k : FieldHasKinds (seen_field c.args.self.now)). k.default) (λ (f : FieldFits (seen_field c.args.self.now)). f.default))
     c.put_kind.ensures.cause
+
+-- one call after another
+
+pub returns-clause-changes : goal.returns-clause-changes
+returns-clause-changes c = on_ok c.put_kind.result (λ h. then (then (then c.set_number.ensures.changes c.in_ok-put_name.ensures.changes) c.in_ok-put_parts.ensures.changes) h) c.put_kind.ensures.changes

@@ -2,7 +2,8 @@
 use Rattle.std.proofs.lemmas.Result.{err_from_is_err_and}
 use Rattle.capnp_schema.specs.Schema.{seen_node}
 use Rattle.capnp_set_writer.specs.Limits.{NodeFits, NodeHasKinds}
-use Rattle.capnp_set_writer.proofs.Trees.{if_err, refused-up}
+use Rattle.capnp_arena.specs.Facts.Places.{then}
+use Rattle.capnp_set_writer.proofs.Trees.{if_err, on_ok, refused-up}
 use Rattle.capnp_set_writer.proofs.nodes.NodeRecordPart.put.Goals as goal
 
 pub returns-in_err-put_name-clause-cause : goal.returns-in_err-put_name-clause-cause
@@ -20,3 +21,8 @@ pub returns-clause-cause : goal.returns-clause-cause
 returns-clause-cause c = if_err c.put_parts-2.result
     (λ e h. refused-up e.kind h (λ (k : NodeHasKinds (seen_node c.args.self.now)). k.fields) (λ (f : NodeFits (seen_node c.args.self.now)). f.fields))
     (rw c.as_slice-2.ensures.value at c.put_parts-2.ensures.cause)
+
+-- one call after another
+
+pub returns-clause-changes : goal.returns-clause-changes
+returns-clause-changes c = on_ok c.put_parts-2.result (λ h. then (then (then c.put_sections.ensures.changes c.in_ok-put_name.ensures.changes) c.in_ok-put_parts.ensures.changes) h) c.put_parts-2.ensures.changes

@@ -1,6 +1,7 @@
 -- The three numbers of a type are written one after another.
 use Rattle.std.proofs.Common.{arith}
 use Rattle.std.proofs.lemmas.Result.{err_from_is_err_and}
+use Rattle.capnp_arena.specs.Facts.Places.{then}
 use Rattle.capnp_set_writer.proofs.Layers.{type-kept, type-written}
 use Rattle.capnp_set_writer.proofs.Trees.{size-refused}
 use Rattle.capnp_set_writer.proofs.types.TypePart.put.Goals as goal
@@ -8,7 +9,10 @@ use Rattle.capnp_set_writer.proofs.types.TypePart.put.Goals as goal
 pub returns-clause-written : goal.returns-clause-written
 returns-clause-written c =
     type-written c.args.self.now c.innermost-inner.result c.innermost-inner.ensures _ _ _ _ _ _ _ c.base_number.ensures c.in_ok-lists.ensures.count c.named_number.ensures.is
-    c.requires.is c.put_number.ensures.written c.put_number-2.ensures.written c.put_number-3.ensures.written
+    c.requires.is c.set_number.ensures.tree c.set_number-2.ensures.tree c.set_number-3.ensures.tree
+
+pub returns-clause-changes : goal.returns-clause-changes
+returns-clause-changes c = then (then c.set_number.ensures.changes c.set_number-2.ensures.changes) c.set_number-3.ensures.changes
 
 pub returns-clause-kept : goal.returns-clause-kept
 returns-clause-kept c = type-kept c.args.self.now c.innermost-inner.result c.innermost-inner.ensures c.in_ok-lists.ensures.few c.named_number.ensures.bound
