@@ -31,3 +31,5 @@ pub mod LaidOut
 pub mod EnteredLists
 pub mod ElementPlaces
 pub mod WrittenElements
+pub mod StructSizes
+pub mod ListReaders

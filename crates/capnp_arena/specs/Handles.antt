@@ -1,8 +1,7 @@
 -- What stands at a handle, and what the arena behind it ends as: as it is left behind the handle that is answered, and as it
 -- was where the call was refused.
-use Rattle.std.specs.Prelude.{[], ◌≡◌, Result, ⊤}
-use Rattle.std.specs.Borrow.{Fml, Lends, MutBor, RestsIfErr, follows_so}
-use mathlib.Core.Option.{none}
+use Rattle.std.specs.Prelude.{[], ◌≡◌, Result}
+use Rattle.std.specs.Borrow.{Fml, Lends, MutBor, RestsIfErr}
 use mir.Syntax.{named}
 use Rattle.capnp_wire.specs.Tree.{StructTree, Tree}
 use Rattle.capnp_arena.specs.Forest.{Forest, Planted, struct_from, tree}
@@ -61,10 +60,6 @@ StructRests arena r = RestsIfErr arena_row arena (λ s. s.arena.ghost_name) r (�
 
 abbrev pub ListRests : {E : Type 0} → MutBor Arena → Result ListBuilder E → Fml
 ListRests arena r = RestsIfErr arena_row arena (λ s. s.arena.ghost_name) r (λ n. segment n ≡ segment arena.now)
-
--- a handle that is read for as long as it would be there leaves the arena as it was
-abbrev pub EndsUnchanged : MutBor Arena → Fml
-EndsUnchanged arena = follows_so arena_row arena_row arena.ghost_name none (λ _ _. ⊤) (λ n. segment n ≡ segment arena.now)
 
 -- ---- handles lent by a handle, which ends as itself with the arena as it was left ----
 

@@ -11,5 +11,6 @@ pub mod Grown
 pub mod Copies
 pub mod InOrder
 pub mod Handles
+pub mod Ends
 pub mod Listed
 pub mod Facts

@@ -27,6 +27,7 @@ mod message;
 pub mod pointer_builder;
 mod reader;
 pub mod reads;
+pub mod sizes;
 mod spell;
 pub mod struct_builder;
 mod struct_lists;
