@@ -12,5 +12,6 @@ pub mod Copies
 pub mod InOrder
 pub mod Handles
 pub mod Ends
+pub mod Message
 pub mod Listed
 pub mod Facts

@@ -23,7 +23,7 @@ pub mod list_builder;
 pub mod list_reads;
 pub mod lists;
 mod look;
-mod message;
+pub mod message;
 pub mod pointer_builder;
 mod reader;
 pub mod reads;

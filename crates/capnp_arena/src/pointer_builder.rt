@@ -21,10 +21,11 @@ pub struct PointerBuilder<'a> {
 }
 
 impl<'a> PointerBuilder<'a> {
-    ghost use Rattle.std.specs.Prelude.{[], None, IfErr, IfOk, IsOk, OnErr, OnOk, ◌*◌, ◌+◌, ◌++◌, ◌∷◌, ◌≡◌, ◌≢◌, ◌<◌, ◌≤◌, ◌^◌, ◌⊎◌, length};
+    ghost use Rattle.std.specs.Prelude.{[], Err, None, Ok, false, IfErr, IfOk, IsOk, OnErr, OnOk, ◌*◌, ◌+◌, ◌++◌, ◌∷◌, ◌≡◌, ◌≢◌, ◌<◌, ◌≤◌, ◌^◌, ◌⊎◌, length};
     ghost use Rattle.std.specs.Borrow.{sem};
     ghost use Rattle.capnp_device.specs.declared.error.ErrorKind.TheVariants.{OutOfMemory};
     ghost use Rattle.capnp_wire.specs.Depth.{IsBelow};
+    ghost use Rattle.capnp_wire.specs.Defaults.{default_tree, filled_list_refusal, filled_struct, filled_struct_refusal, filled_structs, filled_structs_refusal, or_default, takes_default};
     ghost use Rattle.capnp_wire.specs.Edits.{HoldsStruct, IsCopyRefusal, IsDueRefusal, IsRoomRefusal, IsStructRefusal, extended, is_struct, rounded, struct_in, struct_refusal, zero_list, zero_struct, zero_structs};
     ghost use Rattle.capnp_wire.specs.Elements.{or_empty};
     ghost use Rattle.capnp_wire.specs.Place.{struct_tree, tree_below};
@@ -232,6 +233,99 @@ impl<'a> PointerBuilder<'a> {
             data_words: size.data_words,
             pointers: size.pointers,
         });
+        Ok(ListBuilder { arena, at, list })
+    }
+
+    /// The struct that stands here, with at least a size: a null becomes a copy of the default first, where there is one, or
+    /// else a struct of that size, all zero and null. What is smaller is extended as by `get_struct`.
+    ///
+    /// Refused with `WrongPointerKind` for a list, which of a null the default may be; of a null also with `BadPointer`,
+    /// `TooDeep` or `CapabilityPointer` where a pointer in the default can't be followed, by the first of these in
+    /// preorder; and else with `OutOfMemory`. Then nothing has changed. A struct that is large enough takes no memory and
+    /// is never refused.
+    pub fn get_struct_or_default(
+        self,
+        size: StructSize,
+        default: Option<PointerReader<'_>>,
+    ) -> Result<StructBuilder<'a>>
+        requires forest { IsPointer self }
+        ensures* rests { sem 𝓛 (StructRests self.entry.arena result) }
+        ensures same { IfOk result (λ s. s.arena.ghost_name ≡ self.entry.arena.ghost_name) }
+        ensures forest { IfOk result (λ s. Forest (segment s.arena.now) self.entry.at) }
+        ensures place { IfOk result (λ s. shape_at (segment s.arena.now) self.entry.at ≡ StructIn s.place.start s.place.data_words s.place.pointers) }
+        ensures tree { IfOk result (λ s. tree (segment s.arena.now) self.entry.at ≡ struct_tree (filled_struct (default_tree default.entry) size (pointer_tree self.entry))) }
+        ensures changes { IfOk result (λ s. Changes self.entry.at (segment self.entry.arena.now) (segment s.arena.now)) }
+        ensures within { OnOk result (filled_struct_refusal (default_tree default.entry) (pointer_tree self.entry) ≡ None) }
+        ensures cause { IfErr result (λ e. IsDueRefusal e (filled_struct_refusal (default_tree default.entry) (pointer_tree self.entry))) }
+        ensures succeeds { HoldsStruct size (pointer_tree self.entry) → IsOk result }
+    {
+        let PointerBuilder { arena, at } = self;
+        let place = arena.get_struct_or_default(at, size, default)?;
+        Ok(StructBuilder { arena, place })
+    }
+
+    /// The list that stands here, as one of elements of a size: a null becomes a copy of the default first, where there is
+    /// one, or else is a list without elements, and stays null. `size` must not be `InlineComposite`.
+    ///
+    /// Refused with `WrongPointerKind` for a struct, and with `WrongElementSize` for a list that is not read so, which of a
+    /// null the default may be; of a null also with `BadPointer`, `TooDeep` or `CapabilityPointer` where a pointer in the
+    /// default can't be followed, by the first of these in preorder; and else with `OutOfMemory`. Then nothing has
+    /// changed. Where no default is copied no memory is taken.
+    pub fn get_list_or_default(
+        self,
+        size: ElementSize,
+        default: Option<PointerReader<'_>>,
+    ) -> Result<ListBuilder<'a>>
+        requires forest { IsPointer self }
+        requires simple { size ≢ ElementSize.InlineComposite }
+        ensures* rests { sem 𝓛 (ListRests self.entry.arena result) }
+        ensures same { IfOk result (λ l. l.arena.ghost_name ≡ self.entry.arena.ghost_name) }
+        ensures at { IfOk result (λ l. l.at ≡ self.entry.at) }
+        ensures forest { IfOk result (λ l. Forest (segment l.arena.now) l.at) }
+        ensures place { IfOk result (λ l. shape_at (segment l.arena.now) l.at ≡ list_shape l.list) }
+        ensures tree { IfOk result (λ l. tree (segment l.arena.now) l.at ≡ or_default (default_tree default.entry) (pointer_tree self.entry)) }
+        ensures reads { IfOk result (λ l. listed_tree (tree (segment l.arena.now) l.at) l.list ≡ or_empty size (or_default (default_tree default.entry) (pointer_tree self.entry))) }
+        ensures changes { IfOk result (λ l. Changes self.entry.at (segment self.entry.arena.now) (segment l.arena.now)) }
+        ensures within { OnOk result (filled_list_refusal (default_tree default.entry) size (pointer_tree self.entry) ≡ None) }
+        ensures cause { IfErr result (λ e. IsDueRefusal e (filled_list_refusal (default_tree default.entry) size (pointer_tree self.entry))) }
+        ensures succeeds { takes_default (default_tree default.entry) (pointer_tree self.entry) ≡ false →
+            filled_list_refusal (default_tree default.entry) size (pointer_tree self.entry) ≡ None → IsOk result }
+    {
+        let PointerBuilder { arena, at } = self;
+        let list = arena.get_list_or_default(at, size, default)?;
+        Ok(ListBuilder { arena, at, list })
+    }
+
+    /// The list that stands here, as one of structs of at least a size: a null becomes a copy of the default first, where
+    /// there is one, or else is a list without elements, and stays null. A list becomes one of structs as by
+    /// `get_struct_list`.
+    ///
+    /// Refused with `WrongPointerKind` for a struct, with `WrongElementSize` for a list of bits, and with `SizePastFormat`
+    /// where the structs would take 2^29 words or more, which of a null the default may be; of a null also with
+    /// `BadPointer`, `TooDeep` or `CapabilityPointer` where a pointer in the default can't be followed, by the first of
+    /// these in preorder; and else with `OutOfMemory`. Then nothing has changed. A null without a default, and a list of
+    /// structs that have at least the size, take no memory and are never refused.
+    pub fn get_struct_list_or_default(
+        self,
+        size: StructSize,
+        default: Option<PointerReader<'_>>,
+    ) -> Result<ListBuilder<'a>>
+        requires forest { IsPointer self }
+        ensures* rests { sem 𝓛 (ListRests self.entry.arena result) }
+        ensures same { IfOk result (λ l. l.arena.ghost_name ≡ self.entry.arena.ghost_name) }
+        ensures at { IfOk result (λ l. l.at ≡ self.entry.at) }
+        ensures forest { IfOk result (λ l. Forest (segment l.arena.now) l.at) }
+        ensures place { IfOk result (λ l. shape_at (segment l.arena.now) l.at ≡ list_shape l.list) }
+        ensures tree { IfOk result (λ l. tree (segment l.arena.now) l.at ≡ filled_structs (default_tree default.entry) size (pointer_tree self.entry)) }
+        ensures reads { IfOk result (λ l. listed_tree (tree (segment l.arena.now) l.at) l.list ≡
+            or_empty ElementSize.InlineComposite (filled_structs (default_tree default.entry) size (pointer_tree self.entry))) }
+        ensures changes { IfOk result (λ l. Changes self.entry.at (segment self.entry.arena.now) (segment l.arena.now)) }
+        ensures within { OnOk result (filled_structs_refusal (default_tree default.entry) size (pointer_tree self.entry) ≡ None) }
+        ensures cause { IfErr result (λ e. IsDueRefusal e (filled_structs_refusal (default_tree default.entry) size (pointer_tree self.entry))) }
+        ensures succeeds { takes_default (default_tree default.entry) (pointer_tree self.entry) ≡ false → HoldsStructs size (pointer_tree self.entry) → IsOk result }
+    {
+        let PointerBuilder { arena, at } = self;
+        let list = arena.get_struct_list_or_default(at, size, default)?;
         Ok(ListBuilder { arena, at, list })
     }
 
