@@ -33,3 +33,4 @@ pub mod ElementPlaces
 pub mod WrittenElements
 pub mod StructSizes
 pub mod ListReaders
+pub mod Refused

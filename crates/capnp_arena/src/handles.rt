@@ -1,15 +1,93 @@
-//! Builders as a reference to the arena beside a place.
+//! Builders as a reference to the message beside a place.
+//!
+//! A builder that the message hands out is known by the message's own reference: what calls by value and calls of
+//! `&mut self` leave, one after another, is known to be left in the message. Of a builder that another one lends (`reborrow`
+//! and the calls named `_mut`) a caller knows that where it is taken apart, or passed on by value; where its calls of
+//! `&mut self` are to be known, let the message behind it hand one out, as `built.arena.pointer_field(place, 0)`.
 ghost use Rattle.std.specs.Prelude.{OnErr, OnOk, ◌*◌, ◌+◌, ◌≡◌, ◌≤◌};
 ghost use Rattle.capnp_arena.specs.Forest.{Changes, Forest};
 ghost use Rattle.capnp_arena.specs.Segment.{segment};
 
-use crate::arena::Arena;
+use crate::arena::{Arena, Place};
 pub use crate::list_builder::ListBuilder;
+use crate::list_reads::ListTarget;
 pub use crate::pointer_builder::PointerBuilder;
 pub use crate::struct_builder::StructBuilder;
 use capnp_device::error::Result;
 use capnp_wire::primitive::PrimitiveElement;
 use capnp_wire::size::StructSize;
+
+impl Arena {
+    ghost use Rattle.std.specs.Prelude.{List, ℕ, ◌<◌};
+    ghost use Rattle.capnp_wire.specs.Tree.{nth_tree};
+    ghost use Rattle.capnp_arena.specs.Facts.Laws.{IsInPointer};
+    ghost use Rattle.capnp_arena.specs.Forest.{Planted, struct_from};
+    ghost use Rattle.capnp_arena.specs.Handles.{IsPointer, pointer_tree};
+    ghost use Rattle.capnp_arena.specs.Message.{IsMessage, message_tree};
+    ghost use Rattle.capnp_arena.specs.Shape.{StructIn, word_count};
+
+    /// The message's root pointer.
+    pub fn root(&mut self) -> PointerBuilder<'_>
+        requires message { IsMessage self.old }
+        ensures same { result.arena.ghost_name ≡ self.entry.ghost_name }
+        ensures now { result.arena.now ≡ self.old }
+        ensures at { result.at ≡ 0 }
+        ensures inside { result.at < word_count (segment self.old) }
+        ensures forest { IsPointer result }
+        ensures tree { pointer_tree result ≡ message_tree self.old }
+    {
+        PointerBuilder { arena: self, at: 0 }
+    }
+
+    /// The pointer at a word.
+    pub fn pointer_builder(&mut self, at: usize) -> PointerBuilder<'_>
+        ensures same { result.arena.ghost_name ≡ self.entry.ghost_name }
+        ensures now { result.arena.now ≡ self.old }
+        ensures at { result.at ≡ at }
+    {
+        PointerBuilder { arena: self, at }
+    }
+
+    /// The struct at a place.
+    pub fn struct_builder(&mut self, place: Place) -> StructBuilder<'_>
+        ensures same { result.arena.ghost_name ≡ self.entry.ghost_name }
+        ensures now { result.arena.now ≡ self.old }
+        ensures place { result.place ≡ place }
+    {
+        StructBuilder { arena: self, place }
+    }
+
+    /// The list that the pointer at a word leads to, as it was got.
+    pub fn list_builder(&mut self, at: usize, list: ListTarget) -> ListBuilder<'_>
+        ensures same { result.arena.ghost_name ≡ self.entry.ghost_name }
+        ensures now { result.arena.now ≡ self.old }
+        ensures at { result.at ≡ at }
+        ensures list { result.list ≡ list }
+    {
+        ListBuilder {
+            arena: self,
+            at,
+            list,
+        }
+    }
+
+    /// The pointer at `index` of a struct, which has to be below the number of pointers.
+    pub fn pointer_field(&mut self, place: Place, index: u16) -> PointerBuilder<'_>
+        requires planted { Planted (segment self.old) (StructIn place.start place.data_words place.pointers) }
+        requires inside { index < place.pointers }
+        ensures same { result.arena.ghost_name ≡ self.entry.ghost_name }
+        ensures now { result.arena.now ≡ self.old }
+        ensures at { result.at ≡ place.start + place.data_words + index }
+        ensures inside { result.at < word_count (segment self.old) }
+        ensures forest { IsPointer result }
+        ensures tree { pointer_tree result ≡ nth_tree (struct_from (segment self.old) place.start place.data_words place.pointers).pointers index }
+        ensures leaves { (new : List ℕ) → Forest new result.at → Changes result.at (segment self.old) new
+            → IsInPointer (segment self.old) new place.start place.data_words place.pointers index }
+    {
+        let at = self.get_pointer_field(place, index);
+        PointerBuilder { arena: self, at }
+    }
+}
 
 /// A caller: a struct, and a number in it.
 pub fn get_and_set<T: PrimitiveElement>(

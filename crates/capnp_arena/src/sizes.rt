@@ -1,16 +1,16 @@
 //! Sizes of what is built.
 
 use crate::arena::{Arena, Place};
-use crate::count::{count_row, count_words};
+use crate::count::count_row;
 use capnp_device::error::{Error, ErrorKind, Result};
 use capnp_wire::size::MessageSize;
 
 impl Arena {
-    ghost use Rattle.std.specs.Prelude.{IfErr, IfOk, None, suc, ◌^◌, ◌≡◌, ◌≤◌};
+    ghost use Rattle.std.specs.Prelude.{IfErr, IfOk, None, ◌^◌, ◌≡◌, ◌≤◌};
     ghost use Rattle.capnp_device.specs.declared.error.ErrorKind.TheVariants.{TooLarge};
     ghost use Rattle.capnp_wire.specs.Total.{IsSize};
-    ghost use Rattle.capnp_wire.specs.Words.{words_of, words_of_struct};
-    ghost use Rattle.capnp_arena.specs.Forest.{Forest, Planted, struct_from, tree};
+    ghost use Rattle.capnp_wire.specs.Words.{words_of_struct};
+    ghost use Rattle.capnp_arena.specs.Forest.{Planted, struct_from};
     ghost use Rattle.capnp_arena.specs.Segment.{segment};
     ghost use Rattle.capnp_arena.specs.Shape.{StructIn};
 
@@ -32,20 +32,5 @@ impl Arena {
             word_count: own + below,
             cap_count: 0,
         })
-    }
-
-    /// The words of the message's segment as it is written: one for the root pointer, and those of each object that it leads
-    /// to, the tag of a composite list with them. Takes no memory.
-    ///
-    /// Refused with `TooLarge` where what the root leads to has 2^29 words or more.
-    pub fn size_in_words(&self) -> Result<u64>
-        requires forest { Forest (segment self.now) 0 }
-        ensures words { IfOk result (λ words. words ≡ suc (words_of (tree (segment self.now) 0))) }
-        ensures refused { IfErr result (λ e. (e.kind ≡ TooLarge) × (2 ^ 29 ≤ words_of (tree (segment self.now) 0))) }
-    {
-        let Some(words) = count_words(self.bytes.as_slice(), 0) else {
-            return Err(Error::from(ErrorKind::TooLarge));
-        };
-        Ok(words + 1)
     }
 }
