@@ -79,7 +79,7 @@ module _ (bytes : List ℕ) (w : ℕ) (f : Forest bytes w) (i : ℕ) where
       pub list_leaves : (new : List ℕ) → Forest new (a + i) → Changes (a + i) bytes new → Leaves w (with_pointer_element i (tree new (a + i)) (tree bytes w)) bytes new
       list_leaves new g c =
           let z : IsInPointers bytes new w a n i = in_pointers bytes new w a n i f six room.1 g c in
-          record { forest = z.forest; tree = z.tree; changes = z.changes }
+          record { forest = z.forest; tree = z.tree; changes = z.changes; place = z.place ∙ sym six }
 
     module _ (tag n d p : ℕ) (e : shape_at bytes w ≡ CompositeIn tag n d p) where
       abbrev part_of : ℕ → StructTree
@@ -131,6 +131,7 @@ module _ (bytes : List ℕ) (w : ℕ) (f : Forest bytes w) (i : ℕ) where
                 ∙ ap (λ y. Composite d p (with_struct (structs_from part_of 0 n) i (with_pointer_tree y 0 (tree new (tag + 1 + i * (d + p) + d))))) (sym (nth_struct-start part_of n i first_index))
                 ∙ ap (with_pointer_element i (tree new (tag + 1 + i * (d + p) + d))) (sym (tree_composite bytes w tag n d p f e));
             changes = z.changes;
+            place = z.place ∙ sym e;
           }
 
   -- ---- structs ----
@@ -154,7 +155,7 @@ module _ (bytes : List ℕ) (w : ℕ) (f : Forest bytes w) (i : ℕ) where
         → Leaves w (with_struct_element i (struct_from new (tag + 1 + i * (d + p)) d p) (tree bytes w)) bytes new
     struct_leaves tag n d p e new g c =
         let z : IsInElement bytes new w tag n d p i = in_element bytes new w tag n d p i f e (struct_index tag n d p e) g c in
-        record { forest = z.forest; tree = z.tree; changes = z.changes }
+        record { forest = z.forest; tree = z.tree; changes = z.changes; place = z.place ∙ sym e }
 
     -- by the place
     pub place_leaves : (tag n d p : ℕ) → shape_at bytes w ≡ CompositeIn tag n d p → (q : Place) → q.start ≡ tag + 1 + i * (d + p) → q.data_words ≡ d → q.pointers ≡ p

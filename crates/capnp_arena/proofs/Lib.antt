@@ -31,3 +31,6 @@ pub mod LaidOut
 pub mod EnteredLists
 pub mod ElementPlaces
 pub mod WrittenElements
+pub mod StructSizes
+pub mod ListReaders
+pub mod Refused

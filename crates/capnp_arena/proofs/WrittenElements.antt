@@ -49,6 +49,7 @@ module _ (old new : List ℕ) (at start n width i v : ℕ) (whole : length old �
             ∙ ap (Numbers own) (ap (λ z. bytes_at z start m) is ∙ put_there start (with_number width i v (bytes_at old start m)) old m (omega (arith, xl, ends, few, whole)) xl)
             ∙ sym (ap (with_number_element width i v) t);
         changes = w.changes;
+        place = w.place ∙ sym e;
       }
 
   pub number_leaves : (size : ElementSize) (m : ℕ) → shape_at old at ≡ ListIn start (size_number size) n → m ≡ width_of size * n → HasNumber width (tree old at) i
@@ -163,4 +164,5 @@ module _ (old new : List ℕ) (at i : ℕ) (bit : Bool) (whole : length old ≡ 
               ∙ ap Bits (bits_with (bytes_at old start m) i bit 0 n i (omega (arith, long, bit_inside)) (omega arith))
               ∙ sym (ap (with_bit_element i bit) t);
           changes = w.changes;
+          place = w.place ∙ sym one;
         }

@@ -12,6 +12,8 @@ pub mod Grown
 pub mod Copies
 pub mod InOrder
 pub mod Handles
+pub mod Ends
+pub mod Message
 pub mod Listed
 pub mod Same
 pub mod Facts

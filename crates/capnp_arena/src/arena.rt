@@ -8,6 +8,7 @@ ghost use Rattle.capnp_wire.specs.Locate.{list_words};
 
 use crate::spell::{
     append_zeros, make_list_word, make_struct_word, put_bytes, put_word, write_number,
+    write_number_mask,
 };
 use capnp_device::error::{Error, ErrorKind, Result};
 use capnp_wire::primitive::PrimitiveElement;
@@ -92,7 +93,7 @@ fn get_list_words(size: ElementSize, count: u32) -> usize
 }
 
 impl Arena {
-    ghost use Rattle.std.specs.Prelude.{IfErr, IfOk, OnErr, OnOk, ◌⊎◌, ◌≢◌, ◌∷◌, [], ◌+◌, ◌++◌, ◌≤◌, replicate};
+    ghost use Rattle.std.specs.Prelude.{IfErr, IfOk, OnErr, OnOk, bit_xor, ◌⊎◌, ◌≢◌, ◌∷◌, [], ◌+◌, ◌++◌, ◌≤◌, replicate};
     ghost use Rattle.capnp_wire.specs.Edits.{IsRoomRefusal, with_bytes, with_number, zero_list, zero_struct, zero_structs};
     ghost use Rattle.capnp_wire.specs.Encoding.{spelled};
     ghost use Rattle.capnp_wire.specs.Place.{struct_tree};
@@ -335,6 +336,32 @@ impl Arena {
             8 * place.data_words as usize,
             offset,
             value,
+        );
+    }
+
+    /// The same of a number that is stored XORed with its default `mask`.
+    pub fn set_number_mask<T: PrimitiveElement>(
+        &mut self,
+        place: Place,
+        offset: u32,
+        value: T,
+        mask: T,
+    )
+        requires planted { Planted (segment self.old) (StructIn place.start place.data_words place.pointers) }
+        requires inside { (offset + 1) * T.width ≤ 8 * place.data_words }
+        ensures planted { Planted (segment self.new) (StructIn place.start place.data_words place.pointers) }
+        ensures changes { PartChanges (StructIn place.start place.data_words place.pointers) (segment self.old) (segment self.new) }
+        ensures tree { struct_from (segment self.new) place.start place.data_words place.pointers ≡
+            with_bytes (struct_from (segment self.old) place.start place.data_words place.pointers)
+            (with_number T.width offset (bit_xor (T.to_number value) (T.to_number mask)) (struct_from (segment self.old) place.start place.data_words place.pointers).bytes) }
+    {
+        write_number_mask(
+            &mut self.bytes,
+            8 * place.start,
+            8 * place.data_words as usize,
+            offset,
+            value,
+            mask,
         );
     }
 }

@@ -118,7 +118,7 @@ pub fn count_words(bytes: &[u8], w: usize) -> Option<u64>
 
 /// The words of all that so many pointers in a row lead to.
 #[cycle(count)]
-fn count_row(bytes: &[u8], first: usize, count: usize) -> Option<u64>
+pub fn count_row(bytes: &[u8], first: usize, count: usize) -> Option<u64>
     requires forests { AreForests bytes.now first count }
     requires inside { first + count ≤ word_count bytes.now }
     requires few { word_count bytes.now < 2 ^ 29 }

@@ -1,109 +1,91 @@
-//! Builders as a reference to the arena beside a place.
+//! Builders as a reference to the message beside a place.
+//!
+//! A builder that the message hands out is known by the message's own reference: what calls by value and calls of
+//! `&mut self` leave, one after another, is known to be left in the message. Of a builder that another one lends (`reborrow`
+//! and the calls named `_mut`) a caller knows that where it is taken apart, or passed on by value; where its calls of
+//! `&mut self` are to be known, let the message behind it hand one out, as `built.arena.pointer_field(place, 0)`.
 ghost use Rattle.std.specs.Prelude.{OnErr, OnOk, ◌*◌, ◌+◌, ◌≡◌, ◌≤◌};
 ghost use Rattle.capnp_arena.specs.Forest.{Changes, Forest};
 ghost use Rattle.capnp_arena.specs.Segment.{segment};
 
 use crate::arena::{Arena, Place};
+pub use crate::list_builder::ListBuilder;
+use crate::list_reads::ListTarget;
+pub use crate::pointer_builder::PointerBuilder;
+pub use crate::struct_builder::StructBuilder;
 use capnp_device::error::Result;
 use capnp_wire::primitive::PrimitiveElement;
 use capnp_wire::size::StructSize;
 
-/// A pointer that is built: the whole arena, and the pointer's word.
-#[derive(Drop)]
-pub struct PointerBuilder<'a> {
-    pub arena: &'a mut Arena,
-    pub at: usize,
-}
+impl Arena {
+    ghost use Rattle.std.specs.Prelude.{List, ℕ, ◌<◌};
+    ghost use Rattle.capnp_wire.specs.Tree.{nth_tree};
+    ghost use Rattle.capnp_arena.specs.Facts.Laws.{IsInPointer};
+    ghost use Rattle.capnp_arena.specs.Forest.{Planted, struct_from};
+    ghost use Rattle.capnp_arena.specs.Handles.{IsPointer, pointer_tree};
+    ghost use Rattle.capnp_arena.specs.Message.{IsMessage, message_tree};
+    ghost use Rattle.capnp_arena.specs.Shape.{StructIn, word_count};
 
-/// A struct that is built.
-#[derive(Drop)]
-pub struct StructBuilder<'a> {
-    pub arena: &'a mut Arena,
-    pub place: Place,
-}
-
-impl<'a> PointerBuilder<'a> {
-    ghost use Rattle.std.specs.Prelude.{IfErr, IfOk, IsOk, None, OnErr, OnOk, ◌≡◌, ◌<◌};
-    ghost use Rattle.capnp_wire.specs.Edits.{IsStructRefusal, extended, struct_in, zero_struct};
-    ghost use Rattle.capnp_device.specs.declared.error.ErrorKind.TheVariants.{OutOfMemory};
-    ghost use Rattle.capnp_wire.specs.Place.{struct_tree};
-    ghost use Rattle.capnp_arena.specs.Forest.{Changes, Forest, tree};
-    ghost use Rattle.std.specs.Borrow.{sem};
-    ghost use Rattle.capnp_arena.specs.Handles.{StructRests};
-    ghost use Rattle.capnp_arena.specs.Segment.{segment};
-    ghost use Rattle.capnp_arena.specs.Shape.{StructIn, shape_at, word_count};
-
-    /// The struct that stands here, with at least a size.
-    ///
-    /// Refused with `WrongPointerKind` for a list, and else with `OutOfMemory`; then nothing has changed.
-    pub fn get_struct(self, size: StructSize) -> Result<StructBuilder<'a>>
-        requires forest { Forest (segment self.arena.now) self.at }
-        ensures* rests { sem 𝓛 (StructRests self.entry.arena result) }
-        ensures same { IfOk result (λ s. s.arena.ghost_name ≡ self.entry.arena.ghost_name) }
-        ensures forest { IfOk result (λ s. Forest (segment s.arena.now) self.entry.at) }
-        ensures place { IfOk result (λ s. shape_at (segment s.arena.now) self.entry.at ≡ StructIn s.place.start s.place.data_words s.place.pointers) }
-        ensures tree { IfOk result (λ s. tree (segment s.arena.now) self.entry.at ≡ struct_tree (extended size (struct_in (tree (segment self.entry.arena.now) self.entry.at)))) }
-        ensures changes { IfOk result (λ s. Changes self.entry.at (segment self.entry.arena.now) (segment s.arena.now)) }
-        ensures cause { IfErr result (λ e. IsStructRefusal e (tree (segment self.entry.arena.now) self.entry.at)) }
+    /// The message's root pointer.
+    pub fn root(&mut self) -> PointerBuilder<'_>
+        requires message { IsMessage self.old }
+        ensures same { result.arena.ghost_name ≡ self.entry.ghost_name }
+        ensures now { result.arena.now ≡ self.old }
+        ensures at { result.at ≡ 0 }
+        ensures inside { result.at < word_count (segment self.old) }
+        ensures forest { IsPointer result }
+        ensures tree { pointer_tree result ≡ message_tree self.old }
     {
-        let PointerBuilder { arena, at } = self;
-        let place = arena.get_struct(at, size)?;
-        Ok(StructBuilder { arena, place })
+        PointerBuilder { arena: self, at: 0 }
     }
 
-    /// Replaces what stands here by a struct of a size, all zero and null.
-    ///
-    /// Refused with `OutOfMemory`; then nothing has changed.
-    pub fn init_struct(self, size: StructSize) -> Result<StructBuilder<'a>>
-        requires { self.at < word_count (segment self.arena.now) }
-        ensures* rests { sem 𝓛 (StructRests self.entry.arena result) }
-        ensures same { IfOk result (λ s. s.arena.ghost_name ≡ self.entry.arena.ghost_name) }
-        ensures forest { IfOk result (λ s. Forest (segment s.arena.now) self.entry.at) }
-        ensures place { IfOk result (λ s. shape_at (segment s.arena.now) self.entry.at ≡ StructIn s.place.start s.place.data_words s.place.pointers) }
-        ensures tree { IfOk result (λ s. tree (segment s.arena.now) self.entry.at ≡ struct_tree (zero_struct size)) }
-        ensures changes { IfOk result (λ s. Changes self.entry.at (segment self.entry.arena.now) (segment s.arena.now)) }
-        ensures kind { IfErr result (λ e. e.kind ≡ OutOfMemory) }
+    /// The pointer at a word.
+    pub fn pointer_builder(&mut self, at: usize) -> PointerBuilder<'_>
+        ensures same { result.arena.ghost_name ≡ self.entry.ghost_name }
+        ensures now { result.arena.now ≡ self.old }
+        ensures at { result.at ≡ at }
     {
-        let PointerBuilder { arena, at } = self;
-        let place = arena.init_struct(at, size)?;
-        Ok(StructBuilder { arena, place })
-    }
-}
-
-impl<'a> StructBuilder<'a> {
-    ghost use Rattle.std.specs.Prelude.{◌*◌, ◌+◌, ◌<◌, ◌≡◌, ◌≤◌};
-    ghost use Rattle.capnp_wire.specs.Edits.{with_bytes, with_number};
-    ghost use Rattle.capnp_arena.specs.Forest.{PartChanges, Planted, struct_from};
-    ghost use Rattle.capnp_arena.specs.Segment.{segment};
-    ghost use Rattle.capnp_arena.specs.Shape.{StructIn};
-
-    /// Stores a number at `offset`, in units of its own size; it has to lie inside the data section.
-    pub fn set_data_field<T: PrimitiveElement>(&mut self, offset: u32, value: T)
-        requires planted { Planted (segment self.old.arena.now) (StructIn self.old.place.start self.old.place.data_words self.old.place.pointers) }
-        requires inside { (offset + 1) * T.width ≤ 8 * self.old.place.data_words }
-        ensures same { self.new.arena.ghost_name ≡ self.old.arena.ghost_name }
-        ensures place { self.new.place ≡ self.old.place }
-        ensures planted { Planted (segment self.new.arena.now) (StructIn self.old.place.start self.old.place.data_words self.old.place.pointers) }
-        ensures changes { PartChanges (StructIn self.old.place.start self.old.place.data_words self.old.place.pointers) (segment self.old.arena.now) (segment self.new.arena.now) }
-        ensures tree { struct_from (segment self.new.arena.now) self.old.place.start self.old.place.data_words self.old.place.pointers ≡
-            with_bytes (struct_from (segment self.old.arena.now) self.old.place.start self.old.place.data_words self.old.place.pointers)
-            (with_number T.width offset (T.to_number value) (struct_from (segment self.old.arena.now) self.old.place.start self.old.place.data_words self.old.place.pointers).bytes) }
-    {
-        let place = self.place;
-        self.arena.set_number(place, offset, value);
+        PointerBuilder { arena: self, at }
     }
 
-    /// The pointer at `index`, which has to be below the number of pointers.
-    pub fn get_pointer_field(self, index: u16) -> PointerBuilder<'a>
-        requires planted { Planted (segment self.arena.now) (StructIn self.place.start self.place.data_words self.place.pointers) }
-        requires inside { index < self.place.pointers }
-        ensures same { result.arena.ghost_name ≡ self.entry.arena.ghost_name }
-        ensures now { result.arena.now ≡ self.entry.arena.now }
-        ensures at { result.at ≡ self.entry.place.start + self.entry.place.data_words + index }
+    /// The struct at a place.
+    pub fn struct_builder(&mut self, place: Place) -> StructBuilder<'_>
+        ensures same { result.arena.ghost_name ≡ self.entry.ghost_name }
+        ensures now { result.arena.now ≡ self.old }
+        ensures place { result.place ≡ place }
     {
-        let StructBuilder { arena, place } = self;
-        let at = arena.get_pointer_field(place, index);
-        PointerBuilder { arena, at }
+        StructBuilder { arena: self, place }
+    }
+
+    /// The list that the pointer at a word leads to, as it was got.
+    pub fn list_builder(&mut self, at: usize, list: ListTarget) -> ListBuilder<'_>
+        ensures same { result.arena.ghost_name ≡ self.entry.ghost_name }
+        ensures now { result.arena.now ≡ self.old }
+        ensures at { result.at ≡ at }
+        ensures list { result.list ≡ list }
+    {
+        ListBuilder {
+            arena: self,
+            at,
+            list,
+        }
+    }
+
+    /// The pointer at `index` of a struct, which has to be below the number of pointers.
+    pub fn pointer_field(&mut self, place: Place, index: u16) -> PointerBuilder<'_>
+        requires planted { Planted (segment self.old) (StructIn place.start place.data_words place.pointers) }
+        requires inside { index < place.pointers }
+        ensures same { result.arena.ghost_name ≡ self.entry.ghost_name }
+        ensures now { result.arena.now ≡ self.old }
+        ensures at { result.at ≡ place.start + place.data_words + index }
+        ensures inside { result.at < word_count (segment self.old) }
+        ensures forest { IsPointer result }
+        ensures tree { pointer_tree result ≡ nth_tree (struct_from (segment self.old) place.start place.data_words place.pointers).pointers index }
+        ensures leaves { (new : List ℕ) → Forest new result.at → Changes result.at (segment self.old) new
+            → IsInPointer (segment self.old) new place.start place.data_words place.pointers index }
+    {
+        let at = self.get_pointer_field(place, index);
+        PointerBuilder { arena: self, at }
     }
 }
 

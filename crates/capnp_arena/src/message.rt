@@ -1,4 +1,4 @@
-//! The message of the segment, written.
+//! Whole messages that are built, and what is written of them.
 ghost use Rattle.std.specs.Prelude.{IfOk, suc, ◌*◌, ◌++◌, ◌+◌, ◌/◌, ◌<◌, ◌^◌, ◌≡◌, ◌≤◌, length};
 ghost use Rattle.capnp_wire.specs.Encoding.{message_of};
 ghost use Rattle.capnp_wire.specs.WellFormed.{IsWellFormed};
@@ -10,7 +10,9 @@ use crate::append::{Appended, append_half};
 use crate::arena::Arena;
 use crate::compact::append_encoding;
 use crate::count::count_words;
+use capnp_device::device::Sink;
 use capnp_device::error::{Error, ErrorKind, Result};
+use capnp_device::transfer::write_all;
 
 /// The table of one segment of so many words and a root pointer, the pointer, and what it leads to.
 fn append_message(out: &mut Vec<u8>, bytes: &[u8], words: u32) -> Appended
@@ -27,11 +29,45 @@ fn append_message(out: &mut Vec<u8>, bytes: &[u8], words: u32) -> Appended
     Ok(())
 }
 
+/// A message that is built: its words.
+///
+/// It is no struct round the words: what a builder of the root leaves is known by its reference, which is the message's
+/// own. A message is one as long as a tree stands at the root (`IsMessage`), as each builder's contract says of what it
+/// leaves; so the calls that read it ask for that.
+///
+/// # Example
+///
+/// ```rust
+/// let mut message = Builder::new(alloc)?;
+/// let mut made = message.root().init_struct(SIZE)?;
+/// made.set_data_field(0, id);
+/// made.get_pointer_field(0).set_text(name.as_bytes())?;
+/// message.write_message_to(sink)
+/// ```
+pub type Builder = Arena;
+
 impl Arena {
-    ghost use Rattle.std.specs.Prelude.{IfErr, ◌≢◌};
-    ghost use Rattle.capnp_device.specs.declared.error.ErrorKind.TheVariants.{OutOfMemory, TooLarge};
-    ghost use Rattle.capnp_wire.specs.Message.{IsReadAs};
+    ghost use Rattle.std.specs.Prelude.{IfErr, OnOk, ◌≢◌};
+    ghost use Rattle.capnp_device.specs.Device.{HasFailed, HasWorked};
+    ghost use Rattle.capnp_device.specs.declared.error.ErrorKind.TheVariants.{OutOfMemory, TooLarge, WriteFailed};
+    ghost use Rattle.capnp_wire.specs.Message.{IsCutShort, IsReadAs, IsWritten};
+    ghost use Rattle.capnp_arena.specs.Message.{IsMessage, message_tree};
     ghost use Rattle.capnp_arena.specs.Segment.{segment};
+
+    /// The words of the message's segment as it is written: one for the root pointer, and those of each object that it
+    /// leads to, the tag of a composite list with them. Takes no memory.
+    ///
+    /// Refused with `TooLarge` where what the root leads to has 2^29 words or more.
+    pub fn size_in_words(&self) -> Result<u64>
+        requires message { IsMessage self.now }
+        ensures words { IfOk result (λ words. words ≡ suc (words_of (message_tree self.now))) }
+        ensures refused { IfErr result (λ e. (e.kind ≡ TooLarge) × (2 ^ 29 ≤ words_of (message_tree self.now))) }
+    {
+        let Some(words) = count_words(self.bytes.as_slice(), 0) else {
+            return Err(Error::from(ErrorKind::TooLarge));
+        };
+        Ok(words + 1)
+    }
 
     /// The bytes of the message in a stream: one segment, with what the root leads to and nothing else. The message takes
     /// its memory once.
@@ -44,6 +80,7 @@ impl Arena {
         ensures read { IfOk result (λ v. IsReadAs (tree (segment self.now) 0) v.items) }
         ensures kinds { IfErr result (λ e. e.kind ≢ TooLarge → e.kind ≡ OutOfMemory) }
         ensures refused { IfErr result (λ e. e.kind ≡ TooLarge → 2 ^ 29 ≤ suc (words_of (tree (segment self.now) 0))) }
+        ensures memory { IfErr result (λ e. e.kind ≡ OutOfMemory → suc (words_of (tree (segment self.now) 0)) < 2 ^ 29) }
     {
         let bytes = self.bytes.as_slice();
         let Some(words) = count_words(bytes, 0) else {
@@ -55,5 +92,28 @@ impl Arena {
         let mut out = Vec::with_capacity(*self.bytes.allocator(), 8 * words as usize + 16)?;
         append_message(&mut out, bytes, words as u32)?;
         Ok(out)
+    }
+
+    /// Writes the message's bytes, those of `write_message`, to a sink. They are made whole before the first of them is
+    /// written.
+    ///
+    /// Refused as `write_message`, and then nothing was written; and with `WriteFailed` where a call of the sink failed,
+    /// and then a proper beginning of the bytes was written.
+    pub fn write_message_to<W: Sink>(&self, sink: &mut W) -> Result<()>
+        requires message { IsMessage self.now }
+        ensures written { OnOk result (IsWritten (message_tree self.now) (W.written sink.old) (W.written sink.new)) }
+        ensures worked { OnOk result (HasWorked (W.failures sink.old) (W.failures sink.new)) }
+        ensures held { OnOk result (IsWellFormed (message_tree self.now) × (suc (words_of (message_tree self.now)) < 2 ^ 29)) }
+        ensures read { OnOk result (IsReadAs (message_tree self.now) (message_of (message_tree self.now))) }
+        ensures kinds { IfErr result (λ e. e.kind ≢ TooLarge → e.kind ≢ OutOfMemory → e.kind ≡ WriteFailed) }
+        ensures refused { IfErr result (λ e. e.kind ≡ TooLarge → 2 ^ 29 ≤ suc (words_of (message_tree self.now))) }
+        ensures fits { IfErr result (λ e. e.kind ≢ TooLarge → IsWellFormed (message_tree self.now) × (suc (words_of (message_tree self.now)) < 2 ^ 29)) }
+        ensures nothing { IfErr result (λ e. e.kind ≢ WriteFailed → sink.new ≡ sink.old) }
+        ensures failed { IfErr result (λ e. e.kind ≡ WriteFailed → HasFailed (W.failures sink.old) (W.failures sink.new)) }
+        ensures beginning { IfErr result (λ e. e.kind ≡ WriteFailed → IsCutShort (message_tree self.now) (W.written sink.old) (W.written sink.new)) }
+    {
+        self.trees_are_well_formed();
+        let bytes = self.write_message()?;
+        write_all(sink, &bytes)
     }
 }

@@ -6,6 +6,7 @@ ghost use Rattle.capnp_arena.specs.Forest.{struct_from, tree};
 ghost use Rattle.capnp_arena.specs.Shape.{word_count};
 
 use crate::arena::{Arena, Place};
+use crate::list_reads::ListTarget;
 use capnp_wire::laws::pointer_is_well_formed;
 use capnp_wire::pointer::look;
 use capnp_wire::size::StructSize;
@@ -23,11 +24,14 @@ impl Arena {
     ghost use Rattle.capnp_wire.specs.Words.{first_fault, first_fault_of_all};
     ghost use Rattle.capnp_wire.specs.Depth.{AreBelow, IsBelow};
     ghost use Rattle.capnp_wire.specs.Place.{struct_at, tree_below};
+    ghost use Rattle.std.specs.Borrow.{sem};
     ghost use Rattle.capnp_wire.specs.Standing.{levels_of, list_levels, list_of, struct_levels, struct_of, tree_of};
+    ghost use Rattle.capnp_arena.specs.Ends.{EndsUnchanged};
     ghost use Rattle.capnp_arena.specs.Forest.{Forest, Planted};
+    ghost use Rattle.capnp_arena.specs.Listed.{list_shape, listed_tree};
     ghost use Rattle.capnp_arena.specs.Same.{IsCutOf, IsStructCutOf};
     ghost use Rattle.capnp_arena.specs.Segment.{segment};
-    ghost use Rattle.capnp_arena.specs.Shape.{StructIn};
+    ghost use Rattle.capnp_arena.specs.Shape.{StructIn, shape_at};
 
     /// A reader of the pointer at a word, with 64 levels. Its tree is cut off past 65,534 levels, which only walks of a
     /// whole tree can see.
@@ -57,9 +61,50 @@ impl Arena {
         StructReader::of_words(self.bytes.as_slice(), place.start, size, u16::MAX, 64)
     }
 
+    /// The same for as long as the message is lent, which stays as it is.
+    pub fn into_struct_reader(&mut self, place: Place) -> StructReader<'_>
+        requires planted { Planted (segment self.old) (StructIn place.start place.data_words place.pointers) }
+        ensures* ends { sem 𝓛 (EndsUnchanged self.entry) }
+        ensures read { struct_of result ≡ struct_at (tree_below 65535 (segment self.old ∷ []) (segment self.old)) (segment self.old) place.data_words place.pointers place.start }
+        ensures parts { AreBelow 65535 (struct_from (segment self.old) place.start place.data_words place.pointers).pointers
+            → struct_of result ≡ struct_from (segment self.old) place.start place.data_words place.pointers }
+        ensures levels { struct_levels result ≡ 64 }
+    {
+        self.get_struct_reader(place)
+    }
+
+    /// A reader of the list that the pointer at a word leads to, with 64 levels: of a null, of the list without elements that
+    /// was got. What it leads to is cut off as by `get_pointer_reader`.
+    pub fn get_list_reader(&self, at: usize, list: ListTarget) -> ListReader<'_>
+        requires forest { Forest (segment self.now) at }
+        requires there { shape_at (segment self.now) at ≡ list_shape list }
+        ensures read { list_of result ≡ listed_tree (tree_below 65535 (segment self.now ∷ []) (segment self.now) at) list }
+        ensures list { IsBelow 65535 (tree (segment self.now) at) → list_of result ≡ listed_tree (tree (segment self.now) at) list }
+        ensures levels { list_levels result ≡ 64 }
+    {
+        let size = self.get_element_size(at, list);
+        let reader = PointerReader::of_word(self.bytes.as_slice(), at, u16::MAX, 65);
+        let Ok(list) = reader.get_list(size) else {
+            unreachable!()
+        };
+        list
+    }
+
+    /// The same for as long as the message is lent, which stays as it is.
+    pub fn into_list_reader(&mut self, at: usize, list: ListTarget) -> ListReader<'_>
+        requires forest { Forest (segment self.old) at }
+        requires there { shape_at (segment self.old) at ≡ list_shape list }
+        ensures* ends { sem 𝓛 (EndsUnchanged self.entry) }
+        ensures read { list_of result ≡ listed_tree (tree_below 65535 (segment self.old ∷ []) (segment self.old) at) list }
+        ensures list { IsBelow 65535 (tree (segment self.old) at) → list_of result ≡ listed_tree (tree (segment self.old) at) list }
+        ensures levels { list_levels result ≡ 64 }
+    {
+        self.get_list_reader(at, list)
+    }
+
     /// A reader of the list that the pointer at a word leads to, as it stands, with 64 levels. It is cut off as by
     /// `get_pointer_reader`.
-    pub fn get_list_reader(&self, at: usize) -> ListReader<'_>
+    pub fn list_reader(&self, at: usize) -> ListReader<'_>
         requires forest { Forest (segment self.now) at }
         ensures cut { IsCutOf (list_of result) (tree (segment self.now) at) }
         ensures levels { list_levels result ≡ 64 }

@@ -1,5 +1,5 @@
 //! Words of a segment as they are written.
-ghost use Rattle.std.specs.Prelude.{IfOk, OnErr, drop, replicate, take, ◌*◌, ◌++◌, ◌+◌, ◌<◌, ◌^◌, ◌≡◌, ◌≤◌, length};
+ghost use Rattle.std.specs.Prelude.{IfOk, OnErr, bit_xor, drop, replicate, take, ◌*◌, ◌++◌, ◌+◌, ◌<◌, ◌^◌, ◌≡◌, ◌≤◌, length};
 ghost use Rattle.capnp_wire.specs.Edits.{with_bit, with_number};
 ghost use Rattle.capnp_wire.specs.Encoding.{list_word, spelled, struct_word};
 ghost use Rattle.capnp_wire.specs.Filling.{put};
@@ -69,6 +69,24 @@ pub fn write_number<T: PrimitiveElement>(
     ensures put { out.new.items ≡ put at (with_number T.width offset (T.to_number value) (take count (drop at out.old.items))) out.old.items }
 {
     T::write(&mut out[at..at + count], offset, value);
+}
+
+/// The same of a number that is stored XORed with its default `mask`.
+#[inline(always)]
+pub fn write_number_mask<T: PrimitiveElement>(
+    out: &mut Vec<u8>,
+    at: usize,
+    count: usize,
+    offset: u32,
+    value: T,
+    mask: T,
+)
+    requires part { at + count ≤ length out.old.items }
+    requires inside { (offset + 1) * T.width ≤ count }
+    ensures long { length out.new.items ≡ length out.old.items }
+    ensures put { out.new.items ≡ put at (with_number T.width offset (bit_xor (T.to_number value) (T.to_number mask)) (take count (drop at out.old.items))) out.old.items }
+{
+    T::write_masked(&mut out[at..at + count], offset, value, mask);
 }
 
 /// A bit in a part of bytes, counted from the lowest of its first byte.

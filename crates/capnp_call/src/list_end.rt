@@ -43,7 +43,7 @@ fn get_element(
     ensures { (old : RecordValue) → Does (lists_seen set.now) Get
         (element_at (lists_seen set.now) (seen_type element) (tree (segment arena.now) at) index) old (reply_seen result) old }
 {
-    let reader = dynamic_list::Reader::new(arena.get_list_reader(at), element, set);
+    let reader = dynamic_list::Reader::new(arena.list_reader(at), element, set);
     answer(alloc, reader.get(index))
 }
 

@@ -14,11 +14,11 @@ returns c =
     let set = lists_seen c.args.set.now in
     let e = seen_type c.args.element in
     let x = tree (segment c.args.arena.now) c.args.at in
-    let y = list_of c.get_list_reader.result in
+    let y = list_of c.list_reader.result in
     let on : StandsIn c.new-reader.result set e y = record {
       set_is = c.new-reader.ensures.set;
       element_is = ap seen_type c.new-reader.ensures.element;
       list_is = ap list_of c.new-reader.ensures.reader;
-      levels = ap list_levels c.new-reader.ensures.reader ∙ c.get_list_reader.ensures.levels;
+      levels = ap list_levels c.new-reader.ensures.reader ∙ c.list_reader.ensures.levels;
     } in
-    get_reads c.new-reader.result set e y x c.args.index c.get.result (reply_seen c.answer.result) on c.get_list_reader.ensures.cut c.requires.inside c.requires.entries c.get.ensures.value c.get.ensures.typed c.answer.ensures
+    get_reads c.new-reader.result set e y x c.args.index c.get.result (reply_seen c.answer.result) on c.list_reader.ensures.cut c.requires.inside c.requires.entries c.get.ensures.value c.get.ensures.typed c.answer.ensures

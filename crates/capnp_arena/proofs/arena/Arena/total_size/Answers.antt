@@ -1,0 +1,17 @@
+use Rattle.std.proofs.Common.{◌+◌, arith, refl, subst}
+use Rattle.capnp_wire.specs.Tree.{trees_from}
+use Rattle.capnp_wire.specs.Words.{words_of_all}
+use Rattle.capnp_arena.specs.Counts.{IsCount}
+use Rattle.capnp_arena.specs.Forest.{tree}
+use Rattle.std.specs.Prelude.{Some}
+use Rattle.capnp_arena.specs.Segment.{segment}
+use Rattle.capnp_arena.proofs.StructSizes.{struct_words}
+use Rattle.capnp_arena.proofs.arena.Arena.total_size.Goals as goal
+
+pub returns-clause-size : goal.returns-clause-size
+returns-clause-size c =
+    let e = struct_words (segment c.args.self.now) c.args.place.start c.args.place.data_words c.args.place.pointers c.requires.planted.ends in
+    let n : IsCount (Some c.in-Some.below) (words_of_all (trees_from (tree (segment c.args.self.now)) (c.args.place.start + c.args.place.data_words) c.args.place.pointers)) =
+    subst (λ r. IsCount r (words_of_all (trees_from (tree (segment c.args.self.now)) (c.args.place.start + c.args.place.data_words) c.args.place.pointers))) c.in-Some.is
+    (subst (λ b. IsCount c.count_row.result (words_of_all (trees_from (tree b) (c.args.place.start + c.args.place.data_words) c.args.place.pointers))) c.as_slice.ensures.value c.count_row.ensures) in
+    (refl, omega (arith, e, n.0), refl)
