@@ -17,6 +17,7 @@ mod encode;
 mod extend;
 mod get_struct;
 mod grown;
+pub mod handle_callers;
 pub mod handles;
 mod in_order;
 pub mod list_builder;
