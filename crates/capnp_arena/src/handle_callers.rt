@@ -30,10 +30,8 @@ pub fn build_struct(message: &mut Builder, size: StructSize, index: u16, text: &
     ensures message { IsMessage message.new }
     ensures tree { OnOk result (message_tree message.new ≡ struct_tree (with_pointer_tree (zero_struct size) index (Numbers 1 (text.now ++ 0 ∷ [])))) }
 {
-    let root = message.root();
-    let made = root.init_struct(size)?;
-    let mut pointer = made.get_pointer_field(index);
-    pointer.set_text(text)?;
+    let made = message.root().init_struct(size)?;
+    made.get_pointer_field(index).set_text(text)?;
     Ok(())
 }
 

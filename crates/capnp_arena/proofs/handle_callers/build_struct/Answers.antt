@@ -8,16 +8,16 @@ use Rattle.capnp_arena.specs.Segment.{segment}
 use Rattle.capnp_arena.proofs.BuiltParts.{struct_message, struct_tree_is}
 use Rattle.capnp_arena.proofs.handle_callers.build_struct.Goals as goal
 
-pub get_pointer_field-pointer-requires-clause-planted : goal.get_pointer_field-pointer-requires-clause-planted
-get_pointer_field-pointer-requires-clause-planted c = struct_planted _ _ _ _ _ c.in_ok-made.ensures.forest c.in_ok-made.ensures.place
+pub get_pointer_field-requires-clause-planted : goal.get_pointer_field-requires-clause-planted
+get_pointer_field-requires-clause-planted c = struct_planted _ _ _ _ _ c.in_ok-made.ensures.forest c.in_ok-made.ensures.place
 
 pub returns-clause-message : goal.returns-clause-message
 returns-clause-message c =
     subst (λ b. Forest b 0) (search rules)
-    (struct_message c.in_ok-made.ensures.forest c.in_ok-made.ensures.place (c.get_pointer_field-pointer.ensures.leaves (segment c.set_text.new.self.arena.now) (search rules) (search rules)) c.root-root.ensures.at)
+    (struct_message c.in_ok-made.ensures.forest c.in_ok-made.ensures.place (c.get_pointer_field.ensures.leaves (segment c.set_text.new.self.arena.now) (search rules) (search rules)) c.root.ensures.at)
 
 pub returns-clause-tree : goal.returns-clause-tree
 returns-clause-tree c =
     subst (λ b. tree b 0 ≡ struct_tree (with_pointer_tree (zero_struct c.args.size) c.args.index (Numbers 1 (c.args.text.now ++ 0 ∷ [])))) (search rules)
-    (struct_tree_is c.in_ok-made.ensures.forest c.in_ok-made.ensures.place (c.get_pointer_field-pointer.ensures.leaves (segment c.set_text.new.self.arena.now) (search rules) (search rules))
-    (zero_struct c.args.size) (Numbers 1 (c.args.text.now ++ 0 ∷ [])) c.in_ok-made.ensures.tree (search rules) c.root-root.ensures.at)
+    (struct_tree_is c.in_ok-made.ensures.forest c.in_ok-made.ensures.place (c.get_pointer_field.ensures.leaves (segment c.set_text.new.self.arena.now) (search rules) (search rules))
+    (zero_struct c.args.size) (Numbers 1 (c.args.text.now ++ 0 ∷ [])) c.in_ok-made.ensures.tree (search rules) c.root.ensures.at)
