@@ -34,3 +34,4 @@ pub mod WrittenElements
 pub mod StructSizes
 pub mod ListReaders
 pub mod BuiltParts
+pub mod NewBytes
