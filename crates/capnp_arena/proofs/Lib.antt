@@ -33,4 +33,5 @@ pub mod ElementPlaces
 pub mod WrittenElements
 pub mod StructSizes
 pub mod ListReaders
-pub mod Refused
+pub mod BuiltParts
+pub mod NewBytes

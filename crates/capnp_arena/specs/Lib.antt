@@ -13,6 +13,8 @@ pub mod Copies
 pub mod InOrder
 pub mod Handles
 pub mod Ends
+pub mod Parts
+pub mod Blobs
 pub mod Message
 pub mod Listed
 pub mod Same

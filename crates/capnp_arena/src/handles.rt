@@ -21,8 +21,11 @@ impl Arena {
     ghost use Rattle.std.specs.Prelude.{List, ℕ, ◌<◌};
     ghost use Rattle.capnp_wire.specs.Tree.{nth_tree};
     ghost use Rattle.capnp_arena.specs.Facts.Laws.{IsInPointer};
-    ghost use Rattle.capnp_arena.specs.Forest.{Planted, struct_from};
-    ghost use Rattle.capnp_arena.specs.Handles.{IsPointer, pointer_tree};
+    ghost use Rattle.capnp_wire.specs.Elements.{HasPointer, HasStruct, with_pointer_element, with_struct_element};
+    ghost use Rattle.capnp_wire.specs.Reading.{element_pointer, element_struct};
+    ghost use Rattle.capnp_arena.specs.Forest.{PartChanges, Planted, struct_from, tree};
+    ghost use Rattle.capnp_arena.specs.Handles.{IsPointer, IsStruct, built_struct, part, pointer_tree};
+    ghost use Rattle.capnp_arena.specs.Leaves.{Leaves};
     ghost use Rattle.capnp_arena.specs.Message.{IsMessage, message_tree};
     ghost use Rattle.capnp_arena.specs.Shape.{StructIn, word_count};
 
@@ -85,6 +88,38 @@ impl Arena {
             → IsInPointer (segment self.old) new place.start place.data_words place.pointers index }
     {
         let at = self.get_pointer_field(place, index);
+        PointerBuilder { arena: self, at }
+    }
+
+    /// The struct at `index` of the list of structs that the pointer at a word leads to. There has to be one.
+    pub fn struct_element(&mut self, at: usize, index: u32) -> StructBuilder<'_>
+        requires forest { Forest (segment self.old) at }
+        requires there { HasStruct (tree (segment self.old) at) index }
+        ensures same { result.arena.ghost_name ≡ self.entry.ghost_name }
+        ensures now { result.arena.now ≡ self.old }
+        ensures planted { IsStruct result }
+        ensures tree { built_struct result ≡ element_struct (tree (segment self.old) at) index }
+        ensures leaves { (new : List ℕ) → Planted new (part result.place) → PartChanges (part result.place) (segment self.old) new
+            → Leaves at (with_struct_element index (struct_from new result.place.start result.place.data_words result.place.pointers) (tree (segment self.old) at)) (segment self.old) new }
+    {
+        let place = self.get_struct_at(at, index);
+        StructBuilder { arena: self, place }
+    }
+
+    /// The pointer at `index` of the list that the pointer at a word leads to: of a list of structs, the first of the struct.
+    /// There has to be one.
+    pub fn pointer_element(&mut self, at: usize, index: u32) -> PointerBuilder<'_>
+        requires forest { Forest (segment self.old) at }
+        requires pointer { HasPointer (tree (segment self.old) at) index }
+        ensures same { result.arena.ghost_name ≡ self.entry.ghost_name }
+        ensures now { result.arena.now ≡ self.old }
+        ensures inside { result.at < word_count (segment self.old) }
+        ensures forest { IsPointer result }
+        ensures tree { pointer_tree result ≡ element_pointer (tree (segment self.old) at) index 1 }
+        ensures leaves { (new : List ℕ) → Forest new result.at → Changes result.at (segment self.old) new
+            → Leaves at (with_pointer_element index (tree new result.at) (tree (segment self.old) at)) (segment self.old) new }
+    {
+        let at = self.get_pointer_element(at, index);
         PointerBuilder { arena: self, at }
     }
 }

@@ -3,6 +3,7 @@
 
 mod append;
 pub mod arena;
+mod blob_builder;
 pub mod blobs;
 pub mod callers;
 mod compact;
@@ -17,6 +18,7 @@ mod encode;
 mod extend;
 mod get_struct;
 mod grown;
+pub mod handle_callers;
 pub mod handles;
 mod in_order;
 pub mod list_builder;
