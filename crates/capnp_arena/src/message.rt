@@ -38,11 +38,8 @@ fn append_message(out: &mut Vec<u8>, bytes: &[u8], words: u32) -> Appended
 /// # Example
 ///
 /// ```rust
-/// let mut message = Builder::new(alloc)?;
-/// let mut made = message.root().init_struct(SIZE)?;
-/// made.set_data_field(0, id);
-/// made.get_pointer_field(0).set_text(name.as_bytes())?;
-/// message.write_message_to(sink)
+/// let made = message.root().init_struct(size)?;
+/// made.get_pointer_field(index).set_text(text)?;
 /// ```
 pub type Builder = Arena;
 
