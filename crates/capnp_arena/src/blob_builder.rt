@@ -32,6 +32,7 @@ impl Arena {
         requires inside { 8 * start + count ≤ length (segment self.old) }
         ensures* lends { sem 𝓛 (LendsPart self.entry start result) }
         ensures now { result.now ≡ bytes_at (segment self.old) start count }
+        ensures long { length result.now ≡ count }
     {
         let bytes = &mut self.bytes;
         bytes.slice_mut(8 * start..8 * start + count)
@@ -88,6 +89,7 @@ impl Arena {
         requires inside { count ≤ list.count }
         ensures* lends { sem 𝓛 (LendsPart self.entry list.start result) }
         ensures now { result.now ≡ bytes_at (segment self.old) list.start count }
+        ensures long { length result.now ≡ count }
         ensures leaves { (left : List ℕ) → length left ≡ count
             → Leaves at (Numbers 1 (left ++ drop count (bytes_at (segment self.old) list.start list.count))) (segment self.old) (segment (with_part self.old list.start left)) }
     {

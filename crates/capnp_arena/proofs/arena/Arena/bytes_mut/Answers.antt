@@ -11,6 +11,7 @@ returns c = (
   record {
     lends = tt {0};
     now = c.part_mut.ensures.now;
+    long = c.part_mut.ensures.long;
     leaves = bytes_left c.args.self.now c.args.at _ _ _ c.requires.forest c.requires.there c.requires.inside;
   },
 )
