@@ -62,6 +62,18 @@ impl<'a> PointerBuilder<'a> {
         self.arena.get_pointer_reader(self.at)
     }
 
+    /// A reader of the pointer for as long as the builder would be there, as `as_reader`. The message stays as it is; only
+    /// `Arena::into_pointer_reader` says so to a caller.
+    pub fn into_reader(self) -> PointerReader<'a>
+        requires forest { IsPointer self }
+        ensures read { tree_of result ≡ tree_below 65535 (segment self.entry.arena.now ∷ []) (segment self.entry.arena.now) self.entry.at }
+        ensures tree { IsBelow 65535 (pointer_tree self.entry) → tree_of result ≡ pointer_tree self.entry }
+        ensures levels { levels_of result ≡ 64 }
+    {
+        let PointerBuilder { arena, at } = self;
+        arena.into_pointer_reader(at)
+    }
+
     /// Whether the pointer is null.
     pub fn is_null(&self) -> bool
         requires forest { IsPointer self.now }
