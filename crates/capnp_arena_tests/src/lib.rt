@@ -5,6 +5,8 @@
 #[cfg(test)]
 mod build_tests;
 #[cfg(test)]
+mod builder_reads;
+#[cfg(test)]
 mod builder_tests;
 #[cfg(test)]
 mod copy_tests;
