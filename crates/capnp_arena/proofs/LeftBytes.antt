@@ -1,14 +1,13 @@
 -- What a list of bytes is once some of them were left otherwise.
-use Rattle.std.proofs.Common.{◌≡◌, ℕ, ◌+◌, ◌-◌, ◌*◌, ◌/◌, ◌<◌, ◌≤◌, sym, ap, subst, ◌∙◌, arith, refl, List, ◌++◌, length, take, drop}
-use Rattle.std.proofs.lemmas.List.{append_assoc, drop-drop, drop-take, length-append, length-drop, length-take-le, take-append-drop, take-take, with_items_is}
-use Rattle.std.specs.Vec.{with_items_from}
+use Rattle.std.proofs.Common.{◌≡◌, ℕ, ◌+◌, ◌-◌, ◌*◌, ◌≤◌, sym, ap, subst, ◌∙◌, arith, List, ◌++◌, length, take, drop}
+use Rattle.std.proofs.lemmas.List.{append_assoc, drop-drop, drop-take, length-append, length-drop, length-take-le, take-append-drop, with_items_is}
 use Rattle.capnp_wire.specs.Facts.Filling.{length_put}
 use Rattle.capnp_wire.specs.Filling.{put}
 use Rattle.capnp_wire.specs.Locate.{list_words}
-use Rattle.capnp_wire.specs.Place.{bytes_at, list_tree}
+use Rattle.capnp_wire.specs.Place.{bytes_at}
 use Rattle.capnp_wire.specs.Tree.{Numbers}
 use Rattle.capnp_arena.specs.Facts.Calls.{planted}
-use Rattle.capnp_arena.specs.Forest.{Forest, Planted, tree}
+use Rattle.capnp_arena.specs.Forest.{Forest, Planted}
 use Rattle.capnp_arena.specs.Leaves.{Leaves}
 use Rattle.capnp_arena.specs.Parts.{with_part}
 use Rattle.capnp_arena.specs.Segment.{segment}

@@ -3,9 +3,9 @@
 use crate::arena::{Arena, Place};
 use crate::pointer_builder::PointerBuilder;
 use capnp_device::error::Result;
-use capnp_wire::{PointerReader, StructReader};
 use capnp_wire::primitive::PrimitiveElement;
 use capnp_wire::size::{MessageSize, StructSize};
+use capnp_wire::{PointerReader, StructReader};
 
 /// A struct that is built.
 #[derive(Drop)]

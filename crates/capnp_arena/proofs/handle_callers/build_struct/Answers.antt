@@ -1,4 +1,4 @@
-use Rattle.std.proofs.Common.{[], rules, ◌++◌, ◌∙◌, ◌∷◌, ◌≡◌, ap, subst}
+use Rattle.std.proofs.Common.{[], rules, ◌++◌, ◌∷◌, ◌≡◌, subst}
 use Rattle.capnp_wire.specs.Edits.{with_pointer_tree, zero_struct}
 use Rattle.capnp_wire.specs.Place.{struct_tree}
 use Rattle.capnp_wire.specs.Tree.{Numbers}
@@ -6,7 +6,6 @@ use Rattle.capnp_arena.specs.Forest.{Forest, tree}
 use Rattle.capnp_arena.specs.Segment.{segment}
 use Rattle.capnp_arena.proofs.BuiltParts.{struct_message, struct_tree_is}
 use Rattle.capnp_arena.proofs.handle_callers.build_struct.Goals as goal
-
 
 pub returns-clause-message : goal.returns-clause-message
 returns-clause-message c =
