@@ -5,7 +5,7 @@
 #[cfg(test)]
 mod build_tests;
 #[cfg(test)]
-mod builder_reads;
+mod builder_read_tests;
 #[cfg(test)]
 mod builder_tests;
 #[cfg(test)]
