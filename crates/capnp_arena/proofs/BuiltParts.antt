@@ -1,6 +1,6 @@
 -- What the root of a message leads to, once a pointer of a struct below it was set.
 use Rattle.std.proofs.Common.{◌≡◌, ℕ, ◌+◌, ◌<◌, ap, subst, sym, ◌∙◌, arith, List}
-use Rattle.capnp_wire.specs.Edits.{nulls, with_pointer_tree, zero_struct, zero_structs}
+use Rattle.capnp_wire.specs.Edits.{with_pointer_tree, zero_struct, zero_structs}
 use Rattle.capnp_wire.specs.Elements.{HasStruct, with_struct_element}
 use Rattle.capnp_wire.specs.Facts.Indexed.{nth_struct-start, struct_count-from, tree_count-from}
 use Rattle.capnp_wire.specs.Place.{struct_tree}

@@ -1,17 +1,15 @@
 -- Where the elements of a list stand, by the list's tree.
-use Rattle.std.proofs.Common.{◌≡◌, ℕ, zero, suc, ◌+◌, ◌*◌, ◌<◌, ◌≤◌, refl, sym, ap, subst, ◌∙◌, arith, false, true, Bool, cond, List}
+use Rattle.std.proofs.Common.{◌≡◌, ℕ, zero, suc, ◌+◌, ◌*◌, ◌<◌, refl, sym, ap, subst, ◌∙◌, arith, List}
 use Rattle.capnp_wire.specs.Edits.{with_pointer_tree}
 use Rattle.capnp_wire.specs.Elements.{HasPointer, HasStruct, with_pointer_element, with_struct, with_struct_element}
 use Rattle.capnp_wire.specs.Facts.Indexed.{nth_struct-start, nth_tree-from, struct_count-from, tree_count-from}
-use Rattle.capnp_wire.specs.Locate.{list_words}
 use Rattle.capnp_wire.specs.Place.{list_tree}
-use Rattle.capnp_wire.specs.Reading.{cut_pointer, element_pointer, element_struct, is_null_tree}
-use Rattle.capnp_wire.specs.Tree.{Bits, Composite, FaultLeaf, Null, Numbers, Pointers, Struct, StructTree, Structs, Tree, Voids, nth_struct, nth_tree, structs_from, tree_count}
+use Rattle.capnp_wire.specs.Reading.{cut_pointer, element_pointer}
+use Rattle.capnp_wire.specs.Tree.{Bits, Composite, FaultLeaf, Null, Numbers, Pointers, Struct, StructTree, Tree, Voids, nth_struct, nth_tree, structs_from, tree_count}
 use Rattle.capnp_arena.specs.Facts.Calls.{planted}
 use Rattle.capnp_arena.specs.Facts.Elements.{IsInElement, IsInPointers, element_planted, in_element, in_pointers}
 use Rattle.capnp_arena.specs.Facts.Forests.{points}
 use Rattle.capnp_arena.specs.Facts.Laws.{IsInPointer, in_pointer}
-use Rattle.capnp_arena.specs.Facts.Shapes.{element_end}
 use Rattle.capnp_arena.specs.Facts.Structs.{tree_composite, tree_list, tree_struct}
 use Rattle.capnp_arena.specs.Forest.{Changes, Forest, PartChanges, Planted, struct_from, tree}
 use Rattle.capnp_arena.specs.Leaves.{Leaves}

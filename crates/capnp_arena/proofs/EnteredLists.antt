@@ -1,16 +1,14 @@
 -- What a call that enters a list answers, by the refusal that is due.
 use Rattle.std.proofs.Common.{◌≡◌, refl, sym, ap, ◌∙◌, Bool, true, false}
 use Rattle.std.specs.Prelude.{Option, Some, None, Result, Ok, Err, IfErr, IfOk, IsOk, OnOk}
-use Rattle.capnp_wire.specs.Tree.{Tree, Null, Voids, Bits, Numbers, Pointers, Composite}
-use Rattle.capnp_wire.specs.Reading.{as_list, is_null_tree, list_if, reads_bits, reads_numbers, reads_pointers, reads_structs, reads_voids}
+use Rattle.capnp_wire.specs.Tree.{Tree, Voids, Bits, Numbers, Pointers, Composite}
+use Rattle.capnp_wire.specs.Reading.{as_list, list_if, reads_bits, reads_numbers, reads_pointers, reads_structs, reads_voids}
 use Rattle.capnp_wire.specs.Edits.{IsDueRefusal}
 use Rattle.capnp_wire.specs.Elements.{or_empty}
-use Rattle.capnp_wire.specs.StructLists.{struct_list}
 use Rattle.capnp_wire.specs.Defaults.{error_of, list_refusal}
 use Rattle.capnp_arena.specs.Listed.{list_answered, listed_tree}
 use Rattle.capnp_arena.specs.declared.list_reads.ListTarget.{ListTarget}
 use Rattle.capnp_wire.specs.declared.size.ElementSize.{ElementSize}
-use Rattle.capnp_wire.specs.declared.size.StructSize.{StructSize}
 use Rattle.capnp_device.specs.declared.error.Error.{Error}
 use Rattle.capnp_device.specs.declared.error.ErrorKind.{ErrorKind}
 

@@ -1,14 +1,13 @@
 -- Targets that lie one after another are the encoding.
-use Rattle.std.proofs.Common.{◌≡◌, ◌⊎◌, ℕ, zero, suc, Bool, get_or, replicate, ◌+◌, ◌-◌, ◌*◌, ◌/◌, ◌^◌, ◌<◌, ◌≤◌, eq-eqb, ne_eqb, inl, inr, refl, sym, ap, subst, ◌∙◌, arith, List, [], ◌++◌, length, take, drop, ◌==◌, cond}
+use Rattle.std.proofs.Common.{◌≡◌, ◌⊎◌, ℕ, zero, suc, Bool, get_or, replicate, ◌+◌, ◌-◌, ◌*◌, ◌/◌, ◌^◌, ◌<◌, ◌≤◌, eq-eqb, ne_eqb, inl, inr, refl, sym, ap, subst, ◌∙◌, arith, List, [], ◌++◌, length, take, drop, cond}
 use Rattle.std.proofs.Math.Seq.{take-add}
-use Rattle.std.proofs.lemmas.List.{ext_get_or, length-replicate, append-nil, append_assoc, drop-drop, length-drop, length-take-le, take_all}
+use Rattle.std.proofs.lemmas.List.{ext_get_or, length-replicate, append_assoc, drop-drop, take_all}
 use Rattle.capnp_wire.specs.Encoding.{bits_number, packed, padded, bytes_below_all, bytes_of, bytes_of_all, element_row, encoding_of, own_bytes, pointer_row, pointer_word, spelled, struct_word}
-use Rattle.capnp_wire.specs.Facts.Bytes.{length_spelled}
 use Rattle.capnp_wire.specs.Facts.EncodedSizes.{length_packed, length_bytes_of, length_bytes_of_all}
 use Rattle.capnp_wire.specs.Facts.PackedBits.{packed_at}
 use Rattle.capnp_wire.specs.Facts.Rows.{struct_count-structs_from, tree_count-trees_from}
 use Rattle.capnp_wire.specs.Place.{bytes_at, list_tree}
-use Rattle.capnp_wire.specs.Tree.{Composite, Structs, Tree, Trees, struct_count, structs_from, tree_count, trees_from}
+use Rattle.capnp_wire.specs.Tree.{Structs, Tree, Trees, struct_count, structs_from, tree_count, trees_from}
 use Rattle.capnp_wire.specs.WellFormed.{AreBytes}
 use Rattle.capnp_wire.specs.Words.{byte_words, words_of, words_of_all}
 use Rattle.capnp_arena.specs.Copies.{IsPlain}

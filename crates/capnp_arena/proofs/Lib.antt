@@ -35,3 +35,4 @@ pub mod StructSizes
 pub mod ListReaders
 pub mod BuiltParts
 pub mod NewBytes
+pub mod LeftBytes

@@ -4,11 +4,11 @@ use Rattle.capnp_device.specs.declared.error.Error.{Error}
 use Rattle.capnp_device.specs.declared.error.ErrorKind.{ErrorKind}
 use Rattle.capnp_wire.specs.ElementSizes.{element_size_of}
 use Rattle.capnp_wire.specs.Level.{tree_at_depth}
-use Rattle.capnp_wire.specs.Locate.{CompositeAt, ListAt, NoTarget}
+use Rattle.capnp_wire.specs.Locate.{CompositeAt, ListAt}
 use Rattle.capnp_wire.specs.Place.{tree_below}
 use Rattle.capnp_wire.specs.Reading.{as_list, empty_list}
-use Rattle.capnp_wire.specs.Standing.{levels_of, list_of, list_read, tree_of}
-use Rattle.capnp_wire.specs.Tree.{Null, Tree}
+use Rattle.capnp_wire.specs.Standing.{list_of, list_read}
+use Rattle.capnp_wire.specs.Tree.{Tree}
 use Rattle.capnp_wire.specs.Facts.Levels.{below_step}
 use Rattle.capnp_wire.specs.declared.list_reader.ListReader.{ListReader}
 use Rattle.capnp_wire.specs.declared.size.ElementSize.{ElementSize}

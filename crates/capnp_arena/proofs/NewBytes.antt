@@ -1,6 +1,6 @@
 -- The bytes of a new list of bytes.
-use Rattle.std.proofs.Common.{◌≡◌, ℕ, ◌+◌, ◌*◌, sym, ap, ◌∙◌, arith, refl, List, [], drop, replicate, take}
-use Rattle.std.proofs.lemmas.List.{take-replicate, take-take}
+use Rattle.std.proofs.Common.{◌≡◌, ℕ, ◌+◌, ◌*◌, sym, ap, ◌∙◌, arith, refl, List, [], ◌++◌, drop, length, replicate, slice_set, take}
+use Rattle.std.proofs.lemmas.List.{append-nil, drop_all, take-replicate, take-take}
 use Rattle.capnp_wire.specs.Edits.{zero_list}
 use Rattle.capnp_wire.specs.Place.{bytes_at}
 use Rattle.capnp_wire.specs.Tree.{Bits, Composite, FaultLeaf, Null, Numbers, Pointers, Struct, Tree, Voids}
@@ -30,3 +30,10 @@ first_bytes bytes a n h =
 -- and those of a new text, without the zero that ends it
 pub text_bytes : (bytes : List ℕ) (w : ℕ) → Forest bytes w → (a n : ℕ) → shape_at bytes w ≡ ListIn a 2 (n + 1) → tree bytes w ≡ zero_list Byte (n + 1) → bytes_at bytes a n ≡ replicate n 0
 text_bytes bytes w f a n e t = first_bytes bytes a n (new_bytes bytes w f a (n + 1) e t)
+
+-- with another one written
+pub new_left : (bytes : List ℕ) (w : ℕ) (f : Forest bytes w) (a n i v : ℕ) (e : shape_at bytes w ≡ ListIn a 2 n) (t : tree bytes w ≡ zero_list Byte n) (now : List ℕ) → now ≡ bytes_at bytes a n → length now ≡ n
+    → Numbers 1 (slice_set now i v ++ drop n (bytes_at bytes a n)) ≡ Numbers 1 (slice_set (replicate n 0) i v)
+new_left bytes w f a n i v e t now is long =
+    let none : drop n now ≡ [] = drop_all n now (omega (arith, long)) in
+    ap (λ x. Numbers 1 (slice_set now i v ++ x)) (ap (drop n) (sym is) ∙ none) ∙ ap (Numbers 1) (append-nil (slice_set now i v)) ∙ ap (λ x. Numbers 1 (slice_set x i v)) (is ∙ new_bytes bytes w f a n e t)

@@ -1,13 +1,12 @@
 -- What was made at a null pointer is taken back.
-use Rattle.std.proofs.Common.{◌≡◌, ℕ, zero, suc, ◌+◌, ◌-◌, ◌*◌, ◌<◌, ◌≤◌, ◌⊎◌, inl, inr, refl, sym, ap, subst, true, ◌∙◌, arith, List, length, take, drop}
+use Rattle.std.proofs.Common.{◌≡◌, ℕ, suc, ◌+◌, ◌-◌, ◌*◌, ◌<◌, ◌≤◌, ◌⊎◌, inl, inr, refl, sym, ap, subst, true, ◌∙◌, arith, List, length, take, drop}
 use Rattle.std.proofs.lemmas.List.{drop-take, length-take-le, take-take, take_all}
 use Rattle.capnp_wire.specs.Encoding.{spelled}
 use Rattle.capnp_wire.specs.Filling.{put}
 use Rattle.capnp_wire.specs.Facts.Bytes.{length_spelled}
 use Rattle.capnp_wire.specs.Facts.Filling.{length_put}
-use Rattle.capnp_wire.specs.Place.{bytes_at}
-use Rattle.capnp_arena.specs.Shape.{IsWordAt, NoShape, Points, shape_at, word_count}
-use Rattle.capnp_arena.specs.Forest.{Changes, Forest, IsSame, Owns}
+use Rattle.capnp_arena.specs.Shape.{IsWordAt, NoShape, Points, shape_at}
+use Rattle.capnp_arena.specs.Forest.{Changes, Forest, IsSame}
 use Rattle.capnp_arena.specs.Facts.Calls.{null_owns}
 use Rattle.capnp_arena.specs.Facts.Forests.{points}
 use Rattle.capnp_arena.specs.Facts.Words.{run_same}

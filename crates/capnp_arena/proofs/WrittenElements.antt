@@ -1,5 +1,5 @@
 -- A number or bit of a list, written where the list stands.
-use Rattle.std.proofs.Common.{◌≡◌, ℕ, zero, suc, ◌+◌, ◌*◌, ◌/◌, ◌<◌, ◌≤◌, refl, ap, subst, sym, ◌∙◌, arith, Bool, List, length}
+use Rattle.std.proofs.Common.{◌≡◌, ℕ, zero, suc, ◌+◌, ◌*◌, ◌<◌, ◌≤◌, refl, ap, subst, sym, ◌∙◌, arith, Bool, List, length}
 use Rattle.capnp_wire.specs.Edits.{with_bit, with_bytes, with_number}
 use Rattle.capnp_wire.specs.Elements.{HasBit, HasNumber, HasStruct, with_bit_element, with_number_element, with_struct, with_struct_element}
 use Rattle.capnp_wire.specs.Facts.Bytes.{length-part-le, length-with_bit, length-with_number}
@@ -15,7 +15,7 @@ use Rattle.capnp_wire.specs.declared.size.ElementSize.TheVariants.{Void, Bit, By
 use Rattle.capnp_arena.specs.Facts.Calls.{planted}
 use Rattle.capnp_arena.specs.Facts.Forests.{points}
 use Rattle.capnp_arena.specs.Facts.Structs.{tree_composite, tree_list, tree_struct}
-use Rattle.capnp_arena.specs.Forest.{Forest, PartChanges, Planted, struct_from, tree}
+use Rattle.capnp_arena.specs.Forest.{Forest, Planted, struct_from, tree}
 use Rattle.capnp_arena.specs.Leaves.{Leaves}
 use Rattle.capnp_arena.specs.Looked.{shape_found}
 use Rattle.capnp_arena.specs.Made.{size_number, width_of}
@@ -23,7 +23,6 @@ use Rattle.capnp_arena.specs.declared.look.Target.{Target}
 use Rattle.capnp_arena.specs.declared.look.Target.TheVariants as target
 use Rattle.capnp_arena.specs.Shape.{CompositeIn, ListIn, NoShape, Points, StructIn, shape_at, word_count}
 use Rattle.capnp_wire.specs.Facts.BitRows.{bits_with}
-use Rattle.capnp_arena.proofs.ElementPlaces.{struct_leaves}
 use Rattle.capnp_arena.proofs.Puts.{put_there}
 use Rattle.capnp_arena.proofs.Refusals.{null_is}
 use Rattle.capnp_arena.proofs.Written.{length_part}

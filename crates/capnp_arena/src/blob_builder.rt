@@ -1,6 +1,7 @@
 //! Texts and data that are built: their bytes are lent where they stand.
 
 use crate::arena::Arena;
+use crate::lists::ListPlace;
 use crate::look::Target;
 use crate::pointer_builder::PointerBuilder;
 use capnp_device::error::{Error, ErrorKind, Result};
@@ -14,13 +15,16 @@ pub(crate) struct Bytes {
 }
 
 impl Arena {
-    ghost use Rattle.std.specs.Prelude.{ℕ, IfOk, ◌*◌, ◌+◌, ◌≡◌, ◌≤◌, length};
+    ghost use Rattle.std.specs.Prelude.{List, ℕ, IfOk, drop, length, ◌*◌, ◌+◌, ◌++◌, ◌≡◌, ◌≤◌};
+    ghost use Rattle.capnp_wire.specs.Tree.{Numbers};
+    ghost use Rattle.capnp_arena.specs.Leaves.{Leaves};
+    ghost use Rattle.capnp_arena.specs.Shape.{ListIn, shape_at};
     ghost use Rattle.std.specs.Borrow.{sem};
     ghost use Rattle.capnp_wire.specs.Place.{bytes_at};
     ghost use Rattle.capnp_wire.specs.Reading.{as_data, as_text};
     ghost use Rattle.capnp_arena.specs.Blobs.{bytes_found};
     ghost use Rattle.capnp_arena.specs.Forest.{Forest, tree};
-    ghost use Rattle.capnp_arena.specs.Parts.{LendsPart};
+    ghost use Rattle.capnp_arena.specs.Parts.{LendsPart, with_part};
     ghost use Rattle.capnp_arena.specs.Segment.{segment};
 
     /// So many bytes from a word on, as they stand. The message ends with what is left in them.
@@ -28,6 +32,7 @@ impl Arena {
         requires inside { 8 * start + count ≤ length (segment self.old) }
         ensures* lends { sem 𝓛 (LendsPart self.entry start result) }
         ensures now { result.now ≡ bytes_at (segment self.old) start count }
+        ensures long { length result.now ≡ count }
     {
         let bytes = &mut self.bytes;
         bytes.slice_mut(8 * start..8 * start + count)
@@ -74,6 +79,21 @@ impl Arena {
             start: found.start,
             count,
         })
+    }
+
+    /// The first bytes of the list of bytes that the pointer at a word leads to, as they stand. The message ends with what is
+    /// left in them (`leaves`).
+    pub fn bytes_mut(&mut self, at: usize, list: ListPlace, count: usize) -> &mut [u8]
+        requires forest { Forest (segment self.old) at }
+        requires there { shape_at (segment self.old) at ≡ ListIn list.start 2 list.count }
+        requires inside { count ≤ list.count }
+        ensures* lends { sem 𝓛 (LendsPart self.entry list.start result) }
+        ensures now { result.now ≡ bytes_at (segment self.old) list.start count }
+        ensures long { length result.now ≡ count }
+        ensures leaves { (left : List ℕ) → length left ≡ count
+            → Leaves at (Numbers 1 (left ++ drop count (bytes_at (segment self.old) list.start list.count))) (segment self.old) (segment (with_part self.old list.start left)) }
+    {
+        self.part_mut(list.start, count)
     }
 }
 

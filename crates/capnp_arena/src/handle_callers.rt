@@ -1,5 +1,5 @@
 //! Callers of the builders: what a message holds once the builders of its parts are done.
-ghost use Rattle.std.specs.Prelude.{[], IfOk, OnErr, OnOk, ◌*◌, ◌+◌, ◌++◌, ◌∷◌, ◌<◌, ◌≡◌, ◌≤◌};
+ghost use Rattle.std.specs.Prelude.{[], replicate, slice_set, IfOk, OnErr, OnOk, ◌*◌, ◌+◌, ◌++◌, ◌∷◌, ◌<◌, ◌≡◌, ◌≤◌};
 ghost use Rattle.capnp_wire.specs.Edits.{with_bytes, with_number, with_pointer_tree, zero_struct, zero_structs};
 ghost use Rattle.capnp_wire.specs.Elements.{HasPointer, with_pointer_element, with_struct_element};
 ghost use Rattle.capnp_wire.specs.Encoding.{message_of};
@@ -14,11 +14,12 @@ ghost use Rattle.capnp_arena.specs.Segment.{segment};
 ghost use Rattle.capnp_arena.specs.Shape.{word_count};
 
 use crate::list_builder::ListBuilder;
+use crate::lists::ListPlace;
 use crate::message::Builder;
 use crate::pointer_builder::PointerBuilder;
 use crate::struct_builder::StructBuilder;
 use capnp_device::error::Result;
-use capnp_wire::size::StructSize;
+use capnp_wire::size::{ElementSize, StructSize};
 use std::alloc::Global;
 
 /// Makes the root a struct with a text at a pointer.
@@ -139,4 +140,24 @@ pub fn write_struct(alloc: Global, size: StructSize, index: u16, text: &[u8]) ->
     let mut message = Builder::new(alloc)?;
     build_struct(&mut message, size, index, text)?;
     message.write_message()
+}
+
+/// Makes the root data of so many zero bytes, of which the first is another one.
+///
+/// Refused as `init_list`; then nothing has changed.
+pub fn build_data(message: &mut Builder, count: u32, first: u8) -> Result<()>
+    requires message { IsMessage message.old }
+    requires first { 0 < count }
+    ensures message { IsMessage message.new }
+    ensures tree { OnOk result (message_tree message.new ≡ Numbers 1 (slice_set (replicate count 0) 0 first)) }
+{
+    let start = message.init_list(0, ElementSize::Byte, count)?;
+    let list = ListPlace {
+        start,
+        size: ElementSize::Byte,
+        count,
+    };
+    let bytes = message.bytes_mut(0, list, count as usize);
+    bytes[0] = first;
+    Ok(())
 }

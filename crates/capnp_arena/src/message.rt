@@ -34,13 +34,6 @@ fn append_message(out: &mut Vec<u8>, bytes: &[u8], words: u32) -> Appended
 /// It is no struct round the words: what a builder of the root leaves is known by its reference, which is the message's
 /// own. A message is one as long as a tree stands at the root (`IsMessage`), as each builder's contract says of what it
 /// leaves; so the calls that read it ask for that.
-///
-/// # Example
-///
-/// ```rust
-/// let made = message.root().init_struct(size)?;
-/// made.get_pointer_field(index).set_text(text)?;
-/// ```
 pub type Builder = Arena;
 
 impl Arena {
@@ -109,7 +102,7 @@ impl Arena {
         ensures failed { IfErr result (λ e. e.kind ≡ WriteFailed → HasFailed (W.failures sink.old) (W.failures sink.new)) }
         ensures beginning { IfErr result (λ e. e.kind ≡ WriteFailed → IsCutShort (message_tree self.now) (W.written sink.old) (W.written sink.new)) }
     {
-        self.tree_is_sound(0);
+        self.trees_are_well_formed();
         let bytes = self.write_message()?;
         write_all(sink, &bytes)
     }

@@ -35,7 +35,7 @@ impl<'a> PointerBuilder<'a> {
     ghost use Rattle.capnp_wire.specs.Tree.{Null, Numbers};
     ghost use Rattle.capnp_wire.specs.Words.{first_fault, first_fault_of_all};
     ghost use Rattle.capnp_arena.specs.Forest.{Changes, Forest, tree};
-    ghost use Rattle.capnp_arena.specs.Handles.{IsPointer, LentByPointer, ListRests, StructRests, pointer_tree};
+    ghost use Rattle.capnp_arena.specs.Handles.{IsPointer, IsStruct, LentByPointer, ListRests, StructRests, pointer_tree};
     ghost use Rattle.capnp_arena.specs.Listed.{list_shape, listed_tree};
     ghost use Rattle.capnp_arena.specs.Segment.{segment};
     ghost use Rattle.capnp_arena.specs.Shape.{StructIn, shape_at, word_count};
@@ -60,6 +60,18 @@ impl<'a> PointerBuilder<'a> {
         ensures levels { levels_of result ≡ 64 }
     {
         self.arena.get_pointer_reader(self.at)
+    }
+
+    /// A reader of the pointer for as long as the builder would be there, as `as_reader`. The message stays as it is; only
+    /// `Arena::into_pointer_reader` says so to a caller.
+    pub fn into_reader(self) -> PointerReader<'a>
+        requires forest { IsPointer self }
+        ensures read { tree_of result ≡ tree_below 65535 (segment self.entry.arena.now ∷ []) (segment self.entry.arena.now) self.entry.at }
+        ensures tree { IsBelow 65535 (pointer_tree self.entry) → tree_of result ≡ pointer_tree self.entry }
+        ensures levels { levels_of result ≡ 64 }
+    {
+        let PointerBuilder { arena, at } = self;
+        arena.into_pointer_reader(at)
     }
 
     /// Whether the pointer is null.
@@ -103,12 +115,14 @@ impl<'a> PointerBuilder<'a> {
     ///
     /// Refused with `WrongPointerKind` for a list, and else with `OutOfMemory`; then nothing has changed. A struct that is
     /// large enough takes no memory and is never refused.
+    #[tactic(auto, using(crate::specs::Facts::Laws::struct_planted))]
     pub fn get_struct(self, size: StructSize) -> Result<StructBuilder<'a>>
         requires forest { Forest (segment self.arena.now) self.at }
         ensures* rests { sem 𝓛 (StructRests self.entry.arena result) }
         ensures same { IfOk result (λ s. s.arena.ghost_name ≡ self.entry.arena.ghost_name) }
         ensures forest { IfOk result (λ s. Forest (segment s.arena.now) self.entry.at) }
         ensures place { IfOk result (λ s. shape_at (segment s.arena.now) self.entry.at ≡ StructIn s.place.start s.place.data_words s.place.pointers) }
+        ensures planted { IfOk result IsStruct }
         ensures tree { IfOk result (λ s. tree (segment s.arena.now) self.entry.at ≡ struct_tree (extended size (struct_in (tree (segment self.entry.arena.now) self.entry.at)))) }
         ensures changes { IfOk result (λ s. Changes self.entry.at (segment self.entry.arena.now) (segment s.arena.now)) }
         ensures within { OnOk result (struct_refusal (pointer_tree self.entry) ≡ None) }
@@ -170,12 +184,14 @@ impl<'a> PointerBuilder<'a> {
     /// Replaces what stands here by a struct of a size, all zero and null.
     ///
     /// Refused with `OutOfMemory`; then nothing has changed.
+    #[tactic(auto, using(crate::specs::Facts::Laws::struct_planted))]
     pub fn init_struct(self, size: StructSize) -> Result<StructBuilder<'a>>
         requires { self.at < word_count (segment self.arena.now) }
         ensures* rests { sem 𝓛 (StructRests self.entry.arena result) }
         ensures same { IfOk result (λ s. s.arena.ghost_name ≡ self.entry.arena.ghost_name) }
         ensures forest { IfOk result (λ s. Forest (segment s.arena.now) self.entry.at) }
         ensures place { IfOk result (λ s. shape_at (segment s.arena.now) self.entry.at ≡ StructIn s.place.start s.place.data_words s.place.pointers) }
+        ensures planted { IfOk result IsStruct }
         ensures size { IfOk result (λ s. (s.place.data_words ≡ size.data_words) × (s.place.pointers ≡ size.pointers)) }
         ensures tree { IfOk result (λ s. tree (segment s.arena.now) self.entry.at ≡ struct_tree (zero_struct size)) }
         ensures changes { IfOk result (λ s. Changes self.entry.at (segment self.entry.arena.now) (segment s.arena.now)) }
@@ -243,6 +259,7 @@ impl<'a> PointerBuilder<'a> {
     /// `TooDeep` or `CapabilityPointer` where a pointer in the default can't be followed, by the first of these in
     /// preorder; and else with `OutOfMemory`. Then nothing has changed. A struct that is large enough takes no memory and
     /// is never refused.
+    #[tactic(auto, using(crate::specs::Facts::Laws::struct_planted))]
     pub fn get_struct_or_default(
         self,
         size: StructSize,
@@ -253,6 +270,7 @@ impl<'a> PointerBuilder<'a> {
         ensures same { IfOk result (λ s. s.arena.ghost_name ≡ self.entry.arena.ghost_name) }
         ensures forest { IfOk result (λ s. Forest (segment s.arena.now) self.entry.at) }
         ensures place { IfOk result (λ s. shape_at (segment s.arena.now) self.entry.at ≡ StructIn s.place.start s.place.data_words s.place.pointers) }
+        ensures planted { IfOk result IsStruct }
         ensures tree { IfOk result (λ s. tree (segment s.arena.now) self.entry.at ≡ struct_tree (filled_struct (default_tree default.entry) size (pointer_tree self.entry))) }
         ensures changes { IfOk result (λ s. Changes self.entry.at (segment self.entry.arena.now) (segment s.arena.now)) }
         ensures within { OnOk result (filled_struct_refusal (default_tree default.entry) (pointer_tree self.entry) ≡ None) }

@@ -45,6 +45,17 @@ impl Arena {
         PointerReader::of_word(self.bytes.as_slice(), at, u16::MAX, 64)
     }
 
+    /// The same for as long as the message is lent, which stays as it is.
+    pub fn into_pointer_reader(&mut self, at: usize) -> PointerReader<'_>
+        requires forest { Forest (segment self.old) at }
+        ensures* ends { sem 𝓛 (EndsUnchanged self.entry) }
+        ensures read { tree_of result ≡ tree_below 65535 (segment self.old ∷ []) (segment self.old) at }
+        ensures tree { IsBelow 65535 (tree (segment self.old) at) → tree_of result ≡ tree (segment self.old) at }
+        ensures levels { levels_of result ≡ 64 }
+    {
+        self.get_pointer_reader(at)
+    }
+
     /// A reader of a struct, with 64 levels. What its pointers lead to is cut off as by `get_pointer_reader`.
     pub fn get_struct_reader(&self, place: Place) -> StructReader<'_>
         requires planted { Planted (segment self.now) (StructIn place.start place.data_words place.pointers) }

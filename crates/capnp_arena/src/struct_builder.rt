@@ -3,9 +3,9 @@
 use crate::arena::{Arena, Place};
 use crate::pointer_builder::PointerBuilder;
 use capnp_device::error::Result;
-use capnp_wire::StructReader;
 use capnp_wire::primitive::PrimitiveElement;
 use capnp_wire::size::{MessageSize, StructSize};
+use capnp_wire::{PointerReader, StructReader};
 
 /// A struct that is built.
 #[derive(Drop)]
@@ -18,11 +18,11 @@ impl<'a> StructBuilder<'a> {
     ghost use Rattle.std.specs.Prelude.{[], List, None, ℕ, IfErr, IfOk, OnErr, OnOk, bit_xor, length, ◌*◌, ◌+◌, ◌/◌, ◌∷◌, ◌<◌, ◌≡◌, ◌≤◌, ◌^◌};
     ghost use Rattle.std.specs.Borrow.{sem};
     ghost use Rattle.capnp_device.specs.declared.error.ErrorKind.TheVariants.{TooLarge};
-    ghost use Rattle.capnp_wire.specs.Depth.{AreBelow};
+    ghost use Rattle.capnp_wire.specs.Depth.{AreBelow, IsBelow};
     ghost use Rattle.capnp_wire.specs.Edits.{IsCopyRefusal, fitted, with_bit, with_bytes, with_number};
     ghost use Rattle.capnp_wire.specs.Place.{struct_at, tree_below};
     ghost use Rattle.capnp_wire.specs.Slot.{bit_at, masked_bit, number_at};
-    ghost use Rattle.capnp_wire.specs.Standing.{struct_levels, struct_of};
+    ghost use Rattle.capnp_wire.specs.Standing.{levels_of, struct_levels, struct_of, tree_of};
     ghost use Rattle.capnp_wire.specs.Total.{IsSize};
     ghost use Rattle.capnp_wire.specs.Tree.{nth_tree, tree_count};
     ghost use Rattle.capnp_wire.specs.Words.{first_fault_of_all, words_of_struct};
@@ -204,6 +204,19 @@ impl<'a> StructBuilder<'a> {
     {
         let place = self.place;
         self.arena.copy_content_from(place, source)
+    }
+
+    /// A reader of the pointer at `index`, which has to be below the number of pointers, with 64 levels. Its tree is cut off as
+    /// by `as_reader`.
+    pub fn pointer_field(&self, index: u16) -> PointerReader<'_>
+        requires planted { IsStruct self.now }
+        requires inside { index < self.now.place.pointers }
+        ensures read { tree_of result ≡ tree_below 65535 (segment self.now.arena.now ∷ []) (segment self.now.arena.now) (self.now.place.start + self.now.place.data_words + index) }
+        ensures tree { IsBelow 65535 (nth_tree (built_struct self.now).pointers index) → tree_of result ≡ nth_tree (built_struct self.now).pointers index }
+        ensures levels { levels_of result ≡ 64 }
+    {
+        let at = self.arena.get_pointer_field(self.place, index);
+        self.arena.get_pointer_reader(at)
     }
 
     /// The pointer at `index`, which has to be below the number of pointers.

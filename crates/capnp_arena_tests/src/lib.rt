@@ -5,6 +5,10 @@
 #[cfg(test)]
 mod build_tests;
 #[cfg(test)]
+mod builder_read_tests;
+#[cfg(test)]
+mod builder_tests;
+#[cfg(test)]
 mod copy_tests;
 #[cfg(test)]
 mod fixtures;

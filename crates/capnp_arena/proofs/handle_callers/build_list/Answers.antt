@@ -1,4 +1,4 @@
-use Rattle.std.proofs.Common.{[], List, rules, ℕ, arith, ◌++◌, ◌∙◌, ◌∷◌, ◌≡◌, ap, subst, sym}
+use Rattle.std.proofs.Common.{[], List, rules, ℕ, arith, ◌++◌, ◌∷◌, ◌≡◌, ap, subst}
 use Rattle.capnp_wire.specs.Edits.{with_pointer_tree, zero_structs}
 use Rattle.capnp_wire.specs.Elements.{with_struct_element}
 use Rattle.capnp_wire.specs.Reading.{element_struct}

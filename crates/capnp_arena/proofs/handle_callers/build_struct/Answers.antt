@@ -1,15 +1,11 @@
-use Rattle.std.proofs.Common.{[], rules, ◌++◌, ◌∙◌, ◌∷◌, ◌≡◌, ap, subst}
+use Rattle.std.proofs.Common.{[], rules, ◌++◌, ◌∷◌, ◌≡◌, subst}
 use Rattle.capnp_wire.specs.Edits.{with_pointer_tree, zero_struct}
 use Rattle.capnp_wire.specs.Place.{struct_tree}
 use Rattle.capnp_wire.specs.Tree.{Numbers}
-use Rattle.capnp_arena.specs.Facts.Laws.{struct_planted}
 use Rattle.capnp_arena.specs.Forest.{Forest, tree}
 use Rattle.capnp_arena.specs.Segment.{segment}
 use Rattle.capnp_arena.proofs.BuiltParts.{struct_message, struct_tree_is}
 use Rattle.capnp_arena.proofs.handle_callers.build_struct.Goals as goal
-
-pub get_pointer_field-requires-clause-planted : goal.get_pointer_field-requires-clause-planted
-get_pointer_field-requires-clause-planted c = struct_planted _ _ _ _ _ c.in_ok-made.ensures.forest c.in_ok-made.ensures.place
 
 pub returns-clause-message : goal.returns-clause-message
 returns-clause-message c =

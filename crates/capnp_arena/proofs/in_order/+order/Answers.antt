@@ -1,12 +1,12 @@
 use Rattle.std.specs.Prelude.{None, Option, Some}
-use Rattle.std.proofs.Common.{rules, arith, ◌≡◌, ◌+◌, ◌-◌, ◌*◌, ◌<◌, ◌≤◌, ◌∙◌, suc, sym, ap, subst, length, List, ℕ}
+use Rattle.std.proofs.Common.{arith, ◌≡◌, ◌+◌, ◌-◌, ◌*◌, ◌<◌, ◌≤◌, ◌∙◌, suc, sym, ap, subst, List, ℕ}
 use Rattle.capnp_wire.specs.Facts.Bytes.{AreBytes-fits}
 use Rattle.capnp_wire.specs.WellFormed.{AreBytes}
 use Rattle.capnp_arena.specs.InOrder.{AreLaid, IfKnown, IsLaid, IsRowLaid}
 use Rattle.capnp_arena.specs.Looked.{shape_found}
 use Rattle.capnp_arena.specs.Shape.{CompositeIn, ListIn, NoShape, Points, StructIn, end_of, shape_at, word_count}
-use Rattle.capnp_arena.proofs.Counted.{element_rows, ends_at, list_row, struct_row}
-use Rattle.capnp_arena.proofs.LaidOut.{composite_laid, null_laid, plain_laid, plain_structs_laid, pointers_laid, row_end_laid, row_more_laid, struct_laid, structs_end_laid, structs_more_laid, zero_laid}
+use Rattle.capnp_arena.proofs.Counted.{element_rows, ends_at, list_row}
+use Rattle.capnp_arena.proofs.LaidOut.{composite_laid, null_laid, plain_laid, plain_structs_laid, pointers_laid, row_more_laid, struct_laid, structs_end_laid, structs_more_laid, zero_laid}
 use Rattle.capnp_arena.specs.Facts.Shapes.{itself_inside}
 use Rattle.capnp_arena.proofs.in_order.+order.Goals as goal
 

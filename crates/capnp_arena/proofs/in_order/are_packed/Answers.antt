@@ -1,4 +1,4 @@
-use Rattle.std.proofs.Common.{arith, ◌≡◌}
+use Rattle.std.proofs.Common.{arith}
 use Rattle.capnp_wire.specs.Place.{bits_from}
 use Rattle.capnp_arena.proofs.LaidOut.{all_packed}
 use Rattle.capnp_arena.proofs.in_order.are_packed.Goals as goal

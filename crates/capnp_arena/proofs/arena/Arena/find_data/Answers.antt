@@ -1,5 +1,4 @@
-use Rattle.std.proofs.Common.{rules, Err, Ok, ap, sym, ◌∙◌}
-use Rattle.capnp_wire.specs.Place.{bytes_at}
+use Rattle.std.proofs.Common.{rules, Err, ap, sym, ◌∙◌}
 use Rattle.capnp_wire.specs.Reading.{as_data}
 use Rattle.capnp_arena.proofs.BlobReads.{bytes_here, no_data}
 use Rattle.capnp_arena.proofs.Refusals.{null_is}

@@ -1,5 +1,5 @@
 use Rattle.std.proofs.Common.{sym}
-use Rattle.capnp_arena.proofs.ElementPlaces.{first_forest, first_index, first_inside, first_leaves, first_tree, list_forest, list_inside, list_leaves, list_pointer, null_pointer, struct_pointer}
+use Rattle.capnp_arena.proofs.ElementPlaces.{first_forest, first_inside, first_leaves, first_tree, list_forest, list_inside, list_leaves, list_pointer, null_pointer, struct_pointer}
 use Rattle.capnp_arena.proofs.arena.Arena.get_pointer_element.Goals as goal
 
 pub unreachable-requires : goal.unreachable-requires

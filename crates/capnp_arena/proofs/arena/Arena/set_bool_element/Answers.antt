@@ -1,6 +1,5 @@
-use Rattle.std.proofs.Common.{◌*◌, ◌+◌, ◌/◌, ◌≡◌, arith, refl, sym, true}
+use Rattle.std.proofs.Common.{arith, sym}
 use Rattle.capnp_arena.specs.Segment.{segment}
-use Rattle.capnp_arena.specs.Shape.{CompositeIn, NoShape, StructIn, shape_at}
 use Rattle.capnp_arena.proofs.WrittenElements.{bit_ends, bit_inside, bit_leaves, no_bit_there}
 use Rattle.capnp_arena.proofs.arena.Arena.set_bool_element.Goals as goal
 

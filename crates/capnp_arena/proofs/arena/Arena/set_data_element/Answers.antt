@@ -1,9 +1,7 @@
 use Rattle.std.proofs.Common.{◌∙◌, ap, arith, subst, sym}
-use Rattle.capnp_arena.specs.Facts.Structs.{tree_composite}
 use Rattle.capnp_arena.specs.Leaves.{Leaves}
 use Rattle.capnp_arena.specs.Segment.{segment}
 use Rattle.capnp_wire.specs.Elements.{with_struct_element}
-use Rattle.capnp_wire.specs.Reading.{element_struct}
 use Rattle.capnp_arena.specs.Forest.{tree}
 use Rattle.capnp_arena.proofs.WrittenElements.{null_number, number_fits, number_struct, struct_number, struct_number_is}
 use Rattle.capnp_arena.proofs.arena.Arena.set_data_element.Goals as goal
