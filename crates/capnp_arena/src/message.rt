@@ -102,7 +102,7 @@ impl Arena {
         ensures failed { IfErr result (λ e. e.kind ≡ WriteFailed → HasFailed (W.failures sink.old) (W.failures sink.new)) }
         ensures beginning { IfErr result (λ e. e.kind ≡ WriteFailed → IsCutShort (message_tree self.now) (W.written sink.old) (W.written sink.new)) }
     {
-        self.trees_are_well_formed();
+        self.tree_is_sound(0);
         let bytes = self.write_message()?;
         write_all(sink, &bytes)
     }

@@ -17,10 +17,9 @@ use Rattle.capnp_wire.specs.WellFormed.{IsWellFormed}
 use Rattle.capnp_wire.specs.Words.{first_fault}
 use Rattle.capnp_wire.specs.declared.object.ListObject.{ListObject}
 use Rattle.capnp_wire.specs.declared.object.StructObject.{StructObject}
-use Rattle.capnp_arena.specs.Facts.Calls.{one_by_one, parts_one_by_one}
 use Rattle.capnp_arena.specs.Facts.Structs.{tree_struct}
-use Rattle.capnp_arena.specs.Forest.{Changes, Forest, PartChanges, struct_from, tree}
-use Rattle.capnp_arena.specs.Shape.{Shape, StructIn, shape_at}
+use Rattle.capnp_arena.specs.Forest.{Forest, struct_from, tree}
+use Rattle.capnp_arena.specs.Shape.{StructIn, shape_at}
 use Rattle.capnp_schema.specs.FieldLists.{typed_of}
 use Rattle.capnp_schema.specs.Schema.{ListValue, Schemas, VoidValue, default_of}
 use Rattle.capnp_schema.specs.StructHandles.{generic_of, number_of, set_of}
@@ -62,14 +61,6 @@ inner_stands set e t now is due whole formed =
   where
     other : {words : List ℕ} → VoidValue ≡ ListValue words → ⊥
     other e = cc
-
--- ---- one call after another ----
-
-pub then : {s : Shape} {a b c : List ℕ} → PartChanges s a b → PartChanges s b c → PartChanges s a c
-then {s} {a} {b} {c} x y = parts_one_by_one a b c s x y
-
-pub next : {w : ℕ} {a b c : List ℕ} → Changes w a b → Changes w b c → Changes w a c
-next {w} {a} {b} {c} x y = one_by_one a b c w x y
 
 -- ---- a struct of which a pointer was filled ----
 

@@ -1,7 +1,7 @@
 //! A step of a path into what stands behind a field.
 ghost use Rattle.capnp_arena.specs.Segment.{segment};
 ghost use Rattle.capnp_wire.specs.WellFormed.{IsWellFormed};
-ghost use Rattle.capnp_slots.specs.Built.{ChangesIn, IsBuilt, built};
+ghost use Rattle.capnp_arena.specs.Built.{ChangesIn, IsBuilt, built};
 ghost use Rattle.std.specs.Prelude.{◌≡◌, IfErr, OnErr, OnOk};
 ghost use Rattle.capnp_schema.specs.Defaults.{DefaultFits, default_tree};
 ghost use Rattle.capnp_schema.specs.FieldLists.{typed_of};

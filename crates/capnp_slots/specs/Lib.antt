@@ -1,4 +1,3 @@
-pub mod Built
 pub mod Planned
 pub mod Fields
 pub mod Primitives

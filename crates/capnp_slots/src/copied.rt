@@ -3,7 +3,7 @@ ghost use Rattle.std.specs.Prelude.{false, true, None, ◌≡◌, ◌≢◌, IfE
 ghost use Rattle.capnp_device.specs.declared.error.ErrorKind.TheVariants.{OutOfMemory};
 ghost use Rattle.capnp_wire.specs.Edits.{IsCopyRefusal};
 ghost use Rattle.capnp_arena.specs.Segment.{segment};
-ghost use Rattle.capnp_slots.specs.Built.{ChangesIn, IsBuilt, built};
+ghost use Rattle.capnp_arena.specs.Built.{ChangesIn, IsBuilt, built};
 ghost use Rattle.capnp_wire.specs.Standing.{levels_of, struct_levels, struct_of, tree_of};
 ghost use Rattle.capnp_wire.specs.Words.{first_fault};
 ghost use Rattle.capnp_schema.specs.Defaults.{DefaultFits};

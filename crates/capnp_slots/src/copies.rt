@@ -1,7 +1,7 @@
 //! Sources that are copied into a slot.
 ghost use Rattle.std.specs.Prelude.{ℕ, List, ◌≡◌, IfErr, IfOk, OnErr, OnOk};
 ghost use Rattle.capnp_arena.specs.Segment.{segment};
-ghost use Rattle.capnp_slots.specs.Built.{ChangesIn, IsBuilt, built};
+ghost use Rattle.capnp_arena.specs.Built.{ChangesIn, IsBuilt, built};
 ghost use Rattle.capnp_wire.specs.Tree.{StructTree, Tree};
 ghost use Rattle.capnp_schema.specs.Schema.{Schemas};
 ghost use Rattle.capnp_schema.specs.Types.{SchemaType, seen_variant};

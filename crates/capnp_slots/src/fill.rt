@@ -3,14 +3,14 @@ ghost use Rattle.std.specs.Prelude.{None, Some, false, ◌≡◌, ◌≢◌, ◌
 ghost use Rattle.capnp_wire.specs.Defaults.{default_tree, error_of, filled_list_refusal, filled_struct, filled_struct_refusal, filled_structs, filled_structs_refusal, or_default, takes_default};
 ghost use Rattle.capnp_wire.specs.Edits.{HoldsStruct, IsDueRefusal, extended, struct_in, struct_refusal};
 ghost use Rattle.capnp_arena.specs.Segment.{segment};
-ghost use Rattle.capnp_slots.specs.Built.{ChangesIn, IsBuilt, built};
+ghost use Rattle.capnp_arena.specs.Built.{ChangesIn, IsBuilt, built};
 ghost use Rattle.capnp_wire.specs.Place.{struct_tree};
 ghost use Rattle.capnp_wire.specs.Reading.{as_data, as_text};
 ghost use Rattle.capnp_wire.specs.StructLists.{HoldsStructs};
 ghost use Rattle.capnp_slots.specs.Fills.{HoldsThere, IsThere, tree_there};
 
-use crate::place::pointer_at;
 use capnp_arena::arena::{Arena, Place as StructPlace};
+use capnp_arena::structs::pointer_at;
 use capnp_wire::PointerReader;
 use capnp_wire::error::Result;
 use capnp_wire::size::{ElementSize, StructSize};

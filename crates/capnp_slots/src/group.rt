@@ -1,7 +1,7 @@
 //! Groups of a struct that is built: their fields lie in the struct's own sections.
 ghost use Rattle.std.specs.Prelude.{◌≡◌, MatchOption};
 ghost use Rattle.capnp_arena.specs.Segment.{segment};
-ghost use Rattle.capnp_slots.specs.Built.{ChangesIn, IsBuilt, built};
+ghost use Rattle.capnp_arena.specs.Built.{ChangesIn, IsBuilt, built};
 ghost use Rattle.capnp_schema.specs.FieldLists.{typed_of};
 ghost use Rattle.capnp_schema.specs.Query.{member_of, plain_fields};
 ghost use Rattle.capnp_schema.specs.StructHandles.{number_of, set_of, struct_records};

@@ -1,7 +1,7 @@
 //! Copies of a group out of a struct of its schema that is read, field by field.
 ghost use Rattle.std.specs.Prelude.{◌≡◌, ◌≤◌, ◌<◌, ◌∷◌, []};
 ghost use Rattle.capnp_arena.specs.Segment.{segment};
-ghost use Rattle.capnp_slots.specs.Built.{ChangesIn, IsBuilt, built};
+ghost use Rattle.capnp_arena.specs.Built.{ChangesIn, IsBuilt, built};
 ghost use Rattle.capnp_schema.specs.FieldLists.{IsFound, index_of, schema_of};
 ghost use Rattle.capnp_schema.specs.Laws.{group_height};
 ghost use Rattle.capnp_schema.specs.Query.{keep_index};

@@ -14,7 +14,6 @@ mod group_copy;
 pub mod laws;
 mod make;
 pub mod part;
-mod place;
 mod planned;
 mod pointer;
 pub mod primitive;

@@ -2,7 +2,7 @@
 ghost use Rattle.std.specs.Prelude.{List, ℕ, None, false, true, ◌≡◌, IfErr, IfOk, IsOk, OnErr, OnOk};
 ghost use Rattle.capnp_arena.specs.Forest.{Changes, Forest, tree};
 ghost use Rattle.capnp_arena.specs.Segment.{segment};
-ghost use Rattle.capnp_slots.specs.Built.{ChangesIn, IsBuilt, LeavesIn, built};
+ghost use Rattle.capnp_arena.specs.Built.{ChangesIn, IsBuilt, LeavesIn, built};
 ghost use Rattle.capnp_wire.specs.Defaults.{default_tree as reader_tree, error_of};
 ghost use Rattle.capnp_wire.specs.Reading.{as_data, as_text, is_null_tree};
 ghost use Rattle.capnp_records.specs.Writes.TreeCopy.{or_else};
@@ -17,10 +17,10 @@ ghost use Rattle.capnp_slots.specs.Fills.{HoldsThere, IsDefaultPointer, IsListFi
 
 use crate::fill::{check_data, check_text, extend_struct, fill_list, fill_struct, fill_structs};
 use crate::make::size_of;
-use crate::place::pointer_at;
 use crate::pointer::{pointer_slot, set_at};
 use crate::setter::SetterInput;
 use capnp_arena::arena::{Arena, Place as StructPlace};
+use capnp_arena::structs::pointer_at;
 use capnp_base::introspect::{Type, TypeVariant};
 use capnp_base::{data, text};
 use capnp_schema::schema::{Field, StructSchema};

@@ -1,7 +1,7 @@
 //! Writes by a field's plan.
 ghost use Rattle.std.specs.Prelude.{◌≡◌, ◌≤◌, ◌<◌, ◌+◌, ◌*◌, ◌^◌, IfSome, IsTrue, bit_xor, length};
 ghost use Rattle.capnp_arena.specs.Segment.{segment};
-ghost use Rattle.capnp_slots.specs.Built.{ChangesIn, IsBuilt, built};
+ghost use Rattle.capnp_arena.specs.Built.{ChangesIn, IsBuilt, built};
 ghost use Rattle.capnp_wire.specs.Edits.{with_bytes};
 ghost use Rattle.capnp_wire.specs.Tree.{tree_count};
 ghost use Rattle.capnp_schema.specs.Plan.{IsSlotPlace, PlanFits, is_slot_width};
@@ -12,8 +12,8 @@ ghost use Rattle.capnp_slots.specs.Planned.{place_bits};
 ghost use Rattle.capnp_slots.specs.Fields.{IsFieldPlan, IsSlot, IsSlotPlan};
 ghost use Rattle.capnp_slots.specs.Planned.{HoldsNumber, member_switched, place_cleared, place_mask, place_written, plan_written};
 
-use crate::place::{pointer_at, set_bool_field, set_data_field};
 use capnp_arena::arena::{Arena, Place as StructPlace};
+use capnp_arena::structs::{pointer_at, set_bool_field, set_data_field};
 use capnp_records::laws::slot_is_written;
 use capnp_schema::laws::numbers_fit;
 use capnp_schema::loaded::load_bits;
@@ -125,7 +125,8 @@ pub(crate) fn clear_plan(arena: &mut Arena, place: StructPlace, plan: SlotPlan)
     ensures changes { ChangesIn place arena.old arena.new }
     ensures written { built arena.new place ≡ plan_written plan (place_cleared plan.place) (built arena.old place) }
 {
-    switch_member(arena, place, plan.member);
+    let member = plan.member;
+    switch_member(arena, place, member);
     match plan.place {
         Place::Nothing => {}
         Place::Bits {
@@ -152,7 +153,8 @@ pub(crate) fn copy_bits(
     ensures changes { ChangesIn place arena.old arena.new }
     ensures written { built arena.new place ≡ plan_written plan (Bits (place_bits plan.place (struct_of source.now).bytes)) (built arena.old place) }
 {
-    switch_member(arena, place, plan.member);
+    let discriminant = plan.member;
+    switch_member(arena, place, discriminant);
     match plan.place {
         Place::Nothing => {}
         Place::Bits {

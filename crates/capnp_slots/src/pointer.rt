@@ -11,18 +11,18 @@ ghost use Rattle.capnp_schema.specs.Types.{AnyPointerType, is_pointer, seen_vari
 ghost use Rattle.capnp_slots.specs.Copied.{empty_tree};
 ghost use Rattle.capnp_slots.specs.Inits.{IsInitnRefusal, is_sized};
 ghost use Rattle.capnp_arena.specs.Segment.{segment};
-ghost use Rattle.capnp_slots.specs.Built.{ChangesIn, IsBuilt, built};
+ghost use Rattle.capnp_arena.specs.Built.{ChangesIn, IsBuilt, built};
 ghost use Rattle.capnp_wire.specs.Tree.{tree_count};
 ghost use Rattle.capnp_wire.specs.WellFormed.{IsWellFormed};
 ghost use Rattle.capnp_wire.specs.Words.{first_fault};
 ghost use Rattle.capnp_slots.specs.Fields.{IsPointer, IsPointerSlot, IsSlot};
 
 use crate::make::{make_empty, make_sized, make_struct};
-use crate::place::pointer_at;
 use crate::planned::slot_plan;
 use crate::setter::SetterInput;
 use capnp_arena::arena::{Arena, Place as StructPlace};
 use capnp_arena::handles::PointerBuilder;
+use capnp_arena::structs::pointer_at;
 use capnp_base::introspect::TypeVariant;
 use capnp_schema::plan::Place;
 use capnp_schema::schema::Field;

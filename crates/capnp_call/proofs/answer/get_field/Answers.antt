@@ -1,6 +1,6 @@
 -- The read of a field is the machine's, whatever levels the reader has.
 use Rattle.std.proofs.Common.{ap, ◌∙◌, sym}
-use Rattle.capnp_slots.specs.Built.{built}
+use Rattle.capnp_arena.specs.Built.{built}
 use Rattle.capnp_wire.specs.Standing.{struct_levels, struct_of}
 use Rattle.capnp_schema.specs.FieldLists.{schema_of}
 use Rattle.capnp_call.specs.Seen.{reply_seen}

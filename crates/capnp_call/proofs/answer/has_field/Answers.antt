@@ -1,6 +1,6 @@
 -- A field is there whatever levels the reader has.
 use Rattle.std.proofs.Common.{ap, ◌∙◌, subst, refl}
-use Rattle.capnp_slots.specs.Built.{built}
+use Rattle.capnp_arena.specs.Built.{built}
 use Rattle.capnp_wire.specs.Standing.{struct_levels, struct_of}
 use Rattle.capnp_schema.specs.Facts.Layers.{seen_which}
 use Rattle.capnp_schema.specs.FieldLists.{schema_of}

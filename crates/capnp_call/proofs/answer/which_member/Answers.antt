@@ -1,6 +1,6 @@
 -- The active member is the same whatever levels the reader has.
 use Rattle.std.proofs.Common.{ap, ◌∙◌, sym, Some}
-use Rattle.capnp_slots.specs.Built.{built}
+use Rattle.capnp_arena.specs.Built.{built}
 use Rattle.capnp_wire.specs.Standing.{struct_of}
 use Rattle.capnp_records.specs.Call.{Member}
 use Rattle.capnp_call.proofs.Found.{found_index, found_none}

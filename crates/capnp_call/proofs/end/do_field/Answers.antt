@@ -1,6 +1,6 @@
 -- What each operation does is what the machine says of it.
 use Rattle.std.proofs.Common.{refl, subst, sym}
-use Rattle.capnp_slots.specs.Built.{built}
+use Rattle.capnp_arena.specs.Built.{built}
 use Rattle.capnp_records.specs.Call.{Get, Has}
 use Rattle.capnp_call.specs.Ends.{FieldDoes}
 use Rattle.capnp_call.specs.Seen.{op_seen, reply_seen}

@@ -1,5 +1,5 @@
 -- The operation is done to the field that the step names.
-use Rattle.capnp_slots.specs.Built.{built}
+use Rattle.capnp_arena.specs.Built.{built}
 use Rattle.capnp_call.specs.Seen.{op_seen, reply_seen}
 use Rattle.capnp_call.proofs.EndsDone.{names_found}
 use Rattle.capnp_call.proofs.end.do_named.Goals as goal

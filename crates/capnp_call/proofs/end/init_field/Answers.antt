@@ -1,7 +1,7 @@
 -- A slot that is not started anew stays.
 use Rattle.std.proofs.Common.{ap, List, ℕ, rules}
 use Rattle.capnp_arena.specs.Forest.{struct_from}
-use Rattle.capnp_slots.specs.Built.{built}
+use Rattle.capnp_arena.specs.Built.{built}
 use Rattle.capnp_schema.specs.FieldLists.{typed_of}
 use Rattle.capnp_records.specs.Call.{Init, Refused}
 use Rattle.capnp_slots.specs.Fields.{IsSlot, field_set}

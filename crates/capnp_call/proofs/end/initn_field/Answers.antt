@@ -1,6 +1,6 @@
 -- A group has no size.
 use Rattle.std.proofs.Common.{refl}
-use Rattle.capnp_slots.specs.Built.{built}
+use Rattle.capnp_arena.specs.Built.{built}
 use Rattle.capnp_schema.specs.FieldLists.{typed_of}
 use Rattle.capnp_records.specs.Call.{Initn, Refused}
 use Rattle.capnp_device.specs.declared.error.ErrorKind.TheVariants.{InitnIsOnlyValidForListTextOrDataFields}

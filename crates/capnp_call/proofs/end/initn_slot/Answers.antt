@@ -1,7 +1,7 @@
 -- A refusal is the machine's.
 use Rattle.std.proofs.Common.{ap, List, ℕ, refl}
 use Rattle.capnp_arena.specs.Forest.{struct_from}
-use Rattle.capnp_slots.specs.Built.{built}
+use Rattle.capnp_arena.specs.Built.{built}
 use Rattle.capnp_schema.specs.FieldLists.{typed_of}
 use Rattle.capnp_records.specs.Call.{Initn, Refused}
 use Rattle.capnp_slots.specs.Fields.{field_set}

@@ -1,6 +1,6 @@
 -- The group has the copies, up to the first that is refused.
 use Rattle.std.proofs.Common.{None, Some, refl}
-use Rattle.capnp_slots.specs.Built.{built}
+use Rattle.capnp_arena.specs.Built.{built}
 use Rattle.capnp_records.specs.Call.{Done, Refused}
 use Rattle.capnp_slots.specs.Sources.{source_seen}
 use Rattle.capnp_call.proofs.SetsDone.{group_set}

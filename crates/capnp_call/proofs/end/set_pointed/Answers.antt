@@ -1,6 +1,6 @@
 -- What is given is the value's source.
 use Rattle.std.proofs.Common.{subst}
-use Rattle.capnp_slots.specs.Built.{built}
+use Rattle.capnp_arena.specs.Built.{built}
 use Rattle.capnp_records.specs.Call.{Set, Source}
 use Rattle.capnp_call.specs.Ends.{FieldDoes}
 use Rattle.capnp_call.specs.Seen.{reply_seen}

@@ -1,7 +1,7 @@
 -- The slot has what is given, or the refusal is the machine's.
 use Rattle.std.proofs.Common.{ap, List, ℕ}
 use Rattle.capnp_arena.specs.Forest.{struct_from}
-use Rattle.capnp_slots.specs.Built.{built}
+use Rattle.capnp_arena.specs.Built.{built}
 use Rattle.capnp_slots.specs.Sources.{source_seen}
 use Rattle.capnp_call.proofs.SetsDone.{slot_set, slot_unset}
 use Rattle.capnp_call.proofs.end.set_slot.Goals as goal

@@ -1,5 +1,5 @@
 -- The same struct is entered.
-use Rattle.capnp_slots.specs.Built.{built}
+use Rattle.capnp_arena.specs.Built.{built}
 use Rattle.capnp_call.proofs.Behind.{group_goes}
 use Rattle.capnp_call.proofs.enter.enter_group.Goals as goal
 

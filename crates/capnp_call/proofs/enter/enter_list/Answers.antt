@@ -5,7 +5,7 @@ use Rattle.capnp_device.specs.declared.error.Error.{Error}
 use Rattle.capnp_schema.specs.StructHandles.{set_of}
 use Rattle.capnp_schema.specs.Types.{SchemaType, is_pointer, seen_type}
 use Rattle.capnp_schema.specs.Ranges.{HasRanges}
-use Rattle.capnp_slots.specs.Built.{built}
+use Rattle.capnp_arena.specs.Built.{built}
 use Rattle.capnp_slots.specs.Fields.{IsPointer, field_set}
 use Rattle.capnp_slots.specs.Fills.{filled_in}
 use Rattle.capnp_call.specs.Walks.{StepStops}

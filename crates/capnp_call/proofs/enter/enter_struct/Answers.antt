@@ -1,6 +1,6 @@
 -- What is filled is entered, and a refusal is the machine's.
 use Rattle.std.proofs.Common.{◌≡◌, refl, subst, true}
-use Rattle.capnp_slots.specs.Built.{built}
+use Rattle.capnp_arena.specs.Built.{built}
 use Rattle.capnp_schema.specs.StructHandles.{generic_of, number_of}
 use Rattle.capnp_schema.specs.Types.{SchemaType, is_pointer}
 use Rattle.capnp_slots.specs.Fields.{IsPointer}

@@ -10,6 +10,7 @@ use Rattle.capnp_wire.specs.KeptLists as kept_lists
 use Rattle.capnp_wire.specs.Place.{struct_tree}
 use Rattle.capnp_wire.specs.Tree.{StructTree, Tree}
 use Rattle.capnp_wire.specs.Words.{first_fault}
+use Rattle.capnp_arena.specs.Facts.Places.{at_then, then}
 use Rattle.capnp_arena.specs.Facts.Laws.{in_struct, struct_planted}
 use Rattle.capnp_arena.specs.Forest.{struct_from, tree}
 use Rattle.capnp_arena.specs.Segment.{segment}
@@ -20,12 +21,12 @@ use Rattle.capnp_schema.specs.StructHandles.{generic_of, number_of, set_of}
 use Rattle.capnp_schema.specs.Types.{ListType, SchemaType, StructType, seen_type, seen_variant}
 use Rattle.capnp_records.specs.Writes.Fill.{IsAtRest, entered_list}
 use Rattle.capnp_records.specs.Writes.Slots.{Fits}
-use Rattle.capnp_slots.specs.Built.{built}
+use Rattle.capnp_arena.specs.Built.{built}
 use Rattle.capnp_slots.specs.Fields.{field_brand, field_set, pointer_index}
 use Rattle.capnp_slots.specs.Fills.{fill_due, filled_in}
 use Rattle.capnp_call.proofs.ListWalks.{element_in_list, element_in_struct, element_list_stops, element_past, element_there, fits_at, has_pointer, has_struct, list_end, names_none, other_stops, untyped_stops}
 use Rattle.capnp_call.specs.Facts.NoMemory.{path_rests}
-use Rattle.capnp_call.proofs.Parts.{fits_filled, here_is, inner_stands, next, struct_here, then}
+use Rattle.capnp_call.proofs.Parts.{fits_filled, here_is, inner_stands, struct_here}
 use Rattle.capnp_call.proofs.Walking.{field_group, field_list, field_refused, field_stops, field_struct, pointer_again, step_found, step_missing, walks_end}
 use Rattle.capnp_call.specs.Lists.{ElementWalks, ListWalks}
 use Rattle.capnp_call.specs.Walks.{FieldWalks, StructWalks}
@@ -277,11 +278,11 @@ walk_list_in-walk_list_here-requires t c =
 
 pub walk_list_in-returns-clause-forest : goal.walk_list_in-returns-clause-forest
 walk_list_in-returns-clause-forest t c =
-    (c.get_pointer_element-pointer.ensures.leaves _ c.walk_list_here.ensures.forest (next c.in_default.ensures.changes c.walk_list_here.ensures.changes)).forest
+    (c.get_pointer_element-pointer.ensures.leaves _ c.walk_list_here.ensures.forest (at_then c.in_default.ensures.changes c.walk_list_here.ensures.changes)).forest
 
 pub walk_list_in-returns-clause-changes : goal.walk_list_in-returns-clause-changes
 walk_list_in-returns-clause-changes t c =
-    (c.get_pointer_element-pointer.ensures.leaves _ c.walk_list_here.ensures.forest (next c.in_default.ensures.changes c.walk_list_here.ensures.changes)).changes
+    (c.get_pointer_element-pointer.ensures.leaves _ c.walk_list_here.ensures.forest (at_then c.in_default.ensures.changes c.walk_list_here.ensures.changes)).changes
 
 pub walk_list_in-returns-clause-walks : goal.walk_list_in-returns-clause-walks
 walk_list_in-returns-clause-walks t c =
@@ -291,7 +292,7 @@ walk_list_in-returns-clause-walks t c =
     let i = c.args.index in
     let y : Tree = tree (segment c.walk_list_here.new.arena) c.get_pointer_element-pointer.result in
     let now = c.get_pointer_element-pointer.ensures.tree in
-    let left = c.get_pointer_element-pointer.ensures.leaves _ c.walk_list_here.ensures.forest (next c.in_default.ensures.changes c.walk_list_here.ensures.changes) in
+    let left = c.get_pointer_element-pointer.ensures.leaves _ c.walk_list_here.ensures.forest (at_then c.in_default.ensures.changes c.walk_list_here.ensures.changes) in
     subst (λ (z : Tree). ElementWalks set (ListType e) i c.args.rest.now c.args.end x c.walk_list_here.new.reply z) (sym left.tree)
     (element_in_list set x i c.args.rest.now c.args.end c.requires.inside e c.walk_list_here.new.reply y
     (has_pointer set e x i c.requires.stands c.requires.inside)

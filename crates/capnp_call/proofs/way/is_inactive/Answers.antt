@@ -1,6 +1,6 @@
 -- The member that is active is the one that stands in the whole record.
 use Rattle.std.proofs.Common.{ap, subst, ◌∙◌}
-use Rattle.capnp_slots.specs.Built.{built}
+use Rattle.capnp_arena.specs.Built.{built}
 use Rattle.capnp_wire.specs.Standing.{struct_of}
 use Rattle.capnp_schema.specs.FieldLists.{schema_of}
 use Rattle.capnp_schema.specs.StructHandles.{IsStruct}

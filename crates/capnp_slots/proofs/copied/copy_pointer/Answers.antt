@@ -1,6 +1,6 @@
 -- A null is copied as the default, and everything else as it stands.
 use Rattle.std.proofs.Common.{arith}
-use Rattle.capnp_slots.specs.Built.{built}
+use Rattle.capnp_arena.specs.Built.{built}
 use Rattle.capnp_wire.specs.Standing.{levels_of, tree_of}
 use Rattle.capnp_slots.proofs.CopiedSlots.{null-cause, null-copied, there-cause, there-copied}
 use Rattle.capnp_slots.proofs.copied.copy_pointer.Goals as goal

@@ -6,7 +6,7 @@ use Rattle.capnp_wire.specs.Standing.{struct_of}
 use Rattle.capnp_wire.specs.Tree.{StructTree, tree_count}
 use Rattle.capnp_arena.specs.Forest.{struct_from, tree}
 use Rattle.capnp_arena.specs.Segment.{segment}
-use Rattle.capnp_slots.proofs.Places.{data_of, pointers_of}
+use Rattle.capnp_arena.specs.Facts.Places.{data_of, pointers_of}
 use Rattle.capnp_slots.proofs.element.copy_at.Goals as goal
 
 pub returns-clause-forest : goal.returns-clause-forest

@@ -3,7 +3,7 @@ use Rattle.std.proofs.Common.{arith, ◌∙◌}
 use Rattle.capnp_schema.specs.FieldLists.{subset_indices}
 use Rattle.capnp_slots.proofs.GroupClears.{cleared-next, cleared-none, keeps-trans}
 use Rattle.capnp_slots.proofs.GroupCopies.{field-in, plain-cleared}
-use Rattle.capnp_slots.proofs.Places.{then}
+use Rattle.capnp_arena.specs.Facts.Places.{then}
 use Rattle.capnp_slots.proofs.group.+clear.Goals as goal
 
 pub clear_field-returns-in-Some-clause-changes : goal.clear_field-returns-in-Some-clause-changes

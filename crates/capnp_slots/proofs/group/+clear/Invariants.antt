@@ -1,5 +1,5 @@
 use Rattle.std.proofs.Common.{◌≡◌, ◌+◌, ◌*◌, drop}
-use Rattle.capnp_slots.specs.Built.{ChangesIn, IsBuilt, built}
+use Rattle.capnp_arena.specs.Built.{ChangesIn, IsBuilt, built}
 use Rattle.capnp_schema.specs.FieldLists.{subset_indices}
 use Rattle.capnp_schema.specs.Query.{plain_fields}
 use Rattle.capnp_schema.specs.StructHandles.{number_of, set_of, struct_records}

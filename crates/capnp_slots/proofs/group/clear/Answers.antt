@@ -7,7 +7,7 @@ use Rattle.capnp_schema.specs.Schema.{Schemas, seen_brand}
 use Rattle.capnp_schema.specs.StructHandles.{IsStruct, set_of}
 use Rattle.capnp_slots.specs.Fields.{field_set}
 use Rattle.capnp_slots.proofs.GroupClears.{group-kept, group-whole, keeps-size}
-use Rattle.capnp_slots.proofs.Places.{then}
+use Rattle.capnp_arena.specs.Facts.Places.{then}
 use Rattle.capnp_slots.proofs.group.clear.Goals as goal
 
 pub returns-clause-cleared : goal.returns-clause-cleared

@@ -10,7 +10,7 @@ use Rattle.capnp_records.specs.Record.{Left}
 use Rattle.capnp_slots.specs.Fields.{field_set}
 use Rattle.capnp_slots.proofs.GroupClears.{keeps-size}
 use Rattle.capnp_slots.proofs.GroupCopies.{copied-kept, copied-whole}
-use Rattle.capnp_slots.proofs.Places.{then}
+use Rattle.capnp_arena.specs.Facts.Places.{then}
 use Rattle.capnp_slots.proofs.group.copy.Goals as goal
 
 pub returns-clause-copied : goal.returns-clause-copied

@@ -1,6 +1,6 @@
 -- A struct of the group's schema is copied.
 use Rattle.std.proofs.Common.{arith, subst, sym}
-use Rattle.capnp_slots.specs.Built.{built}
+use Rattle.capnp_arena.specs.Built.{built}
 use Rattle.capnp_wire.specs.Standing.{struct_levels, struct_of}
 use Rattle.capnp_schema.specs.StructHandles.{number_of}
 use Rattle.capnp_records.specs.Record.{Left}

@@ -2,7 +2,7 @@
 use Rattle.std.proofs.Common.{arith, ◌∙◌, None, Some, ap, length, subst, sym}
 use Rattle.std.proofs.lemmas.List.{length-map}
 use Rattle.std.specs.Prelude.{[], Bool}
-use Rattle.capnp_slots.specs.Built.{built}
+use Rattle.capnp_arena.specs.Built.{built}
 use Rattle.capnp_wire.specs.Standing.{struct_levels, struct_of}
 use Rattle.capnp_schema.specs.FieldLists.{index_of, schema_of, subset_indices}
 use Rattle.capnp_schema.specs.Query.{keep_index}
@@ -12,7 +12,8 @@ use Rattle.capnp_records.specs.Record.{Left}
 use Rattle.capnp_slots.specs.GroupSets.{AreCopied, active_field}
 use Rattle.capnp_slots.proofs.GroupClears.{keeps-trans}
 use Rattle.capnp_slots.proofs.GroupCopies.{cleared-counted, field-in, found-none, group-copied, group-cut, group-whole, none-copied, plain-cut, plain-end, plain-next, slot-copied}
-use Rattle.capnp_slots.proofs.Places.{either, same_struct, then}
+use Rattle.capnp_arena.specs.Facts.Places.{then}
+use Rattle.capnp_slots.proofs.Places.{either, same_struct}
 use Rattle.capnp_slots.proofs.group_copy.+copy.Goals as goal
 
 pub copy_field-returns-in-Some-clause-copied : goal.copy_field-returns-in-Some-clause-copied

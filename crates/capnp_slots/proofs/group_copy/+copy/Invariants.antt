@@ -1,6 +1,6 @@
 use Rattle.std.proofs.Common.{◌+◌, ◌*◌, drop, Option}
 use Rattle.capnp_device.specs.declared.error.ErrorKind.{ErrorKind}
-use Rattle.capnp_slots.specs.Built.{ChangesIn, IsBuilt, built}
+use Rattle.capnp_arena.specs.Built.{ChangesIn, IsBuilt, built}
 use Rattle.capnp_wire.specs.Tree.{StructTree}
 use Rattle.capnp_schema.specs.FieldLists.{subset_indices}
 use Rattle.capnp_slots.specs.GroupSets.{AreCopied, has_index, kept_indices, plain_in_source}

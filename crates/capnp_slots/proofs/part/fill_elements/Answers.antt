@@ -3,7 +3,7 @@ use Rattle.std.proofs.Common.{◌≡◌, ap, subst, sym, ◌∙◌, None, IfErr,
 use Rattle.capnp_wire.specs.WellFormed.{IsWellFormed}
 use Rattle.capnp_wire.specs.Defaults.{default_tree as reader_tree, filled_structs, filled_structs_refusal, or_default}
 use Rattle.capnp_wire.specs.Edits.{IsDueRefusal}
-use Rattle.capnp_slots.specs.Built.{built}
+use Rattle.capnp_arena.specs.Built.{built}
 use Rattle.capnp_wire.specs.StructLists.{HoldsStructs}
 use Rattle.capnp_wire.specs.Tree.{Tree, nth_tree}
 use Rattle.capnp_wire.specs.declared.size.StructSize.{StructSize}

@@ -1,6 +1,6 @@
 -- A list that stands is filled by the type of its elements.
 use Rattle.std.proofs.Common.{ap, refl, sym, ◌∙◌}
-use Rattle.capnp_slots.specs.Built.{built}
+use Rattle.capnp_arena.specs.Built.{built}
 use Rattle.capnp_wire.specs.Reading.{is_null_tree}
 use Rattle.capnp_base.specs.declared.introspect.TypeVariant.TheVariants as variant
 use Rattle.capnp_schema.specs.Entries.{lists_seen}

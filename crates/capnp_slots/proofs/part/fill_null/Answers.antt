@@ -1,6 +1,6 @@
 -- What is filled, by the field's type.
 use Rattle.std.proofs.Common.{ap, refl, subst, sym, ◌∙◌}
-use Rattle.capnp_slots.specs.Built.{built}
+use Rattle.capnp_arena.specs.Built.{built}
 use Rattle.capnp_wire.specs.Tree.{StructTree}
 use Rattle.capnp_wire.specs.WellFormed.{IsWellFormed}
 use Rattle.capnp_schema.specs.Entries.{lists_seen}

@@ -1,6 +1,6 @@
 -- A struct that stands is extended to the sections of its schema.
 use Rattle.std.proofs.Common.{ap, refl, sym, ◌∙◌}
-use Rattle.capnp_slots.specs.Built.{built}
+use Rattle.capnp_arena.specs.Built.{built}
 use Rattle.capnp_wire.specs.Reading.{is_null_tree}
 use Rattle.capnp_wire.specs.Tree.{StructTree}
 use Rattle.capnp_schema.specs.StructHandles.{number_of}

@@ -1,6 +1,6 @@
 -- The pointer has what was filled.
 use Rattle.std.proofs.Common.{ap, sym, ◌∙◌}
-use Rattle.capnp_slots.specs.Built.{built}
+use Rattle.capnp_arena.specs.Built.{built}
 use Rattle.capnp_wire.specs.Tree.{nth_tree}
 use Rattle.capnp_slots.proofs.Pointers.{on_ok, pointer_read}
 use Rattle.capnp_slots.proofs.part.fill_struct_slot.Goals as goal

@@ -2,7 +2,7 @@
 use Rattle.std.proofs.Common.{ℕ, List, subst, ◌∙◌}
 use Rattle.capnp_arena.specs.Forest.{Changes, Forest}
 use Rattle.capnp_arena.specs.Segment.{segment}
-use Rattle.capnp_slots.specs.Built.{LeavesIn, built}
+use Rattle.capnp_arena.specs.Built.{LeavesIn, built}
 use Rattle.capnp_slots.proofs.Pointers.{pointer_read, pointer_there}
 use Rattle.capnp_slots.proofs.part.get.Goals as goal
 

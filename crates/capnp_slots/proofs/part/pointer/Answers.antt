@@ -3,7 +3,7 @@ use Rattle.std.proofs.Common.{ℕ, List, ap, subst, ◌∙◌}
 use Rattle.capnp_wire.specs.Tree.{nth_tree}
 use Rattle.capnp_arena.specs.Forest.{Changes, Forest}
 use Rattle.capnp_arena.specs.Segment.{segment}
-use Rattle.capnp_slots.specs.Built.{LeavesIn, built}
+use Rattle.capnp_arena.specs.Built.{LeavesIn, built}
 use Rattle.capnp_slots.proofs.part.pointer.Goals as goal
 
 pub pointer_at-requires-clause-inside : goal.pointer_at-requires-clause-inside

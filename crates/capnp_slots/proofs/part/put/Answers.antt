@@ -1,6 +1,6 @@
 -- What is no null stays.
 use Rattle.std.proofs.Common.{◌≡◌, refl, false}
-use Rattle.capnp_slots.specs.Built.{built}
+use Rattle.capnp_arena.specs.Built.{built}
 use Rattle.capnp_wire.specs.Reading.{is_null_tree}
 use Rattle.capnp_wire.specs.Tree.{nth_tree}
 use Rattle.capnp_slots.proofs.Filled.{not-null, same-there}

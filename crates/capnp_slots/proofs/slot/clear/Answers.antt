@@ -3,7 +3,7 @@ use Rattle.std.proofs.Common.{◌∙◌}
 use Rattle.capnp_schema.specs.FieldLists.{typed_of}
 use Rattle.capnp_records.specs.Facts.GroupWrite.{suits-cleared}
 use Rattle.capnp_records.specs.Writes.Overlay.{cleared_content}
-use Rattle.capnp_slots.specs.Built.{built}
+use Rattle.capnp_arena.specs.Built.{built}
 use Rattle.capnp_slots.proofs.Stored.{cleared-keeps}
 use Rattle.capnp_slots.proofs.slot.clear.Goals as goal
 
