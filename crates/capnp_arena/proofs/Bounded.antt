@@ -1,5 +1,5 @@
 -- A tree has no more words than its segment: they are all apart.
-use Rattle.std.proofs.Common.{◌≡◌, ℕ, zero, suc, ◌+◌, ◌-◌, ◌*◌, ◌<◌, ◌≤◌, ◌⊎◌, inl, inr, refl, sym, ap, subst, ◌∙◌, arith, Bool, true, false, List, [], ◌∷◌, length}
+use Rattle.std.proofs.Common.{◌≡◌, ℕ, zero, suc, ◌+◌, ◌-◌, ◌*◌, ◌^◌, ◌<◌, ◌≤◌, ◌⊎◌, inl, inr, refl, sym, ap, subst, ◌∙◌, arith, Bool, true, false, List, [], ◌∷◌, length}
 use Rattle.std.proofs.Math.Dec.{eqb, ltb}
 use Rattle.std.proofs.lemmas.Bool.{cases_eq, eqb-true, lt-ltb, ltb-true, or_cases}
 use Rattle.std.proofs.lemmas.Map.Steps.{length-le_from_distinct_below}
@@ -7,9 +7,11 @@ use Rattle.std.specs.List.{AllByRecursion, IsDistinct, list_any}
 use Rattle.capnp_wire.specs.Locate.{list_words}
 use Rattle.capnp_wire.specs.Tree.{StructTree, Tree, structs_from, trees_from}
 use Rattle.capnp_wire.specs.Words.{words_below_all, words_of, words_of_all}
-use Rattle.capnp_arena.specs.Facts.Calls.{planted}
-use Rattle.capnp_arena.specs.Facts.Forests.{owned_inside, points}
-use Rattle.capnp_arena.specs.Facts.Shapes.{element_end}
+use Rattle.std.specs.Prelude.{None, Option, Some}
+use Rattle.capnp_arena.specs.Counts.{IsCount}
+use Rattle.capnp_arena.specs.Facts.Calls.{planted, planted_inside}
+use Rattle.capnp_arena.specs.Facts.Forests.{owned_after, owned_inside, points}
+use Rattle.capnp_arena.specs.Facts.Shapes.{element_end, itself_inside}
 use Rattle.capnp_arena.specs.Forest.{Below, Forest, Grown, Itself, Owns, Planted, struct_from, tree}
 use Rattle.capnp_arena.specs.Shape.{CompositeIn, IsPointerOf, IsWithin, ListIn, NoShape, Points, Shape, StructIn, shape_at, word_count}
 use Rattle.capnp_arena.proofs.Counted.{words_composite, words_list, words_null, words_pointers, words_struct}
@@ -237,5 +239,33 @@ module _ (bytes : List ℕ) (w : ℕ) (f : Forest bytes w) (c : (j : ℕ) → Is
 counted : (bytes : List ℕ) (w : ℕ) → Forest bytes w → Counted (Owns bytes w) (words_of (tree bytes w))
 counted bytes w (Grown _ p f a b) = counted_as bytes w (Grown w p f a b) (λ j i. counted bytes j (f j i)) (shape_at bytes w) refl
 
-pub words_fit : (bytes : List ℕ) (w : ℕ) → Forest bytes w → words_of (tree bytes w) ≤ word_count bytes
-words_fit bytes w f = at_most (Owns bytes w) (words_of (tree bytes w)) (word_count bytes) (counted bytes w f) (λ k o. owned_inside bytes w k f o)
+-- the pointer itself is none of them
+pub words_fit : (bytes : List ℕ) (w : ℕ) → Forest bytes w → suc (words_of (tree bytes w)) ≤ word_count bytes
+words_fit bytes w f =
+    let l : 1 + words_of (tree bytes w) ≤ word_count bytes =
+    at_most (λ k. (w ≤ k) × (k < word_count bytes)) (1 + words_of (tree bytes w)) (word_count bytes)
+    (join (λ k. (w ≤ k) × (k < w + 1)) (Owns bytes w) (λ k. (w ≤ k) × (k < word_count bytes)) 1 (words_of (tree bytes w))
+    (range (λ k. (w ≤ k) × (k < w + 1)) w 1 (λ k x y. (x, y)))
+    (counted bytes w f)
+    (λ k h o. let l : w < k = owned_after bytes w k f o in omega (arith, l, h.1))
+    (λ k h. let l : w < word_count bytes = itself_inside bytes w (shape_at bytes w) (points bytes w f) in (h.0, omega (arith, l, h.1)))
+    (λ k o. let l : w < k = owned_after bytes w k f o in (omega (arith, l), owned_inside bytes w k f o)))
+    (λ k h. h.1) in
+    omega (arith, l)
+
+-- the same of a struct
+pub struct_fits : (bytes : List ℕ) (a d p : ℕ) → Planted bytes (StructIn a d p) → d + p + words_of_all (trees_from (tree bytes) (a + d) p) ≤ word_count bytes
+struct_fits bytes a d p q =
+    at_most (λ k. k < word_count bytes) (d + p + words_of_all (trees_from (tree bytes) (a + d) p)) (word_count bytes)
+    (join (IsWithin (StructIn a d p)) (RowOwns bytes (a + d) p) (λ k. k < word_count bytes) (d + p) (words_of_all (trees_from (tree bytes) (a + d) p))
+    (range (IsWithin (StructIn a d p)) a (d + p) (λ k x y. (x, omega (arith, y))))
+    (row bytes (a + d) p (λ j x y. counted bytes j (q.child j (x, y))) (λ i j k x y z v o r. q.children_apart i j k (x, y) (z, v) o r))
+    (λ k h r. q.child_apart r.0 k (r.1, r.2) r.3 h)
+    (λ k h. planted_inside bytes (StructIn a d p) k q h)
+    (λ k r. owned_inside bytes r.0 k (q.child r.0 (r.1, r.2)) r.3))
+    (λ k h. h)
+
+-- so they are always counted
+pub always_counted : (r : Option ℕ) (words : ℕ) → IsCount r words → words < 2 ^ 29 → ((n : ℕ) → r ≡ Some n → ⊥) → ⊥
+always_counted (Some n) words h l k = k n refl
+always_counted None words h l k = omega (arith, h, l)

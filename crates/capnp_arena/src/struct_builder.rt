@@ -15,9 +15,8 @@ pub struct StructBuilder<'a> {
 }
 
 impl<'a> StructBuilder<'a> {
-    ghost use Rattle.std.specs.Prelude.{[], List, None, ℕ, IfErr, IfOk, OnErr, OnOk, bit_xor, length, ◌*◌, ◌+◌, ◌/◌, ◌∷◌, ◌<◌, ◌≡◌, ◌≤◌, ◌^◌};
+    ghost use Rattle.std.specs.Prelude.{[], List, None, ℕ, IfErr, IfOk, IsOk, OnErr, OnOk, bit_xor, length, ◌*◌, ◌+◌, ◌/◌, ◌∷◌, ◌<◌, ◌≡◌, ◌≤◌, ◌^◌};
     ghost use Rattle.std.specs.Borrow.{sem};
-    ghost use Rattle.capnp_device.specs.declared.error.ErrorKind.TheVariants.{TooLarge};
     ghost use Rattle.capnp_wire.specs.Depth.{AreBelow, IsBelow};
     ghost use Rattle.capnp_wire.specs.Edits.{IsCopyRefusal, fitted, with_bit, with_bytes, with_number};
     ghost use Rattle.capnp_wire.specs.Place.{struct_at, tree_below};
@@ -78,11 +77,11 @@ impl<'a> StructBuilder<'a> {
     /// The size of the struct with all that its pointers lead to: its data section and its pointers, and the targets, the
     /// tag of a composite list with them. There are no capabilities. Takes no memory.
     ///
-    /// Refused with `TooLarge` where these are 2^29 words or more.
+    /// Never refused: no message in memory has 2^29 words.
     pub fn total_size(&self) -> Result<MessageSize>
         requires planted { IsStruct self.now }
         ensures size { IfOk result (λ size. IsSize size None (words_of_struct (built_struct self.now))) }
-        ensures refused { IfErr result (λ error. (error.kind ≡ TooLarge) × (2 ^ 29 ≤ words_of_struct (built_struct self.now))) }
+        ensures succeeds { IsOk result }
     {
         self.arena.total_size(self.place)
     }
