@@ -36,3 +36,4 @@ pub mod ListReaders
 pub mod BuiltParts
 pub mod NewBytes
 pub mod LeftBytes
+pub mod Bounded

@@ -98,13 +98,18 @@ impl Arena {
 }
 
 impl<'a> PointerBuilder<'a> {
-    ghost use Rattle.std.specs.Prelude.{IfErr, IfOk, OnOk, ◌+◌, ◌<◌, ◌≡◌, ◌≤◌, ◌^◌, replicate};
+    ghost use Rattle.std.specs.Prelude.{List, ℕ, IfErr, IfOk, OnOk, drop, length, replicate, ◌+◌, ◌++◌, ◌<◌, ◌≡◌, ◌≤◌, ◌^◌};
+    ghost use Rattle.std.specs.Borrow.{sem};
+    ghost use Rattle.capnp_wire.specs.Place.{bytes_at};
+    ghost use Rattle.capnp_wire.specs.Tree.{Numbers};
+    ghost use Rattle.capnp_arena.specs.Leaves.{Leaves};
+    ghost use Rattle.capnp_arena.specs.Parts.{LendsPart, with_part};
     ghost use Rattle.capnp_wire.specs.Blobs.{bytes_lent};
     ghost use Rattle.capnp_wire.specs.Edits.{IsRoomRefusal};
     ghost use Rattle.capnp_wire.specs.Reading.{as_data, as_text};
     ghost use Rattle.capnp_arena.specs.Handles.{IsPointer, pointer_tree};
     ghost use Rattle.capnp_arena.specs.Segment.{segment};
-    ghost use Rattle.capnp_arena.specs.Shape.{word_count};
+    ghost use Rattle.capnp_arena.specs.Shape.{ListIn, shape_at, word_count};
 
     /// The bytes of the data that stands here, to be changed; none for a null, which stays null.
     ///
@@ -164,5 +169,21 @@ impl<'a> PointerBuilder<'a> {
         let PointerBuilder { arena, at } = self;
         let start = arena.init_list(at, ElementSize::Byte, count + 1)?;
         Ok(arena.part_mut(start, count as usize))
+    }
+
+    /// The first bytes of the list of bytes that stands here, for as long as the builder would be there. The message ends
+    /// with what is left in them (`leaves`).
+    pub fn bytes_mut(self, list: ListPlace, count: usize) -> &'a mut [u8]
+        requires forest { IsPointer self }
+        requires there { shape_at (segment self.arena.now) self.at ≡ ListIn list.start 2 list.count }
+        requires inside { count ≤ list.count }
+        ensures* lends { sem 𝓛 (LendsPart self.entry.arena list.start result) }
+        ensures now { result.now ≡ bytes_at (segment self.entry.arena.now) list.start count }
+        ensures long { length result.now ≡ count }
+        ensures leaves { (left : List ℕ) → length left ≡ count
+            → Leaves self.entry.at (Numbers 1 (left ++ drop count (bytes_at (segment self.entry.arena.now) list.start list.count))) (segment self.entry.arena.now) (segment (with_part self.entry.arena.now list.start left)) }
+    {
+        let PointerBuilder { arena, at } = self;
+        arena.bytes_mut(at, list, count)
     }
 }

@@ -11,7 +11,7 @@ ghost use Rattle.capnp_arena.specs.Handles.{IsStruct, built_struct, list_tree, p
 ghost use Rattle.capnp_arena.specs.Leaves.{Leaves};
 ghost use Rattle.capnp_arena.specs.Message.{IsMessage, message_tree};
 ghost use Rattle.capnp_arena.specs.Segment.{segment};
-ghost use Rattle.capnp_arena.specs.Shape.{word_count};
+ghost use Rattle.capnp_arena.specs.Shape.{ListIn, shape_at, word_count};
 
 use crate::list_builder::ListBuilder;
 use crate::lists::ListPlace;
@@ -160,4 +160,15 @@ pub fn build_data(message: &mut Builder, count: u32, first: u8) -> Result<()>
     let bytes = message.bytes_mut(0, list, count as usize);
     bytes[0] = first;
     Ok(())
+}
+
+/// Writes the first byte of the data at the root.
+pub fn set_first_byte(message: &mut Builder, list: ListPlace, first: u8)
+    requires message { IsMessage message.old }
+    requires there { shape_at (segment message.old) 0 ≡ ListIn list.start 2 list.count }
+    requires first { 0 < list.count }
+    ensures message { IsMessage message.new }
+{
+    let bytes = message.root().bytes_mut(list, list.count as usize);
+    bytes[0] = first;
 }

@@ -30,6 +30,7 @@ impl Arena {
     ghost use Rattle.capnp_arena.specs.Shape.{StructIn, word_count};
 
     /// The message's root pointer.
+    #[inline(always)]
     pub fn root(&mut self) -> PointerBuilder<'_>
         requires message { IsMessage self.old }
         ensures same { result.arena.ghost_name ≡ self.entry.ghost_name }
@@ -43,6 +44,7 @@ impl Arena {
     }
 
     /// The pointer at a word.
+    #[inline(always)]
     pub fn pointer_builder(&mut self, at: usize) -> PointerBuilder<'_>
         ensures same { result.arena.ghost_name ≡ self.entry.ghost_name }
         ensures now { result.arena.now ≡ self.old }
@@ -52,6 +54,7 @@ impl Arena {
     }
 
     /// The struct at a place.
+    #[inline(always)]
     pub fn struct_builder(&mut self, place: Place) -> StructBuilder<'_>
         ensures same { result.arena.ghost_name ≡ self.entry.ghost_name }
         ensures now { result.arena.now ≡ self.old }
@@ -61,6 +64,7 @@ impl Arena {
     }
 
     /// The list that the pointer at a word leads to, as it was got.
+    #[inline(always)]
     pub fn list_builder(&mut self, at: usize, list: ListTarget) -> ListBuilder<'_>
         ensures same { result.arena.ghost_name ≡ self.entry.ghost_name }
         ensures now { result.arena.now ≡ self.old }
@@ -75,6 +79,7 @@ impl Arena {
     }
 
     /// The pointer at `index` of a struct, which has to be below the number of pointers.
+    #[inline(always)]
     pub fn pointer_field(&mut self, place: Place, index: u16) -> PointerBuilder<'_>
         requires planted { Planted (segment self.old) (StructIn place.start place.data_words place.pointers) }
         requires inside { index < place.pointers }
@@ -92,6 +97,7 @@ impl Arena {
     }
 
     /// The struct at `index` of the list of structs that the pointer at a word leads to. There has to be one.
+    #[inline(always)]
     pub fn struct_element(&mut self, at: usize, index: u32) -> StructBuilder<'_>
         requires forest { Forest (segment self.old) at }
         requires there { HasStruct (tree (segment self.old) at) index }
@@ -108,6 +114,7 @@ impl Arena {
 
     /// The pointer at `index` of the list that the pointer at a word leads to: of a list of structs, the first of the struct.
     /// There has to be one.
+    #[inline(always)]
     pub fn pointer_element(&mut self, at: usize, index: u32) -> PointerBuilder<'_>
         requires forest { Forest (segment self.old) at }
         requires pointer { HasPointer (tree (segment self.old) at) index }

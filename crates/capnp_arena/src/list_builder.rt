@@ -37,6 +37,7 @@ impl<'a> ListBuilder<'a> {
     ghost use Rattle.capnp_arena.specs.Shape.{shape_at, word_count};
 
     /// The same list for a shorter time. What is left there is what this builder has then.
+    #[inline(always)]
     pub fn reborrow(&mut self) -> ListBuilder<'_>
         ensures* lends { sem 𝓛 (LentByList self.entry result.arena) }
         ensures now { result.arena.now ≡ self.old.arena.now }
@@ -51,6 +52,7 @@ impl<'a> ListBuilder<'a> {
 
     /// A reader of the list, with 64 levels. What it leads to is cut off past 65,534 levels, which only walks of a whole tree
     /// can see.
+    #[inline(always)]
     pub fn as_reader(&self) -> ListReader<'_>
         requires forest { Forest (segment self.now.arena.now) self.now.at }
         requires there { shape_at (segment self.now.arena.now) self.now.at ≡ list_shape self.now.list }
@@ -63,6 +65,7 @@ impl<'a> ListBuilder<'a> {
 
     /// A reader of the list for as long as the builder would be there, as `as_reader`. The message stays as it is; only
     /// `Arena::into_list_reader` says so to a caller.
+    #[inline(always)]
     pub fn into_reader(self) -> ListReader<'a>
         requires forest { Forest (segment self.arena.now) self.at }
         requires there { shape_at (segment self.arena.now) self.at ≡ list_shape self.list }
@@ -75,6 +78,7 @@ impl<'a> ListBuilder<'a> {
     }
 
     /// How many elements there are.
+    #[inline(always)]
     pub fn len(&self) -> u32
         requires forest { Forest (segment self.now.arena.now) self.now.at }
         requires there { shape_at (segment self.now.arena.now) self.now.at ≡ list_shape self.now.list }
@@ -84,6 +88,7 @@ impl<'a> ListBuilder<'a> {
     }
 
     /// Whether there is no element.
+    #[inline(always)]
     pub fn is_empty(&self) -> bool
         requires forest { Forest (segment self.now.arena.now) self.now.at }
         requires there { shape_at (segment self.now.arena.now) self.now.at ≡ list_shape self.now.list }
@@ -94,6 +99,7 @@ impl<'a> ListBuilder<'a> {
 
     /// The size of the elements, as the list has it: of one that is not there yet, the size that was asked (encoding,
     /// "Lists").
+    #[inline(always)]
     pub fn get_element_size(&self) -> ElementSize
         requires forest { Forest (segment self.now.arena.now) self.now.at }
         requires there { shape_at (segment self.now.arena.now) self.now.at ≡ list_shape self.now.list }
@@ -103,6 +109,7 @@ impl<'a> ListBuilder<'a> {
     }
 
     /// The bit at `index`; false where the elements are no bits, and past the end.
+    #[inline(always)]
     pub fn get_bool_element(&self, index: u32) -> bool
         requires forest { Forest (segment self.now.arena.now) self.now.at }
         requires there { shape_at (segment self.now.arena.now) self.now.at ≡ list_shape self.now.list }
@@ -112,6 +119,7 @@ impl<'a> ListBuilder<'a> {
     }
 
     /// Stores the bit at `index`. There has to be a bit at `index`.
+    #[inline(always)]
     pub fn set_bool_element(&mut self, index: u32, value: bool)
         requires forest { Forest (segment self.old.arena.now) self.old.at }
         requires bit { HasBit (list_tree self.old) index }
@@ -124,6 +132,7 @@ impl<'a> ListBuilder<'a> {
     }
 
     /// The number at `index`: of a struct, that at its start. Zero past the end.
+    #[inline(always)]
     pub fn get_data_element<T: PrimitiveElement>(&self, index: u32) -> T
         requires forest { Forest (segment self.now.arena.now) self.now.at }
         requires there { shape_at (segment self.now.arena.now) self.now.at ≡ list_shape self.now.list }
@@ -133,6 +142,7 @@ impl<'a> ListBuilder<'a> {
     }
 
     /// Stores the number at `index`: in a struct, at its start. There has to be a number of that width at `index`.
+    #[inline(always)]
     pub fn set_data_element<T: PrimitiveElement>(&mut self, index: u32, value: T)
         requires forest { Forest (segment self.old.arena.now) self.old.at }
         requires number { HasNumber T.width (list_tree self.old) index }
@@ -145,6 +155,7 @@ impl<'a> ListBuilder<'a> {
     }
 
     /// The struct at `index` of a list of structs. There has to be a struct at `index`.
+    #[inline(always)]
     pub fn get_struct_element(self, index: u32) -> StructBuilder<'a>
         requires forest { Forest (segment self.arena.now) self.at }
         requires there { HasStruct (list_tree self) index }
@@ -161,6 +172,7 @@ impl<'a> ListBuilder<'a> {
     }
 
     /// The same for a shorter time. What is left there is what this builder has then.
+    #[inline(always)]
     pub fn struct_element_mut(&mut self, index: u32) -> StructBuilder<'_>
         requires forest { Forest (segment self.old.arena.now) self.old.at }
         requires there { HasStruct (list_tree self.old) index }
@@ -177,6 +189,7 @@ impl<'a> ListBuilder<'a> {
     }
 
     /// The pointer at `index`: of a list of structs, the first of the struct. There has to be a pointer at `index`.
+    #[inline(always)]
     pub fn get_pointer_element(self, index: u32) -> PointerBuilder<'a>
         requires forest { Forest (segment self.arena.now) self.at }
         requires pointer { HasPointer (list_tree self) index }
@@ -194,6 +207,7 @@ impl<'a> ListBuilder<'a> {
     }
 
     /// The same for a shorter time. What is left there is what this builder has then.
+    #[inline(always)]
     pub fn pointer_element_mut(&mut self, index: u32) -> PointerBuilder<'_>
         requires forest { Forest (segment self.old.arena.now) self.old.at }
         requires pointer { HasPointer (list_tree self.old) index }

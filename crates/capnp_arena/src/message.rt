@@ -11,7 +11,7 @@ use crate::arena::Arena;
 use crate::compact::append_encoding;
 use crate::count::count_words;
 use capnp_device::device::Sink;
-use capnp_device::error::{Error, ErrorKind, Result};
+use capnp_device::error::Result;
 use capnp_device::transfer::write_all;
 
 /// The table of one segment of so many words and a root pointer, the pointer, and what it leads to.
@@ -37,7 +37,7 @@ fn append_message(out: &mut Vec<u8>, bytes: &[u8], words: u32) -> Appended
 pub type Builder = Arena;
 
 impl Arena {
-    ghost use Rattle.std.specs.Prelude.{IfErr, OnOk, ◌≢◌};
+    ghost use Rattle.std.specs.Prelude.{IfErr, IsOk, OnOk, ◌≢◌};
     ghost use Rattle.capnp_device.specs.Device.{HasFailed, HasWorked};
     ghost use Rattle.capnp_device.specs.declared.error.ErrorKind.TheVariants.{OutOfMemory, TooLarge, WriteFailed};
     ghost use Rattle.capnp_wire.specs.Message.{IsCutShort, IsReadAs, IsWritten};
@@ -47,14 +47,15 @@ impl Arena {
     /// The words of the message's segment as it is written: one for the root pointer, and those of each object that it
     /// leads to, the tag of a composite list with them. Takes no memory.
     ///
-    /// Refused with `TooLarge` where what the root leads to has 2^29 words or more.
+    /// Never refused: no message in memory has 2^29 words.
     pub fn size_in_words(&self) -> Result<u64>
         requires message { IsMessage self.now }
         ensures words { IfOk result (λ words. words ≡ suc (words_of (message_tree self.now))) }
-        ensures refused { IfErr result (λ e. (e.kind ≡ TooLarge) × (2 ^ 29 ≤ words_of (message_tree self.now))) }
+        ensures fits { suc (words_of (message_tree self.now)) < 2 ^ 29 }
+        ensures succeeds { IsOk result }
     {
         let Some(words) = count_words(self.bytes.as_slice(), 0) else {
-            return Err(Error::from(ErrorKind::TooLarge));
+            unreachable!()
         };
         Ok(words + 1)
     }
@@ -62,23 +63,21 @@ impl Arena {
     /// The bytes of the message in a stream: one segment, with what the root leads to and nothing else. The message takes
     /// its memory once.
     ///
-    /// Refused with `TooLarge` where the message's segment would be 2^29 words or more, and else with `OutOfMemory`.
+    /// Refused with `OutOfMemory`: no message in memory has 2^29 words.
     pub fn write_message(&self) -> Result<Vec<u8>>
         requires forest { Forest (segment self.now) 0 }
         ensures bytes { IfOk result (λ v. v.items ≡ message_of (tree (segment self.now) 0)) }
         ensures held { IfOk result (λ _. IsWellFormed (tree (segment self.now) 0) × (suc (words_of (tree (segment self.now) 0)) < 2 ^ 29)) }
         ensures read { IfOk result (λ v. IsReadAs (tree (segment self.now) 0) v.items) }
         ensures kinds { IfErr result (λ e. e.kind ≢ TooLarge → e.kind ≡ OutOfMemory) }
+        ensures kind { IfErr result (λ e. e.kind ≡ OutOfMemory) }
         ensures refused { IfErr result (λ e. e.kind ≡ TooLarge → 2 ^ 29 ≤ suc (words_of (tree (segment self.now) 0))) }
-        ensures memory { IfErr result (λ e. e.kind ≡ OutOfMemory → suc (words_of (tree (segment self.now) 0)) < 2 ^ 29) }
+        ensures fits { suc (words_of (tree (segment self.now) 0)) < 2 ^ 29 }
     {
         let bytes = self.bytes.as_slice();
         let Some(words) = count_words(bytes, 0) else {
-            return Err(Error::from(ErrorKind::TooLarge));
+            unreachable!()
         };
-        if words + 1 >= 1 << 29 {
-            return Err(Error::from(ErrorKind::TooLarge));
-        }
         let mut out = Vec::with_capacity(*self.bytes.allocator(), 8 * words as usize + 16)?;
         append_message(&mut out, bytes, words as u32)?;
         Ok(out)
@@ -96,6 +95,7 @@ impl Arena {
         ensures held { OnOk result (IsWellFormed (message_tree self.now) × (suc (words_of (message_tree self.now)) < 2 ^ 29)) }
         ensures read { OnOk result (IsReadAs (message_tree self.now) (message_of (message_tree self.now))) }
         ensures kinds { IfErr result (λ e. e.kind ≢ TooLarge → e.kind ≢ OutOfMemory → e.kind ≡ WriteFailed) }
+        ensures kind { IfErr result (λ e. e.kind ≢ OutOfMemory → e.kind ≡ WriteFailed) }
         ensures refused { IfErr result (λ e. e.kind ≡ TooLarge → 2 ^ 29 ≤ suc (words_of (message_tree self.now))) }
         ensures fits { IfErr result (λ e. e.kind ≢ TooLarge → IsWellFormed (message_tree self.now) × (suc (words_of (message_tree self.now)) < 2 ^ 29)) }
         ensures nothing { IfErr result (λ e. e.kind ≢ WriteFailed → sink.new ≡ sink.old) }

@@ -41,6 +41,7 @@ impl<'a> PointerBuilder<'a> {
     ghost use Rattle.capnp_arena.specs.Shape.{StructIn, shape_at, word_count};
 
     /// The same pointer for a shorter time. What is left there is what this builder has then.
+    #[inline(always)]
     pub fn reborrow(&mut self) -> PointerBuilder<'_>
         ensures* lends { sem 𝓛 (LentByPointer self.entry result.arena) }
         ensures now { result.arena.now ≡ self.old.arena.now }
@@ -53,6 +54,7 @@ impl<'a> PointerBuilder<'a> {
 
     /// A reader of the pointer, with 64 levels. Its tree is cut off past 65,534 levels, which only walks of a whole tree
     /// can see.
+    #[inline(always)]
     pub fn as_reader(&self) -> PointerReader<'_>
         requires forest { IsPointer self.now }
         ensures read { tree_of result ≡ tree_below 65535 (segment self.now.arena.now ∷ []) (segment self.now.arena.now) self.now.at }
@@ -64,6 +66,7 @@ impl<'a> PointerBuilder<'a> {
 
     /// A reader of the pointer for as long as the builder would be there, as `as_reader`. The message stays as it is; only
     /// `Arena::into_pointer_reader` says so to a caller.
+    #[inline(always)]
     pub fn into_reader(self) -> PointerReader<'a>
         requires forest { IsPointer self }
         ensures read { tree_of result ≡ tree_below 65535 (segment self.entry.arena.now ∷ []) (segment self.entry.arena.now) self.entry.at }
@@ -75,6 +78,7 @@ impl<'a> PointerBuilder<'a> {
     }
 
     /// Whether the pointer is null.
+    #[inline(always)]
     pub fn is_null(&self) -> bool
         requires forest { IsPointer self.now }
         ensures { result ≡ is_null_tree (pointer_tree self.now) }
@@ -83,6 +87,7 @@ impl<'a> PointerBuilder<'a> {
     }
 
     /// Whether the pointer leads to a struct.
+    #[inline(always)]
     pub fn is_struct(&self) -> bool
         requires forest { IsPointer self.now }
         ensures { result ≡ is_struct (pointer_tree self.now) }
@@ -91,6 +96,7 @@ impl<'a> PointerBuilder<'a> {
     }
 
     /// Whether the pointer leads to a list.
+    #[inline(always)]
     pub fn is_list(&self) -> bool
         requires forest { IsPointer self.now }
         ensures { result ≡ is_list (pointer_tree self.now) }
@@ -99,6 +105,7 @@ impl<'a> PointerBuilder<'a> {
     }
 
     /// Makes the pointer null. What it led to stays where it was; no memory is taken.
+    #[inline(always)]
     pub fn clear(&mut self)
         requires inside { self.old.at < word_count (segment self.old.arena.now) }
         ensures same { self.new.arena.ghost_name ≡ self.old.arena.ghost_name }
@@ -116,6 +123,7 @@ impl<'a> PointerBuilder<'a> {
     /// Refused with `WrongPointerKind` for a list, and else with `OutOfMemory`; then nothing has changed. A struct that is
     /// large enough takes no memory and is never refused.
     #[tactic(auto, using(crate::specs::Facts::Laws::struct_planted))]
+    #[inline(always)]
     pub fn get_struct(self, size: StructSize) -> Result<StructBuilder<'a>>
         requires forest { Forest (segment self.arena.now) self.at }
         ensures* rests { sem 𝓛 (StructRests self.entry.arena result) }
@@ -139,6 +147,7 @@ impl<'a> PointerBuilder<'a> {
     ///
     /// Refused with `WrongPointerKind` for a struct, and with `WrongElementSize` for a list that is not read so; then
     /// nothing has changed. No memory is taken.
+    #[inline(always)]
     pub fn get_list(self, size: ElementSize) -> Result<ListBuilder<'a>>
         requires forest { IsPointer self }
         requires simple { size ≢ ElementSize.InlineComposite }
@@ -162,6 +171,7 @@ impl<'a> PointerBuilder<'a> {
     /// Refused with `WrongPointerKind` for a struct, with `WrongElementSize` for a list of bits, with `SizePastFormat`
     /// where the structs would take 2^29 words or more, and else with `OutOfMemory`; then nothing has changed. A null,
     /// and a list of structs that have at least the size, take no memory and are never refused.
+    #[inline(always)]
     pub fn get_struct_list(self, size: StructSize) -> Result<ListBuilder<'a>>
         requires forest { IsPointer self }
         ensures* rests { sem 𝓛 (ListRests self.entry.arena result) }
@@ -185,6 +195,7 @@ impl<'a> PointerBuilder<'a> {
     ///
     /// Refused with `OutOfMemory`; then nothing has changed.
     #[tactic(auto, using(crate::specs::Facts::Laws::struct_planted))]
+    #[inline(always)]
     pub fn init_struct(self, size: StructSize) -> Result<StructBuilder<'a>>
         requires { self.at < word_count (segment self.arena.now) }
         ensures* rests { sem 𝓛 (StructRests self.entry.arena result) }
@@ -206,6 +217,7 @@ impl<'a> PointerBuilder<'a> {
     /// `InlineComposite`.
     ///
     /// Refused with `SizePastFormat` for 2^29 elements or more, and else with `OutOfMemory`; then nothing has changed.
+    #[inline(always)]
     pub fn init_list(self, size: ElementSize, count: u32) -> Result<ListBuilder<'a>>
         requires inside { self.at < word_count (segment self.arena.now) }
         requires simple { size ≢ ElementSize.InlineComposite }
@@ -229,6 +241,7 @@ impl<'a> PointerBuilder<'a> {
     ///
     /// Refused with `SizePastFormat` for 2^29 elements or more, or where they take 2^29 words or more, and else with
     /// `OutOfMemory`; then nothing has changed.
+    #[inline(always)]
     pub fn init_struct_list(self, count: u32, size: StructSize) -> Result<ListBuilder<'a>>
         requires inside { self.at < word_count (segment self.arena.now) }
         ensures* rests { sem 𝓛 (ListRests self.entry.arena result) }
@@ -260,6 +273,7 @@ impl<'a> PointerBuilder<'a> {
     /// preorder; and else with `OutOfMemory`. Then nothing has changed. A struct that is large enough takes no memory and
     /// is never refused.
     #[tactic(auto, using(crate::specs::Facts::Laws::struct_planted))]
+    #[inline(always)]
     pub fn get_struct_or_default(
         self,
         size: StructSize,
@@ -289,6 +303,7 @@ impl<'a> PointerBuilder<'a> {
     /// null the default may be; of a null also with `BadPointer`, `TooDeep` or `CapabilityPointer` where a pointer in the
     /// default can't be followed, by the first of these in preorder; and else with `OutOfMemory`. Then nothing has
     /// changed. Where no default is copied no memory is taken.
+    #[inline(always)]
     pub fn get_list_or_default(
         self,
         size: ElementSize,
@@ -323,6 +338,7 @@ impl<'a> PointerBuilder<'a> {
     /// `BadPointer`, `TooDeep` or `CapabilityPointer` where a pointer in the default can't be followed, by the first of
     /// these in preorder; and else with `OutOfMemory`. Then nothing has changed. A null without a default, and a list of
     /// structs that have at least the size, take no memory and are never refused.
+    #[inline(always)]
     pub fn get_struct_list_or_default(
         self,
         size: StructSize,
@@ -350,6 +366,7 @@ impl<'a> PointerBuilder<'a> {
     /// The bytes of the data that stands here, none for a null.
     ///
     /// Refused with `WrongPointerKind` for a struct, and with `WrongElementSize` for another list.
+    #[inline(always)]
     pub fn get_data(&self) -> Result<&[u8]>
         requires forest { IsPointer self.now }
         ensures { bytes_read result ≡ as_data (pointer_tree self.now) }
@@ -360,6 +377,7 @@ impl<'a> PointerBuilder<'a> {
     /// The bytes of the text that stands here, without the zero that ends it; none for a null.
     ///
     /// Refused as `get_data`, and with `TextNotTerminated` where the list is empty or its last byte is not zero.
+    #[inline(always)]
     pub fn get_text(&self) -> Result<&[u8]>
         requires forest { IsPointer self.now }
         ensures { bytes_read result ≡ as_text (pointer_tree self.now) }
@@ -371,6 +389,7 @@ impl<'a> PointerBuilder<'a> {
     ///
     /// Refused with `SizePastFormat` where these would be 2^29 bytes or more, and else with `OutOfMemory`; then nothing
     /// has changed.
+    #[inline(always)]
     pub fn set_text(&mut self, text: &[u8]) -> Result<()>
         requires inside { self.old.at < word_count (segment self.old.arena.now) }
         ensures same { self.new.arena.ghost_name ≡ self.old.arena.ghost_name }
@@ -388,6 +407,7 @@ impl<'a> PointerBuilder<'a> {
     /// Replaces what stands here by a list of these bytes.
     ///
     /// Refused with `SizePastFormat` for 2^29 bytes or more, and else with `OutOfMemory`; then nothing has changed.
+    #[inline(always)]
     pub fn set_data(&mut self, bytes: &[u8]) -> Result<()>
         requires inside { self.old.at < word_count (segment self.old.arena.now) }
         ensures same { self.new.arena.ghost_name ≡ self.old.arena.ghost_name }
@@ -406,6 +426,7 @@ impl<'a> PointerBuilder<'a> {
     ///
     /// Refused with `BadPointer`, `TooDeep` or `CapabilityPointer` where a pointer in the source can't be followed, by
     /// the first of these in preorder, and with `OutOfMemory`; then nothing has changed.
+    #[inline(always)]
     pub fn copy_from(&mut self, source: PointerReader<'_>) -> Result<()>
         requires inside { self.old.at < word_count (segment self.old.arena.now) }
         ensures same { self.new.arena.ghost_name ≡ self.old.arena.ghost_name }
@@ -423,6 +444,7 @@ impl<'a> PointerBuilder<'a> {
     /// Replaces what stands here by a copy of a struct, with its data rounded up to whole words.
     ///
     /// Refused as `copy_from`.
+    #[inline(always)]
     pub fn set_struct(&mut self, source: &StructReader<'_>) -> Result<()>
         requires inside { self.old.at < word_count (segment self.old.arena.now) }
         ensures same { self.new.arena.ghost_name ≡ self.old.arena.ghost_name }
@@ -441,6 +463,7 @@ impl<'a> PointerBuilder<'a> {
     /// of a null stands on an empty list of the size that was asked, and that is what is copied.
     ///
     /// Refused as `copy_from`.
+    #[inline(always)]
     pub fn set_list(&mut self, source: &ListReader<'_>) -> Result<()>
         requires inside { self.old.at < word_count (segment self.old.arena.now) }
         ensures same { self.new.arena.ghost_name ≡ self.old.arena.ghost_name }

@@ -2,12 +2,11 @@
 
 use crate::arena::{Arena, Place};
 use crate::count::count_row;
-use capnp_device::error::{Error, ErrorKind, Result};
+use capnp_device::error::Result;
 use capnp_wire::size::MessageSize;
 
 impl Arena {
-    ghost use Rattle.std.specs.Prelude.{IfErr, IfOk, None, ◌^◌, ◌≡◌, ◌≤◌};
-    ghost use Rattle.capnp_device.specs.declared.error.ErrorKind.TheVariants.{TooLarge};
+    ghost use Rattle.std.specs.Prelude.{IfOk, IsOk, None};
     ghost use Rattle.capnp_wire.specs.Total.{IsSize};
     ghost use Rattle.capnp_wire.specs.Words.{words_of_struct};
     ghost use Rattle.capnp_arena.specs.Forest.{Planted, struct_from};
@@ -17,16 +16,16 @@ impl Arena {
     /// The size of a struct with all that its pointers lead to: its data and its pointers, and the targets, the tag of a
     /// composite list with them. There are no capabilities. Takes no memory.
     ///
-    /// Refused with `TooLarge` where these are 2^29 words or more.
+    /// Never refused: no message in memory has 2^29 words.
     pub fn total_size(&self, place: Place) -> Result<MessageSize>
         requires planted { Planted (segment self.now) (StructIn place.start place.data_words place.pointers) }
         ensures size { IfOk result (λ size. IsSize size None (words_of_struct (struct_from (segment self.now) place.start place.data_words place.pointers))) }
-        ensures refused { IfErr result (λ error. (error.kind ≡ TooLarge) × (2 ^ 29 ≤ words_of_struct (struct_from (segment self.now) place.start place.data_words place.pointers))) }
+        ensures succeeds { IsOk result }
     {
         let own = place.data_words as u64 + place.pointers as u64;
         let first = place.start + place.data_words as usize;
         let Some(below) = count_row(self.bytes.as_slice(), first, place.pointers as usize) else {
-            return Err(Error::from(ErrorKind::TooLarge));
+            unreachable!()
         };
         Ok(MessageSize {
             word_count: own + below,

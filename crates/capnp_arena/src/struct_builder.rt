@@ -15,9 +15,8 @@ pub struct StructBuilder<'a> {
 }
 
 impl<'a> StructBuilder<'a> {
-    ghost use Rattle.std.specs.Prelude.{[], List, None, ℕ, IfErr, IfOk, OnErr, OnOk, bit_xor, length, ◌*◌, ◌+◌, ◌/◌, ◌∷◌, ◌<◌, ◌≡◌, ◌≤◌, ◌^◌};
+    ghost use Rattle.std.specs.Prelude.{[], List, None, ℕ, IfErr, IfOk, IsOk, OnErr, OnOk, bit_xor, length, ◌*◌, ◌+◌, ◌/◌, ◌∷◌, ◌<◌, ◌≡◌, ◌≤◌, ◌^◌};
     ghost use Rattle.std.specs.Borrow.{sem};
-    ghost use Rattle.capnp_device.specs.declared.error.ErrorKind.TheVariants.{TooLarge};
     ghost use Rattle.capnp_wire.specs.Depth.{AreBelow, IsBelow};
     ghost use Rattle.capnp_wire.specs.Edits.{IsCopyRefusal, fitted, with_bit, with_bytes, with_number};
     ghost use Rattle.capnp_wire.specs.Place.{struct_at, tree_below};
@@ -33,6 +32,7 @@ impl<'a> StructBuilder<'a> {
     ghost use Rattle.capnp_arena.specs.Shape.{StructIn, word_count};
 
     /// The same struct for a shorter time. What is left there is what this builder has then.
+    #[inline(always)]
     pub fn reborrow(&mut self) -> StructBuilder<'_>
         ensures* lends { sem 𝓛 (LentByStruct self.entry result.arena) }
         ensures now { result.arena.now ≡ self.old.arena.now }
@@ -45,6 +45,7 @@ impl<'a> StructBuilder<'a> {
 
     /// A reader of the struct, with 64 levels. What its pointers lead to is cut off past 65,534 levels, which only walks of
     /// a whole tree can see.
+    #[inline(always)]
     pub fn as_reader(&self) -> StructReader<'_>
         requires planted { IsStruct self.now }
         ensures read { struct_of result ≡ struct_at (tree_below 65535 (segment self.now.arena.now ∷ []) (segment self.now.arena.now)) (segment self.now.arena.now) self.now.place.data_words self.now.place.pointers self.now.place.start }
@@ -56,6 +57,7 @@ impl<'a> StructBuilder<'a> {
 
     /// A reader of the struct for as long as the builder would be there, as `as_reader`. The message stays as it is; only
     /// `Arena::into_struct_reader` says so to a caller.
+    #[inline(always)]
     pub fn into_reader(self) -> StructReader<'a>
         requires planted { IsStruct self }
         ensures read { struct_of result ≡ struct_at (tree_below 65535 (segment self.entry.arena.now ∷ []) (segment self.entry.arena.now)) (segment self.entry.arena.now) self.entry.place.data_words self.entry.place.pointers self.entry.place.start }
@@ -67,6 +69,7 @@ impl<'a> StructBuilder<'a> {
     }
 
     /// How many words its data section has and how many pointers there are (encoding, "Structs").
+    #[inline(always)]
     pub fn get_size(&self) -> StructSize
         requires planted { IsStruct self.now }
         ensures data { result.data_words ≡ length (built_struct self.now).bytes / 8 }
@@ -78,16 +81,18 @@ impl<'a> StructBuilder<'a> {
     /// The size of the struct with all that its pointers lead to: its data section and its pointers, and the targets, the
     /// tag of a composite list with them. There are no capabilities. Takes no memory.
     ///
-    /// Refused with `TooLarge` where these are 2^29 words or more.
+    /// Never refused: no message in memory has 2^29 words.
+    #[inline(always)]
     pub fn total_size(&self) -> Result<MessageSize>
         requires planted { IsStruct self.now }
         ensures size { IfOk result (λ size. IsSize size None (words_of_struct (built_struct self.now))) }
-        ensures refused { IfErr result (λ error. (error.kind ≡ TooLarge) × (2 ^ 29 ≤ words_of_struct (built_struct self.now))) }
+        ensures succeeds { IsOk result }
     {
         self.arena.total_size(self.place)
     }
 
     /// The number at `offset`, in units of its own size, as it is stored; zero bits past the end.
+    #[inline(always)]
     pub fn get_data_field<T: PrimitiveElement>(&self, offset: u32) -> T
         requires planted { IsStruct self.now }
         ensures { result ≡ T.of_number (number_at T.width offset (built_struct self.now).bytes) }
@@ -97,6 +102,7 @@ impl<'a> StructBuilder<'a> {
 
     /// The number at `offset`, in units of its own size, where it is stored XORed with its default `mask`; past the end
     /// it is `mask`.
+    #[inline(always)]
     pub fn get_data_field_mask<T: PrimitiveElement>(&self, offset: u32, mask: T) -> T
         requires planted { IsStruct self.now }
         ensures { result ≡ T.of_number (bit_xor (number_at T.width offset (built_struct self.now).bytes) (T.to_number mask)) }
@@ -105,6 +111,7 @@ impl<'a> StructBuilder<'a> {
     }
 
     /// The bit at `offset`, counted from the lowest of the first byte, as it is stored; false past the end.
+    #[inline(always)]
     pub fn get_bool_field(&self, offset: u32) -> bool
         requires planted { IsStruct self.now }
         ensures { result ≡ bit_at (built_struct self.now).bytes offset }
@@ -114,6 +121,7 @@ impl<'a> StructBuilder<'a> {
 
     /// The bit at `offset`, counted from the lowest of the first byte, where it is stored XORed with its default
     /// `mask`; past the end it is `mask`.
+    #[inline(always)]
     pub fn get_bool_field_mask(&self, offset: u32, mask: bool) -> bool
         requires planted { IsStruct self.now }
         ensures { result ≡ masked_bit (bit_at (built_struct self.now).bytes offset) mask }
@@ -122,6 +130,7 @@ impl<'a> StructBuilder<'a> {
     }
 
     /// Stores a number at `offset`, in units of its own size; it has to lie inside the data section.
+    #[inline(always)]
     pub fn set_data_field<T: PrimitiveElement>(&mut self, offset: u32, value: T)
         requires planted { Planted (segment self.old.arena.now) (StructIn self.old.place.start self.old.place.data_words self.old.place.pointers) }
         requires inside { (offset + 1) * T.width ≤ 8 * self.old.place.data_words }
@@ -139,6 +148,7 @@ impl<'a> StructBuilder<'a> {
 
     /// Stores a number at `offset`, in units of its own size, XORed with its default `mask`; it has to lie inside the
     /// data section.
+    #[inline(always)]
     pub fn set_data_field_mask<T: PrimitiveElement>(&mut self, offset: u32, value: T, mask: T)
         requires planted { IsStruct self.old }
         requires inside { (offset + 1) * T.width ≤ 8 * self.old.place.data_words }
@@ -155,6 +165,7 @@ impl<'a> StructBuilder<'a> {
 
     /// Stores a bit at `offset`. `offset` is counted in bits from the lowest of the first byte; it has to lie inside
     /// the data section.
+    #[inline(always)]
     pub fn set_bool_field(&mut self, offset: u32, value: bool)
         requires planted { IsStruct self.old }
         requires inside { offset < 64 * self.old.place.data_words }
@@ -171,6 +182,7 @@ impl<'a> StructBuilder<'a> {
 
     /// Stores a bit at `offset`, XORed with its default `mask`. `offset` is counted in bits from the lowest of the
     /// first byte; it has to lie inside the data section.
+    #[inline(always)]
     pub fn set_bool_field_mask(&mut self, offset: u32, value: bool, mask: bool)
         requires planted { IsStruct self.old }
         requires inside { offset < 64 * self.old.place.data_words }
@@ -190,6 +202,7 @@ impl<'a> StructBuilder<'a> {
     ///
     /// Refused with `BadPointer`, `TooDeep` or `CapabilityPointer` where a pointer in the source can't be followed, by
     /// the first of these in preorder, also where it would not fit, and with `OutOfMemory`; then nothing has changed.
+    #[inline(always)]
     pub fn copy_content_from(&mut self, source: &StructReader<'_>) -> Result<()>
         requires planted { IsStruct self.old }
         ensures same { self.new.arena.ghost_name ≡ self.old.arena.ghost_name }
@@ -208,6 +221,7 @@ impl<'a> StructBuilder<'a> {
 
     /// A reader of the pointer at `index`, which has to be below the number of pointers, with 64 levels. Its tree is cut off as
     /// by `as_reader`.
+    #[inline(always)]
     pub fn pointer_field(&self, index: u16) -> PointerReader<'_>
         requires planted { IsStruct self.now }
         requires inside { index < self.now.place.pointers }
@@ -220,6 +234,7 @@ impl<'a> StructBuilder<'a> {
     }
 
     /// The pointer at `index`, which has to be below the number of pointers.
+    #[inline(always)]
     pub fn get_pointer_field(self, index: u16) -> PointerBuilder<'a>
         requires planted { Planted (segment self.arena.now) (StructIn self.place.start self.place.data_words self.place.pointers) }
         requires inside { index < self.place.pointers }
@@ -239,6 +254,7 @@ impl<'a> StructBuilder<'a> {
 
     /// The pointer at `index`, which has to be below the number of pointers, for a shorter time. What is left there is what
     /// this builder has then.
+    #[inline(always)]
     pub fn pointer_field_mut(&mut self, index: u16) -> PointerBuilder<'_>
         requires planted { IsStruct self.old }
         requires inside { index < self.old.place.pointers }
