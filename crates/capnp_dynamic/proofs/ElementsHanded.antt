@@ -5,7 +5,6 @@ use Rattle.std.proofs.lemmas.Bool.{true≢false}
 use Rattle.capnp_device.specs.declared.error.Error.{Error}
 use Rattle.capnp_wire.specs.Elements.{HasPointer, HasStruct}
 use Rattle.capnp_wire.specs.Facts.Lengths.{HasStruct-there}
-use Rattle.capnp_wire.specs.Place.{struct_tree}
 use Rattle.capnp_wire.specs.Reading.{element_struct, list_length}
 use Rattle.capnp_wire.specs.Tree as tree
 use Rattle.capnp_wire.specs.Tree.{StructTree, Tree}
@@ -22,7 +21,7 @@ use Rattle.capnp_records.specs.Writes.ElementEnds.{HasRoom}
 use Rattle.capnp_records.specs.Writes.Slots.{Fits}
 use Rattle.capnp_schema.specs.Plan.{brand_size}
 use Rattle.capnp_slots.specs.Fills.{is_behind}
-use Rattle.capnp_dynamic.specs.Built.{IsListUnder, IsUnder as IsStructUnder}
+use Rattle.capnp_dynamic.specs.Built.{HoldsElements, IsUnder as IsStructUnder}
 use Rattle.capnp_dynamic_readers.specs.Leaf.{IsNumber}
 use Rattle.capnp_dynamic_readers.specs.Seen.{answered}
 use Rattle.capnp_dynamic_readers.specs.Typed.{IsUnder}
@@ -32,20 +31,18 @@ use Rattle.capnp_dynamic.proofs.ListElements.{room_in, struct_fits}
 
 -- ---- structs ----
 
-pub struct_there : (set : Schemas) (b g : ℕ) (x : Tree) (j : ℕ) → IsListUnder set (StructType b g) x → j < list_length x → HasStruct x j
-struct_there set b g x j under a = HasStruct-there (brand_size set b) x j under.holds a
+pub struct_there : (set : Schemas) (b g : ℕ) (x : Tree) (j : ℕ) → HoldsElements set (StructType b g) x → j < list_length x → HasStruct x j
+struct_there set b g x j holds a = HasStruct-there (brand_size set b) x j holds a
 
-pub struct_ready : (set : Schemas) (b g : ℕ) (x : Tree) (j : ℕ) (schema : StructSchema) → set_of schema ≡ set → number_of schema ≡ b → IsListUnder set (StructType b g) x → j < list_length x →
-    (s : StructTree) → s ≡ element_struct x j → IsWellFormed (struct_tree s) → IsStructUnder schema s
-struct_ready set b g x j schema same number under a s e formed = record {
-  room = subst (λ (z : Schemas). Fits z (number_of schema) s) (sym same) (subst (λ (n : ℕ). Fits set n s) (sym number) (subst (Fits set b) (sym e) (struct_fits set b g x j under a)));
-  formed = formed;
-}
+pub struct_ready : (set : Schemas) (b g : ℕ) (x : Tree) (j : ℕ) (schema : StructSchema) → set_of schema ≡ set → number_of schema ≡ b → HoldsElements set (StructType b g) x → IsWellFormed x → j < list_length x →
+    (s : StructTree) → s ≡ element_struct x j → IsStructUnder schema s
+struct_ready set b g x j schema same number holds formed a s e =
+    subst (λ (z : Schemas). Fits z (number_of schema) s) (sym same) (subst (λ (n : ℕ). Fits set n s) (sym number) (subst (Fits set b) (sym e) (struct_fits set b g x j holds formed a)))
 
 -- ---- pointers ----
 
-pub pointer_there : (set : Schemas) (t : TypeHandle) (x : Tree) (j : ℕ) → is_behind (seen_type t) ≡ true → IsListUnder set (seen_type t) x → j < list_length x → HasPointer x j
-pointer_there set t x j behind under a = go (seen_type t) behind (room_in set t x j under a)
+pub pointer_there : (set : Schemas) (t : TypeHandle) (x : Tree) (j : ℕ) → is_behind (seen_type t) ≡ true → HoldsElements set (seen_type t) x → IsWellFormed x → j < list_length x → HasPointer x j
+pointer_there set t x j behind holds formed a = go (seen_type t) behind (room_in set t x j holds formed a)
   where
     go : (u : SchemaType) → is_behind u ≡ true → HasRoom u x j → HasPointer x j
     go TextType h r = r
