@@ -57,8 +57,8 @@ empty_cut size.Byte = refl
 empty_cut size.TwoBytes = refl
 empty_cut size.FourBytes = refl
 empty_cut size.EightBytes = refl
-empty_cut size.Pointer = (tree.NoTrees, refl, refl, λ i. refl)
-empty_cut size.InlineComposite = (tree.NoStructs, refl, refl, λ i. (refl, refl, λ j. refl))
+empty_cut size.Pointer = (tree.NoTrees, refl, (refl, λ i. refl))
+empty_cut size.InlineComposite = (tree.NoStructs, refl, (refl, λ i. (refl, (refl, λ j. refl))))
 
 -- ---- structs ----
 

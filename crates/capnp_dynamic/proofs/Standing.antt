@@ -3,8 +3,14 @@ use Rattle.std.specs.Prelude.{ℕ, ◌≡◌, refl, Ok, Err, OnOk, OnErr, Result
 use Rattle.std.proofs.Common.{ap, sym, subst, ◌∙◌}
 use Rattle.capnp_device.specs.declared.error.Error.{Error}
 use Rattle.capnp_wire.specs.Tree.{StructTree}
+use Rattle.capnp_wire.specs.Edits.{struct_in}
+use Rattle.capnp_arena.specs.Facts.Laws.{struct_planted}
 use Rattle.capnp_arena.specs.Facts.Places.{unchanged}
-use Rattle.capnp_arena.specs.Forest.{Planted, struct_from}
+use Rattle.capnp_arena.specs.Facts.Structs.{tree_struct}
+use Rattle.capnp_arena.specs.Forest.{Forest, Planted, struct_from, tree}
+use Rattle.capnp_arena.specs.Shape.{StructIn, shape_at}
+use Rattle.capnp_schema.specs.StructHandles.{number_of, set_of}
+use Rattle.capnp_records.specs.Writes.Slots.{Fits}
 use Rattle.capnp_arena.specs.Segment.{segment}
 use Rattle.capnp_arena.specs.declared.arena.Arena.{Arena}
 use Rattle.capnp_arena.specs.declared.arena.Place.{Place}
@@ -39,3 +45,11 @@ standing_kept schema p inside old new under planted kept = record { planted = pl
 pub slot_standing : {A : Type 0} (schema : StructSchema) (p : Place) (inside : Spot → Bool) (old new : Arena) (r : Result A Error) → IsStanding schema old p → OnOk r (IsBuilt new p) → OnErr r (segment new ≡ segment old) →
     Keeps inside (built old p) (built new p) → IsStanding schema new p
 slot_standing schema p inside old new r under h e kept = standing_kept schema p inside old new under (either_planted p old new r under.planted h e) kept
+
+-- a struct that a pointer leads to stands at its place
+pub here_stands : (schema : StructSchema) (arena : Arena) (w : ℕ) (p : Place) → Forest (segment arena) w → shape_at (segment arena) w ≡ StructIn p.start p.data_words p.pointers →
+    Fits (set_of schema) (number_of schema) (struct_in (tree (segment arena) w)) → IsStanding schema arena p
+here_stands schema arena w p f place fits = record {
+  planted = struct_planted (segment arena) w p.start p.data_words p.pointers f place;
+  room = subst (Fits (set_of schema) (number_of schema)) (ap struct_in (tree_struct (segment arena) w p.start p.data_words p.pointers f place)) fits;
+}

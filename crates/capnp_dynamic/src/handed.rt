@@ -72,7 +72,7 @@ pub(crate) fn hand_out<'a>(
 }
 
 /// The struct at a pointer, under a schema of which it has the sections.
-#[tactic(auto, using(crate::proofs::Readers::struct_stands, crate::proofs::Readers::struct_has))]
+#[tactic(auto, using(crate::proofs::Readers::struct_here, crate::proofs::Standing::here_stands))]
 fn struct_at<'a>(pointer: PointerBuilder<'a>, schema: StructSchema<'a>) -> dynamic_struct::Builder<'a>
     requires forest { Forest (segment pointer.arena.now) pointer.at }
     requires there { is_struct (tree (segment pointer.arena.now) pointer.at) ≡ true }

@@ -16,7 +16,7 @@ use capnp_wire::pointer::look;
 use capnp_wire::size::ElementSize;
 
 /// A reader of the list that a pointer leads to, with 64 levels; a null reads as a list of no elements of a size.
-#[tactic(auto, using(crate::proofs::Readers::null_is, crate::proofs::Readers::no_shape, crate::proofs::Readers::null_read, crate::proofs::Readers::list_read))]
+#[tactic(auto, using(crate::proofs::Readers::no_shape))]
 pub(crate) fn read_list(arena: &Arena, at: usize, size: ElementSize) -> ListReader<'_>
     requires { Forest (segment arena.now) at }
     ensures cut { IsCutOf (list_of result) (or_empty size (tree (segment arena.now) at)) }

@@ -108,6 +108,7 @@ impl<'a> Builder<'a> {
         ensures length { result ≡ list_length (built_elements self.now) }
         ensures bound { result < 2 ^ 29 }
     {
+        self.arena.tree_is_sound(self.at);
         self.arena.get_length(self.at)
     }
 
@@ -153,6 +154,7 @@ impl<'a> Builder<'a> {
     {
         let element_type = self.element_type;
         let set = self.set;
+        self.arena.tree_is_sound(self.at);
         element::set(self.arena, self.at, set, element_type, index, Source::from(value))
     }
 
@@ -180,6 +182,7 @@ impl<'a> Builder<'a> {
             set,
         } = self;
         let variant = element_type.which();
+        arena.tree_is_sound(at);
         element::init(arena, at, set, element_type, index, size)?;
         let at = arena.get_pointer_element(at, index);
         Ok(hand_out(PointerBuilder { arena, at }, set, variant, true))
