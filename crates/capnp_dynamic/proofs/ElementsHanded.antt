@@ -9,11 +9,14 @@ use Rattle.capnp_wire.specs.Reading.{element_struct, list_length}
 use Rattle.capnp_wire.specs.Tree as tree
 use Rattle.capnp_wire.specs.Tree.{StructTree, Tree}
 use Rattle.capnp_wire.specs.WellFormed.{IsWellFormed}
+use Rattle.capnp_base.specs.declared.introspect.RawBrandedStructSchema.{RawBrandedStructSchema}
+use Rattle.capnp_base.specs.declared.introspect.TypeVariant.{TypeVariant}
+use Rattle.capnp_base.specs.declared.introspect.TypeVariant.TheVariants as variant
 use Rattle.capnp_base.specs.declared.introspect.«Type».{«Type» as TypeHandle}
 use Rattle.capnp_schema.specs.Defaults.{IsReadAs}
 use Rattle.capnp_schema.specs.Schema.{Schemas, VoidValue}
 use Rattle.capnp_schema.specs.StructHandles.{number_of, set_of}
-use Rattle.capnp_schema.specs.Types.{SchemaType, VoidType, BoolType, IntType, UIntType, EnumType, TextType, DataType, StructType, ListType, AnyPointerType, is_pointer, seen_type, struct_brand}
+use Rattle.capnp_schema.specs.Types.{SchemaType, VoidType, BoolType, IntType, UIntType, EnumType, TextType, DataType, StructType, ListType, AnyPointerType, is_pointer, seen_type, seen_variant, struct_brand}
 use Rattle.capnp_schema.specs.declared.schema.structs.StructSchema.{StructSchema}
 use Rattle.capnp_records.specs.Default.{read_of}
 use Rattle.capnp_records.specs.Facts.Readers.{element_read}
@@ -22,6 +25,8 @@ use Rattle.capnp_records.specs.Writes.Slots.{Fits}
 use Rattle.capnp_schema.specs.Plan.{brand_size}
 use Rattle.capnp_slots.specs.Fills.{is_behind}
 use Rattle.capnp_dynamic.specs.Built.{HoldsElements, IsUnder as IsStructUnder}
+use Rattle.capnp_dynamic.specs.Handed.{HandsElementNumber, element_handed}
+use Rattle.capnp_dynamic.specs.declared.dynamic_value.build.Builder.{Builder as BuiltValue}
 use Rattle.capnp_dynamic_readers.specs.Leaf.{IsNumber}
 use Rattle.capnp_dynamic_readers.specs.Seen.{answered}
 use Rattle.capnp_dynamic_readers.specs.Typed.{IsUnder}
@@ -117,3 +122,27 @@ is_number set t (dynamic.Struct x) h u = no-struct t (number_of x.schema) u.1 h
     no-struct t n e h = cc
 is_number set t (dynamic.List x) h u = true≢false (ap is_pointer u.1 ∙ h)
 is_number set t (dynamic.AnyPointer x) h u = true≢false (ap is_pointer u ∙ h)
+
+-- an element's number is what is handed out of it
+module _ (set : Schemas) (x y : Tree) (j : ℕ) (v : BuiltValue) where
+  number-by : (w : TypeVariant) → ((s : RawBrandedStructSchema) → w ≡ variant.Struct s → ⊥) → is_behind (seen_variant w) ≡ false → HandsElementNumber set (seen_variant w) y j v → element_handed set (seen_variant w) x y j v
+  number-by variant.Void n e h = h
+  number-by variant.Bool n e h = h
+  number-by variant.Int8 n e h = h
+  number-by variant.Int16 n e h = h
+  number-by variant.Int32 n e h = h
+  number-by variant.Int64 n e h = h
+  number-by variant.UInt8 n e h = h
+  number-by variant.UInt16 n e h = h
+  number-by variant.UInt32 n e h = h
+  number-by variant.UInt64 n e h = h
+  number-by variant.Text n e h = absurd (true≢false e)
+  number-by variant.«Data» n e h = absurd (true≢false e)
+  number-by (variant.Struct s) n e h = absurd (n s refl)
+  number-by variant.AnyPointer n e h = absurd (true≢false e)
+  number-by (variant.Enum k) n e h = h
+  number-by (variant.List t) n e h = absurd (true≢false e)
+
+  pub number_handed : (t : SchemaType) (w : TypeVariant) → seen_variant w ≡ t → ((s : RawBrandedStructSchema) → w ≡ variant.Struct s → ⊥) → is_behind (seen_variant w) ≡ false → HandsElementNumber set t y j v → element_handed set t x y j v
+  number_handed t w same n e h =
+      subst (λ (u : SchemaType). element_handed set u x y j v) same (number-by w n e (subst (λ (u : SchemaType). HandsElementNumber set u y j v) (sym same) h))
