@@ -1,8 +1,7 @@
 //! What handles of built structs have in common.
-pub use capnp_base::traits::{HasStructSize, IntoInternalStructReader};
-
 use capnp_arena::handles::StructBuilder;
 use capnp_base::introspect::Introspect;
+pub use capnp_base::traits::{HasStructSize, IntoInternalStructReader};
 use capnp_wire::StructReader;
 
 /// A struct type, by its handles.

@@ -63,7 +63,10 @@ fn number_of<'a>(arena: &'a Arena, place: Place, field: Field<'a>) -> dynamic_va
     ensures stands { HandsNumber (field_set field.entry) (typed_of field.entry) (built arena.now place) result }
     ensures ready { CanBeRead result }
 {
-    let reader = Reader::new(arena.get_struct_reader(place), field.get_containing_struct());
+    let reader = Reader::new(
+        arena.get_struct_reader(place),
+        field.get_containing_struct(),
+    );
     let Ok(value) = reader.get(field) else {
         unreachable!()
     };

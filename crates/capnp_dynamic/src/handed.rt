@@ -19,8 +19,8 @@ use crate::{dynamic_list, dynamic_struct};
 use capnp_arena::handles::PointerBuilder;
 use capnp_base::introspect::TypeVariant;
 use capnp_builders::{any_pointer, data, text};
-use capnp_schema::set::SchemaSet;
 use capnp_schema::schema::StructSchema;
+use capnp_schema::set::SchemaSet;
 
 /// The text at a pointer, to be written at its start where it is new, and else after its last byte; of a null one of no bytes.
 #[tactic(auto, using(crate::proofs::Readers::bytes_there))]
@@ -64,8 +64,13 @@ pub(crate) fn hand_out<'a>(
     match variant {
         TypeVariant::Text => Builder::Text(text_at(pointer, is_new)),
         TypeVariant::Data => Builder::Data(data_at(pointer)),
-        TypeVariant::Struct(raw) => Builder::Struct(struct_at(pointer, set.struct_schema(raw.number))),
-        TypeVariant::List(element) => Builder::List(dynamic_list::Builder::new(pointer, element, set)),
+        TypeVariant::Struct(raw) => Builder::Struct(struct_at(
+            pointer,
+            set.struct_schema(raw.number),
+        )),
+        TypeVariant::List(element) => Builder::List(dynamic_list::Builder::new(
+            pointer, element, set,
+        )),
         TypeVariant::AnyPointer => Builder::AnyPointer(any_pointer::Builder::new(pointer)),
         _ => unreachable!(),
     }
@@ -73,7 +78,10 @@ pub(crate) fn hand_out<'a>(
 
 /// The struct at a pointer, under a schema of which it has the sections.
 #[tactic(auto, using(crate::proofs::Readers::struct_here, crate::proofs::Standing::here_stands))]
-fn struct_at<'a>(pointer: PointerBuilder<'a>, schema: StructSchema<'a>) -> dynamic_struct::Builder<'a>
+fn struct_at<'a>(
+    pointer: PointerBuilder<'a>,
+    schema: StructSchema<'a>,
+) -> dynamic_struct::Builder<'a>
     requires forest { Forest (segment pointer.arena.now) pointer.at }
     requires there { is_struct (tree (segment pointer.arena.now) pointer.at) ≡ true }
     requires fits { Fits (set_of schema) (number_of schema) (struct_in (tree (segment pointer.arena.now) pointer.at)) }

@@ -29,11 +29,7 @@ use capnp_slots::{group, part, slot};
 use capnp_wire::error::{Error, ErrorKind, Result};
 
 /// What stands at the pointer of a slot that was started anew.
-fn hand_new<'a>(
-    arena: &'a mut Arena,
-    place: Place,
-    field: Field<'a>,
-) -> dynamic_value::Builder<'a>
+fn hand_new<'a>(arena: &'a mut Arena, place: Place, field: Field<'a>) -> dynamic_value::Builder<'a>
     requires planted { IsBuilt arena.old place }
     requires slot { IsSlot field }
     requires pointer { IsPointer field }

@@ -155,7 +155,14 @@ impl<'a> Builder<'a> {
         let element_type = self.element_type;
         let set = self.set;
         self.arena.tree_is_sound(self.at);
-        element::set(self.arena, self.at, set, element_type, index, Source::from(value))
+        element::set(
+            self.arena,
+            self.at,
+            set,
+            element_type,
+            index,
+            Source::from(value),
+        )
     }
 
     /// Starts an element anew with a size, and hands it out; the element has to be there. It becomes a text or data of so many

@@ -17,10 +17,12 @@ pub returns-clause-stands : goal.returns-clause-stands
 returns-clause-stands c =
     let f = c.args.field in
     let s = built c.args.arena.now c.args.place in
-    let same = c.new-reader.ensures.schema ∙ c.get_containing_struct.ensures.is in
-    (c.in-Ok.value, c.built_number.ensures.reads,
-    c.in-Ok.ensures.value
-    ∙ number_same f s c.new-reader.result same
-    (subst (λ (x : StructReader). IsStructCutOf (struct_of x) s) (sym c.new-reader.ensures.reader) c.get_struct_reader.ensures.cut)
-    (subst (λ (x : StructReader). struct_levels x ≡ 64) (sym c.new-reader.ensures.reader) c.get_struct_reader.ensures.levels) c.requires.slot c.requires.number,
-    subst (λ (z : StructSchema). IsOf (set_of z) (struct_field z (index_of f)).type c.in-Ok.value) same c.in-Ok.ensures.typed)
+    let same = c.new-reader.ensures.schema ∙ c.get_containing_struct.ensures.is in (
+      c.in-Ok.value,
+      c.built_number.ensures.reads,
+      c.in-Ok.ensures.value
+          ∙ number_same f s c.new-reader.result same
+          (subst (λ (x : StructReader). IsStructCutOf (struct_of x) s) (sym c.new-reader.ensures.reader) c.get_struct_reader.ensures.cut)
+          (subst (λ (x : StructReader). struct_levels x ≡ 64) (sym c.new-reader.ensures.reader) c.get_struct_reader.ensures.levels) c.requires.slot c.requires.number,
+      subst (λ (z : StructSchema). IsOf (set_of z) (struct_field z (index_of f)).type c.in-Ok.value) same c.in-Ok.ensures.typed,
+    )

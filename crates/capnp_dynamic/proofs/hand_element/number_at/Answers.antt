@@ -26,10 +26,12 @@ returns-clause-stands c =
     let e : t ≡ seen_type c.args.element_type = ap seen_variant c.which.ensures ∙ seen_which c.args.element_type in
     let x : Tree = list_of c.read_list-reader.result in
     let y : Tree = or_empty (element_size (seen_type c.args.element_type)) (tree (segment c.args.arena.now) c.args.at) in
-    let cut : IsCutOf x y = subst (λ (s : ElementSize). IsCutOf x (or_empty s (tree (segment c.args.arena.now) c.args.at))) (c.expected_element_size.ensures ∙ elements_sized c.args.element_type) c.read_list-reader.ensures.cut in
-    (c.in-Ok.value, c.built_number.ensures.reads,
-    c.in-Ok.ensures.value
-    ∙ (ap (λ (n : ℕ). read_of set VoidValue t (element_read set x n t c.args.index)) c.read_list-reader.ensures.levels
-    ∙ (element_cut set 64 x y cut t c.args.index (ap is_pointer e ∙ c.requires.number)
-    ∙ ap (λ (u : SchemaType). element_read_of set u y c.args.index) e)),
-    subst (λ (u : SchemaType). IsUnder set u c.in-Ok.value) e c.in-Ok.ensures.under)
+    let cut : IsCutOf x y = subst (λ (s : ElementSize). IsCutOf x (or_empty s (tree (segment c.args.arena.now) c.args.at))) (c.expected_element_size.ensures ∙ elements_sized c.args.element_type) c.read_list-reader.ensures.cut in (
+      c.in-Ok.value,
+      c.built_number.ensures.reads,
+      c.in-Ok.ensures.value
+          ∙ (ap (λ (n : ℕ). read_of set VoidValue t (element_read set x n t c.args.index)) c.read_list-reader.ensures.levels
+          ∙ (element_cut set 64 x y cut t c.args.index (ap is_pointer e ∙ c.requires.number)
+          ∙ ap (λ (u : SchemaType). element_read_of set u y c.args.index) e)),
+      subst (λ (u : SchemaType). IsUnder set u c.in-Ok.value) e c.in-Ok.ensures.under,
+    )
