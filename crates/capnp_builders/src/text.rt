@@ -2,10 +2,12 @@
 //!
 //! A builder is the message beside the word of the text's pointer. Each call asks that a text stands there, or a null, as a
 //! builder that was handed out has it (`IsText`).
-ghost use Rattle.std.specs.Prelude.{[], None, IfErr, IfOk, IsTrue, IsUtf8, OnErr, length, ◌-◌, ◌<◌, ◌≡◌, ◌≤◌, ◌↔◌};
+ghost use Rattle.std.specs.Prelude.{[], None, IfErr, IfOk, IsTrue, IsUtf8, OnErr, length, slice_set, ◌+◌, ◌-◌, ◌<◌, ◌≡◌, ◌≤◌, ◌↔◌};
 ghost use Rattle.std.specs.Borrow.{sem};
 ghost use Rattle.capnp_device.specs.declared.error.ErrorKind.TheVariants.{OutOfMemory};
 ghost use Rattle.capnp_base.specs.Text.{IsStringOf, IsStrOf};
+ghost use Rattle.capnp_arena.specs.Forest.{Changes};
+ghost use Rattle.capnp_arena.specs.Segment.{segment};
 ghost use Rattle.capnp_builders.specs.Blobs.{IsText, LendsText, position, text_behind, text_bytes, text_word};
 
 use capnp_arena::arena::Arena;
@@ -79,6 +81,23 @@ impl<'a> Builder<'a> {
         ensures { result ≡ length (text_bytes self.now) - position self.now }
     {
         self.bytes().len().saturating_sub(self.pos)
+    }
+
+    /// Writes an ASCII character at the position, which moves past it. There has to be room for it, and it is below 128.
+    pub fn push_ascii(&mut self, ascii: u8)
+        requires there { IsText self.old }
+        requires room { position self.old < length (text_bytes self.old) }
+        requires ascii { ascii < 128 }
+        ensures same { (text_behind self.new).ghost_name ≡ (text_behind self.old).ghost_name }
+        ensures at { text_word self.new ≡ text_word self.old }
+        ensures position { position self.new ≡ position self.old + 1 }
+        ensures bytes { text_bytes self.new ≡ slice_set (text_bytes self.old) (position self.old) ascii }
+        ensures there { IsText self.new }
+        ensures changes { Changes (text_word self.old) (segment (text_behind self.old).now) (segment (text_behind self.new).now) }
+    {
+        self.arena.tree_is_sound(self.at);
+        self.arena.set_data_element::<u8>(self.at, self.pos as u32, ascii);
+        self.pos += 1;
     }
 
     /// A builder of the same text for a shorter time. It writes at the same position; this builder's position stays. What is

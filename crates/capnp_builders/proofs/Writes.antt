@@ -1,0 +1,85 @@
+-- A byte of a text that is written is that of the text alone.
+use Rattle.std.specs.Prelude.{ℕ, zero, suc, ◌+◌, ◌*◌, ◌-◌, ◌%◌, ◌<◌, ◌≤◌, ◌≡◌, ◌==◌, refl, List, [], ◌∷◌, ◌++◌, Bool, true, false, cond, Result, Ok, Err, IsOk, length, take, drop, get_or, slice_set}
+use Rattle.std.proofs.Common.{ap, arith, sym, subst, ◌∙◌}
+use Rattle.std.proofs.lemmas.Bool.{true≢false}
+use Rattle.std.proofs.lemmas.List.{length-set, length-take-le}
+use Rattle.capnp_device.specs.declared.error.ErrorKind.{ErrorKind}
+use Rattle.capnp_device.specs.declared.error.ErrorKind.TheVariants as kind
+use Rattle.capnp_wire.specs.Edits.{with_number}
+use Rattle.capnp_wire.specs.Elements.{HasNumber, with_number_element}
+use Rattle.capnp_wire.specs.Reading.{as_data, as_text, terminated_text}
+use Rattle.capnp_wire.specs.Tree as tree
+use Rattle.capnp_wire.specs.Tree.{Tree}
+use Rattle.capnp_builders.specs.Blobs.{bytes_in}
+
+-- ---- rows of bytes ----
+
+put : (bytes : List ℕ) (i v : ℕ) → i < length bytes → take i bytes ++ (v ∷ drop (suc i) bytes) ≡ slice_set bytes i v
+put [] i v a = absurd (omega (arith, a))
+put (b ∷ bs) zero v a = refl
+put (b ∷ bs) (suc i) v a = ap (λ t. b ∷ t) (put bs i v (omega (arith, a)))
+
+get-other : (bytes : List ℕ) (i k v d : ℕ) → i < k → get_or (slice_set bytes i v) k d ≡ get_or bytes k d
+get-other [] i k v d a = refl
+get-other (b ∷ bs) zero zero v d a = absurd (omega (arith, a))
+get-other (b ∷ bs) zero (suc k) v d a = refl
+get-other (b ∷ bs) (suc i) zero v d a = refl
+get-other (b ∷ bs) (suc i) (suc k) v d a = get-other bs i k v d (omega (arith, a))
+
+take-put : (n : ℕ) (bytes : List ℕ) (i v : ℕ) → i < n → take n (slice_set bytes i v) ≡ slice_set (take n bytes) i v
+take-put zero bytes i v a = absurd (omega (arith, a))
+take-put (suc n) [] i v a = refl
+take-put (suc n) (b ∷ bs) zero v a = refl
+take-put (suc n) (b ∷ bs) (suc i) v a = ap (λ t. b ∷ t) (take-put n bs i v (omega (arith, a)))
+
+with-byte : (bytes : List ℕ) (i v : ℕ) → i < length bytes → v < 256 → with_number 1 i v bytes ≡ slice_set bytes i v
+with-byte bytes i v a small =
+    let e : i * 1 ≡ i = omega arith in
+    let n : i * 1 + 1 ≡ suc i = omega arith in
+    let m : v % 256 ≡ v = omega (arith, small) in
+    ap (λ k. take k bytes ++ (v % 256 ∷ drop (i * 1 + 1) bytes)) e
+    ∙ (ap (λ k. take i bytes ++ (v % 256 ∷ drop k bytes)) n
+    ∙ (ap (λ k. take i bytes ++ (k ∷ drop (suc i) bytes)) m
+    ∙ put bytes i v a))
+
+-- ---- texts ----
+
+module _ (bytes : List ℕ) (i v : ℕ) (small : v < 256) where
+  ended : (q : Bool) → i < length (bytes_in (cond q (Ok (take (length bytes - 1) bytes)) (Err kind.TextNotTerminated))) → i < length bytes - 1
+  ended true a = let l = length-take-le (length bytes - 1) bytes (omega arith) in omega (arith, a, l)
+  ended false a = absurd (omega (arith, a))
+
+  still : i < length bytes - 1 → (q : Bool) → IsOk (cond q (Ok (take (length bytes - 1) bytes)) (Err kind.TextNotTerminated)) →
+      cond q (Ok (take (length bytes - 1) (slice_set bytes i v))) (Err kind.TextNotTerminated) ≡ Ok (slice_set (bytes_in (cond q (Ok (take (length bytes - 1) bytes)) (Err kind.TextNotTerminated))) i v)
+  still a true h = ap Ok (take-put (length bytes - 1) bytes i v a)
+  still a false h = absurd (true≢false (sym h))
+
+  terminated : IsOk (terminated_text bytes) → i < length (bytes_in (terminated_text bytes)) → terminated_text (with_number 1 i v bytes) ≡ Ok (slice_set (bytes_in (terminated_text bytes)) i v)
+  terminated h a =
+      let b : i < length bytes - 1 = ended (get_or bytes (length bytes - 1) 1 == 0) a in
+      ap terminated_text (with-byte bytes i v (omega (arith, b)) small)
+      ∙ (ap (λ (n : ℕ). cond (get_or (slice_set bytes i v) (n - 1) 1 == 0) (Ok (take (n - 1) (slice_set bytes i v))) (Err kind.TextNotTerminated)) (length-set bytes i v)
+      ∙ (ap (λ (n : ℕ). cond (n == 0) (Ok (take (length bytes - 1) (slice_set bytes i v))) (Err kind.TextNotTerminated)) (get-other bytes i (length bytes - 1) v 1 b)
+      ∙ still b (get_or bytes (length bytes - 1) 1 == 0) h))
+
+  terminated-room : i < length (bytes_in (terminated_text bytes)) → (i + 1) * 1 ≤ length bytes
+  terminated-room a = let b = ended (get_or bytes (length bytes - 1) 1 == 0) a in omega (arith, b)
+
+  numbers : (q : Bool) → IsOk (cond q (terminated_text bytes) (Err kind.WrongElementSize)) → i < length (bytes_in (cond q (terminated_text bytes) (Err kind.WrongElementSize))) →
+      cond q (terminated_text (with_number 1 i v bytes)) (Err kind.WrongElementSize) ≡ Ok (slice_set (bytes_in (cond q (terminated_text bytes) (Err kind.WrongElementSize))) i v)
+  numbers true h a = terminated h a
+  numbers false h a = absurd (true≢false (sym h))
+
+  numbers-room : (q : Bool) → i < length (bytes_in (cond q (terminated_text bytes) (Err kind.WrongElementSize))) → (i + 1) * 1 ≤ length bytes
+  numbers-room true a = terminated-room a
+  numbers-room false a = absurd (omega (arith, a))
+
+pub text_put : (x : Tree) (i v : ℕ) → v < 256 → IsOk (as_text x) → i < length (bytes_in (as_text x)) → as_text (with_number_element 1 i v x) ≡ Ok (slice_set (bytes_in (as_text x)) i v)
+text_put tree.Null i v small h a = absurd (omega (arith, a))
+text_put (tree.Numbers w bytes) i v small h a = numbers bytes i v small (w == 1) h a
+text_put (tree.Struct bytes ps) i v small h a = absurd (true≢false (sym h))
+text_put (tree.Voids n) i v small h a = absurd (true≢false (sym h))
+text_put (tree.Bits bs) i v small h a = absurd (true≢false (sym h))
+text_put (tree.Pointers ps) i v small h a = absurd (true≢false (sym h))
+text_put (tree.Composite d p es) i v small h a = absurd (true≢false (sym h))
+text_put (tree.FaultLeaf k) i v small h a = absurd (true≢false (sym h))
