@@ -1,2 +1,3 @@
 pub mod Blobs
 pub mod Writes
+pub mod Pushes

@@ -1,8 +1,8 @@
 -- A byte of a text that is written is that of the text alone.
 use Rattle.std.specs.Prelude.{ℕ, zero, suc, ◌+◌, ◌*◌, ◌-◌, ◌%◌, ◌<◌, ◌≤◌, ◌≡◌, ◌==◌, refl, List, [], ◌∷◌, ◌++◌, Bool, true, false, cond, Result, Ok, Err, IsOk, length, take, drop, get_or, slice_set}
-use Rattle.std.proofs.Common.{ap, arith, sym, subst, ◌∙◌}
+use Rattle.std.proofs.Common.{ap, append-nil, append_assoc, arith, sym, subst, ◌∙◌}
 use Rattle.std.proofs.lemmas.Bool.{true≢false}
-use Rattle.std.proofs.lemmas.List.{length-set, length-take-le}
+use Rattle.std.proofs.lemmas.List.{length-set, length-take-le, take-append-drop}
 use Rattle.capnp_device.specs.declared.error.ErrorKind.{ErrorKind}
 use Rattle.capnp_device.specs.declared.error.ErrorKind.TheVariants as kind
 use Rattle.capnp_wire.specs.Edits.{with_number}
@@ -10,7 +10,7 @@ use Rattle.capnp_wire.specs.Elements.{HasNumber, with_number_element}
 use Rattle.capnp_wire.specs.Reading.{as_data, as_text, terminated_text}
 use Rattle.capnp_wire.specs.Tree as tree
 use Rattle.capnp_wire.specs.Tree.{Tree}
-use Rattle.capnp_builders.specs.Blobs.{bytes_in}
+use Rattle.capnp_builders.specs.Blobs.{bytes_in, written}
 
 -- ---- rows of bytes ----
 
@@ -83,3 +83,47 @@ text_put (tree.Bits bs) i v small h a = absurd (true≢false (sym h))
 text_put (tree.Pointers ps) i v small h a = absurd (true≢false (sym h))
 text_put (tree.Composite d p es) i v small h a = absurd (true≢false (sym h))
 text_put (tree.FaultLeaf k) i v small h a = absurd (true≢false (sym h))
+
+-- ---- several bytes ----
+
+-- what stands after the first byte that is written
+take-next : (old : List ℕ) (i v : ℕ) → i < length old → take (suc i) (slice_set old i v) ≡ take i old ++ v ∷ []
+take-next [] i v a = absurd (omega (arith, a))
+take-next (b ∷ bs) zero v a = refl
+take-next (b ∷ bs) (suc i) v a = ap (λ t. b ∷ t) (take-next bs i v (omega (arith, a)))
+
+drop-past : (old : List ℕ) (i n v : ℕ) → i < n → drop n (slice_set old i v) ≡ drop n old
+drop-past [] i n v a = refl
+drop-past (b ∷ bs) i zero v a = absurd (omega (arith, a))
+drop-past (b ∷ bs) zero (suc n) v a = refl
+drop-past (b ∷ bs) (suc i) (suc n) v a = drop-past bs i n v (omega (arith, a))
+
+pub written_is : (old : List ℕ) (i : ℕ) (vs : List ℕ) → i + length vs ≤ length old → written old i vs ≡ take i old ++ vs ++ drop (i + length vs) old
+written_is old i [] a =
+    let n : i ≡ i + 0 = omega arith in
+    sym (take-append-drop i old) ∙ (ap (λ k. take i old ++ drop k old) n ∙ sym (ap (λ t. t ++ drop (i + 0) old) (append-nil (take i old))))
+written_is old i (v ∷ vs) a =
+    let n : suc i + length vs ≡ i + suc (length vs) = omega arith in
+    written_is (slice_set old i v) (suc i) vs (subst (λ k. suc i + length vs ≤ k) (sym (length-set old i v)) (omega (arith, a)))
+    ∙ (ap (λ t. (t ++ vs) ++ drop (suc i + length vs) (slice_set old i v)) (take-next old i v (omega (arith, a)))
+    ∙ (ap (λ t. t ++ drop (suc i + length vs) (slice_set old i v)) (append_assoc (take i old) (v ∷ []) vs)
+    ∙ (ap (λ t. (take i old ++ v ∷ vs) ++ t) (drop-past old i (suc i + length vs) v (omega arith))
+    ∙ ap (λ k. (take i old ++ v ∷ vs) ++ drop k old) n)))
+
+-- ---- data ----
+
+module _ (bytes : List ℕ) (i v : ℕ) (small : v < 256) where
+  data-numbers : (q : Bool) → IsOk (cond q (Ok bytes) (Err kind.WrongElementSize)) → i < length (bytes_in (cond q (Ok bytes) (Err kind.WrongElementSize))) →
+      cond q (Ok (with_number 1 i v bytes)) (Err kind.WrongElementSize) ≡ Ok (slice_set (bytes_in (cond q (Ok bytes) (Err kind.WrongElementSize))) i v)
+  data-numbers true h a = ap Ok (with-byte bytes i v a small)
+  data-numbers false h a = absurd (true≢false (sym h))
+
+pub data_put : (x : Tree) (i v : ℕ) → v < 256 → IsOk (as_data x) → i < length (bytes_in (as_data x)) → as_data (with_number_element 1 i v x) ≡ Ok (slice_set (bytes_in (as_data x)) i v)
+data_put tree.Null i v small h a = absurd (omega (arith, a))
+data_put (tree.Numbers w bytes) i v small h a = data-numbers bytes i v small (w == 1) h a
+data_put (tree.Struct bytes ps) i v small h a = absurd (true≢false (sym h))
+data_put (tree.Voids n) i v small h a = absurd (true≢false (sym h))
+data_put (tree.Bits bs) i v small h a = absurd (true≢false (sym h))
+data_put (tree.Pointers ps) i v small h a = absurd (true≢false (sym h))
+data_put (tree.Composite d p es) i v small h a = absurd (true≢false (sym h))
+data_put (tree.FaultLeaf k) i v small h a = absurd (true≢false (sym h))

@@ -1,5 +1,5 @@
 -- What stands at the builders of texts and data.
-use Rattle.std.specs.Prelude.{ℕ, List, [], Result, Ok, Err, IsOk}
+use Rattle.std.specs.Prelude.{ℕ, suc, List, [], ◌∷◌, slice_set, Result, Ok, Err, IsOk}
 use Rattle.std.specs.Borrow.{Fml, Lends, MutBor}
 use mir.Syntax.{named}
 use Rattle.capnp_device.specs.declared.error.ErrorKind.{ErrorKind}
@@ -18,6 +18,11 @@ use Rattle.capnp_builders.specs.contracts.data.Builder.{the_row as data_row}
 abbrev pub bytes_in : Result (List ℕ) ErrorKind → List ℕ
 bytes_in (Ok bytes) = bytes
 bytes_in (Err kind) = []
+
+-- bytes with others written from an index on
+abbrev pub written : List ℕ → ℕ → List ℕ → List ℕ
+written old i [] = old
+written old i (v ∷ vs) = written (slice_set old i v) (suc i) vs
 
 -- ---- texts ----
 

@@ -2,8 +2,10 @@
 //!
 //! A builder is the message beside the word of the data's pointer. Each call asks that data stand there, or a null, as a
 //! builder that was handed out has it (`IsData`).
-ghost use Rattle.std.specs.Prelude.{[], IsTrue, length, ◌≡◌, ◌↔◌};
+ghost use Rattle.std.specs.Prelude.{[], IsTrue, length, slice_set, ◌<◌, ◌≡◌, ◌↔◌};
 ghost use Rattle.std.specs.Borrow.{sem};
+ghost use Rattle.capnp_arena.specs.Forest.{Changes};
+ghost use Rattle.capnp_arena.specs.Segment.{segment};
 ghost use Rattle.capnp_builders.specs.Blobs.{IsData, LendsData, data_behind, data_bytes, data_word};
 
 use capnp_arena::arena::Arena;
@@ -54,6 +56,20 @@ impl<'a> Builder<'a> {
         ensures { IsTrue result ↔ (data_bytes self.now ≡ []) }
     {
         self.reborrow_as_reader().is_empty()
+    }
+
+    /// Writes the byte at an index, which has to be below the length.
+    pub fn set(&mut self, index: usize, byte: u8)
+        requires there { IsData self.old }
+        requires inside { index < length (data_bytes self.old) }
+        ensures same { (data_behind self.new).ghost_name ≡ (data_behind self.old).ghost_name }
+        ensures at { data_word self.new ≡ data_word self.old }
+        ensures bytes { data_bytes self.new ≡ slice_set (data_bytes self.old) index byte }
+        ensures there { IsData self.new }
+        ensures changes { Changes (data_word self.old) (segment (data_behind self.old).now) (segment (data_behind self.new).now) }
+    {
+        self.arena.tree_is_sound(self.at);
+        self.arena.set_data_element::<u8>(self.at, index as u32, byte);
     }
 
     /// A builder of the same data for a shorter time. What is left of them is what this builder has then.

@@ -2,13 +2,13 @@
 //!
 //! A builder is the message beside the word of the text's pointer. Each call asks that a text stands there, or a null, as a
 //! builder that was handed out has it (`IsText`).
-ghost use Rattle.std.specs.Prelude.{[], None, IfErr, IfOk, IsTrue, IsUtf8, OnErr, length, slice_set, ◌+◌, ◌-◌, ◌<◌, ◌≡◌, ◌≤◌, ◌↔◌};
+ghost use Rattle.std.specs.Prelude.{[], None, IfErr, IfOk, IsTrue, IsUtf8, OnErr, length, slice_set, take, drop, ◌++◌, ◌+◌, ◌-◌, ◌<◌, ◌≡◌, ◌≤◌, ◌↔◌};
 ghost use Rattle.std.specs.Borrow.{sem};
 ghost use Rattle.capnp_device.specs.declared.error.ErrorKind.TheVariants.{OutOfMemory};
 ghost use Rattle.capnp_base.specs.Text.{IsStringOf, IsStrOf};
 ghost use Rattle.capnp_arena.specs.Forest.{Changes};
 ghost use Rattle.capnp_arena.specs.Segment.{segment};
-ghost use Rattle.capnp_builders.specs.Blobs.{IsText, LendsText, position, text_behind, text_bytes, text_word};
+ghost use Rattle.capnp_builders.specs.Blobs.{IsText, LendsText, position, text_behind, text_bytes, text_word, written};
 
 use capnp_arena::arena::Arena;
 use capnp_arena::handles::PointerBuilder;
@@ -83,6 +83,38 @@ impl<'a> Builder<'a> {
         self.bytes().len().saturating_sub(self.pos)
     }
 
+    /// Writes a byte at the position, which moves past it.
+    fn push_byte(&mut self, byte: u8)
+        requires there { IsText self.old }
+        requires room { position self.old < length (text_bytes self.old) }
+        ensures same { (text_behind self.new).ghost_name ≡ (text_behind self.old).ghost_name }
+        ensures at { text_word self.new ≡ text_word self.old }
+        ensures position { position self.new ≡ position self.old + 1 }
+        ensures bytes { text_bytes self.new ≡ slice_set (text_bytes self.old) (position self.old) byte }
+        ensures there { IsText self.new }
+        ensures changes { Changes (text_word self.old) (segment (text_behind self.old).now) (segment (text_behind self.new).now) }
+    {
+        self.arena.tree_is_sound(self.at);
+        self.arena.set_data_element::<u8>(self.at, self.pos as u32, byte);
+        self.pos += 1;
+    }
+
+    /// Writes bytes at the position, which moves past them.
+    fn push_bytes(&mut self, bytes: &[u8])
+        requires there { IsText self.old }
+        requires room { position self.old + length bytes.now ≤ length (text_bytes self.old) }
+        ensures same { (text_behind self.new).ghost_name ≡ (text_behind self.old).ghost_name }
+        ensures at { text_word self.new ≡ text_word self.old }
+        ensures position { position self.new ≡ position self.old + length bytes.now }
+        ensures bytes { text_bytes self.new ≡ written (text_bytes self.old) (position self.old) bytes.now }
+        ensures there { IsText self.new }
+        ensures changes { Changes (text_word self.old) (segment (text_behind self.old).now) (segment (text_behind self.new).now) }
+    {
+        for i in 0..bytes.len() {
+            self.push_byte(bytes[i]);
+        }
+    }
+
     /// Writes an ASCII character at the position, which moves past it. There has to be room for it, and it is below 128.
     pub fn push_ascii(&mut self, ascii: u8)
         requires there { IsText self.old }
@@ -95,9 +127,23 @@ impl<'a> Builder<'a> {
         ensures there { IsText self.new }
         ensures changes { Changes (text_word self.old) (segment (text_behind self.old).now) (segment (text_behind self.new).now) }
     {
-        self.arena.tree_is_sound(self.at);
-        self.arena.set_data_element::<u8>(self.at, self.pos as u32, ascii);
-        self.pos += 1;
+        self.push_byte(ascii);
+    }
+
+    /// Writes a string at the position, which moves past it. There has to be room for its bytes.
+    #[tactic(auto, using(crate::proofs::Writes::written_is))]
+    pub fn push_str(&mut self, string: &str)
+        requires there { IsText self.old }
+        requires room { position self.old + length string.now ≤ length (text_bytes self.old) }
+        ensures same { (text_behind self.new).ghost_name ≡ (text_behind self.old).ghost_name }
+        ensures at { text_word self.new ≡ text_word self.old }
+        ensures position { position self.new ≡ position self.old + length string.now }
+        ensures bytes { text_bytes self.new
+            ≡ take (position self.old) (text_bytes self.old) ++ string.now ++ drop (position self.old + length string.now) (text_bytes self.old) }
+        ensures there { IsText self.new }
+        ensures changes { Changes (text_word self.old) (segment (text_behind self.old).now) (segment (text_behind self.new).now) }
+    {
+        self.push_bytes(string.as_bytes());
     }
 
     /// A builder of the same text for a shorter time. It writes at the same position; this builder's position stays. What is
