@@ -1,8 +1,8 @@
 -- A byte of a text that is written is that of the text alone.
-use Rattle.std.specs.Prelude.{ℕ, zero, suc, ◌+◌, ◌*◌, ◌-◌, ◌%◌, ◌<◌, ◌≤◌, ◌≡◌, ◌==◌, refl, List, [], ◌∷◌, ◌++◌, Bool, true, false, cond, Result, Ok, Err, IsOk, length, take, drop, get_or, slice_set}
+use Rattle.std.specs.Prelude.{ℕ, zero, suc, ◌+◌, ◌*◌, ◌-◌, ◌%◌, ◌<◌, ◌≤◌, ◌≡◌, ◌==◌, refl, List, [], ◌∷◌, ◌++◌, Bool, true, false, cond, Result, Ok, Err, IsOk, length, take, drop, get_or, replicate, slice_set}
 use Rattle.std.proofs.Common.{ap, append-nil, append_assoc, arith, sym, subst, ◌∙◌}
 use Rattle.std.proofs.lemmas.Bool.{true≢false}
-use Rattle.std.proofs.lemmas.List.{length-set, length-take-le, take-append-drop}
+use Rattle.std.proofs.lemmas.List.{length-replicate, length-set, length-take-le, take-append-drop}
 use Rattle.capnp_device.specs.declared.error.ErrorKind.{ErrorKind}
 use Rattle.capnp_device.specs.declared.error.ErrorKind.TheVariants as kind
 use Rattle.capnp_wire.specs.Edits.{with_number}
@@ -127,3 +127,29 @@ data_put (tree.Bits bs) i v small h a = absurd (true≢false (sym h))
 data_put (tree.Pointers ps) i v small h a = absurd (true≢false (sym h))
 data_put (tree.Composite d p es) i v small h a = absurd (true≢false (sym h))
 data_put (tree.FaultLeaf k) i v small h a = absurd (true≢false (sym h))
+
+-- ---- zeros ----
+
+abbrev pub zeros : ℕ → List ℕ
+zeros n = replicate n 0
+
+pub zeros_first : (n i : ℕ) → i < n → drop i (zeros n) ≡ 0 ∷ drop (suc i) (zeros n)
+zeros_first zero i a = absurd (omega (arith, a))
+zeros_first (suc n) zero a = refl
+zeros_first (suc n) (suc i) a = zeros_first n i (omega (arith, a))
+
+none-left : (old : List ℕ) → drop (length old) old ≡ []
+none-left [] = refl
+none-left (b ∷ bs) = none-left bs
+
+none-taken : (old : List ℕ) → take 0 old ≡ []
+none-taken [] = refl
+none-taken (b ∷ bs) = refl
+
+pub zeros_written : (old : List ℕ) → written old 0 (zeros (length old)) ≡ zeros (length old)
+zeros_written old =
+    let z : List ℕ = zeros (length old) in
+    let n : length z ≡ length old = length-replicate (length old) 0 in
+    let k : 0 + length z ≡ length z = omega arith in
+    let first : written old 0 z ≡ z ++ drop (length z) old = written_is old 0 z (omega (arith, n)) ∙ (ap (λ (t : List ℕ). t ++ z ++ drop (0 + length z) old) (none-taken old) ∙ ap (λ (m : ℕ). z ++ drop m old) k) in
+    first ∙ (ap (λ (k : ℕ). z ++ drop k old) n ∙ (ap (λ (t : List ℕ). z ++ t) (none-left old) ∙ append-nil z))

@@ -69,7 +69,8 @@ impl<'a> Builder<'a> {
         ensures changes { Changes (data_word self.old) (segment (data_behind self.old).now) (segment (data_behind self.new).now) }
     {
         self.arena.tree_is_sound(self.at);
-        self.arena.set_data_element::<u8>(self.at, index as u32, byte);
+        self.arena
+            .set_data_element::<u8>(self.at, index as u32, byte);
     }
 
     /// A builder of the same data for a shorter time. What is left of them is what this builder has then.

@@ -2,7 +2,7 @@
 //!
 //! A builder is the message beside the word of the text's pointer. Each call asks that a text stands there, or a null, as a
 //! builder that was handed out has it (`IsText`).
-ghost use Rattle.std.specs.Prelude.{[], None, IfErr, IfOk, IsTrue, IsUtf8, OnErr, length, slice_set, take, drop, ◌++◌, ◌+◌, ◌-◌, ◌<◌, ◌≡◌, ◌≤◌, ◌↔◌};
+ghost use Rattle.std.specs.Prelude.{[], None, IfErr, IfOk, IsTrue, IsUtf8, OnErr, length, replicate, slice_set, take, drop, ◌++◌, ◌+◌, ◌-◌, ◌<◌, ◌≡◌, ◌≤◌, ◌↔◌};
 ghost use Rattle.std.specs.Borrow.{sem};
 ghost use Rattle.capnp_device.specs.declared.error.ErrorKind.TheVariants.{OutOfMemory};
 ghost use Rattle.capnp_base.specs.Text.{IsStringOf, IsStrOf};
@@ -95,7 +95,8 @@ impl<'a> Builder<'a> {
         ensures changes { Changes (text_word self.old) (segment (text_behind self.old).now) (segment (text_behind self.new).now) }
     {
         self.arena.tree_is_sound(self.at);
-        self.arena.set_data_element::<u8>(self.at, self.pos as u32, byte);
+        self.arena
+            .set_data_element::<u8>(self.at, self.pos as u32, byte);
         self.pos += 1;
     }
 
@@ -144,6 +145,38 @@ impl<'a> Builder<'a> {
         ensures changes { Changes (text_word self.old) (segment (text_behind self.old).now) (segment (text_behind self.new).now) }
     {
         self.push_bytes(string.as_bytes());
+    }
+
+    /// Makes all bytes zero, and writes at their start again.
+    pub fn clear(&mut self)
+        requires there { IsText self.old }
+        ensures same { (text_behind self.new).ghost_name ≡ (text_behind self.old).ghost_name }
+        ensures at { text_word self.new ≡ text_word self.old }
+        ensures position { position self.new ≡ 0 }
+        ensures bytes { text_bytes self.new ≡ replicate (length (text_bytes self.old)) 0 }
+        ensures there { IsText self.new }
+        ensures changes { Changes (text_word self.old) (segment (text_behind self.old).now) (segment (text_behind self.new).now) }
+    {
+        let count = self.len();
+        self.pos = 0;
+        self.push_zeros(count);
+        self.pos = 0;
+    }
+
+    /// Writes so many zeros at the position, which moves past them.
+    #[tactic(auto, using(crate::proofs::Writes::zeros_first))]
+    fn push_zeros(&mut self, count: usize)
+        requires there { IsText self.old }
+        requires room { position self.old + count ≤ length (text_bytes self.old) }
+        ensures same { (text_behind self.new).ghost_name ≡ (text_behind self.old).ghost_name }
+        ensures at { text_word self.new ≡ text_word self.old }
+        ensures bytes { text_bytes self.new ≡ written (text_bytes self.old) (position self.old) (replicate count 0) }
+        ensures there { IsText self.new }
+        ensures changes { Changes (text_word self.old) (segment (text_behind self.old).now) (segment (text_behind self.new).now) }
+    {
+        for _i in 0..count {
+            self.push_byte(0);
+        }
     }
 
     /// A builder of the same text for a shorter time. It writes at the same position; this builder's position stays. What is
