@@ -1,5 +1,5 @@
-//! Parts of structs and lists that are built, taken one after another. A struct has to have its schema's sections and be
-//! well-formed (`IsReady`), a list to be ready (`IsListReady`); so is then what is handed out.
+//! Parts of structs and lists that are built, taken one after another. A struct has to have its schema's sections and stand
+//! at its place (`IsReady`), a list to be ready (`IsListReady`); so is then what is handed out.
 //!
 //! A part is handed out by value, so these contracts say what it stands on at the return, as those of `get` do.
 ghost use Rattle.std.specs.Prelude.{None, true, IfErr, IfOk, IsErrAnd, IsOk, ◌≡◌, ◌≤◌};

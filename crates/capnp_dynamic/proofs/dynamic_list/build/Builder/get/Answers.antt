@@ -8,8 +8,9 @@ use Rattle.capnp_wire.specs.Reading.{element_pointer}
 use Rattle.capnp_schema.specs.Facts.Layers.{seen_which}
 use Rattle.capnp_schema.specs.Types.{seen_variant}
 use Rattle.capnp_slots.specs.Fills.{element_due, is_behind}
-use Rattle.capnp_dynamic.specs.Built.{built_element, built_elements, built_set}
+use Rattle.capnp_dynamic.specs.Built.{built_element, built_elements, built_reading, built_set}
 use Rattle.capnp_dynamic.specs.Handed.{IsElementPartRefusal, IsElementWithin}
+use Rattle.capnp_dynamic.proofs.ElementsHanded.{number_handed}
 use Rattle.capnp_dynamic.proofs.dynamic_list.build.Builder.get.Goals as goal
 
 pub returns-then-is_behind_pointer-clause-within : goal.returns-then-is_behind_pointer-clause-within
@@ -27,3 +28,9 @@ returns-then-is_behind_pointer-clause-cause c =
 pub returns-clause-within : goal.returns-clause-within
 returns-clause-within c = λ behind.
     absurd (true≢false (sym behind ∙ (ap is_behind (sym (ap seen_variant c.which-variant.ensures ∙ seen_which c.args.self.element_type)) ∙ sym c.if-is_behind_pointer.ensures)))
+
+pub returns-clause-stands : goal.returns-clause-stands
+returns-clause-stands c =
+    let l = c.args.self in
+    number_handed (built_set l) (built_elements l) (built_reading l) c.args.index c.number_at.result (built_element l) c.which-variant.result (ap seen_variant c.which-variant.ensures ∙ seen_which l.element_type) c.in_default.not-Struct
+    (sym c.is_behind_pointer.ensures ∙ c.if-is_behind_pointer.false) c.number_at.ensures.stands

@@ -1,0 +1,88 @@
+//! Untyped pointers as they are built: what stands there is asked with a type.
+ghost use Rattle.std.specs.Prelude.{[], None, IfErr, IfOk, OnErr, OnOk, ◌^◌, ◌<◌, ◌≡◌, ◌≤◌, ◌∷◌};
+ghost use Rattle.std.specs.Borrow.{sem};
+ghost use Rattle.capnp_wire.specs.Depth.{IsBelow};
+ghost use Rattle.capnp_wire.specs.Reading.{is_null_tree};
+ghost use Rattle.capnp_wire.specs.Standing.{levels_of, tree_of};
+ghost use Rattle.capnp_wire.specs.Tree.{Null};
+ghost use Rattle.capnp_base.specs.AnyPointer.{pointer_of};
+ghost use Rattle.capnp_arena.specs.Forest.{Changes};
+ghost use Rattle.capnp_arena.specs.Same.{IsCutOf};
+ghost use Rattle.capnp_arena.specs.Segment.{segment};
+ghost use Rattle.capnp_arena.specs.Shape.{word_count};
+ghost use Rattle.capnp_builders.specs.Pointers.{IsPointer, LendsPointer, arena_behind, pointer_tree, word_of};
+
+use capnp_arena::arena::Arena;
+use capnp_arena::handles::PointerBuilder;
+pub use capnp_base::any_pointer::{Owned, Reader};
+
+/// A pointer that is built, of whatever type.
+#[derive(Drop)]
+pub struct Builder<'a> {
+    pub arena: &'a mut Arena,
+    /// The pointer's word.
+    pub at: usize,
+}
+
+impl<'a> Builder<'a> {
+    /// An untyped pointer that stands on a pointer's builder.
+    pub fn new(builder: PointerBuilder<'a>) -> Builder<'a>
+        ensures behind { arena_behind result ≡ builder.entry.arena }
+        ensures at { word_of result ≡ builder.entry.at }
+    {
+        let PointerBuilder { arena, at } = builder;
+        Builder { arena, at }
+    }
+
+    /// The handle of the pointer.
+    pub fn into_pointer(self) -> PointerBuilder<'a>
+        ensures behind { result.arena ≡ arena_behind self.entry }
+        ensures at { result.at ≡ word_of self.entry }
+    {
+        let Builder { arena, at } = self;
+        PointerBuilder { arena, at }
+    }
+
+    /// The same pointer for a shorter time. What is left there is what this builder has then.
+    pub fn reborrow(&mut self) -> Builder<'_>
+        ensures* lends { sem 𝓛 (LendsPointer self.entry (arena_behind result)) }
+        ensures now { (arena_behind result).now ≡ (arena_behind self.old).now }
+        ensures at { word_of result ≡ word_of self.old }
+    {
+        let at = self.at;
+        let arena = &mut *self.arena;
+        Builder { arena, at }
+    }
+
+    /// Whether the pointer is null.
+    pub fn is_null(&self) -> bool
+        requires { IsPointer self.now }
+        ensures { result ≡ is_null_tree (pointer_tree self.now) }
+    {
+        self.arena.is_null(self.at)
+    }
+
+    /// Makes the pointer null.
+    pub fn clear(&mut self)
+        requires { word_of self.old < word_count (segment (arena_behind self.old).now) }
+        ensures same { (arena_behind self.new).ghost_name ≡ (arena_behind self.old).ghost_name }
+        ensures at { word_of self.new ≡ word_of self.old }
+        ensures forest { IsPointer self.new }
+        ensures tree { pointer_tree self.new ≡ Null }
+        ensures changes { Changes (word_of self.old) (segment (arena_behind self.old).now) (segment (arena_behind self.new).now) }
+    {
+        self.arena.clear(self.at);
+    }
+
+    /// A reader of the pointer for as long as the builder would be there, with 64 levels. Its tree is cut off past 65,534
+    /// levels, which only walks of a whole tree can see.
+    pub fn into_reader(self) -> Reader<'a>
+        requires { IsPointer self }
+        ensures cut { IsCutOf (tree_of (pointer_of result)) (pointer_tree self.entry) }
+        ensures tree { IsBelow 65535 (pointer_tree self.entry) → tree_of (pointer_of result) ≡ pointer_tree self.entry }
+        ensures levels { levels_of (pointer_of result) ≡ 64 }
+    {
+        let Builder { arena, at } = self;
+        Reader::new(arena.get_pointer_reader(at))
+    }
+}

@@ -1,0 +1,99 @@
+//! Data as they are built.
+//!
+//! A builder is the message beside the word of the data's pointer. Each call asks that data stand there, or a null, as a
+//! builder that was handed out has it (`IsData`).
+ghost use Rattle.std.specs.Prelude.{[], IsTrue, length, slice_set, ◌<◌, ◌≡◌, ◌↔◌};
+ghost use Rattle.std.specs.Borrow.{sem};
+ghost use Rattle.capnp_arena.specs.Forest.{Changes};
+ghost use Rattle.capnp_arena.specs.Segment.{segment};
+ghost use Rattle.capnp_builders.specs.Blobs.{IsData, LendsData, data_behind, data_bytes, data_word};
+
+use capnp_arena::arena::Arena;
+use capnp_arena::handles::PointerBuilder;
+pub use capnp_base::data::{Owned, Reader};
+
+/// Data that are built.
+#[derive(Drop)]
+pub struct Builder<'a> {
+    arena: &'a mut Arena,
+    /// The word of the data's pointer.
+    at: usize,
+}
+
+impl<'a> Builder<'a> {
+    /// A builder of the data at a pointer.
+    pub fn new(builder: PointerBuilder<'a>) -> Builder<'a>
+        ensures behind { data_behind result ≡ builder.entry.arena }
+        ensures at { data_word result ≡ builder.entry.at }
+    {
+        let PointerBuilder { arena, at } = builder;
+        Builder { arena, at }
+    }
+
+    /// A reader of the bytes.
+    #[tactic(auto, using(crate::proofs::Blobs::bytes_there))]
+    pub fn reborrow_as_reader(&self) -> Reader<'_>
+        requires { IsData self.now }
+        ensures { result.now ≡ data_bytes self.now }
+    {
+        let Ok(bytes) = self.arena.get_data(self.at) else {
+            unreachable!()
+        };
+        bytes
+    }
+
+    /// How many bytes there are.
+    pub fn len(&self) -> usize
+        requires { IsData self.now }
+        ensures { result ≡ length (data_bytes self.now) }
+    {
+        self.reborrow_as_reader().len()
+    }
+
+    /// Whether there is no byte.
+    pub fn is_empty(&self) -> bool
+        requires { IsData self.now }
+        ensures { IsTrue result ↔ (data_bytes self.now ≡ []) }
+    {
+        self.reborrow_as_reader().is_empty()
+    }
+
+    /// Writes the byte at an index, which has to be below the length.
+    pub fn set(&mut self, index: usize, byte: u8)
+        requires there { IsData self.old }
+        requires inside { index < length (data_bytes self.old) }
+        ensures same { (data_behind self.new).ghost_name ≡ (data_behind self.old).ghost_name }
+        ensures at { data_word self.new ≡ data_word self.old }
+        ensures bytes { data_bytes self.new ≡ slice_set (data_bytes self.old) index byte }
+        ensures there { IsData self.new }
+        ensures changes { Changes (data_word self.old) (segment (data_behind self.old).now) (segment (data_behind self.new).now) }
+    {
+        self.arena.tree_is_sound(self.at);
+        self.arena
+            .set_data_element::<u8>(self.at, index as u32, byte);
+    }
+
+    /// A builder of the same data for a shorter time. What is left of them is what this builder has then.
+    pub fn reborrow(&mut self) -> Builder<'_>
+        ensures* lends { sem 𝓛 (LendsData self.entry (data_behind result)) }
+        ensures now { (data_behind result).now ≡ (data_behind self.old).now }
+        ensures at { data_word result ≡ data_word self.old }
+    {
+        let at = self.at;
+        let arena = &mut *self.arena;
+        Builder { arena, at }
+    }
+
+    /// A reader of the bytes for as long as the builder would be there.
+    #[tactic(auto, using(crate::proofs::Blobs::bytes_there))]
+    pub fn into_reader(self) -> Reader<'a>
+        requires { IsData self }
+        ensures { result.now ≡ data_bytes self.entry }
+    {
+        let Builder { arena, at } = self;
+        let Ok(bytes) = arena.get_data(at) else {
+            unreachable!()
+        };
+        bytes
+    }
+}

@@ -1,0 +1,252 @@
+//! Texts as they are built.
+//!
+//! A builder is the message beside the word of the text's pointer. Each call asks that a text stands there, or a null, as a
+//! builder that was handed out has it (`IsText`).
+ghost use Rattle.std.specs.Prelude.{[], None, IfErr, IfOk, IsTrue, IsUtf8, OnErr, length, replicate, slice_set, take, drop, ◌++◌, ◌+◌, ◌-◌, ◌<◌, ◌≡◌, ◌≤◌, ◌↔◌};
+ghost use Rattle.std.specs.Borrow.{sem};
+ghost use Rattle.capnp_device.specs.declared.error.ErrorKind.TheVariants.{OutOfMemory};
+ghost use Rattle.capnp_base.specs.Text.{IsStringOf, IsStrOf};
+ghost use Rattle.capnp_arena.specs.Forest.{Changes};
+ghost use Rattle.capnp_arena.specs.Segment.{segment};
+ghost use Rattle.capnp_builders.specs.Blobs.{IsText, LendsText, position, text_behind, text_bytes, text_word, written};
+
+use capnp_arena::arena::Arena;
+use capnp_arena::handles::PointerBuilder;
+pub use capnp_base::text::{Owned, Reader};
+use capnp_wire::error::Result;
+use std::alloc::Global;
+use std::str::Utf8Error;
+
+/// A text that is built, and a position in its bytes, without the zero that ends them.
+#[derive(Drop)]
+pub struct Builder<'a> {
+    arena: &'a mut Arena,
+    /// The word of the text's pointer.
+    at: usize,
+    pos: usize,
+}
+
+impl<'a> Builder<'a> {
+    /// A builder of the text at a pointer that writes at its start.
+    pub fn new(builder: PointerBuilder<'a>) -> Builder<'a>
+        ensures behind { text_behind result ≡ builder.entry.arena }
+        ensures at { text_word result ≡ builder.entry.at }
+        ensures position { position result ≡ 0 }
+    {
+        let PointerBuilder { arena, at } = builder;
+        Builder { arena, at, pos: 0 }
+    }
+
+    /// A builder of the text at a pointer that writes at a position, in bytes, which is to be at most the length.
+    pub fn with_pos(builder: PointerBuilder<'a>, pos: usize) -> Builder<'a>
+        ensures behind { text_behind result ≡ builder.entry.arena }
+        ensures at { text_word result ≡ builder.entry.at }
+        ensures position { position result ≡ pos }
+    {
+        let PointerBuilder { arena, at } = builder;
+        Builder { arena, at, pos }
+    }
+
+    /// The bytes.
+    #[tactic(auto, using(crate::proofs::Blobs::bytes_there))]
+    fn bytes(&self) -> &[u8]
+        requires { IsText self.now }
+        ensures { result.now ≡ text_bytes self.now }
+    {
+        let Ok(bytes) = self.arena.get_text(self.at) else {
+            unreachable!()
+        };
+        bytes
+    }
+
+    /// How many bytes there are, wherever the position is.
+    pub fn len(&self) -> usize
+        requires { IsText self.now }
+        ensures { result ≡ length (text_bytes self.now) }
+    {
+        self.bytes().len()
+    }
+
+    /// Whether there is no byte.
+    pub fn is_empty(&self) -> bool
+        requires { IsText self.now }
+        ensures { IsTrue result ↔ (text_bytes self.now ≡ []) }
+    {
+        self.bytes().is_empty()
+    }
+
+    /// How many bytes there are from the position on: as many can be pushed.
+    pub fn room(&self) -> usize
+        requires { IsText self.now }
+        ensures { result ≡ length (text_bytes self.now) - position self.now }
+    {
+        self.bytes().len().saturating_sub(self.pos)
+    }
+
+    /// Writes a byte at the position, which moves past it.
+    fn push_byte(&mut self, byte: u8)
+        requires there { IsText self.old }
+        requires room { position self.old < length (text_bytes self.old) }
+        ensures same { (text_behind self.new).ghost_name ≡ (text_behind self.old).ghost_name }
+        ensures at { text_word self.new ≡ text_word self.old }
+        ensures position { position self.new ≡ position self.old + 1 }
+        ensures bytes { text_bytes self.new ≡ slice_set (text_bytes self.old) (position self.old) byte }
+        ensures there { IsText self.new }
+        ensures changes { Changes (text_word self.old) (segment (text_behind self.old).now) (segment (text_behind self.new).now) }
+    {
+        self.arena.tree_is_sound(self.at);
+        self.arena
+            .set_data_element::<u8>(self.at, self.pos as u32, byte);
+        self.pos += 1;
+    }
+
+    /// Writes bytes at the position, which moves past them.
+    fn push_bytes(&mut self, bytes: &[u8])
+        requires there { IsText self.old }
+        requires room { position self.old + length bytes.now ≤ length (text_bytes self.old) }
+        ensures same { (text_behind self.new).ghost_name ≡ (text_behind self.old).ghost_name }
+        ensures at { text_word self.new ≡ text_word self.old }
+        ensures position { position self.new ≡ position self.old + length bytes.now }
+        ensures bytes { text_bytes self.new ≡ written (text_bytes self.old) (position self.old) bytes.now }
+        ensures there { IsText self.new }
+        ensures changes { Changes (text_word self.old) (segment (text_behind self.old).now) (segment (text_behind self.new).now) }
+    {
+        for i in 0..bytes.len() {
+            self.push_byte(bytes[i]);
+        }
+    }
+
+    /// Writes an ASCII character at the position, which moves past it. There has to be room for it, and it is below 128.
+    pub fn push_ascii(&mut self, ascii: u8)
+        requires there { IsText self.old }
+        requires room { position self.old < length (text_bytes self.old) }
+        requires ascii { ascii < 128 }
+        ensures same { (text_behind self.new).ghost_name ≡ (text_behind self.old).ghost_name }
+        ensures at { text_word self.new ≡ text_word self.old }
+        ensures position { position self.new ≡ position self.old + 1 }
+        ensures bytes { text_bytes self.new ≡ slice_set (text_bytes self.old) (position self.old) ascii }
+        ensures there { IsText self.new }
+        ensures changes { Changes (text_word self.old) (segment (text_behind self.old).now) (segment (text_behind self.new).now) }
+    {
+        self.push_byte(ascii);
+    }
+
+    /// Writes a string at the position, which moves past it. There has to be room for its bytes.
+    #[tactic(auto, using(crate::proofs::Writes::written_is))]
+    pub fn push_str(&mut self, string: &str)
+        requires there { IsText self.old }
+        requires room { position self.old + length string.now ≤ length (text_bytes self.old) }
+        ensures same { (text_behind self.new).ghost_name ≡ (text_behind self.old).ghost_name }
+        ensures at { text_word self.new ≡ text_word self.old }
+        ensures position { position self.new ≡ position self.old + length string.now }
+        ensures bytes { text_bytes self.new
+            ≡ take (position self.old) (text_bytes self.old) ++ string.now ++ drop (position self.old + length string.now) (text_bytes self.old) }
+        ensures there { IsText self.new }
+        ensures changes { Changes (text_word self.old) (segment (text_behind self.old).now) (segment (text_behind self.new).now) }
+    {
+        self.push_bytes(string.as_bytes());
+    }
+
+    /// Makes all bytes zero, and writes at their start again.
+    pub fn clear(&mut self)
+        requires there { IsText self.old }
+        ensures same { (text_behind self.new).ghost_name ≡ (text_behind self.old).ghost_name }
+        ensures at { text_word self.new ≡ text_word self.old }
+        ensures position { position self.new ≡ 0 }
+        ensures bytes { text_bytes self.new ≡ replicate (length (text_bytes self.old)) 0 }
+        ensures there { IsText self.new }
+        ensures changes { Changes (text_word self.old) (segment (text_behind self.old).now) (segment (text_behind self.new).now) }
+    {
+        let count = self.len();
+        self.pos = 0;
+        self.push_zeros(count);
+        self.pos = 0;
+    }
+
+    /// Writes so many zeros at the position, which moves past them.
+    #[tactic(auto, using(crate::proofs::Writes::zeros_first))]
+    fn push_zeros(&mut self, count: usize)
+        requires there { IsText self.old }
+        requires room { position self.old + count ≤ length (text_bytes self.old) }
+        ensures same { (text_behind self.new).ghost_name ≡ (text_behind self.old).ghost_name }
+        ensures at { text_word self.new ≡ text_word self.old }
+        ensures bytes { text_bytes self.new ≡ written (text_bytes self.old) (position self.old) (replicate count 0) }
+        ensures there { IsText self.new }
+        ensures changes { Changes (text_word self.old) (segment (text_behind self.old).now) (segment (text_behind self.new).now) }
+    {
+        for _i in 0..count {
+            self.push_byte(0);
+        }
+    }
+
+    /// A builder of the same text for a shorter time. It writes at the same position; this builder's position stays. What is
+    /// left of the text is what this builder has then.
+    pub fn reborrow(&mut self) -> Builder<'_>
+        ensures* lends { sem 𝓛 (LendsText self.entry (text_behind result)) }
+        ensures now { (text_behind result).now ≡ (text_behind self.old).now }
+        ensures at { text_word result ≡ text_word self.old }
+        ensures position { position result ≡ position self.old }
+    {
+        let at = self.at;
+        let pos = self.pos;
+        let arena = &mut *self.arena;
+        Builder { arena, at, pos }
+    }
+
+    /// A reader of the bytes.
+    pub fn reborrow_as_reader(&self) -> Reader<'_>
+        requires { IsText self.now }
+        ensures { result.0.now ≡ text_bytes self.now }
+    {
+        Reader(self.bytes())
+    }
+
+    /// A reader of the bytes for as long as the builder would be there.
+    #[tactic(auto, using(crate::proofs::Blobs::bytes_there))]
+    pub fn into_reader(self) -> Reader<'a>
+        requires { IsText self }
+        ensures { result.0.now ≡ text_bytes self.entry }
+    {
+        let Builder { arena, at, pos: _ } = self;
+        let Ok(bytes) = arena.get_text(at) else {
+            unreachable!()
+        };
+        Reader(bytes)
+    }
+
+    /// The bytes.
+    pub fn as_bytes(self) -> &'a [u8]
+        requires { IsText self }
+        ensures { result.now ≡ text_bytes self.entry }
+    {
+        self.into_reader().as_bytes()
+    }
+
+    /// The same text as a `str`, or the error that says how many bytes of it are UTF-8.
+    pub fn to_str(self) -> std::result::Result<&'a str, Utf8Error>
+        requires { IsText self }
+        ensures { IsStrOf (text_bytes self.entry) result }
+    {
+        self.into_reader().to_str()
+    }
+
+    /// A copy of the text as a `String`, or the error of `to_str`.
+    ///
+    /// Refused with `OutOfMemory`, and only where the text is UTF-8.
+    pub fn to_string(self, alloc: Global) -> Result<std::result::Result<String, Utf8Error>>
+        requires { IsText self }
+        ensures string { IfOk result (IsStringOf (text_bytes self.entry)) }
+        ensures refused { IfErr result (λ e. e.kind ≡ OutOfMemory) }
+        ensures utf8 { OnErr result (IsUtf8 (text_bytes self.entry)) }
+    {
+        self.into_reader().to_string(alloc)
+    }
+
+    /// Whether the bytes are those of a `str`, wherever the position is.
+    pub fn eq_str(&self, other: &str) -> bool
+        requires { IsText self.now }
+        ensures { IsTrue result ↔ (text_bytes self.now ≡ other.now) }
+    {
+        self.reborrow_as_reader().eq_str(other)
+    }
+}
