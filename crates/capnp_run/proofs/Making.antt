@@ -51,18 +51,6 @@ machine_runs schema old new calls replies stands ranges law fits made =
     law (set_of schema) stands.accepted ranges (number_of schema) stands.number old (map call_seen calls) (map reply_seen replies) new fits
     (tree_run (set_of schema) (number_of schema) old new calls replies made)
 
-pub keeps_same : (s : StructTree) → KeepsSize s s
-keeps_same s = record { writes = record { agree = λ p inside. absurd (true≢false inside); data_size = refl; pointer_count = refl }; formed = λ h. h }
-
-pub keeps_on : (s m s' : StructTree) → KeepsSize s m → KeepsSize m s' → KeepsSize s s'
-keeps_on s m s' k l = record {
-  writes = record { agree = λ p inside. absurd (true≢false inside); data_size = l.writes.data_size ∙ k.writes.data_size; pointer_count = l.writes.pointer_count ∙ k.writes.pointer_count };
-  formed = λ h. l.formed (k.formed h);
-}
-
-pub fits_on : (set : Schemas) (b : ℕ) (s s' : StructTree) → Fits set b s → KeepsSize s s' → Fits set b s'
-fits_on set b s s' h k = (subst (λ n. 8 * (brand_size set b).data_words ≤ n) (sym k.writes.data_size) h.0, subst (λ n. (brand_size set b).pointers ≤ n) (sym k.writes.pointer_count) h.1)
-
 -- one call, by the walk of its path
 pub call_made : (set : Schemas) (b : ℕ) (call : Call) (end : Ending) (s : StructTree) (r : Reply) (s' : StructTree) → end.call.now ≡ call → StructWalks set b call.path.now end s r s' →
     TreeStep set b s (call_seen call) (reply_seen r) s'

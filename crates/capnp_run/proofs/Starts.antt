@@ -165,7 +165,7 @@ ok_struct other (Ok s) = s
 ok_struct other (Err kind) = other
 
 -- what was read as a struct is the one that stands there
-struct_answered : (t : Tree) (n : ℕ) (x : StructTree) → IsTrue (is_struct t) → as_struct t n ≡ Ok x → x ≡ struct_in t
+pub struct_answered : (t : Tree) (n : ℕ) (x : StructTree) → IsTrue (is_struct t) → as_struct t n ≡ Ok x → x ≡ struct_in t
 struct_answered (tree.Struct bytes ps) n x here h = go (n == 0) h
   where
     go : (q : Bool) → cond q (Err TooDeep) (Ok (record { bytes = bytes; pointers = ps })) ≡ Ok x → x ≡ record { bytes = bytes; pointers = ps }
@@ -217,14 +217,14 @@ is_too_large _ h = absurd (h (λ e. cc))
 
 -- why a root was not written, or not printed
 module _ (schema : StructSchema) (r : Record) (t : Tree) (calls : List Call) (replies : List Reply) (leaves : LeavesRun schema r calls replies t) (indented : Bool) (kind : ErrorKind) where
-  pub not_written : (kind ≢ TooLarge → kind ≡ OutOfMemory) → (kind ≡ TooLarge → IsWellFormed t → 2 ^ 29 ≤ suc (words_of t)) → kind ≢ OutOfMemory → IsWholeRefusal schema r calls indented kind
+  pub not_written : (kind ≢ TooLarge → kind ≡ OutOfMemory) → (kind ≡ TooLarge → 2 ^ 29 ≤ suc (words_of t)) → kind ≢ OutOfMemory → IsWholeRefusal schema r calls indented kind
   not_written kinds refused other =
       let large = is_too_large kind (λ ne. other (kinds ne)) in
       record {
         root = struct_in t;
         replies = replies;
         runs = leaves.runs;
-        cause = inl (subst (λ (y : Tree). 2 ^ 29 ≤ suc (words_of y)) leaves.root (refused large leaves.formed), large);
+        cause = inl (subst (λ (y : Tree). 2 ^ 29 ≤ suc (words_of y)) leaves.root (refused large), large);
       }
 
   pub not_printed : suc (words_of t) < 2 ^ 29 → (kind ≢ OutOfMemory → text_in schema indented (record_left schema (struct_in t)) ≡ Err kind) → kind ≢ OutOfMemory → IsWholeRefusal schema r calls indented kind
