@@ -161,28 +161,14 @@ module _ (set : Schemas) where
   body-alike : (n : ℕ) (a b : Body) (c d : Body) → a ≡ c → b ≡ d → ((i : ℕ) → Alike n (nth_reading c.pointers i) (nth_reading d.pointers i)) → (i : ℕ) → Alike n (nth_reading a.pointers i) (nth_reading b.pointers i)
   body-alike n a b c d e f h i = subst (λ (x : Body). Alike n (nth_reading x.pointers i) (nth_reading b.pointers i)) (sym e) (subst (λ (y : Body). Alike n (nth_reading c.pointers i) (nth_reading y.pointers i)) (sym f) (h i))
 
-  mutual
-    pub alike : (n : ℕ) (x y : Tree) → SameTo n x y → Alike n (value_of set x) (value_of set y)
-    alike zero x y h l inside t = absurd (omega (arith, inside))
-    alike (suc n) tree.Null y h l inside t = ap (λ (z : Tree). trimmed (value_of set z (Left l) t)) (sym h)
-    alike (suc n) (tree.Voids k) y h l inside t = ap (λ (z : Tree). trimmed (value_of set z (Left l) t)) (sym h)
-    alike (suc n) (tree.Bits bits) y h l inside t = ap (λ (z : Tree). trimmed (value_of set z (Left l) t)) (sym h)
-    alike (suc n) (tree.Numbers w bytes) y h l inside t = ap (λ (z : Tree). trimmed (value_of set z (Left l) t)) (sym h)
-    alike (suc n) (tree.FaultLeaf k) y h l inside t = ap (λ (z : Tree). trimmed (value_of set z (Left l) t)) (sym h)
-    alike (suc n) (tree.Struct bytes ps) y (qs, e, row) l inside t =
-        struct-alike n bytes ps qs row l inside t ∙ ap (λ (z : Tree). trimmed (value_of set z (Left l) t)) (sym e)
-    alike (suc n) (tree.Pointers ps) y (qs, e, row) l inside t =
-        pointers-alike n ps qs row l inside t ∙ ap (λ (z : Tree). trimmed (value_of set z (Left l) t)) (sym e)
-    alike (suc n) (tree.Composite d p es) y (fs, e, row) l inside t =
-        composite-alike n d p es fs row l inside t ∙ ap (λ (z : Tree). trimmed (value_of set z (Left l) t)) (sym e)
-
-    pub rows-alike : (n : ℕ) (ps qs : Trees) → ((i : ℕ) → SameTo n (nth_tree ps i) (nth_tree qs i)) → (i : ℕ) → Alike n (nth_reading (values_of set ps) i) (nth_reading (values_of set qs) i)
-    rows-alike n ps qs row i l inside t =
+  module _ (n : ℕ) (further : (x y : Tree) → SameTo n x y → Alike n (value_of set x) (value_of set y)) where
+    rows-alike : (ps qs : Trees) → ((i : ℕ) → SameTo n (nth_tree ps i) (nth_tree qs i)) → (i : ℕ) → Alike n (nth_reading (values_of set ps) i) (nth_reading (values_of set qs) i)
+    rows-alike ps qs row i l inside t =
         ap (λ (r : Reading). trimmed (r (Left l) t)) (values_of-nth set ps i)
-        ∙ (alike n (nth_tree ps i) (nth_tree qs i) (row i) l inside t ∙ ap (λ (r : Reading). trimmed (r (Left l) t)) (sym (values_of-nth set qs i)))
+        ∙ (further (nth_tree ps i) (nth_tree qs i) (row i) l inside t ∙ ap (λ (r : Reading). trimmed (r (Left l) t)) (sym (values_of-nth set qs i)))
 
-    struct-alike : (n : ℕ) (bytes : List ℕ) (ps qs : Trees) → SameRow (SameTo n) ps qs → Alike (suc n) (value_of set (tree.Struct bytes ps)) (value_of set (tree.Struct bytes qs))
-    struct-alike n bytes ps qs row l inside (StructType b g) = go (l == 0) (entered-alike l n inside b bytes bytes (values_of set ps) (values_of set qs) refl (rows-alike n ps qs row.1))
+    struct-alike : (bytes : List ℕ) (ps qs : Trees) → SameRow (SameTo n) ps qs → Alike (suc n) (value_of set (tree.Struct bytes ps)) (value_of set (tree.Struct bytes qs))
+    struct-alike bytes ps qs row l inside (StructType b g) = go (l == 0) (entered-alike l n inside b bytes bytes (values_of set ps) (values_of set qs) refl (rows-alike ps qs row.1))
       where
         go : (q : Bool) →
             trimmed (elim q as (λ _. Value) [ true ↦ value.Fault TooDeep | false ↦ value.Struct (record_of set (Left (l - 1)) bytes (values_of set ps) b) ])
@@ -191,60 +177,74 @@ module _ (set : Schemas) where
             ≡ trimmed (of_read (λ (s : StructTree). value.Struct (record_of set (Left (l - 1)) s.bytes (values_of set qs) b)) (cond q (Err TooDeep) (Ok (record { bytes = bytes; pointers = qs }))))
         go true h = h
         go false h = h
-    struct-alike n bytes ps qs row l inside (ListType e) = refused-alike _ _ WrongPointerKind (l == 0)
-    struct-alike n bytes ps qs row l inside t = refl
+    struct-alike bytes ps qs row l inside (ListType e) = refused-alike _ _ WrongPointerKind (l == 0)
+    struct-alike bytes ps qs row l inside t = refl
 
-    pointers-alike : (n : ℕ) (ps qs : Trees) → SameRow (SameTo n) ps qs → Alike (suc n) (value_of set (tree.Pointers ps)) (value_of set (tree.Pointers qs))
-    pointers-alike n ps qs row l inside (StructType b g) = refused-alike _ _ WrongPointerKind (l == 0)
-    pointers-alike n ps qs row l inside (ListType e) =
-        list-alike l n inside (tree.Pointers ps) (tree.Pointers qs) (λ k. elements_value set (tree.Pointers ps) (pointers_below (values_of set ps)) k e) (λ k. elements_value set (tree.Pointers qs) (pointers_below (values_of set qs)) k e)
-        (reads_pointers (element_size e))
-        (λ k below. ap value.Elements (row-alike _ _ (λ i. pointer-element n ps qs row k below e i) 0 (tree_count ps) (tree_count qs) row.0))
-    pointers-alike n ps qs row l inside t = refl
-
-    pointer-element : (n : ℕ) (ps qs : Trees) → SameRow (SameTo n) ps qs → (l : ℕ) → l < n → (e : SchemaType) (i : ℕ) →
+    pointer-element : (ps qs : Trees) → SameRow (SameTo n) ps qs → (l : ℕ) → l < n → (e : SchemaType) (i : ℕ) →
         trimmed (element_value set (tree.Pointers ps) (pointers_below (values_of set ps)) (Left l) e i) ≡ trimmed (element_value set (tree.Pointers qs) (pointers_below (values_of set qs)) (Left l) e i)
-    pointer-element n ps qs row l inside TextType i = rows-alike n ps qs row.1 i l inside TextType
-    pointer-element n ps qs row l inside DataType i = rows-alike n ps qs row.1 i l inside DataType
-    pointer-element n ps qs row l inside (ListType e) i = rows-alike n ps qs row.1 i l inside (ListType e)
-    pointer-element n ps qs row l inside AnyPointerType i = rows-alike n ps qs row.1 i l inside AnyPointerType
-    pointer-element n ps qs row l inside (StructType b g) i =
+    pointer-element ps qs row l inside TextType i = rows-alike ps qs row.1 i l inside TextType
+    pointer-element ps qs row l inside DataType i = rows-alike ps qs row.1 i l inside DataType
+    pointer-element ps qs row l inside (ListType e) i = rows-alike ps qs row.1 i l inside (ListType e)
+    pointer-element ps qs row l inside AnyPointerType i = rows-alike ps qs row.1 i l inside AnyPointerType
+    pointer-element ps qs row l inside (StructType b g) i =
         entered-alike l n (omega (arith, inside)) b [] [] (only_reading (values_of set ps) i) (only_reading (values_of set qs) i) refl
         (λ j. subst (λ (rs : List Reading). Alike n (nth_reading rs j) (nth_reading (only_reading (values_of set qs) i) j)) (sym (only_reading-is set ps i))
         (subst (λ (ss : List Reading). Alike n (nth_reading (values_of set (only_tree ps i)) j) (nth_reading ss j)) (sym (only_reading-is set qs i))
-        (rows-alike n (only_tree ps i) (only_tree qs i) (only-alike (SameTo n) (null-same n) ps qs row i) j)))
-    pointer-element n ps qs row l inside e i = refl
+        (rows-alike (only_tree ps i) (only_tree qs i) (only-alike (SameTo n) (null-same n) ps qs row i) j)))
+    pointer-element ps qs row l inside e i = refl
 
-    composite-alike : (n d p : ℕ) (es fs : Structs) → SameElements (SameTo n) es fs → Alike (suc n) (value_of set (tree.Composite d p es)) (value_of set (tree.Composite d p fs))
-    composite-alike n d p es fs row l inside (StructType b g) = refused-alike _ _ WrongPointerKind (l == 0)
-    composite-alike n d p es fs row l inside (ListType e) =
-        list-alike l n inside (tree.Composite d p es) (tree.Composite d p fs) (λ k. elements_value set (tree.Composite d p es) (structs_below set (bodies_of set es)) k e) (λ k. elements_value set (tree.Composite d p fs) (structs_below set (bodies_of set fs)) k e)
-        (reads_structs (element_size e) d p)
-        (λ k below. ap value.Elements (row-alike _ _ (λ i. struct-element n d p es fs row k below e i) 0 (struct_count es) (struct_count fs) row.0))
-    composite-alike n d p es fs row l inside t = refl
+    pointers-alike : (ps qs : Trees) → SameRow (SameTo n) ps qs → Alike (suc n) (value_of set (tree.Pointers ps)) (value_of set (tree.Pointers qs))
+    pointers-alike ps qs row l inside (StructType b g) = refused-alike _ _ WrongPointerKind (l == 0)
+    pointers-alike ps qs row l inside (ListType e) =
+        list-alike l n inside (tree.Pointers ps) (tree.Pointers qs) (λ k. elements_value set (tree.Pointers ps) (pointers_below (values_of set ps)) k e) (λ k. elements_value set (tree.Pointers qs) (pointers_below (values_of set qs)) k e)
+        (reads_pointers (element_size e))
+        (λ k below. ap value.Elements (row-alike _ _ (λ i. pointer-element ps qs row k below e i) 0 (tree_count ps) (tree_count qs) row.0))
+    pointers-alike ps qs row l inside t = refl
 
-    bodies-alike : (n : ℕ) (es fs : Structs) → SameElements (SameTo n) es fs → (i j : ℕ) → Alike n (nth_reading (nth_body (bodies_of set es) i).pointers j) (nth_reading (nth_body (bodies_of set fs) i).pointers j)
-    bodies-alike n es fs row i j =
+    bodies-alike : (es fs : Structs) → SameElements (SameTo n) es fs → (i j : ℕ) → Alike n (nth_reading (nth_body (bodies_of set es) i).pointers j) (nth_reading (nth_body (bodies_of set fs) i).pointers j)
+    bodies-alike es fs row i j =
         body-alike n (nth_body (bodies_of set es) i) (nth_body (bodies_of set fs) i) (body_of set (nth_struct es i)) (body_of set (nth_struct fs i)) (nth_body-is set es i) (nth_body-is set fs i)
-        (rows-alike n (nth_struct es i).pointers (nth_struct fs i).pointers (row.1 i).1.1) j
+        (rows-alike (nth_struct es i).pointers (nth_struct fs i).pointers (row.1 i).1.1) j
 
-    struct-element : (n d p : ℕ) (es fs : Structs) → SameElements (SameTo n) es fs → (l : ℕ) → l < n → (e : SchemaType) (i : ℕ) →
+    struct-element : (d p : ℕ) (es fs : Structs) → SameElements (SameTo n) es fs → (l : ℕ) → l < n → (e : SchemaType) (i : ℕ) →
         trimmed (element_value set (tree.Composite d p es) (structs_below set (bodies_of set es)) (Left l) e i) ≡ trimmed (element_value set (tree.Composite d p fs) (structs_below set (bodies_of set fs)) (Left l) e i)
-    struct-element n d p es fs row l inside (IntType w) i = ap (λ (b : List ℕ). trimmed (number_value (IntType w) (number_at w 0 b))) (sym (row.1 i).0)
-    struct-element n d p es fs row l inside (UIntType w) i = ap (λ (b : List ℕ). trimmed (number_value (UIntType w) (number_at w 0 b))) (sym (row.1 i).0)
-    struct-element n d p es fs row l inside (EnumType k) i = ap (λ (b : List ℕ). trimmed (number_value (EnumType k) (number_at 2 0 b))) (sym (row.1 i).0)
-    struct-element n d p es fs row l inside TextType i = first-alike n _ _ (bodies-alike n es fs row i 0) l inside TextType
-    struct-element n d p es fs row l inside DataType i = first-alike n _ _ (bodies-alike n es fs row i 0) l inside DataType
-    struct-element n d p es fs row l inside (ListType e) i = first-alike n _ _ (bodies-alike n es fs row i 0) l inside (ListType e)
-    struct-element n d p es fs row l inside AnyPointerType i = first-alike n _ _ (bodies-alike n es fs row i 0) l inside AnyPointerType
-    struct-element n d p es fs row l inside (StructType b g) i =
+    struct-element d p es fs row l inside (IntType w) i = ap (λ (b : List ℕ). trimmed (number_value (IntType w) (number_at w 0 b))) (sym (row.1 i).0)
+    struct-element d p es fs row l inside (UIntType w) i = ap (λ (b : List ℕ). trimmed (number_value (UIntType w) (number_at w 0 b))) (sym (row.1 i).0)
+    struct-element d p es fs row l inside (EnumType k) i = ap (λ (b : List ℕ). trimmed (number_value (EnumType k) (number_at 2 0 b))) (sym (row.1 i).0)
+    struct-element d p es fs row l inside TextType i = first-alike n (nth_body (bodies_of set es) i) (nth_body (bodies_of set fs) i) (bodies-alike es fs row i 0) l inside TextType
+    struct-element d p es fs row l inside DataType i = first-alike n (nth_body (bodies_of set es) i) (nth_body (bodies_of set fs) i) (bodies-alike es fs row i 0) l inside DataType
+    struct-element d p es fs row l inside (ListType e) i = first-alike n (nth_body (bodies_of set es) i) (nth_body (bodies_of set fs) i) (bodies-alike es fs row i 0) l inside (ListType e)
+    struct-element d p es fs row l inside AnyPointerType i = first-alike n (nth_body (bodies_of set es) i) (nth_body (bodies_of set fs) i) (bodies-alike es fs row i 0) l inside AnyPointerType
+    struct-element d p es fs row l inside (StructType b g) i =
         entered-alike l n (omega (arith, inside)) b (nth_body (bodies_of set es) i).bytes (nth_body (bodies_of set fs) i).bytes (nth_body (bodies_of set es) i).pointers (nth_body (bodies_of set fs) i).pointers
         (ap (λ (x : Body). x.bytes) (nth_body-is set fs i) ∙ ((row.1 i).0 ∙ ap (λ (x : Body). x.bytes) (sym (nth_body-is set es i))))
-        (bodies-alike n es fs row i)
-    struct-element n d p es fs row l inside e i = refl
+        (bodies-alike es fs row i)
+    struct-element d p es fs row l inside e i = refl
+
+    composite-alike : (d p : ℕ) (es fs : Structs) → SameElements (SameTo n) es fs → Alike (suc n) (value_of set (tree.Composite d p es)) (value_of set (tree.Composite d p fs))
+    composite-alike d p es fs row l inside (StructType b g) = refused-alike _ _ WrongPointerKind (l == 0)
+    composite-alike d p es fs row l inside (ListType e) =
+        list-alike l n inside (tree.Composite d p es) (tree.Composite d p fs) (λ k. elements_value set (tree.Composite d p es) (structs_below set (bodies_of set es)) k e) (λ k. elements_value set (tree.Composite d p fs) (structs_below set (bodies_of set fs)) k e)
+        (reads_structs (element_size e) d p)
+        (λ k below. ap value.Elements (row-alike _ _ (λ i. struct-element d p es fs row k below e i) 0 (struct_count es) (struct_count fs) row.0))
+    composite-alike d p es fs row l inside t = refl
+
+  pub alike : (n : ℕ) (x y : Tree) → SameTo n x y → Alike n (value_of set x) (value_of set y)
+  alike zero x y h l inside t = absurd (omega (arith, inside))
+  alike (suc n) tree.Null y h l inside t = ap (λ (z : Tree). trimmed (value_of set z (Left l) t)) (sym h)
+  alike (suc n) (tree.Voids k) y h l inside t = ap (λ (z : Tree). trimmed (value_of set z (Left l) t)) (sym h)
+  alike (suc n) (tree.Bits bits) y h l inside t = ap (λ (z : Tree). trimmed (value_of set z (Left l) t)) (sym h)
+  alike (suc n) (tree.Numbers w bytes) y h l inside t = ap (λ (z : Tree). trimmed (value_of set z (Left l) t)) (sym h)
+  alike (suc n) (tree.FaultLeaf k) y h l inside t = ap (λ (z : Tree). trimmed (value_of set z (Left l) t)) (sym h)
+  alike (suc n) (tree.Struct bytes ps) y (qs, e, row) l inside t =
+      struct-alike n (λ a b k. alike n a b k) bytes ps qs row l inside t ∙ ap (λ (z : Tree). trimmed (value_of set z (Left l) t)) (sym e)
+  alike (suc n) (tree.Pointers ps) y (qs, e, row) l inside t =
+      pointers-alike n (λ a b k. alike n a b k) ps qs row l inside t ∙ ap (λ (z : Tree). trimmed (value_of set z (Left l) t)) (sym e)
+  alike (suc n) (tree.Composite d p es) y (fs, e, row) l inside t =
+      composite-alike n (λ a b k. alike n a b k) d p es fs row l inside t ∙ ap (λ (z : Tree). trimmed (value_of set z (Left l) t)) (sym e)
 
 -- the record of a struct
 pub record-cut : (set : Schemas) (n l : ℕ) (x s : StructTree) → SameParts (SameTo n) x s → l < n → (b : ℕ) → trimmed_record (struct_record set (Left l) x b) ≡ trimmed_record (struct_record set (Left l) s b)
 record-cut set n l x s h inside b =
-    record-alike set l x.bytes (values_of set x.pointers) (values_of set s.pointers) (λ i t. rows-alike set n x.pointers s.pointers h.1.1 i l inside t) (suc (length set.brands)) b
+    record-alike set l x.bytes (values_of set x.pointers) (values_of set s.pointers) (λ i t. rows-alike set n (alike set n) x.pointers s.pointers h.1.1 i l inside t) (suc (length set.brands)) b
     ∙ ap (λ (bytes : List ℕ). trimmed_record (struct_record set (Left l) (record { bytes = bytes; pointers = s.pointers }) b)) (sym h.0)

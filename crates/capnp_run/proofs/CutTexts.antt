@@ -33,7 +33,7 @@ use Rattle.capnp_run.proofs.Trimmed.{text-alike, trimmed, trimmed_record}
 -- ---- a struct that is cut is one ----
 
 no-struct : (t u : Tree) → t ≡ u → is_struct u ≡ false → IsTrue (is_struct t) → ⊥
-no-struct t u e no here = true≢false (sym here ∙ (ap is_struct e ∙ no))
+no-struct t u e other here = true≢false (sym here ∙ (ap is_struct e ∙ other))
 
 struct-alike : (n : ℕ) (x t : Tree) → SameTo (suc n) x t → IsTrue (is_struct t) → IsTrue (is_struct x)
 struct-alike n (tree.Struct bytes ps) t h here = refl
