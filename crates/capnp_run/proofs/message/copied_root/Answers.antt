@@ -21,13 +21,13 @@ returns-in_err-place-clause-cause c =
 
 pub returns-clause-root : goal.returns-clause-root
 returns-clause-root c =
-    copied_root c.args.schema c.size_of-size.result (extended c.size_of-size.result (struct_in (tree_of c.args.source))) (tree_of c.args.source) (message_tree c.get_struct.new.message) c.size_of-size.ensures
+    copied_root c.args.schema c.size_of-size.result (extended c.size_of-size.result (struct_in (tree_of c.args.source))) (tree_of c.args.source) (message_tree c.get_struct.new.self) c.size_of-size.ensures
     refl (c.in_ok-place.ensures.tree ∙ ap (λ (t : Tree). struct_tree (extended c.size_of-size.result (struct_in t))) c.in_ok-set_root.ensures.tree) (omega arith) (omega arith)
     c.pointer_is_well_formed.ensures
 
 pub returns-clause-copied : goal.returns-clause-copied
 returns-clause-copied c =
-    root_copied c.args.schema c.size_of-size.result (extended c.size_of-size.result (struct_in (tree_of c.args.source))) c.args.source (message_tree c.get_struct.new.message) c.size_of-size.ensures
+    root_copied c.args.schema c.size_of-size.result (extended c.size_of-size.result (struct_in (tree_of c.args.source))) c.args.source (message_tree c.get_struct.new.self) c.size_of-size.ensures
     refl (c.in_ok-place.ensures.tree ∙ ap (λ (t : Tree). struct_tree (extended c.size_of-size.result (struct_in t))) c.in_ok-set_root.ensures.tree)
 
 pub returns-clause-sound : goal.returns-clause-sound

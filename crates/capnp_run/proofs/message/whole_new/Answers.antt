@@ -10,7 +10,7 @@ print_root-requires-clause-here c = is_root c.args.schema _ (message_tree c.run_
 
 pub returns-in_err-replies-clause-cause : goal.returns-in_err-replies-clause-cause
 returns-in_err-replies-clause-cause c =
-    let p = err_from_is_err_and c.from_residual.result c.from_residual.ensures.1 in
+    let p = err_from_is_err_and c.from_residual-in_err-replies.result c.from_residual-in_err-replies.ensures.1 in
     rw (p.1, p.2) (λ other. absurd (other c.in_err-replies.ensures.cause))
 
 pub returns-in_err-bytes-clause-cause : goal.returns-in_err-bytes-clause-cause
