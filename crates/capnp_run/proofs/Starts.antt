@@ -132,34 +132,6 @@ module _ (law : PrintLaw) (groups : GroupPrintLaw) (set : Schemas) (indented : B
       go (Ok bytes) e k = subst (λ (o : Out). IsAppended old o new) (sym (text_same q bytes e)) k
       go (Err kind) e k = absurd k
 
--- a struct that was read as one, by its reader
-pub printed_by : (law : PrintLaw) (groups : GroupPrintLaw) (schema : StructSchema) (handle : StructHandle) (s : StructTree) (indented : Bool) (old new : List ℕ) → schema_of handle ≡ schema → struct_of (reader_of handle) ≡ s →
-    IsAppended old (printed_text indented (dynamic.Struct handle)) new → IsAppended old (text_in schema indented (record_in schema s)) new
-printed_by law groups schema handle s indented old new e h printed =
-    subst (λ (x : StructTree). IsAppended old (text_in schema indented (record_in schema x)) new) h
-    (subst (λ (z : StructSchema). IsAppended old (text_in z indented (record_in z (struct_of (reader_of handle)))) new) e
-    (appended law groups (set_of (schema_of handle)) indented (number_of (schema_of handle)) (generic_of (schema_of handle)) (struct_of (reader_of handle)) (Left (struct_levels (reader_of handle)))
-    (struct_node (schema_of handle)).is_group old new (seen_so (struct_node (schema_of handle)).is_group printed)))
-  where
-    seen_so : (q : Bool) → IsAppended old (text_of (set_of (schema_of handle)) indented (struct_type (schema_of handle)) (struct_printed q handle)) new →
-        IsAppended old (text_of (set_of (schema_of handle)) indented (struct_type (schema_of handle)) (root_value q (record_seen handle))) new
-    seen_so true k = k
-    seen_so false k = k
-
--- why nothing was printed, by the levels of the reader
-pub unprinted_by : (schema : StructSchema) (handle : StructHandle) (s : StructTree) (indented : Bool) (kind : ErrorKind) → schema_of handle ≡ schema → struct_of (reader_of handle) ≡ s → struct_levels (reader_of handle) ≡ 63 →
-    printed_text indented (dynamic.Struct handle) ≡ Err kind → text_in schema indented (record_left schema s) ≡ Err kind
-unprinted_by schema handle s indented kind e h l refused =
-    subst (λ (x : StructTree). text_in schema indented (record_left schema x) ≡ Err kind) h
-    (subst (λ (z : StructSchema). text_in z indented (record_left z (struct_of (reader_of handle))) ≡ Err kind) e
-    (subst (λ (n : ℕ). text_in (schema_of handle) indented (struct_record (set_of (schema_of handle)) (Left n) (struct_of (reader_of handle)) (number_of (schema_of handle))) ≡ Err kind) l
-    (seen_so (struct_node (schema_of handle)).is_group refused)))
-  where
-    seen_so : (q : Bool) → text_of (set_of (schema_of handle)) indented (struct_type (schema_of handle)) (struct_printed q handle) ≡ Err kind →
-        text_of (set_of (schema_of handle)) indented (struct_type (schema_of handle)) (root_value q (record_seen handle)) ≡ Err kind
-    seen_so true k = k
-    seen_so false k = k
-
 abbrev ok_struct : StructTree → Result StructTree ErrorKind → StructTree
 ok_struct other (Ok s) = s
 ok_struct other (Err kind) = other
@@ -178,9 +150,6 @@ struct_answered (tree.Numbers w bytes) n x here h = absurd (true≢false (sym he
 struct_answered (tree.Pointers ps) n x here h = absurd (true≢false (sym here))
 struct_answered (tree.Composite d p es) n x here h = absurd (true≢false (sym here))
 struct_answered (tree.FaultLeaf k) n x here h = absurd (true≢false (sym here))
-
-pub struct_read_so : (p : PointerReader) (t : Tree) (reader : StructReader) → tree_of p ≡ t → IsTrue (is_struct t) → Ok (struct_of reader) ≡ as_struct (tree_of p) (levels_of p) → struct_of reader ≡ struct_in t
-struct_read_so p t reader e here h = struct_answered t (levels_of p) (struct_of reader) here (ap (λ (y : Tree). as_struct y (levels_of p)) (sym e) ∙ sym h)
 
 -- and a struct is read as one where a level is left
 pub struct_reads : (t : Tree) (n : ℕ) (kind : ErrorKind) → IsTrue (is_struct t) → n ≡ 64 → Err kind ≡ as_struct t n → ⊥

@@ -23,19 +23,19 @@ run_on-replies-requires-clause-fits c =
 pub tree_is_sound-requires : goal.tree_is_sound-requires
 tree_is_sound-requires c =
     let s : IsInStruct (segment c.args.message.now) (segment c.run_on-replies.new.arena) 0 c.args.place.start c.args.place.data_words c.args.place.pointers =
-        in_struct _ _ 0 c.args.place.start c.args.place.data_words c.args.place.pointers c.requires.message c.requires.place c.run_on-replies.ensures.planted c.run_on-replies.ensures.changes in
+    in_struct _ _ 0 c.args.place.start c.args.place.data_words c.args.place.pointers c.requires.message c.requires.place c.run_on-replies.ensures.planted c.run_on-replies.ensures.changes in
     s.forest
 
 pub returns-clause-message : goal.returns-clause-message
 returns-clause-message c =
     let s : IsInStruct (segment c.args.message.now) (segment c.run_on-replies.new.arena) 0 c.args.place.start c.args.place.data_words c.args.place.pointers =
-        in_struct _ _ 0 c.args.place.start c.args.place.data_words c.args.place.pointers c.requires.message c.requires.place c.run_on-replies.ensures.planted c.run_on-replies.ensures.changes in
+    in_struct _ _ 0 c.args.place.start c.args.place.data_words c.args.place.pointers c.requires.message c.requires.place c.run_on-replies.ensures.planted c.run_on-replies.ensures.changes in
     s.forest
 
 pub returns-clause-run : goal.returns-clause-run
 returns-clause-run c =
     let s : IsInStruct (segment c.args.message.now) (segment c.run_on-replies.new.arena) 0 c.args.place.start c.args.place.data_words c.args.place.pointers =
-        in_struct _ _ 0 c.args.place.start c.args.place.data_words c.args.place.pointers c.requires.message c.requires.place c.run_on-replies.ensures.planted c.run_on-replies.ensures.changes in
+    in_struct _ _ 0 c.args.place.start c.args.place.data_words c.args.place.pointers c.requires.message c.requires.place c.run_on-replies.ensures.planted c.run_on-replies.ensures.changes in
     if_ok c.run_on-replies.result
     (λ replies runs. runs_here c.args.schema (message_tree c.args.message.now) (message_tree c.run_on-replies.new.arena) (built c.args.message.now c.args.place) (built c.run_on-replies.new.arena c.args.place) c.args.calls.now replies.items
     (sym (ap struct_in (tree_struct (segment c.args.message.now) 0 c.args.place.start c.args.place.data_words c.args.place.pointers c.requires.message c.requires.place))) s.tree (subst IsWellFormed s.tree c.tree_is_sound.ensures.formed) runs)
@@ -44,7 +44,7 @@ returns-clause-run c =
 pub returns-clause-made : goal.returns-clause-made
 returns-clause-made c =
     let s : IsInStruct (segment c.args.message.now) (segment c.run_on-replies.new.arena) 0 c.args.place.start c.args.place.data_words c.args.place.pointers =
-        in_struct _ _ 0 c.args.place.start c.args.place.data_words c.args.place.pointers c.requires.message c.requires.place c.run_on-replies.ensures.planted c.run_on-replies.ensures.changes in
+    in_struct _ _ 0 c.args.place.start c.args.place.data_words c.args.place.pointers c.requires.message c.requires.place c.run_on-replies.ensures.planted c.run_on-replies.ensures.changes in
     if_ok c.run_on-replies.result
     (λ replies made. makes_here (set_of c.args.schema) (number_of c.args.schema) (message_tree c.args.message.now) (message_tree c.run_on-replies.new.arena) (built c.args.message.now c.args.place) (built c.run_on-replies.new.arena c.args.place) c.args.calls.now replies.items
     (sym (ap struct_in (tree_struct (segment c.args.message.now) 0 c.args.place.start c.args.place.data_words c.args.place.pointers c.requires.message c.requires.place))) s.tree made)
