@@ -1,5 +1,5 @@
 -- A struct that is started has its schema's sections, and a run keeps them.
-use Rattle.std.specs.Prelude.{ℕ, ◌*◌, ◌≤◌, ◌≡◌, List}
+use Rattle.std.specs.Prelude.{ℕ, ◌*◌, ◌≤◌, ◌≡◌}
 use Rattle.std.proofs.Common.{ap, subst, sym, ◌∙◌}
 use Rattle.capnp_wire.specs.Edits.{zero_struct}
 use Rattle.capnp_wire.specs.Place.{struct_tree}
@@ -7,7 +7,7 @@ use Rattle.capnp_wire.specs.Sizes as sizes
 use Rattle.capnp_wire.specs.Tree.{StructTree}
 use Rattle.capnp_wire.specs.declared.size.StructSize.{StructSize}
 use Rattle.capnp_arena.specs.Facts.Laws.{struct_is, struct_planted}
-use Rattle.capnp_arena.specs.Forest.{Forest, struct_from, tree}
+use Rattle.capnp_arena.specs.Forest.{Forest, tree}
 use Rattle.capnp_arena.specs.Segment.{segment}
 use Rattle.capnp_arena.specs.Shape.{shape_at}
 use Rattle.capnp_arena.specs.declared.arena.Arena.{Arena}

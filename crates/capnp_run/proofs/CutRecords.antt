@@ -14,12 +14,12 @@ use Rattle.capnp_arena.specs.Same.{SameElements, SameParts, SameRow, SameTo}
 use Rattle.capnp_schema.specs.Schema.{FieldKind, Group, Node, Schemas, Slot, TypedField, fields_of, is_member, node_of}
 use Rattle.capnp_schema.specs.Schema.{Value as SchemaValue}
 use Rattle.capnp_schema.specs.SlotValue.{slot_number}
-use Rattle.capnp_schema.specs.Types.{AnyPointerType, BoolType, DataType, EnumType, IntType, ListType, SchemaType, StructType, TextType, UIntType, VoidType, element_size, is_pointer, struct_brand}
+use Rattle.capnp_schema.specs.Types.{AnyPointerType, DataType, EnumType, IntType, ListType, SchemaType, StructType, TextType, UIntType, element_size, is_pointer, struct_brand}
 use Rattle.capnp_records.specs.Facts.ListValues.{body_of, nth_body-is, only_reading-is}
 use Rattle.capnp_records.specs.Facts.Pointers.{values_of-nth}
-use Rattle.capnp_records.specs.Reading.{Below, Body, Reading, active_among, bodies_of, discriminant, element_value, elements_value, entered, first_pointer, group_record, kind_value, nth_body, nth_reading, number_value, of_read, only_reading, plain_parts, pointers_below, record_of, record_within, slot_value, struct_below, struct_record, structs_below, tree_value, union_of, value_of, values_of}
+use Rattle.capnp_records.specs.Reading.{Body, Reading, active_among, bodies_of, discriminant, element_value, elements_value, entered, first_pointer, group_record, kind_value, nth_body, nth_reading, number_value, of_read, only_reading, plain_parts, pointers_below, record_of, record_within, slot_value, struct_below, struct_record, structs_below, tree_value, union_of, value_of, values_of}
 use Rattle.capnp_records.specs.Record as value
-use Rattle.capnp_records.specs.Record.{Active, Left, Levels, MoreValues, NoUnion, NoValues, Parts, Record, Union, Unknown, Value, Values, is_there, one_less, values_from}
+use Rattle.capnp_records.specs.Record.{Active, Left, Levels, MoreValues, NoUnion, Parts, Record, Union, Value, Values, is_there, one_less, values_from}
 use Rattle.capnp_run.proofs.Trimmed.{trimmed, trimmed-there, trimmed_record, trimmed_union, trimmed_values}
 
 -- ---- records ----

@@ -1,5 +1,5 @@
 -- The text of a message's root is that of the reader which stands on it, whose tree is cut off further down.
-use Rattle.std.specs.Prelude.{ℕ, suc, ◌≡◌, refl, List, Bool, true, false, IsTrue, Option, Ok, Err}
+use Rattle.std.specs.Prelude.{ℕ, suc, ◌≡◌, refl, List, Bool, true, false, IsTrue, Ok, Err}
 use Rattle.std.proofs.Common.{ap, arith, sym, subst, ◌∙◌}
 use Rattle.std.proofs.lemmas.Bool.{true≢false}
 use Rattle.capnp_device.specs.declared.error.ErrorKind.{ErrorKind}
@@ -7,9 +7,9 @@ use Rattle.capnp_wire.specs.Edits.{is_struct, struct_in}
 use Rattle.capnp_wire.specs.Reading.{as_struct}
 use Rattle.capnp_wire.specs.Standing.{struct_levels, struct_of}
 use Rattle.capnp_wire.specs.Tree as tree
-use Rattle.capnp_wire.specs.Tree.{StructTree, Tree, Trees}
+use Rattle.capnp_wire.specs.Tree.{StructTree, Tree}
 use Rattle.capnp_wire.specs.declared.struct_reader.StructReader.{StructReader}
-use Rattle.capnp_arena.specs.Same.{IsCutOf, SameParts, SameRow, SameTo}
+use Rattle.capnp_arena.specs.Same.{IsCutOf, SameParts, SameTo}
 use Rattle.capnp_schema.specs.StructHandles.{generic_of, number_of, set_of, struct_node}
 use Rattle.capnp_schema.specs.declared.schema.structs.StructSchema.{StructSchema}
 use Rattle.capnp_records.specs.Laws.{GroupPrintLaw, PrintLaw}

@@ -1,7 +1,6 @@
 -- Calls one after another.
-use Rattle.std.specs.Prelude.{ℕ, ◌*◌, ◌≤◌, ◌≡◌, refl, List, [], ◌∷◌, ◌++◌, map}
-use Rattle.std.proofs.Common.{sym, subst, ◌∙◌}
-use Rattle.std.proofs.lemmas.Bool.{true≢false}
+use Rattle.std.specs.Prelude.{ℕ, ◌≡◌, refl, List, [], ◌∷◌, ◌++◌, map}
+use Rattle.std.proofs.Common.{subst}
 use Rattle.capnp_wire.specs.Tree.{StructTree}
 use Rattle.capnp_schema.specs.Schema.{Schemas, brand_at}
 use Rattle.capnp_schema.specs.StructHandles.{IsStruct, number_of, set_of}
@@ -12,11 +11,9 @@ use Rattle.capnp_records.specs.Laws.{OverlayLaw}
 use Rattle.capnp_records.specs.Reading.{reads}
 use Rattle.capnp_records.specs.Run.{Run}
 use Rattle.capnp_records.specs.Writes.Slots.{Fits}
-use Rattle.capnp_schema.specs.Plan.{brand_size}
 use Rattle.capnp_records.specs.Writes.Stand.{OnStruct}
 use Rattle.capnp_records.specs.Writes.TreeEnds.{TreeEnds, TreeRun, TreeStep}
 use Rattle.capnp_records.specs.Writes.TreeRun.{TreeWalks}
-use Rattle.capnp_slots.specs.Groups.{KeepsSize}
 use Rattle.capnp_run.specs.Runs.{IsMade, Makes}
 use Rattle.capnp_call.specs.Seen.{call_seen, op_seen, path_seen, reply_seen, step_seen}
 use Rattle.capnp_call.specs.Ends.{AsStruct}
