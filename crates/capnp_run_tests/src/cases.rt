@@ -5,17 +5,20 @@
 ghost use Rattle.capnp_schema.specs.StructHandles.{IsStruct};
 
 use crate::rows::{Asked, asked_in, calls_of, first_wrong};
+use capnp_arena::handles::StructBuilder;
+use capnp_arena::message::Builder;
 use capnp_callers::streams::run_on_stream;
-use capnp_dynamic::dynamic_struct;
-use capnp_dynamic::dynamic_value::Reader as Value;
+use capnp_dynamic_readers::dynamic_struct;
+use capnp_dynamic_readers::dynamic_value::Reader as Value;
 use capnp_run::calls::{Call, Reply};
 use capnp_run::message::{run_copied, whole_new};
 use capnp_run::run::run;
 use capnp_schema::schema::StructSchema;
 use capnp_schema::set::SchemaSet;
 use capnp_schema_fixtures::fixtures::schema_of;
+use capnp_slots::size_of;
 use capnp_wire::error::Result;
-use capnp_wire::message::{Builder, Reader};
+use capnp_wire::message::Reader;
 use std::alloc::Global;
 use std::process::Abort;
 
@@ -77,12 +80,13 @@ fn run_on_empty(
 ) -> Result<(Vec<Reply>, Vec<u8>)>
     requires { IsStruct schema }
 {
-    let mut message = Builder::new(alloc);
-    let replies = run(
-        alloc,
-        dynamic_struct::Builder::open(message.root(), schema)?,
-        calls,
-    )?;
+    let mut message = Builder::new(alloc)?;
+    let place = message.get_struct(0, size_of(schema))?;
+    let built = StructBuilder {
+        arena: &mut message,
+        place,
+    };
+    let replies = run(alloc, built, schema, calls)?;
     let bytes = message.write_message()?;
     Ok((replies, bytes))
 }
@@ -96,7 +100,7 @@ fn run_on_copy(
     requires { IsStruct schema }
 {
     let source = Reader::new(alloc, start)?.get_root();
-    let mut message = Builder::new(alloc);
+    let mut message = Builder::new(alloc)?;
     let replies = run_copied(alloc, &mut message, source, schema, calls)?;
     let bytes = message.write_message()?;
     Ok((replies, bytes))

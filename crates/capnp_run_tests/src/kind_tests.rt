@@ -2,7 +2,7 @@
 
 use crate::cases::{Case, cases_hold};
 use crate::fixtures::{MANY, NODE, NONE};
-use capnp_dynamic::dynamic_value::{Enum as EnumValue, Reader as Value};
+use capnp_dynamic_readers::dynamic_value::{Enum as EnumValue, Reader as Value};
 use capnp_schema::builtin::new_set;
 use capnp_schema_fixtures::kinds::{FULL, KINDS, KINDS_SET};
 use capnp_schema_fixtures::messages::MANY_FULL;

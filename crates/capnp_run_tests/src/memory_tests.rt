@@ -1,14 +1,16 @@
 //! Runs that memory is refused to: `./fail_each_allocation` refuses each request of each test in turn. Where a run meets it,
 //! the run is refused and the message is as it was, or one reply says so and the calls after it are answered as the machine of
 //! records says from there; what comes before and after the run is not looked at.
+ghost use Rattle.capnp_arena.specs.Message.{IsMessage};
 ghost use Rattle.capnp_schema.specs.StructHandles.{IsStruct};
 
 use crate::cases::root;
 use crate::fixtures::{ENTERED, LISTED, LISTS, LOOP, SHAPES};
 use crate::rows::{Asked, asked_in, calls_of, first_wrong};
-use capnp_dynamic::dynamic_struct;
-use capnp_dynamic::dynamic_value::Reader as Value;
-use capnp_dynamic::printer::print;
+use capnp_arena::handles::StructBuilder;
+use capnp_arena::message::Builder;
+use capnp_dynamic_readers::dynamic_value::Reader as Value;
+use capnp_dynamic_readers::printer::print;
 use capnp_run::calls::{Call, Reply};
 use capnp_run::run::run;
 use capnp_schema::builtin::new_set;
@@ -16,9 +18,9 @@ use capnp_schema::schema::StructSchema;
 use capnp_schema::set::SchemaSet;
 use capnp_schema_fixtures::fixtures::schema_of;
 use capnp_schema_fixtures::messages::{ITEMS_AS_NUMBERS, SHORT};
+use capnp_slots::size_of;
 use capnp_wire::error::{ErrorKind, Result};
-use capnp_wire::laws::pointer_is_well_formed;
-use capnp_wire::message::{Builder, Reader};
+use capnp_wire::message::Reader;
 use std::alloc::Global;
 use std::process::Abort;
 use std::test::Fail;
@@ -56,7 +58,9 @@ struct Met {
 }
 
 /// The message that is written; where memory is refused to that, the message is there still.
-fn written(message: &Builder) -> Result<Vec<u8>> {
+fn written(message: &Builder) -> Result<Vec<u8>>
+    requires { IsMessage message.now }
+{
     match message.write_message() {
         Ok(bytes) => Ok(bytes),
         Err(_) => message.write_message(),
@@ -87,13 +91,15 @@ fn meet(alloc: Global, schema: StructSchema<'_>, start: &[u8], calls: &[Call<'_>
     requires { IsStruct schema }
 {
     let source = Reader::new(alloc, start)?.get_root();
-    pointer_is_well_formed(&source);
-    let mut message = Builder::new(alloc);
+    let mut message = Builder::new(alloc)?;
     message.set_root(source)?;
-    dynamic_struct::Builder::open(message.root(), schema)?;
+    let place = message.get_struct(0, size_of(schema))?;
     let before = message.write_message()?;
-    let builder = dynamic_struct::Builder::open(message.root(), schema)?;
-    let replies = replies_of(run(alloc, builder, calls))?;
+    let built = StructBuilder {
+        arena: &mut message,
+        place,
+    };
+    let replies = replies_of(run(alloc, built, schema, calls))?;
     let after = written(&message)?;
     let text = printed(alloc, schema, after.as_slice())?;
     Ok(Met {

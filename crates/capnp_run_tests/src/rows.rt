@@ -11,7 +11,7 @@
 //! `Flag(false)`, `List(2)`. A text has its letters, `Text(hi)`, and a refusal its number (`ErrorKind::number`), `Refused(30)`.
 
 use capnp_base::text;
-use capnp_dynamic::dynamic_value::Reader as Value;
+use capnp_dynamic_readers::dynamic_value::Reader as Value;
 use capnp_run::calls::{Call, Op, Plain, Reply, Step};
 use capnp_wire::error::Result;
 use std::alloc::Global;

@@ -2,7 +2,7 @@
 
 use crate::cases::{Case, cases_hold, left_by};
 use crate::fixtures::{LISTS, LOOP, NONE, SHAPES};
-use capnp_dynamic::dynamic_value::Reader as Value;
+use capnp_dynamic_readers::dynamic_value::Reader as Value;
 use capnp_schema::builtin::new_set;
 use capnp_schema_fixtures::set_text::read_set;
 use std::test::Fail;
