@@ -15,7 +15,7 @@ use Rattle.capnp_arena.specs.declared.arena.Place.{Place}
 use Rattle.capnp_schema.specs.Plan.{brand_size}
 use Rattle.capnp_schema.specs.Schema.{Schemas}
 use Rattle.capnp_records.specs.Writes.Slots.{Fits}
-use Rattle.capnp_slots.specs.Built.{IsBuilt, built, part}
+use Rattle.capnp_arena.specs.Built.{IsBuilt, built, part}
 use Rattle.capnp_slots.specs.Groups.{KeepsSize}
 
 pub fits_on : (set : Schemas) (b : ℕ) (s s' : StructTree) → Fits set b s → KeepsSize s s' → Fits set b s'

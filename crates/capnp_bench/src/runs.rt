@@ -2,7 +2,7 @@
 ghost use Rattle.std.specs.Prelude.{◌<◌};
 ghost use Rattle.capnp_schema.specs.StructHandles.{IsStruct, number_of, set_of};
 ghost use Rattle.capnp_records.specs.Writes.Slots.{Fits};
-ghost use Rattle.capnp_slots.specs.Built.{IsBuilt, built};
+ghost use Rattle.capnp_arena.specs.Built.{IsBuilt, built};
 
 use capnp_arena::arena::{Arena, Place};
 use capnp_arena::message::Builder;

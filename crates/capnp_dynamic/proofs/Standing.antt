@@ -16,7 +16,7 @@ use Rattle.capnp_arena.specs.declared.arena.Arena.{Arena}
 use Rattle.capnp_arena.specs.declared.arena.Place.{Place}
 use Rattle.capnp_schema.specs.Footprint.{Spot}
 use Rattle.capnp_schema.specs.declared.schema.structs.StructSchema.{StructSchema}
-use Rattle.capnp_slots.specs.Built.{ChangesIn, IsBuilt, built, part}
+use Rattle.capnp_arena.specs.Built.{ChangesIn, IsBuilt, built, part}
 use Rattle.capnp_slots.specs.Fields.{Keeps}
 use Rattle.capnp_dynamic.specs.Built.{IsStanding}
 use Rattle.capnp_dynamic.proofs.Builders.{under_kept}

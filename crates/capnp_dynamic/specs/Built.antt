@@ -24,7 +24,7 @@ use Rattle.capnp_records.specs.Reading.{struct_record}
 use Rattle.capnp_records.specs.Record.{Left, Record}
 use Rattle.capnp_records.specs.Writes.Slots.{Fits}
 use Rattle.capnp_schema.specs.Plan.{brand_size}
-use Rattle.capnp_slots.specs.Built.{IsBuilt, built}
+use Rattle.capnp_arena.specs.Built.{IsBuilt, built}
 use Rattle.capnp_dynamic.specs.contracts.dynamic_list.build.Builder.{the_row as list_handle_row}
 use Rattle.capnp_dynamic.specs.contracts.dynamic_struct.build.Builder.{the_row as struct_handle_row}
 use Rattle.capnp_dynamic.specs.declared.dynamic_list.build.Builder.{Builder as ListHandle}

@@ -8,7 +8,7 @@ ghost use Rattle.capnp_schema.specs.FieldLists.{typed_of};
 ghost use Rattle.capnp_schema.specs.Query.{field_named};
 ghost use Rattle.capnp_schema.specs.StructHandles.{struct_records};
 ghost use Rattle.capnp_schema.specs.declared.schema.fields.Field.{Field};
-ghost use Rattle.capnp_slots.specs.Built.{IsBuilt, built};
+ghost use Rattle.capnp_arena.specs.Built.{IsBuilt, built};
 ghost use Rattle.capnp_slots.specs.Fields.{IsPointer, IsRoomFor, IsSlot, field_set};
 ghost use Rattle.capnp_slots.specs.Fills.{pointer_in};
 ghost use Rattle.capnp_slots.specs.Inits.{IsInitRefusal, IsInitnRefusal};

@@ -12,7 +12,7 @@ use Rattle.capnp_arena.specs.declared.arena.Place.{Place}
 use Rattle.capnp_schema.specs.Plan.{brand_size}
 use Rattle.capnp_schema.specs.Schema.{Schemas}
 use Rattle.capnp_records.specs.Writes.Slots.{Fits}
-use Rattle.capnp_slots.specs.Built.{ChangesIn, IsBuilt, built, part}
+use Rattle.capnp_arena.specs.Built.{ChangesIn, IsBuilt, built, part}
 use Rattle.capnp_slots.specs.Groups.{KeepsSize}
 
 pub changes_none : (p : Place) (a b : Arena) → segment b ≡ segment a → ChangesIn p a b

@@ -8,7 +8,7 @@ ghost use Rattle.capnp_arena.specs.Segment.{segment};
 ghost use Rattle.capnp_arena.specs.Shape.{shape_at, word_count};
 ghost use Rattle.capnp_schema.specs.StructHandles.{IsStruct, number_of, set_of};
 ghost use Rattle.capnp_dynamic_readers.specs.Pieces.{IsAppended};
-ghost use Rattle.capnp_slots.specs.Built.{part};
+ghost use Rattle.capnp_arena.specs.Built.{part};
 ghost use Rattle.capnp_run.specs.Messages.{HasRoot, IsCopiedRefusal, IsRoot, IsWhole, IsWholeRefusal, LeavesRun};
 ghost use Rattle.capnp_run.specs.Messages.{RunsOn, copied_record, copied_root, new_record, new_root, read_text, root_refusal, root_text};
 ghost use Rattle.capnp_run.specs.Runs.{Makes, RestsWhole};

@@ -5,7 +5,7 @@ ghost use Rattle.capnp_arena.specs.Handles.{IsStruct as IsPlanted, built_struct}
 ghost use Rattle.capnp_arena.specs.Segment.{segment};
 ghost use Rattle.capnp_schema.specs.StructHandles.{IsStruct, number_of, set_of};
 ghost use Rattle.capnp_records.specs.Writes.Slots.{Fits};
-ghost use Rattle.capnp_slots.specs.Built.{ChangesIn, IsBuilt, built};
+ghost use Rattle.capnp_arena.specs.Built.{ChangesIn, IsBuilt, built};
 ghost use Rattle.capnp_slots.specs.Groups.{KeepsSize};
 ghost use Rattle.capnp_run.specs.Runs.{IsMade, Makes, RestsWhole, RunsTo};
 

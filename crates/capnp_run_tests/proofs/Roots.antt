@@ -15,7 +15,7 @@ use Rattle.capnp_schema.specs.Plan.{brand_size}
 use Rattle.capnp_schema.specs.Schema.{Schemas}
 use Rattle.capnp_records.specs.Facts.Extension.{fits-extended}
 use Rattle.capnp_records.specs.Writes.Slots.{Fits}
-use Rattle.capnp_slots.specs.Built.{IsBuilt, built, part}
+use Rattle.capnp_arena.specs.Built.{IsBuilt, built, part}
 
 module _ (a b : Arena) (p q : Place) (same : b ≡ a) (placed : q ≡ p) (forest : Forest (segment a) 0) (there : shape_at (segment a) 0 ≡ part p) where
   forest_here : Forest (segment b) 0

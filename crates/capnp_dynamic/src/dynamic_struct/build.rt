@@ -21,7 +21,7 @@ ghost use Rattle.capnp_schema.specs.Types.{seen_type};
 ghost use Rattle.capnp_schema.specs.declared.schema.fields.Field.{Field};
 ghost use Rattle.capnp_records.specs.Part.{has_of, which_of};
 ghost use Rattle.capnp_records.specs.Writes.Slots.{Fits};
-ghost use Rattle.capnp_slots.specs.Built.{ChangesIn, IsBuilt, built};
+ghost use Rattle.capnp_arena.specs.Built.{ChangesIn, IsBuilt, built};
 ghost use Rattle.capnp_slots.specs.Copied.{refusal_of};
 ghost use Rattle.capnp_slots.specs.Fields.{IsSlot, Keeps, names_of};
 ghost use Rattle.capnp_slots.specs.SetValues.{source_of};

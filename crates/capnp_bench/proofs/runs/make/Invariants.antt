@@ -1,6 +1,6 @@
 use Rattle.capnp_schema.specs.StructHandles.{number_of, set_of}
 use Rattle.capnp_records.specs.Writes.Slots.{Fits}
-use Rattle.capnp_slots.specs.Built.{IsBuilt, built}
+use Rattle.capnp_arena.specs.Built.{IsBuilt, built}
 use Rattle.capnp_bench.proofs.runs.make.Given as goal
 
 abbrev pub invariant-loop : goal.invariant-loop

@@ -6,7 +6,7 @@ use Rattle.capnp_arena.specs.Same.{IsStructCutOf}
 use Rattle.capnp_schema.specs.FieldLists.{index_of}
 use Rattle.capnp_schema.specs.StructHandles.{set_of, struct_field}
 use Rattle.capnp_schema.specs.declared.schema.structs.StructSchema.{StructSchema}
-use Rattle.capnp_slots.specs.Built.{built}
+use Rattle.capnp_arena.specs.Built.{built}
 use Rattle.capnp_dynamic_readers.specs.Typed.{IsOf}
 use Rattle.std.specs.Prelude.{ℕ, ◌≡◌}
 use Rattle.capnp_wire.specs.Standing.{struct_levels}

@@ -3,7 +3,7 @@ use Rattle.capnp_wire.specs.Tree.{Tree}
 use Rattle.capnp_arena.specs.Forest.{tree}
 use Rattle.capnp_arena.specs.Segment.{segment}
 use Rattle.capnp_schema.specs.Entries.{lists_seen}
-use Rattle.capnp_slots.specs.Built.{built}
+use Rattle.capnp_arena.specs.Built.{built}
 use Rattle.capnp_dynamic.proofs.ElementsHanded.{struct_ready}
 use Rattle.capnp_dynamic.proofs.hand_element.struct_at.Goals as goal
 

@@ -6,7 +6,7 @@ use Rattle.capnp_schema.specs.Facts.Layers.{seen_which}
 use Rattle.capnp_schema.specs.FieldLists.{typed_of}
 use Rattle.capnp_schema.specs.StructHandles.{set_of}
 use Rattle.capnp_schema.specs.Types.{seen_variant}
-use Rattle.capnp_slots.specs.Built.{built}
+use Rattle.capnp_arena.specs.Built.{built}
 use Rattle.capnp_slots.specs.Fields.{field_set}
 use Rattle.capnp_slots.specs.Fills.{pointer_in}
 use Rattle.capnp_dynamic.proofs.HandedOut.{can-hand, handed-out}

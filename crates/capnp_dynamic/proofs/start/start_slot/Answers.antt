@@ -1,6 +1,6 @@
 -- What was started stands at the pointer.
 use Rattle.capnp_wire.specs.Tree.{StructTree}
-use Rattle.capnp_slots.specs.Built.{built}
+use Rattle.capnp_arena.specs.Built.{built}
 use Rattle.capnp_dynamic.proofs.Started.{init_hands, init_stands}
 use Rattle.capnp_dynamic.proofs.start.start_slot.Goals as goal
 

@@ -8,7 +8,7 @@ use Rattle.capnp_arena.specs.Message.{message_tree}
 use Rattle.capnp_arena.specs.Segment.{segment}
 use Rattle.capnp_schema.specs.StructHandles.{number_of, set_of}
 use Rattle.capnp_records.specs.Writes.Slots.{Fits}
-use Rattle.capnp_slots.specs.Built.{built}
+use Rattle.capnp_arena.specs.Built.{built}
 use Rattle.capnp_run.proofs.Results.{if_ok}
 use Rattle.capnp_run.proofs.Starts.{makes_here, runs_here}
 use Rattle.capnp_run.proofs.message.run_root.Goals as goal

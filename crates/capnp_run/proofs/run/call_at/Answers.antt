@@ -1,7 +1,7 @@
 -- The call is what the walk of its path is.
 use Rattle.std.proofs.Common.{refl}
 use Rattle.capnp_schema.specs.StructHandles.{number_of, set_of}
-use Rattle.capnp_slots.specs.Built.{built}
+use Rattle.capnp_arena.specs.Built.{built}
 use Rattle.capnp_run.proofs.Making.{call_made}
 use Rattle.capnp_run.proofs.run.call_at.Goals as goal
 

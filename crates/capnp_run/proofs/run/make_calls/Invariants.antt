@@ -3,7 +3,7 @@ use Rattle.std.proofs.Common.{◌≡◌, ◌≤◌, length, take, vec_len}
 use Rattle.std.specs.Vec.{vec_capacity}
 use Rattle.capnp_schema.specs.StructHandles.{number_of, set_of}
 use Rattle.capnp_records.specs.Writes.Slots.{Fits}
-use Rattle.capnp_slots.specs.Built.{ChangesIn, IsBuilt, built}
+use Rattle.capnp_arena.specs.Built.{ChangesIn, IsBuilt, built}
 use Rattle.capnp_run.specs.Runs.{Makes}
 use Rattle.capnp_run.proofs.run.make_calls.Given as goal
 

@@ -1,7 +1,7 @@
 -- A run on trees is a run of the machine of records.
 use Rattle.std.proofs.Common.{subst}
 use Rattle.capnp_schema.specs.Ranges.{HasRanges}
-use Rattle.capnp_slots.specs.Built.{built}
+use Rattle.capnp_arena.specs.Built.{built}
 use Rattle.capnp_run.proofs.Making.{machine_runs}
 use Rattle.capnp_run.proofs.NoMemory.{run_rests}
 use Rattle.capnp_run.proofs.Results.{if_ok}
