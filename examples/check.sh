@@ -214,7 +214,7 @@ got() {
 got mixed.bin '"hi"' Mixed b
 got mixed.bin '(a = 5, y = 9, b = "hi")' Mixed .
 got lists_segments.bin 2 Lists items.1.a
-got lists.bin 0x"00ff" Lists '#1'
+got lists.bin '0x"00ff"' Lists '#1'
 got shapes_tag.bin 9 Shapes tag.u1
 got many_defaults.bin 7 Many n
 got station.bin '"mid"' --set examples/station_set.bin Station neighbours.0.title

@@ -1,14 +1,29 @@
 -- What is made of a request, from what its parts answer.
 use Rattle.std.specs.Prelude.{IfErr, IfOk, Result, Ok, Err}
-use Rattle.std.proofs.Common.{◌≡◌, ◌≢◌, ◌≤◌, ◌^◌, inr, subst}
+use Rattle.std.proofs.Common.{ℕ, ◌+◌, ◌≡◌, ◌≢◌, ◌≤◌, ◌^◌, ◌∙◌, ap, arith, inr, subst, sym, Bool, List}
 use Rattle.capnp_device.specs.declared.error.Error.{Error}
 use Rattle.capnp_device.specs.declared.error.ErrorKind.TheVariants.{SizePastFormat, TooLarge, UnknownKind}
+use Rattle.capnp_wire.specs.Standing.{struct_levels, struct_of}
+use Rattle.capnp_wire.specs.declared.struct_reader.StructReader.{StructReader}
 use Rattle.capnp_schema.specs.Accepted.{IsAccepted}
+use Rattle.capnp_schema.specs.RequestSet.{request_set}
 use Rattle.capnp_schema.specs.Schema.{Schemas}
+use Rattle.capnp_schema.specs.StructHandles.{number_of}
+use Rattle.capnp_records.specs.Reading.{struct_record}
+use Rattle.capnp_records.specs.Record.{Left, Record}
+use Rattle.capnp_dynamic_readers.specs.Handles.{reader_of, schema_of}
+use Rattle.capnp_dynamic_readers.specs.Seen.{record_seen}
+use Rattle.capnp_dynamic_readers.specs.declared.dynamic_struct.Reader.{Reader as StructHandle}
+use Rattle.capnp_wire.specs.Tree.{StructTree}
+use Rattle.capnp_request.specs.Conversion.{Note}
+use Rattle.capnp_request.specs.Handles.{IsRecord}
+use Rattle.capnp_request.specs.Order.{and_said, conversion_of}
+use Rattle.capnp_request.specs.Reading.{request_said}
+use Rattle.capnp_request.specs.Terms.{Said}
 use Rattle.capnp_request.specs.declared.conversion.Converted.{Converted}
 use Rattle.capnp_set_writer.specs.Limits.{HasFormless, IsPastFormat, message_words}
 use Rattle.capnp_set_writer.specs.Writes.{IsWriteRefusal}
-use Rattle.capnp_set_engine.specs.Convert.{IsUnwritten, set_in}
+use Rattle.capnp_set_engine.specs.Convert.{HasNoSet, IsUnwritten, conversion_from, request_record, set_in}
 
 -- what each answer says, of what it said before
 pub each_answer : {T E : Type 0} {P Q : T → Type 0} (r : Result T E) → ((a : T) → P a → Q a) → IfOk r P → IfOk r Q
@@ -18,6 +33,25 @@ each_answer (Err e) f h = tt
 pub each_refusal : {T E : Type 0} {P Q : E → Type 0} (r : Result T E) → ((e : E) → P e → Q e) → IfErr r P → IfErr r Q
 each_refusal (Ok x) f h = tt
 each_refusal (Err e) f h = f e h
+
+-- what each refusal says, of two things that it said before
+pub each_refusal_of : {T E : Type 0} {P O Q : E → Type 0} (r : Result T E) → ((e : E) → P e → O e → Q e) → IfErr r P → IfErr r O → IfErr r Q
+each_refusal_of (Ok x) f h g = tt
+each_refusal_of (Err e) f h g = f e h g
+
+-- a handle of brand 0 on a struct that has 63 levels left stands on the record of a request's root
+pub request_seen : (h : StructHandle) (r : StructReader) (n : ℕ) → reader_of h ≡ r → IsRecord 0 h → struct_levels r + 1 ≡ n → n ≡ 64 → record_seen h ≡ request_record (struct_of r)
+request_seen h r n reader is levels levels_are =
+    let left : struct_levels r ≡ 63 = omega (arith, levels, levels_are) in
+    ap (λ (z : Schemas). struct_record z (Left (struct_levels (reader_of h))) (struct_of (reader_of h)) (number_of (schema_of h))) is.set
+    ∙ (ap (λ b. struct_record request_set (Left (struct_levels (reader_of h))) (struct_of (reader_of h)) b) is.number
+    ∙ (ap (λ (x : StructReader). struct_record request_set (Left (struct_levels x)) (struct_of x) 0) reader
+    ∙ ap (λ m. struct_record request_set (Left m) (struct_of r) 0) left))
+
+-- what is said of that record is what the request stands for
+pub conversion_is : (strict : Bool) (r : Record) (root : StructTree) (x : Said (Schemas × List Note)) → r ≡ request_record root → and_said (request_said r) (λ t. conversion_of t strict) ≡ x → conversion_from strict root ≡ x
+unfolding conversion_from
+conversion_is strict r root x e h = ap (λ (y : Record). and_said (request_said y) (λ t. conversion_of t strict)) (sym e) ∙ h
 
 -- a set of a conversion's lists that is accepted and can't be written
 pub unwritable : (c : Converted) (s : Schemas) (e : Error) → s ≡ set_in c → IsAccepted (set_in c) → (e.kind ≢ TooLarge → IsWriteRefusal e.kind) →
@@ -29,3 +63,7 @@ unwritable c s e same accepted cause formless past large = inr (record {
   past = λ k. subst IsPastFormat same (past k);
   large = λ k. subst (λ x. 2 ^ 29 ≤ message_words x) same (large k);
 })
+
+-- the same bytes have no set
+pub in_bytes : (strict : Bool) (a b : List ℕ) (e : Error) → a ≡ b → HasNoSet strict a e → HasNoSet strict b e
+in_bytes strict a b e same h = subst (λ (x : List ℕ). HasNoSet strict x e) same h

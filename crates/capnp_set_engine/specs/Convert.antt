@@ -8,9 +8,16 @@ use Rattle.capnp_wire.specs.Stream.{message_tree_of}
 use Rattle.capnp_wire.specs.Tree.{StructTree}
 use Rattle.capnp_schema.specs.Accepted.{IsAccepted}
 use Rattle.capnp_schema.specs.Broken.{IsRefusalOf}
+use Rattle.capnp_schema.specs.RequestSet.{request_set}
 use Rattle.capnp_schema.specs.Schema.{Schemas, seen_schemas}
+use Rattle.capnp_records.specs.Reading.{struct_record}
+use Rattle.capnp_records.specs.Record.{Left, Record}
+use Rattle.capnp_request.specs.Conversion.{Note}
+use Rattle.capnp_request.specs.Order.{and_said, conversion_of}
+use Rattle.capnp_request.specs.ProgressSeen.{seen_lists}
+use Rattle.capnp_request.specs.Reading.{request_said}
 use Rattle.capnp_request.specs.Refusals.{IsRefusal}
-use Rattle.capnp_request.specs.Shapes.{AreBrandsOf}
+use Rattle.capnp_request.specs.Terms.{Said}
 use Rattle.capnp_request.specs.declared.conversion.Converted.{Converted}
 use Rattle.capnp_set_writer.specs.Limits.{HasFormless, IsPastFormat, message_words}
 use Rattle.capnp_set_writer.specs.Message.{IsReadAsSet}
@@ -23,6 +30,14 @@ use Rattle.capnp_set_engine.specs.Notes.{note_lines}
 -- the root of the first message in these bytes is read as this struct
 abbrev pub IsRoot : List ℕ → StructTree → Type 0
 IsRoot bytes root = root_struct (message_tree_of bytes) ≡ Ok root
+
+-- the record that a request's root stands for, with the levels that are left below it
+abbrev pub request_record : StructTree → Record
+request_record root = struct_record request_set (Left 63) root 0
+
+-- the lists and notes that a request with this root stands for, or a refusal whose cause stands in what is read of it
+unfoldable pub conversion_from : (strict : Bool) → StructTree → Said (Schemas × List Note)
+conversion_from strict root = and_said (request_said (request_record root)) (λ r. conversion_of r strict)
 
 -- the lists of a conversion, as definitions see them
 abbrev pub set_in : Converted → Schemas
@@ -38,27 +53,24 @@ pub record IsMessageOf (c : Converted) (message lines : List ℕ) : Type 0 where
   pub read : IsReadAsSet (set_in c) message
   pub noted : lines ≡ lines_in c
 
--- what a conversion is known of: the lists have one brand for each node
-abbrev pub IsConverted : Converted → Type 0
-IsConverted c = AreBrandsOf c.nodes.items c.brands.items
-
--- a conversion is of the request in these bytes
-pub record IsConvertedFrom (bytes : List ℕ) (c : Converted) : Type 0 where
+-- a conversion is what the request in these bytes stands for
+pub record IsConvertedFrom (strict : Bool) (bytes : List ℕ) (c : Converted) : Type 0 where
   pub root : StructTree
   pub request : IsRoot bytes root
-  pub converted : IsConverted c
+  pub converted : conversion_from strict root ≡ Ok (seen_lists c)
 
--- a message and lines are those of a conversion of the request in these bytes
-pub record IsSetOf (bytes message lines : List ℕ) : Type 0 where
+-- a message and lines are those of what the request in these bytes stands for
+pub record IsSetOf (strict : Bool) (bytes message lines : List ℕ) : Type 0 where
   pub conversion : Converted
-  pub request : IsConvertedFrom bytes conversion
+  pub request : IsConvertedFrom strict bytes conversion
   pub made : IsMessageOf conversion message lines
 
 -- ---- refusals ----
 
--- no request is read: of a stream that is refused, of a root that is no struct, or of a request that isn't converted
+-- no request is read: of a stream that is refused, of a root that is no struct, or of a request that stands for a refusal
 abbrev pub IsUnread : (strict : Bool) → List ℕ → ErrorKind → Type 0
-IsUnread strict bytes kind = (root_struct (message_tree_of bytes) ≡ Err kind) ⊎ ((root : StructTree) × IsRoot bytes root × IsRefusal strict kind)
+IsUnread strict bytes kind =
+    (root_struct (message_tree_of bytes) ≡ Err kind) ⊎ ((root : StructTree) × IsRoot bytes root × (conversion_from strict root ≡ Err kind) × IsRefusal strict kind)
 
 -- an accepted set has no message: a value of it has no kind in the form, or a text, list or the whole is too long
 pub record IsUnwritable (set : Schemas) (kind : ErrorKind) : Type 0 where
@@ -75,18 +87,18 @@ IsUnwritten c e = IsRefusalOf (set_in c) e ⊎ IsUnwritable (set_in c) e.kind
 -- no message is made of the request in these bytes
 abbrev pub HasNoSet : (strict : Bool) → List ℕ → Error → Type 0
 HasNoSet strict bytes e =
-    IsUnread strict bytes e.kind ⊎ ((c : Converted) × IsConvertedFrom bytes c × IsUnwritten c e)
+    IsUnread strict bytes e.kind ⊎ ((c : Converted) × IsConvertedFrom strict bytes c × IsUnwritten c e)
 
 -- ---- what a conversion did to its source and sinks, by what was left before and after, what was written, and the counts of
 -- failures ----
 
 -- some bytes were read to the end, the message of their set was written and nothing else, and the lines of its notes were told
-pub record IsWritten (left left' written written' told told' : Option (List ℕ)) (failures failures' : ℕ) : Type 0 where
+pub record IsWritten (strict : Bool) (left left' written written' told told' : Option (List ℕ)) (failures failures' : ℕ) : Type 0 where
   pub bytes : List ℕ
   pub read : IsRead bytes left left'
   pub message : List ℕ
   pub lines : List ℕ
-  pub set : IsSetOf bytes message lines
+  pub set : IsSetOf strict bytes message lines
   pub wrote : Appends written written' message
   pub notes : IsTold lines told told' failures failures'
 
@@ -97,12 +109,12 @@ pub record IsRefused (strict : Bool) (e : Error) (left left' : Option (List ℕ)
   pub none : HasNoSet strict bytes e
 
 -- some bytes were read to the end, and a beginning of the message of their set, not the whole, was written
-pub record IsCutShort (left left' written written' : Option (List ℕ)) : Type 0 where
+pub record IsCutShort (strict : Bool) (left left' written written' : Option (List ℕ)) : Type 0 where
   pub bytes : List ℕ
   pub read : IsRead bytes left left'
   pub message : List ℕ
   pub lines : List ℕ
-  pub set : IsSetOf bytes message lines
+  pub set : IsSetOf strict bytes message lines
   pub count : ℕ
   pub proper : count < length message
   pub wrote : Appends written written' (take count message)

@@ -41,7 +41,8 @@ pub fn command<R: Source, W: Sink, F: Sink>(
     ensures unwritten { result ≡ 2 → sink.new ≡ sink.old }
     ensures usage { result ≡ 2 → IsTold usage_line (F.written errors.old) (F.written errors.new)
         (F.failures errors.old) (F.failures errors.new) }
-    ensures written { result ≡ 0 → IsWritten (R.left source.old) (R.left source.new) (W.written sink.old) (W.written sink.new)
+    ensures written { result ≡ 0 → (strict : Bool) × (asked words.now ≡ Some strict)
+        × IsWritten strict (R.left source.old) (R.left source.new) (W.written sink.old) (W.written sink.new)
         (F.written errors.old) (F.written errors.new) (F.failures errors.old) (F.failures errors.new) }
     ensures refused { result ≡ 1 → (strict : Bool) × (e : Error) × (asked words.now ≡ Some strict)
         × IsTold (refusal_line e.kind) (F.written errors.old) (F.written errors.new)

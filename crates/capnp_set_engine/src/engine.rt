@@ -28,7 +28,7 @@ struct Made {
 
 /// What the request in these bytes is converted to.
 fn read_conversion(alloc: Global, bytes: &[u8], strict: bool) -> Result<Converted>
-    ensures converted { IfOk result (IsConvertedFrom bytes.now) }
+    ensures converted { IfOk result (IsConvertedFrom strict bytes.now) }
     ensures refused { IfErr result (λ e. e.kind ≢ OutOfMemory → IsUnread strict bytes.now e.kind) }
     ensures of_no_device { IfErr result (λ e. IsOfRead e.kind) }
 {
@@ -59,7 +59,7 @@ fn make(alloc: Global, converted: Converted) -> Result<Made>
 
 /// The message of the set of the request in these bytes, and the lines of its notes.
 fn make_of(alloc: Global, bytes: &[u8], strict: bool) -> Result<Made>
-    ensures made { IfOk result (λ m. IsSetOf bytes.now m.message.items (string_bytes m.lines)) }
+    ensures made { IfOk result (λ m. IsSetOf strict bytes.now m.message.items (string_bytes m.lines)) }
     ensures refused { IfErr result (λ e. e.kind ≢ OutOfMemory → HasNoSet strict bytes.now e) }
     ensures of_no_device { IfErr result (λ e. IsOfRead e.kind) }
 {
@@ -84,7 +84,7 @@ pub fn convert<R: Source, W: Sink, F: Sink>(
     errors: &mut F,
     strict: bool,
 ) -> Result<()>
-    ensures written { OnOk result (IsWritten (R.left source.old) (R.left source.new) (W.written sink.old) (W.written sink.new)
+    ensures written { OnOk result (IsWritten strict (R.left source.old) (R.left source.new) (W.written sink.old) (W.written sink.new)
         (F.written errors.old) (F.written errors.new) (F.failures errors.old) (F.failures errors.new)) }
     ensures refused { IfErr result (λ e. IsOfMessage e.kind → IsRefused strict e (R.left source.old) (R.left source.new)) }
     ensures read_failed { IfErr result (λ e. e.kind ≡ ReadFailed →
@@ -92,7 +92,7 @@ pub fn convert<R: Source, W: Sink, F: Sink>(
     ensures write_failed { IfErr result (λ e. e.kind ≡ WriteFailed →
         HasFailed (W.failures sink.old) (W.failures sink.new)) }
     ensures beginning { IfErr result (λ e. e.kind ≡ WriteFailed →
-        IsCutShort (R.left source.old) (R.left source.new) (W.written sink.old) (W.written sink.new)) }
+        IsCutShort strict (R.left source.old) (R.left source.new) (W.written sink.old) (W.written sink.new)) }
     ensures nothing { IfErr result (λ e. e.kind ≢ WriteFailed → sink.new ≡ sink.old) }
     ensures quiet { OnErr result (errors.new ≡ errors.old) }
 {

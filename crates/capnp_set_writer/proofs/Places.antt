@@ -4,13 +4,12 @@ use Rattle.std.proofs.lemmas.List.{length-replicate}
 use Rattle.capnp_wire.specs.Edits.{nulls, zero_struct}
 use Rattle.capnp_wire.specs.Facts.Rows.{tree_count-nulls}
 use Rattle.capnp_wire.specs.Place.{struct_tree}
-use Rattle.capnp_wire.specs.Tree.{StructTree, tree_count}
+use Rattle.capnp_wire.specs.Tree.{StructTree, Tree, tree_count}
 use Rattle.capnp_wire.specs.declared.size.StructSize.{StructSize}
 use Rattle.capnp_arena.specs.Built.{IsBuilt, built, part}
 use Rattle.capnp_arena.specs.Facts.Laws.{IsInStruct, in_struct, struct_is, struct_planted}
 use Rattle.capnp_arena.specs.Facts.Places.{at_then, data_of, pointers_of}
 use Rattle.capnp_arena.specs.Forest.{Changes, Forest, PartChanges, Planted, struct_from, tree}
-use Rattle.capnp_arena.specs.Leaves.{Leaves}
 use Rattle.capnp_arena.specs.Segment.{segment}
 use Rattle.capnp_arena.specs.Shape.{shape_at}
 use Rattle.capnp_arena.specs.declared.arena.Arena.{Arena}
@@ -47,9 +46,15 @@ pub new_struct : (a : Arena) (at : ℕ) (p : Place) (d q : ℕ) (size : StructSi
 new_struct a at p d q size f e t x y =
     new_by_tree a p d q (struct_planted (segment a) at p.start p.data_words p.pointers f e) (struct_is (segment a) at p.start p.data_words p.pointers (zero_struct size) f e t ∙ blank_of d q size x y)
 
+-- A pointer that had another target leads to this tree now.
+pub record IsMade (at : ℕ) (t : Tree) (old new : List ℕ) : Type 0 where
+  pub forest : Forest new at
+  pub tree : tree new at ≡ t
+  pub changes : Changes at old new
+
 -- a call in the struct that was made
 pub made : {o m n : List ℕ} (at : ℕ) (p : Place) {s : StructTree} → Forest m at → shape_at m at ≡ part p → Changes at o m → Planted n (part p) → PartChanges (part p) m n
-    → struct_from n p.start p.data_words p.pointers ≡ s → Leaves at (struct_tree s) o n
+    → struct_from n p.start p.data_words p.pointers ≡ s → IsMade at (struct_tree s) o n
 made {o} {m} {n} at p f e c g x q =
     let z : IsInStruct m n at p.start p.data_words p.pointers = in_struct m n at p.start p.data_words p.pointers f e g x in
     record { forest = z.forest; tree = z.tree ∙ ap struct_tree q; changes = at_then c z.changes }

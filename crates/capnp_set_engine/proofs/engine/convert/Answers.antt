@@ -1,4 +1,5 @@
 use Rattle.std.proofs.lemmas.Result.{err_from_is_err_and}
+use Rattle.capnp_set_engine.proofs.Made.{in_bytes}
 use Rattle.capnp_set_engine.proofs.engine.convert.Goals as goal
 
 pub returns-in_err-made-clause-refused : goal.returns-in_err-made-clause-refused
@@ -7,5 +8,5 @@ returns-in_err-made-clause-refused g c =
     (λ m. record {
       bytes = c.in_ok-bytes.bytes.items;
       read = (c.in_ok-bytes.ensures.whole, c.in_ok-bytes.ensures.to_end);
-      none = rw c.deref.ensures.value at c.in_err-made.ensures.refused m.0;
+      none = in_bytes c.args.strict _ _ _ c.deref.ensures.value (c.in_err-made.ensures.refused m.0);
     })

@@ -1,21 +1,28 @@
-use Rattle.std.proofs.Common.{inr, sym}
+use Rattle.std.proofs.Common.{ap, inr, sym, ◌∙◌}
 use Rattle.std.proofs.lemmas.Result.{err_from_is_err_and}
 use Rattle.capnp_wire.specs.Message.{message_tree}
 use Rattle.capnp_wire.specs.Standing.{levels_of, struct_of, tree_of}
+use Rattle.capnp_schema.specs.StructHandles.{number_of, set_of}
 use Rattle.capnp_sets.specs.Facts.RootRead.{root_entered}
-use Rattle.capnp_set_engine.proofs.Made.{each_answer, each_refusal}
+use Rattle.capnp_set_engine.proofs.Made.{conversion_is, each_answer, each_refusal, each_refusal_of, request_seen}
 use Rattle.capnp_set_engine.proofs.Refusals.{of_request, root_of_read}
 use Rattle.capnp_set_engine.proofs.engine.read_conversion.Goals as goal
 
 pub returns-clause-converted : goal.returns-clause-converted
 returns-clause-converted c =
     let root = root_entered c.args.bytes.now (message_tree c.in_ok-reader.reader) (tree_of c.get_root.result) (levels_of c.get_root.result) (struct_of c.in_ok-root.root) c.in_ok-reader.ensures c.get_root.ensures.tree c.get_root.ensures.levels c.in_ok-root.ensures.read in
-    each_answer c.read_request.result (λ made h. record { root = struct_of c.in_ok-root.root; request = sym root; converted = h }) c.read_request.ensures.brands
+    let seen = request_seen c.new-record.result c.in_ok-root.root (levels_of c.get_root.result) c.new-record.ensures.reader
+    (record { set = ap set_of c.new-record.ensures.schema ∙ (c.struct_schema.ensures.set ∙ c.in_ok-set.ensures.set); number = ap number_of c.new-record.ensures.schema ∙ c.struct_schema.ensures.number })
+    c.in_ok-root.ensures.levels c.get_root.ensures.levels in
+    each_answer c.read_request.result (λ made h. record { root = struct_of c.in_ok-root.root; request = sym root; converted = conversion_is c.args.strict _ (struct_of c.in_ok-root.root) _ seen h }) c.read_request.ensures.read
 
 pub returns-clause-refused : goal.returns-clause-refused
 returns-clause-refused c =
     let root = root_entered c.args.bytes.now (message_tree c.in_ok-reader.reader) (tree_of c.get_root.result) (levels_of c.get_root.result) (struct_of c.in_ok-root.root) c.in_ok-reader.ensures c.get_root.ensures.tree c.get_root.ensures.levels c.in_ok-root.ensures.read in
-    each_refusal c.read_request.result (λ e h m. inr (struct_of c.in_ok-root.root, sym root, h)) c.read_request.ensures.kinds
+    let seen = request_seen c.new-record.result c.in_ok-root.root (levels_of c.get_root.result) c.new-record.ensures.reader
+    (record { set = ap set_of c.new-record.ensures.schema ∙ (c.struct_schema.ensures.set ∙ c.in_ok-set.ensures.set); number = ap number_of c.new-record.ensures.schema ∙ c.struct_schema.ensures.number })
+    c.in_ok-root.ensures.levels c.get_root.ensures.levels in
+    each_refusal_of c.read_request.result (λ e h k m. inr (struct_of c.in_ok-root.root, sym root, conversion_is c.args.strict _ (struct_of c.in_ok-root.root) _ seen (h m), k)) c.read_request.ensures.refused c.read_request.ensures.kinds
 
 pub returns-clause-of_no_device : goal.returns-clause-of_no_device
 returns-clause-of_no_device c = each_refusal c.read_request.result (λ e h. of_request c.args.strict e.kind h) c.read_request.ensures.kinds
