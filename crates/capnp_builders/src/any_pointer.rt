@@ -12,9 +12,11 @@ ghost use Rattle.capnp_arena.specs.Segment.{segment};
 ghost use Rattle.capnp_arena.specs.Shape.{word_count};
 ghost use Rattle.capnp_builders.specs.Pointers.{IsPointer, LendsPointer, arena_behind, pointer_tree, word_of};
 
+use crate::traits::FromPointerBuilder;
 use capnp_arena::arena::Arena;
 use capnp_arena::handles::PointerBuilder;
 pub use capnp_base::any_pointer::{Owned, Reader};
+use capnp_wire::error::Result;
 
 /// A pointer that is built, of whatever type.
 #[derive(Drop)]
@@ -62,6 +64,33 @@ impl<'a> Builder<'a> {
         self.arena.is_null(self.at)
     }
 
+    /// What stands at the pointer, built as a `T`. Refused as `T`'s get.
+    pub fn get_as<T: FromPointerBuilder<'a>>(self) -> Result<T>
+        requires { IsPointer self }
+        ensures now { IfOk result (T.stands (pointer_tree self.entry)) }
+        ensures refused { IfErr result (T.refuses (pointer_tree self.entry)) }
+    {
+        T::get_from_pointer(self.into_pointer())
+    }
+
+    /// Starts the pointer anew as a `T` of no elements. Refused as `T`'s start.
+    pub fn init_as<T: FromPointerBuilder<'a>>(self) -> Result<T>
+        requires { word_of self < word_count (segment (arena_behind self).now) }
+        ensures now { IfOk result (T.starts 0) }
+        ensures refused { IfErr result (T.new_refusal 0) }
+    {
+        T::init_pointer(self.into_pointer(), 0)
+    }
+
+    /// Starts the pointer anew as a `T` of so many elements. Refused as `T`'s start.
+    pub fn initn_as<T: FromPointerBuilder<'a>>(self, size: u32) -> Result<T>
+        requires { word_of self < word_count (segment (arena_behind self).now) }
+        ensures now { IfOk result (T.starts size) }
+        ensures refused { IfErr result (T.new_refusal size) }
+    {
+        T::init_pointer(self.into_pointer(), size)
+    }
+
     /// Makes the pointer null.
     pub fn clear(&mut self)
         requires { word_of self.old < word_count (segment (arena_behind self.old).now) }
@@ -84,5 +113,26 @@ impl<'a> Builder<'a> {
     {
         let Builder { arena, at } = self;
         Reader::new(arena.get_pointer_reader(at))
+    }
+}
+
+impl<'a> FromPointerBuilder<'a> for Builder<'a> {
+    ghost starts = { λ _ builder. IsPointer builder × (pointer_tree builder ≡ Null) };
+
+    ghost new_refusal = { λ _ _. ⊥ };
+
+    ghost stands = { λ tree builder. IsPointer builder × (pointer_tree builder ≡ tree) };
+
+    ghost refuses = { λ _ _. ⊥ };
+
+    // The builder stands on the same pointer.
+    fn init_pointer(builder: PointerBuilder<'a>, _length: u32) -> Result<Builder<'a>> {
+        let PointerBuilder { arena, at } = builder;
+        arena.clear(at);
+        Ok(Builder { arena, at })
+    }
+
+    fn get_from_pointer(builder: PointerBuilder<'a>) -> Result<Builder<'a>> {
+        Ok(Builder::new(builder))
     }
 }

@@ -2,15 +2,20 @@
 //!
 //! A builder is the message beside the word of the data's pointer. Each call asks that data stand there, or a null, as a
 //! builder that was handed out has it (`IsData`).
-ghost use Rattle.std.specs.Prelude.{[], IsTrue, length, slice_set, ◌<◌, ◌≡◌, ◌↔◌};
+ghost use Rattle.std.specs.Prelude.{[], Err, IsTrue, length, replicate, slice_set, ◌^◌, ◌≤◌, ◌<◌, ◌≡◌, ◌↔◌};
 ghost use Rattle.std.specs.Borrow.{sem};
+ghost use Rattle.capnp_wire.specs.Edits.{IsRoomRefusal};
+ghost use Rattle.capnp_wire.specs.Reading.{as_data};
 ghost use Rattle.capnp_arena.specs.Forest.{Changes};
 ghost use Rattle.capnp_arena.specs.Segment.{segment};
-ghost use Rattle.capnp_builders.specs.Blobs.{IsData, LendsData, data_behind, data_bytes, data_word};
+ghost use Rattle.capnp_builders.specs.Blobs.{IsData, LendsData, data_behind, data_bytes, data_there, data_word};
 
+use crate::traits::FromPointerBuilder;
 use capnp_arena::arena::Arena;
 use capnp_arena::handles::PointerBuilder;
 pub use capnp_base::data::{Owned, Reader};
+use capnp_wire::error::Result;
+use capnp_wire::size::ElementSize;
 
 /// Data that are built.
 #[derive(Drop)]
@@ -95,5 +100,27 @@ impl<'a> Builder<'a> {
             unreachable!()
         };
         bytes
+    }
+}
+
+impl<'a> FromPointerBuilder<'a> for Builder<'a> {
+    ghost starts = { λ length builder. IsData builder × (data_bytes builder ≡ replicate length 0) };
+
+    ghost new_refusal = { λ length error. IsRoomRefusal error (2 ^ 29 ≤ length) };
+
+    ghost stands = { λ tree builder. IsData builder × (data_there builder ≡ tree) };
+
+    ghost refuses = { λ tree error. as_data tree ≡ Err error.kind };
+
+    fn init_pointer(builder: PointerBuilder<'a>, length: u32) -> Result<Builder<'a>> {
+        let PointerBuilder { arena, at } = builder;
+        arena.init_list(at, ElementSize::Byte, length)?;
+        Ok(Builder { arena, at })
+    }
+
+    fn get_from_pointer(builder: PointerBuilder<'a>) -> Result<Builder<'a>> {
+        let PointerBuilder { arena, at } = builder;
+        arena.get_data(at)?;
+        Ok(Builder { arena, at })
     }
 }

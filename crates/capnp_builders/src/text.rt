@@ -2,18 +2,22 @@
 //!
 //! A builder is the message beside the word of the text's pointer. Each call asks that a text stands there, or a null, as a
 //! builder that was handed out has it (`IsText`).
-ghost use Rattle.std.specs.Prelude.{[], None, IfErr, IfOk, IsTrue, IsUtf8, OnErr, length, replicate, slice_set, take, drop, ◌++◌, ◌+◌, ◌-◌, ◌<◌, ◌≡◌, ◌≤◌, ◌↔◌};
+ghost use Rattle.std.specs.Prelude.{[], Err, None, IfErr, IfOk, IsTrue, IsUtf8, OnErr, length, replicate, slice_set, take, drop, ◌++◌, ◌+◌, ◌^◌, ◌-◌, ◌<◌, ◌≡◌, ◌≤◌, ◌↔◌};
 ghost use Rattle.std.specs.Borrow.{sem};
 ghost use Rattle.capnp_device.specs.declared.error.ErrorKind.TheVariants.{OutOfMemory};
+ghost use Rattle.capnp_wire.specs.Edits.{IsRoomRefusal};
+ghost use Rattle.capnp_wire.specs.Reading.{as_text};
 ghost use Rattle.capnp_base.specs.Text.{IsStringOf, IsStrOf};
 ghost use Rattle.capnp_arena.specs.Forest.{Changes};
 ghost use Rattle.capnp_arena.specs.Segment.{segment};
-ghost use Rattle.capnp_builders.specs.Blobs.{IsText, LendsText, position, text_behind, text_bytes, text_word, written};
+ghost use Rattle.capnp_builders.specs.Blobs.{IsText, LendsText, position, text_behind, text_bytes, text_there, text_word, written};
 
+use crate::traits::FromPointerBuilder;
 use capnp_arena::arena::Arena;
 use capnp_arena::handles::PointerBuilder;
 pub use capnp_base::text::{Owned, Reader};
-use capnp_wire::error::Result;
+use capnp_wire::error::{Error, ErrorKind, Result};
+use capnp_wire::size::ElementSize;
 use std::alloc::Global;
 use std::str::Utf8Error;
 
@@ -248,5 +252,30 @@ impl<'a> Builder<'a> {
         ensures { IsTrue result ↔ (text_bytes self.now ≡ other.now) }
     {
         self.reborrow_as_reader().eq_str(other)
+    }
+}
+
+impl<'a> FromPointerBuilder<'a> for Builder<'a> {
+    ghost starts = { λ length builder. IsText builder × (text_bytes builder ≡ replicate length 0) × (position builder ≡ 0) };
+
+    ghost new_refusal = { λ length error. IsRoomRefusal error (2 ^ 29 ≤ length + 1) };
+
+    ghost stands = { λ tree builder. IsText builder × (text_there builder ≡ tree) × (position builder ≡ length (text_bytes builder)) };
+
+    ghost refuses = { λ tree error. as_text tree ≡ Err error.kind };
+
+    fn init_pointer(builder: PointerBuilder<'a>, length: u32) -> Result<Builder<'a>> {
+        if length >= (1 << 29) - 1 {
+            return Err(Error::from(ErrorKind::SizePastFormat));
+        }
+        let PointerBuilder { arena, at } = builder;
+        arena.init_list(at, ElementSize::Byte, length + 1)?;
+        Ok(Builder { arena, at, pos: 0 })
+    }
+
+    fn get_from_pointer(builder: PointerBuilder<'a>) -> Result<Builder<'a>> {
+        let PointerBuilder { arena, at } = builder;
+        let pos = arena.get_text(at)?.len();
+        Ok(Builder { arena, at, pos })
     }
 }

@@ -1,6 +1,6 @@
 -- What is answered of a struct or list that is cut off further down is what is answered of the whole one.
-use Rattle.std.specs.Prelude.{ℕ, suc, ◌≡◌, ◌<◌, refl, Bool, true, false, not, ◌&&◌, ◌==◌, length, List, [], ◌∷◌, Option}
-use Rattle.std.proofs.Common.{ap, sym, subst, ◌∙◌}
+use Rattle.std.specs.Prelude.{ℕ, suc, ◌≡◌, ◌<◌, refl, Bool, true, false, not, ◌&&◌, ◌==◌, length, List, [], ◌∷◌}
+use Rattle.std.proofs.Common.{ap, sym, ◌∙◌}
 use Rattle.std.proofs.lemmas.Bool.{true≢false}
 use Rattle.capnp_wire.specs.Reading.{element_bit, element_number, is_null_tree}
 use Rattle.capnp_wire.specs.Slot.{number_at}
@@ -9,22 +9,18 @@ use Rattle.capnp_wire.specs.Tree.{StructTree, Structs, Tree, Trees, nth_struct, 
 use Rattle.capnp_arena.specs.Same.{IsCutOf, IsStructCutOf, SameParts, SameTo}
 use Rattle.capnp_base.specs.declared.introspect.TypeVariant.{TypeVariant}
 use Rattle.capnp_schema.specs.Accepted.{IsAccepted}
-use Rattle.capnp_schema.specs.FieldLists.{IsFound}
 use Rattle.capnp_schema.specs.Plan.{plan_of}
-use Rattle.capnp_schema.specs.Schema.{FieldKind, Group, Schemas, Slot, TypedField, VoidValue, Value as SchemaValue, field_at, fields_of, is_member, node_of}
+use Rattle.capnp_schema.specs.Schema.{FieldKind, Group, Schemas, Slot, TypedField, VoidValue, field_at, fields_of, is_member, node_of}
 use Rattle.capnp_schema.specs.SlotValue.{slot_number}
-use Rattle.capnp_schema.specs.StructHandles.{number_of, set_of}
 use Rattle.capnp_schema.specs.Types.{SchemaType, VoidType, BoolType, IntType, UIntType, EnumType, TextType, DataType, StructType, ListType, AnyPointerType, is_pointer, seen_variant}
 use Rattle.capnp_schema.specs.declared.plan.Place.{Place}
 use Rattle.capnp_schema.specs.declared.plan.Place.TheVariants as place
 use Rattle.capnp_schema.specs.declared.plan.SlotPlan.{SlotPlan}
-use Rattle.capnp_schema.specs.declared.schema.fields.Field.{Field}
-use Rattle.capnp_schema.specs.declared.schema.structs.StructSchema.{StructSchema}
 use Rattle.capnp_records.specs.Default.{read_field, read_of}
 use Rattle.capnp_records.specs.Facts.ListValues.{below_of}
 use Rattle.capnp_records.specs.Facts.Readers.{element_read}
 use Rattle.capnp_records.specs.Part.{has_of, which_of}
-use Rattle.capnp_records.specs.Reading.{Reading, active_among, discriminant, element_value, kind_value, nth_reading, number_value, part_of, plain_parts, record_within, struct_record, union_of, values_of}
+use Rattle.capnp_records.specs.Reading.{Reading, active_among, discriminant, element_value, kind_value, nth_reading, number_value, part_of, plain_parts, record_within, struct_record, values_of}
 use Rattle.capnp_records.specs.Record.{Active, Left, Levels, NoUnion, Parts, Record, Truth, Union, Value, Values}
 use Rattle.capnp_records.specs.Step.{is_group_field}
 use Rattle.capnp_dynamic_readers.specs.Facts.HasWhich.{has_by_plan}

@@ -1,8 +1,7 @@
 -- What stands at a pointer, by its tree: nothing, a struct, a list that is read; and a struct at a place.
-use Rattle.std.specs.Prelude.{ℕ, zero, suc, List, ◌≡◌, refl, Bool, true, false, IsOk, Ok, Err, OnOk, OnErr, Result, length, cond}
-use Rattle.std.proofs.Common.{ap, sym, subst, ◌∙◌}
+use Rattle.std.specs.Prelude.{ℕ, zero, suc, List, ◌≡◌, refl, Bool, true, false, IsOk, Ok, Err, Result, cond}
+use Rattle.std.proofs.Common.{ap, sym, ◌∙◌}
 use Rattle.std.proofs.lemmas.Bool.{true≢false}
-use Rattle.capnp_device.specs.declared.error.Error.{Error}
 use Rattle.capnp_device.specs.declared.error.ErrorKind.{ErrorKind}
 use Rattle.capnp_wire.specs.Edits.{struct_in}
 use Rattle.capnp_wire.specs.Elements.{or_empty}
@@ -13,10 +12,8 @@ use Rattle.capnp_wire.specs.Tree.{StructTree, Tree}
 use Rattle.capnp_wire.specs.declared.size.ElementSize.{ElementSize}
 use Rattle.capnp_wire.specs.declared.size.ElementSize.TheVariants as size
 use Rattle.capnp_arena.specs.Facts.Forests.{tree_step}
-use Rattle.capnp_arena.specs.Facts.Laws.{struct_planted}
 use Rattle.capnp_arena.specs.Facts.Structs.{tree_struct}
-use Rattle.capnp_arena.specs.Forest.{Forest, Planted, struct_from, tree as tree_in}
-use Rattle.capnp_arena.specs.Listed.{list_shape}
+use Rattle.capnp_arena.specs.Forest.{Forest, struct_from, tree as tree_in}
 use Rattle.capnp_arena.specs.Same.{IsCutOf}
 use Rattle.capnp_arena.specs.Shape.{CompositeIn, ListIn, NoShape, Shape, StructIn, placed, shape_at}
 use Rattle.capnp_builders.specs.Blobs.{bytes_in}

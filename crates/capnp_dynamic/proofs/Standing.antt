@@ -1,8 +1,7 @@
 -- Structs and lists that stand after a write as before it.
 use Rattle.std.specs.Prelude.{ℕ, ◌≡◌, refl, Ok, Err, OnOk, OnErr, Result, Bool}
-use Rattle.std.proofs.Common.{ap, sym, subst, ◌∙◌}
+use Rattle.std.proofs.Common.{ap, sym, subst}
 use Rattle.capnp_device.specs.declared.error.Error.{Error}
-use Rattle.capnp_wire.specs.Tree.{StructTree}
 use Rattle.capnp_wire.specs.Edits.{struct_in}
 use Rattle.capnp_arena.specs.Facts.Laws.{struct_planted}
 use Rattle.capnp_arena.specs.Facts.Places.{unchanged}

@@ -1,5 +1,5 @@
 -- What builders hand out of a pointer, an element or a field, and when it can be.
-use Rattle.std.specs.Prelude.{ℕ, ◌≡◌, ⊤, Bool, true, false, cond, None, Some, IsOk, Ok, length}
+use Rattle.std.specs.Prelude.{ℕ, ◌≡◌, ⊤, Bool, true, false, cond, None, Some, IsOk, length}
 use Rattle.capnp_device.specs.declared.error.Error.{Error}
 use Rattle.capnp_wire.specs.Edits.{IsDueRefusal, is_struct, struct_in}
 use Rattle.capnp_wire.specs.Elements.{or_empty}

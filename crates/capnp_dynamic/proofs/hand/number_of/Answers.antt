@@ -8,7 +8,7 @@ use Rattle.capnp_schema.specs.StructHandles.{set_of, struct_field}
 use Rattle.capnp_schema.specs.declared.schema.structs.StructSchema.{StructSchema}
 use Rattle.capnp_arena.specs.Built.{built}
 use Rattle.capnp_dynamic_readers.specs.Typed.{IsOf}
-use Rattle.std.specs.Prelude.{ℕ, ◌≡◌}
+use Rattle.std.specs.Prelude.{◌≡◌}
 use Rattle.capnp_wire.specs.Standing.{struct_levels}
 use Rattle.capnp_dynamic.proofs.Fields.{number_same}
 use Rattle.capnp_dynamic.proofs.hand.number_of.Goals as goal

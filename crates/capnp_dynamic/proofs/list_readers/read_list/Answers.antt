@@ -3,7 +3,6 @@ use Rattle.std.specs.Prelude.{◌≡◌, false, true}
 use Rattle.std.proofs.Common.{subst, sym, ◌∙◌}
 use Rattle.capnp_wire.specs.Elements.{or_empty}
 use Rattle.capnp_wire.specs.Reading.{empty_list, is_null_tree}
-use Rattle.capnp_wire.specs.Standing.{list_of}
 use Rattle.capnp_wire.specs.Tree.{Tree}
 use Rattle.capnp_arena.specs.Forest.{tree}
 use Rattle.capnp_arena.specs.Same.{IsCutOf}

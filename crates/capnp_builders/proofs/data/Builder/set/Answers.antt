@@ -1,9 +1,9 @@
 -- The byte is that of the data.
 use Rattle.std.proofs.Common.{ap, subst, sym, refl, ◌∙◌}
-use Rattle.std.specs.Prelude.{◌≡◌, IsOk, Ok, slice_set}
+use Rattle.std.specs.Prelude.{IsOk}
 use Rattle.capnp_wire.specs.Reading.{as_data}
 use Rattle.capnp_wire.specs.Tree.{Tree}
-use Rattle.capnp_builders.specs.Blobs.{bytes_in, data_bytes, data_there}
+use Rattle.capnp_builders.specs.Blobs.{bytes_in, data_there}
 use Rattle.capnp_builders.proofs.Writes.{data_put}
 use Rattle.capnp_builders.proofs.data.Builder.set.Goals as goal
 

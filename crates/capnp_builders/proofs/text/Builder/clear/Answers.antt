@@ -1,5 +1,5 @@
 -- All bytes are zero.
-use Rattle.std.specs.Prelude.{ℕ, ◌≡◌, replicate}
+use Rattle.std.specs.Prelude.{ℕ, replicate}
 use Rattle.std.proofs.Common.{ap, ◌∙◌}
 use Rattle.capnp_builders.specs.Blobs.{text_bytes, written}
 use Rattle.capnp_builders.proofs.Writes.{zeros_written}

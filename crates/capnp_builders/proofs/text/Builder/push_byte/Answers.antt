@@ -1,9 +1,9 @@
 -- The byte is that of the text.
-use Rattle.std.proofs.Common.{ap, arith, subst, sym, refl, ◌∙◌}
-use Rattle.std.specs.Prelude.{◌<◌, ◌≡◌, IsOk, Ok, slice_set}
+use Rattle.std.proofs.Common.{ap, subst, sym, refl, ◌∙◌}
+use Rattle.std.specs.Prelude.{IsOk}
 use Rattle.capnp_wire.specs.Reading.{as_text}
 use Rattle.capnp_wire.specs.Tree.{Tree}
-use Rattle.capnp_builders.specs.Blobs.{bytes_in, position, text_bytes, text_there}
+use Rattle.capnp_builders.specs.Blobs.{bytes_in, position, text_there}
 use Rattle.capnp_builders.proofs.Writes.{text_put}
 use Rattle.capnp_builders.proofs.text.Builder.push_byte.Goals as goal
 

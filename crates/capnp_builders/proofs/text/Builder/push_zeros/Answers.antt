@@ -1,5 +1,5 @@
 -- A zero more is pushed.
-use Rattle.std.specs.Prelude.{ℕ, suc, ◌+◌, ◌<◌, ◌≡◌}
+use Rattle.std.specs.Prelude.{ℕ, suc, ◌+◌, ◌≡◌}
 use Rattle.std.proofs.Common.{arith, subst}
 use Rattle.capnp_builders.proofs.Pushes.{ArePushed, one_pushed}
 use Rattle.capnp_builders.proofs.Writes.{zeros, zeros_first}
