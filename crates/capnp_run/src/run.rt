@@ -1,18 +1,18 @@
 //! Lists of calls on a struct that is built.
 ghost use Rattle.std.specs.Prelude.{◌≡◌, IfErr, IfOk, OnErr};
 ghost use Rattle.capnp_device.specs.declared.error.ErrorKind.TheVariants.{OutOfMemory};
-ghost use Rattle.capnp_arena.specs.Handles.{IsStruct as IsPlanted, built_struct};
 ghost use Rattle.capnp_arena.specs.Segment.{segment};
 ghost use Rattle.capnp_schema.specs.StructHandles.{IsStruct, number_of, set_of};
 ghost use Rattle.capnp_records.specs.Writes.Slots.{Fits};
 ghost use Rattle.capnp_arena.specs.Built.{ChangesIn, IsBuilt, built};
 ghost use Rattle.capnp_slots.specs.Groups.{KeepsSize};
+ghost use Rattle.capnp_dynamic.specs.Built.{IsReady, built_schema, built_struct, place_of, struct_behind};
 ghost use Rattle.capnp_run.specs.Runs.{IsMade, Makes, RestsWhole, RunsTo};
 
 use capnp_arena::arena::{Arena, Place};
-use capnp_arena::handles::StructBuilder;
 use capnp_call::calls::{Call, Ending, Reply};
 use capnp_call::walk::walk;
+use capnp_dynamic::dynamic_struct;
 use capnp_records::laws::overlay_law;
 use capnp_schema::laws::numbers_fit;
 use capnp_schema::schema::StructSchema;
@@ -100,29 +100,33 @@ pub fn run_on(
 }
 
 /// Makes calls along paths of the struct that a builder stands on, as `run_on`. The builder is given by value, and
-/// `root.exit.0` is what its reference leads to then. The schema is one of an accepted set; the struct has its sections.
+/// `root.exit.0` is what its reference leads to then. The builder's schema is one of an accepted set; its struct has the
+/// schema's sections.
 ///
 /// Refused with `OutOfMemory` where there is no room for the replies, and then nothing has changed. Once there is, a call that
 /// takes no memory on what the one before it left is refused neither with `OutOfMemory` nor with `SizePastFormat`.
 pub fn run(
     alloc: Global,
-    root: StructBuilder<'_>,
-    schema: StructSchema<'_>,
+    root: dynamic_struct::Builder<'_>,
     calls: &[Call<'_>],
 ) -> Result<Vec<Reply>>
-    requires planted { IsPlanted root }
-    requires stands { IsStruct schema }
-    requires fits { Fits (set_of schema) (number_of schema) (built_struct root) }
-    ensures runs { IfOk result (λ replies. RunsTo schema.entry (built_struct root.entry) calls.now replies.items (built root.exit.0.now root.entry.place)) }
-    ensures made { IfOk result (λ replies. Makes (set_of schema.entry) (number_of schema.entry) (built_struct root.entry) calls.now replies.items
-        (built root.exit.0.now root.entry.place)) }
-    ensures rests { IfOk result (λ replies. RestsWhole schema.entry (built_struct root.entry) calls.now replies.items) }
-    ensures kept { KeepsSize (built_struct root.entry) (built root.exit.0.now root.entry.place) }
-    ensures planted { IsBuilt root.exit.0.now root.entry.place }
-    ensures changes { ChangesIn root.entry.place root.entry.arena.now root.exit.0.now }
-    ensures refused { OnErr result (segment root.exit.0.now ≡ segment root.entry.arena.now) }
+    requires stands { IsStruct (built_schema root) }
+    requires ready { IsReady root }
+    ensures runs { IfOk result (λ replies. RunsTo (built_schema root.entry) (built_struct root.entry) calls.now replies.items
+        (built root.exit.0.now (place_of root.entry))) }
+    ensures made { IfOk result (λ replies. Makes (set_of (built_schema root.entry)) (number_of (built_schema root.entry)) (built_struct root.entry) calls.now
+        replies.items (built root.exit.0.now (place_of root.entry))) }
+    ensures rests { IfOk result (λ replies. RestsWhole (built_schema root.entry) (built_struct root.entry) calls.now replies.items) }
+    ensures kept { KeepsSize (built_struct root.entry) (built root.exit.0.now (place_of root.entry)) }
+    ensures planted { IsBuilt root.exit.0.now (place_of root.entry) }
+    ensures changes { ChangesIn (place_of root.entry) (struct_behind root.entry).now root.exit.0.now }
+    ensures refused { OnErr result (segment root.exit.0.now ≡ segment (struct_behind root.entry).now) }
     ensures cause { IfErr result (λ e. e.kind ≡ OutOfMemory) }
 {
-    let StructBuilder { arena, place } = root;
+    let dynamic_struct::Builder {
+        arena,
+        place,
+        schema,
+    } = root;
     run_on(alloc, arena, place, schema, calls)
 }

@@ -5,10 +5,9 @@
 ghost use Rattle.capnp_schema.specs.StructHandles.{IsStruct};
 
 use crate::rows::{Asked, asked_in, calls_of, first_wrong};
-use capnp_arena::handles::StructBuilder;
 use capnp_arena::message::Builder;
 use capnp_callers::streams::run_on_stream;
-use capnp_dynamic_readers::dynamic_struct;
+use capnp_dynamic::dynamic_struct;
 use capnp_dynamic_readers::dynamic_value::Reader as Value;
 use capnp_run::calls::{Call, Reply};
 use capnp_run::message::{run_copied, whole_new};
@@ -82,11 +81,12 @@ fn run_on_empty(
 {
     let mut message = Builder::new(alloc)?;
     let place = message.get_struct(0, size_of(schema))?;
-    let built = StructBuilder {
+    let built = dynamic_struct::Builder {
         arena: &mut message,
         place,
+        schema,
     };
-    let replies = run(alloc, built, schema, calls)?;
+    let replies = run(alloc, built, calls)?;
     let bytes = message.write_message()?;
     Ok((replies, bytes))
 }

@@ -7,8 +7,8 @@ ghost use Rattle.capnp_schema.specs.StructHandles.{IsStruct};
 use crate::cases::root;
 use crate::fixtures::{ENTERED, LISTED, LISTS, LOOP, SHAPES};
 use crate::rows::{Asked, asked_in, calls_of, first_wrong};
-use capnp_arena::handles::StructBuilder;
 use capnp_arena::message::Builder;
+use capnp_dynamic::dynamic_struct;
 use capnp_dynamic_readers::dynamic_value::Reader as Value;
 use capnp_dynamic_readers::printer::print;
 use capnp_run::calls::{Call, Reply};
@@ -95,11 +95,12 @@ fn meet(alloc: Global, schema: StructSchema<'_>, start: &[u8], calls: &[Call<'_>
     message.set_root(source)?;
     let place = message.get_struct(0, size_of(schema))?;
     let before = message.write_message()?;
-    let built = StructBuilder {
+    let built = dynamic_struct::Builder {
         arena: &mut message,
         place,
+        schema,
     };
-    let replies = replies_of(run(alloc, built, schema, calls))?;
+    let replies = replies_of(run(alloc, built, calls))?;
     let after = written(&message)?;
     let text = printed(alloc, schema, after.as_slice())?;
     Ok(Met {
