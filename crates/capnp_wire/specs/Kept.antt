@@ -1,22 +1,15 @@
--- What building calls make of structs and of pointers is well-formed, where what they make it of is.
+-- What writes make of structs and of pointers is well-formed, where what they make it of is.
 --
--- Each statement is a contract of `laws::kept`; the term below it is its proof, for lemmas of crates above. A premise
--- that is an equation is the clause of a call, and at `refl` the statement is about the function itself.
+-- The term below each statement is its proof, for lemmas of crates above; some statements are contracts of `laws::kept`. A
+-- premise that is an equation is the clause of a call, and at `refl` the statement is about the function itself.
 use Rattle.std.specs.Prelude.{ℕ, ◌+◌, ◌*◌, ◌^◌, ◌<◌, ◌≤◌, ◌≡◌, Bool, length}
 use Rattle.std.proofs.Common.{refl, subst, sym}
-use Rattle.capnp_wire.specs.Tree.{Null, StructTree, Tree, nth_tree, tree_count}
+use Rattle.capnp_wire.specs.Tree.{Null, StructTree, Tree, nth_tree}
 use Rattle.capnp_wire.specs.Place.{struct_tree}
 use Rattle.capnp_wire.specs.WellFormed.{IsWellFormed, IsWellFormedStruct}
-use Rattle.capnp_wire.specs.Edits.{extended, fitted, struct_in, with_bit, with_bytes, with_number, with_pointer_tree, zero_struct}
-use Rattle.capnp_wire.specs.Lends.{with_pointer}
-use Rattle.capnp_wire.specs.Objects.{list_object_tree, object_tree, struct_object_tree}
-use Rattle.capnp_wire.specs.declared.object.Object.{Object}
-use Rattle.capnp_wire.specs.declared.object.Object.TheVariants as object
-use Rattle.capnp_wire.specs.declared.object.ListObject.{ListObject}
-use Rattle.capnp_wire.specs.declared.object.StructObject.{StructObject}
+use Rattle.capnp_wire.specs.Edits.{extended, struct_in, with_bit, with_bytes, with_number, with_pointer_tree, zero_struct}
 use Rattle.capnp_wire.specs.declared.size.StructSize.{StructSize}
-use Rattle.capnp_wire.specs.Facts.Lent.{IsWellFormed-list_object, IsWellFormed-struct_object, IsWellFormed-with_pointer, IsWellFormed-with_pointer_tree}
-use Rattle.capnp_wire.specs.Facts.Structs.{IsElement-fitted, IsElement-with_bit, IsElement-with_number, IsWellFormed-extended, IsWellFormed-struct_in, IsWellFormed-zero_struct, IsWellFormedStruct-struct_tree, of_same_size, own_size}
+use Rattle.capnp_wire.specs.Facts.Structs.{IsElement-with_bit, IsElement-with_number, IsWellFormed-extended, IsWellFormed-struct_in, IsWellFormed-with_pointer_tree, IsWellFormed-zero_struct, IsWellFormedStruct-struct_tree, of_same_size, own_size}
 use Rattle.capnp_wire.specs.Facts.Parts.{IsWellFormed-nth_tree}
 
 -- ---- structs ----
@@ -76,16 +69,6 @@ PointersKeepStructsWellFormed =
 pub pointer_written : PointersKeepStructsWellFormed
 pointer_written i t old new e k h = by_clause (with_pointer_tree old i t) new e (IsWellFormed-with_pointer_tree old i t h k)
 
--- one that keeps its size and takes over what fits of another one, which a reader stands on
-abbrev pub FittedStructsAreWellFormed : Type 0
-FittedStructsAreWellFormed =
-    (old source new : StructTree) → new ≡ fitted (length old.bytes) (tree_count old.pointers) source → IsWellFormed (struct_tree old) → IsWellFormedStruct source →
-    IsWellFormed (struct_tree new)
-
-pub fitted_struct : FittedStructsAreWellFormed
-fitted_struct old source new e h k =
-    by_clause (fitted (length old.bytes) (tree_count old.pointers) source) new e (of_same_size old (fitted (length old.bytes) (tree_count old.pointers) source) h (IsElement-fitted _ _ (length old.bytes) (tree_count old.pointers) source h.1 refl k))
-
 -- a reader may stand on a struct that is well-formed at a pointer
 abbrev pub StructsCanBeRead : Type 0
 StructsCanBeRead = (s : StructTree) → IsWellFormed (struct_tree s) → IsWellFormedStruct s
@@ -107,27 +90,3 @@ PointersOfStructsAreWellFormed = (s : StructTree) (i : ℕ) (t : Tree) → t ≡
 
 pub pointer_of_struct : PointersOfStructsAreWellFormed
 pointer_of_struct s i t e h = subst IsWellFormed (sym e) (IsWellFormed-nth_tree s.pointers i h.4)
-
--- ---- objects of which a part was lent, as it was left ----
-
--- a struct of which a pointer was lent
-abbrev pub LentPointersKeepStructsWellFormed : Type 0
-LentPointersKeepStructsWellFormed =
-    (s : StructObject) (i : ℕ) (left : Object) → IsWellFormed (object_tree left) → IsWellFormed (struct_tree (struct_object_tree s)) →
-    IsWellFormed (struct_tree (struct_object_tree (with_pointer s i left)))
-
-pub pointer_left : LentPointersKeepStructsWellFormed
-pointer_left s i left k h = IsWellFormed-with_pointer s i left h k
-
--- a pointer of which the struct was lent, or the list
-abbrev pub LentStructsAreWellFormed : Type 0
-LentStructsAreWellFormed = (left : StructObject) → IsWellFormed (struct_tree (struct_object_tree left)) → IsWellFormed (object_tree (object.Struct left))
-
-pub struct_left : LentStructsAreWellFormed
-struct_left = IsWellFormed-struct_object
-
-abbrev pub LentListsAreWellFormed : Type 0
-LentListsAreWellFormed = (left : ListObject) → IsWellFormed (list_object_tree left) → IsWellFormed (object_tree (object.List left))
-
-pub list_left : LentListsAreWellFormed
-list_left = IsWellFormed-list_object
