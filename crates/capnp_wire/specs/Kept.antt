@@ -3,7 +3,7 @@
 -- The term below each statement is its proof, for lemmas of crates above; some statements are contracts of `laws::kept`. A
 -- premise that is an equation is the clause of a call, and at `refl` the statement is about the function itself.
 use Rattle.std.specs.Prelude.{ℕ, ◌+◌, ◌*◌, ◌^◌, ◌<◌, ◌≤◌, ◌≡◌, Bool, length}
-use Rattle.std.proofs.Common.{refl, subst, sym}
+use Rattle.std.proofs.Common.{subst, sym}
 use Rattle.capnp_wire.specs.Tree.{Null, StructTree, Tree, nth_tree}
 use Rattle.capnp_wire.specs.Place.{struct_tree}
 use Rattle.capnp_wire.specs.WellFormed.{IsWellFormed, IsWellFormedStruct}

@@ -11,6 +11,7 @@ use Rattle.capnp_wire.specs.declared.size.ElementSize.{ElementSize}
 use Rattle.capnp_wire.specs.declared.size.StructSize.{StructSize}
 use Rattle.capnp_wire.specs.Facts.Lists.{IsWellFormed-new_text, IsWellFormed-zero_list, IsWellFormed-zero_structs}
 use Rattle.capnp_wire.specs.Facts.Parts.{IsWellFormed-element_pointer}
+
 -- a tree that a call states by an equation
 by_clause : (t u : Tree) → u ≡ t → IsWellFormed t → IsWellFormed u
 by_clause t u e h = subst IsWellFormed (sym e) h

@@ -7,6 +7,7 @@ use Rattle.capnp_wire.specs.Tree.{StructTree}
 use Rattle.capnp_wire.specs.Edits.{HasAtLeast, zero_struct}
 use Rattle.capnp_wire.specs.declared.size.StructSize.{StructSize}
 use Rattle.capnp_wire.specs.Facts.Lengths.{HasAtLeast-zero_struct}
+
 abbrev pub NewStructsHaveSizes : Type 0
 NewStructsHaveSizes = (size : StructSize) (s : StructTree) → s ≡ zero_struct size → HasAtLeast size s
 

@@ -1,8 +1,9 @@
 -- Lists of structs of size zero: each struct in them is empty, and with an empty struct in the place of another one they
 -- stay as they are.
-use Rattle.std.proofs.Common.{◌≡◌, ℕ, zero, List, [], ◌∷◌, length, refl, ap, ◌∙◌, arith}
+use Rattle.std.proofs.Common.{◌≡◌, ℕ, List, [], ◌∷◌, length, refl, ap, ◌∙◌, arith}
 use Rattle.capnp_wire.specs.Tree.{Trees, NoTrees, MoreTrees, StructTree, empty_struct, empty_structs, struct_count, tree_count}
 use Rattle.capnp_wire.specs.Facts.Rows.{struct_count-structs_from}
+
 -- ---- a struct without sections ----
 
 no_bytes : (bytes : List ℕ) → length bytes ≡ 0 → bytes ≡ []
