@@ -2,8 +2,9 @@
 use Rattle.std.proofs.Common.{ℕ, ◌-◌, ◌≤◌, arith, List, [], ◌∷◌}
 use Rattle.std.specs.Prelude.{map}
 use Rattle.capnp_wire.specs.Depth.{AreBelow, ElementsAreBelow, IsBelow, IsShallow}
+use Rattle.capnp_wire.specs.Objects.{structs_of, trees_of}
 use Rattle.capnp_wire.specs.Place.{struct_tree}
-use Rattle.capnp_wire.specs.Tree.{StructTree, Tree, structs_of, trees_of}
+use Rattle.capnp_wire.specs.Tree.{StructTree, Tree}
 use Rattle.capnp_schema.specs.Schema.{Annotation, Brand, Enum, Enumerant, Field, FieldKind, Group, Node, Schemas, Slot}
 use Rattle.capnp_schema.specs.Schema.{Value, VoidValue, BoolValue, IntValue, UIntValue, EnumValue, TextValue, DataValue, StructValue, ListValue, AnyPointerValue}
 use Rattle.capnp_schema.specs.Types.{SchemaType}

@@ -6,10 +6,11 @@ use borrow.Author.Count.{below_more}
 use Rattle.capnp_device.specs.declared.error.Error.{Error}
 use Rattle.capnp_device.specs.declared.error.ErrorKind.{ErrorKind}
 use Rattle.capnp_device.specs.declared.error.ErrorKind.TheVariants.{OutOfMemory, SizePastFormat, TooLarge, UnknownKind}
-use Rattle.capnp_wire.specs.Tree.{Composite, MoreStructs, MoreTrees, Null, Pointers, StructTree, Tree, nth_struct, struct_count, structs_from, structs_of, tree_count, trees_from, trees_of}
+use Rattle.capnp_wire.specs.Tree.{Composite, MoreStructs, MoreTrees, Null, Pointers, StructTree, Tree, nth_struct, struct_count, structs_from, tree_count, trees_from}
 use Rattle.capnp_wire.specs.Edits.{IsRoomRefusal, nulls, with_tree, zero_struct, zero_structs}
 use Rattle.capnp_wire.specs.Elements.{HasPointer, HasStruct, with_pointer_element, with_struct, with_struct_element}
 use Rattle.capnp_wire.specs.Reading.{element_struct}
+use Rattle.capnp_wire.specs.Objects.{structs_of, trees_of}
 use Rattle.capnp_wire.specs.declared.size.StructSize.{StructSize}
 use Rattle.capnp_set_writer.specs.Limits.{ListFits}
 use Rattle.capnp_set_writer.specs.Trees.{struct_list, zeros}

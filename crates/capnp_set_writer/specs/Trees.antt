@@ -1,7 +1,8 @@
 -- The trees of the records of a set, as they are written.
 use Rattle.std.specs.Prelude.{ℕ, suc, ◌+◌, ◌-◌, ◌*◌, List, [], ◌∷◌, ◌++◌, map, replicate, Bool, ◌==◌, cond, bit_xor}
-use Rattle.capnp_wire.specs.Tree.{Tree, Null, Numbers, Pointers, Composite, StructTree, structs_of, trees_of}
+use Rattle.capnp_wire.specs.Tree.{Tree, Null, Numbers, Pointers, Composite, StructTree}
 use Rattle.capnp_wire.specs.Encoding.{spelled}
+use Rattle.capnp_wire.specs.Objects.{structs_of, trees_of}
 use Rattle.capnp_wire.specs.Place.{struct_tree}
 use Rattle.capnp_base.specs.Text.{text_tree}
 use Rattle.capnp_schema.specs.Schema.{Annotation, Brand, Enum, Enumerant, Field, FieldKind, Group, Node, Schemas, Slot}
