@@ -53,6 +53,13 @@ impl<'a> Reader<'a> {
         Reader { reader }
     }
 
+    /// The reader that it stands on.
+    pub fn get_pointer(self) -> PointerReader<'a>
+        ensures { result ≡ pointer_of self.entry }
+    {
+        self.reader
+    }
+
     /// Whether the pointer is null. A pointer that can't be followed is not.
     pub fn is_null(&self) -> bool
         ensures { result ≡ is_null_tree (tree_of (pointer_of self.now)) }
