@@ -24,6 +24,3 @@ pub mod StructLists
 pub mod Blobs
 pub mod Defaults
 pub mod Facts
-pub mod Sizes
-pub mod Kept
-pub mod KeptLists

@@ -1,5 +1,5 @@
 -- What stands at a pointer.
-use Rattle.std.specs.Prelude.{ℕ, zero, suc, List, [], ◌∷◌, Bool}
+use Rattle.std.specs.Prelude.{ℕ, zero, suc, List, [], Bool}
 use Rattle.capnp_wire.specs.declared.fault.Fault.{Fault}
 
 -- Null; a struct with its data section and its pointers; a list by the size of its elements: of nothing, of bits, of
@@ -69,16 +69,6 @@ trees_from f first (suc count) = MoreTrees (f first) (trees_from f (suc first) c
 abbrev pub structs_from : (ℕ → StructTree) → ℕ → ℕ → Structs
 structs_from f first zero = NoStructs
 structs_from f first (suc count) = MoreStructs (f first).bytes (f first).pointers (structs_from f (suc first) count)
-
--- the trees of a list in a row
-abbrev pub trees_of : List Tree → Trees
-trees_of [] = NoTrees
-trees_of (t ∷ ts) = MoreTrees t (trees_of ts)
-
--- the same of structs
-abbrev pub structs_of : List StructTree → Structs
-structs_of [] = NoStructs
-structs_of (s ∷ ss) = MoreStructs s.bytes s.pointers (structs_of ss)
 
 -- so many structs of size zero
 abbrev pub empty_structs : ℕ → Structs

@@ -9,9 +9,6 @@ use crate::list_reader::ListReader;
 use crate::pointer_reader::PointerReader;
 use crate::struct_reader::StructReader;
 
-pub mod kept;
-pub mod kept_lists;
-
 /// In a message of any bytes, what stands at any word is well-formed, with any number of levels
 /// left: data is whole words and lies in its segment in full, counts and sizes are within their
 /// fields, and each struct of a composite list has that list's one size.

@@ -136,6 +136,3 @@ IsElement-with_bit d p s i bit h = (AreBytes-with_bit i bit s.bytes h.0, omega (
 
 pub IsElement-with_pointer_tree : (d p : ℕ) (s : StructTree) (i : ℕ) (t : Tree) → IsElement d p s → IsWellFormed t → IsElement d p (with_pointer_tree s i t)
 IsElement-with_pointer_tree d p s i t h k = (h.0, h.1, omega (arith, tree_count-with_tree s.pointers i t, h.2), AreWellFormed-with_tree s.pointers i t h.3 k)
-
-pub IsWellFormed-with_pointer_tree : (s : StructTree) (i : ℕ) (t : Tree) → IsWellFormed (struct_tree s) → IsWellFormed t → IsWellFormed (struct_tree (with_pointer_tree s i t))
-IsWellFormed-with_pointer_tree s i t h k = of_same_size s (with_pointer_tree s i t) h (IsElement-with_pointer_tree (length s.bytes / 8) (tree_count s.pointers) s i t (own_size s h) k)
