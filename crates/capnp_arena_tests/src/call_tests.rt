@@ -1,5 +1,6 @@
 //! Messages that are built, copied and entered, call by call: what each call answers, and what the message is then.
 //! With memory at hand each call succeeds; one that memory is refused to changes nothing.
+ghost use Rattle.capnp_arena.specs.Message.{IsMessage};
 
 use crate::calls::Call::{
     self, Clear, Copy, GetList, GetStruct, InitList, InitStruct, InitStructs, Lend, NewStruct,
@@ -14,12 +15,14 @@ use crate::calls::{
 };
 use crate::copied_rows::{BECOME_STRUCTS, COPIED, TAKEN_OVER};
 use crate::fixtures::{ONE_EACH, answer};
-use capnp_wire::error::ErrorKind::{
+use capnp_arena::message::Builder;
+use capnp_device::error::ErrorKind::{
     SizePastFormat, TextNotTerminated, WrongElementSize, WrongPointerKind,
 };
-use capnp_wire::message::Builder;
 use capnp_wire::size::ElementSize::{Bit, Byte, EightBytes, FourBytes, Pointer, TwoBytes, Void};
 use capnp_wire::size::StructSize;
+use std::alloc::Global;
+use std::process::Abort;
 
 const ONE_WORD: StructSize = StructSize {
     data_words: 1,
@@ -417,20 +420,29 @@ const TAKING_MEMORY: [(Call, (u64, [bool; 3])); 6] = [
     (SetText("short"), (2, IS_LIST)),
 ];
 
-// Of each call that memory is refused to, the message stays as it was: its words are counted, which takes no memory.
-#[test]
-fn a_refused_call_changes_nothing(rt: HostRuntime) {
-    let mut message = Builder::new(rt.alloc());
+/// Makes the calls one after another, until memory is refused. Of each refused call the message stays as it was: its words
+/// are counted, which takes no memory.
+fn refused_calls_change_nothing(rt: &impl Abort, alloc: Global, message: &mut Builder)
+    requires { IsMessage message.old }
+{
     let mut parts = (1, IS_NULL);
     for (call, then) in TAKING_MEMORY {
-        let works = make(rt.alloc(), &mut message, call).is_ok();
+        let works = make(alloc, message, call).is_ok();
         if works {
             parts = then;
         }
         let is_written = message.write_message().is_ok();
-        assert_eq!(rt; answer(parts_of(&mut message)), Ok(parts));
+        assert_eq!(rt; answer(parts_of(message)), Ok(parts));
         if !works || !is_written {
             return;
         }
+    }
+}
+
+#[test]
+fn a_refused_call_changes_nothing(rt: HostRuntime) {
+    let alloc = rt.alloc();
+    if let Ok(mut message) = Builder::new(alloc) {
+        refused_calls_change_nothing(&rt, alloc, &mut message);
     }
 }
