@@ -13,7 +13,7 @@ use crate::calls::Lent::{
 use crate::calls::{
     EMPTY_STRUCT, FIVE_AND_TEXT, NEW_STRUCT, NO_SIZE, Row, TWO_EACH, follow, make, parts_of,
 };
-use crate::copied_rows::{BECOME_STRUCTS, COPIED, TAKEN_OVER};
+use crate::copied_rows::{BECOME_STRUCTS, COPIED, MOST_BECOME_STRUCTS, TAKEN_OVER};
 use crate::fixtures::{ONE_EACH, answer};
 use capnp_arena::message::Builder;
 use capnp_device::error::ErrorKind::{
@@ -402,6 +402,11 @@ fn bytes_are_lent_and_written_through(rt: HostRuntime) {
 #[test]
 fn lists_of_each_kind_become_lists_of_structs(rt: HostRuntime) {
     follow(&rt, rt.alloc(), &BECOME_STRUCTS);
+}
+
+#[test]
+fn the_longest_list_becomes_one_of_structs(rt: HostRuntime) {
+    follow(&rt, rt.alloc(), &MOST_BECOME_STRUCTS);
 }
 
 const IS_NULL: [bool; 3] = [true, false, false];
