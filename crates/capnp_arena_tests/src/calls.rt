@@ -113,7 +113,7 @@ pub type Row = (
     &'static str,
 );
 
-/// Stores a number in a word of a struct, and sets a text at its pointer of the same index.
+/// Sets a text at a pointer of a struct, and stores a number in its word of the same index.
 pub fn put(fields: &mut StructBuilder<'_>, index: u16, number: u64, text: &str) -> Result<()>
     requires planted { IsStruct fields.old }
     requires inside { (index < fields.old.place.data_words) × (index < fields.old.place.pointers) }
@@ -122,10 +122,10 @@ pub fn put(fields: &mut StructBuilder<'_>, index: u16, number: u64, text: &str) 
     ensures planted { IsStruct fields.new }
     ensures changes { PartChanges (part fields.old.place) (segment fields.old.arena.now) (segment fields.new.arena.now) }
 {
-    fields.set_data_field::<u64>(index as u32, number);
     let place = fields.place;
     let mut pointer = fields.arena.pointer_field(place, index);
     pointer.set_text(text.as_bytes())?;
+    fields.set_data_field::<u64>(index as u32, number);
     Ok(())
 }
 
@@ -141,8 +141,7 @@ fn new_struct(
     ensures { IsMessage message.new }
 {
     let mut fields = message.root().init_struct(size)?;
-    put(&mut fields, index, number, text)?;
-    Ok(())
+    put(&mut fields, index, number, text)
 }
 
 fn new_filled(message: &mut Builder, count: u16) -> Result<()>
