@@ -3,27 +3,12 @@
 use crate::calls::Call::{Copy, GetStructs, InitStruct, NewFilled, NewStruct};
 use crate::calls::Copied::{Content, ContentOfByte, FirstStruct, List, Message};
 use crate::calls::{EMPTY_STRUCT, FIVE_AND_TEXT, NEW_STRUCT, NO_SIZE, Row};
-use crate::fixtures::{ONE_EACH, SEVEN_SEGMENTS};
-use capnp_wire::error::ErrorKind::{BadPointer, SizePastFormat};
+use crate::fixtures::ONE_EACH;
+use crate::rows::{COPIED_BY_TOOL, ELEMENTS, NESTED, SEVEN_SEGMENTS, WHOLE, WITH_TEXT};
+use capnp_device::error::ErrorKind::{BadPointer, SizePastFormat};
 use capnp_wire::size::ElementSize::{
     Bit, Byte, EightBytes, FourBytes, InlineComposite, Pointer, TwoBytes, Void,
 };
-
-/// A data word and a null.
-const WHOLE: &str =
-    "00 00 00 00 03 00 00 00 | 00 00 00 00 01 00 01 00 | 05 00 01 00 09 00 00 00 | 0";
-
-/// A struct with a text.
-const WITH_TEXT: &str =
-    "00 00 00 00 04 00 00 00 | 00 00 00 00 01 00 01 00 | 05 00 01 00 09 00 00 00 | 01 00 00 00 1a 00 00 00 | 68 69 00 00 00 00 00 00";
-
-/// Two pointers: to a struct with the text "a", and to the text "b".
-const NESTED: &str =
-    "00 00 00 00 06 00 00 00 | 00 00 00 00 00 00 02 00 | 04 00 00 00 00 00 01 00 | 09 00 00 00 12 00 00 00 | 01 00 00 00 12 00 00 00 | 61 00 00 00 00 00 00 00 | 62 00 00 00 00 00 00 00";
-
-/// Two structs, with 5 and the text "hi", and with 6 and the text "abc".
-const ELEMENTS: &str =
-    "00 00 00 00 08 00 00 00 | 01 00 00 00 27 00 00 00 | 08 00 00 00 01 00 01 00 | 05 00 00 00 00 00 00 00 | 09 00 00 00 1a 00 00 00 | 06 00 00 00 00 00 00 00 | 05 00 00 00 22 00 00 00 | 68 69 00 00 00 00 00 00 | 61 62 63 00 00 00 00 00";
 
 /// Lists, as words: of nothing, of bits, of bytes, of numbers of eight bytes, of the text "hi" and a null, and of structs
 /// with 5 and a null and with 6 and the text "hi".
@@ -44,17 +29,6 @@ const STRUCTS: &str =
 /// Two words of data, and the text "hi" and a null.
 const SOURCE: &str =
     "00 00 00 00 02 00 02 00 | 01 02 03 04 05 06 07 08 | 09 0a 0b 0c 0d 0e 0f 10 | 05 00 00 00 1a 00 00 00 | 0 | 68 69 00 00 00 00 00 00";
-
-// echo '(id = 7, name = "far away", scores = [4, 5], points = [(x = 6, y = 7)], next = (id = 8, name = "end"))' |
-//   capnp encode examples/reading.capnp Reading
-const COPIED_BY_TOOL: &str =
-    "00 00 00 00 13 00 00 00 | 00 00 00 00 02 00 04 00 | 07 00 00 00 00 00 00 00 | \
-     00 00 00 00 00 00 00 00 | 0d 00 00 00 4a 00 00 00 | 11 00 00 00 13 00 00 00 | \
-     11 00 00 00 0f 00 00 00 | 14 00 00 00 02 00 04 00 | 66 61 72 20 61 77 61 79 | \
-     00 00 00 00 00 00 00 00 | 04 00 05 00 00 00 00 00 | 04 00 00 00 01 00 00 00 | \
-     06 00 00 00 07 00 00 00 | 08 00 00 00 00 00 00 00 | 00 00 00 00 00 00 00 00 | \
-     0d 00 00 00 22 00 00 00 | 00 00 00 00 00 00 00 00 | 00 00 00 00 00 00 00 00 | \
-     00 00 00 00 00 00 00 00 | 65 6e 64 00 00 00 00 00";
 
 /// Messages and lists are copied.
 pub static COPIED: [Row; 21] = [
@@ -351,7 +325,7 @@ pub static TAKEN_OVER: [Row; 24] = [
 ];
 
 /// Lists become lists of structs.
-pub static BECOME_STRUCTS: [Row; 26] = [
+pub static BECOME_STRUCTS: [Row; 24] = [
     (
         "two elements of nothing",
         Copy(Message("00 00 00 00 01 00 00 00 | 01 00 00 00 10 00 00 00")),
@@ -510,18 +484,6 @@ pub static BECOME_STRUCTS: [Row; 26] = [
         "00 00 00 00 02 00 00 00 | 01 00 00 00 07 00 00 00 | 04 00 40 00 00 00 00 00",
     ),
     (
-        "2^29 - 1 elements of nothing",
-        Copy(Message("00 00 00 00 01 00 00 00 | 01 00 00 00 f8 ff ff ff")),
-        Ok(""),
-        "00 00 00 00 01 00 00 00 | 01 00 00 00 f8 ff ff ff",
-    ),
-    (
-        "2^29 - 1 elements of nothing become structs of size zero",
-        GetStructs(NO_SIZE),
-        Ok(""),
-        "00 00 00 00 02 00 00 00 | 01 00 00 00 07 00 00 00 | fc ff ff 7f 00 00 00 00",
-    ),
-    (
         "2^28 elements of nothing",
         Copy(Message("00 00 00 00 01 00 00 00 | 01 00 00 00 00 00 00 80")),
         Ok(""),
@@ -532,5 +494,21 @@ pub static BECOME_STRUCTS: [Row; 26] = [
         GetStructs(ONE_EACH),
         Err(SizePastFormat),
         "00 00 00 00 01 00 00 00 | 01 00 00 00 00 00 00 80",
+    ),
+];
+
+/// The longest list becomes one of structs of size zero. The call goes through its elements.
+pub static MOST_BECOME_STRUCTS: [Row; 2] = [
+    (
+        "2^29 - 1 elements of nothing",
+        Copy(Message("00 00 00 00 01 00 00 00 | 01 00 00 00 f8 ff ff ff")),
+        Ok(""),
+        "00 00 00 00 01 00 00 00 | 01 00 00 00 f8 ff ff ff",
+    ),
+    (
+        "2^29 - 1 elements of nothing become structs of size zero",
+        GetStructs(NO_SIZE),
+        Ok(""),
+        "00 00 00 00 02 00 00 00 | 01 00 00 00 07 00 00 00 | fc ff ff 7f 00 00 00 00",
     ),
 ];

@@ -1,31 +1,27 @@
 //! What is written into the parts of a message that is built, what is read there, and the bytes that are written then.
 //!
 //! What a row builds is a function of its own, of the row's name: it builds at the root of a new message, and answers three
-//! numbers that are read from what it built.
+//! numbers that are read from what it built. Those of structs fill one that is new.
+ghost use Rattle.std.specs.Prelude.{OnOk, ◌×◌, ◌<◌, ◌≡◌};
+ghost use Rattle.capnp_arena.specs.Forest.{PartChanges};
+ghost use Rattle.capnp_arena.specs.Handles.{IsStruct, part};
+ghost use Rattle.capnp_arena.specs.Message.{IsMessage};
+ghost use Rattle.capnp_arena.specs.Segment.{segment};
 
-use crate::fixtures::{ONE_EACH, answer, bytes_of, is_written_as, root_of};
-use capnp_wire::PointerReader;
-use capnp_wire::error::Result;
-use capnp_wire::laws::{kept, pointer_is_well_formed};
-use capnp_wire::message::Builder;
-use capnp_wire::object::Object;
+use crate::built_structs::{self, POINT, reading};
+use crate::calls::NO_SIZE;
+use crate::fixtures::{ONE_EACH, answer, is_written_as};
+use capnp_arena::handles::StructBuilder;
+use capnp_arena::message::Builder;
+use capnp_device::error::Result;
 use capnp_wire::size::{ElementSize, StructSize};
+use capnp_wire::{PointerReader, StructReader};
 use std::alloc::Global;
 use std::process::Abort;
 
 const READING: StructSize = StructSize {
     data_words: 2,
     pointers: 4,
-};
-
-const POINT: StructSize = StructSize {
-    data_words: 1,
-    pointers: 0,
-};
-
-const NO_SIZE: StructSize = StructSize {
-    data_words: 0,
-    pointers: 0,
 };
 
 /// The words of a list of the numbers 1 and 2, of two bytes each.
@@ -57,13 +53,19 @@ enum Built {
     Sizes,
 }
 
-fn null_as_list(root: &mut Object) -> Result<[u64; 3]> {
-    let list = root.get_list(ElementSize::TwoBytes)?;
+fn null_as_list(message: &mut Builder) -> Result<[u64; 3]>
+    requires { IsMessage message.old }
+    ensures { OnOk result (IsMessage message.new) }
+{
+    let list = message.root().get_list(ElementSize::TwoBytes)?;
     Ok([list.get_data_element::<u16>(0) as u64, 0, 0])
 }
 
-fn numbers(root: &mut Object) -> Result<[u64; 3]> {
-    let list = root.init_list(ElementSize::TwoBytes, 3)?;
+fn numbers(message: &mut Builder) -> Result<[u64; 3]>
+    requires { IsMessage message.old }
+    ensures { OnOk result (IsMessage message.new) }
+{
+    let mut list = message.root().init_list(ElementSize::TwoBytes, 3)?;
     list.set_data_element::<u16>(1, 0x0201);
     Ok([
         list.get_data_element::<u16>(1) as u64,
@@ -72,8 +74,11 @@ fn numbers(root: &mut Object) -> Result<[u64; 3]> {
     ])
 }
 
-fn bits(root: &mut Object) -> Result<[u64; 3]> {
-    let list = root.init_list(ElementSize::Bit, 10)?;
+fn bits(message: &mut Builder) -> Result<[u64; 3]>
+    requires { IsMessage message.old }
+    ensures { OnOk result (IsMessage message.new) }
+{
+    let mut list = message.root().init_list(ElementSize::Bit, 10)?;
     list.set_bool_element(9, true);
     list.set_bool_element(0, true);
     list.set_bool_element(0, false);
@@ -84,15 +89,22 @@ fn bits(root: &mut Object) -> Result<[u64; 3]> {
     ])
 }
 
-fn texts(root: &mut Object) -> Result<[u64; 3]> {
-    let list = root.init_list(ElementSize::Pointer, 2)?;
-    list.get_pointer_element(1).set_text(b"hi")?;
+fn texts(message: &mut Builder) -> Result<[u64; 3]>
+    requires { IsMessage message.old }
+    ensures { OnOk result (IsMessage message.new) }
+{
+    let list = message.root().init_list(ElementSize::Pointer, 2)?;
+    let mut second = list.get_pointer_element(1);
+    second.set_text(b"hi")?;
     Ok([0; 3])
 }
 
 /// The list of a text of two bytes, which are written one by one.
-fn text_list(root: &mut Object) -> Result<[u64; 3]> {
-    let list = root.init_text_list(2)?;
+fn text_list(message: &mut Builder) -> Result<[u64; 3]>
+    requires { IsMessage message.old }
+    ensures { OnOk result (IsMessage message.new) }
+{
+    let mut list = message.root().init_list(ElementSize::Byte, 3)?;
     list.set_data_element::<u8>(0, b'h');
     list.set_data_element::<u8>(1, b'i');
     Ok([
@@ -102,37 +114,58 @@ fn text_list(root: &mut Object) -> Result<[u64; 3]> {
     ])
 }
 
-fn struct_list(root: &mut Object) -> Result<[u64; 3]> {
-    let list = root.init_struct_list(2, POINT)?;
+fn fill_second(message: &mut Builder) -> Result<()>
+    requires { IsMessage message.old }
+    ensures { OnOk result (IsMessage message.new) }
+{
+    let list = message.root().init_struct_list(2, POINT)?;
     list.get_struct_element(1).set_data_field::<u16>(0, 2);
+    Ok(())
+}
+
+fn struct_list(message: &mut Builder) -> Result<[u64; 3]>
+    requires { IsMessage message.old }
+    ensures { OnOk result (IsMessage message.new) }
+{
+    fill_second(message)?;
+    let list = message.root().get_struct_list(POINT)?;
     Ok([list.get_data_element::<u16>(1) as u64, 0, 0])
 }
 
 /// A number at the start of a struct, and data at its pointer.
-fn struct_as_number(root: &mut Object) -> Result<[u64; 3]> {
-    let list = root.init_struct_list(1, ONE_EACH)?;
+fn struct_as_number(message: &mut Builder) -> Result<[u64; 3]>
+    requires { IsMessage message.old }
+    ensures { OnOk result (IsMessage message.new) }
+{
+    let mut list = message.root().init_struct_list(1, ONE_EACH)?;
     list.set_data_element::<u16>(0, 3);
-    list.get_pointer_element(0).set_data(&[9])?;
+    let mut pointer = list.get_pointer_element(0);
+    pointer.set_data(&[9])?;
     Ok([0; 3])
 }
 
 /// Numbers that become structs.
-fn numbers_as_structs(root: &mut Object) -> Result<[u64; 3]> {
-    let source = PointerReader::from_words(&NUMBERS);
-    pointer_is_well_formed(&source);
-    root.copy_from(source)?;
-    let list = root.get_struct_list(ONE_EACH)?;
+fn numbers_as_structs(message: &mut Builder) -> Result<[u64; 3]>
+    requires { IsMessage message.old }
+    ensures { OnOk result (IsMessage message.new) }
+{
+    message
+        .root()
+        .copy_from(PointerReader::from_words(&NUMBERS))?;
+    let list = message.root().get_struct_list(ONE_EACH)?;
     Ok([list.get_data_element::<u16>(1) as u64, 0, 0])
 }
 
-/// Data that is lent after a test.
-fn list_here(root: &mut Object) -> Result<[u64; 3]> {
-    let numbers = Vec::from_slice(root.allocator(), &[5, 6])?;
-    root.set_data(&numbers)?;
-    if !root.is_list() {
+/// Data that are got after a test.
+fn list_here(message: &mut Builder) -> Result<[u64; 3]>
+    requires { IsMessage message.old }
+    ensures { OnOk result (IsMessage message.new) }
+{
+    message.root().set_data(&[5, 6])?;
+    if !message.root().is_list() {
         return Ok([0; 3]);
     }
-    let list = root.list_here();
+    let list = message.root().get_list(ElementSize::Byte)?;
     Ok([
         list.get_data_element::<u8>(1) as u64,
         list.is_empty() as u64,
@@ -140,157 +173,120 @@ fn list_here(root: &mut Object) -> Result<[u64; 3]> {
     ])
 }
 
-fn null_as_struct(root: &mut Object) -> Result<[u64; 3]> {
-    let fields = root.get_struct(ONE_EACH)?;
-    fields.set_data_field::<u16>(3, 7);
+fn null_as_struct(message: &mut Builder) -> Result<[u64; 3]>
+    requires { IsMessage message.old }
+    ensures { OnOk result (IsMessage message.new) }
+{
+    let mut fields = message.root().get_struct(ONE_EACH)?;
+    if fields.place.data_words == 1 {
+        fields.set_data_field::<u16>(3, 7);
+    }
     Ok([0; 3])
 }
 
-/// A number with a default.
-fn masked(root: &mut Object) -> Result<[u64; 3]> {
-    let fields = root.init_struct(ONE_EACH)?;
-    fields.set_data_field_mask::<u16>(1, 5, 7);
-    Ok([
-        fields.get_data_field::<u16>(1) as u64,
-        fields.get_data_field_mask::<u16>(1, 7) as u64,
-        fields.get_data_field::<u16>(0) as u64,
-    ])
-}
-
-/// A bit, and a number of eight bytes beside it.
-fn bit(root: &mut Object) -> Result<[u64; 3]> {
-    let fields = root.init_struct(ONE_EACH)?;
-    fields.set_bool_field(9, true);
-    Ok([
-        fields.get_data_field::<u64>(0),
-        fields.get_bool_field(9) as u64,
-        fields.get_bool_field_mask(9, true) as u64,
-    ])
-}
-
-/// Two bits whose default is true: one that differs from it, and one that doesn't.
-fn masked_bits(root: &mut Object) -> Result<[u64; 3]> {
-    let fields = root.init_struct(ONE_EACH)?;
-    fields.set_bool_field_mask(9, false, true);
-    fields.set_bool_field_mask(3, true, true);
-    Ok([
-        fields.get_data_field::<u64>(0),
-        fields.get_bool_field_mask(9, true) as u64,
-        fields.get_bool_field_mask(3, true) as u64,
-    ])
-}
-
-fn word(root: &mut Object) -> Result<[u64; 3]> {
-    let fields = root.init_struct(ONE_EACH)?;
-    fields.set_data_field::<u64>(0, 0x0000_0009_0001_0005);
-    Ok([0; 3])
-}
-
-/// A pointer that takes a text and is cleared.
-fn cleared(root: &mut Object) -> Result<[u64; 3]> {
-    let name = root.init_struct(ONE_EACH)?.get_pointer_field(0);
-    let first = name.is_null();
-    name.set_text(b"hi")?;
-    let second = name.is_null();
-    name.clear();
-    Ok([first as u64, second as u64, name.is_null() as u64])
-}
-
-/// What is below a struct is measured with it.
-fn measured(root: &mut Object) -> Result<[u64; 3]> {
-    let fields = root.init_struct(ONE_EACH)?;
-    let first = fields.total_size()?;
-    fields.get_pointer_field(0).set_text(b"hi")?;
-    let second = fields.total_size()?;
-    Ok([first.word_count, second.word_count, second.cap_count as u64])
-}
-
-/// A struct that is lent after a test.
-fn struct_here(root: &mut Object) -> Result<[u64; 3]> {
-    let fields = root.init_struct(ONE_EACH)?;
-    let is_null = fields.pointer_field(0).is_null();
-    fields.set_data_field::<u16>(1, 7);
-    if !root.is_struct() {
+/// A struct that is found after a test.
+fn struct_here(message: &mut Builder, read: [u64; 3]) -> Result<[u64; 3]>
+    requires { IsMessage message.old }
+    ensures { OnOk result (IsMessage message.new) }
+{
+    if !message.is_struct(0) {
         return Ok([0; 3]);
     }
-    let number = root.struct_here().get_data_field::<u16>(1);
-    Ok([number as u64, is_null as u64, 0])
+    let place = message.struct_here(0);
+    let number = message.get_data_field::<u16>(place, 1);
+    Ok([number as u64, read[1], read[2]])
 }
 
-/// A text that is copied to a pointer.
-fn copied_text(alloc: Global, root: &mut Object) -> Result<[u64; 3]> {
-    let bytes = bytes_of(
-        alloc,
-        "00 00 00 00 02 00 00 00 | 01 00 00 00 1a 00 00 00 | 68 69 00 00 00 00 00 00",
-    )?;
-    let source = root_of(alloc, &bytes)?;
-    let fields = root.init_struct(ONE_EACH)?;
-    fields.get_pointer_field(0).copy_from(source)?;
-    Ok([0; 3])
+/// A struct is put in the place of one of size zero in a list.
+fn put_larger(message: &mut Builder, larger: &StructReader<'_>) -> Result<()>
+    requires { IsMessage message.old }
+    ensures { OnOk result (IsMessage message.new) }
+{
+    let list = message.root().init_struct_list(3, NO_SIZE)?;
+    let mut second = list.get_struct_element(1);
+    second.copy_content_from(larger)?;
+    Ok(())
 }
 
-/// A reading of examples/reading.capnp.
-fn reading(root: &mut Object) -> Result<[u64; 3]> {
-    let fields = root.init_struct(READING)?;
-    fields.set_data_field::<u64>(0, 7);
-    fields.set_data_field_mask::<i8>(8, -2, -1);
-    let points = fields.get_pointer_field(2).init_struct_list(2, POINT)?;
-    points.set_data_element::<i32>(0, 1);
-    points.set_data_element::<i32>(1, -3);
-    Ok([0; 3])
-}
-
-/// A struct comes in the place of one of size zero in a list.
-fn lost(alloc: Global, root: &mut Object) -> Result<[u64; 3]> {
-    let mut other = Builder::new(alloc);
+fn lost(alloc: Global, message: &mut Builder) -> Result<[u64; 3]>
+    requires { IsMessage message.old }
+    ensures { OnOk result (IsMessage message.new) }
+{
+    let mut other = Builder::new(alloc)?;
     let larger = other.root().init_struct(READING)?;
-    let list = root.init_struct_list(3, NO_SIZE)?;
-    std::mem::swap(larger, list.get_struct_element(1));
+    put_larger(message, &larger.as_reader())?;
     Ok([0; 3])
 }
 
-/// The size of a struct, and that of the elements of a list at its pointer.
-fn sizes(root: &mut Object) -> Result<[u64; 3]> {
-    kept::new_structs_are_well_formed();
-    let fields = root.init_struct(ONE_EACH)?;
-    let size = fields.get_size();
-    let list = fields
-        .get_pointer_field(0)
-        .init_list(ElementSize::FourBytes, 3)?;
-    let is_four = list.get_element_size() == ElementSize::FourBytes;
-    Ok([size.data_words as u64, size.pointers as u64, is_four as u64])
+/// Fills a struct of a data word and a pointer. Others are not filled so.
+fn fill(alloc: Global, fields: &mut StructBuilder<'_>, built: Built) -> Result<[u64; 3]>
+    requires planted { IsStruct fields.old }
+    requires inside { (0 < fields.old.place.data_words) × (0 < fields.old.place.pointers) }
+    ensures same { fields.new.arena.ghost_name ≡ fields.old.arena.ghost_name }
+    ensures place { fields.new.place ≡ fields.old.place }
+    ensures planted { OnOk result (IsStruct fields.new) }
+    ensures changes { OnOk result (PartChanges (part fields.old.place) (segment fields.old.arena.now) (segment fields.new.arena.now)) }
+{
+    match built {
+        Built::Masked => built_structs::masked(fields),
+        Built::Bit => built_structs::bit(fields),
+        Built::MaskedBits => built_structs::masked_bits(fields),
+        Built::Cleared => built_structs::cleared(fields),
+        Built::Measured => built_structs::measured(fields),
+        Built::StructHere => built_structs::struct_here(fields),
+        Built::CopiedText => built_structs::copied_text(alloc, fields),
+        Built::Sizes => built_structs::sizes(fields),
+        _ => built_structs::word(fields),
+    }
 }
 
-fn build(alloc: Global, root: &mut Object, built: Built) -> Result<[u64; 3]> {
+fn new_struct(alloc: Global, message: &mut Builder, built: Built) -> Result<[u64; 3]>
+    requires { IsMessage message.old }
+    ensures { OnOk result (IsMessage message.new) }
+{
+    let mut fields = message.root().init_struct(ONE_EACH)?;
+    let read = fill(alloc, &mut fields, built)?;
+    Ok(read)
+}
+
+fn new_reading(message: &mut Builder) -> Result<[u64; 3]>
+    requires { IsMessage message.old }
+    ensures { OnOk result (IsMessage message.new) }
+{
+    let mut fields = message.root().init_struct(READING)?;
+    let read = reading(&mut fields)?;
+    Ok(read)
+}
+
+fn build(alloc: Global, message: &mut Builder, built: Built) -> Result<[u64; 3]>
+    requires { IsMessage message.old }
+    ensures { OnOk result (IsMessage message.new) }
+{
     match built {
-        Built::NullAsList => null_as_list(root),
-        Built::Numbers => numbers(root),
-        Built::Bits => bits(root),
-        Built::Texts => texts(root),
-        Built::TextList => text_list(root),
-        Built::StructList => struct_list(root),
-        Built::StructAsNumber => struct_as_number(root),
-        Built::NumbersAsStructs => numbers_as_structs(root),
-        Built::ListHere => list_here(root),
-        Built::NullAsStruct => null_as_struct(root),
-        Built::Masked => masked(root),
-        Built::Bit => bit(root),
-        Built::MaskedBits => masked_bits(root),
-        Built::Word => word(root),
-        Built::Cleared => cleared(root),
-        Built::Measured => measured(root),
-        Built::StructHere => struct_here(root),
-        Built::CopiedText => copied_text(alloc, root),
-        Built::Reading => reading(root),
-        Built::Lost => lost(alloc, root),
-        Built::Sizes => sizes(root),
+        Built::NullAsList => null_as_list(message),
+        Built::Numbers => numbers(message),
+        Built::Bits => bits(message),
+        Built::Texts => texts(message),
+        Built::TextList => text_list(message),
+        Built::StructList => struct_list(message),
+        Built::StructAsNumber => struct_as_number(message),
+        Built::NumbersAsStructs => numbers_as_structs(message),
+        Built::ListHere => list_here(message),
+        Built::NullAsStruct => null_as_struct(message),
+        Built::StructHere => {
+            let read = new_struct(alloc, message, built)?;
+            struct_here(message, read)
+        }
+        Built::Reading => new_reading(message),
+        Built::Lost => lost(alloc, message),
+        other => new_struct(alloc, message, other),
     }
 }
 
 /// What is read of what is built, and whether the message is then what a text spells.
 fn built_as(alloc: Global, built: Built, text: &str) -> Result<([u64; 3], bool)> {
-    let mut message = Builder::new(alloc);
-    let read = build(alloc, message.root(), built)?;
+    let mut message = Builder::new(alloc)?;
+    let read = build(alloc, &mut message, built)?;
     Ok((read, is_written_as(alloc, &message, text)?))
 }
 

@@ -1,10 +1,10 @@
 //! Messages that are written to a sink.
 
 use crate::fixtures::{answer, bytes_of, refusal};
-use capnp_wire::error::ErrorKind::{self, WriteFailed};
-use capnp_wire::error::Result;
-use capnp_wire::memory::MemorySink;
-use capnp_wire::message::Builder;
+use capnp_arena::message::Builder;
+use capnp_device::error::ErrorKind::{self, WriteFailed};
+use capnp_device::error::Result;
+use capnp_device::memory::MemorySink;
 use std::alloc::Global;
 
 /// Two messages: a text, and a null after it.
@@ -14,7 +14,7 @@ const TEXT_AND_NULL: &str =
 
 /// Writes the text and the null to a sink.
 fn send_both(alloc: Global, sink: &mut MemorySink) -> Result<()> {
-    let mut message = Builder::new(alloc);
+    let mut message = Builder::new(alloc)?;
     message.root().set_text(b"Hello, World!")?;
     message.write_message_to(sink)?;
     message.root().clear();
@@ -37,7 +37,7 @@ fn a_sink_gets_the_bytes_of_the_message(rt: HostRuntime) {
 /// Why a message is not written to a sink of which so many calls work, how many bytes the sink has then, and whether they
 /// are a beginning of the message.
 fn sent(alloc: Global, calls: u64) -> Result<(Option<ErrorKind>, usize, bool)> {
-    let mut message = Builder::new(alloc);
+    let mut message = Builder::new(alloc)?;
     message.root().set_text(b"Hello, World!")?;
     let bytes = message.write_message()?;
     let mut sink = MemorySink::new(alloc, 5, Some(calls));

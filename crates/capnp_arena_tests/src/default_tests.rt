@@ -4,7 +4,7 @@ use crate::calls::Asked::{Numbers, Struct, Structs};
 use crate::calls::Call::{Clear, Copy, Fill};
 use crate::calls::Copied::Message;
 use crate::calls::{Row, follow};
-use capnp_wire::error::ErrorKind::{
+use capnp_device::error::ErrorKind::{
     BadPointer, CapabilityPointer, SizePastFormat, WrongElementSize, WrongPointerKind,
 };
 

@@ -1,25 +1,30 @@
 //! Messages that are built, copied and entered, call by call: what each call answers, and what the message is then.
 //! With memory at hand each call succeeds; one that memory is refused to changes nothing.
+ghost use Rattle.capnp_arena.specs.Message.{IsMessage};
 
+use crate::calls::Asked::Struct;
 use crate::calls::Call::{
-    self, Clear, Copy, GetList, GetStruct, InitList, InitStruct, InitStructs, Lend, NewStruct,
-    SetData, SetText,
+    self, Clear, Copy, Fill, GetList, GetStruct, GetStructs, InitList, InitStruct, InitStructs,
+    Lend, NewStruct, SetData, SetText,
 };
-use crate::calls::Copied::Message;
+use crate::calls::Copied::{Content, FirstStruct, List, Message};
 use crate::calls::Lent::{
     GetData, GetText, InitData, InitText, NewData, NewText, ReverseData, ReverseText,
 };
 use crate::calls::{
     EMPTY_STRUCT, FIVE_AND_TEXT, NEW_STRUCT, NO_SIZE, Row, TWO_EACH, follow, make, parts_of,
 };
-use crate::copied_rows::{BECOME_STRUCTS, COPIED, TAKEN_OVER};
+use crate::copied_rows::{BECOME_STRUCTS, COPIED, MOST_BECOME_STRUCTS, TAKEN_OVER};
 use crate::fixtures::{ONE_EACH, answer};
-use capnp_wire::error::ErrorKind::{
-    SizePastFormat, TextNotTerminated, WrongElementSize, WrongPointerKind,
+use capnp_arena::message::Builder;
+use capnp_device::error::ErrorKind::{
+    self, OutOfMemory, SizePastFormat, TextNotTerminated, WrongElementSize, WrongPointerKind,
 };
-use capnp_wire::message::Builder;
+use capnp_device::error::Result;
 use capnp_wire::size::ElementSize::{Bit, Byte, EightBytes, FourBytes, Pointer, TwoBytes, Void};
 use capnp_wire::size::StructSize;
+use std::alloc::Global;
+use std::process::Abort;
 
 const ONE_WORD: StructSize = StructSize {
     data_words: 1,
@@ -376,9 +381,43 @@ static LENT: [Row; 30] = [
     ),
 ];
 
+/// A text of two words in a segment of three, and lists that need a word more than the 2^29 - 4 that are left, or more.
+static FULL: [Row; 5] = [
+    ("a text", SetText("Hello, World!"), Ok(""), HELLO),
+    (
+        "numbers do not fit by a word",
+        InitList(EightBytes, (1 << 29) - 3),
+        Err(OutOfMemory),
+        HELLO,
+    ),
+    (
+        "nor do pointers",
+        InitList(Pointer, (1 << 29) - 3),
+        Err(OutOfMemory),
+        HELLO,
+    ),
+    (
+        "nor do structs, with their tag",
+        InitStructs((1 << 29) - 4, ONE_WORD),
+        Err(OutOfMemory),
+        HELLO,
+    ),
+    (
+        "the longest list that has a word for each element is refused",
+        InitList(EightBytes, (1 << 29) - 1),
+        Err(OutOfMemory),
+        HELLO,
+    ),
+];
+
 #[test]
 fn texts_structs_and_lists_are_made(rt: HostRuntime) {
     follow(&rt, rt.alloc(), &MADE);
+}
+
+#[test]
+fn a_segment_that_would_be_too_long_is_refused(rt: HostRuntime) {
+    follow(&rt, rt.alloc(), &FULL);
 }
 
 #[test]
@@ -401,36 +440,74 @@ fn lists_of_each_kind_become_lists_of_structs(rt: HostRuntime) {
     follow(&rt, rt.alloc(), &BECOME_STRUCTS);
 }
 
+#[test]
+fn the_longest_list_becomes_one_of_structs(rt: HostRuntime) {
+    follow(&rt, rt.alloc(), &MOST_BECOME_STRUCTS);
+}
+
 const IS_NULL: [bool; 3] = [true, false, false];
 
 const IS_STRUCT: [bool; 3] = [false, true, false];
 
 const IS_LIST: [bool; 3] = [false, false, true];
 
+/// A struct of one data word, as words.
+const FIVE: &str = "00 00 00 00 01 00 00 00 | 05 00 00 00 00 00 00 00";
+
+/// A byte, as words.
+const NINE: &str = "01 00 00 00 0a 00 00 00 | 09 00 00 00 00 00 00 00";
+
 /// Calls that take memory, and the words and the root of the message then.
-const TAKING_MEMORY: [(Call, (u64, [bool; 3])); 6] = [
+const TAKING_MEMORY: [(Call, (u64, [bool; 3])); 14] = [
     (InitStruct(ONE_EACH), (3, IS_STRUCT)),
     (NewStruct(5, "hello there"), (5, IS_STRUCT)),
     (GetStruct(READING), (9, IS_STRUCT)),
     (Clear, (1, IS_NULL)),
     (Copy(Message(NINE_WORDS)), (9, IS_STRUCT)),
     (SetText("short"), (2, IS_LIST)),
+    (InitList(TwoBytes, 3), (2, IS_LIST)),
+    (GetStructs(ONE_EACH), (8, IS_LIST)),
+    (InitStructs(2, ONE_WORD), (4, IS_LIST)),
+    (Copy(List(NINE, Byte)), (2, IS_LIST)),
+    (Clear, (1, IS_NULL)),
+    (Fill(Struct, FIVE), (3, IS_STRUCT)),
+    (Copy(Content(FIVE)), (3, IS_STRUCT)),
+    (Copy(FirstStruct(NINE, Byte)), (2, IS_STRUCT)),
 ];
 
-// Of each call that memory is refused to, the message stays as it was: its words are counted, which takes no memory.
-#[test]
-fn a_refused_call_changes_nothing(rt: HostRuntime) {
-    let mut message = Builder::new(rt.alloc());
+/// Why a call was refused.
+fn why(made: Result<Vec<u8>>) -> Option<ErrorKind> {
+    match made {
+        Ok(_) => None,
+        Err(error) => Some(error.kind),
+    }
+}
+
+/// Makes the calls one after another, until memory is refused. Of each refused call the message stays as it was: its words
+/// are counted, which takes no memory.
+fn refused_calls_change_nothing(rt: &impl Abort, alloc: Global, message: &mut Builder)
+    requires { IsMessage message.old }
+{
     let mut parts = (1, IS_NULL);
     for (call, then) in TAKING_MEMORY {
-        let works = make(rt.alloc(), &mut message, call).is_ok();
+        let refused = why(make(alloc, message, call));
+        assert!(rt; refused == None || refused == Some(OutOfMemory));
+        let works = refused == None;
         if works {
             parts = then;
         }
         let is_written = message.write_message().is_ok();
-        assert_eq!(rt; answer(parts_of(&mut message)), Ok(parts));
+        assert_eq!(rt; answer(parts_of(message)), Ok(parts));
         if !works || !is_written {
             return;
         }
+    }
+}
+
+#[test]
+fn a_refused_call_changes_nothing(rt: HostRuntime) {
+    let alloc = rt.alloc();
+    if let Ok(mut message) = Builder::new(alloc) {
+        refused_calls_change_nothing(&rt, alloc, &mut message);
     }
 }
