@@ -1,5 +1,5 @@
-//! Calls that are refused, with what stands at the pointer after them. No clause says what a pointer ends as whose part
-//! is handed out by value, so that these tests do.
+//! Calls that are refused, with what stands at the pointer after them. No clause says what a pointer ends as that a call is
+//! made at whose answer's type is a parameter, so that these tests do.
 
 use crate::calls::Call::{
     self, Clear, GetData, GetText, InitData, InitNumbers, InitText, SetAndGet, Untyped,
@@ -9,14 +9,16 @@ use crate::calls::UntypedCall::{
     GetData as DataAt, GetText as TextAt, GetUntyped, InitData as NewDataAt, InitNoText,
     InitText as NewTextAt, Set,
 };
-use crate::calls::{NULL, Row, follow, make};
+use crate::calls::{NULL, Row, follow, make, settled};
 use crate::pointer_tests::{CAPABILITY, HI};
 use crate::struct_tests::FIVE;
+use capnp_arena::message::Builder;
 use capnp_wire::error::ErrorKind::{
     CapabilityPointer, OutOfMemory, SizePastFormat, TextNotTerminated, WrongElementSize,
     WrongPointerKind,
 };
-use capnp_wire::message::Builder;
+use capnp_wire::error::Result;
+use std::alloc::Global;
 
 /// A list of one number of two bytes.
 const NUMBERS: &[u8] = &[1, 0, 0, 0, 0x0b, 0, 0, 0, 5, 0, 0, 0, 0, 0, 0, 0];
@@ -246,37 +248,40 @@ static TAKING_MEMORY: [(Call, &[u8], Option<&[u8]>); 10] = [
 ];
 
 /// Whether this text stands at the root, or a null. Takes no memory.
-fn has_text(message: &mut Builder, want: Option<&[u8]>) -> bool {
+fn has_text(message: &Builder, want: Option<&[u8]>) -> bool {
+    let root = message.peek(0);
     let Some(want) = want else {
-        return message.root().is_null();
+        return root.is_null();
     };
-    if message.root().is_null() {
+    if root.is_null() {
         return false;
     }
-    match message.root().get_text() {
+    match root.get_text() {
         Ok(bytes) => *bytes == *want,
         Err(_) => false,
     }
 }
 
 /// The first row whose call answers otherwise or leaves another text, or which memory is refused to and which does not
-/// leave the text that stood there. Takes no memory but by the calls.
-fn first_that_changes(message: &mut Builder) -> Option<usize> {
+/// leave the text that stood there. Of a message that takes memory of its own after each call.
+fn first_that_changes(alloc: Global) -> Result<Option<usize>> {
+    let mut message = Builder::new(alloc)?;
     let mut stood = None;
     for (index, (call, want, then)) in TAKING_MEMORY.iter().enumerate() {
-        match make(message, *call, want) {
-            Ok(true) if has_text(message, *then) => stood = *then,
-            Err(error) if error.kind == OutOfMemory && has_text(message, stood) => return None,
-            _ => return Some(index),
+        match make(&mut message, *call, want) {
+            Ok(true) if has_text(&message, *then) => stood = *then,
+            Err(error) if error.kind == OutOfMemory && has_text(&message, stood) => return Ok(None),
+            _ => return Ok(Some(index)),
         }
+        message = settled(alloc, &message)?;
     }
-    None
+    Ok(None)
 }
 
 // Of each call that memory is refused to, what stood there still stands: `./fail_each_allocation` refuses each request in
 // turn. What is compared takes no memory.
 #[test]
 fn without_memory_what_stood_there_stands(rt: HostRuntime) {
-    let mut message = Builder::new(rt.alloc());
-    assert_eq!(rt; first_that_changes(&mut message), None);
+    let changed = first_that_changes(rt.alloc());
+    assert!(rt; !matches!(changed, Ok(Some(_))), "{changed:?}");
 }

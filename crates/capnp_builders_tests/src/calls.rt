@@ -1,11 +1,22 @@
 //! Calls on the root of a message, as values. A row says what is called, what that answers, and which words the message
 //! has then: what stands there before is what the row above it left.
+//!
+//! What a message is left as by a call whose answer's type is a parameter is not known beforehand. So what stands at the root
+//! after each row is read into a message of its own (`settled`), on which the next call is made.
+ghost use Rattle.std.specs.Prelude.{IfOk, OnOk, ◌≡◌};
+ghost use Rattle.capnp_arena.specs.Made.{size_number};
+ghost use Rattle.capnp_arena.specs.Message.{IsMessage};
+ghost use Rattle.capnp_arena.specs.Segment.{segment};
+ghost use Rattle.capnp_arena.specs.Shape.{ListIn, shape_at};
+ghost use Rattle.capnp_builders.specs.Blobs.{IsData, IsText};
+ghost use Rattle.capnp_builders.specs.Pointers.{IsPointer};
 
-use capnp_base::traits::{FromPointerBuilder, set_and_get};
-use capnp_base::{any_pointer, data, text};
+use capnp_arena::lists::ListPlace;
+use capnp_arena::message::Builder;
+use capnp_builders::traits::{FromPointerBuilder, set_and_get};
+use capnp_builders::{any_pointer, data, text};
 use capnp_wire::PointerReader;
 use capnp_wire::error::{ErrorKind, Result};
-use capnp_wire::message::Builder;
 use capnp_wire::size::ElementSize;
 use std::alloc::Global;
 use std::process::Abort;
@@ -73,7 +84,7 @@ const NOT_NULL: &[u8] = b"not null";
 /// What the row shows, what is called, what that answers, and the words of the message then.
 pub type Row = (&'static str, Call, Want, &'static [u8]);
 
-pub fn default_of(words: Option<&[u8]>) -> Option<PointerReader<'_>> {
+fn default_of(words: Option<&[u8]>) -> Option<PointerReader<'_>> {
     match words {
         Some(words) => Some(PointerReader::from_words(words)),
         None => None,
@@ -81,7 +92,7 @@ pub fn default_of(words: Option<&[u8]>) -> Option<PointerReader<'_>> {
 }
 
 /// Whether it is a text of these bytes that was read.
-pub fn text_is(answer: Result<text::Reader<'_>>, want: &[u8]) -> Result<bool> {
+fn text_is(answer: Result<text::Reader<'_>>, want: &[u8]) -> Result<bool> {
     match answer {
         Ok(text) => Ok(*text.as_bytes() == *want),
         Err(error) => Err(error),
@@ -89,7 +100,7 @@ pub fn text_is(answer: Result<text::Reader<'_>>, want: &[u8]) -> Result<bool> {
 }
 
 /// Whether it is data of these bytes that was read.
-pub fn data_is(answer: Result<data::Reader<'_>>, want: &[u8]) -> Result<bool> {
+fn data_is(answer: Result<data::Reader<'_>>, want: &[u8]) -> Result<bool> {
     match answer {
         Ok(bytes) => Ok(*bytes == *want),
         Err(error) => Err(error),
@@ -97,7 +108,7 @@ pub fn data_is(answer: Result<data::Reader<'_>>, want: &[u8]) -> Result<bool> {
 }
 
 /// Whether an untyped pointer is null, where `null` is wanted, or else leads to data of these bytes.
-pub fn untyped_is(answer: Result<any_pointer::Reader<'_>>, want: &[u8]) -> Result<bool> {
+fn untyped_is(answer: Result<any_pointer::Reader<'_>>, want: &[u8]) -> Result<bool> {
     match answer {
         Ok(pointer) => {
             if pointer.is_null() {
@@ -110,23 +121,47 @@ pub fn untyped_is(answer: Result<any_pointer::Reader<'_>>, want: &[u8]) -> Resul
 }
 
 /// Whether a text that is built has these bytes.
-fn holds(text: &text::Builder<'_>, want: &[u8]) -> bool {
+fn holds(text: &text::Builder<'_>, want: &[u8]) -> bool
+    requires { IsText text.now }
+{
     *text.reborrow_as_reader().as_bytes() == *want
 }
 
-fn built_data_is(answer: Result<data::Builder<'_>>, want: &[u8]) -> Result<bool> {
+fn built_data_is(answer: Result<data::Builder<'_>>, want: &[u8]) -> Result<bool>
+    requires { IfOk answer IsData }
+{
     match answer {
-        Ok(bytes) => Ok(*bytes == *want),
+        Ok(bytes) => Ok(*bytes.reborrow_as_reader() == *want),
+        Err(error) => Err(error),
+    }
+}
+
+fn built_text_is(answer: Result<text::Builder<'_>>, want: &[u8]) -> Result<bool>
+    requires { IfOk answer IsText }
+{
+    match answer {
+        Ok(text) => Ok(holds(&text, want)),
         Err(error) => Err(error),
     }
 }
 
 /// Whether an untyped pointer that is built is null or not, as is wanted.
-fn is_null_so(pointer: &any_pointer::Builder<'_>, want: &[u8]) -> bool {
+fn is_null_so(pointer: &any_pointer::Builder<'_>, want: &[u8]) -> bool
+    requires { IsPointer pointer.now }
+{
     if pointer.is_null() {
         *want == *NULL_POINTER
     } else {
         *want == *NOT_NULL
+    }
+}
+
+fn built_pointer_is(answer: Result<any_pointer::Builder<'_>>, want: &[u8]) -> Result<bool>
+    requires { IfOk answer IsPointer }
+{
+    match answer {
+        Ok(pointer) => Ok(is_null_so(&pointer, want)),
+        Err(error) => Err(error),
     }
 }
 
@@ -137,85 +172,112 @@ fn is_done(answer: Result<()>, want: &[u8]) -> Result<bool> {
     }
 }
 
-fn clear(message: &mut Builder) {
+fn clear(message: &mut Builder)
+    requires { IsMessage message.old }
+{
     let mut root = any_pointer::Builder::new(message.root());
     root.clear();
 }
 
-fn init_numbers(message: &mut Builder, count: u16) -> Result<()> {
-    match message
-        .root()
-        .init_list(ElementSize::TwoBytes, u32::from(count))
-    {
-        Ok(list) => {
-            if count > 0 {
-                list.set_data_element::<u16>(u32::from(count) - 1, count);
-            }
-            Ok(())
-        }
-        Err(error) => Err(error),
-    }
+/// A list of so many zeros of two bytes each at the root.
+fn start_list(message: &mut Builder, count: u32) -> Result<ListPlace>
+    requires { IsMessage message.old }
+    ensures forest { IfOk result (λ _. IsMessage message.new) }
+    ensures there { IfOk result (λ list. shape_at (segment message.new) 0 ≡ ListIn list.start (size_number list.size) list.count) }
+    ensures list { IfOk result (λ list. (list.size ≡ ElementSize.TwoBytes) × (list.count ≡ count)) }
+{
+    let start = message.init_list(0, ElementSize::TwoBytes, count)?;
+    Ok(ListPlace {
+        start,
+        size: ElementSize::TwoBytes,
+        count,
+    })
 }
 
-fn init_three(message: &mut Builder) -> Result<()> {
-    let list = message.root().init_list(ElementSize::TwoBytes, 3)?;
-    list.set_data_element::<u16>(0, 1);
-    list.set_data_element::<u16>(1, 2);
-    list.set_data_element::<u16>(2, 3);
+fn init_numbers(message: &mut Builder, count: u16) -> Result<()>
+    requires { IsMessage message.old }
+    ensures { OnOk result (IsMessage message.new) }
+{
+    let list = start_list(message, u32::from(count))?;
+    if count > 0 {
+        message.set_list_number::<u16>(0, list, u32::from(count) - 1, count);
+    }
     Ok(())
 }
 
-fn init_ten(message: &mut Builder) -> Result<()> {
-    let list = message.root().init_list(ElementSize::TwoBytes, 10)?;
-    list.set_data_element::<u16>(0, 0);
-    list.set_data_element::<u16>(1, 1);
-    list.set_data_element::<u16>(2, 2);
-    list.set_data_element::<u16>(3, 3);
-    list.set_data_element::<u16>(4, 4);
-    list.set_data_element::<u16>(5, 5);
-    list.set_data_element::<u16>(6, 6);
-    list.set_data_element::<u16>(7, 7);
-    list.set_data_element::<u16>(8, 8);
-    list.set_data_element::<u16>(9, 9);
+fn init_three(message: &mut Builder) -> Result<()>
+    requires { IsMessage message.old }
+    ensures { OnOk result (IsMessage message.new) }
+{
+    let list = start_list(message, 3)?;
+    message.set_list_number::<u16>(0, list, 0, 1);
+    message.set_list_number::<u16>(0, list, 1, 2);
+    message.set_list_number::<u16>(0, list, 2, 3);
     Ok(())
 }
 
-fn init_text(message: &mut Builder, length: u32, want: &[u8]) -> Result<bool> {
-    match text::Builder::init_pointer(message.root(), length) {
-        Ok(text) => Ok(holds(&text, want)),
-        Err(error) => Err(error),
-    }
+fn init_ten(message: &mut Builder) -> Result<()>
+    requires { IsMessage message.old }
+    ensures { OnOk result (IsMessage message.new) }
+{
+    let list = start_list(message, 10)?;
+    message.set_list_number::<u16>(0, list, 0, 0);
+    message.set_list_number::<u16>(0, list, 1, 1);
+    message.set_list_number::<u16>(0, list, 2, 2);
+    message.set_list_number::<u16>(0, list, 3, 3);
+    message.set_list_number::<u16>(0, list, 4, 4);
+    message.set_list_number::<u16>(0, list, 5, 5);
+    message.set_list_number::<u16>(0, list, 6, 6);
+    message.set_list_number::<u16>(0, list, 7, 7);
+    message.set_list_number::<u16>(0, list, 8, 8);
+    message.set_list_number::<u16>(0, list, 9, 9);
+    Ok(())
 }
 
-fn init_data(message: &mut Builder, length: u32, want: &[u8]) -> Result<bool> {
-    let bytes: Result<data::Builder<'_>> = FromPointerBuilder::init_pointer(message.root(), length);
-    built_data_is(bytes, want)
+fn init_text(message: &mut Builder, length: u32, want: &[u8]) -> Result<bool>
+    requires { IsMessage message.old }
+    ensures message { IsMessage message.new }
+{
+    let text = text::Builder::init_pointer(message.root(), length)?;
+    Ok(holds(&text, want))
 }
 
-fn get_text(message: &mut Builder, default: Option<&[u8]>, want: &[u8]) -> Result<bool> {
+fn init_data(message: &mut Builder, length: u32, want: &[u8]) -> Result<bool>
+    requires { IsMessage message.old }
+    ensures message { IsMessage message.new }
+{
+    let bytes = data::Builder::init_pointer(message.root(), length)?;
+    Ok(*bytes.reborrow_as_reader() == *want)
+}
+
+fn get_text(message: &mut Builder, default: Option<&[u8]>, want: &[u8]) -> Result<bool>
+    requires { IsMessage message.old }
+    ensures message { IsMessage message.new }
+{
     let default = default_of(default);
-    match text::Builder::get_from_pointer(message.root(), default) {
-        Ok(text) => Ok(holds(&text, want)),
-        Err(error) => Err(error),
-    }
+    let text = text::Builder::get_from_pointer(message.root(), default)?;
+    Ok(holds(&text, want))
 }
 
-fn get_data(message: &mut Builder, default: Option<&[u8]>, want: &[u8]) -> Result<bool> {
-    let bytes: Result<data::Builder<'_>> = FromPointerBuilder::get_from_pointer(
-        message.root(),
-        default_of(default),
-    );
-    built_data_is(bytes, want)
+fn get_data(message: &mut Builder, default: Option<&[u8]>, want: &[u8]) -> Result<bool>
+    requires { IsMessage message.old }
+    ensures message { IsMessage message.new }
+{
+    let default = default_of(default);
+    let bytes = data::Builder::get_from_pointer(message.root(), default)?;
+    Ok(*bytes.reborrow_as_reader() == *want)
 }
 
-fn read_data(message: &mut Builder, want: &[u8]) -> Result<bool> {
-    // what can be written is well-formed, as the reader asks
-    message.write_message()?;
+fn read_data(message: &mut Builder, want: &[u8]) -> Result<bool>
+    requires { IsMessage message.old }
+{
     let root = any_pointer::Builder::new(message.root());
     data_is(root.into_reader().get_as::<data::Reader<'_>>(), want)
 }
 
-fn set_and_get_input(message: &mut Builder, input: Input, want: &[u8]) -> Result<bool> {
+fn set_and_get_input(message: &mut Builder, input: Input, want: &[u8]) -> Result<bool>
+    requires { IsMessage message.old }
+{
     match input {
         Input::String(string) => text_is(
             set_and_get::<text::Owned, &str>(message.root(), string),
@@ -233,7 +295,9 @@ fn set_and_get_input(message: &mut Builder, input: Input, want: &[u8]) -> Result
     }
 }
 
-fn set_and_get_untyped(message: &mut Builder, words: &[u8], want: &[u8]) -> Result<bool> {
+fn set_and_get_untyped(message: &mut Builder, words: &[u8], want: &[u8]) -> Result<bool>
+    requires { IsMessage message.old }
+{
     let source = any_pointer::Reader::new(PointerReader::from_words(words));
     untyped_is(
         set_and_get::<any_pointer::Owned, any_pointer::Reader<'_>>(message.root(), source),
@@ -241,7 +305,10 @@ fn set_and_get_untyped(message: &mut Builder, words: &[u8], want: &[u8]) -> Resu
     )
 }
 
-fn set_untyped(message: &mut Builder, input: Input) -> Result<()> {
+fn set_untyped(message: &mut Builder, input: Input) -> Result<()>
+    requires { IsMessage message.old }
+    ensures message { IsMessage message.new }
+{
     let mut root = any_pointer::Builder::new(message.root());
     match input {
         Input::String(string) => root.set_as::<text::Owned, &str>(string),
@@ -253,36 +320,37 @@ fn set_untyped(message: &mut Builder, input: Input) -> Result<()> {
     }
 }
 
-fn init_untyped_text(message: &mut Builder, length: u32, want: &[u8]) -> Result<bool> {
+fn init_untyped_text(message: &mut Builder, length: u32, want: &[u8]) -> Result<bool>
+    requires { IsMessage message.old }
+{
     let root = any_pointer::Builder::new(message.root());
-    match root.initn_as::<text::Builder<'_>>(length) {
-        Ok(text) => Ok(holds(&text, want)),
-        Err(error) => Err(error),
-    }
+    built_text_is(root.initn_as::<text::Builder<'_>>(length), want)
 }
 
-fn init_untyped_data(message: &mut Builder, length: u32, want: &[u8]) -> Result<bool> {
+fn init_untyped_data(message: &mut Builder, length: u32, want: &[u8]) -> Result<bool>
+    requires { IsMessage message.old }
+{
     let root = any_pointer::Builder::new(message.root());
     built_data_is(root.initn_as::<data::Builder<'_>>(length), want)
 }
 
-fn init_no_text(message: &mut Builder, want: &[u8]) -> Result<bool> {
+fn init_no_text(message: &mut Builder, want: &[u8]) -> Result<bool>
+    requires { IsMessage message.old }
+{
     let root = any_pointer::Builder::new(message.root());
-    match root.init_as::<text::Builder<'_>>() {
-        Ok(text) => Ok(holds(&text, want)),
-        Err(error) => Err(error),
-    }
+    built_text_is(root.init_as::<text::Builder<'_>>(), want)
 }
 
-fn init_untyped(message: &mut Builder, want: &[u8]) -> Result<bool> {
+fn init_untyped(message: &mut Builder, want: &[u8]) -> Result<bool>
+    requires { IsMessage message.old }
+{
     let root = any_pointer::Builder::new(message.root());
-    match root.init_as::<any_pointer::Builder<'_>>() {
-        Ok(pointer) => Ok(is_null_so(&pointer, want)),
-        Err(error) => Err(error),
-    }
+    built_pointer_is(root.init_as::<any_pointer::Builder<'_>>(), want)
 }
 
-fn push_to_new(message: &mut Builder, length: u32, string: &str, want: &[u8]) -> Result<bool> {
+fn push_to_new(message: &mut Builder, length: u32, string: &str, want: &[u8]) -> Result<bool>
+    requires { IsMessage message.old }
+{
     let root = any_pointer::Builder::new(message.root());
     match root.initn_as::<text::Builder<'_>>(length) {
         Ok(mut text) => {
@@ -296,43 +364,59 @@ fn push_to_new(message: &mut Builder, length: u32, string: &str, want: &[u8]) ->
     }
 }
 
+/// Writes a byte at each index of data that are built.
+fn fill(bytes: &mut data::Builder<'_>, byte: u8)
+    requires { IsData bytes.old }
+{
+    for i in 0..bytes.len() {
+        bytes.set(i, byte);
+    }
+}
+
 /// Answers the bytes as they are before they are filled.
-fn fill_new(message: &mut Builder, length: u32, byte: u8, want: &[u8]) -> Result<bool> {
+fn fill_new(message: &mut Builder, length: u32, byte: u8, want: &[u8]) -> Result<bool>
+    requires { IsMessage message.old }
+{
     let root = any_pointer::Builder::new(message.root());
     match root.initn_as::<data::Builder<'_>>(length) {
-        Ok(bytes) => {
-            let is_wanted = *bytes == *want;
-            bytes.fill(byte);
+        Ok(mut bytes) => {
+            let is_wanted = *bytes.reborrow_as_reader() == *want;
+            fill(&mut bytes, byte);
             Ok(is_wanted)
         }
         Err(error) => Err(error),
     }
 }
 
-fn get_untyped_text(message: &mut Builder, want: &[u8]) -> Result<bool> {
+fn get_untyped_text(message: &mut Builder, want: &[u8]) -> Result<bool>
+    requires { IsMessage message.old }
+{
     let root = any_pointer::Builder::new(message.root());
-    match root.get_as::<text::Builder<'_>>() {
-        Ok(text) => Ok(holds(&text, want)),
-        Err(error) => Err(error),
-    }
+    built_text_is(root.get_as::<text::Builder<'_>>(), want)
 }
 
-fn get_untyped_data(message: &mut Builder, want: &[u8]) -> Result<bool> {
+fn get_untyped_data(message: &mut Builder, want: &[u8]) -> Result<bool>
+    requires { IsMessage message.old }
+{
     let root = any_pointer::Builder::new(message.root());
     built_data_is(root.get_as::<data::Builder<'_>>(), want)
 }
 
 /// The pointer is handed out for a while, and is null afterwards where it was so while handed out.
-fn get_untyped(message: &mut Builder, want: &[u8]) -> Result<bool> {
+fn get_untyped(message: &mut Builder, want: &[u8]) -> Result<bool>
+    requires { IsMessage message.old }
+{
     let mut root = any_pointer::Builder::new(message.root());
-    let is_wanted = match root.reborrow().get_as::<any_pointer::Builder<'_>>() {
-        Ok(pointer) => is_null_so(&pointer, want),
-        Err(error) => return Err(error),
-    };
-    Ok(is_wanted && is_null_so(&root, want))
+    let lent = any_pointer::Builder::get_from_pointer(root.reborrow().into_pointer(), None);
+    let is_wanted = built_pointer_is(lent, want)?;
+    let is_still = is_null_so(&root, want);
+    let is_got = built_pointer_is(root.get_as::<any_pointer::Builder<'_>>(), want)?;
+    Ok(is_wanted && is_still && is_got)
 }
 
-fn make_untyped(message: &mut Builder, call: UntypedCall, want: &[u8]) -> Result<bool> {
+fn make_untyped(message: &mut Builder, call: UntypedCall, want: &[u8]) -> Result<bool>
+    requires { IsMessage message.old }
+{
     match call {
         UntypedCall::InitText(length) => init_untyped_text(message, length, want),
         UntypedCall::InitData(length) => init_untyped_data(message, length, want),
@@ -348,7 +432,9 @@ fn make_untyped(message: &mut Builder, call: UntypedCall, want: &[u8]) -> Result
 }
 
 /// Makes a call: whether it answers these bytes, or why it is refused. What is compared takes no memory.
-pub fn make(message: &mut Builder, call: Call, want: &[u8]) -> Result<bool> {
+pub fn make(message: &mut Builder, call: Call, want: &[u8]) -> Result<bool>
+    requires { IsMessage message.old }
+{
     match call {
         Call::Clear => {
             clear(message);
@@ -376,12 +462,21 @@ fn wanted_bytes(want: Want) -> &'static [u8] {
 }
 
 /// Whether what was answered is what is wanted, or the refusal is.
-pub fn is_wanted(made: Result<bool>, want: Want) -> bool {
+fn is_wanted(made: Result<bool>, want: Want) -> bool {
     match (made, want) {
         (Ok(is_wanted), Ok(_)) => is_wanted,
         (Err(error), Err(kind)) => error.kind == kind,
         _ => false,
     }
+}
+
+/// A message of its own of what stands at the root of another one.
+pub fn settled(alloc: Global, message: &Builder) -> Result<Builder>
+    ensures { IfOk result IsMessage }
+{
+    let mut copy = Builder::new(alloc)?;
+    copy.set_root(message.peek(0))?;
+    Ok(copy)
 }
 
 /// Whether a message is written as one segment of these words, up to 255 of them.
@@ -394,13 +489,15 @@ fn is_segment(message: &[u8], words: &[u8]) -> bool {
 }
 
 /// Whether the message is written and measured as these words, with a root that is null or not as they say.
-fn stands_as(message: &mut Builder, words: &[u8]) -> Result<bool> {
-    // what can be written is well-formed, as the size of the root's target asks
+fn stands_as(message: &mut Builder, words: &[u8]) -> Result<bool>
+    requires { IsMessage message.old }
+    ensures { IsMessage message.new }
+{
     let written = message.write_message()?;
+    let size = message.size_in_words()?;
     let root = any_pointer::Builder::new(message.root());
     let is_null = root.is_null();
     let target = root.target_size()?.word_count;
-    let size = message.size_in_words()?;
     Ok(
         is_segment(written.as_slice(), words)
             && is_null == (*words == *NULL)
@@ -410,18 +507,20 @@ fn stands_as(message: &mut Builder, words: &[u8]) -> Result<bool> {
 }
 
 /// The name of the first row whose call is not answered so, or after which another message stands.
-fn first_wrong(message: &mut Builder, rows: &[Row]) -> Option<&'static str> {
+fn first_wrong(alloc: Global, rows: &[Row]) -> Result<Option<&'static str>> {
+    let mut message = Builder::new(alloc)?;
     for (name, call, want, then) in rows {
-        let made = make(message, *call, wanted_bytes(*want));
-        if !is_wanted(made, *want) || !is_wanted(stands_as(message, then), Ok(&[])) {
-            return Some(name);
+        let made = make(&mut message, *call, wanted_bytes(*want));
+        message = settled(alloc, &message)?;
+        if !is_wanted(made, *want) || !is_wanted(stands_as(&mut message, then), Ok(&[])) {
+            return Ok(Some(name));
         }
     }
-    None
+    Ok(None)
 }
 
 /// Makes the calls of these rows on one message, which is a null at first.
 pub fn follow(rt: &impl Abort, alloc: Global, rows: &[Row]) {
-    let mut message = Builder::new(alloc);
-    assert_eq!(rt; first_wrong(&mut message, rows), None);
+    let wrong = first_wrong(alloc, rows);
+    assert!(rt; matches!(wrong, Ok(None)), "{wrong:?}");
 }
