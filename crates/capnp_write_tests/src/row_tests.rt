@@ -2,6 +2,7 @@
 
 use crate::messages::{brand_of, message_of, set_of};
 use crate::script::rows_hold;
+use capnp_arena::message::Builder;
 use capnp_callers::read_back::set_and_get;
 use capnp_dynamic::dynamic_struct;
 use capnp_dynamic::dynamic_value::Reader as Value;
@@ -157,7 +158,7 @@ static NUMBER_STRUCTS: [u8; 48] = [
 fn structs_of(alloc: Global, bytes: &[u8]) -> Result<(u64, Vec<u8>)> {
     let source = message::Reader::new(alloc, bytes)?.get_root();
     pointer_is_well_formed(&source);
-    let mut message = message::Builder::new(alloc);
+    let mut message = Builder::new(alloc)?;
     message.set_root(source)?;
     message.root().get_struct_list(StructSize {
         data_words: 1,
@@ -183,7 +184,7 @@ fn set_and_read(alloc: Global, name: &str, field: &str, value: Value<'_>) -> Res
     if !is_slot(field) {
         return Err(Error::from(ErrorKind::FieldNotFound));
     }
-    let mut message = message::Builder::new(alloc);
+    let mut message = Builder::new(alloc)?;
     let builder = dynamic_struct::Builder::open(message.root(), schema)?;
     let got = set_and_get(builder, field, value)?;
     let mut out = String::new(alloc);

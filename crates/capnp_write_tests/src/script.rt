@@ -28,6 +28,7 @@ ghost use Rattle.capnp_dynamic.specs.Built.{IsReady};
 
 use crate::calls::{Write, place_of, write_at};
 use crate::messages::{brand_of, message_of, set_of};
+use capnp_arena::message::Builder;
 use capnp_base::any_pointer;
 use capnp_dynamic::dynamic_struct;
 use capnp_dynamic::dynamic_value::{Enum, Reader as Value};
@@ -330,7 +331,7 @@ fn after(
 ) -> Result<(Answer, Vec<u8>)> {
     let source = message::Reader::new(alloc, bytes)?.get_root();
     pointer_is_well_formed(&source);
-    let mut message = message::Builder::new(alloc);
+    let mut message = Builder::new(alloc)?;
     message.set_root(source)?;
     let made = match dynamic_struct::Builder::open(
         message.root(),
