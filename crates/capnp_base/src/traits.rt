@@ -19,7 +19,7 @@ use crate::introspect::Introspect;
 use capnp_wire::error::Result;
 use capnp_wire::size::StructSize;
 use capnp_wire::{ListReader, PointerBuilder, PointerReader, StructBuilder, StructReader};
-pub use iterators::{Index, IndexMove, ListIter, ShortListIter};
+pub use iterators::{Index, IndexIter, IndexMove, ListIter, ShortListIter};
 
 /// A builder of structs of a fixed size.
 pub trait HasStructSize {
