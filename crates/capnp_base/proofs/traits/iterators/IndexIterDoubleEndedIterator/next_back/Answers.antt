@@ -1,14 +1,15 @@
-use Rattle.std.proofs.Common.{◌-◌, refl, arith}
-use Rattle.capnp_base.specs.ShortListIter.{source, to_come}
+use Rattle.std.proofs.Common.{◌-◌, ℕ, refl, subst, arith}
+use Rattle.capnp_base.specs.IndexIter.{source, to_come}
 use Rattle.capnp_base.proofs.Indices.{indices-last, indices-none, progress-last}
-use Rattle.capnp_base.proofs.traits.iterators.short.ShortListIterDoubleEndedIterator.next_back.Goals as goal
+use Rattle.capnp_base.proofs.traits.iterators.IndexIterDoubleEndedIterator.next_back.Goals as goal
 
 pub returns-then-self-clause-steps : goal.returns-then-self-clause-steps
 unfolding source to_come
 returns-then-self-clause-steps g c =
     let i = c.args.self.now.index in
     let n = c.args.self.now.size in
-    (n - 1, indices-last i n (n - 1) c.if-self.true (omega (arith, c.if-self.true)), c.index_move.ensures, refl)
+    let answers : ℕ → Type 0 = λ k. g.T.IndexMove.answers c.args.self.now.list k _ in
+    (n - 1, indices-last i n (n - 1) c.if-self.true (omega (arith, c.if-self.true)), subst answers c.from_number.ensures c.index_move.ensures, refl)
 
 pub returns-then-self-clause-goes : goal.returns-then-self-clause-goes
 unfolding source to_come

@@ -1,12 +1,14 @@
-use Rattle.std.proofs.Common.{refl}
-use Rattle.capnp_base.specs.ListIter.{source, to_come}
+use Rattle.std.proofs.Common.{ℕ, refl, subst}
+use Rattle.capnp_base.specs.IndexIter.{source, to_come}
 use Rattle.capnp_base.proofs.Indices.{indices-first, indices-none, progress-first}
-use Rattle.capnp_base.proofs.traits.iterators.ListIterIterator.next.Goals as goal
+use Rattle.capnp_base.proofs.traits.iterators.IndexIterIterator.next.Goals as goal
 
 pub returns-then-self-clause-steps : goal.returns-then-self-clause-steps
 unfolding source to_come
 returns-then-self-clause-steps g c =
-    (c.args.self.now.index, indices-first c.args.self.now.index c.args.self.now.size c.if-self.true, c.index_move-item.ensures, refl)
+    let s = c.args.self.now in
+    let answers : ℕ → Type 0 = λ i. g.T.IndexMove.answers s.list i _ in
+    (s.index, indices-first s.index s.size c.if-self.true, subst answers c.from_number.ensures c.index_move-item.ensures, refl)
 
 pub returns-then-self-clause-goes : goal.returns-then-self-clause-goes
 unfolding source to_come
