@@ -16,9 +16,9 @@ pub trait Index: Sized {
     ghost largest: { ℕ };
 
     /// The index of a number, which is at most the largest.
-    fn from_number(number: u32) -> Self
-        requires { number ≤ largest }
-        ensures { Self.number result ≡ number };
+    fn from_number(index: u32) -> Self
+        requires { index ≤ largest }
+        ensures { Self.number result ≡ index };
 
     /// Its number.
     fn to_number(self) -> u32
@@ -28,11 +28,12 @@ pub trait Index: Sized {
 
 impl Index for u16 {
     ghost number = { λ i. i };
+
     ghost largest = { 65535 };
 
     #[inline(always)]
-    fn from_number(number: u32) -> u16 {
-        number as u16
+    fn from_number(index: u32) -> u16 {
+        index as u16
     }
 
     #[inline(always)]
@@ -43,11 +44,12 @@ impl Index for u16 {
 
 impl Index for u32 {
     ghost number = { λ i. i };
+
     ghost largest = { 4294967295 };
 
     #[inline(always)]
-    fn from_number(number: u32) -> u32 {
-        number
+    fn from_number(index: u32) -> u32 {
+        index
     }
 
     #[inline(always)]

@@ -8,7 +8,7 @@ unfolding source to_come
 returns-then-self-clause-steps g c =
     let i = c.args.self.now.index in
     let n = c.args.self.now.size in
-    let answers : ℕ → Type 0 = λ k. g.T.IndexMove.answers c.args.self.now.list k _ in
+    let answers : ℕ → Type 0 = λ k. g.T.IndexMove.answers c.args.self.now.list k c.index_move.result in
     (n - 1, indices-last i n (n - 1) c.if-self.true (omega (arith, c.if-self.true)), subst answers c.from_number.ensures c.index_move.ensures, refl)
 
 pub returns-then-self-clause-goes : goal.returns-then-self-clause-goes

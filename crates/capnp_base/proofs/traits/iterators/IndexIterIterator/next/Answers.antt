@@ -7,7 +7,7 @@ pub returns-then-self-clause-steps : goal.returns-then-self-clause-steps
 unfolding source to_come
 returns-then-self-clause-steps g c =
     let s = c.args.self.now in
-    let answers : ℕ → Type 0 = λ i. g.T.IndexMove.answers s.list i _ in
+    let answers : ℕ → Type 0 = λ i. g.T.IndexMove.answers s.list i c.index_move-item.result in
     (s.index, indices-first s.index s.size c.if-self.true, subst answers c.from_number.ensures c.index_move-item.ensures, refl)
 
 pub returns-then-self-clause-goes : goal.returns-then-self-clause-goes
