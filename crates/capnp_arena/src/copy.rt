@@ -113,6 +113,7 @@ pub fn point_to(gap: u64, found: Found<'_>) -> u64
 /// Refused with `OutOfMemory` where memory is refused or the segment would have 2^29 words, and with `BadPointer`,
 /// `TooDeep` or `CapabilityPointer` where a pointer in it can't be followed, by the first of these in preorder.
 #[cycle(copy)]
+#[inline(always)]
 pub fn append_found(arena: &mut Arena, found: Found<'_>) -> Result<()>
     requires held { IsWellFormed (found_tree found) }
     ensures copy { OnOk result (segment arena.new ≡ segment arena.old ++ bytes_of (found_tree found.entry)) }
