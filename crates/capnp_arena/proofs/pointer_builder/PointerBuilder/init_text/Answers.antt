@@ -1,6 +1,0 @@
-use Rattle.std.proofs.Common.{◌∙◌}
-use Rattle.capnp_arena.proofs.NewBytes.{text_bytes}
-use Rattle.capnp_arena.proofs.pointer_builder.PointerBuilder.init_text.Goals as goal
-
-pub returns-clause-now : goal.returns-clause-now
-returns-clause-now c = c.part_mut.ensures.now ∙ text_bytes _ _ c.in_ok-start.ensures.forest _ c.args.count c.in_ok-start.ensures.place c.in_ok-start.ensures.tree
