@@ -5,12 +5,11 @@ ghost use Rattle.capnp_wire.specs.Standing.{levels_of, tree_of};
 ghost use Rattle.capnp_wire.specs.Total.{IsSize, IsSizeRefusal};
 ghost use Rattle.capnp_wire.specs.Words.{first_fault, words_of};
 ghost use Rattle.capnp_base.specs.AnyPointer.{IsUntypedRead, pointer_of};
-ghost use Rattle.capnp_base.specs.ReadBack.{pointer_read_back};
 ghost use Rattle.capnp_base.specs.Types.{base_type};
 ghost use Rattle.capnp_base.specs.declared.introspect.BaseType.TheVariants as base;
 
 use crate::introspect::{Introspect, Type, TypeVariant};
-use crate::traits::{self, FromPointerReader};
+use crate::traits::FromPointerReader;
 use capnp_wire::PointerReader;
 use capnp_wire::error::Result;
 use capnp_wire::size::MessageSize;
@@ -19,16 +18,6 @@ use capnp_wire::size::MessageSize;
 #[derive(Clone, Copy)]
 pub struct Owned {
     _private: (),
-}
-
-impl<'a> traits::Owned<'a> for Owned {
-    type Reader = Reader<'a>;
-
-    ghost set_tree = { λ x. tree_of (pointer_of x) };
-
-    ghost same = { λ x y. tree_of (pointer_of y) ≡ tree_of (pointer_of x) };
-
-    ghost set_is_read = { pointer_read_back };
 }
 
 impl Introspect for Owned {

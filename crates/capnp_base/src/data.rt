@@ -2,13 +2,11 @@
 ghost use Rattle.std.specs.Prelude.{◌≡◌};
 ghost use Rattle.capnp_wire.specs.Reading.{as_data};
 ghost use Rattle.capnp_wire.specs.Standing.{bytes_read};
-ghost use Rattle.capnp_wire.specs.Tree.{Numbers};
-ghost use Rattle.capnp_base.specs.ReadBack.{data_read_back};
 ghost use Rattle.capnp_base.specs.Types.{base_type};
 ghost use Rattle.capnp_base.specs.declared.introspect.BaseType.TheVariants as base;
 
 use crate::introspect::{Introspect, Type, TypeVariant};
-use crate::traits::{self, FromPointerReader};
+use crate::traits::FromPointerReader;
 use capnp_wire::PointerReader;
 use capnp_wire::error::Result;
 
@@ -16,16 +14,6 @@ use capnp_wire::error::Result;
 #[derive(Clone, Copy)]
 pub struct Owned {
     _private: (),
-}
-
-impl<'a> traits::Owned<'a> for Owned {
-    type Reader = Reader<'a>;
-
-    ghost set_tree = { λ x. Numbers 1 x.now };
-
-    ghost same = { λ x y. y.now ≡ x.now };
-
-    ghost set_is_read = { data_read_back };
 }
 
 impl Introspect for Owned {

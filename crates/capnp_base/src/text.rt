@@ -6,14 +6,13 @@ ghost use Rattle.std.specs.Cmp.Lexicographic.{pointwise, slice_cmp, texts_po};
 ghost use Rattle.std.specs.Cmp.Rules.{comparing};
 ghost use Rattle.std.specs.Ordering.{nat_cmp, on};
 ghost use Rattle.capnp_wire.specs.Reading.{as_text};
-ghost use Rattle.capnp_base.specs.Text.{IsStringOf, IsStrOf, text_read, text_tree};
-ghost use Rattle.capnp_base.specs.ReadBack.{text_read_back};
+ghost use Rattle.capnp_base.specs.Text.{IsStringOf, IsStrOf, text_read};
 ghost use Rattle.capnp_base.specs.Types.{base_type};
 ghost use Rattle.capnp_base.specs.declared.introspect.BaseType.TheVariants as base;
 ghost use Rattle.capnp_device.specs.declared.error.ErrorKind.TheVariants.{OutOfMemory};
 
 use crate::introspect::{Introspect, Type, TypeVariant};
-use crate::traits::{self, FromPointerReader};
+use crate::traits::FromPointerReader;
 use capnp_wire::PointerReader;
 use capnp_wire::error::Result;
 use std::alloc::Global;
@@ -25,16 +24,6 @@ use std::str::Utf8Error;
 #[derive(Clone, Copy)]
 pub struct Owned {
     _private: (),
-}
-
-impl<'a> traits::Owned<'a> for Owned {
-    type Reader = Reader<'a>;
-
-    ghost set_tree = { λ x. text_tree x.0.now };
-
-    ghost same = { λ x y. y.0.now ≡ x.0.now };
-
-    ghost set_is_read = { text_read_back };
 }
 
 impl Introspect for Owned {

@@ -2,7 +2,7 @@
 //!
 //! A clause speaks of the tree that a pointer leads to and of the levels that are left below it. Each trait has ghost
 //! members that say what its calls answer in these terms, so that generic code knows it too.
-ghost use Rattle.std.specs.Prelude.{◌≡◌, ℕ, IsOkAnd, IsSome, Result};
+ghost use Rattle.std.specs.Prelude.{◌≡◌, ℕ, IsSome, Result};
 ghost use Rattle.capnp_wire.specs.declared.list_reader.ListReader.{ListReader};
 ghost use Rattle.capnp_wire.specs.declared.pointer_reader.PointerReader.{PointerReader};
 ghost use Rattle.capnp_wire.specs.declared.struct_reader.StructReader.{StructReader};
@@ -17,7 +17,7 @@ use crate::introspect::Introspect;
 use capnp_wire::error::Result;
 use capnp_wire::size::StructSize;
 use capnp_wire::{ListReader, PointerReader, StructReader};
-pub use iterators::{Index, IndexMove, ListIter, ShortListIter};
+pub use iterators::{Index, IndexIter, IndexMove, ListIter, ShortListIter};
 
 /// A builder of structs of a fixed size.
 pub trait HasStructSize {
@@ -65,21 +65,6 @@ pub trait FromPointerReader<'a>: Sized {
     ) -> Result<Self>
         requires { IsSome default → has_defaults }
         ensures { reads (tree_or (tree_of reader.now) default.entry) (levels_or (tree_of reader.now) (levels_of reader.now) default.entry) result };
-}
-
-/// A type of values behind pointers, by its reader.
-pub trait Owned<'a>: Introspect {
-    type Reader: FromPointerReader<'a>;
-
-    // The tree that a pointer has once it is set to a value that was read.
-    ghost set_tree: { Self.Reader → Tree };
-
-    // Whether two values that were read are the same.
-    ghost same: { Self.Reader → Self.Reader → Type 0 };
-
-    // What is set is what is read.
-    ghost set_is_read: { (x : Self.Reader) (levels : ℕ) (r : Result Self.Reader Error)
-        → Self.Reader.reads (set_tree x) levels r → IsOkAnd r (same x) };
 }
 
 /// A struct type, by its reader.

@@ -3,9 +3,8 @@ use Rattle.std.proofs.Common.{◌≡◌, ℕ, ◌<◌, ◌*◌, ◌^◌, ap, ari
 use Rattle.capnp_wire.specs.Tree.{Tree, Composite, StructTree, nth_struct, struct_count, tree_count}
 use Rattle.capnp_wire.specs.Edits.{zero_struct, zero_structs}
 use Rattle.capnp_wire.specs.Elements.{HasStruct, with_struct_element}
-use Rattle.capnp_wire.specs.Measured.{IsElement}
 use Rattle.capnp_wire.specs.Reading.{element_struct}
-use Rattle.capnp_wire.specs.WellFormed.{IsWellFormed}
+use Rattle.capnp_wire.specs.WellFormed.{IsElement, IsWellFormed}
 use Rattle.capnp_wire.specs.declared.size.StructSize.{StructSize}
 use Rattle.capnp_wire.specs.Facts.Lists.{IsWellFormed-zero_structs}
 use Rattle.capnp_wire.specs.Facts.Rows.{IsElement-nth_struct, struct_count-structs_from, struct_count-with_struct}
