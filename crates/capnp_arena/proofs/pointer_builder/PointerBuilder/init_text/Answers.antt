@@ -5,8 +5,7 @@ use Rattle.capnp_arena.proofs.pointer_builder.PointerBuilder.init_text.Goals as 
 
 pub returns : goal.returns
 returns c =
-    let e = c.in_ok-start.ensures in
-    (
+    let e = c.in_ok-start.ensures in (
       (refl, (λ w. refl), tt {0}),
       record {
         rests = tt {0};
