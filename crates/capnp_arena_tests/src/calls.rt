@@ -8,7 +8,7 @@ ghost use Rattle.capnp_arena.specs.Message.{IsMessage};
 ghost use Rattle.capnp_arena.specs.Segment.{segment};
 
 use crate::fixtures::{ONE_EACH, answer, bytes_of, is_written_as, root_of};
-use crate::lent::{lend, lend_of_copy};
+use crate::lent::lend;
 use capnp_arena::handles::StructBuilder;
 use capnp_arena::message::Builder;
 use capnp_device::error::{ErrorKind, Result};
@@ -435,28 +435,12 @@ fn answers(made: Result<Vec<u8>>, expected: std::result::Result<&str, ErrorKind>
     }
 }
 
-/// Whether a call that lends bytes lends those of a copy too, or is refused so there.
-fn lends_copy(
-    alloc: Global,
-    message: &Builder,
-    call: Call,
-    expected: std::result::Result<&str, ErrorKind>,
-) -> bool
-    requires { IsMessage message.now }
-{
-    match call {
-        Call::Lend(lent) => answers(lend_of_copy(alloc, message, lent), expected),
-        _ => true,
-    }
-}
-
 /// Makes the calls of these rows on one message.
 pub fn follow(rt: &impl Abort, alloc: Global, rows: &[Row]) {
     let message = Builder::new(alloc);
     assert!(rt; message.is_ok());
     if let Ok(mut message) = message {
         for (name, call, expected, then) in rows {
-            assert!(rt; lends_copy(alloc, &message, *call, *expected), "{name}");
             let made = make(alloc, &mut message, *call);
             assert!(rt; answers(made, *expected), "{name}");
             let stands = answer(stands_as(alloc, &mut message, then));

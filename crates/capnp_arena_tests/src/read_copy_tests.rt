@@ -101,12 +101,10 @@ fn count_lent(alloc: Global, is_text: bool) -> Result<usize> {
     let mut message = Builder::new(alloc)?;
     message.root().get_list(ElementSize::Pointer)?;
     let root = message.root();
-    let bytes = if is_text {
-        root.get_text_mut()?
-    } else {
-        root.get_data_mut()?
-    };
-    Ok(bytes.len())
+    if is_text {
+        return Ok(root.get_text_mut()?.into_bytes().len());
+    }
+    Ok(root.get_data_mut()?.into_bytes().len())
 }
 
 #[test]
