@@ -1,2 +1,5 @@
 pub mod Blobs
+pub mod Defaults
 pub mod Pointers
+pub mod ReadBack
+pub mod Rests
