@@ -8,7 +8,7 @@ ghost use Rattle.capnp_arena.specs.Message.{IsMessage};
 ghost use Rattle.capnp_arena.specs.Segment.{segment};
 
 use crate::fixtures::{ONE_EACH, answer, bytes_of, is_written_as, root_of};
-use crate::lent::{lend, lend_of_copy};
+use crate::lent::{lend, read_data, read_text};
 use capnp_arena::handles::StructBuilder;
 use capnp_arena::message::Builder;
 use capnp_device::error::{ErrorKind, Result};
@@ -435,17 +435,19 @@ fn answers(made: Result<Vec<u8>>, expected: std::result::Result<&str, ErrorKind>
     }
 }
 
-/// Whether a call that lends bytes lends those of a copy too, or is refused so there.
-fn lends_copy(
+/// Whether bytes that are got to be changed are read so too, or refused so.
+fn reads_as(
     alloc: Global,
-    message: &Builder,
+    message: &mut Builder,
     call: Call,
     expected: std::result::Result<&str, ErrorKind>,
 ) -> bool
-    requires { IsMessage message.now }
+    requires { IsMessage message.old }
+    ensures { IsMessage message.new }
 {
     match call {
-        Call::Lend(lent) => answers(lend_of_copy(alloc, message, lent), expected),
+        Call::Lend(Lent::GetData) => answers(read_data(alloc, message), expected),
+        Call::Lend(Lent::GetText) => answers(read_text(alloc, message), expected),
         _ => true,
     }
 }
@@ -456,7 +458,7 @@ pub fn follow(rt: &impl Abort, alloc: Global, rows: &[Row]) {
     assert!(rt; message.is_ok());
     if let Ok(mut message) = message {
         for (name, call, expected, then) in rows {
-            assert!(rt; lends_copy(alloc, &message, *call, *expected), "{name}");
+            assert!(rt; reads_as(alloc, &mut message, *call, *expected), "{name}");
             let made = make(alloc, &mut message, *call);
             assert!(rt; answers(made, *expected), "{name}");
             let stands = answer(stands_as(alloc, &mut message, then));
