@@ -452,17 +452,32 @@ fn reads_as(
     }
 }
 
+/// Makes the call of a row on a message, and compares what it answers and the message then.
+fn follow_row(rt: &impl Abort, alloc: Global, message: &mut Builder, row: &Row)
+    requires { IsMessage message.old }
+    ensures { IsMessage message.new }
+{
+    let (name, call, expected, then) = *row;
+    assert!(rt; reads_as(alloc, message, call, expected), "{name}");
+    let made = make(alloc, message, call);
+    assert!(rt; answers(made, expected), "{name}");
+    let stands = answer(stands_as(alloc, message, then));
+    assert_eq!(rt; stands, Ok((true, true)), "{name}");
+}
+
+fn follow_rows(rt: &impl Abort, alloc: Global, message: &mut Builder, rows: &[Row])
+    requires { IsMessage message.old }
+{
+    for row in rows {
+        follow_row(rt, alloc, message, row);
+    }
+}
+
 /// Makes the calls of these rows on one message.
 pub fn follow(rt: &impl Abort, alloc: Global, rows: &[Row]) {
     let message = Builder::new(alloc);
     assert!(rt; message.is_ok());
     if let Ok(mut message) = message {
-        for (name, call, expected, then) in rows {
-            assert!(rt; reads_as(alloc, &mut message, *call, *expected), "{name}");
-            let made = make(alloc, &mut message, *call);
-            assert!(rt; answers(made, *expected), "{name}");
-            let stands = answer(stands_as(alloc, &mut message, then));
-            assert_eq!(rt; stands, Ok((true, true)), "{name}");
-        }
+        follow_rows(rt, alloc, &mut message, rows);
     }
 }
