@@ -8,9 +8,9 @@ use Rattle.capnp_wire.specs.Reading.{is_null_tree}
 use Rattle.capnp_wire.specs.Standing.{tree_of}
 use Rattle.capnp_wire.specs.Tree.{Tree}
 use Rattle.capnp_wire.specs.declared.pointer_reader.PointerReader.{PointerReader}
-use Rattle.capnp_base.specs.Traits.{tree_or}
+use Rattle.capnp_base.specs.Traits.{IsDefaultRefusal, IsReadRefusal, default_refusal, refusal_in, takes_default, tree_or}
 use Rattle.capnp_arena.specs.Forest.{Changes}
-use Rattle.capnp_builders.specs.Defaults.{IsDefaultRefusal, IsReadRefusal, default_refusal, refusal_in, taken, takes_default}
+use Rattle.capnp_builders.specs.Defaults.{taken}
 
 not_null : (q : Bool) (d : PointerReader) → cond q (Some d) None ≡ None → q ≡ false
 not_null true d h = absurd cc

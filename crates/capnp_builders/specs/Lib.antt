@@ -1,5 +1,4 @@
 pub mod Blobs
 pub mod Defaults
 pub mod Pointers
-pub mod ReadBack
 pub mod Rests

@@ -9,12 +9,12 @@ ghost use Rattle.capnp_wire.specs.Tree.{Null};
 ghost use Rattle.capnp_wire.specs.WellFormed.{IsWellFormed};
 ghost use Rattle.capnp_wire.specs.Words.{first_fault, words_of};
 ghost use Rattle.capnp_base.specs.AnyPointer.{pointer_of};
+ghost use Rattle.capnp_base.specs.ReadBack.{pointer_read_back};
 ghost use Rattle.capnp_arena.specs.Forest.{Changes, Forest, tree};
 ghost use Rattle.capnp_arena.specs.Same.{IsCutOf};
 ghost use Rattle.capnp_arena.specs.Segment.{segment};
 ghost use Rattle.capnp_arena.specs.Shape.{word_count};
 ghost use Rattle.capnp_builders.specs.Pointers.{IsPointer, LendsPointer, arena_behind, pointer_tree, word_of};
-ghost use Rattle.capnp_builders.specs.ReadBack.{pointer_read_back};
 
 use crate::traits::{self, FromPointerBuilder, SetterInput};
 use capnp_arena::arena::Arena;

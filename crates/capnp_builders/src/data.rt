@@ -8,12 +8,11 @@ ghost use Rattle.capnp_wire.specs.Edits.{IsDueRefusal, IsRoomRefusal};
 ghost use Rattle.capnp_wire.specs.Reading.{as_data};
 ghost use Rattle.capnp_wire.specs.Standing.{tree_of};
 ghost use Rattle.capnp_wire.specs.Tree.{Numbers};
-ghost use Rattle.capnp_base.specs.Traits.{tree_or};
+ghost use Rattle.capnp_base.specs.ReadBack.{data_read_back};
+ghost use Rattle.capnp_base.specs.Traits.{IsDefaultRefusal, IsReadRefusal, default_refusal, refusal_in, tree_or};
 ghost use Rattle.capnp_arena.specs.Forest.{Changes, Forest, tree};
 ghost use Rattle.capnp_arena.specs.Segment.{segment};
 ghost use Rattle.capnp_builders.specs.Blobs.{IsData, LendsData, data_behind, data_bytes, data_there, data_word};
-ghost use Rattle.capnp_builders.specs.Defaults.{IsDefaultRefusal, IsReadRefusal, default_refusal, refusal_in};
-ghost use Rattle.capnp_builders.specs.ReadBack.{data_read_back};
 
 use crate::defaults::take_default;
 use crate::traits::{self, FromPointerBuilder};

@@ -14,12 +14,11 @@ ghost use Rattle.capnp_wire.specs.Reading.{as_text};
 ghost use Rattle.capnp_wire.specs.Standing.{tree_of};
 ghost use Rattle.capnp_wire.specs.Tree.{Numbers};
 ghost use Rattle.capnp_base.specs.Text.{IsStringOf, IsStrOf};
-ghost use Rattle.capnp_base.specs.Traits.{tree_or};
+ghost use Rattle.capnp_base.specs.ReadBack.{text_read_back};
+ghost use Rattle.capnp_base.specs.Traits.{IsDefaultRefusal, IsReadRefusal, default_refusal, refusal_in, tree_or};
 ghost use Rattle.capnp_arena.specs.Forest.{Changes, Forest, tree};
 ghost use Rattle.capnp_arena.specs.Segment.{segment};
 ghost use Rattle.capnp_builders.specs.Blobs.{IsText, LendsText, bytes_in, position, text_behind, text_bytes, text_seen, text_there, text_word, written};
-ghost use Rattle.capnp_builders.specs.Defaults.{IsDefaultRefusal, IsReadRefusal, default_refusal, refusal_in};
-ghost use Rattle.capnp_builders.specs.ReadBack.{text_read_back};
 
 use crate::defaults::take_default;
 use crate::traits::{self, FromPointerBuilder};
