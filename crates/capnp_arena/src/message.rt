@@ -1,6 +1,6 @@
 //! Whole messages that are built, and what is written of them.
 ghost use Rattle.std.specs.Prelude.{IfOk, suc, ◌*◌, ◌++◌, ◌+◌, ◌/◌, ◌<◌, ◌^◌, ◌≡◌, ◌≤◌, length};
-ghost use Rattle.capnp_wire.specs.Encoding.{message_of};
+ghost use Rattle.capnp_wire.specs.Encoding.{encoding_of, message_of};
 ghost use Rattle.capnp_wire.specs.WellFormed.{IsWellFormed};
 ghost use Rattle.capnp_wire.specs.Words.{words_of};
 ghost use Rattle.capnp_arena.specs.Forest.{Forest, tree};
@@ -8,8 +8,9 @@ ghost use Rattle.capnp_arena.specs.Shape.{word_count};
 
 use crate::append::{Appended, append_half};
 use crate::arena::Arena;
-use crate::compact::append_encoding;
+use crate::compact::append_anew;
 use crate::count::count_words;
+use crate::in_order::is_in_order;
 use capnp_device::device::Sink;
 use capnp_device::error::Result;
 use capnp_device::transfer::write_all;
@@ -25,7 +26,20 @@ fn append_message(out: &mut Vec<u8>, bytes: &[u8], words: u32) -> Appended
 {
     append_half(out, 0)?;
     append_half(out, words + 1)?;
-    append_encoding(out, bytes)?;
+    append_anew(out, bytes)?;
+    Ok(())
+}
+
+/// The table of a segment that is the encoding already, and the segment.
+fn append_whole(out: &mut Vec<u8>, bytes: &[u8]) -> Appended
+    requires few { word_count bytes.now < 2 ^ 29 }
+    requires order { bytes.now ≡ encoding_of (tree bytes.now 0) }
+    ensures bytes { IfOk result (λ _. out.new.items ≡ out.old.items ++ message_of (tree bytes.now 0)) }
+    ensures held { IfOk result (λ _. IsWellFormed (tree bytes.now 0)) }
+{
+    append_half(out, 0)?;
+    append_half(out, (bytes.len() / 8) as u32)?;
+    out.extend_from_slice(bytes)?;
     Ok(())
 }
 
@@ -75,10 +89,16 @@ impl Arena {
         ensures fits { suc (words_of (tree (segment self.now) 0)) < 2 ^ 29 }
     {
         let bytes = self.bytes.as_slice();
+        let alloc = *self.bytes.allocator();
+        if is_in_order(bytes) {
+            let mut out = Vec::with_capacity(alloc, bytes.len() + 8)?;
+            append_whole(&mut out, bytes)?;
+            return Ok(out);
+        }
         let Some(words) = count_words(bytes, 0) else {
             unreachable!()
         };
-        let mut out = Vec::with_capacity(*self.bytes.allocator(), 8 * words as usize + 16)?;
+        let mut out = Vec::with_capacity(alloc, 8 * words as usize + 16)?;
         append_message(&mut out, bytes, words as u32)?;
         Ok(out)
     }
