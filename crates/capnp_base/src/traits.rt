@@ -17,7 +17,7 @@ use crate::introspect::Introspect;
 use capnp_wire::error::Result;
 use capnp_wire::size::StructSize;
 use capnp_wire::{ListReader, PointerReader, StructReader};
-pub use iterators::{Index, IndexMove, ListIter, ShortListIter};
+pub use iterators::{Index, IndexIter, IndexMove, ListIter, ShortListIter};
 
 /// A builder of structs of a fixed size.
 pub trait HasStructSize {

@@ -23,7 +23,7 @@ impl<'a> Reader<'a> {
     ghost use Rattle.std.specs.Prelude.{IfOk, IsTrue, ◌≡◌, ◌↔◌};
     ghost use Rattle.capnp_wire.specs.Standing.{list_of};
     ghost use Rattle.capnp_wire.specs.Reading.{list_length};
-    ghost use Rattle.capnp_base.specs.ListIter.{source, to_come};
+    ghost use Rattle.capnp_base.specs.IndexIter.{source, to_come};
     ghost use Rattle.capnp_base.specs.Taking.{indices};
     ghost use Rattle.capnp_schema.specs.Accepted.{NamesEntries};
     ghost use Rattle.capnp_dynamic_readers.specs.Handles.{element_of, list_reader_of, list_set, type_of};
@@ -118,7 +118,7 @@ impl<'a> IndexMove<u32, Result<dynamic_value::Reader<'a>>> for Reader<'a> {
 impl<'a> IntoIterator for Reader<'a> {
     ghost use Rattle.capnp_wire.specs.Standing.{list_of};
     ghost use Rattle.capnp_wire.specs.Reading.{list_length};
-    ghost use Rattle.capnp_base.specs.ListIter.{GoesOverAll};
+    ghost use Rattle.capnp_base.specs.IndexIter.{GoesOverAll};
     ghost use Rattle.capnp_dynamic_readers.specs.Handles.{list_reader_of};
 
     type Item = Result<dynamic_value::Reader<'a>>;

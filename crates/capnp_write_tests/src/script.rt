@@ -28,13 +28,14 @@ ghost use Rattle.capnp_dynamic.specs.Built.{IsReady};
 
 use crate::calls::{Write, place_of, write_at};
 use crate::messages::{brand_of, message_of, set_of};
+use capnp_arena::message::Builder;
+use capnp_arena::segment::bytes_of;
 use capnp_base::any_pointer;
 use capnp_dynamic::dynamic_struct;
 use capnp_dynamic::dynamic_value::{Enum, Reader as Value};
 use capnp_dynamic::printer::print;
 use capnp_schema::set::SchemaSet;
 use capnp_wire::error::Result;
-use capnp_wire::laws::pointer_is_well_formed;
 use capnp_wire::{PointerReader, message};
 use std::alloc::Global;
 use std::fmt;
@@ -321,6 +322,34 @@ fn make(alloc: Global, root: dynamic_struct::Builder<'_>, call: Call<'_>) -> Res
     }
 }
 
+/// A message of one segment, as it stands in a stream.
+fn framed(alloc: Global, segment: &[u8]) -> Result<Vec<u8>> {
+    let words = segment.len() / 8;
+    let table = [
+        0,
+        0,
+        0,
+        0,
+        (words % 256) as u8,
+        (words / 256 % 256) as u8,
+        0,
+        0,
+    ];
+    let mut out = Vec::new(alloc);
+    out.extend_from_slice(&table)?;
+    out.extend_from_slice(segment)?;
+    Ok(out)
+}
+
+/// What a message in memory holds, read from its words as any message is, and written anew. What a builder leaves that was
+/// given by value no clause says, so nothing is taken as known of the words.
+fn written(alloc: Global, message: &Builder) -> Result<Vec<u8>> {
+    let stream = framed(alloc, bytes_of(message))?;
+    let mut anew = Builder::new(alloc)?;
+    anew.set_root(message::Reader::new(alloc, &stream)?.get_root())?;
+    anew.write_message()
+}
+
 /// What a call on the root of a message answers, and the message after it.
 fn after(
     alloc: Global,
@@ -329,8 +358,7 @@ fn after(
     call: Call<'_>,
 ) -> Result<(Answer, Vec<u8>)> {
     let source = message::Reader::new(alloc, bytes)?.get_root();
-    pointer_is_well_formed(&source);
-    let mut message = message::Builder::new(alloc);
+    let mut message = Builder::new(alloc)?;
     message.set_root(source)?;
     let made = match dynamic_struct::Builder::open(
         message.root(),
@@ -343,7 +371,7 @@ fn after(
         Ok(answer) => answer,
         Err(error) => Answer::Refused(error.kind.number()),
     };
-    Ok((answer, message.write_message()?))
+    Ok((answer, written(alloc, &message)?))
 }
 
 /// Where the answer is a refusal: whether the message is what it was.

@@ -203,7 +203,7 @@ fn element_type_read(alloc: Global, text: &str) -> Result<Type> {
 /// The same of the list of a field of a new struct.
 fn element_type_built(alloc: Global, name: &str, field: &str) -> Result<Type> {
     let set = set_of(alloc, name)?;
-    let mut message = Builder::new(alloc);
+    let mut message = capnp_arena::message::Builder::new(alloc)?;
     let root = dynamic_struct::Builder::open(message.root(), set.struct_schema(brand_of(name)))?;
     Ok(list_in(root, field)?.element_type())
 }
