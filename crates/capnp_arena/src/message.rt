@@ -11,13 +11,13 @@ use crate::arena::Arena;
 use crate::compact::append_anew;
 use crate::count::count_words;
 use crate::in_order::is_in_order;
-use crate::spell::put_bytes;
+use crate::spell::put_half;
 use capnp_device::device::Sink;
 use capnp_device::error::Result;
 use capnp_device::transfer::write_all;
 
-/// The table of one segment, its root pointer, and what that leads to.
-fn append_message(out: &mut Vec<u8>, bytes: &[u8]) -> Appended
+/// The table of one segment, its root pointer, and what that leads to, made from the tree.
+fn append_made(out: &mut Vec<u8>, bytes: &[u8]) -> Appended
     requires new { out.old.items ≡ [] }
     requires forest { Forest bytes.now 0 }
     requires few { word_count bytes.now < 2 ^ 29 }
@@ -28,7 +28,7 @@ fn append_message(out: &mut Vec<u8>, bytes: &[u8]) -> Appended
     append_anew(out, bytes)?;
     // the number of words is known now
     let words = (out.len() / 8 - 1) as u32;
-    put_bytes(out, 4, &words.to_le_bytes());
+    put_half(out, 4, words);
     Ok(())
 }
 
@@ -44,6 +44,21 @@ fn append_whole(out: &mut Vec<u8>, bytes: &[u8]) -> Appended
     append_half(out, (bytes.len() / 8) as u32)?;
     out.extend_from_slice(bytes)?;
     Ok(())
+}
+
+/// The table of one segment, its root pointer, and what that leads to: the segment as it is, where it is that already.
+fn append_message(out: &mut Vec<u8>, bytes: &[u8]) -> Appended
+    requires new { out.old.items ≡ [] }
+    requires forest { Forest bytes.now 0 }
+    requires few { word_count bytes.now < 2 ^ 29 }
+    requires whole { length bytes.now ≡ 8 * word_count bytes.now }
+    ensures bytes { IfOk result (λ _. out.new.items ≡ message_of (tree bytes.now 0)) }
+    ensures held { IfOk result (λ _. IsWellFormed (tree bytes.now 0)) }
+{
+    if is_in_order(bytes) {
+        return append_whole(out, bytes);
+    }
+    append_made(out, bytes)
 }
 
 /// A message that is built: its words.
@@ -93,11 +108,7 @@ impl Arena {
     {
         let bytes = self.bytes.as_slice();
         let mut out = Vec::with_capacity(*self.bytes.allocator(), bytes.len() + 8)?;
-        if is_in_order(bytes) {
-            append_whole(&mut out, bytes)?;
-        } else {
-            append_message(&mut out, bytes)?;
-        }
+        append_message(&mut out, bytes)?;
         Ok(out)
     }
 
