@@ -1,7 +1,7 @@
 //! Calls on a message that is built, as values: a row of a table says what is called, what that answers, and what the
 //! message is then. Each call of the builders stands in a function of its own, and `follow` makes those of the rows on one
 //! message. A message stays one, also where a call is refused.
-ghost use Rattle.std.specs.Prelude.{◌×◌, ◌<◌, ◌≡◌, ◌≢◌};
+ghost use Rattle.std.specs.Prelude.{◌<◌, ◌≡◌, ◌≢◌};
 ghost use Rattle.capnp_arena.specs.Forest.{PartChanges};
 ghost use Rattle.capnp_arena.specs.Handles.{IsStruct, part};
 ghost use Rattle.capnp_arena.specs.Message.{IsMessage};
