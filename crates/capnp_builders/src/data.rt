@@ -208,6 +208,8 @@ fn enter(arena: &mut Arena, at: usize, default: Option<PointerReader<'_>>) -> Re
 impl<'a> FromPointerBuilder<'a> for Builder<'a> {
     ghost behind = { data_behind };
 
+    ghost word = { data_word };
+
     ghost started = { λ length. Numbers 1 (replicate length 0) };
 
     ghost starts = { λ length builder. IsData builder × (data_bytes builder ≡ replicate length 0) };

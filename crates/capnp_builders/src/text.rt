@@ -410,6 +410,8 @@ fn enter(arena: &mut Arena, at: usize, default: Option<PointerReader<'_>>) -> Re
 impl<'a> FromPointerBuilder<'a> for Builder<'a> {
     ghost behind = { text_behind };
 
+    ghost word = { text_word };
+
     ghost started = { λ length. Numbers 1 (replicate (length + 1) 0) };
 
     ghost starts = { λ length builder. IsText builder × (text_bytes builder ≡ replicate length 0) × (position builder ≡ 0) };
