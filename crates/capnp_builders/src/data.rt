@@ -37,9 +37,9 @@ impl<'a> traits::Owned<'a> for Owned {
 /// Data that are built.
 #[derive(Drop)]
 pub struct Builder<'a> {
-    arena: &'a mut Arena,
+    pub arena: &'a mut Arena,
     /// The word of the data's pointer.
-    at: usize,
+    pub at: usize,
 }
 
 impl fmt::Debug for Builder<'_> {

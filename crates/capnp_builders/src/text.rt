@@ -47,10 +47,11 @@ impl<'a> traits::Owned<'a> for Owned {
 /// alone; where no text stands there are none.
 #[derive(Drop)]
 pub struct Builder<'a> {
-    arena: &'a mut Arena,
+    pub arena: &'a mut Arena,
     /// The word of the text's pointer.
-    at: usize,
-    pos: usize,
+    pub at: usize,
+    /// The position.
+    pub pos: usize,
 }
 
 impl PartialEq for Builder<'_> {

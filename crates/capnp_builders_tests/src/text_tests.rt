@@ -57,12 +57,14 @@ static PUSHED: [(Push, bool, usize, &str); 4] = [
 ];
 
 /// The same through a builder that is lent for a shorter time.
-fn write_reborrowed(mut builder: Builder<'_>, push: Push) -> bool
+fn write_reborrowed(builder: Builder<'_>, push: Push) -> bool
     requires { IsText builder }
     ensures forest { Forest (segment builder.exit.0.now) (text_word builder.entry) }
     ensures text { IsOk (as_text (tree (segment builder.exit.0.now) (text_word builder.entry))) }
 {
-    write_at_position(&mut builder, push)
+    let Builder { arena, at, pos } = builder;
+    let mut lent = Builder { arena, at, pos };
+    write_at_position(&mut lent, push)
 }
 
 fn push_or_reborrow(builder: &mut Builder<'_>, pushed: Push, is_reborrowed: bool) -> bool
