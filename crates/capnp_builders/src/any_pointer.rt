@@ -140,6 +140,7 @@ impl<'a> Builder<'a> {
         ensures same { (arena_behind self.new).ghost_name ≡ (arena_behind self.old).ghost_name }
         ensures at { word_of self.new ≡ word_of self.old }
         ensures forest { OnOk result (IsPointer self.new) }
+        ensures stays { IsPointer self.old → IsPointer self.new }
         ensures tree { OnOk result (pointer_tree self.new ≡ T.set_tree value) }
         ensures changes { OnOk result (Changes (word_of self.old) (segment (arena_behind self.old).now) (segment (arena_behind self.new).now)) }
         ensures well_formed { OnOk result (IsWellFormed (pointer_tree self.new)) }

@@ -7,6 +7,7 @@ ghost use Rattle.capnp_arena.specs.Segment.{segment};
 ghost use Rattle.capnp_builders.specs.Blobs.{IsText, text_behind, text_word};
 
 use capnp_arena::message::Builder as Message;
+use capnp_builders::data;
 use capnp_builders::text::{Builder, Reader};
 use capnp_builders::traits::FromPointerBuilder;
 use capnp_wire::error::Result;
@@ -249,6 +250,19 @@ fn prints(alloc: Global, bytes: &[u8], want: &str) -> Result<bool> {
     let mut message = text_message(alloc, bytes)?;
     let printed = format!(in alloc; "{:?}", Builder::new(message.root()))?;
     Ok(*printed.as_str() == *want)
+}
+
+fn data_prints(alloc: Global, bytes: &[u8], want: &str) -> Result<bool> {
+    let mut message = Message::new(alloc)?;
+    message.set_data(0, bytes)?;
+    let printed = format!(in alloc; "{:?}", data::Builder::new(message.root()))?;
+    Ok(*printed.as_str() == *want)
+}
+
+#[test]
+fn data_print_as_numbers(rt: HostRuntime) -> std::result::Result<(), Fail> {
+    assert!(rt; data_prints(rt.alloc(), &[1, 255], "[1, 255]")?);
+    Ok(())
 }
 
 #[test]
