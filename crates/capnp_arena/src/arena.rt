@@ -23,6 +23,9 @@ pub struct Arena {
     ghost few: { length bytes.items / 8 < 2 ^ 29 },
 }
 
+/// The bytes that a new message has room for.
+const FIRST_ROOM: usize = 1024;
+
 /// Where a struct starts, and its size.
 #[derive(Clone, Copy)]
 pub struct Place {
@@ -114,7 +117,8 @@ impl Arena {
         ensures alone { IfOk result (λ arena. length (segment arena) ≡ 8) }
         ensures kind { IfErr result (λ e. e.kind ≡ OutOfMemory) }
     {
-        let bytes = vec![in alloc; 0u8; 8]?;
+        let mut bytes = Vec::with_capacity(alloc, FIRST_ROOM)?;
+        append_zeros(&mut bytes, 1)?;
         Ok(Arena { bytes })
     }
 

@@ -43,6 +43,14 @@ pub fn put_word(out: &mut Vec<u8>, at: usize, word: u64)
     put_bytes(out, at, &word.to_le_bytes());
 }
 
+/// Half a word in the place of another from an index on.
+pub fn put_half(out: &mut Vec<u8>, at: usize, half: u32)
+    requires { at + 4 ≤ length out.old.items }
+    ensures put { out.new.items ≡ put at (spelled 4 half) out.old.items }
+{
+    put_bytes(out, at, &half.to_le_bytes());
+}
+
 /// So many words of zeros at the end.
 ///
 /// Refused where memory is; then nothing has changed.

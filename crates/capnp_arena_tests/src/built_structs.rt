@@ -1,6 +1,6 @@
 //! Structs that are filled, each by a function of the row's name, which answers three numbers that are read there.
 //! A struct stays where it is, and nothing outside it changes.
-ghost use Rattle.std.specs.Prelude.{OnOk, ◌×◌, ◌<◌, ◌≡◌};
+ghost use Rattle.std.specs.Prelude.{OnOk, ◌<◌, ◌≡◌};
 ghost use Rattle.capnp_arena.specs.Forest.{PartChanges};
 ghost use Rattle.capnp_arena.specs.Handles.{IsStruct, part};
 ghost use Rattle.capnp_arena.specs.Segment.{segment};

@@ -2,7 +2,7 @@
 //!
 //! What a row builds is a function of its own, of the row's name: it builds at the root of a new message, and answers three
 //! numbers that are read from what it built. Those of structs fill one that is new.
-ghost use Rattle.std.specs.Prelude.{OnOk, ◌×◌, ◌<◌, ◌≡◌};
+ghost use Rattle.std.specs.Prelude.{OnOk, ◌<◌, ◌≡◌};
 ghost use Rattle.capnp_arena.specs.Forest.{PartChanges};
 ghost use Rattle.capnp_arena.specs.Handles.{IsStruct, part};
 ghost use Rattle.capnp_arena.specs.Message.{IsMessage};

@@ -101,10 +101,12 @@ fn count_lent(alloc: Global, is_text: bool) -> Result<usize> {
     let mut message = Builder::new(alloc)?;
     message.root().get_list(ElementSize::Pointer)?;
     let root = message.root();
-    if is_text {
-        return Ok(root.get_text_mut()?.into_bytes().len());
-    }
-    Ok(root.get_data_mut()?.into_bytes().len())
+    let blob = if is_text {
+        root.get_text_mut()?
+    } else {
+        root.get_data_mut()?
+    };
+    Ok(blob.into_bytes().len())
 }
 
 #[test]

@@ -2,7 +2,7 @@
 //!
 //! A builder is the message beside the word of the text's pointer. Each call asks that a text stands there, or a null, as a
 //! builder that was handed out has it (`IsText`).
-ghost use Rattle.std.specs.Prelude.{[], None, IfErr, IfOk, IsOk, IsTrue, IsUtf8, OnErr, OnOk, length, nat_eq, replicate, slice_set, take, drop, ◌++◌, ◌+◌, ◌^◌, ◌-◌, ◌<◌, ◌≡◌, ◌≤◌, ◌↔◌};
+ghost use Rattle.std.specs.Prelude.{[], None, Ok, IfErr, IfOk, IsOk, IsTrue, IsUtf8, OnErr, OnOk, length, nat_eq, replicate, slice_set, take, drop, ◌++◌, ◌+◌, ◌^◌, ◌-◌, ◌<◌, ◌≡◌, ◌≤◌, ◌↔◌};
 ghost use Rattle.std.specs.Borrow.{sem};
 ghost use Rattle.std.proofs.Common.{rules};
 ghost use Rattle.std.specs.Cmp.Lexicographic.{pointwise};
@@ -18,6 +18,7 @@ ghost use Rattle.capnp_base.specs.ReadBack.{text_read_back};
 ghost use Rattle.capnp_base.specs.Traits.{IsDefaultRefusal, IsReadRefusal, default_refusal, refusal_in, tree_or};
 ghost use Rattle.capnp_arena.specs.Forest.{Changes, Forest, tree};
 ghost use Rattle.capnp_arena.specs.Segment.{segment};
+ghost use Rattle.capnp_arena.specs.Shape.{word_count};
 ghost use Rattle.capnp_builders.specs.Blobs.{IsText, LendsText, bytes_in, position, text_behind, text_bytes, text_seen, text_there, text_word, written};
 
 use crate::defaults::take_default;
@@ -306,6 +307,26 @@ impl<'a> Builder<'a> {
     }
 }
 
+/// Makes a pointer one to a new text of so many zero bytes.
+///
+/// Refused with `SizePastFormat` where these would be 2^29 bytes or more with the zero that ends them, and else with
+/// `OutOfMemory`; then nothing has changed.
+fn start(arena: &mut Arena, at: usize, length: u32) -> Result<()>
+    requires { at < word_count (segment arena.old) }
+    ensures forest { OnOk result (Forest (segment arena.new) at) }
+    ensures tree { OnOk result (tree (segment arena.new) at ≡ Numbers 1 (replicate (length + 1) 0)) }
+    ensures text { OnOk result (as_text (tree (segment arena.new) at) ≡ Ok (replicate length 0)) }
+    ensures changes { OnOk result (Changes at (segment arena.old) (segment arena.new)) }
+    ensures refused { OnErr result (segment arena.new ≡ segment arena.old) }
+    ensures cause { IfErr result (λ error. IsRoomRefusal error (2 ^ 29 ≤ length + 1)) }
+{
+    if length >= (1 << 29) - 1 {
+        return Err(Error::from(ErrorKind::SizePastFormat));
+    }
+    arena.init_list(at, ElementSize::Byte, length + 1)?;
+    Ok(())
+}
+
 /// Makes a pointer one to a copy of a default that reads as a text, and answers how many bytes it has.
 ///
 /// Refused as its read, and else with `OutOfMemory`; then nothing has changed.
@@ -339,8 +360,10 @@ fn fill(arena: &mut Arena, at: usize, default: Option<PointerReader<'_>>) -> Res
     let Some(other) = take_default(arena, at, default) else {
         return Ok(());
     };
-    put_default(arena, at, other)?;
-    Ok(())
+    match put_default(arena, at, other) {
+        Ok(_count) => Ok(()),
+        Err(error) => Err(error),
+    }
 }
 
 /// The same of the pointer of a builder.
@@ -398,11 +421,8 @@ impl<'a> FromPointerBuilder<'a> for Builder<'a> {
     ghost refuses = { IsReadRefusal as_text };
 
     fn init_pointer(builder: PointerBuilder<'a>, length: u32) -> Result<Builder<'a>> {
-        if length >= (1 << 29) - 1 {
-            return Err(Error::from(ErrorKind::SizePastFormat));
-        }
         let PointerBuilder { arena, at } = builder;
-        arena.init_list(at, ElementSize::Byte, length + 1)?;
+        start(arena, at, length)?;
         Ok(Builder { arena, at, pos: 0 })
     }
 

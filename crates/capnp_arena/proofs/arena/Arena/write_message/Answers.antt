@@ -9,20 +9,6 @@ use Rattle.capnp_arena.proofs.Bounded.{always_counted, words_fit}
 use Rattle.capnp_arena.proofs.Whole.{forest_whole}
 use Rattle.capnp_arena.proofs.arena.Arena.write_message.Goals as goal
 
-pub unreachable-requires : goal.unreachable-requires
-unreachable-requires c =
-    let h = rw c.as_slice-bytes.ensures.value at c.count_words.ensures in
-    let few : word_count c.args.self.now.bytes.items < 2 ^ 29 = c.args.self.now.few in
-    let l : suc (words_of (tree c.args.self.now.bytes.items 0)) ≤ word_count c.args.self.now.bytes.items = words_fit c.args.self.now.bytes.items 0 c.requires.forest in
-    always_counted c.count_words.result (words_of (tree c.args.self.now.bytes.items 0)) h (omega (arith, few, l)) c.in_default.not-Some
-
-pub append_message-requires-clause-size : goal.append_message-requires-clause-size
-append_message-requires-clause-size c =
-    let n = rw c.as_slice-bytes.ensures.value at c.in-Some.ensures in
-    let few : word_count c.args.self.now.bytes.items < 2 ^ 29 = c.args.self.now.few in
-    let l : suc (words_of (tree c.args.self.now.bytes.items 0)) ≤ word_count c.args.self.now.bytes.items = words_fit c.args.self.now.bytes.items 0 c.requires.forest in
-    (c.in-Some.ensures.0, omega (arith, few, l, n.0))
-
 pub returns-clause-held : goal.returns-clause-held
 returns-clause-held c =
     let h = rw c.as_slice-bytes.ensures.value at c.in_ok-append_message.ensures.held in
@@ -36,8 +22,7 @@ returns-clause-read c = λ shallow rest.
     let few : word_count c.args.self.now.bytes.items < 2 ^ 29 = c.args.self.now.few in
     let l : suc (words_of (tree c.args.self.now.bytes.items 0)) ≤ word_count c.args.self.now.bytes.items = words_fit c.args.self.now.bytes.items 0 c.requires.forest in
     let e = rw c.as_slice-bytes.ensures.value at c.in_ok-append_message.ensures.bytes in
-    let m : c.append_message.new.out.items ≡ message_of (tree c.args.self.now.bytes.items 0) = e ∙ ap (λ x. x ++ message_of (tree c.args.self.now.bytes.items 0)) c.in_ok-out.ensures.items in
-    ap (λ x. message_tree_of (x ++ rest)) m ∙ message_reads (tree c.args.self.now.bytes.items 0) rest h (forest_whole c.args.self.now.bytes.items 0 c.requires.forest) shallow (omega (arith, few, l))
+    ap (λ x. message_tree_of (x ++ rest)) e ∙ message_reads (tree c.args.self.now.bytes.items 0) rest h (forest_whole c.args.self.now.bytes.items 0 c.requires.forest) shallow (omega (arith, few, l))
 
 pub returns-in_err-out-clause-fits : goal.returns-in_err-out-clause-fits
 returns-in_err-out-clause-fits c =
