@@ -1,5 +1,6 @@
 //! Messages that are built, copied and entered, call by call: what each call answers, and what the message is then.
 //! With memory at hand each call succeeds; one that memory is refused to changes nothing.
+ghost use Rattle.std.specs.Prelude.{IfOk};
 ghost use Rattle.capnp_arena.specs.Message.{IsMessage};
 
 use crate::calls::Asked::Struct;
@@ -457,22 +458,55 @@ const FIVE: &str = "00 00 00 00 01 00 00 00 | 05 00 00 00 00 00 00 00";
 /// A byte, as words.
 const NINE: &str = "01 00 00 00 0a 00 00 00 | 09 00 00 00 00 00 00 00";
 
-/// Calls that take memory, and the words and the root of the message then.
-const TAKING_MEMORY: [(Call, Parts); 14] = [
-    (InitStruct(ONE_EACH), (3, IS_STRUCT)),
-    (NewStruct(5, "hello there"), (5, IS_STRUCT)),
-    (GetStruct(READING), (9, IS_STRUCT)),
-    (Clear, (1, IS_NULL)),
-    (Copy(Message(NINE_WORDS)), (9, IS_STRUCT)),
-    (SetText("short"), (2, IS_LIST)),
-    (InitList(TwoBytes, 3), (2, IS_LIST)),
-    (GetStructs(ONE_EACH), (8, IS_LIST)),
-    (InitStructs(2, ONE_WORD), (4, IS_LIST)),
-    (Copy(List(NINE, Byte)), (2, IS_LIST)),
-    (Clear, (1, IS_NULL)),
-    (Fill(Struct, FIVE), (3, IS_STRUCT)),
-    (Copy(Content(FIVE)), (3, IS_STRUCT)),
-    (Copy(FirstStruct(NINE, Byte)), (2, IS_STRUCT)),
+/// The words of a message, and whether its root is a null, a struct or a list.
+type Parts = (u64, [bool; 3]);
+
+/// A call with what it leaves, then one that takes memory with what that leaves.
+type Taking = (Call, Parts, Call, Parts);
+
+const TAKING_MEMORY: [Taking; 12] = [
+    (Clear, (1, IS_NULL), InitStruct(ONE_EACH), (3, IS_STRUCT)),
+    (
+        InitStruct(ONE_EACH),
+        (3, IS_STRUCT),
+        NewStruct(5, "hello there"),
+        (5, IS_STRUCT),
+    ),
+    (
+        NewStruct(5, "hello there"),
+        (5, IS_STRUCT),
+        GetStruct(READING),
+        (9, IS_STRUCT),
+    ),
+    (
+        Clear,
+        (1, IS_NULL),
+        Copy(Message(NINE_WORDS)),
+        (9, IS_STRUCT),
+    ),
+    (Clear, (1, IS_NULL), SetText("short"), (2, IS_LIST)),
+    (Clear, (1, IS_NULL), InitList(TwoBytes, 3), (2, IS_LIST)),
+    (
+        InitList(TwoBytes, 3),
+        (2, IS_LIST),
+        GetStructs(ONE_EACH),
+        (8, IS_LIST),
+    ),
+    (Clear, (1, IS_NULL), InitStructs(2, ONE_WORD), (4, IS_LIST)),
+    (Clear, (1, IS_NULL), Copy(List(NINE, Byte)), (2, IS_LIST)),
+    (Clear, (1, IS_NULL), Fill(Struct, FIVE), (3, IS_STRUCT)),
+    (
+        Fill(Struct, FIVE),
+        (3, IS_STRUCT),
+        Copy(Content(FIVE)),
+        (3, IS_STRUCT),
+    ),
+    (
+        Fill(Struct, FIVE),
+        (3, IS_STRUCT),
+        Copy(FirstStruct(NINE, Byte)),
+        (2, IS_STRUCT),
+    ),
 ];
 
 /// Why a call was refused.
@@ -483,11 +517,22 @@ fn why(made: Result<Vec<u8>>) -> Option<ErrorKind> {
     }
 }
 
-/// The words of a message, and whether its root is a null, a struct or a list.
-type Parts = (u64, [bool; 3]);
+/// The words that a new message has room for.
+const ROOM: u64 = 128;
 
-/// Makes a call that leaves these parts, and answers whether it was made. Where memory is refused the message has those
-/// before: its words are counted, which takes no memory.
+/// A message after the first call of a row, with no room left in its segment.
+fn full(alloc: Global, row: Taking) -> Result<Builder>
+    ensures { IfOk result (λ message. IsMessage message) }
+{
+    let (first, parts, _, _) = row;
+    let mut message = Builder::new(alloc)?;
+    message.init_list(0, EightBytes, ROOM.saturating_sub(parts.0) as u32)?;
+    let _lent = make(alloc, &mut message, first)?;
+    Ok(message)
+}
+
+/// Makes a call that leaves these parts. Where memory is refused to it the message has those before: its words are counted,
+/// which takes no memory.
 fn changes_or_stays(
     rt: &impl Abort,
     alloc: Global,
@@ -495,37 +540,27 @@ fn changes_or_stays(
     call: Call,
     before: Parts,
     then: Parts,
-) -> bool
+)
     requires { IsMessage message.old }
-    ensures { IsMessage message.new }
 {
     let refused = why(make(alloc, message, call));
     assert!(rt; refused == None || refused == Some(OutOfMemory));
-    let is_made = refused == None;
-    let is_written = message.write_message().is_ok();
-    let parts = if is_made { then } else { before };
+    let parts = if refused == None { then } else { before };
+    let _is_written = message.write_message().is_ok();
     assert_eq!(rt; answer(parts_of(message)), Ok(parts));
-    is_made && is_written
 }
 
-/// Makes the calls one after another, until memory is refused.
-fn refused_calls_change_nothing(rt: &impl Abort, alloc: Global, message: &mut Builder)
-    requires { IsMessage message.old }
-{
-    let mut before = (1, IS_NULL);
-    for taking in TAKING_MEMORY {
-        let (call, then) = taking;
-        if !changes_or_stays(rt, alloc, message, call, before, then) {
-            return;
-        }
-        before = then;
+/// Makes the calls of a row; the first of them may be refused.
+fn refused_call_changes_nothing(rt: &impl Abort, alloc: Global, row: Taking) {
+    let (_, before, call, then) = row;
+    if let Ok(mut message) = full(alloc, row) {
+        changes_or_stays(rt, alloc, &mut message, call, before, then);
     }
 }
 
 #[test]
 fn a_refused_call_changes_nothing(rt: HostRuntime) {
-    let alloc = rt.alloc();
-    if let Ok(mut message) = Builder::new(alloc) {
-        refused_calls_change_nothing(&rt, alloc, &mut message);
+    for row in TAKING_MEMORY {
+        refused_call_changes_nothing(&rt, rt.alloc(), row);
     }
 }

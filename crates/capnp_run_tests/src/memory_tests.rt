@@ -1,6 +1,7 @@
 //! Runs that memory is refused to: `./fail_each_allocation` refuses each request of each test in turn. Where a run meets it,
 //! the run is refused and the message is as it was, or one reply says so and the calls after it are answered as the machine of
 //! records says from there; what comes before and after the run is not looked at.
+ghost use Rattle.std.specs.Prelude.{IfOk};
 ghost use Rattle.capnp_arena.specs.Message.{IsMessage};
 ghost use Rattle.capnp_schema.specs.StructHandles.{IsStruct};
 
@@ -19,8 +20,10 @@ use capnp_schema::set::SchemaSet;
 use capnp_schema_fixtures::fixtures::schema_of;
 use capnp_schema_fixtures::messages::{ITEMS_AS_NUMBERS, SHORT};
 use capnp_slots::size_of;
+use capnp_wire::PointerReader;
 use capnp_wire::error::{ErrorKind, Result};
 use capnp_wire::message::Reader;
+use capnp_wire::size::{ElementSize, StructSize};
 use std::alloc::Global;
 use std::process::Abort;
 use std::test::Fail;
@@ -86,13 +89,34 @@ fn replies_of(replies: Result<Vec<Reply>>) -> Result<Option<Vec<Reply>>> {
     }
 }
 
+/// The words that a new message has room for.
+const ROOM: u64 = 128;
+
+/// A message whose root is a copy of a struct, of at least a size, in a segment that has no room left: a call that makes
+/// something takes memory.
+fn full(alloc: Global, source: PointerReader<'_>, size: StructSize) -> Result<Builder>
+    ensures { IfOk result (λ message. IsMessage message) }
+{
+    let mut alone = Builder::new(alloc)?;
+    alone.set_root(source)?;
+    alone.get_struct(0, size)?;
+    let words = alone.size_in_words()?;
+    let mut message = Builder::new(alloc)?;
+    message.init_list(
+        0,
+        ElementSize::EightBytes,
+        ROOM.saturating_sub(words) as u32,
+    )?;
+    message.copy_from(0, alone.get_pointer_reader(0))?;
+    Ok(message)
+}
+
 /// Calls on a copy of a message.
 fn meet(alloc: Global, schema: StructSchema<'_>, start: &[u8], calls: &[Call<'_>]) -> Result<Met>
     requires { IsStruct schema }
 {
     let source = Reader::new(alloc, start)?.get_root();
-    let mut message = Builder::new(alloc)?;
-    message.set_root(source)?;
+    let mut message = full(alloc, source, size_of(schema))?;
     let place = message.get_struct(0, size_of(schema))?;
     let before = message.write_message()?;
     let built = dynamic_struct::Builder {

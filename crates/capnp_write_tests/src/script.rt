@@ -24,6 +24,8 @@
 //!
 //! The answers stand in the same order. A call that is carried out is `ok`, one that is refused is the number of its
 //! refusal (`ErrorKind::number`), with `changed` where the message is not what it was before.
+ghost use Rattle.std.specs.Prelude.{IfOk};
+ghost use Rattle.capnp_arena.specs.Message.{IsMessage};
 ghost use Rattle.capnp_dynamic.specs.Built.{IsReady};
 
 use crate::calls::{Write, place_of, write_at};
@@ -36,6 +38,7 @@ use capnp_dynamic::dynamic_value::{Enum, Reader as Value};
 use capnp_dynamic::printer::print;
 use capnp_schema::set::SchemaSet;
 use capnp_wire::error::Result;
+use capnp_wire::size::ElementSize;
 use capnp_wire::{PointerReader, message};
 use std::alloc::Global;
 use std::fmt;
@@ -350,6 +353,26 @@ fn written(alloc: Global, message: &Builder) -> Result<Vec<u8>> {
     anew.write_message()
 }
 
+/// The words that a new message has room for.
+const ROOM: u64 = 128;
+
+/// A copy of a message in a segment that has no room left: a call that makes something takes memory.
+fn full(alloc: Global, source: PointerReader<'_>) -> Result<Builder>
+    ensures { IfOk result (λ message. IsMessage message) }
+{
+    let mut alone = Builder::new(alloc)?;
+    alone.set_root(source)?;
+    let words = alone.size_in_words()?;
+    let mut message = Builder::new(alloc)?;
+    message.init_list(
+        0,
+        ElementSize::EightBytes,
+        ROOM.saturating_sub(words) as u32,
+    )?;
+    message.copy_from(0, source)?;
+    Ok(message)
+}
+
 /// What a call on the root of a message answers, and the message after it.
 fn after(
     alloc: Global,
@@ -358,8 +381,7 @@ fn after(
     call: Call<'_>,
 ) -> Result<(Answer, Vec<u8>)> {
     let source = message::Reader::new(alloc, bytes)?.get_root();
-    let mut message = Builder::new(alloc)?;
-    message.set_root(source)?;
+    let mut message = full(alloc, source)?;
     let made = match dynamic_struct::Builder::open(
         message.root(),
         start.set.struct_schema(start.brand),
