@@ -344,13 +344,19 @@ fn framed(alloc: Global, segment: &[u8]) -> Result<Vec<u8>> {
     Ok(out)
 }
 
+/// The message of a stream, written anew.
+fn rewritten(alloc: Global, stream: &[u8]) -> Result<Vec<u8>> {
+    let source = message::Reader::new(alloc, stream)?.get_root();
+    let mut message = Builder::new(alloc)?;
+    message.set_root(source)?;
+    message.write_message()
+}
+
 /// What a message in memory holds, read from its words as any message is, and written anew. What a builder leaves that was
 /// given by value no clause says, so nothing is taken as known of the words.
 fn written(alloc: Global, message: &Builder) -> Result<Vec<u8>> {
     let stream = framed(alloc, bytes_of(message))?;
-    let mut anew = Builder::new(alloc)?;
-    anew.set_root(message::Reader::new(alloc, &stream)?.get_root())?;
-    anew.write_message()
+    rewritten(alloc, &stream)
 }
 
 /// The words that a new message has room for.

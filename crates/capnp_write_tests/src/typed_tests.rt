@@ -1,6 +1,7 @@
 //! Dynamic handles beside types that are known beforehand: structs and lists that an untyped pointer is set to, structs by the
 //! handles of a struct type, and the types of elements.
 ghost use Rattle.std.specs.Prelude.{◌≡◌, ◌<◌};
+ghost use Rattle.capnp_arena.specs.Message.{IsMessage};
 ghost use Rattle.capnp_arena.specs.Segment.{segment};
 ghost use Rattle.capnp_arena.specs.Shape.{word_count};
 ghost use Rattle.capnp_base.specs.Types.{type_from};
@@ -49,17 +50,24 @@ fn set_as(root: &mut any_pointer::Builder<'_>, value: Value<'_>) -> Result<()>
     }
 }
 
-/// Sets the root of a message, which is a text, to a value: the number of the refusal, 0 where there is none, and the message
-/// then.
+/// Sets the root of a message to a value: the number of the refusal, 0 where there is none.
+fn set_root_as(message: &mut Builder, value: Value<'_>) -> u32
+    requires { IsMessage message.old }
+    ensures { IsMessage message.new }
+{
+    let PointerBuilder { arena, at } = message.root();
+    let mut root = any_pointer::Builder { arena, at };
+    match set_as(&mut root, value) {
+        Ok(()) => 0,
+        Err(error) => error.kind.number(),
+    }
+}
+
+/// The same of a message whose root is a text, and the message then.
 fn root_set(alloc: Global, value: Value<'_>) -> Result<(u32, Vec<u8>)> {
     let mut message = Builder::new(alloc)?;
     message.root().set_text(b"before")?;
-    let PointerBuilder { arena, at } = message.root();
-    let mut root = any_pointer::Builder { arena, at };
-    let number = match set_as(&mut root, value) {
-        Ok(()) => 0,
-        Err(error) => error.kind.number(),
-    };
+    let number = set_root_as(&mut message, value);
     Ok((number, message.write_message()?))
 }
 
