@@ -1,5 +1,5 @@
 -- The first bytes of a list of bytes, or of a null, that were left otherwise.
-use Rattle.std.proofs.Common.{◌≡◌, ◌≤◌, ◌+◌, ◌*◌, ◌⊎◌, ℕ, ap, arith, inl, inr, refl, subst, sym, ◌∙◌, List, [], ◌++◌, length, drop, take, Ok, Err, Result}
+use Rattle.std.proofs.Common.{◌≡◌, ◌≤◌, ◌+◌, ◌*◌, ℕ, ap, arith, inl, inr, refl, subst, sym, ◌∙◌, List, [], ◌++◌, length, drop, take, Ok, Err}
 use Rattle.std.specs.Prelude.{Bool, true, false, cond, ◌-◌, ◌==◌, ◌∷◌, get_or}
 use Rattle.std.proofs.lemmas.List.{append-nil, drop_all, length-take-le, take-append-drop}
 use Rattle.capnp_device.specs.declared.error.ErrorKind.TheVariants.{TextNotTerminated, WrongElementSize}

@@ -84,6 +84,10 @@ fn fill_all_grown(
     requires room { HaveRoom size.data_words size.pointers at (structs_from (λ i. extended size (part_at bytes.now row i)) 0 count) out.old.items }
     ensures { IfOk result (λ _. out.new.items ≡ with_encoded_elements (size.data_words + size.pointers) at (structs_from (λ i. extended size (part_at bytes.now row i)) 0 count) out.old.items) }
 {
+    // of structs of size zero a list has its count alone, however many there are
+    if size.data_words as usize + size.pointers as usize == 0 {
+        return Ok(());
+    }
     let mut at = at;
     for i in 0..count {
         fill_grown(out, at, bytes, row, i, size)?;

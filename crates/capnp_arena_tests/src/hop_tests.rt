@@ -1,8 +1,7 @@
 //! Lists that have no elements.
-ghost use Rattle.capnp_arena.specs.Handles.{IsPointer};
+ghost use Rattle.capnp_arena.specs.Message.{IsMessage};
 
 use crate::fixtures::{ONE_EACH, answer};
-use capnp_arena::handles::PointerBuilder;
 use capnp_arena::message::Builder;
 use capnp_device::error::Result;
 use capnp_wire::size::ElementSize::{self, Bit, EightBytes, InlineComposite, Pointer, Void};
@@ -15,12 +14,18 @@ fn is_null_empty(alloc: Global) -> Result<bool> {
 }
 
 /// Whether a new list of so many elements is empty; its structs have a data word and a pointer.
-fn is_new_empty(root: PointerBuilder<'_>, size: ElementSize, count: u32) -> Result<bool>
-    requires { IsPointer root }
+fn is_new_empty(message: &mut Builder, size: ElementSize, count: u32) -> Result<bool>
+    requires { IsMessage message.old }
 {
     match size {
-        InlineComposite => Ok(root.init_struct_list(count, ONE_EACH)?.is_empty()),
-        size => Ok(root.init_list(size, count)?.is_empty()),
+        InlineComposite => {
+            let list = message.root().init_struct_list(count, ONE_EACH)?;
+            Ok(list.is_empty())
+        }
+        size => {
+            let list = message.root().init_list(size, count)?;
+            Ok(list.is_empty())
+        }
     }
 }
 
@@ -38,7 +43,7 @@ static NEW: [(ElementSize, u32, bool); 6] = [
 fn is_next_empty(alloc: Global, size: ElementSize, count: u32) -> Result<bool> {
     let mut message = Builder::new(alloc)?;
     message.root().init_list(Void, 2)?;
-    is_new_empty(message.root(), size, count)
+    is_new_empty(&mut message, size, count)
 }
 
 #[test]

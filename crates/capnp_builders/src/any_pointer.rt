@@ -96,6 +96,7 @@ impl<'a> Builder<'a> {
     pub fn get_as<T: FromPointerBuilder<'a>>(self) -> Result<T>
         requires { IsPointer self }
         ensures same { IfOk result (λ b. (T.behind b).ghost_name ≡ (arena_behind self.entry).ghost_name) }
+        ensures at { IfOk result (λ b. T.word b ≡ word_of self.entry) }
         ensures forest { IfOk result (λ b. Forest (segment (T.behind b).now) (word_of self.entry)) }
         ensures tree { IfOk result (λ b. tree (segment (T.behind b).now) (word_of self.entry) ≡ pointer_tree self.entry) }
         ensures changes { IfOk result (λ b. Changes (word_of self.entry) (segment (arena_behind self.entry).now) (segment (T.behind b).now)) }
@@ -109,6 +110,7 @@ impl<'a> Builder<'a> {
     pub fn init_as<T: FromPointerBuilder<'a>>(self) -> Result<T>
         requires { word_of self < word_count (segment (arena_behind self).now) }
         ensures same { IfOk result (λ b. (T.behind b).ghost_name ≡ (arena_behind self.entry).ghost_name) }
+        ensures at { IfOk result (λ b. T.word b ≡ word_of self.entry) }
         ensures forest { IfOk result (λ b. Forest (segment (T.behind b).now) (word_of self.entry)) }
         ensures tree { IfOk result (λ b. tree (segment (T.behind b).now) (word_of self.entry) ≡ T.started 0) }
         ensures changes { IfOk result (λ b. Changes (word_of self.entry) (segment (arena_behind self.entry).now) (segment (T.behind b).now)) }
@@ -122,6 +124,7 @@ impl<'a> Builder<'a> {
     pub fn initn_as<T: FromPointerBuilder<'a>>(self, size: u32) -> Result<T>
         requires { word_of self < word_count (segment (arena_behind self).now) }
         ensures same { IfOk result (λ b. (T.behind b).ghost_name ≡ (arena_behind self.entry).ghost_name) }
+        ensures at { IfOk result (λ b. T.word b ≡ word_of self.entry) }
         ensures forest { IfOk result (λ b. Forest (segment (T.behind b).now) (word_of self.entry)) }
         ensures tree { IfOk result (λ b. tree (segment (T.behind b).now) (word_of self.entry) ≡ T.started size) }
         ensures changes { IfOk result (λ b. Changes (word_of self.entry) (segment (arena_behind self.entry).now) (segment (T.behind b).now)) }
@@ -137,6 +140,7 @@ impl<'a> Builder<'a> {
         ensures same { (arena_behind self.new).ghost_name ≡ (arena_behind self.old).ghost_name }
         ensures at { word_of self.new ≡ word_of self.old }
         ensures forest { OnOk result (IsPointer self.new) }
+        ensures stays { IsPointer self.old → IsPointer self.new }
         ensures tree { OnOk result (pointer_tree self.new ≡ T.set_tree value) }
         ensures changes { OnOk result (Changes (word_of self.old) (segment (arena_behind self.old).now) (segment (arena_behind self.new).now)) }
         ensures well_formed { OnOk result (IsWellFormed (pointer_tree self.new)) }
@@ -177,6 +181,8 @@ impl<'a> Builder<'a> {
 
 impl<'a> FromPointerBuilder<'a> for Builder<'a> {
     ghost behind = { arena_behind };
+
+    ghost word = { word_of };
 
     ghost started = { λ _. Null };
 

@@ -37,9 +37,9 @@ impl<'a> traits::Owned<'a> for Owned {
 /// Data that are built.
 #[derive(Drop)]
 pub struct Builder<'a> {
-    arena: &'a mut Arena,
+    pub arena: &'a mut Arena,
     /// The word of the data's pointer.
-    at: usize,
+    pub at: usize,
 }
 
 impl fmt::Debug for Builder<'_> {
@@ -207,6 +207,8 @@ fn enter(arena: &mut Arena, at: usize, default: Option<PointerReader<'_>>) -> Re
 
 impl<'a> FromPointerBuilder<'a> for Builder<'a> {
     ghost behind = { data_behind };
+
+    ghost word = { data_word };
 
     ghost started = { λ length. Numbers 1 (replicate length 0) };
 

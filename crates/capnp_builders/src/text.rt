@@ -47,10 +47,11 @@ impl<'a> traits::Owned<'a> for Owned {
 /// alone; where no text stands there are none.
 #[derive(Drop)]
 pub struct Builder<'a> {
-    arena: &'a mut Arena,
+    pub arena: &'a mut Arena,
     /// The word of the text's pointer.
-    at: usize,
-    pos: usize,
+    pub at: usize,
+    /// The position.
+    pub pos: usize,
 }
 
 impl PartialEq for Builder<'_> {
@@ -409,6 +410,8 @@ fn enter(arena: &mut Arena, at: usize, default: Option<PointerReader<'_>>) -> Re
 
 impl<'a> FromPointerBuilder<'a> for Builder<'a> {
     ghost behind = { text_behind };
+
+    ghost word = { text_word };
 
     ghost started = { λ length. Numbers 1 (replicate (length + 1) 0) };
 

@@ -28,6 +28,9 @@ pub trait FromPointerBuilder<'a>: Sized {
     // The message behind what is handed out.
     ghost behind: { Self → MutBor Arena };
 
+    // The word of its pointer.
+    ghost word: { Self → ℕ };
+
     // The tree of a pointer that was started anew with so many elements.
     ghost started: { ℕ → Tree };
 
@@ -51,6 +54,7 @@ pub trait FromPointerBuilder<'a>: Sized {
         requires inside { builder.at < word_count (segment builder.arena.now) }
         ensures* rests { sem 𝓛 (Rests builder.entry.arena behind result) }
         ensures same { IfOk result (λ b. (behind b).ghost_name ≡ builder.entry.arena.ghost_name) }
+        ensures at { IfOk result (λ b. word b ≡ builder.entry.at) }
         ensures forest { IfOk result (λ b. Forest (segment (behind b).now) builder.entry.at) }
         ensures tree { IfOk result (λ b. tree (segment (behind b).now) builder.entry.at ≡ started length) }
         ensures changes { IfOk result (λ b. Changes builder.entry.at (segment builder.entry.arena.now) (segment (behind b).now)) }
@@ -68,6 +72,7 @@ pub trait FromPointerBuilder<'a>: Sized {
         requires default { IsSome default → has_defaults }
         ensures* rests { sem 𝓛 (Rests builder.entry.arena behind result) }
         ensures same { IfOk result (λ b. (behind b).ghost_name ≡ builder.entry.arena.ghost_name) }
+        ensures at { IfOk result (λ b. word b ≡ builder.entry.at) }
         ensures forest { IfOk result (λ b. Forest (segment (behind b).now) builder.entry.at) }
         ensures tree { IfOk result (λ b. tree (segment (behind b).now) builder.entry.at ≡ tree_or (tree (segment builder.entry.arena.now) builder.entry.at) default.entry) }
         ensures changes { IfOk result (λ b. Changes builder.entry.at (segment builder.entry.arena.now) (segment (behind b).now)) }

@@ -9,7 +9,7 @@ ghost use Rattle.capnp_arena.specs.Message.{IsMessage};
 ghost use Rattle.capnp_arena.specs.Segment.{segment};
 ghost use Rattle.capnp_arena.specs.Shape.{ListIn, shape_at};
 ghost use Rattle.capnp_builders.specs.Blobs.{IsData, IsText};
-ghost use Rattle.capnp_builders.specs.Pointers.{IsPointer};
+ghost use Rattle.capnp_builders.specs.Pointers.{IsPointer, arena_behind};
 
 use capnp_arena::lists::ListPlace;
 use capnp_arena::message::Builder;
@@ -307,7 +307,6 @@ fn set_and_get_untyped(message: &mut Builder, words: &[u8], want: &[u8]) -> Resu
 
 fn set_untyped(message: &mut Builder, input: Input) -> Result<()>
     requires { IsMessage message.old }
-    ensures message { IsMessage message.new }
 {
     let mut root = any_pointer::Builder::new(message.root());
     match input {
@@ -402,16 +401,30 @@ fn get_untyped_data(message: &mut Builder, want: &[u8]) -> Result<bool>
     built_data_is(root.get_as::<data::Builder<'_>>(), want)
 }
 
+/// The same of a pointer that is lent.
+fn is_null_lent(pointer: any_pointer::Builder<'_>, want: &[u8]) -> bool
+    requires { IsPointer pointer }
+    ensures { segment pointer.exit.0.now ≡ segment (arena_behind pointer.entry).now }
+{
+    let any_pointer::Builder { arena, at } = pointer;
+    if arena.is_null(at) {
+        *want == *NULL_POINTER
+    } else {
+        *want == *NOT_NULL
+    }
+}
+
 /// The pointer is handed out for a while, and is null afterwards where it was so while handed out.
 fn get_untyped(message: &mut Builder, want: &[u8]) -> Result<bool>
     requires { IsMessage message.old }
 {
+    let got = any_pointer::Builder::get_from_pointer(message.root(), None)?;
+    let is_got = is_null_so(&got, want);
     let mut root = any_pointer::Builder::new(message.root());
-    let lent = any_pointer::Builder::get_from_pointer(root.reborrow().into_pointer(), None);
-    let is_wanted = built_pointer_is(lent, want)?;
+    let is_lent = is_null_lent(root.reborrow(), want);
     let is_still = is_null_so(&root, want);
-    let is_got = built_pointer_is(root.get_as::<any_pointer::Builder<'_>>(), want)?;
-    Ok(is_wanted && is_still && is_got)
+    let is_typed = built_pointer_is(root.get_as::<any_pointer::Builder<'_>>(), want)?;
+    Ok(is_got && is_lent && is_still && is_typed)
 }
 
 fn make_untyped(message: &mut Builder, call: UntypedCall, want: &[u8]) -> Result<bool>
@@ -488,16 +501,22 @@ fn is_segment(message: &[u8], words: &[u8]) -> bool {
     *head == *[0, 0, 0, 0, (words.len() / 8) as u8, 0, 0, 0].as_slice() && *rest == *words
 }
 
+/// Whether the root is null, and the words of what it leads to.
+fn measure(message: &mut Builder) -> Result<(bool, u64)>
+    requires { IsMessage message.old }
+{
+    let root = any_pointer::Builder::new(message.root());
+    let is_null = root.is_null();
+    Ok((is_null, root.target_size()?.word_count))
+}
+
 /// Whether the message is written and measured as these words, with a root that is null or not as they say.
 fn stands_as(message: &mut Builder, words: &[u8]) -> Result<bool>
     requires { IsMessage message.old }
-    ensures { IsMessage message.new }
 {
     let written = message.write_message()?;
     let size = message.size_in_words()?;
-    let root = any_pointer::Builder::new(message.root());
-    let is_null = root.is_null();
-    let target = root.target_size()?.word_count;
+    let (is_null, target) = measure(message)?;
     Ok(
         is_segment(written.as_slice(), words)
             && is_null == (*words == *NULL)
@@ -512,7 +531,8 @@ fn first_wrong(alloc: Global, rows: &[Row]) -> Result<Option<&'static str>> {
     for (name, call, want, then) in rows {
         let made = make(&mut message, *call, wanted_bytes(*want));
         message = settled(alloc, &message)?;
-        if !is_wanted(made, *want) || !is_wanted(stands_as(&mut message, then), Ok(&[])) {
+        let mut copy = settled(alloc, &message)?;
+        if !is_wanted(made, *want) || !is_wanted(stands_as(&mut copy, then), Ok(&[])) {
             return Ok(Some(name));
         }
     }

@@ -1,13 +1,13 @@
 //! Texts as they are built, against what the public crate's documentation and std's printed forms say.
-ghost use Rattle.std.specs.Prelude.{IfOk, IsOk, ◌≡◌};
+ghost use Rattle.std.specs.Prelude.{IfOk, IsOk, OnOk, ◌<◌, ◌≡◌};
 ghost use Rattle.capnp_wire.specs.Reading.{as_text};
-ghost use Rattle.capnp_base.specs.Text.{text_tree};
 ghost use Rattle.capnp_arena.specs.Forest.{Forest, tree};
-ghost use Rattle.capnp_arena.specs.Message.{IsMessage, message_tree};
+ghost use Rattle.capnp_arena.specs.Message.{IsMessage};
 ghost use Rattle.capnp_arena.specs.Segment.{segment};
 ghost use Rattle.capnp_builders.specs.Blobs.{IsText, text_behind, text_word};
 
 use capnp_arena::message::Builder as Message;
+use capnp_builders::data;
 use capnp_builders::text::{Builder, Reader};
 use capnp_builders::traits::FromPointerBuilder;
 use capnp_wire::error::Result;
@@ -63,8 +63,9 @@ fn write_reborrowed(builder: Builder<'_>, push: Push) -> bool
     ensures forest { Forest (segment builder.exit.0.now) (text_word builder.entry) }
     ensures text { IsOk (as_text (tree (segment builder.exit.0.now) (text_word builder.entry))) }
 {
-    let mut builder = builder;
-    write_at_position(&mut builder, push)
+    let Builder { arena, at, pos } = builder;
+    let mut lent = Builder { arena, at, pos };
+    write_at_position(&mut lent, push)
 }
 
 fn push_or_reborrow(builder: &mut Builder<'_>, pushed: Push, is_reborrowed: bool) -> bool
@@ -152,30 +153,44 @@ fn a_reborrow_leaves_the_position(rt: HostRuntime) -> std::result::Result<(), Fa
 fn are_equal(one: &mut Message, other: &mut Message) -> bool
     requires one { IsMessage one.old }
     requires other { IsMessage other.old }
-    ensures one { one.new ≡ one.old }
-    ensures other { other.new ≡ other.old }
 {
-    Builder::with_pos(one.root(), 2) == Builder::new(other.root())
+    let first = Builder::with_pos(one.root(), 2);
+    let second = Builder::new(other.root());
+    first == second
 }
 
 /// A message whose root is a text.
 fn text_message(alloc: Global, bytes: &[u8]) -> Result<Message>
-    ensures message { IfOk result IsMessage }
-    ensures text { IfOk result (λ m. message_tree m ≡ text_tree bytes.now) }
+    ensures { IfOk result IsMessage }
 {
     let mut message = Message::new(alloc)?;
     message.set_text(0, bytes)?;
     Ok(message)
 }
 
-/// Writes the second byte of a text of two bytes.
-fn write_second(message: &mut Message, byte: u8)
-    requires message { IsMessage message.old }
+/// A message whose root is the text `ab`, of which another second byte is written.
+fn written_message(alloc: Global, byte: u8) -> Result<Message>
+    requires { byte < 128 }
+    ensures { IfOk result IsMessage }
 {
-    let mut builder = Builder::with_pos(message.root(), 1);
-    if builder.room() == 1 && byte < 128 {
+    let mut message = text_message(alloc, b"ab")?;
+    write_second(&mut message, byte)?;
+    Ok(message)
+}
+
+/// Writes the second byte of a text of two bytes.
+fn write_second(message: &mut Message, byte: u8) -> Result<()>
+    requires ascii { byte < 128 }
+    requires message { IsMessage message.old }
+    ensures { OnOk result (IsMessage message.new) }
+{
+    let mut builder = Builder::get_from_pointer(message.root(), None)?;
+    builder.clear();
+    if builder.room() == 2 {
+        builder.push_str("a");
         builder.push_ascii(byte);
     }
+    Ok(())
 }
 
 fn str_or_valid(answer: std::result::Result<&str, Utf8Error>) -> std::result::Result<&str, usize> {
@@ -185,25 +200,46 @@ fn str_or_valid(answer: std::result::Result<&str, Utf8Error>) -> std::result::Re
     }
 }
 
-/// Whether a text is this string: by its bytes, by its reader, and by a string in memory of its own.
-fn is_string(alloc: Global, message: &mut Message, want: &str) -> Result<bool>
+fn has_str(message: &mut Message, want: &str) -> Result<bool>
     requires { IsMessage message.old }
 {
-    let is_str = str_or_valid(Builder::new(message.root()).to_str()) == Ok(want);
-    let is_reader = Builder::new(message.root()).into_reader() == Reader::from(want);
-    let string = Builder::new(message.root()).to_string(alloc)?;
-    Ok(is_str && is_reader && matches!(&string, Ok(string) if *string.as_str() == *want))
+    let builder = Builder::get_from_pointer(message.root(), None)?;
+    Ok(str_or_valid(builder.to_str()) == Ok(want))
+}
+
+fn has_string(alloc: Global, message: &mut Message, want: &str) -> Result<bool>
+    requires { IsMessage message.old }
+{
+    let builder = Builder::get_from_pointer(message.root(), None)?;
+    let string = builder.to_string(alloc)?;
+    Ok(matches!(&string, Ok(string) if *string.as_str() == *want))
+}
+
+fn has_reader(message: &mut Message, want: &str) -> Result<bool>
+    requires { IsMessage message.old }
+{
+    let builder = Builder::get_from_pointer(message.root(), None)?;
+    Ok(builder.into_reader() == Reader::from(want))
 }
 
 #[test]
 fn builders_compare_by_their_bytes_alone(rt: HostRuntime) -> std::result::Result<(), Fail> {
-    let mut one = text_message(rt.alloc(), b"ab")?;
-    let mut other = text_message(rt.alloc(), b"ab")?;
-    assert!(rt; are_equal(&mut one, &mut other));
-    write_second(&mut other, b'c');
-    assert!(rt; !are_equal(&mut one, &mut other));
-    assert!(rt; is_string(rt.alloc(), &mut one, "ab")?);
-    assert!(rt; is_string(rt.alloc(), &mut other, "ac")?);
+    let alloc = rt.alloc();
+    assert!(rt;
+        are_equal(
+            &mut text_message(alloc, b"ab")?,
+            &mut text_message(alloc, b"ab")?
+        )
+    );
+    assert!(rt;
+        !are_equal(
+            &mut text_message(alloc, b"ab")?,
+            &mut written_message(alloc, b'c')?
+        )
+    );
+    assert!(rt; has_str(&mut text_message(alloc, b"ab")?, "ab")?);
+    assert!(rt; has_string(alloc, &mut written_message(alloc, b'c')?, "ac")?);
+    assert!(rt; has_reader(&mut written_message(alloc, b'c')?, "ac")?);
     Ok(())
 }
 
@@ -214,6 +250,19 @@ fn prints(alloc: Global, bytes: &[u8], want: &str) -> Result<bool> {
     let mut message = text_message(alloc, bytes)?;
     let printed = format!(in alloc; "{:?}", Builder::new(message.root()))?;
     Ok(*printed.as_str() == *want)
+}
+
+fn data_prints(alloc: Global, bytes: &[u8], want: &str) -> Result<bool> {
+    let mut message = Message::new(alloc)?;
+    message.set_data(0, bytes)?;
+    let printed = format!(in alloc; "{:?}", data::Builder::new(message.root()))?;
+    Ok(*printed.as_str() == *want)
+}
+
+#[test]
+fn data_print_as_numbers(rt: HostRuntime) -> std::result::Result<(), Fail> {
+    assert!(rt; data_prints(rt.alloc(), &[1, 255], "[1, 255]")?);
+    Ok(())
 }
 
 #[test]

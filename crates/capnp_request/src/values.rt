@@ -3,7 +3,6 @@ ghost use Rattle.std.specs.Prelude.{◌≡◌, ◌≢◌, None, Some, Ok, Err, d
 ghost use Rattle.capnp_device.specs.declared.error.ErrorKind.TheVariants.{OutOfMemory};
 ghost use Rattle.capnp_wire.specs.Reading.{refusal};
 ghost use Rattle.capnp_wire.specs.Standing.{tree_of};
-ghost use Rattle.capnp_wire.specs.WellFormed.{IsWellFormed};
 ghost use Rattle.capnp_wire.specs.Words.{first_fault};
 ghost use Rattle.capnp_arena.specs.Message.{IsMessage, message_tree};
 ghost use Rattle.capnp_base.specs.AnyPointer.{pointer_of};
@@ -27,7 +26,6 @@ use capnp_base::any_pointer;
 use capnp_dynamic_readers::dynamic_struct;
 use capnp_schema::record::ValueRecord;
 use capnp_wire::error::{Error, ErrorKind, Result};
-use capnp_wire::laws::pointer_is_well_formed;
 use std::alloc::Global;
 
 /// The bytes of the table of a message of one segment.
@@ -40,14 +38,11 @@ fn copy_of(alloc: Global, pointer: any_pointer::Reader<'_>) -> Result<Builder>
     ensures message { IfOk result IsMessage }
     ensures read { IfOk result (λ m. message_tree m ≡ tree_of (pointer_of pointer.entry)) }
     ensures sound { IfOk result (λ _. first_fault (tree_of (pointer_of pointer.entry)) ≡ None) }
-    ensures held { IfOk result (λ _. IsWellFormed (tree_of (pointer_of pointer.entry))) }
     ensures refused { IfErr result (λ e. e.kind ≢ OutOfMemory → option_map refusal (first_fault (tree_of (pointer_of pointer.entry))) ≡ Some e.kind) }
     ensures kinds { IfErr result (λ e. IsPlain e.kind) }
 {
-    let source = pointer.get_pointer();
-    pointer_is_well_formed(&source);
     let mut message = Builder::new(alloc)?;
-    message.copy_from(0, source)?;
+    message.copy_from(0, pointer.get_pointer())?;
     Ok(message)
 }
 
@@ -61,8 +56,7 @@ fn behind_table(bytes: &[u8]) -> &[u8]
 }
 
 /// The words of one segment whose root pointer leads to a copy of what stands at a pointer. Refused as the first pointer
-/// there that can't be followed, in preorder, and with `TooLarge` or `OutOfMemory`.
-#[tactic(auto, using(crate::proofs::RefusedKinds::write_kinds))]
+/// there that can't be followed, in preorder, and with `OutOfMemory`, also where they would be 2^29 words or more.
 fn words_of(alloc: Global, pointer: any_pointer::Reader<'_>) -> Result<Vec<u8>>
     ensures read { IfOk result (λ w. words_or_fault (first_fault (tree_of (pointer_of pointer.entry))) (tree_of (pointer_of pointer.entry)) ≡ Ok w.items) }
     ensures refused { IfErr result (λ e. e.kind ≢ OutOfMemory → words_or_fault (first_fault (tree_of (pointer_of pointer.entry))) (tree_of (pointer_of pointer.entry)) ≡ Err e.kind) }

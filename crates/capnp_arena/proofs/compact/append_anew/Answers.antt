@@ -1,4 +1,4 @@
-use Rattle.std.proofs.Common.{◌≡◌, ◌++◌, ◌∙◌, ap, refl}
+use Rattle.std.proofs.Common.{◌≡◌, ◌++◌, ◌∙◌, ap}
 use Rattle.capnp_wire.specs.Encoding.{pointer_word, spelled}
 use Rattle.capnp_wire.specs.Facts.Appending.{append_two}
 use Rattle.capnp_arena.specs.Encoded.{pointer_to}

@@ -1,5 +1,5 @@
-use Rattle.std.proofs.Common.{arith, suc, ◌+◌, ◌/◌, ◌*◌, ◌-◌, ◌^◌, ◌<◌, ◌≤◌, ◌≡◌, ◌++◌, ◌∙◌, ap, length, List, [], ℕ}
-use Rattle.capnp_wire.specs.Encoding.{encoding_of, message_of, spelled}
+use Rattle.std.proofs.Common.{arith, suc, ◌/◌, ◌*◌, ◌-◌, ◌≤◌, ◌≡◌, ◌++◌, ◌∙◌, ap, length, List, [], ℕ}
+use Rattle.capnp_wire.specs.Encoding.{encoding_of, spelled}
 use Rattle.capnp_wire.specs.Facts.Bytes.{AreBytes-fits}
 use Rattle.capnp_wire.specs.Facts.EncodedSizes.{length_encoding}
 use Rattle.capnp_wire.specs.Filling.{put}

@@ -1,4 +1,4 @@
-use Rattle.std.proofs.Common.{arith, suc, ◌+◌, ◌/◌, ◌*◌, ◌≡◌, ◌++◌, ◌∙◌, ap, length}
+use Rattle.std.proofs.Common.{arith, suc, ◌/◌, ◌*◌, ◌≡◌, ◌++◌, ◌∙◌, ap, length}
 use Rattle.capnp_wire.specs.Encoding.{encoding_of, spelled}
 use Rattle.capnp_wire.specs.Facts.Appending.{append_two}
 use Rattle.capnp_wire.specs.Facts.Bytes.{AreBytes-fits}

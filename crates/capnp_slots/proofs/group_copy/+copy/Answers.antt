@@ -8,13 +8,21 @@ use Rattle.capnp_schema.specs.FieldLists.{index_of, schema_of, subset_indices}
 use Rattle.capnp_schema.specs.Query.{keep_index}
 use Rattle.capnp_schema.specs.Schema.{Schemas, seen_brand}
 use Rattle.capnp_schema.specs.StructHandles.{number_of, set_of}
+use Rattle.capnp_records.specs.Facts.FieldWrite.{fits-after}
 use Rattle.capnp_records.specs.Record.{Left}
+use Rattle.capnp_slots.specs.Fields.{IsRoomFor, field_brand, field_set}
 use Rattle.capnp_slots.specs.GroupSets.{AreCopied, active_field}
 use Rattle.capnp_slots.proofs.GroupClears.{keeps-trans}
 use Rattle.capnp_slots.proofs.GroupCopies.{cleared-counted, field-in, found-none, group-copied, group-cut, group-whole, none-copied, plain-cut, plain-end, plain-next, slot-copied}
 use Rattle.capnp_arena.specs.Facts.Places.{then}
 use Rattle.capnp_slots.proofs.Places.{either, same_struct}
 use Rattle.capnp_slots.proofs.group_copy.+copy.Goals as goal
+
+pub copy_field-copy_group-requires : goal.copy_field-copy_group-requires
+copy_field-copy_group-requires t c =
+    let f = c.args.field in
+    let room : IsRoomFor f (built c.switch.new.arena c.args.place) = fits-after _ (field_set f) (field_brand f) (built c.args.arena.now c.args.place) (built c.switch.new.arena c.args.place) c.switch.ensures.kept.writes c.requires.room in
+    (omega (arith, c.decreases), (c.switch.ensures.planted, (c.in-Some.ensures.room _ room, omega (arith, c.in-Some.ensures.lower, c.requires.height))))
 
 pub copy_field-returns-in-Some-clause-copied : goal.copy_field-returns-in-Some-clause-copied
 copy_field-returns-in-Some-clause-copied t c =

@@ -2,7 +2,7 @@
 use Rattle.std.proofs.Common.{[], ◌∷◌, ◌∙◌, ap, subst, sym}
 use Rattle.capnp_wire.specs.Place.{tree_below}
 use Rattle.capnp_wire.specs.Standing.{tree_of}
-use Rattle.capnp_arena.specs.Forest.{Forest, tree}
+use Rattle.capnp_arena.specs.Forest.{tree}
 use Rattle.capnp_arena.specs.Same.{IsCutOf}
 use Rattle.capnp_arena.proofs.Peeked.{data_seen, text_seen}
 use Rattle.capnp_arena.proofs.Shallow.{cut}

@@ -1,11 +1,10 @@
-use Rattle.std.proofs.Common.{arith, suc, ◌≡◌, ◌++◌, ◌∙◌, ◌^◌, ◌<◌, ◌≤◌, ap}
-use Rattle.capnp_wire.specs.Encoding.{message_of}
+use Rattle.std.proofs.Common.{arith, suc, ◌++◌, ◌∙◌, ◌^◌, ◌<◌, ◌≤◌, ap}
 use Rattle.capnp_wire.specs.Stream.{message_tree_of}
 use Rattle.capnp_wire.specs.Words.{words_of}
 use Rattle.capnp_wire.specs.Facts.ReadMessage.{message_reads}
 use Rattle.capnp_arena.specs.Forest.{tree}
 use Rattle.capnp_arena.specs.Shape.{word_count}
-use Rattle.capnp_arena.proofs.Bounded.{always_counted, words_fit}
+use Rattle.capnp_arena.proofs.Bounded.{words_fit}
 use Rattle.capnp_arena.proofs.Whole.{forest_whole}
 use Rattle.capnp_arena.proofs.arena.Arena.write_message.Goals as goal
 

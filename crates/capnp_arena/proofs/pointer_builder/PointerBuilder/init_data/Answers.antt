@@ -1,4 +1,4 @@
-use Rattle.std.proofs.Common.{arith, refl, rules}
+use Rattle.std.proofs.Common.{arith, refl}
 use Rattle.capnp_arena.proofs.Fronts.{front_list}
 use Rattle.capnp_arena.proofs.NewBytes.{new_bytes}
 use Rattle.capnp_arena.proofs.pointer_builder.PointerBuilder.init_data.Goals as goal
