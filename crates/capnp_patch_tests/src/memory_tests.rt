@@ -3,10 +3,10 @@
 //! on after a refused call, and else nothing.
 
 use crate::cases::{Case, Devices, Outcome, Verb, outcome_of};
-use crate::fixtures::{LISTS, MIXED, MIXED_HO, NINE, NONE};
+use crate::fixtures::{LISTS, MIXED, MIXED_HO, NONE};
 use capnp_schema::builtin::new_set;
 use capnp_schema::set::SchemaSet;
-use capnp_schema_fixtures::messages::{ITEMS_AS_NUMBERS, MIXED_HI, PAIR};
+use capnp_schema_fixtures::messages::{MIXED_HI, PAIR};
 use std::alloc::Global;
 use std::process::Abort;
 
@@ -29,51 +29,63 @@ struct Meeting {
     left: &'static [u8],
 }
 
-static MEETINGS: [Meeting; 5] = [
-    Meeting {
-        brand: MIXED,
-        verb: Verb::Patch,
-        message: MIXED_HI,
-        flag: false,
-        text: "set b Text ho",
-        lines: "",
-        written: MIXED_HO,
-        refused: "1: set b Text ho: refused: 1 OutOfMemory\n",
-        left: NONE,
-    },
-    Meeting {
-        brand: MIXED,
-        verb: Verb::Patch,
-        message: MIXED_HI,
-        flag: true,
-        text: "set b Text ho",
-        lines: "",
-        written: MIXED_HO,
-        refused: "1: set b Text ho: refused: 1 OutOfMemory\n",
-        left: MIXED_HI,
-    },
-    Meeting {
-        brand: MIXED,
-        verb: Verb::New,
-        message: NONE,
-        flag: true,
-        text: "set a UInt16 5\nset y UInt8 9\nset b Text hi",
-        lines: "",
-        written: MIXED_HI,
-        refused: "3: set b Text hi: refused: 1 OutOfMemory\n",
-        left: NINE,
-    },
-    // a list of numbers becomes one of structs
+/// More items than a new message has room for; in the end there are none.
+const ITEMS: &str = "\
+initn items 300
+set items.299.a UInt16 7
+get items.299.a
+clear items";
+
+const ITEMS_LINES: &str = "\
+3: get items.299.a = 7
+";
+
+const NO_ITEMS_LINES: &str = "\
+1: initn items 300: refused: 1 OutOfMemory
+2: set items.299.a UInt16 7: refused: 32 NoSuchElement
+3: get items.299.a: refused: 32 NoSuchElement
+";
+
+/// A `Lists` of nulls.
+const NO_ITEMS: &[u8] = &[
+    0, 0, 0, 0, 5, 0, 0, 0, 0, 0, 0, 0, 0, 0, 4, 0, 0, 0, 0, 0, 0, 0, 0, 0, 0, 0, 0, 0, 0, 0, 0, 0,
+    0, 0, 0, 0, 0, 0, 0, 0, 0, 0, 0, 0, 0, 0, 0, 0,
+];
+
+static MEETINGS: [Meeting; 4] = [
     Meeting {
         brand: LISTS,
         verb: Verb::Patch,
-        message: ITEMS_AS_NUMBERS,
+        message: PAIR,
         flag: false,
-        text: "get items.1.a",
-        lines: "1: get items.1.a = 2\n",
-        written: PAIR,
-        refused: "1: get items.1.a: refused: 1 OutOfMemory\n",
+        text: ITEMS,
+        lines: ITEMS_LINES,
+        written: NO_ITEMS,
+        refused: NO_ITEMS_LINES,
         left: NONE,
+    },
+    Meeting {
+        brand: LISTS,
+        verb: Verb::New,
+        message: NONE,
+        flag: true,
+        text: ITEMS,
+        lines: ITEMS_LINES,
+        written: NO_ITEMS,
+        refused: NO_ITEMS_LINES,
+        left: NO_ITEMS,
+    },
+    // the text of a reply takes memory
+    Meeting {
+        brand: MIXED,
+        verb: Verb::Patch,
+        message: MIXED_HI,
+        flag: true,
+        text: "set b Text ho\nget b",
+        lines: "2: get b = \"ho\"\n",
+        written: MIXED_HO,
+        refused: "2: get b: refused: 1 OutOfMemory\n",
+        left: MIXED_HO,
     },
     Meeting {
         brand: MIXED,
