@@ -7,11 +7,12 @@ ghost use Rattle.capnp_arena.specs.Segment.{segment};
 ghost use Rattle.capnp_wire.specs.Reading.{list_length};
 ghost use Rattle.capnp_schema.specs.StructHandles.{IsStruct};
 ghost use Rattle.capnp_dynamic.specs.Built.{IsStanding};
-ghost use Rattle.capnp_bench.specs.Room.{AreItemFields, HoldsItems, IsListOfItems, LiesIn};
+ghost use Rattle.capnp_bench.specs.Room.{AreItemFields, HoldsItems, IsListSlot, LiesIn};
 
 use crate::sets::{field_of, set, start_root};
 use capnp_arena::arena::{Arena, Place};
 use capnp_arena::message::Builder;
+use capnp_base::introspect::TypeVariant;
 use capnp_dynamic::{part, slot};
 use capnp_dynamic_readers::dynamic_value::Reader as Value;
 use capnp_run::calls::{Call, Op, Step};
@@ -152,6 +153,21 @@ fn item_fields<'s>(item: StructSchema<'s>) -> Result<ItemFields<'s>>
     Ok(ItemFields { id, kind, name })
 }
 
+/// The slot of a list of that name; refused as `field_of`, and with `TypeMismatch` for another field.
+fn list_field<'s>(schema: StructSchema<'s>, name: &str) -> Result<Field<'s>>
+    ensures lies { IfOk result (LiesIn schema.entry) }
+    ensures list { IfOk result IsListSlot }
+{
+    let field = field_of(schema, name)?;
+    if !slot::is_slot(field) {
+        return Err(Error::type_mismatch());
+    }
+    match field.get_type().which() {
+        TypeVariant::List(_) => Ok(field),
+        _ => Err(Error::type_mismatch()),
+    }
+}
+
 /// Fills the item that stands at a place.
 fn fill_item(
     arena: &mut Arena,
@@ -222,7 +238,7 @@ fn build_once(
 ) -> Result<u64>
     requires fields { AreItemFields item fields.now }
     requires lies { LiesIn document items }
-    requires list { IsListOfItems item items }
+    requires list { IsListSlot items }
 {
     let mut message = Builder::new(alloc)?;
     let root = start_root(&mut message, document)?;
@@ -238,7 +254,7 @@ fn build(alloc: Global, rounds: u64) -> Result<u64> {
     let document = schema_of(&set, DOCUMENT)?;
     let item = schema_of(&set, ITEM)?;
     let fields = item_fields(item)?;
-    let items = field_of(document, "items")?;
+    let items = list_field(document, "items")?;
     let mut sum: u64 = 0;
     for _ in 0..rounds {
         sum = sum.wrapping_add(build_once(alloc, document, items, item, &fields)?);
