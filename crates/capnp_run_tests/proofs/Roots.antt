@@ -1,14 +1,16 @@
 -- A root that was got has its schema's sections, and calls in it leave a message.
-use Rattle.std.specs.Prelude.{ℕ, ◌≡◌, List}
+use Rattle.std.specs.Prelude.{ℕ, ◌≡◌, ◌<◌, List}
 use Rattle.std.proofs.Common.{ap, subst, sym, ◌∙◌}
 use Rattle.capnp_wire.specs.Edits.{extended, struct_in}
 use Rattle.capnp_wire.specs.Place.{struct_tree}
 use Rattle.capnp_wire.specs.Tree.{StructTree}
 use Rattle.capnp_wire.specs.declared.size.StructSize.{StructSize}
+use Rattle.capnp_arena.specs.Facts.Forests.{points}
+use Rattle.capnp_arena.specs.Facts.Shapes.{itself_inside}
 use Rattle.capnp_arena.specs.Facts.Laws.{IsInStruct, in_struct, struct_is, struct_planted}
 use Rattle.capnp_arena.specs.Forest.{Forest, PartChanges, Planted, tree}
 use Rattle.capnp_arena.specs.Segment.{segment}
-use Rattle.capnp_arena.specs.Shape.{shape_at}
+use Rattle.capnp_arena.specs.Shape.{shape_at, word_count}
 use Rattle.capnp_arena.specs.declared.arena.Arena.{Arena}
 use Rattle.capnp_arena.specs.declared.arena.Place.{Place}
 use Rattle.capnp_schema.specs.Plan.{brand_size}
@@ -16,6 +18,9 @@ use Rattle.capnp_schema.specs.Schema.{Schemas}
 use Rattle.capnp_records.specs.Facts.Extension.{fits-extended}
 use Rattle.capnp_records.specs.Writes.Slots.{Fits}
 use Rattle.capnp_arena.specs.Built.{IsBuilt, built, part}
+
+pub root_inside : (bytes : List ℕ) → Forest bytes 0 → 0 < word_count bytes
+root_inside bytes f = itself_inside bytes 0 (shape_at bytes 0) (points bytes 0 f)
 
 module _ (a b : Arena) (p q : Place) (same : b ≡ a) (placed : q ≡ p) (forest : Forest (segment a) 0) (there : shape_at (segment a) 0 ≡ part p) where
   forest_here : Forest (segment b) 0

@@ -10,7 +10,7 @@ pub run-requires-clause-ready : goal.run-requires-clause-ready
 run-requires-clause-ready c = record {
   planted = is_got c.get_struct.new.self c.get_struct.new.self c.in_ok-place.place c.in_ok-place.place refl refl c.in_ok-place.ensures.forest c.in_ok-place.ensures.place;
   room = got_fits c.get_struct.new.self c.get_struct.new.self c.in_ok-place.place c.in_ok-place.place refl refl c.in_ok-place.ensures.forest c.in_ok-place.ensures.place
-      (set_of c.args.schema) (number_of c.args.schema) c.size_of.result (struct_in (message_tree c.set_root.new.self)) c.size_of.ensures c.in_ok-place.ensures.tree;
+      (set_of c.args.schema) (number_of c.args.schema) c.size_of-2.result (struct_in (message_tree c.in_ok-message.message)) c.size_of-2.ensures c.in_ok-place.ensures.tree;
 }
 
 pub written-requires : goal.written-requires
