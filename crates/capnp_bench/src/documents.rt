@@ -178,8 +178,8 @@ fn fill_item(
 ) -> Result<()>
     requires fields { AreItemFields item fields.now }
     requires standing { IsStanding item arena.old place }
-    ensures standing { IsStanding item.entry arena.new place.entry }
-    ensures changes { ChangesIn place.entry arena.old arena.new }
+    ensures standing { IsStanding item.entry arena.new place }
+    ensures changes { ChangesIn place arena.old arena.new }
 {
     set(arena, place, item, fields.id, Value::UInt64(index as u64))?;
     let kind = Value::UInt16((index % 65_536) as u16);
@@ -200,9 +200,9 @@ fn fill_at(
     requires forest { Forest (segment arena.old) at }
     requires holds { HoldsItems item (tree (segment arena.old) at) }
     requires inside { index < list_length (tree (segment arena.old) at) }
-    ensures forest { Forest (segment arena.new) at.entry }
-    ensures holds { HoldsItems item.entry (tree (segment arena.new) at.entry) }
-    ensures changes { Changes at.entry (segment arena.old) (segment arena.new) }
+    ensures forest { Forest (segment arena.new) at }
+    ensures holds { HoldsItems item.entry (tree (segment arena.new) at) }
+    ensures changes { Changes at (segment arena.old) (segment arena.new) }
 {
     let place = arena.get_struct_at(at, index);
     fill_item(arena, place, item, fields, index)
@@ -218,8 +218,8 @@ fn fill_items(
     requires fields { AreItemFields item fields.now }
     requires forest { Forest (segment arena.old) at }
     requires holds { HoldsItems item (tree (segment arena.old) at) }
-    ensures forest { Forest (segment arena.new) at.entry }
-    ensures changes { Changes at.entry (segment arena.old) (segment arena.new) }
+    ensures forest { Forest (segment arena.new) at }
+    ensures changes { Changes at (segment arena.old) (segment arena.new) }
 {
     for index in 0..arena.get_length(at) {
         fill_at(arena, at, item, fields, index)?;

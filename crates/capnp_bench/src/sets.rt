@@ -109,8 +109,8 @@ pub(crate) fn set<'s>(
 ) -> Result<()>
     requires lies { LiesIn schema field }
     requires standing { IsStanding schema arena.old place }
-    ensures standing { IsStanding schema.entry arena.new place.entry }
-    ensures changes { ChangesIn place.entry arena.old arena.new }
+    ensures standing { IsStanding schema.entry arena.new place }
+    ensures changes { ChangesIn place arena.old arena.new }
 {
     let mut builder = Builder {
         arena,
@@ -126,8 +126,8 @@ fn start<'s>(arena: &mut Arena, place: Place, schema: StructSchema<'s>, field: F
     requires group { IsGroup field }
     requires lies { LiesIn schema field }
     requires standing { IsStanding schema arena.old place }
-    ensures standing { IsStanding schema.entry arena.new place.entry }
-    ensures changes { ChangesIn place.entry arena.old arena.new }
+    ensures standing { IsStanding schema.entry arena.new place }
+    ensures changes { ChangesIn place arena.old arena.new }
 {
     group::init(arena, place, field);
 }
@@ -157,7 +157,7 @@ fn set_numbers(
 ) -> Result<()>
     requires fields { AreShapes schema fields.now }
     requires standing { IsStanding schema arena.old place }
-    ensures { IsStanding schema.entry arena.new place.entry }
+    ensures { IsStanding schema.entry arena.new place }
 {
     let half = Value::UInt16((number % 65_536) as u16);
     set(arena, place, schema, fields.id, half)?;
@@ -221,8 +221,8 @@ fn fill(
 ) -> Result<()>
     requires fields { AreShapes schema fields.now }
     requires standing { IsStanding schema arena.old place }
-    ensures planted { IsBuilt arena.new place.entry }
-    ensures changes { ChangesIn place.entry arena.old arena.new }
+    ensures planted { IsBuilt arena.new place }
+    ensures changes { ChangesIn place arena.old arena.new }
 {
     set(arena, place, schema, fields.id, Value::UInt16(5))?;
     start(arena, place, schema, fields.tag);
