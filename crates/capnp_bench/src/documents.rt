@@ -92,7 +92,9 @@ fn seen_in(alloc: Global, bytes: &[u8]) -> Result<u64> {
     }
     let label = tags.get_struct_element(1)?.get_pointer_field(0).get_text()?;
     let version = root.get_data_field::<u32>(0);
-    Ok(version as u64 + name.len() as u64 + label.len() as u64)
+    Ok((version as u64)
+        .wrapping_add(name.len() as u64)
+        .wrapping_add(label.len() as u64))
 }
 
 /// Makes the calls on a copy of a document.

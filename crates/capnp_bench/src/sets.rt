@@ -199,7 +199,8 @@ pub(crate) fn start_root(message: &mut Arena, schema: StructSchema<'_>) -> Resul
     ensures place { IfOk result (λ p. shape_at (segment message.new) 0 ≡ part p) }
     ensures standing { IfOk result (λ p. IsStanding schema.entry message.new p) }
 {
-    let place = message.init_struct(0, size_of(schema))?;
+    let size = size_of(schema);
+    let place = message.init_struct(0, size)?;
     Ok(place)
 }
 
