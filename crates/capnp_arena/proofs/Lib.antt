@@ -37,3 +37,5 @@ pub mod BuiltParts
 pub mod NewBytes
 pub mod LeftBytes
 pub mod Bounded
+pub mod Peeked
+pub mod Fronts

@@ -1,7 +1,7 @@
 //! Copies what a reader stands on to the end of a segment, as its encoding: an object, and then what its pointers lead
 //! to, in their order. Room is left for a row of pointers, and each is put there when its target is due. A message in
 //! memory holds no fault leaf, so what has one is refused.
-ghost use Rattle.std.specs.Prelude.{IfErr, IfOk, IsTrue, None, OnOk, suc, ◌*◌, ◌++◌, ◌+◌, ◌-◌, ◌/◌, ◌<◌, ◌^◌, ◌≡◌, ◌≤◌, length};
+ghost use Rattle.std.specs.Prelude.{IfErr, IfOk, IsSome, IsTrue, None, OnOk, suc, ◌*◌, ◌++◌, ◌+◌, ◌-◌, ◌/◌, ◌<◌, ◌^◌, ◌≡◌, ◌≤◌, length};
 ghost use Rattle.capnp_wire.specs.Edits.{IsCopyRefusal, rounded};
 ghost use Rattle.capnp_wire.specs.Encoding.{bytes_of, bytes_of_all, list_word, number_size, pointer_row, pointer_word, spelled};
 ghost use Rattle.capnp_wire.specs.Filling.{put, with_encoded_element, with_encoded_elements, with_pointers};
@@ -17,13 +17,14 @@ ghost use Rattle.capnp_arena.specs.Shape.{word_count};
 use crate::arena::Arena;
 use crate::spell::{make_list_word, make_struct_word, put_bytes, put_word};
 use capnp_device::error::Result;
-use capnp_wire::block::{Elements, count_elements, get_element};
+use capnp_wire::block::{count_elements, get_element};
 use capnp_wire::bytes::divide;
 use capnp_wire::fault::refuse;
 use capnp_wire::found::{Found, StructParts};
 use capnp_wire::look::bytes_from;
 use capnp_wire::pointer::{Pointer, look};
-use capnp_wire::pointers::{Pointers, count_pointers, get_pointer};
+use capnp_wire::pointers::{count_pointers, get_pointer};
+use capnp_wire::row::{Elements, Pointers};
 use capnp_wire::size::StructSize;
 
 // ---- pointers ----
@@ -112,6 +113,7 @@ pub fn point_to(gap: u64, found: Found<'_>) -> u64
 /// Refused with `OutOfMemory` where memory is refused or the segment would have 2^29 words, and with `BadPointer`,
 /// `TooDeep` or `CapabilityPointer` where a pointer in it can't be followed, by the first of these in preorder.
 #[cycle(copy)]
+#[inline(always)]
 pub fn append_found(arena: &mut Arena, found: Found<'_>) -> Result<()>
     requires held { IsWellFormed (found_tree found) }
     ensures copy { OnOk result (segment arena.new ≡ segment arena.old ++ bytes_of (found_tree found.entry)) }
@@ -162,22 +164,18 @@ fn append_row(arena: &mut Arena, pointers: Pointers<'_>) -> Result<()>
     Ok(())
 }
 
-/// The bytes of structs without pointers, where they lie one after another in a message: of such of size zero, which it
-/// says by their count alone, none.
+/// The bytes of structs without pointers, which lie one after another in a message: of such of size zero, which it says by
+/// their count alone, none.
 #[inline(always)]
 fn get_plain_bytes<'a>(size: StructSize, elements: Elements<'a>) -> Option<&'a [u8]>
-    ensures { ArePlain result size (element_structs size.data_words size.pointers elements.entry) }
+    ensures plain { ArePlain result size (element_structs size.data_words size.pointers elements.entry) }
+    ensures told { size.pointers ≡ 0 → IsSome result }
 {
-    match elements {
-        Elements::Words { count, block, .. } => {
-            if size.pointers != 0 {
-                return None;
-            }
-            let words = count as usize * size.data_words as usize;
-            Some(bytes_from(block.segment, block.first, 8 * words))
-        }
-        Elements::Objects(_) => None,
+    if size.pointers != 0 {
+        return None;
     }
+    let words = elements.count as usize * size.data_words as usize;
+    Some(bytes_from(elements.segment, elements.first, 8 * words))
 }
 
 /// A composite list: its tag and its elements, and then what their pointers lead to. Elements without pointers are one

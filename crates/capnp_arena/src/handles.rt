@@ -9,6 +9,7 @@ ghost use Rattle.capnp_arena.specs.Forest.{Changes, Forest};
 ghost use Rattle.capnp_arena.specs.Segment.{segment};
 
 use crate::arena::{Arena, Place};
+pub use crate::blob_builder::BlobBuilder;
 pub use crate::list_builder::ListBuilder;
 use crate::list_reads::ListTarget;
 pub use crate::pointer_builder::PointerBuilder;

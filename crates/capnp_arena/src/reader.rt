@@ -24,6 +24,7 @@ impl Arena {
     ghost use Rattle.capnp_wire.specs.Words.{first_fault, first_fault_of_all};
     ghost use Rattle.capnp_wire.specs.Depth.{AreBelow, IsBelow};
     ghost use Rattle.capnp_wire.specs.Place.{struct_at, tree_below};
+    ghost use Rattle.capnp_wire.specs.Reading.{as_data, as_text};
     ghost use Rattle.std.specs.Borrow.{sem};
     ghost use Rattle.capnp_wire.specs.Standing.{levels_of, list_levels, list_of, struct_levels, struct_of, tree_of};
     ghost use Rattle.capnp_arena.specs.Ends.{EndsUnchanged};
@@ -41,6 +42,16 @@ impl Arena {
         ensures cut { IsCutOf (tree_of result) (tree (segment self.now) at) }
         ensures tree { IsBelow 65535 (tree (segment self.now) at) → tree_of result ≡ tree (segment self.now) at }
         ensures levels { levels_of result ≡ 64 }
+    {
+        PointerReader::of_word(self.bytes.as_slice(), at, u16::MAX, 64)
+    }
+
+    /// A reader of whatever stands at a word, whether or not that is a tree, with 64 levels: of a text and of data it has
+    /// the bytes.
+    pub fn peek(&self, at: usize) -> PointerReader<'_>
+        ensures read { tree_of result ≡ tree_below 65535 (segment self.now ∷ []) (segment self.now) at }
+        ensures text { Forest (segment self.now) at → as_text (tree_of result) ≡ as_text (tree (segment self.now) at) }
+        ensures data { Forest (segment self.now) at → as_data (tree_of result) ≡ as_data (tree (segment self.now) at) }
     {
         PointerReader::of_word(self.bytes.as_slice(), at, u16::MAX, 64)
     }

@@ -1,15 +1,15 @@
 //! Sizes of what is built.
 
 use crate::arena::{Arena, Place};
-use crate::count::count_row;
+use crate::count::{count_row, count_words};
 use capnp_device::error::Result;
 use capnp_wire::size::MessageSize;
 
 impl Arena {
     ghost use Rattle.std.specs.Prelude.{IfOk, IsOk, None};
     ghost use Rattle.capnp_wire.specs.Total.{IsSize};
-    ghost use Rattle.capnp_wire.specs.Words.{words_of_struct};
-    ghost use Rattle.capnp_arena.specs.Forest.{Planted, struct_from};
+    ghost use Rattle.capnp_wire.specs.Words.{words_of, words_of_struct};
+    ghost use Rattle.capnp_arena.specs.Forest.{Forest, Planted, struct_from, tree};
     ghost use Rattle.capnp_arena.specs.Segment.{segment};
     ghost use Rattle.capnp_arena.specs.Shape.{StructIn};
 
@@ -29,6 +29,22 @@ impl Arena {
         };
         Ok(MessageSize {
             word_count: own + below,
+            cap_count: 0,
+        })
+    }
+
+    /// The size of all that the pointer at a word leads to, without the pointer itself: 0 words for a null. It counts and
+    /// succeeds as `total_size`.
+    pub fn target_size(&self, at: usize) -> Result<MessageSize>
+        requires forest { Forest (segment self.now) at }
+        ensures size { IfOk result (λ size. IsSize size None (words_of (tree (segment self.now) at))) }
+        ensures succeeds { IsOk result }
+    {
+        let Some(words) = count_words(self.bytes.as_slice(), at) else {
+            unreachable!()
+        };
+        Ok(MessageSize {
+            word_count: words,
             cap_count: 0,
         })
     }

@@ -1,9 +1,9 @@
 -- A struct that is started has its schema's sections, and a run keeps them.
 use Rattle.std.specs.Prelude.{ℕ, ◌*◌, ◌≤◌, ◌≡◌}
 use Rattle.std.proofs.Common.{ap, subst, sym, ◌∙◌}
-use Rattle.capnp_wire.specs.Edits.{zero_struct}
+use Rattle.capnp_wire.specs.Edits.{HasAtLeast, zero_struct}
+use Rattle.capnp_wire.specs.Facts.Lengths.{HasAtLeast-zero_struct}
 use Rattle.capnp_wire.specs.Place.{struct_tree}
-use Rattle.capnp_wire.specs.Sizes as sizes
 use Rattle.capnp_wire.specs.Tree.{StructTree}
 use Rattle.capnp_wire.specs.declared.size.StructSize.{StructSize}
 use Rattle.capnp_arena.specs.Facts.Laws.{struct_is, struct_planted}
@@ -27,4 +27,4 @@ module _ (a : Arena) (p : Place) (forest : Forest (segment a) 0) (there : shape_
 
   pub started_fits : (set : Schemas) (b : ℕ) (size : StructSize) → size ≡ brand_size set b → tree (segment a) 0 ≡ struct_tree (zero_struct size) → Fits set b (built a p)
   started_fits set b size is made =
-      sizes.new_struct_size (brand_size set b) (built a p) (struct_is (segment a) 0 p.start p.data_words p.pointers (zero_struct size) forest there made ∙ ap zero_struct is)
+      subst (HasAtLeast (brand_size set b)) (sym (struct_is (segment a) 0 p.start p.data_words p.pointers (zero_struct size) forest there made ∙ ap zero_struct is)) (HasAtLeast-zero_struct (brand_size set b))

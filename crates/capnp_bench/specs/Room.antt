@@ -6,7 +6,6 @@ use Rattle.capnp_schema.specs.declared.schema.structs.StructSchema.{StructSchema
 use Rattle.capnp_records.specs.Writes.Slots.{Fits}
 use Rattle.capnp_slots.specs.Fields.{IsRoomFor}
 use Rattle.capnp_slots.specs.Groups.{IsGroup}
-use Rattle.capnp_dynamic.specs.Built.{IsUnder}
 use Rattle.capnp_bench.specs.declared.sets.Shapes.{Shapes}
 
 -- a field of a schema, or of a group in it: each struct of the schema's sections has room for it
@@ -24,7 +23,3 @@ pub record AreShapes (schema : StructSchema) (f : Shapes) : Type 0 where
   pub q : LiesIn schema f.q
   pub circle_is_group : IsGroup f.circle
   pub tag_is_group : IsGroup f.tag
-
--- a struct of a schema's sections became another one
-abbrev pub StaysUnder : StructTree → StructTree → Type 0
-StaysUnder s s' = (schema : StructSchema) → IsUnder schema s → IsUnder schema s'

@@ -4,5 +4,6 @@
 
 pub mod any_pointer;
 pub mod data;
+mod defaults;
 pub mod text;
 pub mod traits;

@@ -2,32 +2,73 @@
 //!
 //! A builder is the message beside the word of the text's pointer. Each call asks that a text stands there, or a null, as a
 //! builder that was handed out has it (`IsText`).
-ghost use Rattle.std.specs.Prelude.{[], Err, None, IfErr, IfOk, IsTrue, IsUtf8, OnErr, length, replicate, slice_set, take, drop, ◌++◌, ◌+◌, ◌^◌, ◌-◌, ◌<◌, ◌≡◌, ◌≤◌, ◌↔◌};
+ghost use Rattle.std.specs.Prelude.{[], None, IfErr, IfOk, IsOk, IsTrue, IsUtf8, OnErr, OnOk, length, nat_eq, replicate, slice_set, take, drop, ◌++◌, ◌+◌, ◌^◌, ◌-◌, ◌<◌, ◌≡◌, ◌≤◌, ◌↔◌};
 ghost use Rattle.std.specs.Borrow.{sem};
+ghost use Rattle.std.proofs.Common.{rules};
+ghost use Rattle.std.specs.Cmp.Lexicographic.{pointwise};
+ghost use Rattle.std.specs.Cmp.Rules.{comparing};
+ghost use Rattle.std.specs.Ordering.{on};
 ghost use Rattle.capnp_device.specs.declared.error.ErrorKind.TheVariants.{OutOfMemory};
-ghost use Rattle.capnp_wire.specs.Edits.{IsRoomRefusal};
+ghost use Rattle.capnp_wire.specs.Edits.{IsDueRefusal, IsRoomRefusal};
 ghost use Rattle.capnp_wire.specs.Reading.{as_text};
+ghost use Rattle.capnp_wire.specs.Standing.{tree_of};
+ghost use Rattle.capnp_wire.specs.Tree.{Numbers};
 ghost use Rattle.capnp_base.specs.Text.{IsStringOf, IsStrOf};
-ghost use Rattle.capnp_arena.specs.Forest.{Changes};
+ghost use Rattle.capnp_base.specs.ReadBack.{text_read_back};
+ghost use Rattle.capnp_base.specs.Traits.{IsDefaultRefusal, IsReadRefusal, default_refusal, refusal_in, tree_or};
+ghost use Rattle.capnp_arena.specs.Forest.{Changes, Forest, tree};
 ghost use Rattle.capnp_arena.specs.Segment.{segment};
-ghost use Rattle.capnp_builders.specs.Blobs.{IsText, LendsText, position, text_behind, text_bytes, text_there, text_word, written};
+ghost use Rattle.capnp_builders.specs.Blobs.{IsText, LendsText, bytes_in, position, text_behind, text_bytes, text_seen, text_there, text_word, written};
 
-use crate::traits::FromPointerBuilder;
+use crate::defaults::take_default;
+use crate::traits::{self, FromPointerBuilder};
 use capnp_arena::arena::Arena;
 use capnp_arena::handles::PointerBuilder;
 pub use capnp_base::text::{Owned, Reader};
+use capnp_wire::PointerReader;
 use capnp_wire::error::{Error, ErrorKind, Result};
 use capnp_wire::size::ElementSize;
 use std::alloc::Global;
+use std::fmt;
 use std::str::Utf8Error;
 
-/// A text that is built, and a position in its bytes, without the zero that ends them.
+impl<'a> traits::Owned<'a> for Owned {
+    type Reader = Reader<'a>;
+
+    type Builder = Builder<'a>;
+
+    ghost same = { λ x y. y.0.now ≡ x.0.now };
+
+    ghost set_is_read = { text_read_back };
+}
+
+/// A text that is built, and a position in its bytes, without the zero that ends them. Builders are compared by their bytes
+/// alone; where no text stands there are none.
 #[derive(Drop)]
 pub struct Builder<'a> {
     arena: &'a mut Arena,
     /// The word of the text's pointer.
     at: usize,
     pos: usize,
+}
+
+impl PartialEq for Builder<'_> {
+    ghost eq = { on text_seen (pointwise nat_eq) };
+
+    ghost laws = { Prim.search (comparing, rules) };
+
+    fn eq(&self, other: &Self) -> bool {
+        *self.peek() == *other.peek()
+    }
+}
+
+impl fmt::Debug for Builder<'_> {
+    fn fmt<W: fmt::Write>(&self, f: &mut fmt::Formatter<W>) -> fmt::Result {
+        match std::str::from_utf8(self.peek()) {
+            Ok(text) => write!(f, "{text:?}"),
+            Err(_) => f.write_str("<invalid utf-8>"),
+        }
+    }
 }
 
 impl<'a> Builder<'a> {
@@ -61,6 +102,16 @@ impl<'a> Builder<'a> {
             unreachable!()
         };
         bytes
+    }
+
+    /// The bytes, and none where no text stands.
+    fn peek(&self) -> &[u8]
+        ensures { result.now ≡ text_seen self.now }
+    {
+        match self.arena.peek(self.at).get_text() {
+            Ok(bytes) => bytes,
+            Err(_) => &[],
+        }
     }
 
     /// How many bytes there are, wherever the position is.
@@ -255,14 +306,96 @@ impl<'a> Builder<'a> {
     }
 }
 
+/// Makes a pointer one to a copy of a default that reads as a text, and answers how many bytes it has.
+///
+/// Refused as its read, and else with `OutOfMemory`; then nothing has changed.
+fn put_default(arena: &mut Arena, at: usize, default: PointerReader<'_>) -> Result<usize>
+    requires { Forest (segment arena.old) at }
+    ensures forest { OnOk result (Forest (segment arena.new) at) }
+    ensures tree { OnOk result (tree (segment arena.new) at ≡ tree_of default.entry) }
+    ensures changes { OnOk result (Changes at (segment arena.old) (segment arena.new)) }
+    ensures reads { OnOk result (refusal_in (as_text (tree_of default.entry)) ≡ None) }
+    ensures text { OnOk result (IsOk (as_text (tree_of default.entry))) }
+    ensures count { IfOk result (λ n. n ≡ length (bytes_in (as_text (tree_of default.entry)))) }
+    ensures refused { OnErr result (segment arena.new ≡ segment arena.old) }
+    ensures cause { IfErr result (λ error. IsDueRefusal error (refusal_in (as_text (tree_of default.entry)))) }
+{
+    let count = default.get_text()?.len();
+    arena.copy_from(at, default)?;
+    Ok(count)
+}
+
+/// Copies a default that reads as a text into a null; else nothing changes.
+#[tactic(auto, using(crate::proofs::Taken::own_tree, crate::proofs::Taken::own_refusal, crate::proofs::Taken::other_tree, crate::proofs::Taken::other_refusal, crate::proofs::Taken::refused_default, crate::proofs::Taken::no_change))]
+fn fill(arena: &mut Arena, at: usize, default: Option<PointerReader<'_>>) -> Result<()>
+    requires { Forest (segment arena.old) at }
+    ensures forest { OnOk result (Forest (segment arena.new) at) }
+    ensures tree { OnOk result (tree (segment arena.new) at ≡ tree_or (tree (segment arena.old) at) default.entry) }
+    ensures changes { OnOk result (Changes at (segment arena.old) (segment arena.new)) }
+    ensures reads { OnOk result (default_refusal as_text (tree (segment arena.old) at) default.entry ≡ None) }
+    ensures refused { OnErr result (segment arena.new ≡ segment arena.old) }
+    ensures cause { IfErr result (IsDefaultRefusal as_text (tree (segment arena.old) at) default.entry) }
+{
+    let Some(other) = take_default(arena, at, default) else {
+        return Ok(());
+    };
+    put_default(arena, at, other)?;
+    Ok(())
+}
+
+/// The same of the pointer of a builder.
+///
+/// Refused only where a default would be copied: as `PointerReader::get_text` where it does not read as a text, and else
+/// with `OutOfMemory`; then nothing has changed.
+pub fn copy_default(builder: PointerBuilder<'_>, default: Option<PointerReader<'_>>) -> Result<()>
+    requires { Forest (segment builder.arena.now) builder.at }
+    ensures forest { OnOk result (Forest (segment builder.exit.0.now) builder.entry.at) }
+    ensures tree { OnOk result (tree (segment builder.exit.0.now) builder.entry.at ≡ tree_or (tree (segment builder.entry.arena.now) builder.entry.at) default.entry) }
+    ensures changes { OnOk result (Changes builder.entry.at (segment builder.entry.arena.now) (segment builder.exit.0.now)) }
+    ensures reads { OnOk result (default_refusal as_text (tree (segment builder.entry.arena.now) builder.entry.at) default.entry ≡ None) }
+    ensures refused { OnErr result (segment builder.exit.0.now ≡ segment builder.entry.arena.now) }
+    ensures cause { IfErr result (IsDefaultRefusal as_text (tree (segment builder.entry.arena.now) builder.entry.at) default.entry) }
+{
+    let PointerBuilder { arena, at } = builder;
+    fill(arena, at, default)
+}
+
+/// Enters the text at a pointer, and answers how many bytes it has. A null becomes a copy of the default first.
+#[tactic(auto, using(crate::proofs::Taken::own_tree, crate::proofs::Taken::other_tree, crate::proofs::Taken::refused_as_read, crate::proofs::Taken::refused_as_default, crate::proofs::Taken::no_change))]
+fn enter(arena: &mut Arena, at: usize, default: Option<PointerReader<'_>>) -> Result<usize>
+    requires { Forest (segment arena.old) at }
+    ensures forest { OnOk result (Forest (segment arena.new) at) }
+    ensures tree { OnOk result (tree (segment arena.new) at ≡ tree_or (tree (segment arena.old) at) default.entry) }
+    ensures changes { OnOk result (Changes at (segment arena.old) (segment arena.new)) }
+    ensures text { OnOk result (IsOk (as_text (tree_or (tree (segment arena.old) at) default.entry))) }
+    ensures count { IfOk result (λ n. n ≡ length (bytes_in (as_text (tree_or (tree (segment arena.old) at) default.entry)))) }
+    ensures refused { OnErr result (segment arena.new ≡ segment arena.old) }
+    ensures cause { IfErr result (IsReadRefusal as_text (tree (segment arena.old) at) default.entry) }
+{
+    match take_default(arena, at, default) {
+        Some(other) => {
+            let count = put_default(arena, at, other)?;
+            Ok(count)
+        }
+        None => {
+            let count = arena.get_text(at)?.len();
+            Ok(count)
+        }
+    }
+}
+
 impl<'a> FromPointerBuilder<'a> for Builder<'a> {
+    ghost behind = { text_behind };
+
+    ghost started = { λ length. Numbers 1 (replicate (length + 1) 0) };
+
     ghost starts = { λ length builder. IsText builder × (text_bytes builder ≡ replicate length 0) × (position builder ≡ 0) };
 
     ghost new_refusal = { λ length error. IsRoomRefusal error (2 ^ 29 ≤ length + 1) };
 
     ghost stands = { λ tree builder. IsText builder × (text_there builder ≡ tree) × (position builder ≡ length (text_bytes builder)) };
 
-    ghost refuses = { λ tree error. as_text tree ≡ Err error.kind };
+    ghost refuses = { IsReadRefusal as_text };
 
     fn init_pointer(builder: PointerBuilder<'a>, length: u32) -> Result<Builder<'a>> {
         if length >= (1 << 29) - 1 {
@@ -273,9 +406,12 @@ impl<'a> FromPointerBuilder<'a> for Builder<'a> {
         Ok(Builder { arena, at, pos: 0 })
     }
 
-    fn get_from_pointer(builder: PointerBuilder<'a>) -> Result<Builder<'a>> {
+    fn get_from_pointer(
+        builder: PointerBuilder<'a>,
+        default: Option<PointerReader<'a>>,
+    ) -> Result<Builder<'a>> {
         let PointerBuilder { arena, at } = builder;
-        let pos = arena.get_text(at)?.len();
+        let pos = enter(arena, at, default)?;
         Ok(Builder { arena, at, pos })
     }
 }

@@ -1,22 +1,11 @@
 -- Parts that a walk enters: what is known of them, and what is left of their owner.
-use Rattle.std.specs.Prelude.{ℕ, ◌≡◌, refl, List, IsTrue, None, length}
-use Rattle.std.proofs.Common.{ap, arith, sym, subst, ◌∙◌}
+use Rattle.std.specs.Prelude.{ℕ, ◌≡◌, refl, List, IsTrue, None}
+use Rattle.std.proofs.Common.{ap, arith, sym, subst}
 use Rattle.capnp_wire.specs.Edits.{is_struct, struct_in, with_pointer_tree}
 use Rattle.capnp_wire.specs.Facts.Rows.{tree_count-with_tree}
-use Rattle.capnp_wire.specs.Elements.{HasStruct, with_struct_element}
-use Rattle.capnp_wire.specs.Facts.Written.{element_written}
-use Rattle.capnp_wire.specs.Kept as kept
-use Rattle.capnp_wire.specs.KeptLists as kept_lists
-use Rattle.capnp_wire.specs.Lends.{with_element}
-use Rattle.capnp_wire.specs.Objects.{list_object_tree, struct_object_tree}
-use Rattle.capnp_wire.specs.Place.{struct_tree}
-use Rattle.capnp_wire.specs.Reading.{element_struct}
-use Rattle.capnp_wire.specs.Sizes as sizes
-use Rattle.capnp_wire.specs.Tree.{StructTree, Tree, tree_count}
+use Rattle.capnp_wire.specs.Tree.{StructTree, Tree}
 use Rattle.capnp_wire.specs.WellFormed.{IsWellFormed}
 use Rattle.capnp_wire.specs.Words.{first_fault}
-use Rattle.capnp_wire.specs.declared.object.ListObject.{ListObject}
-use Rattle.capnp_wire.specs.declared.object.StructObject.{StructObject}
 use Rattle.capnp_arena.specs.Facts.Structs.{tree_struct}
 use Rattle.capnp_arena.specs.Forest.{Forest, struct_from, tree}
 use Rattle.capnp_arena.specs.Shape.{StructIn, shape_at}

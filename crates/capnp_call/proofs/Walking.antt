@@ -5,10 +5,6 @@ use Rattle.std.proofs.lemmas.Bool.{true≢false}
 use Rattle.capnp_device.specs.declared.error.Error.{Error}
 use Rattle.capnp_device.specs.declared.error.ErrorKind.{ErrorKind}
 use Rattle.capnp_wire.specs.Edits.{struct_in, with_pointer_tree, with_tree}
-use Rattle.capnp_wire.specs.Facts.Rows.{tree_count-with_tree}
-use Rattle.capnp_wire.specs.Facts.Written.{pointer_written}
-use Rattle.capnp_wire.specs.Kept as kept
-use Rattle.capnp_wire.specs.Lends.{with_pointer}
 use Rattle.capnp_wire.specs.Place.{struct_tree}
 use Rattle.capnp_wire.specs.Tree.{MoreTrees, NoTrees, StructTree, Tree, Trees, nth_tree}
 use Rattle.capnp_wire.specs.WellFormed.{IsWellFormed}

@@ -22,11 +22,10 @@ use capnp_schema::laws::{defaults_fit, numbers_fit};
 use capnp_schema::schema::{Field, StructSchema};
 use capnp_slots::part;
 use capnp_wire::error::Result;
-use capnp_wire::laws::kept::pointers_of_structs_are_well_formed;
 
 /// Steps into the struct behind a slot: a null becomes the default's struct or an empty one, and a struct that is smaller than
 /// its schema gets zeros and nulls after what it has. What is filled stays, whatever the rest of the call does, and no union
-/// is switched. `part::pointer` of `capnp_slots` and `struct_here` of `capnp_wire` then lend the struct.
+/// is switched. `part::pointer` of `capnp_slots` is then the word that leads to the struct.
 ///
 /// The field is such a slot, the tests of `way_of` have passed, and the struct has the sections of the field's schema and is
 /// well-formed.
@@ -79,8 +78,8 @@ fn default_is_sound(field: Field<'_>)
 
 /// Steps into the list behind a slot: a null becomes the default where that is a list and not null, and structs of a list get
 /// at least their schema's sections. A null without a default stays null, and has no elements. What is filled stays, whatever
-/// the rest of the call does, and no union is switched. `part::pointer` of `capnp_slots` and `list_here` of `capnp_wire` then
-/// lend the list.
+/// the rest of the call does, and no union is switched. `part::pointer` of `capnp_slots` is then the word that leads to the
+/// list.
 ///
 /// The field is such a slot, the tests of `way_of` have passed, and the struct has the sections of the field's schema and is
 /// well-formed.
@@ -106,7 +105,6 @@ pub fn enter_list(arena: &mut Arena, place: Place, field: Field<'_>, element: Ty
 {
     default_is_sound(field);
     numbers_fit(field.get_containing_struct().get_set());
-    pointers_of_structs_are_well_formed();
     arena.struct_is_sound(place);
     match part::fill_list_slot(arena, place, field, element) {
         Ok(()) => {

@@ -4,13 +4,11 @@ use crate::dynamic_value;
 use crate::placed::{has_planned, is_member_active, read_placed};
 use crate::presence::active_member;
 use crate::printer::print_debug;
-use capnp_base::any_pointer;
-use capnp_base::traits::{OwnedStruct, SetterInput};
+use capnp_base::traits::OwnedStruct;
 use capnp_schema::schema::{Field, StructSchema};
+use capnp_wire::StructReader;
 use capnp_wire::error::Result;
-use capnp_wire::laws::{copied_structs_are_well_formed, struct_is_well_formed};
 use capnp_wire::size::MessageSize;
-use capnp_wire::{PointerBuilder, StructReader};
 use std::fmt;
 
 /// A struct that is read: its sections, and its schema.
@@ -165,27 +163,5 @@ impl fmt::Debug for Reader<'_> {
     /// The printed form of the struct.
     fn fmt<W: fmt::Write>(&self, f: &mut fmt::Formatter<W>) -> fmt::Result {
         print_debug(dynamic_value::Reader::Struct(*self), f)
-    }
-}
-
-impl<'a> SetterInput<any_pointer::Owned> for Reader<'a> {
-    ghost use Rattle.capnp_wire.specs.Edits.{IsCopyRefusal, rounded};
-    ghost use Rattle.capnp_wire.specs.Place.{struct_tree};
-    ghost use Rattle.capnp_wire.specs.Standing.{struct_of};
-    ghost use Rattle.capnp_wire.specs.Words.{first_fault_of_all};
-    ghost use Rattle.capnp_dynamic_readers.specs.Handles.{reader_of};
-
-    ghost set_tree = { λ input. struct_tree (rounded (struct_of (reader_of input))) };
-
-    ghost set_refusal = { λ input error. IsCopyRefusal error (first_fault_of_all (struct_of (reader_of input)).pointers) };
-
-    fn set_pointer_builder(
-        builder: PointerBuilder<'_>,
-        input: Reader<'a>,
-        _canonicalize: bool,
-    ) -> Result<()> {
-        struct_is_well_formed(&input.reader);
-        copied_structs_are_well_formed();
-        builder.set_struct(&input.reader)
     }
 }

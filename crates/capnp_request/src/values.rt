@@ -2,10 +2,10 @@
 ghost use Rattle.std.specs.Prelude.{◌≡◌, ◌≢◌, None, Some, Ok, Err, drop, IfErr, IfOk, option_map};
 ghost use Rattle.capnp_device.specs.declared.error.ErrorKind.TheVariants.{OutOfMemory};
 ghost use Rattle.capnp_wire.specs.Reading.{refusal};
-ghost use Rattle.capnp_wire.specs.Message.{builder_tree};
 ghost use Rattle.capnp_wire.specs.Standing.{tree_of};
 ghost use Rattle.capnp_wire.specs.WellFormed.{IsWellFormed};
 ghost use Rattle.capnp_wire.specs.Words.{first_fault};
+ghost use Rattle.capnp_arena.specs.Message.{IsMessage, message_tree};
 ghost use Rattle.capnp_base.specs.AnyPointer.{pointer_of};
 ghost use Rattle.capnp_schema.specs.Schema.{seen_value};
 ghost use Rattle.capnp_records.specs.Part.{which_of};
@@ -22,13 +22,12 @@ use crate::parts::{
     u64_at, untyped_at,
 };
 use crate::places::{VALUE_UNTYPED, brands};
+use capnp_arena::message::Builder;
 use capnp_base::any_pointer;
-use capnp_base::traits::SetterInput;
 use capnp_dynamic_readers::dynamic_struct;
 use capnp_schema::record::ValueRecord;
 use capnp_wire::error::{Error, ErrorKind, Result};
-use capnp_wire::laws::objects_hold_no_fault;
-use capnp_wire::message::Builder;
+use capnp_wire::laws::pointer_is_well_formed;
 use std::alloc::Global;
 
 /// The bytes of the table of a message of one segment.
@@ -38,15 +37,17 @@ const TABLE_BYTES: usize = 8;
 /// preorder, and with `OutOfMemory`.
 #[tactic(auto, using(crate::proofs::RefusedKinds::copy_kinds))]
 fn copy_of(alloc: Global, pointer: any_pointer::Reader<'_>) -> Result<Builder>
-    ensures read { IfOk result (λ m. builder_tree m ≡ tree_of (pointer_of pointer.entry)) }
+    ensures message { IfOk result IsMessage }
+    ensures read { IfOk result (λ m. message_tree m ≡ tree_of (pointer_of pointer.entry)) }
     ensures sound { IfOk result (λ _. first_fault (tree_of (pointer_of pointer.entry)) ≡ None) }
     ensures held { IfOk result (λ _. IsWellFormed (tree_of (pointer_of pointer.entry))) }
     ensures refused { IfErr result (λ e. e.kind ≢ OutOfMemory → option_map refusal (first_fault (tree_of (pointer_of pointer.entry))) ≡ Some e.kind) }
     ensures kinds { IfErr result (λ e. IsPlain e.kind) }
 {
-    let mut message = Builder::new(alloc);
-    any_pointer::Reader::set_pointer_builder(message.root(), pointer, false)?;
-    objects_hold_no_fault();
+    let source = pointer.get_pointer();
+    pointer_is_well_formed(&source);
+    let mut message = Builder::new(alloc)?;
+    message.copy_from(0, source)?;
     Ok(message)
 }
 

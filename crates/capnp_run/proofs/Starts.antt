@@ -19,10 +19,10 @@ use Rattle.capnp_records.specs.Laws.{GroupPrintLaw, PrintLaw}
 use Rattle.capnp_records.specs.Reading.{reads, struct_record}
 use Rattle.capnp_records.specs.Text.{Out, text_of}
 use Rattle.capnp_dynamic_readers.specs.Pieces.{IsAppended}
-use Rattle.capnp_wire.specs.Edits.{IsCopyRefusal, IsStructRefusal, extended, is_struct, struct_in, struct_refusal, zero_struct}
-use Rattle.capnp_wire.specs.Kept as kept
+use Rattle.capnp_wire.specs.Edits.{HasAtLeast, IsCopyRefusal, IsStructRefusal, extended, is_struct, struct_in, struct_refusal, zero_struct}
+use Rattle.capnp_wire.specs.Facts.Lengths.{HasAtLeast-zero_struct}
+use Rattle.capnp_wire.specs.Facts.Structs.{IsWellFormed-extended, IsWellFormed-struct_in, IsWellFormed-zero_struct}
 use Rattle.capnp_wire.specs.Place.{struct_tree}
-use Rattle.capnp_wire.specs.Sizes as sizes
 use Rattle.capnp_wire.specs.Tree.{StructTree, Tree}
 use Rattle.capnp_wire.specs.WellFormed.{IsWellFormed}
 use Rattle.capnp_wire.specs.Words.{first_fault, words_of}
@@ -50,8 +50,8 @@ pub empty_root : (schema : StructSchema) (size : StructSize) (s : StructTree) (t
     HasRoot schema (new_record schema) t
 empty_root schema size s t is zero root few words =
     root_of_struct schema s _ t root
-    (sizes.new_struct_size (brand_size (set_of schema) (number_of schema)) s (zero ∙ ap zero_struct is))
-    (kept.new_struct size s zero few words)
+    (subst (HasAtLeast (brand_size (set_of schema) (number_of schema))) (sym (zero ∙ ap zero_struct is)) (HasAtLeast-zero_struct (brand_size (set_of schema) (number_of schema))))
+    (subst (λ (x : StructTree). IsWellFormed (struct_tree x)) (sym zero) (IsWellFormed-zero_struct size few words))
     (ap (record_in schema) zero ∙ reads-zero_struct (set_of schema) size (number_of schema))
 
 -- a copy, with at least the schema's sections
@@ -60,7 +60,7 @@ pub copied_root : (schema : StructSchema) (size : StructSize) (s : StructTree) (
 copied_root schema size s source t is whole root few words formed =
     root_of_struct schema s _ t root
     (subst (Fits (set_of schema) (number_of schema)) (sym (whole ∙ ap (λ (z : StructSize). extended z (struct_in source)) is)) (fits-extended (set_of schema) (number_of schema) (struct_in source)))
-    (kept.extended_struct size (struct_in source) s whole few words (kept.struct_here source (struct_in source) refl formed))
+    (subst (λ (x : StructTree). IsWellFormed (struct_tree x)) (sym whole) (IsWellFormed-extended size (struct_in source) few words (IsWellFormed-struct_in source formed)))
     (ap (record_in schema) whole ∙ reads-extended (set_of schema) size (struct_in source) (number_of schema))
 
 -- why there is none: the copy was refused, or a list was copied

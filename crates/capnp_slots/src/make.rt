@@ -25,10 +25,6 @@ use capnp_base::introspect::{Type, TypeVariant};
 use capnp_schema::schema::StructSchema;
 use capnp_schema::set::SchemaSet;
 use capnp_wire::error::{Error, ErrorKind, Result};
-use capnp_wire::laws::kept::new_structs_are_well_formed;
-use capnp_wire::laws::kept_lists::{
-    new_lists_are_well_formed, new_struct_lists_are_well_formed, new_texts_are_well_formed,
-};
 use capnp_wire::size::{ElementSize, StructSize};
 
 /// The sections of a schema's structs.
@@ -46,7 +42,6 @@ pub fn size_of(schema: StructSchema<'_>) -> StructSize
 /// Makes a pointer lead to a struct of a size.
 ///
 /// Refused with `OutOfMemory`, and then nothing has changed; so is each call below.
-#[tactic(auto, using(crate::proofs::Pointers::struct_stands))]
 pub(crate) fn make_struct(arena: &mut Arena, at: usize, size: StructSize) -> Result<()>
     requires there { at < word_count (segment arena.old) }
     ensures forest { OnOk result (Forest (segment arena.new) at) }
@@ -56,7 +51,6 @@ pub(crate) fn make_struct(arena: &mut Arena, at: usize, size: StructSize) -> Res
     ensures refused { OnErr result (segment arena.new ≡ segment arena.old) }
     ensures cause { IfErr result (λ e. e.kind ≡ OutOfMemory) }
 {
-    new_structs_are_well_formed();
     arena.init_struct(at, size)?;
     Ok(())
 }
@@ -64,7 +58,7 @@ pub(crate) fn make_struct(arena: &mut Arena, at: usize, size: StructSize) -> Res
 /// Makes a pointer lead to a text of so many zero bytes.
 ///
 /// Refused with `SizePastFormat` for more than 2^29 - 2 bytes, and else with `OutOfMemory`.
-#[tactic(auto, using(crate::proofs::Pointers::list_stands))]
+#[tactic(auto, using(crate::proofs::NewLists::new_text))]
 fn make_text(arena: &mut Arena, at: usize, count: u32) -> Result<()>
     requires there { at < word_count (segment arena.old) }
     ensures forest { OnOk result (Forest (segment arena.new) at) }
@@ -75,7 +69,6 @@ fn make_text(arena: &mut Arena, at: usize, count: u32) -> Result<()>
     ensures refused { OnErr result (segment arena.new ≡ segment arena.old) }
     ensures cause { IfErr result (λ e. IsRoomless (nat_lt (2 ^ 29 - 2) count) e.kind) }
 {
-    new_texts_are_well_formed();
     if count >= (1 << 29) - 1 {
         return Err(Error::from(ErrorKind::SizePastFormat));
     }
@@ -86,7 +79,7 @@ fn make_text(arena: &mut Arena, at: usize, count: u32) -> Result<()>
 /// Makes a pointer lead to a list of so many elements of a size that is not composite.
 ///
 /// Refused with `SizePastFormat` for 2^29 elements or more, and else with `OutOfMemory`.
-#[tactic(auto, using(crate::proofs::Pointers::list_stands))]
+#[tactic(auto, using(crate::proofs::NewLists::new_simple_list))]
 fn make_list(arena: &mut Arena, at: usize, size: ElementSize, count: u32) -> Result<()>
     requires there { at < word_count (segment arena.old) }
     requires kind { size ≢ ElementSize.InlineComposite }
@@ -98,7 +91,6 @@ fn make_list(arena: &mut Arena, at: usize, size: ElementSize, count: u32) -> Res
     ensures refused { OnErr result (segment arena.new ≡ segment arena.old) }
     ensures cause { IfErr result (λ e. IsRoomless (nat_lt (2 ^ 29 - 1) count) e.kind) }
 {
-    new_lists_are_well_formed();
     arena.init_list(at, size, count)?;
     Ok(())
 }
@@ -107,7 +99,6 @@ fn make_list(arena: &mut Arena, at: usize, size: ElementSize, count: u32) -> Res
 ///
 /// Refused with `SizePastFormat` for 2^29 elements or more, or where they take 2^29 words or more, and else with
 /// `OutOfMemory`.
-#[tactic(auto, using(crate::proofs::Pointers::list_stands))]
 fn make_structs(arena: &mut Arena, at: usize, size: StructSize, count: u32) -> Result<()>
     requires there { at < word_count (segment arena.old) }
     ensures forest { OnOk result (Forest (segment arena.new) at) }
@@ -118,7 +109,6 @@ fn make_structs(arena: &mut Arena, at: usize, size: StructSize, count: u32) -> R
     ensures refused { OnErr result (segment arena.new ≡ segment arena.old) }
     ensures cause { IfErr result (λ e. IsRoomless (nat_lt (2 ^ 29 - 1) (count * (size.data_words + size.pointers)) || nat_lt (2 ^ 29 - 1) count) e.kind) }
 {
-    new_struct_lists_are_well_formed();
     arena.init_struct_list(at, count, size)?;
     Ok(())
 }

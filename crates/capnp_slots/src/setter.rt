@@ -68,6 +68,21 @@ impl<'a> SetterInput<text::Owned> for text::Reader<'a> {
     }
 }
 
+impl<'a> SetterInput<text::Owned> for &'a str {
+    ghost set_tree = { λ input. text_tree input.now };
+
+    ghost set_refusal = { λ input error. IsRoomRefusal error (2 ^ 29 ≤ length input.now + 1) };
+
+    fn set_pointer_builder(
+        builder: PointerBuilder<'_>,
+        input: &'a str,
+        _canonicalize: bool,
+    ) -> Result<()> {
+        let PointerBuilder { arena, at } = builder;
+        set_text(arena, at, input.as_bytes())
+    }
+}
+
 impl<'a> SetterInput<data::Owned> for &'a [u8] {
     ghost set_tree = { λ input. Numbers 1 input.now };
 

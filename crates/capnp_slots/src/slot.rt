@@ -151,7 +151,7 @@ pub fn set_pointer<R, S: SetterInput<R>>(
 /// nothing has changed.
 ///
 /// The field has to be a slot, and the struct to have the sections of the field's schema.
-#[tactic(auto, using(crate::proofs::Kept::set_keeps, crate::proofs::Kept::object_keeps))]
+#[tactic(auto, using(crate::proofs::Kept::set_keeps))]
 #[inline(always)]
 pub fn set(
     arena: &mut Arena,

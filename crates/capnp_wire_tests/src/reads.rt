@@ -452,24 +452,6 @@ pub fn are_answers(rt: &impl Abort, alloc: Global, bytes: &[u8], script: &str, a
     );
 }
 
-/// Asserts that the questions of a script on a pointer are answered so.
-pub fn pointer_answers(
-    rt: &impl Abort,
-    alloc: Global,
-    pointer: PointerReader<'_>,
-    script: &str,
-    answers: &str,
-) {
-    questions_are_answered(
-        rt,
-        alloc,
-        Cursor::Pointer(pointer),
-        "a pointer",
-        script,
-        answers,
-    );
-}
-
 /// Asserts that one script is answered so by each of these: a text that spells bytes, and the answers.
 pub fn messages_answer(rt: &impl Abort, alloc: Global, script: &str, rows: &[(&str, &str)]) {
     for (message, answers) in rows {

@@ -9,7 +9,6 @@ use capnp_dynamic::dynamic_value::Reader as Value;
 use capnp_dynamic::printer::print;
 use capnp_slots::slot::is_slot;
 use capnp_wire::error::{Error, ErrorKind, Result};
-use capnp_wire::laws::pointer_is_well_formed;
 use capnp_wire::message;
 use capnp_wire::size::StructSize;
 use std::alloc::Global;
@@ -157,7 +156,6 @@ static NUMBER_STRUCTS: [u8; 48] = [
 /// The words of a message and its bytes, after its root was handed out as a list of structs of a data word.
 fn structs_of(alloc: Global, bytes: &[u8]) -> Result<(u64, Vec<u8>)> {
     let source = message::Reader::new(alloc, bytes)?.get_root();
-    pointer_is_well_formed(&source);
     let mut message = Builder::new(alloc)?;
     message.set_root(source)?;
     message.root().get_struct_list(StructSize {

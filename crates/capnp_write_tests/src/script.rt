@@ -36,7 +36,6 @@ use capnp_dynamic::dynamic_value::{Enum, Reader as Value};
 use capnp_dynamic::printer::print;
 use capnp_schema::set::SchemaSet;
 use capnp_wire::error::Result;
-use capnp_wire::laws::pointer_is_well_formed;
 use capnp_wire::{PointerReader, message};
 use std::alloc::Global;
 use std::fmt;
@@ -359,7 +358,6 @@ fn after(
     call: Call<'_>,
 ) -> Result<(Answer, Vec<u8>)> {
     let source = message::Reader::new(alloc, bytes)?.get_root();
-    pointer_is_well_formed(&source);
     let mut message = Builder::new(alloc)?;
     message.set_root(source)?;
     let made = match dynamic_struct::Builder::open(

@@ -14,6 +14,7 @@ use crate::printer::parts::{
 };
 use crate::printer::pieces::{one_deeper, print_leaf, put, put_line, put_separator};
 use crate::{dynamic_list, dynamic_struct};
+use capnp_schema::record::NO_DISCRIMINANT;
 use capnp_schema::schema::Field;
 use capnp_wire::error::{Error, ErrorKind};
 
@@ -170,7 +171,7 @@ fn print_field<'a, O: Out>(
         (field_items left at reader.entry (field_in reader.entry field.entry) (index_of field.entry)
         (pending_member left at reader.entry progress.entry.pending)) (O.text out.old)) }
 {
-    if field.get_proto().discriminant_value != 65535 {
+    if field.get_proto().discriminant_value != NO_DISCRIMINANT {
         return Ok(progress);
     }
     let now = match print_before(reader, field, progress, left, at, out) {

@@ -6,7 +6,7 @@ use Rattle.std.specs.Borrow.{Bor}
 use Rattle.capnp_device.specs.declared.error.ErrorKind.TheVariants.{NotAContainer}
 use Rattle.capnp_wire.specs.Edits.{IsDueRefusal, struct_in, with_pointer_tree}
 use Rattle.capnp_wire.specs.Elements.{HasStruct}
-use Rattle.capnp_wire.specs.KeptLists as kept_lists
+use Rattle.capnp_wire.specs.Facts.Parts.{IsWellFormed-element_pointer}
 use Rattle.capnp_wire.specs.Place.{struct_tree}
 use Rattle.capnp_wire.specs.Tree.{StructTree, Tree}
 use Rattle.capnp_wire.specs.Words.{first_fault}
@@ -258,7 +258,7 @@ walk_list_in-returns-in-Err-clause-walks t c =
     element_list_stops set x i c.args.rest.now c.args.end c.requires.inside e c.in-Err.error (tree (segment c.fill_list.new.arena) c.args.at)
     (ap (λ (b : List ℕ). tree b c.args.at) c.in-Err.ensures.refused)
     (λ b. ((c.numbers_fit.ensures.nodes (brand_at set b).node).data_words, (c.numbers_fit.ensures.nodes (brand_at set b).node).pointers))
-    (kept_lists.pointer_of_list i 1 x _ refl c.requires.stands.formed)
+    (IsWellFormed-element_pointer x i 1 c.requires.stands.formed)
     (subst (λ (y : Tree). first_fault y ≡ None) now c.tree_is_sound.ensures.whole)
     (subst (λ (y : Tree). IsDueRefusal c.in-Err.error (fill_due set VoidValue (ListType e) y)) now c.in-Err.ensures.cause)
     (λ at. true≢false (sym (c.in-Err.ensures.rests (subst (IsAtRest set VoidValue (ListType e)) (sym now) at))))
