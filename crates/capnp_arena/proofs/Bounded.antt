@@ -5,7 +5,7 @@ use Rattle.std.proofs.lemmas.Bool.{cases_eq, eqb-true, lt-ltb, ltb-true, or_case
 use Rattle.std.proofs.lemmas.Map.Steps.{length-le_from_distinct_below}
 use Rattle.std.specs.List.{AllByRecursion, IsDistinct, list_any}
 use Rattle.capnp_wire.specs.Locate.{list_words}
-use Rattle.capnp_wire.specs.Tree.{StructTree, Tree, structs_from, trees_from}
+use Rattle.capnp_wire.specs.Tree.{StructTree, structs_from, trees_from}
 use Rattle.capnp_wire.specs.Words.{words_below_all, words_of, words_of_all}
 use Rattle.std.specs.Prelude.{None, Option, Some}
 use Rattle.capnp_arena.specs.Counts.{IsCount}

@@ -1,7 +1,7 @@
 -- The first bytes of a list of bytes, or of a null, that were left otherwise.
 use Rattle.std.proofs.Common.{◌≡◌, ◌≤◌, ◌+◌, ◌*◌, ◌⊎◌, ℕ, ap, arith, inl, inr, refl, subst, sym, ◌∙◌, List, [], ◌++◌, length, drop, take, Ok, Err, Result}
 use Rattle.std.specs.Prelude.{Bool, true, false, cond, ◌-◌, ◌==◌, ◌∷◌, get_or}
-use Rattle.std.proofs.lemmas.List.{length-take-le, take-append-drop}
+use Rattle.std.proofs.lemmas.List.{append-nil, drop_all, length-take-le, take-append-drop}
 use Rattle.capnp_device.specs.declared.error.ErrorKind.TheVariants.{TextNotTerminated, WrongElementSize}
 use Rattle.capnp_wire.specs.Filling.{put}
 use Rattle.capnp_wire.specs.Place.{bytes_at}
@@ -103,3 +103,9 @@ shorter_front words at start n (inr h) inside t x is there =
     let k : length (bytes_at words start n) ≡ n = length_part words start n inside in
     let m = h.2 in
     inr (h.0, h.1, omega (arith, l, k, m))
+
+-- all bytes of a list were left otherwise
+pub all_left : (t : Tree) (bytes left : List ℕ) → t ≡ Numbers 1 bytes → length left ≡ length bytes → with_front left t ≡ Numbers 1 left
+all_left t bytes left is long =
+    let none : drop (length left) bytes ≡ [] = drop_all (length left) bytes (omega (arith, long)) in
+    ap (with_front left) is ∙ (ap (λ x. Numbers 1 (left ++ x)) none ∙ ap (Numbers 1) (append-nil left))

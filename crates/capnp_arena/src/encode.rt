@@ -87,6 +87,7 @@ fn append_plain(
 
 /// What the pointer at a word leads to, and then what that leads to.
 #[cycle(append)]
+#[inline(always)]
 pub fn append_tree(out: &mut Vec<u8>, bytes: &[u8], w: usize) -> Appended
     requires forest { Forest bytes.now w }
     requires few { word_count bytes.now < 2 ^ 29 }

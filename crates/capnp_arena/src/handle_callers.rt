@@ -162,6 +162,22 @@ pub fn build_data(message: &mut Builder, count: u32, first: u8) -> Result<()>
     Ok(())
 }
 
+/// The same by builders.
+///
+/// Refused as `init_data`; then nothing has changed.
+pub fn build_data_by_builders(message: &mut Builder, count: u32, first: u8) -> Result<()>
+    requires message { IsMessage message.old }
+    requires first { 0 < count }
+    ensures message { IsMessage message.new }
+    ensures tree { OnOk result (message_tree message.new ≡ Numbers 1 (slice_set (replicate count 0) 0 first)) }
+    ensures refused { OnErr result (segment message.new ≡ segment message.old) }
+{
+    let built = message.root().init_data(count)?;
+    let bytes = built.into_bytes();
+    bytes[0] = first;
+    Ok(())
+}
+
 /// Writes the first byte of the data at the root.
 pub fn set_first_byte(message: &mut Builder, list: ListPlace, first: u8)
     requires message { IsMessage message.old }

@@ -5,7 +5,9 @@
 //! and the calls named `_mut`) a caller knows that where it is taken apart, or passed on by value; where its calls of
 //! `&mut self` are to be known, let the message behind it hand one out, as `built.arena.pointer_field(place, 0)`.
 ghost use Rattle.std.specs.Prelude.{OnErr, OnOk, ◌*◌, ◌+◌, ◌≡◌, ◌≤◌};
-ghost use Rattle.capnp_arena.specs.Forest.{Changes, Forest};
+ghost use Rattle.capnp_wire.specs.Edits.{extended, struct_in, with_bytes, with_number};
+ghost use Rattle.capnp_wire.specs.Place.{struct_tree};
+ghost use Rattle.capnp_arena.specs.Forest.{Changes, Forest, tree};
 ghost use Rattle.capnp_arena.specs.Segment.{segment};
 
 use crate::arena::{Arena, Place};
@@ -24,7 +26,7 @@ impl Arena {
     ghost use Rattle.capnp_arena.specs.Facts.Laws.{IsInPointer};
     ghost use Rattle.capnp_wire.specs.Elements.{HasPointer, HasStruct, with_pointer_element, with_struct_element};
     ghost use Rattle.capnp_wire.specs.Reading.{element_pointer, element_struct};
-    ghost use Rattle.capnp_arena.specs.Forest.{PartChanges, Planted, struct_from, tree};
+    ghost use Rattle.capnp_arena.specs.Forest.{PartChanges, Planted, struct_from};
     ghost use Rattle.capnp_arena.specs.Handles.{IsPointer, IsStruct, built_struct, part, pointer_tree};
     ghost use Rattle.capnp_arena.specs.Leaves.{Leaves};
     ghost use Rattle.capnp_arena.specs.Message.{IsMessage, message_tree};
@@ -143,13 +145,13 @@ pub fn get_and_set<T: PrimitiveElement>(
     requires forest { Forest (segment arena.old) at }
     requires inside { (offset + 1) * T.width ≤ 8 * size.data_words }
     ensures forest { OnOk result (Forest (segment arena.new) at) }
+    ensures tree { OnOk result (tree (segment arena.new) at ≡ struct_tree (with_bytes (extended size (struct_in (tree (segment arena.old) at)))
+        (with_number T.width offset (T.to_number value) (extended size (struct_in (tree (segment arena.old) at))).bytes))) }
     ensures changes { OnOk result (Changes at (segment arena.old) (segment arena.new)) }
     ensures refused { OnErr result (segment arena.new ≡ segment arena.old) }
 {
     let pointer = PointerBuilder { arena, at };
     let mut built = pointer.get_struct(size)?;
-    if built.place.data_words >= size.data_words {
-        built.set_data_field(offset, value);
-    }
+    built.set_data_field(offset, value);
     Ok(())
 }

@@ -63,6 +63,7 @@ fn end_of_bytes(bytes: &[u8], start: usize, count: usize) -> Option<usize>
 }
 
 /// Where a list of bits or numbers, or of nothing, ends that starts at a word.
+#[inline(always)]
 fn end_of_plain(bytes: &[u8], start: usize, element_size: u8, count: u32) -> Option<usize>
     requires plain { element_size < 6 }
     requires few { (count < 2 ^ 29) × (start < 2 ^ 30) }
@@ -154,8 +155,37 @@ fn follow(bytes: &[u8], w: usize, end: usize) -> Option<usize>
     }
 }
 
+/// The same, in line where no pointers are behind the target.
+#[cycle(order)]
+#[inline(always)]
+fn follow_at(bytes: &[u8], w: usize, end: usize) -> Option<usize>
+    requires forest { Forest bytes.now w }
+    requires few { word_count bytes.now < 2 ^ 29 }
+    requires inside { end ≤ word_count bytes.now }
+    ensures { IfKnown result (λ next. IsLaid bytes.now w end next) }
+{
+    match look(bytes, w) {
+        Target::Null => Some(end),
+        Target::List {
+            start,
+            element_size,
+            count,
+        } => {
+            if start != end {
+                return None;
+            }
+            if element_size == 6 {
+                return follow(bytes, w, end);
+            }
+            end_of_plain(bytes, start, element_size, count)
+        }
+        _ => follow(bytes, w, end),
+    }
+}
+
 /// The same of so many pointers in a row.
 #[cycle(order)]
+#[inline(always)]
 fn follow_row(bytes: &[u8], first: usize, count: usize, end: usize) -> Option<usize>
     requires forests { AreForests bytes.now first count }
     requires few { word_count bytes.now < 2 ^ 29 }
@@ -165,7 +195,7 @@ fn follow_row(bytes: &[u8], first: usize, count: usize, end: usize) -> Option<us
 {
     let mut next = end;
     for i in 0..count {
-        next = follow(bytes, first + i, next)?;
+        next = follow_at(bytes, first + i, next)?;
     }
     Some(next)
 }

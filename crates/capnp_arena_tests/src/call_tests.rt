@@ -458,7 +458,7 @@ const FIVE: &str = "00 00 00 00 01 00 00 00 | 05 00 00 00 00 00 00 00";
 const NINE: &str = "01 00 00 00 0a 00 00 00 | 09 00 00 00 00 00 00 00";
 
 /// Calls that take memory, and the words and the root of the message then.
-const TAKING_MEMORY: [(Call, (u64, [bool; 3])); 14] = [
+const TAKING_MEMORY: [(Call, Parts); 14] = [
     (InitStruct(ONE_EACH), (3, IS_STRUCT)),
     (NewStruct(5, "hello there"), (5, IS_STRUCT)),
     (GetStruct(READING), (9, IS_STRUCT)),
@@ -483,24 +483,42 @@ fn why(made: Result<Vec<u8>>) -> Option<ErrorKind> {
     }
 }
 
-/// Makes the calls one after another, until memory is refused. Of each refused call the message stays as it was: its words
-/// are counted, which takes no memory.
+/// The words of a message, and whether its root is a null, a struct or a list.
+type Parts = (u64, [bool; 3]);
+
+/// Makes a call that leaves these parts, and answers whether it was made. Where memory is refused the message has those
+/// before: its words are counted, which takes no memory.
+fn changes_or_stays(
+    rt: &impl Abort,
+    alloc: Global,
+    message: &mut Builder,
+    call: Call,
+    before: Parts,
+    then: Parts,
+) -> bool
+    requires { IsMessage message.old }
+    ensures { IsMessage message.new }
+{
+    let refused = why(make(alloc, message, call));
+    assert!(rt; refused == None || refused == Some(OutOfMemory));
+    let is_made = refused == None;
+    let is_written = message.write_message().is_ok();
+    let parts = if is_made { then } else { before };
+    assert_eq!(rt; answer(parts_of(message)), Ok(parts));
+    is_made && is_written
+}
+
+/// Makes the calls one after another, until memory is refused.
 fn refused_calls_change_nothing(rt: &impl Abort, alloc: Global, message: &mut Builder)
     requires { IsMessage message.old }
 {
-    let mut parts = (1, IS_NULL);
-    for (call, then) in TAKING_MEMORY {
-        let refused = why(make(alloc, message, call));
-        assert!(rt; refused == None || refused == Some(OutOfMemory));
-        let works = refused == None;
-        if works {
-            parts = then;
-        }
-        let is_written = message.write_message().is_ok();
-        assert_eq!(rt; answer(parts_of(message)), Ok(parts));
-        if !works || !is_written {
+    let mut before = (1, IS_NULL);
+    for taking in TAKING_MEMORY {
+        let (call, then) = taking;
+        if !changes_or_stays(rt, alloc, message, call, before, then) {
             return;
         }
+        before = then;
     }
 }
 

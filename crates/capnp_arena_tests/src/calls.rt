@@ -8,7 +8,7 @@ ghost use Rattle.capnp_arena.specs.Message.{IsMessage};
 ghost use Rattle.capnp_arena.specs.Segment.{segment};
 
 use crate::fixtures::{ONE_EACH, answer, bytes_of, is_written_as, root_of};
-use crate::lent::{lend, lend_of_copy};
+use crate::lent::{lend, read_data, read_text};
 use capnp_arena::handles::StructBuilder;
 use capnp_arena::message::Builder;
 use capnp_device::error::{ErrorKind, Result};
@@ -435,18 +435,41 @@ fn answers(made: Result<Vec<u8>>, expected: std::result::Result<&str, ErrorKind>
     }
 }
 
-/// Whether a call that lends bytes lends those of a copy too, or is refused so there.
-fn lends_copy(
+/// Whether bytes that are got to be changed are read so too, or refused so.
+fn reads_as(
     alloc: Global,
-    message: &Builder,
+    message: &mut Builder,
     call: Call,
     expected: std::result::Result<&str, ErrorKind>,
 ) -> bool
-    requires { IsMessage message.now }
+    requires { IsMessage message.old }
+    ensures { IsMessage message.new }
 {
     match call {
-        Call::Lend(lent) => answers(lend_of_copy(alloc, message, lent), expected),
+        Call::Lend(Lent::GetData) => answers(read_data(alloc, message), expected),
+        Call::Lend(Lent::GetText) => answers(read_text(alloc, message), expected),
         _ => true,
+    }
+}
+
+/// Makes the call of a row on a message, and compares what it answers and the message then.
+fn follow_row(rt: &impl Abort, alloc: Global, message: &mut Builder, row: &Row)
+    requires { IsMessage message.old }
+    ensures { IsMessage message.new }
+{
+    let (name, call, expected, then) = *row;
+    assert!(rt; reads_as(alloc, message, call, expected), "{name}");
+    let made = make(alloc, message, call);
+    assert!(rt; answers(made, expected), "{name}");
+    let stands = answer(stands_as(alloc, message, then));
+    assert_eq!(rt; stands, Ok((true, true)), "{name}");
+}
+
+fn follow_rows(rt: &impl Abort, alloc: Global, message: &mut Builder, rows: &[Row])
+    requires { IsMessage message.old }
+{
+    for row in rows {
+        follow_row(rt, alloc, message, row);
     }
 }
 
@@ -455,12 +478,6 @@ pub fn follow(rt: &impl Abort, alloc: Global, rows: &[Row]) {
     let message = Builder::new(alloc);
     assert!(rt; message.is_ok());
     if let Ok(mut message) = message {
-        for (name, call, expected, then) in rows {
-            assert!(rt; lends_copy(alloc, &message, *call, *expected), "{name}");
-            let made = make(alloc, &mut message, *call);
-            assert!(rt; answers(made, *expected), "{name}");
-            let stands = answer(stands_as(alloc, &mut message, then));
-            assert_eq!(rt; stands, Ok((true, true)), "{name}");
-        }
+        follow_rows(rt, alloc, &mut message, rows);
     }
 }

@@ -1,12 +1,12 @@
-//! Lists that are counted, and parts that are put, where a message stays one from call to call.
+//! What proved callers build and count, where a message stays one from call to call.
 ghost use Rattle.std.specs.Prelude.{OnOk};
 ghost use Rattle.capnp_arena.specs.Message.{IsMessage};
 
 use crate::fixtures::{ONE_EACH, answer, is_written_as};
-use capnp_arena::handle_callers::build_struct;
 use capnp_arena::message::Builder;
 use capnp_device::error::Result;
 use capnp_wire::size::ElementSize;
+use capnp_wire_callers::built::{count_new, count_structs, put_number, put_text};
 use std::alloc::Global;
 
 /// How many numbers a new list has, and how many structs these then are.
@@ -19,12 +19,31 @@ fn counted(message: &mut Builder) -> Result<(u32, u32)>
     Ok((numbers, structs))
 }
 
+/// The same by callers, each with a message of its own.
+fn counted_by_callers(alloc: Global) -> Result<(u32, u32)> {
+    let mut message = Builder::new(alloc)?;
+    let numbers = count_new(message.root(), 3)?;
+    let mut other = Builder::new(alloc)?;
+    other.root().init_list(ElementSize::TwoBytes, 3)?;
+    let structs = count_structs(other.root(), ONE_EACH)?;
+    Ok((numbers, structs))
+}
+
+fn put_new_text(message: &mut Builder) -> Result<()>
+    requires { IsMessage message.old }
+    ensures { OnOk result (IsMessage message.new) }
+{
+    let mut fields = message.root().init_struct(ONE_EACH)?;
+    put_text(&mut fields, b"hi")?;
+    Ok(())
+}
+
 fn put_new_number(message: &mut Builder) -> Result<()>
     requires { IsMessage message.old }
     ensures { OnOk result (IsMessage message.new) }
 {
     let mut fields = message.root().init_struct(ONE_EACH)?;
-    fields.set_data_field::<u64>(0, 9);
+    put_number(&mut fields, 0, 9);
     Ok(())
 }
 
@@ -49,7 +68,7 @@ fn is_counted(alloc: Global) -> Result<((u32, u32), bool)> {
 /// Whether a new text is written, and then a new number in its place.
 fn are_put(alloc: Global) -> Result<[bool; 2]> {
     let mut message = Builder::new(alloc)?;
-    build_struct(&mut message, ONE_EACH, 0, b"hi")?;
+    put_new_text(&mut message)?;
     let is_text = is_written_as(alloc, &message, TEXT)?;
     put_new_number(&mut message)?;
     Ok([is_text, is_written_as(alloc, &message, NUMBER)?])
@@ -58,6 +77,7 @@ fn are_put(alloc: Global) -> Result<[bool; 2]> {
 #[test]
 fn new_numbers_and_structs_are_counted(rt: HostRuntime) {
     assert_eq!(rt; answer(is_counted(rt.alloc())), Ok(((3, 3), true)));
+    assert_eq!(rt; answer(counted_by_callers(rt.alloc())), Ok((3, 3)));
 }
 
 #[test]

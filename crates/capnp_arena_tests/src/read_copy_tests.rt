@@ -101,12 +101,12 @@ fn count_lent(alloc: Global, is_text: bool) -> Result<usize> {
     let mut message = Builder::new(alloc)?;
     message.root().get_list(ElementSize::Pointer)?;
     let root = message.root();
-    let bytes = if is_text {
+    let blob = if is_text {
         root.get_text_mut()?
     } else {
         root.get_data_mut()?
     };
-    Ok(bytes.len())
+    Ok(blob.into_bytes().len())
 }
 
 #[test]

@@ -15,9 +15,7 @@ ghost use Rattle.capnp_arena.specs.declared.struct_builder.StructBuilder.{Struct
 use capnp_arena::handles::{PointerBuilder, StructBuilder};
 use capnp_arena::message::Builder;
 use capnp_base::introspect::{Introspect, RawBrandedStructSchema, Type, TypeVariant};
-use capnp_builders::traits::{
-    HasStructSize, IntoInternalStructReader, OwnedStruct, SetterInput,
-};
+use capnp_builders::traits::{HasStructSize, IntoInternalStructReader, OwnedStruct, SetterInput};
 use capnp_wire::error::Result;
 use capnp_wire::laws::{copied_structs_are_well_formed, struct_is_well_formed};
 use capnp_wire::size::StructSize;

@@ -16,6 +16,8 @@ mod get_tests;
 #[cfg(test)]
 mod hostile_tests;
 #[cfg(test)]
+mod memory_tests;
+#[cfg(test)]
 mod patch_tests;
 #[cfg(test)]
 mod rows;

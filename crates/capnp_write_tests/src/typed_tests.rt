@@ -9,6 +9,7 @@ ghost use Rattle.capnp_builders.specs.Pointers.{IsPointer, arena_behind, word_of
 
 use crate::messages::{brand_of, message_of, set_of};
 use crate::script::read_value;
+use capnp_arena::handles::PointerBuilder;
 use capnp_arena::message::Builder;
 use capnp_base::introspect::{Introspect, RawBrandedStructSchema, Type, TypeVariant};
 use capnp_base::traits::{IntoInternalStructReader, OwnedStruct};
@@ -53,7 +54,8 @@ fn set_as(root: &mut any_pointer::Builder<'_>, value: Value<'_>) -> Result<()>
 fn root_set(alloc: Global, value: Value<'_>) -> Result<(u32, Vec<u8>)> {
     let mut message = Builder::new(alloc)?;
     message.root().set_text(b"before")?;
-    let mut root = any_pointer::Builder::new(message.root());
+    let PointerBuilder { arena, at } = message.root();
+    let mut root = any_pointer::Builder { arena, at };
     let number = match set_as(&mut root, value) {
         Ok(()) => 0,
         Err(error) => error.kind.number(),

@@ -1,4 +1,4 @@
-use Rattle.std.proofs.Common.{◌≡◌, ◌^◌, ◌<◌, ◌≤◌, arith, suc}
+use Rattle.std.proofs.Common.{◌^◌, ◌<◌, ◌≤◌, arith, suc}
 use Rattle.capnp_wire.specs.Words.{words_of}
 use Rattle.capnp_arena.specs.Forest.{tree}
 use Rattle.capnp_arena.specs.Segment.{segment}
