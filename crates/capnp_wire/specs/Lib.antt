@@ -21,6 +21,5 @@ pub mod Edits
 pub mod Elements
 pub mod ElementSizes
 pub mod StructLists
-pub mod Blobs
 pub mod Defaults
 pub mod Facts
