@@ -39,3 +39,4 @@ pub mod LeftBytes
 pub mod Bounded
 pub mod Peeked
 pub mod Fronts
+pub mod ZeroWords
