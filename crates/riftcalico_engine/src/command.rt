@@ -1,6 +1,7 @@
 //! What the program does with its words.
-ghost use Rattle.std.specs.Prelude.{◌≡◌, ◌≤◌, None, Some, map, string_bytes};
+ghost use Rattle.std.specs.Prelude.{◌≡◌, ◌≤◌, ⊤, None, Some, map, string_bytes};
 ghost use Rattle.capnp_show_engine.specs.Command.{IsTold};
+ghost use Rattle.capnp_show_engine.specs.declared.opener.FilesOpener.{FilesOpener as OfFiles};
 ghost use Rattle.riftcalico_engine.specs.Command.{Task, asked, usage_lines};
 ghost use Rattle.riftcalico_engine.specs.Ended.{IsDone, status_of, streams, told_of};
 
@@ -9,7 +10,7 @@ use crate::run::{Outcome, run};
 use capnp_patch::engine::any_refused;
 use capnp_show_engine::command::{report, tell};
 use capnp_show_engine::opener::{FilesOpener, Opener};
-use capnp_wire::device::{Sink, Source};
+use capnp_wire::device::{ReadSource, Sink, Source};
 use capnp_wire::error::Result;
 use std::alloc::Global;
 use std::rt::Files;
@@ -79,7 +80,8 @@ pub fn command_over<O: Opener, R: Source, W: Sink, F: Sink>(
     tell_ended(&ended, errors)
 }
 
-/// `command_over` over the files of a runtime, of which nothing is said: no contract of the system tells what a file holds.
+/// `command_over` over the files of a runtime, where any of them may be opened at a path: no contract of the system tells what a
+/// file holds.
 pub fn command<S: Files, R: Source, W: Sink, F: Sink>(
     rt: &S,
     alloc: Global,
@@ -94,6 +96,12 @@ pub fn command<S: Files, R: Source, W: Sink, F: Sink>(
         (F.failures errors.old) (F.failures errors.new) }
     ensures unread { result ≡ 2 → source.new ≡ source.old }
     ensures unwritten { result ≡ 2 → sink.new ≡ sink.old }
+    ensures done { (t : Task) → asked (map string_bytes words.now) ≡ Some t → (before : OfFiles S) × (after : OfFiles S)
+        × IsDone (λ _ _ _ _. ⊤) ⟦<ReadSource<S::File> as Source>⟧.left ⟦<ReadSource<S::File> as Source>⟧.failures before after
+        (source.new ≡ source.old) (sink.new ≡ sink.old)
+        (streams (R.left source.old) (R.left source.new) (W.written sink.old) (W.written sink.new)
+        (R.failures source.old) (R.failures source.new) (W.failures sink.old) (W.failures sink.new))
+        t result (F.written errors.old) (F.written errors.new) (F.failures errors.old) (F.failures errors.new) }
 {
     let mut opener = FilesOpener::new(rt);
     command_over(&mut opener, alloc, words, source, sink, errors)
