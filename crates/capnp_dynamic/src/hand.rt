@@ -4,7 +4,7 @@
 //! but for that part, and that a refusal changed nothing, is said by the calls of `part`, `slot` and `group`.
 ghost use Rattle.std.specs.Prelude.{None, false, IfErr, IfOk, IsErrAnd, IsOk, OnOk, ◌<◌, ◌≡◌};
 ghost use Rattle.capnp_device.specs.declared.error.ErrorKind.TheVariants.{FieldNotFound};
-ghost use Rattle.capnp_wire.specs.Edits.{IsDueRefusal};
+ghost use Rattle.capnp_wire.specs.Edits.{IsDueRefusal, with_pointer_tree};
 ghost use Rattle.capnp_wire.specs.Tree.{StructTree, tree_count};
 ghost use Rattle.capnp_arena.specs.Built.{IsBuilt, built};
 ghost use Rattle.capnp_schema.specs.FieldLists.{typed_of};
@@ -13,11 +13,12 @@ ghost use Rattle.capnp_slots.specs.Fields.{IsPointer, IsRoomFor, IsSlot, field_s
 ghost use Rattle.capnp_schema.specs.Query.{field_named};
 ghost use Rattle.capnp_schema.specs.StructHandles.{struct_records};
 ghost use Rattle.capnp_schema.specs.declared.schema.fields.Field.{Field};
-ghost use Rattle.capnp_slots.specs.Fills.{RestsIn, due_in};
-ghost use Rattle.capnp_dynamic.specs.Built.{IsReady, built_schema, built_struct};
+ghost use Rattle.capnp_slots.specs.Fills.{RestsIn, due_in, filled_in};
+ghost use Rattle.capnp_dynamic.specs.Built.{IsReady, built_schema, built_struct, place_of, struct_behind};
 ghost use Rattle.capnp_dynamic.specs.BuiltValues.{CanBeRead, IsReaderOf};
 ghost use Rattle.capnp_dynamic.specs.FieldWrites.{IsNamed};
 ghost use Rattle.capnp_dynamic.specs.Handed.{HandsField, HandsFilled, HandsNumber, IsPartRefusal, IsPartWithin};
+ghost use Rattle.capnp_dynamic.specs.Owners.{IsGotOf, IsPartOf};
 ghost use Rattle.capnp_dynamic_readers.specs.Leaf.{IsNumber};
 ghost use Rattle.capnp_dynamic_readers.specs.Reads.{BelongsTo};
 
@@ -85,6 +86,8 @@ fn pointed_of<'a>(
     requires room { IsRoomFor field (built arena.old place) }
     ensures stands { IfOk result (HandsFilled field.entry (built arena.old place)) }
     ensures ready { IfOk result CanBeRead }
+    ensures owner { IfOk result (IsPartOf arena.entry place (pointer_index field.entry)
+        (with_pointer_tree (built arena.old place) (pointer_index field.entry) (filled_in field.entry (built arena.old place)))) }
     ensures within { OnOk result (due_in field.entry (built arena.old place) ≡ None) }
     ensures cause { IfErr result (λ e. IsDueRefusal e (due_in field.entry (built arena.old place))) }
     ensures rests { RestsIn field.entry (built arena.old place) → IsOk result }
@@ -120,12 +123,13 @@ impl<'a> Builder<'a> {
     /// `OutOfMemory`; then nothing has changed, as `part::fill` says. Where nothing has to be filled or extended it is not refused.
     ///
     /// The field has to belong to the schema; the struct has to have its schema's sections and stand at its place (`IsReady`).
-    #[tactic(auto, using(crate::proofs::Builders::room_for, crate::proofs::HandedOut::hands_group, crate::proofs::HandedOut::hands_pointed, crate::proofs::HandedOut::hands_number, crate::proofs::HandedOut::group_within, crate::proofs::HandedOut::pointed_within))]
+    #[tactic(auto, using(crate::proofs::Builders::room_for, crate::proofs::HandedOut::hands_group, crate::proofs::HandedOut::hands_pointed, crate::proofs::HandedOut::hands_number, crate::proofs::HandedOut::group_within, crate::proofs::HandedOut::pointed_within, crate::proofs::Owners::got_group, crate::proofs::Owners::got_pointed))]
     pub fn get(self, field: Field<'a>) -> Result<dynamic_value::Builder<'a>>
         requires belongs { BelongsTo field (built_schema self) }
         requires ready { IsReady self }
         ensures stands { IfOk result (HandsField field.entry (built_struct self.entry)) }
         ensures ready { IfOk result CanBeRead }
+        ensures owner { IfOk result (IsGotOf (struct_behind self.entry) (place_of self.entry) field.entry) }
         ensures within { OnOk result (IsPartWithin field.entry (built_struct self.entry)) }
         ensures cause { IfErr result (IsPartRefusal field.entry (built_struct self.entry)) }
         ensures rests { RestsIn field.entry (built_struct self.entry) → IsOk result }
@@ -155,6 +159,8 @@ impl<'a> Builder<'a> {
         requires { IsReady self }
         ensures stands { (f : Field) → IsNamed (built_schema self.entry) field_name.now f → IfOk result (HandsField f (built_struct self.entry)) }
         ensures ready { IfOk result CanBeRead }
+        ensures owner { (f : Field) → IsNamed (built_schema self.entry) field_name.now f
+            → IfOk result (IsGotOf (struct_behind self.entry) (place_of self.entry) f) }
         ensures within { (f : Field) → IsNamed (built_schema self.entry) field_name.now f → OnOk result (IsPartWithin f (built_struct self.entry)) }
         ensures cause { (f : Field) → IsNamed (built_schema self.entry) field_name.now f → IfErr result (IsPartRefusal f (built_struct self.entry)) }
         ensures rests { (f : Field) → IsNamed (built_schema self.entry) field_name.now f → RestsIn f (built_struct self.entry) → IsOk result }

@@ -4,7 +4,7 @@
 //! for what was extended behind that element, and that a refusal changed nothing, is said by `element::fill`.
 ghost use Rattle.std.specs.Prelude.{None, false, true, IfErr, IfOk, IsOk, OnOk, ◌<◌, ◌≡◌};
 ghost use Rattle.capnp_wire.specs.Edits.{IsDueRefusal};
-ghost use Rattle.capnp_wire.specs.Elements.{or_empty};
+ghost use Rattle.capnp_wire.specs.Elements.{or_empty, with_pointer_element};
 ghost use Rattle.capnp_wire.specs.Place.{struct_tree};
 ghost use Rattle.capnp_wire.specs.Reading.{element_pointer, element_struct, list_length};
 ghost use Rattle.capnp_arena.specs.Forest.{Forest, tree};
@@ -15,6 +15,7 @@ ghost use Rattle.capnp_slots.specs.Fills.{ElementRests, element_due, element_fil
 ghost use Rattle.capnp_dynamic.specs.Built.{IsIn, IsListReady, IsListStanding};
 ghost use Rattle.capnp_dynamic.specs.BuiltValues.{CanBeRead};
 ghost use Rattle.capnp_dynamic.specs.Handed.{HandsElement, HandsElementNumber, HandsOut, IsElementPartRefusal, IsElementWithin, RestsAt};
+ghost use Rattle.capnp_dynamic.specs.Owners.{IsElementGot, IsElementOf, IsStructOf};
 
 use crate::dynamic_list::Builder;
 use crate::hand::built_number;
@@ -43,6 +44,7 @@ fn struct_at<'a>(
     ensures stands { HandsOut false (lists_seen set.now) (StructType raw.number raw.generic)
         (struct_tree (element_struct (tree (segment arena.old) at) index)) result }
     ensures ready { CanBeRead result }
+    ensures owner { IsStructOf arena.entry at index result }
 {
     arena.tree_is_sound(at);
     let schema = set.struct_schema(raw.number);
@@ -90,6 +92,9 @@ fn pointed_at<'a>(
     ensures stands { IfOk result (HandsOut false (lists_seen set.now) (seen_type element_type)
         (element_filled (lists_seen set.now) (seen_type element_type) (element_pointer (tree (segment arena.old) at) index 1))) }
     ensures ready { IfOk result CanBeRead }
+    ensures owner { IfOk result (IsElementOf arena.entry at index (with_pointer_element index
+        (element_filled (lists_seen set.now) (seen_type element_type) (element_pointer (tree (segment arena.old) at) index 1))
+        (tree (segment arena.old) at))) }
     ensures within { OnOk result (element_due (lists_seen set.now) (seen_type element_type)
         (element_pointer (tree (segment arena.old) at) index 1) ≡ None) }
     ensures cause { IfErr result (λ e. IsDueRefusal e (element_due (lists_seen set.now) (seen_type element_type)
@@ -128,11 +133,13 @@ impl<'a> Builder<'a> {
     /// nothing has to be extended nothing is refused for memory.
     ///
     /// The list has to be ready (`IsListReady`).
+    #[tactic(auto, using(crate::proofs::Owners::struct_got))]
     pub fn get(self, index: u32) -> Result<dynamic_value::Builder<'a>>
         requires ready { IsListReady self }
         requires inside { IsIn index self }
         ensures stands { IfOk result (HandsElement self.entry index) }
         ensures ready { IfOk result CanBeRead }
+        ensures owner { IfOk result (IsElementGot self.entry index) }
         ensures within { OnOk result (IsElementWithin self.entry index) }
         ensures cause { IfErr result (IsElementPartRefusal self.entry index) }
         ensures rests { RestsAt self.entry index → IsOk result }

@@ -9,13 +9,14 @@ ghost use Rattle.capnp_schema.specs.Query.{field_named};
 ghost use Rattle.capnp_schema.specs.StructHandles.{struct_records};
 ghost use Rattle.capnp_schema.specs.declared.schema.fields.Field.{Field};
 ghost use Rattle.capnp_arena.specs.Built.{IsBuilt, built};
-ghost use Rattle.capnp_slots.specs.Fields.{IsPointer, IsRoomFor, IsSlot, field_set};
+ghost use Rattle.capnp_slots.specs.Fields.{IsPointer, IsRoomFor, IsSlot, field_set, pointer_index, slot_with};
 ghost use Rattle.capnp_slots.specs.Fills.{pointer_in};
-ghost use Rattle.capnp_slots.specs.Inits.{IsInitRefusal, IsInitnRefusal};
-ghost use Rattle.capnp_dynamic.specs.Built.{IsReady, built_schema, built_struct};
+ghost use Rattle.capnp_slots.specs.Inits.{IsInitRefusal, IsInitnRefusal, init_content};
+ghost use Rattle.capnp_dynamic.specs.Built.{IsReady, built_schema, built_struct, place_of, struct_behind};
 ghost use Rattle.capnp_dynamic.specs.BuiltValues.{CanBeRead};
 ghost use Rattle.capnp_dynamic.specs.FieldWrites.{IsNamed};
 ghost use Rattle.capnp_dynamic.specs.Handed.{CanBeHanded, HandsInit, HandsInitn, HandsNew, HandsNewSized, HandsOut, IsStartRefusal, IsSizedRefusal};
+ghost use Rattle.capnp_dynamic.specs.Owners.{IsAtPointer, IsPartOf, IsSizedOf, IsStartedOf};
 ghost use Rattle.capnp_dynamic_readers.specs.Reads.{BelongsTo};
 
 use crate::dynamic_struct::Builder;
@@ -37,6 +38,7 @@ fn hand_new<'a>(arena: &'a mut Arena, place: Place, field: Field<'a>) -> dynamic
     requires handed { CanBeHanded (field_set field) (typed_of field).type (pointer_in field (built arena.old place)) }
     ensures stands { HandsOut true (field_set field.entry) (typed_of field.entry).type (pointer_in field.entry (built arena.old place)) result }
     ensures ready { CanBeRead result }
+    ensures there { IsAtPointer arena.entry place (pointer_index field.entry) result }
 {
     let set = field.get_containing_struct().get_set();
     let variant = field.get_type().which();
@@ -56,6 +58,8 @@ fn start_slot<'a>(
     requires room { IsRoomFor field (built arena.old place) }
     ensures stands { IfOk result (HandsNew (field_set field.entry) (typed_of field.entry)) }
     ensures ready { IfOk result CanBeRead }
+    ensures pointer { IfOk result (λ _. IsPointer field.entry) }
+    ensures owner { IfOk result (IsPartOf arena.entry place (pointer_index field.entry) (slot_with field.entry (init_content field.entry) (built arena.old place))) }
     ensures cause { IfErr result (λ e. IsInitRefusal (typed_of field.entry).type e.kind) }
 {
     slot::init(arena, place, field)?;
@@ -76,6 +80,7 @@ fn start_sized<'a>(
     requires room { IsRoomFor field (built arena.old place) }
     ensures stands { IfOk result (HandsNewSized (field_set field.entry) (typed_of field.entry) size) }
     ensures ready { IfOk result CanBeRead }
+    ensures owner { IfOk result (IsSizedOf arena.entry place field.entry size) }
     ensures cause { IfErr result (λ e. IsInitnRefusal (field_set field.entry) size (typed_of field.entry).type e.kind) }
 {
     slot::initn(arena, place, field, size)?;
@@ -91,12 +96,13 @@ impl<'a> Builder<'a> {
     /// nothing has changed, as `slot::init` says.
     ///
     /// The field has to belong to the schema; the struct has to have its schema's sections and stand at its place (`IsReady`).
-    #[tactic(auto, using(crate::proofs::Builders::room_for, crate::proofs::Started::init_group, crate::proofs::Started::init_slot))]
+    #[tactic(auto, using(crate::proofs::Builders::room_for, crate::proofs::Started::init_group, crate::proofs::Started::init_slot, crate::proofs::Owners::started_group))]
     pub fn init(self, field: Field<'a>) -> Result<dynamic_value::Builder<'a>>
         requires belongs { BelongsTo field (built_schema self) }
         requires ready { IsReady self }
         ensures stands { IfOk result (HandsInit field.entry (built_struct self.entry)) }
         ensures ready { IfOk result CanBeRead }
+        ensures owner { IfOk result (IsStartedOf (struct_behind self.entry) (place_of self.entry) field.entry) }
         ensures cause { IfErr result (IsStartRefusal field.entry) }
     {
         let Builder {
@@ -122,6 +128,8 @@ impl<'a> Builder<'a> {
         requires { IsReady self }
         ensures stands { (f : Field) → IsNamed (built_schema self.entry) field_name.now f → IfOk result (HandsInit f (built_struct self.entry)) }
         ensures ready { IfOk result CanBeRead }
+        ensures owner { (f : Field) → IsNamed (built_schema self.entry) field_name.now f
+            → IfOk result (IsStartedOf (struct_behind self.entry) (place_of self.entry) f) }
         ensures cause { (f : Field) → IsNamed (built_schema self.entry) field_name.now f → IfErr result (IsStartRefusal f) }
         ensures none { field_named (struct_records (built_schema self.entry)) field_name.now ≡ None → IsErrAnd result (λ e. e.kind ≡ FieldNotFound) }
     {
@@ -144,6 +152,7 @@ impl<'a> Builder<'a> {
         requires ready { IsReady self }
         ensures stands { IfOk result (HandsInitn field.entry size) }
         ensures ready { IfOk result CanBeRead }
+        ensures owner { IfOk result (IsSizedOf (struct_behind self.entry) (place_of self.entry) field.entry size) }
         ensures cause { IfErr result (IsSizedRefusal field.entry size) }
     {
         if let Some(_group) = group::group_of(field) {
@@ -160,11 +169,13 @@ impl<'a> Builder<'a> {
     /// Starts the field of a name anew with a size, as `initn`. Refused first with `FieldNotFound` where there is none of that
     /// name.
     /// The struct has to have its schema's sections and stand at its place (`IsReady`).
-    #[tactic(auto, using(capnp_dynamic_readers::specs::Facts::Found::found_belongs, crate::proofs::Started::same_initn, crate::proofs::Started::same_sized_refusal))]
+    #[tactic(auto, using(capnp_dynamic_readers::specs::Facts::Found::found_belongs, crate::proofs::Started::same_initn, crate::proofs::Started::same_sized_refusal, crate::proofs::Owners::same_sized))]
     pub fn initn_named(self, field_name: &str, size: u32) -> Result<dynamic_value::Builder<'a>>
         requires { IsReady self }
         ensures stands { (f : Field) → IsNamed (built_schema self.entry) field_name.now f → IfOk result (HandsInitn f size) }
         ensures ready { IfOk result CanBeRead }
+        ensures owner { (f : Field) → IsNamed (built_schema self.entry) field_name.now f
+            → IfOk result (IsSizedOf (struct_behind self.entry) (place_of self.entry) f size) }
         ensures cause { (f : Field) → IsNamed (built_schema self.entry) field_name.now f → IfErr result (IsSizedRefusal f size) }
         ensures none { field_named (struct_records (built_schema self.entry)) field_name.now ≡ None → IsErrAnd result (λ e. e.kind ≡ FieldNotFound) }
     {

@@ -16,6 +16,7 @@ ghost use Rattle.capnp_dynamic_readers.specs.Handles.{list_reader_of, list_set, 
 ghost use Rattle.capnp_dynamic.specs.Built.{IsIn, IsListReady, LendsList, built_element, built_elements, built_reading, built_set, built_type, list_behind, word_of};
 ghost use Rattle.capnp_dynamic.specs.BuiltValues.{CanBeRead};
 ghost use Rattle.capnp_dynamic.specs.Handed.{HandsSized};
+ghost use Rattle.capnp_dynamic.specs.Owners.{IsElementStarted};
 
 use crate::dynamic_list::Reader;
 use crate::dynamic_value;
@@ -180,6 +181,7 @@ impl<'a> Builder<'a> {
         requires inside { IsIn index self }
         ensures stands { IfOk result (HandsSized (built_set self.entry) (built_element self.entry) size) }
         ensures ready { IfOk result CanBeRead }
+        ensures owner { IfOk result (IsElementStarted self.entry index size) }
         ensures cause { IfErr result (λ e. IsElementInitRefusal (built_set self.entry) size (built_element self.entry) e.kind) }
     {
         let Builder {

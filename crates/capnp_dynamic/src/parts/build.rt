@@ -10,10 +10,11 @@ ghost use Rattle.capnp_schema.specs.Query.{field_named};
 ghost use Rattle.capnp_schema.specs.StructHandles.{struct_records};
 ghost use Rattle.capnp_schema.specs.declared.schema.fields.Field.{Field};
 ghost use Rattle.capnp_slots.specs.Fills.{RestsIn};
-ghost use Rattle.capnp_dynamic.specs.Built.{IsIn, IsListReady, IsReady, built_element, built_elements, built_schema, built_struct};
+ghost use Rattle.capnp_dynamic.specs.Built.{IsIn, IsListReady, IsReady, built_element, built_elements, built_schema, built_struct, place_of, struct_behind};
 ghost use Rattle.capnp_dynamic.specs.BuiltValues.{CanBeRead};
 ghost use Rattle.capnp_dynamic.specs.FieldWrites.{IsNamed};
 ghost use Rattle.capnp_dynamic.specs.Handed.{HandsElement, HandsField, RestsAt};
+ghost use Rattle.capnp_dynamic.specs.Owners.{IsElementGot, IsGotOf};
 ghost use Rattle.capnp_dynamic.specs.Taken.{IsListElementRefusal, IsListPartRefusal, IsNoList, IsNoStruct, IsStructElementRefusal, IsStructPartRefusal, hands_list, hands_struct, is_list_type};
 ghost use Rattle.capnp_dynamic.specs.declared.dynamic_value.build.Builder.TheVariants as built;
 
@@ -57,6 +58,8 @@ pub fn struct_in<'a>(
     ensures stands { (f : Field) → IsNamed (built_schema builder.entry) name.now f
         → IfOk result (λ s. HandsField f (built_struct builder.entry) (built.Struct s)) }
     ensures ready { IfOk result IsReady }
+    ensures owner { (f : Field) → IsNamed (built_schema builder.entry) name.now f
+        → IfOk result (λ s. IsGotOf (struct_behind builder.entry) (place_of builder.entry) f (built.Struct s)) }
     ensures cause { (f : Field) → IsNamed (built_schema builder.entry) name.now f
         → IfErr result (IsStructPartRefusal f (built_struct builder.entry)) }
     ensures rests { (f : Field) → IsNamed (built_schema builder.entry) name.now f → RestsIn f (built_struct builder.entry)
@@ -77,6 +80,8 @@ pub fn list_in<'a>(
     ensures stands { (f : Field) → IsNamed (built_schema builder.entry) name.now f
         → IfOk result (λ l. HandsField f (built_struct builder.entry) (built.List l)) }
     ensures ready { IfOk result IsListReady }
+    ensures owner { (f : Field) → IsNamed (built_schema builder.entry) name.now f
+        → IfOk result (λ l. IsGotOf (struct_behind builder.entry) (place_of builder.entry) f (built.List l)) }
     ensures cause { (f : Field) → IsNamed (built_schema builder.entry) name.now f
         → IfErr result (IsListPartRefusal f (built_struct builder.entry)) }
     ensures rests { (f : Field) → IsNamed (built_schema builder.entry) name.now f → RestsIn f (built_struct builder.entry)
@@ -96,6 +101,7 @@ pub fn struct_at<'a>(
     requires { IsListReady list }
     ensures stands { IfOk result (λ s. HandsElement list.entry index (built.Struct s)) }
     ensures ready { IfOk result IsReady }
+    ensures owner { IfOk result (λ s. IsElementGot list.entry index (built.Struct s)) }
     ensures cause { IsIn index list.entry → IfErr result (IsStructElementRefusal list.entry index) }
     ensures past { list_length (built_elements list.entry) ≤ index → IsErrAnd result (λ e. e.kind ≡ NoSuchElement) }
 {
@@ -112,6 +118,7 @@ pub fn list_at<'a>(list: dynamic_list::Builder<'a>, index: u32) -> Result<dynami
     requires { IsListReady list }
     ensures stands { IfOk result (λ l. HandsElement list.entry index (built.List l)) }
     ensures ready { IfOk result IsListReady }
+    ensures owner { IfOk result (λ l. IsElementGot list.entry index (built.List l)) }
     ensures cause { IsIn index list.entry → IfErr result (IsListElementRefusal list.entry index) }
     ensures rests { IsIn index list.entry → RestsAt list.entry index → is_list_type (built_element list.entry) ≡ true → IsOk result }
     ensures past { list_length (built_elements list.entry) ≤ index → IsErrAnd result (λ e. e.kind ≡ NoSuchElement) }

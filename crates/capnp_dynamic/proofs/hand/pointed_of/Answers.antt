@@ -1,5 +1,5 @@
 -- What was filled stands at the pointer, under the field's set and type.
-use Rattle.std.specs.Prelude.{false}
+use Rattle.std.specs.Prelude.{refl, false}
 use Rattle.std.proofs.Common.{ap, sym, ◌∙◌}
 use Rattle.capnp_wire.specs.Tree.{StructTree}
 use Rattle.capnp_wire.specs.Words.{first_fault}
@@ -35,3 +35,13 @@ returns-clause-stands c =
     (ap seen_variant c.which-variant.ensures ∙ (seen_which c.get_type.result ∙ c.get_type.ensures.is))
     c.in_ok-at.ensures.now
     c.hand_out.ensures.stands
+
+pub returns-clause-owner : goal.returns-clause-owner
+returns-clause-owner c = record {
+  arena = _;
+  there = record { at = c.in_ok-at.at; stands = c.hand_out.ensures.behind; leaves = c.in_ok-at.ensures.leaves };
+  same = refl;
+  planted = c.in_ok-at.ensures.planted;
+  changes = c.in_ok-at.ensures.changes;
+  becomes = c.in_ok-at.ensures.filled;
+}

@@ -51,3 +51,13 @@ returns-clause-stands c =
     ∙ (ap (λ (z : Tree). element_pointer z c.args.index 1) c.in_ok-fill.ensures.filled
     ∙ pointer-here x c.args.index y (pointer_there (lists_seen c.args.set.now) c.args.element_type x c.args.index c.requires.behind c.requires.under.holds c.tree_is_sound.ensures.formed c.requires.inside)))
     c.hand_out.ensures.stands
+
+pub returns-clause-owner : goal.returns-clause-owner
+returns-clause-owner c = record {
+  arena = _;
+  there = record { at = c.get_pointer_element-at.result; stands = c.hand_out.ensures.behind; leaves = c.get_pointer_element-at.ensures.leaves };
+  same = refl;
+  forest = c.in_ok-fill.ensures.forest;
+  changes = c.in_ok-fill.ensures.changes;
+  becomes = c.in_ok-fill.ensures.filled;
+}

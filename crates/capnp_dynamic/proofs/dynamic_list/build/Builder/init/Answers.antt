@@ -39,3 +39,13 @@ returns-clause-stands c = (
       ∙ (element_started (built_set c.args.self) (built_element c.args.self) c.args.size c.args.index (built_elements c.args.self) _ (room_in (built_set c.args.self) c.args.self.element_type (built_elements c.args.self) c.args.index c.requires.ready.holds c.tree_is_sound.ensures.formed c.requires.inside) c.in_ok-init.ensures.has c.in_ok-init.ensures.written).is)
       c.hand_out.ensures.stands,
 )
+
+pub returns-clause-owner : goal.returns-clause-owner
+returns-clause-owner c = record {
+  arena = _;
+  there = record { at = c.get_pointer_element-at.result; stands = c.hand_out.ensures.behind; leaves = c.get_pointer_element-at.ensures.leaves };
+  same = refl;
+  forest = c.in_ok-init.ensures.forest;
+  changes = c.in_ok-init.ensures.changes;
+  becomes = c.in_ok-init.ensures.written;
+}
