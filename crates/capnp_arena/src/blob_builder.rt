@@ -14,7 +14,8 @@ pub(crate) struct Bytes {
     count: usize,
 }
 
-/// The bytes of a text or of data that is built: the message beside the pointer that leads to them, and where they stand.
+/// The bytes of a text or of data that is built: the message beside the pointer that leads to them, and where they
+/// stand.
 #[derive(Drop)]
 pub struct BlobBuilder<'a> {
     pub arena: &'a mut Arena,
@@ -78,7 +79,8 @@ impl Arena {
         }
     }
 
-    /// Where the bytes of the text stand that the pointer at a word leads to, without the zero that ends it; of a null none.
+    /// Where the bytes of the text stand that the pointer at a word leads to, without the zero that ends it; of a null
+    /// none.
     ///
     /// Refused as `get_text`.
     fn find_text(&self, at: usize) -> Result<Bytes>
@@ -98,8 +100,8 @@ impl Arena {
 
     /// Makes the pointer at a word one to a new text of so many zero bytes, and answers where they start.
     ///
-    /// Refused with `SizePastFormat` where these would be 2^29 bytes or more with the zero that ends them, and else with
-    /// `OutOfMemory`; then nothing has changed.
+    /// Refused with `SizePastFormat` where these would be 2^29 bytes or more with the zero that ends them, and else
+    /// with `OutOfMemory`; then nothing has changed.
     fn init_text_list(&mut self, at: usize, count: u32) -> Result<usize>
         requires inside { at < word_count (segment self.old) }
         ensures forest { IfOk result (λ _. Forest (segment self.new) at) }
@@ -116,8 +118,8 @@ impl Arena {
         self.init_list(at, ElementSize::Byte, count + 1)
     }
 
-    /// The first bytes of the list of bytes that the pointer at a word leads to, of a null none, as they stand. The message
-    /// ends with what is left in them (`leaves`).
+    /// The first bytes of the list of bytes that the pointer at a word leads to, of a null none, as they stand. The
+    /// message ends with what is left in them (`leaves`).
     pub fn front_mut(&mut self, at: usize, start: usize, count: usize) -> &mut [u8]
         requires forest { Forest (segment self.old) at }
         requires front { IsFront (segment self.old) at start count }
@@ -125,13 +127,14 @@ impl Arena {
         ensures now { result.now ≡ bytes_at (segment self.old) start count }
         ensures long { length result.now ≡ count }
         ensures leaves { (left : List ℕ) → length left ≡ count
-            → Leaves at (with_front left (tree (segment self.old) at)) (segment self.old) (segment (with_part self.old start left)) }
+            → Leaves at (with_front left (tree (segment self.old) at)) (segment self.old)
+            (segment (with_part self.old start left)) }
     {
         self.part_mut(start, count)
     }
 
-    /// The first bytes of the list of bytes that the pointer at a word leads to, as they stand. The message ends with what is
-    /// left in them (`leaves`).
+    /// The first bytes of the list of bytes that the pointer at a word leads to, as they stand. The message ends with
+    /// what is left in them (`leaves`).
     pub fn bytes_mut(&mut self, at: usize, list: ListPlace, count: usize) -> &mut [u8]
         requires forest { Forest (segment self.old) at }
         requires there { shape_at (segment self.old) at ≡ ListIn list.start 2 list.count }
@@ -140,7 +143,8 @@ impl Arena {
         ensures now { result.now ≡ bytes_at (segment self.old) list.start count }
         ensures long { length result.now ≡ count }
         ensures leaves { (left : List ℕ) → length left ≡ count
-            → Leaves at (Numbers 1 (left ++ drop count (bytes_at (segment self.old) list.start list.count))) (segment self.old) (segment (with_part self.old list.start left)) }
+            → Leaves at (Numbers 1 (left ++ drop count (bytes_at (segment self.old) list.start list.count)))
+            (segment self.old) (segment (with_part self.old list.start left)) }
     {
         self.part_mut(list.start, count)
     }
@@ -170,7 +174,8 @@ impl<'a> BlobBuilder<'a> {
         ensures now { result.now ≡ blob_bytes self.entry }
         ensures long { length result.now ≡ self.entry.count }
         ensures leaves { (left : List ℕ) → length left ≡ self.entry.count
-            → Leaves self.entry.at (with_front left (tree (segment self.entry.arena.now) self.entry.at)) (segment self.entry.arena.now) (segment (with_part self.entry.arena.now self.entry.start left)) }
+            → Leaves self.entry.at (with_front left (tree (segment self.entry.arena.now) self.entry.at))
+            (segment self.entry.arena.now) (segment (with_part self.entry.arena.now self.entry.start left)) }
     {
         let BlobBuilder {
             arena,
@@ -220,8 +225,8 @@ impl<'a> PointerBuilder<'a> {
         })
     }
 
-    /// The bytes of the text that stands here, without the zero that ends it, to be changed; none for a null, which stays
-    /// null.
+    /// The bytes of the text that stands here, without the zero that ends it, to be changed; none for a null, which
+    /// stays null.
     ///
     /// Refused as `get_data_mut`, and with `TextNotTerminated` where the list is empty or its last byte is not zero.
     /// Nothing has changed then.
@@ -256,7 +261,8 @@ impl<'a> PointerBuilder<'a> {
         ensures count { IfOk result (λ b. b.count ≡ count) }
         ensures bytes { IfOk result (λ b. blob_bytes b ≡ replicate count 0) }
         ensures tree { IfOk result (λ b. tree (segment b.arena.now) self.entry.at ≡ Numbers 1 (replicate count 0)) }
-        ensures changes { IfOk result (λ b. Changes self.entry.at (segment self.entry.arena.now) (segment b.arena.now)) }
+        ensures changes { IfOk result (λ b. Changes self.entry.at (segment self.entry.arena.now)
+            (segment b.arena.now)) }
         ensures within { OnOk result (count < 2 ^ 29) }
         ensures cause { IfErr result (λ e. IsRoomRefusal e (2 ^ 29 ≤ count)) }
     {
@@ -282,8 +288,10 @@ impl<'a> PointerBuilder<'a> {
         ensures there { IfOk result IsBlob }
         ensures count { IfOk result (λ b. b.count ≡ count) }
         ensures bytes { IfOk result (λ b. blob_bytes b ≡ replicate count 0) }
-        ensures tree { IfOk result (λ b. tree (segment b.arena.now) self.entry.at ≡ Numbers 1 (replicate (count + 1) 0)) }
-        ensures changes { IfOk result (λ b. Changes self.entry.at (segment self.entry.arena.now) (segment b.arena.now)) }
+        ensures tree { IfOk result (λ b. tree (segment b.arena.now) self.entry.at
+            ≡ Numbers 1 (replicate (count + 1) 0)) }
+        ensures changes { IfOk result (λ b. Changes self.entry.at (segment self.entry.arena.now)
+            (segment b.arena.now)) }
         ensures within { OnOk result (count + 1 < 2 ^ 29) }
         ensures cause { IfErr result (λ e. IsRoomRefusal e (2 ^ 29 ≤ count + 1)) }
     {
@@ -297,8 +305,8 @@ impl<'a> PointerBuilder<'a> {
         })
     }
 
-    /// The first bytes of the list of bytes that stands here, for as long as the builder would be there. The message ends
-    /// with what is left in them (`leaves`).
+    /// The first bytes of the list of bytes that stands here, for as long as the builder would be there. The message
+    /// ends with what is left in them (`leaves`).
     pub fn bytes_mut(self, list: ListPlace, count: usize) -> &'a mut [u8]
         requires forest { IsPointer self }
         requires there { shape_at (segment self.arena.now) self.at ≡ ListIn list.start 2 list.count }
@@ -307,7 +315,9 @@ impl<'a> PointerBuilder<'a> {
         ensures now { result.now ≡ bytes_at (segment self.entry.arena.now) list.start count }
         ensures long { length result.now ≡ count }
         ensures leaves { (left : List ℕ) → length left ≡ count
-            → Leaves self.entry.at (Numbers 1 (left ++ drop count (bytes_at (segment self.entry.arena.now) list.start list.count))) (segment self.entry.arena.now) (segment (with_part self.entry.arena.now list.start left)) }
+            → Leaves self.entry.at (Numbers 1 (left ++ drop count
+            (bytes_at (segment self.entry.arena.now) list.start list.count))) (segment self.entry.arena.now)
+            (segment (with_part self.entry.arena.now list.start left)) }
     {
         let PointerBuilder { arena, at } = self;
         arena.bytes_mut(at, list, count)

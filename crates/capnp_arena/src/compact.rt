@@ -69,8 +69,8 @@ impl Arena {
     ghost use Rattle.std.specs.Prelude.{OnErr, OnOk};
     ghost use Rattle.capnp_arena.specs.Segment.{segment};
 
-    /// Leaves the root pointer and what it leads to, in the order of the encoding: what was replaced or cleared is given up,
-    /// and there is room for as much again. Places move, so none below the root is one any more.
+    /// Leaves the root pointer and what it leads to, in the order of the encoding: what was replaced or cleared is
+    /// given up, and there is room for as much again. Places move, so none below the root is one any more.
     ///
     /// Refused with `OutOfMemory`; then nothing has changed.
     pub fn compact(&mut self) -> Result<()>

@@ -1,9 +1,10 @@
 //! Builders as a reference to the message beside a place.
 //!
 //! A builder that the message hands out is known by the message's own reference: what calls by value and calls of
-//! `&mut self` leave, one after another, is known to be left in the message. Of a builder that another one lends (`reborrow`
-//! and the calls named `_mut`) a caller knows that where it is taken apart, or passed on by value; where its calls of
-//! `&mut self` are to be known, let the message behind it hand one out, as `built.arena.pointer_field(place, 0)`.
+//! `&mut self` leave, one after another, is known to be left in the message. Of a builder that another one lends
+//! (`reborrow` and the calls named `_mut`) a caller knows that where it is taken apart, or passed on by value; where
+//! its calls of `&mut self` are to be known, let the message behind it hand one out, as
+//! `built.arena.pointer_field(place, 0)`.
 ghost use Rattle.std.specs.Prelude.{OnErr, OnOk, ◌*◌, ◌+◌, ◌≡◌, ◌≤◌};
 ghost use Rattle.capnp_wire.specs.Edits.{extended, struct_in, with_bytes, with_number};
 ghost use Rattle.capnp_wire.specs.Place.{struct_tree};
@@ -91,7 +92,8 @@ impl Arena {
         ensures at { result.at ≡ place.start + place.data_words + index }
         ensures inside { result.at < word_count (segment self.old) }
         ensures forest { IsPointer result }
-        ensures tree { pointer_tree result ≡ nth_tree (struct_from (segment self.old) place.start place.data_words place.pointers).pointers index }
+        ensures tree { pointer_tree result ≡ nth_tree
+            (struct_from (segment self.old) place.start place.data_words place.pointers).pointers index }
         ensures leaves { (new : List ℕ) → Forest new result.at → Changes result.at (segment self.old) new
             → IsInPointer (segment self.old) new place.start place.data_words place.pointers index }
     {
@@ -108,15 +110,19 @@ impl Arena {
         ensures now { result.arena.now ≡ self.old }
         ensures planted { IsStruct result }
         ensures tree { built_struct result ≡ element_struct (tree (segment self.old) at) index }
-        ensures leaves { (new : List ℕ) → Planted new (part result.place) → PartChanges (part result.place) (segment self.old) new
-            → Leaves at (with_struct_element index (struct_from new result.place.start result.place.data_words result.place.pointers) (tree (segment self.old) at)) (segment self.old) new }
+        ensures leaves { (new : List ℕ) → Planted new (part result.place)
+            → PartChanges (part result.place) (segment self.old) new
+            → Leaves at
+            (with_struct_element index
+            (struct_from new result.place.start result.place.data_words result.place.pointers)
+            (tree (segment self.old) at)) (segment self.old) new }
     {
         let place = self.get_struct_at(at, index);
         StructBuilder { arena: self, place }
     }
 
-    /// The pointer at `index` of the list that the pointer at a word leads to: of a list of structs, the first of the struct.
-    /// There has to be one.
+    /// The pointer at `index` of the list that the pointer at a word leads to: of a list of structs, the first of the
+    /// struct. There has to be one.
     #[inline(always)]
     pub fn pointer_element(&mut self, at: usize, index: u32) -> PointerBuilder<'_>
         requires forest { Forest (segment self.old) at }
@@ -127,7 +133,8 @@ impl Arena {
         ensures forest { IsPointer result }
         ensures tree { pointer_tree result ≡ element_pointer (tree (segment self.old) at) index 1 }
         ensures leaves { (new : List ℕ) → Forest new result.at → Changes result.at (segment self.old) new
-            → Leaves at (with_pointer_element index (tree new result.at) (tree (segment self.old) at)) (segment self.old) new }
+            → Leaves at (with_pointer_element index (tree new result.at) (tree (segment self.old) at))
+            (segment self.old) new }
     {
         let at = self.get_pointer_element(at, index);
         PointerBuilder { arena: self, at }
@@ -145,8 +152,10 @@ pub fn get_and_set<T: PrimitiveElement>(
     requires forest { Forest (segment arena.old) at }
     requires inside { (offset + 1) * T.width ≤ 8 * size.data_words }
     ensures forest { OnOk result (Forest (segment arena.new) at) }
-    ensures tree { OnOk result (tree (segment arena.new) at ≡ struct_tree (with_bytes (extended size (struct_in (tree (segment arena.old) at)))
-        (with_number T.width offset (T.to_number value) (extended size (struct_in (tree (segment arena.old) at))).bytes))) }
+    ensures tree { OnOk result (tree (segment arena.new) at
+        ≡ struct_tree (with_bytes (extended size (struct_in (tree (segment arena.old) at)))
+        (with_number T.width offset (T.to_number value)
+        (extended size (struct_in (tree (segment arena.old) at))).bytes))) }
     ensures changes { OnOk result (Changes at (segment arena.old) (segment arena.new)) }
     ensures refused { OnErr result (segment arena.new ≡ segment arena.old) }
 {

@@ -41,7 +41,8 @@ fn has_zeros_behind(bytes: &[u8], w: usize, over: usize) -> bool
 fn end_of_bytes(bytes: &[u8], start: usize, count: usize) -> Option<usize>
     requires inside { start + (count + 7) / 8 ≤ word_count bytes.now }
     requires few { (start < 2 ^ 30) × (count < 2 ^ 32) }
-    ensures { IfKnown result (λ next. (next ≡ start + (count + 7) / 8) × (bytes_at bytes.now start (8 * (next - start)) ≡ padded (bytes_at bytes.now start count))) }
+    ensures { IfKnown result (λ next. (next ≡ start + (count + 7) / 8)
+        × (bytes_at bytes.now start (8 * (next - start)) ≡ padded (bytes_at bytes.now start count))) }
 {
     let end = start + count / 8;
     let over = count % 8;
@@ -61,7 +62,9 @@ fn end_of_plain(bytes: &[u8], start: usize, element_size: u8, count: u32) -> Opt
     requires plain { element_size < 6 }
     requires few { (count < 2 ^ 29) × (start < 2 ^ 30) }
     requires inside { start + list_words element_size count ≤ word_count bytes.now }
-    ensures { IfKnown result (λ next. (start ≤ next) × (next ≤ word_count bytes.now) × (bytes_at bytes.now start (8 * (next - start)) ≡ own_bytes (list_tree (tree bytes.now) bytes.now start element_size count))) }
+    ensures { IfKnown result (λ next. (start ≤ next) × (next ≤ word_count bytes.now)
+        × (bytes_at bytes.now start (8 * (next - start))
+        ≡ own_bytes (list_tree (tree bytes.now) bytes.now start element_size count))) }
 {
     let number = count as usize;
     if element_size == 0 {

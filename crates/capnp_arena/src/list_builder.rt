@@ -1,7 +1,7 @@
 //! Builders of lists: a reference to the message beside the word of the list's pointer and what stands there.
 //!
-//! The elements of a list that is built are where its pointer leads: that of a list that was got as it is, and those of a
-//! null nowhere.
+//! The elements of a list that is built are where its pointer leads: that of a list that was got as it is, and those of
+//! a null nowhere.
 
 use crate::arena::Arena;
 use crate::list_reads::ListTarget;
@@ -50,14 +50,17 @@ impl<'a> ListBuilder<'a> {
         ListBuilder { arena, at, list }
     }
 
-    /// A reader of the list, with 64 levels. What it leads to is cut off past 65,534 levels, which only walks of a whole tree
-    /// can see.
+    /// A reader of the list, with 64 levels. What it leads to is cut off past 65,534 levels, which only walks of a
+    /// whole tree can see.
     #[inline(always)]
     pub fn as_reader(&self) -> ListReader<'_>
         requires forest { Forest (segment self.now.arena.now) self.now.at }
         requires there { shape_at (segment self.now.arena.now) self.now.at ≡ list_shape self.now.list }
-        ensures read { list_of result ≡ listed_tree (tree_below 65535 (segment self.now.arena.now ∷ []) (segment self.now.arena.now) self.now.at) self.now.list }
-        ensures list { IsBelow 65535 (list_tree self.now) → list_of result ≡ listed_tree (list_tree self.now) self.now.list }
+        ensures read { list_of result ≡ listed_tree
+            (tree_below 65535 (segment self.now.arena.now ∷ [])
+            (segment self.now.arena.now) self.now.at) self.now.list }
+        ensures list { IsBelow 65535 (list_tree self.now)
+            → list_of result ≡ listed_tree (list_tree self.now) self.now.list }
         ensures levels { list_levels result ≡ 64 }
     {
         self.arena.get_list_reader(self.at, self.list)
@@ -69,8 +72,11 @@ impl<'a> ListBuilder<'a> {
     pub fn into_reader(self) -> ListReader<'a>
         requires forest { Forest (segment self.arena.now) self.at }
         requires there { shape_at (segment self.arena.now) self.at ≡ list_shape self.list }
-        ensures read { list_of result ≡ listed_tree (tree_below 65535 (segment self.entry.arena.now ∷ []) (segment self.entry.arena.now) self.entry.at) self.entry.list }
-        ensures list { IsBelow 65535 (list_tree self.entry) → list_of result ≡ listed_tree (list_tree self.entry) self.entry.list }
+        ensures read { list_of result ≡ listed_tree
+            (tree_below 65535 (segment self.entry.arena.now ∷ [])
+            (segment self.entry.arena.now) self.entry.at) self.entry.list }
+        ensures list { IsBelow 65535 (list_tree self.entry)
+            → list_of result ≡ listed_tree (list_tree self.entry) self.entry.list }
         ensures levels { list_levels result ≡ 64 }
     {
         let ListBuilder { arena, at, list } = self;
@@ -126,7 +132,8 @@ impl<'a> ListBuilder<'a> {
         ensures same { self.new.arena.ghost_name ≡ self.old.arena.ghost_name }
         ensures at { self.new.at ≡ self.old.at }
         ensures list { self.new.list ≡ self.old.list }
-        ensures leaves { Leaves self.old.at (with_bit_element index value (list_tree self.old)) (segment self.old.arena.now) (segment self.new.arena.now) }
+        ensures leaves { Leaves self.old.at (with_bit_element index value (list_tree self.old))
+            (segment self.old.arena.now) (segment self.new.arena.now) }
     {
         self.arena.set_bool_element(self.at, index, value);
     }
@@ -149,7 +156,8 @@ impl<'a> ListBuilder<'a> {
         ensures same { self.new.arena.ghost_name ≡ self.old.arena.ghost_name }
         ensures at { self.new.at ≡ self.old.at }
         ensures list { self.new.list ≡ self.old.list }
-        ensures leaves { Leaves self.old.at (with_number_element T.width index (T.to_number value) (list_tree self.old)) (segment self.old.arena.now) (segment self.new.arena.now) }
+        ensures leaves { Leaves self.old.at (with_number_element T.width index (T.to_number value)
+            (list_tree self.old)) (segment self.old.arena.now) (segment self.new.arena.now) }
     {
         self.arena.set_data_element(self.at, index, value);
     }
@@ -163,8 +171,11 @@ impl<'a> ListBuilder<'a> {
         ensures now { result.arena.now ≡ self.entry.arena.now }
         ensures planted { IsStruct result }
         ensures tree { built_struct result ≡ element_struct (list_tree self.entry) index }
-        ensures leaves { (new : List ℕ) → Planted new (part result.place) → PartChanges (part result.place) (segment self.entry.arena.now) new
-            → Leaves self.entry.at (with_struct_element index (struct_from new result.place.start result.place.data_words result.place.pointers) (list_tree self.entry)) (segment self.entry.arena.now) new }
+        ensures leaves { (new : List ℕ) → Planted new (part result.place)
+            → PartChanges (part result.place) (segment self.entry.arena.now) new
+            → Leaves self.entry.at (with_struct_element index
+            (struct_from new result.place.start result.place.data_words result.place.pointers) (list_tree self.entry))
+            (segment self.entry.arena.now) new }
     {
         let ListBuilder { arena, at, list: _ } = self;
         let place = arena.get_struct_at(at, index);
@@ -180,8 +191,11 @@ impl<'a> ListBuilder<'a> {
         ensures now { result.arena.now ≡ self.old.arena.now }
         ensures planted { IsStruct result }
         ensures tree { built_struct result ≡ element_struct (list_tree self.old) index }
-        ensures leaves { (new : List ℕ) → Planted new (part result.place) → PartChanges (part result.place) (segment self.old.arena.now) new
-            → Leaves self.old.at (with_struct_element index (struct_from new result.place.start result.place.data_words result.place.pointers) (list_tree self.old)) (segment self.old.arena.now) new }
+        ensures leaves { (new : List ℕ) → Planted new (part result.place)
+            → PartChanges (part result.place) (segment self.old.arena.now) new
+            → Leaves self.old.at (with_struct_element index
+            (struct_from new result.place.start result.place.data_words result.place.pointers) (list_tree self.old))
+            (segment self.old.arena.now) new }
     {
         let place = self.arena.get_struct_at(self.at, index);
         let arena = &mut *self.arena;
@@ -199,7 +213,8 @@ impl<'a> ListBuilder<'a> {
         ensures forest { IsPointer result }
         ensures tree { pointer_tree result ≡ element_pointer (list_tree self.entry) index 1 }
         ensures leaves { (new : List ℕ) → Forest new result.at → Changes result.at (segment self.entry.arena.now) new
-            → Leaves self.entry.at (with_pointer_element index (tree new result.at) (list_tree self.entry)) (segment self.entry.arena.now) new }
+            → Leaves self.entry.at (with_pointer_element index (tree new result.at) (list_tree self.entry))
+            (segment self.entry.arena.now) new }
     {
         let ListBuilder { arena, at, list: _ } = self;
         let at = arena.get_pointer_element(at, index);
@@ -217,7 +232,8 @@ impl<'a> ListBuilder<'a> {
         ensures forest { IsPointer result }
         ensures tree { pointer_tree result ≡ element_pointer (list_tree self.old) index 1 }
         ensures leaves { (new : List ℕ) → Forest new result.at → Changes result.at (segment self.old.arena.now) new
-            → Leaves self.old.at (with_pointer_element index (tree new result.at) (list_tree self.old)) (segment self.old.arena.now) new }
+            → Leaves self.old.at (with_pointer_element index (tree new result.at) (list_tree self.old))
+            (segment self.old.arena.now) new }
     {
         let at = self.arena.get_pointer_element(self.at, index);
         let arena = &mut *self.arena;

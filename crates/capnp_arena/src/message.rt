@@ -92,14 +92,15 @@ impl Arena {
         Ok(words + 1)
     }
 
-    /// The bytes of the message in a stream: one segment, with what the root leads to and nothing else. The message takes
-    /// its memory once.
+    /// The bytes of the message in a stream: one segment, with what the root leads to and nothing else. The message
+    /// takes its memory once.
     ///
     /// Refused with `OutOfMemory`: no message in memory has 2^29 words.
     pub fn write_message(&self) -> Result<Vec<u8>>
         requires forest { Forest (segment self.now) 0 }
         ensures bytes { IfOk result (λ v. v.items ≡ message_of (tree (segment self.now) 0)) }
-        ensures held { IfOk result (λ _. IsWellFormed (tree (segment self.now) 0) × (suc (words_of (tree (segment self.now) 0)) < 2 ^ 29)) }
+        ensures held { IfOk result (λ _. IsWellFormed (tree (segment self.now) 0)
+            × (suc (words_of (tree (segment self.now) 0)) < 2 ^ 29)) }
         ensures read { IfOk result (λ v. IsReadAs (tree (segment self.now) 0) v.items) }
         ensures kinds { IfErr result (λ e. e.kind ≢ TooLarge → e.kind ≡ OutOfMemory) }
         ensures kind { IfErr result (λ e. e.kind ≡ OutOfMemory) }
@@ -115,21 +116,25 @@ impl Arena {
     /// Writes the message's bytes, those of `write_message`, to a sink. They are made whole before the first of them is
     /// written.
     ///
-    /// Refused as `write_message`, and then nothing was written; and with `WriteFailed` where a call of the sink failed,
-    /// and then a proper beginning of the bytes was written.
+    /// Refused as `write_message`, and then nothing was written; and with `WriteFailed` where a call of the sink
+    /// failed, and then a proper beginning of the bytes was written.
     pub fn write_message_to<W: Sink>(&self, sink: &mut W) -> Result<()>
         requires message { IsMessage self.now }
         ensures written { OnOk result (IsWritten (message_tree self.now) (W.written sink.old) (W.written sink.new)) }
         ensures worked { OnOk result (HasWorked (W.failures sink.old) (W.failures sink.new)) }
-        ensures held { OnOk result (IsWellFormed (message_tree self.now) × (suc (words_of (message_tree self.now)) < 2 ^ 29)) }
+        ensures held { OnOk result (IsWellFormed (message_tree self.now)
+            × (suc (words_of (message_tree self.now)) < 2 ^ 29)) }
         ensures read { OnOk result (IsReadAs (message_tree self.now) (message_of (message_tree self.now))) }
         ensures kinds { IfErr result (λ e. e.kind ≢ TooLarge → e.kind ≢ OutOfMemory → e.kind ≡ WriteFailed) }
         ensures kind { IfErr result (λ e. e.kind ≢ OutOfMemory → e.kind ≡ WriteFailed) }
         ensures refused { IfErr result (λ e. e.kind ≡ TooLarge → 2 ^ 29 ≤ suc (words_of (message_tree self.now))) }
-        ensures fits { IfErr result (λ e. e.kind ≢ TooLarge → IsWellFormed (message_tree self.now) × (suc (words_of (message_tree self.now)) < 2 ^ 29)) }
+        ensures fits { IfErr result (λ e. e.kind ≢ TooLarge → IsWellFormed (message_tree self.now)
+            × (suc (words_of (message_tree self.now)) < 2 ^ 29)) }
         ensures nothing { IfErr result (λ e. e.kind ≢ WriteFailed → sink.new ≡ sink.old) }
-        ensures failed { IfErr result (λ e. e.kind ≡ WriteFailed → HasFailed (W.failures sink.old) (W.failures sink.new)) }
-        ensures beginning { IfErr result (λ e. e.kind ≡ WriteFailed → IsCutShort (message_tree self.now) (W.written sink.old) (W.written sink.new)) }
+        ensures failed { IfErr result (λ e. e.kind ≡ WriteFailed
+            → HasFailed (W.failures sink.old) (W.failures sink.new)) }
+        ensures beginning { IfErr result (λ e. e.kind ≡ WriteFailed
+            → IsCutShort (message_tree self.now) (W.written sink.old) (W.written sink.new)) }
     {
         self.tree_is_sound(0);
         let bytes = self.write_message()?;

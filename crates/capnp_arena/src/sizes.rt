@@ -13,13 +13,14 @@ impl Arena {
     ghost use Rattle.capnp_arena.specs.Segment.{segment};
     ghost use Rattle.capnp_arena.specs.Shape.{StructIn};
 
-    /// The size of a struct with all that its pointers lead to: its data and its pointers, and the targets, the tag of a
-    /// composite list with them. There are no capabilities. Takes no memory.
+    /// The size of a struct with all that its pointers lead to: its data and its pointers, and the targets, the tag of
+    /// a composite list with them. There are no capabilities. Takes no memory.
     ///
     /// Never refused: no message in memory has 2^29 words.
     pub fn total_size(&self, place: Place) -> Result<MessageSize>
         requires planted { Planted (segment self.now) (StructIn place.start place.data_words place.pointers) }
-        ensures size { IfOk result (λ size. IsSize size None (words_of_struct (struct_from (segment self.now) place.start place.data_words place.pointers))) }
+        ensures size { IfOk result (λ size. IsSize size None
+            (words_of_struct (struct_from (segment self.now) place.start place.data_words place.pointers))) }
         ensures succeeds { IsOk result }
     {
         let own = place.data_words as u64 + place.pointers as u64;
@@ -33,8 +34,8 @@ impl Arena {
         })
     }
 
-    /// The size of all that the pointer at a word leads to, without the pointer itself: 0 words for a null. It counts and
-    /// succeeds as `total_size`.
+    /// The size of all that the pointer at a word leads to, without the pointer itself: 0 words for a null. It counts
+    /// and succeeds as `total_size`.
     pub fn target_size(&self, at: usize) -> Result<MessageSize>
         requires forest { Forest (segment self.now) at }
         ensures size { IfOk result (λ size. IsSize size None (words_of (tree (segment self.now) at))) }

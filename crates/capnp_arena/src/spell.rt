@@ -74,7 +74,8 @@ pub fn write_number<T: PrimitiveElement>(
     requires part { at + count ≤ length out.old.items }
     requires inside { (offset + 1) * T.width ≤ count }
     ensures long { length out.new.items ≡ length out.old.items }
-    ensures put { out.new.items ≡ put at (with_number T.width offset (T.to_number value) (take count (drop at out.old.items))) out.old.items }
+    ensures put { out.new.items ≡ put at (with_number T.width offset (T.to_number value)
+        (take count (drop at out.old.items))) out.old.items }
 {
     T::write(&mut out[at..at + count], offset, value);
 }
@@ -92,7 +93,8 @@ pub fn write_number_mask<T: PrimitiveElement>(
     requires part { at + count ≤ length out.old.items }
     requires inside { (offset + 1) * T.width ≤ count }
     ensures long { length out.new.items ≡ length out.old.items }
-    ensures put { out.new.items ≡ put at (with_number T.width offset (bit_xor (T.to_number value) (T.to_number mask)) (take count (drop at out.old.items))) out.old.items }
+    ensures put { out.new.items ≡ put at (with_number T.width offset (bit_xor (T.to_number value) (T.to_number mask))
+        (take count (drop at out.old.items))) out.old.items }
 {
     T::write_masked(&mut out[at..at + count], offset, value, mask);
 }

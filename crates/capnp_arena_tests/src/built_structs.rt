@@ -24,7 +24,8 @@ pub fn masked(fields: &mut StructBuilder<'_>) -> Result<[u64; 3]>
     ensures same { fields.new.arena.ghost_name ≡ fields.old.arena.ghost_name }
     ensures place { fields.new.place ≡ fields.old.place }
     ensures planted { OnOk result (IsStruct fields.new) }
-    ensures changes { OnOk result (PartChanges (part fields.old.place) (segment fields.old.arena.now) (segment fields.new.arena.now)) }
+    ensures changes { OnOk result (PartChanges (part fields.old.place) (segment fields.old.arena.now)
+        (segment fields.new.arena.now)) }
 {
     fields.set_data_field_mask::<u16>(1, 5, 7);
     Ok([
@@ -41,7 +42,8 @@ pub fn bit(fields: &mut StructBuilder<'_>) -> Result<[u64; 3]>
     ensures same { fields.new.arena.ghost_name ≡ fields.old.arena.ghost_name }
     ensures place { fields.new.place ≡ fields.old.place }
     ensures planted { OnOk result (IsStruct fields.new) }
-    ensures changes { OnOk result (PartChanges (part fields.old.place) (segment fields.old.arena.now) (segment fields.new.arena.now)) }
+    ensures changes { OnOk result (PartChanges (part fields.old.place) (segment fields.old.arena.now)
+        (segment fields.new.arena.now)) }
 {
     fields.set_bool_field(9, true);
     Ok([
@@ -58,7 +60,8 @@ pub fn masked_bits(fields: &mut StructBuilder<'_>) -> Result<[u64; 3]>
     ensures same { fields.new.arena.ghost_name ≡ fields.old.arena.ghost_name }
     ensures place { fields.new.place ≡ fields.old.place }
     ensures planted { OnOk result (IsStruct fields.new) }
-    ensures changes { OnOk result (PartChanges (part fields.old.place) (segment fields.old.arena.now) (segment fields.new.arena.now)) }
+    ensures changes { OnOk result (PartChanges (part fields.old.place) (segment fields.old.arena.now)
+        (segment fields.new.arena.now)) }
 {
     fields.set_bool_field_mask(9, false, true);
     fields.set_bool_field_mask(3, true, true);
@@ -75,7 +78,8 @@ pub fn word(fields: &mut StructBuilder<'_>) -> Result<[u64; 3]>
     ensures same { fields.new.arena.ghost_name ≡ fields.old.arena.ghost_name }
     ensures place { fields.new.place ≡ fields.old.place }
     ensures planted { OnOk result (IsStruct fields.new) }
-    ensures changes { OnOk result (PartChanges (part fields.old.place) (segment fields.old.arena.now) (segment fields.new.arena.now)) }
+    ensures changes { OnOk result (PartChanges (part fields.old.place) (segment fields.old.arena.now)
+        (segment fields.new.arena.now)) }
 {
     fields.set_data_field::<u64>(0, 0x0000_0009_0001_0005);
     Ok([0; 3])
@@ -88,7 +92,8 @@ pub fn struct_here(fields: &mut StructBuilder<'_>) -> Result<[u64; 3]>
     ensures same { fields.new.arena.ghost_name ≡ fields.old.arena.ghost_name }
     ensures place { fields.new.place ≡ fields.old.place }
     ensures planted { OnOk result (IsStruct fields.new) }
-    ensures changes { OnOk result (PartChanges (part fields.old.place) (segment fields.old.arena.now) (segment fields.new.arena.now)) }
+    ensures changes { OnOk result (PartChanges (part fields.old.place) (segment fields.old.arena.now)
+        (segment fields.new.arena.now)) }
 {
     let is_null = fields.pointer_field(0).is_null();
     fields.set_data_field::<u16>(1, 7);
@@ -102,7 +107,8 @@ pub fn cleared(fields: &mut StructBuilder<'_>) -> Result<[u64; 3]>
     ensures same { fields.new.arena.ghost_name ≡ fields.old.arena.ghost_name }
     ensures place { fields.new.place ≡ fields.old.place }
     ensures planted { OnOk result (IsStruct fields.new) }
-    ensures changes { OnOk result (PartChanges (part fields.old.place) (segment fields.old.arena.now) (segment fields.new.arena.now)) }
+    ensures changes { OnOk result (PartChanges (part fields.old.place) (segment fields.old.arena.now)
+        (segment fields.new.arena.now)) }
 {
     let place = fields.place;
     let mut name = fields.arena.pointer_field(place, 0);
@@ -119,7 +125,8 @@ fn put_text(fields: &mut StructBuilder<'_>) -> Result<()>
     ensures same { fields.new.arena.ghost_name ≡ fields.old.arena.ghost_name }
     ensures place { fields.new.place ≡ fields.old.place }
     ensures planted { OnOk result (IsStruct fields.new) }
-    ensures changes { OnOk result (PartChanges (part fields.old.place) (segment fields.old.arena.now) (segment fields.new.arena.now)) }
+    ensures changes { OnOk result (PartChanges (part fields.old.place) (segment fields.old.arena.now)
+        (segment fields.new.arena.now)) }
 {
     let place = fields.place;
     let mut pointer = fields.arena.pointer_field(place, 0);
@@ -134,7 +141,8 @@ pub fn measured(fields: &mut StructBuilder<'_>) -> Result<[u64; 3]>
     ensures same { fields.new.arena.ghost_name ≡ fields.old.arena.ghost_name }
     ensures place { fields.new.place ≡ fields.old.place }
     ensures planted { OnOk result (IsStruct fields.new) }
-    ensures changes { OnOk result (PartChanges (part fields.old.place) (segment fields.old.arena.now) (segment fields.new.arena.now)) }
+    ensures changes { OnOk result (PartChanges (part fields.old.place) (segment fields.old.arena.now)
+        (segment fields.new.arena.now)) }
 {
     let first = fields.total_size()?;
     put_text(fields)?;
@@ -148,7 +156,8 @@ fn copy_to_pointer(fields: &mut StructBuilder<'_>, source: PointerReader<'_>) ->
     ensures same { fields.new.arena.ghost_name ≡ fields.old.arena.ghost_name }
     ensures place { fields.new.place ≡ fields.old.place }
     ensures planted { OnOk result (IsStruct fields.new) }
-    ensures changes { OnOk result (PartChanges (part fields.old.place) (segment fields.old.arena.now) (segment fields.new.arena.now)) }
+    ensures changes { OnOk result (PartChanges (part fields.old.place) (segment fields.old.arena.now)
+        (segment fields.new.arena.now)) }
 {
     let place = fields.place;
     let mut pointer = fields.arena.pointer_field(place, 0);
@@ -163,7 +172,8 @@ pub fn copied_text(alloc: Global, fields: &mut StructBuilder<'_>) -> Result<[u64
     ensures same { fields.new.arena.ghost_name ≡ fields.old.arena.ghost_name }
     ensures place { fields.new.place ≡ fields.old.place }
     ensures planted { OnOk result (IsStruct fields.new) }
-    ensures changes { OnOk result (PartChanges (part fields.old.place) (segment fields.old.arena.now) (segment fields.new.arena.now)) }
+    ensures changes { OnOk result (PartChanges (part fields.old.place) (segment fields.old.arena.now)
+        (segment fields.new.arena.now)) }
 {
     let bytes = bytes_of(
         alloc,
@@ -180,7 +190,8 @@ pub fn sizes(fields: &mut StructBuilder<'_>) -> Result<[u64; 3]>
     ensures same { fields.new.arena.ghost_name ≡ fields.old.arena.ghost_name }
     ensures place { fields.new.place ≡ fields.old.place }
     ensures planted { OnOk result (IsStruct fields.new) }
-    ensures changes { OnOk result (PartChanges (part fields.old.place) (segment fields.old.arena.now) (segment fields.new.arena.now)) }
+    ensures changes { OnOk result (PartChanges (part fields.old.place) (segment fields.old.arena.now)
+        (segment fields.new.arena.now)) }
 {
     let size = fields.get_size();
     let place = fields.place;
@@ -196,7 +207,8 @@ fn set_numbers(fields: &mut StructBuilder<'_>)
     ensures same { fields.new.arena.ghost_name ≡ fields.old.arena.ghost_name }
     ensures place { fields.new.place ≡ fields.old.place }
     ensures planted { IsStruct fields.new }
-    ensures changes { PartChanges (part fields.old.place) (segment fields.old.arena.now) (segment fields.new.arena.now) }
+    ensures changes { PartChanges (part fields.old.place) (segment fields.old.arena.now)
+        (segment fields.new.arena.now) }
 {
     fields.set_data_field::<u64>(0, 7);
     fields.set_data_field_mask::<i8>(8, -2, -1);
@@ -208,7 +220,8 @@ fn set_points(fields: &mut StructBuilder<'_>) -> Result<()>
     ensures same { fields.new.arena.ghost_name ≡ fields.old.arena.ghost_name }
     ensures place { fields.new.place ≡ fields.old.place }
     ensures planted { OnOk result (IsStruct fields.new) }
-    ensures changes { OnOk result (PartChanges (part fields.old.place) (segment fields.old.arena.now) (segment fields.new.arena.now)) }
+    ensures changes { OnOk result (PartChanges (part fields.old.place) (segment fields.old.arena.now)
+        (segment fields.new.arena.now)) }
 {
     let place = fields.place;
     let pointer = fields.arena.pointer_field(place, 2);
@@ -225,7 +238,8 @@ pub fn reading(fields: &mut StructBuilder<'_>) -> Result<[u64; 3]>
     ensures same { fields.new.arena.ghost_name ≡ fields.old.arena.ghost_name }
     ensures place { fields.new.place ≡ fields.old.place }
     ensures planted { OnOk result (IsStruct fields.new) }
-    ensures changes { OnOk result (PartChanges (part fields.old.place) (segment fields.old.arena.now) (segment fields.new.arena.now)) }
+    ensures changes { OnOk result (PartChanges (part fields.old.place) (segment fields.old.arena.now)
+        (segment fields.new.arena.now)) }
 {
     set_numbers(fields);
     set_points(fields)?;

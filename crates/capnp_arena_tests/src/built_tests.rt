@@ -1,7 +1,7 @@
 //! What is written into the parts of a message that is built, what is read there, and the bytes that are written then.
 //!
-//! What a row builds is a function of its own, of the row's name: it builds at the root of a new message, and answers three
-//! numbers that are read from what it built. Those of structs fill one that is new.
+//! What a row builds is a function of its own, of the row's name: it builds at the root of a new message, and answers
+//! three numbers that are read from what it built. Those of structs fill one that is new.
 ghost use Rattle.std.specs.Prelude.{OnOk, ◌<◌, ◌≡◌};
 ghost use Rattle.capnp_arena.specs.Forest.{PartChanges};
 ghost use Rattle.capnp_arena.specs.Handles.{IsStruct, part};
@@ -225,7 +225,8 @@ fn fill(alloc: Global, fields: &mut StructBuilder<'_>, built: Built) -> Result<[
     ensures same { fields.new.arena.ghost_name ≡ fields.old.arena.ghost_name }
     ensures place { fields.new.place ≡ fields.old.place }
     ensures planted { OnOk result (IsStruct fields.new) }
-    ensures changes { OnOk result (PartChanges (part fields.old.place) (segment fields.old.arena.now) (segment fields.new.arena.now)) }
+    ensures changes { OnOk result (PartChanges (part fields.old.place) (segment fields.old.arena.now)
+        (segment fields.new.arena.now)) }
 {
     match built {
         Built::Masked => built_structs::masked(fields),

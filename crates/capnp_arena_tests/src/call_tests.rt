@@ -531,8 +531,8 @@ fn full(alloc: Global, row: Taking) -> Result<Builder>
     Ok(message)
 }
 
-/// Makes a call that leaves these parts. Where memory is refused to it the message has those before: its words are counted,
-/// which takes no memory.
+/// Makes a call that leaves these parts. Where memory is refused to it the message has those before: its words are
+/// counted, which takes no memory.
 fn changes_or_stays(
     rt: &impl Abort,
     alloc: Global,

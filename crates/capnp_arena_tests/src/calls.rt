@@ -1,6 +1,6 @@
 //! Calls on a message that is built, as values: a row of a table says what is called, what that answers, and what the
-//! message is then. Each call of the builders stands in a function of its own, and `follow` makes those of the rows on one
-//! message. A message stays one, also where a call is refused.
+//! message is then. Each call of the builders stands in a function of its own, and `follow` makes those of the rows on
+//! one message. A message stays one, also where a call is refused.
 ghost use Rattle.std.specs.Prelude.{◌<◌, ◌≡◌, ◌≢◌};
 ghost use Rattle.capnp_arena.specs.Forest.{PartChanges};
 ghost use Rattle.capnp_arena.specs.Handles.{IsStruct, part};
@@ -41,8 +41,8 @@ pub enum Call {
     GetStructs(StructSize),
     /// A new struct of a data word and a pointer, with a number and a text.
     NewStruct(u64, &'static str),
-    /// A new struct of so many words and pointers, up to three: its last word is all ones, and its last pointer the text
-    /// "before".
+    /// A new struct of so many words and pointers, up to three: its last word is all ones, and its last pointer the
+    /// text "before".
     NewFilled(u16),
     Copy(Copied),
     Lend(Lent),
@@ -70,8 +70,8 @@ pub enum Copied {
     List(&'static str, ElementSize),
     /// The first struct of that list.
     FirstStruct(&'static str, ElementSize),
-    /// What fits of the struct at the root of these words, into the one of a data word and a pointer, or more, that stands
-    /// there.
+    /// What fits of the struct at the root of these words, into the one of a data word and a pointer, or more, that
+    /// stands there.
     Content(&'static str),
     /// What fits of the second struct of the list of bytes at the root of these words.
     ContentOfByte(&'static str),
@@ -120,7 +120,8 @@ pub fn put(fields: &mut StructBuilder<'_>, index: u16, number: u64, text: &str) 
     ensures same { fields.new.arena.ghost_name ≡ fields.old.arena.ghost_name }
     ensures place { fields.new.place ≡ fields.old.place }
     ensures planted { IsStruct fields.new }
-    ensures changes { PartChanges (part fields.old.place) (segment fields.old.arena.now) (segment fields.new.arena.now) }
+    ensures changes { PartChanges (part fields.old.place) (segment fields.old.arena.now)
+        (segment fields.new.arena.now) }
 {
     let place = fields.place;
     let mut pointer = fields.arena.pointer_field(place, index);

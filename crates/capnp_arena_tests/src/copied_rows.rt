@@ -10,8 +10,8 @@ use capnp_wire::size::ElementSize::{
     Bit, Byte, EightBytes, FourBytes, InlineComposite, Pointer, TwoBytes, Void,
 };
 
-/// Lists, as words: of nothing, of bits, of bytes, of numbers of eight bytes, of the text "hi" and a null, and of structs
-/// with 5 and a null and with 6 and the text "hi".
+/// Lists, as words: of nothing, of bits, of bytes, of numbers of eight bytes, of the text "hi" and a null, and of
+/// structs with 5 and a null and with 6 and the text "hi".
 const VOIDS: &str = "01 00 00 00 18 00 00 00";
 
 const BITS: &str = "01 00 00 00 49 00 00 00 | 81 01 00 00 00 00 00 00";

@@ -1,7 +1,7 @@
 //! The tests of `capnp_arena` by public calls: each call with its answer and the message that is written then.
 //!
-//! `calls` makes the calls of rows on one message, and compares what they answer and the message then. A new case is a new
-//! row.
+//! `calls` makes the calls of rows on one message, and compares what they answer and the message then. A new case is a
+//! new row.
 #![tactic(auto)]
 
 #[cfg(test)]

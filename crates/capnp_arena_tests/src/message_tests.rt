@@ -34,8 +34,8 @@ fn a_sink_gets_the_bytes_of_the_message(rt: HostRuntime) {
     assert_eq!(rt; answer(are_sent(rt.alloc())), Ok(true));
 }
 
-/// Why a message is not written to a sink of which so many calls work, how many bytes the sink has then, and whether they
-/// are a beginning of the message.
+/// Why a message is not written to a sink of which so many calls work, how many bytes the sink has then, and whether
+/// they are a beginning of the message.
 fn sent(alloc: Global, calls: u64) -> Result<(Option<ErrorKind>, usize, bool)> {
     let mut message = Builder::new(alloc)?;
     message.root().set_text(b"Hello, World!")?;

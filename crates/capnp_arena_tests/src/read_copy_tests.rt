@@ -42,8 +42,8 @@ const TEXT_AND_STRUCTS: &str =
      05 00 00 00 17 00 00 00 | 68 69 00 00 00 00 00 00 | 08 00 00 00 01 00 00 00 | \
      07 00 00 00 00 00 00 00 | 09 00 00 00 00 00 00 00";
 
-/// The number of a struct, whether its first pointer is the text "hi", and of its second as a list of bytes the length and
-/// the second byte.
+/// The number of a struct, whether its first pointer is the text "hi", and of its second as a list of bytes the length
+/// and the second byte.
 fn read_parts(root: PointerReader<'_>) -> Result<(u16, bool, u32, u8)> {
     let fields = root.get_struct()?;
     let text = fields.get_pointer_field(0).get_text()?;

@@ -1,7 +1,8 @@
 //! The tests of `capnp_base` by public calls.
 //!
-//! `iterator_tests` has a list of one's own (`Tens`) and what iterators give of it, `struct_tests` a struct type with its
-//! reader and all that the traits ask of one. `pointer_tests` reads texts, data and untyped pointers at the root of a message.
+//! `iterator_tests` has a list of one's own (`Tens`) and what iterators give of it, `struct_tests` a struct type with
+//! its reader and all that the traits ask of one. `pointer_tests` reads texts, data and untyped pointers at the root of
+//! a message.
 #![tactic(auto)]
 
 #[cfg(test)]

@@ -80,8 +80,8 @@ impl<'a> Builder<'a> {
         self.arena.is_null(self.at)
     }
 
-    /// The size of all that the pointer leads to, without the pointer itself: 0 words for a null. There are no capabilities.
-    /// Takes no memory.
+    /// The size of all that the pointer leads to, without the pointer itself: 0 words for a null. There are no
+    /// capabilities. Takes no memory.
     ///
     /// Never refused: no message in memory has 2^29 words.
     pub fn target_size(&self) -> Result<MessageSize>
@@ -98,8 +98,10 @@ impl<'a> Builder<'a> {
         ensures same { IfOk result (λ b. (T.behind b).ghost_name ≡ (arena_behind self.entry).ghost_name) }
         ensures at { IfOk result (λ b. T.word b ≡ word_of self.entry) }
         ensures forest { IfOk result (λ b. Forest (segment (T.behind b).now) (word_of self.entry)) }
-        ensures tree { IfOk result (λ b. tree (segment (T.behind b).now) (word_of self.entry) ≡ pointer_tree self.entry) }
-        ensures changes { IfOk result (λ b. Changes (word_of self.entry) (segment (arena_behind self.entry).now) (segment (T.behind b).now)) }
+        ensures tree { IfOk result (λ b. tree (segment (T.behind b).now) (word_of self.entry)
+            ≡ pointer_tree self.entry) }
+        ensures changes { IfOk result (λ b. Changes (word_of self.entry) (segment (arena_behind self.entry).now)
+            (segment (T.behind b).now)) }
         ensures now { IfOk result (T.stands (pointer_tree self.entry)) }
         ensures refused { IfErr result (T.refuses (pointer_tree self.entry) None) }
     {
@@ -113,7 +115,8 @@ impl<'a> Builder<'a> {
         ensures at { IfOk result (λ b. T.word b ≡ word_of self.entry) }
         ensures forest { IfOk result (λ b. Forest (segment (T.behind b).now) (word_of self.entry)) }
         ensures tree { IfOk result (λ b. tree (segment (T.behind b).now) (word_of self.entry) ≡ T.started 0) }
-        ensures changes { IfOk result (λ b. Changes (word_of self.entry) (segment (arena_behind self.entry).now) (segment (T.behind b).now)) }
+        ensures changes { IfOk result (λ b. Changes (word_of self.entry) (segment (arena_behind self.entry).now)
+            (segment (T.behind b).now)) }
         ensures now { IfOk result (T.starts 0) }
         ensures refused { IfErr result (T.new_refusal 0) }
     {
@@ -127,7 +130,8 @@ impl<'a> Builder<'a> {
         ensures at { IfOk result (λ b. T.word b ≡ word_of self.entry) }
         ensures forest { IfOk result (λ b. Forest (segment (T.behind b).now) (word_of self.entry)) }
         ensures tree { IfOk result (λ b. tree (segment (T.behind b).now) (word_of self.entry) ≡ T.started size) }
-        ensures changes { IfOk result (λ b. Changes (word_of self.entry) (segment (arena_behind self.entry).now) (segment (T.behind b).now)) }
+        ensures changes { IfOk result (λ b. Changes (word_of self.entry) (segment (arena_behind self.entry).now)
+            (segment (T.behind b).now)) }
         ensures now { IfOk result (T.starts size) }
         ensures refused { IfErr result (T.new_refusal size) }
     {
@@ -142,7 +146,8 @@ impl<'a> Builder<'a> {
         ensures forest { OnOk result (IsPointer self.new) }
         ensures stays { IsPointer self.old → IsPointer self.new }
         ensures tree { OnOk result (pointer_tree self.new ≡ T.set_tree value) }
-        ensures changes { OnOk result (Changes (word_of self.old) (segment (arena_behind self.old).now) (segment (arena_behind self.new).now)) }
+        ensures changes { OnOk result (Changes (word_of self.old) (segment (arena_behind self.old).now)
+            (segment (arena_behind self.new).now)) }
         ensures well_formed { OnOk result (IsWellFormed (pointer_tree self.new)) }
         ensures sound { OnOk result (first_fault (pointer_tree self.new) ≡ None) }
         ensures refused { OnErr result (segment (arena_behind self.new).now ≡ segment (arena_behind self.old).now) }
@@ -161,13 +166,14 @@ impl<'a> Builder<'a> {
         ensures at { word_of self.new ≡ word_of self.old }
         ensures forest { IsPointer self.new }
         ensures tree { pointer_tree self.new ≡ Null }
-        ensures changes { Changes (word_of self.old) (segment (arena_behind self.old).now) (segment (arena_behind self.new).now) }
+        ensures changes { Changes (word_of self.old) (segment (arena_behind self.old).now)
+            (segment (arena_behind self.new).now) }
     {
         self.arena.clear(self.at);
     }
 
-    /// A reader of the pointer for as long as the builder would be there, with 64 levels. Its tree is cut off past 65,534
-    /// levels, which only walks of a whole tree can see.
+    /// A reader of the pointer for as long as the builder would be there, with 64 levels. Its tree is cut off past
+    /// 65,534 levels, which only walks of a whole tree can see.
     pub fn into_reader(self) -> Reader<'a>
         requires { IsPointer self }
         ensures cut { IsCutOf (tree_of (pointer_of result)) (pointer_tree self.entry) }

@@ -1,7 +1,7 @@
 //! Data as they are built.
 //!
-//! A builder is the message beside the word of the data's pointer. Each call asks that data stand there, or a null, as a
-//! builder that was handed out has it (`IsData`).
+//! A builder is the message beside the word of the data's pointer. Each call asks that data stand there, or a null, as
+//! a builder that was handed out has it (`IsData`).
 ghost use Rattle.std.specs.Prelude.{[], None, IfErr, IsOk, IsTrue, OnErr, OnOk, length, replicate, slice_set, ◌^◌, ◌≤◌, ◌<◌, ◌≡◌, ◌↔◌};
 ghost use Rattle.std.specs.Borrow.{sem};
 ghost use Rattle.capnp_wire.specs.Edits.{IsDueRefusal, IsRoomRefusal};
@@ -97,7 +97,8 @@ impl<'a> Builder<'a> {
         ensures at { data_word self.new ≡ data_word self.old }
         ensures bytes { data_bytes self.new ≡ slice_set (data_bytes self.old) index byte }
         ensures there { IsData self.new }
-        ensures changes { Changes (data_word self.old) (segment (data_behind self.old).now) (segment (data_behind self.new).now) }
+        ensures changes { Changes (data_word self.old) (segment (data_behind self.old).now)
+            (segment (data_behind self.new).now) }
     {
         self.arena.tree_is_sound(self.at);
         self.arena
@@ -167,16 +168,20 @@ fn fill(arena: &mut Arena, at: usize, default: Option<PointerReader<'_>>) -> Res
 
 /// The same of the pointer of a builder.
 ///
-/// Refused only where a default would be copied: as `PointerReader::get_data` where it does not read as data, and else with
-/// `OutOfMemory`; then nothing has changed.
+/// Refused only where a default would be copied: as `PointerReader::get_data` where it does not read as data, and else
+/// with `OutOfMemory`; then nothing has changed.
 pub fn copy_default(builder: PointerBuilder<'_>, default: Option<PointerReader<'_>>) -> Result<()>
     requires { Forest (segment builder.arena.now) builder.at }
     ensures forest { OnOk result (Forest (segment builder.exit.0.now) builder.entry.at) }
-    ensures tree { OnOk result (tree (segment builder.exit.0.now) builder.entry.at ≡ tree_or (tree (segment builder.entry.arena.now) builder.entry.at) default.entry) }
-    ensures changes { OnOk result (Changes builder.entry.at (segment builder.entry.arena.now) (segment builder.exit.0.now)) }
-    ensures reads { OnOk result (default_refusal as_data (tree (segment builder.entry.arena.now) builder.entry.at) default.entry ≡ None) }
+    ensures tree { OnOk result (tree (segment builder.exit.0.now) builder.entry.at
+        ≡ tree_or (tree (segment builder.entry.arena.now) builder.entry.at) default.entry) }
+    ensures changes { OnOk result (Changes builder.entry.at (segment builder.entry.arena.now)
+        (segment builder.exit.0.now)) }
+    ensures reads { OnOk result (default_refusal as_data
+        (tree (segment builder.entry.arena.now) builder.entry.at) default.entry ≡ None) }
     ensures refused { OnErr result (segment builder.exit.0.now ≡ segment builder.entry.arena.now) }
-    ensures cause { IfErr result (IsDefaultRefusal as_data (tree (segment builder.entry.arena.now) builder.entry.at) default.entry) }
+    ensures cause { IfErr result (IsDefaultRefusal as_data
+        (tree (segment builder.entry.arena.now) builder.entry.at) default.entry) }
 {
     let PointerBuilder { arena, at } = builder;
     fill(arena, at, default)

@@ -1,7 +1,7 @@
 //! Texts as they are built.
 //!
-//! A builder is the message beside the word of the text's pointer. Each call asks that a text stands there, or a null, as a
-//! builder that was handed out has it (`IsText`).
+//! A builder is the message beside the word of the text's pointer. Each call asks that a text stands there, or a null,
+//! as a builder that was handed out has it (`IsText`).
 ghost use Rattle.std.specs.Prelude.{[], None, Ok, IfErr, IfOk, IsOk, IsTrue, IsUtf8, OnErr, OnOk, length, nat_eq, replicate, slice_set, take, drop, ◌++◌, ◌+◌, ◌^◌, ◌-◌, ◌<◌, ◌≡◌, ◌≤◌, ◌↔◌};
 ghost use Rattle.std.specs.Borrow.{sem};
 ghost use Rattle.std.proofs.Common.{rules};
@@ -43,8 +43,8 @@ impl<'a> traits::Owned<'a> for Owned {
     ghost set_is_read = { text_read_back };
 }
 
-/// A text that is built, and a position in its bytes, without the zero that ends them. Builders are compared by their bytes
-/// alone; where no text stands there are none.
+/// A text that is built, and a position in its bytes, without the zero that ends them. Builders are compared by their
+/// bytes alone; where no text stands there are none.
 #[derive(Drop)]
 pub struct Builder<'a> {
     pub arena: &'a mut Arena,
@@ -149,7 +149,8 @@ impl<'a> Builder<'a> {
         ensures position { position self.new ≡ position self.old + 1 }
         ensures bytes { text_bytes self.new ≡ slice_set (text_bytes self.old) (position self.old) byte }
         ensures there { IsText self.new }
-        ensures changes { Changes (text_word self.old) (segment (text_behind self.old).now) (segment (text_behind self.new).now) }
+        ensures changes { Changes (text_word self.old) (segment (text_behind self.old).now)
+            (segment (text_behind self.new).now) }
     {
         self.arena.tree_is_sound(self.at);
         self.arena
@@ -166,14 +167,16 @@ impl<'a> Builder<'a> {
         ensures position { position self.new ≡ position self.old + length bytes.now }
         ensures bytes { text_bytes self.new ≡ written (text_bytes self.old) (position self.old) bytes.now }
         ensures there { IsText self.new }
-        ensures changes { Changes (text_word self.old) (segment (text_behind self.old).now) (segment (text_behind self.new).now) }
+        ensures changes { Changes (text_word self.old) (segment (text_behind self.old).now)
+            (segment (text_behind self.new).now) }
     {
         for i in 0..bytes.len() {
             self.push_byte(bytes[i]);
         }
     }
 
-    /// Writes an ASCII character at the position, which moves past it. There has to be room for it, and it is below 128.
+    /// Writes an ASCII character at the position, which moves past it. There has to be room for it, and it is below
+    /// 128.
     pub fn push_ascii(&mut self, ascii: u8)
         requires there { IsText self.old }
         requires room { position self.old < length (text_bytes self.old) }
@@ -183,7 +186,8 @@ impl<'a> Builder<'a> {
         ensures position { position self.new ≡ position self.old + 1 }
         ensures bytes { text_bytes self.new ≡ slice_set (text_bytes self.old) (position self.old) ascii }
         ensures there { IsText self.new }
-        ensures changes { Changes (text_word self.old) (segment (text_behind self.old).now) (segment (text_behind self.new).now) }
+        ensures changes { Changes (text_word self.old) (segment (text_behind self.old).now)
+            (segment (text_behind self.new).now) }
     {
         self.push_byte(ascii);
     }
@@ -197,9 +201,11 @@ impl<'a> Builder<'a> {
         ensures at { text_word self.new ≡ text_word self.old }
         ensures position { position self.new ≡ position self.old + length string.now }
         ensures bytes { text_bytes self.new
-            ≡ take (position self.old) (text_bytes self.old) ++ string.now ++ drop (position self.old + length string.now) (text_bytes self.old) }
+            ≡ take (position self.old) (text_bytes self.old) ++ string.now ++ drop
+            (position self.old + length string.now) (text_bytes self.old) }
         ensures there { IsText self.new }
-        ensures changes { Changes (text_word self.old) (segment (text_behind self.old).now) (segment (text_behind self.new).now) }
+        ensures changes { Changes (text_word self.old) (segment (text_behind self.old).now)
+            (segment (text_behind self.new).now) }
     {
         self.push_bytes(string.as_bytes());
     }
@@ -212,7 +218,8 @@ impl<'a> Builder<'a> {
         ensures position { position self.new ≡ 0 }
         ensures bytes { text_bytes self.new ≡ replicate (length (text_bytes self.old)) 0 }
         ensures there { IsText self.new }
-        ensures changes { Changes (text_word self.old) (segment (text_behind self.old).now) (segment (text_behind self.new).now) }
+        ensures changes { Changes (text_word self.old) (segment (text_behind self.old).now)
+            (segment (text_behind self.new).now) }
     {
         let count = self.len();
         self.pos = 0;
@@ -229,15 +236,16 @@ impl<'a> Builder<'a> {
         ensures at { text_word self.new ≡ text_word self.old }
         ensures bytes { text_bytes self.new ≡ written (text_bytes self.old) (position self.old) (replicate count 0) }
         ensures there { IsText self.new }
-        ensures changes { Changes (text_word self.old) (segment (text_behind self.old).now) (segment (text_behind self.new).now) }
+        ensures changes { Changes (text_word self.old) (segment (text_behind self.old).now)
+            (segment (text_behind self.new).now) }
     {
         for _i in 0..count {
             self.push_byte(0);
         }
     }
 
-    /// A builder of the same text for a shorter time. It writes at the same position; this builder's position stays. What is
-    /// left of the text is what this builder has then.
+    /// A builder of the same text for a shorter time. It writes at the same position; this builder's position stays.
+    /// What is left of the text is what this builder has then.
     pub fn reborrow(&mut self) -> Builder<'_>
         ensures* lends { sem 𝓛 (LendsText self.entry (text_behind result)) }
         ensures now { (text_behind result).now ≡ (text_behind self.old).now }
@@ -369,16 +377,20 @@ fn fill(arena: &mut Arena, at: usize, default: Option<PointerReader<'_>>) -> Res
 
 /// The same of the pointer of a builder.
 ///
-/// Refused only where a default would be copied: as `PointerReader::get_text` where it does not read as a text, and else
-/// with `OutOfMemory`; then nothing has changed.
+/// Refused only where a default would be copied: as `PointerReader::get_text` where it does not read as a text, and
+/// else with `OutOfMemory`; then nothing has changed.
 pub fn copy_default(builder: PointerBuilder<'_>, default: Option<PointerReader<'_>>) -> Result<()>
     requires { Forest (segment builder.arena.now) builder.at }
     ensures forest { OnOk result (Forest (segment builder.exit.0.now) builder.entry.at) }
-    ensures tree { OnOk result (tree (segment builder.exit.0.now) builder.entry.at ≡ tree_or (tree (segment builder.entry.arena.now) builder.entry.at) default.entry) }
-    ensures changes { OnOk result (Changes builder.entry.at (segment builder.entry.arena.now) (segment builder.exit.0.now)) }
-    ensures reads { OnOk result (default_refusal as_text (tree (segment builder.entry.arena.now) builder.entry.at) default.entry ≡ None) }
+    ensures tree { OnOk result (tree (segment builder.exit.0.now) builder.entry.at
+        ≡ tree_or (tree (segment builder.entry.arena.now) builder.entry.at) default.entry) }
+    ensures changes { OnOk result (Changes builder.entry.at (segment builder.entry.arena.now)
+        (segment builder.exit.0.now)) }
+    ensures reads { OnOk result (default_refusal as_text
+        (tree (segment builder.entry.arena.now) builder.entry.at) default.entry ≡ None) }
     ensures refused { OnErr result (segment builder.exit.0.now ≡ segment builder.entry.arena.now) }
-    ensures cause { IfErr result (IsDefaultRefusal as_text (tree (segment builder.entry.arena.now) builder.entry.at) default.entry) }
+    ensures cause { IfErr result (IsDefaultRefusal as_text
+        (tree (segment builder.entry.arena.now) builder.entry.at) default.entry) }
 {
     let PointerBuilder { arena, at } = builder;
     fill(arena, at, default)
@@ -392,7 +404,8 @@ fn enter(arena: &mut Arena, at: usize, default: Option<PointerReader<'_>>) -> Re
     ensures tree { OnOk result (tree (segment arena.new) at ≡ tree_or (tree (segment arena.old) at) default.entry) }
     ensures changes { OnOk result (Changes at (segment arena.old) (segment arena.new)) }
     ensures text { OnOk result (IsOk (as_text (tree_or (tree (segment arena.old) at) default.entry))) }
-    ensures count { IfOk result (λ n. n ≡ length (bytes_in (as_text (tree_or (tree (segment arena.old) at) default.entry)))) }
+    ensures count { IfOk result (λ n. n ≡ length
+        (bytes_in (as_text (tree_or (tree (segment arena.old) at) default.entry)))) }
     ensures refused { OnErr result (segment arena.new ≡ segment arena.old) }
     ensures cause { IfErr result (IsReadRefusal as_text (tree (segment arena.old) at) default.entry) }
 {

@@ -1,7 +1,7 @@
 //! What handles of what is built have in common, and what a pointer can be set to.
 //!
-//! A clause speaks of the tree that a pointer leads to. Each trait has ghost members that say what its calls answer in these
-//! terms, so that generic code knows it too.
+//! A clause speaks of the tree that a pointer leads to. Each trait has ghost members that say what its calls answer in
+//! these terms, so that generic code knows it too.
 ghost use Rattle.std.specs.Prelude.{ℕ, IfErr, IfOk, IsOkAnd, IsSome, Option, Result, ◌<◌, ◌≡◌};
 ghost use Rattle.std.specs.Borrow.{MutBor, sem};
 ghost use Rattle.capnp_device.specs.declared.error.Error.{Error};
@@ -22,8 +22,8 @@ pub use capnp_slots::setter::SetterInput;
 use capnp_wire::error::Result;
 use capnp_wire::{PointerReader, StructReader};
 
-/// What is built at a pointer. What was handed out is stated as it stands at the return, with the message behind it: what
-/// the message is left as is known by its reference (`same`), and where the call is refused by `rests`.
+/// What is built at a pointer. What was handed out is stated as it stands at the return, with the message behind it:
+/// what the message is left as is known by its reference (`same`), and where the call is refused by `rests`.
 pub trait FromPointerBuilder<'a>: Sized {
     // The message behind what is handed out.
     ghost behind: { Self → MutBor Arena };
@@ -57,7 +57,8 @@ pub trait FromPointerBuilder<'a>: Sized {
         ensures at { IfOk result (λ b. word b ≡ builder.entry.at) }
         ensures forest { IfOk result (λ b. Forest (segment (behind b).now) builder.entry.at) }
         ensures tree { IfOk result (λ b. tree (segment (behind b).now) builder.entry.at ≡ started length) }
-        ensures changes { IfOk result (λ b. Changes builder.entry.at (segment builder.entry.arena.now) (segment (behind b).now)) }
+        ensures changes { IfOk result (λ b. Changes builder.entry.at (segment builder.entry.arena.now)
+            (segment (behind b).now)) }
         ensures now { IfOk result (starts length) }
         ensures refused { IfErr result (new_refusal length) };
 
@@ -74,10 +75,14 @@ pub trait FromPointerBuilder<'a>: Sized {
         ensures same { IfOk result (λ b. (behind b).ghost_name ≡ builder.entry.arena.ghost_name) }
         ensures at { IfOk result (λ b. word b ≡ builder.entry.at) }
         ensures forest { IfOk result (λ b. Forest (segment (behind b).now) builder.entry.at) }
-        ensures tree { IfOk result (λ b. tree (segment (behind b).now) builder.entry.at ≡ tree_or (tree (segment builder.entry.arena.now) builder.entry.at) default.entry) }
-        ensures changes { IfOk result (λ b. Changes builder.entry.at (segment builder.entry.arena.now) (segment (behind b).now)) }
-        ensures now { IfOk result (stands (tree_or (tree (segment builder.entry.arena.now) builder.entry.at) default.entry)) }
-        ensures refused { IfErr result (refuses (tree (segment builder.entry.arena.now) builder.entry.at) default.entry) };
+        ensures tree { IfOk result (λ b. tree (segment (behind b).now) builder.entry.at
+            ≡ tree_or (tree (segment builder.entry.arena.now) builder.entry.at) default.entry) }
+        ensures changes { IfOk result (λ b. Changes builder.entry.at (segment builder.entry.arena.now)
+            (segment (behind b).now)) }
+        ensures now { IfOk result (stands (tree_or
+            (tree (segment builder.entry.arena.now) builder.entry.at) default.entry)) }
+        ensures refused { IfErr result (refuses (tree
+            (segment builder.entry.arena.now) builder.entry.at) default.entry) };
 }
 
 /// A type of values behind pointers, by its handles.
@@ -94,19 +99,21 @@ pub trait Owned<'a>: Introspect {
         → Self.Reader.reads (Self.Reader.set_tree x) levels r → IsOkAnd r (same x) };
 }
 
-/// Sets a pointer, and reads it again: what is set is what is read. Where the pointer's tree is the one that a reader would
-/// be set as, as it is for that reader itself, the answer is the same as that reader; a tree has to end within 65,534
-/// levels, past which it is read cut off.
+/// Sets a pointer, and reads it again: what is set is what is read. Where the pointer's tree is the one that a reader
+/// would be set as, as it is for that reader itself, the answer is the same as that reader; a tree has to end within
+/// 65,534 levels, past which it is read cut off.
 ///
-/// Refused as the set is. The pointer is then as it was, which the set's clause says and tests show of this call: it has no
-/// such clause of its own, since its answer borrows from the pointer.
+/// Refused as the set is. The pointer is then as it was, which the set's clause says and tests show of this call: it
+/// has no such clause of its own, since its answer borrows from the pointer.
 pub fn set_and_get<'a, O: Owned<'a>, S: SetterInput<O>>(
     builder: PointerBuilder<'a>,
     input: S,
 ) -> Result<O::Reader>
     requires inside { builder.at < word_count (segment builder.arena.now) }
-    ensures same { IfOk result (λ y. (x : O.Reader) → IsBelow 65535 (S.set_tree input) → S.set_tree input ≡ O.Reader.set_tree x → O.same x y) }
-    ensures refused { IfErr result (λ error. (x : O.Reader) → IsBelow 65535 (S.set_tree input) → S.set_tree input ≡ O.Reader.set_tree x → S.set_refusal input error) }
+    ensures same { IfOk result (λ y. (x : O.Reader) → IsBelow 65535 (S.set_tree input)
+        → S.set_tree input ≡ O.Reader.set_tree x → O.same x y) }
+    ensures refused { IfErr result (λ error. (x : O.Reader) → IsBelow 65535 (S.set_tree input)
+        → S.set_tree input ≡ O.Reader.set_tree x → S.set_refusal input error) }
 {
     let PointerBuilder { arena, at } = builder;
     S::set_pointer_builder(PointerBuilder { arena, at }, input, false)?;

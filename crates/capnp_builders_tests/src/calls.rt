@@ -1,8 +1,8 @@
 //! Calls on the root of a message, as values. A row says what is called, what that answers, and which words the message
 //! has then: what stands there before is what the row above it left.
 //!
-//! What a message is left as by a call whose answer's type is a parameter is not known beforehand. So what stands at the root
-//! after each row is read into a message of its own (`settled`), on which the next call is made.
+//! What a message is left as by a call whose answer's type is a parameter is not known beforehand. So what stands at
+//! the root after each row is read into a message of its own (`settled`), on which the next call is made.
 ghost use Rattle.std.specs.Prelude.{IfOk, OnOk, ◌≡◌};
 ghost use Rattle.capnp_arena.specs.Made.{size_number};
 ghost use Rattle.capnp_arena.specs.Message.{IsMessage};
@@ -183,7 +183,8 @@ fn clear(message: &mut Builder)
 fn start_list(message: &mut Builder, count: u32) -> Result<ListPlace>
     requires { IsMessage message.old }
     ensures forest { IfOk result (λ _. IsMessage message.new) }
-    ensures there { IfOk result (λ list. shape_at (segment message.new) 0 ≡ ListIn list.start (size_number list.size) list.count) }
+    ensures there { IfOk result (λ list. shape_at (segment message.new) 0
+        ≡ ListIn list.start (size_number list.size) list.count) }
     ensures list { IfOk result (λ list. (list.size ≡ ElementSize.TwoBytes) × (list.count ≡ count)) }
 {
     let start = message.init_list(0, ElementSize::TwoBytes, count)?;

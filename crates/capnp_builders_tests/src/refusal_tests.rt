@@ -1,5 +1,5 @@
-//! Calls that are refused, with what stands at the pointer after them. No clause says what a pointer ends as that a call is
-//! made at whose answer's type is a parameter, so that these tests do.
+//! Calls that are refused, with what stands at the pointer after them. No clause says what a pointer ends as that a
+//! call is made at whose answer's type is a parameter, so that these tests do.
 
 use crate::calls::Call::{
     self, Clear, GetData, GetText, InitData, InitNumbers, InitText, SetAndGet, Untyped,

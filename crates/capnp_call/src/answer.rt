@@ -28,12 +28,13 @@ use capnp_schema::schema::{Field, StructSchema};
 use capnp_wire::error::{ErrorKind, Result};
 use std::alloc::Global;
 
-/// A value as it is answered: the bytes of a text or data are copied, of a struct only that it is one, of a list its length,
-/// and of an untyped pointer whether it is null.
+/// A value as it is answered: the bytes of a text or data are copied, of a struct only that it is one, of a list its
+/// length, and of an untyped pointer whether it is null.
 ///
 /// Refused with `OutOfMemory` for the copy of a text or data.
 fn plain_of(alloc: Global, value: Value<'_>) -> Result<Plain>
-    ensures plain { (set : Schemas) (t : SchemaType) → IsOf set t value.entry → IfOk result (λ p. plain_seen p ≡ plain t (value_seen value.entry)) }
+    ensures plain { (set : Schemas) (t : SchemaType) → IsOf set t value.entry
+        → IfOk result (λ p. plain_seen p ≡ plain t (value_seen value.entry)) }
     ensures memory { (set : Schemas) (t : SchemaType) → IsOf set t value.entry → OnErr result (takes_memory t ≡ true) }
     ensures cause { IfErr result (λ e. e.kind ≡ OutOfMemory) }
 {
@@ -74,12 +75,13 @@ pub(crate) fn answer(alloc: Global, read: Result<Value<'_>>) -> Reply
 /// What a field of a struct has, or its default where that is missing. The struct has to be well-formed.
 ///
 /// Refused with `InactiveMember` for a member that isn't active; with `WrongPointerKind`, `WrongElementSize` or
-/// `TextNotTerminated` where what stands there is not read as the field's type; and with `OutOfMemory` for the copy of a text
-/// or data.
+/// `TextNotTerminated` where what stands there is not read as the field's type; and with `OutOfMemory` for the copy of
+/// a text or data.
 pub fn get_field(alloc: Global, arena: &Arena, place: Place, field: Field<'_>) -> Reply
     requires planted { IsBuilt arena.now place }
     ensures { (whole : Record → RecordValue) (old : RecordValue)
-        → Does (field_set field.entry) Get (target_in whole field.entry (built arena.now place)) old (reply_seen result) old }
+        → Does (field_set field.entry) Get (target_in whole field.entry (built arena.now place)) old
+        (reply_seen result) old }
 {
     if is_inactive(arena, place, field) {
         return Reply::Refused(ErrorKind::InactiveMember);
@@ -91,12 +93,13 @@ pub fn get_field(alloc: Global, arena: &Arena, place: Place, field: Field<'_>) -
     answer(alloc, reader.get(field))
 }
 
-/// Whether a field of a struct is there: false for a member that isn't active and for a null pointer. The struct has to be
-/// well-formed.
+/// Whether a field of a struct is there: false for a member that isn't active and for a null pointer. The struct has to
+/// be well-formed.
 pub fn has_field(arena: &Arena, place: Place, field: Field<'_>) -> Reply
     requires planted { IsBuilt arena.now place }
     ensures { (whole : Record → RecordValue) (old : RecordValue)
-        → Does (field_set field.entry) Has (target_in whole field.entry (built arena.now place)) old (reply_seen result) old }
+        → Does (field_set field.entry) Has (target_in whole field.entry (built arena.now place)) old
+        (reply_seen result) old }
 {
     // What the type of every field is known to meet is known of it here.
     let _variant = field.get_type().which();
@@ -115,7 +118,8 @@ pub fn has_field(arena: &Arena, place: Place, field: Field<'_>) -> Reply
 pub fn which_member(arena: &Arena, place: Place, schema: StructSchema<'_>) -> Reply
     requires planted { IsBuilt arena.now place }
     requires stands { IsStruct schema }
-    ensures { reply_seen result ≡ Member (which_of (reads (set_of schema.entry) (built arena.now place) (number_of schema.entry))) }
+    ensures { reply_seen result ≡ Member (which_of
+        (reads (set_of schema.entry) (built arena.now place) (number_of schema.entry))) }
 {
     let reader = dynamic_struct::Reader::new(arena.get_struct_reader(place), schema);
     match reader.which() {

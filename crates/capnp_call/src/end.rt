@@ -30,7 +30,8 @@ fn set_slot(arena: &mut Arena, place: Place, field: Field<'_>, source: Source<'_
     requires planted { IsBuilt arena.old place }
     requires slot { IsSlot field }
     requires room { IsRoomFor field (built arena.old place) }
-    ensures does { FieldDoes field.entry (Set (source_seen source.entry)) (built arena.old place) (reply_seen result) (built arena.new place) }
+    ensures does { FieldDoes field.entry (Set (source_seen source.entry)) (built arena.old place) (reply_seen result)
+        (built arena.new place) }
     ensures planted { IsBuilt arena.new place }
     ensures changes { ChangesIn place arena.old arena.new }
 {
@@ -47,7 +48,8 @@ fn set_group(arena: &mut Arena, place: Place, field: Field<'_>, source: Source<'
     requires planted { IsBuilt arena.old place }
     requires group { IsGroup field }
     requires room { IsRoomFor field (built arena.old place) }
-    ensures does { FieldDoes field.entry (Set (source_seen source.entry)) (built arena.old place) (reply_seen result) (built arena.new place) }
+    ensures does { FieldDoes field.entry (Set (source_seen source.entry)) (built arena.old place) (reply_seen result)
+        (built arena.new place) }
     ensures planted { IsBuilt arena.new place }
     ensures changes { ChangesIn place arena.old arena.new }
 {
@@ -62,7 +64,8 @@ fn set_group(arena: &mut Arena, place: Place, field: Field<'_>, source: Source<'
 fn set_to(arena: &mut Arena, place: Place, field: Field<'_>, source: Source<'_>) -> Reply
     requires planted { IsBuilt arena.old place }
     requires room { IsRoomFor field (built arena.old place) }
-    ensures does { FieldDoes field.entry (Set (source_seen source.entry)) (built arena.old place) (reply_seen result) (built arena.new place) }
+    ensures does { FieldDoes field.entry (Set (source_seen source.entry)) (built arena.old place) (reply_seen result)
+        (built arena.new place) }
     ensures planted { IsBuilt arena.new place }
     ensures changes { ChangesIn place arena.old arena.new }
 {
@@ -78,7 +81,8 @@ fn set_to(arena: &mut Arena, place: Place, field: Field<'_>, source: Source<'_>)
 fn set_pointed(arena: &mut Arena, place: Place, field: Field<'_>, value: &Value<'_>) -> Reply
     requires planted { IsBuilt arena.old place }
     requires room { IsRoomFor field (built arena.old place) }
-    ensures does { FieldDoes field.entry (Set (source_of value.now)) (built arena.old place) (reply_seen result) (built arena.new place) }
+    ensures does { FieldDoes field.entry (Set (source_of value.now)) (built arena.old place) (reply_seen result)
+        (built arena.new place) }
     ensures planted { IsBuilt arena.new place }
     ensures changes { ChangesIn place arena.old arena.new }
 {
@@ -90,7 +94,8 @@ fn set_pointed(arena: &mut Arena, place: Place, field: Field<'_>, value: &Value<
 fn set_field(arena: &mut Arena, place: Place, field: Field<'_>, value: &Value<'_>) -> Reply
     requires planted { IsBuilt arena.old place }
     requires room { IsRoomFor field (built arena.old place) }
-    ensures does { FieldDoes field.entry (Set (source_of value.now)) (built arena.old place) (reply_seen result) (built arena.new place) }
+    ensures does { FieldDoes field.entry (Set (source_of value.now)) (built arena.old place) (reply_seen result)
+        (built arena.new place) }
     ensures planted { IsBuilt arena.new place }
     ensures changes { ChangesIn place arena.old arena.new }
 {
@@ -100,8 +105,8 @@ fn set_field(arena: &mut Arena, place: Place, field: Field<'_>, value: &Value<'_
     }
 }
 
-/// Initializes a field: a group becomes its default record, a struct's slot a new struct, and an untyped one null. A member
-/// becomes active.
+/// Initializes a field: a group becomes its default record, a struct's slot a new struct, and an untyped one null. A
+/// member becomes active.
 ///
 /// Refused as `slot::init`, and then nothing has changed.
 fn init_field(arena: &mut Arena, place: Place, field: Field<'_>) -> Reply
@@ -125,7 +130,8 @@ fn init_field(arena: &mut Arena, place: Place, field: Field<'_>) -> Reply
 fn initn_field(arena: &mut Arena, place: Place, field: Field<'_>, count: u32) -> Reply
     requires planted { IsBuilt arena.old place }
     requires room { IsRoomFor field (built arena.old place) }
-    ensures does { FieldDoes field.entry (Initn count) (built arena.old place) (reply_seen result) (built arena.new place) }
+    ensures does { FieldDoes field.entry (Initn count) (built arena.old place) (reply_seen result)
+        (built arena.new place) }
     ensures planted { IsBuilt arena.new place }
     ensures changes { ChangesIn place arena.old arena.new }
 {
@@ -140,7 +146,8 @@ fn initn_slot(arena: &mut Arena, place: Place, field: Field<'_>, count: u32) -> 
     requires planted { IsBuilt arena.old place }
     requires slot { IsSlot field }
     requires room { IsRoomFor field (built arena.old place) }
-    ensures does { FieldDoes field.entry (Initn count) (built arena.old place) (reply_seen result) (built arena.new place) }
+    ensures does { FieldDoes field.entry (Initn count) (built arena.old place) (reply_seen result)
+        (built arena.new place) }
     ensures planted { IsBuilt arena.new place }
     ensures changes { ChangesIn place arena.old arena.new }
 {
@@ -172,7 +179,8 @@ fn do_field(arena: &mut Arena, place: Place, field: Field<'_>, end: Ending<'_>) 
     requires planted { IsBuilt arena.old place }
     requires room { IsRoomFor field (built arena.old place) }
     requires names { end.call.now.op ≢ Op.Which }
-    ensures does { FieldDoes field.entry (op_seen end.entry.call.now.op) (built arena.old place) (reply_seen result) (built arena.new place) }
+    ensures does { FieldDoes field.entry (op_seen end.entry.call.now.op) (built arena.old place) (reply_seen result)
+        (built arena.new place) }
     ensures planted { IsBuilt arena.new place }
     ensures changes { ChangesIn place arena.old arena.new }
 {
@@ -193,7 +201,8 @@ fn do_named(arena: &mut Arena, place: Place, schema: StructSchema<'_>, end: Endi
     requires planted { IsBuilt arena.old place }
     requires fits { Fits (set_of schema) (number_of schema) (built arena.old place) }
     requires names { end.call.now.op ≢ Op.Which }
-    ensures does { NamedDoes (set_of schema.entry) (number_of schema.entry) (step_seen end.entry.call.now.last) (op_seen end.entry.call.now.op)
+    ensures does { NamedDoes (set_of schema.entry) (number_of schema.entry) (step_seen end.entry.call.now.last)
+        (op_seen end.entry.call.now.op)
         (built arena.old place) (reply_seen result) (built arena.new place) }
     ensures planted { IsBuilt arena.new place }
     ensures changes { ChangesIn place arena.old arena.new }
@@ -204,13 +213,13 @@ fn do_named(arena: &mut Arena, place: Place, schema: StructSchema<'_>, end: Endi
     }
 }
 
-/// Does an operation at a struct or group at which a path ends. `Which` asks the struct and doesn't look at the last step. The
-/// schema is one of an accepted set; the struct has its sections and is well-formed.
+/// Does an operation at a struct or group at which a path ends. `Which` asks the struct and doesn't look at the last
+/// step. The schema is one of an accepted set; the struct has its sections and is well-formed.
 ///
-/// Refused with `NotAContainer` where the last step names an element, with `FieldNotFound` where there is no such field, and
-/// else as the operation. Only a `Get` asks whether a member is active: it is refused with `InactiveMember` where not. What
-/// is written is the field and, of a member, the union; after a refusal nothing has changed, but for the set of a group that is
-/// cut short, which keeps what was copied by then.
+/// Refused with `NotAContainer` where the last step names an element, with `FieldNotFound` where there is no such
+/// field, and else as the operation. Only a `Get` asks whether a member is active: it is refused with `InactiveMember`
+/// where not. What is written is the field and, of a member, the union; after a refusal nothing has changed, but for
+/// the set of a group that is cut short, which keeps what was copied by then.
 #[inline(never)]
 pub fn end_at_struct(
     arena: &mut Arena,
@@ -221,7 +230,8 @@ pub fn end_at_struct(
     requires planted { IsBuilt arena.old place }
     requires stands { IsStruct schema }
     requires fits { Fits (set_of schema) (number_of schema) (built arena.old place) }
-    ensures ends { StructEnds (set_of schema.entry) (number_of schema.entry) (step_seen end.entry.call.now.last) (op_seen end.entry.call.now.op)
+    ensures ends { StructEnds (set_of schema.entry) (number_of schema.entry) (step_seen end.entry.call.now.last)
+        (op_seen end.entry.call.now.op)
         (built arena.old place) (reply_seen result) (built arena.new place) }
     ensures planted { IsBuilt arena.new place }
     ensures changes { ChangesIn place arena.old arena.new }

@@ -23,15 +23,15 @@ use capnp_schema::schema::{Field, StructSchema};
 use capnp_slots::part;
 use capnp_wire::error::Result;
 
-/// Steps into the struct behind a slot: a null becomes the default's struct or an empty one, and a struct that is smaller than
-/// its schema gets zeros and nulls after what it has. What is filled stays, whatever the rest of the call does, and no union
-/// is switched. `part::pointer` of `capnp_slots` is then the word that leads to the struct.
+/// Steps into the struct behind a slot: a null becomes the default's struct or an empty one, and a struct that is
+/// smaller than its schema gets zeros and nulls after what it has. What is filled stays, whatever the rest of the call
+/// does, and no union is switched. `part::pointer` of `capnp_slots` is then the word that leads to the struct.
 ///
-/// The field is such a slot, the tests of `way_of` have passed, and the struct has the sections of the field's schema and is
-/// well-formed.
+/// The field is such a slot, the tests of `way_of` have passed, and the struct has the sections of the field's schema
+/// and is well-formed.
 ///
-/// Refused with `WrongPointerKind` where something else than a struct stands there, and else with `OutOfMemory`; then nothing
-/// has changed.
+/// Refused with `WrongPointerKind` where something else than a struct stands there, and else with `OutOfMemory`; then
+/// nothing has changed.
 #[inline(always)]
 pub fn enter_struct(
     arena: &mut Arena,
@@ -44,8 +44,10 @@ pub fn enter_struct(
     requires walked { IsWalked field (built arena.old place) }
     requires room { IsRoomFor field (built arena.old place) }
     ensures filled { OnOk result (built arena.new place
-        ≡ with_pointer_tree (built arena.old place) (pointer_index field.entry) (filled_in field.entry (built arena.old place))) }
-    ensures here { OnOk result (pointer_in field.entry (built arena.new place) ≡ filled_in field.entry (built arena.old place)) }
+        ≡ with_pointer_tree (built arena.old place) (pointer_index field.entry)
+        (filled_in field.entry (built arena.old place))) }
+    ensures here { OnOk result (pointer_in field.entry (built arena.new place)
+        ≡ filled_in field.entry (built arena.old place)) }
     ensures goes { OnOk result (StepGoes field.entry (built arena.old place)) }
     ensures planted { OnOk result (IsBuilt arena.new place) }
     ensures changes { OnOk result (ChangesIn place arena.old arena.new) }
@@ -56,8 +58,8 @@ pub fn enter_struct(
     part::fill_struct_slot(arena, place, field, schema)
 }
 
-/// Steps into a group: it is the same struct under the group's schema. Nothing is filled and nothing is refused. The field is
-/// a group, and the tests of `way_of` have passed.
+/// Steps into a group: it is the same struct under the group's schema. Nothing is filled and nothing is refused. The
+/// field is a group, and the tests of `way_of` have passed.
 #[inline(always)]
 pub fn enter_group(arena: &Arena, place: Place, field: Field<'_>)
     requires planted { IsBuilt arena.now place }
@@ -76,17 +78,18 @@ fn default_is_sound(field: Field<'_>)
     numbers_fit(field.get_containing_struct().get_set());
 }
 
-/// Steps into the list behind a slot: a null becomes the default where that is a list and not null, and structs of a list get
-/// at least their schema's sections. A null without a default stays null, and has no elements. What is filled stays, whatever
-/// the rest of the call does, and no union is switched. `part::pointer` of `capnp_slots` is then the word that leads to the
-/// list.
+/// Steps into the list behind a slot: a null becomes the default where that is a list and not null, and structs of a
+/// list get at least their schema's sections. A null without a default stays null, and has no elements. What is filled
+/// stays, whatever the rest of the call does, and no union is switched. `part::pointer` of `capnp_slots` is then the
+/// word that leads to the list.
 ///
-/// The field is such a slot, the tests of `way_of` have passed, and the struct has the sections of the field's schema and is
-/// well-formed.
+/// The field is such a slot, the tests of `way_of` have passed, and the struct has the sections of the field's schema
+/// and is well-formed.
 ///
-/// Refused with `WrongPointerKind` or `WrongElementSize` where what stands there is not read as a list of the slot's type,
-/// with `SizePastFormat` where the structs of a list would take 2^29 words or more, and else with `OutOfMemory`; then nothing
-/// has changed. Only a list of structs that are smaller than their schema, and a null with a default, take memory.
+/// Refused with `WrongPointerKind` or `WrongElementSize` where what stands there is not read as a list of the slot's
+/// type, with `SizePastFormat` where the structs of a list would take 2^29 words or more, and else with `OutOfMemory`;
+/// then nothing has changed. Only a list of structs that are smaller than their schema, and a null with a default, take
+/// memory.
 #[inline(always)]
 pub fn enter_list(arena: &mut Arena, place: Place, field: Field<'_>, element: Type) -> Result<()>
     requires planted { IsBuilt arena.old place }
@@ -94,9 +97,12 @@ pub fn enter_list(arena: &mut Arena, place: Place, field: Field<'_>, element: Ty
     requires walked { IsWalked field (built arena.old place) }
     requires room { IsRoomFor field (built arena.old place) }
     ensures filled { OnOk result (built arena.new place
-        ≡ with_pointer_tree (built arena.old place) (pointer_index field.entry) (filled_in field.entry (built arena.old place))) }
-    ensures here { OnOk result (pointer_in field.entry (built arena.new place) ≡ filled_in field.entry (built arena.old place)) }
-    ensures stands { OnOk result (IsListStand (field_set field.entry) (seen_type element) (filled_in field.entry (built arena.old place))) }
+        ≡ with_pointer_tree (built arena.old place) (pointer_index field.entry)
+        (filled_in field.entry (built arena.old place))) }
+    ensures here { OnOk result (pointer_in field.entry (built arena.new place)
+        ≡ filled_in field.entry (built arena.old place)) }
+    ensures stands { OnOk result (IsListStand (field_set field.entry) (seen_type element)
+        (filled_in field.entry (built arena.old place))) }
     ensures goes { OnOk result (StepGoes field.entry (built arena.old place)) }
     ensures planted { OnOk result (IsBuilt arena.new place) }
     ensures changes { OnOk result (ChangesIn place arena.old arena.new) }

@@ -26,8 +26,8 @@ use std::alloc::Global;
 
 /// What an element has; a null text, data or list is empty.
 ///
-/// Refused with `WrongPointerKind`, `WrongElementSize` or `TextNotTerminated` where what stands there is not read as the
-/// element's type; and with `OutOfMemory` for the copy of a text or data.
+/// Refused with `WrongPointerKind`, `WrongElementSize` or `TextNotTerminated` where what stands there is not read as
+/// the element's type; and with `OutOfMemory` for the copy of a text or data.
 fn get_element(
     alloc: Global,
     arena: &Arena,
@@ -41,7 +41,8 @@ fn get_element(
     requires stands { IsListStand (lists_seen set.now) (seen_type element) (tree (segment arena.now) at) }
     requires inside { index < list_length (tree (segment arena.now) at) }
     ensures { (old : RecordValue) → Does (lists_seen set.now) Get
-        (element_at (lists_seen set.now) (seen_type element) (tree (segment arena.now) at) index) old (reply_seen result) old }
+        (element_at (lists_seen set.now) (seen_type element) (tree (segment arena.now) at) index) old
+        (reply_seen result) old }
 {
     let reader = dynamic_list::Reader::new(arena.list_reader(at), element, set);
     answer(alloc, reader.get(index))
@@ -59,7 +60,8 @@ fn initn_element(
     requires forest { Forest (segment arena.old) at }
     requires stands { IsListStand (lists_seen set.now) (seen_type element) (tree (segment arena.old) at) }
     requires inside { index < list_length (tree (segment arena.old) at) }
-    ensures does { ElementDoes (lists_seen set.now) (seen_type element) index (Op.Initn count) (tree (segment arena.old) at) result (tree (segment arena.new) at) }
+    ensures does { ElementDoes (lists_seen set.now) (seen_type element) index (Op.Initn count)
+        (tree (segment arena.old) at) result (tree (segment arena.new) at) }
     ensures forest { Forest (segment arena.new) at }
     ensures changes { Changes at (segment arena.old) (segment arena.new) }
 {
@@ -81,7 +83,8 @@ fn set_element(
     requires forest { Forest (segment arena.old) at }
     requires stands { IsListStand (lists_seen set.now) (seen_type element) (tree (segment arena.old) at) }
     requires inside { index < list_length (tree (segment arena.old) at) }
-    ensures does { ElementDoes (lists_seen set.now) (seen_type element) index (Op.Set value.entry) (tree (segment arena.old) at) result
+    ensures does { ElementDoes (lists_seen set.now) (seen_type element) index (Op.Set value.entry)
+        (tree (segment arena.old) at) result
         (tree (segment arena.new) at) }
     ensures forest { Forest (segment arena.new) at }
     ensures changes { Changes at (segment arena.old) (segment arena.new) }
@@ -108,7 +111,8 @@ fn do_element(
     requires stands { IsListStand (lists_seen set.now) (seen_type element) (tree (segment arena.old) at) }
     requires inside { index < list_length (tree (segment arena.old) at) }
     requires names { end.call.now.op ≢ Op.Which }
-    ensures does { ElementDoes (lists_seen set.now) (seen_type element) index end.entry.call.now.op (tree (segment arena.old) at) result
+    ensures does { ElementDoes (lists_seen set.now) (seen_type element) index end.entry.call.now.op
+        (tree (segment arena.old) at) result
         (tree (segment arena.new) at) }
     ensures forest { Forest (segment arena.new) at }
     ensures changes { Changes at (segment arena.old) (segment arena.new) }
@@ -131,7 +135,8 @@ fn do_last(arena: &mut Arena, at: usize, set: &SchemaSet, element: Type, end: En
     requires stands { IsListStand (lists_seen set.now) (seen_type element) (tree (segment arena.old) at) }
     requires there { is_null_tree (tree (segment arena.old) at) ≡ false }
     requires names { end.call.now.op ≢ Op.Which }
-    ensures ends { ListEnds (lists_seen set.now) (seen_type element) end.entry (tree (segment arena.old) at) result (tree (segment arena.new) at) }
+    ensures ends { ListEnds (lists_seen set.now) (seen_type element) end.entry (tree (segment arena.old) at) result
+        (tree (segment arena.new) at) }
     ensures forest { Forest (segment arena.new) at }
     ensures changes { Changes at (segment arena.old) (segment arena.new) }
 {
@@ -144,11 +149,11 @@ fn do_last(arena: &mut Arena, at: usize, set: &SchemaSet, element: Type, end: En
     do_element(arena, at, set, element, index, end)
 }
 
-/// Does an operation at a list at which a path ends. The list is not null and reads as one of the type, which names entries of
-/// the set.
+/// Does an operation at a list at which a path ends. The list is not null and reads as one of the type, which names
+/// entries of the set.
 ///
-/// Refused with `NotAContainer` for `Which` and where the last step names a field, with `NoSuchElement` past the end, with
-/// `NotAContainer` for `Has`, `Init` and `Clear`, and else as the operation. After a refusal nothing has changed.
+/// Refused with `NotAContainer` for `Which` and where the last step names a field, with `NoSuchElement` past the end,
+/// with `NotAContainer` for `Has`, `Init` and `Clear`, and else as the operation. After a refusal nothing has changed.
 pub fn end_at_list(
     arena: &mut Arena,
     at: usize,
@@ -160,7 +165,8 @@ pub fn end_at_list(
     requires entries { NamesEntries (lists_seen set.now) (seen_type element) }
     requires stands { IsListStand (lists_seen set.now) (seen_type element) (tree (segment arena.old) at) }
     requires there { is_null_tree (tree (segment arena.old) at) ≡ false }
-    ensures ends { ListEnds (lists_seen set.now) (seen_type element) end.entry (tree (segment arena.old) at) result (tree (segment arena.new) at) }
+    ensures ends { ListEnds (lists_seen set.now) (seen_type element) end.entry (tree (segment arena.old) at) result
+        (tree (segment arena.new) at) }
     ensures forest { Forest (segment arena.new) at }
     ensures changes { Changes at (segment arena.old) (segment arena.new) }
 {

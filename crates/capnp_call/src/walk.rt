@@ -34,15 +34,16 @@ use capnp_schema::set::SchemaSet;
 use capnp_slots::{element, part};
 use capnp_wire::error::ErrorKind;
 
-/// Walks a path from a struct or group, and does what a call does at its end. The schema is one of an accepted set; the struct
-/// has its sections and is well-formed.
+/// Walks a path from a struct or group, and does what a call does at its end. The schema is one of an accepted set; the
+/// struct has its sections and is well-formed.
 ///
-/// A step is refused with `NotAContainer` where it names an element, then with `FieldNotFound` where there is no such field,
-/// then as `way::way_of`, and then as `enter::enter_struct` and `enter::enter_list`; at a list with `NotAContainer` where it
-/// names a field, then with `NoSuchElement` past the end, then with `UntypedStep` into an untyped element and with
-/// `NotAContainer` into another one that is no struct or list. The end is refused as `end::end_at_struct` and
-/// `list_end::end_at_list`. What the steps before a refusal filled stays. Where nothing has to be filled or extended behind a
-/// step and the operation takes no memory, nothing is refused with `OutOfMemory`, and nothing with `SizePastFormat`.
+/// A step is refused with `NotAContainer` where it names an element, then with `FieldNotFound` where there is no such
+/// field, then as `way::way_of`, and then as `enter::enter_struct` and `enter::enter_list`; at a list with
+/// `NotAContainer` where it names a field, then with `NoSuchElement` past the end, then with `UntypedStep` into an
+/// untyped element and with `NotAContainer` into another one that is no struct or list. The end is refused as
+/// `end::end_at_struct` and `list_end::end_at_list`. What the steps before a refusal filled stays. Where nothing has to
+/// be filled or extended behind a step and the operation takes no memory, nothing is refused with `OutOfMemory`, and
+/// nothing with `SizePastFormat`.
 #[inline(always)]
 pub fn walk(
     arena: &mut Arena,
@@ -54,9 +55,11 @@ pub fn walk(
     requires planted { IsBuilt arena.old place }
     requires stands { IsStruct schema }
     requires fits { Fits (set_of schema) (number_of schema) (built arena.old place) }
-    ensures walks { StructWalks (set_of schema.entry) (number_of schema.entry) path.now end.entry (built arena.old place) result
+    ensures walks { StructWalks (set_of schema.entry) (number_of schema.entry) path.now end.entry
+        (built arena.old place) result
         (built arena.new place) }
-    ensures rests { PathRests schema.entry path.now end.entry (built arena.old place) → IsNotForRoom (reply_seen result) }
+    ensures rests { PathRests schema.entry path.now end.entry (built arena.old place)
+        → IsNotForRoom (reply_seen result) }
     ensures planted { IsBuilt arena.new place }
     ensures changes { ChangesIn place arena.old arena.new }
 {
@@ -78,9 +81,11 @@ fn walk_from(
     requires planted { IsBuilt arena.old place }
     requires stands { IsStruct schema }
     requires fits { Fits (set_of schema) (number_of schema) (built arena.old place) }
-    ensures walks { StructWalks (set_of schema.entry) (number_of schema.entry) path.now end.entry (built arena.old place) reply.new
+    ensures walks { StructWalks (set_of schema.entry) (number_of schema.entry) path.now end.entry
+        (built arena.old place) reply.new
         (built arena.new place) }
-    ensures rests { PathRests schema.entry path.now end.entry (built arena.old place) → IsNotForRoom (reply_seen reply.new) }
+    ensures rests { PathRests schema.entry path.now end.entry (built arena.old place)
+        → IsNotForRoom (reply_seen reply.new) }
     ensures planted { IsBuilt arena.new place }
     ensures changes { ChangesIn place arena.old arena.new }
 {
@@ -106,7 +111,8 @@ fn walk_step(
     requires planted { IsBuilt arena.old place }
     requires stands { IsStruct schema }
     requires fits { Fits (set_of schema) (number_of schema) (built arena.old place) }
-    ensures walks { StructWalks (set_of schema.entry) (number_of schema.entry) (step.entry ∷ rest.now) end.entry (built arena.old place) reply.new
+    ensures walks { StructWalks (set_of schema.entry) (number_of schema.entry) (step.entry ∷ rest.now) end.entry
+        (built arena.old place) reply.new
         (built arena.new place) }
     ensures planted { IsBuilt arena.new place }
     ensures changes { ChangesIn place arena.old arena.new }
@@ -130,7 +136,8 @@ fn walk_field(
 )
     requires planted { IsBuilt arena.old place }
     requires room { IsRoomFor field (built arena.old place) }
-    ensures walks { FieldWalks field.entry rest.now end.entry (built arena.old place) reply.new (built arena.new place) }
+    ensures walks { FieldWalks field.entry rest.now end.entry (built arena.old place) reply.new
+        (built arena.new place) }
     ensures planted { IsBuilt arena.new place }
     ensures changes { ChangesIn place arena.old arena.new }
 {
@@ -156,7 +163,8 @@ fn walk_way(
     requires leads { LeadsTo field way }
     requires walked { IsWalked field (built arena.old place) }
     requires room { IsRoomFor field (built arena.old place) }
-    ensures walks { FieldWalks field.entry rest.now end.entry (built arena.old place) reply.new (built arena.new place) }
+    ensures walks { FieldWalks field.entry rest.now end.entry (built arena.old place) reply.new
+        (built arena.new place) }
     ensures planted { IsBuilt arena.new place }
     ensures changes { ChangesIn place arena.old arena.new }
 {
@@ -183,7 +191,8 @@ fn walk_group(
     requires leads { IsGroupAt field group }
     requires walked { IsWalked field (built arena.old place) }
     requires room { IsRoomFor field (built arena.old place) }
-    ensures walks { FieldWalks field.entry rest.now end.entry (built arena.old place) reply.new (built arena.new place) }
+    ensures walks { FieldWalks field.entry rest.now end.entry (built arena.old place) reply.new
+        (built arena.new place) }
     ensures planted { IsBuilt arena.new place }
     ensures changes { ChangesIn place arena.old arena.new }
 {
@@ -207,7 +216,8 @@ fn walk_struct(
     requires leads { IsStructSlot field schema }
     requires walked { IsWalked field (built arena.old place) }
     requires room { IsRoomFor field (built arena.old place) }
-    ensures walks { FieldWalks field.entry rest.now end.entry (built arena.old place) reply.new (built arena.new place) }
+    ensures walks { FieldWalks field.entry rest.now end.entry (built arena.old place) reply.new
+        (built arena.new place) }
     ensures planted { IsBuilt arena.new place }
     ensures changes { ChangesIn place arena.old arena.new }
 {
@@ -234,7 +244,8 @@ fn walk_struct_here(
     requires stands { IsStruct schema }
     requires here { IsTrue (is_struct (tree (segment arena.old) at)) }
     requires fits { Fits (set_of schema) (number_of schema) (struct_in (tree (segment arena.old) at)) }
-    ensures walks { StructWalks (set_of schema.entry) (number_of schema.entry) rest.now end.entry (struct_in (tree (segment arena.old) at)) reply.new
+    ensures walks { StructWalks (set_of schema.entry) (number_of schema.entry) rest.now end.entry
+        (struct_in (tree (segment arena.old) at)) reply.new
         (struct_in (tree (segment arena.new) at)) }
     ensures here { tree (segment arena.new) at ≡ struct_tree (struct_in (tree (segment arena.new) at)) }
     ensures forest { Forest (segment arena.new) at }
@@ -260,7 +271,8 @@ fn walk_list_slot(
     requires leads { IsListSlot field element }
     requires walked { IsWalked field (built arena.old place) }
     requires room { IsRoomFor field (built arena.old place) }
-    ensures walks { FieldWalks field.entry rest.now end.entry (built arena.old place) reply.new (built arena.new place) }
+    ensures walks { FieldWalks field.entry rest.now end.entry (built arena.old place) reply.new
+        (built arena.new place) }
     ensures planted { IsBuilt arena.new place }
     ensures changes { ChangesIn place arena.old arena.new }
 {
@@ -288,7 +300,8 @@ fn walk_list_here(
     requires forest { Forest (segment arena.old) at }
     requires entries { NamesEntries (lists_seen set.now) (seen_type element) }
     requires stands { IsListStand (lists_seen set.now) (seen_type element) (tree (segment arena.old) at) }
-    ensures walks { ListWalks (lists_seen set.now) (seen_type element) path.now end.entry (tree (segment arena.old) at) reply.new (tree (segment arena.new) at) }
+    ensures walks { ListWalks (lists_seen set.now) (seen_type element) path.now end.entry
+        (tree (segment arena.old) at) reply.new (tree (segment arena.new) at) }
     ensures forest { Forest (segment arena.new) at }
     ensures changes { Changes at (segment arena.old) (segment arena.new) }
 {
@@ -339,7 +352,8 @@ fn walk_list(
     requires entries { NamesEntries (lists_seen set.now) (seen_type element) }
     requires stands { IsListStand (lists_seen set.now) (seen_type element) (tree (segment arena.old) at) }
     requires there { is_null_tree (tree (segment arena.old) at) ≡ false }
-    ensures walks { ListWalks (lists_seen set.now) (seen_type element) path.now end.entry (tree (segment arena.old) at) reply.new (tree (segment arena.new) at) }
+    ensures walks { ListWalks (lists_seen set.now) (seen_type element) path.now end.entry
+        (tree (segment arena.old) at) reply.new (tree (segment arena.new) at) }
     ensures forest { Forest (segment arena.new) at }
     ensures changes { Changes at (segment arena.old) (segment arena.new) }
 {
@@ -371,7 +385,8 @@ fn walk_element(
     requires entries { NamesEntries (lists_seen set.now) (seen_type element) }
     requires stands { IsListStand (lists_seen set.now) (seen_type element) (tree (segment arena.old) at) }
     requires there { is_null_tree (tree (segment arena.old) at) ≡ false }
-    ensures walks { ListWalks (lists_seen set.now) (seen_type element) (Step.Element index ∷ rest.now) end.entry (tree (segment arena.old) at) reply.new
+    ensures walks { ListWalks (lists_seen set.now) (seen_type element) (Step.Element index ∷ rest.now) end.entry
+        (tree (segment arena.old) at) reply.new
         (tree (segment arena.new) at) }
     ensures forest { Forest (segment arena.new) at }
     ensures changes { Changes at (segment arena.old) (segment arena.new) }
@@ -400,7 +415,8 @@ fn walk_part(
     requires entries { NamesEntries (lists_seen set.now) (seen_type element) }
     requires stands { IsListStand (lists_seen set.now) (seen_type element) (tree (segment arena.old) at) }
     requires inside { index < list_length (tree (segment arena.old) at) }
-    ensures walks { ElementWalks (lists_seen set.now) (seen_type element) index rest.now end.entry (tree (segment arena.old) at) reply.new
+    ensures walks { ElementWalks (lists_seen set.now) (seen_type element) index rest.now end.entry
+        (tree (segment arena.old) at) reply.new
         (tree (segment arena.new) at) }
     ensures forest { Forest (segment arena.new) at }
     ensures changes { Changes at (segment arena.old) (segment arena.new) }
@@ -430,9 +446,11 @@ fn walk_struct_in(
 )
     requires forest { Forest (segment arena.old) at }
     requires struct_stands { IsStruct schema }
-    requires stands { IsListStand (set_of schema) (StructType (number_of schema) (generic_of schema)) (tree (segment arena.old) at) }
+    requires stands { IsListStand (set_of schema) (StructType (number_of schema) (generic_of schema))
+        (tree (segment arena.old) at) }
     requires inside { index < list_length (tree (segment arena.old) at) }
-    ensures walks { ElementWalks (set_of schema.entry) (StructType (number_of schema.entry) (generic_of schema.entry)) index rest.now end.entry
+    ensures walks { ElementWalks (set_of schema.entry)
+        (StructType (number_of schema.entry) (generic_of schema.entry)) index rest.now end.entry
         (tree (segment arena.old) at) reply.new (tree (segment arena.new) at) }
     ensures forest { Forest (segment arena.new) at }
     ensures changes { Changes at (segment arena.old) (segment arena.new) }
@@ -457,7 +475,8 @@ fn walk_list_in(
     requires entries { NamesEntries (lists_seen set.now) (seen_type inner) }
     requires stands { IsListStand (lists_seen set.now) (ListType (seen_type inner)) (tree (segment arena.old) at) }
     requires inside { index < list_length (tree (segment arena.old) at) }
-    ensures walks { ElementWalks (lists_seen set.now) (ListType (seen_type inner)) index rest.now end.entry (tree (segment arena.old) at) reply.new
+    ensures walks { ElementWalks (lists_seen set.now) (ListType (seen_type inner)) index rest.now end.entry
+        (tree (segment arena.old) at) reply.new
         (tree (segment arena.new) at) }
     ensures forest { Forest (segment arena.new) at }
     ensures changes { Changes at (segment arena.old) (segment arena.new) }

@@ -36,12 +36,13 @@ pub enum Way<'s> {
 
 /// The field that a step names at a struct or group.
 ///
-/// Refused with `NotAContainer` for a step to an element, and else with `FieldNotFound` where there is no field of that index
-/// or name.
+/// Refused with `NotAContainer` for a step to an element, and else with `FieldNotFound` where there is no field of that
+/// index or name.
 #[inline(always)]
 pub fn find_field<'s>(schema: StructSchema<'s>, step: Step<'_>) -> Result<Field<'s>>
     ensures found { (whole : Record → Value) (r : Record)
-        → found_target whole r result ≡ in_record (set_of schema.entry) whole r (number_of schema.entry) (step_seen step.entry) }
+        → found_target whole r result ≡ in_record (set_of schema.entry) whole r (number_of schema.entry)
+        (step_seen step.entry) }
     ensures named { IfOk result (IsNamedBy schema.entry step.entry) }
 {
     match step {
@@ -55,7 +56,8 @@ pub fn find_field<'s>(schema: StructSchema<'s>, step: Step<'_>) -> Result<Field<
 #[inline(always)]
 fn find_numbered(schema: StructSchema<'_>, index: u16) -> Result<Field<'_>>
     ensures found { (whole : Record → Value) (r : Record)
-        → found_target whole r result ≡ in_record (set_of schema.entry) whole r (number_of schema.entry) (step_seen (Step.Field index)) }
+        → found_target whole r result ≡ in_record (set_of schema.entry) whole r (number_of schema.entry)
+        (step_seen (Step.Field index)) }
     ensures named { IfOk result (IsNamedBy schema.entry (Step.Field index)) }
 {
     let fields = schema.get_fields()?;
@@ -69,7 +71,8 @@ fn find_numbered(schema: StructSchema<'_>, index: u16) -> Result<Field<'_>>
 #[inline(always)]
 pub fn is_inactive(arena: &Arena, place: Place, field: Field<'_>) -> bool
     requires planted { IsBuilt arena.now place }
-    ensures { result ≡ is_inactive (reads (field_set field.entry) (built arena.now place) (field_brand field.entry)) (typed_of field.entry).field
+    ensures { result ≡ is_inactive (reads (field_set field.entry) (built arena.now place) (field_brand field.entry))
+        (typed_of field.entry).field
         (index_of field.entry) }
 {
     let reader = dynamic_struct::Reader::new(
@@ -81,8 +84,8 @@ pub fn is_inactive(arena: &Arena, place: Place, field: Field<'_>) -> bool
 
 /// Where a step into a field leads that the struct has. The struct has to be well-formed.
 ///
-/// Refused with `InactiveMember` for a member that isn't active, then with `UntypedStep` for an untyped pointer, and with
-/// `NotAContainer` for another field that is no struct, group or list.
+/// Refused with `InactiveMember` for a member that isn't active, then with `UntypedStep` for an untyped pointer, and
+/// with `NotAContainer` for another field that is no struct, group or list.
 #[inline(always)]
 pub fn way_of<'s>(arena: &Arena, place: Place, field: Field<'s>) -> Result<Way<'s>>
     requires planted { IsBuilt arena.now place }

@@ -1,7 +1,7 @@
 //! Parts of a struct that is built: what `get` hands out of a field.
 //!
-//! A part is handed out by value, so these contracts say what it stands on at the return. That the struct is then as it was
-//! but for that part, and that a refusal changed nothing, is said by the calls of `part`, `slot` and `group`.
+//! A part is handed out by value, so these contracts say what it stands on at the return. That the struct is then as it
+//! was but for that part, and that a refusal changed nothing, is said by the calls of `part`, `slot` and `group`.
 ghost use Rattle.std.specs.Prelude.{None, false, IfErr, IfOk, IsErrAnd, IsOk, OnOk, ◌<◌, ◌≡◌};
 ghost use Rattle.capnp_device.specs.declared.error.ErrorKind.TheVariants.{FieldNotFound};
 ghost use Rattle.capnp_wire.specs.Edits.{IsDueRefusal, with_pointer_tree};
@@ -87,7 +87,8 @@ fn pointed_of<'a>(
     ensures stands { IfOk result (HandsFilled field.entry (built arena.old place)) }
     ensures ready { IfOk result CanBeRead }
     ensures owner { IfOk result (IsPartOf arena.entry place (pointer_index field.entry)
-        (with_pointer_tree (built arena.old place) (pointer_index field.entry) (filled_in field.entry (built arena.old place)))) }
+        (with_pointer_tree (built arena.old place) (pointer_index field.entry)
+        (filled_in field.entry (built arena.old place)))) }
     ensures within { OnOk result (due_in field.entry (built arena.old place) ≡ None) }
     ensures cause { IfErr result (λ e. IsDueRefusal e (due_in field.entry (built arena.old place))) }
     ensures rests { RestsIn field.entry (built arena.old place) → IsOk result }
@@ -112,17 +113,19 @@ pub(crate) fn pointer_is_inside(field: Field<'_>)
 }
 
 impl<'a> Builder<'a> {
-    /// What a field has, to be written through; a number is what stands there. A null text or data becomes its default, an
-    /// empty one too; a null struct its default or an empty one, and a struct that is smaller than its schema gets zeros
-    /// and nulls after what it has; a null list becomes its default where that isn't null, and structs of a list get at
-    /// least their schema's sections. A group is the same struct under the group's schema. Whether a member is active is
-    /// not asked, and no union is switched.
+    /// What a field has, to be written through; a number is what stands there. A null text or data becomes its default,
+    /// an empty one too; a null struct its default or an empty one, and a struct that is smaller than its schema gets
+    /// zeros and nulls after what it has; a null list becomes its default where that isn't null, and structs of a list
+    /// get at least their schema's sections. A group is the same struct under the group's schema. Whether a member is
+    /// active is not asked, and no union is switched.
     ///
-    /// Refused with `WrongPointerKind`, `WrongElementSize` or `TextNotTerminated` where what stands there is not read as the
-    /// field's type, with `SizePastFormat` where the structs of a list would take 2^29 words or more, and else with
-    /// `OutOfMemory`; then nothing has changed, as `part::fill` says. Where nothing has to be filled or extended it is not refused.
+    /// Refused with `WrongPointerKind`, `WrongElementSize` or `TextNotTerminated` where what stands there is not read
+    /// as the field's type, with `SizePastFormat` where the structs of a list would take 2^29 words or more, and else
+    /// with `OutOfMemory`; then nothing has changed, as `part::fill` says. Where nothing has to be filled or extended
+    /// it is not refused.
     ///
-    /// The field has to belong to the schema; the struct has to have its schema's sections and stand at its place (`IsReady`).
+    /// The field has to belong to the schema; the struct has to have its schema's sections and stand at its place
+    /// (`IsReady`).
     #[tactic(auto, using(crate::proofs::Builders::room_for, crate::proofs::HandedOut::hands_group, crate::proofs::HandedOut::hands_pointed, crate::proofs::HandedOut::hands_number, crate::proofs::HandedOut::group_within, crate::proofs::HandedOut::pointed_within, crate::proofs::Owners::got_group, crate::proofs::Owners::got_pointed))]
     pub fn get(self, field: Field<'a>) -> Result<dynamic_value::Builder<'a>>
         requires belongs { BelongsTo field (built_schema self) }
@@ -157,14 +160,19 @@ impl<'a> Builder<'a> {
     #[tactic(auto, using(capnp_dynamic_readers::specs::Facts::Found::found_belongs))]
     pub fn get_named(self, field_name: &str) -> Result<dynamic_value::Builder<'a>>
         requires { IsReady self }
-        ensures stands { (f : Field) → IsNamed (built_schema self.entry) field_name.now f → IfOk result (HandsField f (built_struct self.entry)) }
+        ensures stands { (f : Field) → IsNamed (built_schema self.entry) field_name.now f
+            → IfOk result (HandsField f (built_struct self.entry)) }
         ensures ready { IfOk result CanBeRead }
         ensures owner { (f : Field) → IsNamed (built_schema self.entry) field_name.now f
             → IfOk result (IsGotOf (struct_behind self.entry) (place_of self.entry) f) }
-        ensures within { (f : Field) → IsNamed (built_schema self.entry) field_name.now f → OnOk result (IsPartWithin f (built_struct self.entry)) }
-        ensures cause { (f : Field) → IsNamed (built_schema self.entry) field_name.now f → IfErr result (IsPartRefusal f (built_struct self.entry)) }
-        ensures rests { (f : Field) → IsNamed (built_schema self.entry) field_name.now f → RestsIn f (built_struct self.entry) → IsOk result }
-        ensures none { field_named (struct_records (built_schema self.entry)) field_name.now ≡ None → IsErrAnd result (λ e. e.kind ≡ FieldNotFound) }
+        ensures within { (f : Field) → IsNamed (built_schema self.entry) field_name.now f
+            → OnOk result (IsPartWithin f (built_struct self.entry)) }
+        ensures cause { (f : Field) → IsNamed (built_schema self.entry) field_name.now f
+            → IfErr result (IsPartRefusal f (built_struct self.entry)) }
+        ensures rests { (f : Field) → IsNamed (built_schema self.entry) field_name.now f
+            → RestsIn f (built_struct self.entry) → IsOk result }
+        ensures none { field_named (struct_records (built_schema self.entry)) field_name.now ≡ None
+            → IsErrAnd result (λ e. e.kind ≡ FieldNotFound) }
     {
         let schema = self.schema;
         let field = schema.get_field_by_name(field_name)?;

@@ -1,7 +1,8 @@
 //! Elements of a list that is built: what its `get` hands out.
 //!
-//! An element is handed out by value, so these contracts say what it stands on at the return. That the list is then as it was but
-//! for what was extended behind that element, and that a refusal changed nothing, is said by `element::fill`.
+//! An element is handed out by value, so these contracts say what it stands on at the return. That the list is then as
+//! it was but for what was extended behind that element, and that a refusal changed nothing, is said by
+//! `element::fill`.
 ghost use Rattle.std.specs.Prelude.{None, false, true, IfErr, IfOk, IsOk, OnOk, ◌<◌, ◌≡◌};
 ghost use Rattle.capnp_wire.specs.Edits.{IsDueRefusal};
 ghost use Rattle.capnp_wire.specs.Elements.{or_empty, with_pointer_element};
@@ -90,16 +91,19 @@ fn pointed_at<'a>(
     requires under { IsListStanding (lists_seen set.now) (seen_type element_type) arena.old at }
     requires inside { index < list_length (tree (segment arena.old) at) }
     ensures stands { IfOk result (HandsOut false (lists_seen set.now) (seen_type element_type)
-        (element_filled (lists_seen set.now) (seen_type element_type) (element_pointer (tree (segment arena.old) at) index 1))) }
+        (element_filled (lists_seen set.now) (seen_type element_type)
+        (element_pointer (tree (segment arena.old) at) index 1))) }
     ensures ready { IfOk result CanBeRead }
     ensures owner { IfOk result (IsElementOf arena.entry at index (with_pointer_element index
-        (element_filled (lists_seen set.now) (seen_type element_type) (element_pointer (tree (segment arena.old) at) index 1))
+        (element_filled (lists_seen set.now) (seen_type element_type)
+        (element_pointer (tree (segment arena.old) at) index 1))
         (tree (segment arena.old) at))) }
     ensures within { OnOk result (element_due (lists_seen set.now) (seen_type element_type)
         (element_pointer (tree (segment arena.old) at) index 1) ≡ None) }
     ensures cause { IfErr result (λ e. IsDueRefusal e (element_due (lists_seen set.now) (seen_type element_type)
         (element_pointer (tree (segment arena.old) at) index 1))) }
-    ensures rests { ElementRests (lists_seen set.now) (seen_type element_type) (element_pointer (tree (segment arena.old) at) index 1) → IsOk result }
+    ensures rests { ElementRests (lists_seen set.now) (seen_type element_type)
+        (element_pointer (tree (segment arena.old) at) index 1) → IsOk result }
 {
     arena.tree_is_sound(at);
     let variant = element_type.which();
@@ -123,14 +127,14 @@ fn is_behind_pointer(variant: TypeVariant) -> bool
 }
 
 impl<'a> Builder<'a> {
-    /// What an element has, to be written through; the element has to be there. A number is what stands there, and a struct is
-    /// the one of the list. A null text, data or list is an empty one and stays null; of a list of structs, these get at least
-    /// their schema's sections.
+    /// What an element has, to be written through; the element has to be there. A number is what stands there, and a
+    /// struct is the one of the list. A null text, data or list is an empty one and stays null; of a list of structs,
+    /// these get at least their schema's sections.
     ///
-    /// Refused with `WrongPointerKind`, `WrongElementSize` or `TextNotTerminated` where what stands there is not read as the
-    /// elements' type, with `SizePastFormat` where the structs of a list would take 2^29 words or more, and else with
-    /// `OutOfMemory`; then nothing has changed, as `element::fill` says. A struct and a number are not refused, and where
-    /// nothing has to be extended nothing is refused for memory.
+    /// Refused with `WrongPointerKind`, `WrongElementSize` or `TextNotTerminated` where what stands there is not read
+    /// as the elements' type, with `SizePastFormat` where the structs of a list would take 2^29 words or more, and else
+    /// with `OutOfMemory`; then nothing has changed, as `element::fill` says. A struct and a number are not refused,
+    /// and where nothing has to be extended nothing is refused for memory.
     ///
     /// The list has to be ready (`IsListReady`).
     #[tactic(auto, using(crate::proofs::Owners::struct_got))]

@@ -25,7 +25,8 @@ use capnp_builders::{any_pointer, data, text};
 use capnp_schema::schema::StructSchema;
 use capnp_schema::set::SchemaSet;
 
-/// The text at a pointer, to be written at its start where it is new, and else after its last byte; of a null one of no bytes.
+/// The text at a pointer, to be written at its start where it is new, and else after its last byte; of a null one of no
+/// bytes.
 #[tactic(auto, using(crate::proofs::Readers::bytes_there))]
 fn text_at<'a>(pointer: PointerBuilder<'a>, is_new: bool) -> text::Builder<'a>
     requires forest { Forest (segment pointer.arena.now) pointer.at }
@@ -64,9 +65,11 @@ pub(crate) fn hand_out<'a>(
 ) -> Builder<'a>
     requires pointer { is_pointer (seen_variant variant) ≡ true }
     requires forest { Forest (segment pointer.arena.now) pointer.at }
-    requires handed { CanBeHanded (lists_seen set.now) (seen_variant variant) (tree (segment pointer.arena.now) pointer.at) }
+    requires handed { CanBeHanded (lists_seen set.now) (seen_variant variant)
+        (tree (segment pointer.arena.now) pointer.at) }
     ensures ready { CanBeRead result }
-    ensures stands { HandsOut is_new (lists_seen set.now) (seen_variant variant) (tree (segment pointer.entry.arena.now) pointer.entry.at) result }
+    ensures stands { HandsOut is_new (lists_seen set.now) (seen_variant variant)
+        (tree (segment pointer.entry.arena.now) pointer.entry.at) result }
     ensures behind { IsAt pointer.entry.arena pointer.entry.at result }
 {
     match variant {

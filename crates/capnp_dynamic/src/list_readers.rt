@@ -20,7 +20,8 @@ use capnp_wire::size::ElementSize;
 pub(crate) fn read_list(arena: &Arena, at: usize, size: ElementSize) -> ListReader<'_>
     requires { Forest (segment arena.now) at }
     ensures cut { IsCutOf (list_of result) (or_empty size (tree (segment arena.now) at)) }
-    ensures list { IsBelow 65535 (tree (segment arena.now) at) → list_of result ≡ or_empty size (tree (segment arena.now) at) }
+    ensures list { IsBelow 65535 (tree (segment arena.now) at)
+        → list_of result ≡ or_empty size (tree (segment arena.now) at) }
     ensures levels { list_levels result ≡ 64 }
 {
     if arena.is_null(at) {

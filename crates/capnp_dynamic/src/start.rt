@@ -1,7 +1,8 @@
 //! Parts of a struct that is built, started anew: what `init` and `initn` hand out of a field.
 //!
-//! A part is handed out by value, so these contracts say what it stands on at the return. That the struct ends with just that
-//! part started and its member active, and that a refusal changed nothing, is said by the calls of `slot` and `group`.
+//! A part is handed out by value, so these contracts say what it stands on at the return. That the struct ends with
+//! just that part started and its member active, and that a refusal changed nothing, is said by the calls of `slot` and
+//! `group`.
 ghost use Rattle.std.specs.Prelude.{None, true, IfErr, IfOk, IsErrAnd, ◌≡◌};
 ghost use Rattle.capnp_device.specs.declared.error.ErrorKind.TheVariants.{FieldNotFound};
 ghost use Rattle.capnp_schema.specs.FieldLists.{typed_of};
@@ -36,7 +37,8 @@ fn hand_new<'a>(arena: &'a mut Arena, place: Place, field: Field<'a>) -> dynamic
     requires pointer { IsPointer field }
     requires room { IsRoomFor field (built arena.old place) }
     requires handed { CanBeHanded (field_set field) (typed_of field).type (pointer_in field (built arena.old place)) }
-    ensures stands { HandsOut true (field_set field.entry) (typed_of field.entry).type (pointer_in field.entry (built arena.old place)) result }
+    ensures stands { HandsOut true (field_set field.entry) (typed_of field.entry).type
+        (pointer_in field.entry (built arena.old place)) result }
     ensures ready { CanBeRead result }
     ensures there { IsAtPointer arena.entry place (pointer_index field.entry) result }
 {
@@ -59,7 +61,8 @@ fn start_slot<'a>(
     ensures stands { IfOk result (HandsNew (field_set field.entry) (typed_of field.entry)) }
     ensures ready { IfOk result CanBeRead }
     ensures pointer { IfOk result (λ _. IsPointer field.entry) }
-    ensures owner { IfOk result (IsPartOf arena.entry place (pointer_index field.entry) (slot_with field.entry (init_content field.entry) (built arena.old place))) }
+    ensures owner { IfOk result (IsPartOf arena.entry place (pointer_index field.entry)
+        (slot_with field.entry (init_content field.entry) (built arena.old place))) }
     ensures cause { IfErr result (λ e. IsInitRefusal (typed_of field.entry).type e.kind) }
 {
     slot::init(arena, place, field)?;
@@ -89,13 +92,14 @@ fn start_sized<'a>(
 }
 
 impl<'a> Builder<'a> {
-    /// Starts a field anew, and hands it out: a struct's slot becomes a struct of its schema's sections, all zero and null, an
-    /// untyped one null, and a group is cleared. Then a member becomes active.
+    /// Starts a field anew, and hands it out: a struct's slot becomes a struct of its schema's sections, all zero and
+    /// null, an untyped one null, and a group is cleared. Then a member becomes active.
     ///
-    /// Refused with `InitIsOnlyValidForStructAndAnyPointerFields` for another slot, and with `OutOfMemory` for a struct; then
-    /// nothing has changed, as `slot::init` says.
+    /// Refused with `InitIsOnlyValidForStructAndAnyPointerFields` for another slot, and with `OutOfMemory` for a
+    /// struct; then nothing has changed, as `slot::init` says.
     ///
-    /// The field has to belong to the schema; the struct has to have its schema's sections and stand at its place (`IsReady`).
+    /// The field has to belong to the schema; the struct has to have its schema's sections and stand at its place
+    /// (`IsReady`).
     #[tactic(auto, using(crate::proofs::Builders::room_for, crate::proofs::Started::init_group, crate::proofs::Started::init_slot, crate::proofs::Owners::started_group))]
     pub fn init(self, field: Field<'a>) -> Result<dynamic_value::Builder<'a>>
         requires belongs { BelongsTo field (built_schema self) }
@@ -126,26 +130,30 @@ impl<'a> Builder<'a> {
     #[tactic(auto, using(capnp_dynamic_readers::specs::Facts::Found::found_belongs))]
     pub fn init_named(self, field_name: &str) -> Result<dynamic_value::Builder<'a>>
         requires { IsReady self }
-        ensures stands { (f : Field) → IsNamed (built_schema self.entry) field_name.now f → IfOk result (HandsInit f (built_struct self.entry)) }
+        ensures stands { (f : Field) → IsNamed (built_schema self.entry) field_name.now f
+            → IfOk result (HandsInit f (built_struct self.entry)) }
         ensures ready { IfOk result CanBeRead }
         ensures owner { (f : Field) → IsNamed (built_schema self.entry) field_name.now f
             → IfOk result (IsStartedOf (struct_behind self.entry) (place_of self.entry) f) }
-        ensures cause { (f : Field) → IsNamed (built_schema self.entry) field_name.now f → IfErr result (IsStartRefusal f) }
-        ensures none { field_named (struct_records (built_schema self.entry)) field_name.now ≡ None → IsErrAnd result (λ e. e.kind ≡ FieldNotFound) }
+        ensures cause { (f : Field) → IsNamed (built_schema self.entry) field_name.now f
+            → IfErr result (IsStartRefusal f) }
+        ensures none { field_named (struct_records (built_schema self.entry)) field_name.now ≡ None
+            → IsErrAnd result (λ e. e.kind ≡ FieldNotFound) }
     {
         let schema = self.schema;
         let field = schema.get_field_by_name(field_name)?;
         self.init(field)
     }
 
-    /// Starts a field anew with a size, and hands it out: a text or data of so many zero bytes, or a list of so many elements,
-    /// all zero, false or null, or structs of their schema's sections. Then a member becomes active.
+    /// Starts a field anew with a size, and hands it out: a text or data of so many zero bytes, or a list of so many
+    /// elements, all zero, false or null, or structs of their schema's sections. Then a member becomes active.
     ///
-    /// Refused with `InitnIsOnlyValidForListTextOrDataFields` for another slot and for a group; with `SizePastFormat` for a
-    /// text of more than 2^29 - 2 bytes, data of more than 2^29 - 1, 2^29 elements or more, or structs that take 2^29 words or
-    /// more; and with `OutOfMemory`. Then nothing has changed, as `slot::initn` says.
+    /// Refused with `InitnIsOnlyValidForListTextOrDataFields` for another slot and for a group; with `SizePastFormat`
+    /// for a text of more than 2^29 - 2 bytes, data of more than 2^29 - 1, 2^29 elements or more, or structs that take
+    /// 2^29 words or more; and with `OutOfMemory`. Then nothing has changed, as `slot::initn` says.
     ///
-    /// The field has to belong to the schema; the struct has to have its schema's sections and stand at its place (`IsReady`).
+    /// The field has to belong to the schema; the struct has to have its schema's sections and stand at its place
+    /// (`IsReady`).
     #[tactic(auto, using(crate::proofs::Builders::room_for, crate::proofs::Started::no_sized_group))]
     pub fn initn(self, field: Field<'a>, size: u32) -> Result<dynamic_value::Builder<'a>>
         requires belongs { BelongsTo field (built_schema self) }
@@ -166,18 +174,21 @@ impl<'a> Builder<'a> {
         start_sized(arena, place, field, size)
     }
 
-    /// Starts the field of a name anew with a size, as `initn`. Refused first with `FieldNotFound` where there is none of that
-    /// name.
+    /// Starts the field of a name anew with a size, as `initn`. Refused first with `FieldNotFound` where there is none
+    /// of that name.
     /// The struct has to have its schema's sections and stand at its place (`IsReady`).
     #[tactic(auto, using(capnp_dynamic_readers::specs::Facts::Found::found_belongs, crate::proofs::Started::same_initn, crate::proofs::Started::same_sized_refusal, crate::proofs::Owners::same_sized))]
     pub fn initn_named(self, field_name: &str, size: u32) -> Result<dynamic_value::Builder<'a>>
         requires { IsReady self }
-        ensures stands { (f : Field) → IsNamed (built_schema self.entry) field_name.now f → IfOk result (HandsInitn f size) }
+        ensures stands { (f : Field) → IsNamed (built_schema self.entry) field_name.now f
+            → IfOk result (HandsInitn f size) }
         ensures ready { IfOk result CanBeRead }
         ensures owner { (f : Field) → IsNamed (built_schema self.entry) field_name.now f
             → IfOk result (IsSizedOf (struct_behind self.entry) (place_of self.entry) f size) }
-        ensures cause { (f : Field) → IsNamed (built_schema self.entry) field_name.now f → IfErr result (IsSizedRefusal f size) }
-        ensures none { field_named (struct_records (built_schema self.entry)) field_name.now ≡ None → IsErrAnd result (λ e. e.kind ≡ FieldNotFound) }
+        ensures cause { (f : Field) → IsNamed (built_schema self.entry) field_name.now f
+            → IfErr result (IsSizedRefusal f size) }
+        ensures none { field_named (struct_records (built_schema self.entry)) field_name.now ≡ None
+            → IsErrAnd result (λ e. e.kind ≡ FieldNotFound) }
     {
         let schema = self.schema;
         let field = schema.get_field_by_name(field_name)?;

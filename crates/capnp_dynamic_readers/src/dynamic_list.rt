@@ -77,12 +77,13 @@ impl<'a> Reader<'a> {
     ///
     /// A struct needs a level of the list and leaves one fewer, and so does a list behind a pointer; a pointer that is
     /// read out of a struct is entered through that. Refused with `TooDeep` where no level is left, and as the reads of
-    /// the element's type: with the number of a pointer that can't be followed, `WrongPointerKind`, `WrongElementSize` or
-    /// `TextNotTerminated`.
+    /// the element's type: with the number of a pointer that can't be followed, `WrongPointerKind`, `WrongElementSize`
+    /// or `TextNotTerminated`.
     pub fn get(self, index: u32) -> Result<dynamic_value::Reader<'a>>
         ensures value { answered result ≡ element_seen self.entry index }
         ensures under { IfOk result (IsUnder (list_set self.entry) (element_of self.entry)) }
-        ensures typed { NamesEntries (list_set self.entry) (element_of self.entry) → IfOk result (IsOf (list_set self.entry) (element_of self.entry)) }
+        ensures typed { NamesEntries (list_set self.entry) (element_of self.entry)
+            → IfOk result (IsOf (list_set self.entry) (element_of self.entry)) }
     {
         read_element(&self.reader, self.set, self.element_type.which(), index)
     }

@@ -1,6 +1,6 @@
-//! Cases that memory is refused to: `./fail_each_allocation` refuses each request of the test in turn. Where a case meets it,
-//! it is refused and nothing is written. Or its line says so, and what is written is what the other calls left, where it goes
-//! on after a refused call, and else nothing.
+//! Cases that memory is refused to: `./fail_each_allocation` refuses each request of the test in turn. Where a case
+//! meets it, it is refused and nothing is written. Or its line says so, and what is written is what the other calls
+//! left, where it goes on after a refused call, and else nothing.
 
 use crate::cases::{Case, Devices, Outcome, Verb, outcome_of};
 use crate::fixtures::{LISTS, MIXED, MIXED_HO, NONE};

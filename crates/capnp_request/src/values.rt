@@ -31,14 +31,15 @@ use std::alloc::Global;
 /// The bytes of the table of a message of one segment.
 const TABLE_BYTES: usize = 8;
 
-/// A message whose root is a copy of what stands at a pointer. Refused as the first pointer there that can't be followed, in
-/// preorder, and with `OutOfMemory`.
+/// A message whose root is a copy of what stands at a pointer. Refused as the first pointer there that can't be
+/// followed, in preorder, and with `OutOfMemory`.
 #[tactic(auto, using(crate::proofs::RefusedKinds::copy_kinds))]
 fn copy_of(alloc: Global, pointer: any_pointer::Reader<'_>) -> Result<Builder>
     ensures message { IfOk result IsMessage }
     ensures read { IfOk result (λ m. message_tree m ≡ tree_of (pointer_of pointer.entry)) }
     ensures sound { IfOk result (λ _. first_fault (tree_of (pointer_of pointer.entry)) ≡ None) }
-    ensures refused { IfErr result (λ e. e.kind ≢ OutOfMemory → option_map refusal (first_fault (tree_of (pointer_of pointer.entry))) ≡ Some e.kind) }
+    ensures refused { IfErr result (λ e. e.kind ≢ OutOfMemory
+        → option_map refusal (first_fault (tree_of (pointer_of pointer.entry))) ≡ Some e.kind) }
     ensures kinds { IfErr result (λ e. IsPlain e.kind) }
 {
     let mut message = Builder::new(alloc)?;
@@ -55,11 +56,15 @@ fn behind_table(bytes: &[u8]) -> &[u8]
     &bytes[start..]
 }
 
-/// The words of one segment whose root pointer leads to a copy of what stands at a pointer. Refused as the first pointer
-/// there that can't be followed, in preorder, and with `OutOfMemory`, also where they would be 2^29 words or more.
+/// The words of one segment whose root pointer leads to a copy of what stands at a pointer. Refused as the first
+/// pointer there that can't be followed, in preorder, and with `OutOfMemory`, also where they would be 2^29 words or
+/// more.
 fn words_of(alloc: Global, pointer: any_pointer::Reader<'_>) -> Result<Vec<u8>>
-    ensures read { IfOk result (λ w. words_or_fault (first_fault (tree_of (pointer_of pointer.entry))) (tree_of (pointer_of pointer.entry)) ≡ Ok w.items) }
-    ensures refused { IfErr result (λ e. e.kind ≢ OutOfMemory → words_or_fault (first_fault (tree_of (pointer_of pointer.entry))) (tree_of (pointer_of pointer.entry)) ≡ Err e.kind) }
+    ensures read { IfOk result (λ w. words_or_fault (first_fault (tree_of (pointer_of pointer.entry)))
+        (tree_of (pointer_of pointer.entry)) ≡ Ok w.items) }
+    ensures refused { IfErr result (λ e. e.kind ≢ OutOfMemory
+        → words_or_fault (first_fault (tree_of (pointer_of pointer.entry))) (tree_of (pointer_of pointer.entry))
+        ≡ Err e.kind) }
     ensures kinds { IfErr result (λ e. IsPlain e.kind) }
 {
     let message = copy_of(alloc, pointer)?;
@@ -77,14 +82,15 @@ fn copied(alloc: Global, bytes: &[u8]) -> Result<Vec<u8>>
     Ok(bytes.to_vec(alloc)?)
 }
 
-/// The value of a member that stands in the data section. Floats are their bits. Refused with `UnknownKind` for a member
-/// that is none.
+/// The value of a member that stands in the data section. Floats are their bits. Refused with `UnknownKind` for a
+/// member that is none.
 fn data_value(reader: dynamic_struct::Reader<'_>, member: u16) -> Result<ValueRecord>
     requires is_record { IsRecord 22 reader }
     requires active { which_of (record_seen reader) ≡ Some member }
     requires data { IsDataMember member }
     ensures read { IfOk result (λ v. value_of (value_said (record_seen reader.entry)) ≡ Ok (seen_value v)) }
-    ensures refused { IfErr result (λ e. e.kind ≢ OutOfMemory → value_of (value_said (record_seen reader.entry)) ≡ Err e.kind) }
+    ensures refused { IfErr result (λ e. e.kind ≢ OutOfMemory
+        → value_of (value_said (record_seen reader.entry)) ≡ Err e.kind) }
     ensures kinds { IfErr result (λ e. IsPlain e.kind) }
 {
     match member {
@@ -114,7 +120,8 @@ fn member_value(
     requires is_record { IsRecord 22 reader }
     requires active { which_of (record_seen reader) ≡ Some member }
     ensures read { IfOk result (λ v. value_of (value_said (record_seen reader.entry)) ≡ Ok (seen_value v)) }
-    ensures refused { IfErr result (λ e. e.kind ≢ OutOfMemory → value_of (value_said (record_seen reader.entry)) ≡ Err e.kind) }
+    ensures refused { IfErr result (λ e. e.kind ≢ OutOfMemory
+        → value_of (value_said (record_seen reader.entry)) ≡ Err e.kind) }
     ensures kinds { IfErr result (λ e. IsPlain e.kind) }
 {
     match member {
@@ -158,7 +165,8 @@ fn member_value(
 pub(crate) fn value_of(alloc: Global, reader: dynamic_struct::Reader<'_>) -> Result<ValueRecord>
     requires { IsRecord 22 reader }
     ensures read { IfOk result (λ v. value_of (value_said (record_seen reader.entry)) ≡ Ok (seen_value v)) }
-    ensures refused { IfErr result (λ e. e.kind ≢ OutOfMemory → value_of (value_said (record_seen reader.entry)) ≡ Err e.kind) }
+    ensures refused { IfErr result (λ e. e.kind ≢ OutOfMemory
+        → value_of (value_said (record_seen reader.entry)) ≡ Err e.kind) }
     ensures kinds { IfErr result (λ e. IsPlain e.kind) }
 {
     let Some(member) = active_member(reader) else {

@@ -51,7 +51,8 @@ fn copied_root(
 ) -> Result<Place>
     ensures message { OnOk result (IsMessage message.new) }
     ensures place { IfOk result (λ p. shape_at (segment message.new) 0 ≡ part p) }
-    ensures root { OnOk result (HasRoot schema.entry (copied_record schema.entry source.entry) (message_tree message.new)) }
+    ensures root { OnOk result (HasRoot schema.entry (copied_record schema.entry source.entry)
+        (message_tree message.new)) }
     ensures copied { OnOk result (struct_in (message_tree message.new) ≡ copied_root schema.entry source.entry) }
     ensures sound { OnOk result (root_refusal (tree_of source.entry) ≡ None) }
     ensures cause { IfErr result (λ e. e.kind ≢ OutOfMemory → root_refusal (tree_of source.entry) ≡ Some e.kind) }
@@ -76,8 +77,10 @@ fn run_root(
     requires place { shape_at (segment message.old) 0 ≡ part place }
     requires root { IsRoot schema (message_tree message.old) }
     ensures message { IsMessage message.new }
-    ensures run { IfOk result (λ replies. RunsOn schema.entry (message_tree message.old) calls.now replies.items (message_tree message.new)) }
-    ensures made { IfOk result (λ replies. Makes (set_of schema.entry) (number_of schema.entry) (struct_in (message_tree message.old)) calls.now replies.items
+    ensures run { IfOk result (λ replies. RunsOn schema.entry (message_tree message.old) calls.now replies.items
+        (message_tree message.new)) }
+    ensures made { IfOk result (λ replies. Makes (set_of schema.entry) (number_of schema.entry)
+        (struct_in (message_tree message.old)) calls.now replies.items
         (struct_in (message_tree message.new))) }
     ensures cause { IfErr result (λ e. e.kind ≡ OutOfMemory) }
 {
@@ -86,13 +89,13 @@ fn run_root(
     replies
 }
 
-/// Makes calls on an empty root of a message: the root becomes a struct of the schema, all zero and null, and what it reads as
-/// after the calls is what the machine of records makes of the schema's default record. What stood in the message before is
-/// given up. The schema is one of an accepted set.
+/// Makes calls on an empty root of a message: the root becomes a struct of the schema, all zero and null, and what it
+/// reads as after the calls is what the machine of records makes of the schema's default record. What stood in the
+/// message before is given up. The schema is one of an accepted set.
 ///
 /// Refused with `OutOfMemory` alone, where there is no room for the root or the replies; then no call was made, and the
-/// message is as it was. A call that is refused has its reply, and doesn't refuse the run. One that takes no memory on what the
-/// one before it left is refused neither with `OutOfMemory` nor with `SizePastFormat`.
+/// message is as it was. A call that is refused has its reply, and doesn't refuse the run. One that takes no memory on
+/// what the one before it left is refused neither with `OutOfMemory` nor with `SizePastFormat`.
 pub fn run_new(
     alloc: Global,
     message: &mut Builder,
@@ -101,8 +104,10 @@ pub fn run_new(
 ) -> Result<Vec<Reply>>
     requires { IsStruct schema }
     ensures message { OnOk result (IsMessage message.new) }
-    ensures run { IfOk result (λ replies. LeavesRun schema.entry (new_record schema.entry) calls.now replies.items (message_tree message.new)) }
-    ensures made { IfOk result (λ replies. Makes (set_of schema.entry) (number_of schema.entry) (new_root schema.entry) calls.now replies.items
+    ensures run { IfOk result (λ replies. LeavesRun schema.entry (new_record schema.entry) calls.now replies.items
+        (message_tree message.new)) }
+    ensures made { IfOk result (λ replies. Makes (set_of schema.entry) (number_of schema.entry)
+        (new_root schema.entry) calls.now replies.items
         (struct_in (message_tree message.new))) }
     ensures rests { IfOk result (λ replies. RestsWhole schema.entry (new_root schema.entry) calls.now replies.items) }
     ensures refused { OnErr result (message.new ≡ message.old) }
@@ -115,13 +120,14 @@ pub fn run_new(
     Ok(replies)
 }
 
-/// Makes calls on a copy of a message's root, which is a struct: what it reads as after the calls is what the machine of
-/// records makes of the record that the source reads as. What stood in the message before is given up. The schema is one of an
-/// accepted set.
+/// Makes calls on a copy of a message's root, which is a struct: what it reads as after the calls is what the machine
+/// of records makes of the record that the source reads as. What stood in the message before is given up. The schema is
+/// one of an accepted set.
 ///
-/// Refused with `BadPointer`, `TooDeep` or `CapabilityPointer` where a pointer in the source can't be followed, by the first
-/// of these in preorder; else with `WrongPointerKind` where the source is a list; and with `OutOfMemory`. Then no call was
-/// made, and the message is as it was. Once the copy and the replies have room, calls are refused as by `run_new`.
+/// Refused with `BadPointer`, `TooDeep` or `CapabilityPointer` where a pointer in the source can't be followed, by the
+/// first of these in preorder; else with `WrongPointerKind` where the source is a list; and with `OutOfMemory`. Then no
+/// call was made, and the message is as it was. Once the copy and the replies have room, calls are refused as by
+/// `run_new`.
 pub fn run_copied(
     alloc: Global,
     message: &mut Builder,
@@ -131,11 +137,14 @@ pub fn run_copied(
 ) -> Result<Vec<Reply>>
     requires { IsStruct schema }
     ensures message { OnOk result (IsMessage message.new) }
-    ensures run { IfOk result (λ replies. LeavesRun schema.entry (copied_record schema.entry source.entry) calls.now replies.items
+    ensures run { IfOk result (λ replies. LeavesRun schema.entry
+        (copied_record schema.entry source.entry) calls.now replies.items
         (message_tree message.new)) }
-    ensures made { IfOk result (λ replies. Makes (set_of schema.entry) (number_of schema.entry) (copied_root schema.entry source.entry) calls.now replies.items
+    ensures made { IfOk result (λ replies. Makes (set_of schema.entry) (number_of schema.entry)
+        (copied_root schema.entry source.entry) calls.now replies.items
         (struct_in (message_tree message.new))) }
-    ensures rests { IfOk result (λ replies. RestsWhole schema.entry (copied_root schema.entry source.entry) calls.now replies.items) }
+    ensures rests { IfOk result (λ replies. RestsWhole schema.entry
+        (copied_root schema.entry source.entry) calls.now replies.items) }
     ensures sound { OnOk result (root_refusal (tree_of source.entry) ≡ None) }
     ensures refused { OnErr result (message.new ≡ message.old) }
     ensures cause { IfErr result (λ e. e.kind ≢ OutOfMemory → root_refusal (tree_of source.entry) ≡ Some e.kind) }
@@ -156,9 +165,11 @@ fn print_root(
 ) -> Result<()>
     requires message { IsMessage message.now }
     requires here { IsTrue (is_struct (message_tree message.now)) }
-    ensures printed { OnOk result (IsAppended (string_bytes out.old) (root_text schema.entry indented (message_tree message.now)) (string_bytes out.new)) }
+    ensures printed { OnOk result (IsAppended (string_bytes out.old)
+        (root_text schema.entry indented (message_tree message.now)) (string_bytes out.new)) }
     ensures refused { OnErr result (string_bytes out.new ≡ string_bytes out.old) }
-    ensures cause { IfErr result (λ e. e.kind ≢ OutOfMemory → read_text schema.entry indented (message_tree message.now) ≡ Err e.kind) }
+    ensures cause { IfErr result (λ e. e.kind ≢ OutOfMemory
+        → read_text schema.entry indented (message_tree message.now) ≡ Err e.kind) }
 {
     print_law();
     let reader = message.get_pointer_reader(0).get_struct()?;
@@ -166,12 +177,13 @@ fn print_root(
     print(Value::Struct(root), out, indented)
 }
 
-/// Makes calls on an empty root of a new message, writes the message and prints its root: the promise of this crate, whole.
-/// The replies and the record that the bytes are read back as are related by the machine of records to the default record,
-/// and what is printed is the text of that record. The schema is one of an accepted set.
+/// Makes calls on an empty root of a new message, writes the message and prints its root: the promise of this crate,
+/// whole. The replies and the record that the bytes are read back as are related by the machine of records to the
+/// default record, and what is printed is the text of that record. The schema is one of an accepted set.
 ///
-/// Refused with `OutOfMemory`; with `TooLarge` where the calls left a message of 2^29 words or more; and else as the print of
-/// the root that they left. Then the string is as it was. A call that is refused has its reply, and doesn't refuse the whole.
+/// Refused with `OutOfMemory`; with `TooLarge` where the calls left a message of 2^29 words or more; and else as the
+/// print of the root that they left. Then the string is as it was. A call that is refused has its reply, and doesn't
+/// refuse the whole.
 ///
 /// # Example
 ///
@@ -190,10 +202,12 @@ pub fn whole_new(
     indented: bool,
 ) -> Result<(Vec<Reply>, Vec<u8>)>
     requires { IsStruct schema }
-    ensures whole { IfOk result (λ done. IsWhole schema.entry (new_record schema.entry) calls.now done.0.items done.1.items indented
+    ensures whole { IfOk result (λ done. IsWhole schema.entry
+        (new_record schema.entry) calls.now done.0.items done.1.items indented
         (string_bytes out.old) (string_bytes out.new)) }
     ensures refused { OnErr result (string_bytes out.new ≡ string_bytes out.old) }
-    ensures cause { IfErr result (λ e. e.kind ≢ OutOfMemory → IsWholeRefusal schema.entry (new_record schema.entry) calls.now indented e.kind) }
+    ensures cause { IfErr result (λ e. e.kind ≢ OutOfMemory
+        → IsWholeRefusal schema.entry (new_record schema.entry) calls.now indented e.kind) }
 {
     let mut message = Builder::new(alloc)?;
     let replies = run_new(alloc, &mut message, schema, calls)?;
@@ -222,11 +236,13 @@ pub fn whole_copied(
     indented: bool,
 ) -> Result<(Vec<Reply>, Vec<u8>)>
     requires { IsStruct schema }
-    ensures whole { IfOk result (λ done. IsWhole schema.entry (copied_record schema.entry source.entry) calls.now done.0.items done.1.items indented
+    ensures whole { IfOk result (λ done. IsWhole schema.entry
+        (copied_record schema.entry source.entry) calls.now done.0.items done.1.items indented
         (string_bytes out.old) (string_bytes out.new)) }
     ensures sound { OnOk result (root_refusal (tree_of source.entry) ≡ None) }
     ensures refused { OnErr result (string_bytes out.new ≡ string_bytes out.old) }
-    ensures cause { IfErr result (λ e. e.kind ≢ OutOfMemory → IsCopiedRefusal schema.entry source.entry calls.now indented e.kind) }
+    ensures cause { IfErr result (λ e. e.kind ≢ OutOfMemory
+        → IsCopiedRefusal schema.entry source.entry calls.now indented e.kind) }
 {
     let mut message = Builder::new(alloc)?;
     let replies = run_copied(alloc, &mut message, source, schema, calls)?;

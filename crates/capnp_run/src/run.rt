@@ -31,7 +31,8 @@ fn call_at(
     requires planted { IsBuilt arena.old place }
     requires stands { IsStruct schema }
     requires fits { Fits (set_of schema) (number_of schema) (built arena.old place) }
-    ensures made { IsMade (set_of schema.entry) (number_of schema.entry) (built arena.old place) call.now result (built arena.new place) }
+    ensures made { IsMade (set_of schema.entry) (number_of schema.entry) (built arena.old place) call.now result
+        (built arena.new place) }
     ensures planted { IsBuilt arena.new place }
     ensures changes { ChangesIn place arena.old arena.new }
 {
@@ -49,7 +50,8 @@ fn make_calls(
     requires planted { IsBuilt arena.old place }
     requires stands { IsStruct schema }
     requires fits { Fits (set_of schema) (number_of schema) (built arena.old place) }
-    ensures made { IfOk result (λ replies. Makes (set_of schema.entry) (number_of schema.entry) (built arena.old place) calls.now replies.items
+    ensures made { IfOk result (λ replies. Makes (set_of schema.entry) (number_of schema.entry)
+        (built arena.old place) calls.now replies.items
         (built arena.new place)) }
     ensures planted { IsBuilt arena.new place }
     ensures changes { ChangesIn place arena.old arena.new }
@@ -66,12 +68,13 @@ fn make_calls(
     Ok(replies)
 }
 
-/// Makes calls along paths of a struct, one after another, and gives one reply to each, in order. A refused call doesn't end
-/// the run, and leaves the nulls filled that the steps before the refusal filled. The schema is one of an accepted set; the
-/// struct has its sections.
+/// Makes calls along paths of a struct, one after another, and gives one reply to each, in order. A refused call
+/// doesn't end the run, and leaves the nulls filled that the steps before the refusal filled. The schema is one of an
+/// accepted set; the struct has its sections.
 ///
-/// Refused with `OutOfMemory` where there is no room for the replies, and then nothing has changed. Once there is, a call that
-/// takes no memory on what the one before it left is refused neither with `OutOfMemory` nor with `SizePastFormat`.
+/// Refused with `OutOfMemory` where there is no room for the replies, and then nothing has changed. Once there is, a
+/// call that takes no memory on what the one before it left is refused neither with `OutOfMemory` nor with
+/// `SizePastFormat`.
 pub fn run_on(
     alloc: Global,
     arena: &mut Arena,
@@ -82,8 +85,10 @@ pub fn run_on(
     requires planted { IsBuilt arena.old place }
     requires stands { IsStruct schema }
     requires fits { Fits (set_of schema) (number_of schema) (built arena.old place) }
-    ensures runs { IfOk result (λ replies. RunsTo schema.entry (built arena.old place) calls.now replies.items (built arena.new place)) }
-    ensures made { IfOk result (λ replies. Makes (set_of schema.entry) (number_of schema.entry) (built arena.old place) calls.now replies.items
+    ensures runs { IfOk result (λ replies. RunsTo schema.entry (built arena.old place) calls.now replies.items
+        (built arena.new place)) }
+    ensures made { IfOk result (λ replies. Makes (set_of schema.entry) (number_of schema.entry)
+        (built arena.old place) calls.now replies.items
         (built arena.new place)) }
     ensures rests { IfOk result (λ replies. RestsWhole schema.entry (built arena.old place) calls.now replies.items) }
     ensures kept { KeepsSize (built arena.old place) (built arena.new place) }
@@ -100,11 +105,12 @@ pub fn run_on(
 }
 
 /// Makes calls along paths of the struct that a builder stands on, as `run_on`. The builder is given by value, and
-/// `root.exit.0` is what its reference leads to then. The builder's schema is one of an accepted set; its struct has the
-/// schema's sections.
+/// `root.exit.0` is what its reference leads to then. The builder's schema is one of an accepted set; its struct has
+/// the schema's sections.
 ///
-/// Refused with `OutOfMemory` where there is no room for the replies, and then nothing has changed. Once there is, a call that
-/// takes no memory on what the one before it left is refused neither with `OutOfMemory` nor with `SizePastFormat`.
+/// Refused with `OutOfMemory` where there is no room for the replies, and then nothing has changed. Once there is, a
+/// call that takes no memory on what the one before it left is refused neither with `OutOfMemory` nor with
+/// `SizePastFormat`.
 pub fn run(
     alloc: Global,
     root: dynamic_struct::Builder<'_>,
@@ -112,11 +118,14 @@ pub fn run(
 ) -> Result<Vec<Reply>>
     requires stands { IsStruct (built_schema root) }
     requires ready { IsReady root }
-    ensures runs { IfOk result (λ replies. RunsTo (built_schema root.entry) (built_struct root.entry) calls.now replies.items
+    ensures runs { IfOk result (λ replies. RunsTo (built_schema root.entry)
+        (built_struct root.entry) calls.now replies.items
         (built root.exit.0.now (place_of root.entry))) }
-    ensures made { IfOk result (λ replies. Makes (set_of (built_schema root.entry)) (number_of (built_schema root.entry)) (built_struct root.entry) calls.now
+    ensures made { IfOk result (λ replies. Makes (set_of (built_schema root.entry))
+        (number_of (built_schema root.entry)) (built_struct root.entry) calls.now
         replies.items (built root.exit.0.now (place_of root.entry))) }
-    ensures rests { IfOk result (λ replies. RestsWhole (built_schema root.entry) (built_struct root.entry) calls.now replies.items) }
+    ensures rests { IfOk result (λ replies. RestsWhole (built_schema root.entry)
+        (built_struct root.entry) calls.now replies.items) }
     ensures kept { KeepsSize (built_struct root.entry) (built root.exit.0.now (place_of root.entry)) }
     ensures planted { IsBuilt root.exit.0.now (place_of root.entry) }
     ensures changes { ChangesIn (place_of root.entry) (struct_behind root.entry).now root.exit.0.now }

@@ -1,7 +1,7 @@
 //! Cases: rows of calls on the root of a message, and what they leave of it.
 //!
-//! The calls of a case are made twice: by `message::whole_new` or `whole_copied`, which write and print the message, and by
-//! `run::run` on a builder or `message::run_copied`. Both times the replies and the message have to be the same.
+//! The calls of a case are made twice: by `message::whole_new` or `whole_copied`, which write and print the message,
+//! and by `run::run` on a builder or `message::run_copied`. Both times the replies and the message have to be the same.
 ghost use Rattle.capnp_schema.specs.StructHandles.{IsStruct};
 
 use crate::rows::{Asked, asked_in, calls_of, first_wrong};
@@ -36,8 +36,8 @@ pub struct Case<'c> {
     pub message: &'c [u8],
 }
 
-/// What the calls of a case left: the first row that was answered otherwise, empty where there is none; the text of the root;
-/// the message; and whether the calls were answered so too and left the same message when they were made again.
+/// What the calls of a case left: the first row that was answered otherwise, empty where there is none; the text of the
+/// root; the message; and whether the calls were answered so too and left the same message when they were made again.
 #[derive(Drop)]
 pub struct Left {
     pub wrong: String,

@@ -1,4 +1,5 @@
-//! Calls at fields and elements of every kind: what a message that the public tool made is answered as, and what is written.
+//! Calls at fields and elements of every kind: what a message that the public tool made is answered as, and what is
+//! written.
 
 use crate::cases::{Case, cases_hold};
 use crate::fixtures::{MANY, NODE, NONE};

@@ -1,6 +1,6 @@
-//! Runs that memory is refused to: `./fail_each_allocation` refuses each request of each test in turn. Where a run meets it,
-//! the run is refused and the message is as it was, or one reply says so and the calls after it are answered as the machine of
-//! records says from there; what comes before and after the run is not looked at.
+//! Runs that memory is refused to: `./fail_each_allocation` refuses each request of each test in turn. Where a run
+//! meets it, the run is refused and the message is as it was, or one reply says so and the calls after it are answered
+//! as the machine of records says from there; what comes before and after the run is not looked at.
 ghost use Rattle.std.specs.Prelude.{IfOk};
 ghost use Rattle.capnp_arena.specs.Message.{IsMessage};
 ghost use Rattle.capnp_schema.specs.StructHandles.{IsStruct};
@@ -92,8 +92,8 @@ fn replies_of(replies: Result<Vec<Reply>>) -> Result<Option<Vec<Reply>>> {
 /// The words that a new message has room for.
 const ROOM: u64 = 128;
 
-/// A message whose root is a copy of a struct, of at least a size, in a segment that has no room left: a call that makes
-/// something takes memory.
+/// A message whose root is a copy of a struct, of at least a size, in a segment that has no room left: a call that
+/// makes something takes memory.
 fn full(alloc: Global, source: PointerReader<'_>, size: StructSize) -> Result<Builder>
     ensures { IfOk result (λ message. IsMessage message) }
 {

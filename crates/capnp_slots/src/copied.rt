@@ -64,8 +64,8 @@ fn check_read(variant: TypeVariant, pointer: &PointerReader<'_>) -> Result<()>
     }
 }
 
-/// Copies what a reader stands on into a pointer's slot, which becomes active after it. A refusal changes nothing; so it is
-/// with each call below.
+/// Copies what a reader stands on into a pointer's slot, which becomes active after it. A refusal changes nothing; so
+/// it is with each call below.
 fn put(
     arena: &mut Arena,
     place: StructPlace,
@@ -78,7 +78,8 @@ fn put(
     requires room { IsRoomFor field (built arena.old place) }
     ensures planted { OnOk result (IsBuilt arena.new place) }
     ensures changes { OnOk result (ChangesIn place arena.old arena.new) }
-    ensures written { OnOk result (built arena.new place ≡ slot_with field.entry (At (tree_of pointer.entry)) (built arena.old place)) }
+    ensures written { OnOk result (built arena.new place
+        ≡ slot_with field.entry (At (tree_of pointer.entry)) (built arena.old place)) }
     ensures kept { OnOk result (Keeps (names_of field.entry) (built arena.old place) (built arena.new place)) }
     ensures sound { OnOk result (first_fault (tree_of pointer.entry) ≡ None) }
     ensures refused { OnErr result (segment arena.new ≡ segment arena.old) }
@@ -87,7 +88,8 @@ fn put(
     set_pointer::<any_pointer::Owned, PointerInput<'_>>(arena, place, field, PointerInput(pointer))
 }
 
-/// Copies what stands in the place of a default that is none: no bytes, a struct of size zero, or a list of no elements.
+/// Copies what stands in the place of a default that is none: no bytes, a struct of size zero, or a list of no
+/// elements.
 fn put_empty(arena: &mut Arena, place: StructPlace, field: Field<'_>) -> Result<()>
     requires planted { IsBuilt arena.old place }
     requires slot { IsSlot field }
@@ -125,7 +127,8 @@ fn put_words(
     ensures planted { OnOk result (IsBuilt arena.new place) }
     ensures changes { OnOk result (ChangesIn place arena.old arena.new) }
     ensures written { OnOk result (built arena.new place
-        ≡ slot_with field.entry (At (or_else (tree_of pointer.entry) (empty_tree (typed_of field.entry).type))) (built arena.old place)) }
+        ≡ slot_with field.entry (At (or_else (tree_of pointer.entry) (empty_tree (typed_of field.entry).type)))
+        (built arena.old place)) }
     ensures kept { OnOk result (Keeps (names_of field.entry) (built arena.old place) (built arena.new place)) }
     ensures refused { OnErr result (segment arena.new ≡ segment arena.old) }
     ensures cause { IfErr result (λ e. e.kind ≡ OutOfMemory) }
@@ -146,7 +149,8 @@ fn put_default(arena: &mut Arena, place: StructPlace, field: Field<'_>) -> Resul
     requires typed { AnyPointerType ≢ (typed_of field).type }
     ensures planted { OnOk result (IsBuilt arena.new place) }
     ensures changes { OnOk result (ChangesIn place arena.old arena.new) }
-    ensures written { OnOk result (built arena.new place ≡ slot_with field.entry (At (default_in field.entry)) (built arena.old place)) }
+    ensures written { OnOk result (built arena.new place
+        ≡ slot_with field.entry (At (default_in field.entry)) (built arena.old place)) }
     ensures kept { OnOk result (Keeps (names_of field.entry) (built arena.old place) (built arena.new place)) }
     ensures refused { OnErr result (segment arena.new ≡ segment arena.old) }
     ensures cause { IfErr result (λ e. e.kind ≡ OutOfMemory) }
@@ -176,7 +180,8 @@ fn check_copy(field: Field<'_>, pointer: &PointerReader<'_>) -> Result<()>
     requires slot { IsSlot field }
     requires pointer { IsPointer field }
     ensures given { OnOk result (IsGivenCopy field.entry (levels_of pointer.now) (tree_of pointer.now)) }
-    ensures cause { IfErr result (λ e. IsSetRefusal (pointer_given field.entry (levels_of pointer.now) (tree_of pointer.now)) e.kind) }
+    ensures cause { IfErr result (λ e. IsSetRefusal
+        (pointer_given field.entry (levels_of pointer.now) (tree_of pointer.now)) e.kind) }
 {
     default_fits(field);
     check_read(variant_of(field), pointer)
@@ -195,10 +200,12 @@ fn copy_pointer(
     requires room { IsRoomFor field (built arena.old place) }
     ensures planted { OnOk result (IsBuilt arena.new place) }
     ensures changes { OnOk result (ChangesIn place arena.old arena.new) }
-    ensures copied { OnOk result (IsCopied field.entry (pointer_given field.entry (levels_of pointer.entry) (tree_of pointer.entry))
+    ensures copied { OnOk result (IsCopied field.entry
+        (pointer_given field.entry (levels_of pointer.entry) (tree_of pointer.entry))
         (pointer_content field.entry (tree_of pointer.entry)) (built arena.old place) (built arena.new place)) }
     ensures refused { OnErr result (segment arena.new ≡ segment arena.old) }
-    ensures cause { IfErr result (λ e. IsSetRefusal (pointer_given field.entry (levels_of pointer.entry) (tree_of pointer.entry)) e.kind) }
+    ensures cause { IfErr result (λ e. IsSetRefusal
+        (pointer_given field.entry (levels_of pointer.entry) (tree_of pointer.entry)) e.kind) }
 {
     check_copy(field, &pointer)?;
     if pointer.is_null() {
@@ -223,10 +230,12 @@ fn copy_behind(
     requires room { IsRoomFor field (built arena.old place) }
     ensures planted { OnOk result (IsBuilt arena.new place) }
     ensures changes { OnOk result (ChangesIn place arena.old arena.new) }
-    ensures copied { OnOk result (IsCopiedFrom field.entry (struct_levels source.now) (struct_of source.now) (built arena.old place)
+    ensures copied { OnOk result (IsCopiedFrom field.entry (struct_levels source.now) (struct_of source.now)
+        (built arena.old place)
         (built arena.new place)) }
     ensures refused { OnErr result (segment arena.new ≡ segment arena.old) }
-    ensures cause { IfErr result (λ e. IsSetRefusal (copy_given field.entry (Left (struct_levels source.now)) (struct_of source.now)) e.kind) }
+    ensures cause { IfErr result (λ e. IsSetRefusal
+        (copy_given field.entry (Left (struct_levels source.now)) (struct_of source.now)) e.kind) }
 {
     copy_pointer(arena, place, field, source.get_pointer_field(index))
 }
@@ -239,7 +248,8 @@ fn copy_number(arena: &mut Arena, place: StructPlace, field: Field<'_>, source: 
     requires room { IsRoomFor field (built arena.old place) }
     ensures planted { IsBuilt arena.new place }
     ensures changes { ChangesIn place arena.old arena.new }
-    ensures written { IsCopiedFrom field.entry (struct_levels source.now) (struct_of source.now) (built arena.old place) (built arena.new place) }
+    ensures written { IsCopiedFrom field.entry (struct_levels source.now) (struct_of source.now)
+        (built arena.old place) (built arena.new place) }
 {
     copy_bits(arena, place, slot_plan(field), source);
 }
@@ -261,9 +271,10 @@ pub fn is_behind(variant: TypeVariant) -> bool
 /// Copies a slot out of a struct of the field's schema, whether the field is active there or not. What stands there is
 /// copied as it is stored, a null pointer as its default. Then a member becomes active.
 ///
-/// Refused, in this order: for an untyped slot with `CannotSetAnyPointerFieldToAPrimitiveValue`, even where it is null; as the
-/// read of the source's pointer under the slot's type; with `BadPointer`, `TooDeep` or `CapabilityPointer` where a pointer in
-/// what it leads to can't be followed, by the first of these in preorder; and with `OutOfMemory`. Then nothing has changed.
+/// Refused, in this order: for an untyped slot with `CannotSetAnyPointerFieldToAPrimitiveValue`, even where it is null;
+/// as the read of the source's pointer under the slot's type; with `BadPointer`, `TooDeep` or `CapabilityPointer` where
+/// a pointer in what it leads to can't be followed, by the first of these in preorder; and with `OutOfMemory`. Then
+/// nothing has changed.
 ///
 /// The field has to be a slot, and the struct to have the sections of the field's schema.
 pub fn copy(
@@ -277,10 +288,12 @@ pub fn copy(
     requires room { IsRoomFor field (built arena.old place) }
     ensures planted { OnOk result (IsBuilt arena.new place) }
     ensures changes { OnOk result (ChangesIn place arena.old arena.new) }
-    ensures copied { OnOk result (IsCopiedFrom field.entry (struct_levels source.entry) (struct_of source.entry) (built arena.old place)
+    ensures copied { OnOk result (IsCopiedFrom field.entry (struct_levels source.entry) (struct_of source.entry)
+        (built arena.old place)
         (built arena.new place)) }
     ensures refused { OnErr result (segment arena.new ≡ segment arena.old) }
-    ensures cause { IfErr result (λ e. IsSetRefusal (copy_given field.entry (Left (struct_levels source.entry)) (struct_of source.entry)) e.kind) }
+    ensures cause { IfErr result (λ e. IsSetRefusal
+        (copy_given field.entry (Left (struct_levels source.entry)) (struct_of source.entry)) e.kind) }
 {
     if is_behind(variant_of(field)) {
         let (index, _) = pointer_slot(field);

@@ -24,7 +24,8 @@ use capnp_wire::error::{Error, ErrorKind, Result};
 
 /// Whether a slot of a type takes a copy of a text.
 fn copies_text(variant: TypeVariant) -> Result<bool>
-    ensures { (set : Schemas) (bytes : List ℕ) → GivesCopy (TextSource bytes) (given_slot set (seen_variant variant) (TextSource bytes)) result }
+    ensures { (set : Schemas) (bytes : List ℕ)
+        → GivesCopy (TextSource bytes) (given_slot set (seen_variant variant) (TextSource bytes)) result }
 {
     match variant {
         TypeVariant::Void => Ok(false),
@@ -36,7 +37,8 @@ fn copies_text(variant: TypeVariant) -> Result<bool>
 
 /// Whether it takes one of data.
 fn copies_data(variant: TypeVariant) -> Result<bool>
-    ensures { (set : Schemas) (bytes : List ℕ) → GivesCopy (DataSource bytes) (given_slot set (seen_variant variant) (DataSource bytes)) result }
+    ensures { (set : Schemas) (bytes : List ℕ)
+        → GivesCopy (DataSource bytes) (given_slot set (seen_variant variant) (DataSource bytes)) result }
 {
     match variant {
         TypeVariant::Void => Ok(false),
@@ -91,7 +93,8 @@ fn copies_untyped(variant: TypeVariant) -> Result<bool>
 /// `TypeMismatch` where the slot is of another kind.
 pub(crate) fn copies_source(variant: TypeVariant, source: Source<'_>) -> Result<bool>
     requires { IsPointed (source_seen source) }
-    ensures { (set : Schemas) → GivesCopy (source_seen source.entry) (given_slot set (seen_variant variant) (source_seen source.entry)) result }
+    ensures { (set : Schemas) → GivesCopy (source_seen source.entry)
+        (given_slot set (seen_variant variant) (source_seen source.entry)) result }
 {
     match source {
         Source::Primitive(_) => unreachable!(),
@@ -114,7 +117,8 @@ pub(crate) fn copies_to(field: Field<'_>, source: Source<'_>) -> Result<bool>
 
 /// Copies a source into a pointer's slot, which becomes active after it.
 ///
-/// Refused with the first fault in the source, with `SizePastFormat` or with `OutOfMemory`, and then nothing has changed.
+/// Refused with the first fault in the source, with `SizePastFormat` or with `OutOfMemory`, and then nothing has
+/// changed.
 pub(crate) fn copy_to(
     arena: &mut Arena,
     place: StructPlace,

@@ -48,7 +48,8 @@ fn store_element(arena: &mut Arena, at: usize, variant: TypeVariant, index: u32,
     requires fits { number < 2 ^ width (seen_variant variant) }
     ensures forest { Forest (segment arena.new) at }
     ensures changes { Changes at (segment arena.old) (segment arena.new) }
-    ensures written { tree (segment arena.new) at ≡ with_element_number (seen_variant variant) (tree (segment arena.old) at) index number }
+    ensures written { tree (segment arena.new) at
+        ≡ with_element_number (seen_variant variant) (tree (segment arena.old) at) index number }
 {
     match variant {
         TypeVariant::Bool => arena.set_bool_element(at, index, number == 1),
@@ -76,7 +77,8 @@ fn number_in(set: &SchemaSet, element: Type, value: Primitive) -> Result<u64>
     ensures number { IfOk result (IsGivenAs (lists_seen set.now) (seen_type element) (primitive_source value)) }
     ensures given { OnOk result (given_element (lists_seen set.now) (seen_type element) (primitive_source value)
         ≡ given_slot (lists_seen set.now) (seen_type element) (primitive_source value)) }
-    ensures refused { IfErr result (λ e. given_element (lists_seen set.now) (seen_type element) (primitive_source value) ≡ Fails e.kind) }
+    ensures refused { IfErr result (λ e. given_element (lists_seen set.now) (seen_type element)
+        (primitive_source value) ≡ Fails e.kind) }
 {
     number_fits(value);
     match element.which() {
@@ -102,10 +104,12 @@ pub fn set_primitive(
     requires room { HasRoom (seen_type element) (tree (segment arena.old) at) index }
     ensures forest { OnOk result (Forest (segment arena.new) at) }
     ensures changes { OnOk result (Changes at (segment arena.old) (segment arena.new)) }
-    ensures set { OnOk result (IsElementSet (lists_seen set.now) (seen_type element) (primitive_source value) index (tree (segment arena.old) at)
+    ensures set { OnOk result (IsElementSet (lists_seen set.now) (seen_type element) (primitive_source value) index
+        (tree (segment arena.old) at)
         (tree (segment arena.new) at)) }
     ensures refused { OnErr result (segment arena.new ≡ segment arena.old) }
-    ensures cause { IfErr result (λ e. given_element (lists_seen set.now) (seen_type element) (primitive_source value) ≡ Fails e.kind) }
+    ensures cause { IfErr result (λ e. given_element (lists_seen set.now) (seen_type element) (primitive_source value)
+        ≡ Fails e.kind) }
 {
     let number = number_in(set, element, value)?;
     store_element(arena, at, element.which(), index, number);
@@ -118,7 +122,8 @@ fn set_at<R, S: SetterInput<R>>(arena: &mut Arena, at: usize, index: u32, input:
     requires room { HasPointer (tree (segment arena.old) at) index }
     ensures forest { OnOk result (Forest (segment arena.new) at) }
     ensures changes { OnOk result (Changes at (segment arena.old) (segment arena.new)) }
-    ensures written { OnOk result (tree (segment arena.new) at ≡ with_pointer_element index (S.set_tree input) (tree (segment arena.old) at)) }
+    ensures written { OnOk result (tree (segment arena.new) at
+        ≡ with_pointer_element index (S.set_tree input) (tree (segment arena.old) at)) }
     ensures sound { OnOk result ((first_fault (S.set_tree input) ≡ None) × IsWellFormed (S.set_tree input)) }
     ensures refused { OnErr result (segment arena.new ≡ segment arena.old) }
     ensures cause { IfErr result (S.set_refusal input) }
@@ -137,7 +142,8 @@ fn copy_at(arena: &mut Arena, at: usize, index: u32, source: &StructReader<'_>) 
     ensures changes { OnOk result (Changes at (segment arena.old) (segment arena.new)) }
     ensures written { OnOk result (tree (segment arena.new) at
         ≡ with_struct_element index (fitted (length (element_struct (tree (segment arena.old) at) index).bytes)
-        (tree_count (element_struct (tree (segment arena.old) at) index).pointers) (struct_of source.now)) (tree (segment arena.old) at)) }
+        (tree_count (element_struct (tree (segment arena.old) at) index).pointers) (struct_of source.now))
+        (tree (segment arena.old) at)) }
     ensures sound { OnOk result (first_fault_of_all (struct_of source.now).pointers ≡ None) }
     ensures refused { OnErr result (segment arena.new ≡ segment arena.old) }
     ensures cause { IfErr result (λ e. IsCopyRefusal e (first_fault_of_all (struct_of source.now).pointers)) }
@@ -190,10 +196,12 @@ fn set_pointed(
     requires no_struct { NoStruct (source_seen source) }
     ensures forest { OnOk result (Forest (segment arena.new) at) }
     ensures changes { OnOk result (Changes at (segment arena.old) (segment arena.new)) }
-    ensures set { OnOk result (IsElementSet (lists_seen set.now) (seen_type element) (source_seen source.entry) index (tree (segment arena.old) at)
+    ensures set { OnOk result (IsElementSet (lists_seen set.now) (seen_type element) (source_seen source.entry) index
+        (tree (segment arena.old) at)
         (tree (segment arena.new) at)) }
     ensures refused { OnErr result (segment arena.new ≡ segment arena.old) }
-    ensures cause { IfErr result (λ e. IsSetRefusal (given_element (lists_seen set.now) (seen_type element) (source_seen source.entry)) e.kind) }
+    ensures cause { IfErr result (λ e. IsSetRefusal
+        (given_element (lists_seen set.now) (seen_type element) (source_seen source.entry)) e.kind) }
 {
     match copies_into(set, element, source) {
         Err(error) => Err(error),
@@ -202,12 +210,14 @@ fn set_pointed(
     }
 }
 
-/// Whether an element of a type takes a copy of a text, data, a list or an untyped pointer; a void one takes nothing of it.
+/// Whether an element of a type takes a copy of a text, data, a list or an untyped pointer; a void one takes nothing of
+/// it.
 fn copies_into(set: &SchemaSet, element: Type, source: Source<'_>) -> Result<bool>
     requires pointed { IsPointed (source_seen source) }
     requires no_struct { NoStruct (source_seen source) }
     ensures takes { IfOk result (TakesInto (lists_seen set.now) (seen_type element) (source_seen source.entry)) }
-    ensures refused { IfErr result (λ e. given_element (lists_seen set.now) (seen_type element) (source_seen source.entry) ≡ Fails e.kind) }
+    ensures refused { IfErr result (λ e. given_element (lists_seen set.now) (seen_type element)
+        (source_seen source.entry) ≡ Fails e.kind) }
 {
     match element.which() {
         TypeVariant::AnyPointer => Err(Error::from(ErrorKind::ListAnyPointerNotSupported)),
@@ -230,7 +240,8 @@ fn set_struct(
     ensures forest { OnOk result (Forest (segment arena.new) at) }
     ensures changes { OnOk result (Changes at (segment arena.old) (segment arena.new)) }
     ensures set { OnOk result (IsElementSet (lists_seen set.now) (seen_type element)
-        (StructSource (Left (struct_levels reader.entry)) (struct_of reader.entry) (number_of schema.entry)) index (tree (segment arena.old) at)
+        (StructSource (Left (struct_levels reader.entry)) (struct_of reader.entry) (number_of schema.entry)) index
+        (tree (segment arena.old) at)
         (tree (segment arena.new) at)) }
     ensures refused { OnErr result (segment arena.new ≡ segment arena.old) }
     ensures cause { IfErr result (λ e. IsSetRefusal (given_element (lists_seen set.now) (seen_type element)
@@ -249,14 +260,14 @@ fn set_struct(
     }
 }
 
-/// Sets an element. A void element takes every source. Else it takes a value, text, data or list of its kind, of which a
-/// copy is made, and a struct of its own schema, of which the element keeps what fits its size, with zeros and nulls after
-/// that.
+/// Sets an element. A void element takes every source. Else it takes a value, text, data or list of its kind, of which
+/// a copy is made, and a struct of its own schema, of which the element keeps what fits its size, with zeros and nulls
+/// after that.
 ///
-/// Refused with `ListAnyPointerNotSupported` for an untyped element, and with `TypeMismatch` for a source of another kind and
-/// a struct of another schema; then with `BadPointer`, `TooDeep` or `CapabilityPointer` where a pointer in the source can't
-/// be followed, by the first of these in preorder, also where it would not fit; with `SizePastFormat` for a text of more than
-/// 2^29 - 2 bytes or data of more than 2^29 - 1; and with `OutOfMemory`. Then nothing has changed.
+/// Refused with `ListAnyPointerNotSupported` for an untyped element, and with `TypeMismatch` for a source of another
+/// kind and a struct of another schema; then with `BadPointer`, `TooDeep` or `CapabilityPointer` where a pointer in the
+/// source can't be followed, by the first of these in preorder, also where it would not fit; with `SizePastFormat` for
+/// a text of more than 2^29 - 2 bytes or data of more than 2^29 - 1; and with `OutOfMemory`. Then nothing has changed.
 ///
 /// An element of that type has to be there.
 pub fn set(
@@ -271,10 +282,12 @@ pub fn set(
     requires room { HasRoom (seen_type element) (tree (segment arena.old) at) index }
     ensures forest { OnOk result (Forest (segment arena.new) at) }
     ensures changes { OnOk result (Changes at (segment arena.old) (segment arena.new)) }
-    ensures set { OnOk result (IsElementSet (lists_seen set.now) (seen_type element) (source_seen source.entry) index (tree (segment arena.old) at)
+    ensures set { OnOk result (IsElementSet (lists_seen set.now) (seen_type element) (source_seen source.entry) index
+        (tree (segment arena.old) at)
         (tree (segment arena.new) at)) }
     ensures refused { OnErr result (segment arena.new ≡ segment arena.old) }
-    ensures cause { IfErr result (λ e. IsSetRefusal (given_element (lists_seen set.now) (seen_type element) (source_seen source.entry)) e.kind) }
+    ensures cause { IfErr result (λ e. IsSetRefusal
+        (given_element (lists_seen set.now) (seen_type element) (source_seen source.entry)) e.kind) }
 {
     match source {
         Source::Primitive(value) => set_primitive(arena, at, set, element, index, value),
@@ -302,7 +315,8 @@ fn init_at(
     ensures forest { OnOk result (Forest (segment arena.new) at) }
     ensures changes { OnOk result (Changes at (segment arena.old) (segment arena.new)) }
     ensures written { OnOk result (tree (segment arena.new) at
-        ≡ with_pointer_element index (initn_tree (lists_seen set.now) (seen_variant variant) count) (tree (segment arena.old) at)) }
+        ≡ with_pointer_element index (initn_tree (lists_seen set.now) (seen_variant variant) count)
+        (tree (segment arena.old) at)) }
     ensures within { OnOk result (InitnContent (lists_seen set.now) count (seen_variant variant)
         (At (initn_tree (lists_seen set.now) (seen_variant variant) count))) }
     ensures refused { OnErr result (segment arena.new ≡ segment arena.old) }
@@ -313,12 +327,12 @@ fn init_at(
     Ok(())
 }
 
-/// Initializes an element with a size: it becomes a text or data of so many zero bytes, or a list of so many elements, all
-/// zero, false or null, or structs of their schema's sections.
+/// Initializes an element with a size: it becomes a text or data of so many zero bytes, or a list of so many elements,
+/// all zero, false or null, or structs of their schema's sections.
 ///
-/// Refused with `ListAnyPointerNotSupported` for an untyped element and `ExpectedAListOrBlob` for another one that is no
-/// list, text or data; with `SizePastFormat` for a text of more than 2^29 - 2 bytes, data of more than 2^29 - 1, 2^29
-/// elements or more, or structs that take 2^29 words or more; and with `OutOfMemory`. Then nothing has changed.
+/// Refused with `ListAnyPointerNotSupported` for an untyped element and `ExpectedAListOrBlob` for another one that is
+/// no list, text or data; with `SizePastFormat` for a text of more than 2^29 - 2 bytes, data of more than 2^29 - 1,
+/// 2^29 elements or more, or structs that take 2^29 words or more; and with `OutOfMemory`. Then nothing has changed.
 ///
 /// An element of that type has to be there.
 pub fn init(
@@ -334,8 +348,10 @@ pub fn init(
     ensures forest { OnOk result (Forest (segment arena.new) at) }
     ensures changes { OnOk result (Changes at (segment arena.old) (segment arena.new)) }
     ensures written { OnOk result (tree (segment arena.new) at
-        ≡ element_written (seen_type element) (tree (segment arena.old) at) index (At (initn_tree (lists_seen set.now) (seen_type element) count))) }
-    ensures has { OnOk result (InitnContent (lists_seen set.now) count (seen_type element) (At (initn_tree (lists_seen set.now) (seen_type element) count))) }
+        ≡ element_written (seen_type element) (tree (segment arena.old) at) index
+        (At (initn_tree (lists_seen set.now) (seen_type element) count))) }
+    ensures has { OnOk result (InitnContent (lists_seen set.now) count (seen_type element)
+        (At (initn_tree (lists_seen set.now) (seen_type element) count))) }
     ensures refused { OnErr result (segment arena.new ≡ segment arena.old) }
     ensures cause { IfErr result (λ e. IsElementInitRefusal (lists_seen set.now) count (seen_type element) e.kind) }
 {
@@ -349,12 +365,12 @@ pub fn init(
     }
 }
 
-/// Fills what stands behind the pointer of an element, as a builder's `get` does: of a list of structs, these get at least their
-/// schema's sections, with zeros and nulls after what they have. A null, a text, data, another list and an untyped pointer
-/// stay as they are.
+/// Fills what stands behind the pointer of an element, as a builder's `get` does: of a list of structs, these get at
+/// least their schema's sections, with zeros and nulls after what they have. A null, a text, data, another list and an
+/// untyped pointer stay as they are.
 ///
-/// Refused with `WrongPointerKind`, `WrongElementSize` or `TextNotTerminated` where what stands there is not read as the
-/// element's type, with `SizePastFormat` where the structs of a list would take 2^29 words or more, and else with
+/// Refused with `WrongPointerKind`, `WrongElementSize` or `TextNotTerminated` where what stands there is not read as
+/// the element's type, with `SizePastFormat` where the structs of a list would take 2^29 words or more, and else with
 /// `OutOfMemory`; then nothing has changed. Where nothing has to be extended no memory is taken.
 ///
 /// The list has to be well-formed, and the element to stand behind a pointer.
@@ -365,13 +381,16 @@ pub fn fill(arena: &mut Arena, at: usize, set: &SchemaSet, element: Type, index:
     ensures forest { OnOk result (Forest (segment arena.new) at) }
     ensures changes { OnOk result (Changes at (segment arena.old) (segment arena.new)) }
     ensures filled { OnOk result (tree (segment arena.new) at
-        ≡ with_pointer_element index (element_filled (lists_seen set.now) (seen_type element) (element_pointer (tree (segment arena.old) at) index 1))
+        ≡ with_pointer_element index (element_filled (lists_seen set.now) (seen_type element)
+        (element_pointer (tree (segment arena.old) at) index 1))
         (tree (segment arena.old) at)) }
-    ensures within { OnOk result (element_due (lists_seen set.now) (seen_type element) (element_pointer (tree (segment arena.old) at) index 1) ≡ None) }
+    ensures within { OnOk result (element_due (lists_seen set.now) (seen_type element)
+        (element_pointer (tree (segment arena.old) at) index 1) ≡ None) }
     ensures refused { OnErr result (segment arena.new ≡ segment arena.old) }
     ensures cause { IfErr result (λ e. IsDueRefusal e (element_due (lists_seen set.now) (seen_type element)
         (element_pointer (tree (segment arena.old) at) index 1))) }
-    ensures rests { ElementRests (lists_seen set.now) (seen_type element) (element_pointer (tree (segment arena.old) at) index 1) → IsOk result }
+    ensures rests { ElementRests (lists_seen set.now) (seen_type element)
+        (element_pointer (tree (segment arena.old) at) index 1) → IsOk result }
 {
     fill_at(arena, at, set, element.which(), index)
 }
@@ -390,37 +409,44 @@ fn fill_at(
     ensures forest { OnOk result (Forest (segment arena.new) at) }
     ensures changes { OnOk result (Changes at (segment arena.old) (segment arena.new)) }
     ensures filled { OnOk result (tree (segment arena.new) at
-        ≡ with_pointer_element index (element_filled (lists_seen set.now) (seen_variant variant) (element_pointer (tree (segment arena.old) at) index 1))
+        ≡ with_pointer_element index (element_filled (lists_seen set.now) (seen_variant variant)
+        (element_pointer (tree (segment arena.old) at) index 1))
         (tree (segment arena.old) at)) }
-    ensures within { OnOk result (element_due (lists_seen set.now) (seen_variant variant) (element_pointer (tree (segment arena.old) at) index 1) ≡ None) }
+    ensures within { OnOk result (element_due (lists_seen set.now) (seen_variant variant)
+        (element_pointer (tree (segment arena.old) at) index 1) ≡ None) }
     ensures refused { OnErr result (segment arena.new ≡ segment arena.old) }
     ensures cause { IfErr result (λ e. IsDueRefusal e (element_due (lists_seen set.now) (seen_variant variant)
         (element_pointer (tree (segment arena.old) at) index 1))) }
-    ensures rests { ElementRests (lists_seen set.now) (seen_variant variant) (element_pointer (tree (segment arena.old) at) index 1) → IsOk result }
+    ensures rests { ElementRests (lists_seen set.now) (seen_variant variant)
+        (element_pointer (tree (segment arena.old) at) index 1) → IsOk result }
 {
     let pointer = arena.get_pointer_element(at, index);
     fill_behind(arena, pointer, set, variant)?;
     Ok(())
 }
 
-/// Fills the list behind a pointer that is an element, of elements of a type, as a builder's `get` does: structs get at least
-/// their schema's sections, and a list of other elements becomes one of structs where these are asked. A null stays null,
-/// and has no elements.
+/// Fills the list behind a pointer that is an element, of elements of a type, as a builder's `get` does: structs get at
+/// least their schema's sections, and a list of other elements becomes one of structs where these are asked. A null
+/// stays null, and has no elements.
 ///
 /// Refused with `WrongPointerKind` or `WrongElementSize` where what stands there is not read as such a list, with
-/// `SizePastFormat` where the structs would take 2^29 words or more, and else with `OutOfMemory`; then nothing has changed.
-/// Where no struct has to be extended no memory is taken.
+/// `SizePastFormat` where the structs would take 2^29 words or more, and else with `OutOfMemory`; then nothing has
+/// changed. Where no struct has to be extended no memory is taken.
 ///
 /// What the pointer leads to has to be well-formed.
 pub fn fill_list(arena: &mut Arena, at: usize, set: &SchemaSet, element: Type) -> Result<()>
     requires forest { Forest (segment arena.old) at }
     ensures forest { OnOk result (Forest (segment arena.new) at) }
     ensures changes { OnOk result (Changes at (segment arena.old) (segment arena.new)) }
-    ensures filled { OnOk result (tree (segment arena.new) at ≡ entered_list (lists_seen set.now) (seen_type element) (tree (segment arena.old) at)) }
-    ensures within { OnOk result (fill_due (lists_seen set.now) VoidValue (ListType (seen_type element)) (tree (segment arena.old) at) ≡ None) }
+    ensures filled { OnOk result (tree (segment arena.new) at
+        ≡ entered_list (lists_seen set.now) (seen_type element) (tree (segment arena.old) at)) }
+    ensures within { OnOk result (fill_due (lists_seen set.now) VoidValue (ListType (seen_type element))
+        (tree (segment arena.old) at) ≡ None) }
     ensures refused { OnErr result (segment arena.new ≡ segment arena.old) }
-    ensures cause { IfErr result (λ e. IsDueRefusal e (fill_due (lists_seen set.now) VoidValue (ListType (seen_type element)) (tree (segment arena.old) at))) }
-    ensures rests { IsAtRest (lists_seen set.now) VoidValue (ListType (seen_type element)) (tree (segment arena.old) at) → IsOk result }
+    ensures cause { IfErr result (λ e. IsDueRefusal e
+        (fill_due (lists_seen set.now) VoidValue (ListType (seen_type element)) (tree (segment arena.old) at))) }
+    ensures rests { IsAtRest (lists_seen set.now) VoidValue (ListType (seen_type element))
+        (tree (segment arena.old) at) → IsOk result }
 {
     match element.which() {
         TypeVariant::Struct(raw) => {

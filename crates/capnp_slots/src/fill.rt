@@ -29,9 +29,11 @@ pub(crate) fn fill_struct(
     ensures changes { OnOk result (ChangesIn place arena.old arena.new) }
     ensures ok { OnOk result (HoldsThere (built arena.old place) index (built arena.new place)
         (struct_tree (filled_struct (default_tree default.entry) size (tree_there (built arena.old place) index)))) }
-    ensures within { OnOk result (filled_struct_refusal (default_tree default.entry) (tree_there (built arena.old place) index) ≡ None) }
+    ensures within { OnOk result (filled_struct_refusal (default_tree default.entry)
+        (tree_there (built arena.old place) index) ≡ None) }
     ensures refused { OnErr result (segment arena.new ≡ segment arena.old) }
-    ensures cause { IfErr result (λ e. IsDueRefusal e (filled_struct_refusal (default_tree default.entry) (tree_there (built arena.old place) index))) }
+    ensures cause { IfErr result (λ e. IsDueRefusal e
+        (filled_struct_refusal (default_tree default.entry) (tree_there (built arena.old place) index))) }
     ensures succeeds { HoldsStruct size (tree_there (built arena.old place) index) → IsOk result }
 {
     let at = pointer_at(arena, place, index);
@@ -51,7 +53,8 @@ pub(crate) fn extend_struct(
     requires inside { IsThere (built arena.old place) index }
     ensures planted { OnOk result (IsBuilt arena.new place) }
     ensures changes { OnOk result (ChangesIn place arena.old arena.new) }
-    ensures ok { OnOk result (HoldsThere (built arena.old place) index (built arena.new place) (struct_tree (extended size (struct_in (tree_there (built arena.old place) index))))) }
+    ensures ok { OnOk result (HoldsThere (built arena.old place) index (built arena.new place)
+        (struct_tree (extended size (struct_in (tree_there (built arena.old place) index))))) }
     ensures within { OnOk result (struct_refusal (tree_there (built arena.old place) index) ≡ None) }
     ensures refused { OnErr result (segment arena.new ≡ segment arena.old) }
     ensures cause { IfErr result (λ e. IsDueRefusal e (struct_refusal (tree_there (built arena.old place) index))) }
@@ -75,12 +78,16 @@ pub(crate) fn fill_list(
     requires simple { size ≢ ElementSize.InlineComposite }
     ensures planted { OnOk result (IsBuilt arena.new place) }
     ensures changes { OnOk result (ChangesIn place arena.old arena.new) }
-    ensures ok { OnOk result (HoldsThere (built arena.old place) index (built arena.new place) (or_default (default_tree default.entry) (tree_there (built arena.old place) index))) }
-    ensures within { OnOk result (filled_list_refusal (default_tree default.entry) size (tree_there (built arena.old place) index) ≡ None) }
+    ensures ok { OnOk result (HoldsThere (built arena.old place) index (built arena.new place)
+        (or_default (default_tree default.entry) (tree_there (built arena.old place) index))) }
+    ensures within { OnOk result (filled_list_refusal (default_tree default.entry) size
+        (tree_there (built arena.old place) index) ≡ None) }
     ensures refused { OnErr result (segment arena.new ≡ segment arena.old) }
-    ensures cause { IfErr result (λ e. IsDueRefusal e (filled_list_refusal (default_tree default.entry) size (tree_there (built arena.old place) index))) }
+    ensures cause { IfErr result (λ e. IsDueRefusal e
+        (filled_list_refusal (default_tree default.entry) size (tree_there (built arena.old place) index))) }
     ensures succeeds { takes_default (default_tree default.entry) (tree_there (built arena.old place) index) ≡ false
-        → filled_list_refusal (default_tree default.entry) size (tree_there (built arena.old place) index) ≡ None → IsOk result }
+        → filled_list_refusal (default_tree default.entry) size (tree_there (built arena.old place) index) ≡ None
+        → IsOk result }
 {
     let at = pointer_at(arena, place, index);
     arena.get_list_or_default(at, size, default)?;
@@ -100,11 +107,15 @@ pub(crate) fn fill_structs(
     requires inside { IsThere (built arena.old place) index }
     ensures planted { OnOk result (IsBuilt arena.new place) }
     ensures changes { OnOk result (ChangesIn place arena.old arena.new) }
-    ensures ok { OnOk result (HoldsThere (built arena.old place) index (built arena.new place) (filled_structs (default_tree default.entry) size (tree_there (built arena.old place) index))) }
-    ensures within { OnOk result (filled_structs_refusal (default_tree default.entry) size (tree_there (built arena.old place) index) ≡ None) }
+    ensures ok { OnOk result (HoldsThere (built arena.old place) index (built arena.new place)
+        (filled_structs (default_tree default.entry) size (tree_there (built arena.old place) index))) }
+    ensures within { OnOk result (filled_structs_refusal (default_tree default.entry) size
+        (tree_there (built arena.old place) index) ≡ None) }
     ensures refused { OnErr result (segment arena.new ≡ segment arena.old) }
-    ensures cause { IfErr result (λ e. IsDueRefusal e (filled_structs_refusal (default_tree default.entry) size (tree_there (built arena.old place) index))) }
-    ensures succeeds { takes_default (default_tree default.entry) (tree_there (built arena.old place) index) ≡ false → HoldsStructs size (tree_there (built arena.old place) index)
+    ensures cause { IfErr result (λ e. IsDueRefusal e
+        (filled_structs_refusal (default_tree default.entry) size (tree_there (built arena.old place) index))) }
+    ensures succeeds { takes_default (default_tree default.entry) (tree_there (built arena.old place) index) ≡ false
+        → HoldsStructs size (tree_there (built arena.old place) index)
         → IsOk result }
 {
     let at = pointer_at(arena, place, index);

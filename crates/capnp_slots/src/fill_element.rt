@@ -48,8 +48,8 @@ pub(crate) fn check_list(arena: &Arena, at: usize, size: ElementSize) -> Result<
 
 /// Makes what stands there a list of structs of at least a size; a null stays.
 ///
-/// Refused with `WrongPointerKind` for a struct, with `WrongElementSize` for a list of bits, with `SizePastFormat` where the
-/// structs would take 2^29 words or more, and else with `OutOfMemory`; then nothing has changed.
+/// Refused with `WrongPointerKind` for a struct, with `WrongElementSize` for a list of bits, with `SizePastFormat`
+/// where the structs would take 2^29 words or more, and else with `OutOfMemory`; then nothing has changed.
 pub(crate) fn extend_structs(arena: &mut Arena, at: usize, size: StructSize) -> Result<()>
     requires forest { Forest (segment arena.old) at }
     ensures forest { OnOk result (Forest (segment arena.new) at) }
@@ -69,11 +69,15 @@ fn fill_elements(arena: &mut Arena, at: usize, set: &SchemaSet, element: Type) -
     requires forest { Forest (segment arena.old) at }
     ensures forest { OnOk result (Forest (segment arena.new) at) }
     ensures changes { OnOk result (Changes at (segment arena.old) (segment arena.new)) }
-    ensures filled { OnOk result (tree (segment arena.new) at ≡ element_filled (lists_seen set.now) (ListType (seen_type element)) (tree (segment arena.old) at)) }
-    ensures within { OnOk result (element_due (lists_seen set.now) (ListType (seen_type element)) (tree (segment arena.old) at) ≡ None) }
+    ensures filled { OnOk result (tree (segment arena.new) at
+        ≡ element_filled (lists_seen set.now) (ListType (seen_type element)) (tree (segment arena.old) at)) }
+    ensures within { OnOk result (element_due (lists_seen set.now) (ListType (seen_type element))
+        (tree (segment arena.old) at) ≡ None) }
     ensures refused { OnErr result (segment arena.new ≡ segment arena.old) }
-    ensures cause { IfErr result (λ e. IsDueRefusal e (element_due (lists_seen set.now) (ListType (seen_type element)) (tree (segment arena.old) at))) }
-    ensures rests { ElementRests (lists_seen set.now) (ListType (seen_type element)) (tree (segment arena.old) at) → IsOk result }
+    ensures cause { IfErr result (λ e. IsDueRefusal e
+        (element_due (lists_seen set.now) (ListType (seen_type element)) (tree (segment arena.old) at))) }
+    ensures rests { ElementRests (lists_seen set.now) (ListType (seen_type element)) (tree (segment arena.old) at)
+        → IsOk result }
 {
     match element.which() {
         TypeVariant::Struct(raw) => {
@@ -84,8 +88,8 @@ fn fill_elements(arena: &mut Arena, at: usize, set: &SchemaSet, element: Type) -
     }
 }
 
-/// Fills what stands behind the pointer of an element of a type: a list of structs gets structs of at least their schema's
-/// sections, and everything else stays.
+/// Fills what stands behind the pointer of an element of a type: a list of structs gets structs of at least their
+/// schema's sections, and everything else stays.
 ///
 /// Refused where it is not read as the type, and as `extend_structs`; then nothing has changed.
 pub(crate) fn fill_behind(
@@ -98,11 +102,15 @@ pub(crate) fn fill_behind(
     requires behind { is_behind (seen_variant variant) ≡ true }
     ensures forest { OnOk result (Forest (segment arena.new) at) }
     ensures changes { OnOk result (Changes at (segment arena.old) (segment arena.new)) }
-    ensures filled { OnOk result (tree (segment arena.new) at ≡ element_filled (lists_seen set.now) (seen_variant variant) (tree (segment arena.old) at)) }
-    ensures within { OnOk result (element_due (lists_seen set.now) (seen_variant variant) (tree (segment arena.old) at) ≡ None) }
+    ensures filled { OnOk result (tree (segment arena.new) at
+        ≡ element_filled (lists_seen set.now) (seen_variant variant) (tree (segment arena.old) at)) }
+    ensures within { OnOk result (element_due (lists_seen set.now) (seen_variant variant) (tree (segment arena.old) at)
+        ≡ None) }
     ensures refused { OnErr result (segment arena.new ≡ segment arena.old) }
-    ensures cause { IfErr result (λ e. IsDueRefusal e (element_due (lists_seen set.now) (seen_variant variant) (tree (segment arena.old) at))) }
-    ensures rests { ElementRests (lists_seen set.now) (seen_variant variant) (tree (segment arena.old) at) → IsOk result }
+    ensures cause { IfErr result (λ e. IsDueRefusal e
+        (element_due (lists_seen set.now) (seen_variant variant) (tree (segment arena.old) at))) }
+    ensures rests { ElementRests (lists_seen set.now) (seen_variant variant) (tree (segment arena.old) at)
+        → IsOk result }
 {
     match variant {
         TypeVariant::Text => check_text(arena, at),

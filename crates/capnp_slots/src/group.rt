@@ -44,7 +44,8 @@ fn clear_field(arena: &mut Arena, place: StructPlace, field: Field<'_>, groups: 
     requires room { IsRoomFor field (built arena.old place) }
     ensures planted { IsBuilt arena.new place }
     ensures changes { ChangesIn place arena.old arena.new }
-    ensures cleared { built arena.new place ≡ clear_by groups (field_set field.entry) (field_brand field.entry) (typed_of field.entry)
+    ensures cleared { built arena.new place ≡ clear_by groups (field_set field.entry) (field_brand field.entry)
+        (typed_of field.entry)
         (built arena.old place) }
     ensures kept { KeepsSize (built arena.old place) (built arena.new place) }
 {
@@ -64,7 +65,8 @@ fn clear_member(arena: &mut Arena, place: StructPlace, schema: StructSchema<'_>,
     requires room { Fits (set_of schema) (number_of schema) (built arena.old place) }
     ensures planted { IsBuilt arena.new place }
     ensures changes { ChangesIn place arena.old arena.new }
-    ensures cleared { built arena.new place ≡ cleared_option (clear_index groups (set_of schema.entry) (number_of schema.entry))
+    ensures cleared { built arena.new place ≡ cleared_option
+        (clear_index groups (set_of schema.entry) (number_of schema.entry))
         (member_of (struct_records schema.entry) 0) (built arena.old place) }
     ensures kept { KeepsSize (built arena.old place) (built arena.new place) }
 {
@@ -84,7 +86,8 @@ fn clear_plain(arena: &mut Arena, place: StructPlace, schema: StructSchema<'_>, 
     requires room { Fits (set_of schema) (number_of schema) (built arena.old place) }
     ensures planted { IsBuilt arena.new place }
     ensures changes { ChangesIn place arena.old arena.new }
-    ensures cleared { built arena.new place ≡ cleared_indices (clear_index groups (set_of schema.entry) (number_of schema.entry))
+    ensures cleared { built arena.new place ≡ cleared_indices
+        (clear_index groups (set_of schema.entry) (number_of schema.entry))
         (plain_fields (struct_records schema.entry)) (built arena.old place) }
     ensures kept { KeepsSize (built arena.old place) (built arena.new place) }
 {
@@ -109,7 +112,8 @@ pub(crate) fn clear_group(
     requires room { Fits (set_of schema) (number_of schema) (built arena.old place) }
     ensures planted { IsBuilt arena.new place }
     ensures changes { ChangesIn place arena.old arena.new }
-    ensures cleared { built arena.new place ≡ cleared_through groups (set_of schema.entry) (number_of schema.entry) (built arena.old place) }
+    ensures cleared { built arena.new place ≡ cleared_through groups (set_of schema.entry) (number_of schema.entry)
+        (built arena.old place) }
     ensures kept { KeepsSize (built arena.old place) (built arena.new place) }
 {
     if groups == 0 {
@@ -119,9 +123,9 @@ pub(crate) fn clear_group(
     clear_plain(arena, place, schema, groups - 1);
 }
 
-/// Clears a group: a member of its struct's union becomes active, and then the group's member of discriminant value 0 and
-/// its non-union fields by index are cleared, groups in the same way. The group then reads as its default record. No memory
-/// is taken.
+/// Clears a group: a member of its struct's union becomes active, and then the group's member of discriminant value 0
+/// and its non-union fields by index are cleared, groups in the same way. The group then reads as its default record.
+/// No memory is taken.
 ///
 /// The field has to be a group, and the struct to have the sections of the field's schema.
 pub fn clear(arena: &mut Arena, place: StructPlace, field: Field<'_>)
@@ -143,8 +147,8 @@ pub fn clear(arena: &mut Arena, place: StructPlace, field: Field<'_>)
     clear_group(arena, place, group, set.brands().len());
 }
 
-/// Initializes a group, as `clear` does. The field has to be a group, and the struct to have the sections of the field's
-/// schema.
+/// Initializes a group, as `clear` does. The field has to be a group, and the struct to have the sections of the
+/// field's schema.
 pub fn init(arena: &mut Arena, place: StructPlace, field: Field<'_>)
     requires planted { IsBuilt arena.old place }
     requires group { IsGroup field }
@@ -170,7 +174,8 @@ fn copy(
     requires room { IsRoomFor field (built arena.old place) }
     ensures planted { IsBuilt arena.new place }
     ensures changes { ChangesIn place arena.old arena.new }
-    ensures copied { IsCopiedInto field.entry group.entry source.entry (built arena.old place) (refusal_of result) (built arena.new place) }
+    ensures copied { IsCopiedInto field.entry group.entry source.entry (built arena.old place) (refusal_of result)
+        (built arena.new place) }
     ensures kept { Keeps (names_of field.entry) (built arena.old place) (built arena.new place) }
 {
     let set = field.get_containing_struct().get_set();
@@ -181,13 +186,13 @@ fn copy(
     copy_group(arena, place, group, source, set.brands().len() + 1)
 }
 
-/// Sets a group to a struct of its schema: it is cleared, as by `clear`, and then the source's fields are copied: first its
-/// active member, a null one as its default, and then its non-union fields by index, but for null pointers. Groups in it are
-/// copied in the same way. A member is not copied where the source's discriminant is that of none.
+/// Sets a group to a struct of its schema: it is cleared, as by `clear`, and then the source's fields are copied: first
+/// its active member, a null one as its default, and then its non-union fields by index, but for null pointers. Groups
+/// in it are copied in the same way. A member is not copied where the source's discriminant is that of none.
 ///
-/// Refused with `NotAStruct` for a source that is no struct, and with `TypeMismatch` for a struct of another schema; then
-/// nothing has changed. The first slot whose copy is refused, as by `copied::copy`, ends the whole with that refusal: the
-/// group stays as it is by then, cleared and with what was copied before.
+/// Refused with `NotAStruct` for a source that is no struct, and with `TypeMismatch` for a struct of another schema;
+/// then nothing has changed. The first slot whose copy is refused, as by `copied::copy`, ends the whole with that
+/// refusal: the group stays as it is by then, cleared and with what was copied before.
 ///
 /// The field has to be a group, and the struct to have the sections of the field's schema.
 #[inline(never)]
@@ -202,7 +207,8 @@ pub fn set(
     requires room { IsRoomFor field (built arena.old place) }
     ensures planted { IsBuilt arena.new place }
     ensures changes { ChangesIn place arena.old arena.new }
-    ensures set { IsGroupSet field.entry (given_to_group field.entry (source_seen source.entry)) (built arena.old place) (refusal_of result)
+    ensures set { IsGroupSet field.entry (given_to_group field.entry (source_seen source.entry))
+        (built arena.old place) (refusal_of result)
         (built arena.new place) }
     ensures kept { Keeps (names_of field.entry) (built arena.old place) (built arena.new place) }
 {

@@ -51,7 +51,8 @@ fn copy_field(
     requires height { group_height (field_set field) (field_brand field) ≤ groups }
     ensures planted { IsBuilt arena.new place }
     ensures changes { ChangesIn place arena.old arena.new }
-    ensures copied { AreCopied groups (schema_of field.entry) source.entry (index_of field.entry ∷ []) (built arena.old place) (refusal_of result)
+    ensures copied { AreCopied groups (schema_of field.entry) source.entry (index_of field.entry ∷ [])
+        (built arena.old place) (refusal_of result)
         (built arena.new place) }
     ensures kept { KeepsSize (built arena.old place) (built arena.new place) }
 {
@@ -78,7 +79,8 @@ fn copy_present(
     requires height { group_height (field_set field) (field_brand field) ≤ groups }
     ensures planted { IsBuilt arena.new place }
     ensures changes { ChangesIn place arena.old arena.new }
-    ensures copied { AreCopied groups (schema_of field.entry) source.entry (keep_index (has_field field.entry source.entry) (index_of field.entry) [])
+    ensures copied { AreCopied groups (schema_of field.entry) source.entry
+        (keep_index (has_field field.entry source.entry) (index_of field.entry) [])
         (built arena.old place) (refusal_of result) (built arena.new place) }
     ensures kept { KeepsSize (built arena.old place) (built arena.new place) }
 {
@@ -103,7 +105,8 @@ fn copy_member(
     requires height { group_height (set_of schema) (number_of schema) ≤ groups }
     ensures planted { IsBuilt arena.new place }
     ensures changes { ChangesIn place arena.old arena.new }
-    ensures copied { AreCopied groups schema.entry source.entry (member_indices (active_field schema.entry source.entry)) (built arena.old place)
+    ensures copied { AreCopied groups schema.entry source.entry
+        (member_indices (active_field schema.entry source.entry)) (built arena.old place)
         (refusal_of result) (built arena.new place) }
     ensures kept { KeepsSize (built arena.old place) (built arena.new place) }
 {
@@ -127,7 +130,8 @@ fn copy_plain(
     requires height { group_height (set_of schema) (number_of schema) ≤ groups }
     ensures planted { IsBuilt arena.new place }
     ensures changes { ChangesIn place arena.old arena.new }
-    ensures copied { AreCopied groups schema.entry source.entry (plain_in_source schema.entry source.entry) (built arena.old place) (refusal_of result)
+    ensures copied { AreCopied groups schema.entry source.entry (plain_in_source schema.entry source.entry)
+        (built arena.old place) (refusal_of result)
         (built arena.new place) }
     ensures kept { KeepsSize (built arena.old place) (built arena.new place) }
 {
@@ -157,7 +161,8 @@ pub(crate) fn copy_group(
     requires height { group_height (set_of schema) (number_of schema) < groups }
     ensures planted { IsBuilt arena.new place }
     ensures changes { ChangesIn place arena.old arena.new }
-    ensures copied { IsCopiedThrough groups schema.entry source.entry (built arena.old place) (refusal_of result) (built arena.new place) }
+    ensures copied { IsCopiedThrough groups schema.entry source.entry (built arena.old place) (refusal_of result)
+        (built arena.new place) }
     ensures kept { KeepsSize (built arena.old place) (built arena.new place) }
 {
     clear_group(arena, place, schema, schema.get_set().brands().len());

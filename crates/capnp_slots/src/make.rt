@@ -104,10 +104,12 @@ fn make_structs(arena: &mut Arena, at: usize, size: StructSize, count: u32) -> R
     ensures forest { OnOk result (Forest (segment arena.new) at) }
     ensures changes { OnOk result (Changes at (segment arena.old) (segment arena.new)) }
     ensures ok { OnOk result (tree (segment arena.new) at ≡ zero_structs size count) }
-    ensures within { OnOk result ((nat_lt (2 ^ 29 - 1) (count * (size.data_words + size.pointers)) || nat_lt (2 ^ 29 - 1) count) ≡ false) }
+    ensures within { OnOk result ((nat_lt (2 ^ 29 - 1) (count * (size.data_words + size.pointers)) || nat_lt
+        (2 ^ 29 - 1) count) ≡ false) }
     ensures formed { OnOk result (IsWellFormed (zero_structs size count)) }
     ensures refused { OnErr result (segment arena.new ≡ segment arena.old) }
-    ensures cause { IfErr result (λ e. IsRoomless (nat_lt (2 ^ 29 - 1) (count * (size.data_words + size.pointers)) || nat_lt (2 ^ 29 - 1) count) e.kind) }
+    ensures cause { IfErr result (λ e. IsRoomless
+        (nat_lt (2 ^ 29 - 1) (count * (size.data_words + size.pointers)) || nat_lt (2 ^ 29 - 1) count) e.kind) }
 {
     arena.init_struct_list(at, count, size)?;
     Ok(())
@@ -130,7 +132,8 @@ fn make_elements(
     ensures within { OnOk result (elements_past (lists_seen set.now) (seen_type element) count ≡ false) }
     ensures formed { OnOk result (IsWellFormed (new_list (lists_seen set.now) (seen_type element) count)) }
     ensures refused { OnErr result (segment arena.new ≡ segment arena.old) }
-    ensures cause { IfErr result (λ e. IsRoomless (elements_past (lists_seen set.now) (seen_type element) count) e.kind) }
+    ensures cause { IfErr result (λ e. IsRoomless
+        (elements_past (lists_seen set.now) (seen_type element) count) e.kind) }
 {
     match element.which() {
         TypeVariant::Struct(raw) => {
@@ -165,7 +168,8 @@ pub(crate) fn make_sized(
     requires kind { is_sized (seen_variant variant) ≡ true }
     ensures forest { OnOk result (Forest (segment arena.new) at) }
     ensures changes { OnOk result (Changes at (segment arena.old) (segment arena.new)) }
-    ensures ok { OnOk result (tree (segment arena.new) at ≡ initn_tree (lists_seen set.now) (seen_variant variant) count) }
+    ensures ok { OnOk result (tree (segment arena.new) at
+        ≡ initn_tree (lists_seen set.now) (seen_variant variant) count) }
     ensures within { OnOk result (InitnContent (lists_seen set.now) count (seen_variant variant)
         (At (initn_tree (lists_seen set.now) (seen_variant variant) count))) }
     ensures formed { OnOk result (IsWellFormed (initn_tree (lists_seen set.now) (seen_variant variant) count)) }
@@ -202,8 +206,8 @@ fn make_empty_list(arena: &mut Arena, at: usize, size: ElementSize) -> Result<()
     }
 }
 
-/// Makes a pointer lead to what stands in the place of a default that is none: no bytes, a struct of size zero, or a list of
-/// no elements.
+/// Makes a pointer lead to what stands in the place of a default that is none: no bytes, a struct of size zero, or a
+/// list of no elements.
 pub(crate) fn make_empty(arena: &mut Arena, at: usize, variant: TypeVariant) -> Result<()>
     requires there { at < word_count (segment arena.old) }
     requires pointer { is_pointer (seen_variant variant) ≡ true }

@@ -51,7 +51,8 @@ fn fill_elements(
     requires inside { IsThere (built arena.old place) index }
     ensures planted { OnOk result (IsBuilt arena.new place) }
     ensures changes { OnOk result (ChangesIn place arena.old arena.new) }
-    ensures written { IsListFilled (lists_seen set.now) (seen_type element) (reader_tree default.entry) (built arena.old place) index result (built arena.new place) }
+    ensures written { IsListFilled (lists_seen set.now) (seen_type element) (reader_tree default.entry)
+        (built arena.old place) index result (built arena.new place) }
     ensures refused { OnErr result (segment arena.new ≡ segment arena.old) }
 {
     match element.which() {
@@ -149,7 +150,8 @@ fn fill_text(arena: &mut Arena, place: StructPlace, index: u16, field: Field<'_>
     requires inside { IsThere (built arena.old place) index }
     ensures planted { OnOk result (IsBuilt arena.new place) }
     ensures changes { OnOk result (ChangesIn place arena.old arena.new) }
-    ensures ok { OnOk result (HoldsThere (built arena.old place) index (built arena.new place) (text_filled (default_of (typed_of field.entry).field) (tree_there (built arena.old place) index))) }
+    ensures ok { OnOk result (HoldsThere (built arena.old place) index (built arena.new place)
+        (text_filled (default_of (typed_of field.entry).field) (tree_there (built arena.old place) index))) }
     ensures within { OnOk result (error_of (as_text (tree_there (built arena.old place) index)) ≡ None) }
     ensures refused { OnErr result (segment arena.new ≡ segment arena.old) }
     ensures cause { IfErr result (λ e. IsDueRefusal e (error_of (as_text (tree_there (built arena.old place) index)))) }
@@ -172,7 +174,8 @@ fn put<R, S: SetterInput<R> + Copy>(
     requires inside { IsThere (built arena.old place) index }
     ensures planted { OnOk result (IsBuilt arena.new place) }
     ensures changes { OnOk result (ChangesIn place arena.old arena.new) }
-    ensures ok { OnOk result (HoldsThere (built arena.old place) index (built arena.new place) (or_else (tree_there (built arena.old place) index) (S.set_tree input))) }
+    ensures ok { OnOk result (HoldsThere (built arena.old place) index (built arena.new place)
+        (or_else (tree_there (built arena.old place) index) (S.set_tree input))) }
     ensures refused { OnErr result (segment arena.new ≡ segment arena.old) }
     ensures null { OnErr result (is_null_tree (tree_there (built arena.old place) index) ≡ true) }
     ensures cause { IfErr result (S.set_refusal input) }
@@ -189,7 +192,8 @@ fn fill_data(arena: &mut Arena, place: StructPlace, index: u16, field: Field<'_>
     requires inside { IsThere (built arena.old place) index }
     ensures planted { OnOk result (IsBuilt arena.new place) }
     ensures changes { OnOk result (ChangesIn place arena.old arena.new) }
-    ensures ok { OnOk result (HoldsThere (built arena.old place) index (built arena.new place) (data_filled (default_of (typed_of field.entry).field) (tree_there (built arena.old place) index))) }
+    ensures ok { OnOk result (HoldsThere (built arena.old place) index (built arena.new place)
+        (data_filled (default_of (typed_of field.entry).field) (tree_there (built arena.old place) index))) }
     ensures within { OnOk result (error_of (as_data (tree_there (built arena.old place) index)) ≡ None) }
     ensures refused { OnErr result (segment arena.new ≡ segment arena.old) }
     ensures cause { IfErr result (λ e. IsDueRefusal e (error_of (as_data (tree_there (built arena.old place) index)))) }
@@ -201,15 +205,15 @@ fn fill_data(arena: &mut Arena, place: StructPlace, index: u16, field: Field<'_>
     }
 }
 
-/// Fills what stands behind the pointer of a slot, as a builder's `get` does: a null text or data becomes a default of its
-/// own kind, an empty one too; a null struct its default or an empty one, and a struct that is smaller than its schema gets
-/// zeros and nulls after what it has; a null list becomes its default where that isn't null, and structs of a list get at
-/// least their schema's sections. An untyped pointer stays. Whether a member is active is not asked, and no union is
-/// switched.
+/// Fills what stands behind the pointer of a slot, as a builder's `get` does: a null text or data becomes a default of
+/// its own kind, an empty one too; a null struct its default or an empty one, and a struct that is smaller than its
+/// schema gets zeros and nulls after what it has; a null list becomes its default where that isn't null, and structs of
+/// a list get at least their schema's sections. An untyped pointer stays. Whether a member is active is not asked, and
+/// no union is switched.
 ///
-/// Refused with `WrongPointerKind`, `WrongElementSize` or `TextNotTerminated` where what stands there is not read as the
-/// slot's type, with `SizePastFormat` where the structs of a list would take 2^29 words or more, and else with `OutOfMemory`;
-/// then nothing has changed. Where nothing has to be filled or extended no memory is taken.
+/// Refused with `WrongPointerKind`, `WrongElementSize` or `TextNotTerminated` where what stands there is not read as
+/// the slot's type, with `SizePastFormat` where the structs of a list would take 2^29 words or more, and else with
+/// `OutOfMemory`; then nothing has changed. Where nothing has to be filled or extended no memory is taken.
 ///
 /// The field has to be a slot of a pointer type, and the struct to have the sections of the field's schema and to be
 /// well-formed.
@@ -221,8 +225,10 @@ pub fn fill(arena: &mut Arena, place: StructPlace, field: Field<'_>) -> Result<(
     ensures planted { OnOk result (IsBuilt arena.new place) }
     ensures changes { OnOk result (ChangesIn place arena.old arena.new) }
     ensures filled { OnOk result (built arena.new place
-        ≡ with_pointer_tree (built arena.old place) (pointer_index field.entry) (filled_in field.entry (built arena.old place))) }
-    ensures here { OnOk result (pointer_in field.entry (built arena.new place) ≡ filled_in field.entry (built arena.old place)) }
+        ≡ with_pointer_tree (built arena.old place) (pointer_index field.entry)
+        (filled_in field.entry (built arena.old place))) }
+    ensures here { OnOk result (pointer_in field.entry (built arena.new place)
+        ≡ filled_in field.entry (built arena.old place)) }
     ensures within { OnOk result (due_in field.entry (built arena.old place) ≡ None) }
     ensures refused { OnErr result (segment arena.new ≡ segment arena.old) }
     ensures cause { IfErr result (λ e. IsDueRefusal e (due_in field.entry (built arena.old place))) }
@@ -259,7 +265,8 @@ fn fill_struct_at(
     extend_struct(arena, place, index, size_of(schema))
 }
 
-/// Fills what stands behind the pointer of a slot of a struct's type, as `fill`: for a caller that has the type's schema.
+/// Fills what stands behind the pointer of a slot of a struct's type, as `fill`: for a caller that has the type's
+/// schema.
 ///
 /// Refused as `fill`. The schema has to be that of the slot's type, and the struct as `fill` asks.
 #[inline(always)]
@@ -277,8 +284,10 @@ pub fn fill_struct_slot(
     ensures planted { OnOk result (IsBuilt arena.new place) }
     ensures changes { OnOk result (ChangesIn place arena.old arena.new) }
     ensures filled { OnOk result (built arena.new place
-        ≡ with_pointer_tree (built arena.old place) (pointer_index field.entry) (filled_in field.entry (built arena.old place))) }
-    ensures here { OnOk result (pointer_in field.entry (built arena.new place) ≡ filled_in field.entry (built arena.old place)) }
+        ≡ with_pointer_tree (built arena.old place) (pointer_index field.entry)
+        (filled_in field.entry (built arena.old place))) }
+    ensures here { OnOk result (pointer_in field.entry (built arena.new place)
+        ≡ filled_in field.entry (built arena.old place)) }
     ensures within { OnOk result (due_in field.entry (built arena.old place) ≡ None) }
     ensures refused { OnErr result (segment arena.new ≡ segment arena.old) }
     ensures cause { IfErr result (λ e. IsDueRefusal e (due_in field.entry (built arena.old place))) }
@@ -315,7 +324,8 @@ fn fill_list_at(
     fill_elements(arena, place, index, set, element, None)
 }
 
-/// Fills what stands behind the pointer of a slot of a list's type, as `fill`: for a caller that has the type of the elements.
+/// Fills what stands behind the pointer of a slot of a list's type, as `fill`: for a caller that has the type of the
+/// elements.
 ///
 /// Refused as `fill`. The type has to be that of the slot's elements, and the struct as `fill` asks.
 #[inline(always)]
@@ -332,8 +342,10 @@ pub fn fill_list_slot(
     ensures planted { OnOk result (IsBuilt arena.new place) }
     ensures changes { OnOk result (ChangesIn place arena.old arena.new) }
     ensures filled { OnOk result (built arena.new place
-        ≡ with_pointer_tree (built arena.old place) (pointer_index field.entry) (filled_in field.entry (built arena.old place))) }
-    ensures here { OnOk result (pointer_in field.entry (built arena.new place) ≡ filled_in field.entry (built arena.old place)) }
+        ≡ with_pointer_tree (built arena.old place) (pointer_index field.entry)
+        (filled_in field.entry (built arena.old place))) }
+    ensures here { OnOk result (pointer_in field.entry (built arena.new place)
+        ≡ filled_in field.entry (built arena.old place)) }
     ensures within { OnOk result (due_in field.entry (built arena.old place) ≡ None) }
     ensures refused { OnErr result (segment arena.new ≡ segment arena.old) }
     ensures cause { IfErr result (λ e. IsDueRefusal e (due_in field.entry (built arena.old place))) }
@@ -353,7 +365,8 @@ pub fn pointer(arena: &Arena, place: StructPlace, field: Field<'_>) -> usize
     requires room { IsRoomFor field (built arena.now place) }
     ensures forest { Forest (segment arena.now) result }
     ensures tree { tree (segment arena.now) result ≡ pointer_in field.entry (built arena.now place) }
-    ensures leaves { (new : List ℕ) → Forest new result → Changes result (segment arena.now) new → LeavesIn place (pointer_index field.entry) arena.now result new }
+    ensures leaves { (new : List ℕ) → Forest new result → Changes result (segment arena.now) new
+        → LeavesIn place (pointer_index field.entry) arena.now result new }
 {
     let (index, _) = pointer_slot(field);
     pointer_at(arena, place, index)
@@ -370,10 +383,12 @@ pub fn get(arena: &mut Arena, place: StructPlace, field: Field<'_>) -> Result<us
     ensures planted { OnOk result (IsBuilt arena.new place) }
     ensures changes { OnOk result (ChangesIn place arena.old arena.new) }
     ensures filled { OnOk result (built arena.new place
-        ≡ with_pointer_tree (built arena.old place) (pointer_index field.entry) (filled_in field.entry (built arena.old place))) }
+        ≡ with_pointer_tree (built arena.old place) (pointer_index field.entry)
+        (filled_in field.entry (built arena.old place))) }
     ensures forest { IfOk result (λ at. Forest (segment arena.new) at) }
     ensures now { IfOk result (λ at. tree (segment arena.new) at ≡ filled_in field.entry (built arena.old place)) }
-    ensures leaves { IfOk result (λ at. (new : List ℕ) → Forest new at → Changes at (segment arena.new) new → LeavesIn place (pointer_index field.entry) arena.new at new) }
+    ensures leaves { IfOk result (λ at. (new : List ℕ) → Forest new at → Changes at (segment arena.new) new
+        → LeavesIn place (pointer_index field.entry) arena.new at new) }
     ensures within { OnOk result (due_in field.entry (built arena.old place) ≡ None) }
     ensures refused { OnErr result (segment arena.new ≡ segment arena.old) }
     ensures cause { IfErr result (λ e. IsDueRefusal e (due_in field.entry (built arena.old place))) }

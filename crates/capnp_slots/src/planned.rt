@@ -70,7 +70,8 @@ fn store_bits(arena: &mut Arena, place: StructPlace, start: u32, width: u8, bits
     requires fits { bits < 2 ^ width }
     ensures planted { IsBuilt arena.new place }
     ensures changes { ChangesIn place arena.old arena.new }
-    ensures written { built arena.new place ≡ with_bytes (built arena.old place) (with_bits start width bits (built arena.old place).bytes) }
+    ensures written { built arena.new place ≡ with_bytes (built arena.old place)
+        (with_bits start width bits (built arena.old place).bytes) }
 {
     match width {
         1 => set_bool_field(arena, place, start, bits == 1),
@@ -92,7 +93,8 @@ pub(crate) fn store_number(arena: &mut Arena, place: StructPlace, plan: SlotPlan
     requires fits { HoldsNumber plan.place number }
     ensures planted { IsBuilt arena.new place }
     ensures changes { ChangesIn place arena.old arena.new }
-    ensures written { built arena.new place ≡ plan_written plan (Bits (bit_xor number (place_mask plan.place))) (built arena.old place) }
+    ensures written { built arena.new place ≡ plan_written plan (Bits (bit_xor number (place_mask plan.place)))
+        (built arena.old place) }
 {
     switch_member(arena, place, plan.member);
     match plan.place {
@@ -109,7 +111,8 @@ fn clear_pointer(arena: &mut Arena, place: StructPlace, index: u16)
     requires inside { index < tree_count (built arena.old place).pointers }
     ensures planted { IsBuilt arena.new place }
     ensures changes { ChangesIn place arena.old arena.new }
-    ensures written { built arena.new place ≡ place_written (Place.Pointer index) (place_cleared (Place.Pointer index)) (built arena.old place) }
+    ensures written { built arena.new place ≡ place_written (Place.Pointer index) (place_cleared (Place.Pointer index))
+        (built arena.old place) }
 {
     let at = pointer_at(arena, place, index);
     arena.clear(at);
@@ -151,7 +154,8 @@ pub(crate) fn copy_bits(
     requires inside { PlanFits plan (built arena.old place) }
     ensures planted { IsBuilt arena.new place }
     ensures changes { ChangesIn place arena.old arena.new }
-    ensures written { built arena.new place ≡ plan_written plan (Bits (place_bits plan.place (struct_of source.now).bytes)) (built arena.old place) }
+    ensures written { built arena.new place ≡ plan_written plan
+        (Bits (place_bits plan.place (struct_of source.now).bytes)) (built arena.old place) }
 {
     let discriminant = plan.member;
     switch_member(arena, place, discriminant);

@@ -55,7 +55,8 @@ pub(crate) fn set_at<R, S: SetterInput<R>>(
     requires inside { index < tree_count (built arena.old place).pointers }
     ensures planted { OnOk result (IsBuilt arena.new place) }
     ensures changes { OnOk result (ChangesIn place arena.old arena.new) }
-    ensures ok { OnOk result (built arena.new place ≡ with_pointer_tree (built arena.old place) index (S.set_tree input)) }
+    ensures ok { OnOk result (built arena.new place
+        ≡ with_pointer_tree (built arena.old place) index (S.set_tree input)) }
     ensures formed { OnOk result (IsWellFormed (S.set_tree input)) }
     ensures sound { OnOk result (first_fault (S.set_tree input) ≡ None) }
     ensures refused { OnErr result (segment arena.new ≡ segment arena.old) }
@@ -79,7 +80,8 @@ pub(crate) fn make_struct_at(
     requires inside { index < tree_count (built arena.old place).pointers }
     ensures planted { OnOk result (IsBuilt arena.new place) }
     ensures changes { OnOk result (ChangesIn place arena.old arena.new) }
-    ensures ok { OnOk result (built arena.new place ≡ with_pointer_tree (built arena.old place) index (struct_tree (zero_struct size))) }
+    ensures ok { OnOk result (built arena.new place
+        ≡ with_pointer_tree (built arena.old place) index (struct_tree (zero_struct size))) }
     ensures formed { OnOk result (IsWellFormed (struct_tree (zero_struct size))) }
     ensures refused { OnErr result (segment arena.new ≡ segment arena.old) }
     ensures cause { IfErr result (λ e. e.kind ≡ OutOfMemory) }
@@ -104,7 +106,8 @@ pub(crate) fn make_sized_at(
     ensures planted { OnOk result (IsBuilt arena.new place) }
     ensures changes { OnOk result (ChangesIn place arena.old arena.new) }
     ensures ok { OnOk result (built arena.new place
-        ≡ with_pointer_tree (built arena.old place) index (initn_tree (lists_seen set.now) (seen_variant variant) count)) }
+        ≡ with_pointer_tree (built arena.old place) index
+        (initn_tree (lists_seen set.now) (seen_variant variant) count)) }
     ensures within { OnOk result (InitnContent (lists_seen set.now) count (seen_variant variant)
         (At (initn_tree (lists_seen set.now) (seen_variant variant) count))) }
     ensures formed { OnOk result (IsWellFormed (initn_tree (lists_seen set.now) (seen_variant variant) count)) }
@@ -131,7 +134,8 @@ pub(crate) fn make_empty_at(
     requires typed { AnyPointerType ≢ seen_variant variant }
     ensures planted { OnOk result (IsBuilt arena.new place) }
     ensures changes { OnOk result (ChangesIn place arena.old arena.new) }
-    ensures ok { OnOk result (built arena.new place ≡ with_pointer_tree (built arena.old place) index (empty_tree (seen_variant variant))) }
+    ensures ok { OnOk result (built arena.new place
+        ≡ with_pointer_tree (built arena.old place) index (empty_tree (seen_variant variant))) }
     ensures formed { OnOk result (IsWellFormed (empty_tree (seen_variant variant))) }
     ensures refused { OnErr result (segment arena.new ≡ segment arena.old) }
     ensures cause { IfErr result (λ e. e.kind ≡ OutOfMemory) }

@@ -33,7 +33,8 @@ pub trait SetterInput<R> {
         requires plain { canonicalize ≡ false }
         ensures forest { OnOk result (Forest (segment builder.exit.0.now) builder.entry.at) }
         ensures tree { OnOk result (tree (segment builder.exit.0.now) builder.entry.at ≡ set_tree input) }
-        ensures changes { OnOk result (Changes builder.entry.at (segment builder.entry.arena.now) (segment builder.exit.0.now)) }
+        ensures changes { OnOk result (Changes builder.entry.at (segment builder.entry.arena.now)
+            (segment builder.exit.0.now)) }
         ensures formed { OnOk result (IsWellFormed (set_tree input)) }
         ensures sound { OnOk result (first_fault (set_tree input) ≡ None) }
         ensures refused { OnErr result (segment builder.exit.0.now ≡ segment builder.entry.arena.now) }

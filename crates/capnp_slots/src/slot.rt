@@ -43,8 +43,8 @@ pub fn is_slot(field: Field<'_>) -> bool
 }
 
 /// Makes a field active, where it is a member of its struct's union: its number stands in the discriminant. A non-union
-/// field changes nothing. What stands in the field stays, and no memory is taken. The struct has to have the sections of the
-/// field's schema.
+/// field changes nothing. What stands in the field stays, and no memory is taken. The struct has to have the sections
+/// of the field's schema.
 #[inline(always)]
 pub fn switch(arena: &mut Arena, place: StructPlace, field: Field<'_>)
     requires planted { IsBuilt arena.old place }
@@ -60,8 +60,10 @@ pub fn switch(arena: &mut Arena, place: StructPlace, field: Field<'_>)
 /// The number that a field's slot stores for a value, but for its default. None where the set is refused.
 #[inline(always)]
 fn number_for(field: Field<'_>, value: Primitive) -> Option<u64>
-    ensures number { IfSome result (IsGivenAs (field_set field.entry) (typed_of field.entry).type (primitive_source value)) }
-    ensures none { result ≡ None → given_to field.entry (primitive_source value) ≡ Fails (refusal_at (typed_of field.entry).type) }
+    ensures number { IfSome result (IsGivenAs (field_set field.entry) (typed_of field.entry).type
+        (primitive_source value)) }
+    ensures none { result ≡ None → given_to field.entry (primitive_source value)
+        ≡ Fails (refusal_at (typed_of field.entry).type) }
 {
     number_fits(value);
     number_at_once(field.get_type().which(), value)
@@ -74,8 +76,9 @@ fn refuse_at(field: Field<'_>) -> Error
     refusal_at(field.get_type().which())
 }
 
-/// Sets a slot to a value that no pointer stands for: what is stored is its number, XORed with that of the slot's default.
-/// A member becomes active. A slot of type Void takes every value, and an enum's the number alone. No memory is taken.
+/// Sets a slot to a value that no pointer stands for: what is stored is its number, XORed with that of the slot's
+/// default. A member becomes active. A slot of type Void takes every value, and an enum's the number alone. No memory
+/// is taken.
 ///
 /// Refused with `CannotSetAnyPointerFieldToAPrimitiveValue` for an untyped slot, and with `TypeMismatch` for a slot of
 /// another kind than the value's; then nothing has changed.
@@ -109,8 +112,8 @@ pub fn set_primitive(
     }
 }
 
-/// Sets a slot to what a pointer can be set to: a text, data, a struct, a list, or what an untyped pointer leads to. The
-/// copy is made first, and then a member becomes active.
+/// Sets a slot to what a pointer can be set to: a text, data, a struct, a list, or what an untyped pointer leads to.
+/// The copy is made first, and then a member becomes active.
 ///
 /// Refused as the input's set of a pointer, and then nothing has changed.
 ///
@@ -127,7 +130,8 @@ pub fn set_pointer<R, S: SetterInput<R>>(
     requires room { IsRoomFor field (built arena.old place) }
     ensures planted { OnOk result (IsBuilt arena.new place) }
     ensures changes { OnOk result (ChangesIn place arena.old arena.new) }
-    ensures written { OnOk result (built arena.new place ≡ slot_with field.entry (At (S.set_tree input)) (built arena.old place)) }
+    ensures written { OnOk result (built arena.new place
+        ≡ slot_with field.entry (At (S.set_tree input)) (built arena.old place)) }
     ensures kept { OnOk result (Keeps (names_of field.entry) (built arena.old place) (built arena.new place)) }
     ensures formed { OnOk result (IsWellFormed (S.set_tree input)) }
     ensures sound { OnOk result (first_fault (S.set_tree input) ≡ None) }
@@ -140,15 +144,16 @@ pub fn set_pointer<R, S: SetterInput<R>>(
     Ok(())
 }
 
-/// Sets a slot. A void slot takes every source. A value that no pointer stands for is stored as by `set_primitive`. A text,
-/// data, a struct and a list are copied into a slot of their kind or an untyped one, whatever the struct's schema or the
-/// list's elements are: the copy is made first, and keeps what the slot's type doesn't know. Then a member becomes active.
+/// Sets a slot. A void slot takes every source. A value that no pointer stands for is stored as by `set_primitive`. A
+/// text, data, a struct and a list are copied into a slot of their kind or an untyped one, whatever the struct's schema
+/// or the list's elements are: the copy is made first, and keeps what the slot's type doesn't know. Then a member
+/// becomes active.
 ///
-/// Refused, in this order: with `CannotSetAnyPointerFieldToAPrimitiveValue` for an untyped slot and a source of another kind
-/// than these four, and with `TypeMismatch` for another slot and a source of another kind than its own; with `BadPointer`,
-/// `TooDeep` or `CapabilityPointer` where a pointer in the source can't be followed, by the first of these in preorder;
-/// with `SizePastFormat` for a text of more than 2^29 - 2 bytes or data of more than 2^29 - 1; and with `OutOfMemory`. Then
-/// nothing has changed.
+/// Refused, in this order: with `CannotSetAnyPointerFieldToAPrimitiveValue` for an untyped slot and a source of another
+/// kind than these four, and with `TypeMismatch` for another slot and a source of another kind than its own; with
+/// `BadPointer`, `TooDeep` or `CapabilityPointer` where a pointer in the source can't be followed, by the first of
+/// these in preorder; with `SizePastFormat` for a text of more than 2^29 - 2 bytes or data of more than 2^29 - 1; and
+/// with `OutOfMemory`. Then nothing has changed.
 ///
 /// The field has to be a slot, and the struct to have the sections of the field's schema.
 #[tactic(auto, using(crate::proofs::Kept::set_keeps))]
@@ -164,7 +169,8 @@ pub fn set(
     requires room { IsRoomFor field (built arena.old place) }
     ensures planted { OnOk result (IsBuilt arena.new place) }
     ensures changes { OnOk result (ChangesIn place arena.old arena.new) }
-    ensures set { OnOk result (IsSet field.entry (source_seen source.entry) (built arena.old place) (built arena.new place)) }
+    ensures set { OnOk result (IsSet field.entry (source_seen source.entry) (built arena.old place)
+        (built arena.new place)) }
     ensures kept { Keeps (names_of field.entry) (built arena.old place) (built arena.new place) }
     ensures refused { OnErr result (segment arena.new ≡ segment arena.old) }
     ensures cause { IfErr result (λ e. IsSetRefusal (given_to field.entry (source_seen source.entry)) e.kind) }
@@ -189,7 +195,8 @@ fn set_pointed(
     requires pointed { IsPointed (source_seen source) }
     ensures planted { OnOk result (IsBuilt arena.new place) }
     ensures changes { OnOk result (ChangesIn place arena.old arena.new) }
-    ensures set { OnOk result (IsSet field.entry (source_seen source.entry) (built arena.old place) (built arena.new place)) }
+    ensures set { OnOk result (IsSet field.entry (source_seen source.entry) (built arena.old place)
+        (built arena.new place)) }
     ensures refused { OnErr result (segment arena.new ≡ segment arena.old) }
     ensures cause { IfErr result (λ e. IsSetRefusal (given_to field.entry (source_seen source.entry)) e.kind) }
 {
@@ -203,8 +210,8 @@ fn set_pointed(
 /// Initializes a slot: a struct's becomes a new struct of its schema's sections, all zero and null, and an untyped one
 /// null. Then a member becomes active. An untyped slot takes no memory.
 ///
-/// Refused with `InitIsOnlyValidForStructAndAnyPointerFields` for another slot, and with `OutOfMemory` for a struct; then
-/// nothing has changed.
+/// Refused with `InitIsOnlyValidForStructAndAnyPointerFields` for another slot, and with `OutOfMemory` for a struct;
+/// then nothing has changed.
 ///
 /// The field has to be a slot, and the struct to have the sections of the field's schema.
 pub fn init(arena: &mut Arena, place: StructPlace, field: Field<'_>) -> Result<()>
@@ -213,7 +220,8 @@ pub fn init(arena: &mut Arena, place: StructPlace, field: Field<'_>) -> Result<(
     requires room { IsRoomFor field (built arena.old place) }
     ensures planted { OnOk result (IsBuilt arena.new place) }
     ensures changes { OnOk result (ChangesIn place arena.old arena.new) }
-    ensures written { OnOk result (built arena.new place ≡ slot_with field.entry (init_content field.entry) (built arena.old place)) }
+    ensures written { OnOk result (built arena.new place
+        ≡ slot_with field.entry (init_content field.entry) (built arena.old place)) }
     ensures has { OnOk result (HasInit field.entry) }
     ensures kept { OnOk result (Keeps (names_of field.entry) (built arena.old place) (built arena.new place)) }
     ensures refused { OnErr result (segment arena.new ≡ segment arena.old) }
@@ -260,9 +268,9 @@ fn init_struct(
 /// Initializes a slot with a size: it becomes a text or data of so many zero bytes, or a list of so many elements, all
 /// zero, false or null, or structs of their schema's sections. Then a member becomes active.
 ///
-/// Refused with `InitnIsOnlyValidForListTextOrDataFields` for another slot; with `SizePastFormat` for a text of more than
-/// 2^29 - 2 bytes, data of more than 2^29 - 1, 2^29 elements or more, or structs that take 2^29 words or more; and with
-/// `OutOfMemory`. Then nothing has changed.
+/// Refused with `InitnIsOnlyValidForListTextOrDataFields` for another slot; with `SizePastFormat` for a text of more
+/// than 2^29 - 2 bytes, data of more than 2^29 - 1, 2^29 elements or more, or structs that take 2^29 words or more; and
+/// with `OutOfMemory`. Then nothing has changed.
 ///
 /// The field has to be a slot, and the struct to have the sections of the field's schema.
 pub fn initn(arena: &mut Arena, place: StructPlace, field: Field<'_>, count: u32) -> Result<()>
@@ -271,11 +279,13 @@ pub fn initn(arena: &mut Arena, place: StructPlace, field: Field<'_>, count: u32
     requires room { IsRoomFor field (built arena.old place) }
     ensures planted { OnOk result (IsBuilt arena.new place) }
     ensures changes { OnOk result (ChangesIn place arena.old arena.new) }
-    ensures written { OnOk result (built arena.new place ≡ slot_with field.entry (initn_content field.entry count) (built arena.old place)) }
+    ensures written { OnOk result (built arena.new place
+        ≡ slot_with field.entry (initn_content field.entry count) (built arena.old place)) }
     ensures has { OnOk result (HasInitn field.entry count) }
     ensures kept { OnOk result (Keeps (names_of field.entry) (built arena.old place) (built arena.new place)) }
     ensures refused { OnErr result (segment arena.new ≡ segment arena.old) }
-    ensures cause { IfErr result (λ e. IsInitnRefusal (field_set field.entry) count (typed_of field.entry).type e.kind) }
+    ensures cause { IfErr result (λ e. IsInitnRefusal (field_set field.entry) count
+        (typed_of field.entry).type e.kind) }
 {
     let variant = field.get_type().which();
     if !is_sized(variant) {
@@ -299,7 +309,8 @@ pub fn clear(arena: &mut Arena, place: StructPlace, field: Field<'_>)
     requires room { IsRoomFor field (built arena.old place) }
     ensures planted { IsBuilt arena.new place }
     ensures changes { ChangesIn place arena.old arena.new }
-    ensures cleared { built arena.new place ≡ slot_with field.entry (cleared_content (typed_of field.entry).type) (built arena.old place) }
+    ensures cleared { built arena.new place ≡ slot_with field.entry (cleared_content (typed_of field.entry).type)
+        (built arena.old place) }
     ensures kept { Keeps (names_of field.entry) (built arena.old place) (built arena.new place) }
 {
     clear_plan(arena, place, slot_plan(field));

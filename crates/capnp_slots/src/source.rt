@@ -40,11 +40,12 @@ pub enum Source<'a> {
 }
 
 impl Primitive {
-    /// What a dynamic value holds, where no pointer stands for it; none for a text, data, a struct, a list and an untyped
-    /// pointer.
+    /// What a dynamic value holds, where no pointer stands for it; none for a text, data, a struct, a list and an
+    /// untyped pointer.
     #[inline(always)]
     pub fn from_value(value: &Value<'_>) -> Option<Primitive>
-        ensures { MatchOption result (IsPointed (source_of value.now)) (λ held. primitive_source held ≡ source_of value.now) }
+        ensures { MatchOption result (IsPointed (source_of value.now))
+            (λ held. primitive_source held ≡ source_of value.now) }
     {
         match value {
             Value::Void => Some(Primitive::Void),

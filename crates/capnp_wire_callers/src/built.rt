@@ -1,5 +1,5 @@
-//! What is built in a message in memory, as a caller of the builders has it: what one call leaves meets the condition of the
-//! next, and is well-formed.
+//! What is built in a message in memory, as a caller of the builders has it: what one call leaves meets the condition
+//! of the next, and is well-formed.
 ghost use Rattle.std.specs.Prelude.{◌≡◌, ◌+◌, ◌*◌, ◌<◌, ◌≤◌, IfOk};
 ghost use Rattle.capnp_wire.specs.Place.{struct_tree};
 ghost use Rattle.capnp_wire.specs.Reading.{list_length};

@@ -1,7 +1,8 @@
 //! The tests of `capnp_wire` and `capnp_device` by public calls.
 //!
-//! They are rows of text and of plain values. `reads` follows a script, such as `message.struct.field 3.structs: length;
-//! element 0.u16 0`, from bytes in hexadecimal and compares the answers. A new case is a new row.
+//! They are rows of text and of plain values. `reads` follows a script, such as
+//! `message.struct.field 3.structs: length; element 0.u16 0`, from bytes in hexadecimal and compares the answers. A new
+//! case is a new row.
 #![tactic(auto)]
 
 #[cfg(test)]

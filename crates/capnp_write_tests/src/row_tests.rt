@@ -173,7 +173,8 @@ fn numbers_become_structs_of_a_word(rt: HostRuntime) -> std::result::Result<(), 
     Ok(())
 }
 
-/// What is read of a slot of a new struct that is set, as a text. Refused as the set, and with `FieldNotFound` for a group.
+/// What is read of a slot of a new struct that is set, as a text. Refused as the set, and with `FieldNotFound` for a
+/// group.
 #[tactic(auto, using(capnp_dynamic_readers::specs::Facts::Found::found_belongs))]
 fn set_and_read(alloc: Global, name: &str, field: &str, value: Value<'_>) -> Result<String> {
     let set = set_of(alloc, name)?;

@@ -2,11 +2,11 @@
 //!
 //! A row is three texts: what is built, the calls, and what they answer.
 //!
-//! What is built is a struct by its name in `messages`, under whose schema the root is entered: `many` begins with an empty
-//! struct, `lists from bits` with the message `bits`. After `given` stands a value that calls may name.
+//! What is built is a struct by its name in `messages`, under whose schema the root is entered: `many` begins with an
+//! empty struct, `lists from bits` with the message `bits`. After `given` stands a value that calls may name.
 //!
-//! The calls have semicolons between them, and a bar where the message is begun anew. A call has a word and, but for the
-//! last five, a path of fields and indices.
+//! The calls have semicolons between them, and a bar where the message is begun anew. A call has a word and, but for
+//! the last five, a path of fields and indices.
 //!
 //! | call | what it does |
 //! |---|---|
@@ -19,8 +19,8 @@
 //! | `is full` | answers whether the message has the bytes of another |
 //!
 //! A value is `void`, `null` (an untyped pointer), `given`, a kind of value and what it is, as `u16 7`, `bool true`,
-//! `enum 2`, `text hi` or `data hi`, and `read shapes tagged tag`: what a field of a message's root reads as, or the root
-//! itself where no field is named.
+//! `enum 2`, `text hi` or `data hi`, and `read shapes tagged tag`: what a field of a message's root reads as, or the
+//! root itself where no field is named.
 //!
 //! The answers stand in the same order. A call that is carried out is `ok`, one that is refused is the number of its
 //! refusal (`ErrorKind::number`), with `changed` where the message is not what it was before.
@@ -145,7 +145,8 @@ impl fmt::Display for Answer {
     }
 }
 
-/// What a script works on: the set, the struct, the message that it begins with, and the text of the value that is given.
+/// What a script works on: the set, the struct, the message that it begins with, and the text of the value that is
+/// given.
 #[derive(Clone, Copy)]
 struct Start<'a> {
     set: &'a SchemaSet,
@@ -352,8 +353,8 @@ fn rewritten(alloc: Global, stream: &[u8]) -> Result<Vec<u8>> {
     message.write_message()
 }
 
-/// What a message in memory holds, read from its words as any message is, and written anew. What a builder leaves that was
-/// given by value no clause says, so nothing is taken as known of the words.
+/// What a message in memory holds, read from its words as any message is, and written anew. What a builder leaves that
+/// was given by value no clause says, so nothing is taken as known of the words.
 fn written(alloc: Global, message: &Builder) -> Result<Vec<u8>> {
     let stream = framed(alloc, bytes_of(message))?;
     rewritten(alloc, &stream)

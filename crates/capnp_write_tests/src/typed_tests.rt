@@ -1,5 +1,5 @@
-//! Dynamic handles beside types that are known beforehand: structs and lists that an untyped pointer is set to, structs by the
-//! handles of a struct type, and the types of elements.
+//! Dynamic handles beside types that are known beforehand: structs and lists that an untyped pointer is set to, structs
+//! by the handles of a struct type, and the types of elements.
 ghost use Rattle.std.specs.Prelude.{◌≡◌, ◌<◌};
 ghost use Rattle.capnp_arena.specs.Message.{IsMessage};
 ghost use Rattle.capnp_arena.specs.Segment.{segment};

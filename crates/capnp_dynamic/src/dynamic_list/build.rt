@@ -30,8 +30,8 @@ use capnp_slots::element;
 use capnp_slots::source::Source;
 use capnp_wire::error::Result;
 
-/// A list that is built: the message and the word of the list's pointer there, the type of its elements, and the set that
-/// the type is of.
+/// A list that is built: the message and the word of the list's pointer there, the type of its elements, and the set
+/// that the type is of.
 #[derive(Drop)]
 pub struct Builder<'a> {
     pub arena: &'a mut Arena,
@@ -82,13 +82,14 @@ impl<'a> Builder<'a> {
         }
     }
 
-    /// A reader of the list for as long as the builder would be there, with 64 levels. The list stays as it is; a null reads as
-    /// an empty list. What it leads to is cut off past 65,534 levels, which only walks of a whole tree can see.
-    /// The list has to be ready (`IsListReady`).
+    /// A reader of the list for as long as the builder would be there, with 64 levels. The list stays as it is; a null
+    /// reads as an empty list. What it leads to is cut off past 65,534 levels, which only walks of a whole tree can
+    /// see. The list has to be ready (`IsListReady`).
     pub fn into_reader(self) -> Reader<'a>
         requires { IsListReady self }
         ensures cut { IsCutOf (list_of (list_reader_of result)) (built_reading self.entry) }
-        ensures list { IsBelow 65535 (built_elements self.entry) → list_of (list_reader_of result) ≡ built_reading self.entry }
+        ensures list { IsBelow 65535 (built_elements self.entry)
+            → list_of (list_reader_of result) ≡ built_reading self.entry }
         ensures levels { list_levels (list_reader_of result) ≡ 64 }
         ensures element { type_of result ≡ built_type self.entry }
         ensures set { list_set result ≡ built_set self.entry }
@@ -128,14 +129,15 @@ impl<'a> Builder<'a> {
         self.element_type
     }
 
-    /// Sets an element, which has to be there: a void one takes every value, and else it takes a value, text, data or list of
-    /// its kind, of which a copy is made, and a struct of its own schema, of which it keeps what fits its size, with zeros
-    /// and nulls after that.
+    /// Sets an element, which has to be there: a void one takes every value, and else it takes a value, text, data or
+    /// list of its kind, of which a copy is made, and a struct of its own schema, of which it keeps what fits its size,
+    /// with zeros and nulls after that.
     ///
-    /// Refused with `ListAnyPointerNotSupported` for an untyped element, and with `TypeMismatch` for a value of another kind
-    /// and a struct of another schema; then with `BadPointer`, `TooDeep` or `CapabilityPointer` where a pointer in the value
-    /// can't be followed, by the first of these in preorder, also where it would not fit; with `SizePastFormat` for a text of
-    /// more than 2^29 - 2 bytes or data of more than 2^29 - 1; and with `OutOfMemory`. Then nothing has changed.
+    /// Refused with `ListAnyPointerNotSupported` for an untyped element, and with `TypeMismatch` for a value of another
+    /// kind and a struct of another schema; then with `BadPointer`, `TooDeep` or `CapabilityPointer` where a pointer in
+    /// the value can't be followed, by the first of these in preorder, also where it would not fit; with
+    /// `SizePastFormat` for a text of more than 2^29 - 2 bytes or data of more than 2^29 - 1; and with `OutOfMemory`.
+    /// Then nothing has changed.
     ///
     /// The list has to be ready (`IsListReady`).
     #[tactic(auto, using(crate::proofs::ListElements::room_in, crate::proofs::ListElements::set_ready))]
@@ -146,11 +148,14 @@ impl<'a> Builder<'a> {
         ensures element { built_type self.new ≡ built_type self.old }
         ensures lists { built_set self.new ≡ built_set self.old }
         ensures at { word_of self.new ≡ word_of self.old }
-        ensures changes { OnOk result (Changes (word_of self.old) (segment (list_behind self.old).now) (segment (list_behind self.new).now)) }
-        ensures set { OnOk result (IsElementSet (built_set self.old) (built_element self.old) (source_of value.entry) index (built_elements self.old)
+        ensures changes { OnOk result (Changes (word_of self.old) (segment (list_behind self.old).now)
+            (segment (list_behind self.new).now)) }
+        ensures set { OnOk result (IsElementSet (built_set self.old) (built_element self.old)
+            (source_of value.entry) index (built_elements self.old)
             (built_elements self.new)) }
         ensures refused { OnErr result (segment (list_behind self.new).now ≡ segment (list_behind self.old).now) }
-        ensures cause { IfErr result (λ e. IsSetRefusal (given_element (built_set self.old) (built_element self.old) (source_of value.entry)) e.kind) }
+        ensures cause { IfErr result (λ e. IsSetRefusal
+            (given_element (built_set self.old) (built_element self.old) (source_of value.entry)) e.kind) }
         ensures ready { IsListReady self.new }
     {
         let element_type = self.element_type;
@@ -166,13 +171,14 @@ impl<'a> Builder<'a> {
         )
     }
 
-    /// Starts an element anew with a size, and hands it out; the element has to be there. It becomes a text or data of so many
-    /// zero bytes, or a list of so many elements, all zero, false or null, or structs of their schema's sections.
+    /// Starts an element anew with a size, and hands it out; the element has to be there. It becomes a text or data of
+    /// so many zero bytes, or a list of so many elements, all zero, false or null, or structs of their schema's
+    /// sections.
     ///
-    /// Refused with `ListAnyPointerNotSupported` for an untyped element and `ExpectedAListOrBlob` for another one that is no
-    /// list, text or data; with `SizePastFormat` for a text of more than 2^29 - 2 bytes, data of more than 2^29 - 1, 2^29
-    /// elements or more, or structs that take 2^29 words or more; and with `OutOfMemory`. Then nothing has changed, as
-    /// `element::init` says.
+    /// Refused with `ListAnyPointerNotSupported` for an untyped element and `ExpectedAListOrBlob` for another one that
+    /// is no list, text or data; with `SizePastFormat` for a text of more than 2^29 - 2 bytes, data of more than 2^29 -
+    /// 1, 2^29 elements or more, or structs that take 2^29 words or more; and with `OutOfMemory`. Then nothing has
+    /// changed, as `element::init` says.
     ///
     /// The list has to be ready (`IsListReady`).
     #[tactic(auto, using(crate::proofs::ListElements::room_in))]
@@ -182,7 +188,8 @@ impl<'a> Builder<'a> {
         ensures stands { IfOk result (HandsSized (built_set self.entry) (built_element self.entry) size) }
         ensures ready { IfOk result CanBeRead }
         ensures owner { IfOk result (IsElementStarted self.entry index size) }
-        ensures cause { IfErr result (λ e. IsElementInitRefusal (built_set self.entry) size (built_element self.entry) e.kind) }
+        ensures cause { IfErr result (λ e. IsElementInitRefusal (built_set self.entry) size
+            (built_element self.entry) e.kind) }
     {
         let Builder {
             arena,

@@ -74,10 +74,11 @@ impl<'a> Builder<'a> {
         }
     }
 
-    /// The struct at a pointer, under a schema: a null becomes one of the schema's sections, all zero and null, and a smaller
-    /// struct gets zeros and nulls after what it has.
+    /// The struct at a pointer, under a schema: a null becomes one of the schema's sections, all zero and null, and a
+    /// smaller struct gets zeros and nulls after what it has.
     ///
-    /// Refused with `WrongPointerKind` where a list stands there, and else with `OutOfMemory`; then nothing has changed.
+    /// Refused with `WrongPointerKind` where a list stands there, and else with `OutOfMemory`; then nothing has
+    /// changed.
     #[tactic(auto, using(crate::proofs::Opened::entered_stands, crate::proofs::Opened::entered_is))]
     pub fn open(pointer: PointerBuilder<'a>, schema: StructSchema<'a>) -> Result<Builder<'a>>
         requires forest { Forest (segment pointer.arena.now) pointer.at }
@@ -88,10 +89,13 @@ impl<'a> Builder<'a> {
         ensures forest { IfOk result (λ b. Forest (segment (struct_behind b).now) pointer.entry.at) }
         ensures place { IfOk result (λ b. shape_at (segment (struct_behind b).now) pointer.entry.at
             ≡ StructIn (place_of b).start (place_of b).data_words (place_of b).pointers) }
-        ensures changes { IfOk result (λ b. Changes pointer.entry.at (segment pointer.entry.arena.now) (segment (struct_behind b).now)) }
+        ensures changes { IfOk result (λ b. Changes pointer.entry.at (segment pointer.entry.arena.now)
+            (segment (struct_behind b).now)) }
         ensures now { IfOk result (λ b. built_struct b ≡
-            extended (brand_size (set_of schema.entry) (number_of schema.entry)) (struct_in (tree (segment pointer.entry.arena.now) pointer.entry.at))) }
-        ensures cause { IfErr result (λ e. IsStructRefusal e (tree (segment pointer.entry.arena.now) pointer.entry.at)) }
+            extended (brand_size (set_of schema.entry) (number_of schema.entry))
+            (struct_in (tree (segment pointer.entry.arena.now) pointer.entry.at))) }
+        ensures cause { IfErr result (λ e. IsStructRefusal e
+            (tree (segment pointer.entry.arena.now) pointer.entry.at)) }
     {
         let size = size_of(schema);
         let PointerBuilder { arena, at } = pointer;
@@ -120,25 +124,27 @@ impl<'a> Builder<'a> {
         }
     }
 
-    /// A reader of the struct, with 64 levels. What its pointers lead to is cut off past 65,534 levels, which only walks of a
-    /// whole tree can see.
+    /// A reader of the struct, with 64 levels. What its pointers lead to is cut off past 65,534 levels, which only
+    /// walks of a whole tree can see.
     /// The struct has to have its schema's sections and stand at its place (`IsReady`).
     pub fn reborrow_as_reader(&self) -> Reader<'_>
         requires { IsReady self.now }
         ensures cut { IsStructCutOf (struct_of (reader_of result)) (built_struct self.now) }
-        ensures parts { AreBelow 65535 (built_struct self.now).pointers → struct_of (reader_of result) ≡ built_struct self.now }
+        ensures parts { AreBelow 65535 (built_struct self.now).pointers
+            → struct_of (reader_of result) ≡ built_struct self.now }
         ensures levels { struct_levels (reader_of result) ≡ 64 }
         ensures schema { schema_of result ≡ built_schema self.now }
     {
         Reader::new(self.arena.get_struct_reader(self.place), self.schema)
     }
 
-    /// A reader of the struct for as long as the builder would be there, as `reborrow_as_reader`. The struct stays as it is.
-    /// The struct has to have its schema's sections and stand at its place (`IsReady`).
+    /// A reader of the struct for as long as the builder would be there, as `reborrow_as_reader`. The struct stays as
+    /// it is. The struct has to have its schema's sections and stand at its place (`IsReady`).
     pub fn into_reader(self) -> Reader<'a>
         requires { IsReady self }
         ensures cut { IsStructCutOf (struct_of (reader_of result)) (built_struct self.entry) }
-        ensures parts { AreBelow 65535 (built_struct self.entry).pointers → struct_of (reader_of result) ≡ built_struct self.entry }
+        ensures parts { AreBelow 65535 (built_struct self.entry).pointers
+            → struct_of (reader_of result) ≡ built_struct self.entry }
         ensures levels { struct_levels (reader_of result) ≡ 64 }
         ensures schema { schema_of result ≡ built_schema self.entry }
     {
@@ -169,11 +175,13 @@ impl<'a> Builder<'a> {
     }
 
     /// False for a member that is not active and for a null pointer, else true. The answer is always Ok.
-    /// The field has to belong to the schema; the struct has to have its schema's sections and stand at its place (`IsReady`).
+    /// The field has to belong to the schema; the struct has to have its schema's sections and stand at its place
+    /// (`IsReady`).
     pub fn has(&self, field: Field<'a>) -> Result<bool>
         requires belongs { BelongsTo field (built_schema self.now) }
         requires ready { IsReady self.now }
-        ensures { result ≡ Ok (has_of (built_record self.now) (struct_field (built_schema self.now) (index_of field.entry)).field (index_of field.entry)) }
+        ensures { result ≡ Ok (has_of (built_record self.now)
+            (struct_field (built_schema self.now) (index_of field.entry)).field (index_of field.entry)) }
     {
         // What every set is known to meet is known of it here.
         let _schema = field.get_containing_struct();
@@ -186,8 +194,10 @@ impl<'a> Builder<'a> {
     pub fn has_named(&self, field_name: &str) -> Result<bool>
         requires { IsReady self.now }
         ensures is { (f : Field) → IsNamed (built_schema self.now) field_name.now f
-            → result ≡ Ok (has_of (built_record self.now) (struct_field (built_schema self.now) (index_of f)).field (index_of f)) }
-        ensures refused { IfErr result (λ e. (e.kind ≡ FieldNotFound) × (field_named (struct_records (built_schema self.now)) field_name.now ≡ None)) }
+            → result ≡ Ok (has_of (built_record self.now) (struct_field (built_schema self.now) (index_of f)).field
+            (index_of f)) }
+        ensures refused { IfErr result (λ e. (e.kind ≡ FieldNotFound)
+            × (field_named (struct_records (built_schema self.now)) field_name.now ≡ None)) }
         ensures none { OnOk result (field_named (struct_records (built_schema self.now)) field_name.now ≢ None) }
     {
         let schema = self.schema;
@@ -195,21 +205,23 @@ impl<'a> Builder<'a> {
         self.has(field)
     }
 
-    /// Sets a field. A slot takes a value that no pointer stands for, or a copy of a text, data, struct or list of its kind,
-    /// whatever the struct's schema or the list's elements are; an untyped slot takes these four, and a void one every value.
-    /// The copy is made first, and then a member becomes active. A group takes a struct of its schema: it is cleared, and
-    /// then the source's fields are copied, first its active member, a null one as its default, and then its non-union fields
-    /// by index, but for null pointers.
+    /// Sets a field. A slot takes a value that no pointer stands for, or a copy of a text, data, struct or list of its
+    /// kind, whatever the struct's schema or the list's elements are; an untyped slot takes these four, and a void one
+    /// every value. The copy is made first, and then a member becomes active. A group takes a struct of its schema: it
+    /// is cleared, and then the source's fields are copied, first its active member, a null one as its default, and
+    /// then its non-union fields by index, but for null pointers.
     ///
-    /// A slot is refused, in this order: with `CannotSetAnyPointerFieldToAPrimitiveValue` for an untyped one and a value of
-    /// another kind than these four, and with `TypeMismatch` for another one and a value of another kind than its own; with
-    /// `BadPointer`, `TooDeep` or `CapabilityPointer` where a pointer in the value can't be followed, by the first of these in
-    /// preorder; with `SizePastFormat` for a text of more than 2^29 - 2 bytes or data of more than 2^29 - 1; and with
-    /// `OutOfMemory`. Then nothing has changed. A group is refused with `NotAStruct` for a value that is no struct and with
-    /// `TypeMismatch` for a struct of another schema, and then nothing has changed; and as the first of its copies that is
-    /// refused, where the group stays as it is by then, cleared and with what was copied before.
+    /// A slot is refused, in this order: with `CannotSetAnyPointerFieldToAPrimitiveValue` for an untyped one and a
+    /// value of another kind than these four, and with `TypeMismatch` for another one and a value of another kind than
+    /// its own; with `BadPointer`, `TooDeep` or `CapabilityPointer` where a pointer in the value can't be followed, by
+    /// the first of these in preorder; with `SizePastFormat` for a text of more than 2^29 - 2 bytes or data of more
+    /// than 2^29 - 1; and with `OutOfMemory`. Then nothing has changed. A group is refused with `NotAStruct` for a
+    /// value that is no struct and with `TypeMismatch` for a struct of another schema, and then nothing has changed;
+    /// and as the first of its copies that is refused, where the group stays as it is by then, cleared and with what
+    /// was copied before.
     ///
-    /// The field has to belong to the schema; the struct has to have its schema's sections and stand at its place (`IsReady`).
+    /// The field has to belong to the schema; the struct has to have its schema's sections and stand at its place
+    /// (`IsReady`).
     #[tactic(auto, using(crate::proofs::Builders::room_for, crate::proofs::Builders::under_kept, crate::proofs::Builders::under_same, crate::proofs::Builders::slot_was_set, crate::proofs::Builders::group_was_set))]
     #[inline(always)]
     pub fn set(&mut self, field: Field<'a>, value: dynamic_value::Reader<'_>) -> Result<()>
@@ -219,9 +231,11 @@ impl<'a> Builder<'a> {
         ensures schema { built_schema self.new ≡ built_schema self.old }
         ensures place { place_of self.new ≡ place_of self.old }
         ensures changes { ChangesIn (place_of self.old) (struct_behind self.old).now (struct_behind self.new).now }
-        ensures set { IsFieldSet field.entry (source_of value.entry) (built_struct self.old) (refusal_of result) (built_struct self.new) }
+        ensures set { IsFieldSet field.entry (source_of value.entry) (built_struct self.old) (refusal_of result)
+            (built_struct self.new) }
         ensures kept { Keeps (names_of field.entry) (built_struct self.old) (built_struct self.new) }
-        ensures refused { IsSlot field.entry → OnErr result (segment (struct_behind self.new).now ≡ segment (struct_behind self.old).now) }
+        ensures refused { IsSlot field.entry → OnErr result
+            (segment (struct_behind self.new).now ≡ segment (struct_behind self.old).now) }
         ensures ready { IsReady self.new }
     {
         if slot::is_slot(field) {
@@ -231,8 +245,8 @@ impl<'a> Builder<'a> {
         }
     }
 
-    /// Sets the field of a name, as `set`. Refused first with `FieldNotFound` where there is none of that name, and then
-    /// nothing has changed.
+    /// Sets the field of a name, as `set`. Refused first with `FieldNotFound` where there is none of that name, and
+    /// then nothing has changed.
     /// The struct has to have its schema's sections and stand at its place (`IsReady`).
     #[tactic(auto, using(crate::proofs::Builders::same_field_set, crate::proofs::Builders::same_slot, capnp_dynamic_readers::specs::Facts::Found::found_belongs))]
     pub fn set_named(&mut self, field_name: &str, value: dynamic_value::Reader<'_>) -> Result<()>
@@ -245,8 +259,10 @@ impl<'a> Builder<'a> {
             → IsFieldSet f (source_of value.entry) (built_struct self.old) (refusal_of result) (built_struct self.new) }
         ensures refused { (f : Field) → IsNamed (built_schema self.old) field_name.now f → IsSlot f
             → OnErr result (segment (struct_behind self.new).now ≡ segment (struct_behind self.old).now) }
-        ensures none { field_named (struct_records (built_schema self.old)) field_name.now ≡ None → IsErrAnd result (λ e. e.kind ≡ FieldNotFound) }
-        ensures stays { field_named (struct_records (built_schema self.old)) field_name.now ≡ None → segment (struct_behind self.new).now ≡ segment (struct_behind self.old).now }
+        ensures none { field_named (struct_records (built_schema self.old)) field_name.now ≡ None
+            → IsErrAnd result (λ e. e.kind ≡ FieldNotFound) }
+        ensures stays { field_named (struct_records (built_schema self.old)) field_name.now ≡ None
+            → segment (struct_behind self.new).now ≡ segment (struct_behind self.old).now }
         ensures ready { IsReady self.new }
     {
         let schema = self.schema;
@@ -254,10 +270,11 @@ impl<'a> Builder<'a> {
         self.set(field, value)
     }
 
-    /// Clears a field. The bits of a slot become zero, which reads as its default, or its pointer null; of a group the member
-    /// of discriminant value 0 is cleared and then its non-union fields by index. A member becomes active first. No memory
-    /// is taken, and the answer is always Ok.
-    /// The field has to belong to the schema; the struct has to have its schema's sections and stand at its place (`IsReady`).
+    /// Clears a field. The bits of a slot become zero, which reads as its default, or its pointer null; of a group the
+    /// member of discriminant value 0 is cleared and then its non-union fields by index. A member becomes active first.
+    /// No memory is taken, and the answer is always Ok.
+    /// The field has to belong to the schema; the struct has to have its schema's sections and stand at its place
+    /// (`IsReady`).
     #[tactic(auto, using(crate::proofs::Builders::room_for, crate::proofs::Builders::under_kept, crate::proofs::Builders::cleared_slot, crate::proofs::Builders::cleared_group))]
     pub fn clear(&mut self, field: Field<'a>) -> Result<()>
         requires belongs { BelongsTo field (built_schema self.old) }
@@ -289,9 +306,11 @@ impl<'a> Builder<'a> {
         ensures schema { built_schema self.new ≡ built_schema self.old }
         ensures place { place_of self.new ≡ place_of self.old }
         ensures changes { ChangesIn (place_of self.old) (struct_behind self.old).now (struct_behind self.new).now }
-        ensures cleared { (f : Field) → IsNamed (built_schema self.old) field_name.now f → built_struct self.new ≡ field_cleared f (built_struct self.old) }
+        ensures cleared { (f : Field) → IsNamed (built_schema self.old) field_name.now f
+            → built_struct self.new ≡ field_cleared f (built_struct self.old) }
         ensures refused { OnErr result (segment (struct_behind self.new).now ≡ segment (struct_behind self.old).now) }
-        ensures cause { IfErr result (λ e. (e.kind ≡ FieldNotFound) × (field_named (struct_records (built_schema self.old)) field_name.now ≡ None)) }
+        ensures cause { IfErr result (λ e. (e.kind ≡ FieldNotFound)
+            × (field_named (struct_records (built_schema self.old)) field_name.now ≡ None)) }
         ensures none { OnOk result (field_named (struct_records (built_schema self.old)) field_name.now ≢ None) }
         ensures ready { IsReady self.new }
     {

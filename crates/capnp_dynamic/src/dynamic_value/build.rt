@@ -92,8 +92,8 @@ impl<'a> Builder<'a> {
         }
     }
 
-    /// A reader of the value for as long as the builder would be there; a struct, a list and an untyped pointer are read with
-    /// 64 levels. The value has to be one that a builder handed out (`CanBeRead`).
+    /// A reader of the value for as long as the builder would be there; a struct, a list and an untyped pointer are
+    /// read with 64 levels. The value has to be one that a builder handed out (`CanBeRead`).
     pub fn into_reader(self) -> Reader<'a>
         requires { CanBeRead self }
         ensures { IsReaderOf self.entry result }

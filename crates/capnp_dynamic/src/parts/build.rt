@@ -1,5 +1,5 @@
-//! Parts of structs and lists that are built, taken one after another. A struct has to have its schema's sections and stand
-//! at its place (`IsReady`), a list to be ready (`IsListReady`); so is then what is handed out.
+//! Parts of structs and lists that are built, taken one after another. A struct has to have its schema's sections and
+//! stand at its place (`IsReady`), a list to be ready (`IsListReady`); so is then what is handed out.
 //!
 //! A part is handed out by value, so these contracts say what it stands on at the return, as those of `get` do.
 ghost use Rattle.std.specs.Prelude.{None, true, IfErr, IfOk, IsErrAnd, IsOk, ◌≡◌, ◌≤◌};
@@ -48,8 +48,8 @@ fn list_of<'a>(part: Value<'a>) -> Result<dynamic_list::Builder<'a>>
     }
 }
 
-/// The struct or group that the field of a name has. Refused as the `get` of the field of that name, and with `TypeMismatch`
-/// exactly where that hands out a value of another kind.
+/// The struct or group that the field of a name has. Refused as the `get` of the field of that name, and with
+/// `TypeMismatch` exactly where that hands out a value of another kind.
 pub fn struct_in<'a>(
     builder: dynamic_struct::Builder<'a>,
     name: &str,
@@ -62,16 +62,18 @@ pub fn struct_in<'a>(
         → IfOk result (λ s. IsGotOf (struct_behind builder.entry) (place_of builder.entry) f (built.Struct s)) }
     ensures cause { (f : Field) → IsNamed (built_schema builder.entry) name.now f
         → IfErr result (IsStructPartRefusal f (built_struct builder.entry)) }
-    ensures rests { (f : Field) → IsNamed (built_schema builder.entry) name.now f → RestsIn f (built_struct builder.entry)
+    ensures rests { (f : Field) → IsNamed (built_schema builder.entry) name.now f
+        → RestsIn f (built_struct builder.entry)
         → hands_struct (typed_of f) ≡ true → IsOk result }
-    ensures none { field_named (struct_records (built_schema builder.entry)) name.now ≡ None → IsErrAnd result (λ e. e.kind ≡ FieldNotFound) }
+    ensures none { field_named (struct_records (built_schema builder.entry)) name.now ≡ None
+        → IsErrAnd result (λ e. e.kind ≡ FieldNotFound) }
 {
     let part = builder.get_named(name)?;
     struct_of(part)
 }
 
-/// The list that the field of a name has. Refused as the `get` of the field of that name, and with `TypeMismatch` exactly where
-/// that hands out a value of another kind.
+/// The list that the field of a name has. Refused as the `get` of the field of that name, and with `TypeMismatch`
+/// exactly where that hands out a value of another kind.
 pub fn list_in<'a>(
     builder: dynamic_struct::Builder<'a>,
     name: &str,
@@ -84,16 +86,18 @@ pub fn list_in<'a>(
         → IfOk result (λ l. IsGotOf (struct_behind builder.entry) (place_of builder.entry) f (built.List l)) }
     ensures cause { (f : Field) → IsNamed (built_schema builder.entry) name.now f
         → IfErr result (IsListPartRefusal f (built_struct builder.entry)) }
-    ensures rests { (f : Field) → IsNamed (built_schema builder.entry) name.now f → RestsIn f (built_struct builder.entry)
+    ensures rests { (f : Field) → IsNamed (built_schema builder.entry) name.now f
+        → RestsIn f (built_struct builder.entry)
         → hands_list (typed_of f) ≡ true → IsOk result }
-    ensures none { field_named (struct_records (built_schema builder.entry)) name.now ≡ None → IsErrAnd result (λ e. e.kind ≡ FieldNotFound) }
+    ensures none { field_named (struct_records (built_schema builder.entry)) name.now ≡ None
+        → IsErrAnd result (λ e. e.kind ≡ FieldNotFound) }
 {
     let list = builder.get_named(name)?;
     list_of(list)
 }
 
-/// The struct that a list has at an index. Refused with `NoSuchElement` exactly past the end, then as the `get` of the element,
-/// and with `TypeMismatch` exactly where that hands out a value of another kind.
+/// The struct that a list has at an index. Refused with `NoSuchElement` exactly past the end, then as the `get` of the
+/// element, and with `TypeMismatch` exactly where that hands out a value of another kind.
 pub fn struct_at<'a>(
     list: dynamic_list::Builder<'a>,
     index: u32,
@@ -112,15 +116,16 @@ pub fn struct_at<'a>(
     struct_of(part)
 }
 
-/// The list that a list has at an index. Refused with `NoSuchElement` exactly past the end, then as the `get` of the element,
-/// and with `TypeMismatch` exactly where that hands out a value of another kind.
+/// The list that a list has at an index. Refused with `NoSuchElement` exactly past the end, then as the `get` of the
+/// element, and with `TypeMismatch` exactly where that hands out a value of another kind.
 pub fn list_at<'a>(list: dynamic_list::Builder<'a>, index: u32) -> Result<dynamic_list::Builder<'a>>
     requires { IsListReady list }
     ensures stands { IfOk result (λ l. HandsElement list.entry index (built.List l)) }
     ensures ready { IfOk result IsListReady }
     ensures owner { IfOk result (λ l. IsElementGot list.entry index (built.List l)) }
     ensures cause { IsIn index list.entry → IfErr result (IsListElementRefusal list.entry index) }
-    ensures rests { IsIn index list.entry → RestsAt list.entry index → is_list_type (built_element list.entry) ≡ true → IsOk result }
+    ensures rests { IsIn index list.entry → RestsAt list.entry index → is_list_type (built_element list.entry) ≡ true
+        → IsOk result }
     ensures past { list_length (built_elements list.entry) ≤ index → IsErrAnd result (λ e. e.kind ≡ NoSuchElement) }
 {
     if index >= list.len() {
