@@ -66,6 +66,16 @@ fn append_message(out: &mut Vec<u8>, bytes: &[u8]) -> Appended
 /// It is no struct round the words: what a builder of the root leaves is known by its reference, which is the message's
 /// own. A message is one as long as a tree stands at the root (`IsMessage`), as each builder's contract says of what it
 /// leaves; so the calls that read it ask for that.
+///
+/// # Example
+///
+/// ```rust
+/// let mut message = Builder::new(alloc)?;
+/// let mut root = message.root().init_struct(SIZE)?;
+/// root.set_data_field(0, id);
+/// root.get_pointer_field(0).set_text(name.as_bytes())?;
+/// message.write_message_to(sink)
+/// ```
 pub type Builder = Arena;
 
 impl Arena {
