@@ -33,4 +33,4 @@ returns-clause-rests c = λ f named rests kind.
 
 pub returns-clause-owner : goal.returns-clause-owner
 returns-clause-owner c = λ f named.
-    taken built.List c.in_ok-part.part (IsGotOf (struct_behind c.args.builder) (place_of c.args.builder) f) c.list_of.result c.list_of.ensures.is (c.in_ok-part.ensures.owner f named)
+    taken built.List c.in_ok-list.list (IsGotOf (struct_behind c.args.builder) (place_of c.args.builder) f) c.list_of.result c.list_of.ensures.is (c.in_ok-list.ensures.owner f named)
