@@ -90,6 +90,24 @@ inline uint64_t write_patched(const Bytes &bytes, uint64_t rounds) {
   return sum;
 }
 
+inline uint64_t build(const Bytes &, uint64_t rounds) {
+  Fields fields;
+  uint64_t sum = 0;
+  while (rounds--) {
+    capnp::MallocMessageBuilder message(9 * COUNT + 16);
+    auto root = message.initRoot<DynamicStruct>(fields.document);
+    auto items = root.init(fields.items, COUNT).as<DynamicList>();
+    for (unsigned i = 0; i < COUNT; i++) {
+      auto item = items[i].as<DynamicStruct>();
+      item.set(fields.id, uint64_t(i));
+      item.set(fields.kind, uint16_t(i));
+      item.set(fields.name, capnp::Text::Reader("a text of 20 letters"));
+    }
+    sum += capnp::messageToFlatArray(message).size();
+  }
+  return sum;
+}
+
 // the bytes of memory that work takes at most, in a process of its own
 inline long memory_of(const Work &work) {
   pid_t child = fork();
@@ -119,6 +137,7 @@ inline void add_rows(Table &table) {
   wire::row(table, "a document patched by three sets and written, an item", COUNT, source, bench_patch_document, patch);
   table.row_after_start("a patched document encoded, an item", COUNT, with(bench_write_patched, source.data(), source.size()),
                         [&](uint64_t rounds) { return write_patched(source, rounds); });
+  wire::row(table, "an item of a list of 100,000 built and written", COUNT, source, bench_build_items, build);
 }
 
 } // namespace documents

@@ -38,7 +38,7 @@ struct Shapes<'s> {
 
 /// The field of a name; refused with `FieldNotFound` where there is none.
 #[tactic(auto, using(crate::proofs::Kept::own_lies))]
-fn field_of<'s>(schema: StructSchema<'s>, name: &str) -> Result<Field<'s>>
+pub(crate) fn field_of<'s>(schema: StructSchema<'s>, name: &str) -> Result<Field<'s>>
     ensures own { IfOk result (λ f. schema_of f ≡ schema.entry) }
     ensures lies { IfOk result (LiesIn schema.entry) }
 {
@@ -100,7 +100,7 @@ fn shapes_of<'s>(schema: StructSchema<'s>) -> Result<Shapes<'s>>
 /// Sets a field of a struct.
 #[tactic(auto, using(crate::proofs::Kept::kept_ready))]
 #[inline(always)]
-fn set<'s>(
+pub(crate) fn set<'s>(
     arena: &mut Arena,
     place: Place,
     schema: StructSchema<'s>,
@@ -193,7 +193,7 @@ fn set_all(
 }
 
 /// Starts the root of a message, and answers where it stands.
-fn start_root(message: &mut Arena, schema: StructSchema<'_>) -> Result<Place>
+pub(crate) fn start_root(message: &mut Arena, schema: StructSchema<'_>) -> Result<Place>
     requires { 0 < word_count (segment message.old) }
     ensures forest { OnOk result (Forest (segment message.new) 0) }
     ensures place { IfOk result (λ p. shape_at (segment message.new) 0 ≡ part p) }
