@@ -1,5 +1,6 @@
 // Times this library and the C++ library side by side and prints one table. Its words are the folder of schema.capnp, one for
 // large files, and our two programs.
+#include "documents.h"
 #include "prints.h"
 #include "program.h"
 #include "reads.h"
@@ -17,12 +18,14 @@ int main(int count, char **words) {
     std::fprintf(stderr, "usage: bench FOLDER SCRATCH CAPNP_SHOW RIFTCALICO\n");
     return 2;
   }
+  documents::tell_memory();
   auto disk = kj::newDiskFilesystem();
   auto folder = disk->getRoot().openSubdir(disk->getCurrentPath().evalNative(words[1]));
   capnp::SchemaParser parser;
   auto file = parser.parseFromDirectory(*folder, kj::Path::parse("schema.capnp"), nullptr);
   Table table;
   wire::add_rows(table);
+  documents::add_rows(table);
   reads::add_rows(table, file.getNested("Many").asStruct());
   sets::add_rows(table, file.getNested("Shapes").asStruct());
   runs::add_rows(table, file.getNested("Lists").asStruct(), file.getNested("Loop").asStruct());

@@ -19,6 +19,9 @@ uint64_t bench_run_short(const uint8_t *message, size_t length, uint64_t rounds)
 uint64_t bench_run_short_many(const uint8_t *message, size_t length, uint64_t rounds);
 uint64_t bench_run_long(const uint8_t *message, size_t length, uint64_t rounds);
 uint64_t bench_run_long_many(const uint8_t *message, size_t length, uint64_t rounds);
+uint64_t bench_patch_document(const uint8_t *message, size_t length, uint64_t rounds);
+uint64_t bench_write_patched(const uint8_t *message, size_t length, uint64_t rounds);
+uint64_t bench_build_items(const uint8_t *message, size_t length, uint64_t rounds);
 uint64_t bench_check_many(const uint8_t *message, size_t length, uint64_t rounds);
 uint64_t bench_check_wide(const uint8_t *message, size_t length, uint64_t rounds);
 uint64_t bench_check_chain(const uint8_t *message, size_t length, uint64_t rounds);

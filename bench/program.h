@@ -102,6 +102,7 @@ inline void add_rows(Table &table, capnp::StructSchema lists, const std::string 
   Run got = run("riftcalico get", program({patches.c_str(), "get", "Lists", path.c_str()}), input, output);
   Run found = run("the value in C++", [lists] { return get(lists); }, input, output);
   table.line("the program, one value of it shown", got.time / COUNT, found.time / COUNT);
+  table.line("the program, one value of it shown; the public tool, all of it, to be cut", got.time / COUNT, decoded.time / COUNT);
   tell_memory("The print", shown, decoded, bytes.size());
   tell_memory("The patch", patched, other, bytes.size());
   tell_memory("The value", got, found, bytes.size());

@@ -42,6 +42,22 @@ class Table {
     return best / rounds;
   }
 
+  // the time of a round where each run starts with work of its own
+  static double best_after_start(const Work &work, uint64_t &sum) {
+    double start = 1e300, whole = 1e300;
+    for (int i = 0; i < 8; i++) {
+      start = std::min(start, run(work, 0, sum));
+      whole = std::min(whole, run(work, 8, sum));
+    }
+    return (whole - start) / 8;
+  }
+
+  void check(const char *name, uint64_t our_sum, uint64_t their_sum) {
+    if (our_sum == their_sum) return;
+    std::fprintf(stderr, "%s: the checksums differ: ours %llu, C++ %llu\n", name, (unsigned long long)our_sum, (unsigned long long)their_sum);
+    differs = true;
+  }
+
 public:
   Table() { std::printf("| work | ours, ns | C++, ns | ratio |\n| --- | --- | --- | --- |\n"); }
 
@@ -56,10 +72,15 @@ public:
     uint64_t rounds = rounds_for(theirs), our_sum, their_sum;
     double their_time = best(theirs, rounds, their_sum), our_time = best(ours, rounds, our_sum);
     line(name, our_time / things, their_time / things);
-    if (our_sum != their_sum) {
-      std::fprintf(stderr, "%s: the checksums differ: ours %llu, C++ %llu\n", name, (unsigned long long)our_sum, (unsigned long long)their_sum);
-      differs = true;
-    }
+    check(name, our_sum, their_sum);
+  }
+
+  // a row of rounds alone, without what starts a run
+  void row_after_start(const char *name, double things, const Work &ours, const Work &theirs) {
+    uint64_t our_sum, their_sum;
+    double their_time = best_after_start(theirs, their_sum), our_time = best_after_start(ours, our_sum);
+    line(name, our_time / things, their_time / things);
+    check(name, our_sum, their_sum);
   }
 
   int status() const { return differs ? 1 : 0; }

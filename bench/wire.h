@@ -42,7 +42,7 @@ inline void add_writes(Table &table, const Bytes &items_of_texts) {
   row(table, "a struct with a text copied", 10000, items_of_texts, bench_wire_copy, copy);
   row(table, "a blob of 8 MB copied", 1, large, bench_wire_copy, copy);
   row(table, "a struct with a text built and written", 10000, items_of_texts, bench_wire_build, build);
-  row(table, "the same in one segment of words", 10000, items_of_texts, bench_arena_build, build);
+  row(table, "the same by calls at places", 10000, items_of_texts, bench_arena_build, build);
   row(table, "a struct with a text encoded", 10000, items_of_texts, bench_wire_encode, encode);
   row(table, "a blob of 8 MB encoded", 1, large, bench_wire_encode, encode);
 }

@@ -1,15 +1,17 @@
 -- The encoding of a tree by what its pointer leads to.
 use Rattle.std.proofs.Common.{◌≡◌, ℕ, zero, suc, ◌+◌, ◌-◌, ◌*◌, ◌/◌, ◌^◌, ◌<◌, ◌≤◌, inl, inr, refl, sym, ap, subst, ◌∙◌, arith, List, [], ◌++◌, length, take, drop, ◌==◌, cond}
 use Rattle.std.proofs.lemmas.List.{append-nil, append_assoc, take-append-drop}
-use Rattle.capnp_wire.specs.Encoding.{bytes_below, bytes_of, bytes_of_all, list_word, own_bytes, packed, pointer_row, pointer_word, struct_word}
+use Rattle.capnp_wire.specs.Encoding.{bytes_below, bytes_below_all, bytes_of, bytes_of_all, element_row, list_word, own_bytes, packed, pointer_row, pointer_word, struct_word}
 use Rattle.capnp_wire.specs.Facts.Bytes.{AreBytes-part, AreSegments-one}
+use Rattle.capnp_wire.specs.Facts.EmptyStructs.{no_sections}
 use Rattle.capnp_wire.specs.Facts.Places.{IsWellFormed-tree_at}
 use Rattle.capnp_wire.specs.Facts.Rows.{struct_count-structs_from, tree_count-trees_from}
-use Rattle.capnp_wire.specs.Filling.{HasRoom, HaveRoom, with_encoded_elements, with_pointers}
+use Rattle.capnp_wire.specs.Filling.{HasRoom, HaveRoom, elements_end, put, with_encoded_elements, with_pointers, words_from}
 use Rattle.capnp_wire.specs.Locate.{list_words}
 use Rattle.capnp_wire.specs.Place.{bits_from, bytes_at, list_tree, tree_with_level}
-use Rattle.capnp_wire.specs.Tree.{Composite, MoreStructs, MoreTrees, NoStructs, NoTrees, Null, StructTree, Structs, Tree, Trees, structs_from, tree_count, trees_from}
+use Rattle.capnp_wire.specs.Tree.{Composite, MoreStructs, MoreTrees, NoStructs, NoTrees, Null, StructTree, Structs, Tree, Trees, empty_struct, struct_count, structs_from, tree_count, trees_from}
 use Rattle.capnp_wire.specs.WellFormed.{AreBytes, AreElements, AreWellFormed, IsWellFormed}
+use Rattle.capnp_wire.specs.Words.{words_of_all}
 use Rattle.capnp_wire.specs.Facts.Indexed.{length-bits_from}
 use Rattle.capnp_arena.specs.Encoded.{HasSize, pointer_to}
 use Rattle.capnp_arena.specs.Forest.{Forest, struct_from, tree}
@@ -147,6 +149,26 @@ no_pointers at out = append-nil (take at out ++ drop (at + 0) out) ∙ ap (λ k.
 
 pub no_elements : (size at : ℕ) (out : List ℕ) → with_encoded_elements size at NoStructs out ≡ out
 no_elements size at out = append-nil (take at out ++ drop (at + 0) out) ∙ ap (λ k. take at out ++ drop k out) {x = at + 0} {y = at} (omega arith) ∙ take-append-drop at out
+
+-- structs of size zero have nothing to be put, and lead to nothing
+nothing_in_row : (d p gap : ℕ) (es : Structs) → d + p ≡ 0 → AreElements d p es → element_row (d + p) gap es ≡ []
+nothing_in_row d p gap NoStructs none h = refl
+nothing_in_row d p gap (MoreStructs bytes ps es) none h =
+    let s : record { bytes = bytes; pointers = ps } ≡ empty_struct = no_sections (record { bytes = bytes; pointers = ps }) (omega (arith, none, h.1)) (omega (arith, none, h.2)) in
+    ap (λ (s : StructTree). (s.bytes ++ pointer_row (struct_count es * (d + p) + gap) s.pointers) ++ element_row (d + p) (gap + words_of_all s.pointers) es) s
+    ∙ nothing_in_row d p (gap + 0) es none h.4
+
+nothing_below : (d p : ℕ) (es : Structs) → d + p ≡ 0 → AreElements d p es → bytes_below_all es ≡ []
+nothing_below d p NoStructs none h = refl
+nothing_below d p (MoreStructs bytes ps es) none h =
+    let s : record { bytes = bytes; pointers = ps } ≡ empty_struct = no_sections (record { bytes = bytes; pointers = ps }) (omega (arith, none, h.1)) (omega (arith, none, h.2)) in
+    ap (λ (s : StructTree). bytes_of_all s.pointers ++ bytes_below_all es) s ∙ nothing_below d p es none h.4
+
+pub nothing_filled : (d p at : ℕ) (es : Structs) (out : List ℕ) → d + p ≡ 0 → AreElements d p es → with_encoded_elements (d + p) at es out ≡ out
+nothing_filled d p at es out none h =
+    ap (λ row. put at row out ++ bytes_below_all es) (nothing_in_row d p (words_from (elements_end (d + p) at es) out) es none h)
+    ∙ ap (λ below. put at [] out ++ below) (nothing_below d p es none h)
+    ∙ no_elements 0 at out
 
 pub row_done : (f : ℕ → Tree) (a n i at : ℕ) (out : List ℕ) → n ≤ i → with_pointers at (trees_from f a (n - i)) out ≡ out
 row_done f a n i at out l = ap (λ k. with_pointers at (trees_from f a k) out) {x = n - i} {y = 0} (omega (arith, l)) ∙ no_pointers at out

@@ -9,10 +9,9 @@ use Rattle.capnp_wire.specs.Facts.Filling.{length_put, put_after}
 use Rattle.capnp_wire.specs.Facts.Rows.{AreElements-structs_from, tree_count-append_trees, tree_count-nulls, tree_count-trees_from}
 use Rattle.capnp_wire.specs.Facts.Structs.{IsElement-extended}
 use Rattle.capnp_wire.specs.Filling.{HasRoom, HaveRoom, put, row_end, with_encoded_element, with_pointers, words_from}
-use Rattle.capnp_wire.specs.Measured.{IsElement}
 use Rattle.capnp_wire.specs.Place.{struct_tree}
 use Rattle.capnp_wire.specs.Tree.{MoreStructs, MoreTrees, NoTrees, Null, StructTree, Structs, Trees, structs_from, tree_count, trees_from}
-use Rattle.capnp_wire.specs.WellFormed.{AreBytes, AreElements, AreWellFormed, IsWellFormedStruct}
+use Rattle.capnp_wire.specs.WellFormed.{AreBytes, AreElements, AreWellFormed, IsElement, IsWellFormedStruct}
 use Rattle.capnp_wire.specs.Words.{words_of, words_of_all}
 use Rattle.capnp_wire.specs.declared.size.StructSize.{StructSize}
 use Rattle.capnp_arena.specs.Forest.{tree}

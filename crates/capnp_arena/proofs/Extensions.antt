@@ -9,10 +9,9 @@ use Rattle.capnp_wire.specs.Facts.PointerWords.{not_equal}
 use Rattle.capnp_wire.specs.Facts.Rows.{tree_count-trees_from}
 use Rattle.capnp_wire.specs.Facts.Structs.{IsElement-extended, IsWellFormed-element}
 use Rattle.capnp_wire.specs.Facts.Bytes.{AreBytes-part, length-part-le}
-use Rattle.capnp_wire.specs.Measured.{IsElement}
 use Rattle.capnp_wire.specs.Place.{struct_tree}
 use Rattle.capnp_wire.specs.Tree.{MoreTrees, NoTrees, Null, StructTree, Trees, tree_count, trees_from}
-use Rattle.capnp_wire.specs.WellFormed.{AreBytes, IsWellFormed, IsWellFormedStruct}
+use Rattle.capnp_wire.specs.WellFormed.{AreBytes, IsElement, IsWellFormed, IsWellFormedStruct}
 use Rattle.capnp_wire.specs.Words.{first_fault, first_fault_of_all, first_of, words_of, words_of_all}
 use Rattle.capnp_wire.specs.declared.size.StructSize.{StructSize}
 use Rattle.capnp_arena.specs.Forest.{Changes, Forest, struct_from, tree}

@@ -36,3 +36,7 @@ pub mod ListReaders
 pub mod BuiltParts
 pub mod NewBytes
 pub mod LeftBytes
+pub mod Bounded
+pub mod Peeked
+pub mod Fronts
+pub mod ZeroWords

@@ -1,8 +1,8 @@
 -- Structs that are built: each stands at a place in a message in memory.
 use Rattle.std.specs.Prelude.{List, ℕ, ◌≡◌}
 use Rattle.capnp_wire.specs.Edits.{with_pointer_tree}
-use Rattle.capnp_wire.specs.Tree.{StructTree, Tree}
-use Rattle.capnp_arena.specs.Forest.{Changes, Forest, PartChanges, Planted, struct_from, tree}
+use Rattle.capnp_wire.specs.Tree.{StructTree}
+use Rattle.capnp_arena.specs.Forest.{PartChanges, Planted, struct_from, tree}
 use Rattle.capnp_arena.specs.Segment.{segment}
 use Rattle.capnp_arena.specs.Shape.{Shape, StructIn}
 use Rattle.capnp_arena.specs.declared.arena.Arena.{Arena}

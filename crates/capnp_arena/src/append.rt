@@ -64,7 +64,8 @@ pub fn get_bits(bits: &[u8], count: u32, k: usize) -> u8
 /// Bits, eight in each byte, up to a whole word.
 #[inline(never)]
 pub fn append_bits(out: &mut Vec<u8>, bits: &[u8], count: u32) -> Appended
-    ensures { IfOk result (λ _. out.new.items ≡ out.old.items ++ packed (8 * list_words 1 count) (bits_from bits.now 0 count)) }
+    ensures { IfOk result (λ _. out.new.items
+        ≡ out.old.items ++ packed (8 * list_words 1 count) (bits_from bits.now 0 count)) }
 {
     let size = 8 * ((count as usize + 63) / 64);
     for k in 0..size {

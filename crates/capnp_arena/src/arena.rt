@@ -1,7 +1,8 @@
 //! A message in memory: one segment of words that grows at its end.
 //!
-//! A pointer is named by the word where it stands, and a struct by the word where it starts and its size. What is new is
-//! made at the end, so that each target lies after its pointer. What no pointer leads to any more stays where it was.
+//! A pointer is named by the word where it stands, and a struct by the word where it starts and its size. What is new
+//! is made at the end, so that each target lies after its pointer. What no pointer leads to any more stays where it
+//! was.
 ghost use Rattle.std.specs.Prelude.{◌*◌, ◌/◌, ◌^◌, ◌<◌, ◌≡◌, length};
 ghost use Rattle.capnp_arena.specs.Made.{size_number, struct_pointer, struct_start};
 ghost use Rattle.capnp_wire.specs.Locate.{list_words};
@@ -22,6 +23,9 @@ pub struct Arena {
     ghost whole: { length bytes.items ≡ 8 * (length bytes.items / 8) },
     ghost few: { length bytes.items / 8 < 2 ^ 29 },
 }
+
+/// The bytes that a new message has room for.
+const FIRST_ROOM: usize = 1024;
 
 /// Where a struct starts, and its size.
 #[derive(Clone, Copy)]
@@ -114,7 +118,8 @@ impl Arena {
         ensures alone { IfOk result (λ arena. length (segment arena) ≡ 8) }
         ensures kind { IfErr result (λ e. e.kind ≡ OutOfMemory) }
     {
-        let bytes = vec![in alloc; 0u8; 8]?;
+        let mut bytes = Vec::with_capacity(alloc, FIRST_ROOM)?;
+        append_zeros(&mut bytes, 1)?;
         Ok(Arena { bytes })
     }
 
@@ -142,7 +147,8 @@ impl Arena {
     fn make(&mut self, at: usize, word: u64, words: usize) -> Result<()>
         requires inside { at < word_count (segment self.old) }
         requires few { words < 2 ^ 32 }
-        ensures made { IfOk result (λ _. IsMade (segment self.old) (segment self.new) (replicate (8 * words) 0) at word) }
+        ensures made { IfOk result (λ _. IsMade (segment self.old) (segment self.new)
+            (replicate (8 * words) 0) at word) }
         ensures kind { IfErr result (λ e. e.kind ≡ OutOfMemory) }
         ensures refused { OnErr result (segment self.new ≡ segment self.old) }
     {
@@ -165,7 +171,8 @@ impl Arena {
         requires inside { at < word_count (segment self.old) }
         requires few { words < 2 ^ 32 }
         requires room { length content.now ≤ 8 * words }
-        ensures made { IfOk result (λ _. IsMade (segment self.old) (segment self.new) (filled_up words content.now) at word) }
+        ensures made { IfOk result (λ _. IsMade (segment self.old) (segment self.new)
+            (filled_up words content.now) at word) }
         ensures kind { IfErr result (λ e. e.kind ≡ OutOfMemory) }
         ensures refused { OnErr result (segment self.new ≡ segment self.old) }
     {
@@ -181,7 +188,8 @@ impl Arena {
     fn make_tagged(&mut self, at: usize, word: u64, words: usize, tag: u64) -> Result<()>
         requires inside { at < word_count (segment self.old) }
         requires few { (0 < words) × (words < 2 ^ 32) }
-        ensures made { IfOk result (λ _. IsMade (segment self.old) (segment self.new) (filled_up words (spelled 8 tag)) at word) }
+        ensures made { IfOk result (λ _. IsMade (segment self.old) (segment self.new)
+            (filled_up words (spelled 8 tag)) at word) }
         ensures kind { IfErr result (λ e. e.kind ≡ OutOfMemory) }
         ensures refused { OnErr result (segment self.new ≡ segment self.old) }
     {
@@ -225,8 +233,8 @@ impl Arena {
         })
     }
 
-    /// Makes the pointer at a word one to a new list of so many elements of a size, all zero, false or null, and answers
-    /// where it starts. `size` must not be `InlineComposite`.
+    /// Makes the pointer at a word one to a new list of so many elements of a size, all zero, false or null, and
+    /// answers where it starts. `size` must not be `InlineComposite`.
     ///
     /// Refused with `SizePastFormat` for 2^29 elements or more, and else with `OutOfMemory`; then nothing has changed.
     pub fn init_list(&mut self, at: usize, size: ElementSize, count: u32) -> Result<usize>
@@ -257,11 +265,13 @@ impl Arena {
     pub fn init_struct_list(&mut self, at: usize, count: u32, size: StructSize) -> Result<usize>
         requires inside { at < word_count (segment self.old) }
         ensures forest { IfOk result (λ _. Forest (segment self.new) at) }
-        ensures place { IfOk result (λ tag. shape_at (segment self.new) at ≡ CompositeIn tag count size.data_words size.pointers) }
+        ensures place { IfOk result (λ tag. shape_at (segment self.new) at
+            ≡ CompositeIn tag count size.data_words size.pointers) }
         ensures tree { IfOk result (λ _. tree (segment self.new) at ≡ zero_structs size count) }
         ensures changes { IfOk result (λ _. Changes at (segment self.old) (segment self.new)) }
         ensures within { OnOk result ((count < 2 ^ 29) × (count * (size.data_words + size.pointers) < 2 ^ 29)) }
-        ensures cause { IfErr result (λ e. IsRoomRefusal e ((2 ^ 29 ≤ count) ⊎ (2 ^ 29 ≤ count * (size.data_words + size.pointers)))) }
+        ensures cause { IfErr result (λ e. IsRoomRefusal e
+            ((2 ^ 29 ≤ count) ⊎ (2 ^ 29 ≤ count * (size.data_words + size.pointers)))) }
         ensures refused { OnErr result (segment self.new ≡ segment self.old) }
     {
         if count >= 1 << 29 {
@@ -325,10 +335,12 @@ impl Arena {
         requires planted { Planted (segment self.old) (StructIn place.start place.data_words place.pointers) }
         requires inside { (offset + 1) * T.width ≤ 8 * place.data_words }
         ensures planted { Planted (segment self.new) (StructIn place.start place.data_words place.pointers) }
-        ensures changes { PartChanges (StructIn place.start place.data_words place.pointers) (segment self.old) (segment self.new) }
+        ensures changes { PartChanges (StructIn place.start place.data_words place.pointers) (segment self.old)
+            (segment self.new) }
         ensures tree { struct_from (segment self.new) place.start place.data_words place.pointers ≡
             with_bytes (struct_from (segment self.old) place.start place.data_words place.pointers)
-            (with_number T.width offset (T.to_number value) (struct_from (segment self.old) place.start place.data_words place.pointers).bytes) }
+            (with_number T.width offset (T.to_number value)
+            (struct_from (segment self.old) place.start place.data_words place.pointers).bytes) }
     {
         write_number(
             &mut self.bytes,
@@ -350,10 +362,12 @@ impl Arena {
         requires planted { Planted (segment self.old) (StructIn place.start place.data_words place.pointers) }
         requires inside { (offset + 1) * T.width ≤ 8 * place.data_words }
         ensures planted { Planted (segment self.new) (StructIn place.start place.data_words place.pointers) }
-        ensures changes { PartChanges (StructIn place.start place.data_words place.pointers) (segment self.old) (segment self.new) }
+        ensures changes { PartChanges (StructIn place.start place.data_words place.pointers) (segment self.old)
+            (segment self.new) }
         ensures tree { struct_from (segment self.new) place.start place.data_words place.pointers ≡
             with_bytes (struct_from (segment self.old) place.start place.data_words place.pointers)
-            (with_number T.width offset (bit_xor (T.to_number value) (T.to_number mask)) (struct_from (segment self.old) place.start place.data_words place.pointers).bytes) }
+            (with_number T.width offset (bit_xor (T.to_number value) (T.to_number mask))
+            (struct_from (segment self.old) place.start place.data_words place.pointers).bytes) }
     {
         write_number_mask(
             &mut self.bytes,

@@ -14,16 +14,30 @@ pub(crate) struct Bytes {
     count: usize,
 }
 
+/// The bytes of a text or of data that is built: the message beside the pointer that leads to them, and where they
+/// stand.
+#[derive(Drop)]
+pub struct BlobBuilder<'a> {
+    pub arena: &'a mut Arena,
+    /// The pointer's word.
+    pub at: usize,
+    /// The word where the bytes start.
+    pub start: usize,
+    /// How many there are.
+    pub count: usize,
+}
+
 impl Arena {
-    ghost use Rattle.std.specs.Prelude.{List, ℕ, IfOk, drop, length, ◌*◌, ◌+◌, ◌++◌, ◌≡◌, ◌≤◌};
+    ghost use Rattle.std.specs.Prelude.{List, ℕ, IfErr, IfOk, OnErr, OnOk, drop, length, replicate, ◌*◌, ◌+◌, ◌++◌, ◌<◌, ◌≡◌, ◌≤◌, ◌^◌};
+    ghost use Rattle.capnp_wire.specs.Edits.{IsRoomRefusal};
     ghost use Rattle.capnp_wire.specs.Tree.{Numbers};
     ghost use Rattle.capnp_arena.specs.Leaves.{Leaves};
-    ghost use Rattle.capnp_arena.specs.Shape.{ListIn, shape_at};
+    ghost use Rattle.capnp_arena.specs.Shape.{ListIn, shape_at, word_count};
     ghost use Rattle.std.specs.Borrow.{sem};
     ghost use Rattle.capnp_wire.specs.Place.{bytes_at};
     ghost use Rattle.capnp_wire.specs.Reading.{as_data, as_text};
-    ghost use Rattle.capnp_arena.specs.Blobs.{bytes_found};
-    ghost use Rattle.capnp_arena.specs.Forest.{Forest, tree};
+    ghost use Rattle.capnp_arena.specs.Blobs.{IsFront, bytes_found, with_front};
+    ghost use Rattle.capnp_arena.specs.Forest.{Changes, Forest, tree};
     ghost use Rattle.capnp_arena.specs.Parts.{LendsPart, with_part};
     ghost use Rattle.capnp_arena.specs.Segment.{segment};
 
@@ -44,6 +58,7 @@ impl Arena {
     fn find_data(&self, at: usize) -> Result<Bytes>
         requires forest { Forest (segment self.now) at }
         ensures inside { IfOk result (λ b. 8 * b.start + b.count ≤ length (segment self.now)) }
+        ensures front { IfOk result (λ b. IsFront (segment self.now) at b.start b.count) }
         ensures found { bytes_found (segment self.now) result ≡ as_data (tree (segment self.now) at) }
     {
         match self.look(at) {
@@ -64,12 +79,14 @@ impl Arena {
         }
     }
 
-    /// Where the bytes of the text stand that the pointer at a word leads to, without the zero that ends it; of a null none.
+    /// Where the bytes of the text stand that the pointer at a word leads to, without the zero that ends it; of a null
+    /// none.
     ///
     /// Refused as `get_text`.
     fn find_text(&self, at: usize) -> Result<Bytes>
         requires forest { Forest (segment self.now) at }
         ensures inside { IfOk result (λ b. 8 * b.start + b.count ≤ length (segment self.now)) }
+        ensures front { IfOk result (λ b. IsFront (segment self.now) at b.start b.count) }
         ensures found { bytes_found (segment self.now) result ≡ as_text (tree (segment self.now) at) }
     {
         let text = self.get_text(at)?;
@@ -81,8 +98,43 @@ impl Arena {
         })
     }
 
-    /// The first bytes of the list of bytes that the pointer at a word leads to, as they stand. The message ends with what is
-    /// left in them (`leaves`).
+    /// Makes the pointer at a word one to a new text of so many zero bytes, and answers where they start.
+    ///
+    /// Refused with `SizePastFormat` where these would be 2^29 bytes or more with the zero that ends them, and else
+    /// with `OutOfMemory`; then nothing has changed.
+    fn init_text_list(&mut self, at: usize, count: u32) -> Result<usize>
+        requires inside { at < word_count (segment self.old) }
+        ensures forest { IfOk result (λ _. Forest (segment self.new) at) }
+        ensures place { IfOk result (λ start. shape_at (segment self.new) at ≡ ListIn start 2 (count + 1)) }
+        ensures tree { IfOk result (λ _. tree (segment self.new) at ≡ Numbers 1 (replicate (count + 1) 0)) }
+        ensures changes { IfOk result (λ _. Changes at (segment self.old) (segment self.new)) }
+        ensures within { OnOk result (count + 1 < 2 ^ 29) }
+        ensures cause { IfErr result (λ e. IsRoomRefusal e (2 ^ 29 ≤ count + 1)) }
+        ensures refused { OnErr result (segment self.new ≡ segment self.old) }
+    {
+        if count >= (1 << 29) - 1 {
+            return Err(Error::from(ErrorKind::SizePastFormat));
+        }
+        self.init_list(at, ElementSize::Byte, count + 1)
+    }
+
+    /// The first bytes of the list of bytes that the pointer at a word leads to, of a null none, as they stand. The
+    /// message ends with what is left in them (`leaves`).
+    pub fn front_mut(&mut self, at: usize, start: usize, count: usize) -> &mut [u8]
+        requires forest { Forest (segment self.old) at }
+        requires front { IsFront (segment self.old) at start count }
+        ensures* lends { sem 𝓛 (LendsPart self.entry start result) }
+        ensures now { result.now ≡ bytes_at (segment self.old) start count }
+        ensures long { length result.now ≡ count }
+        ensures leaves { (left : List ℕ) → length left ≡ count
+            → Leaves at (with_front left (tree (segment self.old) at)) (segment self.old)
+            (segment (with_part self.old start left)) }
+    {
+        self.part_mut(start, count)
+    }
+
+    /// The first bytes of the list of bytes that the pointer at a word leads to, as they stand. The message ends with
+    /// what is left in them (`leaves`).
     pub fn bytes_mut(&mut self, at: usize, list: ListPlace, count: usize) -> &mut [u8]
         requires forest { Forest (segment self.old) at }
         requires there { shape_at (segment self.old) at ≡ ListIn list.start 2 list.count }
@@ -91,78 +143,183 @@ impl Arena {
         ensures now { result.now ≡ bytes_at (segment self.old) list.start count }
         ensures long { length result.now ≡ count }
         ensures leaves { (left : List ℕ) → length left ≡ count
-            → Leaves at (Numbers 1 (left ++ drop count (bytes_at (segment self.old) list.start list.count))) (segment self.old) (segment (with_part self.old list.start left)) }
+            → Leaves at (Numbers 1 (left ++ drop count (bytes_at (segment self.old) list.start list.count)))
+            (segment self.old) (segment (with_part self.old list.start left)) }
     {
         self.part_mut(list.start, count)
     }
 }
 
+impl<'a> BlobBuilder<'a> {
+    ghost use Rattle.std.specs.Prelude.{List, ℕ, length, ◌≡◌};
+    ghost use Rattle.std.specs.Borrow.{sem};
+    ghost use Rattle.capnp_arena.specs.Blobs.{IsBlob, blob_bytes, with_front};
+    ghost use Rattle.capnp_arena.specs.Forest.{tree};
+    ghost use Rattle.capnp_arena.specs.Leaves.{Leaves};
+    ghost use Rattle.capnp_arena.specs.Parts.{LendsPart, with_part};
+    ghost use Rattle.capnp_arena.specs.Segment.{segment};
+
+    /// How many bytes there are.
+    #[inline(always)]
+    pub fn len(&self) -> usize
+        ensures { result ≡ self.now.count }
+    {
+        self.count
+    }
+
+    /// The bytes, for as long as the builder would be there. The message ends with what is left in them (`leaves`).
+    pub fn into_bytes(self) -> &'a mut [u8]
+        requires { IsBlob self }
+        ensures* lends { sem 𝓛 (LendsPart self.entry.arena self.entry.start result) }
+        ensures now { result.now ≡ blob_bytes self.entry }
+        ensures long { length result.now ≡ self.entry.count }
+        ensures leaves { (left : List ℕ) → length left ≡ self.entry.count
+            → Leaves self.entry.at (with_front left (tree (segment self.entry.arena.now) self.entry.at))
+            (segment self.entry.arena.now) (segment (with_part self.entry.arena.now self.entry.start left)) }
+    {
+        let BlobBuilder {
+            arena,
+            at,
+            start,
+            count,
+        } = self;
+        arena.front_mut(at, start, count)
+    }
+}
+
 impl<'a> PointerBuilder<'a> {
-    ghost use Rattle.std.specs.Prelude.{IfErr, IfOk, OnOk, ◌+◌, ◌<◌, ◌≡◌, ◌≤◌, ◌^◌, replicate};
-    ghost use Rattle.capnp_wire.specs.Blobs.{bytes_lent};
+    ghost use Rattle.std.specs.Prelude.{List, ℕ, IfErr, IfOk, OnOk, drop, length, replicate, ◌+◌, ◌++◌, ◌<◌, ◌≡◌, ◌≤◌, ◌^◌};
+    ghost use Rattle.std.specs.Borrow.{sem};
+    ghost use Rattle.capnp_wire.specs.Place.{bytes_at};
+    ghost use Rattle.capnp_wire.specs.Tree.{Numbers};
+    ghost use Rattle.capnp_arena.specs.Leaves.{Leaves};
+    ghost use Rattle.capnp_arena.specs.Parts.{LendsPart, with_part};
     ghost use Rattle.capnp_wire.specs.Edits.{IsRoomRefusal};
     ghost use Rattle.capnp_wire.specs.Reading.{as_data, as_text};
+    ghost use Rattle.capnp_arena.specs.Blobs.{BlobRests, IsBlob, blob_bytes, bytes_built};
+    ghost use Rattle.capnp_arena.specs.Forest.{Changes, tree};
     ghost use Rattle.capnp_arena.specs.Handles.{IsPointer, pointer_tree};
     ghost use Rattle.capnp_arena.specs.Segment.{segment};
-    ghost use Rattle.capnp_arena.specs.Shape.{word_count};
+    ghost use Rattle.capnp_arena.specs.Shape.{ListIn, shape_at, word_count};
 
     /// The bytes of the data that stands here, to be changed; none for a null, which stays null.
     ///
-    /// Refused with `WrongPointerKind` for a struct, and with `WrongElementSize` for another list; then nothing has
-    /// changed.
-    pub fn get_data_mut(self) -> Result<&'a mut [u8]>
+    /// Refused with `WrongPointerKind` for a struct, and with `WrongElementSize` for another list. Nothing has changed
+    /// then.
+    pub fn get_data_mut(self) -> Result<BlobBuilder<'a>>
         requires forest { IsPointer self }
-        ensures { bytes_lent result ≡ as_data (pointer_tree self.entry) }
+        ensures* rests { sem 𝓛 (BlobRests self.entry.arena result) }
+        ensures same { IfOk result (λ b. b.arena.ghost_name ≡ self.entry.arena.ghost_name) }
+        ensures now { IfOk result (λ b. b.arena.now ≡ self.entry.arena.now) }
+        ensures at { IfOk result (λ b. b.at ≡ self.entry.at) }
+        ensures there { IfOk result IsBlob }
+        ensures bytes { bytes_built result ≡ as_data (pointer_tree self.entry) }
     {
         let PointerBuilder { arena, at } = self;
-        let found = arena.find_data(at)?;
-        Ok(arena.part_mut(found.start, found.count))
+        let Bytes { start, count } = arena.find_data(at)?;
+        Ok(BlobBuilder {
+            arena,
+            at,
+            start,
+            count,
+        })
     }
 
-    /// The bytes of the text that stands here, without the zero that ends it, to be changed; none for a null, which stays
-    /// null.
+    /// The bytes of the text that stands here, without the zero that ends it, to be changed; none for a null, which
+    /// stays null.
     ///
-    /// Refused as `get_data_mut`, and with `TextNotTerminated` where the list is empty or its last byte is not zero; then
-    /// nothing has changed.
-    pub fn get_text_mut(self) -> Result<&'a mut [u8]>
+    /// Refused as `get_data_mut`, and with `TextNotTerminated` where the list is empty or its last byte is not zero.
+    /// Nothing has changed then.
+    pub fn get_text_mut(self) -> Result<BlobBuilder<'a>>
         requires forest { IsPointer self }
-        ensures { bytes_lent result ≡ as_text (pointer_tree self.entry) }
+        ensures* rests { sem 𝓛 (BlobRests self.entry.arena result) }
+        ensures same { IfOk result (λ b. b.arena.ghost_name ≡ self.entry.arena.ghost_name) }
+        ensures now { IfOk result (λ b. b.arena.now ≡ self.entry.arena.now) }
+        ensures at { IfOk result (λ b. b.at ≡ self.entry.at) }
+        ensures there { IfOk result IsBlob }
+        ensures bytes { bytes_built result ≡ as_text (pointer_tree self.entry) }
     {
         let PointerBuilder { arena, at } = self;
-        let found = arena.find_text(at)?;
-        Ok(arena.part_mut(found.start, found.count))
+        let Bytes { start, count } = arena.find_text(at)?;
+        Ok(BlobBuilder {
+            arena,
+            at,
+            start,
+            count,
+        })
     }
 
-    /// Replaces what stands here by a list of so many zero bytes, and lends them.
+    /// Replaces what stands here by a list of so many zero bytes.
     ///
-    /// Refused with `SizePastFormat` for 2^29 bytes or more, and else with `OutOfMemory`; then nothing has changed.
-    pub fn init_data(self, count: u32) -> Result<&'a mut [u8]>
+    /// Refused with `SizePastFormat` for 2^29 bytes or more, and else with `OutOfMemory`. Nothing has changed then.
+    pub fn init_data(self, count: u32) -> Result<BlobBuilder<'a>>
         requires inside { self.at < word_count (segment self.arena.now) }
-        ensures now { IfOk result (λ bytes. bytes.now ≡ replicate count 0) }
+        ensures* rests { sem 𝓛 (BlobRests self.entry.arena result) }
+        ensures same { IfOk result (λ b. b.arena.ghost_name ≡ self.entry.arena.ghost_name) }
+        ensures at { IfOk result (λ b. b.at ≡ self.entry.at) }
+        ensures there { IfOk result IsBlob }
+        ensures count { IfOk result (λ b. b.count ≡ count) }
+        ensures bytes { IfOk result (λ b. blob_bytes b ≡ replicate count 0) }
+        ensures tree { IfOk result (λ b. tree (segment b.arena.now) self.entry.at ≡ Numbers 1 (replicate count 0)) }
+        ensures changes { IfOk result (λ b. Changes self.entry.at (segment self.entry.arena.now)
+            (segment b.arena.now)) }
         ensures within { OnOk result (count < 2 ^ 29) }
         ensures cause { IfErr result (λ e. IsRoomRefusal e (2 ^ 29 ≤ count)) }
     {
         let PointerBuilder { arena, at } = self;
         let start = arena.init_list(at, ElementSize::Byte, count)?;
-        Ok(arena.part_mut(start, count as usize))
+        Ok(BlobBuilder {
+            arena,
+            at,
+            start,
+            count: count as usize,
+        })
     }
 
-    /// Replaces what stands here by a text of so many zero bytes, and lends them; the zero that ends it is not among
-    /// them.
+    /// Replaces what stands here by a text of so many zero bytes; the zero that ends it is not among them.
     ///
     /// Refused with `SizePastFormat` where these would be 2^29 bytes or more with that zero, and else with
-    /// `OutOfMemory`; then nothing has changed.
-    pub fn init_text(self, count: u32) -> Result<&'a mut [u8]>
+    /// `OutOfMemory`. Nothing has changed then.
+    pub fn init_text(self, count: u32) -> Result<BlobBuilder<'a>>
         requires inside { self.at < word_count (segment self.arena.now) }
-        ensures now { IfOk result (λ bytes. bytes.now ≡ replicate count 0) }
+        ensures* rests { sem 𝓛 (BlobRests self.entry.arena result) }
+        ensures same { IfOk result (λ b. b.arena.ghost_name ≡ self.entry.arena.ghost_name) }
+        ensures at { IfOk result (λ b. b.at ≡ self.entry.at) }
+        ensures there { IfOk result IsBlob }
+        ensures count { IfOk result (λ b. b.count ≡ count) }
+        ensures bytes { IfOk result (λ b. blob_bytes b ≡ replicate count 0) }
+        ensures tree { IfOk result (λ b. tree (segment b.arena.now) self.entry.at
+            ≡ Numbers 1 (replicate (count + 1) 0)) }
+        ensures changes { IfOk result (λ b. Changes self.entry.at (segment self.entry.arena.now)
+            (segment b.arena.now)) }
         ensures within { OnOk result (count + 1 < 2 ^ 29) }
         ensures cause { IfErr result (λ e. IsRoomRefusal e (2 ^ 29 ≤ count + 1)) }
     {
-        if count >= (1 << 29) - 1 {
-            return Err(Error::from(ErrorKind::SizePastFormat));
-        }
         let PointerBuilder { arena, at } = self;
-        let start = arena.init_list(at, ElementSize::Byte, count + 1)?;
-        Ok(arena.part_mut(start, count as usize))
+        let start = arena.init_text_list(at, count)?;
+        Ok(BlobBuilder {
+            arena,
+            at,
+            start,
+            count: count as usize,
+        })
+    }
+
+    /// The first bytes of the list of bytes that stands here, for as long as the builder would be there. The message
+    /// ends with what is left in them (`leaves`).
+    pub fn bytes_mut(self, list: ListPlace, count: usize) -> &'a mut [u8]
+        requires forest { IsPointer self }
+        requires there { shape_at (segment self.arena.now) self.at ≡ ListIn list.start 2 list.count }
+        requires inside { count ≤ list.count }
+        ensures* lends { sem 𝓛 (LendsPart self.entry.arena list.start result) }
+        ensures now { result.now ≡ bytes_at (segment self.entry.arena.now) list.start count }
+        ensures long { length result.now ≡ count }
+        ensures leaves { (left : List ℕ) → length left ≡ count
+            → Leaves self.entry.at (Numbers 1 (left ++ drop count
+            (bytes_at (segment self.entry.arena.now) list.start list.count))) (segment self.entry.arena.now)
+            (segment (with_part self.entry.arena.now list.start left)) }
+    {
+        let PointerBuilder { arena, at } = self;
+        arena.bytes_mut(at, list, count)
     }
 }

@@ -33,10 +33,14 @@ pub fn init_and_set<T: PrimitiveElement>(
     requires pointer { index < place.pointers }
     requires inside { (offset + 1) * T.width ≤ 8 * size.data_words }
     ensures forest { OnOk result (Forest (segment arena.new) at) }
-    ensures there { OnOk result (shape_at (segment arena.new) at ≡ StructIn place.start place.data_words place.pointers) }
+    ensures there { OnOk result (shape_at (segment arena.new) at
+        ≡ StructIn place.start place.data_words place.pointers) }
     ensures changes { OnOk result (Changes at (segment arena.old) (segment arena.new)) }
-    ensures tree { OnOk result (tree (segment arena.new) at ≡ struct_tree (with_pointer_tree (struct_from (segment arena.old) place.start place.data_words place.pointers) index
-        (struct_tree (with_bytes (zero_struct size) (with_number T.width offset (T.to_number value) (replicate (8 * size.data_words) 0)))))) }
+    ensures tree { OnOk result (tree (segment arena.new) at
+        ≡ struct_tree (with_pointer_tree (struct_from
+        (segment arena.old) place.start place.data_words place.pointers) index
+        (struct_tree (with_bytes (zero_struct size)
+        (with_number T.width offset (T.to_number value) (replicate (8 * size.data_words) 0)))))) }
     ensures refused { OnErr result (segment arena.new ≡ segment arena.old) }
 {
     let pointer = place.start + place.data_words as usize + index as usize;
@@ -62,8 +66,11 @@ pub fn set_element_number<T: PrimitiveElement>(
     ensures there { shape_at (segment arena.new) at ≡ CompositeIn list.tag list.count list.data_words list.pointers }
     ensures changes { Changes at (segment arena.old) (segment arena.new) }
     ensures tree { tree (segment arena.new) at ≡ with_struct_element index
-        (with_bytes (struct_from (segment arena.old) (list.tag + 1 + index * (list.data_words + list.pointers)) list.data_words list.pointers)
-        (with_number T.width offset (T.to_number value) (struct_from (segment arena.old) (list.tag + 1 + index * (list.data_words + list.pointers)) list.data_words list.pointers).bytes))
+        (with_bytes (struct_from (segment arena.old)
+        (list.tag + 1 + index * (list.data_words + list.pointers)) list.data_words list.pointers)
+        (with_number T.width offset (T.to_number value)
+        (struct_from (segment arena.old) (list.tag + 1 + index *
+        (list.data_words + list.pointers)) list.data_words list.pointers).bytes))
         (tree (segment arena.old) at) }
 {
     let step = list.data_words as usize + list.pointers as usize;
@@ -82,9 +89,11 @@ pub fn refill(arena: &mut Arena, at: usize, place: Place, source: &StructReader<
     requires forest { Forest (segment arena.old) at }
     requires there { shape_at (segment arena.old) at ≡ StructIn place.start place.data_words place.pointers }
     ensures forest { OnOk result (Forest (segment arena.new) at) }
-    ensures there { OnOk result (shape_at (segment arena.new) at ≡ StructIn place.start place.data_words place.pointers) }
+    ensures there { OnOk result (shape_at (segment arena.new) at
+        ≡ StructIn place.start place.data_words place.pointers) }
     ensures changes { OnOk result (Changes at (segment arena.old) (segment arena.new)) }
-    ensures tree { OnOk result (tree (segment arena.new) at ≡ struct_tree (fitted (8 * place.data_words) place.pointers (struct_of source.now))) }
+    ensures tree { OnOk result (tree (segment arena.new) at
+        ≡ struct_tree (fitted (8 * place.data_words) place.pointers (struct_of source.now))) }
     ensures cause { IfErr result (λ e. IsCopyRefusal e (first_fault_of_all (struct_of source.now).pointers)) }
     ensures refused { OnErr result (segment arena.new ≡ segment arena.old) }
 {

@@ -28,6 +28,16 @@ pub fn append_encoding(out: &mut Vec<u8>, bytes: &[u8]) -> Appended
         out.extend_from_slice(bytes)?;
         return Ok(());
     }
+    append_anew(out, bytes)
+}
+
+/// The same, made from the tree.
+pub fn append_anew(out: &mut Vec<u8>, bytes: &[u8]) -> Appended
+    requires forest { Forest bytes.now 0 }
+    requires few { word_count bytes.now < 2 ^ 29 }
+    requires small { words_of (tree bytes.now 0) < 2 ^ 29 }
+    ensures { IfOk result (λ _. out.new.items ≡ out.old.items ++ encoding_of (tree bytes.now 0)) }
+{
     append_word(out, make_pointer(0, look(bytes, 0)))?;
     append_tree(out, bytes, 0)?;
     Ok(())
@@ -59,8 +69,8 @@ impl Arena {
     ghost use Rattle.std.specs.Prelude.{OnErr, OnOk};
     ghost use Rattle.capnp_arena.specs.Segment.{segment};
 
-    /// Leaves the root pointer and what it leads to, in the order of the encoding: what was replaced or cleared is given up,
-    /// and there is room for as much again. Places move, so none below the root is one any more.
+    /// Leaves the root pointer and what it leads to, in the order of the encoding: what was replaced or cleared is
+    /// given up, and there is room for as much again. Places move, so none below the root is one any more.
     ///
     /// Refused with `OutOfMemory`; then nothing has changed.
     pub fn compact(&mut self) -> Result<()>

@@ -19,7 +19,8 @@ use capnp_device::error::{Error, ErrorKind, Result};
 use capnp_wire::StructReader;
 use capnp_wire::found::StructParts;
 use capnp_wire::laws::struct_is_well_formed;
-use capnp_wire::pointers::{Pointers, count_pointers, get_pointer};
+use capnp_wire::pointers::{count_pointers, get_pointer};
+use capnp_wire::row::Pointers;
 
 /// Zeros in the place of as many bytes from an index on.
 #[inline(always)]
@@ -34,7 +35,8 @@ fn put_zeros(out: &mut Vec<u8>, at: usize, count: usize)
 /// The bytes from an index on replaced by what fits of others, with zeros after that.
 fn put_fitted(out: &mut Vec<u8>, at: usize, count: usize, bytes: &[u8])
     requires { at + count ≤ length out.old.items }
-    ensures put { out.new.items ≡ put at (take count bytes.now ++ replicate (count - length bytes.now) 0) out.old.items }
+    ensures put { out.new.items ≡ put at (take count bytes.now ++ replicate
+        (count - length bytes.now) 0) out.old.items }
     ensures long { length out.new.items ≡ length out.old.items }
 {
     if count <= bytes.len() {
@@ -45,14 +47,16 @@ fn put_fitted(out: &mut Vec<u8>, at: usize, count: usize, bytes: &[u8])
     put_zeros(out, at + bytes.len(), count - bytes.len());
 }
 
-/// Puts the first so many pointers of a row into the words from one on, and nulls where there are fewer, and appends what
-/// they lead to.
+/// Puts the first so many pointers of a row into the words from one on, and nulls where there are fewer, and appends
+/// what they lead to.
 fn fill_fitted(arena: &mut Arena, at: usize, pointers: Pointers<'_>, count: usize) -> Result<()>
     requires held { AreWellFormed (pointer_trees pointers) }
     requires inside { at + count ≤ word_count (segment arena.old) }
-    ensures copy { OnOk result (segment arena.new ≡ with_pointers (8 * at) (fitted_row count (pointer_trees pointers.entry)) (segment arena.old)) }
+    ensures copy { OnOk result (segment arena.new
+        ≡ with_pointers (8 * at) (fitted_row count (pointer_trees pointers.entry)) (segment arena.old)) }
     ensures sound { OnOk result (first_fault_of_all (fitted_row count (pointer_trees pointers.entry)) ≡ None) }
-    ensures cause { IfErr result (λ e. IsCopyRefusal e (first_fault_of_all (fitted_row count (pointer_trees pointers.entry)))) }
+    ensures cause { IfErr result (λ e. IsCopyRefusal e
+        (first_fault_of_all (fitted_row count (pointer_trees pointers.entry)))) }
     ensures kept { Spares at count (segment arena.old) (segment arena.new) }
 {
     for i in 0..count {
@@ -78,13 +82,18 @@ fn find_fault(source: &StructReader<'_>) -> Result<()>
 }
 
 impl Arena {
-    /// Replaces what a struct holds by what fits of another one. Its bytes are kept beside the segment until that is done.
+    /// Replaces what a struct holds by what fits of another one. Its bytes are kept beside the segment until that is
+    /// done.
     fn fill_content(&mut self, place: Place, parts: StructParts<'_>) -> Result<()>
         requires inside { place.start + (place.data_words + place.pointers) ≤ word_count (segment self.old) }
         requires held { IsWellFormedStruct (parts_tree parts) }
-        ensures copy { OnOk result (segment self.new ≡ with_encoded_element (8 * place.start) (fitted (8 * place.data_words) place.pointers (parts_tree parts.entry)) (segment self.old)) }
-        ensures sound { OnOk result (first_fault_of_all (fitted_row place.pointers (parts_tree parts.entry).pointers) ≡ None) }
-        ensures cause { IfErr result (λ e. IsCopyRefusal e (first_fault_of_all (fitted_row place.pointers (parts_tree parts.entry).pointers))) }
+        ensures copy { OnOk result (segment self.new
+            ≡ with_encoded_element (8 * place.start)
+            (fitted (8 * place.data_words) place.pointers (parts_tree parts.entry)) (segment self.old)) }
+        ensures sound { OnOk result (first_fault_of_all (fitted_row place.pointers (parts_tree parts.entry).pointers)
+            ≡ None) }
+        ensures cause { IfErr result (λ e. IsCopyRefusal e
+            (first_fault_of_all (fitted_row place.pointers (parts_tree parts.entry).pointers))) }
         ensures refused { OnErr result (segment self.new ≡ segment self.old) }
     {
         let end = self.count_words();
@@ -109,14 +118,17 @@ impl Arena {
         Ok(())
     }
 
-    /// Replaces what a struct holds by what fits of another one, with zeros and nulls after that: the struct keeps its size.
+    /// Replaces what a struct holds by what fits of another one, with zeros and nulls after that: the struct keeps its
+    /// size.
     ///
-    /// Refused with `BadPointer`, `TooDeep` or `CapabilityPointer` where a pointer in the source can't be followed, by the
-    /// first of these in preorder, also where it would not fit, and with `OutOfMemory`; then nothing has changed.
+    /// Refused with `BadPointer`, `TooDeep` or `CapabilityPointer` where a pointer in the source can't be followed, by
+    /// the first of these in preorder, also where it would not fit, and with `OutOfMemory`; then nothing has changed.
     pub fn copy_content_from(&mut self, place: Place, source: &StructReader<'_>) -> Result<()>
         requires planted { Planted (segment self.old) (StructIn place.start place.data_words place.pointers) }
-        ensures planted { OnOk result (Planted (segment self.new) (StructIn place.start place.data_words place.pointers)) }
-        ensures changes { OnOk result (PartChanges (StructIn place.start place.data_words place.pointers) (segment self.old) (segment self.new)) }
+        ensures planted { OnOk result (Planted (segment self.new)
+            (StructIn place.start place.data_words place.pointers)) }
+        ensures changes { OnOk result (PartChanges (StructIn place.start place.data_words place.pointers)
+            (segment self.old) (segment self.new)) }
         ensures tree { OnOk result (struct_from (segment self.new) place.start place.data_words place.pointers ≡
             fitted (8 * place.data_words) place.pointers (struct_of source.now)) }
         ensures sound { OnOk result (first_fault_of_all (struct_of source.now).pointers ≡ None) }

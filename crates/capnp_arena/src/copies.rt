@@ -1,5 +1,5 @@
-//! Copies of what a reader stands on, into a message in memory. The target's words are added first, and the pointer is put
-//! last: what was added for a copy that is refused is taken back.
+//! Copies of what a reader stands on, into a message in memory. The target's words are added first, and the pointer is
+//! put last: what was added for a copy that is refused is taken back.
 
 use crate::arena::Arena;
 use crate::copy::{append_found, append_struct, point_to, point_to_struct};
@@ -29,7 +29,8 @@ impl Arena {
     fn copy_found(&mut self, at: usize, found: Found<'_>) -> Result<()>
         requires inside { at < word_count (segment self.old) }
         requires held { IsWellFormed (found_tree found) }
-        ensures made { OnOk result (IsMade (segment self.old) (segment self.new) (bytes_of (found_tree found.entry)) at (pointer_word (word_count (segment self.old) - suc at) (found_tree found.entry))) }
+        ensures made { OnOk result (IsMade (segment self.old) (segment self.new) (bytes_of (found_tree found.entry)) at
+            (pointer_word (word_count (segment self.old) - suc at) (found_tree found.entry))) }
         ensures sound { OnOk result (first_fault (found_tree found.entry) ≡ None) }
         ensures cause { IfErr result (λ e. IsCopyRefusal e (first_fault (found_tree found.entry))) }
         ensures refused { OnErr result (segment self.new ≡ segment self.old) }
@@ -52,7 +53,9 @@ impl Arena {
     fn copy_parts(&mut self, at: usize, parts: StructParts<'_>) -> Result<()>
         requires inside { at < word_count (segment self.old) }
         requires held { IsWellFormedStruct (parts_tree parts) }
-        ensures made { OnOk result (IsMade (segment self.old) (segment self.new) (bytes_of (struct_tree (rounded (parts_tree parts.entry)))) at (pointer_word (word_count (segment self.old) - suc at) (struct_tree (rounded (parts_tree parts.entry))))) }
+        ensures made { OnOk result (IsMade (segment self.old) (segment self.new)
+            (bytes_of (struct_tree (rounded (parts_tree parts.entry)))) at
+            (pointer_word (word_count (segment self.old) - suc at) (struct_tree (rounded (parts_tree parts.entry))))) }
         ensures sound { OnOk result (first_fault_of_all (parts_tree parts.entry).pointers ≡ None) }
         ensures cause { IfErr result (λ e. IsCopyRefusal e (first_fault_of_all (parts_tree parts.entry).pointers)) }
         ensures refused { OnErr result (segment self.new ≡ segment self.old) }
@@ -73,9 +76,9 @@ impl Arena {
     /// Makes the pointer at a word one to a copy of what a reader stands on, by its tree and not by the levels that the
     /// reader has left. Of a target that is shared each occurrence is copied.
     ///
-    /// Refused with `BadPointer`, `TooDeep` or `CapabilityPointer` where a pointer in the source can't be followed, by the
-    /// first of these in preorder, and with `OutOfMemory`, also where the segment would have 2^29 words; then nothing has
-    /// changed.
+    /// Refused with `BadPointer`, `TooDeep` or `CapabilityPointer` where a pointer in the source can't be followed, by
+    /// the first of these in preorder, and with `OutOfMemory`, also where the segment would have 2^29 words; then
+    /// nothing has changed.
     pub fn copy_from(&mut self, at: usize, source: PointerReader<'_>) -> Result<()>
         requires inside { at < word_count (segment self.old) }
         ensures forest { OnOk result (Forest (segment self.new) at) }
@@ -107,8 +110,8 @@ impl Arena {
         Ok(())
     }
 
-    /// Makes the pointer at a word one to a copy of a list, with the elements that it has, whatever they were read as. A
-    /// reader of a null stands on an empty list of the size that was asked, and that is what is copied.
+    /// Makes the pointer at a word one to a copy of a list, with the elements that it has, whatever they were read as.
+    /// A reader of a null stands on an empty list of the size that was asked, and that is what is copied.
     ///
     /// Refused as `copy_from`.
     pub fn set_list(&mut self, at: usize, source: &ListReader<'_>) -> Result<()>
@@ -125,8 +128,8 @@ impl Arena {
         Ok(())
     }
 
-    /// Replaces the whole message by a copy of what a reader stands on, in a segment of its own: nothing is left of what
-    /// stood there, and no place in it is one any more.
+    /// Replaces the whole message by a copy of what a reader stands on, in a segment of its own: nothing is left of
+    /// what stood there, and no place in it is one any more.
     ///
     /// Refused as `copy_from`.
     pub fn set_root(&mut self, source: PointerReader<'_>) -> Result<()>

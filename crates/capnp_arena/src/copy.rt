@@ -1,7 +1,7 @@
 //! Copies what a reader stands on to the end of a segment, as its encoding: an object, and then what its pointers lead
 //! to, in their order. Room is left for a row of pointers, and each is put there when its target is due. A message in
 //! memory holds no fault leaf, so what has one is refused.
-ghost use Rattle.std.specs.Prelude.{IfErr, IfOk, IsTrue, None, OnOk, suc, ◌*◌, ◌++◌, ◌+◌, ◌-◌, ◌/◌, ◌<◌, ◌^◌, ◌≡◌, ◌≤◌, length};
+ghost use Rattle.std.specs.Prelude.{IfErr, IfOk, IsSome, IsTrue, None, OnOk, suc, ◌*◌, ◌++◌, ◌+◌, ◌-◌, ◌/◌, ◌<◌, ◌^◌, ◌≡◌, ◌≤◌, length};
 ghost use Rattle.capnp_wire.specs.Edits.{IsCopyRefusal, rounded};
 ghost use Rattle.capnp_wire.specs.Encoding.{bytes_of, bytes_of_all, list_word, number_size, pointer_row, pointer_word, spelled};
 ghost use Rattle.capnp_wire.specs.Filling.{put, with_encoded_element, with_encoded_elements, with_pointers};
@@ -17,13 +17,14 @@ ghost use Rattle.capnp_arena.specs.Shape.{word_count};
 use crate::arena::Arena;
 use crate::spell::{make_list_word, make_struct_word, put_bytes, put_word};
 use capnp_device::error::Result;
-use capnp_wire::block::{Elements, count_elements, get_element};
+use capnp_wire::block::{count_elements, get_element};
 use capnp_wire::bytes::divide;
 use capnp_wire::fault::refuse;
 use capnp_wire::found::{Found, StructParts};
 use capnp_wire::look::bytes_from;
 use capnp_wire::pointer::{Pointer, look};
-use capnp_wire::pointers::{Pointers, count_pointers, get_pointer};
+use capnp_wire::pointers::{count_pointers, get_pointer};
+use capnp_wire::row::{Elements, Pointers};
 use capnp_wire::size::StructSize;
 
 // ---- pointers ----
@@ -112,6 +113,7 @@ pub fn point_to(gap: u64, found: Found<'_>) -> u64
 /// Refused with `OutOfMemory` where memory is refused or the segment would have 2^29 words, and with `BadPointer`,
 /// `TooDeep` or `CapabilityPointer` where a pointer in it can't be followed, by the first of these in preorder.
 #[cycle(copy)]
+#[inline(always)]
 pub fn append_found(arena: &mut Arena, found: Found<'_>) -> Result<()>
     requires held { IsWellFormed (found_tree found) }
     ensures copy { OnOk result (segment arena.new ≡ segment arena.old ++ bytes_of (found_tree found.entry)) }
@@ -136,7 +138,8 @@ pub fn append_found(arena: &mut Arena, found: Found<'_>) -> Result<()>
 #[inline(always)]
 pub fn append_struct(arena: &mut Arena, parts: StructParts<'_>) -> Result<()>
     requires held { IsWellFormedStruct (parts_tree parts) }
-    ensures copy { OnOk result (segment arena.new ≡ segment arena.old ++ bytes_of (struct_tree (rounded (parts_tree parts.entry)))) }
+    ensures copy { OnOk result (segment arena.new
+        ≡ segment arena.old ++ bytes_of (struct_tree (rounded (parts_tree parts.entry)))) }
     ensures sound { OnOk result (first_fault_of_all (parts_tree parts.entry).pointers ≡ None) }
     ensures cause { IfErr result (λ e. IsCopyRefusal e (first_fault_of_all (parts_tree parts.entry).pointers)) }
     ensures kept { Spares 0 0 (segment arena.old) (segment arena.new) }
@@ -151,7 +154,9 @@ pub fn append_struct(arena: &mut Arena, parts: StructParts<'_>) -> Result<()>
 fn append_row(arena: &mut Arena, pointers: Pointers<'_>) -> Result<()>
     requires held { AreWellFormed (pointer_trees pointers) }
     requires few { tree_count (pointer_trees pointers) < 2 ^ 29 }
-    ensures copy { OnOk result (segment arena.new ≡ segment arena.old ++ (pointer_row 0 (pointer_trees pointers.entry) ++ bytes_of_all (pointer_trees pointers.entry))) }
+    ensures copy { OnOk result (segment arena.new
+        ≡ segment arena.old ++ (pointer_row 0 (pointer_trees pointers.entry) ++ bytes_of_all
+        (pointer_trees pointers.entry))) }
     ensures sound { OnOk result (first_fault_of_all (pointer_trees pointers.entry) ≡ None) }
     ensures cause { IfErr result (λ e. IsCopyRefusal e (first_fault_of_all (pointer_trees pointers.entry))) }
     ensures kept { Spares 0 0 (segment arena.old) (segment arena.new) }
@@ -162,22 +167,18 @@ fn append_row(arena: &mut Arena, pointers: Pointers<'_>) -> Result<()>
     Ok(())
 }
 
-/// The bytes of structs without pointers, where they lie one after another in a message: of such of size zero, which it
-/// says by their count alone, none.
+/// The bytes of structs without pointers, which lie one after another in a message: of such of size zero, which it says
+/// by their count alone, none.
 #[inline(always)]
 fn get_plain_bytes<'a>(size: StructSize, elements: Elements<'a>) -> Option<&'a [u8]>
-    ensures { ArePlain result size (element_structs size.data_words size.pointers elements.entry) }
+    ensures plain { ArePlain result size (element_structs size.data_words size.pointers elements.entry) }
+    ensures told { size.pointers ≡ 0 → IsSome result }
 {
-    match elements {
-        Elements::Words { count, block, .. } => {
-            if size.pointers != 0 {
-                return None;
-            }
-            let words = count as usize * size.data_words as usize;
-            Some(bytes_from(block.segment, block.first, 8 * words))
-        }
-        Elements::Objects(_) => None,
+    if size.pointers != 0 {
+        return None;
     }
+    let words = elements.count as usize * size.data_words as usize;
+    Some(bytes_from(elements.segment, elements.first, 8 * words))
 }
 
 /// A composite list: its tag and its elements, and then what their pointers lead to. Elements without pointers are one
@@ -185,10 +186,15 @@ fn get_plain_bytes<'a>(size: StructSize, elements: Elements<'a>) -> Option<&'a [
 #[cycle(copy)]
 #[inline(never)]
 fn append_composite(arena: &mut Arena, size: StructSize, elements: Elements<'_>) -> Result<()>
-    requires held { IsWellFormed (Composite size.data_words size.pointers (element_structs size.data_words size.pointers elements)) }
-    ensures copy { OnOk result (segment arena.new ≡ segment arena.old ++ bytes_of (Composite size.data_words size.pointers (element_structs size.data_words size.pointers elements.entry))) }
-    ensures sound { OnOk result (first_fault_of_elements (element_structs size.data_words size.pointers elements.entry) ≡ None) }
-    ensures cause { IfErr result (λ e. IsCopyRefusal e (first_fault_of_elements (element_structs size.data_words size.pointers elements.entry))) }
+    requires held { IsWellFormed (Composite size.data_words size.pointers
+        (element_structs size.data_words size.pointers elements)) }
+    ensures copy { OnOk result (segment arena.new
+        ≡ segment arena.old ++ bytes_of (Composite size.data_words size.pointers
+        (element_structs size.data_words size.pointers elements.entry))) }
+    ensures sound { OnOk result (first_fault_of_elements (element_structs size.data_words size.pointers elements.entry)
+        ≡ None) }
+    ensures cause { IfErr result (λ e. IsCopyRefusal e
+        (first_fault_of_elements (element_structs size.data_words size.pointers elements.entry))) }
     ensures kept { Spares 0 0 (segment arena.old) (segment arena.new) }
 {
     let count = count_elements(size, elements);
@@ -216,7 +222,8 @@ pub fn fill_pointer(arena: &mut Arena, at: usize, pointer: Pointer<'_>) -> Resul
     requires held { IsWellFormed (pointer_tree pointer) }
     requires inside { at < word_count (segment arena.old) }
     ensures copy { OnOk result (segment arena.new ≡
-        put (8 * at) (spelled 8 (pointer_word (word_count (segment arena.old) - suc at) (pointer_tree pointer.entry))) (segment arena.old) ++ bytes_of (pointer_tree pointer.entry)) }
+        put (8 * at) (spelled 8 (pointer_word (word_count (segment arena.old) - suc at) (pointer_tree pointer.entry)))
+        (segment arena.old) ++ bytes_of (pointer_tree pointer.entry)) }
     ensures sound { OnOk result (first_fault (pointer_tree pointer.entry) ≡ None) }
     ensures cause { IfErr result (λ e. IsCopyRefusal e (first_fault (pointer_tree pointer.entry))) }
     ensures kept { Spares at 1 (segment arena.old) (segment arena.new) }
@@ -233,7 +240,8 @@ pub fn fill_pointer(arena: &mut Arena, at: usize, pointer: Pointer<'_>) -> Resul
 pub fn fill_row(arena: &mut Arena, at: usize, pointers: Pointers<'_>) -> Result<()>
     requires held { AreWellFormed (pointer_trees pointers) }
     requires inside { at + tree_count (pointer_trees pointers) ≤ word_count (segment arena.old) }
-    ensures copy { OnOk result (segment arena.new ≡ with_pointers (8 * at) (pointer_trees pointers.entry) (segment arena.old)) }
+    ensures copy { OnOk result (segment arena.new
+        ≡ with_pointers (8 * at) (pointer_trees pointers.entry) (segment arena.old)) }
     ensures sound { OnOk result (first_fault_of_all (pointer_trees pointers.entry) ≡ None) }
     ensures cause { IfErr result (λ e. IsCopyRefusal e (first_fault_of_all (pointer_trees pointers.entry))) }
     ensures kept { Spares at (tree_count (pointer_trees pointers.entry)) (segment arena.old) (segment arena.new) }
@@ -250,11 +258,14 @@ pub fn fill_row(arena: &mut Arena, at: usize, pointers: Pointers<'_>) -> Result<
 #[inline(always)]
 fn fill_element(arena: &mut Arena, at: usize, parts: StructParts<'_>) -> Result<()>
     requires held { IsWellFormed (struct_tree (parts_tree parts)) }
-    requires inside { at + (length (parts_tree parts).bytes / 8 + tree_count (parts_tree parts).pointers) ≤ word_count (segment arena.old) }
-    ensures copy { OnOk result (segment arena.new ≡ with_encoded_element (8 * at) (parts_tree parts.entry) (segment arena.old)) }
+    requires inside { at + (length (parts_tree parts).bytes / 8 + tree_count (parts_tree parts).pointers) ≤ word_count
+        (segment arena.old) }
+    ensures copy { OnOk result (segment arena.new
+        ≡ with_encoded_element (8 * at) (parts_tree parts.entry) (segment arena.old)) }
     ensures sound { OnOk result (first_fault_of_all (parts_tree parts.entry).pointers ≡ None) }
     ensures cause { IfErr result (λ e. IsCopyRefusal e (first_fault_of_all (parts_tree parts.entry).pointers)) }
-    ensures kept { Spares at (length (parts_tree parts.entry).bytes / 8 + tree_count (parts_tree parts.entry).pointers) (segment arena.old) (segment arena.new) }
+    ensures kept { Spares at (length (parts_tree parts.entry).bytes / 8 + tree_count (parts_tree parts.entry).pointers)
+        (segment arena.old) (segment arena.new) }
 {
     put_bytes(&mut arena.bytes, 8 * at, parts.data);
     fill_row(arena, at + parts.data.len() / 8, parts.pointers)?;
@@ -270,11 +281,17 @@ fn fill_elements(
     elements: Elements<'_>,
 ) -> Result<()>
     requires held { AreElements size.data_words size.pointers (element_structs size.data_words size.pointers elements) }
-    requires inside { at + struct_count (element_structs size.data_words size.pointers elements) * (size.data_words + size.pointers) ≤ word_count (segment arena.old) }
-    ensures copy { OnOk result (segment arena.new ≡ with_encoded_elements (size.data_words + size.pointers) (8 * at) (element_structs size.data_words size.pointers elements.entry) (segment arena.old)) }
-    ensures sound { OnOk result (first_fault_of_elements (element_structs size.data_words size.pointers elements.entry) ≡ None) }
-    ensures cause { IfErr result (λ e. IsCopyRefusal e (first_fault_of_elements (element_structs size.data_words size.pointers elements.entry))) }
-    ensures kept { Spares at (struct_count (element_structs size.data_words size.pointers elements.entry) * (size.data_words + size.pointers)) (segment arena.old) (segment arena.new) }
+    requires inside { at + struct_count (element_structs size.data_words size.pointers elements) *
+        (size.data_words + size.pointers) ≤ word_count (segment arena.old) }
+    ensures copy { OnOk result (segment arena.new
+        ≡ with_encoded_elements (size.data_words + size.pointers) (8 * at)
+        (element_structs size.data_words size.pointers elements.entry) (segment arena.old)) }
+    ensures sound { OnOk result (first_fault_of_elements (element_structs size.data_words size.pointers elements.entry)
+        ≡ None) }
+    ensures cause { IfErr result (λ e. IsCopyRefusal e
+        (first_fault_of_elements (element_structs size.data_words size.pointers elements.entry))) }
+    ensures kept { Spares at (struct_count (element_structs size.data_words size.pointers elements.entry) *
+        (size.data_words + size.pointers)) (segment arena.old) (segment arena.new) }
 {
     let count = count_elements(size, elements);
     let step = size.data_words as usize + size.pointers as usize;

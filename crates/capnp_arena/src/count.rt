@@ -145,7 +145,8 @@ fn count_elements(
     requires inside { start + count * (data_words + pointers) ≤ word_count bytes.now }
     requires few { word_count bytes.now < 2 ^ 29 }
     requires sizes { (count < 2 ^ 29) × (data_words < 2 ^ 16) × (pointers < 2 ^ 16) }
-    ensures { IsCount result (words_below_all (structs_from (λ i. struct_from bytes.now (start + i * (data_words + pointers)) data_words pointers) 0 count)) }
+    ensures { IsCount result (words_below_all
+        (structs_from (λ i. struct_from bytes.now (start + i * (data_words + pointers)) data_words pointers) 0 count)) }
 {
     let mut sum: u64 = 0;
     for i in 0..count {

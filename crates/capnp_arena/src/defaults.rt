@@ -1,6 +1,7 @@
 //! Pointers of which a null is filled from a default.
 //!
-//! The default is copied in the place of the null first. What was made of it is taken back where it is refused after that.
+//! The default is copied in the place of the null first. What was made of it is taken back where it is refused after
+//! that.
 
 use crate::arena::{Arena, Place};
 use crate::list_reads::ListTarget;
@@ -69,7 +70,8 @@ impl Arena {
         requires null { is_null_tree (tree (segment self.old) at) ≡ true }
         ensures forest { IfOk result (λ _. Forest (segment self.new) at) }
         ensures place { IfOk result (λ p. shape_at (segment self.new) at ≡ StructIn p.start p.data_words p.pointers) }
-        ensures tree { IfOk result (λ _. tree (segment self.new) at ≡ struct_tree (extended size (struct_in (tree_of default.entry)))) }
+        ensures tree { IfOk result (λ _. tree (segment self.new) at
+            ≡ struct_tree (extended size (struct_in (tree_of default.entry)))) }
         ensures changes { IfOk result (λ _. Changes at (segment self.old) (segment self.new)) }
         ensures within { OnOk result (struct_default_refusal (tree_of default.entry) ≡ None) }
         ensures cause { IfErr result (λ e. IsDueRefusal e (struct_default_refusal (tree_of default.entry))) }
@@ -92,14 +94,14 @@ impl Arena {
         }
     }
 
-    /// The struct that the pointer at a word leads to, with at least a size: a null becomes a copy of the default first,
-    /// where there is one, or else a struct of that size, all zero and null. What is smaller becomes a larger one at the
-    /// end, with zeros and nulls after what it had.
+    /// The struct that the pointer at a word leads to, with at least a size: a null becomes a copy of the default
+    /// first, where there is one, or else a struct of that size, all zero and null. What is smaller becomes a larger
+    /// one at the end, with zeros and nulls after what it had.
     ///
-    /// Refused with `WrongPointerKind` for a list, which of a null the default may be; of a null also with `BadPointer`,
-    /// `TooDeep` or `CapabilityPointer` where a pointer in the default can't be followed, by the first of these in
-    /// preorder; and else with `OutOfMemory`. Then nothing has changed. A struct that is large enough takes no memory and
-    /// is never refused.
+    /// Refused with `WrongPointerKind` for a list, which of a null the default may be; of a null also with
+    /// `BadPointer`, `TooDeep` or `CapabilityPointer` where a pointer in the default can't be followed, by the first of
+    /// these in preorder; and else with `OutOfMemory`. Then nothing has changed. A struct that is large enough takes no
+    /// memory and is never refused.
     pub fn get_struct_or_default(
         &mut self,
         at: usize,
@@ -109,10 +111,13 @@ impl Arena {
         requires forest { Forest (segment self.old) at }
         ensures forest { IfOk result (λ _. Forest (segment self.new) at) }
         ensures place { IfOk result (λ p. shape_at (segment self.new) at ≡ StructIn p.start p.data_words p.pointers) }
-        ensures tree { IfOk result (λ _. tree (segment self.new) at ≡ struct_tree (filled_struct (default_tree default.entry) size (tree (segment self.old) at))) }
+        ensures tree { IfOk result (λ _. tree (segment self.new) at
+            ≡ struct_tree (filled_struct (default_tree default.entry) size (tree (segment self.old) at))) }
         ensures changes { IfOk result (λ _. Changes at (segment self.old) (segment self.new)) }
-        ensures within { OnOk result (filled_struct_refusal (default_tree default.entry) (tree (segment self.old) at) ≡ None) }
-        ensures cause { IfErr result (λ e. IsDueRefusal e (filled_struct_refusal (default_tree default.entry) (tree (segment self.old) at))) }
+        ensures within { OnOk result (filled_struct_refusal (default_tree default.entry) (tree (segment self.old) at)
+            ≡ None) }
+        ensures cause { IfErr result (λ e. IsDueRefusal e
+            (filled_struct_refusal (default_tree default.entry) (tree (segment self.old) at))) }
         ensures refused { OnErr result (segment self.new ≡ segment self.old) }
         ensures succeeds { HoldsStruct size (tree (segment self.old) at) → IsOk result }
     {
@@ -127,7 +132,8 @@ impl Arena {
         requires forest { Forest (segment self.now) at }
         requires simple { size ≢ ElementSize.InlineComposite }
         ensures place { IfOk result (λ l. list_shape l ≡ shape_at (segment self.now) at) }
-        ensures reads { IfOk result (λ l. listed_tree (tree (segment self.now) at) l ≡ or_empty size (tree (segment self.now) at)) }
+        ensures reads { IfOk result (λ l. listed_tree (tree (segment self.now) at) l
+            ≡ or_empty size (tree (segment self.now) at)) }
         ensures within { OnOk result (list_refusal size (tree (segment self.now) at) ≡ None) }
         ensures cause { IfErr result (λ e. IsDueRefusal e (list_refusal size (tree (segment self.now) at))) }
         ensures succeeds { list_refusal size (tree (segment self.now) at) ≡ None → IsOk result }
@@ -135,10 +141,11 @@ impl Arena {
         self.get_list(at, size)
     }
 
-    /// Makes the pointer at a word, which is null, one to a copy of a default that is not, as a list of elements of a size.
+    /// Makes the pointer at a word, which is null, one to a copy of a default that is not, as a list of elements of a
+    /// size.
     ///
-    /// Refused with `WrongPointerKind` for a struct, with `WrongElementSize` for a list that is not read so, and else as
-    /// `copy_from`; then nothing has changed.
+    /// Refused with `WrongPointerKind` for a struct, with `WrongElementSize` for a list that is not read so, and else
+    /// as `copy_from`; then nothing has changed.
     fn put_list(
         &mut self,
         at: usize,
@@ -150,7 +157,8 @@ impl Arena {
         ensures forest { IfOk result (λ _. Forest (segment self.new) at) }
         ensures place { IfOk result (λ l. list_shape l ≡ shape_at (segment self.new) at) }
         ensures tree { IfOk result (λ _. tree (segment self.new) at ≡ tree_of default.entry) }
-        ensures reads { IfOk result (λ l. listed_tree (tree (segment self.new) at) l ≡ or_empty size (tree_of default.entry)) }
+        ensures reads { IfOk result (λ l. listed_tree (tree (segment self.new) at) l
+            ≡ or_empty size (tree_of default.entry)) }
         ensures changes { IfOk result (λ _. Changes at (segment self.old) (segment self.new)) }
         ensures within { OnOk result (list_default_refusal size (tree_of default.entry) ≡ None) }
         ensures cause { IfErr result (λ e. IsDueRefusal e (list_default_refusal size (tree_of default.entry))) }
@@ -173,10 +181,10 @@ impl Arena {
     /// first, where there is one, or else is a list without elements, and stays null. `size` must not be
     /// `InlineComposite`.
     ///
-    /// Refused with `WrongPointerKind` for a struct, and with `WrongElementSize` for a list that is not read so, which of a
-    /// null the default may be; of a null also with `BadPointer`, `TooDeep` or `CapabilityPointer` where a pointer in the
-    /// default can't be followed, by the first of these in preorder; and else with `OutOfMemory`. Then nothing has
-    /// changed. Where no default is copied no memory is taken.
+    /// Refused with `WrongPointerKind` for a struct, and with `WrongElementSize` for a list that is not read so, which
+    /// of a null the default may be; of a null also with `BadPointer`, `TooDeep` or `CapabilityPointer` where a pointer
+    /// in the default can't be followed, by the first of these in preorder; and else with `OutOfMemory`. Then nothing
+    /// has changed. Where no default is copied no memory is taken.
     pub fn get_list_or_default(
         &mut self,
         at: usize,
@@ -187,11 +195,15 @@ impl Arena {
         requires simple { size ≢ ElementSize.InlineComposite }
         ensures forest { IfOk result (λ _. Forest (segment self.new) at) }
         ensures place { IfOk result (λ l. list_shape l ≡ shape_at (segment self.new) at) }
-        ensures tree { IfOk result (λ _. tree (segment self.new) at ≡ or_default (default_tree default.entry) (tree (segment self.old) at)) }
-        ensures reads { IfOk result (λ l. listed_tree (tree (segment self.new) at) l ≡ or_empty size (or_default (default_tree default.entry) (tree (segment self.old) at))) }
+        ensures tree { IfOk result (λ _. tree (segment self.new) at
+            ≡ or_default (default_tree default.entry) (tree (segment self.old) at)) }
+        ensures reads { IfOk result (λ l. listed_tree (tree (segment self.new) at) l
+            ≡ or_empty size (or_default (default_tree default.entry) (tree (segment self.old) at))) }
         ensures changes { IfOk result (λ _. Changes at (segment self.old) (segment self.new)) }
-        ensures within { OnOk result (filled_list_refusal (default_tree default.entry) size (tree (segment self.old) at) ≡ None) }
-        ensures cause { IfErr result (λ e. IsDueRefusal e (filled_list_refusal (default_tree default.entry) size (tree (segment self.old) at))) }
+        ensures within { OnOk result (filled_list_refusal (default_tree default.entry) size
+            (tree (segment self.old) at) ≡ None) }
+        ensures cause { IfErr result (λ e. IsDueRefusal e
+            (filled_list_refusal (default_tree default.entry) size (tree (segment self.old) at))) }
         ensures refused { OnErr result (segment self.new ≡ segment self.old) }
         ensures succeeds { takes_default (default_tree default.entry) (tree (segment self.old) at) ≡ false →
             filled_list_refusal (default_tree default.entry) size (tree (segment self.old) at) ≡ None → IsOk result }
@@ -202,11 +214,11 @@ impl Arena {
         }
     }
 
-    /// Makes the pointer at a word, which is null, one to a copy of a default that is not, as a list of structs of at least
-    /// a size.
+    /// Makes the pointer at a word, which is null, one to a copy of a default that is not, as a list of structs of at
+    /// least a size.
     ///
-    /// Refused with `WrongPointerKind` for a struct, with `WrongElementSize` for a list of bits, with `SizePastFormat` where
-    /// the structs would take 2^29 words or more, and else as `copy_from`; then nothing has changed.
+    /// Refused with `WrongPointerKind` for a struct, with `WrongElementSize` for a list of bits, with `SizePastFormat`
+    /// where the structs would take 2^29 words or more, and else as `copy_from`; then nothing has changed.
     fn put_structs(
         &mut self,
         at: usize,
@@ -218,7 +230,8 @@ impl Arena {
         ensures forest { IfOk result (λ _. Forest (segment self.new) at) }
         ensures place { IfOk result (λ l. list_shape l ≡ shape_at (segment self.new) at) }
         ensures tree { IfOk result (λ _. tree (segment self.new) at ≡ struct_list size (tree_of default.entry)) }
-        ensures reads { IfOk result (λ l. listed_tree (tree (segment self.new) at) l ≡ or_empty ElementSize.InlineComposite (struct_list size (tree_of default.entry))) }
+        ensures reads { IfOk result (λ l. listed_tree (tree (segment self.new) at) l
+            ≡ or_empty ElementSize.InlineComposite (struct_list size (tree_of default.entry))) }
         ensures changes { IfOk result (λ _. Changes at (segment self.old) (segment self.new)) }
         ensures within { OnOk result (structs_default_refusal size (tree_of default.entry) ≡ None) }
         ensures cause { IfErr result (λ e. IsDueRefusal e (structs_default_refusal size (tree_of default.entry))) }
@@ -246,11 +259,11 @@ impl Arena {
     /// default first, where there is one, or else is a list without elements, and stays null. A list becomes one of
     /// structs as by `get_struct_list`.
     ///
-    /// Refused with `WrongPointerKind` for a struct, with `WrongElementSize` for a list of bits, and with `SizePastFormat`
-    /// where the structs would take 2^29 words or more, which of a null the default may be; of a null also with
-    /// `BadPointer`, `TooDeep` or `CapabilityPointer` where a pointer in the default can't be followed, by the first of
-    /// these in preorder; and else with `OutOfMemory`. Then nothing has changed. A null without a default, and a list of
-    /// structs that have at least the size, take no memory and are never refused.
+    /// Refused with `WrongPointerKind` for a struct, with `WrongElementSize` for a list of bits, and with
+    /// `SizePastFormat` where the structs would take 2^29 words or more, which of a null the default may be; of a null
+    /// also with `BadPointer`, `TooDeep` or `CapabilityPointer` where a pointer in the default can't be followed, by
+    /// the first of these in preorder; and else with `OutOfMemory`. Then nothing has changed. A null without a default,
+    /// and a list of structs that have at least the size, take no memory and are never refused.
     #[inline(always)]
     pub fn get_struct_list_or_default(
         &mut self,
@@ -261,14 +274,19 @@ impl Arena {
         requires forest { Forest (segment self.old) at }
         ensures forest { IfOk result (λ _. Forest (segment self.new) at) }
         ensures place { IfOk result (λ l. list_shape l ≡ shape_at (segment self.new) at) }
-        ensures tree { IfOk result (λ _. tree (segment self.new) at ≡ filled_structs (default_tree default.entry) size (tree (segment self.old) at)) }
+        ensures tree { IfOk result (λ _. tree (segment self.new) at
+            ≡ filled_structs (default_tree default.entry) size (tree (segment self.old) at)) }
         ensures reads { IfOk result (λ l. listed_tree (tree (segment self.new) at) l ≡
-            or_empty ElementSize.InlineComposite (filled_structs (default_tree default.entry) size (tree (segment self.old) at))) }
+            or_empty ElementSize.InlineComposite (filled_structs (default_tree default.entry) size
+            (tree (segment self.old) at))) }
         ensures changes { IfOk result (λ _. Changes at (segment self.old) (segment self.new)) }
-        ensures within { OnOk result (filled_structs_refusal (default_tree default.entry) size (tree (segment self.old) at) ≡ None) }
-        ensures cause { IfErr result (λ e. IsDueRefusal e (filled_structs_refusal (default_tree default.entry) size (tree (segment self.old) at))) }
+        ensures within { OnOk result (filled_structs_refusal (default_tree default.entry) size
+            (tree (segment self.old) at) ≡ None) }
+        ensures cause { IfErr result (λ e. IsDueRefusal e
+            (filled_structs_refusal (default_tree default.entry) size (tree (segment self.old) at))) }
         ensures refused { OnErr result (segment self.new ≡ segment self.old) }
-        ensures succeeds { takes_default (default_tree default.entry) (tree (segment self.old) at) ≡ false → HoldsStructs size (tree (segment self.old) at) → IsOk result }
+        ensures succeeds { takes_default (default_tree default.entry) (tree (segment self.old) at) ≡ false
+            → HoldsStructs size (tree (segment self.old) at) → IsOk result }
     {
         match self.take_default(at, default) {
             Some(reader) => self.put_structs(at, size, reader),

@@ -24,7 +24,8 @@ impl Arena {
     fn get_number_bytes(&self, at: usize, list: ListPlace) -> &[u8]
         requires forest { Forest (segment self.now) at }
         requires there { shape_at (segment self.now) at ≡ ListIn list.start (size_number list.size) list.count }
-        ensures { (width index : ℕ) → number_at width index result.now ≡ element_number width (tree (segment self.now) at) index }
+        ensures { (width index : ℕ) → number_at width index result.now
+            ≡ element_number width (tree (segment self.now) at) index }
     {
         get_part(
             self.bytes.as_slice(),
@@ -37,7 +38,8 @@ impl Arena {
     #[inline(always)]
     fn get_first_bytes(&self, at: usize, list: StructsPlace, index: u32) -> &[u8]
         requires forest { Forest (segment self.now) at }
-        requires there { shape_at (segment self.now) at ≡ CompositeIn list.tag list.count list.data_words list.pointers }
+        requires there { shape_at (segment self.now) at
+            ≡ CompositeIn list.tag list.count list.data_words list.pointers }
         ensures { result.now ≡ (element_struct (tree (segment self.now) at) index).bytes }
     {
         if index >= list.count {

@@ -17,8 +17,8 @@ impl Arena {
     ghost use Rattle.capnp_arena.specs.Segment.{segment};
     ghost use Rattle.capnp_arena.specs.Shape.{ListIn, StructIn, shape_at, word_count};
 
-    /// The word of a pointer of the list that the pointer at a word leads to: of a list of structs, the first pointer of
-    /// the struct. There has to be a pointer at `index`.
+    /// The word of a pointer of the list that the pointer at a word leads to: of a list of structs, the first pointer
+    /// of the struct. There has to be a pointer at `index`.
     #[inline(always)]
     pub fn get_pointer_element(&self, at: usize, index: u32) -> usize
         requires forest { Forest (segment self.now) at }
@@ -27,7 +27,8 @@ impl Arena {
         ensures forest { Forest (segment self.now) result }
         ensures tree { tree (segment self.now) result ≡ element_pointer (tree (segment self.now) at) index 1 }
         ensures leaves { (new : List ℕ) → Forest new result → Changes result (segment self.now) new
-            → Leaves at (with_pointer_element index (tree new result) (tree (segment self.now) at)) (segment self.now) new }
+            → Leaves at (with_pointer_element index (tree new result) (tree (segment self.now) at))
+            (segment self.now) new }
     {
         match self.look(at) {
             Target::Null => unreachable!(),
@@ -51,10 +52,12 @@ impl Arena {
         requires forest { Forest (segment self.now) at }
         requires there { HasStruct (tree (segment self.now) at) index }
         ensures planted { Planted (segment self.now) (StructIn result.start result.data_words result.pointers) }
-        ensures tree { struct_from (segment self.now) result.start result.data_words result.pointers ≡ element_struct (tree (segment self.now) at) index }
+        ensures tree { struct_from (segment self.now) result.start result.data_words result.pointers
+            ≡ element_struct (tree (segment self.now) at) index }
         ensures leaves { (new : List ℕ) → Planted new (StructIn result.start result.data_words result.pointers)
             → PartChanges (StructIn result.start result.data_words result.pointers) (segment self.now) new
-            → Leaves at (with_struct_element index (struct_from new result.start result.data_words result.pointers) (tree (segment self.now) at)) (segment self.now) new }
+            → Leaves at (with_struct_element index (struct_from new result.start result.data_words result.pointers)
+            (tree (segment self.now) at)) (segment self.now) new }
     {
         match self.look(at) {
             Target::Null => unreachable!(),
@@ -88,7 +91,8 @@ impl Arena {
         requires forest { Forest (segment self.old) at }
         requires there { shape_at (segment self.old) at ≡ ListIn list.start (size_number list.size) list.count }
         requires number { HasNumber T.width (tree (segment self.old) at) index }
-        ensures leaves { Leaves at (with_number_element T.width index (T.to_number value) (tree (segment self.old) at)) (segment self.old) (segment self.new) }
+        ensures leaves { Leaves at (with_number_element T.width index (T.to_number value) (tree (segment self.old) at))
+            (segment self.old) (segment self.new) }
     {
         write_number(
             &mut self.bytes,
@@ -99,12 +103,13 @@ impl Arena {
         );
     }
 
-    /// Stores the number at `index` of the list that the pointer at a word leads to: in a struct, at its start. There has
-    /// to be a number of that width at `index`.
+    /// Stores the number at `index` of the list that the pointer at a word leads to: in a struct, at its start. There
+    /// has to be a number of that width at `index`.
     pub fn set_data_element<T: PrimitiveElement>(&mut self, at: usize, index: u32, value: T)
         requires forest { Forest (segment self.old) at }
         requires number { HasNumber T.width (tree (segment self.old) at) index }
-        ensures leaves { Leaves at (with_number_element T.width index (T.to_number value) (tree (segment self.old) at)) (segment self.old) (segment self.new) }
+        ensures leaves { Leaves at (with_number_element T.width index (T.to_number value) (tree (segment self.old) at))
+            (segment self.old) (segment self.new) }
     {
         match self.look(at) {
             Target::Null => unreachable!(),
@@ -129,7 +134,8 @@ impl Arena {
     pub fn set_bool_element(&mut self, at: usize, index: u32, value: bool)
         requires forest { Forest (segment self.old) at }
         requires bit { HasBit (tree (segment self.old) at) index }
-        ensures leaves { Leaves at (with_bit_element index value (tree (segment self.old) at)) (segment self.old) (segment self.new) }
+        ensures leaves { Leaves at (with_bit_element index value (tree (segment self.old) at)) (segment self.old)
+            (segment self.new) }
     {
         let Target::List {
             start,

@@ -63,7 +63,8 @@ fn append_plain(
     requires plain { element_size < 6 }
     requires few { (count < 2 ^ 29) × (start < 2 ^ 30) }
     requires inside { start + list_words element_size count ≤ word_count bytes.now }
-    ensures { IfOk result (λ _. out.new.items ≡ out.old.items ++ own_bytes (list_tree (tree bytes.now) bytes.now start element_size count)) }
+    ensures { IfOk result (λ _. out.new.items
+        ≡ out.old.items ++ own_bytes (list_tree (tree bytes.now) bytes.now start element_size count)) }
 {
     let count = count as usize;
     if element_size == 0 {
@@ -87,6 +88,7 @@ fn append_plain(
 
 /// What the pointer at a word leads to, and then what that leads to.
 #[cycle(append)]
+#[inline(always)]
 pub fn append_tree(out: &mut Vec<u8>, bytes: &[u8], w: usize) -> Appended
     requires forest { Forest bytes.now w }
     requires few { word_count bytes.now < 2 ^ 29 }
@@ -148,7 +150,8 @@ fn append_struct(
     requires few { word_count bytes.now < 2 ^ 29 }
     requires small { pointers + words_of_all (trees_from (tree bytes.now) (start + data_words) pointers) < 2 ^ 29 }
     ensures { IfOk result (λ _. out.new.items ≡ out.old.items ++ (bytes_at bytes.now start (8 * data_words)
-        ++ (pointer_row 0 (trees_from (tree bytes.now) (start + data_words) pointers) ++ bytes_of_all (trees_from (tree bytes.now) (start + data_words) pointers)))) }
+        ++ (pointer_row 0 (trees_from (tree bytes.now) (start + data_words) pointers) ++ bytes_of_all
+        (trees_from (tree bytes.now) (start + data_words) pointers)))) }
 {
     out.extend_from_slice(get_part(bytes, start, 8 * data_words))?;
     if pointers > 0 {
@@ -164,7 +167,9 @@ fn append_row(out: &mut Vec<u8>, bytes: &[u8], first: usize, count: usize) -> Ap
     requires inside { first + count ≤ word_count bytes.now }
     requires few { word_count bytes.now < 2 ^ 29 }
     requires small { count + words_of_all (trees_from (tree bytes.now) first count) < 2 ^ 29 }
-    ensures { IfOk result (λ _. out.new.items ≡ out.old.items ++ (pointer_row 0 (trees_from (tree bytes.now) first count) ++ bytes_of_all (trees_from (tree bytes.now) first count))) }
+    ensures { IfOk result (λ _. out.new.items
+        ≡ out.old.items ++ (pointer_row 0 (trees_from (tree bytes.now) first count) ++ bytes_of_all
+        (trees_from (tree bytes.now) first count))) }
 {
     let at = out.len();
     append_room(out, count)?;
@@ -188,8 +193,13 @@ fn append_composite(
     requires inside { tag + 1 + count * (data_words + pointers) ≤ word_count bytes.now }
     requires few { word_count bytes.now < 2 ^ 29 }
     requires sizes { (count < 2 ^ 29) × (data_words < 2 ^ 16) × (pointers < 2 ^ 16) }
-    requires small { count * (data_words + pointers) + words_below_all (structs_from (λ i. struct_from bytes.now (tag + 1 + i * (data_words + pointers)) data_words pointers) 0 count) < 2 ^ 29 }
-    ensures { IfOk result (λ _. out.new.items ≡ out.old.items ++ bytes_of (Composite data_words pointers (structs_from (λ i. struct_from bytes.now (tag + 1 + i * (data_words + pointers)) data_words pointers) 0 count))) }
+    requires small { count * (data_words + pointers) + words_below_all
+        (structs_from (λ i. struct_from bytes.now
+        (tag + 1 + i * (data_words + pointers)) data_words pointers) 0 count) < 2 ^ 29 }
+    ensures { IfOk result (λ _. out.new.items
+        ≡ out.old.items ++ bytes_of (Composite data_words pointers
+        (structs_from (λ i. struct_from bytes.now
+        (tag + 1 + i * (data_words + pointers)) data_words pointers) 0 count))) }
 {
     append_word(
         out,
@@ -212,7 +222,8 @@ pub fn fill_row(out: &mut Vec<u8>, at: usize, bytes: &[u8], first: usize, count:
     requires inside { first + count ≤ word_count bytes.now }
     requires few { word_count bytes.now < 2 ^ 29 }
     requires room { HasRoom at (trees_from (tree bytes.now) first count) out.old.items }
-    ensures { IfOk result (λ _. out.new.items ≡ with_pointers at (trees_from (tree bytes.now) first count) out.old.items) }
+    ensures { IfOk result (λ _. out.new.items
+        ≡ with_pointers at (trees_from (tree bytes.now) first count) out.old.items) }
 {
     let mut at = at;
     for i in 0..count {
@@ -240,8 +251,13 @@ fn fill_elements(
     requires inside { start + count * (data_words + pointers) ≤ word_count bytes.now }
     requires few { word_count bytes.now < 2 ^ 29 }
     requires sizes { (count < 2 ^ 29) × (data_words < 2 ^ 16) × (pointers < 2 ^ 16) }
-    requires room { HaveRoom data_words pointers at (structs_from (λ i. struct_from bytes.now (start + i * (data_words + pointers)) data_words pointers) 0 count) out.old.items }
-    ensures { IfOk result (λ _. out.new.items ≡ with_encoded_elements (data_words + pointers) at (structs_from (λ i. struct_from bytes.now (start + i * (data_words + pointers)) data_words pointers) 0 count) out.old.items) }
+    requires room { HaveRoom data_words pointers at
+        (structs_from (λ i. struct_from bytes.now
+        (start + i * (data_words + pointers)) data_words pointers) 0 count) out.old.items }
+    ensures { IfOk result (λ _. out.new.items
+        ≡ with_encoded_elements (data_words + pointers) at
+        (structs_from (λ i. struct_from bytes.now
+        (start + i * (data_words + pointers)) data_words pointers) 0 count) out.old.items) }
 {
     let mut at = at;
     for i in 0..count {
@@ -272,8 +288,10 @@ fn fill_element(
     requires forests { AreForests bytes.now (start + data_words) pointers }
     requires inside { start + (data_words + pointers) ≤ word_count bytes.now }
     requires few { word_count bytes.now < 2 ^ 29 }
-    requires room { HasRoom (at + 8 * data_words) (trees_from (tree bytes.now) (start + data_words) pointers) out.old.items }
-    ensures { IfOk result (λ _. out.new.items ≡ with_encoded_element at (struct_from bytes.now start data_words pointers) out.old.items) }
+    requires room { HasRoom (at + 8 * data_words)
+        (trees_from (tree bytes.now) (start + data_words) pointers) out.old.items }
+    ensures { IfOk result (λ _. out.new.items
+        ≡ with_encoded_element at (struct_from bytes.now start data_words pointers) out.old.items) }
 {
     put_bytes(out, at, get_part(bytes, start, 8 * data_words));
     fill_row(

@@ -79,7 +79,8 @@ impl Arena {
     /// Refused with `OutOfMemory`, also where there would be 2^29 words.
     #[inline(never)]
     pub(crate) fn append_bits(&mut self, bits: &[u8], count: u32) -> Result<()>
-        ensures longer { OnOk result (segment self.new ≡ segment self.old ++ packed (8 * list_words 1 count) (bits_from bits.now 0 count)) }
+        ensures longer { OnOk result (segment self.new
+            ≡ segment self.old ++ packed (8 * list_words 1 count) (bits_from bits.now 0 count)) }
         ensures kind { IfErr result (λ e. e.kind ≡ OutOfMemory) }
         ensures refused { OnErr result (segment self.new ≡ segment self.old) }
     {

@@ -3,7 +3,7 @@ ghost use Rattle.std.specs.Prelude.{IfErr, IfOk, length, max, ◌*◌, ◌+◌, 
 ghost use Rattle.capnp_device.specs.declared.error.ErrorKind.TheVariants.{OutOfMemory};
 ghost use Rattle.capnp_wire.specs.Edits.{extended};
 ghost use Rattle.capnp_wire.specs.Encoding.{bytes_of};
-ghost use Rattle.capnp_wire.specs.Measured.{IsElement};
+ghost use Rattle.capnp_wire.specs.WellFormed.{IsElement};
 ghost use Rattle.capnp_wire.specs.Place.{struct_tree};
 ghost use Rattle.capnp_arena.specs.Forest.{Forest, struct_from};
 ghost use Rattle.capnp_arena.specs.Shape.{StructIn, shape_at, word_count};
@@ -45,8 +45,10 @@ fn encode_larger(
     requires there { shape_at bytes.now at ≡ StructIn place.start place.data_words place.pointers }
     requires few { word_count bytes.now < 2 ^ 29 }
     requires larger { (place.data_words ≤ size.data_words) × (place.pointers ≤ size.pointers) }
-    ensures content { IfOk result (λ v. v.items ≡ bytes_of (struct_tree (extended size (struct_from bytes.now place.start place.data_words place.pointers)))) }
-    ensures held { IfOk result (λ _. IsElement size.data_words size.pointers (extended size (struct_from bytes.now place.start place.data_words place.pointers))) }
+    ensures content { IfOk result (λ v. v.items
+        ≡ bytes_of (struct_tree (extended size (struct_from bytes.now place.start place.data_words place.pointers)))) }
+    ensures held { IfOk result (λ _. IsElement size.data_words size.pointers
+        (extended size (struct_from bytes.now place.start place.data_words place.pointers))) }
     ensures words { IfOk result (λ v. (length v.items ≡ 8 * (length v.items / 8)) × (length v.items < 2 ^ 32)) }
     ensures kind { IfErr result (λ e. e.kind ≡ OutOfMemory) }
 {
@@ -83,10 +85,13 @@ impl Arena {
     fn extend_struct(&mut self, at: usize, place: Place, size: StructSize) -> Result<Place>
         requires forest { Forest (segment self.old) at }
         requires there { shape_at (segment self.old) at ≡ StructIn place.start place.data_words place.pointers }
-        requires larger { (place.data_words ≤ size.data_words) × (place.pointers ≤ size.pointers) × (0 < size.data_words + size.pointers) }
+        requires larger { (place.data_words ≤ size.data_words) × (place.pointers ≤ size.pointers)
+            × (0 < size.data_words + size.pointers) }
         ensures forest { IfOk result (λ _. Forest (segment self.new) at) }
         ensures place { IfOk result (λ p. shape_at (segment self.new) at ≡ StructIn p.start p.data_words p.pointers) }
-        ensures tree { IfOk result (λ _. tree (segment self.new) at ≡ struct_tree (extended size (struct_from (segment self.old) place.start place.data_words place.pointers))) }
+        ensures tree { IfOk result (λ _. tree (segment self.new) at
+            ≡ struct_tree (extended size (struct_from
+            (segment self.old) place.start place.data_words place.pointers))) }
         ensures changes { IfOk result (λ _. Changes at (segment self.old) (segment self.new)) }
         ensures kind { IfErr result (λ e. e.kind ≡ OutOfMemory) }
         ensures refused { OnErr result (segment self.new ≡ segment self.old) }
@@ -110,14 +115,15 @@ impl Arena {
     /// The struct that the pointer at a word leads to, with at least a size. A null becomes a struct of that size, all
     /// zero and null. A smaller struct becomes a larger one at the end, with zeros and nulls after what it had.
     ///
-    /// Refused with `WrongPointerKind` for a list, and else with `OutOfMemory`; then nothing has changed. A struct that is
-    /// large enough takes no memory, is never refused, and stays where it is.
+    /// Refused with `WrongPointerKind` for a list, and else with `OutOfMemory`; then nothing has changed. A struct that
+    /// is large enough takes no memory, is never refused, and stays where it is.
     #[inline(always)]
     pub fn get_struct(&mut self, at: usize, size: StructSize) -> Result<Place>
         requires forest { Forest (segment self.old) at }
         ensures forest { IfOk result (λ _. Forest (segment self.new) at) }
         ensures place { IfOk result (λ p. shape_at (segment self.new) at ≡ StructIn p.start p.data_words p.pointers) }
-        ensures tree { IfOk result (λ _. tree (segment self.new) at ≡ struct_tree (extended size (struct_in (tree (segment self.old) at)))) }
+        ensures tree { IfOk result (λ _. tree (segment self.new) at
+            ≡ struct_tree (extended size (struct_in (tree (segment self.old) at)))) }
         ensures changes { IfOk result (λ _. Changes at (segment self.old) (segment self.new)) }
         ensures within { OnOk result (struct_refusal (tree (segment self.old) at) ≡ None) }
         ensures cause { IfErr result (λ e. IsStructRefusal e (tree (segment self.old) at)) }

@@ -53,7 +53,8 @@ fn fill_grown(
     requires fits { (row.data_count ≤ 8 * size.data_words) × (row.pointers ≤ size.pointers) }
     requires long { at + 8 * (size.data_words + size.pointers) ≤ length out.old.items }
     requires room { HasRoom (at + 8 * size.data_words) (part_at bytes.now row index).pointers out.old.items }
-    ensures { IfOk result (λ _. out.new.items ≡ with_encoded_element at (extended size (part_at bytes.now row index)) out.old.items) }
+    ensures { IfOk result (λ _. out.new.items
+        ≡ with_encoded_element at (extended size (part_at bytes.now row index)) out.old.items) }
 {
     let words = size.data_words as usize + size.pointers as usize;
     put_zeros(out, at, 8 * words);
@@ -81,9 +82,16 @@ fn fill_all_grown(
     requires inside { ArePartsIn bytes.now row count }
     requires few { word_count bytes.now < 2 ^ 29 }
     requires fits { (row.data_count ≤ 8 * size.data_words) × (row.pointers ≤ size.pointers) }
-    requires room { HaveRoom size.data_words size.pointers at (structs_from (λ i. extended size (part_at bytes.now row i)) 0 count) out.old.items }
-    ensures { IfOk result (λ _. out.new.items ≡ with_encoded_elements (size.data_words + size.pointers) at (structs_from (λ i. extended size (part_at bytes.now row i)) 0 count) out.old.items) }
+    requires room { HaveRoom size.data_words size.pointers at
+        (structs_from (λ i. extended size (part_at bytes.now row i)) 0 count) out.old.items }
+    ensures { IfOk result (λ _. out.new.items
+        ≡ with_encoded_elements (size.data_words + size.pointers) at
+        (structs_from (λ i. extended size (part_at bytes.now row i)) 0 count) out.old.items) }
 {
+    // of structs of size zero a list has its count alone, however many there are
+    if size.data_words as usize + size.pointers as usize == 0 {
+        return Ok(());
+    }
     let mut at = at;
     for i in 0..count {
         fill_grown(out, at, bytes, row, i, size)?;
@@ -126,8 +134,11 @@ pub fn encode_all_grown(
     requires inside { ArePartsIn bytes.now row count }
     requires few { (word_count bytes.now < 2 ^ 29) × (count < 2 ^ 29) }
     requires fits { (row.data_count ≤ 8 * size.data_words) × (row.pointers ≤ size.pointers) }
-    requires small { count * (size.data_words + size.pointers) + words_below_all (structs_from (λ i. extended size (part_at bytes.now row i)) 0 count) < 2 ^ 29 }
-    ensures { IfOk result (λ v. v.items ≡ bytes_of (Composite size.data_words size.pointers (structs_from (λ i. extended size (part_at bytes.now row i)) 0 count))) }
+    requires small { count * (size.data_words + size.pointers) + words_below_all
+        (structs_from (λ i. extended size (part_at bytes.now row i)) 0 count) < 2 ^ 29 }
+    ensures { IfOk result (λ v. v.items ≡ bytes_of
+        (Composite size.data_words size.pointers
+        (structs_from (λ i. extended size (part_at bytes.now row i)) 0 count))) }
 {
     let mut out = Vec::new(alloc);
     append_word(

@@ -11,7 +11,7 @@ ghost use Rattle.capnp_arena.specs.Handles.{IsStruct, built_struct, list_tree, p
 ghost use Rattle.capnp_arena.specs.Leaves.{Leaves};
 ghost use Rattle.capnp_arena.specs.Message.{IsMessage, message_tree};
 ghost use Rattle.capnp_arena.specs.Segment.{segment};
-ghost use Rattle.capnp_arena.specs.Shape.{word_count};
+ghost use Rattle.capnp_arena.specs.Shape.{ListIn, shape_at, word_count};
 
 use crate::list_builder::ListBuilder;
 use crate::lists::ListPlace;
@@ -29,7 +29,8 @@ pub fn build_struct(message: &mut Builder, size: StructSize, index: u16, text: &
     requires message { IsMessage message.old }
     requires pointer { index < size.pointers }
     ensures message { IsMessage message.new }
-    ensures tree { OnOk result (message_tree message.new ≡ struct_tree (with_pointer_tree (zero_struct size) index (Numbers 1 (text.now ++ 0 ∷ [])))) }
+    ensures tree { OnOk result (message_tree message.new
+        ≡ struct_tree (with_pointer_tree (zero_struct size) index (Numbers 1 (text.now ++ 0 ∷ [])))) }
 {
     let made = message.root().init_struct(size)?;
     made.get_pointer_field(index).set_text(text)?;
@@ -46,7 +47,9 @@ pub fn fill_struct(built: &mut StructBuilder<'_>, index: u16, text: &[u8], value
     ensures same { built.new.arena.ghost_name ≡ built.old.arena.ghost_name }
     ensures place { built.new.place ≡ built.old.place }
     ensures planted { IsStruct built.new }
-    ensures tree { OnOk result (built_struct built.new ≡ with_bytes (with_pointer_tree (built_struct built.old) index (Numbers 1 (text.now ++ 0 ∷ []))) (with_number 8 0 value (built_struct built.old).bytes)) }
+    ensures tree { OnOk result (built_struct built.new
+        ≡ with_bytes (with_pointer_tree (built_struct built.old) index (Numbers 1 (text.now ++ 0 ∷ [])))
+        (with_number 8 0 value (built_struct built.old).bytes)) }
     ensures changes { PartChanges (part built.old.place) (segment built.old.arena.now) (segment built.new.arena.now) }
     ensures refused { OnErr result (segment built.new.arena.now ≡ segment built.old.arena.now) }
 {
@@ -64,7 +67,8 @@ pub fn set_text_at(pointer: PointerBuilder<'_>, text: &[u8]) -> Result<()>
     requires inside { pointer.at < word_count (segment pointer.arena.now) }
     ensures forest { OnOk result (Forest (segment pointer.exit.0.now) pointer.entry.at) }
     ensures tree { OnOk result (tree (segment pointer.exit.0.now) pointer.entry.at ≡ Numbers 1 (text.now ++ 0 ∷ [])) }
-    ensures changes { OnOk result (Changes pointer.entry.at (segment pointer.entry.arena.now) (segment pointer.exit.0.now)) }
+    ensures changes { OnOk result (Changes pointer.entry.at (segment pointer.entry.arena.now)
+        (segment pointer.exit.0.now)) }
     ensures refused { OnErr result (segment pointer.exit.0.now ≡ segment pointer.entry.arena.now) }
 {
     let PointerBuilder { arena, at } = pointer;
@@ -80,7 +84,8 @@ pub fn set_text_field(built: &mut StructBuilder<'_>, index: u16, text: &[u8]) ->
     ensures same { built.new.arena.ghost_name ≡ built.old.arena.ghost_name }
     ensures place { built.new.place ≡ built.old.place }
     ensures planted { IsStruct built.new }
-    ensures tree { OnOk result (built_struct built.new ≡ with_pointer_tree (built_struct built.old) index (Numbers 1 (text.now ++ 0 ∷ []))) }
+    ensures tree { OnOk result (built_struct built.new
+        ≡ with_pointer_tree (built_struct built.old) index (Numbers 1 (text.now ++ 0 ∷ []))) }
     ensures refused { OnErr result (segment built.new.arena.now ≡ segment built.old.arena.now) }
 {
     set_text_at(built.pointer_field_mut(index), text)
@@ -95,7 +100,9 @@ pub fn set_text_element(list: &mut ListBuilder<'_>, index: u32, text: &[u8]) -> 
     ensures same { list.new.arena.ghost_name ≡ list.old.arena.ghost_name }
     ensures at { list.new.at ≡ list.old.at }
     ensures list { list.new.list ≡ list.old.list }
-    ensures leaves { OnOk result (Leaves list.old.at (with_pointer_element index (Numbers 1 (text.now ++ 0 ∷ [])) (list_tree list.old)) (segment list.old.arena.now) (segment list.new.arena.now)) }
+    ensures leaves { OnOk result (Leaves list.old.at
+        (with_pointer_element index (Numbers 1 (text.now ++ 0 ∷ [])) (list_tree list.old)) (segment list.old.arena.now)
+        (segment list.new.arena.now)) }
     ensures refused { OnErr result (segment list.new.arena.now ≡ segment list.old.arena.now) }
 {
     let at = list.at;
@@ -120,7 +127,8 @@ pub fn build_list(
     requires pointer { index < size.pointers }
     ensures message { IsMessage message.new }
     ensures tree { OnOk result (message_tree message.new ≡
-        with_struct_element element (with_pointer_tree (element_struct (zero_structs size count) element) index (Numbers 1 (text.now ++ 0 ∷ []))) (zero_structs size count)) }
+        with_struct_element element (with_pointer_tree (element_struct (zero_structs size count) element) index
+        (Numbers 1 (text.now ++ 0 ∷ []))) (zero_structs size count)) }
 {
     let root = message.root();
     let list = root.init_struct_list(count, size)?;
@@ -135,7 +143,8 @@ pub fn build_list(
 /// Refused as `build_struct` and `write_message`.
 pub fn write_struct(alloc: Global, size: StructSize, index: u16, text: &[u8]) -> Result<Vec<u8>>
     requires pointer { index < size.pointers }
-    ensures bytes { IfOk result (λ v. v.items ≡ message_of (struct_tree (with_pointer_tree (zero_struct size) index (Numbers 1 (text.now ++ 0 ∷ []))))) }
+    ensures bytes { IfOk result (λ v. v.items
+        ≡ message_of (struct_tree (with_pointer_tree (zero_struct size) index (Numbers 1 (text.now ++ 0 ∷ []))))) }
 {
     let mut message = Builder::new(alloc)?;
     build_struct(&mut message, size, index, text)?;
@@ -160,4 +169,31 @@ pub fn build_data(message: &mut Builder, count: u32, first: u8) -> Result<()>
     let bytes = message.bytes_mut(0, list, count as usize);
     bytes[0] = first;
     Ok(())
+}
+
+/// The same by builders.
+///
+/// Refused as `init_data`; then nothing has changed.
+pub fn build_data_by_builders(message: &mut Builder, count: u32, first: u8) -> Result<()>
+    requires message { IsMessage message.old }
+    requires first { 0 < count }
+    ensures message { IsMessage message.new }
+    ensures tree { OnOk result (message_tree message.new ≡ Numbers 1 (slice_set (replicate count 0) 0 first)) }
+    ensures refused { OnErr result (segment message.new ≡ segment message.old) }
+{
+    let built = message.root().init_data(count)?;
+    let bytes = built.into_bytes();
+    bytes[0] = first;
+    Ok(())
+}
+
+/// Writes the first byte of the data at the root.
+pub fn set_first_byte(message: &mut Builder, list: ListPlace, first: u8)
+    requires message { IsMessage message.old }
+    requires there { shape_at (segment message.old) 0 ≡ ListIn list.start 2 list.count }
+    requires first { 0 < list.count }
+    ensures message { IsMessage message.new }
+{
+    let bytes = message.root().bytes_mut(list, list.count as usize);
+    bytes[0] = first;
 }

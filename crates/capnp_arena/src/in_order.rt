@@ -10,20 +10,8 @@ ghost use Rattle.capnp_arena.specs.InOrder.{AreLaid, IfKnown, IsLaid, IsRowLaid}
 ghost use Rattle.capnp_arena.specs.Shape.{word_count};
 
 use crate::append::{get_bits, get_part};
-use crate::look::Target;
+use crate::look::{Target, get_word};
 use crate::target::look;
-
-/// Whether bytes are zero.
-fn are_zeros(bytes: &[u8]) -> bool
-    ensures { IsTrue result → bytes.now ≡ replicate (length bytes.now) 0 }
-{
-    for i in 0..bytes.len() {
-        if bytes[i] != 0 {
-            return false;
-        }
-    }
-    true
-}
 
 /// Whether bytes are those that hold so many bits.
 fn are_packed(bytes: &[u8], count: u32) -> bool
@@ -37,37 +25,46 @@ fn are_packed(bytes: &[u8], count: u32) -> bool
     true
 }
 
-/// What lies behind so many bytes that start at a word, up to so many words.
+/// Whether a word has zeros behind so many of its bytes.
 #[inline(always)]
-fn get_behind(bytes: &[u8], start: usize, count: usize, words: usize) -> &[u8]
-    requires inside { 8 * start + 8 * words ≤ length bytes.now }
-    requires fits { count ≤ 8 * words }
-    ensures part { result.now ≡ take (8 * words - count) (drop (8 * start + count) bytes.now) }
-    ensures long { length result.now ≡ 8 * words - count }
+fn has_zeros_behind(bytes: &[u8], w: usize, over: usize) -> bool
+    requires inside { 8 * w + 8 ≤ length bytes.now }
+    requires few { w < 2 ^ 32 }
+    requires within { over < 8 }
+    ensures { IsTrue result → take (8 - over) (drop (8 * w + over) bytes.now) ≡ replicate (8 - over) 0 }
 {
-    &bytes[8 * start + count..8 * start + 8 * words]
+    get_word(bytes, w) < 1u64 << (8 * over as u32)
 }
 
 /// Where so many bytes end that start at a word, if they have zeros behind them up to a whole word.
 #[inline(always)]
 fn end_of_bytes(bytes: &[u8], start: usize, count: usize) -> Option<usize>
     requires inside { start + (count + 7) / 8 ≤ word_count bytes.now }
-    ensures { IfKnown result (λ next. (next ≡ start + (count + 7) / 8) × (bytes_at bytes.now start (8 * (next - start)) ≡ padded (bytes_at bytes.now start count))) }
+    requires few { (start < 2 ^ 30) × (count < 2 ^ 32) }
+    ensures { IfKnown result (λ next. (next ≡ start + (count + 7) / 8)
+        × (bytes_at bytes.now start (8 * (next - start)) ≡ padded (bytes_at bytes.now start count))) }
 {
-    let words = count.div_ceil(8);
-    if are_zeros(get_behind(bytes, start, count, words)) {
-        Some(start + words)
+    let end = start + count / 8;
+    let over = count % 8;
+    if over == 0 {
+        return Some(end);
+    }
+    if has_zeros_behind(bytes, end, over) {
+        Some(end + 1)
     } else {
         None
     }
 }
 
 /// Where a list of bits or numbers, or of nothing, ends that starts at a word.
+#[inline(always)]
 fn end_of_plain(bytes: &[u8], start: usize, element_size: u8, count: u32) -> Option<usize>
     requires plain { element_size < 6 }
     requires few { (count < 2 ^ 29) × (start < 2 ^ 30) }
     requires inside { start + list_words element_size count ≤ word_count bytes.now }
-    ensures { IfKnown result (λ next. (start ≤ next) × (next ≤ word_count bytes.now) × (bytes_at bytes.now start (8 * (next - start)) ≡ own_bytes (list_tree (tree bytes.now) bytes.now start element_size count))) }
+    ensures { IfKnown result (λ next. (start ≤ next) × (next ≤ word_count bytes.now)
+        × (bytes_at bytes.now start (8 * (next - start))
+        ≡ own_bytes (list_tree (tree bytes.now) bytes.now start element_size count))) }
 {
     let number = count as usize;
     if element_size == 0 {
@@ -154,8 +151,37 @@ fn follow(bytes: &[u8], w: usize, end: usize) -> Option<usize>
     }
 }
 
+/// The same, in line where no pointers are behind the target.
+#[cycle(order)]
+#[inline(always)]
+fn follow_at(bytes: &[u8], w: usize, end: usize) -> Option<usize>
+    requires forest { Forest bytes.now w }
+    requires few { word_count bytes.now < 2 ^ 29 }
+    requires inside { end ≤ word_count bytes.now }
+    ensures { IfKnown result (λ next. IsLaid bytes.now w end next) }
+{
+    match look(bytes, w) {
+        Target::Null => Some(end),
+        Target::List {
+            start,
+            element_size,
+            count,
+        } => {
+            if start != end {
+                return None;
+            }
+            if element_size == 6 {
+                return follow(bytes, w, end);
+            }
+            end_of_plain(bytes, start, element_size, count)
+        }
+        _ => follow(bytes, w, end),
+    }
+}
+
 /// The same of so many pointers in a row.
 #[cycle(order)]
+#[inline(always)]
 fn follow_row(bytes: &[u8], first: usize, count: usize, end: usize) -> Option<usize>
     requires forests { AreForests bytes.now first count }
     requires few { word_count bytes.now < 2 ^ 29 }
@@ -165,7 +191,7 @@ fn follow_row(bytes: &[u8], first: usize, count: usize, end: usize) -> Option<us
 {
     let mut next = end;
     for i in 0..count {
-        next = follow(bytes, first + i, next)?;
+        next = follow_at(bytes, first + i, next)?;
     }
     Some(next)
 }

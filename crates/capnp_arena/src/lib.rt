@@ -29,6 +29,7 @@ pub mod message;
 pub mod pointer_builder;
 mod reader;
 pub mod reads;
+pub mod segment;
 pub mod sizes;
 mod spell;
 pub mod struct_builder;

@@ -1,7 +1,7 @@
 //! Builders of lists: a reference to the message beside the word of the list's pointer and what stands there.
 //!
-//! The elements of a list that is built are where its pointer leads: that of a list that was got as it is, and those of a
-//! null nowhere.
+//! The elements of a list that is built are where its pointer leads: that of a list that was got as it is, and those of
+//! a null nowhere.
 
 use crate::arena::Arena;
 use crate::list_reads::ListTarget;
@@ -37,6 +37,7 @@ impl<'a> ListBuilder<'a> {
     ghost use Rattle.capnp_arena.specs.Shape.{shape_at, word_count};
 
     /// The same list for a shorter time. What is left there is what this builder has then.
+    #[inline(always)]
     pub fn reborrow(&mut self) -> ListBuilder<'_>
         ensures* lends { sem 𝓛 (LentByList self.entry result.arena) }
         ensures now { result.arena.now ≡ self.old.arena.now }
@@ -49,13 +50,17 @@ impl<'a> ListBuilder<'a> {
         ListBuilder { arena, at, list }
     }
 
-    /// A reader of the list, with 64 levels. What it leads to is cut off past 65,534 levels, which only walks of a whole tree
-    /// can see.
+    /// A reader of the list, with 64 levels. What it leads to is cut off past 65,534 levels, which only walks of a
+    /// whole tree can see.
+    #[inline(always)]
     pub fn as_reader(&self) -> ListReader<'_>
         requires forest { Forest (segment self.now.arena.now) self.now.at }
         requires there { shape_at (segment self.now.arena.now) self.now.at ≡ list_shape self.now.list }
-        ensures read { list_of result ≡ listed_tree (tree_below 65535 (segment self.now.arena.now ∷ []) (segment self.now.arena.now) self.now.at) self.now.list }
-        ensures list { IsBelow 65535 (list_tree self.now) → list_of result ≡ listed_tree (list_tree self.now) self.now.list }
+        ensures read { list_of result ≡ listed_tree
+            (tree_below 65535 (segment self.now.arena.now ∷ [])
+            (segment self.now.arena.now) self.now.at) self.now.list }
+        ensures list { IsBelow 65535 (list_tree self.now)
+            → list_of result ≡ listed_tree (list_tree self.now) self.now.list }
         ensures levels { list_levels result ≡ 64 }
     {
         self.arena.get_list_reader(self.at, self.list)
@@ -63,11 +68,15 @@ impl<'a> ListBuilder<'a> {
 
     /// A reader of the list for as long as the builder would be there, as `as_reader`. The message stays as it is; only
     /// `Arena::into_list_reader` says so to a caller.
+    #[inline(always)]
     pub fn into_reader(self) -> ListReader<'a>
         requires forest { Forest (segment self.arena.now) self.at }
         requires there { shape_at (segment self.arena.now) self.at ≡ list_shape self.list }
-        ensures read { list_of result ≡ listed_tree (tree_below 65535 (segment self.entry.arena.now ∷ []) (segment self.entry.arena.now) self.entry.at) self.entry.list }
-        ensures list { IsBelow 65535 (list_tree self.entry) → list_of result ≡ listed_tree (list_tree self.entry) self.entry.list }
+        ensures read { list_of result ≡ listed_tree
+            (tree_below 65535 (segment self.entry.arena.now ∷ [])
+            (segment self.entry.arena.now) self.entry.at) self.entry.list }
+        ensures list { IsBelow 65535 (list_tree self.entry)
+            → list_of result ≡ listed_tree (list_tree self.entry) self.entry.list }
         ensures levels { list_levels result ≡ 64 }
     {
         let ListBuilder { arena, at, list } = self;
@@ -75,6 +84,7 @@ impl<'a> ListBuilder<'a> {
     }
 
     /// How many elements there are.
+    #[inline(always)]
     pub fn len(&self) -> u32
         requires forest { Forest (segment self.now.arena.now) self.now.at }
         requires there { shape_at (segment self.now.arena.now) self.now.at ≡ list_shape self.now.list }
@@ -84,6 +94,7 @@ impl<'a> ListBuilder<'a> {
     }
 
     /// Whether there is no element.
+    #[inline(always)]
     pub fn is_empty(&self) -> bool
         requires forest { Forest (segment self.now.arena.now) self.now.at }
         requires there { shape_at (segment self.now.arena.now) self.now.at ≡ list_shape self.now.list }
@@ -94,6 +105,7 @@ impl<'a> ListBuilder<'a> {
 
     /// The size of the elements, as the list has it: of one that is not there yet, the size that was asked (encoding,
     /// "Lists").
+    #[inline(always)]
     pub fn get_element_size(&self) -> ElementSize
         requires forest { Forest (segment self.now.arena.now) self.now.at }
         requires there { shape_at (segment self.now.arena.now) self.now.at ≡ list_shape self.now.list }
@@ -103,6 +115,7 @@ impl<'a> ListBuilder<'a> {
     }
 
     /// The bit at `index`; false where the elements are no bits, and past the end.
+    #[inline(always)]
     pub fn get_bool_element(&self, index: u32) -> bool
         requires forest { Forest (segment self.now.arena.now) self.now.at }
         requires there { shape_at (segment self.now.arena.now) self.now.at ≡ list_shape self.now.list }
@@ -112,18 +125,21 @@ impl<'a> ListBuilder<'a> {
     }
 
     /// Stores the bit at `index`. There has to be a bit at `index`.
+    #[inline(always)]
     pub fn set_bool_element(&mut self, index: u32, value: bool)
         requires forest { Forest (segment self.old.arena.now) self.old.at }
         requires bit { HasBit (list_tree self.old) index }
         ensures same { self.new.arena.ghost_name ≡ self.old.arena.ghost_name }
         ensures at { self.new.at ≡ self.old.at }
         ensures list { self.new.list ≡ self.old.list }
-        ensures leaves { Leaves self.old.at (with_bit_element index value (list_tree self.old)) (segment self.old.arena.now) (segment self.new.arena.now) }
+        ensures leaves { Leaves self.old.at (with_bit_element index value (list_tree self.old))
+            (segment self.old.arena.now) (segment self.new.arena.now) }
     {
         self.arena.set_bool_element(self.at, index, value);
     }
 
     /// The number at `index`: of a struct, that at its start. Zero past the end.
+    #[inline(always)]
     pub fn get_data_element<T: PrimitiveElement>(&self, index: u32) -> T
         requires forest { Forest (segment self.now.arena.now) self.now.at }
         requires there { shape_at (segment self.now.arena.now) self.now.at ≡ list_shape self.now.list }
@@ -133,18 +149,21 @@ impl<'a> ListBuilder<'a> {
     }
 
     /// Stores the number at `index`: in a struct, at its start. There has to be a number of that width at `index`.
+    #[inline(always)]
     pub fn set_data_element<T: PrimitiveElement>(&mut self, index: u32, value: T)
         requires forest { Forest (segment self.old.arena.now) self.old.at }
         requires number { HasNumber T.width (list_tree self.old) index }
         ensures same { self.new.arena.ghost_name ≡ self.old.arena.ghost_name }
         ensures at { self.new.at ≡ self.old.at }
         ensures list { self.new.list ≡ self.old.list }
-        ensures leaves { Leaves self.old.at (with_number_element T.width index (T.to_number value) (list_tree self.old)) (segment self.old.arena.now) (segment self.new.arena.now) }
+        ensures leaves { Leaves self.old.at (with_number_element T.width index (T.to_number value)
+            (list_tree self.old)) (segment self.old.arena.now) (segment self.new.arena.now) }
     {
         self.arena.set_data_element(self.at, index, value);
     }
 
     /// The struct at `index` of a list of structs. There has to be a struct at `index`.
+    #[inline(always)]
     pub fn get_struct_element(self, index: u32) -> StructBuilder<'a>
         requires forest { Forest (segment self.arena.now) self.at }
         requires there { HasStruct (list_tree self) index }
@@ -152,8 +171,11 @@ impl<'a> ListBuilder<'a> {
         ensures now { result.arena.now ≡ self.entry.arena.now }
         ensures planted { IsStruct result }
         ensures tree { built_struct result ≡ element_struct (list_tree self.entry) index }
-        ensures leaves { (new : List ℕ) → Planted new (part result.place) → PartChanges (part result.place) (segment self.entry.arena.now) new
-            → Leaves self.entry.at (with_struct_element index (struct_from new result.place.start result.place.data_words result.place.pointers) (list_tree self.entry)) (segment self.entry.arena.now) new }
+        ensures leaves { (new : List ℕ) → Planted new (part result.place)
+            → PartChanges (part result.place) (segment self.entry.arena.now) new
+            → Leaves self.entry.at (with_struct_element index
+            (struct_from new result.place.start result.place.data_words result.place.pointers) (list_tree self.entry))
+            (segment self.entry.arena.now) new }
     {
         let ListBuilder { arena, at, list: _ } = self;
         let place = arena.get_struct_at(at, index);
@@ -161,6 +183,7 @@ impl<'a> ListBuilder<'a> {
     }
 
     /// The same for a shorter time. What is left there is what this builder has then.
+    #[inline(always)]
     pub fn struct_element_mut(&mut self, index: u32) -> StructBuilder<'_>
         requires forest { Forest (segment self.old.arena.now) self.old.at }
         requires there { HasStruct (list_tree self.old) index }
@@ -168,8 +191,11 @@ impl<'a> ListBuilder<'a> {
         ensures now { result.arena.now ≡ self.old.arena.now }
         ensures planted { IsStruct result }
         ensures tree { built_struct result ≡ element_struct (list_tree self.old) index }
-        ensures leaves { (new : List ℕ) → Planted new (part result.place) → PartChanges (part result.place) (segment self.old.arena.now) new
-            → Leaves self.old.at (with_struct_element index (struct_from new result.place.start result.place.data_words result.place.pointers) (list_tree self.old)) (segment self.old.arena.now) new }
+        ensures leaves { (new : List ℕ) → Planted new (part result.place)
+            → PartChanges (part result.place) (segment self.old.arena.now) new
+            → Leaves self.old.at (with_struct_element index
+            (struct_from new result.place.start result.place.data_words result.place.pointers) (list_tree self.old))
+            (segment self.old.arena.now) new }
     {
         let place = self.arena.get_struct_at(self.at, index);
         let arena = &mut *self.arena;
@@ -177,6 +203,7 @@ impl<'a> ListBuilder<'a> {
     }
 
     /// The pointer at `index`: of a list of structs, the first of the struct. There has to be a pointer at `index`.
+    #[inline(always)]
     pub fn get_pointer_element(self, index: u32) -> PointerBuilder<'a>
         requires forest { Forest (segment self.arena.now) self.at }
         requires pointer { HasPointer (list_tree self) index }
@@ -186,7 +213,8 @@ impl<'a> ListBuilder<'a> {
         ensures forest { IsPointer result }
         ensures tree { pointer_tree result ≡ element_pointer (list_tree self.entry) index 1 }
         ensures leaves { (new : List ℕ) → Forest new result.at → Changes result.at (segment self.entry.arena.now) new
-            → Leaves self.entry.at (with_pointer_element index (tree new result.at) (list_tree self.entry)) (segment self.entry.arena.now) new }
+            → Leaves self.entry.at (with_pointer_element index (tree new result.at) (list_tree self.entry))
+            (segment self.entry.arena.now) new }
     {
         let ListBuilder { arena, at, list: _ } = self;
         let at = arena.get_pointer_element(at, index);
@@ -194,6 +222,7 @@ impl<'a> ListBuilder<'a> {
     }
 
     /// The same for a shorter time. What is left there is what this builder has then.
+    #[inline(always)]
     pub fn pointer_element_mut(&mut self, index: u32) -> PointerBuilder<'_>
         requires forest { Forest (segment self.old.arena.now) self.old.at }
         requires pointer { HasPointer (list_tree self.old) index }
@@ -203,7 +232,8 @@ impl<'a> ListBuilder<'a> {
         ensures forest { IsPointer result }
         ensures tree { pointer_tree result ≡ element_pointer (list_tree self.old) index 1 }
         ensures leaves { (new : List ℕ) → Forest new result.at → Changes result.at (segment self.old.arena.now) new
-            → Leaves self.old.at (with_pointer_element index (tree new result.at) (list_tree self.old)) (segment self.old.arena.now) new }
+            → Leaves self.old.at (with_pointer_element index (tree new result.at) (list_tree self.old))
+            (segment self.old.arena.now) new }
     {
         let at = self.arena.get_pointer_element(self.at, index);
         let arena = &mut *self.arena;

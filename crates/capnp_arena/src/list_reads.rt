@@ -63,8 +63,8 @@ impl Arena {
     ghost use Rattle.capnp_arena.specs.Segment.{segment};
     ghost use Rattle.capnp_arena.specs.Shape.{CompositeIn, StructIn, shape_at};
 
-    /// The list that the pointer at a word leads to, as one of elements of a size. A null is a list without elements, and
-    /// stays null. `size` must not be `InlineComposite`.
+    /// The list that the pointer at a word leads to, as one of elements of a size. A null is a list without elements,
+    /// and stays null. `size` must not be `InlineComposite`.
     ///
     /// Refused with `WrongPointerKind` for a struct, and with `WrongElementSize` for a list that is not read so.
     pub fn get_list(&self, at: usize, size: ElementSize) -> Result<ListTarget>
@@ -168,11 +168,14 @@ impl Arena {
     #[inline(always)]
     pub fn get_struct_element(&self, at: usize, list: StructsPlace, index: u32) -> Place
         requires forest { Forest (segment self.now) at }
-        requires there { shape_at (segment self.now) at ≡ CompositeIn list.tag list.count list.data_words list.pointers }
+        requires there { shape_at (segment self.now) at
+            ≡ CompositeIn list.tag list.count list.data_words list.pointers }
         requires inside { index < list.count }
-        ensures place { (result.start ≡ list.tag + 1 + index * (list.data_words + list.pointers)) × (result.data_words ≡ list.data_words) × (result.pointers ≡ list.pointers) }
+        ensures place { (result.start ≡ list.tag + 1 + index * (list.data_words + list.pointers))
+            × (result.data_words ≡ list.data_words) × (result.pointers ≡ list.pointers) }
         ensures planted { Planted (segment self.now) (StructIn result.start result.data_words result.pointers) }
-        ensures tree { struct_from (segment self.now) result.start result.data_words result.pointers ≡ element_struct (tree (segment self.now) at) index }
+        ensures tree { struct_from (segment self.now) result.start result.data_words result.pointers
+            ≡ element_struct (tree (segment self.now) at) index }
     {
         let step = list.data_words as usize + list.pointers as usize;
         Place {

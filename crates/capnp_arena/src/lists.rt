@@ -55,7 +55,8 @@ impl Arena {
         requires planted { Planted (segment self.old) (StructIn place.start place.data_words place.pointers) }
         requires inside { offset < 64 * place.data_words }
         ensures planted { Planted (segment self.new) (StructIn place.start place.data_words place.pointers) }
-        ensures changes { PartChanges (StructIn place.start place.data_words place.pointers) (segment self.old) (segment self.new) }
+        ensures changes { PartChanges (StructIn place.start place.data_words place.pointers) (segment self.old)
+            (segment self.new) }
         ensures tree { struct_from (segment self.new) place.start place.data_words place.pointers ≡
             with_bytes (struct_from (segment self.old) place.start place.data_words place.pointers)
             (with_bit offset value (struct_from (segment self.old) place.start place.data_words place.pointers).bytes) }
@@ -83,7 +84,8 @@ impl Arena {
         requires inside { index < list.count }
         ensures forest { Forest (segment self.new) at }
         ensures there { shape_at (segment self.new) at ≡ ListIn list.start (size_number list.size) list.count }
-        ensures tree { tree (segment self.new) at ≡ with_number_element T.width index (T.to_number value) (tree (segment self.old) at) }
+        ensures tree { tree (segment self.new) at
+            ≡ with_number_element T.width index (T.to_number value) (tree (segment self.old) at) }
         ensures changes { Changes at (segment self.old) (segment self.new) }
     {
         write_number(

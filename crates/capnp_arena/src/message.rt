@@ -1,32 +1,64 @@
 //! Whole messages that are built, and what is written of them.
-ghost use Rattle.std.specs.Prelude.{IfOk, suc, ◌*◌, ◌++◌, ◌+◌, ◌/◌, ◌<◌, ◌^◌, ◌≡◌, ◌≤◌, length};
-ghost use Rattle.capnp_wire.specs.Encoding.{message_of};
+ghost use Rattle.std.specs.Prelude.{IfOk, suc, [], ◌*◌, ◌++◌, ◌+◌, ◌/◌, ◌<◌, ◌^◌, ◌≡◌, ◌≤◌, length};
+ghost use Rattle.capnp_wire.specs.Encoding.{encoding_of, message_of};
 ghost use Rattle.capnp_wire.specs.WellFormed.{IsWellFormed};
 ghost use Rattle.capnp_wire.specs.Words.{words_of};
 ghost use Rattle.capnp_arena.specs.Forest.{Forest, tree};
 ghost use Rattle.capnp_arena.specs.Shape.{word_count};
 
-use crate::append::{Appended, append_half};
+use crate::append::{Appended, append_half, append_word};
 use crate::arena::Arena;
-use crate::compact::append_encoding;
+use crate::compact::append_anew;
 use crate::count::count_words;
+use crate::in_order::is_in_order;
+use crate::spell::put_half;
 use capnp_device::device::Sink;
-use capnp_device::error::{Error, ErrorKind, Result};
+use capnp_device::error::Result;
 use capnp_device::transfer::write_all;
 
-/// The table of one segment of so many words and a root pointer, the pointer, and what it leads to.
-fn append_message(out: &mut Vec<u8>, bytes: &[u8], words: u32) -> Appended
+/// The table of one segment, its root pointer, and what that leads to, made from the tree.
+fn append_made(out: &mut Vec<u8>, bytes: &[u8]) -> Appended
+    requires new { out.old.items ≡ [] }
     requires forest { Forest bytes.now 0 }
     requires few { word_count bytes.now < 2 ^ 29 }
-    requires whole { length bytes.now ≡ 8 * word_count bytes.now }
-    requires size { (words ≡ words_of (tree bytes.now 0)) × (suc words < 2 ^ 29) }
-    ensures bytes { IfOk result (λ _. out.new.items ≡ out.old.items ++ message_of (tree bytes.now 0)) }
+    ensures bytes { IfOk result (λ _. out.new.items ≡ message_of (tree bytes.now 0)) }
+    ensures held { IfOk result (λ _. IsWellFormed (tree bytes.now 0)) }
+{
+    append_word(out, 0)?;
+    append_anew(out, bytes)?;
+    // the number of words is known now
+    let words = (out.len() / 8 - 1) as u32;
+    put_half(out, 4, words);
+    Ok(())
+}
+
+/// The table of a segment that is the encoding already, and the segment.
+fn append_whole(out: &mut Vec<u8>, bytes: &[u8]) -> Appended
+    requires new { out.old.items ≡ [] }
+    requires few { word_count bytes.now < 2 ^ 29 }
+    requires order { bytes.now ≡ encoding_of (tree bytes.now 0) }
+    ensures bytes { IfOk result (λ _. out.new.items ≡ message_of (tree bytes.now 0)) }
     ensures held { IfOk result (λ _. IsWellFormed (tree bytes.now 0)) }
 {
     append_half(out, 0)?;
-    append_half(out, words + 1)?;
-    append_encoding(out, bytes)?;
+    append_half(out, (bytes.len() / 8) as u32)?;
+    out.extend_from_slice(bytes)?;
     Ok(())
+}
+
+/// The table of one segment, its root pointer, and what that leads to: the segment as it is, where it is that already.
+fn append_message(out: &mut Vec<u8>, bytes: &[u8]) -> Appended
+    requires new { out.old.items ≡ [] }
+    requires forest { Forest bytes.now 0 }
+    requires few { word_count bytes.now < 2 ^ 29 }
+    requires whole { length bytes.now ≡ 8 * word_count bytes.now }
+    ensures bytes { IfOk result (λ _. out.new.items ≡ message_of (tree bytes.now 0)) }
+    ensures held { IfOk result (λ _. IsWellFormed (tree bytes.now 0)) }
+{
+    if is_in_order(bytes) {
+        return append_whole(out, bytes);
+    }
+    append_made(out, bytes)
 }
 
 /// A message that is built: its words.
@@ -34,10 +66,20 @@ fn append_message(out: &mut Vec<u8>, bytes: &[u8], words: u32) -> Appended
 /// It is no struct round the words: what a builder of the root leaves is known by its reference, which is the message's
 /// own. A message is one as long as a tree stands at the root (`IsMessage`), as each builder's contract says of what it
 /// leaves; so the calls that read it ask for that.
+///
+/// # Example
+///
+/// ```rust
+/// let mut message = Builder::new(alloc)?;
+/// let mut root = message.root().init_struct(SIZE)?;
+/// root.set_data_field(0, id);
+/// root.get_pointer_field(0).set_text(name.as_bytes())?;
+/// message.write_message_to(sink)
+/// ```
 pub type Builder = Arena;
 
 impl Arena {
-    ghost use Rattle.std.specs.Prelude.{IfErr, OnOk, ◌≢◌};
+    ghost use Rattle.std.specs.Prelude.{IfErr, IsOk, OnOk, ◌≢◌};
     ghost use Rattle.capnp_device.specs.Device.{HasFailed, HasWorked};
     ghost use Rattle.capnp_device.specs.declared.error.ErrorKind.TheVariants.{OutOfMemory, TooLarge, WriteFailed};
     ghost use Rattle.capnp_wire.specs.Message.{IsCutShort, IsReadAs, IsWritten};
@@ -47,60 +89,62 @@ impl Arena {
     /// The words of the message's segment as it is written: one for the root pointer, and those of each object that it
     /// leads to, the tag of a composite list with them. Takes no memory.
     ///
-    /// Refused with `TooLarge` where what the root leads to has 2^29 words or more.
+    /// Never refused: no message in memory has 2^29 words.
     pub fn size_in_words(&self) -> Result<u64>
         requires message { IsMessage self.now }
         ensures words { IfOk result (λ words. words ≡ suc (words_of (message_tree self.now))) }
-        ensures refused { IfErr result (λ e. (e.kind ≡ TooLarge) × (2 ^ 29 ≤ words_of (message_tree self.now))) }
+        ensures fits { suc (words_of (message_tree self.now)) < 2 ^ 29 }
+        ensures succeeds { IsOk result }
     {
         let Some(words) = count_words(self.bytes.as_slice(), 0) else {
-            return Err(Error::from(ErrorKind::TooLarge));
+            unreachable!()
         };
         Ok(words + 1)
     }
 
-    /// The bytes of the message in a stream: one segment, with what the root leads to and nothing else. The message takes
-    /// its memory once.
+    /// The bytes of the message in a stream: one segment, with what the root leads to and nothing else. The message
+    /// takes its memory once.
     ///
-    /// Refused with `TooLarge` where the message's segment would be 2^29 words or more, and else with `OutOfMemory`.
+    /// Refused with `OutOfMemory`: no message in memory has 2^29 words.
     pub fn write_message(&self) -> Result<Vec<u8>>
         requires forest { Forest (segment self.now) 0 }
         ensures bytes { IfOk result (λ v. v.items ≡ message_of (tree (segment self.now) 0)) }
-        ensures held { IfOk result (λ _. IsWellFormed (tree (segment self.now) 0) × (suc (words_of (tree (segment self.now) 0)) < 2 ^ 29)) }
+        ensures held { IfOk result (λ _. IsWellFormed (tree (segment self.now) 0)
+            × (suc (words_of (tree (segment self.now) 0)) < 2 ^ 29)) }
         ensures read { IfOk result (λ v. IsReadAs (tree (segment self.now) 0) v.items) }
         ensures kinds { IfErr result (λ e. e.kind ≢ TooLarge → e.kind ≡ OutOfMemory) }
+        ensures kind { IfErr result (λ e. e.kind ≡ OutOfMemory) }
         ensures refused { IfErr result (λ e. e.kind ≡ TooLarge → 2 ^ 29 ≤ suc (words_of (tree (segment self.now) 0))) }
-        ensures memory { IfErr result (λ e. e.kind ≡ OutOfMemory → suc (words_of (tree (segment self.now) 0)) < 2 ^ 29) }
+        ensures fits { suc (words_of (tree (segment self.now) 0)) < 2 ^ 29 }
     {
         let bytes = self.bytes.as_slice();
-        let Some(words) = count_words(bytes, 0) else {
-            return Err(Error::from(ErrorKind::TooLarge));
-        };
-        if words + 1 >= 1 << 29 {
-            return Err(Error::from(ErrorKind::TooLarge));
-        }
-        let mut out = Vec::with_capacity(*self.bytes.allocator(), 8 * words as usize + 16)?;
-        append_message(&mut out, bytes, words as u32)?;
+        let mut out = Vec::with_capacity(*self.bytes.allocator(), bytes.len() + 8)?;
+        append_message(&mut out, bytes)?;
         Ok(out)
     }
 
     /// Writes the message's bytes, those of `write_message`, to a sink. They are made whole before the first of them is
     /// written.
     ///
-    /// Refused as `write_message`, and then nothing was written; and with `WriteFailed` where a call of the sink failed,
-    /// and then a proper beginning of the bytes was written.
+    /// Refused as `write_message`, and then nothing was written; and with `WriteFailed` where a call of the sink
+    /// failed, and then a proper beginning of the bytes was written.
     pub fn write_message_to<W: Sink>(&self, sink: &mut W) -> Result<()>
         requires message { IsMessage self.now }
         ensures written { OnOk result (IsWritten (message_tree self.now) (W.written sink.old) (W.written sink.new)) }
         ensures worked { OnOk result (HasWorked (W.failures sink.old) (W.failures sink.new)) }
-        ensures held { OnOk result (IsWellFormed (message_tree self.now) × (suc (words_of (message_tree self.now)) < 2 ^ 29)) }
+        ensures held { OnOk result (IsWellFormed (message_tree self.now)
+            × (suc (words_of (message_tree self.now)) < 2 ^ 29)) }
         ensures read { OnOk result (IsReadAs (message_tree self.now) (message_of (message_tree self.now))) }
         ensures kinds { IfErr result (λ e. e.kind ≢ TooLarge → e.kind ≢ OutOfMemory → e.kind ≡ WriteFailed) }
+        ensures kind { IfErr result (λ e. e.kind ≢ OutOfMemory → e.kind ≡ WriteFailed) }
         ensures refused { IfErr result (λ e. e.kind ≡ TooLarge → 2 ^ 29 ≤ suc (words_of (message_tree self.now))) }
-        ensures fits { IfErr result (λ e. e.kind ≢ TooLarge → IsWellFormed (message_tree self.now) × (suc (words_of (message_tree self.now)) < 2 ^ 29)) }
+        ensures fits { IfErr result (λ e. e.kind ≢ TooLarge → IsWellFormed (message_tree self.now)
+            × (suc (words_of (message_tree self.now)) < 2 ^ 29)) }
         ensures nothing { IfErr result (λ e. e.kind ≢ WriteFailed → sink.new ≡ sink.old) }
-        ensures failed { IfErr result (λ e. e.kind ≡ WriteFailed → HasFailed (W.failures sink.old) (W.failures sink.new)) }
-        ensures beginning { IfErr result (λ e. e.kind ≡ WriteFailed → IsCutShort (message_tree self.now) (W.written sink.old) (W.written sink.new)) }
+        ensures failed { IfErr result (λ e. e.kind ≡ WriteFailed
+            → HasFailed (W.failures sink.old) (W.failures sink.new)) }
+        ensures beginning { IfErr result (λ e. e.kind ≡ WriteFailed
+            → IsCutShort (message_tree self.now) (W.written sink.old) (W.written sink.new)) }
     {
         self.tree_is_sound(0);
         let bytes = self.write_message()?;

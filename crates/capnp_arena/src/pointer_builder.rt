@@ -1,7 +1,7 @@
 //! Builders of pointers: a reference to the message beside the pointer's word.
 //!
-//! A call by value takes the step that can be refused first, and then hands the reference on. What the message ends as is
-//! known by that reference: `same` where a handle is answered, and `rests` where the call is refused.
+//! A call by value takes the step that can be refused first, and then hands the reference on. What the message ends as
+//! is known by that reference: `same` where a handle is answered, and `rests` where the call is refused.
 
 use crate::arena::Arena;
 use crate::list_builder::ListBuilder;
@@ -41,6 +41,7 @@ impl<'a> PointerBuilder<'a> {
     ghost use Rattle.capnp_arena.specs.Shape.{StructIn, shape_at, word_count};
 
     /// The same pointer for a shorter time. What is left there is what this builder has then.
+    #[inline(always)]
     pub fn reborrow(&mut self) -> PointerBuilder<'_>
         ensures* lends { sem 𝓛 (LentByPointer self.entry result.arena) }
         ensures now { result.arena.now ≡ self.old.arena.now }
@@ -51,22 +52,26 @@ impl<'a> PointerBuilder<'a> {
         PointerBuilder { arena, at }
     }
 
-    /// A reader of the pointer, with 64 levels. Its tree is cut off past 65,534 levels, which only walks of a whole tree
-    /// can see.
+    /// A reader of the pointer, with 64 levels. Its tree is cut off past 65,534 levels, which only walks of a whole
+    /// tree can see.
+    #[inline(always)]
     pub fn as_reader(&self) -> PointerReader<'_>
         requires forest { IsPointer self.now }
-        ensures read { tree_of result ≡ tree_below 65535 (segment self.now.arena.now ∷ []) (segment self.now.arena.now) self.now.at }
+        ensures read { tree_of result ≡ tree_below 65535 (segment self.now.arena.now ∷ [])
+            (segment self.now.arena.now) self.now.at }
         ensures tree { IsBelow 65535 (pointer_tree self.now) → tree_of result ≡ pointer_tree self.now }
         ensures levels { levels_of result ≡ 64 }
     {
         self.arena.get_pointer_reader(self.at)
     }
 
-    /// A reader of the pointer for as long as the builder would be there, as `as_reader`. The message stays as it is; only
-    /// `Arena::into_pointer_reader` says so to a caller.
+    /// A reader of the pointer for as long as the builder would be there, as `as_reader`. The message stays as it is;
+    /// only `Arena::into_pointer_reader` says so to a caller.
+    #[inline(always)]
     pub fn into_reader(self) -> PointerReader<'a>
         requires forest { IsPointer self }
-        ensures read { tree_of result ≡ tree_below 65535 (segment self.entry.arena.now ∷ []) (segment self.entry.arena.now) self.entry.at }
+        ensures read { tree_of result ≡ tree_below 65535 (segment self.entry.arena.now ∷ [])
+            (segment self.entry.arena.now) self.entry.at }
         ensures tree { IsBelow 65535 (pointer_tree self.entry) → tree_of result ≡ pointer_tree self.entry }
         ensures levels { levels_of result ≡ 64 }
     {
@@ -75,6 +80,7 @@ impl<'a> PointerBuilder<'a> {
     }
 
     /// Whether the pointer is null.
+    #[inline(always)]
     pub fn is_null(&self) -> bool
         requires forest { IsPointer self.now }
         ensures { result ≡ is_null_tree (pointer_tree self.now) }
@@ -83,6 +89,7 @@ impl<'a> PointerBuilder<'a> {
     }
 
     /// Whether the pointer leads to a struct.
+    #[inline(always)]
     pub fn is_struct(&self) -> bool
         requires forest { IsPointer self.now }
         ensures { result ≡ is_struct (pointer_tree self.now) }
@@ -91,6 +98,7 @@ impl<'a> PointerBuilder<'a> {
     }
 
     /// Whether the pointer leads to a list.
+    #[inline(always)]
     pub fn is_list(&self) -> bool
         requires forest { IsPointer self.now }
         ensures { result ≡ is_list (pointer_tree self.now) }
@@ -99,6 +107,7 @@ impl<'a> PointerBuilder<'a> {
     }
 
     /// Makes the pointer null. What it led to stays where it was; no memory is taken.
+    #[inline(always)]
     pub fn clear(&mut self)
         requires inside { self.old.at < word_count (segment self.old.arena.now) }
         ensures same { self.new.arena.ghost_name ≡ self.old.arena.ghost_name }
@@ -110,21 +119,25 @@ impl<'a> PointerBuilder<'a> {
         self.arena.clear(self.at);
     }
 
-    /// The struct that stands here, with at least a size: a null becomes a struct of that size, all zero and null, and a
-    /// smaller struct gets zeros and nulls after what it has.
+    /// The struct that stands here, with at least a size: a null becomes a struct of that size, all zero and null, and
+    /// a smaller struct gets zeros and nulls after what it has.
     ///
-    /// Refused with `WrongPointerKind` for a list, and else with `OutOfMemory`; then nothing has changed. A struct that is
-    /// large enough takes no memory and is never refused.
+    /// Refused with `WrongPointerKind` for a list, and else with `OutOfMemory`; then nothing has changed. A struct that
+    /// is large enough takes no memory and is never refused.
     #[tactic(auto, using(crate::specs::Facts::Laws::struct_planted))]
+    #[inline(always)]
     pub fn get_struct(self, size: StructSize) -> Result<StructBuilder<'a>>
         requires forest { Forest (segment self.arena.now) self.at }
         ensures* rests { sem 𝓛 (StructRests self.entry.arena result) }
         ensures same { IfOk result (λ s. s.arena.ghost_name ≡ self.entry.arena.ghost_name) }
         ensures forest { IfOk result (λ s. Forest (segment s.arena.now) self.entry.at) }
-        ensures place { IfOk result (λ s. shape_at (segment s.arena.now) self.entry.at ≡ StructIn s.place.start s.place.data_words s.place.pointers) }
+        ensures place { IfOk result (λ s. shape_at (segment s.arena.now) self.entry.at
+            ≡ StructIn s.place.start s.place.data_words s.place.pointers) }
         ensures planted { IfOk result IsStruct }
-        ensures tree { IfOk result (λ s. tree (segment s.arena.now) self.entry.at ≡ struct_tree (extended size (struct_in (tree (segment self.entry.arena.now) self.entry.at)))) }
-        ensures changes { IfOk result (λ s. Changes self.entry.at (segment self.entry.arena.now) (segment s.arena.now)) }
+        ensures tree { IfOk result (λ s. tree (segment s.arena.now) self.entry.at
+            ≡ struct_tree (extended size (struct_in (tree (segment self.entry.arena.now) self.entry.at)))) }
+        ensures changes { IfOk result (λ s. Changes self.entry.at (segment self.entry.arena.now)
+            (segment s.arena.now)) }
         ensures within { OnOk result (struct_refusal (pointer_tree self.entry) ≡ None) }
         ensures cause { IfErr result (λ e. IsStructRefusal e (tree (segment self.entry.arena.now) self.entry.at)) }
         ensures succeeds { HoldsStruct size (pointer_tree self.entry) → IsOk result }
@@ -139,6 +152,7 @@ impl<'a> PointerBuilder<'a> {
     ///
     /// Refused with `WrongPointerKind` for a struct, and with `WrongElementSize` for a list that is not read so; then
     /// nothing has changed. No memory is taken.
+    #[inline(always)]
     pub fn get_list(self, size: ElementSize) -> Result<ListBuilder<'a>>
         requires forest { IsPointer self }
         requires simple { size ≢ ElementSize.InlineComposite }
@@ -147,7 +161,8 @@ impl<'a> PointerBuilder<'a> {
         ensures now { IfOk result (λ l. l.arena.now ≡ self.entry.arena.now) }
         ensures at { IfOk result (λ l. l.at ≡ self.entry.at) }
         ensures place { IfOk result (λ l. shape_at (segment l.arena.now) l.at ≡ list_shape l.list) }
-        ensures read { IfOk result (λ l. as_list size (pointer_tree self.entry) 1 ≡ Ok (listed_tree (pointer_tree self.entry) l.list)) }
+        ensures read { IfOk result (λ l. as_list size (pointer_tree self.entry) 1
+            ≡ Ok (listed_tree (pointer_tree self.entry) l.list)) }
         ensures cause { IfErr result (λ e. as_list size (pointer_tree self.entry) 1 ≡ Err e.kind) }
     {
         let PointerBuilder { arena, at } = self;
@@ -162,6 +177,7 @@ impl<'a> PointerBuilder<'a> {
     /// Refused with `WrongPointerKind` for a struct, with `WrongElementSize` for a list of bits, with `SizePastFormat`
     /// where the structs would take 2^29 words or more, and else with `OutOfMemory`; then nothing has changed. A null,
     /// and a list of structs that have at least the size, take no memory and are never refused.
+    #[inline(always)]
     pub fn get_struct_list(self, size: StructSize) -> Result<ListBuilder<'a>>
         requires forest { IsPointer self }
         ensures* rests { sem 𝓛 (ListRests self.entry.arena result) }
@@ -170,8 +186,10 @@ impl<'a> PointerBuilder<'a> {
         ensures forest { IfOk result (λ l. Forest (segment l.arena.now) l.at) }
         ensures place { IfOk result (λ l. shape_at (segment l.arena.now) l.at ≡ list_shape l.list) }
         ensures tree { IfOk result (λ l. tree (segment l.arena.now) l.at ≡ struct_list size (pointer_tree self.entry)) }
-        ensures reads { IfOk result (λ l. listed_tree (tree (segment l.arena.now) l.at) l.list ≡ or_empty ElementSize.InlineComposite (struct_list size (pointer_tree self.entry))) }
-        ensures changes { IfOk result (λ l. Changes self.entry.at (segment self.entry.arena.now) (segment l.arena.now)) }
+        ensures reads { IfOk result (λ l. listed_tree (tree (segment l.arena.now) l.at) l.list
+            ≡ or_empty ElementSize.InlineComposite (struct_list size (pointer_tree self.entry))) }
+        ensures changes { IfOk result (λ l. Changes self.entry.at (segment self.entry.arena.now)
+            (segment l.arena.now)) }
         ensures within { OnOk result (struct_list_refusal size (pointer_tree self.entry) ≡ None) }
         ensures cause { IfErr result (λ e. IsDueRefusal e (struct_list_refusal size (pointer_tree self.entry))) }
         ensures succeeds { HoldsStructs size (pointer_tree self.entry) → IsOk result }
@@ -185,16 +203,19 @@ impl<'a> PointerBuilder<'a> {
     ///
     /// Refused with `OutOfMemory`; then nothing has changed.
     #[tactic(auto, using(crate::specs::Facts::Laws::struct_planted))]
+    #[inline(always)]
     pub fn init_struct(self, size: StructSize) -> Result<StructBuilder<'a>>
         requires { self.at < word_count (segment self.arena.now) }
         ensures* rests { sem 𝓛 (StructRests self.entry.arena result) }
         ensures same { IfOk result (λ s. s.arena.ghost_name ≡ self.entry.arena.ghost_name) }
         ensures forest { IfOk result (λ s. Forest (segment s.arena.now) self.entry.at) }
-        ensures place { IfOk result (λ s. shape_at (segment s.arena.now) self.entry.at ≡ StructIn s.place.start s.place.data_words s.place.pointers) }
+        ensures place { IfOk result (λ s. shape_at (segment s.arena.now) self.entry.at
+            ≡ StructIn s.place.start s.place.data_words s.place.pointers) }
         ensures planted { IfOk result IsStruct }
         ensures size { IfOk result (λ s. (s.place.data_words ≡ size.data_words) × (s.place.pointers ≡ size.pointers)) }
         ensures tree { IfOk result (λ s. tree (segment s.arena.now) self.entry.at ≡ struct_tree (zero_struct size)) }
-        ensures changes { IfOk result (λ s. Changes self.entry.at (segment self.entry.arena.now) (segment s.arena.now)) }
+        ensures changes { IfOk result (λ s. Changes self.entry.at (segment self.entry.arena.now)
+            (segment s.arena.now)) }
         ensures kind { IfErr result (λ e. e.kind ≡ OutOfMemory) }
     {
         let PointerBuilder { arena, at } = self;
@@ -206,6 +227,7 @@ impl<'a> PointerBuilder<'a> {
     /// `InlineComposite`.
     ///
     /// Refused with `SizePastFormat` for 2^29 elements or more, and else with `OutOfMemory`; then nothing has changed.
+    #[inline(always)]
     pub fn init_list(self, size: ElementSize, count: u32) -> Result<ListBuilder<'a>>
         requires inside { self.at < word_count (segment self.arena.now) }
         requires simple { size ≢ ElementSize.InlineComposite }
@@ -215,7 +237,8 @@ impl<'a> PointerBuilder<'a> {
         ensures forest { IfOk result (λ l. Forest (segment l.arena.now) l.at) }
         ensures place { IfOk result (λ l. shape_at (segment l.arena.now) l.at ≡ list_shape l.list) }
         ensures tree { IfOk result (λ l. tree (segment l.arena.now) l.at ≡ zero_list size count) }
-        ensures changes { IfOk result (λ l. Changes self.entry.at (segment self.entry.arena.now) (segment l.arena.now)) }
+        ensures changes { IfOk result (λ l. Changes self.entry.at (segment self.entry.arena.now)
+            (segment l.arena.now)) }
         ensures within { OnOk result (count < 2 ^ 29) }
         ensures cause { IfErr result (λ e. IsRoomRefusal e (2 ^ 29 ≤ count)) }
     {
@@ -229,6 +252,7 @@ impl<'a> PointerBuilder<'a> {
     ///
     /// Refused with `SizePastFormat` for 2^29 elements or more, or where they take 2^29 words or more, and else with
     /// `OutOfMemory`; then nothing has changed.
+    #[inline(always)]
     pub fn init_struct_list(self, count: u32, size: StructSize) -> Result<ListBuilder<'a>>
         requires inside { self.at < word_count (segment self.arena.now) }
         ensures* rests { sem 𝓛 (ListRests self.entry.arena result) }
@@ -237,9 +261,11 @@ impl<'a> PointerBuilder<'a> {
         ensures forest { IfOk result (λ l. Forest (segment l.arena.now) l.at) }
         ensures place { IfOk result (λ l. shape_at (segment l.arena.now) l.at ≡ list_shape l.list) }
         ensures tree { IfOk result (λ l. tree (segment l.arena.now) l.at ≡ zero_structs size count) }
-        ensures changes { IfOk result (λ l. Changes self.entry.at (segment self.entry.arena.now) (segment l.arena.now)) }
+        ensures changes { IfOk result (λ l. Changes self.entry.at (segment self.entry.arena.now)
+            (segment l.arena.now)) }
         ensures within { OnOk result ((count < 2 ^ 29) × (count * (size.data_words + size.pointers) < 2 ^ 29)) }
-        ensures cause { IfErr result (λ e. IsRoomRefusal e ((2 ^ 29 ≤ count) ⊎ (2 ^ 29 ≤ count * (size.data_words + size.pointers)))) }
+        ensures cause { IfErr result (λ e. IsRoomRefusal e
+            ((2 ^ 29 ≤ count) ⊎ (2 ^ 29 ≤ count * (size.data_words + size.pointers)))) }
     {
         let PointerBuilder { arena, at } = self;
         let tag = arena.init_struct_list(at, count, size)?;
@@ -252,14 +278,15 @@ impl<'a> PointerBuilder<'a> {
         Ok(ListBuilder { arena, at, list })
     }
 
-    /// The struct that stands here, with at least a size: a null becomes a copy of the default first, where there is one, or
-    /// else a struct of that size, all zero and null. What is smaller is extended as by `get_struct`.
+    /// The struct that stands here, with at least a size: a null becomes a copy of the default first, where there is
+    /// one, or else a struct of that size, all zero and null. What is smaller is extended as by `get_struct`.
     ///
-    /// Refused with `WrongPointerKind` for a list, which of a null the default may be; of a null also with `BadPointer`,
-    /// `TooDeep` or `CapabilityPointer` where a pointer in the default can't be followed, by the first of these in
-    /// preorder; and else with `OutOfMemory`. Then nothing has changed. A struct that is large enough takes no memory and
-    /// is never refused.
+    /// Refused with `WrongPointerKind` for a list, which of a null the default may be; of a null also with
+    /// `BadPointer`, `TooDeep` or `CapabilityPointer` where a pointer in the default can't be followed, by the first of
+    /// these in preorder; and else with `OutOfMemory`. Then nothing has changed. A struct that is large enough takes no
+    /// memory and is never refused.
     #[tactic(auto, using(crate::specs::Facts::Laws::struct_planted))]
+    #[inline(always)]
     pub fn get_struct_or_default(
         self,
         size: StructSize,
@@ -269,12 +296,17 @@ impl<'a> PointerBuilder<'a> {
         ensures* rests { sem 𝓛 (StructRests self.entry.arena result) }
         ensures same { IfOk result (λ s. s.arena.ghost_name ≡ self.entry.arena.ghost_name) }
         ensures forest { IfOk result (λ s. Forest (segment s.arena.now) self.entry.at) }
-        ensures place { IfOk result (λ s. shape_at (segment s.arena.now) self.entry.at ≡ StructIn s.place.start s.place.data_words s.place.pointers) }
+        ensures place { IfOk result (λ s. shape_at (segment s.arena.now) self.entry.at
+            ≡ StructIn s.place.start s.place.data_words s.place.pointers) }
         ensures planted { IfOk result IsStruct }
-        ensures tree { IfOk result (λ s. tree (segment s.arena.now) self.entry.at ≡ struct_tree (filled_struct (default_tree default.entry) size (pointer_tree self.entry))) }
-        ensures changes { IfOk result (λ s. Changes self.entry.at (segment self.entry.arena.now) (segment s.arena.now)) }
-        ensures within { OnOk result (filled_struct_refusal (default_tree default.entry) (pointer_tree self.entry) ≡ None) }
-        ensures cause { IfErr result (λ e. IsDueRefusal e (filled_struct_refusal (default_tree default.entry) (pointer_tree self.entry))) }
+        ensures tree { IfOk result (λ s. tree (segment s.arena.now) self.entry.at
+            ≡ struct_tree (filled_struct (default_tree default.entry) size (pointer_tree self.entry))) }
+        ensures changes { IfOk result (λ s. Changes self.entry.at (segment self.entry.arena.now)
+            (segment s.arena.now)) }
+        ensures within { OnOk result (filled_struct_refusal (default_tree default.entry) (pointer_tree self.entry)
+            ≡ None) }
+        ensures cause { IfErr result (λ e. IsDueRefusal e
+            (filled_struct_refusal (default_tree default.entry) (pointer_tree self.entry))) }
         ensures succeeds { HoldsStruct size (pointer_tree self.entry) → IsOk result }
     {
         let PointerBuilder { arena, at } = self;
@@ -282,13 +314,14 @@ impl<'a> PointerBuilder<'a> {
         Ok(StructBuilder { arena, place })
     }
 
-    /// The list that stands here, as one of elements of a size: a null becomes a copy of the default first, where there is
-    /// one, or else is a list without elements, and stays null. `size` must not be `InlineComposite`.
+    /// The list that stands here, as one of elements of a size: a null becomes a copy of the default first, where there
+    /// is one, or else is a list without elements, and stays null. `size` must not be `InlineComposite`.
     ///
-    /// Refused with `WrongPointerKind` for a struct, and with `WrongElementSize` for a list that is not read so, which of a
-    /// null the default may be; of a null also with `BadPointer`, `TooDeep` or `CapabilityPointer` where a pointer in the
-    /// default can't be followed, by the first of these in preorder; and else with `OutOfMemory`. Then nothing has
-    /// changed. Where no default is copied no memory is taken.
+    /// Refused with `WrongPointerKind` for a struct, and with `WrongElementSize` for a list that is not read so, which
+    /// of a null the default may be; of a null also with `BadPointer`, `TooDeep` or `CapabilityPointer` where a pointer
+    /// in the default can't be followed, by the first of these in preorder; and else with `OutOfMemory`. Then nothing
+    /// has changed. Where no default is copied no memory is taken.
+    #[inline(always)]
     pub fn get_list_or_default(
         self,
         size: ElementSize,
@@ -301,11 +334,16 @@ impl<'a> PointerBuilder<'a> {
         ensures at { IfOk result (λ l. l.at ≡ self.entry.at) }
         ensures forest { IfOk result (λ l. Forest (segment l.arena.now) l.at) }
         ensures place { IfOk result (λ l. shape_at (segment l.arena.now) l.at ≡ list_shape l.list) }
-        ensures tree { IfOk result (λ l. tree (segment l.arena.now) l.at ≡ or_default (default_tree default.entry) (pointer_tree self.entry)) }
-        ensures reads { IfOk result (λ l. listed_tree (tree (segment l.arena.now) l.at) l.list ≡ or_empty size (or_default (default_tree default.entry) (pointer_tree self.entry))) }
-        ensures changes { IfOk result (λ l. Changes self.entry.at (segment self.entry.arena.now) (segment l.arena.now)) }
-        ensures within { OnOk result (filled_list_refusal (default_tree default.entry) size (pointer_tree self.entry) ≡ None) }
-        ensures cause { IfErr result (λ e. IsDueRefusal e (filled_list_refusal (default_tree default.entry) size (pointer_tree self.entry))) }
+        ensures tree { IfOk result (λ l. tree (segment l.arena.now) l.at
+            ≡ or_default (default_tree default.entry) (pointer_tree self.entry)) }
+        ensures reads { IfOk result (λ l. listed_tree (tree (segment l.arena.now) l.at) l.list
+            ≡ or_empty size (or_default (default_tree default.entry) (pointer_tree self.entry))) }
+        ensures changes { IfOk result (λ l. Changes self.entry.at (segment self.entry.arena.now)
+            (segment l.arena.now)) }
+        ensures within { OnOk result (filled_list_refusal (default_tree default.entry) size (pointer_tree self.entry)
+            ≡ None) }
+        ensures cause { IfErr result (λ e. IsDueRefusal e
+            (filled_list_refusal (default_tree default.entry) size (pointer_tree self.entry))) }
         ensures succeeds { takes_default (default_tree default.entry) (pointer_tree self.entry) ≡ false →
             filled_list_refusal (default_tree default.entry) size (pointer_tree self.entry) ≡ None → IsOk result }
     {
@@ -314,15 +352,16 @@ impl<'a> PointerBuilder<'a> {
         Ok(ListBuilder { arena, at, list })
     }
 
-    /// The list that stands here, as one of structs of at least a size: a null becomes a copy of the default first, where
-    /// there is one, or else is a list without elements, and stays null. A list becomes one of structs as by
+    /// The list that stands here, as one of structs of at least a size: a null becomes a copy of the default first,
+    /// where there is one, or else is a list without elements, and stays null. A list becomes one of structs as by
     /// `get_struct_list`.
     ///
-    /// Refused with `WrongPointerKind` for a struct, with `WrongElementSize` for a list of bits, and with `SizePastFormat`
-    /// where the structs would take 2^29 words or more, which of a null the default may be; of a null also with
-    /// `BadPointer`, `TooDeep` or `CapabilityPointer` where a pointer in the default can't be followed, by the first of
-    /// these in preorder; and else with `OutOfMemory`. Then nothing has changed. A null without a default, and a list of
-    /// structs that have at least the size, take no memory and are never refused.
+    /// Refused with `WrongPointerKind` for a struct, with `WrongElementSize` for a list of bits, and with
+    /// `SizePastFormat` where the structs would take 2^29 words or more, which of a null the default may be; of a null
+    /// also with `BadPointer`, `TooDeep` or `CapabilityPointer` where a pointer in the default can't be followed, by
+    /// the first of these in preorder; and else with `OutOfMemory`. Then nothing has changed. A null without a default,
+    /// and a list of structs that have at least the size, take no memory and are never refused.
+    #[inline(always)]
     pub fn get_struct_list_or_default(
         self,
         size: StructSize,
@@ -334,13 +373,19 @@ impl<'a> PointerBuilder<'a> {
         ensures at { IfOk result (λ l. l.at ≡ self.entry.at) }
         ensures forest { IfOk result (λ l. Forest (segment l.arena.now) l.at) }
         ensures place { IfOk result (λ l. shape_at (segment l.arena.now) l.at ≡ list_shape l.list) }
-        ensures tree { IfOk result (λ l. tree (segment l.arena.now) l.at ≡ filled_structs (default_tree default.entry) size (pointer_tree self.entry)) }
+        ensures tree { IfOk result (λ l. tree (segment l.arena.now) l.at
+            ≡ filled_structs (default_tree default.entry) size (pointer_tree self.entry)) }
         ensures reads { IfOk result (λ l. listed_tree (tree (segment l.arena.now) l.at) l.list ≡
-            or_empty ElementSize.InlineComposite (filled_structs (default_tree default.entry) size (pointer_tree self.entry))) }
-        ensures changes { IfOk result (λ l. Changes self.entry.at (segment self.entry.arena.now) (segment l.arena.now)) }
-        ensures within { OnOk result (filled_structs_refusal (default_tree default.entry) size (pointer_tree self.entry) ≡ None) }
-        ensures cause { IfErr result (λ e. IsDueRefusal e (filled_structs_refusal (default_tree default.entry) size (pointer_tree self.entry))) }
-        ensures succeeds { takes_default (default_tree default.entry) (pointer_tree self.entry) ≡ false → HoldsStructs size (pointer_tree self.entry) → IsOk result }
+            or_empty ElementSize.InlineComposite (filled_structs (default_tree default.entry) size
+            (pointer_tree self.entry))) }
+        ensures changes { IfOk result (λ l. Changes self.entry.at (segment self.entry.arena.now)
+            (segment l.arena.now)) }
+        ensures within { OnOk result (filled_structs_refusal (default_tree default.entry) size
+            (pointer_tree self.entry) ≡ None) }
+        ensures cause { IfErr result (λ e. IsDueRefusal e
+            (filled_structs_refusal (default_tree default.entry) size (pointer_tree self.entry))) }
+        ensures succeeds { takes_default (default_tree default.entry) (pointer_tree self.entry) ≡ false
+            → HoldsStructs size (pointer_tree self.entry) → IsOk result }
     {
         let PointerBuilder { arena, at } = self;
         let list = arena.get_struct_list_or_default(at, size, default)?;
@@ -350,6 +395,7 @@ impl<'a> PointerBuilder<'a> {
     /// The bytes of the data that stands here, none for a null.
     ///
     /// Refused with `WrongPointerKind` for a struct, and with `WrongElementSize` for another list.
+    #[inline(always)]
     pub fn get_data(&self) -> Result<&[u8]>
         requires forest { IsPointer self.now }
         ensures { bytes_read result ≡ as_data (pointer_tree self.now) }
@@ -360,6 +406,7 @@ impl<'a> PointerBuilder<'a> {
     /// The bytes of the text that stands here, without the zero that ends it; none for a null.
     ///
     /// Refused as `get_data`, and with `TextNotTerminated` where the list is empty or its last byte is not zero.
+    #[inline(always)]
     pub fn get_text(&self) -> Result<&[u8]>
         requires forest { IsPointer self.now }
         ensures { bytes_read result ≡ as_text (pointer_tree self.now) }
@@ -371,6 +418,7 @@ impl<'a> PointerBuilder<'a> {
     ///
     /// Refused with `SizePastFormat` where these would be 2^29 bytes or more, and else with `OutOfMemory`; then nothing
     /// has changed.
+    #[inline(always)]
     pub fn set_text(&mut self, text: &[u8]) -> Result<()>
         requires inside { self.old.at < word_count (segment self.old.arena.now) }
         ensures same { self.new.arena.ghost_name ≡ self.old.arena.ghost_name }
@@ -388,6 +436,7 @@ impl<'a> PointerBuilder<'a> {
     /// Replaces what stands here by a list of these bytes.
     ///
     /// Refused with `SizePastFormat` for 2^29 bytes or more, and else with `OutOfMemory`; then nothing has changed.
+    #[inline(always)]
     pub fn set_data(&mut self, bytes: &[u8]) -> Result<()>
         requires inside { self.old.at < word_count (segment self.old.arena.now) }
         ensures same { self.new.arena.ghost_name ≡ self.old.arena.ghost_name }
@@ -406,6 +455,7 @@ impl<'a> PointerBuilder<'a> {
     ///
     /// Refused with `BadPointer`, `TooDeep` or `CapabilityPointer` where a pointer in the source can't be followed, by
     /// the first of these in preorder, and with `OutOfMemory`; then nothing has changed.
+    #[inline(always)]
     pub fn copy_from(&mut self, source: PointerReader<'_>) -> Result<()>
         requires inside { self.old.at < word_count (segment self.old.arena.now) }
         ensures same { self.new.arena.ghost_name ≡ self.old.arena.ghost_name }
@@ -423,6 +473,7 @@ impl<'a> PointerBuilder<'a> {
     /// Replaces what stands here by a copy of a struct, with its data rounded up to whole words.
     ///
     /// Refused as `copy_from`.
+    #[inline(always)]
     pub fn set_struct(&mut self, source: &StructReader<'_>) -> Result<()>
         requires inside { self.old.at < word_count (segment self.old.arena.now) }
         ensures same { self.new.arena.ghost_name ≡ self.old.arena.ghost_name }
@@ -437,10 +488,11 @@ impl<'a> PointerBuilder<'a> {
         self.arena.set_struct(self.at, source)
     }
 
-    /// Replaces what stands here by a copy of a list, with the elements that it has, whatever they were read as. A reader
-    /// of a null stands on an empty list of the size that was asked, and that is what is copied.
+    /// Replaces what stands here by a copy of a list, with the elements that it has, whatever they were read as. A
+    /// reader of a null stands on an empty list of the size that was asked, and that is what is copied.
     ///
     /// Refused as `copy_from`.
+    #[inline(always)]
     pub fn set_list(&mut self, source: &ListReader<'_>) -> Result<()>
         requires inside { self.old.at < word_count (segment self.old.arena.now) }
         ensures same { self.new.arena.ghost_name ≡ self.old.arena.ghost_name }

@@ -24,6 +24,7 @@ impl Arena {
     ghost use Rattle.capnp_wire.specs.Words.{first_fault, first_fault_of_all};
     ghost use Rattle.capnp_wire.specs.Depth.{AreBelow, IsBelow};
     ghost use Rattle.capnp_wire.specs.Place.{struct_at, tree_below};
+    ghost use Rattle.capnp_wire.specs.Reading.{as_data, as_text};
     ghost use Rattle.std.specs.Borrow.{sem};
     ghost use Rattle.capnp_wire.specs.Standing.{levels_of, list_levels, list_of, struct_levels, struct_of, tree_of};
     ghost use Rattle.capnp_arena.specs.Ends.{EndsUnchanged};
@@ -45,6 +46,16 @@ impl Arena {
         PointerReader::of_word(self.bytes.as_slice(), at, u16::MAX, 64)
     }
 
+    /// A reader of whatever stands at a word, whether or not that is a tree, with 64 levels: of a text and of data it
+    /// has the bytes.
+    pub fn peek(&self, at: usize) -> PointerReader<'_>
+        ensures read { tree_of result ≡ tree_below 65535 (segment self.now ∷ []) (segment self.now) at }
+        ensures text { Forest (segment self.now) at → as_text (tree_of result) ≡ as_text (tree (segment self.now) at) }
+        ensures data { Forest (segment self.now) at → as_data (tree_of result) ≡ as_data (tree (segment self.now) at) }
+    {
+        PointerReader::of_word(self.bytes.as_slice(), at, u16::MAX, 64)
+    }
+
     /// The same for as long as the message is lent, which stays as it is.
     pub fn into_pointer_reader(&mut self, at: usize) -> PointerReader<'_>
         requires forest { Forest (segment self.old) at }
@@ -59,9 +70,12 @@ impl Arena {
     /// A reader of a struct, with 64 levels. What its pointers lead to is cut off as by `get_pointer_reader`.
     pub fn get_struct_reader(&self, place: Place) -> StructReader<'_>
         requires planted { Planted (segment self.now) (StructIn place.start place.data_words place.pointers) }
-        ensures read { struct_of result ≡ struct_at (tree_below 65535 (segment self.now ∷ []) (segment self.now)) (segment self.now) place.data_words place.pointers place.start }
-        ensures cut { IsStructCutOf (struct_of result) (struct_from (segment self.now) place.start place.data_words place.pointers) }
-        ensures parts { AreBelow 65535 (struct_from (segment self.now) place.start place.data_words place.pointers).pointers
+        ensures read { struct_of result ≡ struct_at (tree_below 65535 (segment self.now ∷ []) (segment self.now))
+            (segment self.now) place.data_words place.pointers place.start }
+        ensures cut { IsStructCutOf (struct_of result)
+            (struct_from (segment self.now) place.start place.data_words place.pointers) }
+        ensures parts { AreBelow 65535 (struct_from
+            (segment self.now) place.start place.data_words place.pointers).pointers
             → struct_of result ≡ struct_from (segment self.now) place.start place.data_words place.pointers }
         ensures levels { struct_levels result ≡ 64 }
     {
@@ -76,21 +90,25 @@ impl Arena {
     pub fn into_struct_reader(&mut self, place: Place) -> StructReader<'_>
         requires planted { Planted (segment self.old) (StructIn place.start place.data_words place.pointers) }
         ensures* ends { sem 𝓛 (EndsUnchanged self.entry) }
-        ensures read { struct_of result ≡ struct_at (tree_below 65535 (segment self.old ∷ []) (segment self.old)) (segment self.old) place.data_words place.pointers place.start }
-        ensures parts { AreBelow 65535 (struct_from (segment self.old) place.start place.data_words place.pointers).pointers
+        ensures read { struct_of result ≡ struct_at (tree_below 65535 (segment self.old ∷ []) (segment self.old))
+            (segment self.old) place.data_words place.pointers place.start }
+        ensures parts { AreBelow 65535 (struct_from
+            (segment self.old) place.start place.data_words place.pointers).pointers
             → struct_of result ≡ struct_from (segment self.old) place.start place.data_words place.pointers }
         ensures levels { struct_levels result ≡ 64 }
     {
         self.get_struct_reader(place)
     }
 
-    /// A reader of the list that the pointer at a word leads to, with 64 levels: of a null, of the list without elements that
-    /// was got. What it leads to is cut off as by `get_pointer_reader`.
+    /// A reader of the list that the pointer at a word leads to, with 64 levels: of a null, of the list without
+    /// elements that was got. What it leads to is cut off as by `get_pointer_reader`.
     pub fn get_list_reader(&self, at: usize, list: ListTarget) -> ListReader<'_>
         requires forest { Forest (segment self.now) at }
         requires there { shape_at (segment self.now) at ≡ list_shape list }
-        ensures read { list_of result ≡ listed_tree (tree_below 65535 (segment self.now ∷ []) (segment self.now) at) list }
-        ensures list { IsBelow 65535 (tree (segment self.now) at) → list_of result ≡ listed_tree (tree (segment self.now) at) list }
+        ensures read { list_of result ≡ listed_tree
+            (tree_below 65535 (segment self.now ∷ []) (segment self.now) at) list }
+        ensures list { IsBelow 65535 (tree (segment self.now) at)
+            → list_of result ≡ listed_tree (tree (segment self.now) at) list }
         ensures levels { list_levels result ≡ 64 }
     {
         let size = self.get_element_size(at, list);
@@ -106,8 +124,10 @@ impl Arena {
         requires forest { Forest (segment self.old) at }
         requires there { shape_at (segment self.old) at ≡ list_shape list }
         ensures* ends { sem 𝓛 (EndsUnchanged self.entry) }
-        ensures read { list_of result ≡ listed_tree (tree_below 65535 (segment self.old ∷ []) (segment self.old) at) list }
-        ensures list { IsBelow 65535 (tree (segment self.old) at) → list_of result ≡ listed_tree (tree (segment self.old) at) list }
+        ensures read { list_of result ≡ listed_tree
+            (tree_below 65535 (segment self.old ∷ []) (segment self.old) at) list }
+        ensures list { IsBelow 65535 (tree (segment self.old) at)
+            → list_of result ≡ listed_tree (tree (segment self.old) at) list }
         ensures levels { list_levels result ≡ 64 }
     {
         self.get_list_reader(at, list)
@@ -137,8 +157,10 @@ impl Arena {
     /// So is a struct.
     pub fn struct_is_sound(&self, place: Place)
         requires { Planted (segment self.now) (StructIn place.start place.data_words place.pointers) }
-        ensures formed { IsWellFormed (struct_tree (struct_from (segment self.now) place.start place.data_words place.pointers)) }
-        ensures whole { first_fault_of_all (struct_from (segment self.now) place.start place.data_words place.pointers).pointers ≡ None }
+        ensures formed { IsWellFormed (struct_tree
+            (struct_from (segment self.now) place.start place.data_words place.pointers)) }
+        ensures whole { first_fault_of_all (struct_from
+            (segment self.now) place.start place.data_words place.pointers).pointers ≡ None }
     {
         words_are_well_formed(self.bytes.as_slice());
     }

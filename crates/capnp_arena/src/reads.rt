@@ -122,8 +122,10 @@ impl Arena {
     /// How many words the data of a struct has and how many pointers there are.
     pub fn get_size(&self, place: Place) -> StructSize
         requires { Planted (segment self.now) (StructIn place.start place.data_words place.pointers) }
-        ensures data { result.data_words ≡ length (struct_from (segment self.now) place.start place.data_words place.pointers).bytes / 8 }
-        ensures pointers { result.pointers ≡ tree_count (struct_from (segment self.now) place.start place.data_words place.pointers).pointers }
+        ensures data { result.data_words ≡ length
+            (struct_from (segment self.now) place.start place.data_words place.pointers).bytes / 8 }
+        ensures pointers { result.pointers ≡ tree_count
+            (struct_from (segment self.now) place.start place.data_words place.pointers).pointers }
     {
         StructSize {
             data_words: place.data_words,
@@ -148,7 +150,8 @@ impl Arena {
     #[inline(always)]
     pub fn get_data_field<T: PrimitiveElement>(&self, place: Place, offset: u32) -> T
         requires { Planted (segment self.now) (StructIn place.start place.data_words place.pointers) }
-        ensures { result ≡ T.of_number (number_at T.width offset (struct_from (segment self.now) place.start place.data_words place.pointers).bytes) }
+        ensures { result ≡ T.of_number (number_at T.width offset
+            (struct_from (segment self.now) place.start place.data_words place.pointers).bytes) }
     {
         T::read(self.get_data_bytes(place), offset)
     }
@@ -158,7 +161,8 @@ impl Arena {
     #[inline(always)]
     pub fn get_data_field_mask<T: PrimitiveElement>(&self, place: Place, offset: u32, mask: T) -> T
         requires { Planted (segment self.now) (StructIn place.start place.data_words place.pointers) }
-        ensures { result ≡ T.of_number (bit_xor (number_at T.width offset (struct_from (segment self.now) place.start place.data_words place.pointers).bytes) (T.to_number mask)) }
+        ensures { result ≡ T.of_number (bit_xor (number_at T.width offset
+            (struct_from (segment self.now) place.start place.data_words place.pointers).bytes) (T.to_number mask)) }
     {
         T::read_masked(self.get_data_bytes(place), offset, mask)
     }
@@ -167,7 +171,8 @@ impl Arena {
     #[inline(always)]
     pub fn get_bool_field(&self, place: Place, offset: u32) -> bool
         requires { Planted (segment self.now) (StructIn place.start place.data_words place.pointers) }
-        ensures { result ≡ bit_at (struct_from (segment self.now) place.start place.data_words place.pointers).bytes offset }
+        ensures { result
+            ≡ bit_at (struct_from (segment self.now) place.start place.data_words place.pointers).bytes offset }
     {
         get_bit(self.get_data_bytes(place), offset as usize)
     }
@@ -177,7 +182,8 @@ impl Arena {
     #[inline(always)]
     pub fn get_bool_field_mask(&self, place: Place, offset: u32, mask: bool) -> bool
         requires { Planted (segment self.now) (StructIn place.start place.data_words place.pointers) }
-        ensures { result ≡ masked_bit (bit_at (struct_from (segment self.now) place.start place.data_words place.pointers).bytes offset) mask }
+        ensures { result ≡ masked_bit (bit_at (struct_from
+            (segment self.now) place.start place.data_words place.pointers).bytes offset) mask }
     {
         self.get_bool_field(place, offset) != mask
     }
@@ -189,7 +195,8 @@ impl Arena {
         requires inside { index < place.pointers }
         ensures word { result ≡ place.start + place.data_words + index }
         ensures forest { Forest (segment self.now) result }
-        ensures tree { tree (segment self.now) result ≡ nth_tree (struct_from (segment self.now) place.start place.data_words place.pointers).pointers index }
+        ensures tree { tree (segment self.now) result
+            ≡ nth_tree (struct_from (segment self.now) place.start place.data_words place.pointers).pointers index }
     {
         place.start + place.data_words as usize + index as usize
     }

@@ -1,35 +1,51 @@
 //! Sizes of what is built.
 
 use crate::arena::{Arena, Place};
-use crate::count::count_row;
-use capnp_device::error::{Error, ErrorKind, Result};
+use crate::count::{count_row, count_words};
+use capnp_device::error::Result;
 use capnp_wire::size::MessageSize;
 
 impl Arena {
-    ghost use Rattle.std.specs.Prelude.{IfErr, IfOk, None, ◌^◌, ◌≡◌, ◌≤◌};
-    ghost use Rattle.capnp_device.specs.declared.error.ErrorKind.TheVariants.{TooLarge};
+    ghost use Rattle.std.specs.Prelude.{IfOk, IsOk, None};
     ghost use Rattle.capnp_wire.specs.Total.{IsSize};
-    ghost use Rattle.capnp_wire.specs.Words.{words_of_struct};
-    ghost use Rattle.capnp_arena.specs.Forest.{Planted, struct_from};
+    ghost use Rattle.capnp_wire.specs.Words.{words_of, words_of_struct};
+    ghost use Rattle.capnp_arena.specs.Forest.{Forest, Planted, struct_from, tree};
     ghost use Rattle.capnp_arena.specs.Segment.{segment};
     ghost use Rattle.capnp_arena.specs.Shape.{StructIn};
 
-    /// The size of a struct with all that its pointers lead to: its data and its pointers, and the targets, the tag of a
-    /// composite list with them. There are no capabilities. Takes no memory.
+    /// The size of a struct with all that its pointers lead to: its data and its pointers, and the targets, the tag of
+    /// a composite list with them. There are no capabilities. Takes no memory.
     ///
-    /// Refused with `TooLarge` where these are 2^29 words or more.
+    /// Never refused: no message in memory has 2^29 words.
     pub fn total_size(&self, place: Place) -> Result<MessageSize>
         requires planted { Planted (segment self.now) (StructIn place.start place.data_words place.pointers) }
-        ensures size { IfOk result (λ size. IsSize size None (words_of_struct (struct_from (segment self.now) place.start place.data_words place.pointers))) }
-        ensures refused { IfErr result (λ error. (error.kind ≡ TooLarge) × (2 ^ 29 ≤ words_of_struct (struct_from (segment self.now) place.start place.data_words place.pointers))) }
+        ensures size { IfOk result (λ size. IsSize size None
+            (words_of_struct (struct_from (segment self.now) place.start place.data_words place.pointers))) }
+        ensures succeeds { IsOk result }
     {
         let own = place.data_words as u64 + place.pointers as u64;
         let first = place.start + place.data_words as usize;
         let Some(below) = count_row(self.bytes.as_slice(), first, place.pointers as usize) else {
-            return Err(Error::from(ErrorKind::TooLarge));
+            unreachable!()
         };
         Ok(MessageSize {
             word_count: own + below,
+            cap_count: 0,
+        })
+    }
+
+    /// The size of all that the pointer at a word leads to, without the pointer itself: 0 words for a null. It counts
+    /// and succeeds as `total_size`.
+    pub fn target_size(&self, at: usize) -> Result<MessageSize>
+        requires forest { Forest (segment self.now) at }
+        ensures size { IfOk result (λ size. IsSize size None (words_of (tree (segment self.now) at))) }
+        ensures succeeds { IsOk result }
+    {
+        let Some(words) = count_words(self.bytes.as_slice(), at) else {
+            unreachable!()
+        };
+        Ok(MessageSize {
+            word_count: words,
             cap_count: 0,
         })
     }

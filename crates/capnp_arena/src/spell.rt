@@ -43,6 +43,14 @@ pub fn put_word(out: &mut Vec<u8>, at: usize, word: u64)
     put_bytes(out, at, &word.to_le_bytes());
 }
 
+/// Half a word in the place of another from an index on.
+pub fn put_half(out: &mut Vec<u8>, at: usize, half: u32)
+    requires { at + 4 ≤ length out.old.items }
+    ensures put { out.new.items ≡ put at (spelled 4 half) out.old.items }
+{
+    put_bytes(out, at, &half.to_le_bytes());
+}
+
 /// So many words of zeros at the end.
 ///
 /// Refused where memory is; then nothing has changed.
@@ -66,7 +74,8 @@ pub fn write_number<T: PrimitiveElement>(
     requires part { at + count ≤ length out.old.items }
     requires inside { (offset + 1) * T.width ≤ count }
     ensures long { length out.new.items ≡ length out.old.items }
-    ensures put { out.new.items ≡ put at (with_number T.width offset (T.to_number value) (take count (drop at out.old.items))) out.old.items }
+    ensures put { out.new.items ≡ put at (with_number T.width offset (T.to_number value)
+        (take count (drop at out.old.items))) out.old.items }
 {
     T::write(&mut out[at..at + count], offset, value);
 }
@@ -84,7 +93,8 @@ pub fn write_number_mask<T: PrimitiveElement>(
     requires part { at + count ≤ length out.old.items }
     requires inside { (offset + 1) * T.width ≤ count }
     ensures long { length out.new.items ≡ length out.old.items }
-    ensures put { out.new.items ≡ put at (with_number T.width offset (bit_xor (T.to_number value) (T.to_number mask)) (take count (drop at out.old.items))) out.old.items }
+    ensures put { out.new.items ≡ put at (with_number T.width offset (bit_xor (T.to_number value) (T.to_number mask))
+        (take count (drop at out.old.items))) out.old.items }
 {
     T::write_masked(&mut out[at..at + count], offset, value, mask);
 }

@@ -15,9 +15,8 @@ pub struct StructBuilder<'a> {
 }
 
 impl<'a> StructBuilder<'a> {
-    ghost use Rattle.std.specs.Prelude.{[], List, None, ℕ, IfErr, IfOk, OnErr, OnOk, bit_xor, length, ◌*◌, ◌+◌, ◌/◌, ◌∷◌, ◌<◌, ◌≡◌, ◌≤◌, ◌^◌};
+    ghost use Rattle.std.specs.Prelude.{[], List, None, ℕ, IfErr, IfOk, IsOk, OnErr, OnOk, bit_xor, length, ◌*◌, ◌+◌, ◌/◌, ◌∷◌, ◌<◌, ◌≡◌, ◌≤◌, ◌^◌};
     ghost use Rattle.std.specs.Borrow.{sem};
-    ghost use Rattle.capnp_device.specs.declared.error.ErrorKind.TheVariants.{TooLarge};
     ghost use Rattle.capnp_wire.specs.Depth.{AreBelow, IsBelow};
     ghost use Rattle.capnp_wire.specs.Edits.{IsCopyRefusal, fitted, with_bit, with_bytes, with_number};
     ghost use Rattle.capnp_wire.specs.Place.{struct_at, tree_below};
@@ -33,6 +32,7 @@ impl<'a> StructBuilder<'a> {
     ghost use Rattle.capnp_arena.specs.Shape.{StructIn, word_count};
 
     /// The same struct for a shorter time. What is left there is what this builder has then.
+    #[inline(always)]
     pub fn reborrow(&mut self) -> StructBuilder<'_>
         ensures* lends { sem 𝓛 (LentByStruct self.entry result.arena) }
         ensures now { result.arena.now ≡ self.old.arena.now }
@@ -43,22 +43,28 @@ impl<'a> StructBuilder<'a> {
         StructBuilder { arena, place }
     }
 
-    /// A reader of the struct, with 64 levels. What its pointers lead to is cut off past 65,534 levels, which only walks of
-    /// a whole tree can see.
+    /// A reader of the struct, with 64 levels. What its pointers lead to is cut off past 65,534 levels, which only
+    /// walks of a whole tree can see.
+    #[inline(always)]
     pub fn as_reader(&self) -> StructReader<'_>
         requires planted { IsStruct self.now }
-        ensures read { struct_of result ≡ struct_at (tree_below 65535 (segment self.now.arena.now ∷ []) (segment self.now.arena.now)) (segment self.now.arena.now) self.now.place.data_words self.now.place.pointers self.now.place.start }
+        ensures read { struct_of result ≡ struct_at
+            (tree_below 65535 (segment self.now.arena.now ∷ []) (segment self.now.arena.now))
+            (segment self.now.arena.now) self.now.place.data_words self.now.place.pointers self.now.place.start }
         ensures parts { AreBelow 65535 (built_struct self.now).pointers → struct_of result ≡ built_struct self.now }
         ensures levels { struct_levels result ≡ 64 }
     {
         self.arena.get_struct_reader(self.place)
     }
 
-    /// A reader of the struct for as long as the builder would be there, as `as_reader`. The message stays as it is; only
-    /// `Arena::into_struct_reader` says so to a caller.
+    /// A reader of the struct for as long as the builder would be there, as `as_reader`. The message stays as it is;
+    /// only `Arena::into_struct_reader` says so to a caller.
+    #[inline(always)]
     pub fn into_reader(self) -> StructReader<'a>
         requires planted { IsStruct self }
-        ensures read { struct_of result ≡ struct_at (tree_below 65535 (segment self.entry.arena.now ∷ []) (segment self.entry.arena.now)) (segment self.entry.arena.now) self.entry.place.data_words self.entry.place.pointers self.entry.place.start }
+        ensures read { struct_of result ≡ struct_at
+            (tree_below 65535 (segment self.entry.arena.now ∷ []) (segment self.entry.arena.now))
+            (segment self.entry.arena.now) self.entry.place.data_words self.entry.place.pointers self.entry.place.start }
         ensures parts { AreBelow 65535 (built_struct self.entry).pointers → struct_of result ≡ built_struct self.entry }
         ensures levels { struct_levels result ≡ 64 }
     {
@@ -67,6 +73,7 @@ impl<'a> StructBuilder<'a> {
     }
 
     /// How many words its data section has and how many pointers there are (encoding, "Structs").
+    #[inline(always)]
     pub fn get_size(&self) -> StructSize
         requires planted { IsStruct self.now }
         ensures data { result.data_words ≡ length (built_struct self.now).bytes / 8 }
@@ -75,19 +82,21 @@ impl<'a> StructBuilder<'a> {
         self.arena.get_size(self.place)
     }
 
-    /// The size of the struct with all that its pointers lead to: its data section and its pointers, and the targets, the
-    /// tag of a composite list with them. There are no capabilities. Takes no memory.
+    /// The size of the struct with all that its pointers lead to: its data section and its pointers, and the targets,
+    /// the tag of a composite list with them. There are no capabilities. Takes no memory.
     ///
-    /// Refused with `TooLarge` where these are 2^29 words or more.
+    /// Never refused: no message in memory has 2^29 words.
+    #[inline(always)]
     pub fn total_size(&self) -> Result<MessageSize>
         requires planted { IsStruct self.now }
         ensures size { IfOk result (λ size. IsSize size None (words_of_struct (built_struct self.now))) }
-        ensures refused { IfErr result (λ error. (error.kind ≡ TooLarge) × (2 ^ 29 ≤ words_of_struct (built_struct self.now))) }
+        ensures succeeds { IsOk result }
     {
         self.arena.total_size(self.place)
     }
 
     /// The number at `offset`, in units of its own size, as it is stored; zero bits past the end.
+    #[inline(always)]
     pub fn get_data_field<T: PrimitiveElement>(&self, offset: u32) -> T
         requires planted { IsStruct self.now }
         ensures { result ≡ T.of_number (number_at T.width offset (built_struct self.now).bytes) }
@@ -97,14 +106,17 @@ impl<'a> StructBuilder<'a> {
 
     /// The number at `offset`, in units of its own size, where it is stored XORed with its default `mask`; past the end
     /// it is `mask`.
+    #[inline(always)]
     pub fn get_data_field_mask<T: PrimitiveElement>(&self, offset: u32, mask: T) -> T
         requires planted { IsStruct self.now }
-        ensures { result ≡ T.of_number (bit_xor (number_at T.width offset (built_struct self.now).bytes) (T.to_number mask)) }
+        ensures { result ≡ T.of_number (bit_xor (number_at T.width offset (built_struct self.now).bytes)
+            (T.to_number mask)) }
     {
         self.arena.get_data_field_mask(self.place, offset, mask)
     }
 
     /// The bit at `offset`, counted from the lowest of the first byte, as it is stored; false past the end.
+    #[inline(always)]
     pub fn get_bool_field(&self, offset: u32) -> bool
         requires planted { IsStruct self.now }
         ensures { result ≡ bit_at (built_struct self.now).bytes offset }
@@ -114,6 +126,7 @@ impl<'a> StructBuilder<'a> {
 
     /// The bit at `offset`, counted from the lowest of the first byte, where it is stored XORed with its default
     /// `mask`; past the end it is `mask`.
+    #[inline(always)]
     pub fn get_bool_field_mask(&self, offset: u32, mask: bool) -> bool
         requires planted { IsStruct self.now }
         ensures { result ≡ masked_bit (bit_at (built_struct self.now).bytes offset) mask }
@@ -122,16 +135,25 @@ impl<'a> StructBuilder<'a> {
     }
 
     /// Stores a number at `offset`, in units of its own size; it has to lie inside the data section.
+    #[inline(always)]
     pub fn set_data_field<T: PrimitiveElement>(&mut self, offset: u32, value: T)
-        requires planted { Planted (segment self.old.arena.now) (StructIn self.old.place.start self.old.place.data_words self.old.place.pointers) }
+        requires planted { Planted (segment self.old.arena.now)
+            (StructIn self.old.place.start self.old.place.data_words self.old.place.pointers) }
         requires inside { (offset + 1) * T.width ≤ 8 * self.old.place.data_words }
         ensures same { self.new.arena.ghost_name ≡ self.old.arena.ghost_name }
         ensures place { self.new.place ≡ self.old.place }
-        ensures planted { Planted (segment self.new.arena.now) (StructIn self.old.place.start self.old.place.data_words self.old.place.pointers) }
-        ensures changes { PartChanges (StructIn self.old.place.start self.old.place.data_words self.old.place.pointers) (segment self.old.arena.now) (segment self.new.arena.now) }
-        ensures tree { struct_from (segment self.new.arena.now) self.old.place.start self.old.place.data_words self.old.place.pointers ≡
-            with_bytes (struct_from (segment self.old.arena.now) self.old.place.start self.old.place.data_words self.old.place.pointers)
-            (with_number T.width offset (T.to_number value) (struct_from (segment self.old.arena.now) self.old.place.start self.old.place.data_words self.old.place.pointers).bytes) }
+        ensures planted { Planted (segment self.new.arena.now)
+            (StructIn self.old.place.start self.old.place.data_words self.old.place.pointers) }
+        ensures changes { PartChanges (StructIn self.old.place.start self.old.place.data_words self.old.place.pointers)
+            (segment self.old.arena.now) (segment self.new.arena.now) }
+        ensures tree { struct_from
+            (segment self.new.arena.now) self.old.place.start self.old.place.data_words self.old.place.pointers ≡
+            with_bytes
+            (struct_from
+            (segment self.old.arena.now) self.old.place.start self.old.place.data_words self.old.place.pointers)
+            (with_number T.width offset (T.to_number value)
+            (struct_from
+            (segment self.old.arena.now) self.old.place.start self.old.place.data_words self.old.place.pointers).bytes) }
     {
         let place = self.place;
         self.arena.set_number(place, offset, value);
@@ -139,6 +161,7 @@ impl<'a> StructBuilder<'a> {
 
     /// Stores a number at `offset`, in units of its own size, XORed with its default `mask`; it has to lie inside the
     /// data section.
+    #[inline(always)]
     pub fn set_data_field_mask<T: PrimitiveElement>(&mut self, offset: u32, value: T, mask: T)
         requires planted { IsStruct self.old }
         requires inside { (offset + 1) * T.width ≤ 8 * self.old.place.data_words }
@@ -146,8 +169,10 @@ impl<'a> StructBuilder<'a> {
         ensures place { self.new.place ≡ self.old.place }
         ensures planted { Planted (segment self.new.arena.now) (part self.old.place) }
         ensures changes { PartChanges (part self.old.place) (segment self.old.arena.now) (segment self.new.arena.now) }
-        ensures tree { struct_from (segment self.new.arena.now) self.old.place.start self.old.place.data_words self.old.place.pointers ≡
-            with_bytes (built_struct self.old) (with_number T.width offset (bit_xor (T.to_number value) (T.to_number mask)) (built_struct self.old).bytes) }
+        ensures tree { struct_from
+            (segment self.new.arena.now) self.old.place.start self.old.place.data_words self.old.place.pointers ≡
+            with_bytes (built_struct self.old) (with_number T.width offset
+            (bit_xor (T.to_number value) (T.to_number mask)) (built_struct self.old).bytes) }
     {
         let place = self.place;
         self.arena.set_number_mask(place, offset, value, mask);
@@ -155,6 +180,7 @@ impl<'a> StructBuilder<'a> {
 
     /// Stores a bit at `offset`. `offset` is counted in bits from the lowest of the first byte; it has to lie inside
     /// the data section.
+    #[inline(always)]
     pub fn set_bool_field(&mut self, offset: u32, value: bool)
         requires planted { IsStruct self.old }
         requires inside { offset < 64 * self.old.place.data_words }
@@ -162,7 +188,8 @@ impl<'a> StructBuilder<'a> {
         ensures place { self.new.place ≡ self.old.place }
         ensures planted { Planted (segment self.new.arena.now) (part self.old.place) }
         ensures changes { PartChanges (part self.old.place) (segment self.old.arena.now) (segment self.new.arena.now) }
-        ensures tree { struct_from (segment self.new.arena.now) self.old.place.start self.old.place.data_words self.old.place.pointers ≡
+        ensures tree { struct_from
+            (segment self.new.arena.now) self.old.place.start self.old.place.data_words self.old.place.pointers ≡
             with_bytes (built_struct self.old) (with_bit offset value (built_struct self.old).bytes) }
     {
         let place = self.place;
@@ -171,6 +198,7 @@ impl<'a> StructBuilder<'a> {
 
     /// Stores a bit at `offset`, XORed with its default `mask`. `offset` is counted in bits from the lowest of the
     /// first byte; it has to lie inside the data section.
+    #[inline(always)]
     pub fn set_bool_field_mask(&mut self, offset: u32, value: bool, mask: bool)
         requires planted { IsStruct self.old }
         requires inside { offset < 64 * self.old.place.data_words }
@@ -178,25 +206,30 @@ impl<'a> StructBuilder<'a> {
         ensures place { self.new.place ≡ self.old.place }
         ensures planted { Planted (segment self.new.arena.now) (part self.old.place) }
         ensures changes { PartChanges (part self.old.place) (segment self.old.arena.now) (segment self.new.arena.now) }
-        ensures tree { struct_from (segment self.new.arena.now) self.old.place.start self.old.place.data_words self.old.place.pointers ≡
+        ensures tree { struct_from
+            (segment self.new.arena.now) self.old.place.start self.old.place.data_words self.old.place.pointers ≡
             with_bytes (built_struct self.old) (with_bit offset (masked_bit value mask) (built_struct self.old).bytes) }
     {
         let place = self.place;
         self.arena.set_bool(place, offset, value != mask);
     }
 
-    /// Replaces what the struct holds by what fits of another one, with zeros and nulls after that: the struct keeps its
-    /// size.
+    /// Replaces what the struct holds by what fits of another one, with zeros and nulls after that: the struct keeps
+    /// its size.
     ///
     /// Refused with `BadPointer`, `TooDeep` or `CapabilityPointer` where a pointer in the source can't be followed, by
     /// the first of these in preorder, also where it would not fit, and with `OutOfMemory`; then nothing has changed.
+    #[inline(always)]
     pub fn copy_content_from(&mut self, source: &StructReader<'_>) -> Result<()>
         requires planted { IsStruct self.old }
         ensures same { self.new.arena.ghost_name ≡ self.old.arena.ghost_name }
         ensures place { self.new.place ≡ self.old.place }
         ensures planted { OnOk result (Planted (segment self.new.arena.now) (part self.old.place)) }
-        ensures changes { OnOk result (PartChanges (part self.old.place) (segment self.old.arena.now) (segment self.new.arena.now)) }
-        ensures tree { OnOk result (struct_from (segment self.new.arena.now) self.old.place.start self.old.place.data_words self.old.place.pointers ≡
+        ensures changes { OnOk result (PartChanges (part self.old.place) (segment self.old.arena.now)
+            (segment self.new.arena.now)) }
+        ensures tree { OnOk result
+            (struct_from
+            (segment self.new.arena.now) self.old.place.start self.old.place.data_words self.old.place.pointers ≡
             fitted (8 * self.old.place.data_words) self.old.place.pointers (struct_of source.now)) }
         ensures sound { OnOk result (first_fault_of_all (struct_of source.now).pointers ≡ None) }
         ensures cause { IfErr result (λ e. IsCopyRefusal e (first_fault_of_all (struct_of source.now).pointers)) }
@@ -206,13 +239,16 @@ impl<'a> StructBuilder<'a> {
         self.arena.copy_content_from(place, source)
     }
 
-    /// A reader of the pointer at `index`, which has to be below the number of pointers, with 64 levels. Its tree is cut off as
-    /// by `as_reader`.
+    /// A reader of the pointer at `index`, which has to be below the number of pointers, with 64 levels. Its tree is
+    /// cut off as by `as_reader`.
+    #[inline(always)]
     pub fn pointer_field(&self, index: u16) -> PointerReader<'_>
         requires planted { IsStruct self.now }
         requires inside { index < self.now.place.pointers }
-        ensures read { tree_of result ≡ tree_below 65535 (segment self.now.arena.now ∷ []) (segment self.now.arena.now) (self.now.place.start + self.now.place.data_words + index) }
-        ensures tree { IsBelow 65535 (nth_tree (built_struct self.now).pointers index) → tree_of result ≡ nth_tree (built_struct self.now).pointers index }
+        ensures read { tree_of result ≡ tree_below 65535 (segment self.now.arena.now ∷ []) (segment self.now.arena.now)
+            (self.now.place.start + self.now.place.data_words + index) }
+        ensures tree { IsBelow 65535 (nth_tree (built_struct self.now).pointers index)
+            → tree_of result ≡ nth_tree (built_struct self.now).pointers index }
         ensures levels { levels_of result ≡ 64 }
     {
         let at = self.arena.get_pointer_field(self.place, index);
@@ -220,8 +256,10 @@ impl<'a> StructBuilder<'a> {
     }
 
     /// The pointer at `index`, which has to be below the number of pointers.
+    #[inline(always)]
     pub fn get_pointer_field(self, index: u16) -> PointerBuilder<'a>
-        requires planted { Planted (segment self.arena.now) (StructIn self.place.start self.place.data_words self.place.pointers) }
+        requires planted { Planted (segment self.arena.now)
+            (StructIn self.place.start self.place.data_words self.place.pointers) }
         requires inside { index < self.place.pointers }
         ensures same { result.arena.ghost_name ≡ self.entry.arena.ghost_name }
         ensures now { result.arena.now ≡ self.entry.arena.now }
@@ -230,15 +268,17 @@ impl<'a> StructBuilder<'a> {
         ensures forest { IsPointer result }
         ensures tree { pointer_tree result ≡ nth_tree (built_struct self.entry).pointers index }
         ensures leaves { (new : List ℕ) → Forest new result.at → Changes result.at (segment self.entry.arena.now) new
-            → IsInPointer (segment self.entry.arena.now) new self.entry.place.start self.entry.place.data_words self.entry.place.pointers index }
+            → IsInPointer
+            (segment self.entry.arena.now) new self.entry.place.start self.entry.place.data_words self.entry.place.pointers index }
     {
         let StructBuilder { arena, place } = self;
         let at = arena.get_pointer_field(place, index);
         PointerBuilder { arena, at }
     }
 
-    /// The pointer at `index`, which has to be below the number of pointers, for a shorter time. What is left there is what
-    /// this builder has then.
+    /// The pointer at `index`, which has to be below the number of pointers, for a shorter time. What is left there is
+    /// what this builder has then.
+    #[inline(always)]
     pub fn pointer_field_mut(&mut self, index: u16) -> PointerBuilder<'_>
         requires planted { IsStruct self.old }
         requires inside { index < self.old.place.pointers }
@@ -249,7 +289,8 @@ impl<'a> StructBuilder<'a> {
         ensures forest { IsPointer result }
         ensures tree { pointer_tree result ≡ nth_tree (built_struct self.old).pointers index }
         ensures leaves { (new : List ℕ) → Forest new result.at → Changes result.at (segment self.old.arena.now) new
-            → IsInPointer (segment self.old.arena.now) new self.old.place.start self.old.place.data_words self.old.place.pointers index }
+            → IsInPointer
+            (segment self.old.arena.now) new self.old.place.start self.old.place.data_words self.old.place.pointers index }
     {
         let at = self.arena.get_pointer_field(self.place, index);
         let arena = &mut *self.arena;

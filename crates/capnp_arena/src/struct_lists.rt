@@ -210,7 +210,8 @@ impl Arena {
         requires few { count < 2 ^ 29 }
         requires fits { (row.data_count ≤ 8 * size.data_words) × (row.pointers ≤ size.pointers) }
         ensures forest { IfOk result (λ _. Forest (segment self.new) at) }
-        ensures place { IfOk result (λ l. shape_at (segment self.new) at ≡ CompositeIn l.tag l.count l.data_words l.pointers) }
+        ensures place { IfOk result (λ l. shape_at (segment self.new) at
+            ≡ CompositeIn l.tag l.count l.data_words l.pointers) }
         ensures tree { IfOk result (λ _. tree (segment self.new) at ≡ as_structs size (tree (segment self.old) at)) }
         ensures changes { IfOk result (λ _. Changes at (segment self.old) (segment self.new)) }
         ensures within { OnOk result (past_format count size ≡ None) }
@@ -245,7 +246,8 @@ impl Arena {
         requires there { shape_at (segment self.old) at ≡ ListIn list.start (size_number list.size) list.count }
         requires simple { size_number list.size ≢ 1 }
         ensures forest { IfOk result (λ _. Forest (segment self.new) at) }
-        ensures place { IfOk result (λ l. shape_at (segment self.new) at ≡ CompositeIn l.tag l.count l.data_words l.pointers) }
+        ensures place { IfOk result (λ l. shape_at (segment self.new) at
+            ≡ CompositeIn l.tag l.count l.data_words l.pointers) }
         ensures tree { IfOk result (λ _. tree (segment self.new) at ≡ struct_list size (tree (segment self.old) at)) }
         ensures changes { IfOk result (λ _. Changes at (segment self.old) (segment self.new)) }
         ensures within { OnOk result (struct_list_refusal size (tree (segment self.old) at) ≡ None) }
@@ -265,9 +267,11 @@ impl Arena {
         size: StructSize,
     ) -> Result<StructsPlace>
         requires forest { Forest (segment self.old) at }
-        requires there { shape_at (segment self.old) at ≡ CompositeIn list.tag list.count list.data_words list.pointers }
+        requires there { shape_at (segment self.old) at
+            ≡ CompositeIn list.tag list.count list.data_words list.pointers }
         ensures forest { IfOk result (λ _. Forest (segment self.new) at) }
-        ensures place { IfOk result (λ l. shape_at (segment self.new) at ≡ CompositeIn l.tag l.count l.data_words l.pointers) }
+        ensures place { IfOk result (λ l. shape_at (segment self.new) at
+            ≡ CompositeIn l.tag l.count l.data_words l.pointers) }
         ensures tree { IfOk result (λ _. tree (segment self.new) at ≡ struct_list size (tree (segment self.old) at)) }
         ensures changes { IfOk result (λ _. Changes at (segment self.old) (segment self.new)) }
         ensures within { OnOk result (struct_list_refusal size (tree (segment self.old) at) ≡ None) }
@@ -291,7 +295,8 @@ impl Arena {
         ensures forest { IfOk result (λ _. Forest (segment self.new) at) }
         ensures place { IfOk result (λ l. list_shape l ≡ shape_at (segment self.new) at) }
         ensures tree { IfOk result (λ _. tree (segment self.new) at ≡ struct_list size (tree (segment self.old) at)) }
-        ensures reads { IfOk result (λ l. listed_tree (tree (segment self.new) at) l ≡ or_empty ElementSize.InlineComposite (struct_list size (tree (segment self.old) at))) }
+        ensures reads { IfOk result (λ l. listed_tree (tree (segment self.new) at) l
+            ≡ or_empty ElementSize.InlineComposite (struct_list size (tree (segment self.old) at))) }
         ensures changes { IfOk result (λ _. Changes at (segment self.old) (segment self.new)) }
         ensures within { OnOk result (struct_list_refusal size (tree (segment self.old) at) ≡ None) }
         ensures cause { IfErr result (λ e. IsDueRefusal e (struct_list_refusal size (tree (segment self.old) at))) }

@@ -17,7 +17,8 @@ pub fn set_data_field<T: PrimitiveElement>(arena: &mut Arena, place: Place, offs
     requires inside { (offset + 1) * T.width ≤ length (built arena.old place).bytes }
     ensures planted { IsBuilt arena.new place }
     ensures changes { ChangesIn place arena.old arena.new }
-    ensures tree { built arena.new place ≡ with_bytes (built arena.old place) (with_number T.width offset (T.to_number value) (built arena.old place).bytes) }
+    ensures tree { built arena.new place ≡ with_bytes (built arena.old place)
+        (with_number T.width offset (T.to_number value) (built arena.old place).bytes) }
 {
     arena.set_number(place, offset, value);
 }
@@ -29,7 +30,8 @@ pub fn set_bool_field(arena: &mut Arena, place: Place, offset: u32, value: bool)
     requires inside { offset < 8 * length (built arena.old place).bytes }
     ensures planted { IsBuilt arena.new place }
     ensures changes { ChangesIn place arena.old arena.new }
-    ensures tree { built arena.new place ≡ with_bytes (built arena.old place) (with_bit offset value (built arena.old place).bytes) }
+    ensures tree { built arena.new place ≡ with_bytes (built arena.old place)
+        (with_bit offset value (built arena.old place).bytes) }
 {
     arena.set_bool(place, offset, value);
 }
@@ -43,7 +45,8 @@ pub fn pointer_at(arena: &Arena, place: Place, index: u16) -> usize
     ensures inside { result < word_count (segment arena.now) }
     ensures forest { Forest (segment arena.now) result }
     ensures tree { tree (segment arena.now) result ≡ nth_tree (built arena.now place).pointers index }
-    ensures leaves { (new : List ℕ) → Forest new result → Changes result (segment arena.now) new → LeavesIn place index arena.now result new }
+    ensures leaves { (new : List ℕ) → Forest new result → Changes result (segment arena.now) new
+        → LeavesIn place index arena.now result new }
 {
     arena.get_pointer_field(place, index)
 }

@@ -104,7 +104,7 @@ fn lend_bytes(alloc: Global) -> Result<(Option<u8>, usize, usize)> {
     let mut message = Builder::new(alloc)?;
     let mut root = message.root();
     root.set_text(b"hi")?;
-    let last = root.get_text_mut()?.last().copied();
+    let last = root.get_text_mut()?.into_bytes().last().copied();
     let data = Builder::new(alloc)?.root().init_data(3)?.len();
     let text = Builder::new(alloc)?.root().init_text(3)?.len();
     Ok((last, data, text))

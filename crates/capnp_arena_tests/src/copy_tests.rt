@@ -6,7 +6,7 @@ use capnp_arena::arena::Arena;
 use capnp_arena::callers::refill;
 use capnp_device::error::{ErrorKind, Result};
 use capnp_wire::laws::pointer_is_well_formed;
-use capnp_wire::message::{Builder, Reader};
+use capnp_wire::message::Reader;
 use capnp_wire::size::{ElementSize, StructSize};
 use capnp_wire::{PointerReader, StructReader};
 use std::alloc::Global;
@@ -26,18 +26,15 @@ enum Way {
     Compacted,
     /// By `set_root` in the place of a text.
     Replaced,
-    /// By the objects of `capnp_wire`.
-    Objects,
 }
 
-static WAYS: [Way; 7] = [
+static WAYS: [Way; 6] = [
     Way::Copied,
     Way::WithoutLevels,
     Way::Twice,
     Way::OverText,
     Way::Compacted,
     Way::Replaced,
-    Way::Objects,
 ];
 
 fn write_copied(alloc: Global, source: PointerReader<'_>) -> Result<Vec<u8>> {
@@ -78,12 +75,6 @@ fn write_replaced(alloc: Global, source: PointerReader<'_>) -> Result<Vec<u8>> {
     arena.write_message()
 }
 
-fn write_objects(alloc: Global, source: PointerReader<'_>) -> Result<Vec<u8>> {
-    let mut message = Builder::new(alloc);
-    message.set_root(source)?;
-    message.write_message()
-}
-
 fn write(alloc: Global, source: PointerReader<'_>, way: Way) -> Result<Vec<u8>> {
     match way {
         Way::Copied => write_copied(alloc, source),
@@ -92,7 +83,6 @@ fn write(alloc: Global, source: PointerReader<'_>, way: Way) -> Result<Vec<u8>> 
         Way::OverText => write_over_text(alloc, source, false),
         Way::Compacted => write_over_text(alloc, source, true),
         Way::Replaced => write_replaced(alloc, source),
-        Way::Objects => write_objects(alloc, source),
     }
 }
 

@@ -1,7 +1,18 @@
-//! What the tests share: bytes as text, and what a call answers.
+//! What the tests share: bytes as text, a size, and what a call answers.
+ghost use Rattle.capnp_arena.specs.Message.{IsMessage};
 
+use capnp_arena::message::Builder;
 use capnp_device::error::{ErrorKind, Result};
+use capnp_wire::PointerReader;
+use capnp_wire::message::Reader;
+use capnp_wire::size::StructSize;
 use std::alloc::Global;
+
+/// A data word and a pointer.
+pub const ONE_EACH: StructSize = StructSize {
+    data_words: 1,
+    pointers: 1,
+};
 
 fn digit_of(c: u8) -> Option<u8> {
     match c {
@@ -47,4 +58,24 @@ pub fn answer<T: Copy>(called: Result<T>) -> std::result::Result<T, ErrorKind> {
 pub fn is_spelled(alloc: Global, written: &Vec<u8>, text: &str) -> Result<bool> {
     let want = bytes_of(alloc, text)?;
     Ok(written.as_slice() == want.as_slice())
+}
+
+/// The root of a message in a stream.
+pub fn root_of(alloc: Global, bytes: &[u8]) -> Result<PointerReader<'_>> {
+    Ok(Reader::new(alloc, bytes)?.get_root())
+}
+
+/// Whether a message is written as the bytes that a text spells.
+pub fn is_written_as(alloc: Global, message: &Builder, text: &str) -> Result<bool>
+    requires { IsMessage message.now }
+{
+    is_spelled(alloc, &message.write_message()?, text)
+}
+
+/// Why a call was refused.
+pub fn refusal<T: Copy>(answer: Result<T>) -> Option<ErrorKind> {
+    match answer {
+        Ok(_) => None,
+        Err(error) => Some(error.kind),
+    }
 }

@@ -1,5 +1,7 @@
-//! The tests of `capnp_arena` by public calls: each call once with ample memory, with the answer and the message that is
-//! written then. A new case is a new row.
+//! The tests of `capnp_arena` by public calls: each call with its answer and the message that is written then.
+//!
+//! `calls` makes the calls of rows on one message, and compares what they answer and the message then. A new case is a
+//! new row.
 #![tactic(auto)]
 
 #[cfg(test)]
@@ -9,10 +11,32 @@ mod builder_read_tests;
 #[cfg(test)]
 mod builder_tests;
 #[cfg(test)]
+mod built_structs;
+#[cfg(test)]
+mod built_tests;
+#[cfg(test)]
+mod call_tests;
+#[cfg(test)]
+mod calls;
+#[cfg(test)]
+mod copied_rows;
+#[cfg(test)]
 mod copy_tests;
+#[cfg(test)]
+mod default_tests;
 #[cfg(test)]
 mod fixtures;
 #[cfg(test)]
 mod got_tests;
+#[cfg(test)]
+mod hop_tests;
+#[cfg(test)]
+mod kept_tests;
+#[cfg(test)]
+mod lent;
+#[cfg(test)]
+mod message_tests;
+#[cfg(test)]
+mod read_copy_tests;
 #[cfg(test)]
 mod rows;

@@ -2,4 +2,3 @@ pub mod RowsTypes
 pub mod RowsIterators
 pub mod Indices
 pub mod Runs
-pub mod ReadRefusals

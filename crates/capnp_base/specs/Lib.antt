@@ -1,7 +1,6 @@
 pub mod AnyPointer
-pub mod ListIter
+pub mod IndexIter
 pub mod ReadBack
-pub mod ShortListIter
 pub mod Taking
 pub mod Text
 pub mod Traits

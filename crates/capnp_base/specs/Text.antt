@@ -1,26 +1,14 @@
--- The bytes of texts that are read and built, and the position of a builder.
+-- The bytes of texts.
 use Rattle.std.specs.Prelude.{ℕ, List, [], ◌∷◌, ◌++◌, ◌≡◌, Result, Ok, Err, MatchResult, String, string_bytes}
 use Rattle.std.specs.declared.alloc.Global.{Global}
-use Rattle.std.specs.Borrow.{Bor, MutBor}
+use Rattle.std.specs.Borrow.{Bor}
 use Rattle.std.specs.Str.{IsUtf8, valid_up_to}
 use Rattle.std.specs.Str.Lossy.{utf8_valid_len}
 use Rattle.std.specs.declared.str.Utf8Error.{Utf8Error}
 use Rattle.capnp_wire.specs.Tree.{Tree, Numbers}
 use Rattle.capnp_base.specs.declared.text.Reader.{Reader}
-use Rattle.capnp_base.specs.declared.text.Builder.{Builder}
 use Rattle.capnp_device.specs.declared.error.Error.{Error}
 use Rattle.capnp_device.specs.declared.error.ErrorKind.{ErrorKind}
-
--- the bytes of a text that is built, without the zero that ends it; the reference that they are behind; and where the
--- next push writes
-abbrev pub text_bytes : Builder → List ℕ
-text_bytes b = b.bytes.now
-
-abbrev pub text_behind : Builder → MutBor (List ℕ)
-text_behind b = b.bytes
-
-abbrev pub position : Builder → ℕ
-position b = b.pos
 
 -- what a read answered
 abbrev pub text_read : Result Reader Error → Result (List ℕ) ErrorKind

@@ -1,19 +1,14 @@
 //! The tests of `capnp_base` by public calls.
 //!
-//! `iterator_tests` has a list of one's own (`Tens`) and what iterators give of it, `struct_tests` a struct type with its
-//! reader and builder and all that the traits ask of one. `pointer_tests` and `refusal_tests` read, set and start texts,
-//! data and untyped pointers at the root of a message. Most tests are tables: a row says what is called, what that answers
-//! and which words the message has then; `calls` says what can be called (`Call`).
+//! `iterator_tests` has a list of one's own (`Tens`) and what iterators give of it, `struct_tests` a struct type with
+//! its reader and all that the traits ask of one. `pointer_tests` reads texts, data and untyped pointers at the root of
+//! a message.
 #![tactic(auto)]
 
-#[cfg(test)]
-mod calls;
 #[cfg(test)]
 mod iterator_tests;
 #[cfg(test)]
 mod pointer_tests;
-#[cfg(test)]
-mod refusal_tests;
 #[cfg(test)]
 mod struct_tests;
 #[cfg(test)]

@@ -1,21 +1,13 @@
-//! The traits of a struct type, as a caller meets them.
-ghost use Rattle.capnp_wire.specs.Edits.{IsCopyRefusal, rounded};
-ghost use Rattle.capnp_wire.specs.Place.{struct_tree};
-ghost use Rattle.capnp_wire.specs.Standing.{struct_of};
-ghost use Rattle.capnp_wire.specs.Words.{first_fault_of_all};
+//! The traits of a struct type that is read, as a caller meets them.
 ghost use Rattle.capnp_base.specs.Types.{type_from};
 ghost use Rattle.capnp_base.specs.declared.introspect.TypeVariant.TheVariants as variant;
 
 use capnp_base::introspect::{Introspect, RawBrandedStructSchema, Type, TypeVariant};
 use capnp_base::traits::{
-    HasStructSize, HasTypeId, IntoInternalListReader, IntoInternalStructReader, OwnedStruct,
-    SetterInput,
+    HasTypeId, IntoInternalListReader, IntoInternalStructReader, OwnedStruct,
 };
-use capnp_wire::error::Result;
-use capnp_wire::laws::{copied_structs_are_well_formed, struct_is_well_formed};
-use capnp_wire::message::Builder;
-use capnp_wire::size::{ElementSize, StructSize};
-use capnp_wire::{ListReader, PointerBuilder, PointerReader, StructBuilder, StructReader};
+use capnp_wire::size::ElementSize;
+use capnp_wire::{ListReader, PointerReader, StructReader};
 
 #[derive(Clone, Copy)]
 struct Flat<'a> {
@@ -27,20 +19,8 @@ struct Numbers<'a> {
     reader: ListReader<'a>,
 }
 
-#[derive(Drop)]
-struct FlatBuilder<'a> {
-    builder: StructBuilder<'a>,
-}
-
 impl HasTypeId for Flat<'_> {
     const TYPE_ID: u64 = 100;
-}
-
-impl HasStructSize for FlatBuilder<'_> {
-    const STRUCT_SIZE: StructSize = StructSize {
-        data_words: 1,
-        pointers: 0,
-    };
 }
 
 impl<'a> From<StructReader<'a>> for Flat<'a> {
@@ -65,12 +45,6 @@ impl<'a> IntoInternalListReader<'a> for Numbers<'a> {
     }
 }
 
-impl<'a> From<StructBuilder<'a>> for FlatBuilder<'a> {
-    fn from(builder: StructBuilder<'a>) -> FlatBuilder<'a> {
-        FlatBuilder { builder }
-    }
-}
-
 /// The struct type of these handles: brand 0 of node 0 in a set.
 const FLAT: RawBrandedStructSchema = RawBrandedStructSchema {
     number: 0,
@@ -88,45 +62,12 @@ impl Introspect for FlatType {
     }
 }
 
-impl<'a> SetterInput<FlatType> for Flat<'a> {
-    ghost set_tree = { λ flat. struct_tree (rounded (struct_of flat.reader)) };
-
-    ghost set_refusal = { λ flat error. IsCopyRefusal error (first_fault_of_all (struct_of flat.reader).pointers) };
-
-    fn set_pointer_builder(
-        builder: PointerBuilder<'_>,
-        input: Flat<'a>,
-        _canonicalize: bool,
-    ) -> Result<()> {
-        struct_is_well_formed(&input.reader);
-        copied_structs_are_well_formed();
-        builder.set_struct(&input.reader)
-    }
-}
-
 impl<'a> OwnedStruct<'a> for FlatType {
     type Reader = Flat<'a>;
-
-    type Builder = FlatBuilder<'a>;
 }
 
-/// Sets the pointer to a struct of the type, and stands its builder on what is there then.
-fn set_and_build<'a, T: OwnedStruct<'a>>(
-    builder: PointerBuilder<'a>,
-    source: StructReader<'a>,
-) -> Result<T::Builder> {
-    T::Reader::set_pointer_builder(builder, T::Reader::from(source), false)?;
-    Ok(T::Builder::from(builder.get_struct(<T::Builder as HasStructSize>::STRUCT_SIZE)?))
-}
-
-fn size_of_builder<T: HasStructSize>(_builder: &T) -> StructSize {
-    T::STRUCT_SIZE
-}
-
-fn number_in<'a, T: IntoInternalStructReader<'a> + From<StructReader<'a>>>(
-    reader: StructReader<'a>,
-) -> u16 {
-    T::from(reader)
+fn number_in<'a, T: OwnedStruct<'a>>(reader: StructReader<'a>) -> u16 {
+    T::Reader::from(reader)
         .into_internal_struct_reader()
         .get_data_field::<u16>(0)
 }
@@ -136,33 +77,14 @@ fn length_of<'a, T: IntoInternalListReader<'a>>(list: T) -> u32 {
 }
 
 /// A struct of one word, with 5.
-pub const FIVE: &[u8] = &[0, 0, 0, 0, 1, 0, 0, 0, 5, 0, 0, 0, 0, 0, 0, 0];
+const FIVE: &[u8] = &[0, 0, 0, 0, 1, 0, 0, 0, 5, 0, 0, 0, 0, 0, 0, 0];
 
 /// A list of the bytes 1, 2 and 3.
-pub const THREE_BYTES: &[u8] = &[1, 0, 0, 0, 0x1a, 0, 0, 0, 1, 2, 3, 0, 0, 0, 0, 0];
-
-/// The number of a struct of one word that the root of a message is set to.
-fn number_set(message: &mut Builder, words: &[u8]) -> Option<u16> {
-    let Ok(source) = PointerReader::from_words(words).get_struct() else {
-        return None;
-    };
-    match set_and_build::<FlatType>(message.root(), source) {
-        Ok(flat) => Some(flat.builder.get_data_field::<u16>(0)),
-        Err(_) => None,
-    }
-}
-
-/// The data words that its builder's type says of a new struct.
-fn words_of_new(message: &mut Builder) -> Option<u16> {
-    match message.root().init_struct(FlatBuilder::STRUCT_SIZE) {
-        Ok(builder) => Some(size_of_builder(&FlatBuilder { builder }).data_words),
-        Err(_) => None,
-    }
-}
+const THREE_BYTES: &[u8] = &[1, 0, 0, 0, 0x1a, 0, 0, 0, 1, 2, 3, 0, 0, 0, 0, 0];
 
 fn number_read(words: &[u8]) -> Option<u16> {
     match PointerReader::from_words(words).get_struct() {
-        Ok(reader) => Some(number_in::<Flat<'_>>(reader)),
+        Ok(reader) => Some(number_in::<FlatType>(reader)),
         Err(_) => None,
     }
 }
@@ -175,16 +97,9 @@ fn length_read(words: &[u8]) -> Option<u32> {
 }
 
 #[test]
-fn a_struct_type_is_set_and_built(rt: HostRuntime) {
-    let mut message = Builder::new(rt.alloc());
-    assert_eq!(rt; number_set(&mut message, FIVE), Some(5));
-    assert_eq!(rt; words_of_new(&mut message), Some(1));
-    assert_eq!(rt; FlatType::introspect().which(), TypeVariant::Struct(FLAT));
-}
-
-#[test]
-fn struct_types_have_sizes_and_readers(rt: HostRuntime) {
+fn struct_types_have_numbers_and_readers(rt: HostRuntime) {
     assert_eq!(rt; Flat::TYPE_ID, 100);
+    assert_eq!(rt; FlatType::introspect().which(), TypeVariant::Struct(FLAT));
     assert_eq!(rt; number_read(FIVE), Some(5));
     assert_eq!(rt; length_read(THREE_BYTES), Some(3));
 }

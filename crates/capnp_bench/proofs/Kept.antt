@@ -1,7 +1,9 @@
--- What a write keeps: a struct has its schema's sections as before, and is well-formed.
+-- What a write keeps: a struct stands at its place, with its schema's sections.
 use Rattle.std.specs.Prelude.{◌*◌, ◌≤◌, ◌≡◌, Bool}
 use Rattle.std.proofs.Common.{subst, sym}
-use Rattle.capnp_wire.specs.Tree.{StructTree}
+use Rattle.capnp_arena.specs.Built.{IsBuilt, built}
+use Rattle.capnp_arena.specs.declared.arena.Arena.{Arena}
+use Rattle.capnp_arena.specs.declared.arena.Place.{Place}
 use Rattle.capnp_schema.specs.FieldLists.{schema_of}
 use Rattle.capnp_schema.specs.Footprint.{Spot}
 use Rattle.capnp_schema.specs.StructHandles.{number_of, set_of}
@@ -11,15 +13,17 @@ use Rattle.capnp_records.specs.Writes.Slots.{Fits}
 use Rattle.capnp_schema.specs.Plan.{brand_size}
 use Rattle.capnp_slots.specs.Fields.{Keeps}
 use Rattle.capnp_slots.specs.Groups.{IsGroupAt}
-use Rattle.capnp_bench.specs.Room.{LiesIn, StaysUnder}
+use Rattle.capnp_dynamic.specs.Built.{IsStanding}
+use Rattle.capnp_bench.specs.Room.{LiesIn}
 
-pub kept_under : (inside : Spot → Bool) (s s' : StructTree) → Keeps inside s s' → StaysUnder s s'
-kept_under inside s s' kept schema under = record {
+pub kept_ready : (schema : StructSchema) (inside : Spot → Bool) (place : Place) (old new : Arena) → IsStanding schema old place → IsBuilt new place
+    → Keeps inside (built old place) (built new place) → IsStanding schema new place
+kept_ready schema inside place old new under planted kept = record {
+  planted = planted;
   room = (
     subst (λ n. 8 * (brand_size (set_of schema) (number_of schema)).data_words ≤ n) (sym kept.writes.data_size) under.room.0,
     subst (λ n. (brand_size (set_of schema) (number_of schema)).pointers ≤ n) (sym kept.writes.pointer_count) under.room.1,
   );
-  formed = kept.formed under.formed;
 }
 
 -- a field of a schema lies in it, and one of a group in it too

@@ -1,1 +1,3 @@
+mod Items
 mod Kept
+mod Started

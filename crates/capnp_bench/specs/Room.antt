@@ -1,12 +1,14 @@
--- The fields that the rows of sets write, and the structs that have room for them.
-use Rattle.capnp_wire.specs.Tree.{StructTree}
+-- The fields that the rows of sets and documents write, and the structs that have room for them.
+use Rattle.capnp_wire.specs.Tree.{StructTree, Tree}
+use Rattle.capnp_wire.specs.StructLists.{HoldsStructs}
+use Rattle.capnp_schema.specs.Plan.{brand_size}
 use Rattle.capnp_schema.specs.StructHandles.{number_of, set_of}
 use Rattle.capnp_schema.specs.declared.schema.fields.Field.{Field}
 use Rattle.capnp_schema.specs.declared.schema.structs.StructSchema.{StructSchema}
 use Rattle.capnp_records.specs.Writes.Slots.{Fits}
-use Rattle.capnp_slots.specs.Fields.{IsRoomFor}
+use Rattle.capnp_slots.specs.Fields.{IsPointer, IsRoomFor, IsSlot}
 use Rattle.capnp_slots.specs.Groups.{IsGroup}
-use Rattle.capnp_dynamic.specs.Built.{IsUnder}
+use Rattle.capnp_bench.specs.declared.documents.ItemFields.{ItemFields}
 use Rattle.capnp_bench.specs.declared.sets.Shapes.{Shapes}
 
 -- a field of a schema, or of a group in it: each struct of the schema's sections has room for it
@@ -25,6 +27,17 @@ pub record AreShapes (schema : StructSchema) (f : Shapes) : Type 0 where
   pub circle_is_group : IsGroup f.circle
   pub tag_is_group : IsGroup f.tag
 
--- a struct of a schema's sections became another one
-abbrev pub StaysUnder : StructTree → StructTree → Type 0
-StaysUnder s s' = (schema : StructSchema) → IsUnder schema s → IsUnder schema s'
+-- the fields of an item that are set
+pub record AreItemFields (item : StructSchema) (f : ItemFields) : Type 0 where
+  pub id : LiesIn item f.id
+  pub kind : LiesIn item f.kind
+  pub name : LiesIn item f.name
+
+-- a list of structs of at least a schema's sections
+abbrev pub HoldsItems : StructSchema → Tree → Type 0
+HoldsItems item t = HoldsStructs (brand_size (set_of item) (number_of item)) t
+
+-- a field is a slot behind whose pointer a list stands
+pub record IsListSlot (f : Field) : Type 0 where
+  pub slot : IsSlot f
+  pub pointer : IsPointer f

@@ -2,6 +2,7 @@
 //! checksum; one that is refused answers 0.
 #![tactic(auto)]
 
+mod documents;
 mod prints;
 mod reads;
 mod requests;

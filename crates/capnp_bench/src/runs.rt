@@ -1,19 +1,18 @@
 //! Runs: a list of calls along paths of one message, which is made again and again.
 ghost use Rattle.std.specs.Prelude.{◌<◌};
-ghost use Rattle.capnp_wire.specs.Objects.{struct_object_tree};
-ghost use Rattle.capnp_schema.specs.StructHandles.{IsStruct};
-ghost use Rattle.capnp_dynamic.specs.Built.{IsUnder};
+ghost use Rattle.capnp_schema.specs.StructHandles.{IsStruct, number_of, set_of};
+ghost use Rattle.capnp_records.specs.Writes.Slots.{Fits};
+ghost use Rattle.capnp_arena.specs.Built.{IsBuilt, built};
 
-use capnp_dynamic::dynamic_struct::Builder;
-use capnp_dynamic::dynamic_value::Reader as Value;
+use capnp_arena::arena::{Arena, Place};
+use capnp_arena::message::Builder;
+use capnp_dynamic_readers::dynamic_value::Reader as Value;
 use capnp_run::calls::{Call, Op, Plain, Reply, Step};
 use capnp_run::run::run_on;
 use capnp_schema::builtin::new_set;
 use capnp_schema::schema::StructSchema;
+use capnp_slots::size_of;
 use capnp_wire::error::Result;
-use capnp_wire::laws::kept::nulls_are_well_formed;
-use capnp_wire::message;
-use capnp_wire::object::StructObject;
 use std::alloc::Global;
 
 /// The number of the struct that may hold another one of it among the built-in brands.
@@ -48,21 +47,23 @@ fn sum_of(replies: &[Reply]) -> u64 {
 }
 
 /// Makes a list of calls so many times on a struct, and adds the replies.
-#[tactic(auto, using(crate::proofs::Kept::kept_under))]
 fn make(
     alloc: Global,
-    object: &mut StructObject,
+    arena: &mut Arena,
+    place: Place,
     schema: StructSchema<'_>,
     calls: &[Call<'_>],
     rounds: u64,
 ) -> Result<u64>
+    requires planted { IsBuilt arena.old place }
     requires stands { IsStruct schema }
-    requires under { IsUnder schema (struct_object_tree object.old) }
-    ensures { IsUnder schema.entry (struct_object_tree object.new) }
+    requires fits { Fits (set_of schema) (number_of schema) (built arena.old place) }
+    ensures planted { IsBuilt arena.new place }
+    ensures fits { Fits (set_of schema.entry) (number_of schema.entry) (built arena.new place) }
 {
     let mut sum: u64 = 0;
     for _ in 0..rounds {
-        let replies = run_on(alloc, object, schema, calls)?;
+        let replies = run_on(alloc, arena, place, schema, calls)?;
         sum = sum.wrapping_add(sum_of(&replies));
     }
     Ok(sum)
@@ -80,11 +81,10 @@ fn make_after(
     let Some(schema) = set.get_struct(brand) else {
         return Ok(0);
     };
-    nulls_are_well_formed();
-    let mut message = message::Builder::new(alloc);
-    let Builder { builder, schema: _ } = Builder::open(message.root(), schema)?;
-    make(alloc, builder, schema, first, 1)?;
-    make(alloc, builder, schema, calls, rounds)
+    let mut message = Builder::new(alloc)?;
+    let place = message.init_struct(0, size_of(schema))?;
+    make(alloc, &mut message, place, schema, first, 1)?;
+    make(alloc, &mut message, place, schema, calls, rounds)
 }
 
 /// The paths to the elements of the list.

@@ -1,21 +1,24 @@
 //! Dynamic sets: numbers by field handle in a struct and its groups, and messages that are built whole.
-ghost use Rattle.std.specs.Prelude.{◌≡◌, IfOk};
-ghost use Rattle.capnp_wire.specs.Objects.{struct_object_tree};
+ghost use Rattle.std.specs.Prelude.{◌<◌, ◌≡◌, IfOk, OnOk};
+ghost use Rattle.capnp_arena.specs.Built.{ChangesIn, IsBuilt, part};
+ghost use Rattle.capnp_arena.specs.Forest.{Forest};
+ghost use Rattle.capnp_arena.specs.Segment.{segment};
+ghost use Rattle.capnp_arena.specs.Shape.{shape_at, word_count};
 ghost use Rattle.capnp_schema.specs.FieldLists.{schema_of};
 ghost use Rattle.capnp_slots.specs.Groups.{IsGroup, IsGroupAt};
-ghost use Rattle.capnp_dynamic.specs.Built.{IsUnder};
-ghost use Rattle.capnp_bench.specs.Room.{AreShapes, LiesIn, StaysUnder};
+ghost use Rattle.capnp_dynamic.specs.Built.{IsStanding};
+ghost use Rattle.capnp_bench.specs.Room.{AreShapes, LiesIn};
 
 use crate::reads::number_of;
+use capnp_arena::arena::{Arena, Place};
+use capnp_arena::message;
 use capnp_dynamic::dynamic_struct::{Builder, Reader};
 use capnp_dynamic::dynamic_value::Reader as Value;
 use capnp_dynamic::group;
 use capnp_schema::builtin::new_set;
 use capnp_schema::schema::{Field, StructSchema};
+use capnp_slots::size_of;
 use capnp_wire::error::{Error, Result};
-use capnp_wire::laws::kept::{nulls_are_well_formed, structs_can_be_read};
-use capnp_wire::message;
-use capnp_wire::object::StructObject;
 use std::alloc::Global;
 
 /// The number of the struct with groups among the built-in brands.
@@ -35,7 +38,7 @@ struct Shapes<'s> {
 
 /// The field of a name; refused with `FieldNotFound` where there is none.
 #[tactic(auto, using(crate::proofs::Kept::own_lies))]
-fn field_of<'s>(schema: StructSchema<'s>, name: &str) -> Result<Field<'s>>
+pub(crate) fn field_of<'s>(schema: StructSchema<'s>, name: &str) -> Result<Field<'s>>
     ensures own { IfOk result (λ f. schema_of f ≡ schema.entry) }
     ensures lies { IfOk result (LiesIn schema.entry) }
 {
@@ -95,117 +98,138 @@ fn shapes_of<'s>(schema: StructSchema<'s>) -> Result<Shapes<'s>>
 }
 
 /// Sets a field of a struct.
-#[tactic(auto, using(crate::proofs::Kept::kept_under))]
+#[tactic(auto, using(crate::proofs::Kept::kept_ready))]
 #[inline(always)]
-fn set<'s>(
-    object: &mut StructObject,
+pub(crate) fn set<'s>(
+    arena: &mut Arena,
+    place: Place,
     schema: StructSchema<'s>,
     field: Field<'s>,
     value: Value<'_>,
 ) -> Result<()>
     requires lies { LiesIn schema field }
-    requires under { IsUnder schema (struct_object_tree object.old) }
-    ensures { StaysUnder (struct_object_tree object.old) (struct_object_tree object.new) }
+    requires standing { IsStanding schema arena.old place }
+    ensures standing { IsStanding schema.entry arena.new place }
+    ensures changes { ChangesIn place arena.old arena.new }
 {
-    let mut builder = Builder::new(object, field.get_containing_struct());
+    let mut builder = Builder {
+        arena,
+        place,
+        schema: field.get_containing_struct(),
+    };
     builder.set(field, value)
 }
 
 /// Starts a group of a struct anew.
-#[tactic(auto, using(crate::proofs::Kept::kept_under))]
-fn start<'s>(object: &mut StructObject, schema: StructSchema<'s>, field: Field<'s>)
+#[tactic(auto, using(crate::proofs::Kept::kept_ready))]
+fn start<'s>(arena: &mut Arena, place: Place, schema: StructSchema<'s>, field: Field<'s>)
     requires group { IsGroup field }
     requires lies { LiesIn schema field }
-    requires under { IsUnder schema (struct_object_tree object.old) }
-    ensures { StaysUnder (struct_object_tree object.old) (struct_object_tree object.new) }
+    requires standing { IsStanding schema arena.old place }
+    ensures standing { IsStanding schema.entry arena.new place }
+    ensures changes { ChangesIn place arena.old arena.new }
 {
-    group::init(object, field);
+    group::init(arena, place, field);
 }
 
 /// What a field reads as, as a number.
 #[inline(always)]
-fn get<'s>(object: &StructObject, schema: StructSchema<'s>, field: Field<'s>) -> Result<u64>
+fn get<'s>(arena: &Arena, place: Place, schema: StructSchema<'s>, field: Field<'s>) -> Result<u64>
     requires lies { LiesIn schema field }
-    requires under { IsUnder schema (struct_object_tree object.now) }
+    requires standing { IsStanding schema arena.now place }
 {
-    structs_can_be_read();
-    let reader = Reader::new(object.as_reader(), field.get_containing_struct());
+    let reader = Reader::new(
+        arena.get_struct_reader(place),
+        field.get_containing_struct(),
+    );
     Ok(number_of(reader.get(field)?))
 }
 
 /// Sets numbers of a struct and of its groups, and adds three of them as they then read.
 #[inline(never)]
 fn set_numbers(
-    object: &mut StructObject,
+    arena: &mut Arena,
+    place: Place,
     schema: StructSchema<'_>,
     fields: &Shapes<'_>,
     number: u64,
     sum: &mut u64,
 ) -> Result<()>
     requires fields { AreShapes schema fields.now }
-    requires under { IsUnder schema (struct_object_tree object.old) }
-    ensures { IsUnder schema.entry (struct_object_tree object.new) }
+    requires standing { IsStanding schema arena.old place }
+    ensures { IsStanding schema.entry arena.new place }
 {
     let half = Value::UInt16((number % 65_536) as u16);
-    set(object, schema, fields.id, half)?;
-    start(object, schema, fields.circle);
-    set(
-        object,
-        schema,
-        fields.r,
-        Value::UInt32((number % 4_294_967_296) as u32),
-    )?;
-    start(object, schema, fields.tag);
-    set(object, schema, fields.n, half)?;
-    set(
-        object,
-        schema,
-        fields.u1,
-        Value::UInt8((number % 256) as u8),
-    )?;
-    *sum = sum.wrapping_add(get(object, schema, fields.id)?);
-    *sum = sum.wrapping_add(get(object, schema, fields.n)?);
-    *sum = sum.wrapping_add(get(object, schema, fields.u1)?);
+    set(arena, place, schema, fields.id, half)?;
+    start(arena, place, schema, fields.circle);
+    let whole = Value::UInt32((number % 4_294_967_296) as u32);
+    set(arena, place, schema, fields.r, whole)?;
+    start(arena, place, schema, fields.tag);
+    set(arena, place, schema, fields.n, half)?;
+    let byte = Value::UInt8((number % 256) as u8);
+    set(arena, place, schema, fields.u1, byte)?;
+    *sum = sum.wrapping_add(get(arena, place, schema, fields.id)?);
+    *sum = sum.wrapping_add(get(arena, place, schema, fields.n)?);
+    *sum = sum.wrapping_add(get(arena, place, schema, fields.u1)?);
     Ok(())
 }
 
 /// Sets numbers so many times.
 fn set_all(
-    object: &mut StructObject,
+    arena: &mut Arena,
+    place: Place,
     schema: StructSchema<'_>,
     fields: &Shapes<'_>,
     rounds: u64,
 ) -> Result<u64>
     requires fields { AreShapes schema fields.now }
-    requires under { IsUnder schema (struct_object_tree object.old) }
+    requires standing { IsStanding schema arena.old place }
 {
     let mut sum: u64 = 0;
     for number in 0..rounds {
-        set_numbers(object, schema, fields, number, &mut sum)?;
+        set_numbers(arena, place, schema, fields, number, &mut sum)?;
     }
     Ok(sum)
+}
+
+/// Starts the root of a message, and answers where it stands.
+pub(crate) fn start_root(message: &mut Arena, schema: StructSchema<'_>) -> Result<Place>
+    requires { 0 < word_count (segment message.old) }
+    ensures forest { OnOk result (Forest (segment message.new) 0) }
+    ensures place { IfOk result (λ p. shape_at (segment message.new) 0 ≡ part p) }
+    ensures standing { IfOk result (λ p. IsStanding schema.entry message.new p) }
+{
+    let size = size_of(schema);
+    let place = message.init_struct(0, size)?;
+    Ok(place)
 }
 
 fn numbers(alloc: Global, rounds: u64) -> Result<u64> {
     let set = new_set(alloc)?;
     let schema = set.struct_schema(SHAPES);
     let fields = shapes_of(schema)?;
-    nulls_are_well_formed();
-    let mut message = message::Builder::new(alloc);
-    let Builder { builder, schema: _ } = Builder::open(message.root(), schema)?;
-    set_all(builder, schema, &fields, rounds)
+    let mut message = message::Builder::new(alloc)?;
+    let place = start_root(&mut message, schema)?;
+    set_all(&mut message, place, schema, &fields, rounds)
 }
 
 /// Fills a struct with numbers and a text.
-fn fill(object: &mut StructObject, schema: StructSchema<'_>, fields: &Shapes<'_>) -> Result<()>
+fn fill(
+    arena: &mut Arena,
+    place: Place,
+    schema: StructSchema<'_>,
+    fields: &Shapes<'_>,
+) -> Result<()>
     requires fields { AreShapes schema fields.now }
-    requires under { IsUnder schema (struct_object_tree object.old) }
+    requires standing { IsStanding schema arena.old place }
+    ensures planted { IsBuilt arena.new place }
+    ensures changes { ChangesIn place arena.old arena.new }
 {
-    set(object, schema, fields.id, Value::UInt16(5))?;
-    start(object, schema, fields.tag);
-    set(object, schema, fields.n, Value::UInt16(3))?;
-    set(object, schema, fields.u1, Value::UInt8(9))?;
-    set(object, schema, fields.q, Value::from("hello"))
+    set(arena, place, schema, fields.id, Value::UInt16(5))?;
+    start(arena, place, schema, fields.tag);
+    set(arena, place, schema, fields.n, Value::UInt16(3))?;
+    set(arena, place, schema, fields.u1, Value::UInt8(9))?;
+    set(arena, place, schema, fields.q, Value::from("hello"))
 }
 
 /// Builds and writes a message, and gives the number of its bytes.
@@ -213,10 +237,9 @@ fn fill(object: &mut StructObject, schema: StructSchema<'_>, fields: &Shapes<'_>
 fn build(alloc: Global, schema: StructSchema<'_>, fields: &Shapes<'_>) -> Result<u64>
     requires { AreShapes schema fields.now }
 {
-    nulls_are_well_formed();
-    let mut message = message::Builder::new(alloc);
-    let Builder { builder, schema: _ } = Builder::open(message.root(), schema)?;
-    fill(builder, schema, fields)?;
+    let mut message = message::Builder::new(alloc)?;
+    let place = start_root(&mut message, schema)?;
+    fill(&mut message, place, schema, fields)?;
     Ok(message.write_message()?.len() as u64)
 }
 

@@ -27,6 +27,8 @@ use Rattle.capnp_dynamic_readers.specs.Seen.{answered}
 use Rattle.capnp_dynamic_readers.specs.Typed.{IsOf}
 use Rattle.capnp_dynamic_readers.specs.declared.dynamic_list.Reader.{Reader as ListHandle}
 use Rattle.capnp_dynamic_readers.specs.declared.dynamic_value.Reader.{Reader as DynamicValue}
+use Rattle.capnp_arena.specs.Same.{IsCutOf}
+use Rattle.capnp_call.proofs.Heads.{element_cut}
 use Rattle.capnp_call.proofs.Levels.{SameAnswer, answers_same, same_from, same_then, there}
 use Rattle.capnp_call.proofs.ListWalks.{part_seen}
 use Rattle.capnp_call.specs.Lists.{element_at}
@@ -94,14 +96,14 @@ seen_is r set e x i on =
     ∙ (ap (λ (y : Tree). read_of set VoidValue e (element_value set y (below_of set y) (Left (list_levels (list_reader_of r))) e i)) on.list_is
     ∙ ap (λ (n : ℕ). read_of set VoidValue e (element_value set x (below_of set x) (Left n) e i)) on.levels))
 
-pub get_reads : (r : ListHandle) (set : Schemas) (e : SchemaType) (x : Tree) (i : ℕ) (read : Result DynamicValue Error) (reply : Reply) → StandsIn r set e x → i < list_length x → NamesEntries set e →
+pub get_reads : (r : ListHandle) (set : Schemas) (e : SchemaType) (y x : Tree) (i : ℕ) (read : Result DynamicValue Error) (reply : Reply) → StandsIn r set e y → IsCutOf y x → i < list_length x → NamesEntries set e →
     answered read ≡ element_seen r i → (NamesEntries (list_set r) (element_of r) → IfOk read (IsOf (list_set r) (element_of r))) →
     ((set : Schemas) (t : SchemaType) (old : Value) → IfOk read (IsOf set t) → Answers t (answered read) (fault_of (answered read)) old reply old) →
     (old : Value) → Does set Get (element_at set e x i) old reply old
-get_reads r set e x i read reply on inside entries value typed answers old =
+get_reads r set e y x i read reply on cut inside entries value typed answers old =
     let named : NamesEntries (list_set r) (element_of r) = subst (λ (z : Schemas). NamesEntries z (element_of r)) (sym on.set_is) (subst (NamesEntries set) (sym on.element_is) entries) in
     let is_of : IfOk read (IsOf set e) = subst (λ (t : SchemaType). IfOk read (IsOf set t)) on.element_is (subst (λ (z : Schemas). IfOk read (IsOf z (element_of r))) on.set_is (typed named)) in
     answers_same e (answered read) _ old old reply
-    (same_then (same_from (value ∙ seen_is r set e x i on))
-    (same_then (element_same set x i e) (same_from (ap (read_of set VoidValue e) (sym (part_seen set e x i inside))))))
+    (same_then (same_from (value ∙ seen_is r set e y i on))
+    (same_then (same_then (element_same set y i e) (element_cut set y x cut i e)) (same_from (ap (read_of set VoidValue e) (sym (part_seen set e x i inside))))))
     (answers set e old is_of)

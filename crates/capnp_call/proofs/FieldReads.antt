@@ -32,7 +32,9 @@ use Rattle.capnp_dynamic_readers.specs.declared.dynamic_value.Reader.{Reader as 
 use Rattle.capnp_dynamic_readers.specs.declared.dynamic_value.Reader.TheVariants as dynamic
 use Rattle.capnp_slots.specs.Fields.{field_brand, field_set}
 use Rattle.capnp_call.specs.Ways.{target_in}
-use Rattle.capnp_call.proofs.Levels.{active_levels, answers_same, field_same, has_levels, same_from, same_then}
+use Rattle.capnp_arena.specs.Same.{IsStructCutOf}
+use Rattle.capnp_call.proofs.Heads.{active_cut, bytes_cut, field_cut, has_cut}
+use Rattle.capnp_call.proofs.Levels.{answers_same, same_from, same_then}
 
 -- ---- a struct's reader ----
 
@@ -48,25 +50,25 @@ record_is r schema s on =
     ∙ ap (λ (n : ℕ). struct_record (set_of schema) (Left n) (struct_of (reader_of r)) (number_of schema)) on.levels
     ∙ ap (λ (x : StructTree). struct_record (set_of schema) (Left 64) x (number_of schema)) on.struct_is
 
-pub has_reads : (r : StructHandle) (f : Field) (s : StructTree) → StandsOn r (field_schema f) s → IsStruct (field_schema f) → index_of f < length (struct_fields (field_schema f)) →
+pub has_reads : (r : StructHandle) (f : Field) (x s : StructTree) → StandsOn r (field_schema f) x → IsStructCutOf x s → IsStruct (field_schema f) → index_of f < length (struct_fields (field_schema f)) →
     (v : TypeVariant) → seen_variant v ≡ (typed_of f).type →
     has_of (record_seen r) (struct_field (schema_of r) (index_of f)).field (index_of f) ≡ has_of (reads (field_set f) s (field_brand f)) (typed_of f).field (index_of f)
-has_reads r f s on is inside v e =
-    ap (λ (x : Record). has_of x (struct_field (schema_of r) (index_of f)).field (index_of f)) (record_is r (field_schema f) s on)
-    ∙ ap (λ (z : StructSchema). has_of (struct_record (field_set f) (Left 64) s (field_brand f)) (struct_field z (index_of f)).field (index_of f)) on.schema_is
-    ∙ has_levels (field_set f) (Left 64) s is.accepted (field_brand f) (index_of f) is.number inside v e
+has_reads r f x s on cut is inside v e =
+    ap (λ (y : Record). has_of y (struct_field (schema_of r) (index_of f)).field (index_of f)) (record_is r (field_schema f) x on)
+    ∙ ap (λ (z : StructSchema). has_of (struct_record (field_set f) (Left 64) x (field_brand f)) (struct_field z (index_of f)).field (index_of f)) on.schema_is
+    ∙ has_cut (field_set f) (Left 64) x s cut is.accepted (field_brand f) (index_of f) is.number inside v e
 
 not-not : (x : Bool) → not (not x) ≡ x
 not-not true = refl
 not-not false = refl
 
-pub active_reads : (r : StructHandle) (f : Field) (s : StructTree) → schema_of r ≡ field_schema f → struct_of (reader_of r) ≡ s → IsStruct (field_schema f) → index_of f < length (struct_fields (field_schema f)) → (q : Bool) →
+pub active_reads : (r : StructHandle) (f : Field) (x s : StructTree) → schema_of r ≡ field_schema f → struct_of (reader_of r) ≡ x → IsStructCutOf x s → IsStruct (field_schema f) → index_of f < length (struct_fields (field_schema f)) → (q : Bool) →
     q ≡ not (is_inactive (record_seen r) (struct_field (schema_of r) (index_of f)).field (index_of f)) → not q ≡ is_inactive (reads (field_set f) s (field_brand f)) (typed_of f).field (index_of f)
-active_reads r f s schema struct is inside q answered =
+active_reads r f x s schema struct cut is inside q answered =
     ap not (answered
     ∙ (ap (λ (z : StructSchema). not (is_inactive (struct_record (set_of z) (Left (struct_levels (reader_of r))) (struct_of (reader_of r)) (number_of z)) (struct_field z (index_of f)).field (index_of f))) schema
-    ∙ (ap (λ (x : StructTree). not (is_inactive (struct_record (field_set f) (Left (struct_levels (reader_of r))) x (field_brand f)) (typed_of f).field (index_of f))) struct
-    ∙ active_levels (field_set f) (Left (struct_levels (reader_of r))) s is.accepted (field_brand f) (index_of f) is.number inside)))
+    ∙ (ap (λ (y : StructTree). not (is_inactive (struct_record (field_set f) (Left (struct_levels (reader_of r))) y (field_brand f)) (typed_of f).field (index_of f))) struct
+    ∙ active_cut (field_set f) (Left (struct_levels (reader_of r))) x s (bytes_cut x s cut) is.accepted (field_brand f) (index_of f) is.number inside)))
     ∙ not-not _
 
 -- ---- get ----
@@ -80,18 +82,18 @@ read_is r f s on =
     ∙ ap (λ (n : ℕ). field_read (field_set f) (Left n) (struct_of (reader_of r)) (typed_of f)) on.levels
     ∙ ap (λ (x : StructTree). field_read (field_set f) (Left 64) x (typed_of f)) on.struct_is
 
-pub get_reads : (r : StructHandle) (f : Field) (s : StructTree) (read : Result DynamicValue Error) (reply : Reply) → StandsOn r (field_schema f) s → index_of f < length (struct_fields (field_schema f)) →
+pub get_reads : (r : StructHandle) (f : Field) (x s : StructTree) (read : Result DynamicValue Error) (reply : Reply) → StandsOn r (field_schema f) x → IsStructCutOf x s → index_of f < length (struct_fields (field_schema f)) →
     answered read ≡ field_seen r (index_of f) → IfOk read (IsOf (set_of (schema_of r)) (struct_field (schema_of r) (index_of f)).type) →
     ((set : Schemas) (t : SchemaType) (old : Value) → IfOk read (IsOf set t) → Answers t (answered read) (fault_of (answered read)) old reply old) →
     is_inactive (reads (field_set f) s (field_brand f)) (typed_of f).field (index_of f) ≡ false →
     (whole : Record → Value) (old : Value) → Does (field_set f) Get (target_in whole f s) old reply old
-get_reads r f s read reply on inside value typed answers active whole old =
+get_reads r f x s read reply on cut inside value typed answers active whole old =
     let enter : CanEnter (field_set f) s (field_brand f) (index_of f) = can-enter (field_set f) s (field_brand f) (index_of f) inside active in
     let typed_as : IfOk read (IsOf (field_set f) (typed_of f).type) = subst (λ (z : StructSchema). IfOk read (IsOf (set_of z) (struct_field z (index_of f)).type)) on.schema_is typed in
     choose-false (target_in whole f s).inactive _ _ active
     (answers_same (typed_of f).type (answered read) _ old old reply
-    (same_then (same_from (value ∙ read_is r f s on))
-    (same_then (field_same (field_set f) s (typed_of f)) (same_from (ap (read_of (field_set f) (default_of (typed_of f).field) (typed_of f).type) (sym enter.part)))))
+    (same_then (same_from (value ∙ read_is r f x on))
+    (same_then (field_cut (field_set f) x s cut (typed_of f)) (same_from (ap (read_of (field_set f) (default_of (typed_of f).field) (typed_of f).type) (sym enter.part)))))
     (answers (field_set f) (typed_of f).type old typed_as))
 
 -- a value that was read is none of a fault

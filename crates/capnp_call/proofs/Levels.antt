@@ -49,7 +49,7 @@ pub record SameAnswer (t : SchemaType) (v w : Value) : Type 0 where
   pub plain_is : plain t v ≡ plain t w
   pub fault_is : fault_of v ≡ fault_of w
 
-same : {t : SchemaType} {v : Value} → SameAnswer t v v
+pub same : {t : SchemaType} {v : Value} → SameAnswer t v v
 same = record { plain_is = refl; fault_is = refl }
 
 pub same_from : {t : SchemaType} {v w : Value} → v ≡ w → SameAnswer t v w
@@ -65,7 +65,7 @@ answers_same t v w old new reply s h = go (fault_of w) (subst (λ o. Answers t v
     go (Some kind) h = h
     go None h = subst (λ p. ((reply ≡ GivesValue p) × (new ≡ old)) ⊎ (IsTrue (takes_memory t) × IsRefused OutOfMemory reply old new)) s.plain_is h
 
-alike : {t : SchemaType} {v w : Value} → plain t v ≡ plain t w → fault_of v ≡ fault_of w → SameAnswer t v w
+pub alike : {t : SchemaType} {v w : Value} → plain t v ≡ plain t w → fault_of v ≡ fault_of w → SameAnswer t v w
 alike p f = record { plain_is = p; fault_is = f }
 
 module _ (set : Schemas) where

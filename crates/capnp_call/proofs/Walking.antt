@@ -5,16 +5,9 @@ use Rattle.std.proofs.lemmas.Bool.{true≢false}
 use Rattle.capnp_device.specs.declared.error.Error.{Error}
 use Rattle.capnp_device.specs.declared.error.ErrorKind.{ErrorKind}
 use Rattle.capnp_wire.specs.Edits.{struct_in, with_pointer_tree, with_tree}
-use Rattle.capnp_wire.specs.Facts.Rows.{tree_count-with_tree}
-use Rattle.capnp_wire.specs.Facts.Written.{pointer_written}
-use Rattle.capnp_wire.specs.Kept as kept
-use Rattle.capnp_wire.specs.Lends.{with_pointer}
-use Rattle.capnp_wire.specs.Objects.{object_tree, struct_object_tree}
 use Rattle.capnp_wire.specs.Place.{struct_tree}
 use Rattle.capnp_wire.specs.Tree.{MoreTrees, NoTrees, StructTree, Tree, Trees, nth_tree}
 use Rattle.capnp_wire.specs.WellFormed.{IsWellFormed}
-use Rattle.capnp_wire.specs.declared.object.Object.{Object}
-use Rattle.capnp_wire.specs.declared.object.StructObject.{StructObject}
 use Rattle.capnp_schema.specs.Accepted.{IsGroupOf}
 use Rattle.capnp_schema.specs.FieldLists.{index_of, typed_of}
 use Rattle.capnp_schema.specs.Schema.{FieldKind, Group, Schemas, Slot, kind_default}
@@ -189,17 +182,7 @@ with_tree-twice NoTrees i t u = refl
 with_tree-twice (MoreTrees x ts) zero t u = refl
 with_tree-twice (MoreTrees x ts) (suc i) t u = ap (MoreTrees x) (with_tree-twice ts i t u)
 
--- another object at a pointer that was filled
-pub pointer_again : (s : StructTree) (i : ℕ) (m : StructObject) (filled : Tree) (o : Object) (t : Tree) → struct_object_tree m ≡ with_pointer_tree s i filled → object_tree o ≡ t →
-    struct_object_tree (with_pointer m i o) ≡ with_pointer_tree s i t
-pointer_again s i m filled o t h e =
-    pointer_written m i o
-    ∙ (ap (λ (y : StructTree). with_pointer_tree y i (object_tree o)) h
-    ∙ (ap (λ (ts : Trees). record { bytes = s.bytes; pointers = ts }) (with_tree-twice s.pointers i filled (object_tree o))
-    ∙ ap (with_pointer_tree s i) e))
-
-pub pointer_keeps : (s s' : StructTree) (i : ℕ) (t : Tree) → s' ≡ with_pointer_tree s i t → IsWellFormed t → KeepsSize s s'
-pointer_keeps s s' i t e formed = subst (KeepsSize s) (sym e) (record {
-  writes = record { agree = λ p inside. absurd (true≢false inside); data_size = refl; pointer_count = tree_count-with_tree s.pointers i t };
-  formed = λ h. kept.pointer_written i t s (with_pointer_tree s i t) refl formed h;
-})
+-- another tree at a pointer that was filled
+pub pointer_again : (s m s' : StructTree) (i : ℕ) (filled t : Tree) → m ≡ with_pointer_tree s i filled → s' ≡ with_pointer_tree m i t → s' ≡ with_pointer_tree s i t
+pointer_again s m s' i filled t h e =
+    e ∙ (ap (λ (y : StructTree). with_pointer_tree y i t) h ∙ ap (λ (ts : Trees). record { bytes = s.bytes; pointers = ts }) (with_tree-twice s.pointers i filled t))

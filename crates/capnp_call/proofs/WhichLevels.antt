@@ -29,9 +29,21 @@ which_levels set l s b = go ((node_of set b).discriminant_count == 0) refl
     go true e = none l e ∙ sym (none Endless e)
     go false e = sym (which_counted set l s b _ e refl) ∙ which_counted set Endless s b _ e refl
 
+-- and so is that of two structs with the same data
+which_bytes : (set : Schemas) (s x : StructTree) (b : ℕ) → s.bytes ≡ x.bytes → which_of (struct_record set Endless x b) ≡ which_of (struct_record set Endless s b)
+which_bytes set s x b h = go ((node_of set b).discriminant_count == 0) refl
+  where
+    none : (y : StructTree) → ((node_of set b).discriminant_count == 0) ≡ true → which_of (struct_record set Endless y b) ≡ None
+    none y e = ap (λ u. which_of (Parts (plain_parts (part_of set Endless y.bytes (values_of set y.pointers)) (fields_of set b)) u)) (first-of ((node_of set b).discriminant_count == 0) NoUnion (active_among (part_of set Endless y.bytes (values_of set y.pointers)) (fields_of set b) 0 (discriminant (node_of set b) y.bytes)) e)
+
+    go : (q : Bool) → ((node_of set b).discriminant_count == 0) ≡ q → which_of (struct_record set Endless x b) ≡ which_of (struct_record set Endless s b)
+    go true e = none x e ∙ sym (none s e)
+    go false e = sym (which_counted set Endless x b _ e refl) ∙ which_counted set Endless s b _ e (ap (discriminant (node_of set b)) (sym h))
+
 -- a reader of a struct under a schema, with whatever levels
-pub which_reads : (r : StructHandle) (schema : StructSchema) (s : StructTree) → schema_of r ≡ schema → struct_of (reader_of r) ≡ s → which_of (record_seen r) ≡ which_of (reads (set_of schema) s (number_of schema))
-which_reads r schema s e h =
+pub which_reads : (r : StructHandle) (schema : StructSchema) (x s : StructTree) → schema_of r ≡ schema → struct_of (reader_of r) ≡ x → s.bytes ≡ x.bytes → which_of (record_seen r) ≡ which_of (reads (set_of schema) s (number_of schema))
+which_reads r schema x s e h same =
     which_levels (set_of (schema_of r)) (Left (struct_levels (reader_of r))) (struct_of (reader_of r)) (number_of (schema_of r))
     ∙ ap (λ (z : StructSchema). which_of (reads (set_of z) (struct_of (reader_of r)) (number_of z))) e
-    ∙ ap (λ (x : StructTree). which_of (reads (set_of schema) x (number_of schema))) h
+    ∙ ap (λ (y : StructTree). which_of (reads (set_of schema) y (number_of schema))) h
+    ∙ which_bytes (set_of schema) s x (number_of schema) same

@@ -1,9 +1,9 @@
 //! What is read at the end of a path. Nothing is filled or switched.
+ghost use Rattle.capnp_arena.specs.Segment.{segment};
+ghost use Rattle.capnp_arena.specs.Built.{ChangesIn, IsBuilt, built};
 ghost use Rattle.std.specs.Prelude.{◌≡◌, IfErr, IfOk, OnErr, true};
 ghost use Rattle.capnp_device.specs.declared.error.ErrorKind.TheVariants.{OutOfMemory};
-ghost use Rattle.capnp_wire.specs.Objects.{struct_object_tree};
 ghost use Rattle.capnp_wire.specs.Place.{struct_tree};
-ghost use Rattle.capnp_wire.specs.WellFormed.{IsWellFormed};
 ghost use Rattle.capnp_schema.specs.Schema.{Schemas};
 ghost use Rattle.capnp_schema.specs.StructHandles.{IsStruct, number_of, set_of};
 ghost use Rattle.capnp_schema.specs.Types.{SchemaType};
@@ -21,20 +21,20 @@ ghost use Rattle.capnp_call.specs.Ways.{target_in};
 
 use crate::calls::{Plain, Reply};
 use crate::way::is_inactive;
+use capnp_arena::arena::{Arena, Place};
 use capnp_dynamic_readers::dynamic_struct;
 use capnp_dynamic_readers::dynamic_value::Reader as Value;
 use capnp_schema::schema::{Field, StructSchema};
 use capnp_wire::error::{ErrorKind, Result};
-use capnp_wire::laws::kept::structs_can_be_read;
-use capnp_wire::object::StructObject;
 use std::alloc::Global;
 
-/// A value as it is answered: the bytes of a text or data are copied, of a struct only that it is one, of a list its length,
-/// and of an untyped pointer whether it is null.
+/// A value as it is answered: the bytes of a text or data are copied, of a struct only that it is one, of a list its
+/// length, and of an untyped pointer whether it is null.
 ///
 /// Refused with `OutOfMemory` for the copy of a text or data.
 fn plain_of(alloc: Global, value: Value<'_>) -> Result<Plain>
-    ensures plain { (set : Schemas) (t : SchemaType) → IsOf set t value.entry → IfOk result (λ p. plain_seen p ≡ plain t (value_seen value.entry)) }
+    ensures plain { (set : Schemas) (t : SchemaType) → IsOf set t value.entry
+        → IfOk result (λ p. plain_seen p ≡ plain t (value_seen value.entry)) }
     ensures memory { (set : Schemas) (t : SchemaType) → IsOf set t value.entry → OnErr result (takes_memory t ≡ true) }
     ensures cause { IfErr result (λ e. e.kind ≡ OutOfMemory) }
 {
@@ -75,32 +75,38 @@ pub(crate) fn answer(alloc: Global, read: Result<Value<'_>>) -> Reply
 /// What a field of a struct has, or its default where that is missing. The struct has to be well-formed.
 ///
 /// Refused with `InactiveMember` for a member that isn't active; with `WrongPointerKind`, `WrongElementSize` or
-/// `TextNotTerminated` where what stands there is not read as the field's type; and with `OutOfMemory` for the copy of a text
-/// or data.
-pub fn get_field(alloc: Global, object: &StructObject, field: Field<'_>) -> Reply
-    requires { IsWellFormed (struct_tree (struct_object_tree object.now)) }
+/// `TextNotTerminated` where what stands there is not read as the field's type; and with `OutOfMemory` for the copy of
+/// a text or data.
+pub fn get_field(alloc: Global, arena: &Arena, place: Place, field: Field<'_>) -> Reply
+    requires planted { IsBuilt arena.now place }
     ensures { (whole : Record → RecordValue) (old : RecordValue)
-        → Does (field_set field.entry) Get (target_in whole field.entry (struct_object_tree object.now)) old (reply_seen result) old }
+        → Does (field_set field.entry) Get (target_in whole field.entry (built arena.now place)) old
+        (reply_seen result) old }
 {
-    if is_inactive(object, field) {
+    if is_inactive(arena, place, field) {
         return Reply::Refused(ErrorKind::InactiveMember);
     }
-    structs_can_be_read();
-    let reader = dynamic_struct::Reader::new(object.as_reader(), field.get_containing_struct());
+    let reader = dynamic_struct::Reader::new(
+        arena.get_struct_reader(place),
+        field.get_containing_struct(),
+    );
     answer(alloc, reader.get(field))
 }
 
-/// Whether a field of a struct is there: false for a member that isn't active and for a null pointer. The struct has to be
-/// well-formed.
-pub fn has_field(object: &StructObject, field: Field<'_>) -> Reply
-    requires { IsWellFormed (struct_tree (struct_object_tree object.now)) }
+/// Whether a field of a struct is there: false for a member that isn't active and for a null pointer. The struct has to
+/// be well-formed.
+pub fn has_field(arena: &Arena, place: Place, field: Field<'_>) -> Reply
+    requires planted { IsBuilt arena.now place }
     ensures { (whole : Record → RecordValue) (old : RecordValue)
-        → Does (field_set field.entry) Has (target_in whole field.entry (struct_object_tree object.now)) old (reply_seen result) old }
+        → Does (field_set field.entry) Has (target_in whole field.entry (built arena.now place)) old
+        (reply_seen result) old }
 {
-    structs_can_be_read();
     // What the type of every field is known to meet is known of it here.
     let _variant = field.get_type().which();
-    let reader = dynamic_struct::Reader::new(object.as_reader(), field.get_containing_struct());
+    let reader = dynamic_struct::Reader::new(
+        arena.get_struct_reader(place),
+        field.get_containing_struct(),
+    );
     let Ok(there) = reader.has(field) else {
         unreachable!()
     };
@@ -109,13 +115,13 @@ pub fn has_field(object: &StructObject, field: Field<'_>) -> Reply
 
 /// The active member of a struct, by its index; none without a union and for an unknown number. The struct has to be
 /// well-formed, and the schema one of an accepted set.
-pub fn which_member(object: &StructObject, schema: StructSchema<'_>) -> Reply
+pub fn which_member(arena: &Arena, place: Place, schema: StructSchema<'_>) -> Reply
+    requires planted { IsBuilt arena.now place }
     requires stands { IsStruct schema }
-    requires formed { IsWellFormed (struct_tree (struct_object_tree object.now)) }
-    ensures { reply_seen result ≡ Member (which_of (reads (set_of schema.entry) (struct_object_tree object.now) (number_of schema.entry))) }
+    ensures { reply_seen result ≡ Member (which_of
+        (reads (set_of schema.entry) (built arena.now place) (number_of schema.entry))) }
 {
-    structs_can_be_read();
-    let reader = dynamic_struct::Reader::new(object.as_reader(), schema);
+    let reader = dynamic_struct::Reader::new(arena.get_struct_reader(place), schema);
     match reader.which() {
         Ok(Some(field)) => Reply::Member(Some(field.get_index())),
         Ok(None) => Reply::Member(None),

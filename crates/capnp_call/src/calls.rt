@@ -41,8 +41,8 @@ pub struct Call<'c> {
     pub op: Op<'c>,
 }
 
-/// What is done where a path ends: a call's last step and operation; and what a reply takes its memory from. A walk hands it on
-/// from step to step, so it is small.
+/// What is done where a path ends: a call's last step and operation; and what a reply takes its memory from. A walk
+/// hands it on from step to step, so it is small.
 #[derive(Clone, Copy)]
 pub struct Ending<'c> {
     pub alloc: Global,

@@ -1,8 +1,8 @@
 //! What a call does at the end of its path, at a struct or group.
+ghost use Rattle.capnp_arena.specs.Segment.{segment};
+ghost use Rattle.capnp_arena.specs.Built.{ChangesIn, IsBuilt, built};
 ghost use Rattle.std.specs.Prelude.{◌≢◌};
-ghost use Rattle.capnp_wire.specs.Objects.{struct_object_tree};
 ghost use Rattle.capnp_wire.specs.Place.{struct_tree};
-ghost use Rattle.capnp_wire.specs.WellFormed.{IsWellFormed};
 ghost use Rattle.capnp_schema.specs.StructHandles.{IsStruct, number_of, set_of};
 ghost use Rattle.capnp_records.specs.Call.{Clear, Init, Initn, Set};
 ghost use Rattle.capnp_records.specs.Writes.Slots.{Fits};
@@ -16,24 +16,27 @@ ghost use Rattle.capnp_call.specs.Seen.{op_seen, reply_seen, step_seen};
 use crate::answer::{get_field, has_field, which_member};
 use crate::calls::{Ending, Op, Reply};
 use crate::way::find_field;
+use capnp_arena::arena::{Arena, Place};
 use capnp_dynamic_readers::dynamic_value::Reader as Value;
 use capnp_schema::schema::{Field, StructSchema};
 use capnp_slots::primitive::Primitive;
 use capnp_slots::source::{Source, source_fits};
 use capnp_slots::{group, slot};
 use capnp_wire::error::ErrorKind;
-use capnp_wire::object::StructObject;
 
 /// Sets a slot to a source, as `slot::set`.
 #[inline(always)]
-fn set_slot(object: &mut StructObject, field: Field<'_>, source: Source<'_>) -> Reply
+fn set_slot(arena: &mut Arena, place: Place, field: Field<'_>, source: Source<'_>) -> Reply
+    requires planted { IsBuilt arena.old place }
     requires slot { IsSlot field }
-    requires room { IsRoomFor field (struct_object_tree object.old) }
-    ensures does { FieldDoes field.entry (Set (source_seen source.entry)) (struct_object_tree object.old) (reply_seen result) (struct_object_tree object.new) }
-    ensures kept { KeepsSize (struct_object_tree object.old) (struct_object_tree object.new) }
+    requires room { IsRoomFor field (built arena.old place) }
+    ensures does { FieldDoes field.entry (Set (source_seen source.entry)) (built arena.old place) (reply_seen result)
+        (built arena.new place) }
+    ensures planted { IsBuilt arena.new place }
+    ensures changes { ChangesIn place arena.old arena.new }
 {
     source_fits(source);
-    match slot::set(object, field, source) {
+    match slot::set(arena, place, field, source) {
         Ok(()) => Reply::Done,
         Err(error) => Reply::Refused(error.kind),
     }
@@ -41,13 +44,16 @@ fn set_slot(object: &mut StructObject, field: Field<'_>, source: Source<'_>) -> 
 
 /// Sets a group to a source, as `group::set`: what was copied before a refusal stays.
 #[inline(never)]
-fn set_group(object: &mut StructObject, field: Field<'_>, source: Source<'_>) -> Reply
+fn set_group(arena: &mut Arena, place: Place, field: Field<'_>, source: Source<'_>) -> Reply
+    requires planted { IsBuilt arena.old place }
     requires group { IsGroup field }
-    requires room { IsRoomFor field (struct_object_tree object.old) }
-    ensures does { FieldDoes field.entry (Set (source_seen source.entry)) (struct_object_tree object.old) (reply_seen result) (struct_object_tree object.new) }
-    ensures kept { KeepsSize (struct_object_tree object.old) (struct_object_tree object.new) }
+    requires room { IsRoomFor field (built arena.old place) }
+    ensures does { FieldDoes field.entry (Set (source_seen source.entry)) (built arena.old place) (reply_seen result)
+        (built arena.new place) }
+    ensures planted { IsBuilt arena.new place }
+    ensures changes { ChangesIn place arena.old arena.new }
 {
-    match group::set(object, field, source) {
+    match group::set(arena, place, field, source) {
         Ok(()) => Reply::Done,
         Err(error) => Reply::Refused(error.kind),
     }
@@ -55,153 +61,183 @@ fn set_group(object: &mut StructObject, field: Field<'_>, source: Source<'_>) ->
 
 /// Sets a field to a source.
 #[inline(always)]
-fn set_to(object: &mut StructObject, field: Field<'_>, source: Source<'_>) -> Reply
-    requires { IsRoomFor field (struct_object_tree object.old) }
-    ensures does { FieldDoes field.entry (Set (source_seen source.entry)) (struct_object_tree object.old) (reply_seen result) (struct_object_tree object.new) }
-    ensures kept { KeepsSize (struct_object_tree object.old) (struct_object_tree object.new) }
+fn set_to(arena: &mut Arena, place: Place, field: Field<'_>, source: Source<'_>) -> Reply
+    requires planted { IsBuilt arena.old place }
+    requires room { IsRoomFor field (built arena.old place) }
+    ensures does { FieldDoes field.entry (Set (source_seen source.entry)) (built arena.old place) (reply_seen result)
+        (built arena.new place) }
+    ensures planted { IsBuilt arena.new place }
+    ensures changes { ChangesIn place arena.old arena.new }
 {
     if slot::is_slot(field) {
-        set_slot(object, field, source)
+        set_slot(arena, place, field, source)
     } else {
-        set_group(object, field, source)
+        set_group(arena, place, field, source)
     }
 }
 
 /// Sets a field to a value of any kind, which is copied to be a source.
 #[inline(never)]
-fn set_pointed(object: &mut StructObject, field: Field<'_>, value: &Value<'_>) -> Reply
-    requires { IsRoomFor field (struct_object_tree object.old) }
-    ensures does { FieldDoes field.entry (Set (source_of value.now)) (struct_object_tree object.old) (reply_seen result) (struct_object_tree object.new) }
-    ensures kept { KeepsSize (struct_object_tree object.old) (struct_object_tree object.new) }
+fn set_pointed(arena: &mut Arena, place: Place, field: Field<'_>, value: &Value<'_>) -> Reply
+    requires planted { IsBuilt arena.old place }
+    requires room { IsRoomFor field (built arena.old place) }
+    ensures does { FieldDoes field.entry (Set (source_of value.now)) (built arena.old place) (reply_seen result)
+        (built arena.new place) }
+    ensures planted { IsBuilt arena.new place }
+    ensures changes { ChangesIn place arena.old arena.new }
 {
-    set_to(object, field, Source::from(*value))
+    set_to(arena, place, field, Source::from(*value))
 }
 
 /// Sets a field to a value. Of a value that no pointer stands for the number alone is read.
 #[inline(always)]
-fn set_field(object: &mut StructObject, field: Field<'_>, value: &Value<'_>) -> Reply
-    requires { IsRoomFor field (struct_object_tree object.old) }
-    ensures does { FieldDoes field.entry (Set (source_of value.now)) (struct_object_tree object.old) (reply_seen result) (struct_object_tree object.new) }
-    ensures kept { KeepsSize (struct_object_tree object.old) (struct_object_tree object.new) }
+fn set_field(arena: &mut Arena, place: Place, field: Field<'_>, value: &Value<'_>) -> Reply
+    requires planted { IsBuilt arena.old place }
+    requires room { IsRoomFor field (built arena.old place) }
+    ensures does { FieldDoes field.entry (Set (source_of value.now)) (built arena.old place) (reply_seen result)
+        (built arena.new place) }
+    ensures planted { IsBuilt arena.new place }
+    ensures changes { ChangesIn place arena.old arena.new }
 {
     match Primitive::from_value(value) {
-        Some(number) => set_to(object, field, Source::Primitive(number)),
-        None => set_pointed(object, field, value),
+        Some(number) => set_to(arena, place, field, Source::Primitive(number)),
+        None => set_pointed(arena, place, field, value),
     }
 }
 
-/// Initializes a field: a group becomes its default record, a struct's slot a new struct, and an untyped one null. A member
-/// becomes active.
+/// Initializes a field: a group becomes its default record, a struct's slot a new struct, and an untyped one null. A
+/// member becomes active.
 ///
 /// Refused as `slot::init`, and then nothing has changed.
-fn init_field(object: &mut StructObject, field: Field<'_>) -> Reply
-    requires { IsRoomFor field (struct_object_tree object.old) }
-    ensures does { FieldDoes field.entry Init (struct_object_tree object.old) (reply_seen result) (struct_object_tree object.new) }
-    ensures kept { KeepsSize (struct_object_tree object.old) (struct_object_tree object.new) }
+fn init_field(arena: &mut Arena, place: Place, field: Field<'_>) -> Reply
+    requires planted { IsBuilt arena.old place }
+    requires room { IsRoomFor field (built arena.old place) }
+    ensures does { FieldDoes field.entry Init (built arena.old place) (reply_seen result) (built arena.new place) }
+    ensures planted { IsBuilt arena.new place }
+    ensures changes { ChangesIn place arena.old arena.new }
 {
     if !slot::is_slot(field) {
-        group::init(object, field);
+        group::init(arena, place, field);
         return Reply::Done;
     }
-    match slot::init(object, field) {
+    match slot::init(arena, place, field) {
         Ok(()) => Reply::Done,
         Err(error) => Reply::Refused(error.kind),
     }
 }
 
 /// Initializes a field with a size, as `slot::initn`; a group is refused as a slot that has no size.
-fn initn_field(object: &mut StructObject, field: Field<'_>, count: u32) -> Reply
-    requires { IsRoomFor field (struct_object_tree object.old) }
-    ensures does { FieldDoes field.entry (Initn count) (struct_object_tree object.old) (reply_seen result) (struct_object_tree object.new) }
-    ensures kept { KeepsSize (struct_object_tree object.old) (struct_object_tree object.new) }
+fn initn_field(arena: &mut Arena, place: Place, field: Field<'_>, count: u32) -> Reply
+    requires planted { IsBuilt arena.old place }
+    requires room { IsRoomFor field (built arena.old place) }
+    ensures does { FieldDoes field.entry (Initn count) (built arena.old place) (reply_seen result)
+        (built arena.new place) }
+    ensures planted { IsBuilt arena.new place }
+    ensures changes { ChangesIn place arena.old arena.new }
 {
     match group::group_of(field) {
         Some(_) => Reply::Refused(ErrorKind::InitnIsOnlyValidForListTextOrDataFields),
-        None => initn_slot(object, field, count),
+        None => initn_slot(arena, place, field, count),
     }
 }
 
 /// Initializes a slot with a size, as `slot::initn`.
-fn initn_slot(object: &mut StructObject, field: Field<'_>, count: u32) -> Reply
+fn initn_slot(arena: &mut Arena, place: Place, field: Field<'_>, count: u32) -> Reply
+    requires planted { IsBuilt arena.old place }
     requires slot { IsSlot field }
-    requires room { IsRoomFor field (struct_object_tree object.old) }
-    ensures does { FieldDoes field.entry (Initn count) (struct_object_tree object.old) (reply_seen result) (struct_object_tree object.new) }
-    ensures kept { KeepsSize (struct_object_tree object.old) (struct_object_tree object.new) }
+    requires room { IsRoomFor field (built arena.old place) }
+    ensures does { FieldDoes field.entry (Initn count) (built arena.old place) (reply_seen result)
+        (built arena.new place) }
+    ensures planted { IsBuilt arena.new place }
+    ensures changes { ChangesIn place arena.old arena.new }
 {
-    match slot::initn(object, field, count) {
+    match slot::initn(arena, place, field, count) {
         Ok(()) => Reply::Done,
         Err(error) => Reply::Refused(error.kind),
     }
 }
 
 /// Puts a field back to its default, and makes a member active.
-fn clear_field(object: &mut StructObject, field: Field<'_>) -> Reply
-    requires { IsRoomFor field (struct_object_tree object.old) }
-    ensures does { FieldDoes field.entry Clear (struct_object_tree object.old) (reply_seen result) (struct_object_tree object.new) }
-    ensures kept { KeepsSize (struct_object_tree object.old) (struct_object_tree object.new) }
+fn clear_field(arena: &mut Arena, place: Place, field: Field<'_>) -> Reply
+    requires planted { IsBuilt arena.old place }
+    requires room { IsRoomFor field (built arena.old place) }
+    ensures does { FieldDoes field.entry Clear (built arena.old place) (reply_seen result) (built arena.new place) }
+    ensures planted { IsBuilt arena.new place }
+    ensures changes { ChangesIn place arena.old arena.new }
 {
     if slot::is_slot(field) {
-        slot::clear(object, field);
+        slot::clear(arena, place, field);
     } else {
-        group::clear(object, field);
+        group::clear(arena, place, field);
     }
     Reply::Done
 }
 
 /// Does an operation to a field of a struct.
 #[inline(always)]
-fn do_field(object: &mut StructObject, field: Field<'_>, end: Ending<'_>) -> Reply
-    requires room { IsRoomFor field (struct_object_tree object.old) }
-    requires formed { IsWellFormed (struct_tree (struct_object_tree object.old)) }
+fn do_field(arena: &mut Arena, place: Place, field: Field<'_>, end: Ending<'_>) -> Reply
+    requires planted { IsBuilt arena.old place }
+    requires room { IsRoomFor field (built arena.old place) }
     requires names { end.call.now.op ≢ Op.Which }
-    ensures does { FieldDoes field.entry (op_seen end.entry.call.now.op) (struct_object_tree object.old) (reply_seen result) (struct_object_tree object.new) }
-    ensures kept { KeepsSize (struct_object_tree object.old) (struct_object_tree object.new) }
+    ensures does { FieldDoes field.entry (op_seen end.entry.call.now.op) (built arena.old place) (reply_seen result)
+        (built arena.new place) }
+    ensures planted { IsBuilt arena.new place }
+    ensures changes { ChangesIn place arena.old arena.new }
 {
     match &end.call.op {
-        Op::Get => get_field(end.alloc, object, field),
-        Op::Has => has_field(object, field),
+        Op::Get => get_field(end.alloc, arena, place, field),
+        Op::Has => has_field(arena, place, field),
         Op::Which => unreachable!(),
-        Op::Set(value) => set_field(object, field, value),
-        Op::Init => init_field(object, field),
-        Op::Initn(count) => initn_field(object, field, *count),
-        Op::Clear => clear_field(object, field),
+        Op::Set(value) => set_field(arena, place, field, value),
+        Op::Init => init_field(arena, place, field),
+        Op::Initn(count) => initn_field(arena, place, field, *count),
+        Op::Clear => clear_field(arena, place, field),
     }
 }
 
 /// Does an operation to the field that a step names.
 #[inline(always)]
-fn do_named(object: &mut StructObject, schema: StructSchema<'_>, end: Ending<'_>) -> Reply
-    requires fits { Fits (set_of schema) (number_of schema) (struct_object_tree object.old) }
-    requires formed { IsWellFormed (struct_tree (struct_object_tree object.old)) }
+fn do_named(arena: &mut Arena, place: Place, schema: StructSchema<'_>, end: Ending<'_>) -> Reply
+    requires planted { IsBuilt arena.old place }
+    requires fits { Fits (set_of schema) (number_of schema) (built arena.old place) }
     requires names { end.call.now.op ≢ Op.Which }
-    ensures does { NamedDoes (set_of schema.entry) (number_of schema.entry) (step_seen end.entry.call.now.last) (op_seen end.entry.call.now.op)
-        (struct_object_tree object.old) (reply_seen result) (struct_object_tree object.new) }
-    ensures kept { KeepsSize (struct_object_tree object.old) (struct_object_tree object.new) }
+    ensures does { NamedDoes (set_of schema.entry) (number_of schema.entry) (step_seen end.entry.call.now.last)
+        (op_seen end.entry.call.now.op)
+        (built arena.old place) (reply_seen result) (built arena.new place) }
+    ensures planted { IsBuilt arena.new place }
+    ensures changes { ChangesIn place arena.old arena.new }
 {
     match find_field(schema, end.call.last) {
         Err(error) => Reply::Refused(error.kind),
-        Ok(field) => do_field(object, field, end),
+        Ok(field) => do_field(arena, place, field, end),
     }
 }
 
-/// Does an operation at a struct or group at which a path ends. `Which` asks the struct and doesn't look at the last step. The
-/// schema is one of an accepted set; the struct has its sections and is well-formed.
+/// Does an operation at a struct or group at which a path ends. `Which` asks the struct and doesn't look at the last
+/// step. The schema is one of an accepted set; the struct has its sections and is well-formed.
 ///
-/// Refused with `NotAContainer` where the last step names an element, with `FieldNotFound` where there is no such field, and
-/// else as the operation. Only a `Get` asks whether a member is active: it is refused with `InactiveMember` where not. What
-/// is written is the field and, of a member, the union; after a refusal nothing has changed, but for the set of a group that is
-/// cut short, which keeps what was copied by then.
+/// Refused with `NotAContainer` where the last step names an element, with `FieldNotFound` where there is no such
+/// field, and else as the operation. Only a `Get` asks whether a member is active: it is refused with `InactiveMember`
+/// where not. What is written is the field and, of a member, the union; after a refusal nothing has changed, but for
+/// the set of a group that is cut short, which keeps what was copied by then.
 #[inline(never)]
-pub fn end_at_struct(object: &mut StructObject, schema: StructSchema<'_>, end: Ending<'_>) -> Reply
+pub fn end_at_struct(
+    arena: &mut Arena,
+    place: Place,
+    schema: StructSchema<'_>,
+    end: Ending<'_>,
+) -> Reply
+    requires planted { IsBuilt arena.old place }
     requires stands { IsStruct schema }
-    requires fits { Fits (set_of schema) (number_of schema) (struct_object_tree object.old) }
-    requires formed { IsWellFormed (struct_tree (struct_object_tree object.old)) }
-    ensures ends { StructEnds (set_of schema.entry) (number_of schema.entry) (step_seen end.entry.call.now.last) (op_seen end.entry.call.now.op)
-        (struct_object_tree object.old) (reply_seen result) (struct_object_tree object.new) }
-    ensures kept { KeepsSize (struct_object_tree object.old) (struct_object_tree object.new) }
+    requires fits { Fits (set_of schema) (number_of schema) (built arena.old place) }
+    ensures ends { StructEnds (set_of schema.entry) (number_of schema.entry) (step_seen end.entry.call.now.last)
+        (op_seen end.entry.call.now.op)
+        (built arena.old place) (reply_seen result) (built arena.new place) }
+    ensures planted { IsBuilt arena.new place }
+    ensures changes { ChangesIn place arena.old arena.new }
 {
     match end.call.op {
-        Op::Which => which_member(object, schema),
-        _ => do_named(object, schema, end),
+        Op::Which => which_member(arena, place, schema),
+        _ => do_named(arena, place, schema, end),
     }
 }

@@ -1,13 +1,14 @@
 //! A step of a path into what stands behind a field.
+ghost use Rattle.capnp_arena.specs.Segment.{segment};
+ghost use Rattle.capnp_wire.specs.WellFormed.{IsWellFormed};
+ghost use Rattle.capnp_arena.specs.Built.{ChangesIn, IsBuilt, built};
 ghost use Rattle.std.specs.Prelude.{◌≡◌, IfErr, OnErr, OnOk};
 ghost use Rattle.capnp_schema.specs.Defaults.{DefaultFits, default_tree};
 ghost use Rattle.capnp_schema.specs.FieldLists.{typed_of};
 ghost use Rattle.capnp_schema.specs.Schema.{default_of};
 ghost use Rattle.capnp_schema.specs.Types.{seen_type};
 ghost use Rattle.capnp_wire.specs.Edits.{with_pointer_tree};
-ghost use Rattle.capnp_wire.specs.Objects.{struct_object_tree};
 ghost use Rattle.capnp_wire.specs.Place.{struct_tree};
-ghost use Rattle.capnp_wire.specs.WellFormed.{IsWellFormed};
 ghost use Rattle.capnp_slots.specs.Fields.{IsRoomFor, field_set, pointer_index};
 ghost use Rattle.capnp_slots.specs.Fills.{filled_in, pointer_in};
 ghost use Rattle.capnp_slots.specs.Groups.{IsGroup, KeepsSize};
@@ -15,53 +16,56 @@ ghost use Rattle.capnp_call.specs.Lists.{IsListStand};
 ghost use Rattle.capnp_call.specs.Walks.{IsWalked, StepGoes, StepStops};
 ghost use Rattle.capnp_call.specs.Ways.{IsListSlot, IsStructSlot};
 
+use capnp_arena::arena::{Arena, Place};
 use capnp_base::introspect::Type;
 use capnp_schema::laws::{defaults_fit, numbers_fit};
 use capnp_schema::schema::{Field, StructSchema};
 use capnp_slots::part;
 use capnp_wire::error::Result;
-use capnp_wire::laws::kept::pointers_of_structs_are_well_formed;
-use capnp_wire::laws::objects_hold_no_fault;
-use capnp_wire::object::StructObject;
 
-/// Steps into the struct behind a slot: a null becomes the default's struct or an empty one, and a struct that is smaller than
-/// its schema gets zeros and nulls after what it has. What is filled stays, whatever the rest of the call does, and no union
-/// is switched. `part::pointer` of `capnp_slots` and `struct_here` of `capnp_wire` then lend the struct.
+/// Steps into the struct behind a slot: a null becomes the default's struct or an empty one, and a struct that is
+/// smaller than its schema gets zeros and nulls after what it has. What is filled stays, whatever the rest of the call
+/// does, and no union is switched. `part::pointer` of `capnp_slots` is then the word that leads to the struct.
 ///
-/// The field is such a slot, the tests of `way_of` have passed, and the struct has the sections of the field's schema and is
-/// well-formed.
+/// The field is such a slot, the tests of `way_of` have passed, and the struct has the sections of the field's schema
+/// and is well-formed.
 ///
-/// Refused with `WrongPointerKind` where something else than a struct stands there, and else with `OutOfMemory`; then nothing
-/// has changed.
+/// Refused with `WrongPointerKind` where something else than a struct stands there, and else with `OutOfMemory`; then
+/// nothing has changed.
 #[inline(always)]
 pub fn enter_struct(
-    object: &mut StructObject,
+    arena: &mut Arena,
+    place: Place,
     field: Field<'_>,
     schema: StructSchema<'_>,
 ) -> Result<()>
+    requires planted { IsBuilt arena.old place }
     requires leads { IsStructSlot field schema }
-    requires walked { IsWalked field (struct_object_tree object.old) }
-    requires room { IsRoomFor field (struct_object_tree object.old) }
-    requires formed { IsWellFormed (struct_tree (struct_object_tree object.old)) }
-    ensures filled { OnOk result (struct_object_tree object.new
-        ≡ with_pointer_tree (struct_object_tree object.old) (pointer_index field.entry) (filled_in field.entry (struct_object_tree object.old))) }
-    ensures here { OnOk result (pointer_in field.entry (struct_object_tree object.new) ≡ filled_in field.entry (struct_object_tree object.old)) }
-    ensures goes { OnOk result (StepGoes field.entry (struct_object_tree object.old)) }
-    ensures kept { OnOk result (KeepsSize (struct_object_tree object.old) (struct_object_tree object.new)) }
-    ensures refused { OnErr result (struct_object_tree object.new ≡ struct_object_tree object.old) }
-    ensures cause { IfErr result (λ e. StepStops field.entry (struct_object_tree object.old) e.kind) }
+    requires walked { IsWalked field (built arena.old place) }
+    requires room { IsRoomFor field (built arena.old place) }
+    ensures filled { OnOk result (built arena.new place
+        ≡ with_pointer_tree (built arena.old place) (pointer_index field.entry)
+        (filled_in field.entry (built arena.old place))) }
+    ensures here { OnOk result (pointer_in field.entry (built arena.new place)
+        ≡ filled_in field.entry (built arena.old place)) }
+    ensures goes { OnOk result (StepGoes field.entry (built arena.old place)) }
+    ensures planted { OnOk result (IsBuilt arena.new place) }
+    ensures changes { OnOk result (ChangesIn place arena.old arena.new) }
+    ensures refused { OnErr result (segment arena.new ≡ segment arena.old) }
+    ensures cause { IfErr result (λ e. StepStops field.entry (built arena.old place) e.kind) }
 {
-    objects_hold_no_fault();
-    part::fill_struct_slot(object, field, schema)
+    arena.struct_is_sound(place);
+    part::fill_struct_slot(arena, place, field, schema)
 }
 
-/// Steps into a group: it is the same struct under the group's schema. Nothing is filled and nothing is refused. The field is
-/// a group, and the tests of `way_of` have passed.
+/// Steps into a group: it is the same struct under the group's schema. Nothing is filled and nothing is refused. The
+/// field is a group, and the tests of `way_of` have passed.
 #[inline(always)]
-pub fn enter_group(object: &StructObject, field: Field<'_>)
+pub fn enter_group(arena: &Arena, place: Place, field: Field<'_>)
+    requires planted { IsBuilt arena.now place }
     requires group { IsGroup field }
-    requires walked { IsWalked field (struct_object_tree object.now) }
-    ensures { StepGoes field.entry (struct_object_tree object.now) }
+    requires walked { IsWalked field (built arena.now place) }
+    ensures { StepGoes field.entry (built arena.now place) }
 {}
 
 /// What the default of a field leads to is well-formed, and is what the field's type reads. The default is not read.
@@ -74,35 +78,45 @@ fn default_is_sound(field: Field<'_>)
     numbers_fit(field.get_containing_struct().get_set());
 }
 
-/// Steps into the list behind a slot: a null becomes the default where that is a list and not null, and structs of a list get
-/// at least their schema's sections. A null without a default stays null, and has no elements. What is filled stays, whatever
-/// the rest of the call does, and no union is switched. `part::pointer` of `capnp_slots` and `list_here` of `capnp_wire` then
-/// lend the list.
+/// Steps into the list behind a slot: a null becomes the default where that is a list and not null, and structs of a
+/// list get at least their schema's sections. A null without a default stays null, and has no elements. What is filled
+/// stays, whatever the rest of the call does, and no union is switched. `part::pointer` of `capnp_slots` is then the
+/// word that leads to the list.
 ///
-/// The field is such a slot, the tests of `way_of` have passed, and the struct has the sections of the field's schema and is
-/// well-formed.
+/// The field is such a slot, the tests of `way_of` have passed, and the struct has the sections of the field's schema
+/// and is well-formed.
 ///
-/// Refused with `WrongPointerKind` or `WrongElementSize` where what stands there is not read as a list of the slot's type,
-/// with `SizePastFormat` where the structs of a list would take 2^29 words or more, and else with `OutOfMemory`; then nothing
-/// has changed. Only a list of structs that are smaller than their schema, and a null with a default, take memory.
+/// Refused with `WrongPointerKind` or `WrongElementSize` where what stands there is not read as a list of the slot's
+/// type, with `SizePastFormat` where the structs of a list would take 2^29 words or more, and else with `OutOfMemory`;
+/// then nothing has changed. Only a list of structs that are smaller than their schema, and a null with a default, take
+/// memory.
 #[inline(always)]
-pub fn enter_list(object: &mut StructObject, field: Field<'_>, element: Type) -> Result<()>
+pub fn enter_list(arena: &mut Arena, place: Place, field: Field<'_>, element: Type) -> Result<()>
+    requires planted { IsBuilt arena.old place }
     requires leads { IsListSlot field element }
-    requires walked { IsWalked field (struct_object_tree object.old) }
-    requires room { IsRoomFor field (struct_object_tree object.old) }
-    requires formed { IsWellFormed (struct_tree (struct_object_tree object.old)) }
-    ensures filled { OnOk result (struct_object_tree object.new
-        ≡ with_pointer_tree (struct_object_tree object.old) (pointer_index field.entry) (filled_in field.entry (struct_object_tree object.old))) }
-    ensures here { OnOk result (pointer_in field.entry (struct_object_tree object.new) ≡ filled_in field.entry (struct_object_tree object.old)) }
-    ensures stands { OnOk result (IsListStand (field_set field.entry) (seen_type element) (filled_in field.entry (struct_object_tree object.old))) }
-    ensures goes { OnOk result (StepGoes field.entry (struct_object_tree object.old)) }
-    ensures kept { OnOk result (KeepsSize (struct_object_tree object.old) (struct_object_tree object.new)) }
-    ensures refused { OnErr result (struct_object_tree object.new ≡ struct_object_tree object.old) }
-    ensures cause { IfErr result (λ e. StepStops field.entry (struct_object_tree object.old) e.kind) }
+    requires walked { IsWalked field (built arena.old place) }
+    requires room { IsRoomFor field (built arena.old place) }
+    ensures filled { OnOk result (built arena.new place
+        ≡ with_pointer_tree (built arena.old place) (pointer_index field.entry)
+        (filled_in field.entry (built arena.old place))) }
+    ensures here { OnOk result (pointer_in field.entry (built arena.new place)
+        ≡ filled_in field.entry (built arena.old place)) }
+    ensures stands { OnOk result (IsListStand (field_set field.entry) (seen_type element)
+        (filled_in field.entry (built arena.old place))) }
+    ensures goes { OnOk result (StepGoes field.entry (built arena.old place)) }
+    ensures planted { OnOk result (IsBuilt arena.new place) }
+    ensures changes { OnOk result (ChangesIn place arena.old arena.new) }
+    ensures refused { OnErr result (segment arena.new ≡ segment arena.old) }
+    ensures cause { IfErr result (λ e. StepStops field.entry (built arena.old place) e.kind) }
 {
-    objects_hold_no_fault();
-    pointers_of_structs_are_well_formed();
     default_is_sound(field);
     numbers_fit(field.get_containing_struct().get_set());
-    part::fill_list_slot(object, field, element)
+    arena.struct_is_sound(place);
+    match part::fill_list_slot(arena, place, field, element) {
+        Ok(()) => {
+            arena.struct_is_sound(place);
+            Ok(())
+        }
+        Err(error) => Err(error),
+    }
 }

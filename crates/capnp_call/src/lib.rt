@@ -1,5 +1,5 @@
-//! One call along a path of a struct that is built, whose schema is known only at run time. Lists of calls, and runs on whole
-//! messages, are in `capnp_run`, which hands these modules on.
+//! One call along a path of a struct that is built, whose schema is known only at run time. Lists of calls, and runs on
+//! whole messages, are in `capnp_run`, which hands these modules on.
 #![tactic(auto)]
 
 pub mod answer;

@@ -1,11 +1,12 @@
 //! The walk of a path: a step after another, each into a part of what the one before it entered.
+ghost use Rattle.capnp_arena.specs.Forest.{Changes, Forest, tree};
+ghost use Rattle.capnp_arena.specs.Segment.{segment};
+ghost use Rattle.capnp_arena.specs.Built.{ChangesIn, IsBuilt, built};
 ghost use Rattle.std.specs.Prelude.{IsTrue, ◌≡◌, ◌<◌, ◌∷◌, false};
 ghost use Rattle.capnp_wire.specs.Edits.{is_struct, struct_in};
-ghost use Rattle.capnp_wire.specs.Objects.{list_object_tree, object_tree, struct_object_tree};
 ghost use Rattle.capnp_wire.specs.Place.{struct_tree};
 ghost use Rattle.capnp_wire.specs.Reading.{is_null_tree, list_length};
 ghost use Rattle.capnp_wire.specs.Tree.{Null};
-ghost use Rattle.capnp_wire.specs.WellFormed.{IsWellFormed};
 ghost use Rattle.capnp_schema.specs.Accepted.{NamesEntries};
 ghost use Rattle.capnp_schema.specs.Entries.{lists_seen};
 ghost use Rattle.capnp_schema.specs.Schema.{Schemas};
@@ -25,89 +26,100 @@ use crate::end::end_at_struct;
 use crate::enter::{enter_group, enter_list, enter_struct};
 use crate::list_end::end_at_list;
 use crate::way::{Way, find_field, way_of};
+use capnp_arena::arena::{Arena, Place};
 use capnp_base::introspect::{Type, TypeVariant};
 use capnp_schema::laws::numbers_fit;
 use capnp_schema::schema::{Field, StructSchema};
 use capnp_schema::set::SchemaSet;
 use capnp_slots::{element, part};
 use capnp_wire::error::ErrorKind;
-use capnp_wire::laws::objects_hold_no_fault;
-use capnp_wire::object::{ListObject, Object, StructObject};
 
-/// Walks a path from a struct or group, and does what a call does at its end. The schema is one of an accepted set; the struct
-/// has its sections and is well-formed.
+/// Walks a path from a struct or group, and does what a call does at its end. The schema is one of an accepted set; the
+/// struct has its sections and is well-formed.
 ///
-/// A step is refused with `NotAContainer` where it names an element, then with `FieldNotFound` where there is no such field,
-/// then as `way::way_of`, and then as `enter::enter_struct` and `enter::enter_list`; at a list with `NotAContainer` where it
-/// names a field, then with `NoSuchElement` past the end, then with `UntypedStep` into an untyped element and with
-/// `NotAContainer` into another one that is no struct or list. The end is refused as `end::end_at_struct` and
-/// `list_end::end_at_list`. What the steps before a refusal filled stays. Where nothing has to be filled or extended behind a
-/// step and the operation takes no memory, nothing is refused with `OutOfMemory`, and nothing with `SizePastFormat`.
+/// A step is refused with `NotAContainer` where it names an element, then with `FieldNotFound` where there is no such
+/// field, then as `way::way_of`, and then as `enter::enter_struct` and `enter::enter_list`; at a list with
+/// `NotAContainer` where it names a field, then with `NoSuchElement` past the end, then with `UntypedStep` into an
+/// untyped element and with `NotAContainer` into another one that is no struct or list. The end is refused as
+/// `end::end_at_struct` and `list_end::end_at_list`. What the steps before a refusal filled stays. Where nothing has to
+/// be filled or extended behind a step and the operation takes no memory, nothing is refused with `OutOfMemory`, and
+/// nothing with `SizePastFormat`.
 #[inline(always)]
 pub fn walk(
-    object: &mut StructObject,
+    arena: &mut Arena,
+    place: Place,
     schema: StructSchema<'_>,
     path: &[Step<'_>],
     end: Ending<'_>,
 ) -> Reply
+    requires planted { IsBuilt arena.old place }
     requires stands { IsStruct schema }
-    requires fits { Fits (set_of schema) (number_of schema) (struct_object_tree object.old) }
-    requires formed { IsWellFormed (struct_tree (struct_object_tree object.old)) }
-    ensures walks { StructWalks (set_of schema.entry) (number_of schema.entry) path.now end.entry (struct_object_tree object.old) result
-        (struct_object_tree object.new) }
-    ensures rests { PathRests schema.entry path.now end.entry (struct_object_tree object.old) → IsNotForRoom (reply_seen result) }
-    ensures kept { KeepsSize (struct_object_tree object.old) (struct_object_tree object.new) }
+    requires fits { Fits (set_of schema) (number_of schema) (built arena.old place) }
+    ensures walks { StructWalks (set_of schema.entry) (number_of schema.entry) path.now end.entry
+        (built arena.old place) result
+        (built arena.new place) }
+    ensures rests { PathRests schema.entry path.now end.entry (built arena.old place)
+        → IsNotForRoom (reply_seen result) }
+    ensures planted { IsBuilt arena.new place }
+    ensures changes { ChangesIn place arena.old arena.new }
 {
     let mut reply = Reply::Done;
-    walk_from(object, schema, path, end, &mut reply);
+    walk_from(arena, place, schema, path, end, &mut reply);
     reply
 }
 
 /// Walks a path and leaves the reply in its place: replies are large, and would be copied at each step.
 #[cycle(walk)]
 fn walk_from(
-    object: &mut StructObject,
+    arena: &mut Arena,
+    place: Place,
     schema: StructSchema<'_>,
     path: &[Step<'_>],
     end: Ending<'_>,
     reply: &mut Reply,
 )
+    requires planted { IsBuilt arena.old place }
     requires stands { IsStruct schema }
-    requires fits { Fits (set_of schema) (number_of schema) (struct_object_tree object.old) }
-    requires formed { IsWellFormed (struct_tree (struct_object_tree object.old)) }
-    ensures walks { StructWalks (set_of schema.entry) (number_of schema.entry) path.now end.entry (struct_object_tree object.old) reply.new
-        (struct_object_tree object.new) }
-    ensures rests { PathRests schema.entry path.now end.entry (struct_object_tree object.old) → IsNotForRoom (reply_seen reply.new) }
-    ensures kept { KeepsSize (struct_object_tree object.old) (struct_object_tree object.new) }
+    requires fits { Fits (set_of schema) (number_of schema) (built arena.old place) }
+    ensures walks { StructWalks (set_of schema.entry) (number_of schema.entry) path.now end.entry
+        (built arena.old place) reply.new
+        (built arena.new place) }
+    ensures rests { PathRests schema.entry path.now end.entry (built arena.old place)
+        → IsNotForRoom (reply_seen reply.new) }
+    ensures planted { IsBuilt arena.new place }
+    ensures changes { ChangesIn place arena.old arena.new }
 {
     let Some((step, rest)) = path.split_first() else {
-        *reply = end_at_struct(object, schema, end);
+        *reply = end_at_struct(arena, place, schema, end);
         return;
     };
-    walk_step(object, schema, *step, rest, end, reply);
+    walk_step(arena, place, schema, *step, rest, end, reply);
 }
 
 /// Goes on into the field that a step names.
 #[cycle(walk)]
 #[inline(always)]
 fn walk_step(
-    object: &mut StructObject,
+    arena: &mut Arena,
+    place: Place,
     schema: StructSchema<'_>,
     step: Step<'_>,
     rest: &[Step<'_>],
     end: Ending<'_>,
     reply: &mut Reply,
 )
+    requires planted { IsBuilt arena.old place }
     requires stands { IsStruct schema }
-    requires fits { Fits (set_of schema) (number_of schema) (struct_object_tree object.old) }
-    requires formed { IsWellFormed (struct_tree (struct_object_tree object.old)) }
-    ensures walks { StructWalks (set_of schema.entry) (number_of schema.entry) (step.entry ∷ rest.now) end.entry (struct_object_tree object.old) reply.new
-        (struct_object_tree object.new) }
-    ensures kept { KeepsSize (struct_object_tree object.old) (struct_object_tree object.new) }
+    requires fits { Fits (set_of schema) (number_of schema) (built arena.old place) }
+    ensures walks { StructWalks (set_of schema.entry) (number_of schema.entry) (step.entry ∷ rest.now) end.entry
+        (built arena.old place) reply.new
+        (built arena.new place) }
+    ensures planted { IsBuilt arena.new place }
+    ensures changes { ChangesIn place arena.old arena.new }
 {
     match find_field(schema, step) {
         Err(error) => *reply = Reply::Refused(error.kind),
-        Ok(field) => walk_field(object, field, &*rest, end, reply),
+        Ok(field) => walk_field(arena, place, field, &*rest, end, reply),
     }
 }
 
@@ -115,20 +127,23 @@ fn walk_step(
 #[cycle(walk)]
 #[inline(always)]
 fn walk_field(
-    object: &mut StructObject,
+    arena: &mut Arena,
+    place: Place,
     field: Field<'_>,
     rest: &[Step<'_>],
     end: Ending<'_>,
     reply: &mut Reply,
 )
-    requires room { IsRoomFor field (struct_object_tree object.old) }
-    requires formed { IsWellFormed (struct_tree (struct_object_tree object.old)) }
-    ensures walks { FieldWalks field.entry rest.now end.entry (struct_object_tree object.old) reply.new (struct_object_tree object.new) }
-    ensures kept { KeepsSize (struct_object_tree object.old) (struct_object_tree object.new) }
+    requires planted { IsBuilt arena.old place }
+    requires room { IsRoomFor field (built arena.old place) }
+    ensures walks { FieldWalks field.entry rest.now end.entry (built arena.old place) reply.new
+        (built arena.new place) }
+    ensures planted { IsBuilt arena.new place }
+    ensures changes { ChangesIn place arena.old arena.new }
 {
-    match way_of(object, field) {
+    match way_of(arena, place, field) {
         Err(error) => *reply = Reply::Refused(error.kind),
-        Ok(way) => walk_way(object, field, way, &*rest, end, reply),
+        Ok(way) => walk_way(arena, place, field, way, &*rest, end, reply),
     }
 }
 
@@ -136,24 +151,27 @@ fn walk_field(
 #[cycle(walk)]
 #[inline(always)]
 fn walk_way(
-    object: &mut StructObject,
+    arena: &mut Arena,
+    place: Place,
     field: Field<'_>,
     way: Way<'_>,
     rest: &[Step<'_>],
     end: Ending<'_>,
     reply: &mut Reply,
 )
+    requires planted { IsBuilt arena.old place }
     requires leads { LeadsTo field way }
-    requires walked { IsWalked field (struct_object_tree object.old) }
-    requires room { IsRoomFor field (struct_object_tree object.old) }
-    requires formed { IsWellFormed (struct_tree (struct_object_tree object.old)) }
-    ensures walks { FieldWalks field.entry rest.now end.entry (struct_object_tree object.old) reply.new (struct_object_tree object.new) }
-    ensures kept { KeepsSize (struct_object_tree object.old) (struct_object_tree object.new) }
+    requires walked { IsWalked field (built arena.old place) }
+    requires room { IsRoomFor field (built arena.old place) }
+    ensures walks { FieldWalks field.entry rest.now end.entry (built arena.old place) reply.new
+        (built arena.new place) }
+    ensures planted { IsBuilt arena.new place }
+    ensures changes { ChangesIn place arena.old arena.new }
 {
     match way {
-        Way::Group(group) => walk_group(object, field, group, &*rest, end, reply),
-        Way::Struct(schema) => walk_struct(object, field, schema, &*rest, end, reply),
-        Way::List(element) => walk_list_slot(object, field, element, &*rest, end, reply),
+        Way::Group(group) => walk_group(arena, place, field, group, &*rest, end, reply),
+        Way::Struct(schema) => walk_struct(arena, place, field, schema, &*rest, end, reply),
+        Way::List(element) => walk_list_slot(arena, place, field, element, &*rest, end, reply),
     }
 }
 
@@ -161,119 +179,134 @@ fn walk_way(
 #[cycle(walk)]
 #[inline(always)]
 fn walk_group(
-    object: &mut StructObject,
+    arena: &mut Arena,
+    place: Place,
     field: Field<'_>,
     group: StructSchema<'_>,
     rest: &[Step<'_>],
     end: Ending<'_>,
     reply: &mut Reply,
 )
+    requires planted { IsBuilt arena.old place }
     requires leads { IsGroupAt field group }
-    requires walked { IsWalked field (struct_object_tree object.old) }
-    requires room { IsRoomFor field (struct_object_tree object.old) }
-    requires formed { IsWellFormed (struct_tree (struct_object_tree object.old)) }
-    ensures walks { FieldWalks field.entry rest.now end.entry (struct_object_tree object.old) reply.new (struct_object_tree object.new) }
-    ensures kept { KeepsSize (struct_object_tree object.old) (struct_object_tree object.new) }
+    requires walked { IsWalked field (built arena.old place) }
+    requires room { IsRoomFor field (built arena.old place) }
+    ensures walks { FieldWalks field.entry rest.now end.entry (built arena.old place) reply.new
+        (built arena.new place) }
+    ensures planted { IsBuilt arena.new place }
+    ensures changes { ChangesIn place arena.old arena.new }
 {
-    enter_group(object, field);
-    walk_from(object, group, &*rest, end, reply)
+    enter_group(arena, place, field);
+    walk_from(arena, place, group, &*rest, end, reply)
 }
 
 /// Goes on in the struct behind a slot.
 #[cycle(walk)]
 #[inline(always)]
 fn walk_struct(
-    object: &mut StructObject,
+    arena: &mut Arena,
+    place: Place,
     field: Field<'_>,
     schema: StructSchema<'_>,
     rest: &[Step<'_>],
     end: Ending<'_>,
     reply: &mut Reply,
 )
+    requires planted { IsBuilt arena.old place }
     requires leads { IsStructSlot field schema }
-    requires walked { IsWalked field (struct_object_tree object.old) }
-    requires room { IsRoomFor field (struct_object_tree object.old) }
-    requires formed { IsWellFormed (struct_tree (struct_object_tree object.old)) }
-    ensures walks { FieldWalks field.entry rest.now end.entry (struct_object_tree object.old) reply.new (struct_object_tree object.new) }
-    ensures kept { KeepsSize (struct_object_tree object.old) (struct_object_tree object.new) }
+    requires walked { IsWalked field (built arena.old place) }
+    requires room { IsRoomFor field (built arena.old place) }
+    ensures walks { FieldWalks field.entry rest.now end.entry (built arena.old place) reply.new
+        (built arena.new place) }
+    ensures planted { IsBuilt arena.new place }
+    ensures changes { ChangesIn place arena.old arena.new }
 {
-    if let Err(error) = enter_struct(object, field, schema) {
+    if let Err(error) = enter_struct(arena, place, field, schema) {
         *reply = Reply::Refused(error.kind);
         return;
     }
-    let pointer = part::pointer(object, field);
-    walk_struct_here(pointer, schema, &*rest, end, reply)
+    let at = part::pointer(arena, place, field);
+    walk_struct_here(arena, at, schema, &*rest, end, reply)
 }
 
 /// Goes on in the struct that stands at a pointer.
 #[cycle(walk)]
 #[inline(always)]
 fn walk_struct_here(
-    pointer: &mut Object,
+    arena: &mut Arena,
+    at: usize,
     schema: StructSchema<'_>,
     rest: &[Step<'_>],
     end: Ending<'_>,
     reply: &mut Reply,
 )
+    requires forest { Forest (segment arena.old) at }
     requires stands { IsStruct schema }
-    requires here { IsTrue (is_struct (object_tree pointer.old)) }
-    requires fits { Fits (set_of schema) (number_of schema) (struct_in (object_tree pointer.old)) }
-    requires formed { IsWellFormed (object_tree pointer.old) }
-    ensures walks { StructWalks (set_of schema.entry) (number_of schema.entry) rest.now end.entry (struct_in (object_tree pointer.old)) reply.new
-        (struct_in (object_tree pointer.new)) }
-    ensures here { object_tree pointer.new ≡ struct_tree (struct_in (object_tree pointer.new)) }
-    ensures formed { IsWellFormed (object_tree pointer.new) }
+    requires here { IsTrue (is_struct (tree (segment arena.old) at)) }
+    requires fits { Fits (set_of schema) (number_of schema) (struct_in (tree (segment arena.old) at)) }
+    ensures walks { StructWalks (set_of schema.entry) (number_of schema.entry) rest.now end.entry
+        (struct_in (tree (segment arena.old) at)) reply.new
+        (struct_in (tree (segment arena.new) at)) }
+    ensures here { tree (segment arena.new) at ≡ struct_tree (struct_in (tree (segment arena.new) at)) }
+    ensures forest { Forest (segment arena.new) at }
+    ensures changes { Changes at (segment arena.old) (segment arena.new) }
 {
-    let inner = pointer.struct_here();
-    walk_from(inner, schema, &*rest, end, reply)
+    let inner = arena.struct_here(at);
+    walk_from(arena, inner, schema, &*rest, end, reply)
 }
 
 /// Goes on in the list behind a slot.
 #[cycle(walk)]
 #[inline(always)]
 fn walk_list_slot(
-    object: &mut StructObject,
+    arena: &mut Arena,
+    place: Place,
     field: Field<'_>,
     element: Type,
     rest: &[Step<'_>],
     end: Ending<'_>,
     reply: &mut Reply,
 )
+    requires planted { IsBuilt arena.old place }
     requires leads { IsListSlot field element }
-    requires walked { IsWalked field (struct_object_tree object.old) }
-    requires room { IsRoomFor field (struct_object_tree object.old) }
-    requires formed { IsWellFormed (struct_tree (struct_object_tree object.old)) }
-    ensures walks { FieldWalks field.entry rest.now end.entry (struct_object_tree object.old) reply.new (struct_object_tree object.new) }
-    ensures kept { KeepsSize (struct_object_tree object.old) (struct_object_tree object.new) }
+    requires walked { IsWalked field (built arena.old place) }
+    requires room { IsRoomFor field (built arena.old place) }
+    ensures walks { FieldWalks field.entry rest.now end.entry (built arena.old place) reply.new
+        (built arena.new place) }
+    ensures planted { IsBuilt arena.new place }
+    ensures changes { ChangesIn place arena.old arena.new }
 {
-    if let Err(error) = enter_list(object, field, element) {
+    if let Err(error) = enter_list(arena, place, field, element) {
         *reply = Reply::Refused(error.kind);
         return;
     }
     let set = field.get_containing_struct().get_set();
-    let pointer = part::pointer(object, field);
-    walk_list_here(pointer, set, element, &*rest, end, reply)
+    let at = part::pointer(arena, place, field);
+    walk_list_here(arena, at, set, element, &*rest, end, reply)
 }
 
 /// Goes on in the list that stands at a pointer, or in the list of nothing that a null is.
 #[cycle(walk)]
 #[inline(always)]
 fn walk_list_here(
-    pointer: &mut Object,
+    arena: &mut Arena,
+    at: usize,
     set: &SchemaSet,
     element: Type,
     path: &[Step<'_>],
     end: Ending<'_>,
     reply: &mut Reply,
 )
+    requires forest { Forest (segment arena.old) at }
     requires entries { NamesEntries (lists_seen set.now) (seen_type element) }
-    requires stands { IsListStand (lists_seen set.now) (seen_type element) (object_tree pointer.old) }
-    ensures walks { ListWalks (lists_seen set.now) (seen_type element) path.now end.entry (object_tree pointer.old) reply.new (object_tree pointer.new) }
-    ensures formed { IsWellFormed (object_tree pointer.new) }
+    requires stands { IsListStand (lists_seen set.now) (seen_type element) (tree (segment arena.old) at) }
+    ensures walks { ListWalks (lists_seen set.now) (seen_type element) path.now end.entry
+        (tree (segment arena.old) at) reply.new (tree (segment arena.new) at) }
+    ensures forest { Forest (segment arena.new) at }
+    ensures changes { Changes at (segment arena.old) (segment arena.new) }
 {
-    if pointer.is_list() {
-        let list = pointer.list_here();
-        walk_list(list, set, element, &*path, end, reply)
+    if arena.is_list(at) {
+        walk_list(arena, at, set, element, &*path, end, reply)
     } else {
         walk_nothing(path, end, reply)
     }
@@ -307,25 +340,29 @@ fn walk_nothing(path: &[Step<'_>], end: Ending<'_>, reply: &mut Reply)
 /// Goes on in a list.
 #[cycle(walk)]
 fn walk_list(
-    list: &mut ListObject,
+    arena: &mut Arena,
+    at: usize,
     set: &SchemaSet,
     element: Type,
     path: &[Step<'_>],
     end: Ending<'_>,
     reply: &mut Reply,
 )
+    requires forest { Forest (segment arena.old) at }
     requires entries { NamesEntries (lists_seen set.now) (seen_type element) }
-    requires stands { IsListStand (lists_seen set.now) (seen_type element) (list_object_tree list.old) }
-    requires there { is_null_tree (list_object_tree list.old) ≡ false }
-    ensures walks { ListWalks (lists_seen set.now) (seen_type element) path.now end.entry (list_object_tree list.old) reply.new (list_object_tree list.new) }
-    ensures formed { IsWellFormed (list_object_tree list.new) }
+    requires stands { IsListStand (lists_seen set.now) (seen_type element) (tree (segment arena.old) at) }
+    requires there { is_null_tree (tree (segment arena.old) at) ≡ false }
+    ensures walks { ListWalks (lists_seen set.now) (seen_type element) path.now end.entry
+        (tree (segment arena.old) at) reply.new (tree (segment arena.new) at) }
+    ensures forest { Forest (segment arena.new) at }
+    ensures changes { Changes at (segment arena.old) (segment arena.new) }
 {
     let Some((step, rest)) = path.split_first() else {
-        *reply = end_at_list(list, set, element, end);
+        *reply = end_at_list(arena, at, set, element, end);
         return;
     };
     match *step {
-        Step::Element(index) => walk_element(list, set, element, index, rest, end, reply),
+        Step::Element(index) => walk_element(arena, at, set, element, index, rest, end, reply),
         Step::Field(_) => *reply = Reply::Refused(ErrorKind::NotAContainer),
         Step::Named(_) => *reply = Reply::Refused(ErrorKind::NotAContainer),
     }
@@ -335,7 +372,8 @@ fn walk_list(
 #[cycle(walk)]
 #[inline(always)]
 fn walk_element(
-    list: &mut ListObject,
+    arena: &mut Arena,
+    at: usize,
     set: &SchemaSet,
     element: Type,
     index: u32,
@@ -343,25 +381,29 @@ fn walk_element(
     end: Ending<'_>,
     reply: &mut Reply,
 )
+    requires forest { Forest (segment arena.old) at }
     requires entries { NamesEntries (lists_seen set.now) (seen_type element) }
-    requires stands { IsListStand (lists_seen set.now) (seen_type element) (list_object_tree list.old) }
-    requires there { is_null_tree (list_object_tree list.old) ≡ false }
-    ensures walks { ListWalks (lists_seen set.now) (seen_type element) (Step.Element index ∷ rest.now) end.entry (list_object_tree list.old) reply.new
-        (list_object_tree list.new) }
-    ensures formed { IsWellFormed (list_object_tree list.new) }
+    requires stands { IsListStand (lists_seen set.now) (seen_type element) (tree (segment arena.old) at) }
+    requires there { is_null_tree (tree (segment arena.old) at) ≡ false }
+    ensures walks { ListWalks (lists_seen set.now) (seen_type element) (Step.Element index ∷ rest.now) end.entry
+        (tree (segment arena.old) at) reply.new
+        (tree (segment arena.new) at) }
+    ensures forest { Forest (segment arena.new) at }
+    ensures changes { Changes at (segment arena.old) (segment arena.new) }
 {
-    if index >= list.len() {
+    if index >= arena.get_length(at) {
         *reply = Reply::Refused(ErrorKind::NoSuchElement);
         return;
     }
-    walk_part(list, set, element, index, &*rest, end, reply)
+    walk_part(arena, at, set, element, index, &*rest, end, reply)
 }
 
 /// Goes on in an element of a list, by its type.
 #[cycle(walk)]
 #[inline(always)]
 fn walk_part(
-    list: &mut ListObject,
+    arena: &mut Arena,
+    at: usize,
     set: &SchemaSet,
     element: Type,
     index: u32,
@@ -369,19 +411,22 @@ fn walk_part(
     end: Ending<'_>,
     reply: &mut Reply,
 )
+    requires forest { Forest (segment arena.old) at }
     requires entries { NamesEntries (lists_seen set.now) (seen_type element) }
-    requires stands { IsListStand (lists_seen set.now) (seen_type element) (list_object_tree list.old) }
-    requires inside { index < list_length (list_object_tree list.old) }
-    ensures walks { ElementWalks (lists_seen set.now) (seen_type element) index rest.now end.entry (list_object_tree list.old) reply.new
-        (list_object_tree list.new) }
-    ensures formed { IsWellFormed (list_object_tree list.new) }
+    requires stands { IsListStand (lists_seen set.now) (seen_type element) (tree (segment arena.old) at) }
+    requires inside { index < list_length (tree (segment arena.old) at) }
+    ensures walks { ElementWalks (lists_seen set.now) (seen_type element) index rest.now end.entry
+        (tree (segment arena.old) at) reply.new
+        (tree (segment arena.new) at) }
+    ensures forest { Forest (segment arena.new) at }
+    ensures changes { Changes at (segment arena.old) (segment arena.new) }
 {
     match element.which() {
         TypeVariant::Struct(raw) => {
             let schema = set.struct_schema(raw.number);
-            walk_struct_in(list, schema, index, &*rest, end, reply)
+            walk_struct_in(arena, at, schema, index, &*rest, end, reply)
         }
-        TypeVariant::List(inner) => walk_list_in(list, set, inner, index, &*rest, end, reply),
+        TypeVariant::List(inner) => walk_list_in(arena, at, set, inner, index, &*rest, end, reply),
         TypeVariant::AnyPointer => *reply = Reply::Refused(ErrorKind::UntypedStep),
         _ => *reply = Reply::Refused(ErrorKind::NotAContainer),
     }
@@ -391,28 +436,34 @@ fn walk_part(
 #[cycle(walk)]
 #[inline(always)]
 fn walk_struct_in(
-    list: &mut ListObject,
+    arena: &mut Arena,
+    at: usize,
     schema: StructSchema<'_>,
     index: u32,
     rest: &[Step<'_>],
     end: Ending<'_>,
     reply: &mut Reply,
 )
+    requires forest { Forest (segment arena.old) at }
     requires struct_stands { IsStruct schema }
-    requires stands { IsListStand (set_of schema) (StructType (number_of schema) (generic_of schema)) (list_object_tree list.old) }
-    requires inside { index < list_length (list_object_tree list.old) }
-    ensures walks { ElementWalks (set_of schema.entry) (StructType (number_of schema.entry) (generic_of schema.entry)) index rest.now end.entry
-        (list_object_tree list.old) reply.new (list_object_tree list.new) }
-    ensures formed { IsWellFormed (list_object_tree list.new) }
+    requires stands { IsListStand (set_of schema) (StructType (number_of schema) (generic_of schema))
+        (tree (segment arena.old) at) }
+    requires inside { index < list_length (tree (segment arena.old) at) }
+    ensures walks { ElementWalks (set_of schema.entry)
+        (StructType (number_of schema.entry) (generic_of schema.entry)) index rest.now end.entry
+        (tree (segment arena.old) at) reply.new (tree (segment arena.new) at) }
+    ensures forest { Forest (segment arena.new) at }
+    ensures changes { Changes at (segment arena.old) (segment arena.new) }
 {
-    let inner = list.get_struct_element(index);
-    walk_from(inner, schema, &*rest, end, reply)
+    let inner = arena.get_struct_at(at, index);
+    walk_from(arena, inner, schema, &*rest, end, reply)
 }
 
 /// Goes on in a list of a list of lists.
 #[cycle(walk)]
 fn walk_list_in(
-    list: &mut ListObject,
+    arena: &mut Arena,
+    at: usize,
     set: &SchemaSet,
     inner: Type,
     index: u32,
@@ -420,19 +471,23 @@ fn walk_list_in(
     end: Ending<'_>,
     reply: &mut Reply,
 )
+    requires forest { Forest (segment arena.old) at }
     requires entries { NamesEntries (lists_seen set.now) (seen_type inner) }
-    requires stands { IsListStand (lists_seen set.now) (ListType (seen_type inner)) (list_object_tree list.old) }
-    requires inside { index < list_length (list_object_tree list.old) }
-    ensures walks { ElementWalks (lists_seen set.now) (ListType (seen_type inner)) index rest.now end.entry (list_object_tree list.old) reply.new
-        (list_object_tree list.new) }
-    ensures formed { IsWellFormed (list_object_tree list.new) }
+    requires stands { IsListStand (lists_seen set.now) (ListType (seen_type inner)) (tree (segment arena.old) at) }
+    requires inside { index < list_length (tree (segment arena.old) at) }
+    ensures walks { ElementWalks (lists_seen set.now) (ListType (seen_type inner)) index rest.now end.entry
+        (tree (segment arena.old) at) reply.new
+        (tree (segment arena.new) at) }
+    ensures forest { Forest (segment arena.new) at }
+    ensures changes { Changes at (segment arena.old) (segment arena.new) }
 {
-    objects_hold_no_fault();
     numbers_fit(set);
-    let pointer = list.get_pointer_element(index);
-    if let Err(error) = element::fill_list(pointer, set, inner) {
+    let pointer = arena.get_pointer_element(at, index);
+    arena.tree_is_sound(pointer);
+    if let Err(error) = element::fill_list(arena, pointer, set, inner) {
         *reply = Reply::Refused(error.kind);
         return;
     }
-    walk_list_here(pointer, set, inner, &*rest, end, reply)
+    arena.tree_is_sound(pointer);
+    walk_list_here(arena, pointer, set, inner, &*rest, end, reply)
 }

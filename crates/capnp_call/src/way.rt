@@ -1,8 +1,8 @@
 //! Where a step at a struct leads.
+ghost use Rattle.capnp_arena.specs.Segment.{segment};
+ghost use Rattle.capnp_arena.specs.Built.{ChangesIn, IsBuilt, built};
 ghost use Rattle.std.specs.Prelude.{◌≡◌, IfOk};
-ghost use Rattle.capnp_wire.specs.Objects.{struct_object_tree};
 ghost use Rattle.capnp_wire.specs.Place.{struct_tree};
-ghost use Rattle.capnp_wire.specs.WellFormed.{IsWellFormed};
 ghost use Rattle.capnp_schema.specs.FieldLists.{index_of, typed_of};
 ghost use Rattle.capnp_schema.specs.StructHandles.{IsStruct, generic_of, number_of, set_of};
 ghost use Rattle.capnp_schema.specs.Types.{ListType, StructType, seen_type};
@@ -16,13 +16,12 @@ ghost use Rattle.capnp_call.specs.Seen.{step_seen};
 ghost use Rattle.capnp_call.specs.Ways.{IsNamedBy, LeadsTo, found_target, target_in, way_target};
 
 use crate::calls::Step;
+use capnp_arena::arena::{Arena, Place};
 use capnp_base::introspect::{Type, TypeVariant};
 use capnp_dynamic_readers::dynamic_struct;
 use capnp_schema::schema::{Field, StructSchema};
 use capnp_slots::group::group_of;
 use capnp_wire::error::{Error, ErrorKind, Result};
-use capnp_wire::laws::kept::structs_can_be_read;
-use capnp_wire::object::StructObject;
 
 /// Where a step leads.
 #[derive(Clone, Copy)]
@@ -37,12 +36,13 @@ pub enum Way<'s> {
 
 /// The field that a step names at a struct or group.
 ///
-/// Refused with `NotAContainer` for a step to an element, and else with `FieldNotFound` where there is no field of that index
-/// or name.
+/// Refused with `NotAContainer` for a step to an element, and else with `FieldNotFound` where there is no field of that
+/// index or name.
 #[inline(always)]
 pub fn find_field<'s>(schema: StructSchema<'s>, step: Step<'_>) -> Result<Field<'s>>
     ensures found { (whole : Record → Value) (r : Record)
-        → found_target whole r result ≡ in_record (set_of schema.entry) whole r (number_of schema.entry) (step_seen step.entry) }
+        → found_target whole r result ≡ in_record (set_of schema.entry) whole r (number_of schema.entry)
+        (step_seen step.entry) }
     ensures named { IfOk result (IsNamedBy schema.entry step.entry) }
 {
     match step {
@@ -56,7 +56,8 @@ pub fn find_field<'s>(schema: StructSchema<'s>, step: Step<'_>) -> Result<Field<
 #[inline(always)]
 fn find_numbered(schema: StructSchema<'_>, index: u16) -> Result<Field<'_>>
     ensures found { (whole : Record → Value) (r : Record)
-        → found_target whole r result ≡ in_record (set_of schema.entry) whole r (number_of schema.entry) (step_seen (Step.Field index)) }
+        → found_target whole r result ≡ in_record (set_of schema.entry) whole r (number_of schema.entry)
+        (step_seen (Step.Field index)) }
     ensures named { IfOk result (IsNamedBy schema.entry (Step.Field index)) }
 {
     let fields = schema.get_fields()?;
@@ -68,28 +69,31 @@ fn find_numbered(schema: StructSchema<'_>, index: u16) -> Result<Field<'_>>
 
 /// Whether a field is a member of its struct's union that isn't active. The struct has to be well-formed.
 #[inline(always)]
-pub fn is_inactive(object: &StructObject, field: Field<'_>) -> bool
-    requires { IsWellFormed (struct_tree (struct_object_tree object.now)) }
-    ensures { result ≡ is_inactive (reads (field_set field.entry) (struct_object_tree object.now) (field_brand field.entry)) (typed_of field.entry).field
+pub fn is_inactive(arena: &Arena, place: Place, field: Field<'_>) -> bool
+    requires planted { IsBuilt arena.now place }
+    ensures { result ≡ is_inactive (reads (field_set field.entry) (built arena.now place) (field_brand field.entry))
+        (typed_of field.entry).field
         (index_of field.entry) }
 {
-    structs_can_be_read();
-    let reader = dynamic_struct::Reader::new(object.as_reader(), field.get_containing_struct());
+    let reader = dynamic_struct::Reader::new(
+        arena.get_struct_reader(place),
+        field.get_containing_struct(),
+    );
     !reader.is_active(field)
 }
 
 /// Where a step into a field leads that the struct has. The struct has to be well-formed.
 ///
-/// Refused with `InactiveMember` for a member that isn't active, then with `UntypedStep` for an untyped pointer, and with
-/// `NotAContainer` for another field that is no struct, group or list.
+/// Refused with `InactiveMember` for a member that isn't active, then with `UntypedStep` for an untyped pointer, and
+/// with `NotAContainer` for another field that is no struct, group or list.
 #[inline(always)]
-pub fn way_of<'s>(object: &StructObject, field: Field<'s>) -> Result<Way<'s>>
-    requires { IsWellFormed (struct_tree (struct_object_tree object.now)) }
-    ensures walked { (whole : Record → Value) → way_target (target_in whole field.entry (struct_object_tree object.now)) result
-        ≡ walked (target_in whole field.entry (struct_object_tree object.now)) }
+pub fn way_of<'s>(arena: &Arena, place: Place, field: Field<'s>) -> Result<Way<'s>>
+    requires planted { IsBuilt arena.now place }
+    ensures walked { (whole : Record → Value) → way_target (target_in whole field.entry (built arena.now place)) result
+        ≡ walked (target_in whole field.entry (built arena.now place)) }
     ensures leads { IfOk result (LeadsTo field.entry) }
 {
-    if is_inactive(object, field) {
+    if is_inactive(arena, place, field) {
         return Err(Error::from(ErrorKind::InactiveMember));
     }
     match field.get_type().which() {

@@ -1,1 +1,2 @@
+pub mod CutReads
 pub mod SetAndGet

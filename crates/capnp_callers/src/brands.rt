@@ -22,10 +22,12 @@ pub fn between<'s>(
     older: u32,
     newer: u32,
 ) -> Result<Option<Compatible<'s>>>
-    ensures answer { IfOk result (λ found. MatchOption found (IsCompatibleOrUpgraded (lists_seen set.now) older newer → ⊥)
+    ensures answer { IfOk result (λ found. MatchOption found
+        (IsCompatibleOrUpgraded (lists_seen set.now) older newer → ⊥)
         (IsBetween (lists_seen set.now) older newer)) }
     ensures there { IfOk result (λ found. HasBoth (lists_seen set.now) older newer) }
-    ensures refused { IfErr result (λ e. e.kind ≢ OutOfMemory → (e.kind ≡ NoSuchElement) × (HasBoth (lists_seen set.now) older newer → ⊥)) }
+    ensures refused { IfErr result (λ e. e.kind ≢ OutOfMemory → (e.kind ≡ NoSuchElement)
+        × (HasBoth (lists_seen set.now) older newer → ⊥)) }
 {
     let Some(one) = set.get_struct(older) else {
         return Err(Error::from(ErrorKind::NoSuchElement));
@@ -40,7 +42,8 @@ pub fn between<'s>(
 pub fn is_successor(alloc: Global, set: &SchemaSet, older: u32, newer: u32) -> Result<bool>
     ensures answer { IfOk result (λ yes. Decides yes (IsCompatibleOrUpgraded (lists_seen set.now) older newer)) }
     ensures there { IfOk result (λ yes. HasBoth (lists_seen set.now) older newer) }
-    ensures refused { IfErr result (λ e. e.kind ≢ OutOfMemory → (e.kind ≡ NoSuchElement) × (HasBoth (lists_seen set.now) older newer → ⊥)) }
+    ensures refused { IfErr result (λ e. e.kind ≢ OutOfMemory → (e.kind ≡ NoSuchElement)
+        × (HasBoth (lists_seen set.now) older newer → ⊥)) }
 {
     match between(alloc, set, older, newer)? {
         Some(pair) => {
@@ -51,8 +54,8 @@ pub fn is_successor(alloc: Global, set: &SchemaSet, older: u32, newer: u32) -> R
     }
 }
 
-/// A struct of the newer brand as the older one reads it; nothing where the newer is no compatible successor. Refused as
-/// `between`.
+/// A struct of the newer brand as the older one reads it; nothing where the newer is no compatible successor. Refused
+/// as `between`.
 pub fn seen_by_older<'s>(
     alloc: Global,
     set: &'s SchemaSet,
@@ -60,10 +63,12 @@ pub fn seen_by_older<'s>(
     newer: u32,
     sections: StructReader<'s>,
 ) -> Result<Option<dynamic_struct::Reader<'s>>>
-    ensures answer { IfOk result (λ found. MatchOption found (IsCompatibleOrUpgraded (lists_seen set.now) older newer → ⊥)
+    ensures answer { IfOk result (λ found. MatchOption found
+        (IsCompatibleOrUpgraded (lists_seen set.now) older newer → ⊥)
         (IsSeenByOlder (lists_seen set.now) older newer sections.entry)) }
     ensures there { IfOk result (λ found. HasBoth (lists_seen set.now) older newer) }
-    ensures refused { IfErr result (λ e. e.kind ≢ OutOfMemory → (e.kind ≡ NoSuchElement) × (HasBoth (lists_seen set.now) older newer → ⊥)) }
+    ensures refused { IfErr result (λ e. e.kind ≢ OutOfMemory → (e.kind ≡ NoSuchElement)
+        × (HasBoth (lists_seen set.now) older newer → ⊥)) }
 {
     match between(alloc, set, older, newer)? {
         Some(pair) => {
@@ -74,8 +79,8 @@ pub fn seen_by_older<'s>(
     }
 }
 
-/// A struct of the older brand as the newer one reads it; nothing where the newer is no compatible successor. Refused as
-/// `between`.
+/// A struct of the older brand as the newer one reads it; nothing where the newer is no compatible successor. Refused
+/// as `between`.
 pub fn seen_by_newer<'s>(
     alloc: Global,
     set: &'s SchemaSet,
@@ -83,10 +88,12 @@ pub fn seen_by_newer<'s>(
     newer: u32,
     sections: StructReader<'s>,
 ) -> Result<Option<dynamic_struct::Reader<'s>>>
-    ensures answer { IfOk result (λ found. MatchOption found (IsCompatibleOrUpgraded (lists_seen set.now) older newer → ⊥)
+    ensures answer { IfOk result (λ found. MatchOption found
+        (IsCompatibleOrUpgraded (lists_seen set.now) older newer → ⊥)
         (IsSeenByNewer (lists_seen set.now) older newer sections.entry)) }
     ensures there { IfOk result (λ found. HasBoth (lists_seen set.now) older newer) }
-    ensures refused { IfErr result (λ e. e.kind ≢ OutOfMemory → (e.kind ≡ NoSuchElement) × (HasBoth (lists_seen set.now) older newer → ⊥)) }
+    ensures refused { IfErr result (λ e. e.kind ≢ OutOfMemory → (e.kind ≡ NoSuchElement)
+        × (HasBoth (lists_seen set.now) older newer → ⊥)) }
 {
     match between(alloc, set, older, newer)? {
         Some(pair) => {

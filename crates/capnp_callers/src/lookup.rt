@@ -15,9 +15,11 @@ use capnp_wire::error::Result;
 
 /// Where the field of a name stands in its struct. Refused with `FieldNotFound` where no field has the name.
 pub fn plan_of_named(schema: StructSchema<'_>, name: &str) -> Result<SlotPlan>
-    ensures plan { IfOk result (λ plan. option_map (λ i. plan_of (set_of schema.entry) (number_of schema.entry) (struct_field schema.entry i))
+    ensures plan { IfOk result (λ plan. option_map
+        (λ i. plan_of (set_of schema.entry) (number_of schema.entry) (struct_field schema.entry i))
         (field_named (struct_records schema.entry) name.now) ≡ Some plan) }
-    ensures refused { IfErr result (λ e. (e.kind ≡ FieldNotFound) × (field_named (struct_records schema.entry) name.now ≡ None)) }
+    ensures refused { IfErr result (λ e. (e.kind ≡ FieldNotFound)
+        × (field_named (struct_records schema.entry) name.now ≡ None)) }
 {
     Ok(schema.get_field_by_name(name)?.plan())
 }

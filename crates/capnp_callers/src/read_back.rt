@@ -14,8 +14,8 @@ use capnp_dynamic::laws::sets_are_got;
 use capnp_schema::schema::Field;
 use capnp_wire::error::Result;
 
-/// Sets a slot, and answers what a reader of the struct gets of it: of a number, truth value, enum, text or data in a slot of
-/// its kind, this value. Refused as the set.
+/// Sets a slot, and answers what a reader of the struct gets of it: of a number, truth value, enum, text or data in a
+/// slot of its kind, this value. Refused as the set.
 pub fn set_and_get<'a>(
     builder: dynamic_struct::Builder<'a>,
     field: Field<'a>,
@@ -24,7 +24,8 @@ pub fn set_and_get<'a>(
     requires belongs { BelongsTo field (built_schema builder) }
     requires ready { IsReady builder }
     requires slot { IsSlot field }
-    ensures { IsWhole (source_of value.entry) → HasKind (typed_of field.entry).type → IfOk result (λ got. value_seen got ≡ value_seen value.entry) }
+    ensures { IsWhole (source_of value.entry) → HasKind (typed_of field.entry).type
+        → IfOk result (λ got. value_seen got ≡ value_seen value.entry) }
 {
     sets_are_got(field, value);
     let mut builder = builder;

@@ -24,7 +24,8 @@ pub fn run_on_stream(
 ) -> Result<(Vec<Reply>, Vec<u8>)>
     requires { IsStruct schema }
     ensures { IfOk result (λ done. IsRunOn schema.entry
-        (message_tree_of stream.now) calls.now done.0.items done.1.items indented (string_bytes out.old) (string_bytes out.new)) }
+        (message_tree_of stream.now) calls.now done.0.items done.1.items indented (string_bytes out.old)
+        (string_bytes out.new)) }
 {
     let root = Reader::new(alloc, stream)?.get_root();
     whole_copied(alloc, root, schema, calls, out, indented)

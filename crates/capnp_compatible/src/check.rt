@@ -53,16 +53,17 @@ impl<'s> Compatible<'s> {
     ghost use Rattle.capnp_compatible.specs.Checked.{AreRead, IsAsItWas, IsPair, IsSeen, IsUnder, Projects, ProjectsWhereRead, newer_of, older_of};
 
     /// The pair of an older schema and a newer one, where the newer is a compatible successor; nothing where it is not.
-    /// Both are brands of one set. The same is asked of each pair of structs that two shared fields name, and each pair is
-    /// looked at once.
+    /// Both are brands of one set. The same is asked of each pair of structs that two shared fields name, and each pair
+    /// is looked at once.
     ///
-    /// It is a successor where the older fields are a beginning of the newer ones, by index, and each has its place, its
-    /// discriminant value and its default still, and a type that is related: the same one; an enum with at least as many
-    /// enumerants; a list of a related type; or a struct or group that is a successor. A union stands where it stood and
-    /// has no fewer members. Names are not compared.
+    /// It is a successor where the older fields are a beginning of the newer ones, by index, and each has its place,
+    /// its discriminant value and its default still, and a type that is related: the same one; an enum with at least as
+    /// many enumerants; a list of a related type; or a struct or group that is a successor. A union stands where it
+    /// stood and has no fewer members. Names are not compared.
     ///
-    /// A list of integers, texts, data or lists may have become a list of structs, too, where field 0 of the struct stands
-    /// where an element stood: it is non-union, at offset 0, of a related type, and its default is zero, empty or null.
+    /// A list of integers, texts, data or lists may have become a list of structs, too, where field 0 of the struct
+    /// stands where an element stood: it is non-union, at offset 0, of a related type, and its default is zero, empty
+    /// or null.
     ///
     /// Refused with `OutOfMemory` where there is no memory for the list of pairs, and with nothing else.
     pub fn check(
@@ -74,7 +75,8 @@ impl<'s> Compatible<'s> {
         requires newer { IsStruct newer }
         requires one_set { set_of newer ≡ set_of older }
         ensures answer { IfOk result (λ found. MatchOption found
-            (IsCompatibleOrUpgraded (set_of older.entry) (number_of older.entry) (number_of newer.entry) → ⊥) (IsPair older.entry newer.entry)) }
+            (IsCompatibleOrUpgraded (set_of older.entry) (number_of older.entry) (number_of newer.entry) → ⊥)
+            (IsPair older.entry newer.entry)) }
         ensures refused { IfErr result (λ e. e.kind ≡ OutOfMemory) }
     {
         let set = older.get_set();
@@ -122,8 +124,8 @@ impl<'s> Compatible<'s> {
         }
     }
 
-    /// Whether a list of numbers, texts, data or lists became a list of structs. Where none did, `narrow` and `widen` read
-    /// the projection of every message.
+    /// Whether a list of numbers, texts, data or lists became a list of structs. Where none did, `narrow` and `widen`
+    /// read the projection of every message.
     pub fn upgrades(&self) -> bool
         ensures { Decides result (IsAsItWas (older_of self.now) (newer_of self.now) → ⊥) }
     {
@@ -135,7 +137,8 @@ impl<'s> Compatible<'s> {
         ensures older { IsStruct (older_of self.now) }
         ensures newer { IsStruct (newer_of self.now) }
         ensures one_set { set_of (newer_of self.now) ≡ set_of (older_of self.now) }
-        ensures follows { IsCompatibleOrUpgraded (set_of (older_of self.now)) (number_of (older_of self.now)) (number_of (newer_of self.now)) }
+        ensures follows { IsCompatibleOrUpgraded (set_of (older_of self.now)) (number_of (older_of self.now))
+            (number_of (newer_of self.now)) }
     {
         let _older = self.older;
     }
@@ -147,11 +150,12 @@ impl<'s> Compatible<'s> {
         numbers_fit(self.older.get_set());
     }
 
-    /// The record of any struct under the older schema is the projection of its record under the newer one. Where a list
-    /// became one of structs, it is that where such lists are read as what they were. Does nothing: a caller's proof has its
-    /// clauses.
+    /// The record of any struct under the older schema is the projection of its record under the newer one. Where a
+    /// list became one of structs, it is that where such lists are read as what they were. Does nothing: a caller's
+    /// proof has its clauses.
     pub fn projects(&self)
-        ensures as_it_was { IsAsItWas (older_of self.now) (newer_of self.now) → Projects (older_of self.now) (newer_of self.now) }
+        ensures as_it_was { IsAsItWas (older_of self.now) (newer_of self.now)
+            → Projects (older_of self.now) (newer_of self.now) }
         ensures where_read { ProjectsWhereRead (older_of self.now) (newer_of self.now) }
     {
         projection_law();
@@ -160,22 +164,24 @@ impl<'s> Compatible<'s> {
         self.follows();
     }
 
-    /// A struct of the newer schema as the older one reads it. Fields that were added are not seen, an active member that
-    /// was added is an unknown one, and a union that was added is none. Nothing is copied, no memory is taken, and the
-    /// levels stay. The struct has to be read under the newer schema.
+    /// A struct of the newer schema as the older one reads it. Fields that were added are not seen, an active member
+    /// that was added is an unknown one, and a union that was added is none. Nothing is copied, no memory is taken, and
+    /// the levels stay. The struct has to be read under the newer schema.
     ///
-    /// Where a list became one of structs, this holds of a message in which each such list has elements of a size that the
-    /// older type reads, and of which no part inside such a list is too deep for the reader. The levels that missing parts
-    /// carry may differ there: pointers are read with one level more than those of structs.
+    /// Where a list became one of structs, this holds of a message in which each such list has elements of a size that
+    /// the older type reads, and of which no part inside such a list is too deep for the reader. The levels that
+    /// missing parts carry may differ there: pointers are read with one level more than those of structs.
     #[tactic(auto, using(crate::proofs::Sees::narrowed, crate::proofs::Sees::narrowed_upgrade))]
     pub fn narrow(&self, reader: dynamic_struct::Reader<'s>) -> dynamic_struct::Reader<'s>
         requires { IsUnder reader (newer_of self.now) }
         ensures schema { schema_of result ≡ older_of self.now }
         ensures reader { reader_of result ≡ reader_of reader.entry }
         ensures record { IsAsItWas (older_of self.now) (newer_of self.now)
-            → record_seen result ≡ projection_of (set_of (older_of self.now)) (number_of (older_of self.now)) (number_of (newer_of self.now))
+            → record_seen result ≡ projection_of (set_of (older_of self.now)) (number_of (older_of self.now))
+            (number_of (newer_of self.now))
             (record_seen reader.entry) }
-        ensures where_read { AreRead (older_of self.now) (newer_of self.now) (record_seen result) (record_seen reader.entry)
+        ensures where_read { AreRead (older_of self.now) (newer_of self.now) (record_seen result)
+            (record_seen reader.entry)
             → IsSeen (older_of self.now) (newer_of self.now) (record_seen result) (record_seen reader.entry) }
     {
         self.follows();
@@ -186,8 +192,8 @@ impl<'s> Compatible<'s> {
     }
 
     /// A struct of the older schema as the newer one reads it, where fields that were added have what stands at their
-    /// place: their default in a struct that was written under the older schema. Nothing is copied, no memory is taken, and
-    /// the levels stay. The struct has to be read under the older schema.
+    /// place: their default in a struct that was written under the older schema. Nothing is copied, no memory is taken,
+    /// and the levels stay. The struct has to be read under the older schema.
     ///
     /// Where a list became one of structs, this holds as of `narrow`.
     #[tactic(auto, using(crate::proofs::Sees::widened, crate::proofs::Sees::widened_upgrade))]
@@ -196,9 +202,11 @@ impl<'s> Compatible<'s> {
         ensures schema { schema_of result ≡ newer_of self.now }
         ensures reader { reader_of result ≡ reader_of reader.entry }
         ensures record { IsAsItWas (older_of self.now) (newer_of self.now)
-            → projection_of (set_of (older_of self.now)) (number_of (older_of self.now)) (number_of (newer_of self.now)) (record_seen result)
+            → projection_of (set_of (older_of self.now)) (number_of (older_of self.now))
+            (number_of (newer_of self.now)) (record_seen result)
             ≡ record_seen reader.entry }
-        ensures where_read { AreRead (older_of self.now) (newer_of self.now) (record_seen reader.entry) (record_seen result)
+        ensures where_read { AreRead (older_of self.now) (newer_of self.now) (record_seen reader.entry)
+            (record_seen result)
             → IsSeen (older_of self.now) (newer_of self.now) (record_seen reader.entry) (record_seen result) }
     {
         self.follows();

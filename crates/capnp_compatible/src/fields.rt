@@ -12,11 +12,12 @@ use crate::types::are_related;
 use capnp_schema::schema::Field;
 use capnp_schema::set::SchemaSet;
 
-/// Whether two fields are of one place and discriminant value, with the same default and related types. `lists` is whether
-/// lists may have become lists of structs.
+/// Whether two fields are of one place and discriminant value, with the same default and related types. `lists` is
+/// whether lists may have become lists of structs.
 #[tactic(auto, using(crate::proofs::SharedParts::field_parts))]
 fn is_shared(set: &SchemaSet, lists: bool, older: Field<'_>, newer: Field<'_>) -> bool
-    ensures { IsTrue result ↔ SharedField lists (lists_seen set.now) all_pairs (typed_of older.entry) (typed_of newer.entry) }
+    ensures { IsTrue result ↔ SharedField lists (lists_seen set.now) all_pairs (typed_of older.entry)
+        (typed_of newer.entry) }
 {
     let one = older.get_proto();
     let other = newer.get_proto();
@@ -34,8 +35,10 @@ fn are_fields_shared(set: &SchemaSet, lists: bool, older: u32, newer: u32) -> bo
     requires older { older < length (lists_seen set.now).brands }
     requires newer { newer < length (lists_seen set.now).brands }
     requires enough { length (fields_of (lists_seen set.now) older) ≤ length (fields_of (lists_seen set.now) newer) }
-    ensures yes { IsTrue result → FieldsShared lists (lists_seen set.now) all_pairs older newer (length (fields_of (lists_seen set.now) older)) }
-    ensures no { FieldsShared lists (lists_seen set.now) all_pairs older newer (length (fields_of (lists_seen set.now) older)) → IsTrue result }
+    ensures yes { IsTrue result → FieldsShared lists (lists_seen set.now) all_pairs older newer
+        (length (fields_of (lists_seen set.now) older)) }
+    ensures no { FieldsShared lists (lists_seen set.now) all_pairs older newer
+        (length (fields_of (lists_seen set.now) older)) → IsTrue result }
 {
     for i in 0..field_count(set, older) {
         if !is_shared(set, lists, field_of(set, older, i), field_of(set, newer, i)) {

@@ -17,7 +17,8 @@ fn named_at(set: &SchemaSet, lists: bool, older: u32, newer: u32, index: u16) ->
     requires newer { newer < length (lists_seen set.now).brands }
     requires older_field { index < length (fields_of (lists_seen set.now) older) }
     requires newer_field { index < length (fields_of (lists_seen set.now) newer) }
-    ensures { result ≡ named lists (lists_seen set.now) (field_at (lists_seen set.now) older index).type (field_at (lists_seen set.now) newer index).type }
+    ensures { result ≡ named lists (lists_seen set.now) (field_at (lists_seen set.now) older index).type
+        (field_at (lists_seen set.now) newer index).type }
 {
     named(
         set,
@@ -56,8 +57,10 @@ pub(crate) fn add_named(
     requires enough { length (fields_of (lists_seen set.now) older) ≤ length (fields_of (lists_seen set.now) newer) }
     ensures more { Within (listed pairs.old) (listed pairs.new) }
     ensures begins { Begins pairs.old pairs.new }
-    ensures added { OnOk result (HoldsNamed lists (lists_seen set.now) (listed pairs.new) older newer (length (fields_of (lists_seen set.now) older))) }
-    ensures only { Adds pairs.old pairs.new (λ sets. HoldsNamed lists (lists_seen set.now) sets older newer (length (fields_of (lists_seen set.now) older))) }
+    ensures added { OnOk result (HoldsNamed lists (lists_seen set.now) (listed pairs.new) older newer
+        (length (fields_of (lists_seen set.now) older))) }
+    ensures only { Adds pairs.old pairs.new (λ sets. HoldsNamed lists (lists_seen set.now) sets older newer
+        (length (fields_of (lists_seen set.now) older))) }
     ensures apart { Apart pairs.old → Apart pairs.new }
     ensures refused { IfErr result (λ e. e.kind ≡ OutOfMemory) }
 {

@@ -71,16 +71,18 @@ fn are_related_layers(set: &SchemaSet, older: TypeVariant, newer: TypeVariant) -
     }
 }
 
-/// The layers of two types inside the lists that both are: not both are lists. Where elements may have become structs, the
-/// type of field 0 is gone on with in such a struct's place.
+/// The layers of two types inside the lists that both are: not both are lists. Where elements may have become structs,
+/// the type of field 0 is gone on with in such a struct's place.
 fn inside_lists(
     set: &SchemaSet,
     lists: bool,
     older: Type,
     newer: Type,
 ) -> (TypeVariant, TypeVariant)
-    ensures older { seen_variant result.0 ≡ (inside_lists lists (lists_seen set.now) (seen_type older) (seen_type newer)).0 }
-    ensures newer { seen_variant result.1 ≡ (inside_lists lists (lists_seen set.now) (seen_type older) (seen_type newer)).1 }
+    ensures older { seen_variant result.0 ≡ (inside_lists lists (lists_seen set.now) (seen_type older)
+        (seen_type newer)).0 }
+    ensures newer { seen_variant result.1 ≡ (inside_lists lists (lists_seen set.now) (seen_type older)
+        (seen_type newer)).1 }
     ensures all { kind result.0 ≡ 15 → kind result.1 ≡ 15 → ⊥ }
 {
     let mut one = older;

@@ -1,7 +1,7 @@
 //! Questions about the brands of a set, as text: one interpreter, in which each call stands once.
 //!
-//! A question names the older brand and the newer, by their numbers, and a message of `messages` whose root is a struct of
-//! either.
+//! A question names the older brand and the newer, by their numbers, and a message of `messages` whose root is a struct
+//! of either.
 //!
 //! | question | what is answered |
 //! |---|---|
@@ -145,8 +145,8 @@ pub fn rows_hold(rt: &impl Abort, alloc: Global, rows: &[(&'static str, &'static
     }
 }
 
-/// Asserts for each of these whether the second struct is a compatible successor of the first: two structs, and the answer.
-/// The other parts of their set are the same for all.
+/// Asserts for each of these whether the second struct is a compatible successor of the first: two structs, and the
+/// answer. The other parts of their set are the same for all.
 pub fn pairs_hold(
     rt: &impl Abort,
     alloc: Global,

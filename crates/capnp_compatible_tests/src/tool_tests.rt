@@ -2,8 +2,8 @@
 
 use crate::script::rows_hold;
 
-/// The structs and enums of examples/station_before.capnp and of examples/station.capnp: of each name the older and then the
-/// newer one.
+/// The structs and enums of examples/station_before.capnp and of examples/station.capnp: of each name the older and
+/// then the newer one.
 const STATIONS: &str = "struct 1 5 union 2 2, name Text @0, height Int16 @0 =Int16(-5), \
     weather Enum(0) @1, place Struct(2) @1, readings List(Struct(4)) @2, \
     neighbours List(Struct(0)) @3, closed Void @0 #0, keeper Text @4 #1; struct 2 5 union 3 2, \
@@ -14,8 +14,8 @@ const STATIONS: &str = "struct 1 5 union 2 2, name Text @0, height Int16 @0 =Int
     struct 2 0, east Int32 @0, north Int32 @1, up Int16 @4; struct 1 0, tenths Int16 @0; \
     struct 1 0, tenths Int16 @0, hour UInt8 @2; enum sun rain; enum sun rain snow";
 
-/// What `capnp decode --short` prints of each message under the older file and under the newer one, but that the tool writes
-/// an enum without a name `(2)`, and a Void `void`.
+/// What `capnp decode --short` prints of each message under the older file and under the newer one, but that the tool
+/// writes an enum without a name `(2)`, and a Void `void`.
 static MESSAGE_ROWS: [(&str, &str, &str); 3] = [
     (
         STATIONS,

@@ -2,8 +2,8 @@
 
 use crate::script::pairs_hold;
 
-/// The structs 2 and 3 have a field in common, and 3 one more; 4 has another field. The first two structs are those that are
-/// compared.
+/// The structs 2 and 3 have a field in common, and 3 one more; 4 has another field. The first two structs are those
+/// that are compared.
 const OTHERS: &str = "struct 1 0, v UInt16 @0; struct 1 0, v UInt16 @0, w UInt16 @1; \
     struct 1 0, v UInt32 @0; enum red blue; enum left right; enum up down off";
 

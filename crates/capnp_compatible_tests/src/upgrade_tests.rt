@@ -1,5 +1,5 @@
-//! Lists of numbers, texts and lists that became lists of structs: `Tally` is struct 9 of each set, `Tally2` struct 10, and
-//! `Pair`, which stands where a number stood, struct 11.
+//! Lists of numbers, texts and lists that became lists of structs: `Tally` is struct 9 of each set, `Tally2` struct 10,
+//! and `Pair`, which stands where a number stood, struct 11.
 
 use crate::script::rows_hold;
 

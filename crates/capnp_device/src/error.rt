@@ -111,14 +111,15 @@ pub enum ErrorKind {
     /// A rule of schemas is broken at this place. Where several are, any of them may be named.
     #[error("schema rule {rule} is broken in {table} {entry}, field {field}")]
     Schema {
-        /// The rule's number.
-        rule: u32,
+        // The small ones first, so that they stand beside the number of the variant: a refusal is copied at each return.
         /// The list of records.
         table: SchemaTable,
-        /// The record, counted from 0 in its list.
-        entry: usize,
         /// The field, counted from 0 in its record; 65,535 where the whole record is meant.
         field: u16,
+        /// The rule's number.
+        rule: u32,
+        /// The record, counted from 0 in its list.
+        entry: usize,
     },
     /// A type is a floating point number, which schema records do not have.
     #[error("schemas here have no floating point types")]

@@ -33,17 +33,14 @@ use Rattle.capnp_dynamic_readers.specs.Reads.{BelongsTo}
 -- a struct of a schema is room for the schema's fields
 pub room_for : (f : Field) (schema : StructSchema) (s : StructTree) → BelongsTo f schema → IsUnder schema s → IsRoomFor f s
 room_for f schema s belongs under =
-    subst (λ (z : Schemas). Fits z (field_brand f) s) (sym belongs.set) (subst (λ b. Fits (set_of schema) b s) (sym belongs.number) under.room)
+    subst (λ (z : Schemas). Fits z (field_brand f) s) (sym belongs.set) (subst (λ b. Fits (set_of schema) b s) (sym belongs.number) under)
 
 -- what a write keeps, the schema keeps
 pub under_kept : (schema : StructSchema) (inside : Spot → Bool) (s s' : StructTree) → IsUnder schema s → Keeps inside s s' → IsUnder schema s'
-under_kept schema inside s s' under kept = record {
-  room = (
-    subst (λ n. 8 * (brand_size (set_of schema) (number_of schema)).data_words ≤ n) (sym kept.writes.data_size) under.room.0,
-    subst (λ n. (brand_size (set_of schema) (number_of schema)).pointers ≤ n) (sym kept.writes.pointer_count) under.room.1,
-  );
-  formed = kept.formed under.formed;
-}
+under_kept schema inside s s' under kept = (
+  subst (λ n. 8 * (brand_size (set_of schema) (number_of schema)).data_words ≤ n) (sym kept.writes.data_size) under.0,
+  subst (λ n. (brand_size (set_of schema) (number_of schema)).pointers ≤ n) (sym kept.writes.pointer_count) under.1,
+)
 
 pub under_same : (schema : StructSchema) (s s' : StructTree) → IsUnder schema s → s' ≡ s → IsUnder schema s'
 under_same schema s s' under e = subst (IsUnder schema) (sym e) under

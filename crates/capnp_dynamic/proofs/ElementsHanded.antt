@@ -5,16 +5,18 @@ use Rattle.std.proofs.lemmas.Bool.{true≢false}
 use Rattle.capnp_device.specs.declared.error.Error.{Error}
 use Rattle.capnp_wire.specs.Elements.{HasPointer, HasStruct}
 use Rattle.capnp_wire.specs.Facts.Lengths.{HasStruct-there}
-use Rattle.capnp_wire.specs.Place.{struct_tree}
 use Rattle.capnp_wire.specs.Reading.{element_struct, list_length}
 use Rattle.capnp_wire.specs.Tree as tree
 use Rattle.capnp_wire.specs.Tree.{StructTree, Tree}
 use Rattle.capnp_wire.specs.WellFormed.{IsWellFormed}
+use Rattle.capnp_base.specs.declared.introspect.RawBrandedStructSchema.{RawBrandedStructSchema}
+use Rattle.capnp_base.specs.declared.introspect.TypeVariant.{TypeVariant}
+use Rattle.capnp_base.specs.declared.introspect.TypeVariant.TheVariants as variant
 use Rattle.capnp_base.specs.declared.introspect.«Type».{«Type» as TypeHandle}
 use Rattle.capnp_schema.specs.Defaults.{IsReadAs}
 use Rattle.capnp_schema.specs.Schema.{Schemas, VoidValue}
 use Rattle.capnp_schema.specs.StructHandles.{number_of, set_of}
-use Rattle.capnp_schema.specs.Types.{SchemaType, VoidType, BoolType, IntType, UIntType, EnumType, TextType, DataType, StructType, ListType, AnyPointerType, is_pointer, seen_type, struct_brand}
+use Rattle.capnp_schema.specs.Types.{SchemaType, VoidType, BoolType, IntType, UIntType, EnumType, TextType, DataType, StructType, ListType, AnyPointerType, is_pointer, seen_type, seen_variant, struct_brand}
 use Rattle.capnp_schema.specs.declared.schema.structs.StructSchema.{StructSchema}
 use Rattle.capnp_records.specs.Default.{read_of}
 use Rattle.capnp_records.specs.Facts.Readers.{element_read}
@@ -22,7 +24,9 @@ use Rattle.capnp_records.specs.Writes.ElementEnds.{HasRoom}
 use Rattle.capnp_records.specs.Writes.Slots.{Fits}
 use Rattle.capnp_schema.specs.Plan.{brand_size}
 use Rattle.capnp_slots.specs.Fills.{is_behind}
-use Rattle.capnp_dynamic.specs.Built.{IsListUnder, IsUnder as IsStructUnder}
+use Rattle.capnp_dynamic.specs.Built.{HoldsElements, IsUnder as IsStructUnder}
+use Rattle.capnp_dynamic.specs.Handed.{HandsElementNumber, element_handed}
+use Rattle.capnp_dynamic.specs.declared.dynamic_value.build.Builder.{Builder as BuiltValue}
 use Rattle.capnp_dynamic_readers.specs.Leaf.{IsNumber}
 use Rattle.capnp_dynamic_readers.specs.Seen.{answered}
 use Rattle.capnp_dynamic_readers.specs.Typed.{IsUnder}
@@ -32,20 +36,18 @@ use Rattle.capnp_dynamic.proofs.ListElements.{room_in, struct_fits}
 
 -- ---- structs ----
 
-pub struct_there : (set : Schemas) (b g : ℕ) (x : Tree) (j : ℕ) → IsListUnder set (StructType b g) x → j < list_length x → HasStruct x j
-struct_there set b g x j under a = HasStruct-there (brand_size set b) x j under.holds a
+pub struct_there : (set : Schemas) (b g : ℕ) (x : Tree) (j : ℕ) → HoldsElements set (StructType b g) x → j < list_length x → HasStruct x j
+struct_there set b g x j holds a = HasStruct-there (brand_size set b) x j holds a
 
-pub struct_ready : (set : Schemas) (b g : ℕ) (x : Tree) (j : ℕ) (schema : StructSchema) → set_of schema ≡ set → number_of schema ≡ b → IsListUnder set (StructType b g) x → j < list_length x →
-    (s : StructTree) → s ≡ element_struct x j → IsWellFormed (struct_tree s) → IsStructUnder schema s
-struct_ready set b g x j schema same number under a s e formed = record {
-  room = subst (λ (z : Schemas). Fits z (number_of schema) s) (sym same) (subst (λ (n : ℕ). Fits set n s) (sym number) (subst (Fits set b) (sym e) (struct_fits set b g x j under a)));
-  formed = formed;
-}
+pub struct_ready : (set : Schemas) (b g : ℕ) (x : Tree) (j : ℕ) (schema : StructSchema) → set_of schema ≡ set → number_of schema ≡ b → HoldsElements set (StructType b g) x → IsWellFormed x → j < list_length x →
+    (s : StructTree) → s ≡ element_struct x j → IsStructUnder schema s
+struct_ready set b g x j schema same number holds formed a s e =
+    subst (λ (z : Schemas). Fits z (number_of schema) s) (sym same) (subst (λ (n : ℕ). Fits set n s) (sym number) (subst (Fits set b) (sym e) (struct_fits set b g x j holds formed a)))
 
 -- ---- pointers ----
 
-pub pointer_there : (set : Schemas) (t : TypeHandle) (x : Tree) (j : ℕ) → is_behind (seen_type t) ≡ true → IsListUnder set (seen_type t) x → j < list_length x → HasPointer x j
-pointer_there set t x j behind under a = go (seen_type t) behind (room_in set t x j under a)
+pub pointer_there : (set : Schemas) (t : TypeHandle) (x : Tree) (j : ℕ) → is_behind (seen_type t) ≡ true → HoldsElements set (seen_type t) x → IsWellFormed x → j < list_length x → HasPointer x j
+pointer_there set t x j behind holds formed a = go (seen_type t) behind (room_in set t x j holds formed a)
   where
     go : (u : SchemaType) → is_behind u ≡ true → HasRoom u x j → HasPointer x j
     go TextType h r = r
@@ -120,3 +122,27 @@ is_number set t (dynamic.Struct x) h u = no-struct t (number_of x.schema) u.1 h
     no-struct t n e h = cc
 is_number set t (dynamic.List x) h u = true≢false (ap is_pointer u.1 ∙ h)
 is_number set t (dynamic.AnyPointer x) h u = true≢false (ap is_pointer u ∙ h)
+
+-- an element's number is what is handed out of it
+module _ (set : Schemas) (x y : Tree) (j : ℕ) (v : BuiltValue) where
+  number-by : (w : TypeVariant) → ((s : RawBrandedStructSchema) → w ≡ variant.Struct s → ⊥) → is_behind (seen_variant w) ≡ false → HandsElementNumber set (seen_variant w) y j v → element_handed set (seen_variant w) x y j v
+  number-by variant.Void n e h = h
+  number-by variant.Bool n e h = h
+  number-by variant.Int8 n e h = h
+  number-by variant.Int16 n e h = h
+  number-by variant.Int32 n e h = h
+  number-by variant.Int64 n e h = h
+  number-by variant.UInt8 n e h = h
+  number-by variant.UInt16 n e h = h
+  number-by variant.UInt32 n e h = h
+  number-by variant.UInt64 n e h = h
+  number-by variant.Text n e h = absurd (true≢false e)
+  number-by variant.«Data» n e h = absurd (true≢false e)
+  number-by (variant.Struct s) n e h = absurd (n s refl)
+  number-by variant.AnyPointer n e h = absurd (true≢false e)
+  number-by (variant.Enum k) n e h = h
+  number-by (variant.List t) n e h = absurd (true≢false e)
+
+  pub number_handed : (t : SchemaType) (w : TypeVariant) → seen_variant w ≡ t → ((s : RawBrandedStructSchema) → w ≡ variant.Struct s → ⊥) → is_behind (seen_variant w) ≡ false → HandsElementNumber set t y j v → element_handed set t x y j v
+  number_handed t w same n e h =
+      subst (λ (u : SchemaType). element_handed set u x y j v) same (number-by w n e (subst (λ (u : SchemaType). HandsElementNumber set u y j v) (sym same) h))

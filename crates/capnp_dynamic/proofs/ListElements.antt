@@ -1,5 +1,5 @@
 -- In a list that has elements of its type each of them is there, also after one was written.
-use Rattle.std.specs.Prelude.{ℕ, ◌==◌, ◌<◌, ◌≡◌, refl, Bool, true, false, None, Result, Ok, Err, OnOk, OnErr}
+use Rattle.std.specs.Prelude.{ℕ, ◌==◌, ◌<◌, ◌≡◌, refl, Bool, true, false, List, None, Result, Ok, Err, OnOk, OnErr}
 use Rattle.std.proofs.Common.{arith, sym, subst, ◌∙◌}
 use Rattle.std.proofs.lemmas.Bool.{true≢false}
 use Rattle.capnp_device.specs.declared.error.Error.{Error}
@@ -29,7 +29,10 @@ use Rattle.capnp_records.specs.Writes.ElementEnds.{HasRoom, element_written}
 use Rattle.capnp_records.specs.Writes.Slots.{Bits, At, Content, Fits}
 use Rattle.capnp_schema.specs.Plan.{brand_size}
 use Rattle.capnp_slots.specs.ElementSets.{IsElementSet, element_content}
-use Rattle.capnp_dynamic.specs.Built.{HoldsElements, IsListUnder}
+use Rattle.capnp_arena.specs.Forest.{Forest, tree as tree_in}
+use Rattle.capnp_arena.specs.Segment.{segment}
+use Rattle.capnp_arena.specs.declared.arena.Arena.{Arena}
+use Rattle.capnp_dynamic.specs.Built.{HoldsElements, IsListStanding}
 
 -- ---- a list, or null ----
 
@@ -99,13 +102,13 @@ module _ (set : Schemas) (x : Tree) (j : ℕ) (formed : IsWellFormed x) (a : j <
   by-variant (variant.Enum e) h = HasNumber-there size.TwoBytes 2 x j refl refl (reads-so size.TwoBytes x j h a) formed a
   by-variant (variant.List t) h = HasPointer-there x j (reads-so size.Pointer x j h a) formed a
 
-pub room_in : (set : Schemas) (t : TypeHandle) (x : Tree) (j : ℕ) → IsListUnder set (seen_type t) x → j < list_length x → HasRoom (seen_type t) x j
-room_in set t x j under a =
+pub room_in : (set : Schemas) (t : TypeHandle) (x : Tree) (j : ℕ) → HoldsElements set (seen_type t) x → IsWellFormed x → j < list_length x → HasRoom (seen_type t) x j
+room_in set t x j holds formed a =
     subst (λ (u : SchemaType). HasRoom u x j) (seen_which t)
-    (by-variant set x j under.formed a (variant_of t) (subst (λ (u : SchemaType). HoldsElements set u x) (sym (seen_which t)) under.holds))
+    (by-variant set x j formed a (variant_of t) (subst (λ (u : SchemaType). HoldsElements set u x) (sym (seen_which t)) holds))
 
-pub struct_fits : (set : Schemas) (b g : ℕ) (x : Tree) (j : ℕ) → IsListUnder set (StructType b g) x → j < list_length x → Fits set b (element_struct x j)
-struct_fits set b g x j under a = HasAtLeast-element_struct (brand_size set b) x j under.holds under.formed a
+pub struct_fits : (set : Schemas) (b g : ℕ) (x : Tree) (j : ℕ) → HoldsElements set (StructType b g) x → IsWellFormed x → j < list_length x → Fits set b (element_struct x j)
+struct_fits set b g x j holds formed a = HasAtLeast-element_struct (brand_size set b) x j holds formed a
 
 -- ---- with another element ----
 
@@ -151,9 +154,13 @@ elements_kept set (ListType e) j (At y) x h = pointer-kept size.Pointer j y x �
 elements_kept set AnyPointerType j (At y) x h = pointer-kept size.Pointer j y x ∙ h
 
 -- what a set of an element leaves has elements of its type
-pub set_ready : {A : Type 0} (set : Schemas) (t : SchemaType) (x : Source) (j : ℕ) (old new : Tree) (r : Result A Error) → IsListUnder set t old → OnOk r (IsElementSet set t x j old new) → OnErr r (new ≡ old) → IsListUnder set t new
-set_ready set t x j old new (Ok a) under ok same = record {
-  holds = subst (HoldsElements set t) (sym ok.written) (elements_kept set t j (element_content set t x) old under.holds);
-  formed = ok.formed under.formed;
+pub set_ready : {A : Type 0} (set : Schemas) (t : SchemaType) (x : Source) (j : ℕ) (old new : Arena) (w : ℕ) (r : Result A Error) → IsListStanding set t old w → OnOk r (Forest (segment new) w) →
+    OnOk r (IsElementSet set t x j (tree_in (segment old) w) (tree_in (segment new) w)) → OnErr r (segment new ≡ segment old) → IsListStanding set t new w
+set_ready set t x j old new w (Ok a) under forest ok same = record {
+  forest = forest;
+  holds = subst (HoldsElements set t) (sym ok.written) (elements_kept set t j (element_content set t x) (tree_in (segment old) w) under.holds);
 }
-set_ready set t x j old new (Err e) under ok same = subst (IsListUnder set t) (sym same) under
+set_ready set t x j old new w (Err e) under forest ok same = record {
+  forest = subst (λ (s : List ℕ). Forest s w) (sym same) under.forest;
+  holds = subst (λ (s : List ℕ). HoldsElements set t (tree_in s w)) (sym same) under.holds;
+}

@@ -4,17 +4,16 @@ use Rattle.std.specs.Prelude.{ℕ, [], ◌<◌, ◌≡◌, None}
 use Rattle.std.specs.Borrow.{Fml, Lends, MutBor}
 use mir.Syntax.{named}
 use Rattle.capnp_wire.specs.Defaults.{list_refusal}
-use Rattle.capnp_wire.specs.Elements.{built_list}
-use Rattle.capnp_wire.specs.Objects.{list_object_tree, struct_object_tree}
-use Rattle.capnp_wire.specs.Place.{struct_tree}
+use Rattle.capnp_wire.specs.Elements.{or_empty}
 use Rattle.capnp_wire.specs.Reading.{list_length}
 use Rattle.capnp_wire.specs.StructLists.{HoldsStructs}
 use Rattle.capnp_wire.specs.Tree.{StructTree, Tree}
-use Rattle.capnp_wire.specs.WellFormed.{IsWellFormed}
-use Rattle.capnp_wire.specs.contracts.object.ListObject.{the_row as list_row}
-use Rattle.capnp_wire.specs.contracts.object.StructObject.{the_row as struct_row}
-use Rattle.capnp_wire.specs.declared.object.ListObject.{ListObject}
-use Rattle.capnp_wire.specs.declared.object.StructObject.{StructObject}
+use Rattle.capnp_arena.specs.Forest.{Forest, tree}
+use Rattle.capnp_arena.specs.Segment.{segment}
+use Rattle.capnp_arena.specs.contracts.arena.Arena.{the_row as arena_row}
+use Rattle.capnp_arena.specs.declared.arena.Arena.{Arena}
+use Rattle.capnp_arena.specs.declared.arena.Place.{Place}
+use Rattle.capnp_arena.specs.declared.struct_builder.StructBuilder.{StructBuilder}
 use Rattle.capnp_base.specs.declared.introspect.«Type».{«Type» as TypeHandle}
 use Rattle.capnp_schema.specs.Entries.{lists_seen}
 use Rattle.capnp_schema.specs.Schema.{Schemas}
@@ -25,34 +24,46 @@ use Rattle.capnp_records.specs.Reading.{struct_record}
 use Rattle.capnp_records.specs.Record.{Left, Record}
 use Rattle.capnp_records.specs.Writes.Slots.{Fits}
 use Rattle.capnp_schema.specs.Plan.{brand_size}
+use Rattle.capnp_arena.specs.Built.{IsBuilt, built}
 use Rattle.capnp_dynamic.specs.contracts.dynamic_list.build.Builder.{the_row as list_handle_row}
 use Rattle.capnp_dynamic.specs.contracts.dynamic_struct.build.Builder.{the_row as struct_handle_row}
 use Rattle.capnp_dynamic.specs.declared.dynamic_list.build.Builder.{Builder as ListHandle}
 use Rattle.capnp_dynamic.specs.declared.dynamic_struct.build.Builder.{Builder as StructHandle}
 
--- the schema of a struct that is built, the reference to its object, and its tree
+-- the schema of a struct that is built, the message behind it, its place there, and its tree
 abbrev pub built_schema : StructHandle → StructSchema
 built_schema b = b.schema
 
-abbrev pub struct_behind : StructHandle → MutBor StructObject
-struct_behind b = b.builder
+abbrev pub struct_behind : StructHandle → MutBor Arena
+struct_behind b = b.arena
+
+abbrev pub place_of : StructHandle → Place
+place_of b = b.place
 
 abbrev pub built_struct : StructHandle → StructTree
-built_struct b = struct_object_tree b.builder.now
+built_struct b = built b.arena.now b.place
 
--- a struct has at least its schema's sections, and is what the format lets a tree be
-pub record IsUnder (schema : StructSchema) (s : StructTree) : Type 0 where
-  pub room : Fits (set_of schema) (number_of schema) s
-  pub formed : IsWellFormed (struct_tree s)
+-- the plain handle of it
+abbrev pub handle_of : StructHandle → StructBuilder
+handle_of b = record { arena = b.arena; place = b.place }
+
+-- a struct has at least its schema's sections
+abbrev pub IsUnder : StructSchema → StructTree → Type 0
+IsUnder schema s = Fits (set_of schema) (number_of schema) s
+
+-- and stands at a place
+pub record IsStanding (schema : StructSchema) (arena : Arena) (place : Place) : Type 0 where
+  pub planted : IsBuilt arena place
+  pub room : IsUnder schema (built arena place)
 
 abbrev pub IsReady : StructHandle → Type 0
-IsReady b = IsUnder (built_schema b) (built_struct b)
+IsReady b = IsStanding (built_schema b) b.arena.now b.place
 
 -- the record that it reads as, by a reader with 64 levels
 abbrev pub built_record : StructHandle → Record
 built_record b = struct_record (set_of (built_schema b)) (Left 64) (built_struct b) (number_of (built_schema b))
 
--- the type of a list's elements, the set that it is of, and the reference to the list's object
+-- the type of a list's elements, the set that the type is of, the message behind it, and the word of the list's pointer
 abbrev pub built_type : ListHandle → TypeHandle
 built_type l = l.element_type
 
@@ -62,15 +73,18 @@ built_element l = seen_type l.element_type
 abbrev pub built_set : ListHandle → Schemas
 built_set l = lists_seen l.set.now
 
-abbrev pub list_behind : ListHandle → MutBor ListObject
-list_behind l = l.builder
+abbrev pub list_behind : ListHandle → MutBor Arena
+list_behind l = l.arena
+
+abbrev pub word_of : ListHandle → ℕ
+word_of l = l.at
 
 -- the tree of a list that is built, null where a null was got as one; and what it reads as, then an empty list
 abbrev pub built_elements : ListHandle → Tree
-built_elements l = list_object_tree l.builder.now
+built_elements l = tree (segment l.arena.now) l.at
 
 abbrev pub built_reading : ListHandle → Tree
-built_reading l = built_list l.builder.now
+built_reading l = or_empty (element_size (built_element l)) (built_elements l)
 
 -- a list has elements of a type: structs of at least their schema's sections, or what is read as elements of the type's size;
 -- a null has none
@@ -78,13 +92,13 @@ abbrev pub HoldsElements : Schemas → SchemaType → Tree → Type 0
 HoldsElements set (StructType b g) x = HoldsStructs (brand_size set b) x
 HoldsElements set t x = list_refusal (element_size t) x ≡ None
 
--- a list has elements of its type, and is what the format lets a tree be
-pub record IsListUnder (set : Schemas) (t : SchemaType) (x : Tree) : Type 0 where
-  pub holds : HoldsElements set t x
-  pub formed : IsWellFormed x
+-- a list has elements of its type, and stands at its pointer
+pub record IsListStanding (set : Schemas) (t : SchemaType) (arena : Arena) (at : ℕ) : Type 0 where
+  pub forest : Forest (segment arena) at
+  pub holds : HoldsElements set t (tree (segment arena) at)
 
 abbrev pub IsListReady : ListHandle → Type 0
-IsListReady l = IsListUnder (built_set l) (built_element l) (built_elements l)
+IsListReady l = IsListStanding (built_set l) (built_element l) l.arena.now l.at
 
 -- an element is there
 abbrev pub IsIn : ℕ → ListHandle → Type 0
@@ -92,16 +106,16 @@ IsIn j l = j < list_length (built_elements l)
 
 -- ---- what is lent for a shorter time ----
 
--- a builder with another object behind its reference
-abbrev pub with_struct : StructHandle → StructObject → StructHandle
-with_struct b object = record b { builder = record b.builder { now = object } }
+-- a builder with the message as it was left
+abbrev pub with_struct : StructHandle → Arena → StructHandle
+with_struct b a = record b { arena = record b.arena { now = a } }
 
-abbrev pub with_list : ListHandle → ListObject → ListHandle
-with_list l object = record l { builder = record l.builder { now = object } }
+abbrev pub with_list : ListHandle → Arena → ListHandle
+with_list l a = record l { arena = record l.arena { now = a } }
 
--- a builder that is lent for a shorter time ends as itself, with the object as it was left
+-- a builder that is lent for a shorter time ends as itself, with the message as it was left
 abbrev pub LendsStruct : MutBor StructHandle → StructHandle → Fml
-LendsStruct b result = Lends (struct_handle_row (record { mir = named 0; lft = [] })) struct_row b (struct_behind result) (with_struct b.now)
+LendsStruct b result = Lends (struct_handle_row (record { mir = named 0; lft = [] })) arena_row b (struct_behind result) (with_struct b.now)
 
 abbrev pub LendsList : MutBor ListHandle → ListHandle → Fml
-LendsList l result = Lends (list_handle_row (record { mir = named 0; lft = [] })) list_row l (list_behind result) (with_list l.now)
+LendsList l result = Lends (list_handle_row (record { mir = named 0; lft = [] })) arena_row l (list_behind result) (with_list l.now)

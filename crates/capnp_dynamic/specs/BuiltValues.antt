@@ -1,18 +1,19 @@
 -- What dynamic values that are built stand on, and what they read as.
 use Rattle.std.specs.Prelude.{◌≡◌, ⊤}
 use Rattle.capnp_wire.specs.Standing.{levels_of, list_levels, list_of, struct_levels, struct_of, tree_of}
-use Rattle.capnp_wire.specs.WellFormed.{IsWellFormed}
-use Rattle.capnp_base.specs.AnyPointer.{pointer_behind, pointer_of, pointer_tree}
-use Rattle.capnp_base.specs.Text.{position, text_bytes}
-use Rattle.capnp_dynamic.specs.Built.{IsListReady, IsReady, built_reading, built_schema, built_set, built_struct, built_type, list_behind}
+use Rattle.capnp_arena.specs.Same.{IsCutOf, IsStructCutOf}
+use Rattle.capnp_base.specs.AnyPointer.{pointer_of}
+use Rattle.capnp_builders.specs.Blobs.{IsData, IsText, data_behind, data_bytes, data_word, position, text_behind, text_bytes, text_word}
+use Rattle.capnp_builders.specs.Pointers.{IsPointer, arena_behind, pointer_tree, word_of as pointer_word}
+use Rattle.capnp_dynamic.specs.Built.{IsListReady, IsReady, built_reading, built_schema, built_set, built_struct, built_type, list_behind, place_of, struct_behind, word_of}
 use Rattle.capnp_dynamic_readers.specs.Handles.{list_reader_of, list_set, reader_of, schema_of, type_of}
 use Rattle.capnp_dynamic_readers.specs.declared.dynamic_value.Reader.{Reader as DynamicValue}
 use Rattle.capnp_dynamic_readers.specs.declared.dynamic_value.Reader.TheVariants as dynamic
 use Rattle.capnp_dynamic.specs.declared.dynamic_value.build.Builder.{Builder as BuiltValue}
 use Rattle.capnp_dynamic.specs.declared.dynamic_value.build.Builder.TheVariants as built
 
--- two values are the same: of one variant, with the same number, the same bytes and position, or on the same tree under the
--- same schema or type
+-- two values are the same: of one variant, with the same number, or at the same place of the same message, a struct under
+-- the same schema, a list of the same type, and a text at the same position
 abbrev pub StandsAs : BuiltValue → BuiltValue → Type 0
 StandsAs built.Void built.Void = ⊤
 StandsAs (built.Bool x) (built.Bool y) = x ≡ y
@@ -25,21 +26,23 @@ StandsAs (built.UInt16 x) (built.UInt16 y) = x ≡ y
 StandsAs (built.UInt32 x) (built.UInt32 y) = x ≡ y
 StandsAs (built.UInt64 x) (built.UInt64 y) = x ≡ y
 StandsAs (built.Enum x) (built.Enum y) = x ≡ y
-StandsAs (built.Text x) (built.Text y) = (text_bytes x ≡ text_bytes y) × (position x ≡ position y)
-StandsAs (built.«Data» x) (built.«Data» y) = x.now ≡ y.now
-StandsAs (built.Struct x) (built.Struct y) = (built_schema x ≡ built_schema y) × (built_struct x ≡ built_struct y)
-StandsAs (built.List x) (built.List y) = (built_type x ≡ built_type y) × (built_set x ≡ built_set y) × ((list_behind x).now ≡ (list_behind y).now)
-StandsAs (built.AnyPointer x) (built.AnyPointer y) = (pointer_behind x).now ≡ (pointer_behind y).now
+StandsAs (built.Text x) (built.Text y) = ((text_behind x).now ≡ (text_behind y).now) × (text_word x ≡ text_word y) × (position x ≡ position y)
+StandsAs (built.«Data» x) (built.«Data» y) = ((data_behind x).now ≡ (data_behind y).now) × (data_word x ≡ data_word y)
+StandsAs (built.Struct x) (built.Struct y) = (built_schema x ≡ built_schema y) × (place_of x ≡ place_of y) × ((struct_behind x).now ≡ (struct_behind y).now)
+StandsAs (built.List x) (built.List y) = (built_type x ≡ built_type y) × (built_set x ≡ built_set y) × (word_of x ≡ word_of y) × ((list_behind x).now ≡ (list_behind y).now)
+StandsAs (built.AnyPointer x) (built.AnyPointer y) = ((arena_behind x).now ≡ (arena_behind y).now) × (pointer_word x ≡ pointer_word y)
 StandsAs x y = ⊥
 
--- what a value stands on is what the format lets a tree be; a struct has its schema's sections, and a list elements of its type
+-- a value stands where it is said to; a struct has its schema's sections, and a list elements of its type
 abbrev pub CanBeRead : BuiltValue → Type 0
+CanBeRead (built.Text b) = IsText b
+CanBeRead (built.«Data» b) = IsData b
 CanBeRead (built.Struct s) = IsReady s
 CanBeRead (built.List l) = IsListReady l
-CanBeRead (built.AnyPointer p) = IsWellFormed (pointer_tree p)
+CanBeRead (built.AnyPointer p) = IsPointer p
 CanBeRead v = ⊤
 
--- a reader of a value: of the same variant, and on the same
+-- a reader of a value: of the same variant, and on the same, which is cut off past 65,534 levels
 abbrev pub IsReaderOf : BuiltValue → DynamicValue → Type 0
 IsReaderOf built.Void dynamic.Void = ⊤
 IsReaderOf (built.Bool x) (dynamic.Bool y) = y ≡ x
@@ -53,8 +56,8 @@ IsReaderOf (built.UInt32 x) (dynamic.UInt32 y) = y ≡ x
 IsReaderOf (built.UInt64 x) (dynamic.UInt64 y) = y ≡ x
 IsReaderOf (built.Enum x) (dynamic.Enum y) = y ≡ x
 IsReaderOf (built.Text x) (dynamic.Text y) = y.0.now ≡ text_bytes x
-IsReaderOf (built.«Data» x) (dynamic.«Data» y) = y.now ≡ x.now
-IsReaderOf (built.Struct x) (dynamic.Struct y) = (schema_of y ≡ built_schema x) × (struct_of (reader_of y) ≡ built_struct x) × (struct_levels (reader_of y) ≡ 64)
-IsReaderOf (built.List x) (dynamic.List y) = (type_of y ≡ built_type x) × (list_set y ≡ built_set x) × (list_of (list_reader_of y) ≡ built_reading x) × (list_levels (list_reader_of y) ≡ 64)
-IsReaderOf (built.AnyPointer x) (dynamic.AnyPointer y) = (tree_of (pointer_of y) ≡ pointer_tree x) × (levels_of (pointer_of y) ≡ 64)
+IsReaderOf (built.«Data» x) (dynamic.«Data» y) = y.now ≡ data_bytes x
+IsReaderOf (built.Struct x) (dynamic.Struct y) = (schema_of y ≡ built_schema x) × IsStructCutOf (struct_of (reader_of y)) (built_struct x) × (struct_levels (reader_of y) ≡ 64)
+IsReaderOf (built.List x) (dynamic.List y) = (type_of y ≡ built_type x) × (list_set y ≡ built_set x) × IsCutOf (list_of (list_reader_of y)) (built_reading x) × (list_levels (list_reader_of y) ≡ 64)
+IsReaderOf (built.AnyPointer x) (dynamic.AnyPointer y) = IsCutOf (tree_of (pointer_of y)) (pointer_tree x) × (levels_of (pointer_of y) ≡ 64)
 IsReaderOf x y = ⊥

@@ -1,13 +1,13 @@
 -- What builders hand out of a pointer, an element or a field, and when it can be.
-use Rattle.std.specs.Prelude.{ℕ, ◌≡◌, ⊤, Bool, true, false, cond, None, Some, IsOk, Ok, length}
+use Rattle.std.specs.Prelude.{ℕ, ◌≡◌, ⊤, Bool, true, false, cond, None, Some, IsOk, length}
 use Rattle.capnp_device.specs.declared.error.Error.{Error}
 use Rattle.capnp_wire.specs.Edits.{IsDueRefusal, is_struct, struct_in}
 use Rattle.capnp_wire.specs.Elements.{or_empty}
 use Rattle.capnp_wire.specs.Place.{struct_tree}
 use Rattle.capnp_wire.specs.Reading.{as_data, as_text, element_pointer, element_struct}
 use Rattle.capnp_wire.specs.Tree.{StructTree, Tree, nth_tree}
-use Rattle.capnp_base.specs.AnyPointer.{pointer_tree}
-use Rattle.capnp_base.specs.Text.{position, text_bytes}
+use Rattle.capnp_builders.specs.Blobs.{data_there, position, text_bytes, text_there}
+use Rattle.capnp_builders.specs.Pointers.{pointer_tree}
 use Rattle.capnp_schema.specs.FieldLists.{typed_of}
 use Rattle.capnp_schema.specs.Schema.{Schemas, TypedField, VoidValue, default_of}
 use Rattle.capnp_schema.specs.StructHandles.{number_of, set_of}
@@ -49,8 +49,8 @@ CanBeHanded set t x = ⊤
 -- a value stands on the tree of a pointer of a type: a text that is new writes at its start, and another one after its last
 -- byte; a null list reads as an empty one
 abbrev pub HandsOut : (is_new : Bool) → Schemas → SchemaType → Tree → BuiltValue → Type 0
-HandsOut new set t x (built.Text b) = (TextType ≡ t) × (as_text x ≡ Ok (text_bytes b)) × (position b ≡ cond new 0 (length (text_bytes b)))
-HandsOut new set t x (built.«Data» bytes) = (DataType ≡ t) × (as_data x ≡ Ok bytes.now)
+HandsOut new set t x (built.Text b) = (TextType ≡ t) × (text_there b ≡ x) × (position b ≡ cond new 0 (length (text_bytes b)))
+HandsOut new set t x (built.«Data» bytes) = (DataType ≡ t) × (data_there bytes ≡ x)
 HandsOut new set t x (built.Struct s) = (struct_brand t ≡ Some (number_of (built_schema s))) × (set_of (built_schema s) ≡ set) × (struct_tree (built_struct s) ≡ x)
 HandsOut new set t x (built.List l) = (ListType (built_element l) ≡ t) × (built_set l ≡ set) × (built_elements l ≡ x) × (built_reading l ≡ or_empty (element_size (built_element l)) x)
 HandsOut new set t x (built.AnyPointer p) = (AnyPointerType ≡ t) × (pointer_tree p ≡ x)

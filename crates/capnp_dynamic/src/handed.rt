@@ -1,83 +1,59 @@
 //! What stands at a pointer, handed out under a type: no memory is taken and nothing is refused.
 ghost use Rattle.std.specs.Prelude.{true, cond, IsOk, Ok, ◌≡◌, length};
-ghost use Rattle.capnp_wire.specs.Elements.{built_list, or_empty};
-ghost use Rattle.capnp_wire.specs.Objects.{list_object_tree, object_tree};
-ghost use Rattle.capnp_wire.specs.Reading.{as_data, as_text, is_null_tree};
-ghost use Rattle.capnp_wire.specs.WellFormed.{IsWellFormed};
-ghost use Rattle.capnp_base.specs.Text.{position, text_bytes};
+ghost use Rattle.capnp_wire.specs.Edits.{is_struct, struct_in};
+ghost use Rattle.capnp_wire.specs.Place.{struct_tree};
+ghost use Rattle.capnp_wire.specs.Reading.{as_data, as_text};
+ghost use Rattle.capnp_arena.specs.Forest.{Forest, tree};
+ghost use Rattle.capnp_arena.specs.Built.{part};
+ghost use Rattle.capnp_arena.specs.Segment.{segment};
+ghost use Rattle.capnp_arena.specs.Shape.{shape_at};
+ghost use Rattle.capnp_builders.specs.Blobs.{IsData, IsText, data_behind, data_there, data_word, position, text_behind, text_bytes, text_there, text_word};
 ghost use Rattle.capnp_schema.specs.Entries.{lists_seen};
-ghost use Rattle.capnp_schema.specs.Types.{element_size, is_pointer, seen_type, seen_variant};
-ghost use Rattle.capnp_dynamic.specs.Built.{HoldsElements, built_elements, built_reading, built_set, built_type};
+ghost use Rattle.capnp_schema.specs.StructHandles.{number_of, set_of};
+ghost use Rattle.capnp_schema.specs.Types.{is_pointer, seen_variant};
+ghost use Rattle.capnp_records.specs.Writes.Slots.{Fits};
+ghost use Rattle.capnp_dynamic.specs.Built.{IsReady, built_schema, built_struct, place_of, struct_behind};
 ghost use Rattle.capnp_dynamic.specs.BuiltValues.{CanBeRead};
 ghost use Rattle.capnp_dynamic.specs.Handed.{CanBeHanded, HandsOut};
+ghost use Rattle.capnp_dynamic.specs.Owners.{IsAt};
 
 use crate::dynamic_value::Builder;
 use crate::{dynamic_list, dynamic_struct};
-use capnp_base::introspect::{Type, TypeVariant};
-use capnp_base::{any_pointer, data, text};
+use capnp_arena::handles::PointerBuilder;
+use capnp_base::introspect::TypeVariant;
+use capnp_builders::{any_pointer, data, text};
+use capnp_schema::schema::StructSchema;
 use capnp_schema::set::SchemaSet;
-use capnp_wire::size::{ElementSize, StructSize};
-use capnp_wire::{ListBuilder, PointerBuilder};
 
-/// The text at a pointer, to be written at its start where it is new, and else after its last byte; of a null one of no bytes.
+/// The text at a pointer, to be written at its start where it is new, and else after its last byte; of a null one of no
+/// bytes.
+#[tactic(auto, using(crate::proofs::Readers::bytes_there))]
 fn text_at<'a>(pointer: PointerBuilder<'a>, is_new: bool) -> text::Builder<'a>
-    requires { IsOk (as_text (object_tree pointer.old)) }
-    ensures bytes { as_text (object_tree pointer.old) ≡ Ok (text_bytes result) }
+    requires forest { Forest (segment pointer.arena.now) pointer.at }
+    requires text { IsOk (as_text (tree (segment pointer.arena.now) pointer.at)) }
+    ensures tree { text_there result ≡ tree (segment pointer.entry.arena.now) pointer.entry.at }
+    ensures ready { IsText result }
     ensures position { position result ≡ cond is_new 0 (length (text_bytes result)) }
+    ensures behind { text_behind result ≡ pointer.entry.arena }
+    ensures at { text_word result ≡ pointer.entry.at }
 {
-    let Ok(bytes) = pointer.get_text() else {
-        unreachable!()
+    let end = match pointer.get_text() {
+        Ok(bytes) if !is_new => bytes.len(),
+        _ => 0,
     };
-    let end = if is_new { 0 } else { bytes.len() };
-    text::Builder::with_pos(bytes, end)
+    text::Builder::with_pos(pointer, end)
 }
 
-/// The bytes of the data at a pointer; none of a null.
+/// The data at a pointer; none of a null.
 fn data_at<'a>(pointer: PointerBuilder<'a>) -> data::Builder<'a>
-    requires { IsOk (as_data (object_tree pointer.old)) }
-    ensures { as_data (object_tree pointer.old) ≡ Ok result.now }
+    requires forest { Forest (segment pointer.arena.now) pointer.at }
+    requires data { IsOk (as_data (tree (segment pointer.arena.now) pointer.at)) }
+    ensures tree { data_there result ≡ tree (segment pointer.entry.arena.now) pointer.entry.at }
+    ensures ready { IsData result }
+    ensures behind { data_behind result ≡ pointer.entry.arena }
+    ensures at { data_word result ≡ pointer.entry.at }
 {
-    let Ok(bytes) = pointer.get_data() else {
-        unreachable!()
-    };
-    bytes
-}
-
-/// The list of nothing that a null is got as, by the size of its elements. The pointer stays null.
-fn null_list<'a>(pointer: PointerBuilder<'a>, size: ElementSize) -> ListBuilder<'a>
-    requires { is_null_tree (object_tree pointer.old) ≡ true }
-    ensures now { list_object_tree result.now ≡ object_tree pointer.old }
-    ensures reads { built_list result.now ≡ or_empty size (object_tree pointer.old) }
-{
-    let got = match size {
-        ElementSize::InlineComposite => pointer.get_struct_list(StructSize {
-            data_words: 0,
-            pointers: 0,
-        }),
-        _ => pointer.get_list(size),
-    };
-    let Ok(list) = got else { unreachable!() };
-    list
-}
-
-/// The list at a pointer, of elements of a type; a null is got as an empty one, and stays null.
-#[tactic(auto, using(crate::proofs::ListElements::null_or_list))]
-fn list_at<'a>(
-    pointer: PointerBuilder<'a>,
-    element: Type,
-    set: &'a SchemaSet,
-) -> dynamic_list::Builder<'a>
-    requires { HoldsElements (lists_seen set.now) (seen_type element) (object_tree pointer.old) }
-    ensures element { built_type result ≡ element }
-    ensures set { built_set result ≡ lists_seen set.now }
-    ensures now { built_elements result ≡ object_tree pointer.old }
-    ensures reads { built_reading result ≡ or_empty (element_size (seen_type element)) (object_tree pointer.old) }
-{
-    if pointer.is_list() {
-        return dynamic_list::Builder::new(pointer.list_here(), element, set);
-    }
-    let list = null_list(pointer, element.expected_element_size());
-    dynamic_list::Builder::new(list, element, set)
+    data::Builder::new(pointer)
 }
 
 /// What stands at a pointer, under a type.
@@ -88,21 +64,49 @@ pub(crate) fn hand_out<'a>(
     is_new: bool,
 ) -> Builder<'a>
     requires pointer { is_pointer (seen_variant variant) ≡ true }
-    requires handed { CanBeHanded (lists_seen set.now) (seen_variant variant) (object_tree pointer.old) }
-    requires formed { IsWellFormed (object_tree pointer.old) }
+    requires forest { Forest (segment pointer.arena.now) pointer.at }
+    requires handed { CanBeHanded (lists_seen set.now) (seen_variant variant)
+        (tree (segment pointer.arena.now) pointer.at) }
     ensures ready { CanBeRead result }
-    ensures stands { HandsOut is_new (lists_seen set.now) (seen_variant variant) (object_tree pointer.old) result }
+    ensures stands { HandsOut is_new (lists_seen set.now) (seen_variant variant)
+        (tree (segment pointer.entry.arena.now) pointer.entry.at) result }
+    ensures behind { IsAt pointer.entry.arena pointer.entry.at result }
 {
     match variant {
         TypeVariant::Text => Builder::Text(text_at(pointer, is_new)),
         TypeVariant::Data => Builder::Data(data_at(pointer)),
-        TypeVariant::Struct(raw) => {
-            let builder = pointer.struct_here();
-            let schema = set.struct_schema(raw.number);
-            Builder::Struct(dynamic_struct::Builder { builder, schema })
-        }
-        TypeVariant::List(element) => Builder::List(list_at(pointer, element, set)),
+        TypeVariant::Struct(raw) => Builder::Struct(struct_at(
+            pointer,
+            set.struct_schema(raw.number),
+        )),
+        TypeVariant::List(element) => Builder::List(dynamic_list::Builder::new(
+            pointer, element, set,
+        )),
         TypeVariant::AnyPointer => Builder::AnyPointer(any_pointer::Builder::new(pointer)),
         _ => unreachable!(),
+    }
+}
+
+/// The struct at a pointer, under a schema of which it has the sections.
+#[tactic(auto, using(crate::proofs::Readers::struct_here, crate::proofs::Standing::here_stands))]
+fn struct_at<'a>(
+    pointer: PointerBuilder<'a>,
+    schema: StructSchema<'a>,
+) -> dynamic_struct::Builder<'a>
+    requires forest { Forest (segment pointer.arena.now) pointer.at }
+    requires there { is_struct (tree (segment pointer.arena.now) pointer.at) ≡ true }
+    requires fits { Fits (set_of schema) (number_of schema) (struct_in (tree (segment pointer.arena.now) pointer.at)) }
+    ensures schema { built_schema result ≡ schema.entry }
+    ensures tree { struct_tree (built_struct result) ≡ tree (segment pointer.entry.arena.now) pointer.entry.at }
+    ensures ready { IsReady result }
+    ensures behind { struct_behind result ≡ pointer.entry.arena }
+    ensures place { shape_at (segment pointer.entry.arena.now) pointer.entry.at ≡ part (place_of result) }
+{
+    let PointerBuilder { arena, at } = pointer;
+    let place = arena.struct_here(at);
+    dynamic_struct::Builder {
+        arena,
+        place,
+        schema,
     }
 }

@@ -1,5 +1,5 @@
-//! What the calls of readers answer after those of builders. The premises of the laws are the builders' clauses, so that these
-//! and a law together say what a reader of the struct answers, with any number of levels left.
+//! What the calls of readers answer after those of builders. The premises of the laws are the builders' clauses, so
+//! that these and a law together say what a reader of the struct answers, with any number of levels left.
 ghost use Rattle.capnp_dynamic.specs.ReadBack.{ClearIsActive, ClearIsGot, GroupStarts, OtherIsGot, OtherIsThere, SetIsActive, SetIsGot};
 
 use crate::dynamic_value;
@@ -7,8 +7,9 @@ use capnp_schema::schema::Field;
 use capnp_slots::laws::{groups_are_started, others_are_read, sets_are_read, starts_are_read};
 use capnp_slots::source::Source;
 
-/// After a set of a slot of a kind, which Void and untyped pointers have none of, to a number, a truth value, an enum, a text
-/// or data, `get` gives this value; an enum's under the field's own enum. A member that was set is the active one.
+/// After a set of a slot of a kind, which Void and untyped pointers have none of, to a number, a truth value, an enum,
+/// a text or data, `get` gives this value; an enum's under the field's own enum. A member that was set is the active
+/// one.
 pub fn sets_are_got(field: Field<'_>, value: dynamic_value::Reader<'_>)
     ensures value { SetIsGot field.entry value.entry }
     ensures active { SetIsActive field.entry value.entry }
@@ -33,8 +34,8 @@ pub fn inits_are_got(field: Field<'_>)
     groups_are_started(field);
 }
 
-/// A write of a field changes neither what `get` gives of another one of the struct nor what `has` does, unless both are
-/// members.
+/// A write of a field changes neither what `get` gives of another one of the struct nor what `has` does, unless both
+/// are members.
 pub fn others_are_got(field: Field<'_>, other: Field<'_>)
     ensures value { OtherIsGot field.entry other.entry }
     ensures there { OtherIsThere field.entry other.entry }

@@ -1,5 +1,5 @@
-//! Parts of structs and lists, taken one after another without a condition but that a field belongs to its struct: of those
-//! that are read here, of those that are built in `build`.
+//! Parts of structs and lists, taken one after another without a condition but that a field belongs to its struct: of
+//! those that are read here, of those that are built in `build`.
 
 pub mod build;
 

@@ -66,7 +66,8 @@ fn list_default(kind: &FieldKind) -> Option<&[u8]>
 /// The text, or its default's bytes.
 #[tactic(auto, using(crate::proofs::Pointed::text_null, crate::proofs::Pointed::text_there))]
 pub(crate) fn read_text<'a>(kind: &'a FieldKind, pointer: &PointerReader<'a>) -> Result<&'a [u8]>
-    ensures { (set : Schemas) → text_answered result ≡ pointer_read set (kind_default (seen_kind kind.now)) TextType pointer.now }
+    ensures { (set : Schemas) → text_answered result
+        ≡ pointer_read set (kind_default (seen_kind kind.now)) TextType pointer.now }
 {
     if pointer.is_null() {
         return Ok(text_default(kind));
@@ -77,7 +78,8 @@ pub(crate) fn read_text<'a>(kind: &'a FieldKind, pointer: &PointerReader<'a>) ->
 /// The data, or its default's bytes.
 #[tactic(auto, using(crate::proofs::Pointed::data_null, crate::proofs::Pointed::data_there))]
 pub(crate) fn read_data<'a>(kind: &'a FieldKind, pointer: &PointerReader<'a>) -> Result<&'a [u8]>
-    ensures { (set : Schemas) → data_answered result ≡ pointer_read set (kind_default (seen_kind kind.now)) DataType pointer.now }
+    ensures { (set : Schemas) → data_answered result
+        ≡ pointer_read set (kind_default (seen_kind kind.now)) DataType pointer.now }
 {
     if pointer.is_null() {
         return Ok(data_default(kind));
@@ -91,7 +93,8 @@ pub(crate) fn read_struct<'a>(
     kind: &'a FieldKind,
     pointer: &PointerReader<'a>,
 ) -> Result<StructReader<'a>>
-    ensures { (set : Schemas) (b g : ℕ) → struct_answered set b result ≡ pointer_read set (kind_default (seen_kind kind.now)) (StructType b g) pointer.now }
+    ensures { (set : Schemas) (b g : ℕ) → struct_answered set b result
+        ≡ pointer_read set (kind_default (seen_kind kind.now)) (StructType b g) pointer.now }
 {
     let here = pointer.get_struct()?;
     if !pointer.is_null() {
@@ -153,7 +156,8 @@ pub(crate) fn plain_list<'a>(
     size: ElementSize,
     pointer: &PointerReader<'a>,
 ) -> Result<ListReader<'a>>
-    ensures { (set : Schemas) (e : SchemaType) → element_size e ≡ size → list_answered set e result ≡ pointer_read set VoidValue (ListType e) pointer.now }
+    ensures { (set : Schemas) (e : SchemaType) → element_size e ≡ size
+        → list_answered set e result ≡ pointer_read set VoidValue (ListType e) pointer.now }
 {
     pointer.get_list(size)
 }
@@ -161,7 +165,8 @@ pub(crate) fn plain_list<'a>(
 /// The struct, one of size zero for a null.
 #[tactic(auto, using(crate::proofs::Pointed::struct_plain))]
 pub(crate) fn plain_struct<'a>(pointer: &PointerReader<'a>) -> Result<StructReader<'a>>
-    ensures { (set : Schemas) (b g : ℕ) → struct_answered set b result ≡ pointer_read set VoidValue (StructType b g) pointer.now }
+    ensures { (set : Schemas) (b g : ℕ) → struct_answered set b result
+        ≡ pointer_read set VoidValue (StructType b g) pointer.now }
 {
     pointer.get_struct()
 }

@@ -4,13 +4,11 @@ ghost use Rattle.capnp_schema.specs.Entries.{lists_seen};
 use crate::dynamic_value;
 use crate::elements::read_element;
 use crate::printer::print_debug;
-use capnp_base::any_pointer;
 use capnp_base::introspect::Type;
-use capnp_base::traits::{IndexMove, ListIter, SetterInput};
+use capnp_base::traits::{IndexMove, ListIter};
 use capnp_schema::set::SchemaSet;
+use capnp_wire::ListReader;
 use capnp_wire::error::Result;
-use capnp_wire::laws::list_is_well_formed;
-use capnp_wire::{ListReader, PointerBuilder};
 use std::fmt;
 
 /// A list that is read: its elements, their type, and the set that the type is of.
@@ -25,7 +23,7 @@ impl<'a> Reader<'a> {
     ghost use Rattle.std.specs.Prelude.{IfOk, IsTrue, ◌≡◌, ◌↔◌};
     ghost use Rattle.capnp_wire.specs.Standing.{list_of};
     ghost use Rattle.capnp_wire.specs.Reading.{list_length};
-    ghost use Rattle.capnp_base.specs.ListIter.{source, to_come};
+    ghost use Rattle.capnp_base.specs.IndexIter.{source, to_come};
     ghost use Rattle.capnp_base.specs.Taking.{indices};
     ghost use Rattle.capnp_schema.specs.Accepted.{NamesEntries};
     ghost use Rattle.capnp_dynamic_readers.specs.Handles.{element_of, list_reader_of, list_set, type_of};
@@ -79,12 +77,13 @@ impl<'a> Reader<'a> {
     ///
     /// A struct needs a level of the list and leaves one fewer, and so does a list behind a pointer; a pointer that is
     /// read out of a struct is entered through that. Refused with `TooDeep` where no level is left, and as the reads of
-    /// the element's type: with the number of a pointer that can't be followed, `WrongPointerKind`, `WrongElementSize` or
-    /// `TextNotTerminated`.
+    /// the element's type: with the number of a pointer that can't be followed, `WrongPointerKind`, `WrongElementSize`
+    /// or `TextNotTerminated`.
     pub fn get(self, index: u32) -> Result<dynamic_value::Reader<'a>>
         ensures value { answered result ≡ element_seen self.entry index }
         ensures under { IfOk result (IsUnder (list_set self.entry) (element_of self.entry)) }
-        ensures typed { NamesEntries (list_set self.entry) (element_of self.entry) → IfOk result (IsOf (list_set self.entry) (element_of self.entry)) }
+        ensures typed { NamesEntries (list_set self.entry) (element_of self.entry)
+            → IfOk result (IsOf (list_set self.entry) (element_of self.entry)) }
     {
         read_element(&self.reader, self.set, self.element_type.which(), index)
     }
@@ -120,7 +119,7 @@ impl<'a> IndexMove<u32, Result<dynamic_value::Reader<'a>>> for Reader<'a> {
 impl<'a> IntoIterator for Reader<'a> {
     ghost use Rattle.capnp_wire.specs.Standing.{list_of};
     ghost use Rattle.capnp_wire.specs.Reading.{list_length};
-    ghost use Rattle.capnp_base.specs.ListIter.{GoesOverAll};
+    ghost use Rattle.capnp_base.specs.IndexIter.{GoesOverAll};
     ghost use Rattle.capnp_dynamic_readers.specs.Handles.{list_reader_of};
 
     type Item = Result<dynamic_value::Reader<'a>>;
@@ -138,25 +137,5 @@ impl fmt::Debug for Reader<'_> {
     /// The printed form of the list.
     fn fmt<W: fmt::Write>(&self, f: &mut fmt::Formatter<W>) -> fmt::Result {
         print_debug(dynamic_value::Reader::List(*self), f)
-    }
-}
-
-impl<'a> SetterInput<any_pointer::Owned> for Reader<'a> {
-    ghost use Rattle.capnp_wire.specs.Edits.{IsCopyRefusal};
-    ghost use Rattle.capnp_wire.specs.Standing.{list_of};
-    ghost use Rattle.capnp_wire.specs.Words.{first_fault};
-    ghost use Rattle.capnp_dynamic_readers.specs.Handles.{list_reader_of};
-
-    ghost set_tree = { λ input. list_of (list_reader_of input) };
-
-    ghost set_refusal = { λ input error. IsCopyRefusal error (first_fault (list_of (list_reader_of input))) };
-
-    fn set_pointer_builder(
-        builder: PointerBuilder<'_>,
-        input: Reader<'a>,
-        _canonicalize: bool,
-    ) -> Result<()> {
-        list_is_well_formed(&input.reader);
-        builder.set_list(&input.reader)
     }
 }

@@ -4,13 +4,11 @@ use crate::dynamic_value;
 use crate::placed::{has_planned, is_member_active, read_placed};
 use crate::presence::active_member;
 use crate::printer::print_debug;
-use capnp_base::any_pointer;
-use capnp_base::traits::{OwnedStruct, SetterInput};
+use capnp_base::traits::OwnedStruct;
 use capnp_schema::schema::{Field, StructSchema};
+use capnp_wire::StructReader;
 use capnp_wire::error::Result;
-use capnp_wire::laws::{copied_structs_are_well_formed, struct_is_well_formed};
 use capnp_wire::size::MessageSize;
-use capnp_wire::{PointerBuilder, StructReader};
 use std::fmt;
 
 /// A struct that is read: its sections, and its schema.
@@ -59,11 +57,13 @@ impl<'a> Reader<'a> {
         self.reader
     }
 
-    /// The size of the struct with all that its pointers lead to, as `StructReader::total_size`, and refused as that is.
+    /// The size of the struct with all that its pointers lead to, as `StructReader::total_size`, and refused as that
+    /// is.
     pub fn total_size(&self) -> Result<MessageSize>
         ensures size { IfOk result (λ size. IsSize size (first_fault_of_all (struct_of (reader_of self.now)).pointers)
             (words_of_struct (struct_of (reader_of self.now)))) }
-        ensures refused { IfErr result (λ error. IsSizeRefusal error (first_fault_of_all (struct_of (reader_of self.now)).pointers)
+        ensures refused { IfErr result (λ error. IsSizeRefusal error
+            (first_fault_of_all (struct_of (reader_of self.now)).pointers)
             (words_of_struct (struct_of (reader_of self.now)))) }
     {
         self.reader.total_size()
@@ -76,21 +76,23 @@ impl<'a> Reader<'a> {
         self.schema
     }
 
-    /// What a field has, or its default where that is missing: a null text or data is its default or empty, a null struct
-    /// or list its default's or an empty one, a null untyped pointer null. A group is the same struct under the group's
-    /// schema, with the levels of this one. Whether a member is active is not asked: the slot is read as its bits stand.
+    /// What a field has, or its default where that is missing: a null text or data is its default or empty, a null
+    /// struct or list its default's or an empty one, a null untyped pointer null. A group is the same struct under the
+    /// group's schema, with the levels of this one. Whether a member is active is not asked: the slot is read as its
+    /// bits stand.
     ///
-    /// A struct or list needs a level and leaves one fewer; a null one whose default is read needs it for itself, and the
-    /// default is entered on levels of its own. Refused with `TooDeep` where none is left, with the number of a pointer
-    /// that can't be followed, and with `WrongPointerKind`, `WrongElementSize` or `TextNotTerminated` where what stands
-    /// there is not read as the field's type.
+    /// A struct or list needs a level and leaves one fewer; a null one whose default is read needs it for itself, and
+    /// the default is entered on levels of its own. Refused with `TooDeep` where none is left, with the number of a
+    /// pointer that can't be followed, and with `WrongPointerKind`, `WrongElementSize` or `TextNotTerminated` where
+    /// what stands there is not read as the field's type.
     ///
     /// The field has to belong to the schema.
     #[inline(always)]
     pub fn get(self, field: Field<'a>) -> Result<dynamic_value::Reader<'a>>
         requires { BelongsTo field (schema_of self) }
         ensures value { answered result ≡ field_seen self.entry (index_of field.entry) }
-        ensures typed { IfOk result (IsOf (set_of (schema_of self.entry)) (struct_field (schema_of self.entry) (index_of field.entry)).type) }
+        ensures typed { IfOk result (IsOf (set_of (schema_of self.entry))
+            (struct_field (schema_of self.entry) (index_of field.entry)).type) }
     {
         let schema = field.get_containing_struct();
         let set = schema.get_set();
@@ -102,8 +104,10 @@ impl<'a> Reader<'a> {
 
     /// What the field of a name has, as `get`. Refused with `FieldNotFound` where there is none of that name.
     pub fn get_named(self, field_name: &str) -> Result<dynamic_value::Reader<'a>>
-        ensures value { answered result ≡ found_seen self.entry (field_named (struct_records (schema_of self.entry)) field_name.now) }
-        ensures typed { IfOk result (IsOfFound self.entry (field_named (struct_records (schema_of self.entry)) field_name.now)) }
+        ensures value { answered result ≡ found_seen self.entry
+            (field_named (struct_records (schema_of self.entry)) field_name.now) }
+        ensures typed { IfOk result (IsOfFound self.entry
+            (field_named (struct_records (schema_of self.entry)) field_name.now)) }
     {
         let field = self.schema.get_field_by_name(field_name)?;
         self.get(field)
@@ -117,12 +121,13 @@ impl<'a> Reader<'a> {
         Ok(active_member(self.schema, &self.reader))
     }
 
-    /// Whether a field may be read as it stands: false for a member that is not active, else true. `get` does not ask it.
-    /// The field has to belong to the schema.
+    /// Whether a field may be read as it stands: false for a member that is not active, else true. `get` does not ask
+    /// it. The field has to belong to the schema.
     #[inline(always)]
     pub fn is_active(&self, field: Field<'a>) -> bool
         requires { BelongsTo field (schema_of self.now) }
-        ensures { result ≡ not (is_inactive (record_seen self.now) (struct_field (schema_of self.now) (index_of field.entry)).field (index_of field.entry)) }
+        ensures { result ≡ not (is_inactive (record_seen self.now)
+            (struct_field (schema_of self.now) (index_of field.entry)).field (index_of field.entry)) }
     {
         // What every set is known to meet is known of it here.
         let _schema = field.get_containing_struct();
@@ -135,7 +140,8 @@ impl<'a> Reader<'a> {
     #[inline(always)]
     pub fn has(&self, field: Field<'a>) -> Result<bool>
         requires { BelongsTo field (schema_of self.now) }
-        ensures { result ≡ Ok (has_of (record_seen self.now) (struct_field (schema_of self.now) (index_of field.entry)).field (index_of field.entry)) }
+        ensures { result ≡ Ok (has_of (record_seen self.now)
+            (struct_field (schema_of self.now) (index_of field.entry)).field (index_of field.entry)) }
     {
         // What every set is known to meet is known of it here.
         let _schema = field.get_containing_struct();
@@ -146,7 +152,8 @@ impl<'a> Reader<'a> {
 
     /// Whether the field of a name is there, as `has`. Refused with `FieldNotFound` where there is none of that name.
     pub fn has_named(&self, field_name: &str) -> Result<bool>
-        ensures { kind_read result ≡ found_has self.now (field_named (struct_records (schema_of self.now)) field_name.now) }
+        ensures { kind_read result ≡ found_has self.now
+            (field_named (struct_records (schema_of self.now)) field_name.now) }
     {
         let field = self.schema.get_field_by_name(field_name)?;
         self.has(field)
@@ -165,27 +172,5 @@ impl fmt::Debug for Reader<'_> {
     /// The printed form of the struct.
     fn fmt<W: fmt::Write>(&self, f: &mut fmt::Formatter<W>) -> fmt::Result {
         print_debug(dynamic_value::Reader::Struct(*self), f)
-    }
-}
-
-impl<'a> SetterInput<any_pointer::Owned> for Reader<'a> {
-    ghost use Rattle.capnp_wire.specs.Edits.{IsCopyRefusal, rounded};
-    ghost use Rattle.capnp_wire.specs.Place.{struct_tree};
-    ghost use Rattle.capnp_wire.specs.Standing.{struct_of};
-    ghost use Rattle.capnp_wire.specs.Words.{first_fault_of_all};
-    ghost use Rattle.capnp_dynamic_readers.specs.Handles.{reader_of};
-
-    ghost set_tree = { λ input. struct_tree (rounded (struct_of (reader_of input))) };
-
-    ghost set_refusal = { λ input error. IsCopyRefusal error (first_fault_of_all (struct_of (reader_of input)).pointers) };
-
-    fn set_pointer_builder(
-        builder: PointerBuilder<'_>,
-        input: Reader<'a>,
-        _canonicalize: bool,
-    ) -> Result<()> {
-        struct_is_well_formed(&input.reader);
-        copied_structs_are_well_formed();
-        builder.set_struct(&input.reader)
     }
 }

@@ -57,7 +57,8 @@ impl<'a> Enum<'a> {
 
     /// The enumerant of that number; none from the count of enumerants on. The answer is always Ok.
     pub fn get_enumerant(self) -> Result<Option<Enumerant<'a>>>
-        ensures { IsOkAnd result (λ o. MatchOption o (length (enum_in (enum_of self.entry)).enumerants ≤ number_in self.entry)
+        ensures { IsOkAnd result (λ o. MatchOption o
+            (length (enum_in (enum_of self.entry)).enumerants ≤ number_in self.entry)
             (IsEnumerantOf (enum_of self.entry) (number_in self.entry))) }
     {
         let enumerants = self.schema.get_enumerants()?;
@@ -114,12 +115,12 @@ pub trait DowncastReader<'a>: Sized {
 }
 
 impl<'a> Reader<'a> {
-    /// The value of a record, as a default or an annotation has it, under a type of the set: a void, a truth value, a number,
-    /// a text or data is answered whatever the type, and an enum, a struct, a list and an untyped pointer under their type.
-    /// Each of them refused as `TypeMismatch` under another type.
+    /// The value of a record, as a default or an annotation has it, under a type of the set: a void, a truth value, a
+    /// number, a text or data is answered whatever the type, and an enum, a struct, a list and an untyped pointer under
+    /// their type. Each of them refused as `TypeMismatch` under another type.
     ///
-    /// A struct or list is entered as one behind a pointer is, and refused as that is. A type that names a struct or enum past
-    /// the set's last is one without fields or enumerants.
+    /// A struct or list is entered as one behind a pointer is, and refused as that is. A type that names a struct or
+    /// enum past the set's last is one without fields or enumerants.
     pub fn new(set: &'a SchemaSet, value: Value<'a>, value_type: Type) -> Result<Reader<'a>>
         ensures value { answered result ≡ view_read (lists_seen set.now) value.entry (seen_type value_type) }
         ensures typed { NamesEntries (lists_seen set.now) (seen_type value_type)

@@ -19,8 +19,8 @@ use capnp_schema::set::SchemaSet;
 use capnp_wire::ListReader;
 use capnp_wire::error::Result;
 
-/// An element under a type: a number as it stands, an enum, text, data, struct, list or untyped pointer as the read of an
-/// element answers it. Past the end of the list it is that of a null element.
+/// An element under a type: a number as it stands, an enum, text, data, struct, list or untyped pointer as the read of
+/// an element answers it. Past the end of the list it is that of a null element.
 ///
 /// Refused as the read of an element of that type is.
 pub fn read_element<'a>(
@@ -32,7 +32,8 @@ pub fn read_element<'a>(
     ensures value { answered result ≡ read_of (lists_seen set.now) VoidValue (seen_variant variant)
         (element_read (lists_seen set.now) (list_of list.now) (list_levels list.now) (seen_variant variant) index) }
     ensures under { IfOk result (IsUnder (lists_seen set.now) (seen_variant variant)) }
-    ensures typed { NamesEntries (lists_seen set.now) (seen_variant variant) → IfOk result (IsOf (lists_seen set.now) (seen_variant variant)) }
+    ensures typed { NamesEntries (lists_seen set.now) (seen_variant variant)
+        → IfOk result (IsOf (lists_seen set.now) (seen_variant variant)) }
 {
     match variant {
         TypeVariant::Void => Ok(Value::Void),

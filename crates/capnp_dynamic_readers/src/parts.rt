@@ -1,5 +1,5 @@
-//! Parts of structs and lists that are read, taken one after another without a condition but that a field belongs to its
-//! struct.
+//! Parts of structs and lists that are read, taken one after another without a condition but that a field belongs to
+//! its struct.
 ghost use Rattle.std.specs.Prelude.{IfErr, IfOk, ◌≡◌};
 ghost use Rattle.capnp_schema.specs.Accepted.{NamesEntries};
 ghost use Rattle.capnp_schema.specs.FieldLists.{index_of};
@@ -51,14 +51,15 @@ pub fn struct_in<'a>(
     ensures value { IfOk result (λ s. value.Struct (record_seen s) ≡ field_seen reader.entry (index_of field.entry)) }
     ensures typed { IfOk result (λ s. IsOf (set_of (schema_of reader.entry))
         (struct_field (schema_of reader.entry) (index_of field.entry)).type (dynamic.Struct s)) }
-    ensures refused { IfErr result (λ e. value.Fault e.kind ≡ only_struct (field_seen reader.entry (index_of field.entry))) }
+    ensures refused { IfErr result (λ e. value.Fault e.kind
+        ≡ only_struct (field_seen reader.entry (index_of field.entry))) }
 {
     let part = reader.get(field)?;
     struct_of(part)
 }
 
-/// The struct or group that the field of a name has. Refused as the read of the field of that name, and with `TypeMismatch`
-/// exactly where that answers a value of another kind.
+/// The struct or group that the field of a name has. Refused as the read of the field of that name, and with
+/// `TypeMismatch` exactly where that answers a value of another kind.
 pub fn struct_named<'a>(
     reader: dynamic_struct::Reader<'a>,
     name: &str,
@@ -74,8 +75,8 @@ pub fn struct_named<'a>(
     struct_of(part)
 }
 
-/// The list that the field of a name has. Refused as the read of the field of that name, and with `TypeMismatch` exactly
-/// where that answers a value of another kind.
+/// The list that the field of a name has. Refused as the read of the field of that name, and with `TypeMismatch`
+/// exactly where that answers a value of another kind.
 pub fn list_named<'a>(
     reader: dynamic_struct::Reader<'a>,
     name: &str,

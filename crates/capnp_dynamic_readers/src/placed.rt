@@ -41,7 +41,8 @@ fn read_bits<'a>(
     requires mask { mask < 2 ^ width (seen_variant variant) }
     ensures value { answered result ≡ number_value (seen_variant variant)
         (bit_xor (bits_at (struct_of reader.now).bytes start (width (seen_variant variant))) mask) }
-    ensures typed { NamesEntries (lists_seen set.now) (seen_variant variant) → IfOk result (IsOf (lists_seen set.now) (seen_variant variant)) }
+    ensures typed { NamesEntries (lists_seen set.now) (seen_variant variant)
+        → IfOk result (IsOf (lists_seen set.now) (seen_variant variant)) }
 {
     match variant {
         TypeVariant::Bool => Ok(Value::Bool(bit_at(reader, start, mask))),
@@ -70,8 +71,10 @@ fn read_pointer<'a>(
     pointer: PointerReader<'a>,
 ) -> Result<Value<'a>>
     requires { is_pointer (seen_variant variant) ≡ true }
-    ensures value { answered result ≡ pointer_read (lists_seen set.now) (kind_default (seen_kind kind.now)) (seen_variant variant) pointer.entry }
-    ensures typed { NamesEntries (lists_seen set.now) (seen_variant variant) → IfOk result (IsOf (lists_seen set.now) (seen_variant variant)) }
+    ensures value { answered result ≡ pointer_read (lists_seen set.now) (kind_default (seen_kind kind.now))
+        (seen_variant variant) pointer.entry }
+    ensures typed { NamesEntries (lists_seen set.now) (seen_variant variant)
+        → IfOk result (IsOf (lists_seen set.now) (seen_variant variant)) }
 {
     match variant {
         TypeVariant::Text => Ok(Value::Text(text::Reader(read_text(kind, &pointer)?))),
@@ -101,9 +104,11 @@ pub(crate) fn read_placed<'a>(
     place: Place,
 ) -> Result<Value<'a>>
     requires { IsSound (lists_seen set.now) (seen_variant variant) place }
-    ensures value { answered result ≡ placed_read (lists_seen set.now) (Left (struct_levels reader.now)) (struct_of reader.now)
+    ensures value { answered result ≡ placed_read (lists_seen set.now) (Left (struct_levels reader.now))
+        (struct_of reader.now)
         (kind_default (seen_kind kind.now)) (seen_variant variant) place }
-    ensures typed { NamesEntries (lists_seen set.now) (seen_variant variant) → IfOk result (IsOf (lists_seen set.now) (seen_variant variant)) }
+    ensures typed { NamesEntries (lists_seen set.now) (seen_variant variant)
+        → IfOk result (IsOf (lists_seen set.now) (seen_variant variant)) }
 {
     match place {
         Place::Nothing => Ok(Value::Void),

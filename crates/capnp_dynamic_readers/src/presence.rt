@@ -8,7 +8,8 @@ use capnp_schema::plan::Place;
 use capnp_schema::schema::{Field, StructSchema};
 use capnp_wire::StructReader;
 
-/// The member whose discriminant value stands in a struct under a schema; none without a union or for an unknown number.
+/// The member whose discriminant value stands in a struct under a schema; none without a union or for an unknown
+/// number.
 #[inline(always)]
 pub fn active_member<'s>(schema: StructSchema<'s>, reader: &StructReader<'_>) -> Option<Field<'s>>
     ensures { IsActiveMember schema.entry (struct_of reader.now) result }

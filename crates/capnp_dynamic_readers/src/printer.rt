@@ -20,13 +20,13 @@ use std::fmt;
 
 /// Appends the text of a value, on one line or on lines indented by two spaces for each bracket around them.
 ///
-/// A struct is `(name = value, ..)`: the fields that are there by index, and the active member before the first non-union
-/// field of greater index, a member of discriminant value 0 where it is there and every other one always. A list is
-/// `[value, ..]`, a text is quoted, data is in hexadecimal, an enum is its enumerant's name or its number, and an untyped
-/// pointer is `<opaque pointer>`.
+/// A struct is `(name = value, ..)`: the fields that are there by index, and the active member before the first
+/// non-union field of greater index, a member of discriminant value 0 where it is there and every other one always. A
+/// list is `[value, ..]`, a text is quoted, data is in hexadecimal, an enum is its enumerant's name or its number, and
+/// an untyped pointer is `<opaque pointer>`.
 ///
-/// A struct or list takes a level of 64, a group none. Refused with the number of the first value in the text's order that
-/// can't be read, with `TooDeep` where no level is left, and with `OutOfMemory`; the string is then as it was.
+/// A struct or list takes a level of 64, a group none. Refused with the number of the first value in the text's order
+/// that can't be read, with `TooDeep` where no level is left, and with `OutOfMemory`; the string is then as it was.
 ///
 /// # Example
 ///
@@ -35,7 +35,8 @@ use std::fmt;
 /// print(Value::Struct(seen), out, false)
 /// ```
 pub fn print(value: dynamic_value::Reader<'_>, out: &mut String, indented: bool) -> Result<()>
-    ensures printed { OnOk result (IsAppended (string_bytes out.old) (printed_text indented value.entry) (string_bytes out.new)) }
+    ensures printed { OnOk result (IsAppended (string_bytes out.old) (printed_text indented value.entry)
+        (string_bytes out.new)) }
     ensures refused { IfErr result (λ e. e.kind ≢ OutOfMemory → printed_text indented value.entry ≡ Err e.kind) }
     ensures unchanged { OnErr result (string_bytes out.new ≡ string_bytes out.old) }
 {
@@ -46,8 +47,8 @@ pub fn print(value: dynamic_value::Reader<'_>, out: &mut String, indented: bool)
     }
 }
 
-/// Writes the text of a value to a formatter: on lines by `{:#?}`, and else on one line. A refusal comes after a beginning of
-/// the text. It takes no memory.
+/// Writes the text of a value to a formatter: on lines by `{:#?}`, and else on one line. A refusal comes after a
+/// beginning of the text. It takes no memory.
 pub(crate) fn print_debug<W: fmt::Write>(
     value: Value<'_>,
     f: &mut fmt::Formatter<W>,

@@ -51,7 +51,8 @@ pub(crate) fn read_view<'a>(
 /// A number under an enum's type.
 fn view_enum<'a>(set: &'a SchemaSet, value: u16, variant: TypeVariant) -> Result<Reader<'a>>
     ensures value { answered result ≡ view_read (lists_seen set.now) (view.Enum value) (seen_variant variant) }
-    ensures typed { NamesEntries (lists_seen set.now) (seen_variant variant) → IfOk result (IsOf (lists_seen set.now) (seen_variant variant)) }
+    ensures typed { NamesEntries (lists_seen set.now) (seen_variant variant)
+        → IfOk result (IsOf (lists_seen set.now) (seen_variant variant)) }
 {
     let TypeVariant::Enum(raw) = variant else {
         return Err(Error::type_mismatch());
@@ -65,8 +66,10 @@ fn view_struct<'a>(
     pointer: PointerReader<'a>,
     variant: TypeVariant,
 ) -> Result<Reader<'a>>
-    ensures value { answered result ≡ view_read (lists_seen set.now) (view.Struct pointer.entry) (seen_variant variant) }
-    ensures typed { NamesEntries (lists_seen set.now) (seen_variant variant) → IfOk result (IsOf (lists_seen set.now) (seen_variant variant)) }
+    ensures value { answered result ≡ view_read (lists_seen set.now) (view.Struct pointer.entry)
+        (seen_variant variant) }
+    ensures typed { NamesEntries (lists_seen set.now) (seen_variant variant)
+        → IfOk result (IsOf (lists_seen set.now) (seen_variant variant)) }
 {
     let TypeVariant::Struct(raw) = variant else {
         return Err(Error::type_mismatch());
@@ -83,7 +86,8 @@ fn view_list<'a>(
     variant: TypeVariant,
 ) -> Result<Reader<'a>>
     ensures value { answered result ≡ view_read (lists_seen set.now) (view.List pointer.entry) (seen_variant variant) }
-    ensures typed { NamesEntries (lists_seen set.now) (seen_variant variant) → IfOk result (IsOf (lists_seen set.now) (seen_variant variant)) }
+    ensures typed { NamesEntries (lists_seen set.now) (seen_variant variant)
+        → IfOk result (IsOf (lists_seen set.now) (seen_variant variant)) }
 {
     let TypeVariant::List(element_type) = variant else {
         return Err(Error::type_mismatch());
@@ -99,8 +103,10 @@ fn view_untyped<'a>(
     pointer: PointerReader<'a>,
     variant: TypeVariant,
 ) -> Result<Reader<'a>>
-    ensures value { answered result ≡ view_read (lists_seen set.now) (view.AnyPointer pointer.entry) (seen_variant variant) }
-    ensures typed { NamesEntries (lists_seen set.now) (seen_variant variant) → IfOk result (IsOf (lists_seen set.now) (seen_variant variant)) }
+    ensures value { answered result ≡ view_read (lists_seen set.now) (view.AnyPointer pointer.entry)
+        (seen_variant variant) }
+    ensures typed { NamesEntries (lists_seen set.now) (seen_variant variant)
+        → IfOk result (IsOf (lists_seen set.now) (seen_variant variant)) }
 {
     match variant {
         TypeVariant::AnyPointer => Ok(Reader::AnyPointer(any_pointer::Reader::new(pointer))),

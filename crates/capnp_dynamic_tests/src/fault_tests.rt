@@ -95,8 +95,8 @@ fn lists_of_each_kind_as_each_other(rt: HostRuntime) {
     rows_hold(&rt, rt.alloc(), &LIST_ROWS);
 }
 
-/// A capability before a text that does not end in a zero; the same with a null in its place; and as many elements as the
-/// format holds.
+/// A capability before a text that does not end in a zero; the same with a null in its place; and as many elements as
+/// the format holds.
 static LISTS_ROWS: [(&str, &str, &str); 3] = [
     (
         "lists capability_before_text",
@@ -120,8 +120,8 @@ fn lists_beside_what_is_refused(rt: HostRuntime) {
     rows_hold(&rt, rt.alloc(), &LISTS_ROWS);
 }
 
-/// A message of a chain of 65 structs, each right after its pointer. The number of each is how many follow it and it, but
-/// that of the first is 5.
+/// A message of a chain of 65 structs, each right after its pointer. The number of each is how many follow it and it,
+/// but that of the first is 5.
 fn chain(alloc: Global) -> Result<Vec<u8>> {
     let mut bytes = Vec::new(alloc);
     bytes.extend_from_slice(&[

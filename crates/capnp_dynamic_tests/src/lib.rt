@@ -1,8 +1,8 @@
 //! The tests of reads of structs, lists and values by the public calls of `capnp_dynamic`.
 //!
-//! They are rows of text, which `script` reads: a struct and a message, questions as `get items/1/a`, and their answers.
-//! They read the worked messages under structs of the built-in set, which `capnp_schema::builtin::new_set` makes, and
-//! messages that the public tool made of a struct with a field of every kind.
+//! They are rows of text, which `script` reads: a struct and a message, questions as `get items/1/a`, and their
+//! answers. They read the worked messages under structs of the built-in set, which `capnp_schema::builtin::new_set`
+//! makes, and messages that the public tool made of a struct with a field of every kind.
 #![tactic(auto)]
 
 #[cfg(test)]

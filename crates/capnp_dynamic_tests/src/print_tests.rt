@@ -1,5 +1,5 @@
-//! The texts of values: a struct with a field of every kind, in messages that the public `capnp` tool made of the values of
-//! `examples/kinds.txt`, and the debug forms of readers.
+//! The texts of values: a struct with a field of every kind, in messages that the public `capnp` tool made of the
+//! values of `examples/kinds.txt`, and the debug forms of readers.
 
 use crate::script::rows_hold;
 

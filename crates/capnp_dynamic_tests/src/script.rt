@@ -1,7 +1,7 @@
 //! Questions about the root of a message, as text: one interpreter, in which each call stands once.
 //!
-//! A question is a word and, mostly, a path of names and indices with slashes between them; `next*63` is 63 times `next`, and
-//! a question without a path is about the root itself.
+//! A question is a word and, mostly, a path of names and indices with slashes between them; `next*63` is 63 times
+//! `next`, and a question without a path is about the root itself.
 //!
 //! | question | what is answered |
 //! |---|---|
@@ -18,8 +18,8 @@
 //! | `print_note id 9` | what a print leaves of its value |
 //! | `enum 2`, `enumerant 2` | an enumerant of the set's first enum as a value, and its name |
 //!
-//! Questions have semicolons between them, and so have the answers, in the same order. A refusal is `refused` and its number
-//! (`ErrorKind::number`).
+//! Questions have semicolons between them, and so have the answers, in the same order. A refusal is `refused` and its
+//! number (`ErrorKind::number`).
 
 use crate::messages::{brand_of, message_of, set_of};
 use capnp_dynamic::dynamic_struct;
@@ -307,7 +307,8 @@ pub fn are_answers(
     }
 }
 
-/// Asserts that each of these holds: a struct and a message of `messages`, as `mixed nine`, questions, and their answers.
+/// Asserts that each of these holds: a struct and a message of `messages`, as `mixed nine`, questions, and their
+/// answers.
 pub fn rows_hold(rt: &impl Abort, alloc: Global, rows: &[(&str, &str, &str)]) {
     for (read, questions, answers) in rows {
         let (name, message) = read.split_once(' ').unwrap_or((read, ""));

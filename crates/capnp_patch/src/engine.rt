@@ -2,9 +2,8 @@
 ghost use Rattle.std.specs.Prelude.{[], ◌≡◌, ◌≢◌, ◌≤◌, ◌^◌, suc, true, false, IfErr, IfOk, OnErr, OnOk, map, string_bytes};
 ghost use Rattle.capnp_device.specs.Device.{HasFailed};
 ghost use Rattle.capnp_device.specs.declared.error.ErrorKind.TheVariants.{OutOfMemory, ReadFailed, TooLarge, WriteFailed};
-ghost use Rattle.capnp_wire.specs.Message.{builder_tree};
-ghost use Rattle.capnp_wire.specs.WellFormed.{IsWellFormed};
 ghost use Rattle.capnp_wire.specs.Words.{words_of};
+ghost use Rattle.capnp_arena.specs.Message.{IsMessage, message_tree};
 ghost use Rattle.capnp_schema.specs.StructHandles.{IsStruct};
 ghost use Rattle.capnp_patch.specs.Lines.{AreTold};
 ghost use Rattle.capnp_patch.specs.Patches.{IsBeginning, IsCutShort, IsLeftOfBytes, IsLeftOfNew, IsMade, IsNotPatched, IsOutput, IsPatchCutShort, IsPatched, IsTooLarge, IsUnread, any_refused, is_kept, is_refused};
@@ -12,12 +11,13 @@ ghost use Rattle.capnp_show_engine.specs.Refusals.{IsOfRead};
 ghost use Rattle.capnp_show_engine.specs.Show.{IsOfMessage};
 
 use crate::lines::get_lines;
+use capnp_arena::message::Builder;
 use capnp_call::calls::{Call, Reply};
 use capnp_run::message::{run_copied, run_new};
 use capnp_schema::schema::StructSchema;
 use capnp_wire::device::{Sink, Source};
 use capnp_wire::error::Result;
-use capnp_wire::message::{Builder, Reader};
+use capnp_wire::message::Reader;
 use capnp_wire::transfer::read_all;
 use std::alloc::Global;
 
@@ -52,7 +52,9 @@ fn run_bytes(
     calls: &[Call<'_>],
 ) -> Result<Vec<Reply>>
     requires { IsStruct schema }
-    ensures left { IfOk result (λ replies. IsLeftOfBytes schema.entry bytes.now calls.now replies.items (builder_tree message.new)) }
+    ensures message { OnOk result (IsMessage message.new) }
+    ensures left { IfOk result (λ replies. IsLeftOfBytes schema.entry bytes.now calls.now replies.items
+        (message_tree message.new)) }
     ensures refused { IfErr result (λ e. e.kind ≢ OutOfMemory → IsUnread bytes.now e.kind) }
     ensures of_no_device { IfErr result (λ e. IsOfRead e.kind) }
 {
@@ -67,14 +69,17 @@ fn put_message<W: Sink>(
     sink: &mut W,
     keep_going: bool,
 ) -> Result<()>
-    requires { IsWellFormed (builder_tree message.now) }
-    ensures output { OnOk result (IsOutput (is_kept keep_going replies.now) (builder_tree message.now) (W.written sink.old) (W.written sink.new)) }
+    requires { IsMessage message.now }
+    ensures output { OnOk result (IsOutput (is_kept keep_going replies.now) (message_tree message.now)
+        (W.written sink.old) (W.written sink.new)) }
     ensures unwritten { is_kept keep_going replies.now ≡ false → sink.new ≡ sink.old }
     ensures kept { OnErr result (is_kept keep_going replies.now ≡ true) }
-    ensures large { IfErr result (λ e. IsOfMessage e.kind → (e.kind ≡ TooLarge) × (2 ^ 29 ≤ suc (words_of (builder_tree message.now)))) }
+    ensures large { IfErr result (λ e. IsOfMessage e.kind → (e.kind ≡ TooLarge)
+        × (2 ^ 29 ≤ suc (words_of (message_tree message.now)))) }
     ensures unread { IfErr result (λ e. e.kind ≢ ReadFailed) }
     ensures failed { IfErr result (λ e. e.kind ≡ WriteFailed → HasFailed (W.failures sink.old) (W.failures sink.new)) }
-    ensures beginning { IfErr result (λ e. e.kind ≡ WriteFailed → IsBeginning (builder_tree message.now) (W.written sink.old) (W.written sink.new)) }
+    ensures beginning { IfErr result (λ e. e.kind ≡ WriteFailed
+        → IsBeginning (message_tree message.now) (W.written sink.old) (W.written sink.new)) }
     ensures nothing { IfErr result (λ e. e.kind ≢ WriteFailed → sink.new ≡ sink.old) }
 {
     if keep_going || !any_refused(replies) {
@@ -100,17 +105,21 @@ fn finish<W: Sink>(
     keep_going: bool,
     sink: &mut W,
 ) -> Result<Report>
-    requires { IsWellFormed (builder_tree message.now) }
+    requires { IsMessage message.now }
     ensures replies { IfOk result (λ r. r.replies.items ≡ replies.items) }
-    ensures lines { IfOk result (λ r. AreTold 0 (map string_bytes words.now) r.replies.items [] (string_bytes r.lines)) }
-    ensures output { OnOk result (IsOutput (is_kept keep_going replies.items) (builder_tree message.now) (W.written sink.old) (W.written sink.new)) }
+    ensures lines { IfOk result (λ r. AreTold 0 (map string_bytes words.now) r.replies.items []
+        (string_bytes r.lines)) }
+    ensures output { OnOk result (IsOutput (is_kept keep_going replies.items) (message_tree message.now)
+        (W.written sink.old) (W.written sink.new)) }
     ensures unwritten { IfOk result (λ r. is_kept keep_going r.replies.items ≡ false → sink.new ≡ sink.old) }
     ensures large { IfErr result (λ e. IsOfMessage e.kind
-        → (e.kind ≡ TooLarge) × (is_kept keep_going replies.items ≡ true) × (2 ^ 29 ≤ suc (words_of (builder_tree message.now)))) }
+        → (e.kind ≡ TooLarge) × (is_kept keep_going replies.items ≡ true)
+        × (2 ^ 29 ≤ suc (words_of (message_tree message.now)))) }
     ensures unread { IfErr result (λ e. e.kind ≢ ReadFailed) }
     ensures failed { IfErr result (λ e. e.kind ≡ WriteFailed → HasFailed (W.failures sink.old) (W.failures sink.new)) }
     ensures beginning { IfErr result (λ e. e.kind ≡ WriteFailed
-        → (is_kept keep_going replies.items ≡ true) × IsBeginning (builder_tree message.now) (W.written sink.old) (W.written sink.new)) }
+        → (is_kept keep_going replies.items ≡ true)
+        × IsBeginning (message_tree message.now) (W.written sink.old) (W.written sink.new)) }
     ensures nothing { IfErr result (λ e. e.kind ≢ WriteFailed → sink.new ≡ sink.old) }
 {
     let lines = get_lines(alloc, words, &replies)?;
@@ -118,17 +127,17 @@ fn finish<W: Sink>(
     Ok(Report { replies, lines })
 }
 
-/// Reads the source to its end, makes calls on a copy of the first message's root, read as a struct of the schema, and writes
-/// the message that they leave: one segment, whose root has at least the schema's sections, with all that the calls didn't
-/// change. Where a call was refused nothing is written, unless `keep_going` says that what the run left is. What follows the
-/// message is not looked at. The replies and their lines are made before the first byte is written. The schema is one of an
-/// accepted set.
+/// Reads the source to its end, makes calls on a copy of the first message's root, read as a struct of the schema, and
+/// writes the message that they leave: one segment, whose root has at least the schema's sections, with all that the
+/// calls didn't change. Where a call was refused nothing is written, unless `keep_going` says that what the run left
+/// is. What follows the message is not looked at. The replies and their lines are made before the first byte is
+/// written. The schema is one of an accepted set.
 ///
 /// Refused with `ReadFailed` or `WriteFailed` where a call of the source or the sink failed, with `OutOfMemory`, as the
-/// message is (`Truncated`, `TooManySegments`), with `BadPointer`, `TooDeep` or `CapabilityPointer` where a pointer in it can't
-/// be followed, by the first of these in preorder, with `WrongPointerKind` where its root is a list, and with `TooLarge` where
-/// a message of 2^29 words or more would be written. After `WriteFailed` a proper beginning of the message was written, after
-/// any other refusal nothing.
+/// message is (`Truncated`, `TooManySegments`), with `BadPointer`, `TooDeep` or `CapabilityPointer` where a pointer in
+/// it can't be followed, by the first of these in preorder, with `WrongPointerKind` where its root is a list, and with
+/// `TooLarge` where a message of 2^29 words or more would be written. After `WriteFailed` a proper beginning of the
+/// message was written, after any other refusal nothing.
 pub fn patch<R: Source, W: Sink>(
     alloc: Global,
     schema: StructSchema<'_>,
@@ -139,30 +148,34 @@ pub fn patch<R: Source, W: Sink>(
     sink: &mut W,
 ) -> Result<Report>
     requires { IsStruct schema }
-    ensures patched { IfOk result (λ r. IsPatched schema.entry calls.now keep_going r.replies.items (R.left source.old) (R.left source.new)
+    ensures patched { IfOk result (λ r. IsPatched schema.entry calls.now keep_going r.replies.items (R.left source.old)
+        (R.left source.new)
         (W.written sink.old) (W.written sink.new)) }
-    ensures lines { IfOk result (λ r. AreTold 0 (map string_bytes words.now) r.replies.items [] (string_bytes r.lines)) }
+    ensures lines { IfOk result (λ r. AreTold 0 (map string_bytes words.now) r.replies.items []
+        (string_bytes r.lines)) }
     ensures unwritten { IfOk result (λ r. is_kept keep_going r.replies.items ≡ false → sink.new ≡ sink.old) }
     ensures refused { IfErr result (λ e. IsOfMessage e.kind
         → IsNotPatched schema.entry calls.now keep_going e.kind (R.left source.old) (R.left source.new)) }
-    ensures read_failed { IfErr result (λ e. e.kind ≡ ReadFailed → HasFailed (R.failures source.old) (R.failures source.new)) }
-    ensures write_failed { IfErr result (λ e. e.kind ≡ WriteFailed → HasFailed (W.failures sink.old) (W.failures sink.new)) }
+    ensures read_failed { IfErr result (λ e. e.kind ≡ ReadFailed
+        → HasFailed (R.failures source.old) (R.failures source.new)) }
+    ensures write_failed { IfErr result (λ e. e.kind ≡ WriteFailed
+        → HasFailed (W.failures sink.old) (W.failures sink.new)) }
     ensures beginning { IfErr result (λ e. e.kind ≡ WriteFailed → IsPatchCutShort schema.entry calls.now keep_going
         (R.left source.old) (R.left source.new) (W.written sink.old) (W.written sink.new)) }
     ensures nothing { IfErr result (λ e. e.kind ≢ WriteFailed → sink.new ≡ sink.old) }
 {
     let bytes = read_all(alloc, source)?;
-    let mut message = Builder::new(alloc);
+    let mut message = Builder::new(alloc)?;
     let replies = run_bytes(alloc, &mut message, &bytes, schema, calls)?;
     finish(alloc, &message, replies, words, keep_going, sink)
 }
 
-/// Makes calls on an empty root of the schema, all zero and null, and writes the message that they leave, as `patch`. The
-/// schema is one of an accepted set.
+/// Makes calls on an empty root of the schema, all zero and null, and writes the message that they leave, as `patch`.
+/// The schema is one of an accepted set.
 ///
-/// Refused with `WriteFailed` where a call of the sink failed, with `OutOfMemory`, and with `TooLarge` where a message of 2^29
-/// words or more would be written. After `WriteFailed` a proper beginning of the message was written, after any other refusal
-/// nothing.
+/// Refused with `WriteFailed` where a call of the sink failed, with `OutOfMemory`, and with `TooLarge` where a message
+/// of 2^29 words or more would be written. After `WriteFailed` a proper beginning of the message was written, after any
+/// other refusal nothing.
 pub fn new_message<W: Sink>(
     alloc: Global,
     schema: StructSchema<'_>,
@@ -172,17 +185,21 @@ pub fn new_message<W: Sink>(
     sink: &mut W,
 ) -> Result<Report>
     requires { IsStruct schema }
-    ensures made { IfOk result (λ r. IsMade schema.entry calls.now keep_going r.replies.items (W.written sink.old) (W.written sink.new)) }
-    ensures lines { IfOk result (λ r. AreTold 0 (map string_bytes words.now) r.replies.items [] (string_bytes r.lines)) }
+    ensures made { IfOk result (λ r. IsMade schema.entry calls.now keep_going r.replies.items (W.written sink.old)
+        (W.written sink.new)) }
+    ensures lines { IfOk result (λ r. AreTold 0 (map string_bytes words.now) r.replies.items []
+        (string_bytes r.lines)) }
     ensures unwritten { IfOk result (λ r. is_kept keep_going r.replies.items ≡ false → sink.new ≡ sink.old) }
-    ensures refused { IfErr result (λ e. IsOfMessage e.kind → IsTooLarge keep_going (IsLeftOfNew schema.entry calls.now) e.kind) }
+    ensures refused { IfErr result (λ e. IsOfMessage e.kind
+        → IsTooLarge keep_going (IsLeftOfNew schema.entry calls.now) e.kind) }
     ensures unread { IfErr result (λ e. e.kind ≢ ReadFailed) }
-    ensures write_failed { IfErr result (λ e. e.kind ≡ WriteFailed → HasFailed (W.failures sink.old) (W.failures sink.new)) }
+    ensures write_failed { IfErr result (λ e. e.kind ≡ WriteFailed
+        → HasFailed (W.failures sink.old) (W.failures sink.new)) }
     ensures beginning { IfErr result (λ e. e.kind ≡ WriteFailed
         → IsCutShort keep_going (IsLeftOfNew schema.entry calls.now) (W.written sink.old) (W.written sink.new)) }
     ensures nothing { IfErr result (λ e. e.kind ≢ WriteFailed → sink.new ≡ sink.old) }
 {
-    let mut made = Builder::new(alloc);
+    let mut made = Builder::new(alloc)?;
     let replies = run_new(alloc, &mut made, schema, calls)?;
     finish(alloc, &made, replies, words, keep_going, sink)
 }

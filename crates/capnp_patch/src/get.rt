@@ -32,9 +32,11 @@ fn put_value(
 ) -> Result<()>
     requires { IsStruct schema }
     ensures printed { OnOk result (IsAppended (string_bytes out.old)
-        (got_text (set_of schema.entry) (number_of schema.entry) (path_seen path.now) indented bytes.now) (string_bytes out.new)) }
+        (got_text (set_of schema.entry) (number_of schema.entry) (path_seen path.now) indented bytes.now)
+        (string_bytes out.new)) }
     ensures refused { IfErr result (λ e. e.kind ≢ OutOfMemory
-        → got_text (set_of schema.entry) (number_of schema.entry) (path_seen path.now) indented bytes.now ≡ Err e.kind) }
+        → got_text (set_of schema.entry) (number_of schema.entry) (path_seen path.now) indented bytes.now
+        ≡ Err e.kind) }
     ensures of_no_device { IfErr result (λ e. IsOfRead e.kind) }
 {
     let reader = Reader::new(alloc, bytes)?;
@@ -53,9 +55,12 @@ fn get_line(
     indented: bool,
 ) -> Result<String>
     requires { IsStruct schema }
-    ensures got { IfOk result (λ line. IsLineOf (got_text (set_of schema.entry) (number_of schema.entry) (path_seen path.now) indented bytes.now) (string_bytes line)) }
+    ensures got { IfOk result (λ line. IsLineOf
+        (got_text (set_of schema.entry) (number_of schema.entry) (path_seen path.now) indented bytes.now)
+        (string_bytes line)) }
     ensures refused { IfErr result (λ e. IsOfMessage e.kind
-        → got_text (set_of schema.entry) (number_of schema.entry) (path_seen path.now) indented bytes.now ≡ Err e.kind) }
+        → got_text (set_of schema.entry) (number_of schema.entry) (path_seen path.now) indented bytes.now
+        ≡ Err e.kind) }
     ensures of_no_device { IfErr result (λ e. IsOfRead e.kind) }
 {
     let mut line = String::new(alloc);
@@ -64,14 +69,15 @@ fn get_line(
     Ok(line)
 }
 
-/// Reads the source to its end and writes the text of what stands at a path of the first message's root, read as a struct of
-/// the schema, and a line break, as `capnp_show_engine::engine::show` writes the root's. An empty path is that of the root.
-/// What the path doesn't touch isn't looked at, nor is what follows the message. The schema is one of an accepted set.
+/// Reads the source to its end and writes the text of what stands at a path of the first message's root, read as a
+/// struct of the schema, and a line break, as `capnp_show_engine::engine::show` writes the root's. An empty path is
+/// that of the root. What the path doesn't touch isn't looked at, nor is what follows the message. The schema is one of
+/// an accepted set.
 ///
 /// Refused with `ReadFailed` or `WriteFailed` where a call of the source or the sink failed, with `OutOfMemory`, as the
 /// message is (`Truncated`, `TooManySegments`), as its root is where it can't be read as a struct, as
-/// `crate::reach::read_path`, and with the number of the first value of the text that can't be read. After `WriteFailed` a
-/// proper beginning of the line was written, after any other refusal nothing.
+/// `crate::reach::read_path`, and with the number of the first value of the text that can't be read. After
+/// `WriteFailed` a proper beginning of the line was written, after any other refusal nothing.
 pub fn get<R: Source, W: Sink>(
     alloc: Global,
     schema: StructSchema<'_>,
@@ -81,13 +87,18 @@ pub fn get<R: Source, W: Sink>(
     indented: bool,
 ) -> Result<()>
     requires { IsStruct schema }
-    ensures got { OnOk result (IsGot (set_of schema.entry) (number_of schema.entry) (path_seen path.now) indented (R.left source.old) (R.left source.new)
+    ensures got { OnOk result (IsGot (set_of schema.entry) (number_of schema.entry) (path_seen path.now) indented
+        (R.left source.old) (R.left source.new)
         (W.written sink.old) (W.written sink.new)) }
     ensures refused { IfErr result (λ e. IsOfMessage e.kind
-        → IsNotGot (set_of schema.entry) (number_of schema.entry) (path_seen path.now) indented e.kind (R.left source.old) (R.left source.new)) }
-    ensures read_failed { IfErr result (λ e. e.kind ≡ ReadFailed → HasFailed (R.failures source.old) (R.failures source.new)) }
-    ensures write_failed { IfErr result (λ e. e.kind ≡ WriteFailed → HasFailed (W.failures sink.old) (W.failures sink.new)) }
-    ensures beginning { IfErr result (λ e. e.kind ≡ WriteFailed → IsGetCutShort (set_of schema.entry) (number_of schema.entry) (path_seen path.now) indented
+        → IsNotGot (set_of schema.entry) (number_of schema.entry) (path_seen path.now) indented e.kind
+        (R.left source.old) (R.left source.new)) }
+    ensures read_failed { IfErr result (λ e. e.kind ≡ ReadFailed
+        → HasFailed (R.failures source.old) (R.failures source.new)) }
+    ensures write_failed { IfErr result (λ e. e.kind ≡ WriteFailed
+        → HasFailed (W.failures sink.old) (W.failures sink.new)) }
+    ensures beginning { IfErr result (λ e. e.kind ≡ WriteFailed
+        → IsGetCutShort (set_of schema.entry) (number_of schema.entry) (path_seen path.now) indented
         (R.left source.old) (R.left source.new) (W.written sink.old) (W.written sink.new)) }
     ensures nothing { IfErr result (λ e. e.kind ≢ WriteFailed → sink.new ≡ sink.old) }
 {

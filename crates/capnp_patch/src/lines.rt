@@ -39,7 +39,8 @@ fn put_plain(out: &mut String, plain: &Plain) -> Result<()>
 
 /// Appends a line: the number of a call, its word, and what is told.
 fn put_told(lines: &mut String, number: u64, word: &str, between: &str, text: &str) -> Result<()>
-    ensures put { OnOk result (string_bytes lines.new ≡ string_bytes lines.old ++ told_line number word.now between.now text.now) }
+    ensures put { OnOk result (string_bytes lines.new
+        ≡ string_bytes lines.old ++ told_line number word.now between.now text.now) }
     ensures memory { IfErr result (λ e. e.kind ≡ OutOfMemory) }
 {
     write!(lines, "{number}: {word}{between}{text}\n")?;
@@ -48,7 +49,8 @@ fn put_told(lines: &mut String, number: u64, word: &str, between: &str, text: &s
 
 /// Appends the line of an answer.
 fn put_answer(lines: &mut String, number: u64, word: &str, text: &str) -> Result<()>
-    ensures put { OnOk result (string_bytes lines.new ≡ string_bytes lines.old ++ answer_line number word.now text.now) }
+    ensures put { OnOk result (string_bytes lines.new
+        ≡ string_bytes lines.old ++ answer_line number word.now text.now) }
     ensures memory { IfErr result (λ e. e.kind ≡ OutOfMemory) }
 {
     put_told(lines, number, word, " = ", text)
@@ -56,7 +58,8 @@ fn put_answer(lines: &mut String, number: u64, word: &str, text: &str) -> Result
 
 /// Appends the line of a value.
 fn put_value(lines: &mut String, number: u64, word: &str, plain: &Plain) -> Result<()>
-    ensures put { OnOk result (IsValueTold number word.now plain.now (string_bytes lines.old) (string_bytes lines.new)) }
+    ensures put { OnOk result (IsValueTold number word.now plain.now (string_bytes lines.old)
+        (string_bytes lines.new)) }
     ensures memory { IfErr result (λ e. e.kind ≡ OutOfMemory) }
 {
     let mut text = String::new(*lines.allocator());
@@ -66,7 +69,8 @@ fn put_value(lines: &mut String, number: u64, word: &str, plain: &Plain) -> Resu
 
 /// Appends the line of a flag.
 fn put_flag(lines: &mut String, number: u64, word: &str, flag: bool) -> Result<()>
-    ensures put { OnOk result (string_bytes lines.new ≡ string_bytes lines.old ++ answer_line number word.now (flag_word flag)) }
+    ensures put { OnOk result (string_bytes lines.new
+        ≡ string_bytes lines.old ++ answer_line number word.now (flag_word flag)) }
     ensures memory { IfErr result (λ e. e.kind ≡ OutOfMemory) }
 {
     put_answer(lines, number, word, if flag { "true" } else { "false" })
@@ -74,7 +78,8 @@ fn put_flag(lines: &mut String, number: u64, word: &str, flag: bool) -> Result<(
 
 /// Appends the line of a member.
 fn put_member(lines: &mut String, number: u64, word: &str, member: Option<u16>) -> Result<()>
-    ensures put { OnOk result (string_bytes lines.new ≡ string_bytes lines.old ++ answer_line number word.now (member_word member)) }
+    ensures put { OnOk result (string_bytes lines.new
+        ≡ string_bytes lines.old ++ answer_line number word.now (member_word member)) }
     ensures memory { IfErr result (λ e. e.kind ≡ OutOfMemory) }
 {
     match member {
@@ -121,8 +126,9 @@ fn word_at(words: &[String], index: usize) -> &str
     }
 }
 
-/// A line for each reply that answers or refuses, in order: the number of its call, from 1 on, the call's word, and the answer or
-/// the refusal's number and name. A call that no word is given for is told with an empty one. Refused with `OutOfMemory` alone.
+/// A line for each reply that answers or refuses, in order: the number of its call, from 1 on, the call's word, and the
+/// answer or the refusal's number and name. A call that no word is given for is told with an empty one. Refused with
+/// `OutOfMemory` alone.
 pub fn get_lines(alloc: Global, words: &[String], replies: &[Reply]) -> Result<String>
     ensures lines { IfOk result (λ lines. AreTold 0 (map string_bytes words.now) replies.now [] (string_bytes lines)) }
     ensures memory { IfErr result (λ e. e.kind ≡ OutOfMemory) }

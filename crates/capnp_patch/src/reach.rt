@@ -40,7 +40,8 @@ fn read_field<'a>(
     step: Step<'_>,
     is_last: bool,
 ) -> Result<Value<'a>>
-    ensures read { seen_read result ≡ step_read (set_of (schema_of reader.entry)) is_last (part_seen (StructOf reader.entry)) (step_seen step.entry) }
+    ensures read { seen_read result ≡ step_read (set_of (schema_of reader.entry)) is_last
+        (part_seen (StructOf reader.entry)) (step_seen step.entry) }
     ensures typed { IfOk result (λ v. IsOf (set_of (schema_of reader.entry)) (type_seen v) v) }
 {
     let field = find_field(reader.get_schema(), step)?;
@@ -58,8 +59,10 @@ fn read_element<'a>(
     is_last: bool,
 ) -> Result<Value<'a>>
     ensures read { NamesEntries (list_set reader.entry) (element_of reader.entry)
-        → seen_read result ≡ step_read (list_set reader.entry) is_last (part_seen (ListOf reader.entry)) (step_seen step.entry) }
-    ensures typed { NamesEntries (list_set reader.entry) (element_of reader.entry) → IfOk result (λ v. IsOf (list_set reader.entry) (type_seen v) v) }
+        → seen_read result ≡ step_read (list_set reader.entry) is_last (part_seen (ListOf reader.entry))
+        (step_seen step.entry) }
+    ensures typed { NamesEntries (list_set reader.entry) (element_of reader.entry)
+        → IfOk result (λ v. IsOf (list_set reader.entry) (type_seen v) v) }
 {
     let Step::Element(index) = step else {
         return Err(Error::from(ErrorKind::NotAContainer));
@@ -75,7 +78,8 @@ fn read_element<'a>(
 fn read_step<'a>(value: Value<'a>, step: Step<'_>, is_last: bool) -> Result<Value<'a>>
     ensures read { (set : Schemas) → IsOf set (type_seen value.entry) value.entry
         → seen_read result ≡ step_read set is_last (part_seen value.entry) (step_seen step.entry) }
-    ensures typed { (set : Schemas) → IsOf set (type_seen value.entry) value.entry → IfOk result (λ v. IsOf set (type_seen v) v) }
+    ensures typed { (set : Schemas) → IsOf set (type_seen value.entry) value.entry
+        → IfOk result (λ v. IsOf set (type_seen v) v) }
 {
     match value {
         Value::Struct(reader) => read_field(reader, step, is_last),
@@ -84,15 +88,18 @@ fn read_step<'a>(value: Value<'a>, step: Step<'_>, is_last: bool) -> Result<Valu
     }
 }
 
-/// What a path leads to from a value. Steps go into structs, groups and the elements of lists, each with its default in the
-/// place of a null; what the path doesn't touch isn't looked at, and nothing is copied.
+/// What a path leads to from a value. Steps go into structs, groups and the elements of lists, each with its default in
+/// the place of a null; what the path doesn't touch isn't looked at, and nothing is copied.
 ///
-/// Refused by the first step that is: with `NotAContainer` for a field of what is no struct or group, or an element of what is
-/// no list, with `FieldNotFound` or `NoSuchElement`, with `InactiveMember` for a member that isn't active, with `UntypedStep`
-/// or `NotAContainer` where steps follow and it leads to no struct, group or list, and as the read of what stands there.
+/// Refused by the first step that is: with `NotAContainer` for a field of what is no struct or group, or an element of
+/// what is no list, with `FieldNotFound` or `NoSuchElement`, with `InactiveMember` for a member that isn't active, with
+/// `UntypedStep` or `NotAContainer` where steps follow and it leads to no struct, group or list, and as the read of
+/// what stands there.
 pub fn read_path<'a>(value: Value<'a>, path: &[Step<'_>]) -> Result<Value<'a>>
-    ensures read { (set : Schemas) → IsOf set (type_seen value.entry) value.entry → seen_read result ≡ path_read set (path_seen path.now) (Ok (part_seen value.entry)) }
-    ensures typed { (set : Schemas) → IsOf set (type_seen value.entry) value.entry → IfOk result (λ v. IsOf set (type_seen v) v) }
+    ensures read { (set : Schemas) → IsOf set (type_seen value.entry) value.entry
+        → seen_read result ≡ path_read set (path_seen path.now) (Ok (part_seen value.entry)) }
+    ensures typed { (set : Schemas) → IsOf set (type_seen value.entry) value.entry
+        → IfOk result (λ v. IsOf set (type_seen v) v) }
 {
     match path {
         [] => Ok(value),

@@ -56,10 +56,10 @@ pub struct Devices {
 
 /// What came of it: the number of its refusal, what is told, and the sink.
 #[derive(Drop)]
-struct Outcome {
-    refusal: u32,
-    report: Report,
-    sink: MemorySink,
+pub struct Outcome {
+    pub refusal: u32,
+    pub report: Report,
+    pub sink: MemorySink,
 }
 
 /// A report of nothing.
@@ -155,7 +155,7 @@ fn run(
 }
 
 /// What comes of a case over devices.
-fn outcome_of(alloc: Global, case: &Case<'_>, devices: Devices) -> Outcome {
+pub fn outcome_of(alloc: Global, case: &Case<'_>, devices: Devices) -> Outcome {
     let step = chunk(devices.slow);
     let mut source = MemorySource::new(case.message, step, devices.failing_read);
     let mut sink = MemorySink::new(alloc, step, devices.failing_write);

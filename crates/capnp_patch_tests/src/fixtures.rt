@@ -21,6 +21,12 @@ pub const NINE: &[u8] = &[
     0, 0, 0, 0, 3, 0, 0, 0, 0, 0, 0, 0, 1, 0, 1, 0, 5, 0, 1, 0, 9, 0, 0, 0, 0, 0, 0, 0, 0, 0, 0, 0,
 ];
 
+/// A `Mixed` whose `a` is 5, with `y` active and 9, whose `b` is `ho`.
+pub const MIXED_HO: &[u8] = &[
+    0, 0, 0, 0, 4, 0, 0, 0, 0, 0, 0, 0, 1, 0, 1, 0, 5, 0, 1, 0, 9, 0, 0, 0, 1, 0, 0, 0, 0x1a, 0, 0,
+    0, 0x68, 0x6f, 0, 0, 0, 0, 0, 0,
+];
+
 /// A group is entered where it is active, and its union asked for: three of these calls are refused.
 pub const ENTERED: &str = "\
 set tag.n UInt16 3

@@ -1,4 +1,5 @@
-//! Values at paths: through groups, unions, defaults, structs and lists of lists, as they are printed, and what is refused.
+//! Values at paths: through groups, unions, defaults, structs and lists of lists, as they are printed, and what is
+//! refused.
 
 use crate::cases::{Case, Expected, Verb, comes_to};
 use crate::fixtures::{LOOP, MANY, MIXED, SHAPES, TAGGED};
@@ -94,8 +95,8 @@ fn values_of_every_kind_stand_at_paths(rt: HostRuntime) -> Result<(), Fail> {
     Ok(())
 }
 
-/// Steps in the order of their tests: what is no struct, group or list; no field; no element; an inactive member; an untyped
-/// pointer; what has no parts.
+/// Steps in the order of their tests: what is no struct, group or list; no field; no element; an inactive member; an
+/// untyped pointer; what has no parts.
 static FULL_REFUSED: [(&str, u32); 22] = [
     ("0", 33),
     ("point.0", 33),

@@ -1,5 +1,5 @@
-//! Messages that can't be read: patches of them are refused by number, and nothing is written; what a path doesn't touch is
-//! not looked at.
+//! Messages that can't be read: patches of them are refused by number, and nothing is written; what a path doesn't
+//! touch is not looked at.
 
 use crate::cases::{Case, Expected, Verb, comes_to};
 use crate::fixtures::{FLAT, LISTS, LOOP, MIXED, NONE, SHAPES};
@@ -101,8 +101,8 @@ fn patches_of_hostile_messages_are_refused(rt: HostRuntime) -> Result<(), Fail> 
 /// A struct by number, a message, a path, the number of its refusal, and what is written.
 type Got = (u32, &'static [u8], &'static str, u32, &'static [u8]);
 
-/// A `Lists` in which nothing reads: `bytes` is a struct, `raw` has numbers of two bytes, `t` does not end in a zero byte,
-/// and `items` are bits.
+/// A `Lists` in which nothing reads: `bytes` is a struct, `raw` has numbers of two bytes, `t` does not end in a zero
+/// byte, and `items` are bits.
 const UNREADABLE: &[u8] = &[
     0, 0, 0, 0, 8, 0, 0, 0, 0, 0, 0, 0, 0, 0, 4, 0, 0xfc, 0xff, 0xff, 0xff, 0, 0, 0, 0, 9, 0, 0, 0,
     0x13, 0, 0, 0, 9, 0, 0, 0, 0x12, 0, 0, 0, 9, 0, 0, 0, 0x11, 0, 0, 0, 1, 0, 2, 0, 0, 0, 0, 0,

@@ -1,7 +1,9 @@
 //! Worked lists of calls on empty roots and on copies of messages: their lines, and the message that is written.
 
 use crate::cases::{Case, Expected, Verb, comes_to};
-use crate::fixtures::{ENTERED, ENTERED_LINES, LISTS, MANY, MIXED, NINE, NONE, SHAPES, TAGGED};
+use crate::fixtures::{
+    ENTERED, ENTERED_LINES, LISTS, MANY, MIXED, MIXED_HO, NINE, NONE, SHAPES, TAGGED,
+};
 use capnp_schema::builtin::new_set;
 use capnp_schema_fixtures::messages::{ITEMS_AS_NUMBERS, MIXED_HI, PAIR};
 use std::alloc::Global;
@@ -175,15 +177,10 @@ fn a_refused_call_keeps_a_message_from_being_written(rt: HostRuntime) -> Result<
     rows_hold(&rt, rt.alloc(), Verb::New, false, &UNWRITTEN)
 }
 
-/// `MIXED_HI` with another `a`, and with another `b`.
+/// `MIXED_HI` with another `a`.
 const MIXED_SIX: &[u8] = &[
     0, 0, 0, 0, 4, 0, 0, 0, 0, 0, 0, 0, 1, 0, 1, 0, 6, 0, 1, 0, 9, 0, 0, 0, 1, 0, 0, 0, 0x1a, 0, 0,
     0, 0x68, 0x69, 0, 0, 0, 0, 0, 0,
-];
-
-const MIXED_HO: &[u8] = &[
-    0, 0, 0, 0, 4, 0, 0, 0, 0, 0, 0, 0, 1, 0, 1, 0, 5, 0, 1, 0, 9, 0, 0, 0, 1, 0, 0, 0, 0x1a, 0, 0,
-    0, 0x68, 0x6f, 0, 0, 0, 0, 0, 0,
 ];
 
 /// Two messages, one after the other: `MIXED_HI`, and bytes that are none.

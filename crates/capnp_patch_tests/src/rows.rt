@@ -1,12 +1,12 @@
 //! The interpreter of rows: calls and paths as texts.
 //!
-//! A row is a call: its operation, its path and, of `initn`, a size, or, of `set`, a value, as `set items.1.a UInt16 7`. Rows
-//! stand in one text, a line each.
+//! A row is a call: its operation, its path and, of `initn`, a size, or, of `set`, a value, as
+//! `set items.1.a UInt16 7`. Rows stand in one text, a line each.
 //!
-//! Operations are `get`, `has`, `which`, `set`, `init`, `initn` and `clear`. A path has dots between its steps, of which a call
-//! has at most three: a name is the field of that name, a number an element, and `#` with a number the field of that index. The
-//! last step is what the operation is done to; but `which` asks the struct that all steps lead to, and `.` is no step. A value
-//! is a type and a number or text: `Int8 -1`, `Bool true`, `Void`, `Text hi`.
+//! Operations are `get`, `has`, `which`, `set`, `init`, `initn` and `clear`. A path has dots between its steps, of
+//! which a call has at most three: a name is the field of that name, a number an element, and `#` with a number the
+//! field of that index. The last step is what the operation is done to; but `which` asks the struct that all steps lead
+//! to, and `.` is no step. A value is a type and a number or text: `Int8 -1`, `Bool true`, `Void`, `Text hi`.
 
 use capnp_base::text;
 use capnp_call::calls::{Call, Op, Step};

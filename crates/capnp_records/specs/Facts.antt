@@ -6,7 +6,6 @@ pub mod FormedSets
 pub mod Frame
 pub mod GroupWrite
 pub mod Groups
-pub mod LentElements
 pub mod ListValues
 pub mod Members
 pub mod NewTrees

@@ -82,8 +82,8 @@ pub fn projection_law()
     ensures { ProjectionLaw }
 {}
 
-/// The same where lists became lists of structs: of a struct whose lists are read as what they were, the record under the
-/// older schema is the projection of that under the newer one, but for the levels that missing parts carry.
+/// The same where lists became lists of structs: of a struct whose lists are read as what they were, the record under
+/// the older schema is the projection of that under the newer one, but for the levels that missing parts carry.
 pub fn upgrade_law()
     ensures { UpgradeLaw }
 {
@@ -91,8 +91,8 @@ pub fn upgrade_law()
 }
 
 /// What is written into a slot is read there, by a reader with any number of levels left: a number, a truth value or an
-/// enum's number that was set is the value, a text or data its bytes, and what else was copied what the slot's own type reads
-/// of it. A member is the active one then.
+/// enum's number that was set is the value, a text or data its bytes, and what else was copied what the slot's own type
+/// reads of it. A member is the active one then.
 pub fn written_slots_are_read()
     ensures content { ContentIsRead }
     ensures numbers { NumberIsRead }
@@ -107,16 +107,16 @@ pub fn cleared_slots_are_read()
     ensures { ClearIsRead }
 {}
 
-/// A group that was cleared or initialized has its member of discriminant value 0 active, where it has one; and a group that
-/// is a member itself is the active one after it was cleared, initialized or set.
+/// A group that was cleared or initialized has its member of discriminant value 0 active, where it has one; and a group
+/// that is a member itself is the active one after it was cleared, initialized or set.
 pub fn groups_are_active()
     ensures first { GroupStartsAtFirst }
     ensures cleared { ClearedIsActive }
     ensures copied { CopiedIsActive }
 {}
 
-/// A write of a field changes nothing of what another one is read as, nor of whether it is there, unless both are members;
-/// and that of a plain field leaves the active member.
+/// A write of a field changes nothing of what another one is read as, nor of whether it is there, unless both are
+/// members; and that of a plain field leaves the active member.
 pub fn other_fields_are_read()
     ensures read { OthersAreRead }
     ensures there { OthersAreThere }

@@ -1,10 +1,10 @@
--- Refusals of copies and of encodings are those of a conversion.
+-- Refusals of copies are those of a conversion.
 use Rattle.std.proofs.Common.{◌≡◌, ◌≢◌, ◌∙◌, ap, refl, subst, sym, Bool, true, false, Option, Some, None}
 use Rattle.std.proofs.lemmas.Bool.{true≢false}
 use Rattle.std.specs.Option.{option_map}
 use Rattle.capnp_device.specs.declared.error.Error.{Error}
 use Rattle.capnp_device.specs.declared.error.ErrorKind.{ErrorKind}
-use Rattle.capnp_device.specs.declared.error.ErrorKind.TheVariants.{OutOfMemory, TooLarge}
+use Rattle.capnp_device.specs.declared.error.ErrorKind.TheVariants.{OutOfMemory}
 use Rattle.capnp_wire.specs.Edits.{IsCopyRefusal}
 use Rattle.capnp_wire.specs.Reading.{refusal}
 use Rattle.capnp_wire.specs.declared.fault.Fault.{Fault}
@@ -30,10 +30,3 @@ copy_kinds e f h = go (is_plain e.kind) refl
     go : (q : Bool) → is_plain e.kind ≡ q → IsPlain e.kind
     go true is = is
     go false not = due f (h (other e.kind OutOfMemory refl not))
-
-pub write_kinds : (kind : ErrorKind) → (kind ≢ TooLarge → kind ≡ OutOfMemory) → IsPlain kind
-write_kinds kind h = go (is_plain kind) refl
-  where
-    go : (q : Bool) → is_plain kind ≡ q → IsPlain kind
-    go true is = is
-    go false not = absurd (other kind OutOfMemory refl not (h (other kind TooLarge refl not)))

@@ -1,11 +1,10 @@
 -- What the record of a value says, by its active member.
-use Rattle.std.proofs.Common.{ℕ, ◌≢◌, subst, zero, not, Bool, ◌^◌, ◌<◌, ◌≤◌, ◌≡◌, suc, arith, nat_lt, true, false, ◌∙◌, ap, refl, sym, List, [], ◌∷◌, length, min, ◌⊎◌, inl, inr, Ok, Err, Option, Some, None, slice_get, drop}
+use Rattle.std.proofs.Common.{ℕ, subst, zero, not, Bool, ◌^◌, ◌<◌, ◌≤◌, ◌≡◌, suc, arith, nat_lt, true, false, ◌∙◌, ap, refl, sym, List, [], ◌∷◌, length, min, ◌⊎◌, inl, inr, Ok, Err, Option, Some, None, slice_get, drop}
 use Rattle.std.proofs.lemmas.Bool.Decides.{nat_tests}
-use Rattle.std.proofs.lemmas.Bool.{true≢false}
 use Rattle.std.proofs.lemmas.Option.{slice_get_past}
 use Rattle.std.specs.Option.{option_map, unwrap_or}
 use Rattle.capnp_device.specs.declared.error.ErrorKind.{ErrorKind}
-use Rattle.capnp_device.specs.declared.error.ErrorKind.TheVariants.{OutOfMemory, TooLarge, UnknownKind}
+use Rattle.capnp_device.specs.declared.error.ErrorKind.TheVariants.{UnknownKind}
 use Rattle.capnp_wire.specs.Encoding.{message_of}
 use Rattle.capnp_wire.specs.Tree.{Tree}
 use Rattle.capnp_wire.specs.Words.{first_fault, words_of}
@@ -43,11 +42,6 @@ words_of_sound t bytes w sound few whole rest =
     let fits : nat_lt (suc (words_of t)) 536870912 ≡ true = grind (arith, nat_tests, few) in
     ap (λ o. words_or_fault o t) sound ∙ (ap (λ q. words_that_fit q t) fits ∙ ap (λ (b : List ℕ). Ok b) (sym (rest ∙ ap (drop 8) whole)))
 
-pub words_too_many : (t : Tree) → first_fault t ≡ None → 2 ^ 29 ≤ suc (words_of t) → words_or_fault (first_fault t) t ≡ Err TooLarge
-words_too_many t sound many =
-    let no : nat_lt (suc (words_of t)) 536870912 ≡ false = grind (arith, nat_tests, many) in
-    ap (λ o. words_or_fault o t) sound ∙ ap (λ q. words_that_fit q t) no
-
 pub words_faulty : (t : Tree) (kind : ErrorKind) → option_map refusal (first_fault t) ≡ Some kind → words_or_fault (first_fault t) t ≡ Err kind
 words_faulty t kind = go (first_fault t)
   where
@@ -68,29 +62,9 @@ value_past r m which past =
 
 -- ---- the words of a message that was written ----
 
-abbrev is_large : ErrorKind → Bool
-is_large TooLarge = true
-is_large kind = false
-
-large_by : (kind : ErrorKind) → is_large kind ≡ true → kind ≡ TooLarge
-large_by TooLarge e = refl
-large_by kind e = cc
-
-not_large : (kind : ErrorKind) → is_large kind ≡ false → kind ≢ TooLarge
-not_large kind e same = true≢false (sym (ap is_large same) ∙ e)
-
 module _ (m t : Tree) (same : m ≡ t) (sound : first_fault t ≡ None) where
   pub words_written : (bytes w : List ℕ) → IsWellFormed m × (suc (words_of m) < 2 ^ 29) → bytes ≡ message_of m → w ≡ drop 8 bytes → words_or_fault (first_fault t) t ≡ Ok w
   words_written bytes w held whole rest = words_of_sound t bytes w sound (subst (λ x. suc (words_of x) < 2 ^ 29) same held.1) (whole ∙ ap message_of same) rest
-
-  pub words_large : (kind : ErrorKind) → IsWellFormed t → (kind ≢ TooLarge → kind ≡ OutOfMemory) → (kind ≡ TooLarge → IsWellFormed m → 2 ^ 29 ≤ suc (words_of m)) → kind ≢ OutOfMemory → words_or_fault (first_fault t) t ≡ Err kind
-  words_large kind held kinds large memory = go (is_large kind) refl
-    where
-      go : (q : Bool) → is_large kind ≡ q → words_or_fault (first_fault t) t ≡ Err kind
-      go true is =
-          let many : 2 ^ 29 ≤ suc (words_of m) = large (large_by kind is) (subst IsWellFormed (sym same) held) in
-          words_too_many t sound (subst (λ x. 2 ^ 29 ≤ suc (words_of x)) same many) ∙ ap (λ k. Err k) (sym (large_by kind is))
-      go false is = absurd (memory (kinds (not_large kind is)))
 
 -- ---- what stands behind a message's table ----
 

@@ -39,7 +39,9 @@ fn annotation_type<'a>(
     requires nodes { AreNodes context.nodes.now }
     requires numbers { AreNumbered entries.now }
     requires is_record { IsRecord 12 annotation }
-    ensures done { IsDone seen_type (unnoted (declared_type (nodes_of context.entry.nodes.now) context.entry.strict id (bounds inside.now) (brand_in whole_type (read_at 12 2 (record_seen annotation.entry)))))
+    ensures done { IsDone seen_type (unnoted
+        (declared_type (nodes_of context.entry.nodes.now) context.entry.strict id (bounds inside.now)
+        (brand_in whole_type (read_at 12 2 (record_seen annotation.entry)))))
         (between entries.old) (between entries.new) result }
     ensures numbers { IfOk result (λ _. AreNumbered entries.new) }
     ensures kinds { IfErr result (λ e. IsRefusal context.entry.strict e.kind) }
@@ -74,7 +76,9 @@ fn annotation_of<'a>(
     requires nodes { AreNodes context.nodes.now }
     requires numbers { AreNumbered entries.now }
     requires is_record { IsRecord 12 annotation }
-    ensures done { IsDone (λ r. (seen_annotation r.0, seen_type r.1)) (annotation_of (nodes_of context.entry.nodes.now) context.entry.strict (bounds inside.now) (annotation_said (record_seen annotation.entry)))
+    ensures done { IsDone (λ r. (seen_annotation r.0, seen_type r.1))
+        (annotation_of (nodes_of context.entry.nodes.now) context.entry.strict (bounds inside.now)
+        (annotation_said (record_seen annotation.entry)))
         (between entries.old) (between entries.new) result }
     ensures numbers { IfOk result (λ _. AreNumbered entries.new) }
     ensures kinds { IfErr result (λ e. IsRefusal context.entry.strict e.kind) }
@@ -105,7 +109,9 @@ pub(crate) fn annotations_of<'a>(
     requires record { IsRecord brand reader }
     requires field { IsField brand index (many 12) }
     requires plain { is_member (field_at request_set brand index).field ≡ false }
-    ensures done { IsDone (λ r. typed_annotations r.0.items r.1.items) (annotations_of (nodes_of context.entry.nodes.now) context.entry.strict (bounds inside.now) (annotations_in (read_at brand index (record_seen reader.entry))))
+    ensures done { IsDone (λ r. typed_annotations r.0.items r.1.items)
+        (annotations_of (nodes_of context.entry.nodes.now) context.entry.strict (bounds inside.now)
+        (annotations_in (read_at brand index (record_seen reader.entry))))
         (between entries.old) (between entries.new) result }
     ensures numbers { IfOk result (λ _. AreNumbered entries.new) }
     ensures typed { IfOk result (λ r. length r.1.items ≡ length r.0.items) }

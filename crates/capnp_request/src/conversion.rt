@@ -76,7 +76,8 @@ fn counted(count: usize) -> Result<u32>
 /// The name of an enum, and its node.
 fn named_enum<'a>(context: Context<'_, 'a>, id: u64) -> Result<(String, dynamic_struct::Reader<'a>)>
     requires { AreNodes context.nodes.now }
-    ensures said { IsSaid (λ r. (string_bytes r.0, node_said (record_seen r.1))) (begin_enum (nodes_of context.entry.nodes.now) id) result }
+    ensures said { IsSaid (λ r. (string_bytes r.0, node_said (record_seen r.1)))
+        (begin_enum (nodes_of context.entry.nodes.now) id) result }
     ensures record { IfOk result (λ r. IsRecord 2 r.1) }
     ensures kinds { IfErr result (λ e. IsPlain e.kind) }
 {
@@ -126,7 +127,10 @@ impl Progress {
     /// Names the enums that were named by types since.
     fn name_enums<'a>(&mut self, context: Context<'_, 'a>, entries: &Entries) -> Result<()>
         requires { AreNodes context.nodes.now }
-        ensures said { IsSaid (λ _. texts self.new.enum_names.items) (enum_names (nodes_of context.entry.nodes.now) (drop (length (texts self.old.enum_names.items)) (numbered entries.now).enums) (texts self.old.enum_names.items)) result }
+        ensures said { IsSaid (λ _. texts self.new.enum_names.items)
+            (enum_names (nodes_of context.entry.nodes.now)
+            (drop (length (texts self.old.enum_names.items)) (numbered entries.now).enums)
+            (texts self.old.enum_names.items)) result }
         ensures same { self.new.made ≡ self.old.made }
         ensures names { self.new.names ≡ self.old.names }
         ensures kinds { IfErr result (λ e. IsPlain e.kind) }
@@ -150,10 +154,13 @@ impl Progress {
         entry: &Entry,
     ) -> Result<NextStruct<'a>>
         requires { AreNodes context.nodes.now }
-        ensures done { (hs : List Holder) → AreHolders self.old.names hs → IfOk result (λ next. (after : List Holder) × AreHolders self.new.names after
-            × (begin_struct (nodes_of context.entry.nodes.now) (made_of self.old hs) (seen_entry entry.now) (numbered entries.now).enums ≡ Ok (begun_of self.new after next))) }
+        ensures done { (hs : List Holder) → AreHolders self.old.names hs
+            → IfOk result (λ next. (after : List Holder) × AreHolders self.new.names after
+            × (begin_struct (nodes_of context.entry.nodes.now) (made_of self.old hs) (seen_entry entry.now)
+            (numbered entries.now).enums ≡ Ok (begun_of self.new after next))) }
         ensures refused { (hs : List Holder) → AreHolders self.old.names hs → IfErr result (λ e. e.kind ≢ OutOfMemory →
-            begin_struct (nodes_of context.entry.nodes.now) (made_of self.old hs) (seen_entry entry.now) (numbered entries.now).enums ≡ Err e.kind) }
+            begin_struct (nodes_of context.entry.nodes.now) (made_of self.old hs) (seen_entry entry.now)
+            (numbered entries.now).enums ≡ Err e.kind) }
         ensures number { IfOk result (λ next. next.place.number ≡ length self.old.made.nodes.items) }
         ensures id { IfOk result (λ next. next.place.id ≡ entry.now.id) }
         ensures scopes { IfOk result (λ next. bounds next.scopes.items ≡ bounds entry.now.scopes.items) }
@@ -193,7 +200,10 @@ impl Progress {
         requires brands { AreBrandsOf self.now.made.nodes.items self.now.made.brands.items }
         requires number { next.place.number ≡ length self.now.made.nodes.items }
         requires node { IsRecord 2 next.place.node }
-        ensures done { (hs : List Holder) → IsDone (λ _. made_of self.new hs) (add_struct (nodes_of context.entry.nodes.now) context.entry.strict (made_of self.old hs) next.entry.place.id (bounds next.entry.scopes.items) (begun_of self.old hs next.entry)) (between entries.old) (between entries.new) result }
+        ensures done { (hs : List Holder) → IsDone (λ _. made_of self.new hs)
+            (add_struct (nodes_of context.entry.nodes.now) context.entry.strict
+            (made_of self.old hs) next.entry.place.id (bounds next.entry.scopes.items)
+            (begun_of self.old hs next.entry)) (between entries.old) (between entries.new) result }
         ensures numbers { IfOk result (λ _. AreNumbered entries.new) }
         ensures names { self.new.names ≡ self.old.names }
         ensures brands { IfOk result (λ _. AreBrandsOf self.new.made.nodes.items self.new.made.brands.items) }
@@ -218,7 +228,9 @@ impl Progress {
     ) -> Result<()>
         requires nodes { AreNodes context.nodes.now }
         requires numbers { AreNumbered entries.now }
-        ensures done { (hs : List Holder) → IsDone (λ _. made_of self.new hs) (make_enum (nodes_of context.entry.nodes.now) context.entry.strict (made_of self.old hs) id) (between entries.old) (between entries.new) result }
+        ensures done { (hs : List Holder) → IsDone (λ _. made_of self.new hs)
+            (make_enum (nodes_of context.entry.nodes.now) context.entry.strict (made_of self.old hs) id)
+            (between entries.old) (between entries.new) result }
         ensures numbers { IfOk result (λ _. AreNumbered entries.new) }
         ensures names { self.new.names ≡ self.old.names }
         ensures structs { self.new.made.nodes ≡ self.old.made.nodes }
@@ -238,11 +250,16 @@ impl Progress {
         requires nodes { AreNodes context.nodes.now }
         requires numbers { AreNumbered entries.now }
         requires brands { AreBrandsOf self.now.made.nodes.items self.now.made.brands.items }
-        ensures done { (hs : List Holder) → AreHolders self.old.names hs → IfOk result (λ more. (after : List Holder) × AreHolders self.new.names after
-            × ((steps : ℕ) → make_all (nodes_of context.entry.nodes.now) context.entry.strict (suc steps) (made_of self.old hs) (between entries.old)
-            ≡ rest_of (nodes_of context.entry.nodes.now) context.entry.strict more steps (made_of self.new after) (between entries.new))) }
-        ensures refused { (hs : List Holder) → AreHolders self.old.names hs → IfErr result (λ e. e.kind ≢ OutOfMemory → (steps : ℕ) →
-            make_all (nodes_of context.entry.nodes.now) context.entry.strict (suc steps) (made_of self.old hs) (between entries.old) ≡ Err e.kind) }
+        ensures done { (hs : List Holder) → AreHolders self.old.names hs
+            → IfOk result (λ more. (after : List Holder) × AreHolders self.new.names after
+            × ((steps : ℕ) → make_all (nodes_of context.entry.nodes.now) context.entry.strict (suc steps)
+            (made_of self.old hs) (between entries.old)
+            ≡ rest_of (nodes_of context.entry.nodes.now) context.entry.strict more steps (made_of self.new after)
+            (between entries.new))) }
+        ensures refused { (hs : List Holder) → AreHolders self.old.names hs
+            → IfErr result (λ e. e.kind ≢ OutOfMemory → (steps : ℕ) →
+            make_all (nodes_of context.entry.nodes.now) context.entry.strict (suc steps) (made_of self.old hs)
+            (between entries.old) ≡ Err e.kind) }
         ensures numbers { IfOk result (λ _. AreNumbered entries.new) }
         ensures brands { IfOk result (λ _. AreBrandsOf self.new.made.nodes.items self.new.made.brands.items) }
         ensures kinds { IfErr result (λ e. IsRefusal context.entry.strict e.kind) }
@@ -264,8 +281,13 @@ impl Progress {
 fn make_all<'a>(context: Context<'_, 'a>, mut entries: Entries) -> Result<Converted>
     requires nodes { AreNodes context.nodes.now }
     requires numbers { AreNumbered entries }
-    ensures read { IfOk result (λ made. result_of (make_all (nodes_of context.entry.nodes.now) context.entry.strict (65536 + suc (length (nodes_of context.entry.nodes.now))) nothing_made (between entries)) ≡ Ok (seen_lists made)) }
-    ensures refused { IfErr result (λ e. e.kind ≢ OutOfMemory → make_all (nodes_of context.entry.nodes.now) context.entry.strict (65536 + suc (length (nodes_of context.entry.nodes.now))) nothing_made (between entries) ≡ Err e.kind) }
+    ensures read { IfOk result (λ made. result_of
+        (make_all (nodes_of context.entry.nodes.now) context.entry.strict
+        (65536 + suc (length (nodes_of context.entry.nodes.now))) nothing_made (between entries))
+        ≡ Ok (seen_lists made)) }
+    ensures refused { IfErr result (λ e. e.kind ≢ OutOfMemory
+        → make_all (nodes_of context.entry.nodes.now) context.entry.strict
+        (65536 + suc (length (nodes_of context.entry.nodes.now))) nothing_made (between entries) ≡ Err e.kind) }
     ensures brands { IfOk result (λ made. AreBrandsOf made.nodes.items made.brands.items) }
     ensures kinds { IfErr result (λ e. IsRefusal context.entry.strict e.kind) }
 {
@@ -287,18 +309,20 @@ fn make_all<'a>(context: Context<'_, 'a>, mut entries: Entries) -> Result<Conver
 /// which they are first named. The roots come first, then what the fields and annotations of each name.
 ///
 /// Refused with `OutOfMemory`, or with a number whose cause stands in what is read: that of a part that can't be read
-/// (`BadPointer`, `WrongPointerKind`, `WrongElementSize`, `TextNotTerminated`, `TooDeep`, `CapabilityPointer`), `TooLarge`,
-/// `UnknownKind` for a discriminant that the request set lacks, `NameNotUtf8`, `NodeNotFound` for an id that no node of the
-/// kind has, `TooManyTypes` for more than 65,536 entries or a display name of more than 1,024 bytes, and where `strict`
-/// says so `FloatType` and `InterfaceType`. Where several stand there, any of them may be named.
+/// (`BadPointer`, `WrongPointerKind`, `WrongElementSize`, `TextNotTerminated`, `TooDeep`, `CapabilityPointer`),
+/// `UnknownKind` for a discriminant that the request set lacks, `NameNotUtf8`, `NodeNotFound` for an id that no node of
+/// the kind has, `TooManyTypes` for more than 65,536 entries or a display name of more than 1,024 bytes, and where
+/// `strict` says so `FloatType` and `InterfaceType`. Where several stand there, any of them may be named.
 pub fn read_request(
     alloc: Global,
     reader: dynamic_struct::Reader<'_>,
     strict: bool,
 ) -> Result<Converted>
     requires { IsRecord 0 reader }
-    ensures read { IfOk result (λ made. and_said (request_said (record_seen reader.entry)) (λ r. conversion_of r strict) ≡ Ok (seen_lists made)) }
-    ensures refused { IfErr result (λ e. e.kind ≢ OutOfMemory → and_said (request_said (record_seen reader.entry)) (λ r. conversion_of r strict) ≡ Err e.kind) }
+    ensures read { IfOk result (λ made. and_said (request_said (record_seen reader.entry))
+        (λ r. conversion_of r strict) ≡ Ok (seen_lists made)) }
+    ensures refused { IfErr result (λ e. e.kind ≢ OutOfMemory
+        → and_said (request_said (record_seen reader.entry)) (λ r. conversion_of r strict) ≡ Err e.kind) }
     ensures brands { IfOk result (λ made. AreBrandsOf made.nodes.items made.brands.items) }
     ensures kinds { IfErr result (λ e. IsRefusal strict e.kind) }
 {

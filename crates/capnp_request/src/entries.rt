@@ -1,5 +1,5 @@
-//! The entries of a set while it is made: struct nodes with bindings, groups and enums, by the numbers that they got when
-//! they were first named.
+//! The entries of a set while it is made: struct nodes with bindings, groups and enums, by the numbers that they got
+//! when they were first named.
 ghost use Rattle.std.specs.Prelude.{◌≡◌, ◌≢◌, ◌<◌, ◌≤◌, [], length, slice_get, option_map, IfErr, IfOk, Ok, Err};
 ghost use Rattle.capnp_device.specs.declared.error.ErrorKind.TheVariants.{OutOfMemory, TooManyTypes};
 ghost use Rattle.capnp_schema.specs.Types.{EnumType, StructType, seen_type};
@@ -132,9 +132,12 @@ impl Entries {
     /// The number of a struct node with bindings, which it gets where it has none.
     pub(crate) fn number_of(&mut self, alloc: Global, bound: BoundNode) -> Result<u32>
         requires { AreNumbered self.now }
-        ensures done { IfOk result (λ n. (seen : Seen) → number_struct bound.id (bounds bound.scopes.items) (named (numbered self.old) seen) ≡ Ok (n, named (numbered self.new) seen)) }
+        ensures done { IfOk result (λ n. (seen : Seen)
+            → number_struct bound.id (bounds bound.scopes.items) (named (numbered self.old) seen)
+            ≡ Ok (n, named (numbered self.new) seen)) }
         ensures numbers { IfOk result (λ n. AreNumbered self.new) }
-        ensures refused { IfErr result (λ e. e.kind ≢ OutOfMemory → (seen : Seen) → number_struct bound.id (bounds bound.scopes.items) (named (numbered self.old) seen) ≡ Err e.kind) }
+        ensures refused { IfErr result (λ e. e.kind ≢ OutOfMemory → (seen : Seen)
+            → number_struct bound.id (bounds bound.scopes.items) (named (numbered self.old) seen) ≡ Err e.kind) }
         ensures kinds { IfErr result (λ e. IsPlain e.kind) }
     {
         if let Some(number) = self.by_binding.get(&bound) {
@@ -159,9 +162,12 @@ impl Entries {
         place: GroupPlace,
     ) -> Result<u32>
         requires { AreNumbered self.now }
-        ensures done { IfOk result (λ n. (seen : Seen) → add_entry (group_entry id (bounds scopes.items) place) (named (numbered self.old) seen) ≡ Ok (n, named (numbered self.new) seen)) }
+        ensures done { IfOk result (λ n. (seen : Seen)
+            → add_entry (group_entry id (bounds scopes.items) place) (named (numbered self.old) seen)
+            ≡ Ok (n, named (numbered self.new) seen)) }
         ensures numbers { IfOk result (λ n. AreNumbered self.new) }
-        ensures refused { IfErr result (λ e. e.kind ≢ OutOfMemory → (seen : Seen) → add_entry (group_entry id (bounds scopes.items) place) (named (numbered self.old) seen) ≡ Err e.kind) }
+        ensures refused { IfErr result (λ e. e.kind ≢ OutOfMemory → (seen : Seen)
+            → add_entry (group_entry id (bounds scopes.items) place) (named (numbered self.old) seen) ≡ Err e.kind) }
         ensures kinds { IfErr result (λ e. IsPlain e.kind) }
     {
         let number = self.next_number()?;
@@ -177,9 +183,12 @@ impl Entries {
     pub(crate) fn number_enum(&mut self, nodes: &SchemaNodes<'_>, id: u64) -> Result<u32>
         requires nodes { AreNodes nodes.now }
         requires numbers { AreNumbered self.now }
-        ensures done { IfOk result (λ n. (seen : Seen) → number_enum (nodes_of nodes.now) id (named (numbered self.old) seen) ≡ Ok (n, named (numbered self.new) seen)) }
+        ensures done { IfOk result (λ n. (seen : Seen)
+            → number_enum (nodes_of nodes.now) id (named (numbered self.old) seen)
+            ≡ Ok (n, named (numbered self.new) seen)) }
         ensures numbers { IfOk result (λ n. AreNumbered self.new) }
-        ensures refused { IfErr result (λ e. e.kind ≢ OutOfMemory → (seen : Seen) → number_enum (nodes_of nodes.now) id (named (numbered self.old) seen) ≡ Err e.kind) }
+        ensures refused { IfErr result (λ e. e.kind ≢ OutOfMemory → (seen : Seen)
+            → number_enum (nodes_of nodes.now) id (named (numbered self.old) seen) ≡ Err e.kind) }
         ensures kinds { IfErr result (λ e. IsPlain e.kind) }
     {
         if let Some(number) = self.by_id.get(&id) {

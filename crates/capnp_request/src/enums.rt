@@ -56,7 +56,9 @@ fn enumerant_of<'a>(
     requires nodes { AreNodes context.nodes.now }
     requires numbers { AreNumbered entries.now }
     requires is_record { IsRecord 11 enumerant }
-    ensures done { IsDone seen_converted_enumerant (enumerant_of (nodes_of context.entry.nodes.now) context.entry.strict (enumerant_said (record_seen enumerant.entry)))
+    ensures done { IsDone seen_converted_enumerant
+        (enumerant_of (nodes_of context.entry.nodes.now) context.entry.strict
+        (enumerant_said (record_seen enumerant.entry)))
         (between entries.old) (between entries.new) result }
     ensures numbers { IfOk result (λ _. AreNumbered entries.new) }
     ensures kinds { IfErr result (λ e. IsRefusal context.entry.strict e.kind) }
@@ -87,7 +89,9 @@ fn enumerants_of<'a>(
     requires nodes { AreNodes context.nodes.now }
     requires numbers { AreNumbered entries.now }
     requires is_list { IsListOf (one 11) listed }
-    ensures done { IsDone (λ r. seen_enumerants r.items) (each_read (enumerant_of (nodes_of context.entry.nodes.now) context.entry.strict) (each_said 11 enumerant_said (values_left listed.entry 0)))
+    ensures done { IsDone (λ r. seen_enumerants r.items)
+        (each_read (enumerant_of (nodes_of context.entry.nodes.now) context.entry.strict)
+        (each_said 11 enumerant_said (values_left listed.entry 0)))
         (between entries.old) (between entries.new) result }
     ensures numbers { IfOk result (λ _. AreNumbered entries.new) }
     ensures kinds { IfErr result (λ e. IsRefusal context.entry.strict e.kind) }
@@ -104,7 +108,8 @@ fn enumerants_of<'a>(
 /// The parts of enumerants, each in a list of its own.
 fn parts_of(alloc: Global, made: Vec<ConvertedEnumerant>) -> Result<EnumerantParts>
     ensures records { IfOk result (λ parts. parts.records.items ≡ enumerant_records made.items) }
-    ensures types { IfOk result (λ parts. map (λ types. types.items) parts.annotation_types.items ≡ enumerant_types made.items) }
+    ensures types { IfOk result (λ parts. map (λ types. types.items) parts.annotation_types.items
+        ≡ enumerant_types made.items) }
     ensures kinds { IfErr result (λ e. e.kind ≡ OutOfMemory) }
 {
     let mut parts = EnumerantParts {
@@ -132,7 +137,8 @@ pub(crate) fn enum_of<'a>(
     requires nodes { AreNodes context.nodes.now }
     requires numbers { AreNumbered entries.now }
     requires is_record { IsRecord 2 place.node }
-    ensures done { IsDone seen_enum (enum_made (nodes_of context.entry.nodes.now) context.entry.strict place.entry.id (string_bytes display_name) (node_said (record_seen place.entry.node)))
+    ensures done { IsDone seen_enum (enum_made (nodes_of context.entry.nodes.now) context.entry.strict place.entry.id
+        (string_bytes display_name) (node_said (record_seen place.entry.node)))
         (between entries.old) (between entries.new) result }
     ensures numbers { IfOk result (λ _. AreNumbered entries.new) }
     ensures own { IfOk result (λ e. length e.annotation_types.own.items ≡ length e.annotations.items) }

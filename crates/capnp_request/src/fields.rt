@@ -70,7 +70,9 @@ fn slot_of<'a>(
     requires numbers { AreNumbered entries.now }
     requires record { IsRecord 8 field }
     requires active { which_of (record_seen field) ≡ Some 3 }
-    ensures done { IsDone (seen_converted_kind place) (kind_of (nodes_of context.entry.nodes.now) context.entry.strict (bounds inside.now) place.parent place.field (in_struct UnreadField slot_said (read_at 8 3 (record_seen field.entry))))
+    ensures done { IsDone (seen_converted_kind place)
+        (kind_of (nodes_of context.entry.nodes.now) context.entry.strict (bounds inside.now) place.parent place.field
+        (in_struct UnreadField slot_said (read_at 8 3 (record_seen field.entry))))
         (between entries.old) (between entries.new) result }
     ensures numbers { IfOk result (λ _. AreNumbered entries.new) }
     ensures kinds { IfErr result (λ e. IsRefusal context.entry.strict e.kind) }
@@ -106,7 +108,9 @@ fn group_of<'a>(
     requires numbers { AreNumbered entries.now }
     requires record { IsRecord 8 field }
     requires active { which_of (record_seen field) ≡ Some 4 }
-    ensures done { IsDone (seen_converted_kind place) (kind_of (nodes_of context.entry.nodes.now) context.entry.strict (bounds inside.now) place.parent place.field (in_struct UnreadField group_said (read_at 8 4 (record_seen field.entry))))
+    ensures done { IsDone (seen_converted_kind place)
+        (kind_of (nodes_of context.entry.nodes.now) context.entry.strict (bounds inside.now) place.parent place.field
+        (in_struct UnreadField group_said (read_at 8 4 (record_seen field.entry))))
         (between entries.old) (between entries.new) result }
     ensures numbers { IfOk result (λ _. AreNumbered entries.new) }
     ensures kinds { IfErr result (λ e. IsRefusal context.entry.strict e.kind) }
@@ -123,7 +127,8 @@ fn group_of<'a>(
     })
 }
 
-/// The kind of a field at its place in an entry of these scopes. Refused with `UnknownKind` where it is no slot and no group.
+/// The kind of a field at its place in an entry of these scopes. Refused with `UnknownKind` where it is no slot and no
+/// group.
 fn kind_of<'a>(
     context: Context<'_, 'a>,
     entries: &mut Entries,
@@ -134,7 +139,9 @@ fn kind_of<'a>(
     requires nodes { AreNodes context.nodes.now }
     requires numbers { AreNumbered entries.now }
     requires record { IsRecord 8 field }
-    ensures done { IsDone (seen_converted_kind place) (kind_of (nodes_of context.entry.nodes.now) context.entry.strict (bounds inside.now) place.parent place.field (field_said (record_seen field.entry)).kind)
+    ensures done { IsDone (seen_converted_kind place)
+        (kind_of (nodes_of context.entry.nodes.now) context.entry.strict (bounds inside.now) place.parent place.field
+        (field_said (record_seen field.entry)).kind)
         (between entries.old) (between entries.new) result }
     ensures numbers { IfOk result (λ _. AreNumbered entries.new) }
     ensures kinds { IfErr result (λ e. IsRefusal context.entry.strict e.kind) }
@@ -160,7 +167,9 @@ pub(crate) fn field_of<'a>(
     requires nodes { AreNodes context.nodes.now }
     requires numbers { AreNumbered entries.now }
     requires is_record { IsRecord 8 field }
-    ensures done { IsDone (seen_converted place.parent place.field) (field_of (nodes_of context.entry.nodes.now) context.entry.strict (bounds inside.now) place.parent place.field (field_said (record_seen field.entry)))
+    ensures done { IsDone (seen_converted place.parent place.field)
+        (field_of (nodes_of context.entry.nodes.now) context.entry.strict (bounds inside.now) place.parent place.field
+        (field_said (record_seen field.entry)))
         (between entries.old) (between entries.new) result }
     ensures numbers { IfOk result (λ _. AreNumbered entries.new) }
     ensures typed { IfOk result (λ f. length f.annotation_types.items ≡ length f.record.annotations.items) }

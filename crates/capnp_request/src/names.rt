@@ -108,7 +108,8 @@ pub(crate) fn enum_name(alloc: Global, display: &[u8]) -> Result<String>
 
 /// The word for a type that names nothing.
 fn type_word(base: TypeVariant) -> &'static [u8]
-    ensures { names_nothing base ≡ true → (structs enums : List (List ℕ)) → result.now ≡ type_name structs enums (seen_variant base) }
+    ensures { names_nothing base ≡ true → (structs enums : List (List ℕ))
+        → result.now ≡ type_name structs enums (seen_variant base) }
 {
     match base {
         TypeVariant::Void => b"Void",
@@ -129,8 +130,12 @@ fn type_word(base: TypeVariant) -> &'static [u8]
 
 /// Appends the name of what stands inside all lists of a type.
 fn append_base(name: &mut Vec<u8>, named: Named<'_>, bound: Type) -> Result<()>
-    ensures appended { IfOk result (λ _. name.new.items ≡ name.old.items ++ type_name (struct_names named.entry.structs.now) (texts named.entry.enums.now) (seen_base (base_of bound))) }
-    ensures refused { IfErr result (λ e. IsTooLong e.kind (name.old.items ++ type_name (struct_names named.entry.structs.now) (texts named.entry.enums.now) (seen_base (base_of bound)))) }
+    ensures appended { IfOk result (λ _. name.new.items
+        ≡ name.old.items ++ type_name (struct_names named.entry.structs.now) (texts named.entry.enums.now)
+        (seen_base (base_of bound))) }
+    ensures refused { IfErr result (λ e. IsTooLong e.kind
+        (name.old.items ++ type_name (struct_names named.entry.structs.now) (texts named.entry.enums.now)
+        (seen_base (base_of bound)))) }
     ensures kinds { IfErr result (λ e. IsPlain e.kind) }
 {
     match bound.innermost() {
@@ -162,8 +167,12 @@ fn append_lists(name: &mut Vec<u8>, bound: Type, piece: &[u8]) -> Result<()>
 
 /// Appends the name of a type.
 fn append_type(name: &mut Vec<u8>, named: Named<'_>, bound: Type) -> Result<()>
-    ensures appended { IfOk result (λ _. name.new.items ≡ name.old.items ++ type_name (struct_names named.entry.structs.now) (texts named.entry.enums.now) (seen_type bound)) }
-    ensures refused { IfErr result (λ e. IsTooLong e.kind (name.old.items ++ type_name (struct_names named.entry.structs.now) (texts named.entry.enums.now) (seen_type bound))) }
+    ensures appended { IfOk result (λ _. name.new.items
+        ≡ name.old.items ++ type_name (struct_names named.entry.structs.now) (texts named.entry.enums.now)
+        (seen_type bound)) }
+    ensures refused { IfErr result (λ e. IsTooLong e.kind
+        (name.old.items ++ type_name (struct_names named.entry.structs.now) (texts named.entry.enums.now)
+        (seen_type bound))) }
     ensures kinds { IfErr result (λ e. IsPlain e.kind) }
 {
     append_lists(name, bound, b"List(")?;
@@ -174,8 +183,12 @@ fn append_type(name: &mut Vec<u8>, named: Named<'_>, bound: Type) -> Result<()>
 
 /// Appends the name of the type of a number among these, an untyped pointer's where there are fewer.
 fn append_bound(name: &mut Vec<u8>, named: Named<'_>, types: &[Type], index: u32) -> Result<()>
-    ensures appended { IfOk result (λ _. name.new.items ≡ name.old.items ++ name_at (struct_names named.entry.structs.now) (texts named.entry.enums.now) (map seen_type types.now) index) }
-    ensures refused { IfErr result (λ e. IsTooLong e.kind (name.old.items ++ name_at (struct_names named.entry.structs.now) (texts named.entry.enums.now) (map seen_type types.now) index)) }
+    ensures appended { IfOk result (λ _. name.new.items
+        ≡ name.old.items ++ name_at (struct_names named.entry.structs.now) (texts named.entry.enums.now)
+        (map seen_type types.now) index) }
+    ensures refused { IfErr result (λ e. IsTooLong e.kind
+        (name.old.items ++ name_at (struct_names named.entry.structs.now) (texts named.entry.enums.now)
+        (map seen_type types.now) index)) }
     ensures kinds { IfErr result (λ e. IsPlain e.kind) }
 {
     match types.get(index as usize) {
@@ -191,8 +204,12 @@ fn append_others(
     types: &[Type],
     parameters: u32,
 ) -> Result<()>
-    ensures appended { IfOk result (λ _. name.new.items ≡ name.old.items ++ more_names (struct_names named.entry.structs.now) (texts named.entry.enums.now) (drop 1 (map seen_type types.now)) (parameters - 1)) }
-    ensures refused { IfErr result (λ e. IsTooLong e.kind (name.old.items ++ more_names (struct_names named.entry.structs.now) (texts named.entry.enums.now) (drop 1 (map seen_type types.now)) (parameters - 1))) }
+    ensures appended { IfOk result (λ _. name.new.items
+        ≡ name.old.items ++ more_names (struct_names named.entry.structs.now) (texts named.entry.enums.now)
+        (drop 1 (map seen_type types.now)) (parameters - 1)) }
+    ensures refused { IfErr result (λ e. IsTooLong e.kind
+        (name.old.items ++ more_names (struct_names named.entry.structs.now) (texts named.entry.enums.now)
+        (drop 1 (map seen_type types.now)) (parameters - 1))) }
     ensures kinds { IfErr result (λ e. IsPlain e.kind) }
 {
     for index in 1..parameters {
@@ -204,8 +221,12 @@ fn append_others(
 
 /// Appends what is bound to a scope's parameters, in parentheses, where that isn't untyped pointers alone.
 fn append_bindings(name: &mut Vec<u8>, named: Named<'_>, scope: &BoundScope) -> Result<()>
-    ensures appended { IfOk result (λ _. name.new.items ≡ name.old.items ++ bindings_name (struct_names named.entry.structs.now) (texts named.entry.enums.now) (seen_bound scope.now).types scope.now.parameters) }
-    ensures refused { IfErr result (λ e. IsTooLong e.kind (name.old.items ++ bindings_name (struct_names named.entry.structs.now) (texts named.entry.enums.now) (seen_bound scope.now).types scope.now.parameters)) }
+    ensures appended { IfOk result (λ _. name.new.items
+        ≡ name.old.items ++ bindings_name (struct_names named.entry.structs.now) (texts named.entry.enums.now)
+        (seen_bound scope.now).types scope.now.parameters) }
+    ensures refused { IfErr result (λ e. IsTooLong e.kind
+        (name.old.items ++ bindings_name (struct_names named.entry.structs.now) (texts named.entry.enums.now)
+        (seen_bound scope.now).types scope.now.parameters)) }
     ensures kinds { IfErr result (λ e. IsPlain e.kind) }
 {
     let types = scope.types.as_slice();
@@ -231,8 +252,8 @@ fn dots_in(name: &[u8]) -> usize
     dots
 }
 
-/// The part of a dotted name that a scope is paired with, by the number of dots in the name: the last for the node itself,
-/// and the first for a scope that has no part of its own.
+/// The part of a dotted name that a scope is paired with, by the number of dots in the name: the last for the node
+/// itself, and the first for a scope that has no part of its own.
 fn part_of_scope(dots: usize, distance: u32) -> usize
     ensures { result ≡ dots - distance }
 {
@@ -247,8 +268,12 @@ fn append_part_bindings(
     dots: usize,
     part: usize,
 ) -> Result<()>
-    ensures appended { IfOk result (λ _. name.new.items ≡ name.old.items ++ part_bindings (struct_names named.entry.structs.now) (texts named.entry.enums.now) (bounds scopes.now) dots part) }
-    ensures refused { IfErr result (λ e. IsTooLong e.kind (name.old.items ++ part_bindings (struct_names named.entry.structs.now) (texts named.entry.enums.now) (bounds scopes.now) dots part)) }
+    ensures appended { IfOk result (λ _. name.new.items
+        ≡ name.old.items ++ part_bindings (struct_names named.entry.structs.now) (texts named.entry.enums.now)
+        (bounds scopes.now) dots part) }
+    ensures refused { IfErr result (λ e. IsTooLong e.kind
+        (name.old.items ++ part_bindings (struct_names named.entry.structs.now) (texts named.entry.enums.now)
+        (bounds scopes.now) dots part)) }
     ensures kinds { IfErr result (λ e. IsPlain e.kind) }
 {
     for scope in scopes {
@@ -266,8 +291,12 @@ fn append_dotted(
     dotted: &[u8],
     scopes: &[BoundScope],
 ) -> Result<()>
-    ensures appended { IfOk result (λ _. name.new.items ≡ name.old.items ++ bound_name (struct_names named.entry.structs.now) (texts named.entry.enums.now) (bounds scopes.now) (count_of 46 dotted.now) 0 dotted.now) }
-    ensures refused { IfErr result (λ e. IsTooLong e.kind (name.old.items ++ bound_name (struct_names named.entry.structs.now) (texts named.entry.enums.now) (bounds scopes.now) (count_of 46 dotted.now) 0 dotted.now)) }
+    ensures appended { IfOk result (λ _. name.new.items
+        ≡ name.old.items ++ bound_name (struct_names named.entry.structs.now) (texts named.entry.enums.now)
+        (bounds scopes.now) (count_of 46 dotted.now) 0 dotted.now) }
+    ensures refused { IfErr result (λ e. IsTooLong e.kind
+        (name.old.items ++ bound_name (struct_names named.entry.structs.now) (texts named.entry.enums.now)
+        (bounds scopes.now) (count_of 46 dotted.now) 0 dotted.now)) }
     ensures kinds { IfErr result (λ e. IsPlain e.kind) }
 {
     let dots = dots_in(dotted);
@@ -319,10 +348,12 @@ fn dotted_name(alloc: Global, parent: &[u8], field: &[u8]) -> Result<String>
     Ok(name)
 }
 
-/// The name of the group that a field of a struct names. Refused with `NodeNotFound` where the struct has no such field.
+/// The name of the group that a field of a struct names. Refused with `NodeNotFound` where the struct has no such
+/// field.
 fn member_name(alloc: Global, parent: &NodeRecord, field: usize) -> Result<String>
     ensures read { IfOk result (λ name. group_name (Some (seen_node parent.now)) field ≡ Ok (string_bytes name)) }
-    ensures refused { IfErr result (λ e. e.kind ≢ OutOfMemory → group_name (Some (seen_node parent.now)) field ≡ Err e.kind) }
+    ensures refused { IfErr result (λ e. e.kind ≢ OutOfMemory
+        → group_name (Some (seen_node parent.now)) field ≡ Err e.kind) }
     ensures kinds { IfErr result (λ e. IsPlain e.kind) }
 {
     let fields = parent.body.fields.as_slice();
@@ -339,11 +370,13 @@ fn member_name(alloc: Global, parent: &NodeRecord, field: usize) -> Result<Strin
     }
 }
 
-/// The name of a group: its parent's, a dot, and the name of the field. Refused with `NodeNotFound` where its parent isn't
-/// there or has no such field.
+/// The name of a group: its parent's, a dot, and the name of the field. Refused with `NodeNotFound` where its parent
+/// isn't there or has no such field.
 fn group_name(alloc: Global, parent: Option<&NodeRecord>, field: usize) -> Result<String>
-    ensures read { IfOk result (λ name. group_name (option_map (λ n. seen_node n.now) parent.entry) field ≡ Ok (string_bytes name)) }
-    ensures refused { IfErr result (λ e. e.kind ≢ OutOfMemory → group_name (option_map (λ n. seen_node n.now) parent.entry) field ≡ Err e.kind) }
+    ensures read { IfOk result (λ name. group_name (option_map (λ n. seen_node n.now) parent.entry) field
+        ≡ Ok (string_bytes name)) }
+    ensures refused { IfErr result (λ e. e.kind ≢ OutOfMemory
+        → group_name (option_map (λ n. seen_node n.now) parent.entry) field ≡ Err e.kind) }
     ensures kinds { IfErr result (λ e. IsPlain e.kind) }
 {
     match parent {
@@ -380,8 +413,10 @@ impl Names {
 
     /// Whether an entry of another id had the name before; the entry has it from now on.
     fn is_taken(&mut self, dotted: &[u8], id: u64) -> Result<bool>
-        ensures taken { (hs : List NameHolder) → AreHolders self.old hs → IfOk result (λ t. t ≡ is_taken hs id dotted.now) }
-        ensures held { (hs : List NameHolder) → AreHolders self.old hs → OnOk result (AreHolders self.new (record { id = id; dotted = dotted.now } ∷ hs)) }
+        ensures taken { (hs : List NameHolder) → AreHolders self.old hs
+            → IfOk result (λ t. t ≡ is_taken hs id dotted.now) }
+        ensures held { (hs : List NameHolder) → AreHolders self.old hs
+            → OnOk result (AreHolders self.new (record { id = id; dotted = dotted.now } ∷ hs)) }
         ensures refused { IfErr result (λ e. e.kind ≡ OutOfMemory) }
     {
         let key = dotted.to_vec(self.alloc)?;
@@ -390,13 +425,20 @@ impl Names {
         Ok(holder.is_shared)
     }
 
-    /// The name of an entry that is no group, by the display name of its node: that without the file, with what is bound
-    /// to each scope behind the scope's part. Where an entry of another id had the name without file before, the file stands
-    /// before it.
+    /// The name of an entry that is no group, by the display name of its node: that without the file, with what is
+    /// bound to each scope behind the scope's part. Where an entry of another id had the name without file before, the
+    /// file stands before it.
     fn name_by_display(&mut self, named: Named<'_>, entry: &Entry, display: &[u8]) -> Result<String>
-        ensures read { (hs : List NameHolder) → AreHolders self.old hs → IfOk result (λ name. struct_name (struct_names named.entry.structs.now) (texts named.entry.enums.now) hs entry.now.id (bounds entry.now.scopes.items) display.now ≡ Ok (string_bytes name)) }
-        ensures held { (hs : List NameHolder) → AreHolders self.old hs → OnOk result (AreHolders self.new (record { id = entry.now.id; dotted = dotted_of display.now } ∷ hs)) }
-        ensures refused { (hs : List NameHolder) → AreHolders self.old hs → IfErr result (λ e. e.kind ≢ OutOfMemory → struct_name (struct_names named.entry.structs.now) (texts named.entry.enums.now) hs entry.now.id (bounds entry.now.scopes.items) display.now ≡ Err e.kind) }
+        ensures read { (hs : List NameHolder) → AreHolders self.old hs
+            → IfOk result (λ name. struct_name (struct_names named.entry.structs.now)
+            (texts named.entry.enums.now) hs entry.now.id (bounds entry.now.scopes.items) display.now
+            ≡ Ok (string_bytes name)) }
+        ensures held { (hs : List NameHolder) → AreHolders self.old hs
+            → OnOk result (AreHolders self.new (record { id = entry.now.id; dotted = dotted_of display.now } ∷ hs)) }
+        ensures refused { (hs : List NameHolder) → AreHolders self.old hs
+            → IfErr result (λ e. e.kind ≢ OutOfMemory
+            → struct_name (struct_names named.entry.structs.now) (texts named.entry.enums.now) hs entry.now.id
+            (bounds entry.now.scopes.items) display.now ≡ Err e.kind) }
         ensures kinds { IfErr result (λ e. IsPlain e.kind) }
     {
         let start = behind_colon(display);
@@ -417,8 +459,14 @@ impl Names {
         entry: &Entry,
     ) -> Result<String>
         requires { AreNodes nodes.now }
-        ensures done { (hs : List NameHolder) → AreHolders self.old hs → IfOk result (λ name. (after : List NameHolder) × AreHolders self.new after × (name_entry (nodes_of nodes.now) (map seen_node named.entry.structs.now) (texts named.entry.enums.now) hs (seen_entry entry.now) Whole ≡ Ok (string_bytes name, after))) }
-        ensures refused { (hs : List NameHolder) → AreHolders self.old hs → IfErr result (λ e. e.kind ≢ OutOfMemory → name_entry (nodes_of nodes.now) (map seen_node named.entry.structs.now) (texts named.entry.enums.now) hs (seen_entry entry.now) Whole ≡ Err e.kind) }
+        ensures done { (hs : List NameHolder) → AreHolders self.old hs
+            → IfOk result (λ name. (after : List NameHolder) × AreHolders self.new after
+            × (name_entry (nodes_of nodes.now) (map seen_node named.entry.structs.now) (texts named.entry.enums.now) hs
+            (seen_entry entry.now) Whole ≡ Ok (string_bytes name, after))) }
+        ensures refused { (hs : List NameHolder) → AreHolders self.old hs
+            → IfErr result (λ e. e.kind ≢ OutOfMemory
+            → name_entry (nodes_of nodes.now) (map seen_node named.entry.structs.now) (texts named.entry.enums.now) hs
+            (seen_entry entry.now) Whole ≡ Err e.kind) }
         ensures kinds { IfErr result (λ e. IsPlain e.kind) }
     {
         let node = nodes.found(entry.id)?;
@@ -435,8 +483,14 @@ impl Names {
         entry: &Entry,
     ) -> Result<String>
         requires { AreNodes nodes.now }
-        ensures done { (hs : List NameHolder) → AreHolders self.old hs → IfOk result (λ name. (after : List NameHolder) × AreHolders self.new after × (name_entry (nodes_of nodes.now) (map seen_node named.entry.structs.now) (texts named.entry.enums.now) hs (seen_entry entry.now) (seen_place entry.now.group) ≡ Ok (string_bytes name, after))) }
-        ensures refused { (hs : List NameHolder) → AreHolders self.old hs → IfErr result (λ e. e.kind ≢ OutOfMemory → name_entry (nodes_of nodes.now) (map seen_node named.entry.structs.now) (texts named.entry.enums.now) hs (seen_entry entry.now) (seen_place entry.now.group) ≡ Err e.kind) }
+        ensures done { (hs : List NameHolder) → AreHolders self.old hs
+            → IfOk result (λ name. (after : List NameHolder) × AreHolders self.new after
+            × (name_entry (nodes_of nodes.now) (map seen_node named.entry.structs.now) (texts named.entry.enums.now) hs
+            (seen_entry entry.now) (seen_place entry.now.group) ≡ Ok (string_bytes name, after))) }
+        ensures refused { (hs : List NameHolder) → AreHolders self.old hs
+            → IfErr result (λ e. e.kind ≢ OutOfMemory
+            → name_entry (nodes_of nodes.now) (map seen_node named.entry.structs.now) (texts named.entry.enums.now) hs
+            (seen_entry entry.now) (seen_place entry.now.group) ≡ Err e.kind) }
         ensures kinds { IfErr result (λ e. IsPlain e.kind) }
     {
         match entry.group {

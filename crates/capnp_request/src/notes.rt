@@ -16,8 +16,8 @@ pub enum StandIn {
     UntypedDefault,
 }
 
-/// That something stands for another type, or a default is left out: the field, by the number of its entry and its index
-/// there, and what it is.
+/// That something stands for another type, or a default is left out: the field, by the number of its entry and its
+/// index there, and what it is.
 #[derive(Clone, Copy, Debug, PartialEq, Eq)]
 pub struct Note {
     pub entry: u32,

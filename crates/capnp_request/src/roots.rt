@@ -40,7 +40,8 @@ fn listed_ids(
     requires plain { is_member (field_at request_set brand index).field ≡ false }
     requires id { IsField inner 0 (UIntType 8) }
     requires id_plain { is_member (field_at request_set inner 0).field ≡ false }
-    ensures said { IsSaid (λ ids. ids.items) (whole_list inner (id_said inner) (read_at brand index (record_seen reader.entry))) result }
+    ensures said { IsSaid (λ ids. ids.items)
+        (whole_list inner (id_said inner) (read_at brand index (record_seen reader.entry))) result }
     ensures kinds { IfErr result (λ e. IsPlain e.kind) }
 {
     let listed = list_at(reader, brand, index, inner)?;
@@ -60,8 +61,10 @@ fn put_id(
     id: u64,
 ) -> Result<()>
     requires { AreNodes nodes.now }
-    ensures queue { (before : List ℕ) → AreMet met.old before → IfOk result (λ _. queue.new.items ≡ queue.old.items ++ new_ids (nodes_of nodes.now) (id ∷ []) before) }
-    ensures met { (before : List ℕ) → AreMet met.old before → IfOk result (λ _. AreMet met.new (new_ids (nodes_of nodes.now) (id ∷ []) before ++ before)) }
+    ensures queue { (before : List ℕ) → AreMet met.old before
+        → IfOk result (λ _. queue.new.items ≡ queue.old.items ++ new_ids (nodes_of nodes.now) (id ∷ []) before) }
+    ensures met { (before : List ℕ) → AreMet met.old before
+        → IfOk result (λ _. AreMet met.new (new_ids (nodes_of nodes.now) (id ∷ []) before ++ before)) }
     ensures kinds { IfErr result (λ e. e.kind ≡ OutOfMemory) }
 {
     if nodes.get(id).is_none() {
@@ -82,8 +85,10 @@ fn put_ids(
     ids: &[u64],
 ) -> Result<()>
     requires { AreNodes nodes.now }
-    ensures queue { (before : List ℕ) → AreMet met.old before → IfOk result (λ _. queue.new.items ≡ queue.old.items ++ new_ids (nodes_of nodes.now) ids.now before) }
-    ensures met { (before : List ℕ) → AreMet met.old before → IfOk result (λ _. AreMet met.new (new_ids (nodes_of nodes.now) ids.now before ++ before)) }
+    ensures queue { (before : List ℕ) → AreMet met.old before
+        → IfOk result (λ _. queue.new.items ≡ queue.old.items ++ new_ids (nodes_of nodes.now) ids.now before) }
+    ensures met { (before : List ℕ) → AreMet met.old before
+        → IfOk result (λ _. AreMet met.new (new_ids (nodes_of nodes.now) ids.now before ++ before)) }
     ensures kinds { IfErr result (λ e. e.kind ≡ OutOfMemory) }
 {
     for id in ids {
@@ -109,7 +114,8 @@ fn number_root<'a>(
     requires nodes { AreNodes context.nodes.now }
     requires numbers { AreNumbered entries.now }
     requires is_record { IsRecord 2 node }
-    ensures done { IsDone (λ _. []) (name_root (nodes_of context.entry.nodes.now) context.entry.strict id (is_root (node_said (record_seen node.entry)).kind)) (between entries.old) (between entries.new) result }
+    ensures done { IsDone (λ _. []) (name_root (nodes_of context.entry.nodes.now) context.entry.strict id
+        (is_root (node_said (record_seen node.entry)).kind)) (between entries.old) (between entries.new) result }
     ensures numbers { IfOk result (λ _. AreNumbered entries.new) }
     ensures kinds { IfErr result (λ e. IsPlain e.kind) }
 {
@@ -121,8 +127,8 @@ fn number_root<'a>(
     Ok(())
 }
 
-/// Numbers the roots: the structs that are no groups among the requested files and what is nested in these, breadth first,
-/// with nothing bound.
+/// Numbers the roots: the structs that are no groups among the requested files and what is nested in these, breadth
+/// first, with nothing bound.
 pub(crate) fn number_roots<'a>(
     context: Context<'_, 'a>,
     entries: &mut Entries,
@@ -131,7 +137,9 @@ pub(crate) fn number_roots<'a>(
     requires nodes { AreNodes context.nodes.now }
     requires numbers { AreNumbered entries.now }
     requires is_record { IsRecord 0 request }
-    ensures done { IsDone (λ _. []) (name_files (nodes_of context.entry.nodes.now) context.entry.strict (whole_list 1 (id_said 1) (read_at 0 1 (record_seen request.entry)))) (between entries.old) (between entries.new) result }
+    ensures done { IsDone (λ _. []) (name_files (nodes_of context.entry.nodes.now) context.entry.strict
+        (whole_list 1 (id_said 1) (read_at 0 1 (record_seen request.entry)))) (between entries.old)
+        (between entries.new) result }
     ensures numbers { IfOk result (λ _. AreNumbered entries.new) }
     ensures kinds { IfErr result (λ e. IsPlain e.kind) }
 {

@@ -57,7 +57,8 @@ fn not_found() -> Error
 
 /// Adds a scope, where it has parameters.
 fn add_scope(scopes: &mut Vec<GenericScope>, id: u64, distance: u32, parameters: u32) -> Result<()>
-    ensures added { OnOk result (map with_nothing scopes.new.items ≡ map with_nothing scopes.old.items ++ with_scope id distance parameters []) }
+    ensures added { OnOk result (map with_nothing scopes.new.items
+        ≡ map with_nothing scopes.old.items ++ with_scope id distance parameters []) }
     ensures kinds { IfErr result (λ e. e.kind ≡ OutOfMemory) }
 {
     if parameters == 0 {
@@ -77,7 +78,8 @@ fn keep_first<'a>(
     id: u64,
     sections: StructReader<'a>,
 ) -> Result<()>
-    ensures kept { OnOk result ((q : ℕ) → get nat_eq by_id.new q ≡ first_kept (get nat_eq by_id.old q) (nat_eq id q) sections.entry) }
+    ensures kept { OnOk result ((q : ℕ) → get nat_eq by_id.new q
+        ≡ first_kept (get nat_eq by_id.old q) (nat_eq id q) sections.entry) }
     ensures kinds { IfErr result (λ e. e.kind ≡ OutOfMemory) }
 {
     if by_id.contains_key(&id) {
@@ -191,12 +193,13 @@ impl<'a> SchemaNodes<'a> {
         Err(not_found())
     }
 
-    /// The declaration of an annotation by its id. Refused with `NodeNotFound` where no node has the id, or one that is no
-    /// annotation.
+    /// The declaration of an annotation by its id. Refused with `NodeNotFound` where no node has the id, or one that is
+    /// no annotation.
     pub(crate) fn declaration(&self, id: u64) -> Result<dynamic_struct::Reader<'a>>
         requires { AreNodes self.now }
         ensures record { IfOk result (IsRecord 5) }
-        ensures read { IfOk result (λ d. declared_term (node_named (nodes_of self.now) id) ≡ Some (declaration_said (record_seen d))) }
+        ensures read { IfOk result (λ d. declared_term (node_named (nodes_of self.now) id)
+            ≡ Some (declaration_said (record_seen d))) }
         ensures missing { IfErr result (λ _. declared_term (node_named (nodes_of self.now) id) ≡ None) }
         ensures kinds { IfErr result (λ e. e.kind ≡ NodeNotFound) }
     {
@@ -210,8 +213,8 @@ impl<'a> SchemaNodes<'a> {
         Ok(declaration)
     }
 
-    /// The scopes of an id's node that have type parameters, inmost first. The scopes are the node, the node of its scope
-    /// id, and so on, up to an id that no node has or that was met.
+    /// The scopes of an id's node that have type parameters, inmost first. The scopes are the node, the node of its
+    /// scope id, and so on, up to an id that no node has or that was met.
     pub(crate) fn generic_scopes(&self, alloc: Global, id: u64) -> Result<Vec<GenericScope>>
         requires { AreNodes self.now }
         ensures read { IfOk result (λ scopes. scopes_of (nodes_of self.now) id ≡ Ok (map with_nothing scopes.items)) }
@@ -279,7 +282,8 @@ pub(crate) fn struct_part<'a>(
 ) -> Result<dynamic_struct::Reader<'a>>
     requires { IsRecord 2 node }
     ensures record { IfOk result (IsRecord 3) }
-    ensures read { IfOk result (λ s. (node_said (record_seen node.entry)).kind ≡ StructNode (struct_said (record_seen s))) }
+    ensures read { IfOk result (λ s. (node_said (record_seen node.entry)).kind
+        ≡ StructNode (struct_said (record_seen s))) }
     ensures missing { IfErr result (λ _. is_struct (node_said (record_seen node.entry)).kind ≡ false) }
     ensures kinds { IfErr result (λ e. e.kind ≡ NodeNotFound) }
 {
@@ -294,9 +298,12 @@ pub(crate) fn struct_part<'a>(
 pub(crate) fn enumerants<'a>(node: dynamic_struct::Reader<'a>) -> Result<dynamic_list::Reader<'a>>
     requires { IsRecord 2 node }
     ensures elements { IfOk result (IsListOf (one 11)) }
-    ensures read { IfOk result (λ l. (node_said (record_seen node.entry)).kind ≡ EnumNode (list_said 11 enumerant_said (list_seen l))) }
-    ensures missing { IfErr result (λ e. is_enum (node_said (record_seen node.entry)).kind ≡ false → e.kind ≡ NodeNotFound) }
-    ensures refused { IfErr result (λ e. is_enum (node_said (record_seen node.entry)).kind ≡ true → (node_said (record_seen node.entry)).kind ≡ EnumNode (Err e.kind)) }
+    ensures read { IfOk result (λ l. (node_said (record_seen node.entry)).kind
+        ≡ EnumNode (list_said 11 enumerant_said (list_seen l))) }
+    ensures missing { IfErr result (λ e. is_enum (node_said (record_seen node.entry)).kind ≡ false
+        → e.kind ≡ NodeNotFound) }
+    ensures refused { IfErr result (λ e. is_enum (node_said (record_seen node.entry)).kind ≡ true
+        → (node_said (record_seen node.entry)).kind ≡ EnumNode (Err e.kind)) }
     ensures kinds { IfErr result (λ e. IsPlain e.kind) }
 {
     if !is_enum_node(node) {

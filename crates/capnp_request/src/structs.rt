@@ -71,7 +71,8 @@ fn add_note(notes: &mut Vec<Note>, is_seen: bool, note: Note) -> Result<()>
 
 /// Adds what is noted of a field.
 fn add_notes(notes: &mut Vec<Note>, entry: u32, field: u32, seen: Seen) -> Result<()>
-    ensures added { IfOk result (λ _. seen_notes notes.new.items ≡ seen_notes notes.old.items ++ notes_of entry field (flags seen) seen.untyped_default) }
+    ensures added { IfOk result (λ _. seen_notes notes.new.items
+        ≡ seen_notes notes.old.items ++ notes_of entry field (flags seen) seen.untyped_default) }
     ensures kinds { IfErr result (λ e. e.kind ≡ OutOfMemory) }
 {
     add_note(notes, seen.float32, note_at(entry, field, StandIn::Float32))?;
@@ -100,7 +101,9 @@ fn fields_of<'a>(
     requires nodes { AreNodes context.nodes.now }
     requires numbers { AreNumbered entries.now }
     requires is_record { IsRecord 3 part }
-    ensures done { IsDone (λ r. seen_fields number 0 r.fields.items) (all_fields (nodes_of context.entry.nodes.now) context.entry.strict (bounds inside.now) number (struct_said (record_seen part.entry)).fields)
+    ensures done { IsDone (λ r. seen_fields number 0 r.fields.items)
+        (all_fields (nodes_of context.entry.nodes.now) context.entry.strict (bounds inside.now) number
+        (struct_said (record_seen part.entry)).fields)
         (between entries.old) (between entries.new) result }
     ensures notes { IfOk result (λ r. seen_notes r.notes.items ≡ all_notes (seen_fields number 0 r.fields.items)) }
     ensures numbers { IfOk result (λ _. AreNumbered entries.new) }
@@ -126,7 +129,8 @@ fn fields_of<'a>(
 fn parts_of(alloc: Global, fields: Vec<ConvertedField>) -> Result<FieldParts>
     ensures records { IfOk result (λ parts. parts.records.items ≡ field_records fields.items) }
     ensures types { IfOk result (λ parts. parts.types.items ≡ field_types fields.items) }
-    ensures children { IfOk result (λ parts. map (λ types. types.items) parts.annotation_types.items ≡ child_types fields.items) }
+    ensures children { IfOk result (λ parts. map (λ types. types.items) parts.annotation_types.items
+        ≡ child_types fields.items) }
     ensures kinds { IfErr result (λ e. e.kind ≡ OutOfMemory) }
 {
     let mut parts = FieldParts {
@@ -191,7 +195,9 @@ pub(crate) fn struct_of<'a>(
     requires nodes { AreNodes context.nodes.now }
     requires numbers { AreNumbered entries.now }
     requires is_record { IsRecord 2 place.node }
-    ensures done { IsDone seen_struct (struct_made (nodes_of context.entry.nodes.now) context.entry.strict place.entry.number place.entry.id (bounds inside.now) (string_bytes display_name) (node_said (record_seen place.entry.node)))
+    ensures done { IsDone seen_struct (struct_made
+        (nodes_of context.entry.nodes.now) context.entry.strict place.entry.number place.entry.id (bounds inside.now)
+        (string_bytes display_name) (node_said (record_seen place.entry.node)))
         (between entries.old) (between entries.new) result }
     ensures numbers { IfOk result (λ _. AreNumbered entries.new) }
     ensures brand { IfOk result (λ r. IsBrandOf place.entry.number r.record r.brand) }

@@ -89,7 +89,8 @@ fn plain_variant(member: u16) -> Option<TypeVariant>
 
 /// A `Float32` or `Float64` as an integer of its width, with a note. Refused with `FloatType` where that is asked for.
 fn float_type(strict: bool, is_double: bool, seen: &mut Seen) -> Result<Type>
-    ensures done { (n : Numbered) → IsDone seen_type (float_type is_double strict) (named n (flags seen.old)) (named n (flags seen.new)) result }
+    ensures done { (n : Numbered) → IsDone seen_type (float_type is_double strict) (named n (flags seen.old))
+        (named n (flags seen.new)) result }
     ensures kinds { IfErr result (λ e. IsRefusal strict e.kind) }
 {
     if strict {
@@ -105,7 +106,8 @@ fn float_type(strict: bool, is_double: bool, seen: &mut Seen) -> Result<Type>
 
 /// An interface as an untyped pointer, with a note. Refused with `InterfaceType` where that is asked for.
 fn interface_type(strict: bool, seen: &mut Seen) -> Result<Type>
-    ensures done { (n : Numbered) → IsDone seen_type (interface strict) (named n (flags seen.old)) (named n (flags seen.new)) result }
+    ensures done { (n : Numbered) → IsDone seen_type (interface strict) (named n (flags seen.old))
+        (named n (flags seen.new)) result }
     ensures kinds { IfErr result (λ e. IsRefusal strict e.kind) }
 {
     if strict {
@@ -119,7 +121,9 @@ fn interface_type(strict: bool, seen: &mut Seen) -> Result<Type>
 fn untyped_or_bound(inside: &[BoundScope], term: dynamic_struct::Reader<'_>) -> Result<Type>
     requires record { IsRecord 13 term }
     requires active { which_of (record_seen term) ≡ Some 18 }
-    ensures done { (nodes : List SchemaNode) → (strict : Bool) → (s : Named) → IsDone seen_type (type_of nodes strict (bounds inside.now) (untyped_term (read_at 13 18 (record_seen term.entry)))) s s result }
+    ensures done { (nodes : List SchemaNode) → (strict : Bool) → (s : Named)
+        → IsDone seen_type (type_of nodes strict (bounds inside.now)
+        (untyped_term (read_at 13 18 (record_seen term.entry)))) s s result }
     ensures kinds { IfErr result (λ e. IsPlain e.kind) }
 {
     let pointer = group_at(term, brands::TYPE, TYPE_UNTYPED, brands::TYPE_UNTYPED);
@@ -141,7 +145,8 @@ fn untyped_or_bound(inside: &[BoundScope], term: dynamic_struct::Reader<'_>) -> 
 
 /// A list of a type. Refused with `TooManyTypes` where as many lists are around the type as are counted.
 fn list_type(element: Type) -> Result<Type>
-    ensures list { IfOk result (λ t. (lists_in (seen_type element) < 2 ^ 64 - 1) × (seen_type t ≡ ListType (seen_type element))) }
+    ensures list { IfOk result (λ t. (lists_in (seen_type element) < 2 ^ 64 - 1)
+        × (seen_type t ≡ ListType (seen_type element))) }
     ensures full { IfErr result (λ _. 2 ^ 64 - 1 ≤ lists_in (seen_type element)) }
     ensures kinds { IfErr result (λ e. e.kind ≡ TooManyTypes) }
 {
@@ -167,7 +172,9 @@ fn enum_type_of<'a>(
     requires numbers { AreNumbered entries.now }
     requires is_record { IsRecord 13 term }
     requires active { which_of (record_seen term) ≡ Some 15 }
-    ensures done { (inside : List Bound) → (levels : ℕ) → (seen : WorkSeen) → IsDone seen_type (type_of (nodes_of context.entry.nodes.now) context.entry.strict inside (enum_term (type_said levels) (read_at 13 15 (record_seen term.entry))))
+    ensures done { (inside : List Bound) → (levels : ℕ) → (seen : WorkSeen)
+        → IsDone seen_type (type_of (nodes_of context.entry.nodes.now) context.entry.strict inside
+        (enum_term (type_said levels) (read_at 13 15 (record_seen term.entry))))
         (named (numbered entries.old) seen) (named (numbered entries.new) seen) result }
     ensures numbers { IfOk result (λ _. AreNumbered entries.new) }
     ensures kinds { IfErr result (λ e. IsPlain e.kind) }
@@ -192,7 +199,8 @@ fn list_type_of<'a>(
     requires numbers { AreNumbered entries.now }
     requires is_record { IsRecord 13 term }
     requires active { which_of (record_seen term) ≡ Some 14 }
-    ensures done { IsDone seen_type (type_of (nodes_of context.entry.nodes.now) context.entry.strict (bounds inside.now) (list_term (type_said depth) (read_at 13 14 (record_seen term.entry))))
+    ensures done { IsDone seen_type (type_of (nodes_of context.entry.nodes.now) context.entry.strict
+        (bounds inside.now) (list_term (type_said depth) (read_at 13 14 (record_seen term.entry))))
         (so_far entries.old seen.old) (so_far entries.new seen.new) result }
     ensures numbers { IfOk result (λ _. AreNumbered entries.new) }
     ensures kinds { IfErr result (λ e. IsRefusal context.entry.strict e.kind) }
@@ -217,7 +225,8 @@ fn struct_type_of<'a>(
     requires numbers { AreNumbered entries.now }
     requires is_record { IsRecord 13 term }
     requires active { which_of (record_seen term) ≡ Some 16 }
-    ensures done { IsDone seen_type (type_of (nodes_of context.entry.nodes.now) context.entry.strict (bounds inside.now) (struct_term (type_said depth) (read_at 13 16 (record_seen term.entry))))
+    ensures done { IsDone seen_type (type_of (nodes_of context.entry.nodes.now) context.entry.strict
+        (bounds inside.now) (struct_term (type_said depth) (read_at 13 16 (record_seen term.entry))))
         (so_far entries.old seen.old) (so_far entries.new seen.new) result }
     ensures numbers { IfOk result (λ _. AreNumbered entries.new) }
     ensures kinds { IfErr result (λ e. IsRefusal context.entry.strict e.kind) }
@@ -251,7 +260,8 @@ pub(crate) fn type_of<'a>(
     requires nodes { AreNodes context.nodes.now }
     requires numbers { AreNumbered entries.now }
     requires is_record { IsRecord 13 term }
-    ensures done { IsDone seen_type (type_of (nodes_of context.entry.nodes.now) context.entry.strict (bounds inside.now) (type_said depth (record_seen term.entry)))
+    ensures done { IsDone seen_type (type_of (nodes_of context.entry.nodes.now) context.entry.strict
+        (bounds inside.now) (type_said depth (record_seen term.entry)))
         (so_far entries.old seen.old) (so_far entries.new seen.new) result }
     ensures numbers { IfOk result (λ _. AreNumbered entries.new) }
     ensures kinds { IfErr result (λ e. IsRefusal context.entry.strict e.kind) }
@@ -283,8 +293,12 @@ fn brand_list<'a>(place: BrandPlace<'a>) -> Result<dynamic_list::Reader<'a>>
     requires field { IsField place.holder place.index (one 19) }
     requires plain { is_member (field_at request_set place.holder place.index).field ≡ false }
     ensures elements { IfOk result (IsListOf (one 20)) }
-    ensures read { (inner : Record → TypeTerm) → IfOk result (λ l. brand_in inner (read_at place.entry.holder place.entry.index (record_seen place.entry.reader)) ≡ scopes_said inner (values_left l 0)) }
-    ensures refused { (inner : Record → TypeTerm) → IfErr result (λ e. brand_in inner (read_at place.entry.holder place.entry.index (record_seen place.entry.reader)) ≡ UnreadBrand e.kind) }
+    ensures read { (inner : Record → TypeTerm)
+        → IfOk result (λ l. brand_in inner (read_at place.entry.holder place.entry.index
+        (record_seen place.entry.reader)) ≡ scopes_said inner (values_left l 0)) }
+    ensures refused { (inner : Record → TypeTerm)
+        → IfErr result (λ e. brand_in inner (read_at place.entry.holder place.entry.index
+        (record_seen place.entry.reader)) ≡ UnreadBrand e.kind) }
     ensures kinds { IfErr result (λ e. IsPlain e.kind) }
 {
     let brand = struct_at(place.reader, place.holder, place.index, brands::BRAND)?;
@@ -308,7 +322,9 @@ pub(crate) fn bindings_of<'a>(
     requires record { IsRecord place.holder place.reader }
     requires field { IsField place.holder place.index (one 19) }
     requires plain { is_member (field_at request_set place.holder place.index).field ≡ false }
-    ensures done { IsDone (λ scopes. bounds scopes.items) (named_scopes (nodes_of context.entry.nodes.now) context.entry.strict (bounds inside.now) id (brand_in (type_said depth) (read_at place.entry.holder place.entry.index (record_seen place.entry.reader))))
+    ensures done { IsDone (λ scopes. bounds scopes.items)
+        (named_scopes (nodes_of context.entry.nodes.now) context.entry.strict (bounds inside.now) id
+        (brand_in (type_said depth) (read_at place.entry.holder place.entry.index (record_seen place.entry.reader))))
         (so_far entries.old seen.old) (so_far entries.new seen.new) result }
     ensures numbers { IfOk result (λ _. AreNumbered entries.new) }
     ensures kinds { IfErr result (λ e. IsRefusal context.entry.strict e.kind) }
@@ -344,7 +360,9 @@ fn bound_scopes<'a>(
     requires nodes { AreNodes context.nodes.now }
     requires numbers { AreNumbered entries.now }
     requires is_list { IsListOf (one 20) said }
-    ensures done { IsDone (λ scopes. bounds scopes.items) (each (bind_scope (brand_types (nodes_of context.entry.nodes.now) context.entry.strict (bounds inside.now) (scopes_said (type_said depth) (values_left said.entry 0)))) (map with_nothing generic.now))
+    ensures done { IsDone (λ scopes. bounds scopes.items)
+        (each (bind_scope (brand_types (nodes_of context.entry.nodes.now) context.entry.strict (bounds inside.now)
+        (scopes_said (type_said depth) (values_left said.entry 0)))) (map with_nothing generic.now))
         (so_far entries.old seen.old) (so_far entries.new seen.new) result }
     ensures numbers { IfOk result (λ _. AreNumbered entries.new) }
     ensures kinds { IfErr result (λ e. IsRefusal context.entry.strict e.kind) }
@@ -364,7 +382,9 @@ fn brand_scope<'a>(
 ) -> Result<Option<dynamic_struct::Reader<'a>>>
     requires { IsListOf (one 20) said }
     ensures record { IfOk result (λ found. IfSome found (IsRecord 20)) }
-    ensures said { (inner : Record → TypeTerm) → IsSaid (option_map (λ scope. scope_said inner (record_seen scope))) (scope_in (scopes_said inner (values_left said.entry 0)) id) result }
+    ensures said { (inner : Record → TypeTerm)
+        → IsSaid (option_map (λ scope. scope_said inner (record_seen scope)))
+        (scope_in (scopes_said inner (values_left said.entry 0)) id) result }
     ensures kinds { IfErr result (λ e. IsPlain e.kind) }
 {
     for index in 0..said.len() {
@@ -379,7 +399,8 @@ fn brand_scope<'a>(
 
 /// A copy of the types that are bound to a scope's parameters inside an entry, none where it isn't there.
 fn inherited(alloc: Global, inside: &[BoundScope], id: u64) -> Result<Vec<Type>>
-    ensures read { IfOk result (λ types. bound_types [] (λ b. b.types) (bounds inside.now) id ≡ map seen_type types.items) }
+    ensures read { IfOk result (λ types. bound_types [] (λ b. b.types) (bounds inside.now) id
+        ≡ map seen_type types.items) }
     ensures kinds { IfErr result (λ e. e.kind ≡ OutOfMemory) }
 {
     match scope_of(inside, id) {
@@ -402,7 +423,9 @@ fn scope_types<'a>(
     requires nodes { AreNodes context.nodes.now }
     requires numbers { AreNumbered entries.now }
     requires is_list { IsListOf (one 20) said }
-    ensures done { IsDone (λ types. map seen_type types.items) (brand_types (nodes_of context.entry.nodes.now) context.entry.strict (bounds inside.now) (scopes_said (type_said depth) (values_left said.entry 0)) (with_nothing scope))
+    ensures done { IsDone (λ types. map seen_type types.items)
+        (brand_types (nodes_of context.entry.nodes.now) context.entry.strict (bounds inside.now)
+        (scopes_said (type_said depth) (values_left said.entry 0)) (with_nothing scope))
         (so_far entries.old seen.old) (so_far entries.new seen.new) result }
     ensures numbers { IfOk result (λ _. AreNumbered entries.new) }
     ensures kinds { IfErr result (λ e. IsRefusal context.entry.strict e.kind) }
@@ -428,7 +451,9 @@ fn said_types<'a>(
     requires nodes { AreNodes context.nodes.now }
     requires numbers { AreNumbered entries.now }
     requires is_record { IsRecord 20 own }
-    ensures done { IsDone (λ types. map seen_type types.items) (scope_types (nodes_of context.entry.nodes.now) context.entry.strict (bounds inside.now) (scope_said (type_said depth) (record_seen own.entry)) (with_nothing scope))
+    ensures done { IsDone (λ types. map seen_type types.items)
+        (scope_types (nodes_of context.entry.nodes.now) context.entry.strict (bounds inside.now)
+        (scope_said (type_said depth) (record_seen own.entry)) (with_nothing scope))
         (so_far entries.old seen.old) (so_far entries.new seen.new) result }
     ensures numbers { IfOk result (λ _. AreNumbered entries.new) }
     ensures kinds { IfErr result (λ e. IsRefusal context.entry.strict e.kind) }
@@ -463,7 +488,9 @@ fn bound_types<'a>(
     requires nodes { AreNodes context.nodes.now }
     requires numbers { AreNumbered entries.now }
     requires is_list { IsListOf (one 21) bindings }
-    ensures done { IsDone (λ types. map seen_type types.items) (binding_types (nodes_of context.entry.nodes.now) context.entry.strict (bounds inside.now) (bindings_said (type_said depth) (values_left bindings.entry 0)) parameters)
+    ensures done { IsDone (λ types. map seen_type types.items)
+        (binding_types (nodes_of context.entry.nodes.now) context.entry.strict (bounds inside.now)
+        (bindings_said (type_said depth) (values_left bindings.entry 0)) parameters)
         (so_far entries.old seen.old) (so_far entries.new seen.new) result }
     ensures numbers { IfOk result (λ _. AreNumbered entries.new) }
     ensures kinds { IfErr result (λ e. IsRefusal context.entry.strict e.kind) }
@@ -490,7 +517,8 @@ fn binding_type<'a>(
     requires nodes { AreNodes context.nodes.now }
     requires numbers { AreNumbered entries.now }
     requires is_record { IsRecord 21 binding }
-    ensures done { IsDone seen_type (type_of (nodes_of context.entry.nodes.now) context.entry.strict (bounds inside.now) (binding_said (type_said depth) (record_seen binding.entry)))
+    ensures done { IsDone seen_type (type_of (nodes_of context.entry.nodes.now) context.entry.strict
+        (bounds inside.now) (binding_said (type_said depth) (record_seen binding.entry)))
         (so_far entries.old seen.old) (so_far entries.new seen.new) result }
     ensures numbers { IfOk result (λ _. AreNumbered entries.new) }
     ensures kinds { IfErr result (λ e. IsRefusal context.entry.strict e.kind) }

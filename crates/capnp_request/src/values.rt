@@ -2,10 +2,9 @@
 ghost use Rattle.std.specs.Prelude.{◌≡◌, ◌≢◌, None, Some, Ok, Err, drop, IfErr, IfOk, option_map};
 ghost use Rattle.capnp_device.specs.declared.error.ErrorKind.TheVariants.{OutOfMemory};
 ghost use Rattle.capnp_wire.specs.Reading.{refusal};
-ghost use Rattle.capnp_wire.specs.Message.{builder_tree};
 ghost use Rattle.capnp_wire.specs.Standing.{tree_of};
-ghost use Rattle.capnp_wire.specs.WellFormed.{IsWellFormed};
 ghost use Rattle.capnp_wire.specs.Words.{first_fault};
+ghost use Rattle.capnp_arena.specs.Message.{IsMessage, message_tree};
 ghost use Rattle.capnp_base.specs.AnyPointer.{pointer_of};
 ghost use Rattle.capnp_schema.specs.Schema.{seen_value};
 ghost use Rattle.capnp_records.specs.Part.{which_of};
@@ -22,31 +21,29 @@ use crate::parts::{
     u64_at, untyped_at,
 };
 use crate::places::{VALUE_UNTYPED, brands};
+use capnp_arena::message::Builder;
 use capnp_base::any_pointer;
-use capnp_base::traits::SetterInput;
 use capnp_dynamic_readers::dynamic_struct;
 use capnp_schema::record::ValueRecord;
 use capnp_wire::error::{Error, ErrorKind, Result};
-use capnp_wire::laws::objects_hold_no_fault;
-use capnp_wire::message::Builder;
 use std::alloc::Global;
 
 /// The bytes of the table of a message of one segment.
 const TABLE_BYTES: usize = 8;
 
-/// A message whose root is a copy of what stands at a pointer. Refused as the first pointer there that can't be followed, in
-/// preorder, and with `OutOfMemory`.
+/// A message whose root is a copy of what stands at a pointer. Refused as the first pointer there that can't be
+/// followed, in preorder, and with `OutOfMemory`.
 #[tactic(auto, using(crate::proofs::RefusedKinds::copy_kinds))]
 fn copy_of(alloc: Global, pointer: any_pointer::Reader<'_>) -> Result<Builder>
-    ensures read { IfOk result (λ m. builder_tree m ≡ tree_of (pointer_of pointer.entry)) }
+    ensures message { IfOk result IsMessage }
+    ensures read { IfOk result (λ m. message_tree m ≡ tree_of (pointer_of pointer.entry)) }
     ensures sound { IfOk result (λ _. first_fault (tree_of (pointer_of pointer.entry)) ≡ None) }
-    ensures held { IfOk result (λ _. IsWellFormed (tree_of (pointer_of pointer.entry))) }
-    ensures refused { IfErr result (λ e. e.kind ≢ OutOfMemory → option_map refusal (first_fault (tree_of (pointer_of pointer.entry))) ≡ Some e.kind) }
+    ensures refused { IfErr result (λ e. e.kind ≢ OutOfMemory
+        → option_map refusal (first_fault (tree_of (pointer_of pointer.entry))) ≡ Some e.kind) }
     ensures kinds { IfErr result (λ e. IsPlain e.kind) }
 {
-    let mut message = Builder::new(alloc);
-    any_pointer::Reader::set_pointer_builder(message.root(), pointer, false)?;
-    objects_hold_no_fault();
+    let mut message = Builder::new(alloc)?;
+    message.copy_from(0, pointer.get_pointer())?;
     Ok(message)
 }
 
@@ -59,12 +56,15 @@ fn behind_table(bytes: &[u8]) -> &[u8]
     &bytes[start..]
 }
 
-/// The words of one segment whose root pointer leads to a copy of what stands at a pointer. Refused as the first pointer
-/// there that can't be followed, in preorder, and with `TooLarge` or `OutOfMemory`.
-#[tactic(auto, using(crate::proofs::RefusedKinds::write_kinds))]
+/// The words of one segment whose root pointer leads to a copy of what stands at a pointer. Refused as the first
+/// pointer there that can't be followed, in preorder, and with `OutOfMemory`, also where they would be 2^29 words or
+/// more.
 fn words_of(alloc: Global, pointer: any_pointer::Reader<'_>) -> Result<Vec<u8>>
-    ensures read { IfOk result (λ w. words_or_fault (first_fault (tree_of (pointer_of pointer.entry))) (tree_of (pointer_of pointer.entry)) ≡ Ok w.items) }
-    ensures refused { IfErr result (λ e. e.kind ≢ OutOfMemory → words_or_fault (first_fault (tree_of (pointer_of pointer.entry))) (tree_of (pointer_of pointer.entry)) ≡ Err e.kind) }
+    ensures read { IfOk result (λ w. words_or_fault (first_fault (tree_of (pointer_of pointer.entry)))
+        (tree_of (pointer_of pointer.entry)) ≡ Ok w.items) }
+    ensures refused { IfErr result (λ e. e.kind ≢ OutOfMemory
+        → words_or_fault (first_fault (tree_of (pointer_of pointer.entry))) (tree_of (pointer_of pointer.entry))
+        ≡ Err e.kind) }
     ensures kinds { IfErr result (λ e. IsPlain e.kind) }
 {
     let message = copy_of(alloc, pointer)?;
@@ -82,14 +82,15 @@ fn copied(alloc: Global, bytes: &[u8]) -> Result<Vec<u8>>
     Ok(bytes.to_vec(alloc)?)
 }
 
-/// The value of a member that stands in the data section. Floats are their bits. Refused with `UnknownKind` for a member
-/// that is none.
+/// The value of a member that stands in the data section. Floats are their bits. Refused with `UnknownKind` for a
+/// member that is none.
 fn data_value(reader: dynamic_struct::Reader<'_>, member: u16) -> Result<ValueRecord>
     requires is_record { IsRecord 22 reader }
     requires active { which_of (record_seen reader) ≡ Some member }
     requires data { IsDataMember member }
     ensures read { IfOk result (λ v. value_of (value_said (record_seen reader.entry)) ≡ Ok (seen_value v)) }
-    ensures refused { IfErr result (λ e. e.kind ≢ OutOfMemory → value_of (value_said (record_seen reader.entry)) ≡ Err e.kind) }
+    ensures refused { IfErr result (λ e. e.kind ≢ OutOfMemory
+        → value_of (value_said (record_seen reader.entry)) ≡ Err e.kind) }
     ensures kinds { IfErr result (λ e. IsPlain e.kind) }
 {
     match member {
@@ -119,7 +120,8 @@ fn member_value(
     requires is_record { IsRecord 22 reader }
     requires active { which_of (record_seen reader) ≡ Some member }
     ensures read { IfOk result (λ v. value_of (value_said (record_seen reader.entry)) ≡ Ok (seen_value v)) }
-    ensures refused { IfErr result (λ e. e.kind ≢ OutOfMemory → value_of (value_said (record_seen reader.entry)) ≡ Err e.kind) }
+    ensures refused { IfErr result (λ e. e.kind ≢ OutOfMemory
+        → value_of (value_said (record_seen reader.entry)) ≡ Err e.kind) }
     ensures kinds { IfErr result (λ e. IsPlain e.kind) }
 {
     match member {
@@ -163,7 +165,8 @@ fn member_value(
 pub(crate) fn value_of(alloc: Global, reader: dynamic_struct::Reader<'_>) -> Result<ValueRecord>
     requires { IsRecord 22 reader }
     ensures read { IfOk result (λ v. value_of (value_said (record_seen reader.entry)) ≡ Ok (seen_value v)) }
-    ensures refused { IfErr result (λ e. e.kind ≢ OutOfMemory → value_of (value_said (record_seen reader.entry)) ≡ Err e.kind) }
+    ensures refused { IfErr result (λ e. e.kind ≢ OutOfMemory
+        → value_of (value_said (record_seen reader.entry)) ≡ Err e.kind) }
     ensures kinds { IfErr result (λ e. IsPlain e.kind) }
 {
     let Some(member) = active_member(reader) else {

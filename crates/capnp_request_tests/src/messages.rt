@@ -1,5 +1,5 @@
-//! Requests and messages of the public tool, `capnp` 0.9.2: `capnp compile -o- FILE` gives a request, and `capnp encode`
-//! and `capnp decode --short` a message and its text. The schemas stand above their requests.
+//! Requests and messages of the public tool, `capnp` 0.9.2: `capnp compile -o- FILE` gives a request, and
+//! `capnp encode` and `capnp decode --short` a message and its text. The schemas stand above their requests.
 
 /// The request for these schemas:
 ///

@@ -1,5 +1,5 @@
-//! Requests and messages of the public tool, `capnp` 0.9.2, as in `messages`: unions in groups, defaults and annotations, an
-//! untyped default, endless generics, and two files.
+//! Requests and messages of the public tool, `capnp` 0.9.2, as in `messages`: unions in groups, defaults and
+//! annotations, an untyped default, endless generics, and two files.
 
 /// `capnp compile -o- telemetry.capnp` of
 ///

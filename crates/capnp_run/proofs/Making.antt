@@ -1,7 +1,6 @@
 -- Calls one after another.
-use Rattle.std.specs.Prelude.{ℕ, ◌*◌, ◌≤◌, ◌≡◌, refl, List, [], ◌∷◌, ◌++◌, map}
-use Rattle.std.proofs.Common.{sym, subst, ◌∙◌}
-use Rattle.std.proofs.lemmas.Bool.{true≢false}
+use Rattle.std.specs.Prelude.{ℕ, ◌≡◌, refl, List, [], ◌∷◌, ◌++◌, map}
+use Rattle.std.proofs.Common.{subst}
 use Rattle.capnp_wire.specs.Tree.{StructTree}
 use Rattle.capnp_schema.specs.Schema.{Schemas, brand_at}
 use Rattle.capnp_schema.specs.StructHandles.{IsStruct, number_of, set_of}
@@ -12,11 +11,9 @@ use Rattle.capnp_records.specs.Laws.{OverlayLaw}
 use Rattle.capnp_records.specs.Reading.{reads}
 use Rattle.capnp_records.specs.Run.{Run}
 use Rattle.capnp_records.specs.Writes.Slots.{Fits}
-use Rattle.capnp_schema.specs.Plan.{brand_size}
 use Rattle.capnp_records.specs.Writes.Stand.{OnStruct}
 use Rattle.capnp_records.specs.Writes.TreeEnds.{TreeEnds, TreeRun, TreeStep}
 use Rattle.capnp_records.specs.Writes.TreeRun.{TreeWalks}
-use Rattle.capnp_slots.specs.Groups.{KeepsSize}
 use Rattle.capnp_run.specs.Runs.{IsMade, Makes}
 use Rattle.capnp_call.specs.Seen.{call_seen, op_seen, path_seen, reply_seen, step_seen}
 use Rattle.capnp_call.specs.Ends.{AsStruct}
@@ -50,18 +47,6 @@ pub machine_runs : (schema : StructSchema) (old new : StructTree) (calls : List 
 machine_runs schema old new calls replies stands ranges law fits made =
     law (set_of schema) stands.accepted ranges (number_of schema) stands.number old (map call_seen calls) (map reply_seen replies) new fits
     (tree_run (set_of schema) (number_of schema) old new calls replies made)
-
-pub keeps_same : (s : StructTree) → KeepsSize s s
-keeps_same s = record { writes = record { agree = λ p inside. absurd (true≢false inside); data_size = refl; pointer_count = refl }; formed = λ h. h }
-
-pub keeps_on : (s m s' : StructTree) → KeepsSize s m → KeepsSize m s' → KeepsSize s s'
-keeps_on s m s' k l = record {
-  writes = record { agree = λ p inside. absurd (true≢false inside); data_size = l.writes.data_size ∙ k.writes.data_size; pointer_count = l.writes.pointer_count ∙ k.writes.pointer_count };
-  formed = λ h. l.formed (k.formed h);
-}
-
-pub fits_on : (set : Schemas) (b : ℕ) (s s' : StructTree) → Fits set b s → KeepsSize s s' → Fits set b s'
-fits_on set b s s' h k = (subst (λ n. 8 * (brand_size set b).data_words ≤ n) (sym k.writes.data_size) h.0, subst (λ n. (brand_size set b).pointers ≤ n) (sym k.writes.pointer_count) h.1)
 
 -- one call, by the walk of its path
 pub call_made : (set : Schemas) (b : ℕ) (call : Call) (end : Ending) (s : StructTree) (r : Reply) (s' : StructTree) → end.call.now ≡ call → StructWalks set b call.path.now end s r s' →

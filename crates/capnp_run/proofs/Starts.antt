@@ -9,36 +9,29 @@ use Rattle.capnp_device.specs.declared.error.ErrorKind.TheVariants.{OutOfMemory,
 use Rattle.capnp_wire.specs.Depth.{IsShallow}
 use Rattle.capnp_wire.specs.Encoding.{message_of}
 use Rattle.capnp_wire.specs.Reading.{as_struct, refusal}
-use Rattle.capnp_wire.specs.Standing.{levels_of, struct_levels, struct_of, tree_of}
+use Rattle.capnp_wire.specs.Standing.{tree_of}
 use Rattle.capnp_wire.specs.Stream.{message_tree_of}
 use Rattle.capnp_wire.specs.Tree as tree
 use Rattle.capnp_wire.specs.declared.pointer_reader.PointerReader.{PointerReader}
-use Rattle.capnp_wire.specs.declared.struct_reader.StructReader.{StructReader}
 use Rattle.capnp_schema.specs.Schema.{Schemas}
 use Rattle.capnp_schema.specs.Types.{StructType}
 use Rattle.capnp_records.specs.Laws.{GroupPrintLaw, PrintLaw}
 use Rattle.capnp_records.specs.Reading.{reads, struct_record}
 use Rattle.capnp_records.specs.Text.{Out, text_of}
-use Rattle.capnp_dynamic_readers.specs.Handles.{reader_of, schema_of}
 use Rattle.capnp_dynamic_readers.specs.Pieces.{IsAppended}
-use Rattle.capnp_dynamic_readers.specs.Seen.{record_seen}
-use Rattle.capnp_dynamic_readers.specs.Shown.{printed_text, struct_printed}
-use Rattle.capnp_dynamic_readers.specs.Typed.{struct_type}
-use Rattle.capnp_dynamic_readers.specs.declared.dynamic_struct.Reader.{Reader as StructHandle}
-use Rattle.capnp_dynamic_readers.specs.declared.dynamic_value.Reader.TheVariants as dynamic
-use Rattle.capnp_wire.specs.Edits.{IsCopyRefusal, IsStructRefusal, extended, is_struct, struct_in, struct_refusal, zero_struct}
-use Rattle.capnp_wire.specs.Kept as kept
+use Rattle.capnp_wire.specs.Edits.{HasAtLeast, IsCopyRefusal, IsStructRefusal, extended, is_struct, struct_in, struct_refusal, zero_struct}
+use Rattle.capnp_wire.specs.Facts.Lengths.{HasAtLeast-zero_struct}
+use Rattle.capnp_wire.specs.Facts.Structs.{IsWellFormed-extended, IsWellFormed-struct_in, IsWellFormed-zero_struct}
 use Rattle.capnp_wire.specs.Place.{struct_tree}
-use Rattle.capnp_wire.specs.Sizes as sizes
 use Rattle.capnp_wire.specs.Tree.{StructTree, Tree}
 use Rattle.capnp_wire.specs.WellFormed.{IsWellFormed}
 use Rattle.capnp_wire.specs.Words.{first_fault, words_of}
 use Rattle.capnp_wire.specs.declared.fault.Fault.{Fault}
 use Rattle.capnp_wire.specs.declared.size.StructSize.{StructSize}
-use Rattle.capnp_schema.specs.StructHandles.{generic_of, number_of, set_of, struct_node}
+use Rattle.capnp_schema.specs.StructHandles.{number_of, set_of}
 use Rattle.capnp_schema.specs.declared.schema.structs.StructSchema.{StructSchema}
 use Rattle.capnp_records.specs.Facts.Extension.{fits-extended, reads-extended, reads-zero_struct}
-use Rattle.capnp_records.specs.Record.{Left, Levels, Record}
+use Rattle.capnp_records.specs.Record.{Levels, Record}
 use Rattle.capnp_records.specs.Writes.Slots.{Fits}
 use Rattle.capnp_schema.specs.Plan.{brand_size}
 use Rattle.capnp_run.specs.Messages.{HasRoot, IsWhole, IsWholeRefusal, LeavesRun, RunsOn, fault_or, new_record, new_root, record_left, root_refusal, root_value, text_in}
@@ -57,8 +50,8 @@ pub empty_root : (schema : StructSchema) (size : StructSize) (s : StructTree) (t
     HasRoot schema (new_record schema) t
 empty_root schema size s t is zero root few words =
     root_of_struct schema s _ t root
-    (sizes.new_struct_size (brand_size (set_of schema) (number_of schema)) s (zero ∙ ap zero_struct is))
-    (kept.new_struct size s zero few words)
+    (subst (HasAtLeast (brand_size (set_of schema) (number_of schema))) (sym (zero ∙ ap zero_struct is)) (HasAtLeast-zero_struct (brand_size (set_of schema) (number_of schema))))
+    (subst (λ (x : StructTree). IsWellFormed (struct_tree x)) (sym zero) (IsWellFormed-zero_struct size few words))
     (ap (record_in schema) zero ∙ reads-zero_struct (set_of schema) size (number_of schema))
 
 -- a copy, with at least the schema's sections
@@ -67,7 +60,7 @@ pub copied_root : (schema : StructSchema) (size : StructSize) (s : StructTree) (
 copied_root schema size s source t is whole root few words formed =
     root_of_struct schema s _ t root
     (subst (Fits (set_of schema) (number_of schema)) (sym (whole ∙ ap (λ (z : StructSize). extended z (struct_in source)) is)) (fits-extended (set_of schema) (number_of schema) (struct_in source)))
-    (kept.extended_struct size (struct_in source) s whole few words (kept.struct_here source (struct_in source) refl formed))
+    (subst (λ (x : StructTree). IsWellFormed (struct_tree x)) (sym whole) (IsWellFormed-extended size (struct_in source) few words (IsWellFormed-struct_in source formed)))
     (ap (record_in schema) whole ∙ reads-extended (set_of schema) size (struct_in source) (number_of schema))
 
 -- why there is none: the copy was refused, or a list was copied
@@ -132,40 +125,12 @@ module _ (law : PrintLaw) (groups : GroupPrintLaw) (set : Schemas) (indented : B
       go (Ok bytes) e k = subst (λ (o : Out). IsAppended old o new) (sym (text_same q bytes e)) k
       go (Err kind) e k = absurd k
 
--- a struct that was read as one, by its reader
-pub printed_by : (law : PrintLaw) (groups : GroupPrintLaw) (schema : StructSchema) (handle : StructHandle) (s : StructTree) (indented : Bool) (old new : List ℕ) → schema_of handle ≡ schema → struct_of (reader_of handle) ≡ s →
-    IsAppended old (printed_text indented (dynamic.Struct handle)) new → IsAppended old (text_in schema indented (record_in schema s)) new
-printed_by law groups schema handle s indented old new e h printed =
-    subst (λ (x : StructTree). IsAppended old (text_in schema indented (record_in schema x)) new) h
-    (subst (λ (z : StructSchema). IsAppended old (text_in z indented (record_in z (struct_of (reader_of handle)))) new) e
-    (appended law groups (set_of (schema_of handle)) indented (number_of (schema_of handle)) (generic_of (schema_of handle)) (struct_of (reader_of handle)) (Left (struct_levels (reader_of handle)))
-    (struct_node (schema_of handle)).is_group old new (seen_so (struct_node (schema_of handle)).is_group printed)))
-  where
-    seen_so : (q : Bool) → IsAppended old (text_of (set_of (schema_of handle)) indented (struct_type (schema_of handle)) (struct_printed q handle)) new →
-        IsAppended old (text_of (set_of (schema_of handle)) indented (struct_type (schema_of handle)) (root_value q (record_seen handle))) new
-    seen_so true k = k
-    seen_so false k = k
-
--- why nothing was printed, by the levels of the reader
-pub unprinted_by : (schema : StructSchema) (handle : StructHandle) (s : StructTree) (indented : Bool) (kind : ErrorKind) → schema_of handle ≡ schema → struct_of (reader_of handle) ≡ s → struct_levels (reader_of handle) ≡ 63 →
-    printed_text indented (dynamic.Struct handle) ≡ Err kind → text_in schema indented (record_left schema s) ≡ Err kind
-unprinted_by schema handle s indented kind e h l refused =
-    subst (λ (x : StructTree). text_in schema indented (record_left schema x) ≡ Err kind) h
-    (subst (λ (z : StructSchema). text_in z indented (record_left z (struct_of (reader_of handle))) ≡ Err kind) e
-    (subst (λ (n : ℕ). text_in (schema_of handle) indented (struct_record (set_of (schema_of handle)) (Left n) (struct_of (reader_of handle)) (number_of (schema_of handle))) ≡ Err kind) l
-    (seen_so (struct_node (schema_of handle)).is_group refused)))
-  where
-    seen_so : (q : Bool) → text_of (set_of (schema_of handle)) indented (struct_type (schema_of handle)) (struct_printed q handle) ≡ Err kind →
-        text_of (set_of (schema_of handle)) indented (struct_type (schema_of handle)) (root_value q (record_seen handle)) ≡ Err kind
-    seen_so true k = k
-    seen_so false k = k
-
 abbrev ok_struct : StructTree → Result StructTree ErrorKind → StructTree
 ok_struct other (Ok s) = s
 ok_struct other (Err kind) = other
 
 -- what was read as a struct is the one that stands there
-struct_answered : (t : Tree) (n : ℕ) (x : StructTree) → IsTrue (is_struct t) → as_struct t n ≡ Ok x → x ≡ struct_in t
+pub struct_answered : (t : Tree) (n : ℕ) (x : StructTree) → IsTrue (is_struct t) → as_struct t n ≡ Ok x → x ≡ struct_in t
 struct_answered (tree.Struct bytes ps) n x here h = go (n == 0) h
   where
     go : (q : Bool) → cond q (Err TooDeep) (Ok (record { bytes = bytes; pointers = ps })) ≡ Ok x → x ≡ record { bytes = bytes; pointers = ps }
@@ -178,9 +143,6 @@ struct_answered (tree.Numbers w bytes) n x here h = absurd (true≢false (sym he
 struct_answered (tree.Pointers ps) n x here h = absurd (true≢false (sym here))
 struct_answered (tree.Composite d p es) n x here h = absurd (true≢false (sym here))
 struct_answered (tree.FaultLeaf k) n x here h = absurd (true≢false (sym here))
-
-pub struct_read_so : (p : PointerReader) (t : Tree) (reader : StructReader) → tree_of p ≡ t → IsTrue (is_struct t) → Ok (struct_of reader) ≡ as_struct (tree_of p) (levels_of p) → struct_of reader ≡ struct_in t
-struct_read_so p t reader e here h = struct_answered t (levels_of p) (struct_of reader) here (ap (λ (y : Tree). as_struct y (levels_of p)) (sym e) ∙ sym h)
 
 -- and a struct is read as one where a level is left
 pub struct_reads : (t : Tree) (n : ℕ) (kind : ErrorKind) → IsTrue (is_struct t) → n ≡ 64 → Err kind ≡ as_struct t n → ⊥
@@ -217,14 +179,14 @@ is_too_large _ h = absurd (h (λ e. cc))
 
 -- why a root was not written, or not printed
 module _ (schema : StructSchema) (r : Record) (t : Tree) (calls : List Call) (replies : List Reply) (leaves : LeavesRun schema r calls replies t) (indented : Bool) (kind : ErrorKind) where
-  pub not_written : (kind ≢ TooLarge → kind ≡ OutOfMemory) → (kind ≡ TooLarge → IsWellFormed t → 2 ^ 29 ≤ suc (words_of t)) → kind ≢ OutOfMemory → IsWholeRefusal schema r calls indented kind
+  pub not_written : (kind ≢ TooLarge → kind ≡ OutOfMemory) → (kind ≡ TooLarge → 2 ^ 29 ≤ suc (words_of t)) → kind ≢ OutOfMemory → IsWholeRefusal schema r calls indented kind
   not_written kinds refused other =
       let large = is_too_large kind (λ ne. other (kinds ne)) in
       record {
         root = struct_in t;
         replies = replies;
         runs = leaves.runs;
-        cause = inl (subst (λ (y : Tree). 2 ^ 29 ≤ suc (words_of y)) leaves.root (refused large leaves.formed), large);
+        cause = inl (subst (λ (y : Tree). 2 ^ 29 ≤ suc (words_of y)) leaves.root (refused large), large);
       }
 
   pub not_printed : suc (words_of t) < 2 ^ 29 → (kind ≢ OutOfMemory → text_in schema indented (record_left schema (struct_in t)) ≡ Err kind) → kind ≢ OutOfMemory → IsWholeRefusal schema r calls indented kind

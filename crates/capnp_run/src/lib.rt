@@ -1,5 +1,5 @@
-//! Lists of calls along paths of a struct that is built, whose schema is known only at run time; and, from the crates below,
-//! a single call, schemas that are compatible successors of others, and sets of schemas that come as messages.
+//! Lists of calls along paths of a struct that is built, whose schema is known only at run time; and, from the crates
+//! below, a single call, schemas that are compatible successors of others, and sets of schemas that come as messages.
 #![tactic(auto)]
 
 pub mod message;

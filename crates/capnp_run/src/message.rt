@@ -1,107 +1,101 @@
 //! Calls on whole messages: on an empty root, or on a message that was copied in whole.
-ghost use Rattle.std.specs.Prelude.{IsTrue, None, Some, Err, ◌≡◌, ◌≢◌, OnErr, OnOk, IfErr, IfOk, string_bytes};
+ghost use Rattle.std.specs.Prelude.{IsTrue, None, Some, Err, ◌<◌, ◌≡◌, ◌≢◌, OnErr, OnOk, IfErr, IfOk, string_bytes};
 ghost use Rattle.capnp_device.specs.declared.error.ErrorKind.TheVariants.{OutOfMemory};
 ghost use Rattle.capnp_wire.specs.Edits.{is_struct, struct_in};
-ghost use Rattle.capnp_wire.specs.Message.{builder_tree};
-ghost use Rattle.capnp_wire.specs.Objects.{object_tree};
 ghost use Rattle.capnp_wire.specs.Standing.{tree_of};
-ghost use Rattle.capnp_wire.specs.WellFormed.{IsWellFormed};
+ghost use Rattle.capnp_arena.specs.Message.{IsMessage, message_tree};
+ghost use Rattle.capnp_arena.specs.Segment.{segment};
+ghost use Rattle.capnp_arena.specs.Shape.{shape_at, word_count};
 ghost use Rattle.capnp_schema.specs.StructHandles.{IsStruct, number_of, set_of};
 ghost use Rattle.capnp_dynamic_readers.specs.Pieces.{IsAppended};
+ghost use Rattle.capnp_arena.specs.Built.{part};
 ghost use Rattle.capnp_run.specs.Messages.{HasRoot, IsCopiedRefusal, IsRoot, IsWhole, IsWholeRefusal, LeavesRun};
 ghost use Rattle.capnp_run.specs.Messages.{RunsOn, copied_record, copied_root, new_record, new_root, read_text, root_refusal, root_text};
 ghost use Rattle.capnp_run.specs.Runs.{Makes, RestsWhole};
 
 use crate::run::run_on;
+use capnp_arena::arena::Place;
+use capnp_arena::message::Builder;
 use capnp_call::calls::{Call, Reply};
-use capnp_dynamic::dynamic_struct;
-use capnp_dynamic::dynamic_value::Reader as Value;
-use capnp_dynamic::printer::print;
+use capnp_dynamic_readers::dynamic_struct;
+use capnp_dynamic_readers::dynamic_value::Reader as Value;
+use capnp_dynamic_readers::printer::print;
 use capnp_records::laws::print_law;
 use capnp_schema::schema::StructSchema;
 use capnp_slots::size_of;
 use capnp_wire::PointerReader;
 use capnp_wire::error::Result;
-use capnp_wire::laws::{objects_are_what_they_hold, pointer_is_well_formed};
-use capnp_wire::message::Builder;
-use capnp_wire::object::Object;
+use capnp_wire::laws::pointer_is_well_formed;
 use std::alloc::Global;
 
-/// Makes the root a struct of a schema, all zero and null. Refused with `OutOfMemory`.
-fn empty_root(message: &mut Builder, schema: StructSchema<'_>) -> Result<()>
-    ensures root { OnOk result (HasRoot schema.entry (new_record schema.entry) (builder_tree message.new)) }
-    ensures anew { OnOk result (struct_in (builder_tree message.new) ≡ new_root schema.entry) }
+/// Makes the root a struct of a schema, all zero and null, and answers where it stands. Refused with `OutOfMemory`.
+fn empty_root(message: &mut Builder, schema: StructSchema<'_>) -> Result<Place>
+    requires { 0 < word_count (segment message.old) }
+    ensures message { OnOk result (IsMessage message.new) }
+    ensures place { IfOk result (λ p. shape_at (segment message.new) 0 ≡ part p) }
+    ensures root { OnOk result (HasRoot schema.entry (new_record schema.entry) (message_tree message.new)) }
+    ensures anew { OnOk result (struct_in (message_tree message.new) ≡ new_root schema.entry) }
     ensures cause { IfErr result (λ e. e.kind ≡ OutOfMemory) }
 {
-    objects_are_what_they_hold();
     let size = size_of(schema);
-    message.root().init_struct(size)?;
-    Ok(())
+    let place = message.init_struct(0, size)?;
+    Ok(place)
 }
 
-/// Makes the root a copy of a struct, with at least its schema's sections. Refused as `set_root` and `get_struct`.
+/// Makes the root a copy of a struct, with at least its schema's sections, and answers where it stands. Refused as
+/// `set_root` and `get_struct`.
 fn copied_root(
     message: &mut Builder,
     source: PointerReader<'_>,
     schema: StructSchema<'_>,
-) -> Result<()>
-    ensures root { OnOk result (HasRoot schema.entry (copied_record schema.entry source.entry) (builder_tree message.new)) }
-    ensures copied { OnOk result (struct_in (builder_tree message.new) ≡ copied_root schema.entry source.entry) }
+) -> Result<Place>
+    ensures message { OnOk result (IsMessage message.new) }
+    ensures place { IfOk result (λ p. shape_at (segment message.new) 0 ≡ part p) }
+    ensures root { OnOk result (HasRoot schema.entry (copied_record schema.entry source.entry)
+        (message_tree message.new)) }
+    ensures copied { OnOk result (struct_in (message_tree message.new) ≡ copied_root schema.entry source.entry) }
     ensures sound { OnOk result (root_refusal (tree_of source.entry) ≡ None) }
     ensures cause { IfErr result (λ e. e.kind ≢ OutOfMemory → root_refusal (tree_of source.entry) ≡ Some e.kind) }
 {
     pointer_is_well_formed(&source);
-    objects_are_what_they_hold();
     let size = size_of(schema);
     message.set_root(source)?;
-    message.root().get_struct(size)?;
-    Ok(())
-}
-
-/// Makes calls on the struct that stands at a pointer. Refused with `OutOfMemory`.
-fn run_here(
-    alloc: Global,
-    pointer: &mut Object,
-    schema: StructSchema<'_>,
-    calls: &[Call<'_>],
-) -> Result<Vec<Reply>>
-    requires stands { IsStruct schema }
-    requires root { IsRoot schema (object_tree pointer.old) }
-    ensures run { IfOk result (λ replies. RunsOn schema.entry (object_tree pointer.old) calls.now replies.items (object_tree pointer.new)) }
-    ensures made { IfOk result (λ replies. Makes (set_of schema.entry) (number_of schema.entry) (struct_in (object_tree pointer.old)) calls.now replies.items
-        (struct_in (object_tree pointer.new))) }
-    ensures cause { IfErr result (λ e. e.kind ≡ OutOfMemory) }
-{
-    objects_are_what_they_hold();
-    let object = pointer.struct_here();
-    run_on(alloc, object, schema, calls)
+    let place = message.get_struct(0, size)?;
+    Ok(place)
 }
 
 /// Makes calls on a root. Refused with `OutOfMemory`.
 fn run_root(
     alloc: Global,
     message: &mut Builder,
+    place: Place,
     schema: StructSchema<'_>,
     calls: &[Call<'_>],
 ) -> Result<Vec<Reply>>
     requires stands { IsStruct schema }
-    requires root { IsRoot schema (builder_tree message.old) }
-    ensures run { IfOk result (λ replies. RunsOn schema.entry (builder_tree message.old) calls.now replies.items (builder_tree message.new)) }
-    ensures made { IfOk result (λ replies. Makes (set_of schema.entry) (number_of schema.entry) (struct_in (builder_tree message.old)) calls.now replies.items
-        (struct_in (builder_tree message.new))) }
+    requires message { IsMessage message.old }
+    requires place { shape_at (segment message.old) 0 ≡ part place }
+    requires root { IsRoot schema (message_tree message.old) }
+    ensures message { IsMessage message.new }
+    ensures run { IfOk result (λ replies. RunsOn schema.entry (message_tree message.old) calls.now replies.items
+        (message_tree message.new)) }
+    ensures made { IfOk result (λ replies. Makes (set_of schema.entry) (number_of schema.entry)
+        (struct_in (message_tree message.old)) calls.now replies.items
+        (struct_in (message_tree message.new))) }
     ensures cause { IfErr result (λ e. e.kind ≡ OutOfMemory) }
 {
-    let root = message.root();
-    run_here(alloc, root, schema, calls)
+    let replies = run_on(alloc, message, place, schema, calls);
+    message.tree_is_sound(0);
+    replies
 }
 
-/// Makes calls on an empty root of a message: the root becomes a struct of the schema, all zero and null, and what it reads as
-/// after the calls is what the machine of records makes of the schema's default record. What stood in the message before is
-/// given up. The schema is one of an accepted set.
+/// Makes calls on an empty root of a message: the root becomes a struct of the schema, all zero and null, and what it
+/// reads as after the calls is what the machine of records makes of the schema's default record. What stood in the
+/// message before is given up. The schema is one of an accepted set.
 ///
 /// Refused with `OutOfMemory` alone, where there is no room for the root or the replies; then no call was made, and the
-/// message is as it was. A call that is refused has its reply, and doesn't refuse the run. One that takes no memory on what the
-/// one before it left is refused neither with `OutOfMemory` nor with `SizePastFormat`.
+/// message is as it was. A call that is refused has its reply, and doesn't refuse the run. One that takes no memory on
+/// what the one before it left is refused neither with `OutOfMemory` nor with `SizePastFormat`.
 pub fn run_new(
     alloc: Global,
     message: &mut Builder,
@@ -109,27 +103,31 @@ pub fn run_new(
     calls: &[Call<'_>],
 ) -> Result<Vec<Reply>>
     requires { IsStruct schema }
-    ensures run { IfOk result (λ replies. LeavesRun schema.entry (new_record schema.entry) calls.now replies.items (builder_tree message.new)) }
-    ensures made { IfOk result (λ replies. Makes (set_of schema.entry) (number_of schema.entry) (new_root schema.entry) calls.now replies.items
-        (struct_in (builder_tree message.new))) }
+    ensures message { OnOk result (IsMessage message.new) }
+    ensures run { IfOk result (λ replies. LeavesRun schema.entry (new_record schema.entry) calls.now replies.items
+        (message_tree message.new)) }
+    ensures made { IfOk result (λ replies. Makes (set_of schema.entry) (number_of schema.entry)
+        (new_root schema.entry) calls.now replies.items
+        (struct_in (message_tree message.new))) }
     ensures rests { IfOk result (λ replies. RestsWhole schema.entry (new_root schema.entry) calls.now replies.items) }
     ensures refused { OnErr result (message.new ≡ message.old) }
     ensures cause { IfErr result (λ e. e.kind ≡ OutOfMemory) }
 {
-    let mut made = Builder::new(alloc);
-    empty_root(&mut made, schema)?;
-    let replies = run_root(alloc, &mut made, schema, calls)?;
+    let mut made = Builder::new(alloc)?;
+    let place = empty_root(&mut made, schema)?;
+    let replies = run_root(alloc, &mut made, place, schema, calls)?;
     *message = made;
     Ok(replies)
 }
 
-/// Makes calls on a copy of a message's root, which is a struct: what it reads as after the calls is what the machine of
-/// records makes of the record that the source reads as. What stood in the message before is given up. The schema is one of an
-/// accepted set.
+/// Makes calls on a copy of a message's root, which is a struct: what it reads as after the calls is what the machine
+/// of records makes of the record that the source reads as. What stood in the message before is given up. The schema is
+/// one of an accepted set.
 ///
-/// Refused with `BadPointer`, `TooDeep` or `CapabilityPointer` where a pointer in the source can't be followed, by the first
-/// of these in preorder; else with `WrongPointerKind` where the source is a list; and with `OutOfMemory`. Then no call was
-/// made, and the message is as it was. Once the copy and the replies have room, calls are refused as by `run_new`.
+/// Refused with `BadPointer`, `TooDeep` or `CapabilityPointer` where a pointer in the source can't be followed, by the
+/// first of these in preorder; else with `WrongPointerKind` where the source is a list; and with `OutOfMemory`. Then no
+/// call was made, and the message is as it was. Once the copy and the replies have room, calls are refused as by
+/// `run_new`.
 pub fn run_copied(
     alloc: Global,
     message: &mut Builder,
@@ -138,66 +136,54 @@ pub fn run_copied(
     calls: &[Call<'_>],
 ) -> Result<Vec<Reply>>
     requires { IsStruct schema }
-    ensures run { IfOk result (λ replies. LeavesRun schema.entry (copied_record schema.entry source.entry) calls.now replies.items
-        (builder_tree message.new)) }
-    ensures made { IfOk result (λ replies. Makes (set_of schema.entry) (number_of schema.entry) (copied_root schema.entry source.entry) calls.now replies.items
-        (struct_in (builder_tree message.new))) }
-    ensures rests { IfOk result (λ replies. RestsWhole schema.entry (copied_root schema.entry source.entry) calls.now replies.items) }
+    ensures message { OnOk result (IsMessage message.new) }
+    ensures run { IfOk result (λ replies. LeavesRun schema.entry
+        (copied_record schema.entry source.entry) calls.now replies.items
+        (message_tree message.new)) }
+    ensures made { IfOk result (λ replies. Makes (set_of schema.entry) (number_of schema.entry)
+        (copied_root schema.entry source.entry) calls.now replies.items
+        (struct_in (message_tree message.new))) }
+    ensures rests { IfOk result (λ replies. RestsWhole schema.entry
+        (copied_root schema.entry source.entry) calls.now replies.items) }
     ensures sound { OnOk result (root_refusal (tree_of source.entry) ≡ None) }
     ensures refused { OnErr result (message.new ≡ message.old) }
     ensures cause { IfErr result (λ e. e.kind ≢ OutOfMemory → root_refusal (tree_of source.entry) ≡ Some e.kind) }
 {
-    let mut made = Builder::new(alloc);
-    copied_root(&mut made, source, schema)?;
-    let replies = run_root(alloc, &mut made, schema, calls)?;
+    let mut made = Builder::new(alloc)?;
+    let place = copied_root(&mut made, source, schema)?;
+    let replies = run_root(alloc, &mut made, place, schema, calls)?;
     *message = made;
     Ok(replies)
 }
 
-/// Appends the text of the struct that stands at a pointer. Refused as the print, and then nothing is appended.
-fn print_here(
-    pointer: &Object,
+/// Appends the text of a message's root. Refused as the print, and then nothing is appended.
+fn print_root(
+    message: &Builder,
     schema: StructSchema<'_>,
     out: &mut String,
     indented: bool,
 ) -> Result<()>
-    requires here { IsTrue (is_struct (object_tree pointer.now)) }
-    requires formed { IsWellFormed (object_tree pointer.now) }
-    ensures printed { OnOk result (IsAppended (string_bytes out.old) (root_text schema.entry indented (object_tree pointer.now)) (string_bytes out.new)) }
+    requires message { IsMessage message.now }
+    requires here { IsTrue (is_struct (message_tree message.now)) }
+    ensures printed { OnOk result (IsAppended (string_bytes out.old)
+        (root_text schema.entry indented (message_tree message.now)) (string_bytes out.new)) }
     ensures refused { OnErr result (string_bytes out.new ≡ string_bytes out.old) }
-    ensures cause { IfErr result (λ e. e.kind ≢ OutOfMemory → read_text schema.entry indented (object_tree pointer.now) ≡ Err e.kind) }
+    ensures cause { IfErr result (λ e. e.kind ≢ OutOfMemory
+        → read_text schema.entry indented (message_tree message.now) ≡ Err e.kind) }
 {
     print_law();
-    let reader = pointer.as_reader().get_struct()?;
+    let reader = message.get_pointer_reader(0).get_struct()?;
     let root = dynamic_struct::Reader::new(reader, schema);
     print(Value::Struct(root), out, indented)
 }
 
-/// Appends the text of a message's root. Refused as the print, and then nothing is appended.
-#[tactic(auto, unfolding(capnp_wire::specs::Message::builder_tree))]
-fn print_root(
-    message: &mut Builder,
-    schema: StructSchema<'_>,
-    out: &mut String,
-    indented: bool,
-) -> Result<()>
-    requires here { IsTrue (is_struct (builder_tree message.old)) }
-    requires formed { IsWellFormed (builder_tree message.old) }
-    ensures printed { OnOk result (IsAppended (string_bytes out.old) (root_text schema.entry indented (builder_tree message.old)) (string_bytes out.new)) }
-    ensures same { builder_tree message.new ≡ builder_tree message.old }
-    ensures refused { OnErr result (string_bytes out.new ≡ string_bytes out.old) }
-    ensures cause { IfErr result (λ e. e.kind ≢ OutOfMemory → read_text schema.entry indented (builder_tree message.old) ≡ Err e.kind) }
-{
-    let root = message.root();
-    print_here(&*root, schema, out, indented)
-}
-
-/// Makes calls on an empty root of a new message, writes the message and prints its root: the promise of this crate, whole.
-/// The replies and the record that the bytes are read back as are related by the machine of records to the default record,
-/// and what is printed is the text of that record. The schema is one of an accepted set.
+/// Makes calls on an empty root of a new message, writes the message and prints its root: the promise of this crate,
+/// whole. The replies and the record that the bytes are read back as are related by the machine of records to the
+/// default record, and what is printed is the text of that record. The schema is one of an accepted set.
 ///
-/// Refused with `OutOfMemory`; with `TooLarge` where the calls left a message of 2^29 words or more; and else as the print of
-/// the root that they left. Then the string is as it was. A call that is refused has its reply, and doesn't refuse the whole.
+/// Refused with `OutOfMemory`; with `TooLarge` where the calls left a message of 2^29 words or more; and else as the
+/// print of the root that they left. Then the string is as it was. A call that is refused has its reply, and doesn't
+/// refuse the whole.
 ///
 /// # Example
 ///
@@ -216,15 +202,17 @@ pub fn whole_new(
     indented: bool,
 ) -> Result<(Vec<Reply>, Vec<u8>)>
     requires { IsStruct schema }
-    ensures whole { IfOk result (λ done. IsWhole schema.entry (new_record schema.entry) calls.now done.0.items done.1.items indented
+    ensures whole { IfOk result (λ done. IsWhole schema.entry
+        (new_record schema.entry) calls.now done.0.items done.1.items indented
         (string_bytes out.old) (string_bytes out.new)) }
     ensures refused { OnErr result (string_bytes out.new ≡ string_bytes out.old) }
-    ensures cause { IfErr result (λ e. e.kind ≢ OutOfMemory → IsWholeRefusal schema.entry (new_record schema.entry) calls.now indented e.kind) }
+    ensures cause { IfErr result (λ e. e.kind ≢ OutOfMemory
+        → IsWholeRefusal schema.entry (new_record schema.entry) calls.now indented e.kind) }
 {
-    let mut message = Builder::new(alloc);
+    let mut message = Builder::new(alloc)?;
     let replies = run_new(alloc, &mut message, schema, calls)?;
     let bytes = message.write_message()?;
-    print_root(&mut message, schema, out, indented)?;
+    print_root(&message, schema, out, indented)?;
     Ok((replies, bytes))
 }
 
@@ -248,15 +236,17 @@ pub fn whole_copied(
     indented: bool,
 ) -> Result<(Vec<Reply>, Vec<u8>)>
     requires { IsStruct schema }
-    ensures whole { IfOk result (λ done. IsWhole schema.entry (copied_record schema.entry source.entry) calls.now done.0.items done.1.items indented
+    ensures whole { IfOk result (λ done. IsWhole schema.entry
+        (copied_record schema.entry source.entry) calls.now done.0.items done.1.items indented
         (string_bytes out.old) (string_bytes out.new)) }
     ensures sound { OnOk result (root_refusal (tree_of source.entry) ≡ None) }
     ensures refused { OnErr result (string_bytes out.new ≡ string_bytes out.old) }
-    ensures cause { IfErr result (λ e. e.kind ≢ OutOfMemory → IsCopiedRefusal schema.entry source.entry calls.now indented e.kind) }
+    ensures cause { IfErr result (λ e. e.kind ≢ OutOfMemory
+        → IsCopiedRefusal schema.entry source.entry calls.now indented e.kind) }
 {
-    let mut message = Builder::new(alloc);
+    let mut message = Builder::new(alloc)?;
     let replies = run_copied(alloc, &mut message, source, schema, calls)?;
     let bytes = message.write_message()?;
-    print_root(&mut message, schema, out, indented)?;
+    print_root(&message, schema, out, indented)?;
     Ok((replies, bytes))
 }

@@ -1,21 +1,23 @@
 //! Cases: rows of calls on the root of a message, and what they leave of it.
 //!
-//! The calls of a case are made twice: by `message::whole_new` or `whole_copied`, which write and print the message, and by
-//! `run::run` on a builder or `message::run_copied`. Both times the replies and the message have to be the same.
+//! The calls of a case are made twice: by `message::whole_new` or `whole_copied`, which write and print the message,
+//! and by `run::run` on a builder or `message::run_copied`. Both times the replies and the message have to be the same.
 ghost use Rattle.capnp_schema.specs.StructHandles.{IsStruct};
 
 use crate::rows::{Asked, asked_in, calls_of, first_wrong};
+use capnp_arena::message::Builder;
 use capnp_callers::streams::run_on_stream;
 use capnp_dynamic::dynamic_struct;
-use capnp_dynamic::dynamic_value::Reader as Value;
+use capnp_dynamic_readers::dynamic_value::Reader as Value;
 use capnp_run::calls::{Call, Reply};
 use capnp_run::message::{run_copied, whole_new};
 use capnp_run::run::run;
 use capnp_schema::schema::StructSchema;
 use capnp_schema::set::SchemaSet;
 use capnp_schema_fixtures::fixtures::schema_of;
+use capnp_slots::size_of;
 use capnp_wire::error::Result;
-use capnp_wire::message::{Builder, Reader};
+use capnp_wire::message::Reader;
 use std::alloc::Global;
 use std::process::Abort;
 
@@ -34,8 +36,8 @@ pub struct Case<'c> {
     pub message: &'c [u8],
 }
 
-/// What the calls of a case left: the first row that was answered otherwise, empty where there is none; the text of the root;
-/// the message; and whether the calls were answered so too and left the same message when they were made again.
+/// What the calls of a case left: the first row that was answered otherwise, empty where there is none; the text of the
+/// root; the message; and whether the calls were answered so too and left the same message when they were made again.
 #[derive(Drop)]
 pub struct Left {
     pub wrong: String,
@@ -77,12 +79,14 @@ fn run_on_empty(
 ) -> Result<(Vec<Reply>, Vec<u8>)>
     requires { IsStruct schema }
 {
-    let mut message = Builder::new(alloc);
-    let replies = run(
-        alloc,
-        dynamic_struct::Builder::open(message.root(), schema)?,
-        calls,
-    )?;
+    let mut message = Builder::new(alloc)?;
+    let place = message.get_struct(0, size_of(schema))?;
+    let built = dynamic_struct::Builder {
+        arena: &mut message,
+        place,
+        schema,
+    };
+    let replies = run(alloc, built, calls)?;
     let bytes = message.write_message()?;
     Ok((replies, bytes))
 }
@@ -96,7 +100,7 @@ fn run_on_copy(
     requires { IsStruct schema }
 {
     let source = Reader::new(alloc, start)?.get_root();
-    let mut message = Builder::new(alloc);
+    let mut message = Builder::new(alloc)?;
     let replies = run_copied(alloc, &mut message, source, schema, calls)?;
     let bytes = message.write_message()?;
     Ok((replies, bytes))

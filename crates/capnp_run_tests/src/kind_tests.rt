@@ -1,8 +1,9 @@
-//! Calls at fields and elements of every kind: what a message that the public tool made is answered as, and what is written.
+//! Calls at fields and elements of every kind: what a message that the public tool made is answered as, and what is
+//! written.
 
 use crate::cases::{Case, cases_hold};
 use crate::fixtures::{MANY, NODE, NONE};
-use capnp_dynamic::dynamic_value::{Enum as EnumValue, Reader as Value};
+use capnp_dynamic_readers::dynamic_value::{Enum as EnumValue, Reader as Value};
 use capnp_schema::builtin::new_set;
 use capnp_schema_fixtures::kinds::{FULL, KINDS, KINDS_SET};
 use capnp_schema_fixtures::messages::MANY_FULL;

@@ -1,14 +1,17 @@
-//! Runs that memory is refused to: `./fail_each_allocation` refuses each request of each test in turn. Where a run meets it,
-//! the run is refused and the message is as it was, or one reply says so and the calls after it are answered as the machine of
-//! records says from there; what comes before and after the run is not looked at.
+//! Runs that memory is refused to: `./fail_each_allocation` refuses each request of each test in turn. Where a run
+//! meets it, the run is refused and the message is as it was, or one reply says so and the calls after it are answered
+//! as the machine of records says from there; what comes before and after the run is not looked at.
+ghost use Rattle.std.specs.Prelude.{IfOk};
+ghost use Rattle.capnp_arena.specs.Message.{IsMessage};
 ghost use Rattle.capnp_schema.specs.StructHandles.{IsStruct};
 
 use crate::cases::root;
 use crate::fixtures::{ENTERED, LISTED, LISTS, LOOP, SHAPES};
 use crate::rows::{Asked, asked_in, calls_of, first_wrong};
+use capnp_arena::message::Builder;
 use capnp_dynamic::dynamic_struct;
-use capnp_dynamic::dynamic_value::Reader as Value;
-use capnp_dynamic::printer::print;
+use capnp_dynamic_readers::dynamic_value::Reader as Value;
+use capnp_dynamic_readers::printer::print;
 use capnp_run::calls::{Call, Reply};
 use capnp_run::run::run;
 use capnp_schema::builtin::new_set;
@@ -16,9 +19,11 @@ use capnp_schema::schema::StructSchema;
 use capnp_schema::set::SchemaSet;
 use capnp_schema_fixtures::fixtures::schema_of;
 use capnp_schema_fixtures::messages::{ITEMS_AS_NUMBERS, SHORT};
+use capnp_slots::size_of;
+use capnp_wire::PointerReader;
 use capnp_wire::error::{ErrorKind, Result};
-use capnp_wire::laws::pointer_is_well_formed;
-use capnp_wire::message::{Builder, Reader};
+use capnp_wire::message::Reader;
+use capnp_wire::size::{ElementSize, StructSize};
 use std::alloc::Global;
 use std::process::Abort;
 use std::test::Fail;
@@ -56,7 +61,9 @@ struct Met {
 }
 
 /// The message that is written; where memory is refused to that, the message is there still.
-fn written(message: &Builder) -> Result<Vec<u8>> {
+fn written(message: &Builder) -> Result<Vec<u8>>
+    requires { IsMessage message.now }
+{
     match message.write_message() {
         Ok(bytes) => Ok(bytes),
         Err(_) => message.write_message(),
@@ -82,18 +89,42 @@ fn replies_of(replies: Result<Vec<Reply>>) -> Result<Option<Vec<Reply>>> {
     }
 }
 
+/// The words that a new message has room for.
+const ROOM: u64 = 128;
+
+/// A message whose root is a copy of a struct, of at least a size, in a segment that has no room left: a call that
+/// makes something takes memory.
+fn full(alloc: Global, source: PointerReader<'_>, size: StructSize) -> Result<Builder>
+    ensures { IfOk result (λ message. IsMessage message) }
+{
+    let mut alone = Builder::new(alloc)?;
+    alone.set_root(source)?;
+    alone.get_struct(0, size)?;
+    let words = alone.size_in_words()?;
+    let mut message = Builder::new(alloc)?;
+    message.init_list(
+        0,
+        ElementSize::EightBytes,
+        ROOM.saturating_sub(words) as u32,
+    )?;
+    message.copy_from(0, alone.get_pointer_reader(0))?;
+    Ok(message)
+}
+
 /// Calls on a copy of a message.
 fn meet(alloc: Global, schema: StructSchema<'_>, start: &[u8], calls: &[Call<'_>]) -> Result<Met>
     requires { IsStruct schema }
 {
     let source = Reader::new(alloc, start)?.get_root();
-    pointer_is_well_formed(&source);
-    let mut message = Builder::new(alloc);
-    message.set_root(source)?;
-    dynamic_struct::Builder::open(message.root(), schema)?;
+    let mut message = full(alloc, source, size_of(schema))?;
+    let place = message.get_struct(0, size_of(schema))?;
     let before = message.write_message()?;
-    let builder = dynamic_struct::Builder::open(message.root(), schema)?;
-    let replies = replies_of(run(alloc, builder, calls))?;
+    let built = dynamic_struct::Builder {
+        arena: &mut message,
+        place,
+        schema,
+    };
+    let replies = replies_of(run(alloc, built, calls))?;
     let after = written(&message)?;
     let text = printed(alloc, schema, after.as_slice())?;
     Ok(Met {

@@ -2,7 +2,7 @@
 
 use crate::cases::{Case, cases_hold, left_by, root};
 use crate::fixtures::{ENTERED, LISTED, LISTS, MIXED, NONE, SHAPES};
-use capnp_dynamic::dynamic_value::Reader as Value;
+use capnp_dynamic_readers::dynamic_value::Reader as Value;
 use capnp_schema::builtin::new_set;
 use capnp_schema_fixtures::fixtures::schema_of;
 use capnp_schema_fixtures::messages::{

@@ -1,17 +1,20 @@
 //! The interpreter of rows: calls with their answers, as texts.
 //!
-//! A row is a call and, behind an arrow, its answer: `items.1.a set UInt16 7 -> Done`. Rows stand in one text, a line each.
+//! A row is a call and, behind an arrow, its answer: `items.1.a set UInt16 7 -> Done`. Rows stand in one text, a line
+//! each.
 //!
-//! The first word is the path, with dots between its steps, of which there are at most three: a name is the field of that
-//! name, a number an element, and `@` with a number the field of that index. The last step is what the operation is done to.
-//! The next word is the operation: `get`, `has`, `which`, `init`, `initn` with a size, `clear`, or `set` with a value. A value
-//! is a type and a number or text: `Int8 -1`, `Bool true`, `Void`, `Text hi`; or `Given`, which is given beside the rows.
+//! The first word is the path, with dots between its steps, of which there are at most three: a name is the field of
+//! that name, a number an element, and `@` with a number the field of that index. The last step is what the operation
+//! is done to. The next word is the operation: `get`, `has`, `which`, `init`, `initn` with a size, `clear`, or `set`
+//! with a value. A value is a type and a number or text: `Int8 -1`, `Bool true`, `Void`, `Text hi`; or `Given`, which
+//! is given beside the rows.
 //!
-//! An answer is a reply as Rust writes it, a value without more words around it: `Done`, `UInt16(7)`, `Member(Some(1))`,
-//! `Flag(false)`, `List(2)`. A text has its letters, `Text(hi)`, and a refusal its number (`ErrorKind::number`), `Refused(30)`.
+//! An answer is a reply as Rust writes it, a value without more words around it: `Done`, `UInt16(7)`,
+//! `Member(Some(1))`, `Flag(false)`, `List(2)`. A text has its letters, `Text(hi)`, and a refusal its number
+//! (`ErrorKind::number`), `Refused(30)`.
 
 use capnp_base::text;
-use capnp_dynamic::dynamic_value::Reader as Value;
+use capnp_dynamic_readers::dynamic_value::Reader as Value;
 use capnp_run::calls::{Call, Op, Plain, Reply, Step};
 use capnp_wire::error::Result;
 use std::alloc::Global;

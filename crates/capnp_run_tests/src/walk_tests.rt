@@ -1,8 +1,9 @@
-//! Walks: the order of the tests of a step, steps through defaults and past faults, and what a refused call leaves filled.
+//! Walks: the order of the tests of a step, steps through defaults and past faults, and what a refused call leaves
+//! filled.
 
 use crate::cases::{Case, cases_hold, left_by};
 use crate::fixtures::{LISTS, LOOP, NONE, SHAPES};
-use capnp_dynamic::dynamic_value::Reader as Value;
+use capnp_dynamic_readers::dynamic_value::Reader as Value;
 use capnp_schema::builtin::new_set;
 use capnp_schema_fixtures::set_text::read_set;
 use std::test::Fail;
@@ -48,8 +49,8 @@ const THREE: &[u8] = &[
     1, 0, 0, 0, 0, 0, 0, 0, 0, 0, 0, 0, 1, 0, 1, 0, 0, 0, 0, 0, 0, 0, 0, 0, 0, 0, 0, 0, 0, 0, 0, 0,
 ];
 
-/// Nulls on the way are filled, and stay so where the call is refused; a `Get` at the end fills none. The default has the
-/// second member active.
+/// Nulls on the way are filled, and stay so where the call is refused; a `Get` at the end fills none. The default has
+/// the second member active.
 const FILLED: &str = "\
 again.end get -> Refused(30)
 again has -> Flag(false)
@@ -152,8 +153,8 @@ fn steps_go_into_defaults(rt: HostRuntime) -> std::result::Result<(), Fail> {
     Ok(())
 }
 
-/// A `Lists` in which nothing reads: `bytes` is a struct, `raw` has numbers of two bytes, `t` does not end in a zero byte,
-/// and `items` are bits.
+/// A `Lists` in which nothing reads: `bytes` is a struct, `raw` has numbers of two bytes, `t` does not end in a zero
+/// byte, and `items` are bits.
 const UNREADABLE: &[u8] = &[
     0, 0, 0, 0, 8, 0, 0, 0, 0, 0, 0, 0, 0, 0, 4, 0, 0xfc, 0xff, 0xff, 0xff, 0, 0, 0, 0, 9, 0, 0, 0,
     0x13, 0, 0, 0, 9, 0, 0, 0, 0x12, 0, 0, 0, 9, 0, 0, 0, 0x11, 0, 0, 0, 1, 0, 2, 0, 0, 0, 0, 0,

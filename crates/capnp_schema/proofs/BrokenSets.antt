@@ -85,5 +85,5 @@ refused_for_memory set e refused accepted = at e.kind refused
   where
     at : (kind : ErrorKind) → IsKindOf set kind → kind ≡ error.OutOfMemory
     at error.OutOfMemory h = refl
-    at (error.Schema rule table entry field) h = absurd (broken_is_refused set rule entry field table h accepted)
+    at (error.Schema table field rule entry) h = absurd (broken_is_refused set rule entry field table h accepted)
     at kind h = absurd h

@@ -62,7 +62,7 @@ pub data IsBroken (set : Schemas) : ℕ → SchemaTable → ℕ → ℕ → Type
 -- what a refusal says of the lists: that there is no memory, or a rule that is broken and where
 abbrev pub IsKindOf : Schemas → ErrorKind → Type 0
 IsKindOf set error.OutOfMemory = ⊤
-IsKindOf set (error.Schema rule table entry field) = IsBroken set rule table entry field
+IsKindOf set (error.Schema table field rule entry) = IsBroken set rule table entry field
 IsKindOf set kind = ⊥
 
 abbrev pub IsRefusalOf : Schemas → Error → Type 0

@@ -1,12 +1,12 @@
 //! Entries in the texts of sets that change what stands before them. They are
 //!
-//! - `note field:1 7 Text(hi) Text`: an annotation of field 1 of the first struct, with the id 7, its value and its type. A `-`
-//!   in place of the value or the type leaves that out. The other places are `struct`, the first struct itself, `enum`, and
-//!   `enumerant:1` of the first enum.
+//! - `note field:1 7 Text(hi) Text`: an annotation of field 1 of the first struct, with the id 7, its value and its
+//!   type. A `-` in place of the value or the type leaves that out. The other places are `struct`, the first struct
+//!   itself, `enum`, and `enumerant:1` of the first enum.
 //! - `no-brands`: the brands before it are taken away.
 //! - `brand-of 1`: the first brand is one of node 1. `more-types` and `no-types`: it has another type, or none.
-//! - `fields 9`: the first struct has 9 more fields, without a type in its brands. `enumerants 9`: the first enum, which
-//!   has none, has 9.
+//! - `fields 9`: the first struct has 9 more fields, without a type in its brands. `enumerants 9`: the first enum,
+//!   which has none, has 9.
 
 use crate::fixtures::{
     Records, Spot, WHOLE, annotate_record, annotate_type, no_types, value_record,

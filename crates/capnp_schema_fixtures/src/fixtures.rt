@@ -1,5 +1,5 @@
-//! Small sets of schemas, put together by code: what tests of this crate and of those above share. `set_text.rt` reads sets
-//! from texts, by these.
+//! Small sets of schemas, put together by code: what tests of this crate and of those above share. `set_text.rt` reads
+//! sets from texts, by these.
 ghost use Rattle.std.specs.Prelude.{IfOk};
 ghost use Rattle.capnp_schema.specs.StructHandles.{IsStruct};
 

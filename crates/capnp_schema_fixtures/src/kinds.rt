@@ -1,5 +1,5 @@
-//! A struct with a field of every kind, and messages of it that the public `capnp` tool made: with a value in each field, in
-//! one segment and in several, and with none. `examples/kinds.capnp` has the struct in the schema language.
+//! A struct with a field of every kind, and messages of it that the public `capnp` tool made: with a value in each
+//! field, in one segment and in several, and with none. `examples/kinds.capnp` has the struct in the schema language.
 
 /// The struct, by number.
 pub const KINDS: u32 = 0;
@@ -54,8 +54,8 @@ pub static EMPTY: [u8; 176] = [
     0, 0, 0, 0, 0, 0, 0, 0, 0, 0, 0, 0, 0, 0, 0, 0, 0,
 ];
 
-/// The set, as `set_text.rt` reads it: the struct with its fields in the order of the schema, the struct of points, the group,
-/// and an enum of three colors.
+/// The set, as `set_text.rt` reads it: the struct with its fields in the order of the schema, the struct of points, the
+/// group, and an enum of three colors.
 pub const KINDS_SET: &str = "
 struct 5 15 union 3 17,
     void Void, truth Bool @0, lie Bool @1 =Bool(true),

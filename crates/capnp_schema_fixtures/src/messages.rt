@@ -80,8 +80,8 @@ static MESSAGES: [(&str, &[u8]); 10] = [
     ("capability_in_tag", CAPABILITY_IN_TAG),
 ];
 
-/// The message of a name in a table; where it isn't there, the one of this file, or `full`, `segments` or `empty` of the
-/// struct of every kind; else a null root.
+/// The message of a name in a table; where it isn't there, the one of this file, or `full`, `segments` or `empty` of
+/// the struct of every kind; else a null root.
 pub fn message_named(table: &[(&str, &'static [u8])], name: &str) -> &'static [u8] {
     if let Some(message) = named(table, name) {
         return message;

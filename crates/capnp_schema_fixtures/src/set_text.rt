@@ -10,9 +10,9 @@
 //! - `note` and what else stands in `changes.rt`, which changes what was there before.
 //!
 //! A field is its name, `_` where that is empty, and of a slot its type, its offset after a `@`, and after a `=`
-//! its default where that is not zero, empty or null: `a Int16 @1 =Int16(-1)`. A group field has `group(1)`, the number of its
-//! node, and after that its type where it is not that group. A `#2` at the end says that the field is a member of the union, with the
-//! discriminant value 2.
+//! its default where that is not zero, empty or null: `a Int16 @1 =Int16(-1)`. A group field has `group(1)`, the number
+//! of its node, and after that its type where it is not that group. A `#2` at the end says that the field is a member
+//! of the union, with the discriminant value 2.
 //!
 //! `words.rt` has the types and the values.
 

@@ -1,7 +1,7 @@
 //! Words in the texts of sets: numbers, types and values.
 //!
-//! Types are `UInt8`, `List(List(Text))`, which may be said as `Text*2` too, `Enum(0)` and `Struct(1)`, by the number of a
-//! brand. That of its node is the same, or stands after a `:`, as in `Struct(9:0)`.
+//! Types are `UInt8`, `List(List(Text))`, which may be said as `Text*2` too, `Enum(0)` and `Struct(1)`, by the number
+//! of a brand. That of its node is the same, or stands after a `:`, as in `Struct(9:0)`.
 //!
 //! Values are `Void`, `Bool(true)`, `Int16(-1)`, `Enum(2)`, `Text(hi)`, and of the kinds `Data`, `Struct`, `List` and
 //! `AnyPointer` the name of bytes in `WORDS`, as in `Struct(null)`.
@@ -11,8 +11,8 @@ use capnp_base::introspect::{RawBrandedStructSchema, RawEnumSchema, Type, TypeVa
 use capnp_wire::error::{Error, ErrorKind, Result};
 use std::str::FromStr;
 
-/// The bytes of data, and the words of structs, lists and untyped pointers: those of one segment, whose first word is the
-/// root pointer.
+/// The bytes of data, and the words of structs, lists and untyped pointers: those of one segment, whose first word is
+/// the root pointer.
 static WORDS: [(&str, &[u8]); 35] = [
     ("", &[]),
     ("hi", b"hi"),

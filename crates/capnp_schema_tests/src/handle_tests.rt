@@ -27,7 +27,8 @@ fn are_printed_alike<T: Debug>(alloc: Global, one: &T, another: &T) -> Result<bo
     Ok(!printed.is_empty() && printed == format!(in alloc; "{another:?}")?)
 }
 
-/// That two handles are equal, have one hash and are printed alike; or that they are told apart, when they are printed too.
+/// That two handles are equal, have one hash and are printed alike; or that they are told apart, when they are printed
+/// too.
 fn compare<T: PartialEq + Hash + Debug>(
     rt: &impl Abort,
     alloc: Global,

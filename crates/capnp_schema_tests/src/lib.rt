@@ -1,7 +1,7 @@
 //! The tests of sets of schemas and of queries by the public calls of `capnp_schema`.
 //!
-//! They are rows of texts, whose forms the heads of these files explain: a set, which `capnp_schema_fixtures` reads, beside
-//! what the check says of it (`verdicts`), or beside a query and what schemas answer (`queries`).
+//! They are rows of texts, whose forms the heads of these files explain: a set, which `capnp_schema_fixtures` reads,
+//! beside what the check says of it (`verdicts`), or beside a query and what schemas answer (`queries`).
 #![tactic(auto)]
 
 #[cfg(test)]

@@ -1,14 +1,16 @@
-//! What schemas answer: rows of a set, a query and the answer, all texts. The set is `built-in`, or one that `set_text.rt`
-//! reads. Queries are
+//! What schemas answer: rows of a set, a query and the answer, all texts. The set is `built-in`, or one that
+//! `set_text.rt` reads. Queries are
 //!
-//! - `notes struct 8`, `notes field 8 id`, `notes enum 0`, `notes enumerant 0 1`: the annotations at a place in their order, with
-//!   `;` after each. The place is a struct, a field by its name, an enum, or an enumerant by its ordinal.
+//! - `notes struct 8`, `notes field 8 id`, `notes enum 0`, `notes enumerant 0 1`: the annotations at a place in their
+//!   order, with `;` after each. The place is a struct, a field by its name, an enum, or an enumerant by its ordinal.
 //! - `find 7 struct 8`: the first annotation there that has the id 7, or `none`.
-//! - `fields 3`, `members 3`, `plain 3`: the names of a struct's fields, of its union's members, and of the other fields.
+//! - `fields 3`, `members 3`, `plain 3`: the names of a struct's fields, of its union's members, and of the other
+//!   fields.
 //! - `enumerants 0`: the names of an enum's enumerants.
 //!
-//! An annotation is its id, its type and its value: `8 Text UInt16(5)`. Of a value the parentheses have the number, the text, the
-//! length of data, the first data word of a struct, or byte 2 of a list. It is 0 of `Void`, and -1 of an untyped null.
+//! An annotation is its id, its type and its value: `8 Text UInt16(5)`. Of a value the parentheses have the number, the
+//! text, the length of data, the first data word of a struct, or byte 2 of a list. It is 0 of `Void`, and -1 of an
+//! untyped null.
 
 use capnp_schema::builtin::new_set;
 use capnp_schema::schema::{

@@ -1,7 +1,7 @@
 //! What the check says of sets: rows of a set as a text, which `set_text.rt` reads, and of the answer as a text.
 //!
-//! The answer is `accepted`, or a rule that is broken and where: `rule 4 brand 0 field 1`, or `rule 8 brand 1` where the whole
-//! entry is meant. Where a row has several answers, with ` or ` between them, the check may give any of them.
+//! The answer is `accepted`, or a rule that is broken and where: `rule 4 brand 0 field 1`, or `rule 8 brand 1` where
+//! the whole entry is meant. Where a row has several answers, with ` or ` between them, the check may give any of them.
 
 use capnp_schema_fixtures::fixtures::WHOLE;
 use capnp_schema_fixtures::set_text::read_set;

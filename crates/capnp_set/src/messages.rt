@@ -1,4 +1,5 @@
-//! A request and a message of the public tool, `capnp` 0.9.2: `capnp compile -o-` made the one and `capnp encode` the other.
+//! A request and a message of the public tool, `capnp` 0.9.2: `capnp compile -o-` made the one and `capnp encode` the
+//! other.
 
 /// The request for this schema:
 ///

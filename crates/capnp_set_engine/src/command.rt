@@ -24,9 +24,9 @@ fn read_words(words: &[String]) -> Option<bool>
     }
 }
 
-/// Runs the program on its words, and answers its exit status: 0 where the set was written, with its notes on `errors`, 1
-/// where `convert` was refused, with its number on `errors`, and 2 for other words, with the usage on `errors` and before
-/// any input is read. Where a line can't be written to `errors`, the status is the same.
+/// Runs the program on its words, and answers its exit status: 0 where the set was written, with its notes on `errors`,
+/// 1 where `convert` was refused, with its number on `errors`, and 2 for other words, with the usage on `errors` and
+/// before any input is read. Where a line can't be written to `errors`, the status is the same.
 pub fn command<R: Source, W: Sink, F: Sink>(
     alloc: Global,
     words: &[String],

@@ -68,15 +68,15 @@ fn make_of(alloc: Global, bytes: &[u8], strict: bool) -> Result<Made>
 }
 
 /// Reads the source to its end and writes the message of the set that the first message's root stands for, a compiler's
-/// request, and then a line for each note on `errors`, as far as it takes them. What follows the request is not looked at
-/// (encoding, "Serialization Over a Stream"). The set is checked and its message is made whole before its first byte is
-/// written. Where `strict` says so, floats and interfaces are refused.
+/// request, and then a line for each note on `errors`, as far as it takes them. What follows the request is not looked
+/// at (encoding, "Serialization Over a Stream"). The set is checked and its message is made whole before its first byte
+/// is written. Where `strict` says so, floats and interfaces are refused.
 ///
 /// Refused with `ReadFailed` or `WriteFailed` where a call of the source or the sink failed, with `OutOfMemory`, as the
-/// request's stream is (`Truncated`, `TooManySegments`), as its root is where it can't be read as a struct (`BadPointer`,
-/// `WrongPointerKind`, `CapabilityPointer`), as `read_request`, as `SchemaSet::new` with a rule that the lists break, or as
-/// `write_set`. After `WriteFailed` a proper beginning of the message was written, after any other refusal nothing; after
-/// each of them nothing was told.
+/// request's stream is (`Truncated`, `TooManySegments`), as its root is where it can't be read as a struct
+/// (`BadPointer`, `WrongPointerKind`, `CapabilityPointer`), as `read_request`, as `SchemaSet::new` with a rule that the
+/// lists break, or as `write_set`. After `WriteFailed` a proper beginning of the message was written, after any other
+/// refusal nothing; after each of them nothing was told.
 pub fn convert<R: Source, W: Sink, F: Sink>(
     alloc: Global,
     source: &mut R,
@@ -84,9 +84,11 @@ pub fn convert<R: Source, W: Sink, F: Sink>(
     errors: &mut F,
     strict: bool,
 ) -> Result<()>
-    ensures written { OnOk result (IsWritten strict (R.left source.old) (R.left source.new) (W.written sink.old) (W.written sink.new)
+    ensures written { OnOk result (IsWritten strict (R.left source.old) (R.left source.new) (W.written sink.old)
+        (W.written sink.new)
         (F.written errors.old) (F.written errors.new) (F.failures errors.old) (F.failures errors.new)) }
-    ensures refused { IfErr result (λ e. IsOfMessage e.kind → IsRefused strict e (R.left source.old) (R.left source.new)) }
+    ensures refused { IfErr result (λ e. IsOfMessage e.kind
+        → IsRefused strict e (R.left source.old) (R.left source.new)) }
     ensures read_failed { IfErr result (λ e. e.kind ≡ ReadFailed →
         HasFailed (R.failures source.old) (R.failures source.new)) }
     ensures write_failed { IfErr result (λ e. e.kind ≡ WriteFailed →

@@ -37,7 +37,8 @@ fn field_name(fields: &[FieldRecord], index: usize) -> &str
 
 /// Appends the line of a field of an entry.
 fn put_line(lines: &mut String, entry: &str, field: &str, words: &str) -> Result<()>
-    ensures put { OnOk result (string_bytes lines.new ≡ string_bytes lines.old ++ field_line entry.now field.now words.now) }
+    ensures put { OnOk result (string_bytes lines.new
+        ≡ string_bytes lines.old ++ field_line entry.now field.now words.now) }
     ensures memory { IfErr result (λ e. e.kind ≡ OutOfMemory) }
 {
     lines.push_str(entry)?;

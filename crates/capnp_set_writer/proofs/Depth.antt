@@ -2,13 +2,12 @@
 use Rattle.std.proofs.Common.{ℕ, ◌-◌, ◌≤◌, arith, List, [], ◌∷◌}
 use Rattle.std.specs.Prelude.{map}
 use Rattle.capnp_wire.specs.Depth.{AreBelow, ElementsAreBelow, IsBelow, IsShallow}
-use Rattle.capnp_wire.specs.Objects.{structs_of, trees_of}
 use Rattle.capnp_wire.specs.Place.{struct_tree}
 use Rattle.capnp_wire.specs.Tree.{StructTree, Tree}
 use Rattle.capnp_schema.specs.Schema.{Annotation, Brand, Enum, Enumerant, Field, FieldKind, Group, Node, Schemas, Slot}
 use Rattle.capnp_schema.specs.Schema.{Value, VoidValue, BoolValue, IntValue, UIntValue, EnumValue, TextValue, DataValue, StructValue, ListValue, AnyPointerValue}
 use Rattle.capnp_schema.specs.Types.{SchemaType}
-use Rattle.capnp_set_writer.specs.Trees.{annotation_tree, annotations_tree, brand_tree, enum_tree, enumerant_tree, enumerants_tree, field_kind_tree, field_tree, fields_tree, node_tree, set_tree, type_lists_tree, type_tree, types_tree, value_tree}
+use Rattle.capnp_set_writer.specs.Trees.{annotation_tree, annotations_tree, brand_tree, enum_tree, enumerant_tree, enumerants_tree, field_kind_tree, field_tree, fields_tree, node_tree, set_tree, structs_of, trees_of, type_lists_tree, type_tree, types_tree, value_tree}
 
 elements : {A : Type 0} (tree_of : A → StructTree) (levels : ℕ) → ((a : A) → AreBelow levels (tree_of a).pointers) → (xs : List A) → ElementsAreBelow levels (structs_of (map tree_of xs))
 elements tree_of levels each [] = tt

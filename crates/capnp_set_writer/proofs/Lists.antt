@@ -4,7 +4,6 @@ use Rattle.std.specs.Prelude.{All, map, ⊤}
 use Rattle.capnp_device.specs.declared.error.ErrorKind.TheVariants.{TooDeep}
 use Rattle.capnp_wire.specs.Tree as tree
 use Rattle.capnp_wire.specs.Tree.{StructTree, Tree, Trees, struct_count, tree_count}
-use Rattle.capnp_wire.specs.Objects.{structs_of, trees_of}
 use Rattle.capnp_wire.specs.Place.{struct_tree}
 use Rattle.capnp_schema.specs.Meta.{meta, many, one}
 use Rattle.capnp_schema.specs.Schema.{VoidValue}
@@ -16,7 +15,7 @@ use Rattle.capnp_records.specs.Record as value
 use Rattle.capnp_records.specs.Record.{Levels, MoreValues, NoValues, Record, Value, Values, asked, one_less, values_from}
 use Rattle.capnp_sets.specs.Causes.{◌<*>◌, Read}
 use Rattle.capnp_sets.specs.Parts.{all_of, list, struct, structs, unless_fault}
-use Rattle.capnp_set_writer.specs.Trees.{struct_list}
+use Rattle.capnp_set_writer.specs.Trees.{struct_list, structs_of, trees_of}
 use Rattle.capnp_set_writer.proofs.Numbers.{applied}
 
 -- ---- all of a row ----

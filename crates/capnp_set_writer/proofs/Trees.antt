@@ -10,10 +10,9 @@ use Rattle.capnp_wire.specs.Tree.{Composite, MoreStructs, MoreTrees, Null, Point
 use Rattle.capnp_wire.specs.Edits.{IsRoomRefusal, nulls, with_tree, zero_struct, zero_structs}
 use Rattle.capnp_wire.specs.Elements.{HasPointer, HasStruct, with_pointer_element, with_struct, with_struct_element}
 use Rattle.capnp_wire.specs.Reading.{element_struct}
-use Rattle.capnp_wire.specs.Objects.{structs_of, trees_of}
 use Rattle.capnp_wire.specs.declared.size.StructSize.{StructSize}
 use Rattle.capnp_set_writer.specs.Limits.{ListFits}
-use Rattle.capnp_set_writer.specs.Trees.{struct_list, zeros}
+use Rattle.capnp_set_writer.specs.Trees.{struct_list, structs_of, trees_of, zeros}
 use Rattle.capnp_set_writer.specs.Writes.{IsPartRefusal, IsWriteRefusal, blank, filled, filled_trees}
 
 pub on_ok : {A E : Type 0} {P Q : Type 0} (r : Result A E) → (P → Q) → OnOk r P → OnOk r Q

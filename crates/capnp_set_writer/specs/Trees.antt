@@ -1,14 +1,22 @@
 -- The trees of the records of a set, as they are written.
 use Rattle.std.specs.Prelude.{ℕ, suc, ◌+◌, ◌-◌, ◌*◌, List, [], ◌∷◌, ◌++◌, map, replicate, Bool, ◌==◌, cond, bit_xor}
-use Rattle.capnp_wire.specs.Tree.{Tree, Null, Numbers, Pointers, Composite, StructTree}
+use Rattle.capnp_wire.specs.Tree.{Tree, Null, Numbers, Pointers, Composite, Trees, NoTrees, MoreTrees, Structs, NoStructs, MoreStructs, StructTree}
 use Rattle.capnp_wire.specs.Encoding.{spelled}
-use Rattle.capnp_wire.specs.Objects.{structs_of, trees_of}
 use Rattle.capnp_wire.specs.Place.{struct_tree}
 use Rattle.capnp_base.specs.Text.{text_tree}
 use Rattle.capnp_schema.specs.Schema.{Annotation, Brand, Enum, Enumerant, Field, FieldKind, Group, Node, Schemas, Slot}
 use Rattle.capnp_schema.specs.Schema.{Value, VoidValue, BoolValue, IntValue, UIntValue, EnumValue, TextValue, DataValue, StructValue, ListValue, AnyPointerValue}
 use Rattle.capnp_schema.specs.SlotValue.{bit_number, unsigned}
 use Rattle.capnp_schema.specs.Types.{SchemaType, VoidType, BoolType, IntType, UIntType, EnumType, TextType, DataType, StructType, ListType, AnyPointerType}
+
+-- trees, and structs, one after another
+abbrev pub trees_of : List Tree → Trees
+trees_of [] = NoTrees
+trees_of (t ∷ ts) = MoreTrees t (trees_of ts)
+
+abbrev pub structs_of : List StructTree → Structs
+structs_of [] = NoStructs
+structs_of (s ∷ ss) = MoreStructs s.bytes s.pointers (structs_of ss)
 
 -- a struct of these bytes and pointers
 abbrev pub made : List ℕ → List Tree → StructTree

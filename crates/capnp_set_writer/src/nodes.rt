@@ -25,7 +25,8 @@ fn put_kind(arena: &mut Arena, place: Place, kind: &FieldKind) -> Result<()>
     ensures written { OnOk result (built arena.new place ≡ kind_written (seen_kind kind.now) (built arena.old place)) }
     ensures kept { OnOk result (KindKept (seen_kind kind.now)) }
     ensures fits { OnOk result (DefaultFits (seen_kind kind.now)) }
-    ensures cause { IfErr result (λ e. IsPartRefusal (DefaultHasKind (seen_kind kind.now)) (DefaultFits (seen_kind kind.now)) e.kind) }
+    ensures cause { IfErr result (λ e. IsPartRefusal (DefaultHasKind (seen_kind kind.now))
+        (DefaultFits (seen_kind kind.now)) e.kind) }
 {
     match kind {
         FieldKind::Slot { offset, default } => {

@@ -49,8 +49,8 @@ pub(crate) trait Part {
 
     /// Fills a new struct of that size.
     ///
-    /// Refused with `UnknownKind` for a value that the form has no kind for, with `SizePastFormat` where a text, data or
-    /// list is too long for the format or a type has more than 65,535 lists around it, and else with `OutOfMemory`.
+    /// Refused with `UnknownKind` for a value that the form has no kind for, with `SizePastFormat` where a text, data
+    /// or list is too long for the format or a type has more than 65,535 lists around it, and else with `OutOfMemory`.
     fn put(&self, arena: &mut Arena, place: Place) -> Result<()>
         requires { IsNew data_words pointers arena.old place }
         ensures planted { OnOk result (IsBuilt arena.new place) }
@@ -71,7 +71,8 @@ fn put_struct<T: Part>(arena: &mut Arena, at: usize, part: &T) -> Result<()>
     ensures written { OnOk result (tree (segment arena.new) at ≡ struct_tree (T.tree (T.seen part.now))) }
     ensures kept { OnOk result (T.kept (T.seen part.now)) }
     ensures fits { OnOk result (T.fits (T.seen part.now)) }
-    ensures cause { IfErr result (λ e. IsPartRefusal (T.has_kinds (T.seen part.now)) (T.fits (T.seen part.now)) e.kind) }
+    ensures cause { IfErr result (λ e. IsPartRefusal (T.has_kinds (T.seen part.now))
+        (T.fits (T.seen part.now)) e.kind) }
 {
     let place = arena.init_struct(at, T::size())?;
     part.put(arena, place)
@@ -89,7 +90,8 @@ pub(crate) fn put_part<T: Part>(arena: &mut Arena, place: Place, index: u16, par
         with_pointer_tree (built arena.old place) index (struct_tree (T.tree (T.seen part.now)))) }
     ensures kept { OnOk result (T.kept (T.seen part.now)) }
     ensures fits { OnOk result (T.fits (T.seen part.now)) }
-    ensures cause { IfErr result (λ e. IsPartRefusal (T.has_kinds (T.seen part.now)) (T.fits (T.seen part.now)) e.kind) }
+    ensures cause { IfErr result (λ e. IsPartRefusal (T.has_kinds (T.seen part.now))
+        (T.fits (T.seen part.now)) e.kind) }
 {
     let at = pointer_at(arena, place, index);
     put_struct(arena, at, part)
@@ -102,10 +104,12 @@ fn put_element<T: Part>(arena: &mut Arena, at: usize, index: u32, part: &T) -> R
     requires blank { element_struct (tree (segment arena.old) at) index ≡ blank T.data_words T.pointers }
     ensures forest { OnOk result (Forest (segment arena.new) at) }
     ensures changes { OnOk result (Changes at (segment arena.old) (segment arena.new)) }
-    ensures written { OnOk result (tree (segment arena.new) at ≡ with_struct_element index (T.tree (T.seen part.now)) (tree (segment arena.old) at)) }
+    ensures written { OnOk result (tree (segment arena.new) at
+        ≡ with_struct_element index (T.tree (T.seen part.now)) (tree (segment arena.old) at)) }
     ensures kept { OnOk result (T.kept (T.seen part.now)) }
     ensures fits { OnOk result (T.fits (T.seen part.now)) }
-    ensures cause { IfErr result (λ e. IsPartRefusal (T.has_kinds (T.seen part.now)) (T.fits (T.seen part.now)) e.kind) }
+    ensures cause { IfErr result (λ e. IsPartRefusal (T.has_kinds (T.seen part.now))
+        (T.fits (T.seen part.now)) e.kind) }
 {
     let place = arena.get_struct_at(at, index);
     part.put(arena, place)
@@ -115,14 +119,17 @@ fn put_element<T: Part>(arena: &mut Arena, at: usize, index: u32, part: &T) -> R
 fn fill_list<T: Part>(arena: &mut Arena, at: usize, parts: &[T]) -> Result<()>
     requires forest { Forest (segment arena.old) at }
     requires new { tree (segment arena.old) at ≡
-        Composite T.data_words T.pointers (filled (blank T.data_words T.pointers) (map T.tree (map T.seen parts.now)) 0) }
+        Composite T.data_words T.pointers (filled (blank T.data_words T.pointers)
+        (map T.tree (map T.seen parts.now)) 0) }
     requires few { length parts.now < 2 ^ 29 }
     ensures forest { OnOk result (Forest (segment arena.new) at) }
     ensures changes { OnOk result (Changes at (segment arena.old) (segment arena.new)) }
-    ensures written { OnOk result (tree (segment arena.new) at ≡ struct_list T.data_words T.pointers (map T.tree (map T.seen parts.now))) }
+    ensures written { OnOk result (tree (segment arena.new) at
+        ≡ struct_list T.data_words T.pointers (map T.tree (map T.seen parts.now))) }
     ensures kept { OnOk result (All T.kept (map T.seen parts.now)) }
     ensures fits { OnOk result (All T.fits (map T.seen parts.now)) }
-    ensures cause { IfErr result (λ e. IsPartRefusal (All T.has_kinds (map T.seen parts.now)) (All T.fits (map T.seen parts.now)) e.kind) }
+    ensures cause { IfErr result (λ e. IsPartRefusal (All T.has_kinds (map T.seen parts.now))
+        (All T.fits (map T.seen parts.now)) e.kind) }
 {
     for index in 0..parts.len() {
         put_element(arena, at, index as u32, &parts[index])?;
@@ -153,10 +160,12 @@ pub(crate) fn put_list<T: Part>(arena: &mut Arena, at: usize, parts: &[T]) -> Re
     requires inside { at < word_count (segment arena.old) }
     ensures forest { OnOk result (Forest (segment arena.new) at) }
     ensures changes { OnOk result (Changes at (segment arena.old) (segment arena.new)) }
-    ensures written { OnOk result (tree (segment arena.new) at ≡ struct_list T.data_words T.pointers (map T.tree (map T.seen parts.now))) }
+    ensures written { OnOk result (tree (segment arena.new) at
+        ≡ struct_list T.data_words T.pointers (map T.tree (map T.seen parts.now))) }
     ensures kept { OnOk result (All T.kept (map T.seen parts.now)) }
     ensures fits { OnOk result (ListFits (T.data_words + T.pointers) T.fits (map T.seen parts.now)) }
-    ensures cause { IfErr result (λ e. IsPartRefusal (All T.has_kinds (map T.seen parts.now)) (ListFits (T.data_words + T.pointers) T.fits (map T.seen parts.now)) e.kind) }
+    ensures cause { IfErr result (λ e. IsPartRefusal (All T.has_kinds (map T.seen parts.now))
+        (ListFits (T.data_words + T.pointers) T.fits (map T.seen parts.now)) e.kind) }
 {
     let count = count_of(parts.len())?;
     arena.init_struct_list(at, count, T::size())?;
@@ -177,10 +186,12 @@ pub(crate) fn put_parts<T: Part>(
     ensures planted { OnOk result (IsBuilt arena.new place) }
     ensures changes { OnOk result (ChangesIn place arena.old arena.new) }
     ensures written { OnOk result (built arena.new place ≡
-        with_pointer_tree (built arena.old place) index (struct_list T.data_words T.pointers (map T.tree (map T.seen parts.now)))) }
+        with_pointer_tree (built arena.old place) index
+        (struct_list T.data_words T.pointers (map T.tree (map T.seen parts.now)))) }
     ensures kept { OnOk result (All T.kept (map T.seen parts.now)) }
     ensures fits { OnOk result (ListFits (T.data_words + T.pointers) T.fits (map T.seen parts.now)) }
-    ensures cause { IfErr result (λ e. IsPartRefusal (All T.has_kinds (map T.seen parts.now)) (ListFits (T.data_words + T.pointers) T.fits (map T.seen parts.now)) e.kind) }
+    ensures cause { IfErr result (λ e. IsPartRefusal (All T.has_kinds (map T.seen parts.now))
+        (ListFits (T.data_words + T.pointers) T.fits (map T.seen parts.now)) e.kind) }
 {
     let at = pointer_at(arena, place, index);
     put_list(arena, at, parts)

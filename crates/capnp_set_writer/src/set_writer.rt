@@ -36,7 +36,8 @@ fn put_lists(arena: &mut Arena, place: Place, set: &SchemaSet) -> Result<()>
     ensures kept { OnOk result (SetKept (lists_seen set.now)) }
     ensures accepted { IsAccepted (lists_seen set.now) }
     ensures fits { OnOk result (SetFits (lists_seen set.now)) }
-    ensures cause { IfErr result (λ e. IsPartRefusal (SetHasKinds (lists_seen set.now)) (SetFits (lists_seen set.now)) e.kind) }
+    ensures cause { IfErr result (λ e. IsPartRefusal (SetHasKinds (lists_seen set.now))
+        (SetFits (lists_seen set.now)) e.kind) }
 {
     put_parts(arena, place, 0, set.nodes())?;
     put_parts(arena, place, 1, set.brands())?;
@@ -51,7 +52,8 @@ fn put_root(arena: &mut Arena, set: &SchemaSet) -> Result<()>
     ensures kept { OnOk result (SetKept (lists_seen set.now)) }
     ensures accepted { OnOk result (IsAccepted (lists_seen set.now)) }
     ensures fits { OnOk result (SetFits (lists_seen set.now)) }
-    ensures cause { IfErr result (λ e. IsPartRefusal (SetHasKinds (lists_seen set.now)) (SetFits (lists_seen set.now)) e.kind) }
+    ensures cause { IfErr result (λ e. IsPartRefusal (SetHasKinds (lists_seen set.now))
+        (SetFits (lists_seen set.now)) e.kind) }
 {
     let root = arena.init_struct(0, ROOT)?;
     put_lists(arena, root, set)
@@ -61,10 +63,10 @@ fn put_root(arena: &mut Arena, set: &SchemaSet) -> Result<()>
 /// follows them, are read as the set's own lists (`capnp_sets::read_set`). Every list, text and struct of a record is
 /// there, also where it is empty.
 ///
-/// Refused with `UnknownKind` where a value is untyped and isn't one zero word, or is a list without words, for which the
-/// form has no kind; with `SizePastFormat` where a type has more than 65,535 lists around it, or a text, data or list is
-/// too long for the format; and else with `OutOfMemory`, also where the message would be 2^29 words or more. `TooLarge` is
-/// given there alone.
+/// Refused with `UnknownKind` where a value is untyped and isn't one zero word, or is a list without words, for which
+/// the form has no kind; with `SizePastFormat` where a type has more than 65,535 lists around it, or a text, data or
+/// list is too long for the format; and else with `OutOfMemory`, also where the message would be 2^29 words or more.
+/// `TooLarge` is given there alone.
 pub fn write_set(alloc: Global, set: &SchemaSet) -> Result<Vec<u8>>
     ensures read { IfOk result (λ bytes. IsReadAsSet (lists_seen set.now) bytes.items) }
     ensures kinds { OnOk result (SetHasKinds (lists_seen set.now)) }

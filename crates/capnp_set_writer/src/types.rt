@@ -133,7 +133,8 @@ fn put_row(arena: &mut Arena, at: usize, index: u32, types: &[Type]) -> Result<(
     requires there { HasPointer (tree (segment arena.old) at) index }
     ensures forest { OnOk result (Forest (segment arena.new) at) }
     ensures changes { OnOk result (Changes at (segment arena.old) (segment arena.new)) }
-    ensures written { OnOk result (tree (segment arena.new) at ≡ with_pointer_element index (types_tree (map seen_type types.now)) (tree (segment arena.old) at)) }
+    ensures written { OnOk result (tree (segment arena.new) at
+        ≡ with_pointer_element index (types_tree (map seen_type types.now)) (tree (segment arena.old) at)) }
     ensures kept { OnOk result (All TypeKept (map seen_type types.now)) }
     ensures fits { OnOk result (TypesFit (map seen_type types.now)) }
     ensures cause { IfErr result (λ e. IsPartRefusal ⊤ (TypesFit (map seen_type types.now)) e.kind) }
@@ -145,14 +146,17 @@ fn put_row(arena: &mut Arena, at: usize, index: u32, types: &[Type]) -> Result<(
 /// Fills a new list of pointers, each with a list of types.
 fn fill_rows(arena: &mut Arena, at: usize, rows: &[Vec<Type>]) -> Result<()>
     requires forest { Forest (segment arena.old) at }
-    requires new { tree (segment arena.old) at ≡ Pointers (filled_trees (map types_tree (map (λ row. map seen_type row.items) rows.now)) 0) }
+    requires new { tree (segment arena.old) at
+        ≡ Pointers (filled_trees (map types_tree (map (λ row. map seen_type row.items) rows.now)) 0) }
     requires few { length rows.now < 2 ^ 29 }
     ensures forest { OnOk result (Forest (segment arena.new) at) }
     ensures changes { OnOk result (Changes at (segment arena.old) (segment arena.new)) }
-    ensures written { OnOk result (tree (segment arena.new) at ≡ type_lists_tree (map (λ row. map seen_type row.items) rows.now)) }
+    ensures written { OnOk result (tree (segment arena.new) at
+        ≡ type_lists_tree (map (λ row. map seen_type row.items) rows.now)) }
     ensures kept { OnOk result (All (All TypeKept) (map (λ row. map seen_type row.items) rows.now)) }
     ensures fits { OnOk result (All TypesFit (map (λ row. map seen_type row.items) rows.now)) }
-    ensures cause { IfErr result (λ e. IsPartRefusal ⊤ (All TypesFit (map (λ row. map seen_type row.items) rows.now)) e.kind) }
+    ensures cause { IfErr result (λ e. IsPartRefusal ⊤
+        (All TypesFit (map (λ row. map seen_type row.items) rows.now)) e.kind) }
 {
     for index in 0..rows.len() {
         put_row(arena, at, index as u32, rows[index].as_slice())?;
@@ -167,10 +171,12 @@ fn put_rows(arena: &mut Arena, at: usize, rows: &[Vec<Type>]) -> Result<()>
     requires inside { at < word_count (segment arena.old) }
     ensures forest { OnOk result (Forest (segment arena.new) at) }
     ensures changes { OnOk result (Changes at (segment arena.old) (segment arena.new)) }
-    ensures written { OnOk result (tree (segment arena.new) at ≡ type_lists_tree (map (λ row. map seen_type row.items) rows.now)) }
+    ensures written { OnOk result (tree (segment arena.new) at
+        ≡ type_lists_tree (map (λ row. map seen_type row.items) rows.now)) }
     ensures kept { OnOk result (All (All TypeKept) (map (λ row. map seen_type row.items) rows.now)) }
     ensures fits { OnOk result (TypeListsFit (map (λ row. map seen_type row.items) rows.now)) }
-    ensures cause { IfErr result (λ e. IsPartRefusal ⊤ (TypeListsFit (map (λ row. map seen_type row.items) rows.now)) e.kind) }
+    ensures cause { IfErr result (λ e. IsPartRefusal ⊤
+        (TypeListsFit (map (λ row. map seen_type row.items) rows.now)) e.kind) }
 {
     let count = count_of(rows.len())?;
     arena.init_list(at, ElementSize::Pointer, count)?;
@@ -191,10 +197,12 @@ pub(crate) fn put_type_lists(
     ensures planted { OnOk result (IsBuilt arena.new place) }
     ensures changes { OnOk result (ChangesIn place arena.old arena.new) }
     ensures written { OnOk result (built arena.new place ≡
-        with_pointer_tree (built arena.old place) index (type_lists_tree (map (λ row. map seen_type row.items) rows.now))) }
+        with_pointer_tree (built arena.old place) index
+        (type_lists_tree (map (λ row. map seen_type row.items) rows.now))) }
     ensures kept { OnOk result (All (All TypeKept) (map (λ row. map seen_type row.items) rows.now)) }
     ensures fits { OnOk result (TypeListsFit (map (λ row. map seen_type row.items) rows.now)) }
-    ensures cause { IfErr result (λ e. IsPartRefusal ⊤ (TypeListsFit (map (λ row. map seen_type row.items) rows.now)) e.kind) }
+    ensures cause { IfErr result (λ e. IsPartRefusal ⊤
+        (TypeListsFit (map (λ row. map seen_type row.items) rows.now)) e.kind) }
 {
     let at = pointer_at(arena, place, index);
     put_rows(arena, at, rows)

@@ -34,7 +34,8 @@ fn put_kind<T: PrimitiveElement>(
     requires inside { (offset + 1) * T.width ≤ 16 }
     ensures planted { IsBuilt arena.new place }
     ensures changes { ChangesIn place arena.old arena.new }
-    ensures written { built arena.new place ≡ numbered T.width offset (T.to_number value) (numbered 2 0 kind (blank 2 1)) }
+    ensures written { built arena.new place ≡ numbered T.width offset (T.to_number value)
+        (numbered 2 0 kind (blank 2 1)) }
     ensures done { IsOk result }
 {
     arena.set_number::<u16>(place, 0, kind);
@@ -47,7 +48,8 @@ fn put_kind_text(arena: &mut Arena, place: Place, kind: u16, text: &[u8]) -> Res
     requires { IsNew 2 1 arena.old place }
     ensures planted { OnOk result (IsBuilt arena.new place) }
     ensures changes { OnOk result (ChangesIn place arena.old arena.new) }
-    ensures written { OnOk result (built arena.new place ≡ with_pointer_tree (numbered 2 0 kind (blank 2 1)) 0 (text_tree text.now)) }
+    ensures written { OnOk result (built arena.new place
+        ≡ with_pointer_tree (numbered 2 0 kind (blank 2 1)) 0 (text_tree text.now)) }
     ensures kept { AreBytes text.now }
     ensures fits { OnOk result (IsTextLength text.now) }
     ensures cause { IfErr result (λ e. IsPartRefusal ⊤ (IsTextLength text.now) e.kind) }
@@ -61,7 +63,8 @@ fn put_kind_data(arena: &mut Arena, place: Place, kind: u16, bytes: &[u8]) -> Re
     requires { IsNew 2 1 arena.old place }
     ensures planted { OnOk result (IsBuilt arena.new place) }
     ensures changes { OnOk result (ChangesIn place arena.old arena.new) }
-    ensures written { OnOk result (built arena.new place ≡ with_pointer_tree (numbered 2 0 kind (blank 2 1)) 0 (Numbers 1 bytes.now)) }
+    ensures written { OnOk result (built arena.new place
+        ≡ with_pointer_tree (numbered 2 0 kind (blank 2 1)) 0 (Numbers 1 bytes.now)) }
     ensures kept { AreBytes bytes.now }
     ensures fits { OnOk result (IsDataLength bytes.now) }
     ensures cause { IfErr result (λ e. IsPartRefusal ⊤ (IsDataLength bytes.now) e.kind) }
@@ -141,7 +144,8 @@ fn put_list_words(arena: &mut Arena, place: Place, words: &[u8]) -> Result<()>
     requires { IsNew 2 1 arena.old place }
     ensures planted { OnOk result (IsBuilt arena.new place) }
     ensures changes { OnOk result (ChangesIn place arena.old arena.new) }
-    ensures written { OnOk result (built arena.new place ≡ with_pointer_tree (numbered 2 0 14 (blank 2 1)) 0 (Numbers 1 words.now)) }
+    ensures written { OnOk result (built arena.new place
+        ≡ with_pointer_tree (numbered 2 0 14 (blank 2 1)) 0 (Numbers 1 words.now)) }
     ensures kept { OnOk result ((words.now ≢ []) × AreBytes words.now) }
     ensures fits { OnOk result (IsDataLength words.now) }
     ensures cause { IfErr result (λ e. IsPartRefusal (words.now ≢ []) (IsDataLength words.now) e.kind) }
@@ -159,7 +163,8 @@ fn put_untyped(arena: &mut Arena, place: Place, words: &[u8]) -> Result<()>
     requires { IsNew 2 1 arena.old place }
     ensures planted { OnOk result (IsBuilt arena.new place) }
     ensures changes { OnOk result (ChangesIn place arena.old arena.new) }
-    ensures written { OnOk result (built arena.new place ≡ with_pointer_tree (numbered 2 0 14 (blank 2 1)) 0 (Numbers 1 [])) }
+    ensures written { OnOk result (built arena.new place
+        ≡ with_pointer_tree (numbered 2 0 14 (blank 2 1)) 0 (Numbers 1 [])) }
     ensures kept { OnOk result (words.now ≡ zero_word) }
     ensures cause { IfErr result (λ e. IsPartRefusal (words.now ≡ zero_word) ⊤ e.kind) }
 {
@@ -177,7 +182,8 @@ fn put_value(arena: &mut Arena, place: Place, value: &ValueRecord) -> Result<()>
     ensures written { OnOk result (built arena.new place ≡ value_tree (seen_value value.now)) }
     ensures kept { OnOk result (ValueKept (seen_value value.now)) }
     ensures fits { OnOk result (ValueFits (seen_value value.now)) }
-    ensures cause { IfErr result (λ e. IsPartRefusal (HasKind (seen_value value.now)) (ValueFits (seen_value value.now)) e.kind) }
+    ensures cause { IfErr result (λ e. IsPartRefusal (HasKind (seen_value value.now))
+        (ValueFits (seen_value value.now)) e.kind) }
 {
     match value {
         // the kind of nothing is 0

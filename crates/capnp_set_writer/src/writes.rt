@@ -21,7 +21,8 @@ pub(crate) fn put_text(arena: &mut Arena, place: Place, index: u16, text: &[u8])
     requires inside { index < place.pointers }
     ensures planted { OnOk result (IsBuilt arena.new place) }
     ensures changes { OnOk result (ChangesIn place arena.old arena.new) }
-    ensures written { OnOk result (built arena.new place ≡ with_pointer_tree (built arena.old place) index (text_tree text.now)) }
+    ensures written { OnOk result (built arena.new place
+        ≡ with_pointer_tree (built arena.old place) index (text_tree text.now)) }
     ensures bytes { AreBytes text.now }
     ensures fits { OnOk result (IsTextLength text.now) }
     ensures cause { IfErr result (λ e. IsPartRefusal ⊤ (IsTextLength text.now) e.kind) }
@@ -38,7 +39,8 @@ pub(crate) fn put_data(arena: &mut Arena, place: Place, index: u16, bytes: &[u8]
     requires inside { index < place.pointers }
     ensures planted { OnOk result (IsBuilt arena.new place) }
     ensures changes { OnOk result (ChangesIn place arena.old arena.new) }
-    ensures written { OnOk result (built arena.new place ≡ with_pointer_tree (built arena.old place) index (Numbers 1 bytes.now)) }
+    ensures written { OnOk result (built arena.new place
+        ≡ with_pointer_tree (built arena.old place) index (Numbers 1 bytes.now)) }
     ensures bytes { AreBytes bytes.now }
     ensures fits { OnOk result (IsDataLength bytes.now) }
     ensures cause { IfErr result (λ e. IsPartRefusal ⊤ (IsDataLength bytes.now) e.kind) }
@@ -55,7 +57,8 @@ pub(crate) fn put_name(arena: &mut Arena, place: Place, index: u16, name: &str) 
     requires inside { index < place.pointers }
     ensures planted { OnOk result (IsBuilt arena.new place) }
     ensures changes { OnOk result (ChangesIn place arena.old arena.new) }
-    ensures written { OnOk result (built arena.new place ≡ with_pointer_tree (built arena.old place) index (text_tree name.now)) }
+    ensures written { OnOk result (built arena.new place
+        ≡ with_pointer_tree (built arena.old place) index (text_tree name.now)) }
     ensures name { IsName name.now }
     ensures fits { OnOk result (IsTextLength name.now) }
     ensures cause { IfErr result (λ e. IsPartRefusal ⊤ (IsTextLength name.now) e.kind) }

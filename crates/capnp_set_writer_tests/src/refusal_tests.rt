@@ -20,8 +20,8 @@ fn refusal(alloc: Global, set: &SchemaSet) -> u32 {
     }
 }
 
-/// Sets of a value that is untyped and isn't one zero word: a pointer to a struct of size zero, and a null with a word after
-/// it. They stand in the annotations of a struct, a field, an enum and an enumerant, and as a field's default.
+/// Sets of a value that is untyped and isn't one zero word: a pointer to a struct of size zero, and a null with a word
+/// after it. They stand in the annotations of a struct, a field, an enum and an enumerant, and as a field's default.
 const FORMLESS: [&str; 6] = [
     "struct 0 0; note struct 7 AnyPointer(empty_struct) AnyPointer",
     "struct 0 0; note struct 7 AnyPointer(null_and_more) AnyPointer",

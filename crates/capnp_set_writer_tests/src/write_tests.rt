@@ -16,8 +16,8 @@ use std::test::Fail;
 /// Bytes that follow the message in its stream.
 const REST: [u8; 3] = [255, 0, 1];
 
-/// Sets as texts: every base of a type, lists around types, a value of each kind as a default and as an annotation, groups
-/// and unions, enums, and nothing at all.
+/// Sets as texts: every base of a type, lists around types, a value of each kind as a default and as an annotation,
+/// groups and unions, enums, and nothing at all.
 const SETS: [&str; 9] = [
     "",
     "built-in",
@@ -30,7 +30,8 @@ const SETS: [&str; 9] = [
     "enum red blue; note enum 1 Bool(true) Bool; note enumerant:1 2 Int64(-9223372036854775808) Int64; note enumerant:1 3 Void Void; note enumerant:0 4 Enum(1) Enum(0)",
 ];
 
-/// Asserts that a set is written, and read back as the lists of another one that is equal, with bytes after the message.
+/// Asserts that a set is written, and read back as the lists of another one that is equal, with bytes after the
+/// message.
 pub(crate) fn same_again(rt: &impl Abort, alloc: Global, set: &SchemaSet) -> Result<(), Fail> {
     let meta_set = meta::new_set(alloc)?;
     let mut bytes = write_set(alloc, set)?;
@@ -68,7 +69,8 @@ fn sets_of_texts_are_read_back(rt: HostRuntime) -> Result<(), Fail> {
 /// How many structs the large set has.
 const MANY: u32 = 2_000;
 
-/// The lists of a set of so many structs. Each has its own number as its id, and a pointer to the struct of another number.
+/// The lists of a set of so many structs. Each has its own number as its id, and a pointer to the struct of another
+/// number.
 fn many_structs(alloc: Global) -> capnp_wire::error::Result<Records> {
     let mut records = Records {
         nodes: Vec::new(alloc),

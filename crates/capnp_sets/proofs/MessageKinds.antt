@@ -71,7 +71,7 @@ root_told (Err kind) h = h
 
 rule_kind : (set : Schemas) (kind : ErrorKind) → IsKindOf set kind → IsSetKind kind
 rule_kind set OutOfMemory h = refl
-rule_kind set (Schema rule table entry field) h = refl
+rule_kind set (Schema table field rule entry) h = refl
 rule_kind set kind h = absurd h
 
 root-sound : (set : Schemas) (root : StructTree) → RecordSound (struct_record set (Left 63) root 0)

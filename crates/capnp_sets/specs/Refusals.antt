@@ -20,7 +20,7 @@ is_set_kind FloatType = true
 is_set_kind InterfaceType = true
 is_set_kind UnknownKind = true
 is_set_kind NameNotUtf8 = true
-is_set_kind (Schema rule table entry field) = true
+is_set_kind (Schema table field rule entry) = true
 is_set_kind kind = false
 
 -- a refusal in which no device has part, and no name that was asked for

@@ -32,8 +32,10 @@ fn read_slot(alloc: Global, reader: &StructReader<'_>) -> Result<FieldKind>
 #[inline(always)]
 #[tactic(auto, unfolding(crate::specs::Fields::kind_by))]
 fn read_kind(alloc: Global, reader: &StructReader<'_>) -> Result<FieldKind>
-    ensures read { IfOk result (λ k. kind_by (which_of (record_in 2 reader.now)) (record_in 2 reader.now) ≡ Ok (seen_kind k)) }
-    ensures refused { IfErr result (λ e. e.kind ≢ OutOfMemory → HasCause (kind_by (which_of (record_in 2 reader.now)) (record_in 2 reader.now)) e.kind) }
+    ensures read { IfOk result (λ k. kind_by (which_of (record_in 2 reader.now)) (record_in 2 reader.now)
+        ≡ Ok (seen_kind k)) }
+    ensures refused { IfErr result (λ e. e.kind ≢ OutOfMemory
+        → HasCause (kind_by (which_of (record_in 2 reader.now)) (record_in 2 reader.now)) e.kind) }
 {
     let Some(member) = field_member(reader) else {
         return Err(Error {

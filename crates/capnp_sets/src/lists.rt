@@ -20,8 +20,10 @@ use capnp_wire::error::Result;
 /// A brand of a record of one.
 #[tactic(auto, unfolding(crate::specs::Lists::brand_of))]
 fn read_brand(context: &Context<'_>, reader: &StructReader<'_>) -> Result<BrandRecord>
-    ensures read { IfOk result (λ b. brand_of (values_in context.now.brands) (record_in 6 reader.now) ≡ Ok (seen_brand b)) }
-    ensures refused { IfErr result (λ e. e.kind ≢ OutOfMemory → HasCause (brand_of (values_in context.now.brands) (record_in 6 reader.now)) e.kind) }
+    ensures read { IfOk result (λ b. brand_of (values_in context.now.brands) (record_in 6 reader.now)
+        ≡ Ok (seen_brand b)) }
+    ensures refused { IfErr result (λ e. e.kind ≢ OutOfMemory
+        → HasCause (brand_of (values_in context.now.brands) (record_in 6 reader.now)) e.kind) }
 {
     let node = u32_at(reader, BRAND, 0, 0);
     let field_types = list_read::<Type>(context, reader, BRAND, 1, 0)?;
@@ -52,7 +54,8 @@ impl FromRecord for BrandRecord {
 #[tactic(auto, unfolding(crate::specs::Lists::enumerant_of))]
 fn read_enumerant(context: &Context<'_>, reader: &StructReader<'_>) -> Result<EnumerantRecord>
     ensures read { IfOk result (λ e. enumerant_of (record_in 9 reader.now) ≡ Ok (seen_enumerant e)) }
-    ensures refused { IfErr result (λ e. e.kind ≢ OutOfMemory → HasCause (enumerant_of (record_in 9 reader.now)) e.kind) }
+    ensures refused { IfErr result (λ e. e.kind ≢ OutOfMemory
+        → HasCause (enumerant_of (record_in 9 reader.now)) e.kind) }
 {
     let name = name_at(context.alloc, reader, ENUMERANT, 0, 0)?;
     let annotations = list_read::<AnnotationRecord>(context, reader, ENUMERANT, 1, 1)?;
@@ -76,8 +79,10 @@ impl FromRecord for EnumerantRecord {
 /// An enum of a record of one.
 #[tactic(auto, unfolding(crate::specs::Lists::enum_of))]
 fn read_enum(context: &Context<'_>, reader: &StructReader<'_>) -> Result<EnumRecord>
-    ensures read { IfOk result (λ e. enum_of (values_in context.now.brands) (record_in 8 reader.now) ≡ Ok (seen_enum e)) }
-    ensures refused { IfErr result (λ e. e.kind ≢ OutOfMemory → HasCause (enum_of (values_in context.now.brands) (record_in 8 reader.now)) e.kind) }
+    ensures read { IfOk result (λ e. enum_of (values_in context.now.brands) (record_in 8 reader.now)
+        ≡ Ok (seen_enum e)) }
+    ensures refused { IfErr result (λ e. e.kind ≢ OutOfMemory
+        → HasCause (enum_of (values_in context.now.brands) (record_in 8 reader.now)) e.kind) }
 {
     let id = u64_at(reader, ENUM, 0, 0);
     let display_name = name_at(context.alloc, reader, ENUM, 1, 0)?;

@@ -14,11 +14,11 @@ use capnp_wire::error::Result;
 use capnp_wire::message::Reader;
 use std::alloc::Global;
 
-/// The set that the root of the first message in these bytes stands for, checked. What follows the message is not looked at
-/// (encoding, "Serialization Over a Stream").
+/// The set that the root of the first message in these bytes stands for, checked. What follows the message is not
+/// looked at (encoding, "Serialization Over a Stream").
 ///
-/// Refused with `OutOfMemory`, as the stream is (`Truncated`, `TooManySegments`), as the root is where it can't be read as a
-/// struct (`BadPointer`, `WrongPointerKind`, `CapabilityPointer`), or as `read_schema_set`.
+/// Refused with `OutOfMemory`, as the stream is (`Truncated`, `TooManySegments`), as the root is where it can't be read
+/// as a struct (`BadPointer`, `WrongPointerKind`, `CapabilityPointer`), or as `read_schema_set`.
 pub fn read_message(alloc: Global, bytes: &[u8]) -> Result<SchemaSet>
     ensures set { IfOk result (λ set. message_set bytes.now ≡ Some (lists_seen set)) }
     ensures accepted { IfOk result (λ set. IsAccepted (lists_seen set)) }

@@ -132,14 +132,16 @@ pub(crate) fn name_at(
     requires field { IsSlot brand index TextType place (TextValue []) }
     requires active { IsActive brand index reader.now }
     ensures read { IfOk result (λ x. name (read_at brand index (record_in brand reader.now)) ≡ Ok (string_bytes x)) }
-    ensures refused { IfErr result (λ e. e.kind ≢ OutOfMemory → HasCause (name (read_at brand index (record_in brand reader.now))) e.kind) }
+    ensures refused { IfErr result (λ e. e.kind ≢ OutOfMemory
+        → HasCause (name (read_at brand index (record_in brand reader.now))) e.kind) }
 {
     let bytes = text_at(reader, brand, index, place)?;
     owned(alloc, bytes)
 }
 
-/// Whether a pointer is null and a level is left for a list behind it, which then is empty: most lists of a set are. A null is
-/// all that is read both as data and as a struct, and both tests stand where they are asked, while a list is read by a call.
+/// Whether a pointer is null and a level is left for a list behind it, which then is empty: most lists of a set are. A
+/// null is all that is read both as data and as a struct, and both tests stand where they are asked, while a list is
+/// read by a call.
 #[inline(always)]
 pub(crate) fn is_no_list(pointer: &PointerReader<'_>) -> bool
     ensures null { IsTrue result → tree_of pointer.now ≡ Null }
@@ -165,7 +167,8 @@ pub(crate) fn struct_at<'a>(
 ) -> Result<StructReader<'a>>
     requires field { IsSlot brand index (one inner) place (StructValue zero_word) }
     requires active { IsActive brand index reader.now }
-    ensures read { IfOk result (λ s. value.Struct (record_in inner s) ≡ read_at brand index (record_in brand reader.now)) }
+    ensures read { IfOk result (λ s. value.Struct (record_in inner s)
+        ≡ read_at brand index (record_in brand reader.now)) }
     ensures refused { IfErr result (λ e. value.Fault e.kind ≡ read_at brand index (record_in brand reader.now)) }
 {
     let (_brand, _index, _inner) = (brand, index, inner);
@@ -181,10 +184,12 @@ pub(crate) fn list_at<'a>(
     place: u16,
     size: ElementSize,
 ) -> Result<ListReader<'a>>
-    requires field { IsSlot brand index (ListType (element_type (field_at meta brand index).type)) place (ListValue zero_word) }
+    requires field { IsSlot brand index (ListType (element_type (field_at meta brand index).type)) place
+        (ListValue zero_word) }
     requires size { element_size (element_type (field_at meta brand index).type) ≡ size }
     requires active { IsActive brand index reader.now }
-    ensures read { IfOk result (λ l. list_in (element_type (field_at meta brand index).type) l ≡ read_at brand index (record_in brand reader.now)) }
+    ensures read { IfOk result (λ l. list_in (element_type (field_at meta brand index).type) l
+        ≡ read_at brand index (record_in brand reader.now)) }
     ensures refused { IfErr result (λ e. value.Fault e.kind ≡ read_at brand index (record_in brand reader.now)) }
 {
     let (_brand, _index) = (brand, index);

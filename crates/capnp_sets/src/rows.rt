@@ -15,8 +15,8 @@ use capnp_wire::size::ElementSize;
 use capnp_wire::{ListReader, StructReader};
 use std::alloc::Global;
 
-/// As many elements of a list have room from the start; a list of structs of size zero may count many more than its message
-/// has words.
+/// As many elements of a list have room from the start; a list of structs of size zero may count many more than its
+/// message has words.
 pub(crate) const MOST_ROOM: u32 = 65_536;
 
 /// What the parts of a set are read with: memory, and the records of brands, which say the nodes of struct types.
@@ -38,8 +38,10 @@ pub(crate) trait FromRecord: Sized {
     ghost of_record: { Values → Record → Read Seen };
 
     fn from_record(context: &Context<'_>, reader: &StructReader<'_>) -> Result<Self>
-        ensures read { IfOk result (λ made. of_record (values_in context.now.brands) (record_in brand reader.now) ≡ Ok (seen made)) }
-        ensures refused { IfErr result (λ e. e.kind ≢ OutOfMemory → HasCause (of_record (values_in context.now.brands) (record_in brand reader.now)) e.kind) };
+        ensures read { IfOk result (λ made. of_record (values_in context.now.brands) (record_in brand reader.now)
+            ≡ Ok (seen made)) }
+        ensures refused { IfErr result (λ e. e.kind ≢ OutOfMemory
+            → HasCause (of_record (values_in context.now.brands) (record_in brand reader.now)) e.kind) };
 }
 
 /// One of each struct of a list.
@@ -47,9 +49,11 @@ pub(crate) fn all_read<T: FromRecord + Drop>(
     context: &Context<'_>,
     elements: &ListReader<'_>,
 ) -> Result<Vec<T>>
-    ensures read { IfOk result (λ v. structs T.brand (T.of_record (values_in context.now.brands)) (list_in (one T.brand) elements.now) ≡ Ok (map T.seen v.items)) }
+    ensures read { IfOk result (λ v. structs T.brand (T.of_record (values_in context.now.brands))
+        (list_in (one T.brand) elements.now) ≡ Ok (map T.seen v.items)) }
     ensures refused { IfErr result (λ e. e.kind ≢ OutOfMemory →
-        HasCause (structs T.brand (T.of_record (values_in context.now.brands)) (list_in (one T.brand) elements.now)) e.kind) }
+        HasCause (structs T.brand (T.of_record (values_in context.now.brands))
+        (list_in (one T.brand) elements.now)) e.kind) }
 {
     let count = elements.len();
     let mut out = Vec::with_capacity(context.alloc, count.min(MOST_ROOM) as usize)?;
@@ -72,9 +76,11 @@ pub(crate) fn list_read<T: FromRecord + Drop>(
 ) -> Result<Vec<T>>
     requires field { IsSlot brand index (many T.brand) place (ListValue zero_word) }
     requires active { IsActive brand index reader.now }
-    ensures read { IfOk result (λ v. structs T.brand (T.of_record (values_in context.now.brands)) (read_at brand index (record_in brand reader.now)) ≡ Ok (map T.seen v.items)) }
+    ensures read { IfOk result (λ v. structs T.brand (T.of_record (values_in context.now.brands))
+        (read_at brand index (record_in brand reader.now)) ≡ Ok (map T.seen v.items)) }
     ensures refused { IfErr result (λ e. e.kind ≢ OutOfMemory →
-        HasCause (structs T.brand (T.of_record (values_in context.now.brands)) (read_at brand index (record_in brand reader.now))) e.kind) }
+        HasCause (structs T.brand (T.of_record (values_in context.now.brands))
+        (read_at brand index (record_in brand reader.now))) e.kind) }
 {
     if is_no_list(&reader.get_pointer_field(place)) {
         return Ok(Vec::new(context.alloc));

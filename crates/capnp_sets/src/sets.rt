@@ -16,20 +16,22 @@ use capnp_wire::error::Result;
 use capnp_wire::size::ElementSize;
 use std::alloc::Global;
 
-/// The nodes, brands and enums that the record of a set stands for, of which `SchemaSet::new` makes a set. Missing parts are
-/// read as their defaults. The record has to be of brand 0 of the meta set.
+/// The nodes, brands and enums that the record of a set stands for, of which `SchemaSet::new` makes a set. Missing
+/// parts are read as their defaults. The record has to be of brand 0 of the meta set.
 ///
 /// Refused with `OutOfMemory`, or with a number whose cause stands in the record: that of a part that can't be read
-/// (`BadPointer`, `WrongPointerKind`, `WrongElementSize`, `TextNotTerminated`, `TooDeep`, `CapabilityPointer`), `FloatType` or
-/// `InterfaceType` for a type that is one, `UnknownKind` for another base or for the discriminant of a field or value that is
-/// none of the meta set's, and `NameNotUtf8`. Where several stand in the record, any of them may be named.
+/// (`BadPointer`, `WrongPointerKind`, `WrongElementSize`, `TextNotTerminated`, `TooDeep`, `CapabilityPointer`),
+/// `FloatType` or `InterfaceType` for a type that is one, `UnknownKind` for another base or for the discriminant of a
+/// field or value that is none of the meta set's, and `NameNotUtf8`. Where several stand in the record, any of them may
+/// be named.
 #[tactic(auto, unfolding(crate::specs::Lists::set_of))]
 pub fn read_set(
     alloc: Global,
     reader: dynamic_struct::Reader<'_>,
 ) -> Result<(Vec<NodeRecord>, Vec<BrandRecord>, Vec<EnumRecord>)>
     requires { IsRecord 0 reader }
-    ensures lists { IfOk result (λ r. lists_of (record_seen reader.entry) ≡ Some (seen_schemas r.0.items r.1.items r.2.items)) }
+    ensures lists { IfOk result (λ r. lists_of (record_seen reader.entry)
+        ≡ Some (seen_schemas r.0.items r.1.items r.2.items)) }
     ensures refused { IfErr result (λ e. e.kind ≢ OutOfMemory → has_cause (record_seen reader.entry) e.kind) }
 {
     let sections = reader.get_sections();
@@ -44,10 +46,11 @@ pub fn read_set(
     Ok((nodes, brands, enums))
 }
 
-/// The set that a record stands for, checked: `read_set` and `SchemaSet::new`. The record has to be of brand 0 of the meta set.
+/// The set that a record stands for, checked: `read_set` and `SchemaSet::new`. The record has to be of brand 0 of the
+/// meta set.
 ///
-/// Refused as these are: with `OutOfMemory`, with a number whose cause stands in the record, or, where the record stands for
-/// lists, with `Schema` and the number of a rule that they break.
+/// Refused as these are: with `OutOfMemory`, with a number whose cause stands in the record, or, where the record
+/// stands for lists, with `Schema` and the number of a rule that they break.
 pub fn read_schema_set(alloc: Global, reader: dynamic_struct::Reader<'_>) -> Result<SchemaSet>
     requires { IsRecord 0 reader }
     ensures set { IfOk result (λ set. lists_of (record_seen reader.entry) ≡ Some (lists_seen set)) }

@@ -34,9 +34,11 @@ fn generic_of(brands: &ListReader<'_>, number: u32) -> Result<u32>
 
 /// The type of the structs of a brand.
 fn struct_type(brands: &ListReader<'_>, number: u32) -> Result<Type>
-    ensures read { IfOk result (λ t. Ok (StructType number) <*> generic_in (values_in brands.now) number ≡ Ok (seen_type t)) }
+    ensures read { IfOk result (λ t. Ok (StructType number) <*> generic_in (values_in brands.now) number
+        ≡ Ok (seen_type t)) }
     ensures bare { IfOk result (λ t. list_depth t ≡ 0) }
-    ensures refused { IfErr result (λ e. HasCause (Ok (StructType number) <*> generic_in (values_in brands.now) number) e.kind) }
+    ensures refused { IfErr result (λ e. HasCause
+        (Ok (StructType number) <*> generic_in (values_in brands.now) number) e.kind) }
 {
     let generic = generic_of(brands, number)?;
     Ok(Type::from(TypeVariant::Struct(RawBrandedStructSchema { number, generic })))
@@ -132,8 +134,10 @@ impl FromRecord for Type {
 /// The types of the list behind a pointer.
 #[inline(always)]
 fn types_behind(context: &Context<'_>, pointer: &PointerReader<'_>) -> Result<Vec<Type>>
-    ensures read { IfOk result (λ v. types (values_in context.now.brands) (pointer_read meta VoidValue (many 7) pointer.now) ≡ Ok (map seen_type v.items)) }
-    ensures refused { IfErr result (λ e. e.kind ≢ OutOfMemory → HasCause (types (values_in context.now.brands) (pointer_read meta VoidValue (many 7) pointer.now)) e.kind) }
+    ensures read { IfOk result (λ v. types (values_in context.now.brands)
+        (pointer_read meta VoidValue (many 7) pointer.now) ≡ Ok (map seen_type v.items)) }
+    ensures refused { IfErr result (λ e. e.kind ≢ OutOfMemory
+        → HasCause (types (values_in context.now.brands) (pointer_read meta VoidValue (many 7) pointer.now)) e.kind) }
 {
     if is_no_list(pointer) {
         return Ok(Vec::new(context.alloc));
@@ -144,8 +148,10 @@ fn types_behind(context: &Context<'_>, pointer: &PointerReader<'_>) -> Result<Ve
 
 /// The types of each list of types: those of the annotations of fields or enumerants.
 fn type_lists(context: &Context<'_>, elements: &ListReader<'_>) -> Result<Vec<Vec<Type>>>
-    ensures read { IfOk result (λ v. type_lists (values_in context.now.brands) (list_in (many 7) elements.now) ≡ Ok (map (λ types. map seen_type types.items) v.items)) }
-    ensures refused { IfErr result (λ e. e.kind ≢ OutOfMemory → HasCause (type_lists (values_in context.now.brands) (list_in (many 7) elements.now)) e.kind) }
+    ensures read { IfOk result (λ v. type_lists (values_in context.now.brands) (list_in (many 7) elements.now)
+        ≡ Ok (map (λ types. map seen_type types.items) v.items)) }
+    ensures refused { IfErr result (λ e. e.kind ≢ OutOfMemory
+        → HasCause (type_lists (values_in context.now.brands) (list_in (many 7) elements.now)) e.kind) }
 {
     let count = elements.len();
     let mut out = Vec::with_capacity(context.alloc, count.min(MOST_ROOM) as usize)?;
@@ -168,8 +174,11 @@ pub(crate) fn type_lists_at(
 ) -> Result<Vec<Vec<Type>>>
     requires field { IsSlot brand index (ListType (many 7)) place (ListValue zero_word) }
     requires active { IsActive brand index reader.now }
-    ensures read { IfOk result (λ v. type_lists (values_in context.now.brands) (read_at brand index (record_in brand reader.now)) ≡ Ok (map (λ types. map seen_type types.items) v.items)) }
-    ensures refused { IfErr result (λ e. e.kind ≢ OutOfMemory → HasCause (type_lists (values_in context.now.brands) (read_at brand index (record_in brand reader.now))) e.kind) }
+    ensures read { IfOk result (λ v. type_lists (values_in context.now.brands)
+        (read_at brand index (record_in brand reader.now)) ≡ Ok (map (λ types. map seen_type types.items) v.items)) }
+    ensures refused { IfErr result (λ e. e.kind ≢ OutOfMemory
+        → HasCause (type_lists (values_in context.now.brands)
+        (read_at brand index (record_in brand reader.now))) e.kind) }
 {
     let elements = list_at(reader, brand, index, place, ElementSize::Pointer)?;
     type_lists(context, &elements)

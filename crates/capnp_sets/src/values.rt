@@ -68,7 +68,8 @@ fn pointer_value(alloc: Global, reader: &StructReader<'_>, member: u16) -> Resul
     requires active { which_of (record_in 5 reader.now) ≡ Some member }
     requires pointer { 11 ≤ member }
     ensures read { IfOk result (λ v. value_by (Some member) (record_in 5 reader.now) ≡ Ok (seen_value v)) }
-    ensures refused { IfErr result (λ e. e.kind ≢ OutOfMemory → HasCause (value_by (Some member) (record_in 5 reader.now)) e.kind) }
+    ensures refused { IfErr result (λ e. e.kind ≢ OutOfMemory
+        → HasCause (value_by (Some member) (record_in 5 reader.now)) e.kind) }
 {
     if member > 14 {
         return Err(Error {
@@ -122,8 +123,10 @@ pub(crate) fn value_at(
 ) -> Result<ValueRecord>
     requires field { IsSlot brand index (one 5) place (StructValue zero_word) }
     requires active { IsActive brand index reader.now }
-    ensures read { IfOk result (λ v. struct value_of (read_at brand index (record_in brand reader.now)) ≡ Ok (seen_value v)) }
-    ensures refused { IfErr result (λ e. e.kind ≢ OutOfMemory → HasCause (struct value_of (read_at brand index (record_in brand reader.now))) e.kind) }
+    ensures read { IfOk result (λ v. struct value_of (read_at brand index (record_in brand reader.now))
+        ≡ Ok (seen_value v)) }
+    ensures refused { IfErr result (λ e. e.kind ≢ OutOfMemory
+        → HasCause (struct value_of (read_at brand index (record_in brand reader.now))) e.kind) }
 {
     let record = struct_at(reader, brand, index, place, VALUE)?;
     read_value(alloc, &record)
@@ -133,7 +136,8 @@ pub(crate) fn value_at(
 #[tactic(auto, unfolding(crate::specs::Values::annotation_of))]
 fn read_annotation(alloc: Global, reader: &StructReader<'_>) -> Result<AnnotationRecord>
     ensures read { IfOk result (λ a. annotation_of (record_in 4 reader.now) ≡ Ok (seen_annotation a)) }
-    ensures refused { IfErr result (λ e. e.kind ≢ OutOfMemory → HasCause (annotation_of (record_in 4 reader.now)) e.kind) }
+    ensures refused { IfErr result (λ e. e.kind ≢ OutOfMemory
+        → HasCause (annotation_of (record_in 4 reader.now)) e.kind) }
 {
     let id = u64_at(reader, ANNOTATION, 0, 0);
     let value = value_at(alloc, reader, ANNOTATION, 1, 0)?;

@@ -14,7 +14,8 @@ use capnp_wire::error::Result;
 use capnp_wire::message::Reader;
 use std::alloc::Global;
 
-/// The lists of the first message in these bytes, under the meta set. Refused as the stream, its root and `read_set` are.
+/// The lists of the first message in these bytes, under the meta set. Refused as the stream, its root and `read_set`
+/// are.
 pub fn lists_in(
     alloc: Global,
     meta_set: &SchemaSet,

@@ -1,8 +1,9 @@
 //! The small set with another word in the place of one of its pointers.
 
-/// Rows: the word's number behind the stream's table, the word that is put there, and the number of the refusal, 0 where the
-/// set is read as before. Of each pointer stand here a capability, a struct and a list past the end of the message, a struct
-/// whose one pointer it is itself, and, where one number alone is right, a list whose one element it is itself.
+/// Rows: the word's number behind the stream's table, the word that is put there, and the number of the refusal, 0
+/// where the set is read as before. Of each pointer stand here a capability, a struct and a list past the end of the
+/// message, a struct whose one pointer it is itself, and, where one number alone is right, a list whose one element it
+/// is itself.
 pub(crate) const HOSTILE: &str = "\
 # the root
 0 0300000000000000 9

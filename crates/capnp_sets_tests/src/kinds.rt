@@ -1,8 +1,8 @@
 //! A set in which each kind of part stands, and how its records are printed.
 
-/// Values of each kind, types of each base and lists of them, annotations at each place, types of fewer and of more children
-/// than there are, brands of one node, a type whose brand is not there, and records of which nothing was set. The set is not
-/// one that is accepted. The bits beside a number are those of the byte 5a.
+/// Values of each kind, types of each base and lists of them, annotations at each place, types of fewer and of more
+/// children than there are, brands of one node, a type whose brand is not there, and records of which nothing was set.
+/// The set is not one that is accepted. The bits beside a number are those of the byte 5a.
 pub(crate) const KINDS: &str = "\
 00000000d3000000 0000000000000300 0900000067000000 fd01000067000000 9502000067000000 0800000003000300 \
 feffffffffffffff fffffeff02000100 ffffffff00000000 2100000032000000 2100000017010000 7901000047000000 \

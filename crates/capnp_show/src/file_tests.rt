@@ -1,4 +1,5 @@
-//! What the program prints and answers where its set comes as a file, over a file in memory and over the system's files.
+//! What the program prints and answers where its set comes as a file, over a file in memory and over the system's
+//! files.
 
 use crate::set_files::{FLAT, FLAT_LINE, META, META_LINE, REFUSED_SETS, TWICE};
 use crate::tests::{

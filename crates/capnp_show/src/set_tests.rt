@@ -24,7 +24,8 @@ fn member(alloc: Global, number: u16, name: &str, default: ValueRecord) -> Resul
     })
 }
 
-/// A struct that is at its end, or holds a list of such structs; the list's default holds one that has the default again.
+/// A struct that is at its end, or holds a list of such structs; the list's default holds one that has the default
+/// again.
 fn nest_node(alloc: Global) -> Result<NodeRecord> {
     let one = vec![in alloc;
         1, 0, 0, 0, 0x17, 0, 0, 0, 4, 0, 0, 0, 1, 0, 1, 0, 1, 0, 0, 0, 0, 0, 0, 0, 0, 0, 0, 0, 0,
@@ -79,8 +80,8 @@ fn nest_set(alloc: Global) -> Result<SchemaSet>
     SchemaSet::new(alloc, nodes, brands, Vec::new(alloc))
 }
 
-/// A message, whether its text is indented, the number of its refusal, and what is written. The number is 0 where it is not
-/// refused.
+/// A message, whether its text is indented, the number of its refusal, and what is written. The number is 0 where it is
+/// not refused.
 static NESTS: [(&str, bool, u32, &str); 3] = [
     (
         "0000000003000000 0000000001000100 0000000000000000 0000000000000000",

@@ -1,7 +1,7 @@
 //! What the program prints and answers, by its public call, over sources and sinks in memory.
 //!
-//! A setting says what the program is run on, and `comes_to` runs it and compares what comes of it. Rows of messages are texts
-//! (`messages`).
+//! A setting says what the program is run on, and `comes_to` runs it and compares what comes of it. Rows of messages
+//! are texts (`messages`).
 ghost use Rattle.std.specs.Prelude.{⊤, ◌<◌};
 
 use crate::messages::{BEGINNINGS, EXAMPLES, REFUSED, SHOWN, row_of};
@@ -265,8 +265,8 @@ fn refuses_each_proper_beginning(rt: HostRuntime) -> Result<(), Fail> {
     Ok(())
 }
 
-/// A chain of so many structs, each the `again` of the one before, and the last of them with `end`; each is the next two
-/// words after the pointer to it.
+/// A chain of so many structs, each the `again` of the one before, and the last of them with `end`; each is the next
+/// two words after the pointer to it.
 fn chain(alloc: Global, count: u32) -> Result<Vec<u8>, Fail> {
     let words = count.saturating_mul(2).saturating_add(1);
     let mut bytes = Vec::new(alloc);

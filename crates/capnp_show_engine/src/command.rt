@@ -76,7 +76,8 @@ fn show_asked<O: Opener, R: Source, W: Sink>(
     sink: &mut W,
 ) -> Result<()>
     requires { IsInside asked }
-    ensures shown { OnOk result (IsShownTask (IsOpened O.opens opener.old opener.new) (opener.new ≡ opener.old) O.File.left
+    ensures shown { OnOk result (IsShownTask (IsOpened O.opens opener.old opener.new)
+        (opener.new ≡ opener.old) O.File.left
         (task_of asked.entry) (R.left source.old) (R.left source.new) (W.written sink.old) (W.written sink.new)) }
     ensures refused { IfErr result (λ e. IsRefusedTask (IsOpened O.opens opener.old opener.new)
         (IsNotOpened O.opens opener.old opener.new) (opener.new ≡ opener.old) O.File.left O.File.failures
@@ -99,9 +100,10 @@ fn show_asked<O: Opener, R: Source, W: Sink>(
     }
 }
 
-/// Runs the program on its words over what opens files, and answers its exit status: 0 where the text was written, 1 where
-/// `show` or `show_with_file` was refused, with its number on `errors`, and 2 for other words, with the usage on `errors`,
-/// before any input is read or a file is opened. Where a line can't be written to `errors`, the status is the same.
+/// Runs the program on its words over what opens files, and answers its exit status: 0 where the text was written, 1
+/// where `show` or `show_with_file` was refused, with its number on `errors`, and 2 for other words, with the usage on
+/// `errors`, before any input is read or a file is opened. Where a line can't be written to `errors`, the status is the
+/// same.
 pub fn command_over<O: Opener, R: Source, W: Sink, F: Sink>(
     opener: &mut O,
     alloc: Global,
@@ -167,7 +169,8 @@ pub fn command<O: Files, R: Source, W: Sink, F: Sink>(
     ensures refused { result ≡ 1 → (t : Task) × (e : Refusal) × (asked words.now ≡ Some t)
         × IsTold (refusal_line e.kind) (F.written errors.old) (F.written errors.new)
         (F.failures errors.old) (F.failures errors.new)
-        × IsRefusedTask IsSomeFile (λ _. ⊤) ⊤ ⟦<ReadSource<O::File> as Source>⟧.left ⟦<ReadSource<O::File> as Source>⟧.failures
+        × IsRefusedTask IsSomeFile
+        (λ _. ⊤) ⊤ ⟦<ReadSource<O::File> as Source>⟧.left ⟦<ReadSource<O::File> as Source>⟧.failures
         (source.new ≡ source.old) t e
         (R.left source.old) (R.left source.new) (W.written sink.old) (W.written sink.new)
         (R.failures source.old) (R.failures source.new) (W.failures sink.old) (W.failures sink.new)

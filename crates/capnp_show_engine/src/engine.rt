@@ -18,13 +18,14 @@ use std::alloc::Global;
 
 /// Reads the source to its end and writes the text of the first message's root, read as a struct of that brand of the
 /// set, and a line break: on one line, or indented on several. What follows the message is not looked at (encoding,
-/// "Serialization Over a Stream"). The text is made whole before its first byte is written. `brand` has to be one of the
-/// set's.
+/// "Serialization Over a Stream"). The text is made whole before its first byte is written. `brand` has to be one of
+/// the set's.
 ///
 /// Refused with `ReadFailed` or `WriteFailed` where a call of the source or the sink failed, with `OutOfMemory`, as the
-/// message is (`Truncated`, `TooManySegments`), and with the number of the first value that can't be read, in the text's
-/// order: `BadPointer`, `WrongPointerKind`, `WrongElementSize`, `TextNotTerminated`, `TooDeep` or `CapabilityPointer`.
-/// After `WriteFailed` a proper beginning of the text and its line break was written, after any other refusal nothing.
+/// message is (`Truncated`, `TooManySegments`), and with the number of the first value that can't be read, in the
+/// text's order: `BadPointer`, `WrongPointerKind`, `WrongElementSize`, `TextNotTerminated`, `TooDeep` or
+/// `CapabilityPointer`. After `WriteFailed` a proper beginning of the text and its line break was written, after any
+/// other refusal nothing.
 pub fn show<R: Source, W: Sink>(
     alloc: Global,
     set: &SchemaSet,
@@ -61,8 +62,10 @@ fn get_line(
     indented: bool,
 ) -> Result<String>
     requires { brand < length (lists_seen set.now).brands }
-    ensures shown { IfOk result (λ line. IsLineOf (shown_text (lists_seen set.now) brand indented bytes.now) (string_bytes line)) }
-    ensures refused { IfErr result (λ e. IsOfMessage e.kind → shown_text (lists_seen set.now) brand indented bytes.now ≡ Err e.kind) }
+    ensures shown { IfOk result (λ line. IsLineOf (shown_text (lists_seen set.now) brand indented bytes.now)
+        (string_bytes line)) }
+    ensures refused { IfErr result (λ e. IsOfMessage e.kind
+        → shown_text (lists_seen set.now) brand indented bytes.now ≡ Err e.kind) }
     ensures not_read { IfErr result (λ e. e.kind ≢ ReadFailed) }
     ensures not_written { IfErr result (λ e. e.kind ≢ WriteFailed) }
 {
@@ -84,7 +87,8 @@ fn print_root(
     requires { brand < length (lists_seen set.now).brands }
     ensures printed { OnOk result (IsAppended (string_bytes out.old)
         (shown_text (lists_seen set.now) brand indented bytes.now) (string_bytes out.new)) }
-    ensures refused { IfErr result (λ e. e.kind ≢ OutOfMemory → shown_text (lists_seen set.now) brand indented bytes.now ≡ Err e.kind) }
+    ensures refused { IfErr result (λ e. e.kind ≢ OutOfMemory
+        → shown_text (lists_seen set.now) brand indented bytes.now ≡ Err e.kind) }
     ensures of_no_device { IfErr result (λ e. IsOfRead e.kind) }
 {
     let reader = Reader::new(alloc, bytes)?;

@@ -1,7 +1,8 @@
-//! Messages shown as texts: what a source has is read to its end, and the text of its first message's root is written to a sink.
+//! Messages shown as texts: what a source has is read to its end, and the text of its first message's root is written
+//! to a sink.
 //!
-//! `engine::show` does so under a struct of any accepted set. `command::command` is the program `capnp_show`, from its words to
-//! its exit status, over a source and sinks in place of the standard streams.
+//! `engine::show` does so under a struct of any accepted set. `command::command` is the program `capnp_show`, from its
+//! words to its exit status, over a source and sinks in place of the standard streams.
 #![tactic(auto)]
 
 pub mod command;

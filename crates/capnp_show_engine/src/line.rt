@@ -10,8 +10,8 @@ pub(crate) const LONGEST: usize = 20;
 /// Where the digits begin.
 const NUMBER_AT: usize = 9;
 
-/// Writes the digits of a number into a line, from a place on, and answers the place after them. The line has to have room
-/// for them.
+/// Writes the digits of a number into a line, from a place on, and answers the place after them. The line has to have
+/// room for them.
 fn put_number(line: &mut [u8], place: usize, number: u32) -> usize
     requires { place + length (decimal number) ≤ length line.old }
     ensures end { result ≡ place + length (decimal number) }

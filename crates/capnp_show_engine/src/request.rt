@@ -27,8 +27,8 @@ pub enum Asked<'a> {
     InFile(FileRequest<'a>),
 }
 
-/// The struct of the built-in set that has the name and is no group. It takes no memory, so that an unknown name is told
-/// whatever memory there is.
+/// The struct of the built-in set that has the name and is no group. It takes no memory, so that an unknown name is
+/// told whatever memory there is.
 fn find_brand(name: &str) -> Option<u32>
     ensures found { result ≡ brand_named builtin name.now }
     ensures inside { IfSome result (λ b. b < length builtin.brands) }
@@ -56,7 +56,8 @@ fn ask_built_in(name: &str, indented: bool) -> Option<Asked<'_>>
 
 /// The text under the struct of a name in the set that a file holds.
 fn ask_in_file<'a>(path: &'a str, name: &'a str, indented: bool) -> Option<Asked<'a>>
-    ensures asked { option_map task_of result ≡ Some (in_file (record { path = path.now; name = name.now; indented = indented })) }
+    ensures asked { option_map task_of result
+        ≡ Some (in_file (record { path = path.now; name = name.now; indented = indented })) }
     ensures inside { IfSome result IsInside }
 {
     Some(Asked::InFile(FileRequest {

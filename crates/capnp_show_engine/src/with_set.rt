@@ -27,14 +27,14 @@ fn find_brand(set: &SchemaSet, name: &str) -> Option<u32>
     Some(RawBrandedStructSchema::from(schema).number)
 }
 
-/// Shows a message under a struct of a set that comes as a message: reads the set's source to its end, checks the set, finds
-/// the struct of that display name, and only then reads the message's source, as `show`. Of both sources what follows the
-/// first message is not looked at.
+/// Shows a message under a struct of a set that comes as a message: reads the set's source to its end, checks the set,
+/// finds the struct of that display name, and only then reads the message's source, as `show`. Of both sources what
+/// follows the first message is not looked at.
 ///
 /// Refused with `ReadFailed` or `WriteFailed` where a call of a source or the sink failed, with `OutOfMemory`, as
-/// `capnp_sets::message::read_message` refuses the set, with `NameNotFound` where it has no struct of that name, and then as
-/// `show`. After a refusal of the set or the name nothing of the message was read. After `WriteFailed` a proper beginning of
-/// the text and its line break was written, after any other refusal nothing.
+/// `capnp_sets::message::read_message` refuses the set, with `NameNotFound` where it has no struct of that name, and
+/// then as `show`. After a refusal of the set or the name nothing of the message was read. After `WriteFailed` a proper
+/// beginning of the text and its line break was written, after any other refusal nothing.
 pub fn show_with_set<S: Source, R: Source, W: Sink>(
     alloc: Global,
     set_source: &mut S,
@@ -45,16 +45,19 @@ pub fn show_with_set<S: Source, R: Source, W: Sink>(
 ) -> Result<()>
     ensures shown { OnOk result (IsStructNamed name.now (S.left set_source.old) (S.left set_source.new) (λ set b.
         IsShown set b indented (R.left source.old) (R.left source.new) (W.written sink.old) (W.written sink.new))) }
-    ensures refused { IfErr result (λ e. IsOfMessage e.kind → IsRefusedWithSet name.now indented e (source.new ≡ source.old)
+    ensures refused { IfErr result (λ e. IsOfMessage e.kind
+        → IsRefusedWithSet name.now indented e (source.new ≡ source.old)
         (S.left set_source.old) (S.left set_source.new) (R.left source.old) (R.left source.new)) }
     ensures read_failed { IfErr result (λ e. e.kind ≡ ReadFailed → HasReadFailed (source.new ≡ source.old)
         (S.failures set_source.old) (S.failures set_source.new) (R.failures source.old) (R.failures source.new)) }
     ensures write_failed { IfErr result (λ e. e.kind ≡ WriteFailed →
         HasFailed (W.failures sink.old) (W.failures sink.new)) }
-    ensures beginning { IfErr result (λ e. e.kind ≡ WriteFailed → IsStructNamed name.now (S.left set_source.old) (S.left set_source.new) (λ set b.
+    ensures beginning { IfErr result (λ e. e.kind ≡ WriteFailed
+        → IsStructNamed name.now (S.left set_source.old) (S.left set_source.new) (λ set b.
         IsCutShort set b indented (R.left source.old) (R.left source.new) (W.written sink.old) (W.written sink.new))) }
     ensures nothing { IfErr result (λ e. e.kind ≢ WriteFailed → sink.new ≡ sink.old) }
-    ensures first { (source.new ≡ source.old) ⊎ IsStructNamed name.now (S.left set_source.old) (S.left set_source.new) (λ _ _. ⊤) }
+    ensures first { (source.new ≡ source.old)
+        ⊎ IsStructNamed name.now (S.left set_source.old) (S.left set_source.new) (λ _ _. ⊤) }
 {
     let bytes = read_all(alloc, set_source)?;
     let set = read_message(alloc, &bytes)?;
@@ -66,7 +69,8 @@ pub fn show_with_set<S: Source, R: Source, W: Sink>(
 
 /// `show_with_set` under the set that a file holds: opens it, and then reads it before the message.
 ///
-/// Refused as `show_with_set`, and with `ReadFailed` where the file can't be opened; nothing of the message was read then.
+/// Refused as `show_with_set`, and with `ReadFailed` where the file can't be opened; nothing of the message was read
+/// then.
 pub fn show_with_file<O: Opener, R: Source, W: Sink>(
     alloc: Global,
     opener: &mut O,
@@ -88,7 +92,8 @@ pub fn show_with_file<O: Opener, R: Source, W: Sink>(
         (O.File.failures f) (O.File.failures g) (R.failures source.old) (R.failures source.new))) }
     ensures write_failed { IfErr result (λ e. e.kind ≡ WriteFailed →
         HasFailed (W.failures sink.old) (W.failures sink.new)) }
-    ensures beginning { IfErr result (λ e. e.kind ≡ WriteFailed → IsOpened O.opens opener.old opener.new path.now (λ f g.
+    ensures beginning { IfErr result (λ e. e.kind ≡ WriteFailed
+        → IsOpened O.opens opener.old opener.new path.now (λ f g.
         IsStructNamed name.now (O.File.left f) (O.File.left g) (λ set b.
         IsCutShort set b indented (R.left source.old) (R.left source.new) (W.written sink.old) (W.written sink.new)))) }
     ensures nothing { IfErr result (λ e. e.kind ≢ WriteFailed → sink.new ≡ sink.old) }

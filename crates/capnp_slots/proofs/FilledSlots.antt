@@ -6,14 +6,12 @@ use Rattle.capnp_device.specs.declared.error.ErrorKind.{ErrorKind}
 use Rattle.capnp_wire.specs.Defaults as wire
 use Rattle.capnp_wire.specs.Defaults.{error_of}
 use Rattle.capnp_wire.specs.Edits.{HoldsStruct, IsDueRefusal}
-use Rattle.capnp_wire.specs.Objects.{struct_object_tree}
 use Rattle.capnp_wire.specs.Place.{struct_tree}
 use Rattle.capnp_wire.specs.Reading.{as_data, as_text}
 use Rattle.capnp_wire.specs.StructLists.{struct_list_refusal}
 use Rattle.capnp_wire.specs.Tree.{StructTree, Tree, nth_tree}
 use Rattle.capnp_wire.specs.WellFormed.{IsWellFormed}
 use Rattle.capnp_wire.specs.Words.{first_fault}
-use Rattle.capnp_wire.specs.declared.object.StructObject.{StructObject}
 use Rattle.capnp_wire.specs.declared.pointer_reader.PointerReader.{PointerReader}
 use Rattle.capnp_wire.specs.declared.size.StructSize.{StructSize}
 use Rattle.capnp_base.specs.declared.introspect.RawBrandedStructSchema.{RawBrandedStructSchema}
@@ -187,16 +185,15 @@ module _ (f : Field) (r : Option PointerReader) (slot : IsSlot f) (is : IsDefaul
       subst (λ (z : Schemas). ListPart s (seen_type element) z i) (sym same)
       (subst (ListPart s (seen_type element) (field_set f)) (sym at) (record { filled = fills.filled; due = fills.due; rests = fills.rests }))
 
--- ---- by an object ----
+-- ---- by a struct ----
 
 -- a call left something at a pointer, refuses it or lets it rest: so a slot was filled
-module _ (s s' : StructObject) (i : ℕ) (r : Result ⊤ Error) where
-  pub made-filled : (x y : Tree) (d e : Option ErrorKind) (P Q : Type 0) → x ≡ y → d ≡ e → (Q → P) → OnOk r (IsWellFormed x) →
-      OnOk r (HoldsThere s i s' x) → OnOk r (d ≡ None) → OnErr r (struct_object_tree s' ≡ struct_object_tree s) → IfErr r (λ n. IsDueRefusal n d) → (P → IsOk r) → IsFilled y e Q s i r s'
-  made-filled x y d e P Q left due rests formed ok within refused cause still = record {
+module _ (s s' : StructTree) (i : ℕ) (r : Result ⊤ Error) where
+  pub made-filled : (x y : Tree) (d e : Option ErrorKind) (P Q : Type 0) → x ≡ y → d ≡ e → (Q → P) →
+      OnOk r (HoldsThere s i s' x) → OnOk r (d ≡ None) → OnErr r (s' ≡ s) → IfErr r (λ n. IsDueRefusal n d) → (P → IsOk r) → IsFilled y e Q s i r s'
+  made-filled x y d e P Q left due rests ok within refused cause still = record {
     filled = subst (λ t. OnOk r (HoldsThere s i s' t)) left ok;
     within = subst (λ o. OnOk r (o ≡ None)) due within;
-    kept = subst (λ t. OnOk r (IsWellFormed t)) left formed;
     refused = refused;
     cause = subst (λ o. IfErr r (λ n. IsDueRefusal n o)) due cause;
     rests = λ q. still (rests q);
@@ -206,22 +203,20 @@ module _ (s s' : StructObject) (i : ℕ) (r : Result ⊤ Error) where
   filled-as x y d e P Q left due rests h = record {
     filled = subst (λ t. OnOk r (HoldsThere s i s' t)) left h.filled;
     within = subst (λ o. OnOk r (o ≡ None)) due h.within;
-    kept = subst (λ t. OnOk r (IsWellFormed t)) left h.kept;
     refused = h.refused;
     cause = subst (λ o. IfErr r (λ n. IsDueRefusal n o)) due h.cause;
     rests = λ q. h.rests (rests q);
   }
 
   -- a part that was filled so is a slot that was filled
-  pub part-filled : (f : Field) (x : Tree) (d : Option ErrorKind) (P : Type 0) → IsPart f (struct_object_tree s) x d P → IsFilled x d P s i r s' → IsSlotFilled f s i r s'
-  part-filled f x d P part = filled-as x (filled_in f (struct_object_tree s)) d (due_in f (struct_object_tree s)) P (RestsIn f (struct_object_tree s)) part.filled part.due part.rests
+  pub part-filled : (f : Field) (x : Tree) (d : Option ErrorKind) (P : Type 0) → IsPart f s x d P → IsFilled x d P s i r s' → IsSlotFilled f s i r s'
+  part-filled f x d P part = filled-as x (filled_in f s) d (due_in f s) P (RestsIn f s) part.filled part.due part.rests
 
-  pub part-made : (f : Field) (x : Tree) (d : Option ErrorKind) (P : Type 0) → IsPart f (struct_object_tree s) x d P → OnOk r (IsWellFormed x) →
-      OnOk r (HoldsThere s i s' x) → OnOk r (d ≡ None) → OnErr r (struct_object_tree s' ≡ struct_object_tree s) → IfErr r (λ n. IsDueRefusal n d) → (P → IsOk r) → IsSlotFilled f s i r s'
-  part-made f x d P part = made-filled x (filled_in f (struct_object_tree s)) d (due_in f (struct_object_tree s)) P (RestsIn f (struct_object_tree s)) part.filled part.due part.rests
+  pub part-made : (f : Field) (x : Tree) (d : Option ErrorKind) (P : Type 0) → IsPart f s x d P →
+      OnOk r (HoldsThere s i s' x) → OnOk r (d ≡ None) → OnErr r (s' ≡ s) → IfErr r (λ n. IsDueRefusal n d) → (P → IsOk r) → IsSlotFilled f s i r s'
+  part-made f x d P part = made-filled x (filled_in f s) d (due_in f s) P (RestsIn f s) part.filled part.due part.rests
 
   -- what is read as the slot's type stays there
-  pub part-stayed : (f : Field) (d : Option ErrorKind) → IsPart f (struct_object_tree s) (nth_tree (struct_object_tree s).pointers i) d ⊥ → IsWellFormed (nth_tree (struct_object_tree s).pointers i) →
-      struct_object_tree s' ≡ struct_object_tree s → OnOk r (d ≡ None) → IfErr r (λ n. d ≡ Some n.kind) → IsSlotFilled f s i r s'
-  part-stayed f d part formed stays within cause =
-      part-made f (nth_tree (struct_object_tree s).pointers i) d ⊥ part (always r formed) (always r (same-there (struct_object_tree s) (struct_object_tree s') i _ stays refl)) within (always-err r stays) (due-cause d r cause) (λ h. absurd h)
+  pub part-stayed : (f : Field) (d : Option ErrorKind) → IsPart f s (nth_tree s.pointers i) d ⊥ → s' ≡ s → OnOk r (d ≡ None) → IfErr r (λ n. d ≡ Some n.kind) → IsSlotFilled f s i r s'
+  part-stayed f d part stays within cause =
+      part-made f (nth_tree s.pointers i) d ⊥ part (always r (same-there s s' i _ stays refl)) within (always-err r stays) (due-cause d r cause) (λ h. absurd h)

@@ -36,7 +36,7 @@ use Rattle.capnp_dynamic_readers.specs.Planned.{IsActiveMember, place_there}
 use Rattle.capnp_slots.specs.Copied.{IsCopied, copy_content, copy_given, refusal_of}
 use Rattle.capnp_slots.specs.Fields.{IsRoomFor, IsSlot, Keeps, field_brand, field_set, names_of, switched_to}
 use Rattle.capnp_slots.specs.GroupSets.{CopiesIndices, CopiesThrough, IsGroupSet, active_in, given_to_group, is_index_there, is_part_there, kept_indices, member_indices, plain_in}
-use Rattle.capnp_slots.specs.Groups.{IsGroupAt, KeepsSize, cleared_through}
+use Rattle.capnp_slots.specs.Groups.{IsGroupAt, KeepsSize, clear_by, clear_index, cleared_indices, cleared_through}
 use Rattle.capnp_slots.specs.Sources.{IsSetRefusal, IsTaken, copy_due}
 use Rattle.capnp_slots.proofs.GroupClears.{cleared-whole, entry, records}
 
@@ -301,6 +301,16 @@ module _ (groups : ℕ) (schema : StructSchema) (l : Levels) (x : StructTree) (i
 pub plain-end : (groups : ℕ) (schema : StructSchema) (l : Levels) (x : StructTree) (is : List ℕ) (n : ℕ) → length is ≤ n → (s : StructTree) → Remains groups schema l x (drop n is) s None s
 unfolding CopiesIndices
 plain-end groups schema l x is n past s = subst (λ js. Remains groups schema l x js s None s) (sym (drop_all n is past)) (refl, refl)
+
+-- one more of them is cleared
+pub plain-cleared : (groups : ℕ) (schema : StructSchema) (is : List ℕ) (n : ℕ) → n < length is → (f : Field) → IsFieldOf schema (slice_index is n) f → (s y : StructTree) → y ≡ clear_by groups (field_set f) (field_brand f) (typed_of f) s →
+    cleared_indices (clear_index groups (set_of schema) (number_of schema)) (drop n is) s ≡ cleared_indices (clear_index groups (set_of schema) (number_of schema)) (drop (n + 1) is) y
+plain-cleared groups schema is n inside f field s y e =
+    let here : clear_by groups (field_set f) (field_brand f) (typed_of f) s ≡ clear_index groups (set_of schema) (number_of schema) (slice_index is n) s =
+    subst (λ i. clear_by groups (field_set f) (field_brand f) (typed_of f) s ≡ clear_index groups (set_of schema) (number_of schema) i s) field.index
+    (subst (λ (z : StructSchema). clear_by groups (field_set f) (field_brand f) (typed_of f) s ≡ clear_index groups (set_of z) (number_of z) (index_of f) s) field.schema refl) in
+    ap (λ js. cleared_indices (clear_index groups (set_of schema) (number_of schema)) js s) (drop_more is n 0 inside)
+    ∙ ap (cleared_indices (clear_index groups (set_of schema) (number_of schema)) (drop (n + 1) is)) (sym (e ∙ here))
 
 -- ---- what the source has ----
 

@@ -1,10 +1,8 @@
 -- A set that is refused keeps everything, and one that is not keeps what it did not write.
 use Rattle.std.specs.Prelude.{Bool, Err, Ok, OnErr, OnOk, Result, ◌≡◌}
-use Rattle.std.proofs.Common.{ap, subst, sym}
+use Rattle.std.proofs.Common.{subst, sym}
 use Rattle.capnp_device.specs.declared.error.Error.{Error}
-use Rattle.capnp_wire.specs.Objects.{struct_object_tree}
 use Rattle.capnp_wire.specs.Tree.{StructTree}
-use Rattle.capnp_wire.specs.declared.object.StructObject.{StructObject}
 use Rattle.capnp_schema.specs.Footprint.{Spot}
 use Rattle.capnp_schema.specs.declared.schema.fields.Field.{Field}
 use Rattle.capnp_records.specs.Call.{Source}
@@ -18,9 +16,3 @@ kept-same inside s s' e = subst (λ (x : StructTree). Keeps inside s x) (sym e) 
 pub set_keeps : {A : Type 0} (f : Field) (x : Source) (old new : StructTree) (r : Result A Error) → OnOk r (IsSet f x old new) → OnErr r (new ≡ old) → Keeps (names_of f) old new
 set_keeps f x old new (Ok a) ok same = ok.kept
 set_keeps f x old new (Err e) ok same = kept-same (names_of f) old new same
-
--- where a refusal leaves the object itself
-pub object_keeps : {A : Type 0} (inside : Spot → Bool) (old new : StructObject) (r : Result A Error) → OnOk r (Keeps inside (struct_object_tree old) (struct_object_tree new)) → OnErr r (new ≡ old) →
-    Keeps inside (struct_object_tree old) (struct_object_tree new)
-object_keeps inside old new (Ok a) ok same = ok
-object_keeps inside old new (Err e) ok same = kept-same inside (struct_object_tree old) (struct_object_tree new) (ap struct_object_tree same)

@@ -1,3 +1,4 @@
+pub mod Places
 pub mod SlotPlans
 pub mod FieldPlans
 pub mod Stored
@@ -11,7 +12,6 @@ pub mod Filled
 pub mod FilledSlots
 pub mod StandingSlots
 pub mod SetElements
-pub mod ElementParts
 pub mod ElementFills
 pub mod GroupCopies
 pub mod ReadBack

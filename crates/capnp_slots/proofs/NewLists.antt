@@ -1,9 +1,12 @@
--- New lists of elements that are no structs.
-use Rattle.std.specs.Prelude.{ℕ, ◌-◌, ◌^◌, ◌≡◌, ◌≢◌, refl, nat_lt}
+-- New texts, and lists of elements that are no structs.
+use Rattle.std.specs.Prelude.{ℕ, ◌+◌, ◌-◌, ◌^◌, ◌<◌, ◌≡◌, ◌≢◌, refl, nat_lt, replicate}
 use Rattle.std.proofs.Common.{ap, subst, sym, ◌∙◌}
 use Rattle.capnp_wire.specs.Edits.{zero_list}
+use Rattle.capnp_wire.specs.Facts.Lists.{IsWellFormed-new_text, IsWellFormed-zero_list}
+use Rattle.capnp_wire.specs.WellFormed.{IsWellFormed}
 use Rattle.capnp_wire.specs.declared.size.ElementSize.{ElementSize}
 use Rattle.capnp_wire.specs.declared.size.ElementSize.TheVariants.{InlineComposite}
+use Rattle.capnp_base.specs.Text.{text_tree}
 use Rattle.capnp_base.specs.Types.{element_size, variant_of}
 use Rattle.capnp_base.specs.declared.introspect.RawBrandedStructSchema.{RawBrandedStructSchema}
 use Rattle.capnp_base.specs.declared.introspect.«Type».{«Type» as TypeHandle}
@@ -14,6 +17,13 @@ use Rattle.capnp_schema.specs.Schema.{Schemas}
 use Rattle.capnp_schema.specs.Types.{SchemaType, seen_type, seen_variant}
 use Rattle.capnp_records.specs.Operation.{elements_past}
 use Rattle.capnp_records.specs.Writes.Contents.{new_list}
+
+-- well-formed, where the format has room
+pub new_text : (count : ℕ) → count + 1 < 2 ^ 29 → IsWellFormed (text_tree (replicate count 0))
+new_text = IsWellFormed-new_text
+
+pub new_simple_list : (size : ElementSize) (count : ℕ) → count < 2 ^ 29 → IsWellFormed (zero_list size count)
+new_simple_list = IsWellFormed-zero_list
 
 -- a list of elements of a type is the wire's of elements of a size
 pub record IsSimple (set : Schemas) (e : SchemaType) (n : ℕ) (size : ElementSize) : Type 0 where

@@ -6,7 +6,6 @@ use Rattle.capnp_device.specs.declared.error.ErrorKind.{ErrorKind}
 use Rattle.capnp_device.specs.declared.error.ErrorKind.TheVariants.{TypeMismatch}
 use Rattle.capnp_base.specs.declared.introspect.RawBrandedStructSchema.{RawBrandedStructSchema}
 use Rattle.capnp_wire.specs.Tree.{StructTree, Tree}
-use Rattle.capnp_wire.specs.WellFormed.{IsWellFormed}
 use Rattle.capnp_base.specs.declared.introspect.TypeVariant.{TypeVariant}
 use Rattle.capnp_base.specs.declared.introspect.TypeVariant.TheVariants as variant
 use Rattle.capnp_schema.specs.Schema.{Schemas}
@@ -84,14 +83,12 @@ module _ (set : Schemas) (p : Primitive) (v : TypeVariant) (t : SchemaType) (e :
 pub number-small : (set : Schemas) (t u : SchemaType) (s : Source) (n : ℕ) → t ≡ u → IsGivenAs set t s n → n < 2 ^ width u
 number-small set t u s n e h = subst (λ w. n < 2 ^ width w) e (subst (λ m. m < 2 ^ width t) (sym h.number) h.is_stored.small)
 
-pub number-set : (set : Schemas) (t u : SchemaType) (s : Source) (n j : ℕ) (old new : Tree) → u ≡ t → IsGivenAs set t s n → given_element set t s ≡ given_slot set t s → new ≡ with_element_number u old j n →
-    (IsWellFormed old → IsWellFormed new) → IsElementSet set t s j old new
-number-set set t u s n j old new e h same written formed =
+pub number-set : (set : Schemas) (t u : SchemaType) (s : Source) (n j : ℕ) (old new : Tree) → u ≡ t → IsGivenAs set t s n → given_element set t s ≡ given_slot set t s → new ≡ with_element_number u old j n → IsElementSet set t s j old new
+number-set set t u s n j old new e h same written =
     let given : given_element set t s ≡ Gives h.value = same ∙ h.given in
     record {
       taken = subst IsTaken (sym given) tt;
       written = written ∙ (ap (λ w. with_element_number w old j n) e ∙ (ap (with_element_number t old j) h.number ∙ sym (ap (λ g. element_written t old j (element_given t s g)) given)));
-      formed = formed;
     }
 
 -- ---- copies ----

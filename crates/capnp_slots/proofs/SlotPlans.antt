@@ -3,11 +3,11 @@ use Rattle.std.specs.Prelude.{ℕ, List, zero, suc, ◌+◌, ◌*◌, ◌^◌, �
 use Rattle.std.proofs.Common.{arith, ⊎_elim, ap, sym, subst}
 use Rattle.std.proofs.lemmas.Bool.Decides.{nat_tests}
 use Rattle.std.proofs.lemmas.Bool.{true≢false}
-use Rattle.capnp_wire.specs.Tree.{StructTree, Null}
+use Rattle.capnp_wire.specs.Tree.{StructTree, Tree, Null}
 use Rattle.capnp_wire.specs.Place.{struct_tree}
-use Rattle.capnp_wire.specs.Edits.{HasAtLeast, with_bit, with_bytes, with_number}
+use Rattle.capnp_wire.specs.Edits.{HasAtLeast, with_bit, with_bytes, with_number, with_pointer_tree}
 use Rattle.capnp_wire.specs.Facts.Bytes.{length-with_number}
-use Rattle.capnp_wire.specs.Kept.{bit_written, number_written, pointer_written}
+use Rattle.capnp_wire.specs.Facts.Structs.{IsElement-with_bit, IsElement-with_number, IsElement-with_pointer_tree, of_same_size, own_size}
 use Rattle.capnp_wire.specs.WellFormed.{IsWellFormed, is_width}
 use Rattle.capnp_schema.specs.Accepted.{LiesInside}
 use Rattle.capnp_schema.specs.Plan.{LiesInNode, data_place, member_plan, node_size, place_of, slot_place}
@@ -122,6 +122,15 @@ member-switched false n f s = refl
 
 -- ---- what stays well-formed ----
 
+number_written : (width offset n : ℕ) (s : StructTree) → (offset + 1) * width ≤ length s.bytes → IsWellFormed (struct_tree s) → IsWellFormed (struct_tree (with_bytes s (with_number width offset n s.bytes)))
+number_written width offset n s inside h = of_same_size s _ h (IsElement-with_number _ _ s width offset n inside (own_size s h))
+
+bit_written : (i : ℕ) (bit : Bool) (s : StructTree) → IsWellFormed (struct_tree s) → IsWellFormed (struct_tree (with_bytes s (with_bit i bit s.bytes)))
+bit_written i bit s h = of_same_size s _ h (IsElement-with_bit _ _ s i bit (own_size s h))
+
+pointer_written : (i : ℕ) (t : Tree) (s : StructTree) → IsWellFormed t → IsWellFormed (struct_tree s) → IsWellFormed (struct_tree (with_pointer_tree s i t))
+pointer_written i t s k h = of_same_size s _ h (IsElement-with_pointer_tree _ _ s i t (own_size s h) k)
+
 module _ (n : Node) (s : StructTree) (size : HasAtLeast (node_size n) s) where
   switched-size : (q : Bool) (d : ℕ) → (q ≡ true → 16 * (n.discriminant_offset + 1) ≤ 64 * n.data_word_count) →
       length (elim q as (λ _. StructTree) [ true ↦ switch n d s | false ↦ s ]).bytes ≡ length s.bytes
@@ -130,7 +139,7 @@ module _ (n : Node) (s : StructTree) (size : HasAtLeast (node_size n) s) where
 
   switched-formed : (q : Bool) (d : ℕ) → (q ≡ true → 16 * (n.discriminant_offset + 1) ≤ 64 * n.data_word_count) →
       IsWellFormed (struct_tree s) → IsWellFormed (struct_tree (elim q as (λ _. StructTree) [ true ↦ switch n d s | false ↦ s ]))
-  switched-formed true d inside h = number_written 2 n.discriminant_offset d s (switch n d s) refl (omega (arith, inside refl, size.0)) h
+  switched-formed true d inside h = number_written 2 n.discriminant_offset d s (omega (arith, inside refl, size.0)) h
   switched-formed false d inside h = h
 
   pub switch_formed : (f : TypedField) → LiesInNode n f → IsWellFormed (struct_tree s) → IsWellFormed (struct_tree (switched n f.field s))
@@ -141,16 +150,16 @@ module _ (n : Node) (s : StructTree) (size : HasAtLeast (node_size n) s) where
 
 content_formed : (t : SchemaType) (o : ℕ) (c : Content) (s : StructTree) → Suits t c → IsFormed c → (o + 1) * width t ≤ 8 * length s.bytes → IsWellFormed (struct_tree s) → IsWellFormed (struct_tree (with_content s o t c))
 content_formed VoidType o (Bits n) s fits g inside h = h
-content_formed BoolType o (Bits n) s fits g inside h = bit_written o (n == 1) s _ refl h
-content_formed (IntType k) o (Bits n) s fits g inside h = number_written k o n s _ refl (omega (arith, inside)) h
-content_formed (UIntType k) o (Bits n) s fits g inside h = number_written k o n s _ refl (omega (arith, inside)) h
-content_formed (EnumType e) o (Bits n) s fits g inside h = number_written 2 o n s _ refl (omega (arith, inside)) h
+content_formed BoolType o (Bits n) s fits g inside h = bit_written o (n == 1) s h
+content_formed (IntType k) o (Bits n) s fits g inside h = number_written k o n s (omega (arith, inside)) h
+content_formed (UIntType k) o (Bits n) s fits g inside h = number_written k o n s (omega (arith, inside)) h
+content_formed (EnumType e) o (Bits n) s fits g inside h = number_written 2 o n s (omega (arith, inside)) h
 content_formed TextType o (Bits n) s fits g inside h = absurd (true≢false fits.0)
 content_formed DataType o (Bits n) s fits g inside h = absurd (true≢false fits.0)
 content_formed (StructType b r) o (Bits n) s fits g inside h = absurd (true≢false fits.0)
 content_formed (ListType e) o (Bits n) s fits g inside h = absurd (true≢false fits.0)
 content_formed AnyPointerType o (Bits n) s fits g inside h = absurd (true≢false fits.0)
-content_formed t o (At x) s fits g inside h = pointer_written o x s _ refl g h
+content_formed t o (At x) s fits g inside h = pointer_written o x s g h
 
 pub slot_formed : (n : Node) (f : TypedField) (o : ℕ) (d : Value) (s : StructTree) → f.field.kind ≡ Slot o d → HasAtLeast (node_size n) s → LiesInNode n f → (c : Content) → Suits f.type c → IsFormed c →
     IsWellFormed (struct_tree s) → IsWellFormed (struct_tree (with_content (switched n f.field s) o f.type c))

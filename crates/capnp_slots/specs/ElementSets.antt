@@ -6,7 +6,6 @@ use Rattle.capnp_device.specs.declared.error.ErrorKind.TheVariants.{ExpectedALis
 use Rattle.capnp_slots.specs.Inits.{IsInitnRefusal}
 use Rattle.capnp_wire.specs.Elements.{HasPointer, with_pointer_element}
 use Rattle.capnp_records.specs.Record.{Value}
-use Rattle.capnp_wire.specs.WellFormed.{IsWellFormed}
 use Rattle.capnp_schema.specs.Schema.{Schemas}
 use Rattle.capnp_schema.specs.Types.{SchemaType, VoidType, TextType, DataType, ListType, AnyPointerType}
 use Rattle.capnp_records.specs.Call.{Source, TextSource, DataSource, StructSource, ListSource}
@@ -26,11 +25,10 @@ element_given t s (Fails kind) = Bits 0
 abbrev pub element_content : Schemas → SchemaType → Source → Content
 element_content set t s = element_given t s (given_element set t s)
 
--- an element was set: it took what is given, which stands there now, and the list is well-formed where it was
+-- an element was set: it took what is given, which stands there now
 pub record IsElementSet (set : Schemas) (t : SchemaType) (s : Source) (j : ℕ) (old new : Tree) : Type 0 where
   pub taken : IsTaken (given_element set t s)
   pub written : new ≡ element_written t old j (element_content set t s)
-  pub formed : IsWellFormed old → IsWellFormed new
 
 -- ---- what is copied ----
 

@@ -3,8 +3,6 @@ use Rattle.std.specs.Prelude.{ℕ, ◌<◌, ◌≡◌, ⊤, Bool, true, false, O
 use Rattle.capnp_device.specs.declared.error.Error.{Error}
 use Rattle.capnp_device.specs.declared.error.ErrorKind.{ErrorKind}
 use Rattle.capnp_wire.specs.Tree.{StructTree, Tree, nth_tree, tree_count}
-use Rattle.capnp_wire.specs.Objects.{struct_object_tree}
-use Rattle.capnp_wire.specs.declared.object.StructObject.{StructObject}
 use Rattle.capnp_wire.specs.Place.{struct_tree}
 use Rattle.capnp_wire.specs.Reading.{as_data, as_text}
 use Rattle.capnp_wire.specs.Defaults.{error_of, filled_list_refusal, filled_structs_refusal, list_refusal, takes_default}
@@ -12,7 +10,6 @@ use Rattle.capnp_wire.specs.Defaults.{default_tree as reader_tree, or_default as
 use Rattle.capnp_wire.specs.declared.pointer_reader.PointerReader.{PointerReader}
 use Rattle.capnp_wire.specs.Edits.{IsDueRefusal, struct_refusal, with_pointer_tree}
 use Rattle.capnp_wire.specs.StructLists.{HoldsStructs, struct_list_refusal}
-use Rattle.capnp_wire.specs.WellFormed.{IsWellFormed}
 use Rattle.capnp_schema.specs.Defaults.{DefaultFits, default_tree}
 use Rattle.capnp_schema.specs.FieldLists.{typed_of}
 use Rattle.capnp_schema.specs.Schema.{Schemas, VoidValue, TextValue, DataValue, Value, default_of}
@@ -86,33 +83,31 @@ abbrev pub data_filled : Value → Tree → Tree
 data_filled (DataValue bytes) x = or_else x (data_tree bytes)
 data_filled d x = x
 
--- ---- by an object ----
+-- ---- by a struct ----
 
 -- a struct has a pointer of an index, what stands there, and the struct became the same with something else there
-abbrev pub IsThere : StructObject → ℕ → Type 0
-IsThere s i = i < tree_count (struct_object_tree s).pointers
+abbrev pub IsThere : StructTree → ℕ → Type 0
+IsThere s i = i < tree_count s.pointers
 
-abbrev pub tree_there : StructObject → ℕ → Tree
-tree_there s i = nth_tree (struct_object_tree s).pointers i
+abbrev pub tree_there : StructTree → ℕ → Tree
+tree_there s i = nth_tree s.pointers i
 
-abbrev pub HoldsThere : StructObject → ℕ → StructObject → Tree → Type 0
-HoldsThere s i s' t = struct_object_tree s' ≡ with_pointer_tree (struct_object_tree s) i t
+abbrev pub HoldsThere : StructTree → ℕ → StructTree → Tree → Type 0
+HoldsThere s i s' t = s' ≡ with_pointer_tree s i t
 
--- that pointer was filled: what is left there is well-formed, a refusal has its cause and changed nothing, and where the
--- pointer rests nothing is refused
-pub record IsFilled (left : Tree) (due : Option ErrorKind) (Quiet : Type 0) (s : StructObject) (i : ℕ) (r : Result ⊤ Error) (s' : StructObject) : Type 0 where
+-- that pointer was filled: a refusal has its cause and changed nothing, and where the pointer rests nothing is refused
+pub record IsFilled (left : Tree) (due : Option ErrorKind) (Quiet : Type 0) (s : StructTree) (i : ℕ) (r : Result ⊤ Error) (s' : StructTree) : Type 0 where
   pub filled : OnOk r (HoldsThere s i s' left)
   pub within : OnOk r (due ≡ None)
-  pub kept : OnOk r (IsWellFormed left)
-  pub refused : OnErr r (struct_object_tree s' ≡ struct_object_tree s)
+  pub refused : OnErr r (s' ≡ s)
   pub cause : IfErr r (λ e. IsDueRefusal e due)
   pub rests : Quiet → IsOk r
 
 -- as a field's slot, and as a list of elements of a type with the tree of a default
-abbrev pub IsSlotFilled : Field → StructObject → ℕ → Result ⊤ Error → StructObject → Type 0
-IsSlotFilled f s i r s' = IsFilled (filled_in f (struct_object_tree s)) (due_in f (struct_object_tree s)) (RestsIn f (struct_object_tree s)) s i r s'
+abbrev pub IsSlotFilled : Field → StructTree → ℕ → Result ⊤ Error → StructTree → Type 0
+IsSlotFilled f s i r s' = IsFilled (filled_in f s) (due_in f s) (RestsIn f s) s i r s'
 
-abbrev pub IsListFilled : Schemas → SchemaType → Tree → StructObject → ℕ → Result ⊤ Error → StructObject → Type 0
+abbrev pub IsListFilled : Schemas → SchemaType → Tree → StructTree → ℕ → Result ⊤ Error → StructTree → Type 0
 IsListFilled set e D s i r s' = IsFilled (entered_list set e (tree_or_default D (tree_there s i))) (list_due set e D (tree_there s i)) (ListRests set e D (tree_there s i)) s i r s'
 
 -- ---- elements of a list ----

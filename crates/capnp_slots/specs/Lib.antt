@@ -7,7 +7,6 @@ pub mod Copied
 pub mod Inits
 pub mod Groups
 pub mod Fills
-pub mod Lending
 pub mod ElementSets
 pub mod GroupSets
 pub mod ReadBack

@@ -2,7 +2,8 @@
 ghost use Rattle.std.specs.Prelude.{false, true, None, ◌≡◌, ◌≢◌, IfErr, OnErr, OnOk};
 ghost use Rattle.capnp_device.specs.declared.error.ErrorKind.TheVariants.{OutOfMemory};
 ghost use Rattle.capnp_wire.specs.Edits.{IsCopyRefusal};
-ghost use Rattle.capnp_wire.specs.Objects.{struct_object_tree};
+ghost use Rattle.capnp_arena.specs.Segment.{segment};
+ghost use Rattle.capnp_arena.specs.Built.{ChangesIn, IsBuilt, built};
 ghost use Rattle.capnp_wire.specs.Standing.{levels_of, struct_levels, struct_of, tree_of};
 ghost use Rattle.capnp_wire.specs.Words.{first_fault};
 ghost use Rattle.capnp_schema.specs.Defaults.{DefaultFits};
@@ -18,12 +19,13 @@ ghost use Rattle.capnp_slots.specs.Sources.{IsSetRefusal};
 use crate::planned::{copy_bits, slot_plan, switch_member};
 use crate::pointer::{make_empty_at, pointer_slot};
 use crate::slot::set_pointer;
+use crate::source::PointerInput;
+use capnp_arena::arena::{Arena, Place as StructPlace};
 use capnp_base::introspect::TypeVariant;
 use capnp_base::{any_pointer, data, text};
 use capnp_schema::schema::Field;
 use capnp_schema::value::Value;
 use capnp_wire::error::{Error, ErrorKind, Result};
-use capnp_wire::object::StructObject;
 use capnp_wire::{PointerReader, StructReader};
 
 /// The variant of a field's type.
@@ -62,81 +64,107 @@ fn check_read(variant: TypeVariant, pointer: &PointerReader<'_>) -> Result<()>
     }
 }
 
-/// Copies what a reader stands on into a pointer's slot, which becomes active after it. A refusal changes nothing; so it is
-/// with each call below.
-fn put(object: &mut StructObject, field: Field<'_>, pointer: PointerReader<'_>) -> Result<()>
+/// Copies what a reader stands on into a pointer's slot, which becomes active after it. A refusal changes nothing; so
+/// it is with each call below.
+fn put(
+    arena: &mut Arena,
+    place: StructPlace,
+    field: Field<'_>,
+    pointer: PointerReader<'_>,
+) -> Result<()>
+    requires planted { IsBuilt arena.old place }
     requires slot { IsSlot field }
     requires pointer { IsPointer field }
-    requires room { IsRoomFor field (struct_object_tree object.old) }
-    ensures written { OnOk result (struct_object_tree object.new ≡ slot_with field.entry (At (tree_of pointer.entry)) (struct_object_tree object.old)) }
-    ensures kept { OnOk result (Keeps (names_of field.entry) (struct_object_tree object.old) (struct_object_tree object.new)) }
+    requires room { IsRoomFor field (built arena.old place) }
+    ensures planted { OnOk result (IsBuilt arena.new place) }
+    ensures changes { OnOk result (ChangesIn place arena.old arena.new) }
+    ensures written { OnOk result (built arena.new place
+        ≡ slot_with field.entry (At (tree_of pointer.entry)) (built arena.old place)) }
+    ensures kept { OnOk result (Keeps (names_of field.entry) (built arena.old place) (built arena.new place)) }
     ensures sound { OnOk result (first_fault (tree_of pointer.entry) ≡ None) }
-    ensures refused { OnErr result (struct_object_tree object.new ≡ struct_object_tree object.old) }
+    ensures refused { OnErr result (segment arena.new ≡ segment arena.old) }
     ensures cause { IfErr result (λ e. IsCopyRefusal e (first_fault (tree_of pointer.entry))) }
 {
-    set_pointer::<any_pointer::Owned, any_pointer::Reader<'_>>(
-        object,
-        field,
-        any_pointer::Reader::new(pointer),
-    )
+    set_pointer::<any_pointer::Owned, PointerInput<'_>>(arena, place, field, PointerInput(pointer))
 }
 
-/// Copies what stands in the place of a default that is none: no bytes, a struct of size zero, or a list of no elements.
-fn put_empty(object: &mut StructObject, field: Field<'_>) -> Result<()>
+/// Copies what stands in the place of a default that is none: no bytes, a struct of size zero, or a list of no
+/// elements.
+fn put_empty(arena: &mut Arena, place: StructPlace, field: Field<'_>) -> Result<()>
+    requires planted { IsBuilt arena.old place }
     requires slot { IsSlot field }
     requires pointer { IsPointer field }
-    requires room { IsRoomFor field (struct_object_tree object.old) }
+    requires room { IsRoomFor field (built arena.old place) }
     requires typed { AnyPointerType ≢ (typed_of field).type }
-    ensures written { OnOk result (struct_object_tree object.new
-        ≡ slot_with field.entry (At (empty_tree (typed_of field.entry).type)) (struct_object_tree object.old)) }
-    ensures kept { OnOk result (Keeps (names_of field.entry) (struct_object_tree object.old) (struct_object_tree object.new)) }
-    ensures refused { OnErr result (struct_object_tree object.new ≡ struct_object_tree object.old) }
+    ensures planted { OnOk result (IsBuilt arena.new place) }
+    ensures changes { OnOk result (ChangesIn place arena.old arena.new) }
+    ensures written { OnOk result (built arena.new place
+        ≡ slot_with field.entry (At (empty_tree (typed_of field.entry).type)) (built arena.old place)) }
+    ensures kept { OnOk result (Keeps (names_of field.entry) (built arena.old place) (built arena.new place)) }
+    ensures refused { OnErr result (segment arena.new ≡ segment arena.old) }
     ensures cause { IfErr result (λ e. e.kind ≡ OutOfMemory) }
 {
     let variant = variant_of(field);
     let (index, member) = pointer_slot(field);
-    make_empty_at(object, index, variant)?;
-    switch_member(object, member);
+    make_empty_at(arena, place, index, variant)?;
+    switch_member(arena, place, member);
     Ok(())
 }
 
 /// Copies the words of a default, where they are no null.
-fn put_words(object: &mut StructObject, field: Field<'_>, pointer: PointerReader<'_>) -> Result<()>
+fn put_words(
+    arena: &mut Arena,
+    place: StructPlace,
+    field: Field<'_>,
+    pointer: PointerReader<'_>,
+) -> Result<()>
+    requires planted { IsBuilt arena.old place }
     requires slot { IsSlot field }
     requires pointer { IsPointer field }
-    requires room { IsRoomFor field (struct_object_tree object.old) }
+    requires room { IsRoomFor field (built arena.old place) }
     requires typed { AnyPointerType ≢ (typed_of field).type }
     requires sound { first_fault (tree_of pointer) ≡ None }
-    ensures written { OnOk result (struct_object_tree object.new
-        ≡ slot_with field.entry (At (or_else (tree_of pointer.entry) (empty_tree (typed_of field.entry).type))) (struct_object_tree object.old)) }
-    ensures kept { OnOk result (Keeps (names_of field.entry) (struct_object_tree object.old) (struct_object_tree object.new)) }
-    ensures refused { OnErr result (struct_object_tree object.new ≡ struct_object_tree object.old) }
+    ensures planted { OnOk result (IsBuilt arena.new place) }
+    ensures changes { OnOk result (ChangesIn place arena.old arena.new) }
+    ensures written { OnOk result (built arena.new place
+        ≡ slot_with field.entry (At (or_else (tree_of pointer.entry) (empty_tree (typed_of field.entry).type)))
+        (built arena.old place)) }
+    ensures kept { OnOk result (Keeps (names_of field.entry) (built arena.old place) (built arena.new place)) }
+    ensures refused { OnErr result (segment arena.new ≡ segment arena.old) }
     ensures cause { IfErr result (λ e. e.kind ≡ OutOfMemory) }
 {
     if pointer.is_null() {
-        put_empty(object, field)
+        put_empty(arena, place, field)
     } else {
-        put(object, field, pointer)
+        put(arena, place, field, pointer)
     }
 }
 
 /// Copies the default of a pointer's slot.
-fn put_default(object: &mut StructObject, field: Field<'_>) -> Result<()>
+fn put_default(arena: &mut Arena, place: StructPlace, field: Field<'_>) -> Result<()>
+    requires planted { IsBuilt arena.old place }
     requires slot { IsSlot field }
     requires pointer { IsPointer field }
-    requires room { IsRoomFor field (struct_object_tree object.old) }
+    requires room { IsRoomFor field (built arena.old place) }
     requires typed { AnyPointerType ≢ (typed_of field).type }
-    ensures written { OnOk result (struct_object_tree object.new ≡ slot_with field.entry (At (default_in field.entry)) (struct_object_tree object.old)) }
-    ensures kept { OnOk result (Keeps (names_of field.entry) (struct_object_tree object.old) (struct_object_tree object.new)) }
-    ensures refused { OnErr result (struct_object_tree object.new ≡ struct_object_tree object.old) }
+    ensures planted { OnOk result (IsBuilt arena.new place) }
+    ensures changes { OnOk result (ChangesIn place arena.old arena.new) }
+    ensures written { OnOk result (built arena.new place
+        ≡ slot_with field.entry (At (default_in field.entry)) (built arena.old place)) }
+    ensures kept { OnOk result (Keeps (names_of field.entry) (built arena.old place) (built arena.new place)) }
+    ensures refused { OnErr result (segment arena.new ≡ segment arena.old) }
     ensures cause { IfErr result (λ e. e.kind ≡ OutOfMemory) }
 {
     match field.get_default() {
-        Value::Text(text) => set_pointer::<text::Owned, text::Reader<'_>>(object, field, text),
-        Value::Data(bytes) => set_pointer::<data::Owned, data::Reader<'_>>(object, field, bytes),
-        Value::Struct(words) => put_words(object, field, words),
-        Value::List(words) => put_words(object, field, words),
-        _ => put_empty(object, field),
+        Value::Text(text) => set_pointer::<text::Owned, text::Reader<'_>>(
+            arena, place, field, text,
+        ),
+        Value::Data(bytes) => set_pointer::<data::Owned, data::Reader<'_>>(
+            arena, place, field, bytes,
+        ),
+        Value::Struct(words) => put_words(arena, place, field, words),
+        Value::List(words) => put_words(arena, place, field, words),
+        _ => put_empty(arena, place, field),
     }
 }
 
@@ -152,7 +180,8 @@ fn check_copy(field: Field<'_>, pointer: &PointerReader<'_>) -> Result<()>
     requires slot { IsSlot field }
     requires pointer { IsPointer field }
     ensures given { OnOk result (IsGivenCopy field.entry (levels_of pointer.now) (tree_of pointer.now)) }
-    ensures cause { IfErr result (λ e. IsSetRefusal (pointer_given field.entry (levels_of pointer.now) (tree_of pointer.now)) e.kind) }
+    ensures cause { IfErr result (λ e. IsSetRefusal
+        (pointer_given field.entry (levels_of pointer.now) (tree_of pointer.now)) e.kind) }
 {
     default_fits(field);
     check_read(variant_of(field), pointer)
@@ -160,53 +189,69 @@ fn check_copy(field: Field<'_>, pointer: &PointerReader<'_>) -> Result<()>
 
 /// Copies a pointer into a slot, which becomes active after it: what it leads to, and a null as the slot's default.
 fn copy_pointer(
-    object: &mut StructObject,
+    arena: &mut Arena,
+    place: StructPlace,
     field: Field<'_>,
     pointer: PointerReader<'_>,
 ) -> Result<()>
+    requires planted { IsBuilt arena.old place }
     requires slot { IsSlot field }
     requires pointer { IsPointer field }
-    requires room { IsRoomFor field (struct_object_tree object.old) }
-    ensures copied { OnOk result (IsCopied field.entry (pointer_given field.entry (levels_of pointer.entry) (tree_of pointer.entry))
-        (pointer_content field.entry (tree_of pointer.entry)) (struct_object_tree object.old) (struct_object_tree object.new)) }
-    ensures refused { OnErr result (struct_object_tree object.new ≡ struct_object_tree object.old) }
-    ensures cause { IfErr result (λ e. IsSetRefusal (pointer_given field.entry (levels_of pointer.entry) (tree_of pointer.entry)) e.kind) }
+    requires room { IsRoomFor field (built arena.old place) }
+    ensures planted { OnOk result (IsBuilt arena.new place) }
+    ensures changes { OnOk result (ChangesIn place arena.old arena.new) }
+    ensures copied { OnOk result (IsCopied field.entry
+        (pointer_given field.entry (levels_of pointer.entry) (tree_of pointer.entry))
+        (pointer_content field.entry (tree_of pointer.entry)) (built arena.old place) (built arena.new place)) }
+    ensures refused { OnErr result (segment arena.new ≡ segment arena.old) }
+    ensures cause { IfErr result (λ e. IsSetRefusal
+        (pointer_given field.entry (levels_of pointer.entry) (tree_of pointer.entry)) e.kind) }
 {
     check_copy(field, &pointer)?;
     if pointer.is_null() {
-        put_default(object, field)
+        put_default(arena, place, field)
     } else {
-        put(object, field, pointer)
+        put(arena, place, field, pointer)
     }
 }
 
 /// Copies a pointer's slot out of a struct.
 fn copy_behind(
-    object: &mut StructObject,
+    arena: &mut Arena,
+    place: StructPlace,
     field: Field<'_>,
     source: &StructReader<'_>,
     index: u16,
 ) -> Result<()>
+    requires planted { IsBuilt arena.old place }
     requires slot { IsSlot field }
     requires pointer { IsPointer field }
     requires is { index ≡ pointer_index field }
-    requires room { IsRoomFor field (struct_object_tree object.old) }
-    ensures copied { OnOk result (IsCopiedFrom field.entry (struct_levels source.now) (struct_of source.now) (struct_object_tree object.old)
-        (struct_object_tree object.new)) }
-    ensures refused { OnErr result (struct_object_tree object.new ≡ struct_object_tree object.old) }
-    ensures cause { IfErr result (λ e. IsSetRefusal (copy_given field.entry (Left (struct_levels source.now)) (struct_of source.now)) e.kind) }
+    requires room { IsRoomFor field (built arena.old place) }
+    ensures planted { OnOk result (IsBuilt arena.new place) }
+    ensures changes { OnOk result (ChangesIn place arena.old arena.new) }
+    ensures copied { OnOk result (IsCopiedFrom field.entry (struct_levels source.now) (struct_of source.now)
+        (built arena.old place)
+        (built arena.new place)) }
+    ensures refused { OnErr result (segment arena.new ≡ segment arena.old) }
+    ensures cause { IfErr result (λ e. IsSetRefusal
+        (copy_given field.entry (Left (struct_levels source.now)) (struct_of source.now)) e.kind) }
 {
-    copy_pointer(object, field, source.get_pointer_field(index))
+    copy_pointer(arena, place, field, source.get_pointer_field(index))
 }
 
 /// Copies a slot of the data section out of a struct.
-fn copy_number(object: &mut StructObject, field: Field<'_>, source: &StructReader<'_>)
+fn copy_number(arena: &mut Arena, place: StructPlace, field: Field<'_>, source: &StructReader<'_>)
+    requires planted { IsBuilt arena.old place }
     requires slot { IsSlot field }
     requires number { is_pointer (typed_of field).type ≡ false }
-    requires room { IsRoomFor field (struct_object_tree object.old) }
-    ensures { IsCopiedFrom field.entry (struct_levels source.now) (struct_of source.now) (struct_object_tree object.old) (struct_object_tree object.new) }
+    requires room { IsRoomFor field (built arena.old place) }
+    ensures planted { IsBuilt arena.new place }
+    ensures changes { ChangesIn place arena.old arena.new }
+    ensures written { IsCopiedFrom field.entry (struct_levels source.now) (struct_of source.now)
+        (built arena.old place) (built arena.new place) }
 {
-    copy_bits(object, slot_plan(field), source);
+    copy_bits(arena, place, slot_plan(field), source);
 }
 
 /// Whether a type's values stand behind a pointer.
@@ -226,24 +271,35 @@ pub fn is_behind(variant: TypeVariant) -> bool
 /// Copies a slot out of a struct of the field's schema, whether the field is active there or not. What stands there is
 /// copied as it is stored, a null pointer as its default. Then a member becomes active.
 ///
-/// Refused, in this order: for an untyped slot with `CannotSetAnyPointerFieldToAPrimitiveValue`, even where it is null; as the
-/// read of the source's pointer under the slot's type; with `BadPointer`, `TooDeep` or `CapabilityPointer` where a pointer in
-/// what it leads to can't be followed, by the first of these in preorder; and with `OutOfMemory`. Then nothing has changed.
+/// Refused, in this order: for an untyped slot with `CannotSetAnyPointerFieldToAPrimitiveValue`, even where it is null;
+/// as the read of the source's pointer under the slot's type; with `BadPointer`, `TooDeep` or `CapabilityPointer` where
+/// a pointer in what it leads to can't be followed, by the first of these in preorder; and with `OutOfMemory`. Then
+/// nothing has changed.
 ///
 /// The field has to be a slot, and the struct to have the sections of the field's schema.
-pub fn copy(object: &mut StructObject, field: Field<'_>, source: StructReader<'_>) -> Result<()>
+pub fn copy(
+    arena: &mut Arena,
+    place: StructPlace,
+    field: Field<'_>,
+    source: StructReader<'_>,
+) -> Result<()>
+    requires planted { IsBuilt arena.old place }
     requires slot { IsSlot field }
-    requires room { IsRoomFor field (struct_object_tree object.old) }
-    ensures copied { OnOk result (IsCopiedFrom field.entry (struct_levels source.entry) (struct_of source.entry) (struct_object_tree object.old)
-        (struct_object_tree object.new)) }
-    ensures refused { OnErr result (struct_object_tree object.new ≡ struct_object_tree object.old) }
-    ensures cause { IfErr result (λ e. IsSetRefusal (copy_given field.entry (Left (struct_levels source.entry)) (struct_of source.entry)) e.kind) }
+    requires room { IsRoomFor field (built arena.old place) }
+    ensures planted { OnOk result (IsBuilt arena.new place) }
+    ensures changes { OnOk result (ChangesIn place arena.old arena.new) }
+    ensures copied { OnOk result (IsCopiedFrom field.entry (struct_levels source.entry) (struct_of source.entry)
+        (built arena.old place)
+        (built arena.new place)) }
+    ensures refused { OnErr result (segment arena.new ≡ segment arena.old) }
+    ensures cause { IfErr result (λ e. IsSetRefusal
+        (copy_given field.entry (Left (struct_levels source.entry)) (struct_of source.entry)) e.kind) }
 {
     if is_behind(variant_of(field)) {
         let (index, _) = pointer_slot(field);
-        copy_behind(object, field, &source, index)
+        copy_behind(arena, place, field, &source, index)
     } else {
-        copy_number(object, field, &source);
+        copy_number(arena, place, field, &source);
         Ok(())
     }
 }

@@ -1,6 +1,7 @@
 //! Sources that are copied into a slot.
 ghost use Rattle.std.specs.Prelude.{ℕ, List, ◌≡◌, IfErr, IfOk, OnErr, OnOk};
-ghost use Rattle.capnp_wire.specs.Objects.{struct_object_tree};
+ghost use Rattle.capnp_arena.specs.Segment.{segment};
+ghost use Rattle.capnp_arena.specs.Built.{ChangesIn, IsBuilt, built};
 ghost use Rattle.capnp_wire.specs.Tree.{StructTree, Tree};
 ghost use Rattle.capnp_schema.specs.Schema.{Schemas};
 ghost use Rattle.capnp_schema.specs.Types.{SchemaType, seen_variant};
@@ -15,15 +16,16 @@ ghost use Rattle.capnp_slots.specs.Sources.{GivesCopy, GivesUntyped, IsCopy, IsC
 
 use crate::slot::set_pointer;
 use crate::source::{ListInput, Source, StructInput};
+use capnp_arena::arena::{Arena, Place as StructPlace};
 use capnp_base::introspect::TypeVariant;
 use capnp_base::{any_pointer, data, text};
 use capnp_schema::schema::Field;
 use capnp_wire::error::{Error, ErrorKind, Result};
-use capnp_wire::object::StructObject;
 
 /// Whether a slot of a type takes a copy of a text.
 fn copies_text(variant: TypeVariant) -> Result<bool>
-    ensures { (set : Schemas) (bytes : List ℕ) → GivesCopy (TextSource bytes) (given_slot set (seen_variant variant) (TextSource bytes)) result }
+    ensures { (set : Schemas) (bytes : List ℕ)
+        → GivesCopy (TextSource bytes) (given_slot set (seen_variant variant) (TextSource bytes)) result }
 {
     match variant {
         TypeVariant::Void => Ok(false),
@@ -35,7 +37,8 @@ fn copies_text(variant: TypeVariant) -> Result<bool>
 
 /// Whether it takes one of data.
 fn copies_data(variant: TypeVariant) -> Result<bool>
-    ensures { (set : Schemas) (bytes : List ℕ) → GivesCopy (DataSource bytes) (given_slot set (seen_variant variant) (DataSource bytes)) result }
+    ensures { (set : Schemas) (bytes : List ℕ)
+        → GivesCopy (DataSource bytes) (given_slot set (seen_variant variant) (DataSource bytes)) result }
 {
     match variant {
         TypeVariant::Void => Ok(false),
@@ -90,7 +93,8 @@ fn copies_untyped(variant: TypeVariant) -> Result<bool>
 /// `TypeMismatch` where the slot is of another kind.
 pub(crate) fn copies_source(variant: TypeVariant, source: Source<'_>) -> Result<bool>
     requires { IsPointed (source_seen source) }
-    ensures { (set : Schemas) → GivesCopy (source_seen source.entry) (given_slot set (seen_variant variant) (source_seen source.entry)) result }
+    ensures { (set : Schemas) → GivesCopy (source_seen source.entry)
+        (given_slot set (seen_variant variant) (source_seen source.entry)) result }
 {
     match source {
         Source::Primitive(_) => unreachable!(),
@@ -113,30 +117,45 @@ pub(crate) fn copies_to(field: Field<'_>, source: Source<'_>) -> Result<bool>
 
 /// Copies a source into a pointer's slot, which becomes active after it.
 ///
-/// Refused with the first fault in the source, with `SizePastFormat` or with `OutOfMemory`, and then nothing has changed.
-pub(crate) fn copy_to(object: &mut StructObject, field: Field<'_>, source: Source<'_>) -> Result<()>
+/// Refused with the first fault in the source, with `SizePastFormat` or with `OutOfMemory`, and then nothing has
+/// changed.
+pub(crate) fn copy_to(
+    arena: &mut Arena,
+    place: StructPlace,
+    field: Field<'_>,
+    source: Source<'_>,
+) -> Result<()>
+    requires planted { IsBuilt arena.old place }
     requires slot { IsSlot field }
     requires pointer { IsPointer field }
-    requires room { IsRoomFor field (struct_object_tree object.old) }
+    requires room { IsRoomFor field (built arena.old place) }
     requires copy { IsCopy (source_seen source) }
-    ensures written { OnOk result (struct_object_tree object.new
-        ≡ slot_with field.entry (At (source_tree (source_seen source.entry))) (struct_object_tree object.old)) }
-    ensures kept { OnOk result (Keeps (names_of field.entry) (struct_object_tree object.old) (struct_object_tree object.new)) }
+    ensures planted { OnOk result (IsBuilt arena.new place) }
+    ensures changes { OnOk result (ChangesIn place arena.old arena.new) }
+    ensures written { OnOk result (built arena.new place
+        ≡ slot_with field.entry (At (source_tree (source_seen source.entry))) (built arena.old place)) }
+    ensures kept { OnOk result (Keeps (names_of field.entry) (built arena.old place) (built arena.new place)) }
     ensures sound { OnOk result (IsSoundCopy (source_seen source.entry)) }
-    ensures refused { OnErr result (struct_object_tree object.new ≡ struct_object_tree object.old) }
+    ensures refused { OnErr result (segment arena.new ≡ segment arena.old) }
     ensures cause { IfErr result (λ e. IsCopyDue (source_seen source.entry) e.kind) }
 {
     match source {
         Source::Primitive(_) => unreachable!(),
-        Source::Text(text) => set_pointer::<text::Owned, text::Reader<'_>>(object, field, text),
-        Source::Data(bytes) => set_pointer::<data::Owned, data::Reader<'_>>(object, field, bytes),
+        Source::Text(text) => set_pointer::<text::Owned, text::Reader<'_>>(
+            arena, place, field, text,
+        ),
+        Source::Data(bytes) => set_pointer::<data::Owned, data::Reader<'_>>(
+            arena, place, field, bytes,
+        ),
         Source::Struct(reader, _) => set_pointer::<any_pointer::Owned, StructInput<'_>>(
-            object,
+            arena,
+            place,
             field,
             StructInput(reader),
         ),
         Source::List(reader, _) => set_pointer::<any_pointer::Owned, ListInput<'_>>(
-            object,
+            arena,
+            place,
             field,
             ListInput(reader),
         ),

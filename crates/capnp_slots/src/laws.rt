@@ -1,5 +1,6 @@
-//! What is read of fields after they are written. Each law is of a field's handle, and its premises are what the calls of `slot`
-//! and `group` say: so their clauses and a law together say what a read answers then, by a reader with any number of levels left.
+//! What is read of fields after they are written. Each law is of a field's handle, and its premises are what the calls
+//! of `slot` and `group` say: so their clauses and a law together say what a read answers then, by a reader with any
+//! number of levels left.
 ghost use Rattle.capnp_schema.specs.FieldLists.{index_of};
 ghost use Rattle.capnp_records.specs.Laws.{IsFieldAt};
 ghost use Rattle.capnp_slots.specs.Fields.{field_brand, field_set};
@@ -22,8 +23,9 @@ fn field_stands(field: Field<'_>)
 }
 
 /// After a set of a slot of a kind, which Void and untyped pointers have none of, to a number, a truth value, an enum's
-/// number, a text or data, this value is read. Of all slots, what was given at once is read as it was given, a text or data
-/// in a slot of its kind as its bytes, and what else was copied as the slot's type reads it. A member is the active one.
+/// number, a text or data, this value is read. Of all slots, what was given at once is read as it was given, a text or
+/// data in a slot of its kind as its bytes, and what else was copied as the slot's type reads it. A member is the
+/// active one.
 pub fn sets_are_read(field: Field<'_>, source: Source<'_>)
     ensures values { WholeIsGot field.entry (source_seen source.entry) }
     ensures numbers { NumberIsGot field.entry (source_seen source.entry) }
@@ -37,8 +39,8 @@ pub fn sets_are_read(field: Field<'_>, source: Source<'_>)
     written_slots_are_read();
 }
 
-/// After a clear of a slot its default is read, and a member is the active one; so it is after an init of a slot, and one with
-/// a size.
+/// After a clear of a slot its default is read, and a member is the active one; so it is after an init of a slot, and
+/// one with a size.
 pub fn starts_are_read(field: Field<'_>)
     ensures cleared { ClearIsGot field.entry }
     ensures active { ClearIsActive field.entry }
@@ -50,8 +52,8 @@ pub fn starts_are_read(field: Field<'_>)
     written_slots_are_read();
 }
 
-/// After a clear or init of a group its member of discriminant value 0 is active, where it has one. A group that is a member
-/// itself is the active one then, and after it was set, also where that was cut short.
+/// After a clear or init of a group its member of discriminant value 0 is active, where it has one. A group that is a
+/// member itself is the active one then, and after it was set, also where that was cut short.
 pub fn groups_are_started(field: Field<'_>)
     ensures first { GroupStarts field.entry }
     ensures active { GroupIsActive field.entry }
@@ -61,8 +63,8 @@ pub fn groups_are_started(field: Field<'_>)
     groups_are_active();
 }
 
-/// A write of a field changes nothing of what another one of the struct is read as, nor of whether it is there, unless both
-/// are members; that of a non-union field leaves the active member.
+/// A write of a field changes nothing of what another one of the struct is read as, nor of whether it is there, unless
+/// both are members; that of a non-union field leaves the active member.
 pub fn others_are_read(field: Field<'_>, other: Field<'_>)
     ensures read { OtherIsGot field.entry other.entry }
     ensures there { OtherIsThere field.entry other.entry }

@@ -2,7 +2,9 @@
 ghost use Rattle.std.specs.Prelude.{false, true, ◌-◌, ◌*◌, ◌+◌, ◌^◌, ◌<◌, ◌≡◌, ◌≢◌, ◌||◌, IfErr, OnErr, OnOk, nat_lt, replicate};
 ghost use Rattle.capnp_device.specs.declared.error.ErrorKind.TheVariants.{OutOfMemory};
 ghost use Rattle.capnp_wire.specs.Edits.{zero_list, zero_struct, zero_structs};
-ghost use Rattle.capnp_wire.specs.Objects.{object_tree};
+ghost use Rattle.capnp_arena.specs.Forest.{Changes, Forest, tree};
+ghost use Rattle.capnp_arena.specs.Segment.{segment};
+ghost use Rattle.capnp_arena.specs.Shape.{word_count};
 ghost use Rattle.capnp_wire.specs.Place.{struct_tree};
 ghost use Rattle.capnp_wire.specs.Reading.{empty_list};
 ghost use Rattle.capnp_wire.specs.WellFormed.{IsWellFormed};
@@ -18,15 +20,11 @@ ghost use Rattle.capnp_schema.specs.Plan.{brand_size};
 ghost use Rattle.capnp_slots.specs.Copied.{empty_tree};
 ghost use Rattle.capnp_slots.specs.Inits.{IsInitnRefusal, IsRoomless, is_sized};
 
+use capnp_arena::arena::Arena;
 use capnp_base::introspect::{Type, TypeVariant};
 use capnp_schema::schema::StructSchema;
 use capnp_schema::set::SchemaSet;
-use capnp_wire::error::Result;
-use capnp_wire::laws::kept::new_structs_are_well_formed;
-use capnp_wire::laws::kept_lists::{
-    new_lists_are_well_formed, new_struct_lists_are_well_formed, new_texts_are_well_formed,
-};
-use capnp_wire::object::Object;
+use capnp_wire::error::{Error, ErrorKind, Result};
 use capnp_wire::size::{ElementSize, StructSize};
 
 /// The sections of a schema's structs.
@@ -44,48 +42,56 @@ pub fn size_of(schema: StructSchema<'_>) -> StructSize
 /// Makes a pointer lead to a struct of a size.
 ///
 /// Refused with `OutOfMemory`, and then nothing has changed; so is each call below.
-#[tactic(auto, using(crate::proofs::Pointers::struct_stands))]
-pub(crate) fn make_struct(pointer: &mut Object, size: StructSize) -> Result<()>
-    ensures ok { OnOk result (object_tree pointer.new ≡ struct_tree (zero_struct size)) }
+pub(crate) fn make_struct(arena: &mut Arena, at: usize, size: StructSize) -> Result<()>
+    requires there { at < word_count (segment arena.old) }
+    ensures forest { OnOk result (Forest (segment arena.new) at) }
+    ensures changes { OnOk result (Changes at (segment arena.old) (segment arena.new)) }
+    ensures ok { OnOk result (tree (segment arena.new) at ≡ struct_tree (zero_struct size)) }
     ensures formed { OnOk result (IsWellFormed (struct_tree (zero_struct size))) }
-    ensures refused { OnErr result (object_tree pointer.new ≡ object_tree pointer.old) }
+    ensures refused { OnErr result (segment arena.new ≡ segment arena.old) }
     ensures cause { IfErr result (λ e. e.kind ≡ OutOfMemory) }
 {
-    new_structs_are_well_formed();
-    pointer.init_struct(size)?;
+    arena.init_struct(at, size)?;
     Ok(())
 }
 
 /// Makes a pointer lead to a text of so many zero bytes.
 ///
 /// Refused with `SizePastFormat` for more than 2^29 - 2 bytes, and else with `OutOfMemory`.
-#[tactic(auto, using(crate::proofs::Pointers::list_stands))]
-fn make_text(pointer: &mut Object, count: u32) -> Result<()>
-    ensures ok { OnOk result (object_tree pointer.new ≡ text_tree (replicate count 0)) }
+#[tactic(auto, using(crate::proofs::NewLists::new_text))]
+fn make_text(arena: &mut Arena, at: usize, count: u32) -> Result<()>
+    requires there { at < word_count (segment arena.old) }
+    ensures forest { OnOk result (Forest (segment arena.new) at) }
+    ensures changes { OnOk result (Changes at (segment arena.old) (segment arena.new)) }
+    ensures ok { OnOk result (tree (segment arena.new) at ≡ text_tree (replicate count 0)) }
     ensures within { OnOk result (nat_lt (2 ^ 29 - 2) count ≡ false) }
     ensures formed { OnOk result (IsWellFormed (text_tree (replicate count 0))) }
-    ensures refused { OnErr result (object_tree pointer.new ≡ object_tree pointer.old) }
+    ensures refused { OnErr result (segment arena.new ≡ segment arena.old) }
     ensures cause { IfErr result (λ e. IsRoomless (nat_lt (2 ^ 29 - 2) count) e.kind) }
 {
-    new_texts_are_well_formed();
-    pointer.init_text_list(count)?;
+    if count >= (1 << 29) - 1 {
+        return Err(Error::from(ErrorKind::SizePastFormat));
+    }
+    arena.init_list(at, ElementSize::Byte, count + 1)?;
     Ok(())
 }
 
 /// Makes a pointer lead to a list of so many elements of a size that is not composite.
 ///
 /// Refused with `SizePastFormat` for 2^29 elements or more, and else with `OutOfMemory`.
-#[tactic(auto, using(crate::proofs::Pointers::list_stands))]
-fn make_list(pointer: &mut Object, size: ElementSize, count: u32) -> Result<()>
-    requires { size ≢ ElementSize.InlineComposite }
-    ensures ok { OnOk result (object_tree pointer.new ≡ zero_list size count) }
+#[tactic(auto, using(crate::proofs::NewLists::new_simple_list))]
+fn make_list(arena: &mut Arena, at: usize, size: ElementSize, count: u32) -> Result<()>
+    requires there { at < word_count (segment arena.old) }
+    requires kind { size ≢ ElementSize.InlineComposite }
+    ensures forest { OnOk result (Forest (segment arena.new) at) }
+    ensures changes { OnOk result (Changes at (segment arena.old) (segment arena.new)) }
+    ensures ok { OnOk result (tree (segment arena.new) at ≡ zero_list size count) }
     ensures within { OnOk result (nat_lt (2 ^ 29 - 1) count ≡ false) }
     ensures formed { OnOk result (IsWellFormed (zero_list size count)) }
-    ensures refused { OnErr result (object_tree pointer.new ≡ object_tree pointer.old) }
+    ensures refused { OnErr result (segment arena.new ≡ segment arena.old) }
     ensures cause { IfErr result (λ e. IsRoomless (nat_lt (2 ^ 29 - 1) count) e.kind) }
 {
-    new_lists_are_well_formed();
-    pointer.init_list(size, count)?;
+    arena.init_list(at, size, count)?;
     Ok(())
 }
 
@@ -93,35 +99,48 @@ fn make_list(pointer: &mut Object, size: ElementSize, count: u32) -> Result<()>
 ///
 /// Refused with `SizePastFormat` for 2^29 elements or more, or where they take 2^29 words or more, and else with
 /// `OutOfMemory`.
-#[tactic(auto, using(crate::proofs::Pointers::list_stands))]
-fn make_structs(pointer: &mut Object, size: StructSize, count: u32) -> Result<()>
-    ensures ok { OnOk result (object_tree pointer.new ≡ zero_structs size count) }
-    ensures within { OnOk result ((nat_lt (2 ^ 29 - 1) (count * (size.data_words + size.pointers)) || nat_lt (2 ^ 29 - 1) count) ≡ false) }
+fn make_structs(arena: &mut Arena, at: usize, size: StructSize, count: u32) -> Result<()>
+    requires there { at < word_count (segment arena.old) }
+    ensures forest { OnOk result (Forest (segment arena.new) at) }
+    ensures changes { OnOk result (Changes at (segment arena.old) (segment arena.new)) }
+    ensures ok { OnOk result (tree (segment arena.new) at ≡ zero_structs size count) }
+    ensures within { OnOk result ((nat_lt (2 ^ 29 - 1) (count * (size.data_words + size.pointers)) || nat_lt
+        (2 ^ 29 - 1) count) ≡ false) }
     ensures formed { OnOk result (IsWellFormed (zero_structs size count)) }
-    ensures refused { OnErr result (object_tree pointer.new ≡ object_tree pointer.old) }
-    ensures cause { IfErr result (λ e. IsRoomless (nat_lt (2 ^ 29 - 1) (count * (size.data_words + size.pointers)) || nat_lt (2 ^ 29 - 1) count) e.kind) }
+    ensures refused { OnErr result (segment arena.new ≡ segment arena.old) }
+    ensures cause { IfErr result (λ e. IsRoomless
+        (nat_lt (2 ^ 29 - 1) (count * (size.data_words + size.pointers)) || nat_lt (2 ^ 29 - 1) count) e.kind) }
 {
-    new_struct_lists_are_well_formed();
-    pointer.init_struct_list(count, size)?;
+    arena.init_struct_list(at, count, size)?;
     Ok(())
 }
 
 /// Makes a pointer lead to a list of so many elements of a type.
 ///
 /// Refused as `make_structs` for structs, and else as `make_list`.
-fn make_elements(pointer: &mut Object, set: &SchemaSet, element: Type, count: u32) -> Result<()>
-    ensures ok { OnOk result (object_tree pointer.new ≡ new_list (lists_seen set.now) (seen_type element) count) }
+fn make_elements(
+    arena: &mut Arena,
+    at: usize,
+    set: &SchemaSet,
+    element: Type,
+    count: u32,
+) -> Result<()>
+    requires there { at < word_count (segment arena.old) }
+    ensures forest { OnOk result (Forest (segment arena.new) at) }
+    ensures changes { OnOk result (Changes at (segment arena.old) (segment arena.new)) }
+    ensures ok { OnOk result (tree (segment arena.new) at ≡ new_list (lists_seen set.now) (seen_type element) count) }
     ensures within { OnOk result (elements_past (lists_seen set.now) (seen_type element) count ≡ false) }
     ensures formed { OnOk result (IsWellFormed (new_list (lists_seen set.now) (seen_type element) count)) }
-    ensures refused { OnErr result (object_tree pointer.new ≡ object_tree pointer.old) }
-    ensures cause { IfErr result (λ e. IsRoomless (elements_past (lists_seen set.now) (seen_type element) count) e.kind) }
+    ensures refused { OnErr result (segment arena.new ≡ segment arena.old) }
+    ensures cause { IfErr result (λ e. IsRoomless
+        (elements_past (lists_seen set.now) (seen_type element) count) e.kind) }
 {
     match element.which() {
         TypeVariant::Struct(raw) => {
             let size = size_of(set.struct_schema(raw.number));
-            make_structs(pointer, size, count)
+            make_structs(arena, at, size, count)
         }
-        _ => make_list(pointer, element.expected_element_size(), count),
+        _ => make_list(arena, at, element.expected_element_size(), count),
     }
 }
 
@@ -139,23 +158,28 @@ pub(crate) fn is_sized(variant: TypeVariant) -> bool
 
 /// Makes a pointer lead to a text, data or list of a type with so many bytes or elements.
 pub(crate) fn make_sized(
-    pointer: &mut Object,
+    arena: &mut Arena,
+    at: usize,
     set: &SchemaSet,
     variant: TypeVariant,
     count: u32,
 ) -> Result<()>
-    requires { is_sized (seen_variant variant) ≡ true }
-    ensures ok { OnOk result (object_tree pointer.new ≡ initn_tree (lists_seen set.now) (seen_variant variant) count) }
+    requires there { at < word_count (segment arena.old) }
+    requires kind { is_sized (seen_variant variant) ≡ true }
+    ensures forest { OnOk result (Forest (segment arena.new) at) }
+    ensures changes { OnOk result (Changes at (segment arena.old) (segment arena.new)) }
+    ensures ok { OnOk result (tree (segment arena.new) at
+        ≡ initn_tree (lists_seen set.now) (seen_variant variant) count) }
     ensures within { OnOk result (InitnContent (lists_seen set.now) count (seen_variant variant)
         (At (initn_tree (lists_seen set.now) (seen_variant variant) count))) }
     ensures formed { OnOk result (IsWellFormed (initn_tree (lists_seen set.now) (seen_variant variant) count)) }
-    ensures refused { OnErr result (object_tree pointer.new ≡ object_tree pointer.old) }
+    ensures refused { OnErr result (segment arena.new ≡ segment arena.old) }
     ensures cause { IfErr result (λ e. IsInitnRefusal (lists_seen set.now) count (seen_variant variant) e.kind) }
 {
     match variant {
-        TypeVariant::Text => make_text(pointer, count),
-        TypeVariant::Data => make_list(pointer, ElementSize::Byte, count),
-        TypeVariant::List(element) => make_elements(pointer, set, element, count),
+        TypeVariant::Text => make_text(arena, at, count),
+        TypeVariant::Data => make_list(arena, at, ElementSize::Byte, count),
+        TypeVariant::List(element) => make_elements(arena, at, set, element, count),
         _ => unreachable!(),
     }
 }
@@ -163,10 +187,13 @@ pub(crate) fn make_sized(
 /// Makes a pointer lead to a list of no elements of a size.
 ///
 /// Refused with `OutOfMemory`; so is the call below.
-fn make_empty_list(pointer: &mut Object, size: ElementSize) -> Result<()>
-    ensures ok { OnOk result (object_tree pointer.new ≡ empty_list size) }
+fn make_empty_list(arena: &mut Arena, at: usize, size: ElementSize) -> Result<()>
+    requires there { at < word_count (segment arena.old) }
+    ensures forest { OnOk result (Forest (segment arena.new) at) }
+    ensures changes { OnOk result (Changes at (segment arena.old) (segment arena.new)) }
+    ensures ok { OnOk result (tree (segment arena.new) at ≡ empty_list size) }
     ensures formed { OnOk result (IsWellFormed (empty_list size)) }
-    ensures refused { OnErr result (object_tree pointer.new ≡ object_tree pointer.old) }
+    ensures refused { OnErr result (segment arena.new ≡ segment arena.old) }
     ensures cause { IfErr result (λ e. e.kind ≡ OutOfMemory) }
 {
     let none = StructSize {
@@ -174,19 +201,22 @@ fn make_empty_list(pointer: &mut Object, size: ElementSize) -> Result<()>
         pointers: 0,
     };
     match size {
-        ElementSize::InlineComposite => make_structs(pointer, none, 0),
-        _ => make_list(pointer, size, 0),
+        ElementSize::InlineComposite => make_structs(arena, at, none, 0),
+        _ => make_list(arena, at, size, 0),
     }
 }
 
-/// Makes a pointer lead to what stands in the place of a default that is none: no bytes, a struct of size zero, or a list of
-/// no elements.
-pub(crate) fn make_empty(pointer: &mut Object, variant: TypeVariant) -> Result<()>
+/// Makes a pointer lead to what stands in the place of a default that is none: no bytes, a struct of size zero, or a
+/// list of no elements.
+pub(crate) fn make_empty(arena: &mut Arena, at: usize, variant: TypeVariant) -> Result<()>
+    requires there { at < word_count (segment arena.old) }
     requires pointer { is_pointer (seen_variant variant) ≡ true }
     requires typed { AnyPointerType ≢ seen_variant variant }
-    ensures ok { OnOk result (object_tree pointer.new ≡ empty_tree (seen_variant variant)) }
+    ensures forest { OnOk result (Forest (segment arena.new) at) }
+    ensures changes { OnOk result (Changes at (segment arena.old) (segment arena.new)) }
+    ensures ok { OnOk result (tree (segment arena.new) at ≡ empty_tree (seen_variant variant)) }
     ensures formed { OnOk result (IsWellFormed (empty_tree (seen_variant variant))) }
-    ensures refused { OnErr result (object_tree pointer.new ≡ object_tree pointer.old) }
+    ensures refused { OnErr result (segment arena.new ≡ segment arena.old) }
     ensures cause { IfErr result (λ e. e.kind ≡ OutOfMemory) }
 {
     let none = StructSize {
@@ -194,10 +224,10 @@ pub(crate) fn make_empty(pointer: &mut Object, variant: TypeVariant) -> Result<(
         pointers: 0,
     };
     match variant {
-        TypeVariant::Text => make_text(pointer, 0),
-        TypeVariant::Data => make_empty_list(pointer, ElementSize::Byte),
-        TypeVariant::Struct(_) => make_struct(pointer, none),
-        TypeVariant::List(element) => make_empty_list(pointer, element.expected_element_size()),
+        TypeVariant::Text => make_text(arena, at, 0),
+        TypeVariant::Data => make_empty_list(arena, at, ElementSize::Byte),
+        TypeVariant::Struct(_) => make_struct(arena, at, none),
+        TypeVariant::List(element) => make_empty_list(arena, at, element.expected_element_size()),
         _ => unreachable!(),
     }
 }

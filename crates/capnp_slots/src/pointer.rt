@@ -10,7 +10,8 @@ ghost use Rattle.capnp_records.specs.Writes.Slots.{At};
 ghost use Rattle.capnp_schema.specs.Types.{AnyPointerType, is_pointer, seen_variant};
 ghost use Rattle.capnp_slots.specs.Copied.{empty_tree};
 ghost use Rattle.capnp_slots.specs.Inits.{IsInitnRefusal, is_sized};
-ghost use Rattle.capnp_wire.specs.Objects.{struct_object_tree};
+ghost use Rattle.capnp_arena.specs.Segment.{segment};
+ghost use Rattle.capnp_arena.specs.Built.{ChangesIn, IsBuilt, built};
 ghost use Rattle.capnp_wire.specs.Tree.{tree_count};
 ghost use Rattle.capnp_wire.specs.WellFormed.{IsWellFormed};
 ghost use Rattle.capnp_wire.specs.Words.{first_fault};
@@ -18,14 +19,15 @@ ghost use Rattle.capnp_slots.specs.Fields.{IsPointer, IsPointerSlot, IsSlot};
 
 use crate::make::{make_empty, make_sized, make_struct};
 use crate::planned::slot_plan;
+use crate::setter::SetterInput;
+use capnp_arena::arena::{Arena, Place as StructPlace};
+use capnp_arena::handles::PointerBuilder;
+use capnp_arena::structs::pointer_at;
 use capnp_base::introspect::TypeVariant;
-use capnp_base::traits::SetterInput;
 use capnp_schema::plan::Place;
 use capnp_schema::schema::Field;
 use capnp_schema::set::SchemaSet;
 use capnp_wire::error::Result;
-use capnp_wire::laws::objects_hold_no_fault;
-use capnp_wire::object::StructObject;
 use capnp_wire::size::StructSize;
 
 /// The pointer of a slot, and the discriminant of its field.
@@ -44,70 +46,101 @@ pub(crate) fn pointer_slot(field: Field<'_>) -> (u16, Option<(u32, u16)>)
 
 /// Sets a pointer of a struct.
 pub(crate) fn set_at<R, S: SetterInput<R>>(
-    object: &mut StructObject,
+    arena: &mut Arena,
+    place: StructPlace,
     index: u16,
     input: S,
 ) -> Result<()>
-    requires { index < tree_count (struct_object_tree object.old).pointers }
-    ensures ok { OnOk result (struct_object_tree object.new ≡ with_pointer_tree (struct_object_tree object.old) index (S.set_tree input)) }
+    requires planted { IsBuilt arena.old place }
+    requires inside { index < tree_count (built arena.old place).pointers }
+    ensures planted { OnOk result (IsBuilt arena.new place) }
+    ensures changes { OnOk result (ChangesIn place arena.old arena.new) }
+    ensures ok { OnOk result (built arena.new place
+        ≡ with_pointer_tree (built arena.old place) index (S.set_tree input)) }
     ensures formed { OnOk result (IsWellFormed (S.set_tree input)) }
     ensures sound { OnOk result (first_fault (S.set_tree input) ≡ None) }
-    ensures refused { OnErr result (struct_object_tree object.new ≡ struct_object_tree object.old) }
+    ensures refused { OnErr result (segment arena.new ≡ segment arena.old) }
     ensures cause { IfErr result (S.set_refusal input) }
 {
-    objects_hold_no_fault();
-    S::set_pointer_builder(object.get_pointer_field(index), input, false)
+    let at = pointer_at(arena, place, index);
+    S::set_pointer_builder(PointerBuilder { arena, at }, input, false)?;
+    Ok(())
 }
 
 /// Makes a pointer of a struct lead to a new struct of a size.
 ///
 /// Refused with `OutOfMemory`, and then nothing has changed.
-pub(crate) fn make_struct_at(object: &mut StructObject, index: u16, size: StructSize) -> Result<()>
-    requires { index < tree_count (struct_object_tree object.old).pointers }
-    ensures ok { OnOk result (struct_object_tree object.new ≡ with_pointer_tree (struct_object_tree object.old) index (struct_tree (zero_struct size))) }
+pub(crate) fn make_struct_at(
+    arena: &mut Arena,
+    place: StructPlace,
+    index: u16,
+    size: StructSize,
+) -> Result<()>
+    requires planted { IsBuilt arena.old place }
+    requires inside { index < tree_count (built arena.old place).pointers }
+    ensures planted { OnOk result (IsBuilt arena.new place) }
+    ensures changes { OnOk result (ChangesIn place arena.old arena.new) }
+    ensures ok { OnOk result (built arena.new place
+        ≡ with_pointer_tree (built arena.old place) index (struct_tree (zero_struct size))) }
     ensures formed { OnOk result (IsWellFormed (struct_tree (zero_struct size))) }
-    ensures refused { OnErr result (struct_object_tree object.new ≡ struct_object_tree object.old) }
+    ensures refused { OnErr result (segment arena.new ≡ segment arena.old) }
     ensures cause { IfErr result (λ e. e.kind ≡ OutOfMemory) }
 {
-    make_struct(object.get_pointer_field(index), size)
+    let at = pointer_at(arena, place, index);
+    make_struct(arena, at, size)?;
+    Ok(())
 }
 
 /// Makes a pointer of a struct lead to a new text, data or list of a type, with so many bytes or elements.
 pub(crate) fn make_sized_at(
-    object: &mut StructObject,
+    arena: &mut Arena,
+    place: StructPlace,
     index: u16,
     set: &SchemaSet,
     variant: TypeVariant,
     count: u32,
 ) -> Result<()>
-    requires inside { index < tree_count (struct_object_tree object.old).pointers }
+    requires planted { IsBuilt arena.old place }
+    requires inside { index < tree_count (built arena.old place).pointers }
     requires is_sized { is_sized (seen_variant variant) ≡ true }
-    ensures ok { OnOk result (struct_object_tree object.new
-        ≡ with_pointer_tree (struct_object_tree object.old) index (initn_tree (lists_seen set.now) (seen_variant variant) count)) }
+    ensures planted { OnOk result (IsBuilt arena.new place) }
+    ensures changes { OnOk result (ChangesIn place arena.old arena.new) }
+    ensures ok { OnOk result (built arena.new place
+        ≡ with_pointer_tree (built arena.old place) index
+        (initn_tree (lists_seen set.now) (seen_variant variant) count)) }
     ensures within { OnOk result (InitnContent (lists_seen set.now) count (seen_variant variant)
         (At (initn_tree (lists_seen set.now) (seen_variant variant) count))) }
     ensures formed { OnOk result (IsWellFormed (initn_tree (lists_seen set.now) (seen_variant variant) count)) }
-    ensures refused { OnErr result (struct_object_tree object.new ≡ struct_object_tree object.old) }
+    ensures refused { OnErr result (segment arena.new ≡ segment arena.old) }
     ensures cause { IfErr result (λ e. IsInitnRefusal (lists_seen set.now) count (seen_variant variant) e.kind) }
 {
-    make_sized(object.get_pointer_field(index), set, variant, count)
+    let at = pointer_at(arena, place, index);
+    make_sized(arena, at, set, variant, count)?;
+    Ok(())
 }
 
 /// Makes a pointer of a struct lead to what stands in the place of a default that is none.
 ///
 /// Refused with `OutOfMemory`, and then nothing has changed.
 pub(crate) fn make_empty_at(
-    object: &mut StructObject,
+    arena: &mut Arena,
+    place: StructPlace,
     index: u16,
     variant: TypeVariant,
 ) -> Result<()>
-    requires inside { index < tree_count (struct_object_tree object.old).pointers }
+    requires planted { IsBuilt arena.old place }
+    requires inside { index < tree_count (built arena.old place).pointers }
     requires pointer { is_pointer (seen_variant variant) ≡ true }
     requires typed { AnyPointerType ≢ seen_variant variant }
-    ensures ok { OnOk result (struct_object_tree object.new ≡ with_pointer_tree (struct_object_tree object.old) index (empty_tree (seen_variant variant))) }
+    ensures planted { OnOk result (IsBuilt arena.new place) }
+    ensures changes { OnOk result (ChangesIn place arena.old arena.new) }
+    ensures ok { OnOk result (built arena.new place
+        ≡ with_pointer_tree (built arena.old place) index (empty_tree (seen_variant variant))) }
     ensures formed { OnOk result (IsWellFormed (empty_tree (seen_variant variant))) }
-    ensures refused { OnErr result (struct_object_tree object.new ≡ struct_object_tree object.old) }
+    ensures refused { OnErr result (segment arena.new ≡ segment arena.old) }
     ensures cause { IfErr result (λ e. e.kind ≡ OutOfMemory) }
 {
-    make_empty(object.get_pointer_field(index), variant)
+    let at = pointer_at(arena, place, index);
+    make_empty(arena, at, variant)?;
+    Ok(())
 }

@@ -2,24 +2,29 @@
 ghost use Rattle.std.specs.Prelude.{◌≡◌, MatchOption};
 ghost use Rattle.capnp_wire.specs.Edits.{IsCopyRefusal, rounded};
 ghost use Rattle.capnp_wire.specs.Place.{struct_tree};
-ghost use Rattle.capnp_wire.specs.Standing.{list_of, struct_of};
+ghost use Rattle.capnp_wire.specs.Standing.{list_of, struct_of, tree_of};
 ghost use Rattle.capnp_wire.specs.Words.{first_fault, first_fault_of_all};
+ghost use Rattle.capnp_base.specs.AnyPointer.{pointer_of};
 ghost use Rattle.capnp_records.specs.Writes.Contents.{SourceFits};
+ghost use Rattle.capnp_dynamic_readers.specs.Handles.{list_reader_of, reader_of};
 ghost use Rattle.capnp_slots.specs.Primitives.{primitive_source};
 ghost use Rattle.capnp_slots.specs.SetValues.{source_of};
 ghost use Rattle.capnp_slots.specs.Sources.{IsPointed, source_seen};
 
 use crate::primitive::{Primitive, number_fits};
+use crate::setter::SetterInput;
+use capnp_arena::handles::PointerBuilder;
 use capnp_base::introspect::Type;
-use capnp_base::traits::SetterInput;
 use capnp_base::{any_pointer, data, text};
 use capnp_dynamic_readers::dynamic_value::Reader as Value;
+use capnp_dynamic_readers::{dynamic_list, dynamic_struct};
 use capnp_schema::schema::StructSchema;
 use capnp_wire::error::Result;
 use capnp_wire::laws::{
-    copied_structs_are_well_formed, list_is_well_formed, struct_is_well_formed,
+    copied_structs_are_well_formed, list_is_well_formed, pointer_is_well_formed,
+    struct_is_well_formed,
 };
-use capnp_wire::{ListReader, PointerBuilder, StructReader};
+use capnp_wire::{ListReader, PointerReader, StructReader};
 
 /// What a field or element is set to.
 #[derive(Clone, Copy)]
@@ -35,11 +40,12 @@ pub enum Source<'a> {
 }
 
 impl Primitive {
-    /// What a dynamic value holds, where no pointer stands for it; none for a text, data, a struct, a list and an untyped
-    /// pointer.
+    /// What a dynamic value holds, where no pointer stands for it; none for a text, data, a struct, a list and an
+    /// untyped pointer.
     #[inline(always)]
     pub fn from_value(value: &Value<'_>) -> Option<Primitive>
-        ensures { MatchOption result (IsPointed (source_of value.now)) (λ held. primitive_source held ≡ source_of value.now) }
+        ensures { MatchOption result (IsPointed (source_of value.now))
+            (λ held. primitive_source held ≡ source_of value.now) }
     {
         match value {
             Value::Void => Some(Primitive::Void),
@@ -108,7 +114,8 @@ impl<'a> SetterInput<any_pointer::Owned> for StructInput<'a> {
     ) -> Result<()> {
         struct_is_well_formed(&input.0);
         copied_structs_are_well_formed();
-        builder.set_struct(&input.0)
+        let PointerBuilder { arena, at } = builder;
+        arena.set_struct(at, &input.0)
     }
 }
 
@@ -127,6 +134,79 @@ impl<'a> SetterInput<any_pointer::Owned> for ListInput<'a> {
         _canonicalize: bool,
     ) -> Result<()> {
         list_is_well_formed(&input.0);
-        builder.set_list(&input.0)
+        let PointerBuilder { arena, at } = builder;
+        arena.set_list(at, &input.0)
+    }
+}
+
+/// What a pointer leads to, that another pointer is set to.
+#[derive(Clone, Copy)]
+pub struct PointerInput<'a>(pub PointerReader<'a>);
+
+impl<'a> SetterInput<any_pointer::Owned> for PointerInput<'a> {
+    ghost set_tree = { λ input. tree_of input.0 };
+
+    ghost set_refusal = { λ input error. IsCopyRefusal error (first_fault (tree_of input.0)) };
+
+    fn set_pointer_builder(
+        builder: PointerBuilder<'_>,
+        input: PointerInput<'a>,
+        _canonicalize: bool,
+    ) -> Result<()> {
+        pointer_is_well_formed(&input.0);
+        let PointerBuilder { arena, at } = builder;
+        arena.copy_from(at, input.0)
+    }
+}
+
+impl<'a> SetterInput<any_pointer::Owned> for any_pointer::Reader<'a> {
+    ghost set_tree = { λ input. tree_of (pointer_of input) };
+
+    ghost set_refusal = { λ input error. IsCopyRefusal error (first_fault (tree_of (pointer_of input))) };
+
+    fn set_pointer_builder(
+        builder: PointerBuilder<'_>,
+        input: any_pointer::Reader<'a>,
+        _canonicalize: bool,
+    ) -> Result<()> {
+        let source = input.get_pointer();
+        pointer_is_well_formed(&source);
+        let PointerBuilder { arena, at } = builder;
+        arena.copy_from(at, source)
+    }
+}
+
+impl<'a> SetterInput<any_pointer::Owned> for dynamic_struct::Reader<'a> {
+    ghost set_tree = { λ input. struct_tree (rounded (struct_of (reader_of input))) };
+
+    ghost set_refusal = { λ input error. IsCopyRefusal error (first_fault_of_all (struct_of (reader_of input)).pointers) };
+
+    fn set_pointer_builder(
+        builder: PointerBuilder<'_>,
+        input: dynamic_struct::Reader<'a>,
+        _canonicalize: bool,
+    ) -> Result<()> {
+        let source = input.get_sections();
+        struct_is_well_formed(&source);
+        copied_structs_are_well_formed();
+        let PointerBuilder { arena, at } = builder;
+        arena.set_struct(at, &source)
+    }
+}
+
+impl<'a> SetterInput<any_pointer::Owned> for dynamic_list::Reader<'a> {
+    ghost set_tree = { λ input. list_of (list_reader_of input) };
+
+    ghost set_refusal = { λ input error. IsCopyRefusal error (first_fault (list_of (list_reader_of input))) };
+
+    fn set_pointer_builder(
+        builder: PointerBuilder<'_>,
+        input: dynamic_list::Reader<'a>,
+        _canonicalize: bool,
+    ) -> Result<()> {
+        let source = input.get_elements();
+        list_is_well_formed(&source);
+        let PointerBuilder { arena, at } = builder;
+        arena.set_list(at, &source)
     }
 }

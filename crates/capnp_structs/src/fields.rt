@@ -34,7 +34,8 @@ fn put_width(out: &mut String, name: &str, bits: u8) -> Result<()>
 
 /// Appends a type.
 fn put_type(out: &mut String, set: &SchemaSet, of: Type) -> Result<()>
-    ensures put { OnOk result (string_bytes out.new ≡ string_bytes out.old ++ type_text (lists_seen set.now) (seen_type of)) }
+    ensures put { OnOk result (string_bytes out.new
+        ≡ string_bytes out.old ++ type_text (lists_seen set.now) (seen_type of)) }
     ensures memory { IfErr result (λ e. e.kind ≡ OutOfMemory) }
 {
     match of.which() {
@@ -104,7 +105,8 @@ fn put_end(out: &mut String, member: Option<(u32, u16)>) -> Result<()>
 
 /// Appends a default as its value is printed.
 fn put_value(out: &mut String, value: Value<'_>) -> Result<()>
-    ensures put { OnOk result (IsAppended (string_bytes out.old) (default_said (printed_text false value.entry)) (string_bytes out.new)) }
+    ensures put { OnOk result (IsAppended (string_bytes out.old) (default_said (printed_text false value.entry))
+        (string_bytes out.new)) }
     ensures refused { IfErr result (λ e. e.kind ≢ OutOfMemory → printed_text false value.entry ≡ Err e.kind) }
 {
     out.push_str(", default ")?;
@@ -125,7 +127,8 @@ fn put_words(out: &mut String, words: &[u8]) -> Result<()>
 
 /// Appends a default.
 fn put_default(out: &mut String, default: &ValueRecord) -> Result<()>
-    ensures put { OnOk result (IsAppended (string_bytes out.old) (default_text (seen_value default.now)) (string_bytes out.new)) }
+    ensures put { OnOk result (IsAppended (string_bytes out.old) (default_text (seen_value default.now))
+        (string_bytes out.new)) }
     ensures memory { IfErr result (λ e. e.kind ≡ OutOfMemory) }
 {
     match default {
@@ -150,7 +153,8 @@ fn put_default(out: &mut String, default: &ValueRecord) -> Result<()>
 
 /// Appends the default of a slot, and nothing of a group.
 fn put_kind(out: &mut String, kind: &FieldKind) -> Result<()>
-    ensures put { OnOk result (IsAppended (string_bytes out.old) (default_text (kind_default (seen_kind kind.now))) (string_bytes out.new)) }
+    ensures put { OnOk result (IsAppended (string_bytes out.old) (default_text (kind_default (seen_kind kind.now)))
+        (string_bytes out.new)) }
     ensures memory { IfErr result (λ e. e.kind ≡ OutOfMemory) }
 {
     match kind {
@@ -161,7 +165,8 @@ fn put_kind(out: &mut String, kind: &FieldKind) -> Result<()>
 
 /// Appends what stands before a slot's default.
 fn put_head(out: &mut String, prefix: &str, field: Field<'_>) -> Result<()>
-    ensures put { OnOk result (string_bytes out.new ≡ string_bytes out.old ++ slot_head (set_of (schema_of field.entry)) prefix.now (typed_of field.entry)
+    ensures put { OnOk result (string_bytes out.new
+        ≡ string_bytes out.old ++ slot_head (set_of (schema_of field.entry)) prefix.now (typed_of field.entry)
         (plan_of (set_of (schema_of field.entry)) (number_of (schema_of field.entry)) (typed_of field.entry)).place) }
     ensures memory { IfErr result (λ e. e.kind ≡ OutOfMemory) }
 {
@@ -178,7 +183,9 @@ fn put_head(out: &mut String, prefix: &str, field: Field<'_>) -> Result<()>
 
 /// Appends the line of a slot.
 fn put_slot(out: &mut String, prefix: &str, field: Field<'_>) -> Result<()>
-    ensures put { OnOk result (IsAppended (string_bytes out.old) (slot_line (set_of (schema_of field.entry)) (number_of (schema_of field.entry)) prefix.now (typed_of field.entry))
+    ensures put { OnOk result (IsAppended (string_bytes out.old)
+        (slot_line (set_of (schema_of field.entry)) (number_of (schema_of field.entry)) prefix.now
+        (typed_of field.entry))
         (string_bytes out.new)) }
     ensures memory { IfErr result (λ e. e.kind ≡ OutOfMemory) }
 {
@@ -189,7 +196,9 @@ fn put_slot(out: &mut String, prefix: &str, field: Field<'_>) -> Result<()>
 
 /// Appends the line of a group.
 fn put_group(out: &mut String, prefix: &str, field: Field<'_>) -> Result<()>
-    ensures put { OnOk result (string_bytes out.new ≡ string_bytes out.old ++ group_line (set_of (schema_of field.entry)) (number_of (schema_of field.entry)) prefix.now (typed_of field.entry)) }
+    ensures put { OnOk result (string_bytes out.new
+        ≡ string_bytes out.old ++ group_line (set_of (schema_of field.entry))
+        (number_of (schema_of field.entry)) prefix.now (typed_of field.entry)) }
     ensures memory { IfErr result (λ e. e.kind ≡ OutOfMemory) }
 {
     out.push_str(prefix)?;
@@ -213,8 +222,10 @@ fn path_inside(alloc: Global, prefix: &str, field: Field<'_>) -> Result<String>
 /// Appends the lines of a field, through at most so many groups.
 #[cycle(fields)]
 fn put_field(out: &mut String, prefix: &str, field: Field<'_>, groups: usize) -> Result<()>
-    ensures put { OnOk result (IsAppended (string_bytes out.old) (field_lines (set_of (schema_of field.entry)) (number_of (schema_of field.entry))
-        (fields_within (set_of (schema_of field.entry)) groups) prefix.now (typed_of field.entry)) (string_bytes out.new)) }
+    ensures put { OnOk result (IsAppended (string_bytes out.old)
+        (field_lines (set_of (schema_of field.entry)) (number_of (schema_of field.entry))
+        (fields_within (set_of (schema_of field.entry)) groups) prefix.now (typed_of field.entry))
+        (string_bytes out.new)) }
     ensures memory { IfErr result (λ e. e.kind ≡ OutOfMemory) }
 {
     match field.get_group() {
@@ -231,7 +242,8 @@ fn put_field(out: &mut String, prefix: &str, field: Field<'_>, groups: usize) ->
 #[cycle(fields)]
 fn put_fields(out: &mut String, prefix: &str, schema: StructSchema<'_>, groups: usize) -> Result<()>
     requires { IsStruct schema }
-    ensures put { OnOk result (IsAppended (string_bytes out.old) (fields_within (set_of schema.entry) groups prefix.now (number_of schema.entry)) (string_bytes out.new)) }
+    ensures put { OnOk result (IsAppended (string_bytes out.old)
+        (fields_within (set_of schema.entry) groups prefix.now (number_of schema.entry)) (string_bytes out.new)) }
     ensures memory { IfErr result (λ e. e.kind ≡ OutOfMemory) }
 {
     if groups == 0 {
@@ -246,12 +258,13 @@ fn put_fields(out: &mut String, prefix: &str, schema: StructSchema<'_>, groups: 
     Ok(())
 }
 
-/// The fields of a struct, by index, one a line: its name and type, the first bit of its slot in the data section or the
-/// number of its pointer, its default, and of a union's member its discriminant value. Behind a group's line stand those of its
-/// fields, each by its path. The schema is one of an accepted set. Refused with `OutOfMemory` alone.
+/// The fields of a struct, by index, one a line: its name and type, the first bit of its slot in the data section or
+/// the number of its pointer, its default, and of a union's member its discriminant value. Behind a group's line stand
+/// those of its fields, each by its path. The schema is one of an accepted set. Refused with `OutOfMemory` alone.
 pub fn get_fields(alloc: Global, schema: StructSchema<'_>) -> Result<String>
     requires { IsStruct schema }
-    ensures text { IfOk result (λ text. IsAppended [] (fields_text (set_of schema.entry) (number_of schema.entry)) (string_bytes text)) }
+    ensures text { IfOk result (λ text. IsAppended [] (fields_text (set_of schema.entry) (number_of schema.entry))
+        (string_bytes text)) }
     ensures memory { IfErr result (λ e. e.kind ≡ OutOfMemory) }
 {
     let mut lines = String::new(alloc);

@@ -22,7 +22,8 @@ fn is_found(set: &SchemaSet, name: &str, brand: u32) -> bool
 
 /// Appends the line of a struct.
 fn put_struct(lines: &mut String, set: &SchemaSet, brand: u32) -> Result<()>
-    ensures put { OnOk result (string_bytes lines.new ≡ string_bytes lines.old ++ number_line (lists_seen set.now) (Some brand)) }
+    ensures put { OnOk result (string_bytes lines.new
+        ≡ string_bytes lines.old ++ number_line (lists_seen set.now) (Some brand)) }
     ensures memory { IfErr result (λ e. e.kind ≡ OutOfMemory) }
 {
     let name = set.struct_schema(brand).get_proto().display_name.as_str();
@@ -35,7 +36,8 @@ fn put_struct(lines: &mut String, set: &SchemaSet, brand: u32) -> Result<()>
 
 /// Appends the line of the struct at an index of the brands; none past 32 bits.
 fn put_at(lines: &mut String, set: &SchemaSet, index: usize) -> Result<()>
-    ensures put { OnOk result (string_bytes lines.new ≡ string_bytes lines.old ++ struct_line (lists_seen set.now) index) }
+    ensures put { OnOk result (string_bytes lines.new
+        ≡ string_bytes lines.old ++ struct_line (lists_seen set.now) index) }
     ensures memory { IfErr result (λ e. e.kind ≡ OutOfMemory) }
 {
     match u32::try_from(index) {
@@ -44,8 +46,8 @@ fn put_at(lines: &mut String, set: &SchemaSet, index: usize) -> Result<()>
     }
 }
 
-/// The structs of a set that a name finds, one a line: the display name of each. Groups have no line, and of brands of one name
-/// the first alone has one. Refused with `OutOfMemory` alone.
+/// The structs of a set that a name finds, one a line: the display name of each. Groups have no line, and of brands of
+/// one name the first alone has one. Refused with `OutOfMemory` alone.
 pub fn get_structs(alloc: Global, set: &SchemaSet) -> Result<String>
     ensures text { IfOk result (λ text. string_bytes text ≡ structs_text (lists_seen set.now)) }
     ensures memory { IfErr result (λ e. e.kind ≡ OutOfMemory) }

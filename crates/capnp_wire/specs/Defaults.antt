@@ -1,5 +1,5 @@
 -- What stands at a pointer where a null is filled from a default.
-use Rattle.std.specs.Prelude.{Bool, cond, not, ◌&&◌, Option, Some, None, option_map, Result, Ok, Err}
+use Rattle.std.specs.Prelude.{Bool, cond, not, ◌&&◌, ◌≡◌, Option, Some, None, option_map, Result, Ok, Err}
 use Rattle.capnp_wire.specs.Tree.{StructTree, Tree, Null}
 use Rattle.capnp_wire.specs.Reading.{as_list, is_null_tree, refusal}
 use Rattle.capnp_wire.specs.Edits.{extended, struct_in, struct_refusal}
@@ -78,3 +78,14 @@ filled_list_refusal d size t = cond (is_null_tree t) (list_default_refusal size 
 
 abbrev pub filled_structs_refusal : (default : Tree) → StructSize → Tree → Option ErrorKind
 filled_structs_refusal d size t = cond (is_null_tree t) (structs_default_refusal size d) (struct_list_refusal size t)
+
+-- ---- where nothing in a default is to be refused, what stands there alone is ----
+
+abbrev pub SoundStructsAreTaken : Type 0
+SoundStructsAreTaken = (d t : Tree) → struct_default_refusal d ≡ None → filled_struct_refusal d t ≡ struct_refusal t
+
+abbrev pub SoundListsAreTaken : Type 0
+SoundListsAreTaken = (d : Tree) (size : ElementSize) (t : Tree) → list_default_refusal size d ≡ None → filled_list_refusal d size t ≡ list_refusal size t
+
+abbrev pub SoundStructListsAreTaken : Type 0
+SoundStructListsAreTaken = (d : Tree) (size : StructSize) (t : Tree) → structs_default_refusal size d ≡ None → filled_structs_refusal d size t ≡ struct_list_refusal size t

@@ -1,42 +1,15 @@
--- Elements of a list that is built: where they are, and the list with another one.
-use Rattle.std.specs.Prelude.{ℕ, zero, suc, ◌+◌, ◌*◌, ◌<◌, ◌≤◌, Bool, false, cond, Result, Ok, Err, length, slice_set}
-use Rattle.std.specs.Borrow.{MutBor}
+-- Elements of a list: where they are, and the list with another one.
+use Rattle.std.specs.Prelude.{ℕ, zero, suc, ◌+◌, ◌*◌, ◌<◌, ◌≤◌, Bool, false, cond, length, slice_set}
 use Rattle.capnp_wire.specs.Tree.{Tree, Null, Struct, Voids, Bits, Numbers, Pointers, Composite, FaultLeaf, Structs, NoStructs, MoreStructs, StructTree, nth_struct, tree_count, struct_count}
-use Rattle.capnp_wire.specs.Objects.{list_object_tree}
 use Rattle.capnp_wire.specs.Reading.{empty_list, is_null_tree, reads_bits, reads_numbers, reads_pointers, reads_structs, reads_voids}
-use Rattle.capnp_wire.specs.declared.object.Object.{Object}
-use Rattle.capnp_wire.specs.declared.object.StructObject.{StructObject}
-use Rattle.capnp_wire.specs.declared.object.ListObject.{ListObject, out-ListObject}
-use Rattle.capnp_wire.specs.declared.object.ListObject.TheOpen as layer
-use Rattle.capnp_wire.specs.declared.object.ListObject.TheOpen.{ListObject-F}
 use Rattle.capnp_wire.specs.declared.size.ElementSize.{ElementSize}
-use Rattle.capnp_device.specs.declared.error.Error.{Error}
-use Rattle.capnp_device.specs.declared.error.ErrorKind.{ErrorKind}
 use Rattle.capnp_wire.specs.Edits.{with_bytes, with_number, with_pointer_tree, with_tree}
 
--- ---- what a list that is built reads as ----
-
-abbrev pub built_list_at : ListObject → ListObject-F ListObject Object StructObject → Tree
-built_list_at l (layer.Missing alloc size) = empty_list size
-built_list_at l (layer.Voids alloc count) = list_object_tree l
-built_list_at l (layer.Bits row) = list_object_tree l
-built_list_at l (layer.Numbers width bytes) = list_object_tree l
-built_list_at l (layer.Pointers ps) = list_object_tree l
-built_list_at l (layer.Composite size es) = list_object_tree l
-built_list_at l (layer.EmptyStructs count lent) = list_object_tree l
-
--- at a null, the empty list of the size that was asked
-abbrev pub built_list : ListObject → Tree
-built_list l = built_list_at l (out-ListObject l)
+-- ---- what a list reads as ----
 
 -- a null as the list of nothing that it is read as, by the size of elements that is asked
 abbrev pub or_empty : ElementSize → Tree → Tree
 or_empty size t = cond (is_null_tree t) (empty_list size) t
-
--- what a call answered, by what the list reads as
-abbrev pub built_read : Result (MutBor ListObject) Error → Result Tree ErrorKind
-built_read (Ok l) = Ok (built_list l.now)
-built_read (Err error) = Err error.kind
 
 -- whether a list is read as one of elements of a size
 abbrev pub reads_list : ElementSize → Tree → Bool

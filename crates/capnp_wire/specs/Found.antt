@@ -1,19 +1,14 @@
 -- What code found at a place, one level of it, as a tree.
-use Rattle.std.specs.Prelude.{ℕ, Bool, false, cond, ◌+◌, ◌*◌, ◌==◌, ◌&&◌, ◌≡◌, ⊤, Option, Some, None}
+use Rattle.std.specs.Prelude.{ℕ, cond, ◌+◌, ◌*◌, ◌==◌, ◌&&◌, ◌≡◌, ⊤, Option, Some, None}
 use Rattle.capnp_wire.specs.Tree as tree
 use Rattle.capnp_wire.specs.Tree.{Tree, Trees, Structs, StructTree, empty_structs, trees_from, structs_from}
 use Rattle.capnp_wire.specs.Place.{tree_below, struct_at, struct_tree, bits_from}
 use Rattle.capnp_wire.specs.Backing.{segments_in}
-use Rattle.capnp_wire.specs.Objects.{object_tree, object_trees, struct_object_trees}
-use Rattle.capnp_wire.specs.declared.row.Block.{Block}
 use Rattle.capnp_wire.specs.declared.size.StructSize.{StructSize}
-use Rattle.capnp_wire.specs.declared.row.PointerRow.{PointerRow}
 use Rattle.capnp_wire.specs.declared.pointer.Pointer.{Pointer}
 use Rattle.capnp_wire.specs.declared.pointer.Pointer.TheVariants as pointer
-use Rattle.capnp_wire.specs.declared.pointers.Pointers.{Pointers}
-use Rattle.capnp_wire.specs.declared.pointers.Pointers.TheVariants as pointers
-use Rattle.capnp_wire.specs.declared.block.Elements.{Elements}
-use Rattle.capnp_wire.specs.declared.block.Elements.TheVariants as elements
+use Rattle.capnp_wire.specs.declared.row.Pointers.{Pointers}
+use Rattle.capnp_wire.specs.declared.row.Elements.{Elements}
 use Rattle.capnp_wire.specs.declared.found.StructParts.{StructParts}
 use Rattle.capnp_wire.specs.declared.found.Found.{Found}
 use Rattle.capnp_wire.specs.declared.found.Found.TheVariants as found
@@ -23,25 +18,16 @@ abbrev pub pointer_tree : Pointer → Tree
 pointer_tree pointer.Null = tree.Null
 pointer_tree (pointer.Bad fault) = tree.FaultLeaf fault
 pointer_tree (pointer.Word is_stream depth bytes segment index) = tree_below depth (segments_in is_stream bytes.now) segment.now index
-pointer_tree (pointer.Object object) = object_tree object.now
-
-abbrev pub row_trees : ℕ → Bool → ℕ → PointerRow → Trees
-row_trees depth is_stream count row = trees_from (tree_below depth (segments_in is_stream row.bytes.now) row.segment.now) row.first count
 
 abbrev pub pointer_trees : Pointers → Trees
-pointer_trees (pointers.Words is_stream depth count row) = row_trees depth is_stream count row
-pointer_trees (pointers.Objects objects) = object_trees objects.now
+pointer_trees ps = trees_from (tree_below ps.depth (segments_in ps.is_stream ps.bytes.now) ps.segment.now) ps.first ps.count
 
-abbrev pub block_struct : ℕ → ℕ → ℕ → Bool → Block → ℕ → StructTree
-block_struct d p depth is_stream block i =
-    struct_at (tree_below depth (segments_in is_stream block.bytes.now) block.segment.now) block.segment.now d p (block.first + i * (d + p))
-
-abbrev pub block_structs : ℕ → ℕ → ℕ → Bool → ℕ → Block → Structs
-block_structs d p depth is_stream count block = structs_from (block_struct d p depth is_stream block) 0 count
+-- the struct at an index, where each has so many data words and pointers
+abbrev pub struct_of_elements : ℕ → ℕ → Elements → ℕ → StructTree
+struct_of_elements d p es i = struct_at (tree_below es.depth (segments_in es.is_stream es.bytes.now) es.segment.now) es.segment.now d p (es.first + i * (d + p))
 
 abbrev pub element_structs : ℕ → ℕ → Elements → Structs
-element_structs d p (elements.Words is_stream depth count block) = block_structs d p depth is_stream count block
-element_structs d p (elements.Objects objects) = struct_object_trees objects.now
+element_structs d p es = structs_from (struct_of_elements d p es) 0 es.count
 
 abbrev pub parts_tree : StructParts → StructTree
 parts_tree s = record { bytes = s.«data».now; pointers = pointer_trees s.pointers }
@@ -61,12 +47,6 @@ abbrev pub AreEmptyStructs : Option ℕ → StructSize → Structs → Type 0
 AreEmptyStructs (Some count) size es = (size.data_words ≡ 0) × (size.pointers ≡ 0) × (es ≡ empty_structs count)
 AreEmptyStructs None size es = ⊤
 
--- how many structs of size zero elements are, where a message says them by their count alone
+-- how many structs of size zero elements are, if they are such structs
 abbrev pub counted_structs : StructSize → Elements → Option ℕ
-counted_structs size (elements.Words is_stream depth count block) = cond ((size.data_words == 0) && (size.pointers == 0)) (Some count) None
-counted_structs size (elements.Objects objects) = None
-
--- whether elements lie in a message and their size has no pointers
-abbrev pub lack_pointers : StructSize → Elements → Bool
-lack_pointers size (elements.Words is_stream depth count block) = size.pointers == 0
-lack_pointers size (elements.Objects objects) = false
+counted_structs size es = cond ((size.data_words == 0) && (size.pointers == 0)) (Some es.count) None

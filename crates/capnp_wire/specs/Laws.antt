@@ -1,13 +1,5 @@
 -- What the format promises of every message.
-use Rattle.capnp_wire.specs.Objects.{list_object_tree, object_tree, struct_object_tree}
-use Rattle.capnp_wire.specs.Edits.{rounded, with_pointer_tree}
-use Rattle.capnp_wire.specs.Elements.{with_pointer_element, with_struct_element}
-use Rattle.capnp_wire.specs.Lends.{with_element, with_object, with_pointer}
-use Rattle.capnp_wire.specs.Reading.{element_struct}
-use Rattle.capnp_wire.specs.Sizes.{KeepsSize}
-use Rattle.capnp_wire.specs.declared.object.Object.{Object}
-use Rattle.capnp_wire.specs.declared.object.StructObject.{StructObject}
-use Rattle.capnp_wire.specs.declared.object.ListObject.{ListObject}
+use Rattle.capnp_wire.specs.Edits.{rounded}
 use Rattle.std.specs.Prelude.{ℕ, suc, ◌^◌, ◌<◌, List, Ok, Err, None, ◌++◌, ◌≡◌, ◌≢◌}
 use Rattle.capnp_wire.specs.Tree.{StructTree, Tree}
 use Rattle.capnp_wire.specs.Locate.{Segments}
@@ -41,16 +33,3 @@ abbrev pub IsReadBack : Type 0
 IsReadBack =
     (t : Tree) (rest : List ℕ) → IsWellFormed t → first_fault t ≡ None → IsShallow t → suc (words_of t) < 2 ^ 29 →
     message_tree_of (message_of t ++ rest) ≡ Ok t
-
--- what was lent of an object and written through is that part of its tree: a pointer of a struct, and an element of a
--- list as a struct, where its sections are as long as they were, and as a pointer
-abbrev pub PointersAreWritten : Type 0
-PointersAreWritten = (s : StructObject) (i : ℕ) (o : Object) → struct_object_tree (with_pointer s i o) ≡ with_pointer_tree (struct_object_tree s) i (object_tree o)
-
-abbrev pub StructElementsAreWritten : Type 0
-StructElementsAreWritten =
-    (l : ListObject) (i : ℕ) (s : StructObject) → KeepsSize (element_struct (list_object_tree l) i) (struct_object_tree s) →
-    list_object_tree (with_element l i s) ≡ with_struct_element i (struct_object_tree s) (list_object_tree l)
-
-abbrev pub PointerElementsAreWritten : Type 0
-PointerElementsAreWritten = (l : ListObject) (i : ℕ) (o : Object) → list_object_tree (with_object l i o) ≡ with_pointer_element i (object_tree o) (list_object_tree l)

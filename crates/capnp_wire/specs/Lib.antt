@@ -7,8 +7,6 @@ pub mod Reading
 pub mod WellFormed
 pub mod Stream
 pub mod Backing
-pub mod Bits
-pub mod Objects
 pub mod Found
 pub mod StandFirst
 pub mod Standing
@@ -23,17 +21,5 @@ pub mod Edits
 pub mod Elements
 pub mod ElementSizes
 pub mod StructLists
-pub mod Kinds
-pub mod Lends
-pub mod Measured
-pub mod Blobs
-pub mod Unchanged
 pub mod Defaults
-pub mod ObjectLaws
 pub mod Facts
-pub mod Sizes
-pub mod Kept
-pub mod KeptLists
-pub mod Room
-pub mod KeptDefaults
-pub mod Runs

@@ -1,16 +1,10 @@
--- The tree of a message that is read or built, and what is written of one.
+-- The tree of a message that is read, and what is written of a tree.
 use Rattle.std.specs.Prelude.{ℕ, ◌≡◌, ◌<◌, List, ◌++◌, length, take, Option, Result, Ok, Err}
-use Rattle.std.specs.Borrow.{Lends, MutBor, Fml}
 use Rattle.std.specs.Io.KnownBytes.{Appends}
 use Rattle.capnp_wire.specs.Tree.{Tree}
 use Rattle.capnp_wire.specs.Encoding.{message_of}
 use Rattle.capnp_wire.specs.Depth.{IsShallow}
 use Rattle.capnp_wire.specs.Stream.{message_tree_of}
-use Rattle.capnp_wire.specs.Objects.{object_tree}
-use Rattle.capnp_wire.specs.declared.object.Object.{Object}
-use Rattle.capnp_wire.specs.declared.message.Builder.{Builder}
-use Rattle.capnp_wire.specs.contracts.object.Object.{the_row as object_row}
-use Rattle.capnp_wire.specs.contracts.message.Builder.{the_row as builder_row}
 use Rattle.capnp_wire.specs.Place.{root_tree}
 use Rattle.capnp_wire.specs.Backing.{segment_list}
 use Rattle.capnp_wire.specs.declared.message.Reader.{Reader}
@@ -23,14 +17,6 @@ message_tree reader = root_tree (segment_list reader.segments)
 abbrev pub message_read : Result Reader Error → Result Tree ErrorKind
 message_read (Ok reader) = Ok (message_tree reader)
 message_read (Err error) = Err error.kind
-
--- the tree of a message that is built
-unfoldable pub builder_tree : Builder → Tree
-builder_tree builder = object_tree builder.root
-
--- the root is lent: the message ends with what was left there
-abbrev pub LendsRoot : MutBor Builder → MutBor Object → Fml
-LendsRoot builder r = Lends builder_row object_row builder r (λ o. record { root = o })
 
 -- where a tree is shallow, these bytes are read as it, whatever follows them
 abbrev pub IsReadAs : Tree → List ℕ → Type 0

@@ -1,5 +1,5 @@
 -- A list that becomes one of structs of at least a size.
-use Rattle.std.specs.Prelude.{ℕ, ◌+◌, ◌*◌, ◌^◌, ◌≤◌, ⊤, Bool, false, cond, ◌&&◌, nat_le, nat_lt, max, Option, Some, None}
+use Rattle.std.specs.Prelude.{ℕ, ◌+◌, ◌*◌, ◌^◌, ◌≤◌, ⊤, cond, nat_lt, max, Option, Some, None}
 use Rattle.capnp_wire.specs.Tree.{Tree, Null, Struct, Voids, Bits, Numbers, Pointers, Composite, FaultLeaf, structs_from}
 use Rattle.capnp_wire.specs.Reading.{element_struct, list_length}
 pub use Rattle.capnp_wire.specs.Edits.{IsDueRefusal}
@@ -73,14 +73,3 @@ HoldsStructs size (Numbers w bytes) = ⊥
 HoldsStructs size (Pointers ps) = ⊥
 HoldsStructs size (Composite d p es) = (size.data_words ≤ d) × (size.pointers ≤ p)
 HoldsStructs size (FaultLeaf k) = ⊥
-
--- whether it is a list of structs that have at least a size: it is one of such structs as it stands
-abbrev pub holds_structs : StructSize → Tree → Bool
-holds_structs size Null = false
-holds_structs size (Struct bytes ps) = false
-holds_structs size (Voids n) = false
-holds_structs size (Bits bs) = false
-holds_structs size (Numbers w bytes) = false
-holds_structs size (Pointers ps) = false
-holds_structs size (Composite d p es) = nat_le size.data_words d && nat_le size.pointers p
-holds_structs size (FaultLeaf k) = false

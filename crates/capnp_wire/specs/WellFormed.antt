@@ -40,6 +40,10 @@ abbrev mutual
 abbrev pub IsWellFormedStruct : StructTree → Type 0
 IsWellFormedStruct s = AreBytes s.bytes × (length s.bytes ≤ 8 * 65535) × (tree_count s.pointers < 2 ^ 16) × AreWellFormed s.pointers
 
+-- an element of a composite list of this size
+abbrev pub IsElement : ℕ → ℕ → StructTree → Type 0
+IsElement d p s = AreBytes s.bytes × (length s.bytes ≡ 8 * d) × (tree_count s.pointers ≡ p) × AreWellFormed s.pointers
+
 -- each segment of a message is of bytes
 abbrev pub AreSegments : Segments → Type 0
 AreSegments segments = (i : ℕ) → AreBytes (get_or segments i [])

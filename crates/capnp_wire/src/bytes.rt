@@ -3,7 +3,6 @@
 //! Offsets count bytes, words of eight bytes or bits, as each function says. Numbers stand lowest
 //! byte first (the encoding page, "Primitive Values"). No read refuses.
 ghost use Rattle.std.specs.Prelude.{◌≡◌, ◌≤◌, ◌<◌, ◌^◌, ◌*◌, ◌/◌, ◌%◌, length, take, drop};
-ghost use Rattle.capnp_wire.specs.Edits.{with_bit};
 ghost use Rattle.capnp_wire.specs.Slot.{little_endian, word_at, bit_at};
 
 /// The bytes from byte `start` on, none past the end.
@@ -132,39 +131,5 @@ pub fn divide(count: usize, width: u8) -> usize
         count / 8
     } else {
         count / width as usize
-    }
-}
-
-/// How many bytes are over then.
-#[inline(always)]
-pub fn remainder(count: usize, width: u8) -> usize
-    requires { 0 < width }
-    ensures { result ≡ count % width }
-{
-    if width == 1 {
-        count % 1
-    } else if width == 2 {
-        count % 2
-    } else if width == 4 {
-        count % 4
-    } else if width == 8 {
-        count % 8
-    } else {
-        count % width as usize
-    }
-}
-
-/// Writes bit `i`, counted from the lowest of the first byte.
-#[inline]
-pub fn set_bit(bytes: &mut [u8], i: usize, bit: bool)
-    requires { i < 8 * length bytes.old }
-    ensures { bytes.new ≡ with_bit i bit bytes.old }
-{
-    let at = i / 8;
-    let place = 1u8 << (i % 8);
-    if bit {
-        bytes[at] = bytes[at] | place;
-    } else {
-        bytes[at] = bytes[at] & !place;
     }
 }

@@ -1,4 +1,4 @@
-//! What is read as a struct, or as a list of elements of a size, and why else it is refused as one that is built.
+//! What is read as a struct, or as a list of elements of a size, and why else a call that writes refuses it.
 ghost use Rattle.std.specs.Prelude.{None, ◌≡◌};
 ghost use Rattle.capnp_wire.specs.Defaults.{list_refusal};
 ghost use Rattle.capnp_wire.specs.Edits.{struct_refusal};

@@ -4,22 +4,20 @@ ghost use Rattle.capnp_wire.specs.Found.{element_structs, found_tree, pointer_tr
 ghost use Rattle.capnp_wire.specs.Standing.{tree_of};
 ghost use Rattle.capnp_wire.specs.Words.{first_fault, first_fault_of_all, first_fault_of_elements};
 
-use crate::block::{Elements, count_elements, get_element, have_no_pointers};
+use crate::block::{count_elements, get_element, have_no_pointers};
 use crate::fault::Fault;
 use crate::found::Found;
 use crate::pointer::{Pointer, look};
 use crate::pointer_reader::PointerReader;
-use crate::pointers::{Pointers, count_pointers, get_pointer};
+use crate::pointers::{count_pointers, get_pointer};
+use crate::row::{Elements, Pointers};
 use crate::size::StructSize;
 
-/// The first fault leaf of what stands at a place. Objects have none.
+/// The first fault leaf of what stands at a place.
 #[cycle(faults)]
 fn fault_of_pointer(pointer: Pointer<'_>) -> Option<Fault>
     ensures { result ≡ first_fault (pointer_tree pointer.entry) }
 {
-    if let Pointer::Object(_) = pointer {
-        return None;
-    }
     fault_of_found(look(pointer))
 }
 

@@ -2,14 +2,15 @@
 ghost use Rattle.std.specs.Prelude.{◌≡◌};
 ghost use Rattle.capnp_wire.specs.Tree.{empty_struct};
 ghost use Rattle.capnp_wire.specs.ElementSizes.{element_size_of, size_of_width};
-ghost use Rattle.capnp_wire.specs.Reading.{element_struct, list_length};
+ghost use Rattle.capnp_wire.specs.Reading.{element_struct, empty_list, list_length};
 ghost use Rattle.capnp_wire.specs.WellFormed.{IsWellFormed};
 ghost use Rattle.capnp_wire.specs.Found.{found_tree, parts_tree};
 
-use crate::block::{Elements, count_elements, get_element};
+use crate::block::{count_elements, get_element, no_elements};
 use crate::bytes::{divide, part};
 use crate::fault::Fault;
-use crate::pointers::{Pointers, count_pointers, get_only_pointer};
+use crate::pointers::{count_pointers, get_only_pointer, no_pointers};
+use crate::row::{Elements, Pointers};
 use crate::size::{ElementSize, StructSize};
 
 /// What a struct holds: its data section and its pointers.
@@ -41,7 +42,29 @@ pub fn empty_parts<'a>() -> StructParts<'a>
 {
     StructParts {
         data: &[],
-        pointers: Pointers::Objects(&[]),
+        pointers: no_pointers(),
+    }
+}
+
+/// A list without elements.
+pub fn empty_list<'a>(size: ElementSize) -> Found<'a>
+    ensures { found_tree result ≡ empty_list size }
+{
+    match size {
+        ElementSize::Void => Found::Voids(0),
+        ElementSize::Bit => Found::Bits(&[], 0),
+        ElementSize::Byte => Found::Numbers(1, &[]),
+        ElementSize::TwoBytes => Found::Numbers(2, &[]),
+        ElementSize::FourBytes => Found::Numbers(4, &[]),
+        ElementSize::EightBytes => Found::Numbers(8, &[]),
+        ElementSize::Pointer => Found::Pointers(no_pointers()),
+        ElementSize::InlineComposite => {
+            let size = StructSize {
+                data_words: 0,
+                pointers: 0,
+            };
+            Found::Composite(size, no_elements())
+        }
     }
 }
 
@@ -95,7 +118,7 @@ pub fn get_element_parts(found: Found<'_>, index: u32) -> StructParts<'_>
         Found::Numbers(width, bytes) => {
             let width = width as usize;
             let data = part(bytes, index as usize * width, width);
-            let pointers = Pointers::Objects(&[]);
+            let pointers = no_pointers();
             StructParts { data, pointers }
         }
         Found::Pointers(pointers) => {
@@ -107,7 +130,7 @@ pub fn get_element_parts(found: Found<'_>, index: u32) -> StructParts<'_>
         }
         Found::Composite(size, elements) => get_element(size, elements, index as usize),
         _ => {
-            let pointers = Pointers::Objects(&[]);
+            let pointers = no_pointers();
             StructParts {
                 data: &[],
                 pointers,

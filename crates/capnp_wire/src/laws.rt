@@ -1,7 +1,6 @@
 //! Laws of the format that every reader stands on.
-ghost use Rattle.capnp_wire.specs.Blobs.{DataAreLeft, NullIsLeft, TextIsLeft};
-ghost use Rattle.capnp_wire.specs.Laws.{CopiedStructsAreWellFormed, IsReadBack, MoreBytesChangeNothing, PointerElementsAreWritten, PointersAreWritten, StructElementsAreWritten, TreesAreWellFormed};
-ghost use Rattle.capnp_wire.specs.ObjectLaws.{ListsHoldNoFault, ListsReadAsTheyStand, ListsStandAsTheyAre, ObjectsHoldNoFault, SoundListsAreTaken, SoundStructListsAreTaken, SoundStructsAreTaken, StructsHoldNoFault, StructsStandAsTheyAre};
+ghost use Rattle.capnp_wire.specs.Laws.{CopiedStructsAreWellFormed, IsReadBack, MoreBytesChangeNothing, TreesAreWellFormed};
+ghost use Rattle.capnp_wire.specs.Defaults.{SoundListsAreTaken, SoundStructListsAreTaken, SoundStructsAreTaken};
 ghost use Rattle.capnp_wire.specs.StandFirst.{NumbersStandFirst, PointersStandFirst};
 ghost use Rattle.capnp_wire.specs.Standing.{list_of, struct_of, tree_of};
 ghost use Rattle.capnp_wire.specs.WellFormed.{IsWellFormed, IsWellFormedStruct};
@@ -9,13 +8,6 @@ ghost use Rattle.capnp_wire.specs.WellFormed.{IsWellFormed, IsWellFormedStruct};
 use crate::list_reader::ListReader;
 use crate::pointer_reader::PointerReader;
 use crate::struct_reader::StructReader;
-
-pub mod kept;
-pub mod kept_defaults;
-pub mod kept_lists;
-pub mod room;
-pub mod runs;
-pub mod sizes;
 
 /// In a message of any bytes, what stands at any word is well-formed, with any number of levels
 /// left: data is whole words and lies in its segment in full, counts and sizes are within their
@@ -44,7 +36,7 @@ pub fn list_is_well_formed(reader: &ListReader<'_>)
 {}
 
 /// A copy of what a struct's reader stands on, whose data is rounded up to whole words, is well-formed.
-#[tactic(auto, using(crate::proofs::Rounded::copied_struct_is_well_formed))]
+#[tactic(auto, using(crate::specs::Facts::Structs::copied_struct_is_well_formed))]
 pub fn copied_structs_are_well_formed()
     ensures { CopiedStructsAreWellFormed }
 {}
@@ -61,49 +53,11 @@ pub fn messages_are_read_back()
     ensures { IsReadBack }
 {}
 
-/// A struct whose pointer was lent, and written through, is its tree with another one at that index.
-pub fn pointers_are_written()
-    ensures { PointersAreWritten }
-{}
-
-/// A list of which an element was lent as a struct is its tree with another one at that index, where the sections of the
-/// struct that was left are as long as those of the one that was lent, as every call on it leaves them.
-pub fn struct_elements_are_written()
-    ensures { StructElementsAreWritten }
-{}
-
-/// A list of which an element was lent as a pointer is its tree with another one at that index.
-pub fn pointer_elements_are_written()
-    ensures { PointerElementsAreWritten }
-{}
-
-/// What was left in the bytes of data, of a text, or of a null, which were lent, is what stands there then.
-pub fn bytes_are_left()
-    ensures bytes { DataAreLeft }
-    ensures text { TextIsLeft }
-    ensures null { NullIsLeft }
-{}
-
-/// An object of a struct or a list is the tree of that struct or list, and a list reads as it stands, but for the list of
-/// nothing that a null is read as.
-pub fn objects_are_what_they_hold()
-    ensures structs { StructsStandAsTheyAre }
-    ensures lists { ListsStandAsTheyAre }
-    ensures reads { ListsReadAsTheyStand }
-{}
-
 /// In a list that is read as numbers or pointers, an element is the first bits, or the first pointer, of that element read
 /// as a struct. So a list of numbers, texts, data or lists may become a list of structs of which they are the first field.
 pub fn elements_stand_first()
     ensures numbers { NumbersStandFirst }
     ensures pointers { PointersStandFirst }
-{}
-
-/// Each pointer in a message in memory can be followed.
-pub fn objects_hold_no_fault()
-    ensures objects { ObjectsHoldNoFault }
-    ensures lists { ListsHoldNoFault }
-    ensures structs { StructsHoldNoFault }
 {}
 
 /// Where nothing in a default is to be refused, a null that is filled from it is refused as one without a default.

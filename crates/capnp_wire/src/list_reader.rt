@@ -7,8 +7,7 @@ use crate::block::get_element;
 use crate::due::reads_list_as;
 use crate::elements::{bit_at, number_at};
 use crate::fault::Fault;
-use crate::found::{Found, count_list, get_element_parts, size_of_elements};
-use crate::look_objects::look_at_nothing;
+use crate::found::{Found, count_list, empty_list, get_element_parts, size_of_elements};
 use crate::pointer::{Pointer, look};
 use crate::pointer_reader::PointerReader;
 use crate::pointers::get_pointer;
@@ -61,7 +60,7 @@ impl<'a> ListReader<'a> {
         ensures list { list_of result ≡ empty_list size }
         ensures levels { list_levels result ≡ levels }
     {
-        ListReader::new(look_at_nothing(size), levels)
+        ListReader::new(empty_list(size), levels)
     }
 
     /// What stands at a place, where it is no fault leaf, as a list of elements of a size.

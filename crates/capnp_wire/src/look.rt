@@ -6,13 +6,11 @@ ghost use Rattle.capnp_wire.specs.Level.{list_at_depth, tree_at_depth};
 ghost use Rattle.capnp_wire.specs.Backing.{StartFits, segment_list, target_of};
 ghost use Rattle.capnp_wire.specs.Found.{found_tree};
 
-use crate::block::Elements;
 use crate::bytes::part;
 use crate::fault::Fault;
 use crate::found::{Found, StructParts};
 use crate::locate::{Target, locate};
-use crate::pointers::Pointers;
-use crate::row::{Block, PointerRow};
+use crate::row::{Elements, Pointers};
 use crate::segments::Segments;
 use crate::size::StructSize;
 
@@ -43,18 +41,15 @@ fn look_at_struct<'a>(
     if depth < 2 {
         return Found::Bad(Fault::TooDeep);
     }
-    let row = PointerRow {
-        bytes: segments.bytes,
-        segment,
-        first: start + data_words as usize,
-    };
     Found::Struct(StructParts {
         data: bytes_from(segment, start, 8 * data_words as usize),
-        pointers: Pointers::Words {
-            depth: depth - 1,
+        pointers: Pointers {
             is_stream: segments.is_stream,
+            depth: depth - 1,
             count: pointers as u32,
-            row,
+            bytes: segments.bytes,
+            segment,
+            first: start + data_words as usize,
         },
     })
 }
@@ -86,16 +81,13 @@ fn look_at_elements<'a>(
     } else if element_size == 5 {
         Found::Numbers(8, bytes_from(segment, start, 8 * count as usize))
     } else {
-        let row = PointerRow {
+        Found::Pointers(Pointers {
+            is_stream: segments.is_stream,
+            depth: depth - 1,
+            count,
             bytes: segments.bytes,
             segment,
             first: start,
-        };
-        Found::Pointers(Pointers::Words {
-            depth: depth - 1,
-            is_stream: segments.is_stream,
-            count,
-            row,
         })
     }
 }
@@ -149,16 +141,13 @@ fn look_at_composite<'a>(
         data_words,
         pointers,
     };
-    let block = Block {
+    let elements = Elements {
+        is_stream: segments.is_stream,
+        depth: depth - 2,
+        count,
         bytes: segments.bytes,
         segment,
         first: start,
-    };
-    let elements = Elements::Words {
-        depth: depth - 2,
-        is_stream: segments.is_stream,
-        count,
-        block,
     };
     Found::Composite(size, elements)
 }

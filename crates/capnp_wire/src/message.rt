@@ -1,18 +1,12 @@
-//! Whole messages.
+//! Whole messages, as they are received.
 ghost use Rattle.capnp_wire.specs.Backing.{segment_list};
 ghost use Rattle.capnp_wire.specs.WellFormed.{AreSegments, AreSegments-prop};
 
 use crate::bytes::{half_at, part};
-use crate::encode::write_object;
-use crate::object::Object;
-use crate::pointer::{Pointer, ROOT_LEVELS, get_root_pointer};
-use crate::pointer_builder::PointerBuilder;
+use crate::pointer::{ROOT_LEVELS, get_root_pointer};
 use crate::pointer_reader::PointerReader;
 use crate::segments::{Segments, count_words, get_header_bytes};
-use crate::total::size_of_pointer;
-use capnp_device::device::Sink;
 use capnp_device::error::{Error, ErrorKind, Result};
-use capnp_device::transfer::write_all;
 use std::alloc::Global;
 
 /// A message in the bytes of a stream. They are not copied.
@@ -75,123 +69,5 @@ impl<'a> Reader<'a> {
         ensures levels { levels_of result ≡ 64 }
     {
         PointerReader::new(get_root_pointer(self.segments), ROOT_LEVELS)
-    }
-}
-
-/// A message that is built.
-///
-/// # Example
-///
-/// ```rust
-/// let mut message = Builder::new(alloc);
-/// let root = message.root().init_struct(SIZE)?;
-/// root.set_data_field(0, id);
-/// root.get_pointer_field(0).set_text(name.as_bytes())?;
-/// message.write_message_to(sink)
-/// ```
-#[derive(Drop)]
-pub struct Builder {
-    root: Object,
-}
-
-impl Builder {
-    ghost use Rattle.std.specs.Prelude.{suc, None, ◌≡◌, ◌≢◌, ◌<◌, ◌≤◌, ◌^◌, IfErr, IfOk, OnErr, OnOk};
-    ghost use Rattle.std.specs.Borrow.{sem};
-    ghost use Rattle.capnp_wire.specs.Tree.{Null};
-    ghost use Rattle.capnp_wire.specs.Objects.{object_tree};
-    ghost use Rattle.capnp_wire.specs.Standing.{tree_of};
-    ghost use Rattle.capnp_wire.specs.Words.{first_fault, words_of};
-    ghost use Rattle.capnp_wire.specs.Edits.{IsCopyRefusal};
-    ghost use Rattle.capnp_device.specs.Device.{HasFailed, HasWorked};
-    ghost use Rattle.capnp_wire.specs.Message.{IsCutShort, IsReadAs, IsWritten, LendsRoot, builder_tree};
-    ghost use Rattle.capnp_wire.specs.Encoding.{message_of};
-    ghost use Rattle.capnp_wire.specs.WellFormed.{IsWellFormed};
-    ghost use Rattle.capnp_device.specs.declared.error.ErrorKind.TheVariants.{OutOfMemory, TooLarge, WriteFailed};
-
-    /// A message whose root is null. No memory is taken yet.
-    #[tactic(auto, unfolding(crate::specs::Message::builder_tree))]
-    pub fn new(alloc: Global) -> Builder
-        ensures { builder_tree result ≡ Null }
-    {
-        Builder {
-            root: Object::Null(alloc),
-        }
-    }
-
-    /// The message's root pointer.
-    #[tactic(auto, unfolding(crate::specs::Message::builder_tree))]
-    pub fn root(&mut self) -> PointerBuilder<'_>
-        ensures* lends { sem 𝓛 (LendsRoot self.entry result) }
-        ensures now { object_tree result.now ≡ builder_tree self.old }
-    {
-        &mut self.root
-    }
-
-    /// Makes the root a copy of what a reader stands on, of each occurrence of a shared target.
-    ///
-    /// Refused with `BadPointer`, `TooDeep` or `CapabilityPointer` where a pointer in the source can't be followed, by
-    /// the first of these in preorder, and with `OutOfMemory`; then nothing has changed.
-    #[tactic(auto, unfolding(crate::specs::Message::builder_tree))]
-    pub fn set_root(&mut self, source: PointerReader<'_>) -> Result<()>
-        ensures ok { OnOk result (builder_tree self.new ≡ tree_of source.entry) }
-        ensures sound { OnOk result (first_fault (tree_of source.entry) ≡ None) }
-        ensures refused { OnErr result (self.new ≡ self.old) }
-        ensures cause { IfErr result (λ e. IsCopyRefusal e (first_fault (tree_of source.entry))) }
-    {
-        self.root.copy_from(source)
-    }
-
-    /// The words of the message's segment: one for the root pointer, and those of each object that it leads to, the tag
-    /// of a composite list with them. Takes no memory.
-    ///
-    /// Refused with `TooLarge` where they are 2^64 or more.
-    #[tactic(auto, unfolding(crate::specs::Message::builder_tree))]
-    pub fn size_in_words(&self) -> Result<u64>
-        ensures words { IfOk result (λ words. words ≡ suc (words_of (builder_tree self.now))) }
-        ensures refused { IfErr result (λ e. (e.kind ≡ TooLarge) × (2 ^ 64 ≤ suc (words_of (builder_tree self.now)))) }
-    {
-        let size = size_of_pointer(Pointer::Object(&self.root))?;
-        size.word_count
-            .checked_add(1)
-            .ok_or(Error::from(ErrorKind::TooLarge))
-    }
-
-    /// The bytes of the message in a stream: one segment, with the objects that the root leads to. The message takes its
-    /// memory once.
-    ///
-    /// Refused with `TooLarge` where the segment would be 2^29 words or more, or where the format can't hold the tree, and
-    /// else with `OutOfMemory` where the memory is refused.
-    #[tactic(auto, unfolding(crate::specs::Message::builder_tree))]
-    pub fn write_message(&self) -> Result<Vec<u8>>
-        ensures bytes { IfOk result (λ v. v.items ≡ message_of (builder_tree self.now)) }
-        ensures held { IfOk result (λ _. IsWellFormed (builder_tree self.now) × (suc (words_of (builder_tree self.now)) < 2 ^ 29)) }
-        ensures read { IfOk result (λ v. IsReadAs (builder_tree self.now) v.items) }
-        ensures kinds { IfErr result (λ e. e.kind ≢ TooLarge → e.kind ≡ OutOfMemory) }
-        ensures refused { IfErr result (λ e. e.kind ≡ TooLarge → IsWellFormed (builder_tree self.now) → 2 ^ 29 ≤ suc (words_of (builder_tree self.now))) }
-        ensures memory { IfErr result (λ e. e.kind ≡ OutOfMemory → IsWellFormed (builder_tree self.now) × (suc (words_of (builder_tree self.now)) < 2 ^ 29)) }
-    {
-        write_object(self.root.allocator(), &self.root)
-    }
-
-    /// Writes the message's bytes, those of `write_message`, to a sink. They are made whole before the first of them is
-    /// written.
-    ///
-    /// Refused as `write_message`, and then nothing was written; and with `WriteFailed` where a call of the sink failed,
-    /// and then a proper beginning of the bytes was written.
-    #[tactic(auto, unfolding(crate::specs::Message::builder_tree))]
-    pub fn write_message_to<W: Sink>(&self, sink: &mut W) -> Result<()>
-        ensures written { OnOk result (IsWritten (builder_tree self.now) (W.written sink.old) (W.written sink.new)) }
-        ensures worked { OnOk result (HasWorked (W.failures sink.old) (W.failures sink.new)) }
-        ensures held { OnOk result (IsWellFormed (builder_tree self.now) × (suc (words_of (builder_tree self.now)) < 2 ^ 29)) }
-        ensures read { OnOk result (IsReadAs (builder_tree self.now) (message_of (builder_tree self.now))) }
-        ensures kinds { IfErr result (λ e. e.kind ≢ TooLarge → e.kind ≢ OutOfMemory → e.kind ≡ WriteFailed) }
-        ensures refused { IfErr result (λ e. e.kind ≡ TooLarge → IsWellFormed (builder_tree self.now) → 2 ^ 29 ≤ suc (words_of (builder_tree self.now))) }
-        ensures fits { IfErr result (λ e. e.kind ≢ TooLarge → IsWellFormed (builder_tree self.now) × (suc (words_of (builder_tree self.now)) < 2 ^ 29)) }
-        ensures nothing { IfErr result (λ e. e.kind ≢ WriteFailed → sink.new ≡ sink.old) }
-        ensures failed { IfErr result (λ e. e.kind ≡ WriteFailed → HasFailed (W.failures sink.old) (W.failures sink.new)) }
-        ensures beginning { IfErr result (λ e. e.kind ≡ WriteFailed → IsCutShort (builder_tree self.now) (W.written sink.old) (W.written sink.new)) }
-    {
-        let bytes = self.write_message()?;
-        write_all(sink, &bytes)
     }
 }

@@ -7,8 +7,6 @@ ghost use Rattle.capnp_wire.specs.Found.{found_tree, pointer_tree};
 use crate::fault::Fault;
 use crate::found::Found;
 use crate::look::look_at_word;
-use crate::look_objects::look_at_object;
-use crate::object::Object;
 use crate::segments::{Segments, get_first_segment};
 
 // A reader is copied by each step of a read. So the parts of `Segments` stand one by one below, and the small ones first,
@@ -27,7 +25,6 @@ pub enum Pointer<'a> {
         segment: &'a [u8],
         index: usize,
     },
-    Object(&'a Object),
 }
 
 /// What stands at a place.
@@ -45,7 +42,6 @@ pub fn look(pointer: Pointer<'_>) -> Found<'_>
             segment,
             index,
         } => look_at_word(Segments { bytes, is_stream }, segment, index, depth),
-        Pointer::Object(object) => look_at_object(object),
     }
 }
 

@@ -14,7 +14,7 @@ use crate::total::size_of_pointer;
 use capnp_device::error::{Error, ErrorKind, Result};
 use std::mem::size_of;
 
-/// A pointer, as it is read: a place in a message or in a builder's objects, and the levels that are left below it.
+/// A pointer, as it is read: a place in a message, and the levels that are left below it.
 /// Every call answers for any message, takes no memory and leaves the reader as it was.
 #[derive(Clone, Copy)]
 pub struct PointerReader<'a> {

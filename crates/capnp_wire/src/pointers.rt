@@ -1,23 +1,24 @@
 //! The pointers of a struct or of a list, one after another.
 ghost use Rattle.std.specs.Prelude.{◌≡◌, ◌/◌, ◌≤◌, ◌^◌, length, min};
-ghost use Rattle.capnp_wire.specs.Tree.{nth_tree, only_tree, tree_count};
+ghost use Rattle.capnp_wire.specs.Tree.{NoTrees, nth_tree, only_tree, tree_count};
 ghost use Rattle.capnp_wire.specs.Found.{pointer_tree, pointer_trees};
 
-use crate::object::Object;
 use crate::pointer::Pointer;
-use crate::row::PointerRow;
+use crate::row::Pointers;
 
-/// The pointers of a struct or of a list.
-#[derive(Clone, Copy)]
-pub enum Pointers<'a> {
-    /// So many words, whose trees have one level less than `depth`.
-    Words {
-        is_stream: bool,
-        depth: u16,
-        count: u32,
-        row: PointerRow<'a>,
-    },
-    Objects(&'a [Object]),
+/// No pointers.
+#[inline(always)]
+pub fn no_pointers<'a>() -> Pointers<'a>
+    ensures { pointer_trees result ≡ NoTrees }
+{
+    Pointers {
+        is_stream: false,
+        depth: 0,
+        count: 0,
+        bytes: &[],
+        segment: &[],
+        first: 0,
+    }
 }
 
 /// How many pointers there are.
@@ -25,10 +26,7 @@ pub enum Pointers<'a> {
 pub fn count_pointers(pointers: Pointers<'_>) -> usize
     ensures { result ≡ tree_count (pointer_trees pointers.entry) }
 {
-    match pointers {
-        Pointers::Words { count, .. } => count as usize,
-        Pointers::Objects(objects) => objects.len(),
-    }
+    pointers.count as usize
 }
 
 /// The place of pointer `index`, null past the end.
@@ -36,28 +34,15 @@ pub fn count_pointers(pointers: Pointers<'_>) -> usize
 pub fn get_pointer(pointers: Pointers<'_>, index: usize) -> Pointer<'_>
     ensures { pointer_tree result ≡ nth_tree (pointer_trees pointers.entry) index }
 {
-    match pointers {
-        Pointers::Words {
-            depth,
-            is_stream,
-            count,
-            row,
-        } => {
-            if index >= count as usize {
-                return Pointer::Null;
-            }
-            Pointer::Word {
-                depth,
-                is_stream,
-                bytes: row.bytes,
-                segment: row.segment,
-                index: row.first + index,
-            }
-        }
-        Pointers::Objects(objects) => match objects.get(index) {
-            Some(object) => Pointer::Object(object),
-            None => Pointer::Null,
-        },
+    if index >= pointers.count as usize {
+        return Pointer::Null;
+    }
+    Pointer::Word {
+        is_stream: pointers.is_stream,
+        depth: pointers.depth,
+        bytes: pointers.bytes,
+        segment: pointers.segment,
+        index: pointers.first + index,
     }
 }
 
@@ -73,34 +58,15 @@ fn get_capped(segment: &[u8], index: usize) -> usize
 pub fn get_only_pointer(pointers: Pointers<'_>, index: usize) -> Pointers<'_>
     ensures { pointer_trees result ≡ only_tree (pointer_trees pointers.entry) index }
 {
-    match pointers {
-        Pointers::Words {
-            depth,
-            is_stream,
-            count,
-            row,
-        } => {
-            if index >= count as usize {
-                return Pointers::Objects(&[]);
-            }
-            let only = PointerRow {
-                bytes: row.bytes,
-                segment: row.segment,
-                first: get_capped(row.segment, row.first + index),
-            };
-            Pointers::Words {
-                depth,
-                is_stream,
-                count: 1,
-                row: only,
-            }
-        }
-        Pointers::Objects(objects) => {
-            if index < objects.len() {
-                Pointers::Objects(&objects[index..index + 1])
-            } else {
-                Pointers::Objects(&[])
-            }
-        }
+    if index >= pointers.count as usize {
+        return no_pointers();
+    }
+    Pointers {
+        is_stream: pointers.is_stream,
+        depth: pointers.depth,
+        count: 1,
+        bytes: pointers.bytes,
+        segment: pointers.segment,
+        first: get_capped(pointers.segment, pointers.first + index),
     }
 }

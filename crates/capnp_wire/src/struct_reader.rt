@@ -6,9 +6,9 @@ use crate::bytes::get_bit;
 use crate::found::{StructParts, empty_parts};
 use crate::look::bytes_from;
 use crate::pointer_reader::PointerReader;
-use crate::pointers::{Pointers, count_pointers, get_pointer};
+use crate::pointers::{count_pointers, get_pointer};
 use crate::primitive::PrimitiveElement;
-use crate::row::PointerRow;
+use crate::row::Pointers;
 use crate::size::{MessageSize, StructSize};
 use crate::total::size_of_parts;
 use capnp_device::error::Result;
@@ -68,18 +68,15 @@ impl<'a> StructReader<'a> {
         ensures parts { struct_of result ≡ struct_at (tree_below depth (words.now ∷ []) words.now) words.now size.data_words size.pointers start }
         ensures levels { struct_levels result ≡ levels }
     {
-        let row = PointerRow {
-            bytes: words,
-            segment: words,
-            first: start + size.data_words as usize,
-        };
         let parts = StructParts {
             data: bytes_from(words, start, 8 * size.data_words as usize),
-            pointers: Pointers::Words {
-                depth,
+            pointers: Pointers {
                 is_stream: false,
+                depth,
                 count: size.pointers as u32,
-                row,
+                bytes: words,
+                segment: words,
+                first: start + size.data_words as usize,
             },
         };
         StructReader::new(parts, levels)

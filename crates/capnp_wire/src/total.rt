@@ -5,19 +5,17 @@ ghost use Rattle.capnp_wire.specs.Backing.{segment_list};
 ghost use Rattle.capnp_wire.specs.Place.{tree_below};
 ghost use Rattle.capnp_wire.specs.Tree.{Composite, tree_count};
 ghost use Rattle.capnp_wire.specs.Found.{element_structs, found_tree, parts_tree, pointer_tree, pointer_trees};
-ghost use Rattle.capnp_wire.specs.Objects.{object_tree};
 ghost use Rattle.capnp_wire.specs.Words.{first_fault, first_fault_of_all, first_fault_of_elements, words_below_all, words_of, words_of_all, words_of_struct};
 ghost use Rattle.capnp_wire.specs.Total.{IsSize, IsSizeRefusal, Totals, size_of_total, size_read};
 
-use crate::block::{Elements, count_elements, get_element, have_no_pointers};
+use crate::block::{count_elements, get_element, have_no_pointers};
 use crate::bytes::get_word;
 use crate::fault::{Fault, refuse};
 use crate::found::{Found, StructParts};
 use crate::look::look_at_word;
-use crate::look_objects::look_at_object;
-use crate::object::Object;
 use crate::pointer::Pointer;
-use crate::pointers::{Pointers, count_pointers, get_pointer};
+use crate::pointers::{count_pointers, get_pointer};
+use crate::row::{Elements, Pointers};
 use crate::segments::Segments;
 use crate::size::{MessageSize, StructSize};
 use capnp_device::error::{Error, ErrorKind, Result};
@@ -46,7 +44,7 @@ fn is_null_word(segments: Segments<'_>, segment: &[u8], w: usize) -> bool
     w < segment.len() / 8 && get_word(segment, w) == 0
 }
 
-/// The words of what stands at a place, which is looked at here and not by `look`: so words and objects meet in no match.
+/// The words of what stands at a place.
 #[cycle(total)]
 #[inline(always)]
 fn total_pointer(pointer: Pointer<'_>) -> Total
@@ -60,7 +58,6 @@ fn total_pointer(pointer: Pointer<'_>) -> Total
             segment,
             index,
         } => total_word(Segments { bytes, is_stream }, segment, index, depth),
-        Pointer::Object(object) => total_object(object),
         Pointer::Null => Ok(0),
         Pointer::Bad(fault) => Err(Stop::Fault(fault)),
     }
@@ -78,15 +75,6 @@ fn total_word(segments: Segments<'_>, segment: &[u8], index: usize, depth: u16) 
         return Ok(0);
     }
     total_found(look_at_word(segments, segment, index, depth))
-}
-
-/// The words of an object. It is never inlined, so that a loop over words has the code for words alone.
-#[cycle(total)]
-#[inline(never)]
-fn total_object(object: &Object) -> Total
-    ensures { Totals result (first_fault (object_tree object.now)) (words_of (object_tree object.now)) }
-{
-    total_found(look_at_object(object))
 }
 
 /// The words of what was found.

@@ -52,3 +52,7 @@ root_still a b c start f e x g y =
     let at : start ≡ start + 0 + 0 = omega arith in
     let q : IsInPointer a c start 0 5 0 = in_pointer a c start 0 5 0 (struct_planted a 0 start 0 5 f e) (omega arith) (subst (Forest c) at g) (subst (λ w. Changes w a c) at (one_by_one a b c start x y)) in
     (in_struct a c 0 start 0 5 f e q.planted q.changes).forest
+
+-- the same where the root's pointer was left as a builder says
+pub root_left : {a c : List ℕ} {at start d p i : ℕ} → Forest a at → shape_at a at ≡ StructIn start d p → IsInPointer a c start d p i → at ≡ 0 → Forest c 0
+root_left {a} {c} {at} {start} {d} {p} f e x here = subst (Forest c) here (in_struct a c at start d p f e x.planted x.changes).forest

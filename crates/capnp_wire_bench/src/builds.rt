@@ -1,13 +1,13 @@
-//! Messages that are built, and written into memory.
-ghost use Rattle.std.specs.Prelude.{◌+◌, ◌*◌, ◌<◌, ◌≤◌};
-ghost use Rattle.capnp_wire.specs.Objects.{list_object_tree, struct_object_tree};
-ghost use Rattle.capnp_wire_bench.specs.Items.{AreItems, IsItem};
+//! Messages that are built by builders, and written into memory.
+ghost use Rattle.std.specs.Prelude.{◌≡◌, ◌<◌};
+ghost use Rattle.capnp_arena.specs.Forest.{Changes, Forest, PartChanges, tree};
+ghost use Rattle.capnp_arena.specs.Handles.{IsStruct, part};
+ghost use Rattle.capnp_arena.specs.Segment.{segment};
+ghost use Rattle.capnp_wire_bench.specs.Items.{AreItems};
 
+use capnp_arena::handles::StructBuilder;
+use capnp_arena::message::Builder;
 use capnp_wire::error::Result;
-use capnp_wire::laws::{kept, kept_lists, sizes};
-use capnp_wire::message::Builder;
-use capnp_wire::object::{ListObject, StructObject};
-use capnp_wire::primitive::PrimitiveElement;
 use capnp_wire::size::StructSize;
 use std::alloc::Global;
 
@@ -15,66 +15,62 @@ const ITEMS: u32 = 10_000;
 
 const TEXT: &str = "a text of 20 letters";
 
-/// Writes a number into an item.
-fn put<T: PrimitiveElement>(item: &mut StructObject, offset: u32, value: T)
-    requires item { IsItem (struct_object_tree item.old) }
-    requires inside { (offset + 1) * T.width ≤ 16 }
-    ensures { IsItem (struct_object_tree item.new) }
-{
-    kept::numbers_keep_structs_well_formed();
-    sizes::numbers_keep_sizes();
-    item.set_data_field(offset, value);
-}
-
-/// Writes the bit of an item.
-fn put_flag(item: &mut StructObject, value: bool)
-    requires { IsItem (struct_object_tree item.old) }
-    ensures { IsItem (struct_object_tree item.new) }
-{
-    kept::bits_keep_structs_well_formed();
-    sizes::bits_keep_sizes();
-    item.set_bool_field(8, value);
-}
-
 /// Puts the text of an item, which stays one, also where it is refused.
-fn put_text(item: &mut StructObject, text: &[u8]) -> Result<()>
-    requires { IsItem (struct_object_tree item.old) }
-    ensures { IsItem (struct_object_tree item.new) }
+fn put_text(item: &mut StructBuilder<'_>, text: &[u8]) -> Result<()>
+    requires item { IsStruct item.old }
+    requires pointer { 0 < item.old.place.pointers }
+    ensures same { item.new.arena.ghost_name ≡ item.old.arena.ghost_name }
+    ensures place { item.new.place ≡ item.old.place }
+    ensures item { IsStruct item.new }
+    ensures changes { PartChanges (part item.old.place) (segment item.old.arena.now) (segment item.new.arena.now) }
 {
-    kept::lent_pointers_keep_structs_well_formed();
-    kept::pointers_of_structs_are_well_formed();
-    kept_lists::texts_are_well_formed();
-    sizes::lent_pointers_keep_sizes();
-    item.get_pointer_field(0).set_text(text)
+    let place = item.place;
+    let mut pointer = item.arena.pointer_field(place, 0);
+    pointer.set_text(text)?;
+    Ok(())
 }
 
 /// Fills the item of a number.
-fn fill(item: &mut StructObject, number: u32) -> Result<()>
-    requires { IsItem (struct_object_tree item.old) }
-    ensures { IsItem (struct_object_tree item.new) }
+fn fill(item: &mut StructBuilder<'_>, number: u32) -> Result<()>
+    requires item { IsStruct item.old }
+    requires size { (item.old.place.data_words ≡ 2) × (item.old.place.pointers ≡ 2) }
+    ensures same { item.new.arena.ghost_name ≡ item.old.arena.ghost_name }
+    ensures place { item.new.place ≡ item.old.place }
+    ensures item { IsStruct item.new }
+    ensures changes { PartChanges (part item.old.place) (segment item.old.arena.now) (segment item.new.arena.now) }
 {
-    put::<u8>(item, 0, (number % 256) as u8);
-    put_flag(item, number % 2 == 1);
-    put::<u16>(item, 1, (number % 65_536) as u16);
-    put::<u32>(item, 1, number);
-    put::<u64>(item, 1, number as u64);
+    item.set_data_field::<u8>(0, (number % 256) as u8);
+    item.set_bool_field(8, number % 2 == 1);
+    item.set_data_field::<u16>(1, (number % 65_536) as u16);
+    item.set_data_field::<u32>(1, number);
+    item.set_data_field::<u64>(1, number as u64);
     put_text(item, TEXT.as_bytes())
 }
 
-/// Fills an item of so many.
-fn fill_at(items: &mut ListObject, count: u32, index: u32) -> Result<()>
-    requires items { AreItems count (list_object_tree items.old) }
+/// Fills an item of so many, in the list that the pointer at a word leads to.
+fn fill_at(message: &mut Builder, at: usize, count: u32, index: u32) -> Result<()>
+    requires forest { Forest (segment message.old) at }
+    requires items { AreItems count (tree (segment message.old) at) }
     requires inside { index < count }
-    ensures { AreItems count (list_object_tree items.new) }
+    ensures forest { Forest (segment message.new) at }
+    ensures items { AreItems count (tree (segment message.new) at) }
+    ensures changes { Changes at (segment message.old) (segment message.new) }
 {
-    fill(items.get_struct_element(index), index)
+    let mut item = message.struct_element(at, index);
+    let filled = fill(&mut item, index);
+    message.tree_is_sound(at);
+    filled
 }
 
-fn fill_items(items: &mut ListObject, count: u32) -> Result<()>
-    requires { AreItems count (list_object_tree items.old) }
+/// Fills the items of a list, which the pointer at a word leads to.
+fn fill_items(message: &mut Builder, at: usize, count: u32) -> Result<()>
+    requires forest { Forest (segment message.old) at }
+    requires items { AreItems count (tree (segment message.old) at) }
+    ensures forest { Forest (segment message.new) at }
+    ensures changes { Changes at (segment message.old) (segment message.new) }
 {
     for index in 0..count {
-        fill_at(items, count, index)?;
+        fill_at(message, at, count, index)?;
     }
     Ok(())
 }
@@ -89,12 +85,13 @@ fn build_once(alloc: Global) -> Result<u64> {
         data_words: 2,
         pointers: 2,
     };
-    let mut message = Builder::new(alloc);
+    let mut message = Builder::new(alloc)?;
     let root = message.root().init_struct(root_size)?;
     let items = root
         .get_pointer_field(0)
         .init_struct_list(ITEMS, item_size)?;
-    fill_items(items, ITEMS)?;
+    let at = items.at;
+    fill_items(&mut message, at, ITEMS)?;
     Ok(message.write_message()?.len() as u64 / 8)
 }
 

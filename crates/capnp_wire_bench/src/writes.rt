@@ -1,15 +1,15 @@
 //! Messages that are copied and encoded.
 
+use capnp_arena::message::Builder;
 use capnp_wire::error::Result;
-use capnp_wire::message::{Builder, Reader};
+use capnp_wire::message::Reader;
 use std::alloc::Global;
 
 #[inline(never)]
 fn copy_once(alloc: Global, reader: Reader<'_>) -> Result<u64> {
-    let mut message = Builder::new(alloc);
+    let mut message = Builder::new(alloc)?;
     message.set_root(reader.get_root())?;
-    let root = message.root();
-    Ok(!root.is_null() as u64)
+    Ok(!message.is_null(0) as u64)
 }
 
 fn copy(alloc: Global, message: &[u8], rounds: u64) -> Result<u64> {
@@ -22,7 +22,7 @@ fn copy(alloc: Global, message: &[u8], rounds: u64) -> Result<u64> {
 }
 
 fn encode(alloc: Global, message: &[u8], rounds: u64) -> Result<u64> {
-    let mut built = Builder::new(alloc);
+    let mut built = Builder::new(alloc)?;
     built.set_root(Reader::new(alloc, message)?.get_root())?;
     let mut sum: u64 = 0;
     for _ in 0..rounds {

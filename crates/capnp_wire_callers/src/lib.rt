@@ -1,10 +1,10 @@
-//! Proved callers of `capnp_wire` and `capnp_device`, over nothing but their public calls and contracts.
+//! Proved callers of `capnp_wire`, `capnp_arena` and `capnp_device`, over nothing but their public calls and contracts.
 //!
-//! The contract of a read is a function of the tree that its reader stands on and of the levels that are left: a caller of
-//! the readers needs to know nothing else of them.
+//! The contract of a read is a function of the tree that its reader stands on and of the levels that are left: a caller
+//! of the readers needs to know nothing else of them.
 #![tactic(auto)]
 
+pub mod built;
 pub mod devices;
-pub mod kept;
 pub mod path;
 pub mod sum;

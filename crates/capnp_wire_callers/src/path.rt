@@ -9,11 +9,11 @@ use capnp_wire::error::Result;
 use capnp_wire::message::Reader;
 use std::alloc::Global;
 
-/// The 64 bit number at `offset`, in units of 8 bytes, of the struct that a path of pointer fields leads to from `root`.
-/// A null on the way is a struct of size zero, so a path that leaves what is there ends at 0.
+/// The 64 bit number at `offset`, in units of 8 bytes, of the struct that a path of pointer fields leads to from
+/// `root`. A null on the way is a struct of size zero, so a path that leaves what is there ends at 0.
 ///
-/// Refused as the first `get_struct` of the path that is refused: the structs of the path, the last one too, take a level
-/// each.
+/// Refused as the first `get_struct` of the path that is refused: the structs of the path, the last one too, take a
+/// level each.
 pub fn get_by_path(root: PointerReader<'_>, path: &[u16], offset: u32) -> Result<u64>
     ensures { number_read result ≡ path_number path.now offset (tree_of root.entry) (levels_of root.entry) }
 {

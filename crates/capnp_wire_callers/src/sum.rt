@@ -8,8 +8,8 @@ use capnp_wire::PointerReader;
 use capnp_wire::error::Result;
 use capnp_wire::size::ElementSize;
 
-/// The sum of the list of 32 bit numbers that the pointer leads to; of a list of structs, of the numbers at their starts.
-/// Refused as `get_list`.
+/// The sum of the list of 32 bit numbers that the pointer leads to; of a list of structs, of the numbers at their
+/// starts. Refused as `get_list`.
 pub fn sum_of_list(pointer: PointerReader<'_>) -> Result<u64>
     ensures { number_read result ≡ list_sum (tree_of pointer.entry) (levels_of pointer.entry) }
 {

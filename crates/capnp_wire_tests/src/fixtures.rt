@@ -1,9 +1,8 @@
-//! What the tests share: messages as text, a size, and what a refused read answers.
+//! What the tests share: messages as text, and what a refused read answers.
 
 use capnp_wire::PointerReader;
 use capnp_wire::error::{ErrorKind, Result};
-use capnp_wire::message::{Builder, Reader};
-use capnp_wire::size::StructSize;
+use capnp_wire::message::Reader;
 use std::alloc::Global;
 
 // A message that the public `capnp` tool, version 0.9.2, wrote:
@@ -20,12 +19,6 @@ pub const SEVEN_SEGMENTS: &str =
      08 00 00 00 00 00 00 00 | 00 00 00 00 00 00 00 00 | 02 00 00 00 06 00 00 00 | \
      00 00 00 00 00 00 00 00 | 00 00 00 00 00 00 00 00 | 00 00 00 00 00 00 00 00 | \
      01 00 00 00 22 00 00 00 | 65 6e 64 00 00 00 00 00";
-
-/// A data word and a pointer.
-pub const ONE_EACH: StructSize = StructSize {
-    data_words: 1,
-    pointers: 1,
-};
 
 fn digit_of(c: u8) -> Option<u8> {
     match c {
@@ -64,24 +57,10 @@ pub fn root_of(alloc: Global, bytes: &[u8]) -> Result<PointerReader<'_>> {
     Ok(Reader::new(alloc, bytes)?.get_root())
 }
 
-/// Whether a message is written as the bytes that a text spells.
-pub fn is_written_as(alloc: Global, message: &Builder, text: &str) -> Result<bool> {
-    let want = bytes_of(alloc, text)?;
-    Ok(message.write_message()?.as_slice() == want.as_slice())
-}
-
 /// What a read answered, or the kind of its refusal.
 pub fn answer<T: Copy>(read: Result<T>) -> std::result::Result<T, ErrorKind> {
     match read {
         Ok(value) => Ok(value),
         Err(error) => Err(error.kind),
-    }
-}
-
-/// Why a call was refused.
-pub fn refusal<T: Copy>(answer: Result<T>) -> Option<ErrorKind> {
-    match answer {
-        Ok(_) => None,
-        Err(error) => Some(error.kind),
     }
 }

@@ -124,8 +124,8 @@ fn forty_structs_read_without_memory(rt: HostRuntime) {
     }
 }
 
-/// A struct of seven pointers: to itself, a capability, one past the segment, the text h, a list of two 16 bit numbers, a
-/// null, and a list of two structs of one pointer each, to the text and null.
+/// A struct of seven pointers: to itself, a capability, one past the segment, the text h, a list of two 16 bit numbers,
+/// a null, and a list of two structs of one pointer each, to the text and null.
 const RING: &str = "00 00 00 00 00 00 07 00 | fc ff ff ff 00 00 07 00 | 03 00 00 00 00 00 00 00 | \
      00 00 00 01 00 00 00 00 | 0d 00 00 00 12 00 00 00 | 0d 00 00 00 13 00 00 00 | 0 | \
      09 00 00 00 17 00 00 00 | 68 00 00 00 00 00 00 00 | 01 00 02 00 00 00 00 00 | \
@@ -227,8 +227,8 @@ fn refusals_come_in_their_order(rt: HostRuntime) {
     scripts_are_answered(&rt, rt.alloc(), RING, &REFUSALS);
 }
 
-/// The ring's list of structs behind 1, 62 and 63 structs: the elements 0 and 2, the first one's pointer as a text, and which
-/// of the first three pointers are null.
+/// The ring's list of structs behind 1, 62 and 63 structs: the elements 0 and 2, the first one's pointer as a text, and
+/// which of the first three pointers are null.
 static ELEMENTS: [(&str, &str); 3] = [
     (
         "words: struct.field 6.pointers: element 0; element 2; pointer 0.text; pointer 0.null; \

@@ -1,38 +1,20 @@
 //! The tests of `capnp_wire` and `capnp_device` by public calls.
 //!
-//! They are rows of text and of plain values. `reads` follows a script, such as `message.struct.field 3.structs: length;
-//! element 0.u16 0`, from bytes in hexadecimal and compares the answers. `calls` makes calls on a message that is built, and
-//! compares what they answer and the message then. A new case is a new row.
+//! They are rows of text and of plain values. `reads` follows a script, such as
+//! `message.struct.field 3.structs: length; element 0.u16 0`, from bytes in hexadecimal and compares the answers. A new
+//! case is a new row.
 #![tactic(auto)]
 
 #[cfg(test)]
 mod blob_tests;
 #[cfg(test)]
-mod built_tests;
-#[cfg(test)]
-mod call_tests;
-#[cfg(test)]
-mod calls;
-#[cfg(test)]
-mod copied_rows;
-#[cfg(test)]
-mod copy_tests;
-#[cfg(test)]
-mod default_tests;
-#[cfg(test)]
 mod device_tests;
 #[cfg(test)]
 mod fixtures;
 #[cfg(test)]
-mod hop_tests;
-#[cfg(test)]
-mod kept_tests;
-#[cfg(test)]
 mod level_tests;
 #[cfg(test)]
 mod list_tests;
-#[cfg(test)]
-mod message_tests;
 #[cfg(test)]
 mod number_tests;
 #[cfg(test)]

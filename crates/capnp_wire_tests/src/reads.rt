@@ -1,9 +1,9 @@
 //! What is read, as text: one interpreter of scripts, in which each call of the readers stands once.
 //!
-//! A script asks questions, with semicolons between them. A question is a path of words with dots between them: `struct.u16 0`
-//! enters the struct at a pointer and reads its first number of 16 bits. What stands before a colon is followed first, and
-//! each question from there: `message.struct.field 3.structs: length; element 0.u16 0`. Such a path may be followed more
-//! than once: `words: 62 times struct.field 0: struct`.
+//! A script asks questions, with semicolons between them. A question is a path of words with dots between them:
+//! `struct.u16 0` enters the struct at a pointer and reads its first number of 16 bits. What stands before a colon is
+//! followed first, and each question from there: `message.struct.field 3.structs: length; element 0.u16 0`. Such a path
+//! may be followed more than once: `words: 62 times struct.field 0: struct`.
 //!
 //! The answers stand in the same order, with semicolons between them. A refusal is `refused` and its number
 //! (`ErrorKind::number`), a text or data its bytes in quotes, and a question that ends at a struct, list or pointer is
@@ -16,8 +16,8 @@
 //! | a struct | numbers, `bool`, `field`, `section` (the bytes of its data), `count` (of its pointers), `total` |
 //! | a list | numbers, `bool`, `element`, `pointer`, `length`, `empty`, `size` |
 //!
-//! Numbers are `u8` to `u64` and `i8` to `i64` with their offset or index, as `u16 3`, and where a default is XORed with
-//! them `u16 3 default 7`. The same holds of `bool`, whose default is 0 or 1.
+//! Numbers are `u8` to `u64` and `i8` to `i64` with their offset or index, as `u16 3`, and where a default is XORed
+//! with them `u16 3 default 7`. The same holds of `bool`, whose default is 0 or 1.
 
 use crate::fixtures::bytes_of;
 use capnp_wire::error::{ErrorKind, Result};
@@ -341,8 +341,8 @@ fn start<'a, 'b>(alloc: Global, from: Cursor<'a>, script: &'b str) -> (Reply<'a>
     }
 }
 
-/// Whether that is so which the last word of these paths asks, each with a colon behind it; none where it is refused. This
-/// takes no memory.
+/// Whether that is so which the last word of these paths asks, each with a colon behind it; none where it is refused.
+/// This takes no memory.
 pub fn is_so(alloc: Global, bytes: &[u8], paths: &str) -> Option<bool> {
     match start(alloc, Cursor::Bytes(bytes), paths) {
         (Reply::Bool(value), _) => Some(value),
@@ -447,24 +447,6 @@ pub fn are_answers(rt: &impl Abort, alloc: Global, bytes: &[u8], script: &str, a
         alloc,
         Cursor::Bytes(bytes),
         "these bytes",
-        script,
-        answers,
-    );
-}
-
-/// Asserts that the questions of a script on a pointer are answered so.
-pub fn pointer_answers(
-    rt: &impl Abort,
-    alloc: Global,
-    pointer: PointerReader<'_>,
-    script: &str,
-    answers: &str,
-) {
-    questions_are_answered(
-        rt,
-        alloc,
-        Cursor::Pointer(pointer),
-        "a pointer",
         script,
         answers,
     );

@@ -13,8 +13,8 @@ use std::test::Fail;
 /// The number at the start of the root.
 const FIRST_NUMBER: &str = "message.struct.u16 0";
 
-/// A struct with a data word and a null; a struct behind a far pointer; two data words; a list of two structs. Each with
-/// the number at the start of its root.
+/// A struct with a data word and a null; a struct behind a far pointer; two data words; a list of two structs. Each
+/// with the number at the start of its root.
 static MESSAGES: [(&str, &str); 4] = [
     (
         "00 00 00 00 03 00 00 00 | 00 00 00 00 01 00 01 00 | 05 00 01 00 09 00 00 00 | 0",

@@ -76,8 +76,8 @@ fn lists_of_structs_keep_to_their_words(rt: HostRuntime) {
     messages_answer(&rt, rt.alloc(), ITEMS, &LISTS);
 }
 
-/// The length of the first pointer's list of bytes, whether the second is null, the second as data, the third as a text,
-/// and the number of the fourth.
+/// The length of the first pointer's list of bytes, whether the second is null, the second as data, the third as a
+/// text, and the number of the fourth.
 const FIELDS: &str = "message.struct: field 0.bytes.length; field 1.null; field 1.data; \
      field 2.text; field 3.struct.u16 0";
 

@@ -125,7 +125,8 @@ fn what_is_past_a_section_is_zero_or_null(rt: HostRuntime) {
     scripts_are_answered(&rt, rt.alloc(), ONES, &PAST_SECTIONS);
 }
 
-/// The first two numbers, whether the first pointer is null, why it is no struct and no text, and whether the second is null.
+/// The first two numbers, whether the first pointer is null, why it is no struct and no text, and whether the second is
+/// null.
 const PARTS: &str =
     "words.struct: u16 0; u16 1; field 0.null; field 0.struct; field 0.text; field 1.null";
 

@@ -178,12 +178,12 @@ fn parse_rest(alloc: Global, head: Head, rest: &str, place: usize) -> Result<Rea
     }
 }
 
-/// The call that a word is, with one space between its parts: `set PATH VALUE`, `init PATH`, `initn PATH N`, `clear PATH`,
-/// `get PATH`, `has PATH` or `which PATH`. A path is as `parse_path` reads it, and empty only of `which`. A value is all that
-/// follows its space, also nothing; N is up to 2^32 - 1.
+/// The call that a word is, with one space between its parts: `set PATH VALUE`, `init PATH`, `initn PATH N`,
+/// `clear PATH`, `get PATH`, `has PATH` or `which PATH`. A path is as `parse_path` reads it, and empty only of `which`.
+/// A value is all that follows its space, also nothing; N is up to 2^32 - 1.
 ///
-/// Any other word is refused, in the inner result, with the place of the first byte that can't stand, or with its length where
-/// it ends too soon. The outer result is refused with `OutOfMemory` alone.
+/// Any other word is refused, in the inner result, with the place of the first byte that can't stand, or with its
+/// length where it ends too soon. The outer result is refused with `OutOfMemory` alone.
 pub fn parse_call(alloc: Global, word: &str) -> Result<Read<CallWord>>
     ensures read { IfOk result (λ r. read_as call_seen r ≡ call_at word.now) }
     ensures memory { IfErr result (λ e. e.kind ≡ OutOfMemory) }

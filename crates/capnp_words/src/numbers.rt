@@ -14,8 +14,8 @@ fn append_digit(number: u64, byte: u8, limit: u64) -> Option<u64>
     if next <= limit { Some(next) } else { None }
 }
 
-/// The number in decimal digits, which has no zero in front and is at most `limit`. `place` is where the first byte stands;
-/// else the place of the first that can't stand.
+/// The number in decimal digits, which has no zero in front and is at most `limit`. `place` is where the first byte
+/// stands; else the place of the first that can't stand.
 pub fn read_decimal(bytes: &[u8], place: usize, limit: u64) -> Result<u64, usize>
     requires { place + length bytes.now < 2 ^ 64 }
     ensures read { result ≡ decimal_at limit place bytes.now }
@@ -67,8 +67,9 @@ fn read_negative(bytes: &[u8], place: usize, limit: u64) -> Result<i64, usize>
     Ok(-1 - (number - 1) as i64)
 }
 
-/// The number in decimal digits, behind a minus or not, which has no zero in front and is not `-0`. It is at most `limit`, and
-/// at least one less than minus that. `place` is where the first byte stands; else the place of the first that can't stand.
+/// The number in decimal digits, behind a minus or not, which has no zero in front and is not `-0`. It is at most
+/// `limit`, and at least one less than minus that. `place` is where the first byte stands; else the place of the first
+/// that can't stand.
 pub fn read_signed(bytes: &[u8], place: usize, limit: u64) -> Result<i64, usize>
     requires room { place + length bytes.now < 2 ^ 64 }
     requires limit { limit < 2 ^ 63 }

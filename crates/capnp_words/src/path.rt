@@ -125,12 +125,12 @@ pub(crate) fn parse_path_at(alloc: Global, word: &str, place: usize) -> Result<R
     }))
 }
 
-/// The path that a word is: steps with dots between them, where a step is a field's name, `#` and a field's number up to
-/// 65,535, or an element's number up to 2^32 - 1; a dot alone is the empty path. A name has at least one byte, no dot, no space,
-/// and no digit or `#` first. A number has no zero in front.
+/// The path that a word is: steps with dots between them, where a step is a field's name, `#` and a field's number up
+/// to 65,535, or an element's number up to 2^32 - 1; a dot alone is the empty path. A name has at least one byte, no
+/// dot, no space, and no digit or `#` first. A number has no zero in front.
 ///
-/// Any other word is refused, in the inner result, with the place of the first byte that can't stand, or with its length where
-/// it ends too soon. The outer result is refused with `OutOfMemory` alone.
+/// Any other word is refused, in the inner result, with the place of the first byte that can't stand, or with its
+/// length where it ends too soon. The outer result is refused with `OutOfMemory` alone.
 pub fn parse_path(alloc: Global, word: &str) -> Result<Read<Path>>
     ensures read { IfOk result (λ r. read_as path_seen r ≡ path_at 0 word.now) }
     ensures memory { IfErr result (λ e. e.kind ≡ OutOfMemory) }

@@ -26,7 +26,8 @@ fn find_field_type(schema: StructSchema<'_>, index: u16) -> Option<Type>
 
 /// The type of the field of a name.
 fn find_named_type(schema: StructSchema<'_>, name: &str) -> Option<Type>
-    ensures { option_map seen_type result ≡ option_and_then (field_type (set_of schema.entry) (number_of schema.entry)) (field_named (struct_records schema.entry) name.now) }
+    ensures { option_map seen_type result ≡ option_and_then (field_type (set_of schema.entry) (number_of schema.entry))
+        (field_named (struct_records schema.entry) name.now) }
 {
     let field = schema.find_field_by_name(name).ok()??;
     Some(field.get_type())
@@ -50,12 +51,13 @@ fn find_type_behind(set: &SchemaSet, kind: TypeVariant, step: &PathStep) -> Opti
     }
 }
 
-/// The type at the end of a path from a struct, by the schema alone: a struct or group has fields, by name and by number, and a
-/// list has elements, however many there are in a message. None where a step fits nothing. At the end of the empty path is the
-/// struct's own type.
+/// The type at the end of a path from a struct, by the schema alone: a struct or group has fields, by name and by
+/// number, and a list has elements, however many there are in a message. None where a step fits nothing. At the end of
+/// the empty path is the struct's own type.
 #[tactic(auto, using(capnp_schema::specs::Facts::Layers::seen_which))]
 pub fn target_type(schema: StructSchema<'_>, path: &Path) -> Option<Type>
-    ensures { option_map seen_type result ≡ type_along (set_of schema.entry) (StructType (number_of schema.entry) (generic_of schema.entry)) (path_seen path.now) }
+    ensures { option_map seen_type result ≡ type_along (set_of schema.entry)
+        (StructType (number_of schema.entry) (generic_of schema.entry)) (path_seen path.now) }
 {
     let mut target = Type::from(TypeVariant::Struct(schema.into()));
     for step in &path.steps {

@@ -97,7 +97,8 @@ fn read_truth(word: &[u8]) -> Read<bool>
 /// The name of an enumerant, whose number has to be below the count.
 fn enumerant_name<'s>(enumerants: EnumerantList<'s>, ordinal: u16) -> &'s str
     requires { ordinal < length (enumerants_in enumerants) }
-    ensures { result.now ≡ (enumerant_record (enum_set (enum_of_list enumerants.entry)) (enum_number (enum_of_list enumerants.entry)) ordinal).name }
+    ensures { result.now ≡ (enumerant_record (enum_set (enum_of_list enumerants.entry))
+        (enum_number (enum_of_list enumerants.entry)) ordinal).name }
 {
     enumerants.get(ordinal).get_proto().name.as_str()
 }
@@ -233,7 +234,8 @@ fn read_bool<'s>(word: &[u8]) -> Read<PlainValue<'s>>
 
 /// An enumerant of an enum.
 fn read_enum<'s>(schema: EnumSchema<'s>, word: &[u8]) -> Read<PlainValue<'s>>
-    ensures read { read_as plain_seen result ≡ read_as EnumNumber (enumerant_at (enumerant_names schema.entry) word.now) }
+    ensures read { read_as plain_seen result
+        ≡ read_as EnumNumber (enumerant_at (enumerant_names schema.entry) word.now) }
     ensures typed { IfOk result (λ v. plain_type v ≡ EnumType (enum_number schema.entry)) }
 {
     let number = read_enumerant(schema, word)?;
@@ -267,13 +269,14 @@ fn read_small<'s>(set: &'s SchemaSet, kind: TypeVariant, word: &[u8]) -> Read<Pl
 /// - a void: `()`; a truth value: `false` or `true`;
 /// - an integer: in decimal digits, within the type's range, with no zero in front and no `-0`;
 /// - an enum: an enumerant's name, or else a number up to 65,535;
-/// - a text: any bytes that begin with no quote, as they stand; or in quotes, with the escapes `\"`, `\\`, `\n`, `\r`, `\t`, `\0` and
-///   `\u{..}`, with one to six hexadecimal digits of a character's number, and no control character else;
+/// - a text: any bytes that begin with no quote, as they stand; or in quotes, with the escapes `\"`, `\\`, `\n`, `\r`,
+///   `\t`, `\0` and `\u{..}`, with one to six hexadecimal digits of a character's number, and no control character
+///   else;
 /// - data: `0x"..."` with two hexadecimal digits a byte. Hexadecimal digits are lower case.
 ///
-/// Any other word is refused, in the inner result, with the place of the first byte that can't stand, or with its length where
-/// it ends too soon. Under a struct, list or untyped pointer every word is, at 0. The outer result is refused with `OutOfMemory`
-/// alone.
+/// Any other word is refused, in the inner result, with the place of the first byte that can't stand, or with its
+/// length where it ends too soon. Under a struct, list or untyped pointer every word is, at 0. The outer result is
+/// refused with `OutOfMemory` alone.
 #[tactic(auto, using(capnp_schema::specs::Facts::Layers::seen_which))]
 pub fn parse_value<'s>(
     alloc: Global,

@@ -1,5 +1,5 @@
-//! Words that are values under a type, as the printer prints them, and words that are none with the place of the first byte that
-//! can't stand.
+//! Words that are values under a type, as the printer prints them, and words that are none with the place of the first
+//! byte that can't stand.
 
 use capnp_base::introspect::{RawBrandedStructSchema, RawEnumSchema, Type, TypeVariant};
 use capnp_schema::builtin;

@@ -1,5 +1,6 @@
-//! What a builder that is given by value leaves beside the part that it hands out. No clause says what its struct or list ends
-//! as, so these tests do: a field is started anew and set back, and then the message has the bytes that it had.
+//! What a builder that is given by value leaves beside the part that it hands out. No clause says what its struct or
+//! list ends as, so these tests do: a field is started anew and set back, and then the message has the bytes that it
+//! had.
 
 use crate::script::rows_hold;
 

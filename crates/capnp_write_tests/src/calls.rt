@@ -73,8 +73,8 @@ fn write_field(builder: dynamic_struct::Builder<'_>, name: &str, write: Write<'_
     }
 }
 
-/// Makes a call at an element: `Get`, `Set` and `Initn`, which is the list's `init`. Refused with `NoSuchElement` past the
-/// end, and with `NotAContainer` for another call.
+/// Makes a call at an element: `Get`, `Set` and `Initn`, which is the list's `init`. Refused with `NoSuchElement` past
+/// the end, and with `NotAContainer` for another call.
 fn write_element(list: dynamic_list::Builder<'_>, index: u32, write: Write<'_>) -> Result<()>
     requires { IsListReady list }
 {
@@ -122,7 +122,8 @@ fn write_in_row(
     write_element(inner, index, write)
 }
 
-/// Makes a call in the list that a field of the root has. Refused as the `get` calls that lead there and as the call itself.
+/// Makes a call in the list that a field of the root has. Refused as the `get` calls that lead there and as the call
+/// itself.
 fn write_in_list(list: &mut dynamic_list::Builder<'_>, at: At<'_>, write: Write<'_>) -> Result<()>
     requires { IsListReady list.old }
 {

@@ -17,8 +17,8 @@ const SET_ELEMENTS: &str =
     set colors/1 given | set texts/1 given | set blobs/1 given | set points/1 given | \
     set rows/1 given";
 
-/// A value of each kind for each field. A field of a kind takes its own kind, a `Void` takes all, and an untyped pointer
-/// what stands behind a pointer. Where a set is refused, nothing changes.
+/// A value of each kind for each field. A field of a kind takes its own kind, a `Void` takes all, and an untyped
+/// pointer what stands behind a pointer. Where a set is refused, nothing changes.
 static FIELD_ROWS: [(&str, &str, &str); 16] = [
     (
         "kinds from empty given read kinds full void",

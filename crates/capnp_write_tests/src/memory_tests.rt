@@ -1,5 +1,5 @@
-//! Calls that memory is refused to: `./fail_each_allocation` refuses each request of each test in turn. Where a call meets it,
-//! it answers so and the message is as it was; what comes before and after it is not looked at.
+//! Calls that memory is refused to: `./fail_each_allocation` refuses each request of each test in turn. Where a call
+//! meets it, it answers so and the message is as it was; what comes before and after it is not looked at.
 
 use crate::script::answers_of;
 use std::alloc::Global;

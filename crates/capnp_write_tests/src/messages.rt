@@ -8,8 +8,8 @@ use capnp_schema_fixtures::words::named;
 use capnp_wire::error::Result;
 use std::alloc::Global;
 
-/// A set of a struct with the group `g` alone, the group of `k` and the members `e` and `m`, and a struct with a list of
-/// untyped pointers.
+/// A set of a struct with the group `g` alone, the group of `k` and the members `e` and `m`, and a struct with a list
+/// of untyped pointers.
 const GROUPED: &str = "struct 1 1, g group(1); \
     group 1 1 union 2 1, k UInt16 @0, e Void @0 #0, m Text @0 #1; \
     struct 1 1, pointers List(AnyPointer) @0";

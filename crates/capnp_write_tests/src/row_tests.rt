@@ -2,13 +2,13 @@
 
 use crate::messages::{brand_of, message_of, set_of};
 use crate::script::rows_hold;
+use capnp_arena::message::Builder;
 use capnp_callers::read_back::set_and_get;
 use capnp_dynamic::dynamic_struct;
 use capnp_dynamic::dynamic_value::Reader as Value;
 use capnp_dynamic::printer::print;
 use capnp_slots::slot::is_slot;
 use capnp_wire::error::{Error, ErrorKind, Result};
-use capnp_wire::laws::pointer_is_well_formed;
 use capnp_wire::message;
 use capnp_wire::size::StructSize;
 use std::alloc::Global;
@@ -156,8 +156,7 @@ static NUMBER_STRUCTS: [u8; 48] = [
 /// The words of a message and its bytes, after its root was handed out as a list of structs of a data word.
 fn structs_of(alloc: Global, bytes: &[u8]) -> Result<(u64, Vec<u8>)> {
     let source = message::Reader::new(alloc, bytes)?.get_root();
-    pointer_is_well_formed(&source);
-    let mut message = message::Builder::new(alloc);
+    let mut message = Builder::new(alloc)?;
     message.set_root(source)?;
     message.root().get_struct_list(StructSize {
         data_words: 1,
@@ -174,7 +173,8 @@ fn numbers_become_structs_of_a_word(rt: HostRuntime) -> std::result::Result<(), 
     Ok(())
 }
 
-/// What is read of a slot of a new struct that is set, as a text. Refused as the set, and with `FieldNotFound` for a group.
+/// What is read of a slot of a new struct that is set, as a text. Refused as the set, and with `FieldNotFound` for a
+/// group.
 #[tactic(auto, using(capnp_dynamic_readers::specs::Facts::Found::found_belongs))]
 fn set_and_read(alloc: Global, name: &str, field: &str, value: Value<'_>) -> Result<String> {
     let set = set_of(alloc, name)?;
@@ -183,7 +183,7 @@ fn set_and_read(alloc: Global, name: &str, field: &str, value: Value<'_>) -> Res
     if !is_slot(field) {
         return Err(Error::from(ErrorKind::FieldNotFound));
     }
-    let mut message = message::Builder::new(alloc);
+    let mut message = Builder::new(alloc)?;
     let builder = dynamic_struct::Builder::open(message.root(), schema)?;
     let got = set_and_get(builder, field, value)?;
     let mut out = String::new(alloc);

@@ -2,11 +2,11 @@
 //!
 //! A row is three texts: what is built, the calls, and what they answer.
 //!
-//! What is built is a struct by its name in `messages`, under whose schema the root is entered: `many` begins with an empty
-//! struct, `lists from bits` with the message `bits`. After `given` stands a value that calls may name.
+//! What is built is a struct by its name in `messages`, under whose schema the root is entered: `many` begins with an
+//! empty struct, `lists from bits` with the message `bits`. After `given` stands a value that calls may name.
 //!
-//! The calls have semicolons between them, and a bar where the message is begun anew. A call has a word and, but for the
-//! last five, a path of fields and indices.
+//! The calls have semicolons between them, and a bar where the message is begun anew. A call has a word and, but for
+//! the last five, a path of fields and indices.
 //!
 //! | call | what it does |
 //! |---|---|
@@ -19,22 +19,26 @@
 //! | `is full` | answers whether the message has the bytes of another |
 //!
 //! A value is `void`, `null` (an untyped pointer), `given`, a kind of value and what it is, as `u16 7`, `bool true`,
-//! `enum 2`, `text hi` or `data hi`, and `read shapes tagged tag`: what a field of a message's root reads as, or the root
-//! itself where no field is named.
+//! `enum 2`, `text hi` or `data hi`, and `read shapes tagged tag`: what a field of a message's root reads as, or the
+//! root itself where no field is named.
 //!
 //! The answers stand in the same order. A call that is carried out is `ok`, one that is refused is the number of its
 //! refusal (`ErrorKind::number`), with `changed` where the message is not what it was before.
+ghost use Rattle.std.specs.Prelude.{IfOk};
+ghost use Rattle.capnp_arena.specs.Message.{IsMessage};
 ghost use Rattle.capnp_dynamic.specs.Built.{IsReady};
 
 use crate::calls::{Write, place_of, write_at};
 use crate::messages::{brand_of, message_of, set_of};
+use capnp_arena::message::Builder;
+use capnp_arena::segment::bytes_of;
 use capnp_base::any_pointer;
 use capnp_dynamic::dynamic_struct;
 use capnp_dynamic::dynamic_value::{Enum, Reader as Value};
 use capnp_dynamic::printer::print;
 use capnp_schema::set::SchemaSet;
 use capnp_wire::error::Result;
-use capnp_wire::laws::pointer_is_well_formed;
+use capnp_wire::size::ElementSize;
 use capnp_wire::{PointerReader, message};
 use std::alloc::Global;
 use std::fmt;
@@ -141,7 +145,8 @@ impl fmt::Display for Answer {
     }
 }
 
-/// What a script works on: the set, the struct, the message that it begins with, and the text of the value that is given.
+/// What a script works on: the set, the struct, the message that it begins with, and the text of the value that is
+/// given.
 #[derive(Clone, Copy)]
 struct Start<'a> {
     set: &'a SchemaSet,
@@ -321,6 +326,60 @@ fn make(alloc: Global, root: dynamic_struct::Builder<'_>, call: Call<'_>) -> Res
     }
 }
 
+/// A message of one segment, as it stands in a stream.
+fn framed(alloc: Global, segment: &[u8]) -> Result<Vec<u8>> {
+    let words = segment.len() / 8;
+    let table = [
+        0,
+        0,
+        0,
+        0,
+        (words % 256) as u8,
+        (words / 256 % 256) as u8,
+        0,
+        0,
+    ];
+    let mut out = Vec::new(alloc);
+    out.extend_from_slice(&table)?;
+    out.extend_from_slice(segment)?;
+    Ok(out)
+}
+
+/// The message of a stream, written anew.
+fn rewritten(alloc: Global, stream: &[u8]) -> Result<Vec<u8>> {
+    let source = message::Reader::new(alloc, stream)?.get_root();
+    let mut message = Builder::new(alloc)?;
+    message.set_root(source)?;
+    message.write_message()
+}
+
+/// What a message in memory holds, read from its words as any message is, and written anew. What a builder leaves that
+/// was given by value no clause says, so nothing is taken as known of the words.
+fn written(alloc: Global, message: &Builder) -> Result<Vec<u8>> {
+    let stream = framed(alloc, bytes_of(message))?;
+    rewritten(alloc, &stream)
+}
+
+/// The words that a new message has room for.
+const ROOM: u64 = 128;
+
+/// A copy of a message in a segment that has no room left: a call that makes something takes memory.
+fn full(alloc: Global, source: PointerReader<'_>) -> Result<Builder>
+    ensures { IfOk result (λ message. IsMessage message) }
+{
+    let mut alone = Builder::new(alloc)?;
+    alone.set_root(source)?;
+    let words = alone.size_in_words()?;
+    let mut message = Builder::new(alloc)?;
+    message.init_list(
+        0,
+        ElementSize::EightBytes,
+        ROOM.saturating_sub(words) as u32,
+    )?;
+    message.copy_from(0, source)?;
+    Ok(message)
+}
+
 /// What a call on the root of a message answers, and the message after it.
 fn after(
     alloc: Global,
@@ -329,9 +388,7 @@ fn after(
     call: Call<'_>,
 ) -> Result<(Answer, Vec<u8>)> {
     let source = message::Reader::new(alloc, bytes)?.get_root();
-    pointer_is_well_formed(&source);
-    let mut message = message::Builder::new(alloc);
-    message.set_root(source)?;
+    let mut message = full(alloc, source)?;
     let made = match dynamic_struct::Builder::open(
         message.root(),
         start.set.struct_schema(start.brand),
@@ -343,7 +400,7 @@ fn after(
         Ok(answer) => answer,
         Err(error) => Answer::Refused(error.kind.number()),
     };
-    Ok((answer, message.write_message()?))
+    Ok((answer, written(alloc, &message)?))
 }
 
 /// Where the answer is a refusal: whether the message is what it was.

@@ -1,26 +1,25 @@
-//! Dynamic handles beside types that are known beforehand: structs and lists that an untyped pointer is set to, structs by the
-//! handles of a struct type, and the types of elements.
-ghost use Rattle.std.specs.Prelude.{◌≡◌};
-ghost use Rattle.capnp_wire.specs.Edits.{IsCopyRefusal, rounded};
-ghost use Rattle.capnp_wire.specs.Place.{struct_tree};
-ghost use Rattle.capnp_wire.specs.Standing.{struct_of};
-ghost use Rattle.capnp_wire.specs.Words.{first_fault_of_all};
+//! Dynamic handles beside types that are known beforehand: structs and lists that an untyped pointer is set to, structs
+//! by the handles of a struct type, and the types of elements.
+ghost use Rattle.std.specs.Prelude.{◌≡◌, ◌<◌};
+ghost use Rattle.capnp_arena.specs.Message.{IsMessage};
+ghost use Rattle.capnp_arena.specs.Segment.{segment};
+ghost use Rattle.capnp_arena.specs.Shape.{word_count};
 ghost use Rattle.capnp_base.specs.Types.{type_from};
 ghost use Rattle.capnp_base.specs.declared.introspect.TypeVariant.TheVariants as variant;
+ghost use Rattle.capnp_builders.specs.Pointers.{IsPointer, arena_behind, word_of};
 
 use crate::messages::{brand_of, message_of, set_of};
 use crate::script::read_value;
-use capnp_base::any_pointer;
+use capnp_arena::handles::PointerBuilder;
+use capnp_arena::message::Builder;
 use capnp_base::introspect::{Introspect, RawBrandedStructSchema, Type, TypeVariant};
-use capnp_base::traits::{HasStructSize, IntoInternalStructReader, OwnedStruct, SetterInput};
+use capnp_base::traits::{IntoInternalStructReader, OwnedStruct};
+use capnp_builders::any_pointer;
 use capnp_dynamic::dynamic_value::Reader as Value;
 use capnp_dynamic::parts::build::list_in;
 use capnp_dynamic::{dynamic_list, dynamic_struct};
+use capnp_wire::StructReader;
 use capnp_wire::error::{Error, ErrorKind, Result};
-use capnp_wire::laws::{copied_structs_are_well_formed, struct_is_well_formed};
-use capnp_wire::message::Builder;
-use capnp_wire::size::StructSize;
-use capnp_wire::{PointerBuilder, StructBuilder, StructReader};
 use std::alloc::Global;
 use std::test::Fail;
 
@@ -35,7 +34,13 @@ const LISTED: &[u8] = &[
 ];
 
 /// Sets an untyped pointer to a struct or list. Refused as its `set_as`, and with `TypeMismatch` for another value.
-fn set_as(root: &mut any_pointer::Builder<'_>, value: Value<'_>) -> Result<()> {
+fn set_as(root: &mut any_pointer::Builder<'_>, value: Value<'_>) -> Result<()>
+    requires inside { word_of root.old < word_count (segment (arena_behind root.old).now) }
+    requires forest { IsPointer root.old }
+    ensures same { (arena_behind root.new).ghost_name ≡ (arena_behind root.old).ghost_name }
+    ensures at { word_of root.new ≡ word_of root.old }
+    ensures forest { IsPointer root.new }
+{
     match value {
         Value::Struct(reader) => {
             root.set_as::<any_pointer::Owned, dynamic_struct::Reader<'_>>(reader)
@@ -45,15 +50,24 @@ fn set_as(root: &mut any_pointer::Builder<'_>, value: Value<'_>) -> Result<()> {
     }
 }
 
-/// Sets the root of a message, which is a text, to a value: the number of the refusal, 0 where there is none, and the message
-/// then.
-fn root_set(alloc: Global, value: Value<'_>) -> Result<(u32, Vec<u8>)> {
-    let mut message = Builder::new(alloc);
-    message.root().set_text(b"before")?;
-    let number = match set_as(&mut any_pointer::Builder::new(message.root()), value) {
+/// Sets the root of a message to a value: the number of the refusal, 0 where there is none.
+fn set_root_as(message: &mut Builder, value: Value<'_>) -> u32
+    requires { IsMessage message.old }
+    ensures { IsMessage message.new }
+{
+    let PointerBuilder { arena, at } = message.root();
+    let mut root = any_pointer::Builder { arena, at };
+    match set_as(&mut root, value) {
         Ok(()) => 0,
         Err(error) => error.kind.number(),
-    };
+    }
+}
+
+/// The same of a message whose root is a text, and the message then.
+fn root_set(alloc: Global, value: Value<'_>) -> Result<(u32, Vec<u8>)> {
+    let mut message = Builder::new(alloc)?;
+    message.root().set_text(b"before")?;
+    let number = set_root_as(&mut message, value);
     Ok((number, message.write_message()?))
 }
 
@@ -92,13 +106,7 @@ struct Flat<'a> {
     reader: StructReader<'a>,
 }
 
-/// A `Flat` that is built.
-#[derive(Drop)]
-struct FlatBuilder<'a> {
-    builder: StructBuilder<'a>,
-}
-
-/// The struct type of both: brand 0 of node 0, as in the built-in set.
+/// Its struct type: brand 0 of node 0, as in the built-in set.
 #[derive(Clone, Copy)]
 struct FlatType;
 
@@ -118,19 +126,6 @@ impl<'a> IntoInternalStructReader<'a> for Flat<'a> {
     }
 }
 
-impl<'a> From<StructBuilder<'a>> for FlatBuilder<'a> {
-    fn from(builder: StructBuilder<'a>) -> FlatBuilder<'a> {
-        FlatBuilder { builder }
-    }
-}
-
-impl HasStructSize for FlatBuilder<'_> {
-    const STRUCT_SIZE: StructSize = StructSize {
-        data_words: 1,
-        pointers: 0,
-    };
-}
-
 impl Introspect for FlatType {
     ghost type_of = { type_from (variant.Struct (record { number = 0; generic = 0 })) };
 
@@ -142,26 +137,8 @@ impl Introspect for FlatType {
     }
 }
 
-impl<'a> SetterInput<FlatType> for Flat<'a> {
-    ghost set_tree = { λ flat. struct_tree (rounded (struct_of flat.reader)) };
-
-    ghost set_refusal = { λ flat error. IsCopyRefusal error (first_fault_of_all (struct_of flat.reader).pointers) };
-
-    fn set_pointer_builder(
-        builder: PointerBuilder<'_>,
-        input: Flat<'a>,
-        _canonicalize: bool,
-    ) -> Result<()> {
-        struct_is_well_formed(&input.reader);
-        copied_structs_are_well_formed();
-        builder.set_struct(&input.reader)
-    }
-}
-
 impl<'a> OwnedStruct<'a> for FlatType {
     type Reader = Flat<'a>;
-
-    type Builder = FlatBuilder<'a>;
 }
 
 /// The number of a struct, by the handle of its type; none where the value is no struct of that type.
@@ -203,7 +180,7 @@ fn element_type_read(alloc: Global, text: &str) -> Result<Type> {
 /// The same of the list of a field of a new struct.
 fn element_type_built(alloc: Global, name: &str, field: &str) -> Result<Type> {
     let set = set_of(alloc, name)?;
-    let mut message = Builder::new(alloc);
+    let mut message = Builder::new(alloc)?;
     let root = dynamic_struct::Builder::open(message.root(), set.struct_schema(brand_of(name)))?;
     Ok(list_in(root, field)?.element_type())
 }

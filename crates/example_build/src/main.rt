@@ -1,9 +1,9 @@
 //! Builds a message of one number and a text, and writes it to standard output.
 #![tactic(auto)]
 
+use capnp_arena::message::Builder;
 use capnp_wire::device::{Sink, WriteSink};
 use capnp_wire::error::Result;
-use capnp_wire::message::Builder;
 use capnp_wire::size::StructSize;
 use std::alloc::Global;
 use std::process::ExitCode;
@@ -16,8 +16,8 @@ const SIZE: StructSize = StructSize {
 
 /// Builds a struct of a number and a name, and writes the message.
 fn write<W: Sink>(alloc: Global, id: u64, name: &str, sink: &mut W) -> Result<()> {
-    let mut message = Builder::new(alloc);
-    let root = message.root().init_struct(SIZE)?;
+    let mut message = Builder::new(alloc)?;
+    let mut root = message.root().init_struct(SIZE)?;
     root.set_data_field(0, id);
     root.get_pointer_field(0).set_text(name.as_bytes())?;
     message.write_message_to(sink)

@@ -1,5 +1,5 @@
-//! Reads a field of the message on standard input by its name, under a schema that is known only at run time, and prints
-//! it. The message is a `Many` of the built-in set; `examples/many.bin` is one.
+//! Reads a field of the message on standard input by its name, under a schema that is known only at run time, and
+//! prints it. The message is a `Many` of the built-in set; `examples/many.bin` is one.
 #![tactic(auto)]
 
 ghost use Rattle.std.specs.Prelude.{◌≡◌, IfOk, pos};
@@ -21,7 +21,8 @@ use std::process::ExitCode;
 /// The UInt16 that the field of a name has. Refused as the read of the field, and as `TypeMismatch` where the field has
 /// another type. The contract says that it is the field's number in the record that the struct stands for.
 fn get_number(reader: dynamic_struct::Reader<'_>, name: &str) -> Result<u16>
-    ensures { IfOk result (λ n. Number (pos n) ≡ found_seen reader.entry (field_named (struct_records (schema_of reader.entry)) name.now)) }
+    ensures { IfOk result (λ n. Number (pos n)
+        ≡ found_seen reader.entry (field_named (struct_records (schema_of reader.entry)) name.now)) }
 {
     match reader.get_named(name)? {
         dynamic_value::Reader::UInt16(number) => Ok(number),

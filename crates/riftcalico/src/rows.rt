@@ -1,8 +1,8 @@
 //! Words and messages, and what is answered, written and told, as texts.
 //!
-//! A row is lines, and an empty line ends it. The first says what the row shows. The others begin with what they have: `:` a word of
-//! the program, `<` hexadecimal words of the message, `=` the status, `>` hexadecimal words that are written, `"` a line that is
-//! written, and `!` a line that is told.
+//! A row is lines, and an empty line ends it. The first says what the row shows. The others begin with what they have:
+//! `:` a word of the program, `<` hexadecimal words of the message, `=` the status, `>` hexadecimal words that are
+//! written, `"` a line that is written, and `!` a line that is told.
 
 /// Values at paths.
 pub const GOT: &str = "\

@@ -1,5 +1,5 @@
-//! Every kind of value, typed as a word: those at the bounds of their types, which are set and read back, and those one past
-//! them, which are told with the place of the byte that can't stand.
+//! Every kind of value, typed as a word: those at the bounds of their types, which are set and read back, and those one
+//! past them, which are told with the place of the byte that can't stand.
 use crate::tests::{
     Expected, Setting, bytes_of, comes_over, comes_to, is_unread, run_on, source_of, tells, told,
 };
@@ -7,7 +7,8 @@ use std::alloc::Global;
 use std::process::Abort;
 use std::test::Fail;
 
-/// A set of one struct, `Values`, with a field of each kind, by the public tool. Its enum has the names `red` and `green`.
+/// A set of one struct, `Values`, with a field of each kind, by the public tool. Its enum has the names `red` and
+/// `green`.
 const SET: &str = "\
 00000000b5000000 0000000000000300 0900000037000000 c901000027000000 7902000037000000 0400000003000300 \
 0b5b4fe3cdf24c8a 0500020000000000 0000000000000000 090000003a000000 0000000000000000 05000000a7010000 \

@@ -73,7 +73,8 @@ fn read_set<'s>(
 ) -> Result<std::result::Result<PlainValue<'s>, u128>>
     requires { IsStruct schema }
     ensures read { IfOk result (λ r. read_as plain_source r
-        ≡ source_given (set_of schema.entry) (type_along (set_of schema.entry) (root_type (set_of schema.entry) (number_of schema.entry)) (said.path_seen path.now)) (Set value.now place)) }
+        ≡ source_given (set_of schema.entry) (type_along (set_of schema.entry)
+        (root_type (set_of schema.entry) (number_of schema.entry)) (said.path_seen path.now)) (Set value.now place)) }
     ensures memory { IfErr result (λ e. e.kind ≡ OutOfMemory) }
 {
     let Some(target) = target_type(schema, path) else {
@@ -85,8 +86,9 @@ fn read_set<'s>(
     }
 }
 
-/// The value that a call sets under a schema, or the place in its word where that can't be read. A void where it sets nothing,
-/// or where its path leads to no field or element: such a call is refused for its path. Refused with `OutOfMemory` alone.
+/// The value that a call sets under a schema, or the place in its word where that can't be read. A void where it sets
+/// nothing, or where its path leads to no field or element: such a call is refused for its path. Refused with
+/// `OutOfMemory` alone.
 fn read_value<'s>(
     alloc: Global,
     schema: StructSchema<'s>,
@@ -94,7 +96,9 @@ fn read_value<'s>(
 ) -> Result<std::result::Result<PlainValue<'s>, u128>>
     requires { IsStruct schema }
     ensures read { IfOk result (λ r. read_as plain_source r
-        ≡ source_given (set_of schema.entry) (type_along (set_of schema.entry) (root_type (set_of schema.entry) (number_of schema.entry)) (said.path_seen call.now.path)) (said.op_seen call.now.op)) }
+        ≡ source_given (set_of schema.entry) (type_along (set_of schema.entry)
+        (root_type (set_of schema.entry) (number_of schema.entry)) (said.path_seen call.now.path))
+        (said.op_seen call.now.op)) }
     ensures memory { IfErr result (λ e. e.kind ≡ OutOfMemory) }
 {
     match &call.op {
@@ -131,8 +135,8 @@ pub fn steps_of(alloc: Global, path: &Path) -> Result<Vec<Step<'_>>>
     Ok(steps)
 }
 
-/// A call with its value and its steps, or the place in its word where the value can't be read. Refused with `OutOfMemory`
-/// alone.
+/// A call with its value and its steps, or the place in its word where the value can't be read. Refused with
+/// `OutOfMemory` alone.
 fn read_call<'s, 'c>(
     alloc: Global,
     schema: StructSchema<'s>,
@@ -140,7 +144,8 @@ fn read_call<'s, 'c>(
 ) -> Result<std::result::Result<ReadCall<'s, 'c>, u128>>
     requires { IsStruct schema }
     ensures read { IfOk result (λ r. read_as read_call_seen r
-        ≡ call_read (set_of schema.entry) (root_type (set_of schema.entry) (number_of schema.entry)) (said.call_seen word.now)) }
+        ≡ call_read (set_of schema.entry) (root_type (set_of schema.entry) (number_of schema.entry))
+        (said.call_seen word.now)) }
     ensures memory { IfErr result (λ e. e.kind ≡ OutOfMemory) }
 {
     match read_value(alloc, schema, word)? {
@@ -152,8 +157,8 @@ fn read_call<'s, 'c>(
     }
 }
 
-/// Calls with their values and their steps under a schema, or the first whose value can't be read. Refused with `OutOfMemory`
-/// alone.
+/// Calls with their values and their steps under a schema, or the first whose value can't be read. Refused with
+/// `OutOfMemory` alone.
 pub fn read_all_calls<'s, 'c>(
     alloc: Global,
     schema: StructSchema<'s>,
@@ -161,7 +166,8 @@ pub fn read_all_calls<'s, 'c>(
 ) -> Result<Read<Vec<ReadCall<'s, 'c>>>>
     requires { IsStruct schema }
     ensures read { IfOk result (λ r. all_seen read_call_seen r
-        ≡ each_read (call_read (set_of schema.entry) (root_type (set_of schema.entry) (number_of schema.entry))) 0 (map said.call_seen words.now)) }
+        ≡ each_read (call_read (set_of schema.entry) (root_type (set_of schema.entry) (number_of schema.entry))) 0
+        (map said.call_seen words.now)) }
     ensures inside { IfOk result (λ r. IfErr r (λ at. at.index < length words.now)) }
     ensures memory { IfErr result (λ e. e.kind ≡ OutOfMemory) }
 {

@@ -1,6 +1,7 @@
 //! What the program does with its words.
-ghost use Rattle.std.specs.Prelude.{◌≡◌, ◌≤◌, None, Some, map, string_bytes};
+ghost use Rattle.std.specs.Prelude.{◌≡◌, ◌≤◌, ⊤, None, Some, map, string_bytes};
 ghost use Rattle.capnp_show_engine.specs.Command.{IsTold};
+ghost use Rattle.capnp_show_engine.specs.declared.opener.FilesOpener.{FilesOpener as OfFiles};
 ghost use Rattle.riftcalico_engine.specs.Command.{Task, asked, usage_lines};
 ghost use Rattle.riftcalico_engine.specs.Ended.{IsDone, status_of, streams, told_of};
 
@@ -9,7 +10,7 @@ use crate::run::{Outcome, run};
 use capnp_patch::engine::any_refused;
 use capnp_show_engine::command::{report, tell};
 use capnp_show_engine::opener::{FilesOpener, Opener};
-use capnp_wire::device::{Sink, Source};
+use capnp_wire::device::{ReadSource, Sink, Source};
 use capnp_wire::error::Result;
 use std::alloc::Global;
 use std::rt::Files;
@@ -24,7 +25,8 @@ usage: riftcalico get [--set FILE] NAME PATH [--indent]
 /// Tells what a task ended with, as far as the sink takes it, and answers the status.
 fn tell_ended<F: Sink>(ended: &Result<Outcome>, errors: &mut F) -> u8
     ensures status { result ≡ status_of ended.now }
-    ensures told { IsTold (told_of ended.now) (F.written errors.old) (F.written errors.new) (F.failures errors.old) (F.failures errors.new) }
+    ensures told { IsTold (told_of ended.now) (F.written errors.old) (F.written errors.new) (F.failures errors.old)
+        (F.failures errors.new) }
 {
     match ended {
         Ok(Outcome::Shown) => {
@@ -46,10 +48,10 @@ fn tell_ended<F: Sink>(ended: &Result<Outcome>, errors: &mut F) -> u8
     }
 }
 
-/// Runs the program on its words over what opens files, and answers its exit status: 0 where a text or a message was written, 1
-/// where a call was refused, or the set, the message or a device, and 2 for other words, with the usage on `errors`, or for a word
-/// that can't be read, which is told with its place. Replies to calls and refusals are told on `errors`, a line each. Where a line
-/// can't be written there, the status is the same.
+/// Runs the program on its words over what opens files, and answers its exit status: 0 where a text or a message was
+/// written, 1 where a call was refused, or the set, the message or a device, and 2 for other words, with the usage on
+/// `errors`, or for a word that can't be read, which is told with its place. Replies to calls and refusals are told on
+/// `errors`, a line each. Where a line can't be written there, the status is the same.
 pub fn command_over<O: Opener, R: Source, W: Sink, F: Sink>(
     opener: &mut O,
     alloc: Global,
@@ -60,13 +62,15 @@ pub fn command_over<O: Opener, R: Source, W: Sink, F: Sink>(
 ) -> u8
     ensures statuses { result ≤ 2 }
     ensures other_words { asked (map string_bytes words.now) ≡ None → result ≡ 2 }
-    ensures usage { asked (map string_bytes words.now) ≡ None → IsTold usage_lines (F.written errors.old) (F.written errors.new)
+    ensures usage { asked (map string_bytes words.now) ≡ None
+        → IsTold usage_lines (F.written errors.old) (F.written errors.new)
         (F.failures errors.old) (F.failures errors.new) }
     ensures unopened { asked (map string_bytes words.now) ≡ None → opener.new ≡ opener.old }
     ensures unread { result ≡ 2 → source.new ≡ source.old }
     ensures unwritten { result ≡ 2 → sink.new ≡ sink.old }
     ensures done { (t : Task) → asked (map string_bytes words.now) ≡ Some t
-        → IsDone O.opens O.File.left O.File.failures opener.old opener.new (source.new ≡ source.old) (sink.new ≡ sink.old)
+        → IsDone O.opens O.File.left O.File.failures opener.old opener.new (source.new ≡ source.old)
+        (sink.new ≡ sink.old)
         (streams (R.left source.old) (R.left source.new) (W.written sink.old) (W.written sink.new)
         (R.failures source.old) (R.failures source.new) (W.failures sink.old) (W.failures sink.new))
         t result (F.written errors.old) (F.written errors.new) (F.failures errors.old) (F.failures errors.new) }
@@ -79,7 +83,8 @@ pub fn command_over<O: Opener, R: Source, W: Sink, F: Sink>(
     tell_ended(&ended, errors)
 }
 
-/// `command_over` over the files of a runtime, of which nothing is said: no contract of the system tells what a file holds.
+/// `command_over` over the files of a runtime, where any of them may be opened at a path: no contract of the system
+/// tells what a file holds.
 pub fn command<S: Files, R: Source, W: Sink, F: Sink>(
     rt: &S,
     alloc: Global,
@@ -90,10 +95,18 @@ pub fn command<S: Files, R: Source, W: Sink, F: Sink>(
 ) -> u8
     ensures statuses { result ≤ 2 }
     ensures other_words { asked (map string_bytes words.now) ≡ None → result ≡ 2 }
-    ensures usage { asked (map string_bytes words.now) ≡ None → IsTold usage_lines (F.written errors.old) (F.written errors.new)
+    ensures usage { asked (map string_bytes words.now) ≡ None
+        → IsTold usage_lines (F.written errors.old) (F.written errors.new)
         (F.failures errors.old) (F.failures errors.new) }
     ensures unread { result ≡ 2 → source.new ≡ source.old }
     ensures unwritten { result ≡ 2 → sink.new ≡ sink.old }
+    ensures done { (t : Task) → asked (map string_bytes words.now) ≡ Some t → (before : OfFiles S) × (after : OfFiles S)
+        × IsDone
+        (λ _ _ _ _. ⊤) ⟦<ReadSource<S::File> as Source>⟧.left ⟦<ReadSource<S::File> as Source>⟧.failures before after
+        (source.new ≡ source.old) (sink.new ≡ sink.old)
+        (streams (R.left source.old) (R.left source.new) (W.written sink.old) (W.written sink.new)
+        (R.failures source.old) (R.failures source.new) (W.failures sink.old) (W.failures sink.new))
+        t result (F.written errors.old) (F.written errors.new) (F.failures errors.old) (F.failures errors.new) }
 {
     let mut opener = FilesOpener::new(rt);
     command_over(&mut opener, alloc, words, source, sink, errors)

@@ -1,5 +1,5 @@
-//! Messages read and patched by words: the program `riftcalico`, from its words to its exit status, over a source and sinks in
-//! place of the standard streams.
+//! Messages read and patched by words: the program `riftcalico`, from its words to its exit status, over a source and
+//! sinks in place of the standard streams.
 #![tactic(auto)]
 
 pub mod calls;

@@ -80,7 +80,8 @@ fn read_verb(word: &str) -> Option<Verb>
 
 /// The word behind an option, where the words begin with it, and the words that follow.
 fn take_option<'a>(option: &str, words: &'a [String]) -> (Option<&'a str>, &'a [String])
-    ensures { (option_map (λ w. w.now) result.0, map string_bytes result.1.now) ≡ option_word option.now (map string_bytes words.now) }
+    ensures { (option_map (λ w. w.now) result.0, map string_bytes result.1.now)
+        ≡ option_word option.now (map string_bytes words.now) }
 {
     match words {
         [first, second, rest @ ..] => {
@@ -110,8 +111,8 @@ fn take_flag<'a>(flag: &str, words: &'a [String]) -> (bool, &'a [String])
     }
 }
 
-/// Whether a struct may have the name, which stands alone in these words: in the built-in set one has it or none, which takes no
-/// memory to tell, and a file's set isn't read yet.
+/// Whether a struct may have the name, which stands alone in these words: in the built-in set one has it or none, which
+/// takes no memory to tell, and a file's set isn't read yet.
 #[tactic(auto, using(crate::proofs::Known::known_by))]
 fn is_known(file: Option<&str>, name: &[String]) -> bool
     requires { length name.now ≡ 1 }
@@ -128,7 +129,8 @@ fn read_root<'a>(
     file: Option<&'a str>,
     words: &'a [String],
 ) -> Option<(NamedRoot<'a>, &'a [String])>
-    ensures { option_map (λ x. (root_of x.0, map string_bytes x.1.now)) result ≡ root_asked (option_map (λ f. f.now) file.entry) (map string_bytes words.now) }
+    ensures { option_map (λ x. (root_of x.0, map string_bytes x.1.now)) result
+        ≡ root_asked (option_map (λ f. f.now) file.entry) (map string_bytes words.now) }
 {
     match words {
         [] => None,
@@ -170,7 +172,8 @@ fn read_get<'a>(root: NamedRoot<'a>, words: &'a [String]) -> Option<GetRequest<'
 
 /// The words of calls: these, or where a file is named its lines, and then there are no other words.
 fn read_given<'a>(lines: Option<&'a str>, words: &'a [String]) -> Option<CallWords<'a>>
-    ensures { option_map given_of result ≡ given_asked (option_map (λ f. f.now) lines.entry) (map string_bytes words.now) }
+    ensures { option_map given_of result ≡ given_asked (option_map (λ f. f.now) lines.entry)
+        (map string_bytes words.now) }
 {
     match lines {
         None => Some(CallWords::Words(words)),
@@ -191,7 +194,9 @@ fn read_named<'a>(
     keep_going: bool,
     words: &'a [String],
 ) -> Option<CallsRequest<'a>>
-    ensures { option_map calls_task_of result ≡ kept_asked (option_map (λ f. f.now) file.entry) (option_map (λ f. f.now) lines.entry) (keep_going, map string_bytes words.now) }
+    ensures { option_map calls_task_of result
+        ≡ kept_asked (option_map (λ f. f.now) file.entry) (option_map (λ f. f.now) lines.entry)
+        (keep_going, map string_bytes words.now) }
 {
     let (root, rest) = read_root(file, words)?;
     let calls = read_given(lines, rest)?;
@@ -202,9 +207,11 @@ fn read_named<'a>(
     })
 }
 
-/// Calls on a root, and before them where the calls stand and whether a refused one keeps the message from being written.
+/// Calls on a root, and before them where the calls stand and whether a refused one keeps the message from being
+/// written.
 fn read_calls<'a>(file: Option<&'a str>, words: &'a [String]) -> Option<CallsRequest<'a>>
-    ensures { option_map calls_task_of result ≡ calls_asked (option_map (λ f. f.now) file.entry) (map string_bytes words.now) }
+    ensures { option_map calls_task_of result
+        ≡ calls_asked (option_map (λ f. f.now) file.entry) (map string_bytes words.now) }
 {
     let (lines, behind_lines) = take_option("--calls", words);
     let (keep_going, named) = take_flag("--keep-going", behind_lines);
@@ -213,7 +220,8 @@ fn read_calls<'a>(file: Option<&'a str>, words: &'a [String]) -> Option<CallsReq
 
 /// A value of the struct that the first word names.
 fn read_get_words<'a>(file: Option<&'a str>, words: &'a [String]) -> Option<Asked<'a>>
-    ensures { option_map task_of result ≡ in_set verb.Get (option_map (λ f. f.now) file.entry, map string_bytes words.now) }
+    ensures { option_map task_of result ≡ in_set verb.Get
+        (option_map (λ f. f.now) file.entry, map string_bytes words.now) }
 {
     let (root, rest) = read_root(file, words)?;
     Some(Asked::Get(read_get(root, rest)?))
@@ -221,7 +229,8 @@ fn read_get_words<'a>(file: Option<&'a str>, words: &'a [String]) -> Option<Aske
 
 /// The structs of a set, or the fields of the one that the word names.
 fn read_structs<'a>(file: Option<&'a str>, words: &'a [String]) -> Option<Asked<'a>>
-    ensures { option_map task_of result ≡ structs_asked (option_map (λ f. f.now) file.entry) (map string_bytes words.now) }
+    ensures { option_map task_of result ≡ structs_asked (option_map (λ f. f.now) file.entry)
+        (map string_bytes words.now) }
 {
     if words.is_empty() {
         return Some(Asked::Structs(file));
@@ -250,7 +259,8 @@ fn read_verb_words<'a>(verb: Verb, words: &'a [String]) -> Option<Asked<'a>>
 /// What the words ask for; none for other words:
 ///
 /// - `get [--set FILE] NAME PATH [--indent]`;
-/// - `patch` or `new`, `[--set FILE] [--calls FILE] [--keep-going] NAME CALL..`, with no call where a file of calls is named;
+/// - `patch` or `new`, `[--set FILE] [--calls FILE] [--keep-going] NAME CALL..`, with no call where a file of calls is
+///   named;
 /// - `structs [--set FILE] [NAME]`.
 ///
 /// Without `--set` a NAME that is no struct's of the built-in set makes them other words.

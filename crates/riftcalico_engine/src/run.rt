@@ -55,14 +55,21 @@ fn get_at<O: Opener, R: Source, W: Sink>(
     indented: bool,
 ) -> Result<()>
     ensures got { OnOk result (IsNamed O.opens O.File.left opener.old opener.new (root_of root.entry) (λ set b.
-        IsGot set b (path_seen path.now) indented (R.left source.old) (R.left source.new) (W.written sink.old) (W.written sink.new))) }
-    ensures refused { IfErr result (λ e. IsOfMessage e.kind → IsRootOr O.opens O.File.left opener.old opener.new (root_of root.entry) e (source.new ≡ source.old) (λ set b.
+        IsGot set b (path_seen path.now) indented (R.left source.old) (R.left source.new) (W.written sink.old)
+        (W.written sink.new))) }
+    ensures refused { IfErr result (λ e. IsOfMessage e.kind
+        → IsRootOr O.opens O.File.left opener.old opener.new (root_of root.entry) e (source.new ≡ source.old) (λ set b.
         IsNotGot set b (path_seen path.now) indented e.kind (R.left source.old) (R.left source.new))) }
-    ensures read_failed { IfErr result (λ e. e.kind ≡ ReadFailed → HasReadFailed O.opens O.File.failures opener.old opener.new (root_of root.entry).file (source.new ≡ source.old)
+    ensures read_failed { IfErr result (λ e. e.kind ≡ ReadFailed
+        → HasReadFailed O.opens O.File.failures opener.old opener.new (root_of root.entry).file
+        (source.new ≡ source.old)
         (R.failures source.old) (R.failures source.new)) }
-    ensures write_failed { IfErr result (λ e. e.kind ≡ WriteFailed → HasFailed (W.failures sink.old) (W.failures sink.new)) }
-    ensures beginning { IfErr result (λ e. e.kind ≡ WriteFailed → IsNamed O.opens O.File.left opener.old opener.new (root_of root.entry) (λ set b.
-        IsGetCutShort set b (path_seen path.now) indented (R.left source.old) (R.left source.new) (W.written sink.old) (W.written sink.new))) }
+    ensures write_failed { IfErr result (λ e. e.kind ≡ WriteFailed
+        → HasFailed (W.failures sink.old) (W.failures sink.new)) }
+    ensures beginning { IfErr result (λ e. e.kind ≡ WriteFailed
+        → IsNamed O.opens O.File.left opener.old opener.new (root_of root.entry) (λ set b.
+        IsGetCutShort set b (path_seen path.now) indented (R.left source.old) (R.left source.new) (W.written sink.old)
+        (W.written sink.new))) }
     ensures nothing { IfErr result (λ e. e.kind ≢ WriteFailed → sink.new ≡ sink.old) }
 {
     let set = read_set(alloc, opener, root.file)?;
@@ -78,18 +85,24 @@ fn run_get<O: Opener, R: Source, W: Sink>(
     source: &mut R,
     sink: &mut W,
 ) -> Result<Outcome>
-    ensures outcome { IfOk result (IsGetOutcome O.opens O.File.left O.File.failures opener.old opener.new (source.new ≡ source.old) (sink.new ≡ sink.old)
+    ensures outcome { IfOk result (IsGetOutcome O.opens O.File.left O.File.failures opener.old opener.new
+        (source.new ≡ source.old) (sink.new ≡ sink.old)
         (streams (R.left source.old) (R.left source.new) (W.written sink.old) (W.written sink.new)
-        (R.failures source.old) (R.failures source.new) (W.failures sink.old) (W.failures sink.new)) (get_task_of request.entry)) }
+        (R.failures source.old) (R.failures source.new) (W.failures sink.old) (W.failures sink.new))
+        (get_task_of request.entry)) }
     ensures refused { IfErr result (λ e. IsOfMessage e.kind → IsPath request.entry.path.now (λ path.
-        IsRootOr O.opens O.File.left opener.old opener.new (root_of request.entry.root) e (source.new ≡ source.old) (λ set b.
+        IsRootOr O.opens O.File.left opener.old opener.new (root_of request.entry.root) e (source.new ≡ source.old)
+        (λ set b.
         IsNotGot set b path request.entry.indented e.kind (R.left source.old) (R.left source.new)))) }
-    ensures read_failed { IfErr result (λ e. e.kind ≡ ReadFailed → HasReadFailed O.opens O.File.failures opener.old opener.new (root_of request.entry.root).file
+    ensures read_failed { IfErr result (λ e. e.kind ≡ ReadFailed
+        → HasReadFailed O.opens O.File.failures opener.old opener.new (root_of request.entry.root).file
         (source.new ≡ source.old) (R.failures source.old) (R.failures source.new)) }
-    ensures write_failed { IfErr result (λ e. e.kind ≡ WriteFailed → HasFailed (W.failures sink.old) (W.failures sink.new)) }
+    ensures write_failed { IfErr result (λ e. e.kind ≡ WriteFailed
+        → HasFailed (W.failures sink.old) (W.failures sink.new)) }
     ensures beginning { IfErr result (λ e. e.kind ≡ WriteFailed → IsPath request.entry.path.now (λ path.
         IsNamed O.opens O.File.left opener.old opener.new (root_of request.entry.root) (λ set b.
-        IsGetCutShort set b path request.entry.indented (R.left source.old) (R.left source.new) (W.written sink.old) (W.written sink.new)))) }
+        IsGetCutShort set b path request.entry.indented (R.left source.old) (R.left source.new) (W.written sink.old)
+        (W.written sink.new)))) }
     ensures nothing { IfErr result (λ e. e.kind ≢ WriteFailed → sink.new ≡ sink.old) }
 {
     match parse_path(alloc, request.path)? {
@@ -121,15 +134,20 @@ fn patch_read<R: Source, W: Sink>(
 ) -> Result<Report>
     requires { IsStruct schema }
     ensures made { IfOk result (λ r. AreMadeOf (map read_call_seen read.now) (λ calls.
-        IsPatched schema.entry calls keep_going r.replies.items (R.left source.old) (R.left source.new) (W.written sink.old) (W.written sink.new))) }
-    ensures lines { IfOk result (λ r. AreTold 0 (map string_bytes words.now) r.replies.items [] (string_bytes r.lines)) }
+        IsPatched schema.entry calls keep_going r.replies.items (R.left source.old) (R.left source.new)
+        (W.written sink.old) (W.written sink.new))) }
+    ensures lines { IfOk result (λ r. AreTold 0 (map string_bytes words.now) r.replies.items []
+        (string_bytes r.lines)) }
     ensures unwritten { IfOk result (λ r. is_kept keep_going r.replies.items ≡ false → sink.new ≡ sink.old) }
     ensures refused { IfErr result (λ e. IsOfMessage e.kind → AreMadeOf (map read_call_seen read.now) (λ calls.
         IsNotPatched schema.entry calls keep_going e.kind (R.left source.old) (R.left source.new))) }
-    ensures read_failed { IfErr result (λ e. e.kind ≡ ReadFailed → HasFailed (R.failures source.old) (R.failures source.new)) }
-    ensures write_failed { IfErr result (λ e. e.kind ≡ WriteFailed → HasFailed (W.failures sink.old) (W.failures sink.new)) }
+    ensures read_failed { IfErr result (λ e. e.kind ≡ ReadFailed
+        → HasFailed (R.failures source.old) (R.failures source.new)) }
+    ensures write_failed { IfErr result (λ e. e.kind ≡ WriteFailed
+        → HasFailed (W.failures sink.old) (W.failures sink.new)) }
     ensures beginning { IfErr result (λ e. e.kind ≡ WriteFailed → AreMadeOf (map read_call_seen read.now) (λ calls.
-        IsPatchCutShort schema.entry calls keep_going (R.left source.old) (R.left source.new) (W.written sink.old) (W.written sink.new))) }
+        IsPatchCutShort schema.entry calls keep_going (R.left source.old) (R.left source.new) (W.written sink.old)
+        (W.written sink.new))) }
     ensures nothing { IfErr result (λ e. e.kind ≢ WriteFailed → sink.new ≡ sink.old) }
 {
     let calls = make_calls(alloc, read)?;
@@ -148,14 +166,22 @@ fn patch_calls<R: Source, W: Sink>(
 ) -> Result<Outcome>
     requires accepted { IsStruct schema }
     requires as_many { length texts.now ≡ length words.now }
-    ensures outcome { IfOk result (IsUnderOutcome (set_of schema.entry) (number_of schema.entry) (map call_seen texts.now) (map string_bytes words.now) keep_going (source.new ≡ source.old) (sink.new ≡ sink.old)
-        (λ schema calls replies. IsPatched schema calls keep_going replies (R.left source.old) (R.left source.new) (W.written sink.old) (W.written sink.new))) }
-    ensures refused { IfErr result (λ e. IsOfMessage e.kind → AreCalls (set_of schema.entry) (number_of schema.entry) (map call_seen texts.now) (λ schema calls.
+    ensures outcome { IfOk result (IsUnderOutcome (set_of schema.entry) (number_of schema.entry)
+        (map call_seen texts.now) (map string_bytes words.now) keep_going (source.new ≡ source.old)
+        (sink.new ≡ sink.old)
+        (λ schema calls replies. IsPatched schema calls keep_going replies (R.left source.old) (R.left source.new)
+        (W.written sink.old) (W.written sink.new))) }
+    ensures refused { IfErr result (λ e. IsOfMessage e.kind
+        → AreCalls (set_of schema.entry) (number_of schema.entry) (map call_seen texts.now) (λ schema calls.
         IsNotPatched schema calls keep_going e.kind (R.left source.old) (R.left source.new))) }
-    ensures read_failed { IfErr result (λ e. e.kind ≡ ReadFailed → HasFailed (R.failures source.old) (R.failures source.new)) }
-    ensures write_failed { IfErr result (λ e. e.kind ≡ WriteFailed → HasFailed (W.failures sink.old) (W.failures sink.new)) }
-    ensures beginning { IfErr result (λ e. e.kind ≡ WriteFailed → AreCalls (set_of schema.entry) (number_of schema.entry) (map call_seen texts.now) (λ schema calls.
-        IsPatchCutShort schema calls keep_going (R.left source.old) (R.left source.new) (W.written sink.old) (W.written sink.new))) }
+    ensures read_failed { IfErr result (λ e. e.kind ≡ ReadFailed
+        → HasFailed (R.failures source.old) (R.failures source.new)) }
+    ensures write_failed { IfErr result (λ e. e.kind ≡ WriteFailed
+        → HasFailed (W.failures sink.old) (W.failures sink.new)) }
+    ensures beginning { IfErr result (λ e. e.kind ≡ WriteFailed
+        → AreCalls (set_of schema.entry) (number_of schema.entry) (map call_seen texts.now) (λ schema calls.
+        IsPatchCutShort schema calls keep_going (R.left source.old) (R.left source.new) (W.written sink.old)
+        (W.written sink.new))) }
     ensures nothing { IfErr result (λ e. e.kind ≢ WriteFailed → sink.new ≡ sink.old) }
 {
     match read_all_calls(alloc, schema, texts)? {
@@ -182,12 +208,14 @@ fn new_read<W: Sink>(
     requires { IsStruct schema }
     ensures made { IfOk result (λ r. AreMadeOf (map read_call_seen read.now) (λ calls.
         IsMade schema.entry calls keep_going r.replies.items (W.written sink.old) (W.written sink.new))) }
-    ensures lines { IfOk result (λ r. AreTold 0 (map string_bytes words.now) r.replies.items [] (string_bytes r.lines)) }
+    ensures lines { IfOk result (λ r. AreTold 0 (map string_bytes words.now) r.replies.items []
+        (string_bytes r.lines)) }
     ensures unwritten { IfOk result (λ r. is_kept keep_going r.replies.items ≡ false → sink.new ≡ sink.old) }
     ensures refused { IfErr result (λ e. IsOfMessage e.kind → AreMadeOf (map read_call_seen read.now) (λ calls.
         IsTooLarge keep_going (IsLeftOfNew schema.entry calls) e.kind)) }
     ensures read_failed { IfErr result (λ e. e.kind ≢ ReadFailed) }
-    ensures write_failed { IfErr result (λ e. e.kind ≡ WriteFailed → HasFailed (W.failures sink.old) (W.failures sink.new)) }
+    ensures write_failed { IfErr result (λ e. e.kind ≡ WriteFailed
+        → HasFailed (W.failures sink.old) (W.failures sink.new)) }
     ensures beginning { IfErr result (λ e. e.kind ≡ WriteFailed → AreMadeOf (map read_call_seen read.now) (λ calls.
         IsCutShort keep_going (IsLeftOfNew schema.entry calls) (W.written sink.old) (W.written sink.new))) }
     ensures nothing { IfErr result (λ e. e.kind ≢ WriteFailed → sink.new ≡ sink.old) }
@@ -207,13 +235,17 @@ fn new_calls<W: Sink>(
 ) -> Result<Outcome>
     requires accepted { IsStruct schema }
     requires as_many { length texts.now ≡ length words.now }
-    ensures outcome { IfOk result (IsUnderOutcome (set_of schema.entry) (number_of schema.entry) (map call_seen texts.now) (map string_bytes words.now) keep_going ⊤ (sink.new ≡ sink.old)
+    ensures outcome { IfOk result (IsUnderOutcome (set_of schema.entry) (number_of schema.entry)
+        (map call_seen texts.now) (map string_bytes words.now) keep_going ⊤ (sink.new ≡ sink.old)
         (λ schema calls replies. IsMade schema calls keep_going replies (W.written sink.old) (W.written sink.new))) }
-    ensures refused { IfErr result (λ e. IsOfMessage e.kind → AreCalls (set_of schema.entry) (number_of schema.entry) (map call_seen texts.now) (λ schema calls.
+    ensures refused { IfErr result (λ e. IsOfMessage e.kind
+        → AreCalls (set_of schema.entry) (number_of schema.entry) (map call_seen texts.now) (λ schema calls.
         IsTooLarge keep_going (IsLeftOfNew schema calls) e.kind)) }
     ensures read_failed { IfErr result (λ e. e.kind ≢ ReadFailed) }
-    ensures write_failed { IfErr result (λ e. e.kind ≡ WriteFailed → HasFailed (W.failures sink.old) (W.failures sink.new)) }
-    ensures beginning { IfErr result (λ e. e.kind ≡ WriteFailed → AreCalls (set_of schema.entry) (number_of schema.entry) (map call_seen texts.now) (λ schema calls.
+    ensures write_failed { IfErr result (λ e. e.kind ≡ WriteFailed
+        → HasFailed (W.failures sink.old) (W.failures sink.new)) }
+    ensures beginning { IfErr result (λ e. e.kind ≡ WriteFailed
+        → AreCalls (set_of schema.entry) (number_of schema.entry) (map call_seen texts.now) (λ schema calls.
         IsCutShort keep_going (IsLeftOfNew schema calls) (W.written sink.old) (W.written sink.new))) }
     ensures nothing { IfErr result (λ e. e.kind ≢ WriteFailed → sink.new ≡ sink.old) }
 {
@@ -242,15 +274,25 @@ fn patch_root<O: Opener, R: Source, W: Sink>(
 ) -> Result<Outcome>
     requires { length texts.now ≡ length words.now }
     ensures outcome { IfOk result (λ o. IsNamed O.opens O.File.left opener.old opener.new (root_of root.entry) (λ set b.
-        IsUnderOutcome set b (map call_seen texts.now) (map string_bytes words.now) keep_going (source.new ≡ source.old) (sink.new ≡ sink.old)
-        (λ schema calls replies. IsPatched schema calls keep_going replies (R.left source.old) (R.left source.new) (W.written sink.old) (W.written sink.new)) o)) }
-    ensures refused { IfErr result (λ e. IsOfMessage e.kind → IsRootOr O.opens O.File.left opener.old opener.new (root_of root.entry) e (source.new ≡ source.old) (λ set b.
-        AreCalls set b (map call_seen texts.now) (λ schema calls. IsNotPatched schema calls keep_going e.kind (R.left source.old) (R.left source.new)))) }
-    ensures read_failed { IfErr result (λ e. e.kind ≡ ReadFailed → HasReadFailed O.opens O.File.failures opener.old opener.new (root_of root.entry).file (source.new ≡ source.old)
+        IsUnderOutcome set b (map call_seen texts.now) (map string_bytes words.now) keep_going
+        (source.new ≡ source.old) (sink.new ≡ sink.old)
+        (λ schema calls replies. IsPatched schema calls keep_going replies (R.left source.old) (R.left source.new)
+        (W.written sink.old) (W.written sink.new)) o)) }
+    ensures refused { IfErr result (λ e. IsOfMessage e.kind
+        → IsRootOr O.opens O.File.left opener.old opener.new (root_of root.entry) e (source.new ≡ source.old) (λ set b.
+        AreCalls set b (map call_seen texts.now)
+        (λ schema calls. IsNotPatched schema calls keep_going e.kind (R.left source.old) (R.left source.new)))) }
+    ensures read_failed { IfErr result (λ e. e.kind ≡ ReadFailed
+        → HasReadFailed O.opens O.File.failures opener.old opener.new (root_of root.entry).file
+        (source.new ≡ source.old)
         (R.failures source.old) (R.failures source.new)) }
-    ensures write_failed { IfErr result (λ e. e.kind ≡ WriteFailed → HasFailed (W.failures sink.old) (W.failures sink.new)) }
-    ensures beginning { IfErr result (λ e. e.kind ≡ WriteFailed → IsNamed O.opens O.File.left opener.old opener.new (root_of root.entry) (λ set b.
-        AreCalls set b (map call_seen texts.now) (λ schema calls. IsPatchCutShort schema calls keep_going (R.left source.old) (R.left source.new) (W.written sink.old) (W.written sink.new)))) }
+    ensures write_failed { IfErr result (λ e. e.kind ≡ WriteFailed
+        → HasFailed (W.failures sink.old) (W.failures sink.new)) }
+    ensures beginning { IfErr result (λ e. e.kind ≡ WriteFailed
+        → IsNamed O.opens O.File.left opener.old opener.new (root_of root.entry) (λ set b.
+        AreCalls set b (map call_seen texts.now)
+        (λ schema calls. IsPatchCutShort schema calls keep_going (R.left source.old) (R.left source.new)
+        (W.written sink.old) (W.written sink.new)))) }
     ensures nothing { IfErr result (λ e. e.kind ≢ WriteFailed → sink.new ≡ sink.old) }
 {
     let set = read_set(alloc, opener, root.file)?;
@@ -268,16 +310,25 @@ fn patch_words<O: Opener, R: Source, W: Sink>(
     source: &mut R,
     sink: &mut W,
 ) -> Result<Outcome>
-    ensures outcome { IfOk result (IsCallsOutcome O.opens O.File.left opener.old opener.new (root_of root.entry) (map string_bytes words.now) keep_going (source.new ≡ source.old) (sink.new ≡ sink.old)
-        (λ schema calls replies. IsPatched schema calls keep_going replies (R.left source.old) (R.left source.new) (W.written sink.old) (W.written sink.new))) }
+    ensures outcome { IfOk result (IsCallsOutcome O.opens O.File.left opener.old opener.new (root_of root.entry)
+        (map string_bytes words.now) keep_going (source.new ≡ source.old) (sink.new ≡ sink.old)
+        (λ schema calls replies. IsPatched schema calls keep_going replies (R.left source.old) (R.left source.new)
+        (W.written sink.old) (W.written sink.new))) }
     ensures refused { IfErr result (λ e. IsOfMessage e.kind → AreSaid (map string_bytes words.now) (λ texts.
-        IsRootOr O.opens O.File.left opener.old opener.new (root_of root.entry) e (source.new ≡ source.old) (λ set b. AreCalls set b texts (λ schema calls.
+        IsRootOr O.opens O.File.left opener.old opener.new (root_of root.entry) e (source.new ≡ source.old)
+        (λ set b. AreCalls set b texts (λ schema calls.
         IsNotPatched schema calls keep_going e.kind (R.left source.old) (R.left source.new))))) }
-    ensures read_failed { IfErr result (λ e. e.kind ≡ ReadFailed → HasReadFailed O.opens O.File.failures opener.old opener.new (root_of root.entry).file (source.new ≡ source.old)
+    ensures read_failed { IfErr result (λ e. e.kind ≡ ReadFailed
+        → HasReadFailed O.opens O.File.failures opener.old opener.new (root_of root.entry).file
+        (source.new ≡ source.old)
         (R.failures source.old) (R.failures source.new)) }
-    ensures write_failed { IfErr result (λ e. e.kind ≡ WriteFailed → HasFailed (W.failures sink.old) (W.failures sink.new)) }
-    ensures beginning { IfErr result (λ e. e.kind ≡ WriteFailed → AreUnder O.opens O.File.left opener.old opener.new (root_of root.entry) (map string_bytes words.now) (λ schema calls.
-        IsPatchCutShort schema calls keep_going (R.left source.old) (R.left source.new) (W.written sink.old) (W.written sink.new))) }
+    ensures write_failed { IfErr result (λ e. e.kind ≡ WriteFailed
+        → HasFailed (W.failures sink.old) (W.failures sink.new)) }
+    ensures beginning { IfErr result (λ e. e.kind ≡ WriteFailed
+        → AreUnder O.opens O.File.left opener.old opener.new (root_of root.entry) (map string_bytes words.now)
+        (λ schema calls.
+        IsPatchCutShort schema calls keep_going (R.left source.old) (R.left source.new) (W.written sink.old)
+        (W.written sink.new))) }
     ensures nothing { IfErr result (λ e. e.kind ≢ WriteFailed → sink.new ≡ sink.old) }
 {
     match read_calls(alloc, words)? {
@@ -300,12 +351,18 @@ fn new_root<O: Opener, W: Sink>(
     ensures outcome { IfOk result (λ o. IsNamed O.opens O.File.left opener.old opener.new (root_of root.entry) (λ set b.
         IsUnderOutcome set b (map call_seen texts.now) (map string_bytes words.now) keep_going ⊤ (sink.new ≡ sink.old)
         (λ schema calls replies. IsMade schema calls keep_going replies (W.written sink.old) (W.written sink.new)) o)) }
-    ensures refused { IfErr result (λ e. IsOfMessage e.kind → IsRootOr O.opens O.File.left opener.old opener.new (root_of root.entry) e ⊤ (λ set b.
-        AreCalls set b (map call_seen texts.now) (λ schema calls. IsTooLarge keep_going (IsLeftOfNew schema calls) e.kind))) }
-    ensures read_failed { IfErr result (λ e. e.kind ≡ ReadFailed → HasSetFailed O.opens O.File.failures opener.old opener.new (root_of root.entry).file) }
-    ensures write_failed { IfErr result (λ e. e.kind ≡ WriteFailed → HasFailed (W.failures sink.old) (W.failures sink.new)) }
-    ensures beginning { IfErr result (λ e. e.kind ≡ WriteFailed → IsNamed O.opens O.File.left opener.old opener.new (root_of root.entry) (λ set b.
-        AreCalls set b (map call_seen texts.now) (λ schema calls. IsCutShort keep_going (IsLeftOfNew schema calls) (W.written sink.old) (W.written sink.new)))) }
+    ensures refused { IfErr result (λ e. IsOfMessage e.kind
+        → IsRootOr O.opens O.File.left opener.old opener.new (root_of root.entry) e ⊤ (λ set b.
+        AreCalls set b (map call_seen texts.now)
+        (λ schema calls. IsTooLarge keep_going (IsLeftOfNew schema calls) e.kind))) }
+    ensures read_failed { IfErr result (λ e. e.kind ≡ ReadFailed
+        → HasSetFailed O.opens O.File.failures opener.old opener.new (root_of root.entry).file) }
+    ensures write_failed { IfErr result (λ e. e.kind ≡ WriteFailed
+        → HasFailed (W.failures sink.old) (W.failures sink.new)) }
+    ensures beginning { IfErr result (λ e. e.kind ≡ WriteFailed
+        → IsNamed O.opens O.File.left opener.old opener.new (root_of root.entry) (λ set b.
+        AreCalls set b (map call_seen texts.now)
+        (λ schema calls. IsCutShort keep_going (IsLeftOfNew schema calls) (W.written sink.old) (W.written sink.new)))) }
     ensures nothing { IfErr result (λ e. e.kind ≢ WriteFailed → sink.new ≡ sink.old) }
 {
     let set = read_set(alloc, opener, root.file)?;
@@ -322,14 +379,20 @@ fn new_words<O: Opener, W: Sink>(
     keep_going: bool,
     sink: &mut W,
 ) -> Result<Outcome>
-    ensures outcome { IfOk result (IsCallsOutcome O.opens O.File.left opener.old opener.new (root_of root.entry) (map string_bytes words.now) keep_going ⊤ (sink.new ≡ sink.old)
+    ensures outcome { IfOk result (IsCallsOutcome O.opens O.File.left opener.old opener.new (root_of root.entry)
+        (map string_bytes words.now) keep_going ⊤ (sink.new ≡ sink.old)
         (λ schema calls replies. IsMade schema calls keep_going replies (W.written sink.old) (W.written sink.new))) }
     ensures refused { IfErr result (λ e. IsOfMessage e.kind → AreSaid (map string_bytes words.now) (λ texts.
-        IsRootOr O.opens O.File.left opener.old opener.new (root_of root.entry) e ⊤ (λ set b. AreCalls set b texts (λ schema calls.
+        IsRootOr O.opens O.File.left opener.old opener.new (root_of root.entry) e ⊤
+        (λ set b. AreCalls set b texts (λ schema calls.
         IsTooLarge keep_going (IsLeftOfNew schema calls) e.kind)))) }
-    ensures read_failed { IfErr result (λ e. e.kind ≡ ReadFailed → HasSetFailed O.opens O.File.failures opener.old opener.new (root_of root.entry).file) }
-    ensures write_failed { IfErr result (λ e. e.kind ≡ WriteFailed → HasFailed (W.failures sink.old) (W.failures sink.new)) }
-    ensures beginning { IfErr result (λ e. e.kind ≡ WriteFailed → AreUnder O.opens O.File.left opener.old opener.new (root_of root.entry) (map string_bytes words.now) (λ schema calls.
+    ensures read_failed { IfErr result (λ e. e.kind ≡ ReadFailed
+        → HasSetFailed O.opens O.File.failures opener.old opener.new (root_of root.entry).file) }
+    ensures write_failed { IfErr result (λ e. e.kind ≡ WriteFailed
+        → HasFailed (W.failures sink.old) (W.failures sink.new)) }
+    ensures beginning { IfErr result (λ e. e.kind ≡ WriteFailed
+        → AreUnder O.opens O.File.left opener.old opener.new (root_of root.entry) (map string_bytes words.now)
+        (λ schema calls.
         IsCutShort keep_going (IsLeftOfNew schema calls) (W.written sink.old) (W.written sink.new))) }
     ensures nothing { IfErr result (λ e. e.kind ≢ WriteFailed → sink.new ≡ sink.old) }
 {
@@ -347,9 +410,11 @@ fn run_patch<O: Opener, R: Source, W: Sink>(
     source: &mut R,
     sink: &mut W,
 ) -> Result<Outcome>
-    ensures { IsPatchEnded O.opens O.File.left O.File.failures opener.old opener.new (source.new ≡ source.old) (sink.new ≡ sink.old)
+    ensures { IsPatchEnded O.opens O.File.left O.File.failures opener.old opener.new (source.new ≡ source.old)
+        (sink.new ≡ sink.old)
         (streams (R.left source.old) (R.left source.new) (W.written sink.old) (W.written sink.new)
-        (R.failures source.old) (R.failures source.new) (W.failures sink.old) (W.failures sink.new)) (calls_task_of request.entry) result }
+        (R.failures source.old) (R.failures source.new) (W.failures sink.old) (W.failures sink.new))
+        (calls_task_of request.entry) result }
 {
     let keep_going = request.keep_going;
     match request.calls {
@@ -382,7 +447,8 @@ fn run_new<O: Opener, W: Sink>(
     sink: &mut W,
 ) -> Result<Outcome>
     ensures { IsNewEnded O.opens O.File.left O.File.failures opener.old opener.new ⊤ (sink.new ≡ sink.old)
-        (W.written sink.old) (W.written sink.new) (W.failures sink.old) (W.failures sink.new) (calls_task_of request.entry) result }
+        (W.written sink.old) (W.written sink.new) (W.failures sink.old) (W.failures sink.new)
+        (calls_task_of request.entry) result }
 {
     let keep_going = request.keep_going;
     match request.calls {
@@ -402,7 +468,8 @@ fn run_structs<O: Opener, W: Sink>(
     file: Option<&str>,
     sink: &mut W,
 ) -> Result<Outcome>
-    ensures { IsStructsEnded O.opens O.File.left O.File.failures opener.old opener.new (sink.new ≡ sink.old) (W.written sink.old) (W.written sink.new)
+    ensures { IsStructsEnded O.opens O.File.left O.File.failures opener.old opener.new (sink.new ≡ sink.old)
+        (W.written sink.old) (W.written sink.new)
         (W.failures sink.old) (W.failures sink.new) (option_map (λ f. f.now) file.entry) result }
 {
     match show_structs(alloc, opener, file, sink) {
@@ -418,7 +485,8 @@ fn run_fields<O: Opener, W: Sink>(
     root: NamedRoot<'_>,
     sink: &mut W,
 ) -> Result<Outcome>
-    ensures { IsFieldsEnded O.opens O.File.left O.File.failures opener.old opener.new (sink.new ≡ sink.old) (W.written sink.old) (W.written sink.new)
+    ensures { IsFieldsEnded O.opens O.File.left O.File.failures opener.old opener.new (sink.new ≡ sink.old)
+        (W.written sink.old) (W.written sink.new)
         (W.failures sink.old) (W.failures sink.new) (root_of root.entry) result }
 {
     match show_fields(alloc, opener, root, sink) {
@@ -435,9 +503,11 @@ pub fn run<O: Opener, R: Source, W: Sink>(
     source: &mut R,
     sink: &mut W,
 ) -> Result<Outcome>
-    ensures { IsEnded O.opens O.File.left O.File.failures opener.old opener.new (source.new ≡ source.old) (sink.new ≡ sink.old)
+    ensures { IsEnded O.opens O.File.left O.File.failures opener.old opener.new (source.new ≡ source.old)
+        (sink.new ≡ sink.old)
         (streams (R.left source.old) (R.left source.new) (W.written sink.old) (W.written sink.new)
-        (R.failures source.old) (R.failures source.new) (W.failures sink.old) (W.failures sink.new)) (task_of asked.entry) result }
+        (R.failures source.old) (R.failures source.new) (W.failures sink.old) (W.failures sink.new))
+        (task_of asked.entry) result }
 {
     match asked {
         Asked::Get(request) => run_get(alloc, opener, request, source, sink),

@@ -21,9 +21,12 @@ use std::alloc::Global;
 
 /// The set that a file holds as a message.
 fn read_file<O: Opener>(alloc: Global, opener: &mut O, path: &str) -> Result<SchemaSet>
-    ensures set { IfOk result (λ set. IsSetOf O.opens O.File.left opener.old opener.new (Some path.now) (lists_seen set)) }
-    ensures refused { IfErr result (λ e. IsOfMessage e.kind → IsNoSet O.opens O.File.left opener.old opener.new (Some path.now) e) }
-    ensures read_failed { IfErr result (λ e. e.kind ≡ ReadFailed → HasSetFailed O.opens O.File.failures opener.old opener.new (Some path.now)) }
+    ensures set { IfOk result (λ set. IsSetOf O.opens O.File.left opener.old opener.new (Some path.now)
+        (lists_seen set)) }
+    ensures refused { IfErr result (λ e. IsOfMessage e.kind
+        → IsNoSet O.opens O.File.left opener.old opener.new (Some path.now) e) }
+    ensures read_failed { IfErr result (λ e. e.kind ≡ ReadFailed
+        → HasSetFailed O.opens O.File.failures opener.old opener.new (Some path.now)) }
     ensures not_written { IfErr result (λ e. e.kind ≢ WriteFailed) }
 {
     let Ok(mut file) = opener.open(path) else {
@@ -38,9 +41,12 @@ fn read_file<O: Opener>(alloc: Global, opener: &mut O, path: &str) -> Result<Sch
 /// Refused with `ReadFailed` where the file can't be opened or a read of it failed, with `OutOfMemory`, and as
 /// `capnp_sets::message::read_message` refuses the set.
 pub fn read_set<O: Opener>(alloc: Global, opener: &mut O, file: Option<&str>) -> Result<SchemaSet>
-    ensures set { IfOk result (λ set. IsSetOf O.opens O.File.left opener.old opener.new (option_map (λ f. f.now) file.entry) (lists_seen set)) }
-    ensures refused { IfErr result (λ e. IsOfMessage e.kind → IsNoSet O.opens O.File.left opener.old opener.new (option_map (λ f. f.now) file.entry) e) }
-    ensures read_failed { IfErr result (λ e. e.kind ≡ ReadFailed → HasSetFailed O.opens O.File.failures opener.old opener.new (option_map (λ f. f.now) file.entry)) }
+    ensures set { IfOk result (λ set. IsSetOf O.opens O.File.left opener.old opener.new
+        (option_map (λ f. f.now) file.entry) (lists_seen set)) }
+    ensures refused { IfErr result (λ e. IsOfMessage e.kind
+        → IsNoSet O.opens O.File.left opener.old opener.new (option_map (λ f. f.now) file.entry) e) }
+    ensures read_failed { IfErr result (λ e. e.kind ≡ ReadFailed
+        → HasSetFailed O.opens O.File.failures opener.old opener.new (option_map (λ f. f.now) file.entry)) }
     ensures not_written { IfErr result (λ e. e.kind ≢ WriteFailed) }
 {
     match file {
@@ -51,7 +57,8 @@ pub fn read_set<O: Opener>(alloc: Global, opener: &mut O, file: Option<&str>) ->
 
 /// The struct of a display name. Refused with `NameNotFound` where the set has none.
 pub fn find_schema<'s>(set: &'s SchemaSet, name: &str) -> Result<StructSchema<'s>>
-    ensures found { IfOk result (λ s. IsStruct s × (set_of s ≡ lists_seen set.now) × (brand_asked (lists_seen set.now) name.now ≡ Some (number_of s))) }
+    ensures found { IfOk result (λ s. IsStruct s × (set_of s ≡ lists_seen set.now)
+        × (brand_asked (lists_seen set.now) name.now ≡ Some (number_of s))) }
     ensures missing { IfErr result (λ e. (e.kind ≡ NameNotFound) × (brand_asked (lists_seen set.now) name.now ≡ None)) }
 {
     match set.find_struct(name) {

@@ -23,20 +23,25 @@ use std::alloc::Global;
 
 /// Writes the names of the structs of a set, one a line: of the set that a file holds, or else of the built-in one.
 ///
-/// Refused as `crate::sets::read_set`, and with `WriteFailed` where a call of the sink failed: a proper beginning of the text was
-/// written then, and nothing after any other refusal.
+/// Refused as `crate::sets::read_set`, and with `WriteFailed` where a call of the sink failed: a proper beginning of
+/// the text was written then, and nothing after any other refusal.
 pub fn show_structs<O: Opener, W: Sink>(
     alloc: Global,
     opener: &mut O,
     file: Option<&str>,
     sink: &mut W,
 ) -> Result<()>
-    ensures shown { OnOk result (IsOfSet O.opens O.File.left opener.old opener.new (option_map (λ f. f.now) file.entry) (λ set.
+    ensures shown { OnOk result (IsOfSet O.opens O.File.left opener.old opener.new (option_map (λ f. f.now) file.entry)
+        (λ set.
         IsWritten (said (structs_text set)) (W.written sink.old) (W.written sink.new))) }
-    ensures refused { IfErr result (λ e. IsOfMessage e.kind → IsNoSet O.opens O.File.left opener.old opener.new (option_map (λ f. f.now) file.entry) e) }
-    ensures read_failed { IfErr result (λ e. e.kind ≡ ReadFailed → HasSetFailed O.opens O.File.failures opener.old opener.new (option_map (λ f. f.now) file.entry)) }
-    ensures write_failed { IfErr result (λ e. e.kind ≡ WriteFailed → HasFailed (W.failures sink.old) (W.failures sink.new)) }
-    ensures beginning { IfErr result (λ e. e.kind ≡ WriteFailed → IsOfSet O.opens O.File.left opener.old opener.new (option_map (λ f. f.now) file.entry) (λ set.
+    ensures refused { IfErr result (λ e. IsOfMessage e.kind
+        → IsNoSet O.opens O.File.left opener.old opener.new (option_map (λ f. f.now) file.entry) e) }
+    ensures read_failed { IfErr result (λ e. e.kind ≡ ReadFailed
+        → HasSetFailed O.opens O.File.failures opener.old opener.new (option_map (λ f. f.now) file.entry)) }
+    ensures write_failed { IfErr result (λ e. e.kind ≡ WriteFailed
+        → HasFailed (W.failures sink.old) (W.failures sink.new)) }
+    ensures beginning { IfErr result (λ e. e.kind ≡ WriteFailed
+        → IsOfSet O.opens O.File.left opener.old opener.new (option_map (λ f. f.now) file.entry) (λ set.
         IsBegun (said (structs_text set)) (W.written sink.old) (W.written sink.new))) }
     ensures nothing { IfErr result (λ e. e.kind ≢ WriteFailed → sink.new ≡ sink.old) }
 {
@@ -56,10 +61,14 @@ pub fn show_fields<O: Opener, W: Sink>(
 ) -> Result<()>
     ensures shown { OnOk result (IsNamed O.opens O.File.left opener.old opener.new (root_of root.entry) (λ set b.
         IsWritten (fields_text set b) (W.written sink.old) (W.written sink.new))) }
-    ensures refused { IfErr result (λ e. IsOfMessage e.kind → IsRootOr O.opens O.File.left opener.old opener.new (root_of root.entry) e ⊤ (λ set b. ⊥)) }
-    ensures read_failed { IfErr result (λ e. e.kind ≡ ReadFailed → HasSetFailed O.opens O.File.failures opener.old opener.new (root_of root.entry).file) }
-    ensures write_failed { IfErr result (λ e. e.kind ≡ WriteFailed → HasFailed (W.failures sink.old) (W.failures sink.new)) }
-    ensures beginning { IfErr result (λ e. e.kind ≡ WriteFailed → IsNamed O.opens O.File.left opener.old opener.new (root_of root.entry) (λ set b.
+    ensures refused { IfErr result (λ e. IsOfMessage e.kind
+        → IsRootOr O.opens O.File.left opener.old opener.new (root_of root.entry) e ⊤ (λ set b. ⊥)) }
+    ensures read_failed { IfErr result (λ e. e.kind ≡ ReadFailed
+        → HasSetFailed O.opens O.File.failures opener.old opener.new (root_of root.entry).file) }
+    ensures write_failed { IfErr result (λ e. e.kind ≡ WriteFailed
+        → HasFailed (W.failures sink.old) (W.failures sink.new)) }
+    ensures beginning { IfErr result (λ e. e.kind ≡ WriteFailed
+        → IsNamed O.opens O.File.left opener.old opener.new (root_of root.entry) (λ set b.
         IsBegun (fields_text set b) (W.written sink.old) (W.written sink.new))) }
     ensures nothing { IfErr result (λ e. e.kind ≢ WriteFailed → sink.new ≡ sink.old) }
 {

@@ -14,8 +14,8 @@ use capnp_wire::transfer::read_all;
 use std::alloc::Global;
 use std::str;
 
-/// The line of a word that can't be read: its number among the words of its kind, the word, and the place of the first byte that
-/// can't stand. Refused with `OutOfMemory` alone.
+/// The line of a word that can't be read: its number among the words of its kind, the word, and the place of the first
+/// byte that can't stand. Refused with `OutOfMemory` alone.
 pub fn put_unreadable(alloc: Global, number: u64, word: &str, place: u128) -> Result<String>
     ensures line { IfOk result (λ line. string_bytes line ≡ unreadable_line number word.now place) }
     ensures memory { IfErr result (λ e. e.kind ≡ OutOfMemory) }
@@ -72,7 +72,8 @@ pub fn read_lines<O: Opener>(
     path: &str,
 ) -> Result<std::result::Result<Vec<String>, String>>
     ensures lines { IfOk result (λ r. AreLinesOf O.opens O.File.left opener.old opener.new path.now r) }
-    ensures read_failed { IfErr result (λ e. e.kind ≡ ReadFailed → HasGivenFailed O.opens O.File.failures opener.old opener.new (in_lines path.now)) }
+    ensures read_failed { IfErr result (λ e. e.kind ≡ ReadFailed
+        → HasGivenFailed O.opens O.File.failures opener.old opener.new (in_lines path.now)) }
     ensures kinds { IfErr result (λ e. e.kind ≢ ReadFailed → e.kind ≡ OutOfMemory) }
 {
     let Ok(mut file) = opener.open(path) else {

@@ -5,22 +5,57 @@ ghost use Rattle.std.specs.Iterator.SizeHint.{IsWithinCount};
 ghost use Rattle.capnp_base.specs.Taking.{indices, TakesFirst, TakesLast, TakesNth};
 
 pub mod laws;
-mod short;
 
-pub use short::ShortListIter;
 use std::marker::PhantomData;
 
 /// A number that counts indices.
-pub trait Index {
+pub trait Index: Sized {
     ghost number: { Self → ℕ };
+
+    // The largest of them.
+    ghost largest: { ℕ };
+
+    /// The index of a number, which is at most the largest.
+    fn from_number(index: u32) -> Self
+        requires { index ≤ largest }
+        ensures { Self.number result ≡ index };
+
+    /// Its number.
+    fn to_number(self) -> u32
+        ensures number { result ≡ Self.number self }
+        ensures bound { result ≤ largest };
 }
 
 impl Index for u16 {
     ghost number = { λ i. i };
+
+    ghost largest = { 65535 };
+
+    #[inline(always)]
+    fn from_number(index: u32) -> u16 {
+        index as u16
+    }
+
+    #[inline(always)]
+    fn to_number(self) -> u32 {
+        self as u32
+    }
 }
 
 impl Index for u32 {
     ghost number = { λ i. i };
+
+    ghost largest = { 4294967295 };
+
+    #[inline(always)]
+    fn from_number(index: u32) -> u32 {
+        index
+    }
+
+    #[inline(always)]
+    fn to_number(self) -> u32 {
+        self
+    }
 }
 
 /// A list that answers its items by their indices.
@@ -37,30 +72,38 @@ pub trait IndexMove<I: Index, T> {
         ensures { answers self.now (I.number index) result };
 }
 
-/// The items of a list at the indices still to come, which are taken from both ends. Indices are counted by a `u32`.
+/// The items of a list whose indices are counted by a `u32`.
+pub type ListIter<T, U> = IndexIter<T, u32, U>;
+
+/// The items of a list whose indices are counted by a `u16`.
+pub type ShortListIter<T, U> = IndexIter<T, u16, U>;
+
+/// The items of a list at the indices still to come, which are taken from both ends.
 ///
 /// Each item is given at most once. At its end it stays there.
 #[derive(Drop)]
-pub struct ListIter<T: IndexMove<u32, U>, U> {
-    marker: PhantomData<U>,
+pub struct IndexIter<T: IndexMove<I, U>, I: Index, U> {
+    marker: PhantomData<(I, U)>,
     list: T,
     index: u32,
     size: u32,
     ghost in_order: { index ≤ size },
     ghost answered: { size ≤ T.count list },
+    ghost counted: { size ≤ I.largest },
 }
 
-impl<U, T: IndexMove<u32, U>> ListIter<T, U> {
-    ghost use Rattle.capnp_base.specs.ListIter.{source, to_come};
+impl<U, I: Index, T: IndexMove<I, U>> IndexIter<T, I, U> {
+    ghost use Rattle.capnp_base.specs.IndexIter.{source, to_come};
 
     /// The items at all indices below `size`, which the list has to answer.
-    #[tactic(auto, unfolding(crate::specs::ListIter::source, crate::specs::ListIter::to_come))]
-    pub fn new(list: T, size: u32) -> Self
-        requires { size ≤ T.count list }
+    #[tactic(auto, unfolding(crate::specs::IndexIter::source, crate::specs::IndexIter::to_come))]
+    pub fn new(list: T, size: I) -> Self
+        requires { I.number size ≤ T.count list }
         ensures source { source result ≡ list }
-        ensures to_come { to_come result ≡ indices 0 size }
+        ensures to_come { to_come result ≡ indices 0 (I.number size) }
     {
-        ListIter {
+        let size = size.to_number();
+        IndexIter {
             marker: PhantomData,
             list,
             index: 0,
@@ -69,7 +112,7 @@ impl<U, T: IndexMove<u32, U>> ListIter<T, U> {
     }
 
     /// The number of items still to come.
-    #[tactic(auto, using(crate::proofs::Indices::count_of_indices), unfolding(crate::specs::ListIter::to_come))]
+    #[tactic(auto, using(crate::proofs::Indices::count_of_indices), unfolding(crate::specs::IndexIter::to_come))]
     fn count_left(&self) -> usize
         ensures { result ≡ length (to_come self.now) }
     {
@@ -77,8 +120,8 @@ impl<U, T: IndexMove<u32, U>> ListIter<T, U> {
     }
 }
 
-impl<U: Drop, T: IndexMove<u32, U> + Drop> ListIter<T, U> {
-    ghost use Rattle.capnp_base.specs.ListIter.{source, to_come};
+impl<U: Drop, I: Index + Drop, T: IndexMove<I, U> + Drop> IndexIter<T, I, U> {
+    ghost use Rattle.capnp_base.specs.IndexIter.{source, to_come};
 
     /// Passes over `skipped` items and gives the next one. Where at most `skipped` are left it gives none, and none are
     /// left then, also where no index is that large. It is the `nth` of `Iterator`.
@@ -89,8 +132,8 @@ impl<U: Drop, T: IndexMove<u32, U> + Drop> ListIter<T, U> {
     }
 }
 
-impl<U, T: IndexMove<u32, U> + Drop> Iterator for ListIter<T, U> {
-    ghost use Rattle.capnp_base.specs.ListIter.{source, to_come};
+impl<U, I: Index, T: IndexMove<I, U> + Drop> Iterator for IndexIter<T, I, U> {
+    ghost use Rattle.capnp_base.specs.IndexIter.{source, to_come};
 
     type Item = U;
 
@@ -100,7 +143,7 @@ impl<U, T: IndexMove<u32, U> + Drop> Iterator for ListIter<T, U> {
 
     fn next(&mut self) -> Option<U> {
         if self.index < self.size {
-            let item = self.list.index_move(self.index);
+            let item = self.list.index_move(I::from_number(self.index));
             self.index += 1;
             Some(item)
         } else {
@@ -119,21 +162,21 @@ impl<U, T: IndexMove<u32, U> + Drop> Iterator for ListIter<T, U> {
     }
 }
 
-impl<U, T: IndexMove<u32, U> + Drop> ExactSizeIterator for ListIter<T, U> {
+impl<U, I: Index, T: IndexMove<I, U> + Drop> ExactSizeIterator for IndexIter<T, I, U> {
     fn len(&self) -> usize {
         self.count_left()
     }
 }
 
-impl<U, T: IndexMove<u32, U> + Drop> DoubleEndedIterator for ListIter<T, U> {
-    ghost use Rattle.capnp_base.specs.ListIter.{source, to_come};
+impl<U, I: Index, T: IndexMove<I, U> + Drop> DoubleEndedIterator for IndexIter<T, I, U> {
+    ghost use Rattle.capnp_base.specs.IndexIter.{source, to_come};
 
     ghost next_back_gives = { TakesLast source to_come T.answers };
 
     fn next_back(&mut self) -> Option<U> {
         if self.index < self.size {
             self.size -= 1;
-            Some(self.list.index_move(self.size))
+            Some(self.list.index_move(I::from_number(self.size)))
         } else {
             None
         }

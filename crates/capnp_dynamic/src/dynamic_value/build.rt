@@ -2,15 +2,15 @@
 ghost use Rattle.std.specs.Prelude.{◌≡◌};
 ghost use Rattle.capnp_dynamic.specs.BuiltKinds.{IsBuiltStructAnd};
 ghost use Rattle.capnp_dynamic.specs.BuiltValues.{CanBeRead, IsReaderOf, StandsAs};
-ghost use Rattle.capnp_dynamic.specs.Built.{built_schema, struct_behind};
+ghost use Rattle.capnp_dynamic.specs.Built.{built_schema, handle_of};
 ghost use Rattle.capnp_dynamic_readers.specs.Typed.{struct_type};
 ghost use Rattle.capnp_schema.specs.Types.{seen_type};
 ghost use Rattle.capnp_dynamic.specs.declared.dynamic_value.build.Builder.{Builder};
 
 use crate::dynamic_value::{Enum, Reader};
 use crate::{dynamic_list, dynamic_struct};
-use capnp_base::traits::OwnedStruct;
-use capnp_base::{any_pointer, data, text};
+use capnp_builders::traits::OwnedStruct;
+use capnp_builders::{any_pointer, data, text};
 use std::marker::PhantomData;
 
 /// A value that is built: a number is what stood there, and the others can be written through.
@@ -85,15 +85,15 @@ impl<'a> Builder<'a> {
             Builder::UInt64(x) => Builder::UInt64(*x),
             Builder::Enum(x) => Builder::Enum(*x),
             Builder::Text(x) => Builder::Text(x.reborrow()),
-            Builder::Data(x) => Builder::Data(&mut **x),
+            Builder::Data(x) => Builder::Data(x.reborrow()),
             Builder::Struct(x) => Builder::Struct(x.reborrow()),
             Builder::List(x) => Builder::List(x.reborrow()),
             Builder::AnyPointer(x) => Builder::AnyPointer(x.reborrow()),
         }
     }
 
-    /// A reader of the value for as long as the builder would be there; a struct, a list and an untyped pointer are read with
-    /// 64 levels. The value has to be one that a builder handed out (`CanBeRead`).
+    /// A reader of the value for as long as the builder would be there; a struct, a list and an untyped pointer are
+    /// read with 64 levels. The value has to be one that a builder handed out (`CanBeRead`).
     pub fn into_reader(self) -> Reader<'a>
         requires { CanBeRead self }
         ensures { IsReaderOf self.entry result }
@@ -111,7 +111,7 @@ impl<'a> Builder<'a> {
             Builder::UInt64(x) => Reader::UInt64(x),
             Builder::Enum(x) => Reader::Enum(x),
             Builder::Text(x) => Reader::Text(x.into_reader()),
-            Builder::Data(x) => Reader::Data(&*x),
+            Builder::Data(x) => Reader::Data(x.into_reader()),
             Builder::Struct(x) => Reader::Struct(x.into_reader()),
             Builder::List(x) => Reader::List(x.into_reader()),
             Builder::AnyPointer(x) => Reader::AnyPointer(x.into_reader()),
@@ -129,7 +129,7 @@ impl<'a> Builder<'a> {
     /// The struct that it holds, by the handle of a struct type, which has to be that of the struct's schema.
     pub fn downcast_struct<T: OwnedStruct<'a>>(self) -> T::Builder
         requires { IsBuiltStructAnd self (λ s. seen_type T.type_of ≡ struct_type (built_schema s)) }
-        ensures { IsBuiltStructAnd self.entry (λ s. T.Builder.from_gives (struct_behind s) result) }
+        ensures { IsBuiltStructAnd self.entry (λ s. T.Builder.from_gives (handle_of s) result) }
     {
         match self {
             Builder::Struct(inner) => inner.downcast::<T>(),

@@ -6,7 +6,7 @@ ghost use Rattle.capnp_dynamic.specs.declared.dynamic_value.build.Builder.TheVar
 
 use crate::dynamic_value::{Builder, DowncastBuilder, Enum, Kept};
 use crate::{dynamic_list, dynamic_struct};
-use capnp_base::{any_pointer, data, text};
+use capnp_builders::{any_pointer, data, text};
 
 impl<'a> DowncastBuilder<'a> for () {
     ghost value_of = { λ _. built.Void };

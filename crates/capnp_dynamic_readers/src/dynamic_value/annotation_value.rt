@@ -23,8 +23,8 @@ impl<'s> AnnotationValue<'s> for Annotation<'s> {
     ghost gives = { λ x r. answered r ≡ annotation_read x };
 
     /// The value of the annotation: a void, a truth value, a number, a text or data whatever its type, and an enum, a
-    /// struct, a list and an untyped pointer under their type; refused as `TypeMismatch` under another. A struct or list
-    /// is read on 64 levels, and refused as one behind a pointer is.
+    /// struct, a list and an untyped pointer under their type; refused as `TypeMismatch` under another. A struct or
+    /// list is read on 64 levels, and refused as one behind a pointer is.
     fn get_value(self) -> Result<dynamic_value::Reader<'s>> {
         dynamic_value::Reader::new(self.get_set(), self.get_value_view(), self.get_type())
     }

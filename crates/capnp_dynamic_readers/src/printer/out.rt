@@ -53,8 +53,8 @@ impl Made {
         }
     }
 
-    /// Appends the whole text to another string, or leaves that as it was. A string without text takes this one over, so
-    /// that no second one is made. Refused with `OutOfMemory` alone.
+    /// Appends the whole text to another string, or leaves that as it was. A string without text takes this one over,
+    /// so that no second one is made. Refused with `OutOfMemory` alone.
     pub(crate) fn append_to(self, out: &mut String) -> capnp_wire::error::Result<()>
         ensures appended { OnOk result (string_bytes out.new ≡ string_bytes out.old ++ made_bytes self) }
         ensures unchanged { OnErr result (string_bytes out.new ≡ string_bytes out.old) }

@@ -123,8 +123,8 @@ fn entering_refusal(kind: ErrorKind) -> ErrorKind
     }
 }
 
-/// The refusal of a value of a type that can't be read, where so many levels are left: with none, a pointer of another kind
-/// is too deep before it is another kind.
+/// The refusal of a value of a type that can't be read, where so many levels are left: with none, a pointer of another
+/// kind is too deep before it is another kind.
 pub(crate) fn refusal(value_type: Type, left: u32, error: Error) -> Error
     ensures { result.kind ≡ fault_at left (seen_type value_type) error.kind }
 {

@@ -14,6 +14,7 @@ use crate::printer::parts::{
 };
 use crate::printer::pieces::{one_deeper, print_leaf, put, put_line, put_separator};
 use crate::{dynamic_list, dynamic_struct};
+use capnp_schema::record::NO_DISCRIMINANT;
 use capnp_schema::schema::Field;
 use capnp_wire::error::{Error, ErrorKind};
 
@@ -77,8 +78,10 @@ fn print_elements<O: Out>(
     at: Option<u64>,
     out: &mut O,
 ) -> Result<(), Stop<O::Error>>
-    ensures put { OnOk result (IsPut (O.text out.old) (more_text at true (element_items left at list.entry 0 (count_of list.entry))) (O.text out.new)) }
-    ensures stopped { IfErr result (IsStopped (O.text out.old) (more_text at true (element_items left at list.entry 0 (count_of list.entry)))) }
+    ensures put { OnOk result (IsPut (O.text out.old)
+        (more_text at true (element_items left at list.entry 0 (count_of list.entry))) (O.text out.new)) }
+    ensures stopped { IfErr result (IsStopped (O.text out.old)
+        (more_text at true (element_items left at list.entry 0 (count_of list.entry)))) }
 {
     for i in 0..list.len() {
         put_separator(at, i == 0, out)?;
@@ -128,8 +131,10 @@ fn print_items<O: Out>(
     at: Option<u64>,
     out: &mut O,
 ) -> Result<(), Stop<O::Error>>
-    ensures put { OnOk result (IsPut (O.text out.old) (more_text at true (record_items left at reader.entry)) (O.text out.new)) }
-    ensures stopped { IfErr result (IsStopped (O.text out.old) (more_text at true (record_items left at reader.entry))) }
+    ensures put { OnOk result (IsPut (O.text out.old) (more_text at true (record_items left at reader.entry))
+        (O.text out.new)) }
+    ensures stopped { IfErr result (IsStopped (O.text out.old)
+        (more_text at true (record_items left at reader.entry))) }
 {
     let Ok(fields) = reader.get_schema().get_fields() else {
         unreachable!()
@@ -165,12 +170,13 @@ fn print_field<'a, O: Out>(
 ) -> Result<Progress<'a>, Stop<O::Error>>
     requires field { IsFieldOf (schema_of reader) (index_of field) field }
     requires pending { IsPending reader progress.pending }
-    ensures put { IfOk result (FieldPut left at reader.entry field.entry progress.entry (O.text out.old) (O.text out.new)) }
+    ensures put { IfOk result (FieldPut left at reader.entry field.entry progress.entry (O.text out.old)
+        (O.text out.new)) }
     ensures stopped { IfErr result (AreStopped at progress.entry.first
         (field_items left at reader.entry (field_in reader.entry field.entry) (index_of field.entry)
         (pending_member left at reader.entry progress.entry.pending)) (O.text out.old)) }
 {
-    if field.get_proto().discriminant_value != 65535 {
+    if field.get_proto().discriminant_value != NO_DISCRIMINANT {
         return Ok(progress);
     }
     let now = match print_before(reader, field, progress, left, at, out) {
@@ -200,7 +206,8 @@ fn print_before<'a, O: Out>(
     out: &mut O,
 ) -> Result<Progress<'a>, Stop<O::Error>>
     requires pending { IsPending reader progress.pending }
-    ensures put { IfOk result (MemberPut left at reader.entry field.entry progress.entry (O.text out.old) (O.text out.new)) }
+    ensures put { IfOk result (MemberPut left at reader.entry field.entry progress.entry (O.text out.old)
+        (O.text out.new)) }
     ensures stopped { IfErr result (AreStopped at progress.entry.first
         (before (pending_member left at reader.entry progress.entry.pending) (index_of field.entry)) (O.text out.old)) }
 {
@@ -230,9 +237,11 @@ fn print_member<'a, O: Out>(
     out: &mut O,
 ) -> Result<bool, Stop<O::Error>>
     requires pending { IsPending reader (Some member) }
-    ensures put { IfOk result (λ still. ArePut at first (member_items left at reader.entry (field_in reader.entry member.entry)) still (O.text out.old)
+    ensures put { IfOk result (λ still. ArePut at first
+        (member_items left at reader.entry (field_in reader.entry member.entry)) still (O.text out.old)
         (O.text out.new)) }
-    ensures stopped { IfErr result (AreStopped at first (member_items left at reader.entry (field_in reader.entry member.entry)) (O.text out.old)) }
+    ensures stopped { IfErr result (AreStopped at first
+        (member_items left at reader.entry (field_in reader.entry member.entry)) (O.text out.old)) }
 {
     if !is_shown(reader, member) {
         return Ok(first);
@@ -254,9 +263,11 @@ fn print_item<O: Out>(
     out: &mut O,
 ) -> Result<(), Stop<O::Error>>
     requires field { IsFieldOf (schema_of reader) (index_of field) field }
-    ensures put { OnOk result (ArePut at first (field_item left at reader.entry (field_in reader.entry field.entry) ∷ []) false (O.text out.old)
+    ensures put { OnOk result (ArePut at first
+        (field_item left at reader.entry (field_in reader.entry field.entry) ∷ []) false (O.text out.old)
         (O.text out.new)) }
-    ensures stopped { IfErr result (AreStopped at first (field_item left at reader.entry (field_in reader.entry field.entry) ∷ []) (O.text out.old)) }
+    ensures stopped { IfErr result (AreStopped at first
+        (field_item left at reader.entry (field_in reader.entry field.entry) ∷ []) (O.text out.old)) }
 {
     put_separator(at, first, out)?;
     put(field.get_proto().name.as_str(), out)?;
@@ -274,8 +285,10 @@ fn print_part<O: Out>(
     out: &mut O,
 ) -> Result<(), Stop<O::Error>>
     requires field { IsFieldOf (schema_of reader) (index_of field) field }
-    ensures put { OnOk result (IsPut (O.text out.old) (field_shown left at reader.entry (field_in reader.entry field.entry)) (O.text out.new)) }
-    ensures stopped { IfErr result (IsStopped (O.text out.old) (field_shown left at reader.entry (field_in reader.entry field.entry))) }
+    ensures put { OnOk result (IsPut (O.text out.old)
+        (field_shown left at reader.entry (field_in reader.entry field.entry)) (O.text out.new)) }
+    ensures stopped { IfErr result (IsStopped (O.text out.old)
+        (field_shown left at reader.entry (field_in reader.entry field.entry))) }
 {
     match read_part(reader, field) {
         Ok(Part::Group(group)) => print_record(group, left, at, out),

@@ -16,7 +16,7 @@ use Rattle.capnp_schema.specs.Checking.Fields.{FieldStands, FieldsStand}
 use Rattle.capnp_schema.proofs.FoundEntries.{found_field, found_node}
 
 -- a refusal that names a broken rule
-pub refused : (set : Schemas) (kind : ErrorKind) (rule : ℕ) (table : SchemaTable) (entry field : ℕ) → kind ≡ error.Schema rule table entry field → IsBroken set rule table entry field → IsKindOf set kind
+pub refused : (set : Schemas) (kind : ErrorKind) (rule : ℕ) (table : SchemaTable) (entry field : ℕ) → kind ≡ error.Schema table field rule entry → IsBroken set rule table entry field → IsKindOf set kind
 refused set kind rule table entry field is broken = subst (IsKindOf set) (sym is) broken
 
 module _ (set : Schemas) (b i : ℕ) (f : TypedField) (in_brands : b < length set.brands) (found : Some f ≡ slice_get (fields_of set b) i) where

@@ -9,7 +9,7 @@ pub(crate) const WHOLE: u16 = 65535;
 
 /// A rule is broken by the record of that number, at that field.
 pub(crate) fn refusal(rule: u32, table: SchemaTable, entry: usize, field: u16) -> Error
-    ensures { result.kind ≡ Schema rule table entry field }
+    ensures { result.kind ≡ Schema table field rule entry }
 {
     Error {
         kind: ErrorKind::Schema {

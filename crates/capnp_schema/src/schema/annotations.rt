@@ -71,7 +71,7 @@ impl<'s> AnnotationList<'s> {
     ghost use Rattle.std.specs.Prelude.{[], ◌↔◌, IfSome, IsTrue, Some, slice_get};
     ghost use Rattle.std.specs.Option.{option_map};
     ghost use Rattle.capnp_base.specs.Taking.{indices};
-    ghost use Rattle.capnp_base.specs.ListIter as list_iter;
+    ghost use Rattle.capnp_base.specs.IndexIter.{source, to_come};
     ghost use Rattle.capnp_schema.specs.Schema.{enum_at, field_at, node_of, seen_annotations};
     ghost use Rattle.capnp_schema.specs.Annotated.{annotations_of, enum_annotations, enumerant_annotations, enumerant_at};
     ghost use Rattle.capnp_schema.specs.Annotated.{field_annotations, first_of_id, struct_annotations, with_types};
@@ -219,8 +219,8 @@ impl<'s> AnnotationList<'s> {
 
     /// The annotations from the first to the last, taken from both ends.
     pub fn iter(self) -> ListIter<AnnotationList<'s>, Annotation<'s>>
-        ensures source { list_iter.source result ≡ self.entry }
-        ensures to_come { list_iter.to_come result ≡ indices 0 (length (annotations_in self.entry)) }
+        ensures source { source result ≡ self.entry }
+        ensures to_come { to_come result ≡ indices 0 (length (annotations_in self.entry)) }
     {
         ListIter::new(self, self.len())
     }
@@ -240,7 +240,7 @@ impl<'s> IndexMove<u32, Annotation<'s>> for AnnotationList<'s> {
 }
 
 impl<'s> IntoIterator for AnnotationList<'s> {
-    ghost use Rattle.capnp_base.specs.ListIter.{GoesOverAll};
+    ghost use Rattle.capnp_base.specs.IndexIter.{GoesOverAll};
     ghost use Rattle.capnp_schema.specs.AnnotationLists.{annotations_in};
 
     type Item = Annotation<'s>;

@@ -142,7 +142,7 @@ pub struct EnumerantList<'s> {
 impl<'s> EnumerantList<'s> {
     ghost use Rattle.std.specs.Prelude.{◌↔◌, IsTrue};
     ghost use Rattle.capnp_base.specs.Taking.{indices};
-    ghost use Rattle.capnp_base.specs.ShortListIter as short_list_iter;
+    ghost use Rattle.capnp_base.specs.IndexIter.{source, to_come};
     ghost use Rattle.capnp_schema.specs.Enumerants.{IsEnumerantOf, enum_of_list, enumerants_in};
 
     /// How many enumerants there are.
@@ -176,8 +176,8 @@ impl<'s> EnumerantList<'s> {
 
     /// The enumerants from the first to the last, taken from both ends.
     pub fn iter(self) -> ShortListIter<EnumerantList<'s>, Enumerant<'s>>
-        ensures source { short_list_iter.source result ≡ self.entry }
-        ensures to_come { short_list_iter.to_come result ≡ indices 0 (length (enumerants_in self.entry)) }
+        ensures source { source result ≡ self.entry }
+        ensures to_come { to_come result ≡ indices 0 (length (enumerants_in self.entry)) }
     {
         ShortListIter::new(self, self.len())
     }
@@ -196,7 +196,7 @@ impl<'s> IndexMove<u16, Enumerant<'s>> for EnumerantList<'s> {
 }
 
 impl<'s> IntoIterator for EnumerantList<'s> {
-    ghost use Rattle.capnp_base.specs.ShortListIter.{GoesOverAll};
+    ghost use Rattle.capnp_base.specs.IndexIter.{GoesOverAll};
     ghost use Rattle.capnp_schema.specs.Enumerants.{enumerants_in};
 
     type Item = Enumerant<'s>;

@@ -13,7 +13,7 @@ pub struct FieldList<'s> {
 }
 
 impl<'s> FieldList<'s> {
-    ghost use Rattle.capnp_base.specs.ShortListIter.{source, to_come};
+    ghost use Rattle.capnp_base.specs.IndexIter.{source, to_come};
     ghost use Rattle.capnp_schema.specs.StructHandles.{struct_fields};
     ghost use Rattle.capnp_schema.specs.FieldLists.{IsFieldOf, list_schema};
 
@@ -69,7 +69,7 @@ impl<'s> IndexMove<u16, Field<'s>> for FieldList<'s> {
 }
 
 impl<'s> IntoIterator for FieldList<'s> {
-    ghost use Rattle.capnp_base.specs.ShortListIter.{GoesOverAll};
+    ghost use Rattle.capnp_base.specs.IndexIter.{GoesOverAll};
     ghost use Rattle.capnp_schema.specs.StructHandles.{struct_fields};
     ghost use Rattle.capnp_schema.specs.FieldLists.{list_schema};
 

@@ -17,7 +17,7 @@ pub struct FieldSubset<'s> {
 }
 
 impl<'s> FieldSubset<'s> {
-    ghost use Rattle.capnp_base.specs.ShortListIter.{source, to_come};
+    ghost use Rattle.capnp_base.specs.IndexIter.{source, to_come};
     ghost use Rattle.capnp_schema.specs.FieldLists.{IsFieldOf, subset_indices, subset_schema};
 
     /// The fields of those indices.
@@ -74,7 +74,7 @@ impl<'s> IndexMove<u16, Field<'s>> for FieldSubset<'s> {
 }
 
 impl<'s> IntoIterator for FieldSubset<'s> {
-    ghost use Rattle.capnp_base.specs.ShortListIter.{GoesOverAll};
+    ghost use Rattle.capnp_base.specs.IndexIter.{GoesOverAll};
     ghost use Rattle.capnp_schema.specs.FieldLists.{subset_indices};
 
     type Item = Field<'s>;

@@ -9,7 +9,3 @@ part_next before after part rest whole a h = ap (λ x. x ++ rest) a ∙ append_a
 -- two parts, one after the other
 pub append_two : (before mid after a b : List ℕ) → mid ≡ before ++ a → after ≡ mid ++ b → after ≡ before ++ (a ++ b)
 append_two before mid after a b x y = y ∙ ap (λ z. z ++ b) x ∙ append_assoc before a b
-
--- four parts, one after another
-pub append_four : (o o1 o2 o3 o4 a b w x : List ℕ) → o1 ≡ o ++ a → o2 ≡ o1 ++ b → o3 ≡ o2 ++ w → o4 ≡ o3 ++ x → o4 ≡ o ++ (a ++ (b ++ (w ++ x)))
-append_four o o1 o2 o3 o4 a b w x p q r s = append_two o o1 o4 a (b ++ (w ++ x)) p (append_two o1 o2 o4 b (w ++ x) q (append_two o2 o3 o4 w x r s))

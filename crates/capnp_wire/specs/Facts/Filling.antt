@@ -1,12 +1,11 @@
 -- Pointers and elements that are put into room left for them, one after another.
 use Rattle.std.proofs.Common.{◌≡◌, ℕ, ◌+◌, ◌-◌, ◌*◌, ◌<◌, ◌≤◌, ◌^◌, List, [], ◌++◌, length, take, drop, replicate, refl, sym, ap, ◌∙◌, arith}
 use Rattle.std.proofs.lemmas.List.{append_assoc, append-nil, take_at, drop_at, drop_all, drop-append-le, drop-drop, length-append, length-drop, length-replicate, length-take-le}
-use Rattle.capnp_wire.specs.Tree.{Tree, Trees, Composite, MoreTrees, Structs, MoreStructs, StructTree, empty_structs, tree_count, struct_count}
+use Rattle.capnp_wire.specs.Tree.{Tree, Trees, Composite, MoreTrees, Structs, MoreStructs, StructTree, tree_count, struct_count}
 use Rattle.capnp_wire.specs.Words.{words_of, words_of_all, words_below_all}
 use Rattle.capnp_wire.specs.WellFormed.{AreElements, AreWellFormed}
 use Rattle.capnp_wire.specs.Encoding.{spelled, struct_word, pointer_word, pointer_row, element_row, bytes_of, bytes_of_all, bytes_below_all}
 use Rattle.capnp_wire.specs.Filling.{put, words_from, row_end, HasRoom, with_pointers, with_encoded_element, elements_end, HaveRoom, with_encoded_elements}
-use Rattle.capnp_wire.specs.Facts.EmptyStructs.{bytes_below-empty_structs, element_row-empty_structs, struct_count-empty_structs}
 use Rattle.capnp_wire.specs.Facts.Appending.{append_two}
 use Rattle.capnp_wire.specs.Facts.EncodedSizes.{length_bytes_of, length_bytes_of_all, length_pointer_row, length_element, length_element_row}
 
@@ -145,11 +144,3 @@ composite_last d p at n es old b o o2 tag w f a e q held h =
     let first : b ≡ old ++ x = f ∙ ap (λ k. old ++ spelled 8 k) (w ∙ ap (λ k. struct_word k d p) e) in
     append_two old b o2 x (element_row (d + p) 0 es ++ bytes_below_all es) first (elements_last d p at n es b o o2 a e q held h)
     ∙ ap (λ z. old ++ z) (sym (append_assoc x (element_row (d + p) 0 es) (bytes_below_all es)))
-
--- a composite list of structs of size zero is its tag
-pub empty_structs_spelled : (count : ℕ) → spelled 8 (struct_word count 0 0) ≡ bytes_of (Composite 0 0 (empty_structs count))
-empty_structs_spelled count =
-    let es : Structs = empty_structs count in
-    let tag : List ℕ = spelled 8 (struct_word (struct_count es) 0 0) in
-    sym (ap (λ z. (tag ++ element_row 0 0 es) ++ z) (bytes_below-empty_structs count) ∙ append-nil (tag ++ element_row 0 0 es)
-    ∙ ap (λ z. tag ++ z) (element_row-empty_structs 0 count) ∙ append-nil tag ∙ ap (λ n. spelled 8 (struct_word n 0 0)) (struct_count-empty_structs count))

@@ -1,9 +1,8 @@
 -- Trees and structs in a row, by their index.
-use Rattle.std.proofs.Common.{◌≡◌, ℕ, zero, suc, ◌+◌, ◌<◌, ◌≤◌, List, [], ◌∷◌, length, take, drop, refl, ap, ◌∙◌, arith, map, get_or, false}
+use Rattle.std.proofs.Common.{◌≡◌, ℕ, zero, suc, ◌+◌, ◌<◌, ◌≤◌, List, length, refl, ap, ◌∙◌, arith, get_or, false}
 use Rattle.capnp_wire.specs.Tree.{Tree, Null, StructTree, empty_struct, nth_tree, only_tree, nth_struct, trees_from, structs_from, tree_count, struct_count, MoreTrees, NoTrees}
 use Rattle.capnp_wire.specs.Slot.{bit_at}
 use Rattle.capnp_wire.specs.Place.{bits_from}
-use Rattle.capnp_wire.specs.Objects.{trees_of, structs_of}
 pub use Rattle.capnp_wire.specs.Facts.Rows.{nth_struct-from, nth_struct-start}
 
 pub nth_tree-from : (f : ℕ → Tree) (a n i : ℕ) → i < n → nth_tree (trees_from f a n) i ≡ f (a + i)
@@ -28,42 +27,10 @@ only_tree-past f a zero i h = refl
 only_tree-past f a (suc n) zero h = absurd (omega arith)
 only_tree-past f a (suc n) (suc i) h = only_tree-past f (suc a) n i (omega arith)
 
--- the same of trees that a list's items have
-pub nth_tree-of : {A : Type 0} (f : A → Tree) (xs : List A) (i : ℕ) (d : A) → i < length xs → nth_tree (trees_of (map f xs)) i ≡ f (get_or xs i d)
-nth_tree-of f [] i d h = absurd (omega arith)
-nth_tree-of f (x ∷ xs) zero d h = refl
-nth_tree-of f (x ∷ xs) (suc i) d h = nth_tree-of f xs i d (omega arith)
-
-pub nth_tree-of_past : {A : Type 0} (f : A → Tree) (xs : List A) (i : ℕ) → length xs ≤ i → nth_tree (trees_of (map f xs)) i ≡ Null
-nth_tree-of_past f [] i h = refl
-nth_tree-of_past f (x ∷ xs) zero h = absurd (omega arith)
-nth_tree-of_past f (x ∷ xs) (suc i) h = nth_tree-of_past f xs i (omega arith)
-
-pub only_tree-of_past : {A : Type 0} (f : A → Tree) (xs : List A) (i : ℕ) → length xs ≤ i → only_tree (trees_of (map f xs)) i ≡ NoTrees
-only_tree-of_past f [] i h = refl
-only_tree-of_past f (x ∷ xs) zero h = absurd (omega arith)
-only_tree-of_past f (x ∷ xs) (suc i) h = only_tree-of_past f xs i (omega arith)
-
-pub only_tree-of : {A : Type 0} (f : A → Tree) (xs : List A) (i : ℕ) → only_tree (trees_of (map f xs)) i ≡ trees_of (map f (take 1 (drop i xs)))
-only_tree-of f [] zero = refl
-only_tree-of f [] (suc i) = refl
-only_tree-of f (x ∷ xs) zero = refl
-only_tree-of f (x ∷ xs) (suc i) = only_tree-of f xs i
-
 pub nth_struct-past : (f : ℕ → StructTree) (a n i : ℕ) → n ≤ i → nth_struct (structs_from f a n) i ≡ empty_struct
 nth_struct-past f a zero i h = refl
 nth_struct-past f a (suc n) zero h = absurd (omega arith)
 nth_struct-past f a (suc n) (suc i) h = nth_struct-past f (suc a) n i (omega arith)
-
-pub nth_struct-of : {A : Type 0} (f : A → StructTree) (xs : List A) (i : ℕ) (d : A) → i < length xs → nth_struct (structs_of (map f xs)) i ≡ f (get_or xs i d)
-nth_struct-of f [] i d h = absurd (omega arith)
-nth_struct-of f (x ∷ xs) zero d h = refl
-nth_struct-of f (x ∷ xs) (suc i) d h = nth_struct-of f xs i d (omega arith)
-
-pub nth_struct-of_past : {A : Type 0} (f : A → StructTree) (xs : List A) (i : ℕ) → length xs ≤ i → nth_struct (structs_of (map f xs)) i ≡ empty_struct
-nth_struct-of_past f [] i h = refl
-nth_struct-of_past f (x ∷ xs) zero h = absurd (omega arith)
-nth_struct-of_past f (x ∷ xs) (suc i) h = nth_struct-of_past f xs i (omega arith)
 
 -- the bits of a list, by their index
 pub bit-from : (bytes : List ℕ) (a n i : ℕ) → i < n → get_or (bits_from bytes a n) i false ≡ bit_at bytes (a + i)
@@ -91,11 +58,3 @@ tree_count-from f a (suc n) = ap suc (tree_count-from f (suc a) n)
 pub struct_count-from : (f : ℕ → StructTree) (a n : ℕ) → struct_count (structs_from f a n) ≡ n
 struct_count-from f a zero = refl
 struct_count-from f a (suc n) = ap suc (struct_count-from f (suc a) n)
-
-pub tree_count-of : {A : Type 0} (f : A → Tree) (xs : List A) → tree_count (trees_of (map f xs)) ≡ length xs
-tree_count-of f [] = refl
-tree_count-of f (x ∷ xs) = ap suc (tree_count-of f xs)
-
-pub struct_count-of : {A : Type 0} (f : A → StructTree) (xs : List A) → struct_count (structs_of (map f xs)) ≡ length xs
-struct_count-of f [] = refl
-struct_count-of f (x ∷ xs) = ap suc (struct_count-of f xs)

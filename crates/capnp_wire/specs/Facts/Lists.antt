@@ -4,12 +4,10 @@ use Rattle.std.specs.Prelude.{Some, None, cond}
 use Rattle.std.proofs.lemmas.Bool.Decides.{nat_tests}
 use Rattle.std.proofs.lemmas.List.{length-append, length-replicate}
 use Rattle.capnp_wire.specs.Tree.{Tree, Null, Struct, Voids, Bits, Numbers, Pointers, Composite, FaultLeaf, Structs, StructTree, empty_struct, nth_struct, struct_count, structs_from, tree_count}
-use Rattle.capnp_wire.specs.Place.{struct_tree}
 use Rattle.capnp_wire.specs.Reading.{element_struct, list_length}
-use Rattle.capnp_wire.specs.WellFormed.{AreBytes, IsWellFormed, IsWellFormedStruct, is_width}
+use Rattle.capnp_wire.specs.WellFormed.{AreBytes, IsElement, IsWellFormed, IsWellFormedStruct, is_width}
 use Rattle.capnp_wire.specs.Edits.{extended, with_bytes, with_number, with_pointer_tree, zero_list, zero_struct, zero_structs}
-use Rattle.capnp_wire.specs.Elements.{HasNumber, HasStruct, with_bit_element, with_number_element, with_pointer_element, with_struct, with_struct_element}
-use Rattle.capnp_wire.specs.Measured.{IsElement}
+use Rattle.capnp_wire.specs.Elements.{HasNumber, with_bit_element, with_number_element, with_pointer_element, with_struct, with_struct_element}
 use Rattle.capnp_wire.specs.StructLists.{as_structs, grown, past_format, struct_list, struct_list_refusal}
 use Rattle.capnp_wire.specs.declared.size.ElementSize.{ElementSize}
 use Rattle.capnp_wire.specs.declared.size.ElementSize.TheVariants.{Void, Bit, Byte, TwoBytes, FourBytes, EightBytes, Pointer, InlineComposite}
@@ -17,7 +15,7 @@ use Rattle.capnp_wire.specs.declared.size.StructSize.{StructSize}
 use Rattle.capnp_device.specs.declared.error.ErrorKind.TheVariants.{SizePastFormat}
 use Rattle.capnp_wire.specs.Facts.Bytes.{AreBytes-append, AreBytes-none, AreBytes-with_number, AreBytes-zeros, length-part-le, length-with_number}
 use Rattle.capnp_wire.specs.Facts.Rows.{AreElements-structs_from, AreElements-with_struct, AreWellFormed-nulls, AreWellFormed-with_tree, IsElement-nth_struct, struct_count-structs_from, struct_count-with_struct, tree_count-nulls, tree_count-with_tree}
-use Rattle.capnp_wire.specs.Facts.Structs.{IsElement-extended, IsElement-with_number, IsElement-with_pointer_tree, IsElement-zero_struct, IsWellFormed-element}
+use Rattle.capnp_wire.specs.Facts.Structs.{IsElement-extended, IsElement-with_number, IsElement-with_pointer_tree, IsElement-zero_struct}
 use Rattle.capnp_wire.specs.Facts.Parts.{IsWellFormedStruct-element_struct, list_length-lt, tree_count-only_tree-le, width_bound}
 
 -- ---- new lists ----
@@ -149,8 +147,3 @@ IsWellFormed-with_struct_element i s (Composite d p es) a b k h = IsWellFormed-w
 IsWellFormed-with_struct_element i s (FaultLeaf f) a b k h = h
 
 -- ---- elements of a list of structs ----
-
--- they are structs as at a pointer
-pub IsWellFormed-element_struct : (t : Tree) (i : ℕ) → HasStruct t i → IsWellFormed t → IsWellFormed (struct_tree (element_struct t i))
-IsWellFormed-element_struct (Composite d p es) i there h = IsWellFormed-element d p (nth_struct es i) h.0 h.1 (IsElement-nth_struct d p es i h.4 there)
-IsWellFormed-element_struct t i there h = absurd there

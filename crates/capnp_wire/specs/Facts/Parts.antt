@@ -1,15 +1,13 @@
 -- Parts of well-formed trees are well-formed.
-use Rattle.std.proofs.Common.{◌≡◌, ℕ, zero, suc, ◌*◌, ◌<◌, ◌≤◌, ◌^◌, refl, subst, arith, Bool, true, false, cond}
-use Rattle.std.specs.Prelude.{◌==◌, IsTrue, Result, Ok, Err, IfOk}
+use Rattle.std.proofs.Common.{ℕ, zero, suc, ◌*◌, ◌<◌, ◌≤◌, ◌^◌, refl, arith, Bool, true, false, cond}
+use Rattle.std.specs.Prelude.{◌==◌, IsTrue}
 use Rattle.std.proofs.lemmas.Bool.Decides.{nat_tests}
-use Rattle.capnp_wire.specs.Tree.{Tree, Null, Struct, Voids, Bits, Numbers, Pointers, Composite, FaultLeaf, Trees, NoTrees, MoreTrees, Structs, NoStructs, MoreStructs, StructTree, empty_struct, nth_tree, only_tree, nth_struct, tree_count}
-use Rattle.capnp_wire.specs.Reading.{with_level, is_null_tree, as_struct, empty_list, list_if, as_list, reads_voids, reads_bits, reads_numbers, reads_pointers, reads_structs, list_length, cut_pointer, element_pointer, element_struct}
+use Rattle.capnp_wire.specs.Tree.{Tree, Null, Struct, Voids, Bits, Numbers, Pointers, Composite, FaultLeaf, Trees, NoTrees, MoreTrees, Structs, NoStructs, MoreStructs, empty_struct, nth_tree, only_tree, nth_struct, tree_count}
+use Rattle.capnp_wire.specs.Reading.{is_null_tree, empty_list, list_length, cut_pointer, element_pointer, element_struct}
 use Rattle.capnp_wire.specs.WellFormed.{is_width, IsWellFormed, AreWellFormed, AreElements, IsWellFormedStruct}
 use Rattle.capnp_wire.specs.declared.size.ElementSize.{ElementSize}
 use Rattle.capnp_wire.specs.declared.size.ElementSize.TheVariants.{Void, Bit, Byte, TwoBytes, FourBytes, EightBytes, Pointer, InlineComposite}
 use Rattle.capnp_wire.specs.declared.fault.Fault.TheVariants as fault
-use Rattle.capnp_device.specs.declared.error.ErrorKind.{ErrorKind}
-use Rattle.capnp_device.specs.declared.error.ErrorKind.TheVariants as kind
 use Rattle.capnp_wire.specs.Facts.Bytes.{AreBytes-none, AreBytes-part, length-part-le}
 
 -- ---- what is empty ----
@@ -106,58 +104,3 @@ list_length-lt (Numbers width bytes) h = h.3
 list_length-lt (Pointers ps) h = h.0
 list_length-lt (Composite d p es) h = h.2
 list_length-lt (FaultLeaf k) h = omega arith
-
--- ---- reads ----
-
--- a read that may be too deep
-IfOk-cond : {A : Type 0} (deep : Bool) (r : Result A ErrorKind) (P : A → Type 0) → IfOk r P → IfOk (cond deep (Err kind.TooDeep) r) P
-IfOk-cond true r P h = tt
-IfOk-cond false r P h = h
-
--- a read that takes a level
-pub IfOk-with_level : {A : Type 0} (levels : ℕ) (r : Result A ErrorKind) (P : A → Type 0) → IfOk r P → IfOk (with_level levels r) P
-IfOk-with_level levels r P h = IfOk-cond (levels == 0) r P h
-
--- a list that is read as it is, or not at all
-reads_if : (reads : Bool) (t : Tree) → IsWellFormed t → IfOk {E = ErrorKind} (cond reads (Ok t) (Err kind.WrongElementSize)) IsWellFormed
-reads_if true t h = h
-reads_if false t h = tt
-
--- the same with a level
-IfOk-list_if : (reads : Bool) (t : Tree) (levels : ℕ) → IsWellFormed t → IfOk (list_if reads t levels) IsWellFormed
-IfOk-list_if reads t levels h = IfOk-with_level levels (cond reads (Ok t) (Err kind.WrongElementSize)) IsWellFormed (reads_if reads t h)
-
--- what is read as a struct
-pub IfOk-as_struct : (t : Tree) (levels : ℕ) → IsWellFormed t → IfOk (as_struct t levels) IsWellFormedStruct
-IfOk-as_struct Null levels h = IfOk-with_level levels (Ok empty_struct) IsWellFormedStruct IsWellFormedStruct-empty_struct
-IfOk-as_struct (Struct bytes ps) levels h =
-    IfOk-with_level levels (Ok (record { bytes = bytes; pointers = ps })) IsWellFormedStruct (h.0, omega (arith, h.1, h.2), h.3, h.4)
-IfOk-as_struct (Voids n) levels h = IfOk-with_level levels (Err kind.WrongPointerKind) IsWellFormedStruct tt
-IfOk-as_struct (Bits bs) levels h = IfOk-with_level levels (Err kind.WrongPointerKind) IsWellFormedStruct tt
-IfOk-as_struct (Numbers width bytes) levels h = IfOk-with_level levels (Err kind.WrongPointerKind) IsWellFormedStruct tt
-IfOk-as_struct (Pointers ps) levels h = IfOk-with_level levels (Err kind.WrongPointerKind) IsWellFormedStruct tt
-IfOk-as_struct (Composite d p es) levels h = IfOk-with_level levels (Err kind.WrongPointerKind) IsWellFormedStruct tt
-IfOk-as_struct (FaultLeaf k) levels h = tt
-
--- what is read as a list
-pub IfOk-as_list : (size : ElementSize) (t : Tree) (levels : ℕ) → IsWellFormed t → IfOk (as_list size t levels) IsWellFormed
-IfOk-as_list size Null levels h = IfOk-with_level levels (Ok (empty_list size)) IsWellFormed (IsWellFormed-empty_list size)
-IfOk-as_list size (Struct bytes ps) levels h = IfOk-with_level levels (Err kind.WrongPointerKind) IsWellFormed tt
-IfOk-as_list size (Voids n) levels h = IfOk-list_if (reads_voids size) (Voids n) levels h
-IfOk-as_list size (Bits bs) levels h = IfOk-list_if (reads_bits size) (Bits bs) levels h
-IfOk-as_list size (Numbers width bytes) levels h = IfOk-list_if (reads_numbers size width) (Numbers width bytes) levels h
-IfOk-as_list size (Pointers ps) levels h = IfOk-list_if (reads_pointers size) (Pointers ps) levels h
-IfOk-as_list size (Composite d p es) levels h = IfOk-list_if (reads_structs size d p) (Composite d p es) levels h
-IfOk-as_list size (FaultLeaf k) levels h = tt
-
--- the same of a read that is known
-pub IsWellFormedStruct-as_struct : (t : Tree) (levels : ℕ) (s : StructTree) → IsWellFormed t → as_struct t levels ≡ Ok s → IsWellFormedStruct s
-IsWellFormedStruct-as_struct t levels s h e =
-    let P : Result StructTree ErrorKind → Type 0 = λ r. IfOk r IsWellFormedStruct in
-    subst P e (IfOk-as_struct t levels h)
-
--- and of a list
-pub IsWellFormed-as_list : (size : ElementSize) (t : Tree) (levels : ℕ) (u : Tree) → IsWellFormed t → as_list size t levels ≡ Ok u → IsWellFormed u
-IsWellFormed-as_list size t levels u h e =
-    let P : Result Tree ErrorKind → Type 0 = λ r. IfOk r IsWellFormed in
-    subst P e (IfOk-as_list size t levels h)

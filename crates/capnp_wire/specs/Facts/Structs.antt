@@ -3,10 +3,9 @@ use Rattle.std.proofs.Common.{List, ◌≡◌, ℕ, ◌+◌, ◌-◌, ◌*◌, �
 use Rattle.std.proofs.lemmas.List.{length-append, length-replicate, length-take}
 use Rattle.capnp_wire.specs.Tree.{Tree, Null, Struct, Voids, Bits, Numbers, Pointers, Composite, FaultLeaf, StructTree, empty_struct, tree_count}
 use Rattle.capnp_wire.specs.Place.{struct_tree}
-use Rattle.capnp_wire.specs.WellFormed.{AreBytes, AreWellFormed, IsWellFormed, IsWellFormedStruct}
+use Rattle.capnp_wire.specs.WellFormed.{AreBytes, AreWellFormed, IsElement, IsWellFormed, IsWellFormedStruct}
 use Rattle.capnp_wire.specs.Words.{byte_words}
 use Rattle.capnp_wire.specs.Edits.{rounded, whole_words, extended, first_trees, fitted, nulls, struct_in, with_bit, with_bytes, with_number, with_pointer_tree, zero_struct}
-use Rattle.capnp_wire.specs.Measured.{IsElement}
 use Rattle.capnp_wire.specs.declared.size.StructSize.{StructSize}
 use Rattle.capnp_wire.specs.Facts.Bytes.{AreBytes-append, AreBytes-none, AreBytes-take, AreBytes-with_bit, AreBytes-with_number, AreBytes-zeros, length-with_bit, length-with_number}
 use Rattle.capnp_wire.specs.Facts.Rows.{AreWellFormed-append_trees, AreWellFormed-first_trees, AreWellFormed-nulls, AreWellFormed-with_tree, tree_count-append_trees, tree_count-first_trees, tree_count-nulls, tree_count-with_tree}

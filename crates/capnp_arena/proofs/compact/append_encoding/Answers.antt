@@ -1,15 +1,5 @@
-use Rattle.std.proofs.Common.{◌≡◌, ◌++◌, ◌∙◌, ap, refl}
-use Rattle.capnp_wire.specs.Encoding.{pointer_word, spelled}
-use Rattle.capnp_wire.specs.Facts.Appending.{append_two}
-use Rattle.capnp_arena.specs.Encoded.{pointer_to}
-use Rattle.capnp_arena.specs.Forest.{tree}
-use Rattle.capnp_arena.proofs.Encodings.{pointer_is}
+use Rattle.std.proofs.Common.{◌++◌, ◌∙◌, ap, refl}
 use Rattle.capnp_arena.proofs.compact.append_encoding.Goals as goal
 
 pub returns-then-is_in_order : goal.returns-then-is_in_order
 returns-then-is_in_order c = c.in_ok-extend_from_slice.ensures.items ∙ ap (λ z. c.args.out.now.items ++ z) (c.if-is_in_order.ensures refl)
-
-pub returns : goal.returns
-returns c =
-    let w : c.append_word.new.out.items ≡ c.args.out.now.items ++ spelled 8 (pointer_word 0 (tree c.args.bytes.now 0)) = c.in_ok-append_word.ensures ∙ ap (λ n. c.args.out.now.items ++ spelled 8 n) (c.make_pointer.ensures ∙ ap (pointer_to 0) c.look.ensures.shape ∙ pointer_is c.args.bytes.now 0 0 c.requires.forest) in
-    append_two _ _ _ _ _ w c.in_ok-append_tree.ensures

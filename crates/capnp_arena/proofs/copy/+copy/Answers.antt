@@ -8,9 +8,8 @@ use Rattle.capnp_wire.specs.Facts.Rows.{IsElement-nth_struct}
 use Rattle.capnp_wire.specs.Facts.Structs.{IsWellFormed-element}
 use Rattle.capnp_wire.specs.Filling.{with_pointers}
 use Rattle.capnp_wire.specs.Found.{element_structs, found_tree, parts_tree, pointer_tree, pointer_trees}
-use Rattle.capnp_wire.specs.Measured.{IsElement}
 use Rattle.capnp_wire.specs.Tree.{StructTree, nth_struct, nth_tree, struct_count, tree_count}
-use Rattle.capnp_wire.specs.WellFormed.{IsWellFormed}
+use Rattle.capnp_wire.specs.WellFormed.{IsElement, IsWellFormed}
 use Rattle.capnp_arena.specs.Copies.{Spares}
 use Rattle.capnp_arena.proofs.Copying.{added_kept, bits_appended, element_kept, kept_then, pointer_kept, pointer_next, pointer_refused, pointer_spared, room_kept, row_filled, row_sound, struct_after, struct_kept, struct_refused, structs_filled, structs_sound}
 use Rattle.capnp_arena.proofs.Padding.{padded_whole}
@@ -53,13 +52,13 @@ append_row-returns-clause-copy t c =
 pub append_composite-returns-in-Some-clause-copy : goal.append_composite-returns-in-Some-clause-copy
 append_composite-returns-in-Some-clause-copy t c =
     let row : length c.in-Some.plain.now ≡ 8 * (struct_count (element_structs c.args.size.data_words c.args.size.pointers c.args.elements) * (c.args.size.data_words + c.args.size.pointers)) =
-    ap length (sym (c.in-Some.ensures.own 0)) ∙ length_element_row c.args.size.data_words c.args.size.pointers 0 (element_structs c.args.size.data_words c.args.size.pointers c.args.elements) c.requires.held.4 in
-    plain_list c.args.size.data_words c.args.size.pointers c.count_elements-count.result (element_structs c.args.size.data_words c.args.size.pointers c.args.elements) c.in-Some.plain.now c.args.arena.now.bytes.items c.append_word.new.self.bytes.items _ (sym c.count_elements-count.ensures) c.in-Some.ensures
+    ap length (sym (c.in-Some.ensures.plain.own 0)) ∙ length_element_row c.args.size.data_words c.args.size.pointers 0 (element_structs c.args.size.data_words c.args.size.pointers c.args.elements) c.requires.held.4 in
+    plain_list c.args.size.data_words c.args.size.pointers c.count_elements-count.result (element_structs c.args.size.data_words c.args.size.pointers c.args.elements) c.in-Some.plain.now c.args.arena.now.bytes.items c.append_word.new.self.bytes.items _ (sym c.count_elements-count.ensures) c.in-Some.ensures.plain
     (c.in_ok-append_word.ensures.longer ∙ ap (λ w. c.args.arena.now.bytes.items ++ spelled 8 w) c.make_struct_word.ensures)
     (c.in_ok-append_bytes.ensures.longer ∙ ap (λ z. c.append_word.new.self.bytes.items ++ z) (padded_whole c.in-Some.plain.now _ row))
 
 pub append_composite-returns-in-Some-clause-sound : goal.append_composite-returns-in-Some-clause-sound
-append_composite-returns-in-Some-clause-sound t c = c.in-Some.ensures.faults
+append_composite-returns-in-Some-clause-sound t c = c.in-Some.ensures.plain.faults
 
 pub append_composite-returns-in-Some-clause-kept : goal.append_composite-returns-in-Some-clause-kept
 append_composite-returns-in-Some-clause-kept t c = kept_then _ _ _ (added_kept c.append_word.result _ _ _ c.append_word.ensures.longer c.append_word.ensures.refused) (added_kept c.append_bytes.result _ _ _ c.append_bytes.ensures.longer c.append_bytes.ensures.refused)

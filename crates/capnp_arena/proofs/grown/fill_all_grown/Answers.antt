@@ -2,9 +2,10 @@ use Rattle.std.proofs.Common.{arith, ◌+◌, ◌∙◌, sym}
 use Rattle.capnp_wire.specs.Edits.{extended}
 use Rattle.capnp_wire.specs.Facts.Bytes.{AreBytes-fits}
 use Rattle.capnp_wire.specs.Facts.Filling.{element_filled}
+use Rattle.capnp_wire.specs.Tree.{structs_from}
 use Rattle.capnp_wire.specs.WellFormed.{AreBytes}
 use Rattle.capnp_arena.specs.Grown.{part_at}
-use Rattle.capnp_arena.proofs.Encodings.{elements_done, row_held, structs_next}
+use Rattle.capnp_arena.proofs.Encodings.{elements_done, nothing_filled, row_held, structs_next}
 use Rattle.capnp_arena.proofs.Enlarged.{grown_room, part_tree_count}
 use Rattle.capnp_arena.proofs.grown.fill_all_grown.Goals as goal
 
@@ -31,3 +32,7 @@ loop-i-preserved c =
 pub returns : goal.returns
 returns c =
     sym (elements_done (λ i. extended c.args.size (part_at c.args.bytes.now c.args.row i)) c.args.count c.loop-i.i (c.args.size.data_words + c.args.size.pointers) c.loop-i.at c.loop-i.out.items c.loop-i-test.false) ∙ c.loop-i.invariant.done
+
+pub returns-then-size-eq0 : goal.returns-then-size-eq0
+returns-then-size-eq0 c =
+    sym (nothing_filled c.args.size.data_words c.args.size.pointers c.args.at (structs_from (λ i. extended c.args.size (part_at c.args.bytes.now c.args.row i)) 0 c.args.count) c.args.out.now.items c.if-size-eq0.true c.requires.room.0)

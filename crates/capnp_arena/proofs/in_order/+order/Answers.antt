@@ -95,6 +95,21 @@ follow-returns-else-pointers-eq0 t c =
     let same : c.in-Composite.tag ≡ c.args.end = omega (arith, c.if-tag-end.false) in
     if_known c.follow_elements.result _ _ (λ n x. subst (λ a. IsLaid c.args.bytes.now c.args.w a n) same (composite_laid c.args.bytes.now c.args.w c.requires.forest c.in-Composite.tag c.in-Composite.count c.in-Composite.data_words c.in-Composite.pointers n e q x)) c.follow_elements.ensures
 
+-- ---- a pointer, in line ----
+
+pub follow_at-returns-in-Null : goal.follow_at-returns-in-Null
+follow_at-returns-in-Null t c =
+    let e : shape_at c.args.bytes.now c.args.w ≡ NoShape = sym c.look.ensures.shape ∙ ap shape_found c.in-Null.is in
+    let q : Points c.args.bytes.now c.args.w (NoShape) = subst (Points c.args.bytes.now c.args.w) (ap shape_found c.in-Null.is) c.look.ensures.points in
+    null_laid c.args.bytes.now c.args.w c.requires.forest c.args.end c.requires.inside e q
+
+pub follow_at-returns-else-element_size-eq6 : goal.follow_at-returns-else-element_size-eq6
+follow_at-returns-else-element_size-eq6 t c =
+    let e : shape_at c.args.bytes.now c.args.w ≡ ListIn c.in-List.start c.in-List.element_size c.in-List.count = sym c.look.ensures.shape ∙ ap shape_found c.in-List.is in
+    let q : Points c.args.bytes.now c.args.w (ListIn c.in-List.start c.in-List.element_size c.in-List.count) = subst (Points c.args.bytes.now c.args.w) (ap shape_found c.in-List.is) c.look.ensures.points in
+    let same : c.in-List.start ≡ c.args.end = omega (arith, c.if-start-end.false) in
+    if_known c.end_of_plain.result _ _ (λ n x. subst (λ a. IsLaid c.args.bytes.now c.args.w a n) same (plain_laid c.args.bytes.now c.args.w c.requires.forest c.in-List.start c.in-List.element_size c.in-List.count n (omega (arith, q.2, c.if-element_size-eq6.false)) e q x.0 x.1 x.2)) c.end_of_plain.ensures
+
 -- ---- rows ----
 
 pub follow_row-loop-i-preserved : goal.follow_row-loop-i-preserved

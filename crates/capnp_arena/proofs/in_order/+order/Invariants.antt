@@ -5,13 +5,16 @@ use Rattle.capnp_arena.specs.Shape.{word_count}
 use Rattle.capnp_arena.proofs.in_order.+order.Given as goal
 
 abbrev pub decreases-follow : goal.decreases-follow
-decreases-follow l = 4 * (length l.bytes.now - l.w)
+decreases-follow l = 8 * (length l.bytes.now - l.w)
+
+abbrev pub decreases-follow_at : goal.decreases-follow_at
+decreases-follow_at l = 8 * (length l.bytes.now - l.w) + 1
 
 abbrev pub decreases-follow_row : goal.decreases-follow_row
-decreases-follow_row l = 4 * (length l.bytes.now - l.first) + 1
+decreases-follow_row l = 8 * (length l.bytes.now - l.first) + 2
 
 abbrev pub decreases-follow_elements : goal.decreases-follow_elements
-decreases-follow_elements l = 4 * (length l.bytes.now - l.start) + 2
+decreases-follow_elements l = 8 * (length l.bytes.now - l.start) + 3
 
 abbrev pub invariant-follow_row-loop-i : goal.invariant-follow_row-loop-i
 invariant-follow_row-loop-i l = record {

@@ -1,8 +1,7 @@
 use Rattle.std.proofs.Common.{rules, subst}
 use Rattle.capnp_arena.specs.Facts.Calls.{parts_one_by_one}
 use Rattle.capnp_arena.specs.Facts.Laws.{in_struct}
-use Rattle.capnp_arena.specs.Forest.{Forest, PartChanges, Planted}
-use Rattle.capnp_arena.specs.Handles.{part}
+use Rattle.capnp_arena.specs.Forest.{Forest}
 use Rattle.capnp_arena.specs.Segment.{segment}
 use Rattle.capnp_arena_tests.proofs.builder_tests.build_fields.Goals as goal
 

@@ -1,6 +1,6 @@
 -- A field is there whatever levels the reader has.
 use Rattle.std.proofs.Common.{ap, ◌∙◌, subst, refl}
-use Rattle.capnp_wire.specs.Objects.{struct_object_tree}
+use Rattle.capnp_arena.specs.Built.{built}
 use Rattle.capnp_wire.specs.Standing.{struct_levels, struct_of}
 use Rattle.capnp_schema.specs.Facts.Layers.{seen_which}
 use Rattle.capnp_schema.specs.FieldLists.{schema_of}
@@ -14,14 +14,15 @@ use Rattle.capnp_call.proofs.answer.has_field.Goals as goal
 pub returns : goal.returns
 returns c whole old =
     let f = c.args.field in
-    let s = struct_object_tree c.args.object.now in
     let is : IsStruct (schema_of f) = subst IsStruct c.get_containing_struct.ensures.is c.get_containing_struct.ensures.stands in
-    let on : StandsOn c.new-reader.result (schema_of f) s = record {
+    let s = built c.args.arena.now c.args.place in
+    let x = struct_of c.get_struct_reader.result in
+    let on : StandsOn c.new-reader.result (schema_of f) x = record {
       schema_is = c.new-reader.ensures.schema ∙ c.get_containing_struct.ensures.is;
-      struct_is = ap struct_of c.new-reader.ensures.reader ∙ c.as_reader.ensures.parts;
-      levels = ap struct_levels c.new-reader.ensures.reader ∙ c.as_reader.ensures.levels;
+      struct_is = ap struct_of c.new-reader.ensures.reader;
+      levels = ap struct_levels c.new-reader.ensures.reader ∙ c.get_struct_reader.ensures.levels;
     } in (
-      ap Flag (ok_same c.has.result c.in-Ok.there _ c.in-Ok.is c.has.ensures ∙ has_reads c.new-reader.result f s on is f.inside c.which-variant.result
+      ap Flag (ok_same c.has.result c.in-Ok.there _ c.in-Ok.is c.has.ensures ∙ has_reads c.new-reader.result f x s on c.get_struct_reader.ensures.cut is f.inside c.which-variant.result
           (ap seen_variant c.which-variant.ensures ∙ (seen_which c.get_type.result ∙ c.get_type.ensures.is))),
       refl,
     )

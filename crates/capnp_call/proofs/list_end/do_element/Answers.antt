@@ -1,6 +1,7 @@
 -- A read of an element changes nothing.
 use Rattle.std.proofs.Common.{inl, refl, subst, sym}
-use Rattle.capnp_wire.specs.Objects.{list_object_tree}
+use Rattle.capnp_arena.specs.Forest.{tree}
+use Rattle.capnp_arena.specs.Segment.{segment}
 use Rattle.capnp_schema.specs.Entries.{lists_seen}
 use Rattle.capnp_schema.specs.Types.{ListType, seen_type}
 use Rattle.capnp_records.specs.Writes.Stand.{OnList, seen}
@@ -12,5 +13,5 @@ pub returns-in-Get-clause-does : goal.returns-in-Get-clause-does
 returns-in-Get-clause-does c =
     let set = lists_seen c.args.set.now in
     let e = seen_type c.args.element in
-    let x = list_object_tree c.args.list.now in
+    let x = tree (segment c.args.arena.now) c.args.at in
     subst (λ (o : Op). ElementDoes set e c.args.index o x c.get_element.result x) (sym c.in-Get.is) (inl (c.get_element.ensures (seen set (ListType e) (OnList x)), refl))

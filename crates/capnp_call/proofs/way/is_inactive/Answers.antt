@@ -1,6 +1,6 @@
 -- The member that is active is the one that stands in the whole record.
 use Rattle.std.proofs.Common.{ap, subst, ◌∙◌}
-use Rattle.capnp_wire.specs.Objects.{struct_object_tree}
+use Rattle.capnp_arena.specs.Built.{built}
 use Rattle.capnp_wire.specs.Standing.{struct_of}
 use Rattle.capnp_schema.specs.FieldLists.{schema_of}
 use Rattle.capnp_schema.specs.StructHandles.{IsStruct}
@@ -11,5 +11,5 @@ pub returns : goal.returns
 returns c =
     let f = c.args.field in
     let is : IsStruct (schema_of f) = subst IsStruct c.get_containing_struct.ensures.is c.get_containing_struct.ensures.stands in
-    active_reads c.new-reader.result f (struct_object_tree c.args.object.now) (c.new-reader.ensures.schema ∙ c.get_containing_struct.ensures.is) (ap struct_of c.new-reader.ensures.reader ∙ c.as_reader.ensures.parts)
-    is f.inside c.is_active.result c.is_active.ensures
+    active_reads c.new-reader.result f (struct_of c.get_struct_reader.result) (built c.args.arena.now c.args.place) (c.new-reader.ensures.schema ∙ c.get_containing_struct.ensures.is) (ap struct_of c.new-reader.ensures.reader)
+    c.get_struct_reader.ensures.cut is f.inside c.is_active.result c.is_active.ensures

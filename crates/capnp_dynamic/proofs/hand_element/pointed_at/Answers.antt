@@ -2,10 +2,11 @@
 use Rattle.std.specs.Prelude.{◌≡◌, refl, false}
 use Rattle.std.proofs.Common.{ap, sym, subst, ◌∙◌}
 use Rattle.capnp_wire.specs.Elements.{HasPointer}
-use Rattle.capnp_wire.specs.Objects.{list_object_tree, object_tree}
 use Rattle.capnp_wire.specs.Reading.{element_pointer}
 use Rattle.capnp_wire.specs.Tree.{Tree}
 use Rattle.capnp_wire.specs.Words.{first_fault}
+use Rattle.capnp_arena.specs.Forest.{tree}
+use Rattle.capnp_arena.specs.Segment.{segment}
 use Rattle.capnp_schema.specs.Entries.{lists_seen}
 use Rattle.capnp_schema.specs.Facts.Layers.{seen_which}
 use Rattle.capnp_schema.specs.Schema.{VoidValue}
@@ -17,34 +18,46 @@ use Rattle.capnp_dynamic.proofs.HandedOut.{can-fill, can-hand, handed-out}
 use Rattle.capnp_dynamic.proofs.hand_element.pointed_at.Goals as goal
 
 pub fill-requires-clause-pointer : goal.fill-requires-clause-pointer
-fill-requires-clause-pointer c = pointer_there (lists_seen c.args.set.now) c.args.element_type (list_object_tree c.args.builder.now) c.args.index c.requires.behind c.requires.under c.requires.inside
+fill-requires-clause-pointer c =
+    pointer_there (lists_seen c.args.set.now) c.args.element_type (tree (segment c.args.arena.now) c.args.at) c.args.index c.requires.behind c.requires.under.holds c.tree_is_sound.ensures.formed c.requires.inside
 
-pub get_pointer_element-requires : goal.get_pointer_element-requires
-get_pointer_element-requires c =
-    subst (λ (x : Tree). HasPointer x c.args.index) (sym c.in_ok-fill.ensures.filled)
-    (pointer-there (list_object_tree c.args.builder.now) c.args.index _ (pointer_there (lists_seen c.args.set.now) c.args.element_type (list_object_tree c.args.builder.now) c.args.index c.requires.behind c.requires.under c.requires.inside))
+pub get_pointer_element-at-requires-clause-pointer : goal.get_pointer_element-at-requires-clause-pointer
+get_pointer_element-at-requires-clause-pointer c =
+    let x : Tree = tree (segment c.args.arena.now) c.args.at in
+    subst (λ (y : Tree). HasPointer y c.args.index) (sym c.in_ok-fill.ensures.filled)
+    (pointer-there x c.args.index _ (pointer_there (lists_seen c.args.set.now) c.args.element_type x c.args.index c.requires.behind c.requires.under.holds c.tree_is_sound.ensures.formed c.requires.inside))
 
 pub hand_out-requires-clause-handed : goal.hand_out-requires-clause-handed
 hand_out-requires-clause-handed c =
-    let x : Tree = list_object_tree c.args.builder.now in
+    let x : Tree = tree (segment c.args.arena.now) c.args.at in
     let y : Tree = element_filled (lists_seen c.args.set.now) (seen_type c.args.element_type) (element_pointer x c.args.index 1) in
-    let is : object_tree c.get_pointer_element.result.now ≡ y =
-    c.get_pointer_element.ensures.now
+    let is : tree (segment c.fill.new.arena) c.get_pointer_element-at.result ≡ y =
+    c.get_pointer_element-at.ensures.tree
     ∙ (ap (λ (z : Tree). element_pointer z c.args.index 1) c.in_ok-fill.ensures.filled
-    ∙ pointer-here x c.args.index y (pointer_there (lists_seen c.args.set.now) c.args.element_type x c.args.index c.requires.behind c.requires.under c.requires.inside)) in
+    ∙ pointer-here x c.args.index y (pointer_there (lists_seen c.args.set.now) c.args.element_type x c.args.index c.requires.behind c.requires.under.holds c.tree_is_sound.ensures.formed c.requires.inside)) in
     can-hand (lists_seen c.args.set.now) (lists_seen c.args.set.now) (seen_variant c.which-variant.result) (seen_type c.args.element_type) _ y refl
     (ap seen_variant c.which-variant.ensures ∙ seen_which c.args.element_type)
     is
     (can-fill (lists_seen c.args.set.now) VoidValue (seen_type c.args.element_type) (no_default (seen_type c.args.element_type)) (element_pointer x c.args.index 1) c.in_ok-fill.ensures.within
-    (sym (ap first_fault is) ∙ c.objects_hold_no_fault.ensures.objects c.get_pointer_element.result.now))
+    (sym (ap first_fault is) ∙ c.tree_is_sound-2.ensures.whole))
 
 pub returns-clause-stands : goal.returns-clause-stands
 returns-clause-stands c =
-    let x : Tree = list_object_tree c.args.builder.now in
+    let x : Tree = tree (segment c.args.arena.now) c.args.at in
     let y : Tree = element_filled (lists_seen c.args.set.now) (seen_type c.args.element_type) (element_pointer x c.args.index 1) in
     handed-out false (lists_seen c.args.set.now) (lists_seen c.args.set.now) (seen_variant c.which-variant.result) (seen_type c.args.element_type) _ y c.hand_out.result refl
     (ap seen_variant c.which-variant.ensures ∙ seen_which c.args.element_type)
-    (c.get_pointer_element.ensures.now
+    (c.get_pointer_element-at.ensures.tree
     ∙ (ap (λ (z : Tree). element_pointer z c.args.index 1) c.in_ok-fill.ensures.filled
-    ∙ pointer-here x c.args.index y (pointer_there (lists_seen c.args.set.now) c.args.element_type x c.args.index c.requires.behind c.requires.under c.requires.inside)))
+    ∙ pointer-here x c.args.index y (pointer_there (lists_seen c.args.set.now) c.args.element_type x c.args.index c.requires.behind c.requires.under.holds c.tree_is_sound.ensures.formed c.requires.inside)))
     c.hand_out.ensures.stands
+
+pub returns-clause-owner : goal.returns-clause-owner
+returns-clause-owner c = record {
+  arena = _;
+  there = record { at = c.get_pointer_element-at.result; stands = c.hand_out.ensures.behind; leaves = c.get_pointer_element-at.ensures.leaves };
+  same = refl;
+  forest = c.in_ok-fill.ensures.forest;
+  changes = c.in_ok-fill.ensures.changes;
+  becomes = c.in_ok-fill.ensures.filled;
+}

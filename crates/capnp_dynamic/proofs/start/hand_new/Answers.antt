@@ -1,12 +1,12 @@
 -- The pointer is handed out under the field's set and type.
 use Rattle.std.specs.Prelude.{true}
 use Rattle.std.proofs.Common.{ap, ◌∙◌}
-use Rattle.capnp_wire.specs.Objects.{struct_object_tree}
 use Rattle.capnp_schema.specs.Entries.{lists_seen}
 use Rattle.capnp_schema.specs.Facts.Layers.{seen_which}
 use Rattle.capnp_schema.specs.FieldLists.{typed_of}
 use Rattle.capnp_schema.specs.StructHandles.{set_of}
 use Rattle.capnp_schema.specs.Types.{seen_variant}
+use Rattle.capnp_arena.specs.Built.{built}
 use Rattle.capnp_slots.specs.Fields.{field_set}
 use Rattle.capnp_slots.specs.Fills.{pointer_in}
 use Rattle.capnp_dynamic.proofs.HandedOut.{can-hand, handed-out}
@@ -15,16 +15,16 @@ use Rattle.capnp_dynamic.proofs.start.hand_new.Goals as goal
 pub hand_out-requires-clause-handed : goal.hand_out-requires-clause-handed
 hand_out-requires-clause-handed c =
     let f = c.args.field in
-    can-hand (lists_seen c.get_set-set.result.now) (field_set f) (seen_variant c.which-variant.result) (typed_of f).type _ (pointer_in f (struct_object_tree c.args.builder.now))
+    can-hand (lists_seen c.get_set-set.result.now) (field_set f) (seen_variant c.which-variant.result) (typed_of f).type _ (pointer_in f (built c.args.arena.now c.args.place))
     (c.get_set-set.ensures ∙ ap set_of c.get_containing_struct.ensures.is)
     (ap seen_variant c.which-variant.ensures ∙ (seen_which c.get_type.result ∙ c.get_type.ensures.is))
-    c.pointer.ensures.now c.requires.handed
+    c.pointer-at.ensures.tree c.requires.handed
 
 pub returns-clause-stands : goal.returns-clause-stands
 returns-clause-stands c =
     let f = c.args.field in
-    handed-out true (lists_seen c.get_set-set.result.now) (field_set f) (seen_variant c.which-variant.result) (typed_of f).type _ (pointer_in f (struct_object_tree c.args.builder.now)) c.hand_out.result
+    handed-out true (lists_seen c.get_set-set.result.now) (field_set f) (seen_variant c.which-variant.result) (typed_of f).type _ (pointer_in f (built c.args.arena.now c.args.place)) c.hand_out.result
     (c.get_set-set.ensures ∙ ap set_of c.get_containing_struct.ensures.is)
     (ap seen_variant c.which-variant.ensures ∙ (seen_which c.get_type.result ∙ c.get_type.ensures.is))
-    c.pointer.ensures.now
+    c.pointer-at.ensures.tree
     c.hand_out.ensures.stands

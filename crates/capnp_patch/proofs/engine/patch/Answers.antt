@@ -1,7 +1,7 @@
 -- What was read, the calls on it, and what was written, together.
 use Rattle.std.proofs.Common.{inl}
 use Rattle.std.proofs.lemmas.Result.{err_from_is_err_and}
-use Rattle.capnp_wire.specs.Message.{builder_tree}
+use Rattle.capnp_arena.specs.Message.{message_tree}
 use Rattle.capnp_patch.proofs.Patched.{cut_short, not_patched, patched}
 use Rattle.capnp_patch.proofs.engine.patch.Goals as goal
 
@@ -16,16 +16,16 @@ returns-in_err-replies-clause-refused g c =
 
 pub returns-clause-patched : goal.returns-clause-patched
 returns-clause-patched g c =
-    patched c.args.schema c.args.calls.now c.args.keep_going c.in_ok-replies.replies.items (builder_tree c.run_bytes.new.message) c.finish.result
+    patched c.args.schema c.args.calls.now c.args.keep_going c.in_ok-replies.replies.items (message_tree c.run_bytes.new.message) c.finish.result
     c.in_ok-bytes.bytes.items _ _ (c.in_ok-bytes.ensures.whole, c.in_ok-bytes.ensures.to_end) (rw c.deref.ensures.value at c.in_ok-replies.ensures.left) _ _
     c.finish.ensures.replies c.finish.ensures.output
 
 pub returns-clause-refused : goal.returns-clause-refused
 returns-clause-refused g c =
-    not_patched c.args.schema c.args.calls.now c.args.keep_going c.in_ok-replies.replies.items (builder_tree c.run_bytes.new.message) c.finish.result
+    not_patched c.args.schema c.args.calls.now c.args.keep_going c.in_ok-replies.replies.items (message_tree c.run_bytes.new.message) c.finish.result
     c.in_ok-bytes.bytes.items _ _ (c.in_ok-bytes.ensures.whole, c.in_ok-bytes.ensures.to_end) (rw c.deref.ensures.value at c.in_ok-replies.ensures.left) c.finish.ensures.large
 
 pub returns-clause-beginning : goal.returns-clause-beginning
 returns-clause-beginning g c =
-    cut_short c.args.schema c.args.calls.now c.args.keep_going c.in_ok-replies.replies.items (builder_tree c.run_bytes.new.message) c.finish.result
+    cut_short c.args.schema c.args.calls.now c.args.keep_going c.in_ok-replies.replies.items (message_tree c.run_bytes.new.message) c.finish.result
     c.in_ok-bytes.bytes.items _ _ (c.in_ok-bytes.ensures.whole, c.in_ok-bytes.ensures.to_end) (rw c.deref.ensures.value at c.in_ok-replies.ensures.left) _ _ c.finish.ensures.beginning

@@ -1,14 +1,14 @@
 use Rattle.std.proofs.Common.{◌∙◌, ap, drop}
-use Rattle.capnp_wire.specs.Message.{builder_tree}
+use Rattle.capnp_arena.specs.Message.{message_tree}
 use Rattle.capnp_wire.specs.Standing.{tree_of}
 use Rattle.capnp_base.specs.AnyPointer.{pointer_of}
 use Rattle.capnp_request.proofs.Refused.{err_if}
-use Rattle.capnp_request.proofs.ValuesRead.{words_faulty, words_large, words_written}
+use Rattle.capnp_request.proofs.ValuesRead.{words_faulty, words_written}
 use Rattle.capnp_request.proofs.values.words_of.Goals as goal
 
 pub returns-clause-read : goal.returns-clause-read
 returns-clause-read c =
-    words_written (builder_tree c.in_ok-message.message) (tree_of (pointer_of c.args.pointer)) c.in_ok-message.ensures.read c.in_ok-message.ensures.sound c.in_ok-bytes.bytes.items _
+    words_written (message_tree c.in_ok-message.message) (tree_of (pointer_of c.args.pointer)) c.in_ok-message.ensures.read c.in_ok-message.ensures.sound c.in_ok-bytes.bytes.items _
     c.in_ok-bytes.ensures.held c.in_ok-bytes.ensures.bytes (c.in_ok-words.ensures.read ∙ (c.behind_table-behind.ensures ∙ ap (drop 8) c.as_slice.ensures.value))
 
 pub returns-in_err-message-clause-refused : goal.returns-in_err-message-clause-refused
@@ -16,6 +16,4 @@ returns-in_err-message-clause-refused c = err_if _ c.from_residual.result _ c.fr
 
 pub returns-in_err-bytes-clause-refused : goal.returns-in_err-bytes-clause-refused
 returns-in_err-bytes-clause-refused c =
-    err_if _ c.from_residual-in_err-bytes.result _ c.from_residual-in_err-bytes.ensures.1 (λ n.
-    words_large (builder_tree c.in_ok-message.message) (tree_of (pointer_of c.args.pointer)) c.in_ok-message.ensures.read c.in_ok-message.ensures.sound _
-    c.in_ok-message.ensures.held c.in_err-bytes.ensures.kinds c.in_err-bytes.ensures.refused n)
+    err_if _ c.from_residual-in_err-bytes.result _ c.from_residual-in_err-bytes.ensures.1 (λ n. absurd (n c.in_err-bytes.ensures.kind))

@@ -2,16 +2,16 @@
 use Rattle.std.proofs.Common.{inl, inr}
 use Rattle.std.proofs.lemmas.Result.{err_from_is_err_and}
 use Rattle.std.specs.Prelude.{string_bytes}
-use Rattle.capnp_wire.specs.Message.{builder_tree}
+use Rattle.capnp_arena.specs.Message.{message_tree}
 use Rattle.capnp_run.proofs.Starts.{is_root, not_printed, not_written, whole}
 use Rattle.capnp_run.proofs.message.whole_copied.Goals as goal
 
 pub print_root-requires-clause-here : goal.print_root-requires-clause-here
-print_root-requires-clause-here c = is_root c.args.schema _ (builder_tree c.run_copied.new.message) c.args.calls.now c.in_ok-replies.replies.items c.in_ok-replies.ensures.run
+print_root-requires-clause-here c = is_root c.args.schema _ (message_tree c.run_copied.new.message) c.args.calls.now c.in_ok-replies.replies.items c.in_ok-replies.ensures.run
 
 pub returns-in_err-replies-clause-cause : goal.returns-in_err-replies-clause-cause
 returns-in_err-replies-clause-cause c =
-    let p = err_from_is_err_and c.from_residual.result c.from_residual.ensures.1 in
+    let p = err_from_is_err_and c.from_residual-in_err-replies.result c.from_residual-in_err-replies.ensures.1 in
     rw (p.1, p.2) (λ other. inl (c.in_err-replies.ensures.cause other))
 
 pub returns-in_err-bytes-clause-cause : goal.returns-in_err-bytes-clause-cause
@@ -19,7 +19,7 @@ returns-in_err-bytes-clause-cause c =
     let p = err_from_is_err_and c.from_residual-in_err-bytes.result c.from_residual-in_err-bytes.ensures.1 in
     rw (p.1, p.2) (λ other. inr (
       c.in_ok-replies.ensures.sound,
-      not_written c.args.schema _ (builder_tree c.run_copied.new.message) c.args.calls.now c.in_ok-replies.replies.items c.in_ok-replies.ensures.run c.args.indented _
+      not_written c.args.schema _ (message_tree c.run_copied.new.message) c.args.calls.now c.in_ok-replies.replies.items c.in_ok-replies.ensures.run c.args.indented _
           c.in_err-bytes.ensures.kinds c.in_err-bytes.ensures.refused other,
     ))
 
@@ -28,11 +28,11 @@ returns-in_err-print_root-clause-cause c =
     let p = err_from_is_err_and c.from_residual-in_err-print_root.result c.from_residual-in_err-print_root.ensures.1 in
     rw (p.1, p.2) (λ other. inr (
       c.in_ok-replies.ensures.sound,
-      not_printed c.args.schema _ (builder_tree c.run_copied.new.message) c.args.calls.now c.in_ok-replies.replies.items c.in_ok-replies.ensures.run c.args.indented _
+      not_printed c.args.schema _ (message_tree c.run_copied.new.message) c.args.calls.now c.in_ok-replies.replies.items c.in_ok-replies.ensures.run c.args.indented _
           c.in_ok-bytes.ensures.held.1 c.in_err-print_root.ensures.cause other,
     ))
 
 pub returns-clause-whole : goal.returns-clause-whole
 returns-clause-whole c =
-    whole c.args.schema _ (builder_tree c.run_copied.new.message) c.args.calls.now c.in_ok-replies.replies.items c.in_ok-bytes.bytes.items c.args.indented (string_bytes c.args.out.now) (string_bytes c.print_root.new.out)
+    whole c.args.schema _ (message_tree c.run_copied.new.message) c.args.calls.now c.in_ok-replies.replies.items c.in_ok-bytes.bytes.items c.args.indented (string_bytes c.args.out.now) (string_bytes c.print_root.new.out)
     c.in_ok-replies.ensures.run c.in_ok-bytes.ensures.held.1 c.in_ok-bytes.ensures.bytes c.in_ok-bytes.ensures.read c.in_ok-print_root.ensures.printed

@@ -1,20 +1,23 @@
 -- Each call has one reply, in order.
-use Rattle.std.proofs.Common.{◌<◌, ◌+◌, ◌++◌, ◌∷◌, ◌≡◌, ◌∙◌, [], List, ap, get_or, sym, subst, arith, length, take}
+use Rattle.std.proofs.Common.{◌<◌, ◌+◌, ◌++◌, ◌∷◌, ◌≡◌, ◌∙◌, [], List, ap, get_or, refl, sym, subst, arith, length, take}
 use Rattle.std.proofs.lemmas.List.{take_more}
-use Rattle.capnp_wire.specs.Objects.{struct_object_tree}
 use Rattle.capnp_schema.specs.StructHandles.{number_of, set_of}
+use Rattle.capnp_arena.specs.Built.{built}
 use Rattle.capnp_run.specs.Runs.{Makes}
 use Rattle.capnp_call.specs.declared.calls.Call.{Call}
 use Rattle.capnp_call.specs.declared.calls.Reply.{Reply}
-use Rattle.capnp_run.proofs.Making.{keeps_on, keeps_same, makes_more, makes_none}
+use Rattle.capnp_run.proofs.Making.{makes_more, makes_none}
+use Rattle.capnp_run.proofs.Sizes.{changes_none, changes_then, fits_on}
 use Rattle.capnp_run.proofs.run.make_calls.Goals as goal
 
 pub loop-call-init : goal.loop-call-init
 loop-call-init c =
-    let s = struct_object_tree c.args.object.now in
+    let s = built c.args.arena.now c.args.place in
     record {
       made = subst (λ (rs : List Reply). Makes (set_of c.args.schema) (number_of c.args.schema) s [] rs s) (sym c.in_ok-replies.ensures.items) (makes_none (set_of c.args.schema) (number_of c.args.schema) s);
-      kept = keeps_same s;
+      planted = c.requires.planted;
+      changes = changes_none c.args.place c.args.arena.now c.args.arena.now refl;
+      fits = c.requires.fits;
       room = c.in_ok-replies.ensures.capacity;
       count = c.in_ok-replies.ensures.len;
     }
@@ -23,8 +26,8 @@ pub loop-call-preserved : goal.loop-call-preserved
 loop-call-preserved c =
     let set = set_of c.args.schema in
     let b = number_of c.args.schema in
-    let old = struct_object_tree c.args.object.now in
-    let now = struct_object_tree c.call_at-reply.new.object in
+    let old = built c.args.arena.now c.args.place in
+    let now = built c.call_at-reply.new.arena c.args.place in
     let calls = c.args.calls.now in
     let i = c.loop-call.call-index in
     let inside : i < length calls = omega (arith, c.loop-call-test.true) in
@@ -36,7 +39,9 @@ loop-call-preserved c =
     record {
       made = subst (λ (rs : List Reply). Makes set b old (take (i + 1) calls) rs now) (sym items)
           (subst (λ (cs : List Call). Makes set b old cs (c.loop-call.replies.items ++ c.call_at-reply.result ∷ []) now) (sym (take_more calls i call inside ∙ ap (λ (k : Call). take i calls ++ k ∷ []) item)) next);
-      kept = keeps_on old _ now c.loop-call.invariant.kept c.call_at-reply.ensures.kept;
+      planted = c.call_at-reply.ensures.planted;
+      changes = changes_then c.args.place c.args.arena.now c.loop-call.arena c.call_at-reply.new.arena c.loop-call.invariant.changes c.call_at-reply.ensures.changes;
+      fits = fits_on set b c.loop-call.arena c.call_at-reply.new.arena c.args.place c.loop-call.invariant.planted c.call_at-reply.ensures.planted c.loop-call.invariant.fits;
       room = omega (arith, c.push.ensures.capacity, c.loop-call.invariant.room);
       count = omega (arith, len, c.loop-call.invariant.count);
     }

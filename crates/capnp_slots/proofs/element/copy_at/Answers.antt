@@ -1,25 +1,27 @@
--- The struct that was lent has what fits, or is as it was.
-use Rattle.std.proofs.Common.{ap, refl, ◌∙◌}
-use Rattle.capnp_wire.specs.Objects.{struct_object_tree}
-use Rattle.capnp_wire.specs.Sizes.{fitted_size}
+-- What a call leaves in the element's struct is what it leaves in the list.
+use Rattle.std.proofs.Common.{ap, length, sym, ◌*◌, ◌≡◌, ◌∙◌}
+use Rattle.capnp_wire.specs.Edits.{fitted}
+use Rattle.capnp_wire.specs.Elements.{with_struct_element}
 use Rattle.capnp_wire.specs.Standing.{struct_of}
-use Rattle.capnp_records.specs.Facts.LentElements.{element_kept, element_left}
-use Rattle.capnp_slots.proofs.ElementParts.{element_formed, element_fitted}
-use Rattle.capnp_slots.proofs.Pointers.{on_err, on_ok}
+use Rattle.capnp_wire.specs.Tree.{StructTree, tree_count}
+use Rattle.capnp_arena.specs.Forest.{struct_from, tree}
+use Rattle.capnp_arena.specs.Segment.{segment}
+use Rattle.capnp_arena.specs.Facts.Places.{data_of, pointers_of}
 use Rattle.capnp_slots.proofs.element.copy_at.Goals as goal
 
+pub returns-clause-forest : goal.returns-clause-forest
+returns-clause-forest c = (c.get_struct_at-place.ensures.leaves _ c.in_ok-copy_content_from.ensures.planted c.in_ok-copy_content_from.ensures.changes).forest
+
+pub returns-clause-changes : goal.returns-clause-changes
+returns-clause-changes c = (c.get_struct_at-place.ensures.leaves _ c.in_ok-copy_content_from.ensures.planted c.in_ok-copy_content_from.ensures.changes).changes
+
 pub returns-clause-written : goal.returns-clause-written
-returns-clause-written c = on_ok c.copy_content_from.result
-    (λ e. element_left c.args.list.now c.args.index c.copy_content_from.new.self _ (fitted_size _ (struct_of c.args.source.now) _ refl) (element_fitted _ _ _ (struct_of c.args.source.now) e c.get_struct_element.ensures.now))
-    c.copy_content_from.ensures.ok
-
-pub returns-clause-formed : goal.returns-clause-formed
-returns-clause-formed c = on_ok c.copy_content_from.result
-    (λ e h. element_formed c.args.list.now c.args.index c.copy_content_from.new.self (struct_of c.args.source.now) c.requires c.struct_is_well_formed.ensures
-    (element_fitted _ _ _ (struct_of c.args.source.now) e c.get_struct_element.ensures.now) h)
-    c.copy_content_from.ensures.ok
-
-pub returns-clause-refused : goal.returns-clause-refused
-returns-clause-refused c = on_err c.copy_content_from.result
-    (λ e. element_kept c.args.list.now c.args.index c.copy_content_from.new.self c.requires (ap struct_object_tree e ∙ c.get_struct_element.ensures.now))
-    c.copy_content_from.ensures.refused
+returns-clause-written c =
+    let p = c.get_struct_at-place.result in
+    let old : StructTree = struct_from (segment c.args.arena.now) p.start p.data_words p.pointers in
+    let size : fitted (8 * p.data_words) p.pointers (struct_of c.args.source.now) ≡ fitted (length old.bytes) (tree_count old.pointers) (struct_of c.args.source.now) =
+    ap (λ n. fitted n p.pointers (struct_of c.args.source.now)) (sym (data_of (segment c.args.arena.now) p.start p.data_words p.pointers c.get_struct_at-place.ensures.planted))
+    ∙ ap (λ n. fitted (length old.bytes) n (struct_of c.args.source.now)) (sym (pointers_of (segment c.args.arena.now) p.start p.data_words p.pointers)) in
+    (c.get_struct_at-place.ensures.leaves _ c.in_ok-copy_content_from.ensures.planted c.in_ok-copy_content_from.ensures.changes).tree
+    ∙ (ap (λ (s : StructTree). with_struct_element c.args.index s (tree (segment c.args.arena.now) c.args.at)) (c.in_ok-copy_content_from.ensures.tree ∙ size)
+    ∙ ap (λ (s : StructTree). with_struct_element c.args.index (fitted (length s.bytes) (tree_count s.pointers) (struct_of c.args.source.now)) (tree (segment c.args.arena.now) c.args.at)) c.get_struct_at-place.ensures.tree)

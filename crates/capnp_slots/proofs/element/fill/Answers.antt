@@ -2,7 +2,8 @@
 use Rattle.std.proofs.Common.{ap, subst, ◌≡◌, ◌∙◌, None, IfErr, OnOk}
 use Rattle.capnp_wire.specs.Edits.{IsDueRefusal}
 use Rattle.capnp_wire.specs.Elements.{with_pointer_element}
-use Rattle.capnp_wire.specs.Objects.{list_object_tree}
+use Rattle.capnp_arena.specs.Forest.{tree}
+use Rattle.capnp_arena.specs.Segment.{segment}
 use Rattle.capnp_wire.specs.Reading.{element_pointer}
 use Rattle.capnp_schema.specs.Entries.{lists_seen}
 use Rattle.capnp_schema.specs.Facts.Layers.{seen_which}
@@ -12,18 +13,18 @@ use Rattle.capnp_slots.proofs.element.fill.Goals as goal
 
 pub returns-clause-filled : goal.returns-clause-filled
 returns-clause-filled c =
-    subst (λ (t : SchemaType). OnOk c.fill_at.result (list_object_tree c.fill_at.new.list ≡ with_pointer_element c.args.index (element_filled (lists_seen c.args.set.now) t (element_pointer (list_object_tree c.args.list.now) c.args.index 1)) (list_object_tree c.args.list.now)))
+    subst (λ (t : SchemaType). OnOk c.fill_at.result (tree (segment c.fill_at.new.arena) c.args.at ≡ with_pointer_element c.args.index (element_filled (lists_seen c.args.set.now) t (element_pointer (tree (segment c.args.arena.now) c.args.at) c.args.index 1)) (tree (segment c.args.arena.now) c.args.at)))
     (ap seen_variant c.which.ensures ∙ seen_which c.args.element)
     c.fill_at.ensures.filled
 
 pub returns-clause-within : goal.returns-clause-within
 returns-clause-within c =
-    subst (λ (t : SchemaType). OnOk c.fill_at.result (element_due (lists_seen c.args.set.now) t (element_pointer (list_object_tree c.args.list.now) c.args.index 1) ≡ None))
+    subst (λ (t : SchemaType). OnOk c.fill_at.result (element_due (lists_seen c.args.set.now) t (element_pointer (tree (segment c.args.arena.now) c.args.at) c.args.index 1) ≡ None))
     (ap seen_variant c.which.ensures ∙ seen_which c.args.element)
     c.fill_at.ensures.within
 
 pub returns-clause-cause : goal.returns-clause-cause
 returns-clause-cause c =
-    subst (λ (t : SchemaType). IfErr c.fill_at.result (λ e. IsDueRefusal e (element_due (lists_seen c.args.set.now) t (element_pointer (list_object_tree c.args.list.now) c.args.index 1))))
+    subst (λ (t : SchemaType). IfErr c.fill_at.result (λ e. IsDueRefusal e (element_due (lists_seen c.args.set.now) t (element_pointer (tree (segment c.args.arena.now) c.args.at) c.args.index 1))))
     (ap seen_variant c.which.ensures ∙ seen_which c.args.element)
     c.fill_at.ensures.cause

@@ -1,6 +1,7 @@
 -- The number that is given stands in the element.
 use Rattle.std.proofs.Common.{◌≡◌, ap, subst, sym, ◌∙◌}
-use Rattle.capnp_wire.specs.Objects.{list_object_tree}
+use Rattle.capnp_arena.specs.Forest.{tree}
+use Rattle.capnp_arena.specs.Segment.{segment}
 use Rattle.capnp_schema.specs.Entries.{lists_seen}
 use Rattle.capnp_schema.specs.Facts.Layers.{seen_which}
 use Rattle.capnp_schema.specs.Types.{SchemaType, seen_type, seen_variant}
@@ -11,7 +12,7 @@ use Rattle.capnp_slots.proofs.element.set_primitive.Goals as goal
 pub store_element-requires-clause-room : goal.store_element-requires-clause-room
 store_element-requires-clause-room c =
     let t : seen_variant c.which.result ≡ seen_type c.args.element = ap seen_variant c.which.ensures ∙ seen_which c.args.element in
-    subst (λ (u : SchemaType). HasRoom u (list_object_tree c.args.list.now) c.args.index) (sym t) c.requires
+    subst (λ (u : SchemaType). HasRoom u (tree (segment c.args.arena.now) c.args.at) c.args.index) (sym t) c.requires.room
 
 pub store_element-requires-clause-fits : goal.store_element-requires-clause-fits
 store_element-requires-clause-fits c =
@@ -22,4 +23,4 @@ pub returns-clause-set : goal.returns-clause-set
 returns-clause-set c =
     let t : seen_variant c.which.result ≡ seen_type c.args.element = ap seen_variant c.which.ensures ∙ seen_which c.args.element in
     number-set (lists_seen c.args.set.now) (seen_type c.args.element) (seen_variant c.which.result) _ c.in_ok-number.number c.args.index _ _ t c.in_ok-number.ensures.number c.in_ok-number.ensures.given
-    c.store_element.ensures.written c.store_element.ensures.formed
+    c.store_element.ensures.written

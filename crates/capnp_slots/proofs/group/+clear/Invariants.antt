@@ -1,5 +1,5 @@
 use Rattle.std.proofs.Common.{◌≡◌, ◌+◌, ◌*◌, drop}
-use Rattle.capnp_wire.specs.Objects.{struct_object_tree}
+use Rattle.capnp_arena.specs.Built.{ChangesIn, IsBuilt, built}
 use Rattle.capnp_schema.specs.FieldLists.{subset_indices}
 use Rattle.capnp_schema.specs.Query.{plain_fields}
 use Rattle.capnp_schema.specs.StructHandles.{number_of, set_of, struct_records}
@@ -20,7 +20,9 @@ decreases-clear_plain l = 4 * l.groups + 2
 
 abbrev pub invariant-clear_plain-loop-i : goal.invariant-clear_plain-loop-i
 invariant-clear_plain-loop-i l = record {
-  left : cleared_indices (clear_index l.fn.groups (set_of l.fn.schema) (number_of l.fn.schema)) (plain_fields (struct_records l.fn.schema)) (struct_object_tree l.fn.object)
-      ≡ cleared_indices (clear_index l.groups (set_of l.schema) (number_of l.schema)) (drop l.i (subset_indices l.fields)) (struct_object_tree l.object);
-  size : KeepsSize (struct_object_tree l.fn.object) (struct_object_tree l.object);
+  left : cleared_indices (clear_index l.fn.groups (set_of l.fn.schema) (number_of l.fn.schema)) (plain_fields (struct_records l.fn.schema)) (built l.fn.arena l.fn.place)
+      ≡ cleared_indices (clear_index l.groups (set_of l.schema) (number_of l.schema)) (drop l.i (subset_indices l.fields)) (built l.arena l.place);
+  size : KeepsSize (built l.fn.arena l.fn.place) (built l.arena l.place);
+  planted : IsBuilt l.arena l.place;
+  changes : ChangesIn l.place l.fn.arena l.arena;
 }

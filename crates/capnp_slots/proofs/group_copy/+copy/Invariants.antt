@@ -1,6 +1,6 @@
 use Rattle.std.proofs.Common.{◌+◌, ◌*◌, drop, Option}
 use Rattle.capnp_device.specs.declared.error.ErrorKind.{ErrorKind}
-use Rattle.capnp_wire.specs.Objects.{struct_object_tree}
+use Rattle.capnp_arena.specs.Built.{ChangesIn, IsBuilt, built}
 use Rattle.capnp_wire.specs.Tree.{StructTree}
 use Rattle.capnp_schema.specs.FieldLists.{subset_indices}
 use Rattle.capnp_slots.specs.GroupSets.{AreCopied, has_index, kept_indices, plain_in_source}
@@ -24,7 +24,9 @@ decreases-copy_plain l = 8 * l.groups + 3
 
 abbrev pub invariant-copy_plain-loop-i : goal.invariant-copy_plain-loop-i
 invariant-copy_plain-loop-i l = record {
-  left : (refused : Option ErrorKind) (s' : StructTree) → AreCopied l.groups l.schema l.source (kept_indices (has_index l.schema l.source) (drop l.i (subset_indices l.fields))) (struct_object_tree l.object) refused s' →
-      AreCopied l.groups l.schema l.source (plain_in_source l.schema l.source) (struct_object_tree l.fn.object) refused s';
-  size : KeepsSize (struct_object_tree l.fn.object) (struct_object_tree l.object);
+  left : (refused : Option ErrorKind) (s' : StructTree) → AreCopied l.groups l.schema l.source (kept_indices (has_index l.schema l.source) (drop l.i (subset_indices l.fields))) (built l.arena l.place) refused s' →
+      AreCopied l.groups l.schema l.source (plain_in_source l.schema l.source) (built l.fn.arena l.fn.place) refused s';
+  size : KeepsSize (built l.fn.arena l.fn.place) (built l.arena l.place);
+  planted : IsBuilt l.arena l.place;
+  changes : ChangesIn l.place l.fn.arena l.arena;
 }

@@ -3,7 +3,7 @@ use Rattle.std.proofs.Common.{◌≡◌, ap, subst, sym, ◌∙◌, None, IfErr,
 use Rattle.capnp_wire.specs.WellFormed.{IsWellFormed}
 use Rattle.capnp_wire.specs.Defaults.{default_tree as reader_tree, filled_structs, filled_structs_refusal, or_default}
 use Rattle.capnp_wire.specs.Edits.{IsDueRefusal}
-use Rattle.capnp_wire.specs.Objects.{struct_object_tree}
+use Rattle.capnp_arena.specs.Built.{built}
 use Rattle.capnp_wire.specs.StructLists.{HoldsStructs}
 use Rattle.capnp_wire.specs.Tree.{Tree, nth_tree}
 use Rattle.capnp_wire.specs.declared.size.StructSize.{StructSize}
@@ -16,15 +16,16 @@ use Rattle.capnp_schema.specs.Plan.{brand_size}
 use Rattle.capnp_slots.specs.Fills.{HoldsThere, IsListFilled}
 use Rattle.capnp_slots.proofs.Filled.{is_plain}
 use Rattle.capnp_slots.proofs.FilledSlots.{always, made-filled}
+use Rattle.capnp_slots.proofs.Places.{same_struct}
 use Rattle.capnp_slots.proofs.part.fill_elements.Goals as goal
 
-pub returns-in-Struct : goal.returns-in-Struct
-returns-in-Struct c =
+pub returns-in-Struct-clause-written : goal.returns-in-Struct-clause-written
+returns-in-Struct-clause-written c =
     let set : Schemas = lists_seen c.args.set.now in
     let D : Tree = reader_tree c.args.default in
-    let x : Tree = nth_tree (struct_object_tree c.args.object.now).pointers c.args.index in
-    let s = c.args.object.now in
-    let s' = c.fill_structs.new.object in
+    let x : Tree = nth_tree (built c.args.arena.now c.args.place).pointers c.args.index in
+    let s = (built c.args.arena.now c.args.place) in
+    let s' = (built c.fill_structs.new.arena c.args.place) in
     let r = c.fill_structs.result in
     let t : StructType c.in-Struct.raw.number c.in-Struct.raw.generic ≡ seen_type c.args.element = ap seen_variant (sym c.in-Struct.is) ∙ (ap seen_variant c.which.ensures ∙ seen_which c.args.element) in
     let size : c.size_of-size.result ≡ brand_size set c.in-Struct.raw.number =
@@ -32,8 +33,7 @@ returns-in-Struct c =
     subst (λ (e : SchemaType). IsListFilled set e D s c.args.index r s') t (record {
       filled = subst (λ (z : StructSize). OnOk r (HoldsThere s c.args.index s' (filled_structs D z x))) size c.fill_structs.ensures.ok;
       within = subst (λ (z : StructSize). OnOk r (filled_structs_refusal D z x ≡ None)) size c.fill_structs.ensures.within;
-      kept = subst (λ (z : StructSize). OnOk r (IsWellFormed (filled_structs D z x))) size c.fill_structs.ensures.kept;
-      refused = c.fill_structs.ensures.refused;
+      refused = (same_struct c.args.place c.args.arena.now c.fill_structs.new.arena c.fill_structs.result c.fill_structs.ensures.refused);
       cause = subst (λ (z : StructSize). IfErr r (λ n. IsDueRefusal n (filled_structs_refusal D z x))) size c.fill_structs.ensures.cause;
       rests = λ h. c.fill_structs.ensures.succeeds h.0 (subst (λ (z : StructSize). HoldsStructs z x) (sym size) h.1);
     })
@@ -41,10 +41,9 @@ returns-in-Struct c =
 pub fill_list-requires-clause-simple : goal.fill_list-requires-clause-simple
 fill_list-requires-clause-simple c = (is_plain (lists_seen c.args.set.now) c.args.element c.which.result _ c.which.ensures c.expected_element_size.ensures c.in_default.not-Struct).simple
 
-pub returns-in_default : goal.returns-in_default
-returns-in_default c =
-    let x : Tree = nth_tree (struct_object_tree c.args.object.now).pointers c.args.index in
+pub returns-in_default-clause-written : goal.returns-in_default-clause-written
+returns-in_default-clause-written c =
+    let x : Tree = nth_tree (built c.args.arena.now c.args.place).pointers c.args.index in
     let D : Tree = reader_tree c.args.default in
     let list = is_plain (lists_seen c.args.set.now) c.args.element c.which.result _ c.which.ensures c.expected_element_size.ensures c.in_default.not-Struct in
-    made-filled c.args.object.now c.fill_list.new.object c.args.index c.fill_list.result _ _ _ _ _ _ (sym (list.enters (or_default D x))) (sym (list.due D x)) (list.rests D x)
-    (always c.fill_list.result (c.fill_list.ensures.formed c.requires.formed)) c.fill_list.ensures.ok c.fill_list.ensures.within c.fill_list.ensures.refused c.fill_list.ensures.cause (λ h. c.fill_list.ensures.succeeds h.0 h.1)
+    made-filled (built c.args.arena.now c.args.place) (built c.fill_list.new.arena c.args.place) c.args.index c.fill_list.result _ _ _ _ _ _ (sym (list.enters (or_default D x))) (sym (list.due D x)) (list.rests D x) c.fill_list.ensures.ok c.fill_list.ensures.within (same_struct c.args.place c.args.arena.now c.fill_list.new.arena c.fill_list.result c.fill_list.ensures.refused) c.fill_list.ensures.cause (λ h. c.fill_list.ensures.succeeds h.0 h.1)

@@ -1,6 +1,6 @@
 -- What is filled, by the field's type.
 use Rattle.std.proofs.Common.{ap, refl, subst, sym, ◌∙◌}
-use Rattle.capnp_wire.specs.Objects.{struct_object_tree}
+use Rattle.capnp_arena.specs.Built.{built}
 use Rattle.capnp_wire.specs.Tree.{StructTree}
 use Rattle.capnp_wire.specs.WellFormed.{IsWellFormed}
 use Rattle.capnp_schema.specs.Entries.{lists_seen}
@@ -12,51 +12,48 @@ use Rattle.capnp_slots.specs.Fields.{field_set}
 use Rattle.capnp_slots.proofs.Filled.{same-there}
 use Rattle.capnp_slots.proofs.FilledSlots.{always, data-part, list-part, part-filled, part-made, struct-part, text-part, untyped-part}
 use Rattle.capnp_slots.proofs.Pointers.{on_ok}
+use Rattle.capnp_slots.proofs.Places.{same_struct}
 use Rattle.capnp_slots.proofs.part.fill_null.Goals as goal
 
-pub returns-in-Struct : goal.returns-in-Struct
-returns-in-Struct c =
-    let s : StructTree = struct_object_tree c.args.object.now in
+pub returns-in-Struct-clause-written : goal.returns-in-Struct-clause-written
+returns-in-Struct-clause-written c =
+    let s : StructTree = built c.args.arena.now c.args.place in
     let set = c.get_set-set.ensures ∙ ap set_of c.get_containing_struct.ensures.is in
     let size = c.size_of-size.ensures ∙ (ap (λ z. brand_size z (number_of c.struct_schema.result)) (c.struct_schema.ensures.set ∙ set) ∙ ap (brand_size (field_set c.args.field)) c.struct_schema.ensures.number) in
     let part = struct-part c.args.field _ c.requires.slot c.default_pointer-default.ensures c.in-Struct.raw c.which.result c.size_of-size.result c.args.index s size c.requires.is c.in-Struct.is
     (ap seen_variant c.which.ensures ∙ (seen_which c.get_type.result ∙ c.get_type.ensures.is)) in
-    part-made c.args.object.now c.fill_struct.new.object c.args.index c.fill_struct.result c.args.field _ _ _ part
-    (always c.fill_struct.result (c.fill_struct.ensures.formed (c.pointers_of_structs_are_well_formed.ensures s c.args.index _ refl c.requires.formed)))
-    c.fill_struct.ensures.ok c.fill_struct.ensures.within c.fill_struct.ensures.refused c.fill_struct.ensures.cause c.fill_struct.ensures.succeeds
+    part-made (built c.args.arena.now c.args.place) (built c.fill_struct.new.arena c.args.place) c.args.index c.fill_struct.result c.args.field _ _ _ part
+    c.fill_struct.ensures.ok c.fill_struct.ensures.within (same_struct c.args.place c.args.arena.now c.fill_struct.new.arena c.fill_struct.result c.fill_struct.ensures.refused) c.fill_struct.ensures.cause c.fill_struct.ensures.succeeds
 
-pub returns-in-List : goal.returns-in-List
-returns-in-List c =
-    part-filled c.args.object.now c.fill_elements.new.object c.args.index c.fill_elements.result c.args.field _ _ _
-    (list-part c.args.field _ c.requires.slot c.default_pointer-default.ensures (lists_seen c.get_set-set.result.now) c.in-List.element c.which.result c.args.index (struct_object_tree c.args.object.now)
+pub returns-in-List-clause-written : goal.returns-in-List-clause-written
+returns-in-List-clause-written c =
+    part-filled (built c.args.arena.now c.args.place) (built c.fill_elements.new.arena c.args.place) c.args.index c.fill_elements.result c.args.field _ _ _
+    (list-part c.args.field _ c.requires.slot c.default_pointer-default.ensures (lists_seen c.get_set-set.result.now) c.in-List.element c.which.result c.args.index (built c.args.arena.now c.args.place)
     (c.get_set-set.ensures ∙ ap set_of c.get_containing_struct.ensures.is) c.requires.is c.in-List.is
     (ap seen_variant c.which.ensures ∙ (seen_which c.get_type.result ∙ c.get_type.ensures.is)))
-    c.fill_elements.ensures
+    c.fill_elements.ensures.written
 
-pub returns-in-Text : goal.returns-in-Text
-returns-in-Text c =
-    let s : StructTree = struct_object_tree c.args.object.now in
-    part-made c.args.object.now c.fill_text.new.object c.args.index c.fill_text.result c.args.field _ _ _
+pub returns-in-Text-clause-written : goal.returns-in-Text-clause-written
+returns-in-Text-clause-written c =
+    let s : StructTree = built c.args.arena.now c.args.place in
+    part-made (built c.args.arena.now c.args.place) (built c.fill_text.new.arena c.args.place) c.args.index c.fill_text.result c.args.field _ _ _
     (text-part c.args.field c.which.result c.args.index s c.requires.is (ap seen_variant c.which.ensures ∙ (seen_which c.get_type.result ∙ c.get_type.ensures.is)) c.in-Text.is)
-    (on_ok c.fill_text.result (λ kept. kept (c.pointers_of_structs_are_well_formed.ensures s c.args.index _ refl c.requires.formed)) c.fill_text.ensures.kept)
-    c.fill_text.ensures.ok c.fill_text.ensures.within c.fill_text.ensures.refused c.fill_text.ensures.cause (λ h. absurd h)
+    c.fill_text.ensures.ok c.fill_text.ensures.within (same_struct c.args.place c.args.arena.now c.fill_text.new.arena c.fill_text.result c.fill_text.ensures.refused) c.fill_text.ensures.cause (λ h. absurd h)
 
-pub returns-in-Data : goal.returns-in-Data
-returns-in-Data c =
-    let s : StructTree = struct_object_tree c.args.object.now in
-    part-made c.args.object.now c.fill_data.new.object c.args.index c.fill_data.result c.args.field _ _ _
+pub returns-in-Data-clause-written : goal.returns-in-Data-clause-written
+returns-in-Data-clause-written c =
+    let s : StructTree = built c.args.arena.now c.args.place in
+    part-made (built c.args.arena.now c.args.place) (built c.fill_data.new.arena c.args.place) c.args.index c.fill_data.result c.args.field _ _ _
     (data-part c.args.field c.which.result c.args.index s c.requires.is (ap seen_variant c.which.ensures ∙ (seen_which c.get_type.result ∙ c.get_type.ensures.is)) c.in-Data.is)
-    (on_ok c.fill_data.result (λ kept. kept (c.pointers_of_structs_are_well_formed.ensures s c.args.index _ refl c.requires.formed)) c.fill_data.ensures.kept)
-    c.fill_data.ensures.ok c.fill_data.ensures.within c.fill_data.ensures.refused c.fill_data.ensures.cause (λ h. absurd h)
+    c.fill_data.ensures.ok c.fill_data.ensures.within (same_struct c.args.place c.args.arena.now c.fill_data.new.arena c.fill_data.result c.fill_data.ensures.refused) c.fill_data.ensures.cause (λ h. absurd h)
 
-pub returns-in-AnyPointer : goal.returns-in-AnyPointer
-returns-in-AnyPointer c =
-    let s : StructTree = struct_object_tree c.args.object.now in
+pub returns-in-AnyPointer-clause-written : goal.returns-in-AnyPointer-clause-written
+returns-in-AnyPointer-clause-written c =
+    let s : StructTree = built c.args.arena.now c.args.place in
     let part = untyped-part c.args.field c.which.result c.args.index s c.requires.is (ap seen_variant c.which.ensures ∙ (seen_which c.get_type.result ∙ c.get_type.ensures.is)) c.in-AnyPointer.is in
     record {
       filled = same-there s s c.args.index _ refl part.filled;
       within = sym part.due;
-      kept = subst IsWellFormed part.filled (c.pointers_of_structs_are_well_formed.ensures s c.args.index _ refl c.requires.formed);
       refused = tt;
       cause = tt;
       rests = λ h. refl;

@@ -1,6 +1,6 @@
 -- What is filled where something stands, by the field's type.
 use Rattle.std.proofs.Common.{ap, refl, subst, sym, ◌∙◌}
-use Rattle.capnp_wire.specs.Objects.{struct_object_tree}
+use Rattle.capnp_arena.specs.Built.{built}
 use Rattle.capnp_wire.specs.Tree.{StructTree}
 use Rattle.capnp_wire.specs.WellFormed.{IsWellFormed}
 use Rattle.capnp_schema.specs.Entries.{lists_seen}
@@ -12,51 +12,48 @@ use Rattle.capnp_slots.specs.Fields.{field_set}
 use Rattle.capnp_slots.proofs.Filled.{same-there}
 use Rattle.capnp_slots.proofs.FilledSlots.{always, part-filled, part-made, part-stayed, untyped-part}
 use Rattle.capnp_slots.proofs.StandingSlots.{data-in, list-in, struct-in, text-in}
+use Rattle.capnp_slots.proofs.Places.{same_struct}
 use Rattle.capnp_slots.proofs.part.fill_standing.Goals as goal
 
-pub returns-in-Struct : goal.returns-in-Struct
-returns-in-Struct c =
-    let s : StructTree = struct_object_tree c.args.object.now in
+pub returns-in-Struct-clause-written : goal.returns-in-Struct-clause-written
+returns-in-Struct-clause-written c =
+    let s : StructTree = built c.args.arena.now c.args.place in
     let type = ap seen_variant c.which.ensures ∙ (seen_which c.get_type.result ∙ c.get_type.ensures.is) in
     let set = c.get_set-set.ensures ∙ ap set_of c.get_containing_struct.ensures.is in
     let size = c.size_of-size.ensures ∙ (ap (λ z. brand_size z (number_of c.struct_schema.result)) (c.struct_schema.ensures.set ∙ set) ∙ ap (brand_size (field_set c.args.field)) c.struct_schema.ensures.number) in
-    part-made c.args.object.now c.extend_struct.new.object c.args.index c.extend_struct.result c.args.field _ _ _
+    part-made (built c.args.arena.now c.args.place) (built c.extend_struct.new.arena c.args.place) c.args.index c.extend_struct.result c.args.field _ _ _
     (struct-in c.args.field c.which.result c.args.index s c.requires.is type c.requires.standing c.in-Struct.raw c.size_of-size.result size c.in-Struct.is)
-    (always c.extend_struct.result (c.extend_struct.ensures.formed (c.pointers_of_structs_are_well_formed.ensures s c.args.index _ refl c.requires.formed)))
-    c.extend_struct.ensures.ok c.extend_struct.ensures.within c.extend_struct.ensures.refused c.extend_struct.ensures.cause c.extend_struct.ensures.succeeds
+    c.extend_struct.ensures.ok c.extend_struct.ensures.within (same_struct c.args.place c.args.arena.now c.extend_struct.new.arena c.extend_struct.result c.extend_struct.ensures.refused) c.extend_struct.ensures.cause c.extend_struct.ensures.succeeds
 
-pub returns-in-List : goal.returns-in-List
-returns-in-List c =
-    part-filled c.args.object.now c.fill_elements.new.object c.args.index c.fill_elements.result c.args.field _ _ _
-    (list-in c.args.field c.which.result c.args.index (struct_object_tree c.args.object.now) c.requires.is
+pub returns-in-List-clause-written : goal.returns-in-List-clause-written
+returns-in-List-clause-written c =
+    part-filled (built c.args.arena.now c.args.place) (built c.fill_elements.new.arena c.args.place) c.args.index c.fill_elements.result c.args.field _ _ _
+    (list-in c.args.field c.which.result c.args.index (built c.args.arena.now c.args.place) c.requires.is
     (ap seen_variant c.which.ensures ∙ (seen_which c.get_type.result ∙ c.get_type.ensures.is)) c.requires.standing
     (lists_seen c.get_set-set.result.now) c.in-List.element (c.get_set-set.ensures ∙ ap set_of c.get_containing_struct.ensures.is) c.in-List.is)
-    c.fill_elements.ensures
+    c.fill_elements.ensures.written
 
-pub returns-in-Text : goal.returns-in-Text
-returns-in-Text c =
-    let s : StructTree = struct_object_tree c.args.object.now in
-    part-stayed c.args.object.now c.check_text.new.object c.args.index c.check_text.result c.args.field _
+pub returns-in-Text-clause-written : goal.returns-in-Text-clause-written
+returns-in-Text-clause-written c =
+    let s : StructTree = built c.args.arena.now c.args.place in
+    part-stayed (built c.args.arena.now c.args.place) (built c.args.arena.now c.args.place) c.args.index c.check_text.result c.args.field _
     (text-in c.args.field c.which.result c.args.index s c.requires.is (ap seen_variant c.which.ensures ∙ (seen_which c.get_type.result ∙ c.get_type.ensures.is)) c.requires.standing c.in-Text.is)
-    (c.pointers_of_structs_are_well_formed.ensures s c.args.index _ refl c.requires.formed)
-    c.check_text.ensures.stays c.check_text.ensures.within c.check_text.ensures.cause
+    refl c.check_text.ensures.within c.check_text.ensures.cause
 
-pub returns-in-Data : goal.returns-in-Data
-returns-in-Data c =
-    let s : StructTree = struct_object_tree c.args.object.now in
-    part-stayed c.args.object.now c.check_data.new.object c.args.index c.check_data.result c.args.field _
+pub returns-in-Data-clause-written : goal.returns-in-Data-clause-written
+returns-in-Data-clause-written c =
+    let s : StructTree = built c.args.arena.now c.args.place in
+    part-stayed (built c.args.arena.now c.args.place) (built c.args.arena.now c.args.place) c.args.index c.check_data.result c.args.field _
     (data-in c.args.field c.which.result c.args.index s c.requires.is (ap seen_variant c.which.ensures ∙ (seen_which c.get_type.result ∙ c.get_type.ensures.is)) c.requires.standing c.in-Data.is)
-    (c.pointers_of_structs_are_well_formed.ensures s c.args.index _ refl c.requires.formed)
-    c.check_data.ensures.stays c.check_data.ensures.within c.check_data.ensures.cause
+    refl c.check_data.ensures.within c.check_data.ensures.cause
 
-pub returns-in-AnyPointer : goal.returns-in-AnyPointer
-returns-in-AnyPointer c =
-    let s : StructTree = struct_object_tree c.args.object.now in
+pub returns-in-AnyPointer-clause-written : goal.returns-in-AnyPointer-clause-written
+returns-in-AnyPointer-clause-written c =
+    let s : StructTree = built c.args.arena.now c.args.place in
     let part = untyped-part c.args.field c.which.result c.args.index s c.requires.is (ap seen_variant c.which.ensures ∙ (seen_which c.get_type.result ∙ c.get_type.ensures.is)) c.in-AnyPointer.is in
     record {
       filled = same-there s s c.args.index _ refl part.filled;
       within = sym part.due;
-      kept = subst IsWellFormed part.filled (c.pointers_of_structs_are_well_formed.ensures s c.args.index _ refl c.requires.formed);
       refused = tt;
       cause = tt;
       rests = λ h. refl;

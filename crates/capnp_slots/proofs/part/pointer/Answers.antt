@@ -1,15 +1,18 @@
--- The pointer of the slot is lent.
-use Rattle.std.proofs.Common.{ap, refl, ◌∙◌}
-use Rattle.capnp_wire.specs.Lends.{with_pointer}
-use Rattle.capnp_wire.specs.Objects.{struct_object_tree}
+-- The pointer of the slot by the slot's index.
+use Rattle.std.proofs.Common.{ℕ, List, ap, subst, ◌∙◌}
 use Rattle.capnp_wire.specs.Tree.{nth_tree}
+use Rattle.capnp_arena.specs.Forest.{Changes, Forest}
+use Rattle.capnp_arena.specs.Segment.{segment}
+use Rattle.capnp_arena.specs.Built.{LeavesIn, built}
 use Rattle.capnp_slots.proofs.part.pointer.Goals as goal
 
-pub returns : goal.returns
-returns c = (
-  (refl, λ w. ap (λ i. with_pointer c.args.object.now i w) c.pointer_slot-index.ensures.is),
-  record {
-    lends = tt;
-    now = c.get_pointer_field.ensures.now ∙ ap (nth_tree (struct_object_tree c.args.object.now).pointers) c.pointer_slot-index.ensures.is;
-  },
-)
+pub pointer_at-requires-clause-inside : goal.pointer_at-requires-clause-inside
+pointer_at-requires-clause-inside c = c.pointer_slot-index.ensures.inside _ c.requires.room
+
+pub returns-clause-tree : goal.returns-clause-tree
+returns-clause-tree c = c.pointer_at.ensures.tree ∙ ap (nth_tree (built c.args.arena.now c.args.place).pointers) c.pointer_slot-index.ensures.is
+
+pub returns-clause-leaves : goal.returns-clause-leaves
+returns-clause-leaves c =
+    subst (λ (i : ℕ). (new : List ℕ) → Forest new c.pointer_at.result → Changes c.pointer_at.result (segment c.args.arena.now) new → LeavesIn c.args.place i c.args.arena.now c.pointer_at.result new) c.pointer_slot-index.ensures.is
+    c.pointer_at.ensures.leaves

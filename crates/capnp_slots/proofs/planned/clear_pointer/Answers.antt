@@ -1,11 +1,15 @@
--- The pointer that was lent is null, and the struct has it in its place.
-use Rattle.std.proofs.Common.{ap, ◌∙◌}
+use Rattle.std.proofs.Common.{◌∙◌, ap}
 use Rattle.capnp_wire.specs.Edits.{with_pointer_tree}
-use Rattle.capnp_wire.specs.Objects.{struct_object_tree}
-use Rattle.capnp_wire.specs.Facts.Written.{pointer_written}
+use Rattle.capnp_arena.specs.Built.{built}
 use Rattle.capnp_slots.proofs.planned.clear_pointer.Goals as goal
 
-pub returns : goal.returns
-returns c =
-    pointer_written c.args.object.now c.args.index c.clear.new.self
-    ∙ ap (with_pointer_tree (struct_object_tree c.args.object.now) c.args.index) c.clear.ensures
+pub returns-clause-planted : goal.returns-clause-planted
+returns-clause-planted c = (c.pointer_at-at.ensures.leaves _ c.clear.ensures.forest c.clear.ensures.changes).planted
+
+pub returns-clause-changes : goal.returns-clause-changes
+returns-clause-changes c = (c.pointer_at-at.ensures.leaves _ c.clear.ensures.forest c.clear.ensures.changes).changes
+
+pub returns-clause-written : goal.returns-clause-written
+returns-clause-written c =
+    (c.pointer_at-at.ensures.leaves _ c.clear.ensures.forest c.clear.ensures.changes).struct
+    ∙ ap (with_pointer_tree (built c.args.arena.now c.args.place) c.args.index) c.clear.ensures.tree

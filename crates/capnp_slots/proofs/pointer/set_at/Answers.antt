@@ -1,13 +1,15 @@
--- The pointer that was lent is set, or as it was.
-use Rattle.std.proofs.Common.{ap, ◌∙◌}
-use Rattle.capnp_wire.specs.Objects.{object_tree}
-use Rattle.capnp_slots.proofs.Pointers.{on_err, on_ok, pointer_kept, pointer_left}
+use Rattle.std.proofs.Common.{◌∙◌, ap}
+use Rattle.capnp_wire.specs.Edits.{with_pointer_tree}
+use Rattle.capnp_arena.specs.Built.{built}
 use Rattle.capnp_slots.proofs.pointer.set_at.Goals as goal
 
-pub returns-clause-ok : goal.returns-clause-ok
-returns-clause-ok g c = on_ok c.set_pointer_builder.result (λ e. pointer_left c.args.object.now c.args.index c.set_pointer_builder.new.builder _ e) c.set_pointer_builder.ensures.ok
+pub returns-clause-planted : goal.returns-clause-planted
+returns-clause-planted g c = (c.pointer_at-at.ensures.leaves _ c.in_ok-set_pointer_builder.ensures.forest c.in_ok-set_pointer_builder.ensures.changes).planted
 
-pub returns-clause-refused : goal.returns-clause-refused
-returns-clause-refused g c = on_err c.set_pointer_builder.result
-    (λ e. pointer_kept c.args.object.now c.args.index c.set_pointer_builder.new.builder (ap object_tree e ∙ c.get_pointer_field.ensures.now))
-    c.set_pointer_builder.ensures.refused
+pub returns-clause-changes : goal.returns-clause-changes
+returns-clause-changes g c = (c.pointer_at-at.ensures.leaves _ c.in_ok-set_pointer_builder.ensures.forest c.in_ok-set_pointer_builder.ensures.changes).changes
+
+pub returns-clause-ok : goal.returns-clause-ok
+returns-clause-ok g c =
+    (c.pointer_at-at.ensures.leaves _ c.in_ok-set_pointer_builder.ensures.forest c.in_ok-set_pointer_builder.ensures.changes).struct
+    ∙ ap (with_pointer_tree (built c.args.arena.now c.args.place) c.args.index) c.in_ok-set_pointer_builder.ensures.tree

@@ -2,7 +2,6 @@ use Rattle.std.proofs.Common.{◌+◌, ◌*◌}
 use Rattle.capnp_wire.specs.Backing.{segment_list}
 use Rattle.capnp_wire.specs.Place.{tree_below}
 use Rattle.capnp_wire.specs.Found.{element_structs, found_tree, pointer_tree, pointer_trees}
-use Rattle.capnp_wire.specs.Objects.{object_tree}
 use Rattle.capnp_wire.proofs.Sums.{AreSummed, ElementsAreSummed}
 use Rattle.capnp_wire.proofs.TreeSizes.{structs_size, tree_size, trees_size}
 use Rattle.capnp_wire.proofs.total.+total.Given as goal
@@ -12,9 +11,6 @@ decreases-total_pointer l = 6 * tree_size (pointer_tree l.pointer) + 5
 
 abbrev pub decreases-total_word : goal.decreases-total_word
 decreases-total_word l = 6 * tree_size (tree_below l.depth (segment_list l.segments) l.segment.now l.index) + 4
-
-abbrev pub decreases-total_object : goal.decreases-total_object
-decreases-total_object l = 6 * tree_size (object_tree l.object.now) + 4
 
 abbrev pub decreases-total_found : goal.decreases-total_found
 decreases-total_found l = 6 * tree_size (found_tree l.found) + 3

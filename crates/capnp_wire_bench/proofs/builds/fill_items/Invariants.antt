@@ -1,6 +1,7 @@
-use Rattle.capnp_wire.specs.Objects.{list_object_tree}
+use Rattle.capnp_arena.specs.Forest.{Changes, Forest, tree}
+use Rattle.capnp_arena.specs.Segment.{segment}
 use Rattle.capnp_wire_bench.specs.Items.{AreItems}
 use Rattle.capnp_wire_bench.proofs.builds.fill_items.Given as goal
 
 abbrev pub invariant-loop-index : goal.invariant-loop-index
-invariant-loop-index l = AreItems l.count (list_object_tree l.items)
+invariant-loop-index l = Forest (segment l.message) l.at × AreItems l.count (tree (segment l.message) l.at) × Changes l.at (segment l.fn.message) (segment l.message)

@@ -6,10 +6,10 @@ use Rattle.capnp_arena.proofs.arena.Arena.new.Goals as goal
 
 pub returns-clause-forest : goal.returns-clause-forest
 returns-clause-forest c =
-    let e : c.in_ok-bytes.bytes.items ≡ replicate 8 0 = search rules in
+    let e : c.append_zeros.new.out.items ≡ replicate 8 0 = search rules in
     subst (λ b. Forest b 0) (sym e) (null_forest (replicate 8 0) 0 (omega arith, refl))
 
 pub returns-clause-null : goal.returns-clause-null
 returns-clause-null c =
-    let e : c.in_ok-bytes.bytes.items ≡ replicate 8 0 = search rules in
+    let e : c.append_zeros.new.out.items ≡ replicate 8 0 = search rules in
     subst (λ b. tree b 0 ≡ Null) (sym e) (null_tree (replicate 8 0) 0 (omega arith, refl))

@@ -3,6 +3,7 @@ use Rattle.std.proofs.Common.{inl}
 use Rattle.std.proofs.lemmas.Result.{err_from_is_err_and}
 use Rattle.capnp_dynamic.specs.Built.{built_element}
 use Rattle.capnp_dynamic.specs.Handed.{HandsElement, IsElementPartRefusal, IsElementWithin}
+use Rattle.capnp_dynamic.specs.Owners.{IsElementGot}
 use Rattle.capnp_dynamic.specs.Taken.{IsNoList, is_list_type}
 use Rattle.capnp_dynamic.specs.declared.dynamic_value.build.Builder.TheVariants as built
 use Rattle.capnp_dynamic_readers.specs.Facts.Taken.{taken}
@@ -26,3 +27,6 @@ pub returns-clause-rests : goal.returns-clause-rests
 returns-clause-rests c = λ inside rests kind.
     is_taken (IsNoList c.in_ok-part.part) (is_list_type (built_element c.args.list)) (no_list_there c.args.list c.args.index c.in_ok-part.part c.in_ok-part.ensures.stands)
     c.list_of.result c.list_of.ensures.refused kind
+
+pub returns-clause-owner : goal.returns-clause-owner
+returns-clause-owner c = taken built.List c.in_ok-part.part (IsElementGot c.args.list c.args.index) c.list_of.result c.list_of.ensures.is c.in_ok-part.ensures.owner

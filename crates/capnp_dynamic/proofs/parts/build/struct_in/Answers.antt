@@ -2,8 +2,9 @@
 use Rattle.std.proofs.Common.{inl}
 use Rattle.std.proofs.lemmas.Result.{err_from_is_err_and}
 use Rattle.capnp_schema.specs.FieldLists.{typed_of}
-use Rattle.capnp_dynamic.specs.Built.{built_struct}
+use Rattle.capnp_dynamic.specs.Built.{built_struct, place_of, struct_behind}
 use Rattle.capnp_dynamic.specs.Handed.{HandsField, IsPartRefusal, IsPartWithin}
+use Rattle.capnp_dynamic.specs.Owners.{IsGotOf}
 use Rattle.capnp_dynamic.specs.Taken.{IsNoStruct, hands_struct}
 use Rattle.capnp_dynamic.specs.declared.dynamic_value.build.Builder.TheVariants as built
 use Rattle.capnp_dynamic_readers.specs.Facts.Taken.{taken}
@@ -29,3 +30,7 @@ pub returns-clause-rests : goal.returns-clause-rests
 returns-clause-rests c = λ f named rests kind.
     is_taken (IsNoStruct c.in_ok-part.part) (hands_struct (typed_of f)) (no_struct f (built_struct c.args.builder) c.in_ok-part.part (c.in_ok-part.ensures.stands f named))
     c.struct_of.result c.struct_of.ensures.refused kind
+
+pub returns-clause-owner : goal.returns-clause-owner
+returns-clause-owner c = λ f named.
+    taken built.Struct c.in_ok-part.part (IsGotOf (struct_behind c.args.builder) (place_of c.args.builder) f) c.struct_of.result c.struct_of.ensures.is (c.in_ok-part.ensures.owner f named)

@@ -1,7 +1,7 @@
 use Rattle.std.proofs.Common.{subst, sym}
 use Rattle.capnp_wire.specs.Found.{parts_tree, pointer_trees, element_structs}
 use Rattle.capnp_wire.specs.WellFormed.{IsWellFormedStruct}
-use Rattle.capnp_wire.proofs.WellFormedParts.{IsWellFormed-nth_tree, IsWellFormedStruct-nth_struct}
+use Rattle.capnp_wire.specs.Facts.Parts.{IsWellFormed-nth_tree, IsWellFormedStruct-nth_struct}
 use Rattle.capnp_wire.proofs.list_reader.ListReader.get_pointer_element.Goals as goal
 
 pub new-requires : goal.new-requires

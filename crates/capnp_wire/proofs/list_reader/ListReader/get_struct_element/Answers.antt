@@ -1,7 +1,7 @@
 use Rattle.std.proofs.Common.{subst, sym}
 use Rattle.capnp_wire.specs.WellFormed.{IsWellFormedStruct}
 use Rattle.capnp_wire.specs.Found.{found_tree}
-use Rattle.capnp_wire.proofs.WellFormedParts.{IsWellFormedStruct-element_struct}
+use Rattle.capnp_wire.specs.Facts.Parts.{IsWellFormedStruct-element_struct}
 use Rattle.capnp_wire.proofs.list_reader.ListReader.get_struct_element.Goals as goal
 
 pub new-requires : goal.new-requires

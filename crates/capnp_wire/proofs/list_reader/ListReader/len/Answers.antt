@@ -1,6 +1,6 @@
 use Rattle.std.proofs.Common.{arith}
 use Rattle.capnp_wire.specs.Found.{found_tree}
-use Rattle.capnp_wire.proofs.WellFormedParts.{list_length-lt}
+use Rattle.capnp_wire.specs.Facts.Parts.{list_length-lt}
 use Rattle.capnp_wire.proofs.list_reader.ListReader.len.Goals as goal
 
 pub overflow_cast-result : goal.overflow_cast-result

@@ -1,5 +1,5 @@
 use Rattle.capnp_wire.specs.Found.{pointer_trees}
-use Rattle.capnp_wire.proofs.WellFormedParts.{IsWellFormed-nth_tree}
+use Rattle.capnp_wire.specs.Facts.Parts.{IsWellFormed-nth_tree}
 use Rattle.capnp_wire.proofs.struct_reader.StructReader.get_pointer_field.Goals as goal
 
 pub new-requires : goal.new-requires

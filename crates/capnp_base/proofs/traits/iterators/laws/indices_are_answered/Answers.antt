@@ -1,4 +1,4 @@
-use Rattle.capnp_base.specs.ListIter.{source, to_come}
+use Rattle.capnp_base.specs.IndexIter.{source, to_come}
 use Rattle.capnp_base.proofs.Indices.{indices_below}
 use Rattle.capnp_base.proofs.traits.iterators.laws.indices_are_answered.Goals as goal
 

@@ -1,4 +1,4 @@
-use Rattle.capnp_base.specs.ListIter.{source, to_come}
+use Rattle.capnp_base.specs.IndexIter.{source, to_come}
 use Rattle.capnp_base.proofs.Runs.{gives_in_order, gives_all}
 use Rattle.capnp_base.proofs.traits.iterators.laws.items_come_in_order.Goals as goal
 

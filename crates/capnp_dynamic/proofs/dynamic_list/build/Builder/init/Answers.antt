@@ -11,22 +11,22 @@ use Rattle.capnp_dynamic.proofs.HandedOut.{can-hand, handed-out}
 use Rattle.capnp_dynamic.proofs.Started.{handed-initn}
 use Rattle.capnp_dynamic.proofs.dynamic_list.build.Builder.init.Goals as goal
 
-pub get_pointer_element-requires : goal.get_pointer_element-requires
-get_pointer_element-requires c =
-    (element_started (built_set c.args.self) (built_element c.args.self) c.args.size c.args.index (built_elements c.args.self) _ (room_in (built_set c.args.self) c.args.self.element_type (built_elements c.args.self) c.args.index c.requires.ready c.requires.inside) c.in_ok-init.ensures.has c.in_ok-init.ensures.written).there
+pub get_pointer_element-at-requires-clause-pointer : goal.get_pointer_element-at-requires-clause-pointer
+get_pointer_element-at-requires-clause-pointer c =
+    (element_started (built_set c.args.self) (built_element c.args.self) c.args.size c.args.index (built_elements c.args.self) _ (room_in (built_set c.args.self) c.args.self.element_type (built_elements c.args.self) c.args.index c.requires.ready.holds c.tree_is_sound.ensures.formed c.requires.inside) c.in_ok-init.ensures.has c.in_ok-init.ensures.written).there
 
 pub hand_out-requires-clause-pointer : goal.hand_out-requires-clause-pointer
 hand_out-requires-clause-pointer c =
     ap is_pointer (ap seen_variant c.which-variant.ensures ∙ seen_which c.args.self.element_type)
-    ∙ (element_started (built_set c.args.self) (built_element c.args.self) c.args.size c.args.index (built_elements c.args.self) _ (room_in (built_set c.args.self) c.args.self.element_type (built_elements c.args.self) c.args.index c.requires.ready c.requires.inside) c.in_ok-init.ensures.has c.in_ok-init.ensures.written).pointer
+    ∙ (element_started (built_set c.args.self) (built_element c.args.self) c.args.size c.args.index (built_elements c.args.self) _ (room_in (built_set c.args.self) c.args.self.element_type (built_elements c.args.self) c.args.index c.requires.ready.holds c.tree_is_sound.ensures.formed c.requires.inside) c.in_ok-init.ensures.has c.in_ok-init.ensures.written).pointer
 
 pub hand_out-requires-clause-handed : goal.hand_out-requires-clause-handed
 hand_out-requires-clause-handed c =
     can-hand (built_set c.args.self) (built_set c.args.self) (seen_variant c.which-variant.result) (built_element c.args.self) _ (initn_tree (built_set c.args.self) (built_element c.args.self) c.args.size)
     refl
     (ap seen_variant c.which-variant.ensures ∙ seen_which c.args.self.element_type)
-    (c.get_pointer_element.ensures.now
-    ∙ (element_started (built_set c.args.self) (built_element c.args.self) c.args.size c.args.index (built_elements c.args.self) _ (room_in (built_set c.args.self) c.args.self.element_type (built_elements c.args.self) c.args.index c.requires.ready c.requires.inside) c.in_ok-init.ensures.has c.in_ok-init.ensures.written).is)
+    (c.get_pointer_element-at.ensures.tree
+    ∙ (element_started (built_set c.args.self) (built_element c.args.self) c.args.size c.args.index (built_elements c.args.self) _ (room_in (built_set c.args.self) c.args.self.element_type (built_elements c.args.self) c.args.index c.requires.ready.holds c.tree_is_sound.ensures.formed c.requires.inside) c.in_ok-init.ensures.has c.in_ok-init.ensures.written).is)
     (handed-initn (built_set c.args.self) c.args.size (built_element c.args.self) c.in_ok-init.ensures.has)
 
 pub returns-clause-stands : goal.returns-clause-stands
@@ -35,7 +35,17 @@ returns-clause-stands c = (
   handed-out true (built_set c.args.self) (built_set c.args.self) (seen_variant c.which-variant.result) (built_element c.args.self) _ (initn_tree (built_set c.args.self) (built_element c.args.self) c.args.size) c.hand_out.result
       refl
       (ap seen_variant c.which-variant.ensures ∙ seen_which c.args.self.element_type)
-      (c.get_pointer_element.ensures.now
-      ∙ (element_started (built_set c.args.self) (built_element c.args.self) c.args.size c.args.index (built_elements c.args.self) _ (room_in (built_set c.args.self) c.args.self.element_type (built_elements c.args.self) c.args.index c.requires.ready c.requires.inside) c.in_ok-init.ensures.has c.in_ok-init.ensures.written).is)
+      (c.get_pointer_element-at.ensures.tree
+      ∙ (element_started (built_set c.args.self) (built_element c.args.self) c.args.size c.args.index (built_elements c.args.self) _ (room_in (built_set c.args.self) c.args.self.element_type (built_elements c.args.self) c.args.index c.requires.ready.holds c.tree_is_sound.ensures.formed c.requires.inside) c.in_ok-init.ensures.has c.in_ok-init.ensures.written).is)
       c.hand_out.ensures.stands,
 )
+
+pub returns-clause-owner : goal.returns-clause-owner
+returns-clause-owner c = record {
+  arena = _;
+  there = record { at = c.get_pointer_element-at.result; stands = c.hand_out.ensures.behind; leaves = c.get_pointer_element-at.ensures.leaves };
+  same = refl;
+  forest = c.in_ok-init.ensures.forest;
+  changes = c.in_ok-init.ensures.changes;
+  becomes = c.in_ok-init.ensures.written;
+}

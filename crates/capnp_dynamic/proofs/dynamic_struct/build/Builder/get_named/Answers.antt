@@ -2,9 +2,11 @@
 use Rattle.std.proofs.lemmas.Result.{IfErr-weaker, IfOk-weaker}
 use Rattle.capnp_schema.specs.Query.{field_named}
 use Rattle.capnp_schema.specs.StructHandles.{struct_records}
-use Rattle.capnp_dynamic.specs.Built.{built_schema, built_struct}
+use Rattle.capnp_dynamic.specs.Built.{built_schema, built_struct, place_of, struct_behind}
 use Rattle.capnp_dynamic.specs.Handed.{HandsField, IsPartRefusal, IsPartWithin}
 use Rattle.capnp_dynamic.proofs.HandedOut.{same_due, same_handed, same_rests, same_within}
+use Rattle.capnp_dynamic.specs.Owners.{IsGotOf}
+use Rattle.capnp_dynamic.proofs.Owners.{same_got}
 use Rattle.capnp_dynamic.proofs.dynamic_struct.build.Builder.get_named.Goals as goal
 
 pub returns-clause-stands : goal.returns-clause-stands
@@ -32,3 +34,11 @@ pub returns-clause-rests : goal.returns-clause-rests
 returns-clause-rests c = λ f named rests.
     let s = built_schema c.args.self in
     c.get.ensures.rests (same_rests s (field_named (struct_records s) c.args.field_name.now) f c.in_ok-field.field named c.in_ok-field.ensures.field (built_struct c.args.self) rests)
+
+pub returns-clause-owner : goal.returns-clause-owner
+returns-clause-owner c = λ f named.
+    let s = built_schema c.args.self in
+    let a = struct_behind c.args.self in
+    let p = place_of c.args.self in
+    let g = c.in_ok-field.field in
+    IfOk-weaker c.get.result (IsGotOf a p g) (IsGotOf a p f) (λ v h. same_got s (field_named (struct_records s) c.args.field_name.now) g f c.in_ok-field.ensures.field named a p v h) c.get.ensures.owner

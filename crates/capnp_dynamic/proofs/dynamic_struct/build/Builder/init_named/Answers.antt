@@ -2,9 +2,11 @@
 use Rattle.std.proofs.lemmas.Result.{IfErr-weaker, IfOk-weaker}
 use Rattle.capnp_schema.specs.Query.{field_named}
 use Rattle.capnp_schema.specs.StructHandles.{struct_records}
-use Rattle.capnp_dynamic.specs.Built.{built_schema, built_struct}
+use Rattle.capnp_dynamic.specs.Built.{built_schema, built_struct, place_of, struct_behind}
 use Rattle.capnp_dynamic.specs.Handed.{HandsInit, IsStartRefusal}
 use Rattle.capnp_dynamic.proofs.Started.{same_init, same_start_refusal}
+use Rattle.capnp_dynamic.specs.Owners.{IsStartedOf}
+use Rattle.capnp_dynamic.proofs.Owners.{same_started}
 use Rattle.capnp_dynamic.proofs.dynamic_struct.build.Builder.init_named.Goals as goal
 
 pub returns-clause-stands : goal.returns-clause-stands
@@ -19,3 +21,11 @@ returns-clause-cause c = λ f named.
     let s = built_schema c.args.self in
     let g = c.in_ok-field.field in
     IfErr-weaker c.init.result (IsStartRefusal g) (IsStartRefusal f) (λ e h. same_start_refusal s (field_named (struct_records s) c.args.field_name.now) g f c.in_ok-field.ensures.field named e h) c.init.ensures.cause
+
+pub returns-clause-owner : goal.returns-clause-owner
+returns-clause-owner c = λ f named.
+    let s = built_schema c.args.self in
+    let a = struct_behind c.args.self in
+    let p = place_of c.args.self in
+    let g = c.in_ok-field.field in
+    IfOk-weaker c.init.result (IsStartedOf a p g) (IsStartedOf a p f) (λ v h. same_started s (field_named (struct_records s) c.args.field_name.now) g f c.in_ok-field.ensures.field named a p v h) c.init.ensures.owner

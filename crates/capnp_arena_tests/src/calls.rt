@@ -1,0 +1,484 @@
+//! Calls on a message that is built, as values: a row of a table says what is called, what that answers, and what the
+//! message is then. Each call of the builders stands in a function of its own, and `follow` makes those of the rows on
+//! one message. A message stays one, also where a call is refused.
+ghost use Rattle.std.specs.Prelude.{◌<◌, ◌≡◌, ◌≢◌};
+ghost use Rattle.capnp_arena.specs.Forest.{PartChanges};
+ghost use Rattle.capnp_arena.specs.Handles.{IsStruct, part};
+ghost use Rattle.capnp_arena.specs.Message.{IsMessage};
+ghost use Rattle.capnp_arena.specs.Segment.{segment};
+
+use crate::fixtures::{ONE_EACH, answer, bytes_of, is_written_as, root_of};
+use crate::lent::{lend, read_data, read_text};
+use capnp_arena::handles::StructBuilder;
+use capnp_arena::message::Builder;
+use capnp_device::error::{ErrorKind, Result};
+use capnp_wire::size::{ElementSize, StructSize};
+use capnp_wire::{PointerReader, StructReader};
+use std::alloc::Global;
+use std::process::Abort;
+
+pub const TWO_EACH: StructSize = StructSize {
+    data_words: 2,
+    pointers: 2,
+};
+
+const THREE_EACH: StructSize = StructSize {
+    data_words: 3,
+    pointers: 3,
+};
+
+/// A call on the root of a message.
+#[derive(Clone, Copy)]
+pub enum Call {
+    Clear,
+    SetText(&'static str),
+    SetData(&'static str),
+    InitStruct(StructSize),
+    InitList(ElementSize, u32),
+    InitStructs(u32, StructSize),
+    GetStruct(StructSize),
+    GetList(ElementSize),
+    GetStructs(StructSize),
+    /// A new struct of a data word and a pointer, with a number and a text.
+    NewStruct(u64, &'static str),
+    /// A new struct of so many words and pointers, up to three: its last word is all ones, and its last pointer the
+    /// text "before".
+    NewFilled(u16),
+    Copy(Copied),
+    Lend(Lent),
+    /// What is asked is got, and a null is filled from the default at the root of these words, if there are any.
+    Fill(Asked, &'static str),
+}
+
+/// What a pointer is asked for, with a default.
+#[derive(Clone, Copy)]
+pub enum Asked {
+    /// A struct of at least a data word and a pointer.
+    Struct,
+    /// A list of numbers of two bytes.
+    Numbers,
+    /// A list of structs of at least a data word and a pointer.
+    Structs,
+}
+
+/// What is copied.
+#[derive(Clone, Copy)]
+pub enum Copied {
+    /// The root of a message.
+    Message(&'static str),
+    /// The list at the root of these words, read as one of elements of a size.
+    List(&'static str, ElementSize),
+    /// The first struct of that list.
+    FirstStruct(&'static str, ElementSize),
+    /// What fits of the struct at the root of these words, into the one of a data word and a pointer, or more, that
+    /// stands there.
+    Content(&'static str),
+    /// What fits of the second struct of the list of bytes at the root of these words.
+    ContentOfByte(&'static str),
+}
+
+/// What bytes are lent.
+#[derive(Clone, Copy)]
+pub enum Lent {
+    GetData,
+    GetText,
+    InitData(u32),
+    InitText(u32),
+    /// New data or a new text of so many bytes, into which these are written.
+    NewData(u32, &'static str),
+    NewText(u32, &'static str),
+    ReverseData,
+    ReverseText,
+}
+
+pub const NO_SIZE: StructSize = StructSize {
+    data_words: 0,
+    pointers: 0,
+};
+
+pub const EMPTY_STRUCT: &str = "00 00 00 00 01 00 00 00 | fc ff ff ff 00 00 00 00";
+
+pub const NEW_STRUCT: &str = "00 00 00 00 03 00 00 00 | 00 00 00 00 01 00 01 00 | 0 | 0";
+
+/// A struct with 5 and the text "hi", and it in the place of two words and two pointers.
+pub const FIVE_AND_TEXT: &str =
+    "00 00 00 00 04 00 00 00 | 00 00 00 00 01 00 01 00 | 05 00 00 00 00 00 00 00 | \
+     01 00 00 00 1a 00 00 00 | 68 69 00 00 00 00 00 00";
+
+/// What is called, what that answers, and the message then: the name of a row says what it shows.
+pub type Row = (
+    &'static str,
+    Call,
+    std::result::Result<&'static str, ErrorKind>,
+    &'static str,
+);
+
+/// Sets a text at a pointer of a struct, and stores a number in its word of the same index.
+pub fn put(fields: &mut StructBuilder<'_>, index: u16, number: u64, text: &str) -> Result<()>
+    requires planted { IsStruct fields.old }
+    requires inside { (index < fields.old.place.data_words) × (index < fields.old.place.pointers) }
+    ensures same { fields.new.arena.ghost_name ≡ fields.old.arena.ghost_name }
+    ensures place { fields.new.place ≡ fields.old.place }
+    ensures planted { IsStruct fields.new }
+    ensures changes { PartChanges (part fields.old.place) (segment fields.old.arena.now)
+        (segment fields.new.arena.now) }
+{
+    let place = fields.place;
+    let mut pointer = fields.arena.pointer_field(place, index);
+    pointer.set_text(text.as_bytes())?;
+    fields.set_data_field::<u64>(index as u32, number);
+    Ok(())
+}
+
+fn new_struct(
+    message: &mut Builder,
+    size: StructSize,
+    index: u16,
+    number: u64,
+    text: &str,
+) -> Result<()>
+    requires message { IsMessage message.old }
+    requires inside { (index < size.data_words) × (index < size.pointers) }
+    ensures { IsMessage message.new }
+{
+    let mut fields = message.root().init_struct(size)?;
+    put(&mut fields, index, number, text)
+}
+
+fn new_filled(message: &mut Builder, count: u16) -> Result<()>
+    requires { IsMessage message.old }
+    ensures { IsMessage message.new }
+{
+    match count {
+        1 => new_struct(message, ONE_EACH, 0, u64::MAX, "before"),
+        2 => new_struct(message, TWO_EACH, 1, u64::MAX, "before"),
+        _ => new_struct(message, THREE_EACH, 2, u64::MAX, "before"),
+    }
+}
+
+/// The text that spells what is copied.
+fn source_of(copied: Copied) -> &'static str {
+    match copied {
+        Copied::Message(text) => text,
+        Copied::List(text, _) => text,
+        Copied::FirstStruct(text, _) => text,
+        Copied::Content(text) => text,
+        Copied::ContentOfByte(text) => text,
+    }
+}
+
+fn copy_message(alloc: Global, message: &mut Builder, bytes: &[u8]) -> Result<()>
+    requires { IsMessage message.old }
+    ensures { IsMessage message.new }
+{
+    let source = root_of(alloc, bytes)?;
+    message.set_root(source)?;
+    Ok(())
+}
+
+fn copy_list(message: &mut Builder, words: &[u8], size: ElementSize) -> Result<()>
+    requires { IsMessage message.old }
+    ensures { IsMessage message.new }
+{
+    let list = PointerReader::from_words(words).get_list(size)?;
+    message.root().set_list(&list)?;
+    Ok(())
+}
+
+fn copy_first_struct(message: &mut Builder, words: &[u8], size: ElementSize) -> Result<()>
+    requires { IsMessage message.old }
+    ensures { IsMessage message.new }
+{
+    let list = PointerReader::from_words(words).get_list(size)?;
+    let first = list.get_struct_element(0)?;
+    message.root().set_struct(&first)?;
+    Ok(())
+}
+
+fn copy_content(message: &mut Builder, source: &StructReader<'_>) -> Result<()>
+    requires { IsMessage message.old }
+    ensures { IsMessage message.new }
+{
+    let mut fields = message.root().get_struct(ONE_EACH)?;
+    fields.copy_content_from(source)?;
+    Ok(())
+}
+
+fn copy_content_of(message: &mut Builder, words: &[u8]) -> Result<()>
+    requires { IsMessage message.old }
+    ensures { IsMessage message.new }
+{
+    let source = PointerReader::from_words(words).get_struct()?;
+    copy_content(message, &source)
+}
+
+fn copy_content_of_byte(message: &mut Builder, words: &[u8]) -> Result<()>
+    requires { IsMessage message.old }
+    ensures { IsMessage message.new }
+{
+    let list = PointerReader::from_words(words).get_list(ElementSize::Byte)?;
+    let second = list.get_struct_element(1)?;
+    copy_content(message, &second)
+}
+
+fn copy(alloc: Global, message: &mut Builder, copied: Copied) -> Result<()>
+    requires { IsMessage message.old }
+    ensures { IsMessage message.new }
+{
+    let bytes = bytes_of(alloc, source_of(copied))?;
+    match copied {
+        Copied::Message(_) => copy_message(alloc, message, &bytes),
+        Copied::List(_, size) => copy_list(message, &bytes, size),
+        Copied::FirstStruct(_, size) => copy_first_struct(message, &bytes, size),
+        Copied::Content(_) => copy_content_of(message, &bytes),
+        Copied::ContentOfByte(_) => copy_content_of_byte(message, &bytes),
+    }
+}
+
+/// A default of these words; none where there are none.
+fn default_of(words: &[u8]) -> Option<PointerReader<'_>> {
+    if words.is_empty() {
+        None
+    } else {
+        Some(PointerReader::from_words(words))
+    }
+}
+
+fn ask(message: &mut Builder, asked: Asked, default: Option<PointerReader<'_>>) -> Result<()>
+    requires { IsMessage message.old }
+    ensures { IsMessage message.new }
+{
+    match asked {
+        Asked::Struct => {
+            message.root().get_struct_or_default(ONE_EACH, default)?;
+        }
+        Asked::Numbers => {
+            message
+                .root()
+                .get_list_or_default(ElementSize::TwoBytes, default)?;
+        }
+        Asked::Structs => {
+            message
+                .root()
+                .get_struct_list_or_default(ONE_EACH, default)?;
+        }
+    }
+    Ok(())
+}
+
+fn fill(alloc: Global, message: &mut Builder, asked: Asked, default: &str) -> Result<()>
+    requires { IsMessage message.old }
+    ensures { IsMessage message.new }
+{
+    let words = bytes_of(alloc, default)?;
+    ask(message, asked, default_of(&words))
+}
+
+fn clear(message: &mut Builder) -> Result<()>
+    requires { IsMessage message.old }
+    ensures { IsMessage message.new }
+{
+    message.root().clear();
+    Ok(())
+}
+
+fn set_text(message: &mut Builder, text: &str) -> Result<()>
+    requires { IsMessage message.old }
+    ensures { IsMessage message.new }
+{
+    message.root().set_text(text.as_bytes())?;
+    Ok(())
+}
+
+fn set_data(message: &mut Builder, bytes: &str) -> Result<()>
+    requires { IsMessage message.old }
+    ensures { IsMessage message.new }
+{
+    message.root().set_data(bytes.as_bytes())?;
+    Ok(())
+}
+
+fn init_struct(message: &mut Builder, size: StructSize) -> Result<()>
+    requires { IsMessage message.old }
+    ensures { IsMessage message.new }
+{
+    message.root().init_struct(size)?;
+    Ok(())
+}
+
+fn init_list(message: &mut Builder, size: ElementSize, count: u32) -> Result<()>
+    requires message { IsMessage message.old }
+    requires simple { size ≢ ElementSize.InlineComposite }
+    ensures { IsMessage message.new }
+{
+    message.root().init_list(size, count)?;
+    Ok(())
+}
+
+fn init_structs(message: &mut Builder, count: u32, size: StructSize) -> Result<()>
+    requires { IsMessage message.old }
+    ensures { IsMessage message.new }
+{
+    message.root().init_struct_list(count, size)?;
+    Ok(())
+}
+
+fn get_struct(message: &mut Builder, size: StructSize) -> Result<()>
+    requires { IsMessage message.old }
+    ensures { IsMessage message.new }
+{
+    message.root().get_struct(size)?;
+    Ok(())
+}
+
+fn get_list(message: &mut Builder, size: ElementSize) -> Result<()>
+    requires message { IsMessage message.old }
+    requires simple { size ≢ ElementSize.InlineComposite }
+    ensures { IsMessage message.new }
+{
+    message.root().get_list(size)?;
+    Ok(())
+}
+
+fn get_structs(message: &mut Builder, size: StructSize) -> Result<()>
+    requires { IsMessage message.old }
+    ensures { IsMessage message.new }
+{
+    message.root().get_struct_list(size)?;
+    Ok(())
+}
+
+fn init(message: &mut Builder, call: Call) -> Result<()>
+    requires { IsMessage message.old }
+    ensures { IsMessage message.new }
+{
+    match call {
+        Call::InitStruct(size) => init_struct(message, size),
+        Call::InitList(ElementSize::InlineComposite, _) => Ok(()),
+        Call::InitList(size, count) => init_list(message, size, count),
+        Call::InitStructs(count, size) => init_structs(message, count, size),
+        Call::GetStruct(size) => get_struct(message, size),
+        Call::GetList(ElementSize::InlineComposite) => Ok(()),
+        Call::GetList(size) => get_list(message, size),
+        Call::GetStructs(size) => get_structs(message, size),
+        _ => Ok(()),
+    }
+}
+
+fn set(alloc: Global, message: &mut Builder, call: Call) -> Result<()>
+    requires { IsMessage message.old }
+    ensures { IsMessage message.new }
+{
+    match call {
+        Call::Clear => clear(message),
+        Call::SetText(text) => set_text(message, text),
+        Call::SetData(bytes) => set_data(message, bytes),
+        Call::NewStruct(number, text) => new_struct(message, ONE_EACH, 0, number, text),
+        Call::NewFilled(count) => new_filled(message, count),
+        Call::Copy(copied) => copy(alloc, message, copied),
+        Call::Fill(asked, default) => fill(alloc, message, asked, default),
+        other => init(message, other),
+    }
+}
+
+/// Makes a call, and answers a copy of the bytes that it lends, if it lends any.
+pub fn make(alloc: Global, message: &mut Builder, call: Call) -> Result<Vec<u8>>
+    requires { IsMessage message.old }
+    ensures { IsMessage message.new }
+{
+    match call {
+        Call::Lend(lent) => lend(alloc, message, lent),
+        other => match set(alloc, message, other) {
+            Ok(()) => Ok(Vec::new(alloc)),
+            Err(error) => Err(error),
+        },
+    }
+}
+
+/// The words of a message's segment, and whether the root is a null, a struct or a list.
+pub fn parts_of(message: &mut Builder) -> Result<(u64, [bool; 3])>
+    requires { IsMessage message.old }
+    ensures { IsMessage message.new }
+{
+    let words = message.size_in_words()?;
+    let root = message.root();
+    Ok((words, [root.is_null(), root.is_struct(), root.is_list()]))
+}
+
+/// The same, as the bytes of a message of one segment have them.
+fn parts_in(bytes: &[u8]) -> (u64, [bool; 3]) {
+    if bytes.len() < 16 {
+        return (0, [false; 3]);
+    }
+    let is_null = bytes[8..16] == [0; 8];
+    (
+        (bytes.len() / 8) as u64 - 1,
+        [is_null, !is_null && bytes[8] % 4 == 0, bytes[8] % 4 == 1],
+    )
+}
+
+/// Whether a message is written as the bytes that a text spells, and is measured and looked at as they say.
+fn stands_as(alloc: Global, message: &mut Builder, text: &str) -> Result<(bool, bool)>
+    requires { IsMessage message.old }
+    ensures { IsMessage message.new }
+{
+    let bytes = bytes_of(alloc, text)?;
+    let is_measured = parts_of(message)? == parts_in(&bytes);
+    Ok((is_written_as(alloc, message, text)?, is_measured))
+}
+
+/// Whether a call answers these bytes, or is refused so.
+fn answers(made: Result<Vec<u8>>, expected: std::result::Result<&str, ErrorKind>) -> bool {
+    match (made, expected) {
+        (Ok(bytes), Ok(text)) => bytes.as_slice() == text.as_bytes(),
+        (Err(error), Err(kind)) => error.kind == kind,
+        _ => false,
+    }
+}
+
+/// Whether bytes that are got to be changed are read so too, or refused so.
+fn reads_as(
+    alloc: Global,
+    message: &mut Builder,
+    call: Call,
+    expected: std::result::Result<&str, ErrorKind>,
+) -> bool
+    requires { IsMessage message.old }
+    ensures { IsMessage message.new }
+{
+    match call {
+        Call::Lend(Lent::GetData) => answers(read_data(alloc, message), expected),
+        Call::Lend(Lent::GetText) => answers(read_text(alloc, message), expected),
+        _ => true,
+    }
+}
+
+/// Makes the call of a row on a message, and compares what it answers and the message then.
+fn follow_row(rt: &impl Abort, alloc: Global, message: &mut Builder, row: &Row)
+    requires { IsMessage message.old }
+    ensures { IsMessage message.new }
+{
+    let (name, call, expected, then) = *row;
+    assert!(rt; reads_as(alloc, message, call, expected), "{name}");
+    let made = make(alloc, message, call);
+    assert!(rt; answers(made, expected), "{name}");
+    let stands = answer(stands_as(alloc, message, then));
+    assert_eq!(rt; stands, Ok((true, true)), "{name}");
+}
+
+fn follow_rows(rt: &impl Abort, alloc: Global, message: &mut Builder, rows: &[Row])
+    requires { IsMessage message.old }
+{
+    for row in rows {
+        follow_row(rt, alloc, message, row);
+    }
+}
+
+/// Makes the calls of these rows on one message.
+pub fn follow(rt: &impl Abort, alloc: Global, rows: &[Row]) {
+    let message = Builder::new(alloc);
+    assert!(rt; message.is_ok());
+    if let Ok(mut message) = message {
+        follow_rows(rt, alloc, &mut message, rows);
+    }
+}

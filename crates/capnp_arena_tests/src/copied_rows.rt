@@ -1,0 +1,514 @@
+//! Rows of calls that copy messages, lists and structs, and that make structs of lists.
+
+use crate::calls::Call::{Copy, GetStructs, InitStruct, NewFilled, NewStruct};
+use crate::calls::Copied::{Content, ContentOfByte, FirstStruct, List, Message};
+use crate::calls::{EMPTY_STRUCT, FIVE_AND_TEXT, NEW_STRUCT, NO_SIZE, Row};
+use crate::fixtures::ONE_EACH;
+use crate::rows::{COPIED_BY_TOOL, ELEMENTS, NESTED, SEVEN_SEGMENTS, WHOLE, WITH_TEXT};
+use capnp_device::error::ErrorKind::{BadPointer, SizePastFormat};
+use capnp_wire::size::ElementSize::{
+    Bit, Byte, EightBytes, FourBytes, InlineComposite, Pointer, TwoBytes, Void,
+};
+
+/// Lists, as words: of nothing, of bits, of bytes, of numbers of eight bytes, of the text "hi" and a null, and of
+/// structs with 5 and a null and with 6 and the text "hi".
+const VOIDS: &str = "01 00 00 00 18 00 00 00";
+
+const BITS: &str = "01 00 00 00 49 00 00 00 | 81 01 00 00 00 00 00 00";
+
+const BYTES: &str = "01 00 00 00 1a 00 00 00 | 01 02 03 00 00 00 00 00";
+
+const WORDS: &str = "01 00 00 00 15 00 00 00 | 09 00 00 00 00 00 00 80 | 07 00 00 00 00 00 00 00";
+
+const POINTERS: &str =
+    "01 00 00 00 16 00 00 00 | 05 00 00 00 1a 00 00 00 | 0 | 68 69 00 00 00 00 00 00";
+
+const STRUCTS: &str =
+    "01 00 00 00 27 00 00 00 | 08 00 00 00 01 00 01 00 | 05 00 00 00 00 00 00 00 | 0 | 06 00 00 00 00 00 00 00 | 01 00 00 00 1a 00 00 00 | 68 69 00 00 00 00 00 00";
+
+/// Two words of data, and the text "hi" and a null.
+const SOURCE: &str =
+    "00 00 00 00 02 00 02 00 | 01 02 03 04 05 06 07 08 | 09 0a 0b 0c 0d 0e 0f 10 | 05 00 00 00 1a 00 00 00 | 0 | 68 69 00 00 00 00 00 00";
+
+/// Messages and lists are copied.
+pub static COPIED: [Row; 21] = [
+    ("a struct", Copy(Message(WHOLE)), Ok(""), WHOLE),
+    (
+        "a pointer leaves its segment",
+        Copy(Message("00 00 00 00 01 00 00 00 | fc ff ff 7f 01 00 00 00")),
+        Err(BadPointer),
+        WHOLE,
+    ),
+    (
+        "a struct with a text",
+        Copy(Message(WITH_TEXT)),
+        Ok(""),
+        WITH_TEXT,
+    ),
+    (
+        "two segments and a far pointer become one segment",
+        Copy(Message(
+            "01 00 00 00 01 00 00 00 | 02 00 00 00 00 00 00 00 | 02 00 00 00 01 00 00 00 | 00 00 00 00 01 00 00 00 | 05 00 00 00 00 00 00 00",
+        )),
+        Ok(""),
+        "00 00 00 00 02 00 00 00 | 00 00 00 00 01 00 00 00 | 05 00 00 00 00 00 00 00",
+    ),
+    (
+        "targets come in the order of their pointers",
+        Copy(Message(NESTED)),
+        Ok(""),
+        NESTED,
+    ),
+    (
+        "those of the first element come first",
+        Copy(Message(ELEMENTS)),
+        Ok(""),
+        ELEMENTS,
+    ),
+    (
+        "seven segments become one, as the tool writes it",
+        Copy(Message(SEVEN_SEGMENTS)),
+        Ok(""),
+        COPIED_BY_TOOL,
+    ),
+    (
+        "a list of nothing",
+        Copy(List(VOIDS, Void)),
+        Ok(""),
+        "00 00 00 00 01 00 00 00 | 01 00 00 00 18 00 00 00",
+    ),
+    (
+        "a list of bits",
+        Copy(List(BITS, Bit)),
+        Ok(""),
+        "00 00 00 00 02 00 00 00 | 01 00 00 00 49 00 00 00 | 81 01 00 00 00 00 00 00",
+    ),
+    (
+        "a list of bytes",
+        Copy(List(BYTES, Byte)),
+        Ok(""),
+        "00 00 00 00 02 00 00 00 | 01 00 00 00 1a 00 00 00 | 01 02 03 00 00 00 00 00",
+    ),
+    (
+        "a list of numbers",
+        Copy(List(WORDS, EightBytes)),
+        Ok(""),
+        "00 00 00 00 03 00 00 00 | 01 00 00 00 15 00 00 00 | 09 00 00 00 00 00 00 80 | 07 00 00 00 00 00 00 00",
+    ),
+    (
+        "a list of pointers",
+        Copy(List(POINTERS, Pointer)),
+        Ok(""),
+        "00 00 00 00 04 00 00 00 | 01 00 00 00 16 00 00 00 | 05 00 00 00 1a 00 00 00 | 0 | 68 69 00 00 00 00 00 00",
+    ),
+    (
+        "a list of structs",
+        Copy(List(STRUCTS, InlineComposite)),
+        Ok(""),
+        "00 00 00 00 07 00 00 00 | 01 00 00 00 27 00 00 00 | 08 00 00 00 01 00 01 00 | 05 00 00 00 00 00 00 00 | 0 | 06 00 00 00 00 00 00 00 | 01 00 00 00 1a 00 00 00 | 68 69 00 00 00 00 00 00",
+    ),
+    (
+        "structs that were read as numbers",
+        Copy(List(STRUCTS, EightBytes)),
+        Ok(""),
+        "00 00 00 00 07 00 00 00 | 01 00 00 00 27 00 00 00 | 08 00 00 00 01 00 01 00 | 05 00 00 00 00 00 00 00 | 0 | 06 00 00 00 00 00 00 00 | 01 00 00 00 1a 00 00 00 | 68 69 00 00 00 00 00 00",
+    ),
+    (
+        "structs that were read as pointers",
+        Copy(List(STRUCTS, Pointer)),
+        Ok(""),
+        "00 00 00 00 07 00 00 00 | 01 00 00 00 27 00 00 00 | 08 00 00 00 01 00 01 00 | 05 00 00 00 00 00 00 00 | 0 | 06 00 00 00 00 00 00 00 | 01 00 00 00 1a 00 00 00 | 68 69 00 00 00 00 00 00",
+    ),
+    (
+        "three structs of size zero",
+        Copy(List(
+            "01 00 00 00 07 00 00 00 | 0c 00 00 00 00 00 00 00",
+            InlineComposite,
+        )),
+        Ok(""),
+        "00 00 00 00 02 00 00 00 | 01 00 00 00 07 00 00 00 | 0c 00 00 00 00 00 00 00",
+    ),
+    (
+        "three structs of size zero, as the root of a message",
+        Copy(Message(
+            "00 00 00 00 02 00 00 00 | 01 00 00 00 07 00 00 00 | 0c 00 00 00 00 00 00 00",
+        )),
+        Ok(""),
+        "00 00 00 00 02 00 00 00 | 01 00 00 00 07 00 00 00 | 0c 00 00 00 00 00 00 00",
+    ),
+    (
+        "2^20 + 1 structs of size zero",
+        Copy(List(
+            "01 00 00 00 07 00 00 00 | 04 00 40 00 00 00 00 00",
+            InlineComposite,
+        )),
+        Ok(""),
+        "00 00 00 00 02 00 00 00 | 01 00 00 00 07 00 00 00 | 04 00 40 00 00 00 00 00",
+    ),
+    (
+        "2^20 + 1 structs of size zero, as the root of a message",
+        Copy(Message(
+            "00 00 00 00 02 00 00 00 | 01 00 00 00 07 00 00 00 | 04 00 40 00 00 00 00 00",
+        )),
+        Ok(""),
+        "00 00 00 00 02 00 00 00 | 01 00 00 00 07 00 00 00 | 04 00 40 00 00 00 00 00",
+    ),
+    (
+        "as many structs of size zero as a list has",
+        Copy(List(
+            "01 00 00 00 07 00 00 00 | fc ff ff 7f 00 00 00 00",
+            InlineComposite,
+        )),
+        Ok(""),
+        "00 00 00 00 02 00 00 00 | 01 00 00 00 07 00 00 00 | fc ff ff 7f 00 00 00 00",
+    ),
+    (
+        "as many structs of size zero as a list has, as the root of a message",
+        Copy(Message(
+            "00 00 00 00 02 00 00 00 | 01 00 00 00 07 00 00 00 | fc ff ff 7f 00 00 00 00",
+        )),
+        Ok(""),
+        "00 00 00 00 02 00 00 00 | 01 00 00 00 07 00 00 00 | fc ff ff 7f 00 00 00 00",
+    ),
+];
+
+/// Lists that a null was read as are copied, elements as structs, and what fits of a struct is taken over.
+pub static TAKEN_OVER: [Row; 24] = [
+    (
+        "a null that was read as a list of the size 0",
+        Copy(List("0", Void)),
+        Ok(""),
+        "00 00 00 00 01 00 00 00 | 01 00 00 00 00 00 00 00",
+    ),
+    (
+        "a null that was read as a list of the size 1",
+        Copy(List("0", Bit)),
+        Ok(""),
+        "00 00 00 00 01 00 00 00 | 01 00 00 00 01 00 00 00",
+    ),
+    (
+        "a null that was read as a list of the size 2",
+        Copy(List("0", Byte)),
+        Ok(""),
+        "00 00 00 00 01 00 00 00 | 01 00 00 00 02 00 00 00",
+    ),
+    (
+        "a null that was read as a list of the size 3",
+        Copy(List("0", TwoBytes)),
+        Ok(""),
+        "00 00 00 00 01 00 00 00 | 01 00 00 00 03 00 00 00",
+    ),
+    (
+        "a null that was read as a list of the size 4",
+        Copy(List("0", FourBytes)),
+        Ok(""),
+        "00 00 00 00 01 00 00 00 | 01 00 00 00 04 00 00 00",
+    ),
+    (
+        "a null that was read as a list of the size 5",
+        Copy(List("0", EightBytes)),
+        Ok(""),
+        "00 00 00 00 01 00 00 00 | 01 00 00 00 05 00 00 00",
+    ),
+    (
+        "a null that was read as a list of the size 6",
+        Copy(List("0", Pointer)),
+        Ok(""),
+        "00 00 00 00 01 00 00 00 | 01 00 00 00 06 00 00 00",
+    ),
+    (
+        "a null that was read as a list of structs",
+        Copy(List("0", InlineComposite)),
+        Ok(""),
+        "00 00 00 00 02 00 00 00 | 01 00 00 00 07 00 00 00 | 0",
+    ),
+    (
+        "an element of one byte is a struct of one word",
+        Copy(FirstStruct("01 00 00 00 0a 00 00 00 | 09 00 00 00 00 00 00 00", Byte)),
+        Ok(""),
+        "00 00 00 00 02 00 00 00 | 00 00 00 00 01 00 00 00 | 09 00 00 00 00 00 00 00",
+    ),
+    (
+        "another one byte",
+        Copy(FirstStruct("01 00 00 00 0a 00 00 00 | 07 00 00 00 00 00 00 00", Byte)),
+        Ok(""),
+        "00 00 00 00 02 00 00 00 | 00 00 00 00 01 00 00 00 | 07 00 00 00 00 00 00 00",
+    ),
+    (
+        "an element of two bytes",
+        Copy(FirstStruct(
+            "01 00 00 00 0b 00 00 00 | 09 08 00 00 00 00 00 00",
+            TwoBytes,
+        )),
+        Ok(""),
+        "00 00 00 00 02 00 00 00 | 00 00 00 00 01 00 00 00 | 09 08 00 00 00 00 00 00",
+    ),
+    (
+        "an element of four bytes",
+        Copy(FirstStruct(
+            "01 00 00 00 0c 00 00 00 | 09 08 07 06 00 00 00 00",
+            FourBytes,
+        )),
+        Ok(""),
+        "00 00 00 00 02 00 00 00 | 00 00 00 00 01 00 00 00 | 09 08 07 06 00 00 00 00",
+    ),
+    (
+        "an element of eight bytes",
+        Copy(FirstStruct(
+            "01 00 00 00 0d 00 00 00 | 09 08 07 06 05 04 03 02",
+            EightBytes,
+        )),
+        Ok(""),
+        "00 00 00 00 02 00 00 00 | 00 00 00 00 01 00 00 00 | 09 08 07 06 05 04 03 02",
+    ),
+    (
+        "an element of nothing is a struct of size zero",
+        Copy(FirstStruct(VOIDS, Void)),
+        Ok(""),
+        EMPTY_STRUCT,
+    ),
+    ("a new struct", InitStruct(ONE_EACH), Ok(""), NEW_STRUCT),
+    (
+        "a smaller struct takes what fits",
+        Copy(Content(SOURCE)),
+        Ok(""),
+        "00 00 00 00 04 00 00 00 | 00 00 00 00 01 00 01 00 | 01 02 03 04 05 06 07 08 | 01 00 00 00 1a 00 00 00 | 68 69 00 00 00 00 00 00",
+    ),
+    (
+        "three words and pointers, the last ones filled",
+        NewFilled(3),
+        Ok(""),
+        "00 00 00 00 08 00 00 00 | 00 00 00 00 03 00 03 00 | 0 | 0 | ff ff ff ff ff ff ff ff | 0 | 0 | 01 00 00 00 3a 00 00 00 | 62 65 66 6f 72 65 00 00",
+    ),
+    (
+        "a larger struct is filled up",
+        Copy(Content(SOURCE)),
+        Ok(""),
+        "00 00 00 00 08 00 00 00 | 00 00 00 00 03 00 03 00 | 01 02 03 04 05 06 07 08 | 09 0a 0b 0c 0d 0e 0f 10 | 0 | 09 00 00 00 1a 00 00 00 | 0 | 0 | 68 69 00 00 00 00 00 00",
+    ),
+    (
+        "two words and pointers, the last ones filled",
+        NewFilled(2),
+        Ok(""),
+        "00 00 00 00 06 00 00 00 | 00 00 00 00 02 00 02 00 | 0 | ff ff ff ff ff ff ff ff | 0 | 01 00 00 00 3a 00 00 00 | 62 65 66 6f 72 65 00 00",
+    ),
+    (
+        "a struct of the size takes all",
+        Copy(Content(SOURCE)),
+        Ok(""),
+        "00 00 00 00 06 00 00 00 | 00 00 00 00 02 00 02 00 | 01 02 03 04 05 06 07 08 | 09 0a 0b 0c 0d 0e 0f 10 | 05 00 00 00 1a 00 00 00 | 0 | 68 69 00 00 00 00 00 00",
+    ),
+    (
+        "a word and a pointer, both filled",
+        NewFilled(1),
+        Ok(""),
+        "00 00 00 00 04 00 00 00 | 00 00 00 00 01 00 01 00 | ff ff ff ff ff ff ff ff | 01 00 00 00 3a 00 00 00 | 62 65 66 6f 72 65 00 00",
+    ),
+    (
+        "data within a word is filled up",
+        Copy(ContentOfByte(BYTES)),
+        Ok(""),
+        "00 00 00 00 03 00 00 00 | 00 00 00 00 01 00 01 00 | 02 00 00 00 00 00 00 00 | 0",
+    ),
+    (
+        "a struct with a number and a text",
+        NewStruct(5, "hi"),
+        Ok(""),
+        FIVE_AND_TEXT,
+    ),
+    (
+        "a pointer that leaves its segment is refused, also where it does not fit",
+        Copy(Content("00 00 00 00 00 00 02 00 | 0 | fc ff ff 7f 01 00 00 00")),
+        Err(BadPointer),
+        FIVE_AND_TEXT,
+    ),
+];
+
+/// Lists become lists of structs.
+pub static BECOME_STRUCTS: [Row; 24] = [
+    (
+        "two elements of nothing",
+        Copy(Message("00 00 00 00 01 00 00 00 | 01 00 00 00 10 00 00 00")),
+        Ok(""),
+        "00 00 00 00 01 00 00 00 | 01 00 00 00 10 00 00 00",
+    ),
+    (
+        "two elements of nothing become structs",
+        GetStructs(ONE_EACH),
+        Ok(""),
+        "00 00 00 00 06 00 00 00 | 01 00 00 00 27 00 00 00 | 08 00 00 00 01 00 01 00 | 0 | 0 | 0 | 0",
+    ),
+    (
+        "numbers of one byte",
+        Copy(Message(
+            "00 00 00 00 02 00 00 00 | 01 00 00 00 12 00 00 00 | 01 02 00 00 00 00 00 00",
+        )),
+        Ok(""),
+        "00 00 00 00 02 00 00 00 | 01 00 00 00 12 00 00 00 | 01 02 00 00 00 00 00 00",
+    ),
+    (
+        "numbers of one byte become structs",
+        GetStructs(ONE_EACH),
+        Ok(""),
+        "00 00 00 00 06 00 00 00 | 01 00 00 00 27 00 00 00 | 08 00 00 00 01 00 01 00 | \
+         01 00 00 00 00 00 00 00 | 0 | 02 00 00 00 00 00 00 00 | 0",
+    ),
+    (
+        "numbers of two bytes",
+        Copy(Message(
+            "00 00 00 00 02 00 00 00 | 01 00 00 00 13 00 00 00 | 01 00 02 00 00 00 00 00",
+        )),
+        Ok(""),
+        "00 00 00 00 02 00 00 00 | 01 00 00 00 13 00 00 00 | 01 00 02 00 00 00 00 00",
+    ),
+    (
+        "numbers of two bytes become structs",
+        GetStructs(ONE_EACH),
+        Ok(""),
+        "00 00 00 00 06 00 00 00 | 01 00 00 00 27 00 00 00 | 08 00 00 00 01 00 01 00 | \
+         01 00 00 00 00 00 00 00 | 0 | 02 00 00 00 00 00 00 00 | 0",
+    ),
+    (
+        "numbers of four bytes",
+        Copy(Message(
+            "00 00 00 00 02 00 00 00 | 01 00 00 00 14 00 00 00 | 01 00 00 00 02 00 00 00",
+        )),
+        Ok(""),
+        "00 00 00 00 02 00 00 00 | 01 00 00 00 14 00 00 00 | 01 00 00 00 02 00 00 00",
+    ),
+    (
+        "numbers of four bytes become structs",
+        GetStructs(ONE_EACH),
+        Ok(""),
+        "00 00 00 00 06 00 00 00 | 01 00 00 00 27 00 00 00 | 08 00 00 00 01 00 01 00 | \
+         01 00 00 00 00 00 00 00 | 0 | 02 00 00 00 00 00 00 00 | 0",
+    ),
+    (
+        "numbers of eight bytes",
+        Copy(Message(
+            "00 00 00 00 03 00 00 00 | 01 00 00 00 15 00 00 00 | 01 00 00 00 00 00 00 00 | 02 00 00 00 00 00 00 00",
+        )),
+        Ok(""),
+        "00 00 00 00 03 00 00 00 | 01 00 00 00 15 00 00 00 | 01 00 00 00 00 00 00 00 | 02 00 00 00 00 00 00 00",
+    ),
+    (
+        "numbers of eight bytes become structs",
+        GetStructs(ONE_EACH),
+        Ok(""),
+        "00 00 00 00 06 00 00 00 | 01 00 00 00 27 00 00 00 | 08 00 00 00 01 00 01 00 | \
+         01 00 00 00 00 00 00 00 | 0 | 02 00 00 00 00 00 00 00 | 0",
+    ),
+    (
+        "a null and a pointer to a byte",
+        Copy(Message(
+            "00 00 00 00 04 00 00 00 | 01 00 00 00 16 00 00 00 | 0 | 01 00 00 00 0a 00 00 00 | 07 00 00 00 00 00 00 00",
+        )),
+        Ok(""),
+        "00 00 00 00 04 00 00 00 | 01 00 00 00 16 00 00 00 | 0 | 01 00 00 00 0a 00 00 00 | 07 00 00 00 00 00 00 00",
+    ),
+    (
+        "a null and a pointer to a byte become structs",
+        GetStructs(ONE_EACH),
+        Ok(""),
+        "00 00 00 00 07 00 00 00 | 01 00 00 00 27 00 00 00 | 08 00 00 00 01 00 01 00 | \
+         0 | 0 | 0 | 01 00 00 00 0a 00 00 00 | 07 00 00 00 00 00 00 00",
+    ),
+    (
+        "structs of one data word",
+        Copy(Message(
+            "00 00 00 00 04 00 00 00 | 01 00 00 00 17 00 00 00 | 08 00 00 00 01 00 00 00 | \
+         05 00 00 00 00 00 00 00 | 06 00 00 00 00 00 00 00",
+        )),
+        Ok(""),
+        "00 00 00 00 04 00 00 00 | 01 00 00 00 17 00 00 00 | 08 00 00 00 01 00 00 00 | \
+         05 00 00 00 00 00 00 00 | 06 00 00 00 00 00 00 00",
+    ),
+    (
+        "structs of one data word become structs",
+        GetStructs(ONE_EACH),
+        Ok(""),
+        "00 00 00 00 06 00 00 00 | 01 00 00 00 27 00 00 00 | 08 00 00 00 01 00 01 00 | \
+         05 00 00 00 00 00 00 00 | 0 | 06 00 00 00 00 00 00 00 | 0",
+    ),
+    (
+        "a struct of two data words and a pointer",
+        Copy(Message(
+            "00 00 00 00 05 00 00 00 | 01 00 00 00 1f 00 00 00 | 04 00 00 00 02 00 01 00 | \
+         05 00 00 00 00 00 00 00 | 06 00 00 00 00 00 00 00 | 0",
+        )),
+        Ok(""),
+        "00 00 00 00 05 00 00 00 | 01 00 00 00 1f 00 00 00 | 04 00 00 00 02 00 01 00 | \
+         05 00 00 00 00 00 00 00 | 06 00 00 00 00 00 00 00 | 0",
+    ),
+    (
+        "a larger struct stays",
+        GetStructs(ONE_EACH),
+        Ok(""),
+        "00 00 00 00 05 00 00 00 | 01 00 00 00 1f 00 00 00 | 04 00 00 00 02 00 01 00 | \
+         05 00 00 00 00 00 00 00 | 06 00 00 00 00 00 00 00 | 0",
+    ),
+    (
+        "a null",
+        Copy(Message("00 00 00 00 01 00 00 00 | 0")),
+        Ok(""),
+        "00 00 00 00 01 00 00 00 | 0",
+    ),
+    (
+        "a null stays",
+        GetStructs(ONE_EACH),
+        Ok(""),
+        "00 00 00 00 01 00 00 00 | 0",
+    ),
+    (
+        "three elements of nothing",
+        Copy(Message("00 00 00 00 01 00 00 00 | 01 00 00 00 18 00 00 00")),
+        Ok(""),
+        "00 00 00 00 01 00 00 00 | 01 00 00 00 18 00 00 00",
+    ),
+    (
+        "three elements of nothing become structs of size zero",
+        GetStructs(NO_SIZE),
+        Ok(""),
+        "00 00 00 00 02 00 00 00 | 01 00 00 00 07 00 00 00 | 0c 00 00 00 00 00 00 00",
+    ),
+    (
+        "2^20 + 1 elements of nothing",
+        Copy(Message("00 00 00 00 01 00 00 00 | 01 00 00 00 08 00 80 00")),
+        Ok(""),
+        "00 00 00 00 01 00 00 00 | 01 00 00 00 08 00 80 00",
+    ),
+    (
+        "2^20 + 1 elements of nothing become structs of size zero",
+        GetStructs(NO_SIZE),
+        Ok(""),
+        "00 00 00 00 02 00 00 00 | 01 00 00 00 07 00 00 00 | 04 00 40 00 00 00 00 00",
+    ),
+    (
+        "2^28 elements of nothing",
+        Copy(Message("00 00 00 00 01 00 00 00 | 01 00 00 00 00 00 00 80")),
+        Ok(""),
+        "00 00 00 00 01 00 00 00 | 01 00 00 00 00 00 00 80",
+    ),
+    (
+        "structs are past the format",
+        GetStructs(ONE_EACH),
+        Err(SizePastFormat),
+        "00 00 00 00 01 00 00 00 | 01 00 00 00 00 00 00 80",
+    ),
+];
+
+/// The longest list becomes one of structs of size zero. The call goes through its elements.
+pub static MOST_BECOME_STRUCTS: [Row; 2] = [
+    (
+        "2^29 - 1 elements of nothing",
+        Copy(Message("00 00 00 00 01 00 00 00 | 01 00 00 00 f8 ff ff ff")),
+        Ok(""),
+        "00 00 00 00 01 00 00 00 | 01 00 00 00 f8 ff ff ff",
+    ),
+    (
+        "2^29 - 1 elements of nothing become structs of size zero",
+        GetStructs(NO_SIZE),
+        Ok(""),
+        "00 00 00 00 02 00 00 00 | 01 00 00 00 07 00 00 00 | fc ff ff 7f 00 00 00 00",
+    ),
+];

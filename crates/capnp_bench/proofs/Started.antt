@@ -1,0 +1,30 @@
+-- A struct that is started has its schema's sections, and a run keeps them.
+use Rattle.std.specs.Prelude.{ℕ, ◌*◌, ◌≤◌, ◌≡◌}
+use Rattle.std.proofs.Common.{ap, subst, sym, ◌∙◌}
+use Rattle.capnp_wire.specs.Edits.{HasAtLeast, zero_struct}
+use Rattle.capnp_wire.specs.Facts.Lengths.{HasAtLeast-zero_struct}
+use Rattle.capnp_wire.specs.Place.{struct_tree}
+use Rattle.capnp_wire.specs.Tree.{StructTree}
+use Rattle.capnp_wire.specs.declared.size.StructSize.{StructSize}
+use Rattle.capnp_arena.specs.Facts.Laws.{struct_is, struct_planted}
+use Rattle.capnp_arena.specs.Forest.{Forest, tree}
+use Rattle.capnp_arena.specs.Segment.{segment}
+use Rattle.capnp_arena.specs.Shape.{shape_at}
+use Rattle.capnp_arena.specs.declared.arena.Arena.{Arena}
+use Rattle.capnp_arena.specs.declared.arena.Place.{Place}
+use Rattle.capnp_schema.specs.Plan.{brand_size}
+use Rattle.capnp_schema.specs.Schema.{Schemas}
+use Rattle.capnp_records.specs.Writes.Slots.{Fits}
+use Rattle.capnp_arena.specs.Built.{IsBuilt, built, part}
+use Rattle.capnp_slots.specs.Groups.{KeepsSize}
+
+pub fits_on : (set : Schemas) (b : ℕ) (s s' : StructTree) → Fits set b s → KeepsSize s s' → Fits set b s'
+fits_on set b s s' h k = (subst (λ n. 8 * (brand_size set b).data_words ≤ n) (sym k.writes.data_size) h.0, subst (λ n. (brand_size set b).pointers ≤ n) (sym k.writes.pointer_count) h.1)
+
+module _ (a : Arena) (p : Place) (forest : Forest (segment a) 0) (there : shape_at (segment a) 0 ≡ part p) where
+  pub is_started : IsBuilt a p
+  is_started = struct_planted (segment a) 0 p.start p.data_words p.pointers forest there
+
+  pub started_fits : (set : Schemas) (b : ℕ) (size : StructSize) → size ≡ brand_size set b → tree (segment a) 0 ≡ struct_tree (zero_struct size) → Fits set b (built a p)
+  started_fits set b size is made =
+      subst (HasAtLeast (brand_size set b)) (sym (struct_is (segment a) 0 p.start p.data_words p.pointers (zero_struct size) forest there made ∙ ap zero_struct is)) (HasAtLeast-zero_struct (brand_size set b))

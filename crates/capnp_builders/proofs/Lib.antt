@@ -1,0 +1,4 @@
+pub mod Blobs
+pub mod Writes
+pub mod Pushes
+pub mod Taken

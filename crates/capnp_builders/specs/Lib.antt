@@ -1,0 +1,4 @@
+pub mod Blobs
+pub mod Defaults
+pub mod Pointers
+pub mod Rests

@@ -1,0 +1,219 @@
+//! Untyped pointers as they are built: what stands there is asked with a type.
+ghost use Rattle.std.specs.Prelude.{None, IfErr, IfOk, IsOk, OnErr, OnOk, ◌<◌, ◌≡◌};
+ghost use Rattle.std.specs.Borrow.{sem};
+ghost use Rattle.capnp_wire.specs.Depth.{IsBelow};
+ghost use Rattle.capnp_wire.specs.Reading.{is_null_tree};
+ghost use Rattle.capnp_wire.specs.Standing.{levels_of, tree_of};
+ghost use Rattle.capnp_wire.specs.Total.{IsSize};
+ghost use Rattle.capnp_wire.specs.Tree.{Null};
+ghost use Rattle.capnp_wire.specs.WellFormed.{IsWellFormed};
+ghost use Rattle.capnp_wire.specs.Words.{first_fault, words_of};
+ghost use Rattle.capnp_base.specs.AnyPointer.{pointer_of};
+ghost use Rattle.capnp_base.specs.ReadBack.{pointer_read_back};
+ghost use Rattle.capnp_arena.specs.Forest.{Changes, Forest, tree};
+ghost use Rattle.capnp_arena.specs.Same.{IsCutOf};
+ghost use Rattle.capnp_arena.specs.Segment.{segment};
+ghost use Rattle.capnp_arena.specs.Shape.{word_count};
+ghost use Rattle.capnp_builders.specs.Pointers.{IsPointer, LendsPointer, arena_behind, pointer_tree, word_of};
+
+use crate::traits::{self, FromPointerBuilder, SetterInput};
+use capnp_arena::arena::Arena;
+use capnp_arena::handles::PointerBuilder;
+pub use capnp_base::any_pointer::{Owned, Reader};
+use capnp_wire::PointerReader;
+use capnp_wire::error::Result;
+use capnp_wire::size::MessageSize;
+
+impl<'a> traits::Owned<'a> for Owned {
+    type Reader = Reader<'a>;
+
+    type Builder = Builder<'a>;
+
+    ghost same = { λ x y. tree_of (pointer_of y) ≡ tree_of (pointer_of x) };
+
+    ghost set_is_read = { pointer_read_back };
+}
+
+/// A pointer that is built, of whatever type.
+#[derive(Drop)]
+pub struct Builder<'a> {
+    pub arena: &'a mut Arena,
+    /// The pointer's word.
+    pub at: usize,
+}
+
+impl<'a> Builder<'a> {
+    /// An untyped pointer that stands on a pointer's builder.
+    pub fn new(builder: PointerBuilder<'a>) -> Builder<'a>
+        ensures behind { arena_behind result ≡ builder.entry.arena }
+        ensures at { word_of result ≡ builder.entry.at }
+    {
+        let PointerBuilder { arena, at } = builder;
+        Builder { arena, at }
+    }
+
+    /// The handle of the pointer.
+    pub fn into_pointer(self) -> PointerBuilder<'a>
+        ensures behind { result.arena ≡ arena_behind self.entry }
+        ensures at { result.at ≡ word_of self.entry }
+    {
+        let Builder { arena, at } = self;
+        PointerBuilder { arena, at }
+    }
+
+    /// The same pointer for a shorter time. What is left there is what this builder has then.
+    pub fn reborrow(&mut self) -> Builder<'_>
+        ensures* lends { sem 𝓛 (LendsPointer self.entry (arena_behind result)) }
+        ensures now { (arena_behind result).now ≡ (arena_behind self.old).now }
+        ensures at { word_of result ≡ word_of self.old }
+    {
+        let at = self.at;
+        let arena = &mut *self.arena;
+        Builder { arena, at }
+    }
+
+    /// Whether the pointer is null.
+    pub fn is_null(&self) -> bool
+        requires { IsPointer self.now }
+        ensures { result ≡ is_null_tree (pointer_tree self.now) }
+    {
+        self.arena.is_null(self.at)
+    }
+
+    /// The size of all that the pointer leads to, without the pointer itself: 0 words for a null. There are no
+    /// capabilities. Takes no memory.
+    ///
+    /// Never refused: no message in memory has 2^29 words.
+    pub fn target_size(&self) -> Result<MessageSize>
+        requires { IsPointer self.now }
+        ensures size { IfOk result (λ size. IsSize size None (words_of (pointer_tree self.now))) }
+        ensures succeeds { IsOk result }
+    {
+        self.arena.target_size(self.at)
+    }
+
+    /// What stands at the pointer, built as a `T`, without a default. Refused as `T`'s get.
+    pub fn get_as<T: FromPointerBuilder<'a>>(self) -> Result<T>
+        requires { IsPointer self }
+        ensures same { IfOk result (λ b. (T.behind b).ghost_name ≡ (arena_behind self.entry).ghost_name) }
+        ensures at { IfOk result (λ b. T.word b ≡ word_of self.entry) }
+        ensures forest { IfOk result (λ b. Forest (segment (T.behind b).now) (word_of self.entry)) }
+        ensures tree { IfOk result (λ b. tree (segment (T.behind b).now) (word_of self.entry)
+            ≡ pointer_tree self.entry) }
+        ensures changes { IfOk result (λ b. Changes (word_of self.entry) (segment (arena_behind self.entry).now)
+            (segment (T.behind b).now)) }
+        ensures now { IfOk result (T.stands (pointer_tree self.entry)) }
+        ensures refused { IfErr result (T.refuses (pointer_tree self.entry) None) }
+    {
+        T::get_from_pointer(self.into_pointer(), None)
+    }
+
+    /// Starts the pointer anew as a `T` of no elements. Refused as `T`'s start.
+    pub fn init_as<T: FromPointerBuilder<'a>>(self) -> Result<T>
+        requires { word_of self < word_count (segment (arena_behind self).now) }
+        ensures same { IfOk result (λ b. (T.behind b).ghost_name ≡ (arena_behind self.entry).ghost_name) }
+        ensures at { IfOk result (λ b. T.word b ≡ word_of self.entry) }
+        ensures forest { IfOk result (λ b. Forest (segment (T.behind b).now) (word_of self.entry)) }
+        ensures tree { IfOk result (λ b. tree (segment (T.behind b).now) (word_of self.entry) ≡ T.started 0) }
+        ensures changes { IfOk result (λ b. Changes (word_of self.entry) (segment (arena_behind self.entry).now)
+            (segment (T.behind b).now)) }
+        ensures now { IfOk result (T.starts 0) }
+        ensures refused { IfErr result (T.new_refusal 0) }
+    {
+        T::init_pointer(self.into_pointer(), 0)
+    }
+
+    /// Starts the pointer anew as a `T` of so many elements. Refused as `T`'s start.
+    pub fn initn_as<T: FromPointerBuilder<'a>>(self, size: u32) -> Result<T>
+        requires { word_of self < word_count (segment (arena_behind self).now) }
+        ensures same { IfOk result (λ b. (T.behind b).ghost_name ≡ (arena_behind self.entry).ghost_name) }
+        ensures at { IfOk result (λ b. T.word b ≡ word_of self.entry) }
+        ensures forest { IfOk result (λ b. Forest (segment (T.behind b).now) (word_of self.entry)) }
+        ensures tree { IfOk result (λ b. tree (segment (T.behind b).now) (word_of self.entry) ≡ T.started size) }
+        ensures changes { IfOk result (λ b. Changes (word_of self.entry) (segment (arena_behind self.entry).now)
+            (segment (T.behind b).now)) }
+        ensures now { IfOk result (T.starts size) }
+        ensures refused { IfErr result (T.new_refusal size) }
+    {
+        T::init_pointer(self.into_pointer(), size)
+    }
+
+    /// Sets the pointer. A refusal changes nothing. Refused as the set of `T`.
+    pub fn set_as<R, T: SetterInput<R>>(&mut self, value: T) -> Result<()>
+        requires { word_of self.old < word_count (segment (arena_behind self.old).now) }
+        ensures same { (arena_behind self.new).ghost_name ≡ (arena_behind self.old).ghost_name }
+        ensures at { word_of self.new ≡ word_of self.old }
+        ensures forest { OnOk result (IsPointer self.new) }
+        ensures stays { IsPointer self.old → IsPointer self.new }
+        ensures tree { OnOk result (pointer_tree self.new ≡ T.set_tree value) }
+        ensures changes { OnOk result (Changes (word_of self.old) (segment (arena_behind self.old).now)
+            (segment (arena_behind self.new).now)) }
+        ensures well_formed { OnOk result (IsWellFormed (pointer_tree self.new)) }
+        ensures sound { OnOk result (first_fault (pointer_tree self.new) ≡ None) }
+        ensures refused { OnErr result (segment (arena_behind self.new).now ≡ segment (arena_behind self.old).now) }
+        ensures cause { IfErr result (T.set_refusal value) }
+    {
+        let at = self.at;
+        let arena = &mut *self.arena;
+        T::set_pointer_builder(PointerBuilder { arena, at }, value, false)?;
+        Ok(())
+    }
+
+    /// Makes the pointer null.
+    pub fn clear(&mut self)
+        requires { word_of self.old < word_count (segment (arena_behind self.old).now) }
+        ensures same { (arena_behind self.new).ghost_name ≡ (arena_behind self.old).ghost_name }
+        ensures at { word_of self.new ≡ word_of self.old }
+        ensures forest { IsPointer self.new }
+        ensures tree { pointer_tree self.new ≡ Null }
+        ensures changes { Changes (word_of self.old) (segment (arena_behind self.old).now)
+            (segment (arena_behind self.new).now) }
+    {
+        self.arena.clear(self.at);
+    }
+
+    /// A reader of the pointer for as long as the builder would be there, with 64 levels. Its tree is cut off past
+    /// 65,534 levels, which only walks of a whole tree can see.
+    pub fn into_reader(self) -> Reader<'a>
+        requires { IsPointer self }
+        ensures cut { IsCutOf (tree_of (pointer_of result)) (pointer_tree self.entry) }
+        ensures tree { IsBelow 65535 (pointer_tree self.entry) → tree_of (pointer_of result) ≡ pointer_tree self.entry }
+        ensures levels { levels_of (pointer_of result) ≡ 64 }
+    {
+        let Builder { arena, at } = self;
+        Reader::new(arena.get_pointer_reader(at))
+    }
+}
+
+impl<'a> FromPointerBuilder<'a> for Builder<'a> {
+    ghost behind = { arena_behind };
+
+    ghost word = { word_of };
+
+    ghost started = { λ _. Null };
+
+    ghost starts = { λ _ builder. IsPointer builder × (pointer_tree builder ≡ Null) };
+
+    ghost new_refusal = { λ _ _. ⊥ };
+
+    ghost stands = { λ tree builder. IsPointer builder × (pointer_tree builder ≡ tree) };
+
+    ghost refuses = { λ _ _ _. ⊥ };
+
+    ghost has_defaults = { ⊥ };
+
+    // The builder stands on the same pointer.
+    fn init_pointer(builder: PointerBuilder<'a>, _length: u32) -> Result<Builder<'a>> {
+        let PointerBuilder { arena, at } = builder;
+        arena.clear(at);
+        Ok(Builder { arena, at })
+    }
+
+    fn get_from_pointer(
+        builder: PointerBuilder<'a>,
+        _default: Option<PointerReader<'a>>,
+    ) -> Result<Builder<'a>> {
+        let PointerBuilder { arena, at } = builder;
+        Ok(Builder { arena, at })
+    }
+}

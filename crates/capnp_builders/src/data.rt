@@ -1,0 +1,242 @@
+//! Data as they are built.
+//!
+//! A builder is the message beside the word of the data's pointer. Each call asks that data stand there, or a null, as
+//! a builder that was handed out has it (`IsData`).
+ghost use Rattle.std.specs.Prelude.{[], None, IfErr, IsOk, IsTrue, OnErr, OnOk, length, replicate, slice_set, ◌^◌, ◌≤◌, ◌<◌, ◌≡◌, ◌↔◌};
+ghost use Rattle.std.specs.Borrow.{sem};
+ghost use Rattle.capnp_wire.specs.Edits.{IsDueRefusal, IsRoomRefusal};
+ghost use Rattle.capnp_wire.specs.Reading.{as_data};
+ghost use Rattle.capnp_wire.specs.Standing.{tree_of};
+ghost use Rattle.capnp_wire.specs.Tree.{Numbers};
+ghost use Rattle.capnp_base.specs.ReadBack.{data_read_back};
+ghost use Rattle.capnp_base.specs.Traits.{IsDefaultRefusal, IsReadRefusal, default_refusal, refusal_in, tree_or};
+ghost use Rattle.capnp_arena.specs.Forest.{Changes, Forest, tree};
+ghost use Rattle.capnp_arena.specs.Segment.{segment};
+ghost use Rattle.capnp_builders.specs.Blobs.{IsData, LendsData, data_behind, data_bytes, data_there, data_word};
+
+use crate::defaults::take_default;
+use crate::traits::{self, FromPointerBuilder};
+use capnp_arena::arena::Arena;
+use capnp_arena::handles::PointerBuilder;
+pub use capnp_base::data::{Owned, Reader};
+use capnp_wire::PointerReader;
+use capnp_wire::error::Result;
+use capnp_wire::size::ElementSize;
+use std::fmt;
+
+impl<'a> traits::Owned<'a> for Owned {
+    type Reader = Reader<'a>;
+
+    type Builder = Builder<'a>;
+
+    ghost same = { λ x y. y.now ≡ x.now };
+
+    ghost set_is_read = { data_read_back };
+}
+
+/// Data that are built.
+#[derive(Drop)]
+pub struct Builder<'a> {
+    pub arena: &'a mut Arena,
+    /// The word of the data's pointer.
+    pub at: usize,
+}
+
+impl fmt::Debug for Builder<'_> {
+    fn fmt<W: fmt::Write>(&self, f: &mut fmt::Formatter<W>) -> fmt::Result {
+        match self.arena.peek(self.at).get_data() {
+            Ok(bytes) => write!(f, "{bytes:?}"),
+            Err(_) => f.write_str("<invalid data>"),
+        }
+    }
+}
+
+impl<'a> Builder<'a> {
+    /// A builder of the data at a pointer.
+    pub fn new(builder: PointerBuilder<'a>) -> Builder<'a>
+        ensures behind { data_behind result ≡ builder.entry.arena }
+        ensures at { data_word result ≡ builder.entry.at }
+    {
+        let PointerBuilder { arena, at } = builder;
+        Builder { arena, at }
+    }
+
+    /// A reader of the bytes.
+    #[tactic(auto, using(crate::proofs::Blobs::bytes_there))]
+    pub fn reborrow_as_reader(&self) -> Reader<'_>
+        requires { IsData self.now }
+        ensures { result.now ≡ data_bytes self.now }
+    {
+        let Ok(bytes) = self.arena.get_data(self.at) else {
+            unreachable!()
+        };
+        bytes
+    }
+
+    /// How many bytes there are.
+    pub fn len(&self) -> usize
+        requires { IsData self.now }
+        ensures { result ≡ length (data_bytes self.now) }
+    {
+        self.reborrow_as_reader().len()
+    }
+
+    /// Whether there is no byte.
+    pub fn is_empty(&self) -> bool
+        requires { IsData self.now }
+        ensures { IsTrue result ↔ (data_bytes self.now ≡ []) }
+    {
+        self.reborrow_as_reader().is_empty()
+    }
+
+    /// Writes the byte at an index, which has to be below the length.
+    pub fn set(&mut self, index: usize, byte: u8)
+        requires there { IsData self.old }
+        requires inside { index < length (data_bytes self.old) }
+        ensures same { (data_behind self.new).ghost_name ≡ (data_behind self.old).ghost_name }
+        ensures at { data_word self.new ≡ data_word self.old }
+        ensures bytes { data_bytes self.new ≡ slice_set (data_bytes self.old) index byte }
+        ensures there { IsData self.new }
+        ensures changes { Changes (data_word self.old) (segment (data_behind self.old).now)
+            (segment (data_behind self.new).now) }
+    {
+        self.arena.tree_is_sound(self.at);
+        self.arena
+            .set_data_element::<u8>(self.at, index as u32, byte);
+    }
+
+    /// A builder of the same data for a shorter time. What is left of them is what this builder has then.
+    pub fn reborrow(&mut self) -> Builder<'_>
+        ensures* lends { sem 𝓛 (LendsData self.entry (data_behind result)) }
+        ensures now { (data_behind result).now ≡ (data_behind self.old).now }
+        ensures at { data_word result ≡ data_word self.old }
+    {
+        let at = self.at;
+        let arena = &mut *self.arena;
+        Builder { arena, at }
+    }
+
+    /// A reader of the bytes for as long as the builder would be there.
+    #[tactic(auto, using(crate::proofs::Blobs::bytes_there))]
+    pub fn into_reader(self) -> Reader<'a>
+        requires { IsData self }
+        ensures { result.now ≡ data_bytes self.entry }
+    {
+        let Builder { arena, at } = self;
+        let Ok(bytes) = arena.get_data(at) else {
+            unreachable!()
+        };
+        bytes
+    }
+}
+
+/// Makes a pointer one to a copy of a default that reads as data.
+///
+/// Refused as its read, and else with `OutOfMemory`; then nothing has changed.
+fn put_default(arena: &mut Arena, at: usize, default: PointerReader<'_>) -> Result<()>
+    requires { Forest (segment arena.old) at }
+    ensures forest { OnOk result (Forest (segment arena.new) at) }
+    ensures tree { OnOk result (tree (segment arena.new) at ≡ tree_of default.entry) }
+    ensures changes { OnOk result (Changes at (segment arena.old) (segment arena.new)) }
+    ensures reads { OnOk result (refusal_in (as_data (tree_of default.entry)) ≡ None) }
+    ensures data { OnOk result (IsOk (as_data (tree_of default.entry))) }
+    ensures refused { OnErr result (segment arena.new ≡ segment arena.old) }
+    ensures cause { IfErr result (λ error. IsDueRefusal error (refusal_in (as_data (tree_of default.entry)))) }
+{
+    default.get_data()?;
+    arena.copy_from(at, default)?;
+    Ok(())
+}
+
+/// Copies a default that reads as data into a null; else nothing changes.
+#[tactic(auto, using(crate::proofs::Taken::own_tree, crate::proofs::Taken::own_refusal, crate::proofs::Taken::other_tree, crate::proofs::Taken::other_refusal, crate::proofs::Taken::refused_default, crate::proofs::Taken::no_change))]
+fn fill(arena: &mut Arena, at: usize, default: Option<PointerReader<'_>>) -> Result<()>
+    requires { Forest (segment arena.old) at }
+    ensures forest { OnOk result (Forest (segment arena.new) at) }
+    ensures tree { OnOk result (tree (segment arena.new) at ≡ tree_or (tree (segment arena.old) at) default.entry) }
+    ensures changes { OnOk result (Changes at (segment arena.old) (segment arena.new)) }
+    ensures reads { OnOk result (default_refusal as_data (tree (segment arena.old) at) default.entry ≡ None) }
+    ensures refused { OnErr result (segment arena.new ≡ segment arena.old) }
+    ensures cause { IfErr result (IsDefaultRefusal as_data (tree (segment arena.old) at) default.entry) }
+{
+    let Some(other) = take_default(arena, at, default) else {
+        return Ok(());
+    };
+    put_default(arena, at, other)?;
+    Ok(())
+}
+
+/// The same of the pointer of a builder.
+///
+/// Refused only where a default would be copied: as `PointerReader::get_data` where it does not read as data, and else
+/// with `OutOfMemory`; then nothing has changed.
+pub fn copy_default(builder: PointerBuilder<'_>, default: Option<PointerReader<'_>>) -> Result<()>
+    requires { Forest (segment builder.arena.now) builder.at }
+    ensures forest { OnOk result (Forest (segment builder.exit.0.now) builder.entry.at) }
+    ensures tree { OnOk result (tree (segment builder.exit.0.now) builder.entry.at
+        ≡ tree_or (tree (segment builder.entry.arena.now) builder.entry.at) default.entry) }
+    ensures changes { OnOk result (Changes builder.entry.at (segment builder.entry.arena.now)
+        (segment builder.exit.0.now)) }
+    ensures reads { OnOk result (default_refusal as_data
+        (tree (segment builder.entry.arena.now) builder.entry.at) default.entry ≡ None) }
+    ensures refused { OnErr result (segment builder.exit.0.now ≡ segment builder.entry.arena.now) }
+    ensures cause { IfErr result (IsDefaultRefusal as_data
+        (tree (segment builder.entry.arena.now) builder.entry.at) default.entry) }
+{
+    let PointerBuilder { arena, at } = builder;
+    fill(arena, at, default)
+}
+
+/// Enters the data at a pointer. A null becomes a copy of the default first.
+#[tactic(auto, using(crate::proofs::Taken::own_tree, crate::proofs::Taken::other_tree, crate::proofs::Taken::refused_as_read, crate::proofs::Taken::refused_as_default, crate::proofs::Taken::no_change))]
+fn enter(arena: &mut Arena, at: usize, default: Option<PointerReader<'_>>) -> Result<()>
+    requires { Forest (segment arena.old) at }
+    ensures forest { OnOk result (Forest (segment arena.new) at) }
+    ensures tree { OnOk result (tree (segment arena.new) at ≡ tree_or (tree (segment arena.old) at) default.entry) }
+    ensures changes { OnOk result (Changes at (segment arena.old) (segment arena.new)) }
+    ensures data { OnOk result (IsOk (as_data (tree_or (tree (segment arena.old) at) default.entry))) }
+    ensures refused { OnErr result (segment arena.new ≡ segment arena.old) }
+    ensures cause { IfErr result (IsReadRefusal as_data (tree (segment arena.old) at) default.entry) }
+{
+    match take_default(arena, at, default) {
+        Some(other) => {
+            put_default(arena, at, other)?;
+            Ok(())
+        }
+        None => {
+            arena.get_data(at)?;
+            Ok(())
+        }
+    }
+}
+
+impl<'a> FromPointerBuilder<'a> for Builder<'a> {
+    ghost behind = { data_behind };
+
+    ghost word = { data_word };
+
+    ghost started = { λ length. Numbers 1 (replicate length 0) };
+
+    ghost starts = { λ length builder. IsData builder × (data_bytes builder ≡ replicate length 0) };
+
+    ghost new_refusal = { λ length error. IsRoomRefusal error (2 ^ 29 ≤ length) };
+
+    ghost stands = { λ tree builder. IsData builder × (data_there builder ≡ tree) };
+
+    ghost refuses = { IsReadRefusal as_data };
+
+    fn init_pointer(builder: PointerBuilder<'a>, length: u32) -> Result<Builder<'a>> {
+        let PointerBuilder { arena, at } = builder;
+        arena.init_list(at, ElementSize::Byte, length)?;
+        Ok(Builder { arena, at })
+    }
+
+    fn get_from_pointer(
+        builder: PointerBuilder<'a>,
+        default: Option<PointerReader<'a>>,
+    ) -> Result<Builder<'a>> {
+        let PointerBuilder { arena, at } = builder;
+        enter(arena, at, default)?;
+        Ok(Builder { arena, at })
+    }
+}

@@ -1,0 +1,149 @@
+//! Cases that memory is refused to: `./fail_each_allocation` refuses each request of the test in turn. Where a case
+//! meets it, it is refused and nothing is written. Or its line says so, and what is written is what the other calls
+//! left, where it goes on after a refused call, and else nothing.
+
+use crate::cases::{Case, Devices, Outcome, Verb, outcome_of};
+use crate::fixtures::{LISTS, MIXED, MIXED_HO, NONE};
+use capnp_schema::builtin::new_set;
+use capnp_schema::set::SchemaSet;
+use capnp_schema_fixtures::messages::{MIXED_HI, PAIR};
+use std::alloc::Global;
+use std::process::Abort;
+
+/// A case, and what comes of it where memory is refused to none or to one of its calls.
+#[derive(Clone, Copy)]
+struct Meeting {
+    /// The struct, by number.
+    brand: u32,
+    verb: Verb,
+    message: &'static [u8],
+    /// Whether it goes on after a refused call.
+    flag: bool,
+    /// Rows of calls, or a path.
+    text: &'static str,
+    /// The lines, and what is written.
+    lines: &'static str,
+    written: &'static [u8],
+    /// The same where memory was refused to a call.
+    refused: &'static str,
+    left: &'static [u8],
+}
+
+/// More items than a new message has room for; in the end there are none.
+const ITEMS: &str = "\
+initn items 300
+set items.299.a UInt16 7
+get items.299.a
+clear items";
+
+const ITEMS_LINES: &str = "\
+3: get items.299.a = 7
+";
+
+const NO_ITEMS_LINES: &str = "\
+1: initn items 300: refused: 1 OutOfMemory
+2: set items.299.a UInt16 7: refused: 32 NoSuchElement
+3: get items.299.a: refused: 32 NoSuchElement
+";
+
+/// A `Lists` of nulls.
+const NO_ITEMS: &[u8] = &[
+    0, 0, 0, 0, 5, 0, 0, 0, 0, 0, 0, 0, 0, 0, 4, 0, 0, 0, 0, 0, 0, 0, 0, 0, 0, 0, 0, 0, 0, 0, 0, 0,
+    0, 0, 0, 0, 0, 0, 0, 0, 0, 0, 0, 0, 0, 0, 0, 0,
+];
+
+static MEETINGS: [Meeting; 4] = [
+    Meeting {
+        brand: LISTS,
+        verb: Verb::Patch,
+        message: PAIR,
+        flag: false,
+        text: ITEMS,
+        lines: ITEMS_LINES,
+        written: NO_ITEMS,
+        refused: NO_ITEMS_LINES,
+        left: NONE,
+    },
+    Meeting {
+        brand: LISTS,
+        verb: Verb::New,
+        message: NONE,
+        flag: true,
+        text: ITEMS,
+        lines: ITEMS_LINES,
+        written: NO_ITEMS,
+        refused: NO_ITEMS_LINES,
+        left: NO_ITEMS,
+    },
+    // the text of a reply takes memory
+    Meeting {
+        brand: MIXED,
+        verb: Verb::Patch,
+        message: MIXED_HI,
+        flag: true,
+        text: "set b Text ho\nget b",
+        lines: "2: get b = \"ho\"\n",
+        written: MIXED_HO,
+        refused: "2: get b: refused: 1 OutOfMemory\n",
+        left: MIXED_HO,
+    },
+    Meeting {
+        brand: MIXED,
+        verb: Verb::Get,
+        message: MIXED_HI,
+        flag: false,
+        text: "b",
+        lines: "",
+        written: b"\"hi\"\n",
+        refused: "",
+        left: b"\"hi\"\n",
+    },
+];
+
+fn case_of<'c>(set: &'c SchemaSet, meeting: &Meeting) -> Case<'c> {
+    Case {
+        set,
+        brand: meeting.brand,
+        message: meeting.message,
+        verb: meeting.verb,
+        flag: meeting.flag,
+        text: meeting.text,
+    }
+}
+
+fn is_as_said(outcome: &Outcome, lines: &str, written: &[u8]) -> bool {
+    outcome.report.lines.as_str() == lines && outcome.sink.as_slice() == written
+}
+
+/// Whether what came of a case is as its meeting says. The sink fails where it finds no memory.
+fn is_met(outcome: &Outcome, meeting: &Meeting) -> bool {
+    match outcome.refusal {
+        0 => {
+            is_as_said(outcome, meeting.lines, meeting.written)
+                || is_as_said(outcome, meeting.refused, meeting.left)
+        }
+        1 | 13 => is_as_said(outcome, "", NONE),
+        _ => false,
+    }
+}
+
+/// Devices that move all at once, and fail at no call that is chosen.
+static WHOLE: Devices = Devices {
+    slow: false,
+    failing_read: None,
+    failing_write: None,
+};
+
+fn meetings_hold(rt: &impl Abort, alloc: Global, set: &SchemaSet) {
+    for meeting in &MEETINGS {
+        let outcome = outcome_of(alloc, &case_of(set, meeting), WHOLE);
+        assert!(rt; is_met(&outcome, meeting), "{}", meeting.text);
+    }
+}
+
+#[test]
+fn what_is_written_without_memory(rt: HostRuntime) {
+    if let Ok(set) = new_set(rt.alloc()) {
+        meetings_hold(&rt, rt.alloc(), &set);
+    }
+}

@@ -1,0 +1,42 @@
+-- A struct that stays at its place keeps its size.
+use Rattle.std.specs.Prelude.{ℕ, ◌*◌, ◌≤◌, ◌≡◌}
+use Rattle.std.proofs.Common.{sym, subst, ◌∙◌}
+use Rattle.std.proofs.lemmas.Bool.{true≢false}
+use Rattle.capnp_wire.specs.Place.{struct_tree}
+use Rattle.capnp_wire.specs.WellFormed.{IsWellFormed}
+use Rattle.capnp_arena.specs.Facts.Calls.{parts_one_by_one}
+use Rattle.capnp_arena.specs.Facts.Places.{data_of, pointers_of, unchanged}
+use Rattle.capnp_arena.specs.Segment.{segment}
+use Rattle.capnp_arena.specs.declared.arena.Arena.{Arena}
+use Rattle.capnp_arena.specs.declared.arena.Place.{Place}
+use Rattle.capnp_schema.specs.Plan.{brand_size}
+use Rattle.capnp_schema.specs.Schema.{Schemas}
+use Rattle.capnp_records.specs.Writes.Slots.{Fits}
+use Rattle.capnp_arena.specs.Built.{ChangesIn, IsBuilt, built, part}
+use Rattle.capnp_slots.specs.Groups.{KeepsSize}
+
+pub changes_none : (p : Place) (a b : Arena) → segment b ≡ segment a → ChangesIn p a b
+changes_none p a b = unchanged (segment a) (segment b) (part p)
+
+pub changes_then : (p : Place) (a b c : Arena) → ChangesIn p a b → ChangesIn p b c → ChangesIn p a c
+changes_then p a b c = parts_one_by_one (segment a) (segment b) (segment c) (part p)
+
+module _ (a b : Arena) (p : Place) (h : IsBuilt a p) (k : IsBuilt b p) where
+  pub keeps_size : IsWellFormed (struct_tree (built b p)) → KeepsSize (built a p) (built b p)
+  keeps_size formed = record {
+    writes = record {
+      agree = λ q inside. absurd (true≢false inside);
+      data_size = data_of (segment b) p.start p.data_words p.pointers k ∙ sym (data_of (segment a) p.start p.data_words p.pointers h);
+      pointer_count = pointers_of (segment b) p.start p.data_words p.pointers ∙ sym (pointers_of (segment a) p.start p.data_words p.pointers);
+    };
+    formed = λ _. formed;
+  }
+
+  pub fits_kept : (set : Schemas) (n : ℕ) → Fits set n (built a p) → Fits set n (built b p)
+  fits_kept set n (x, y) = (
+    subst (λ i. 8 * (brand_size set n).data_words ≤ i) (data_of (segment a) p.start p.data_words p.pointers h ∙ sym (data_of (segment b) p.start p.data_words p.pointers k)) x,
+    subst (λ i. (brand_size set n).pointers ≤ i) (pointers_of (segment a) p.start p.data_words p.pointers ∙ sym (pointers_of (segment b) p.start p.data_words p.pointers)) y,
+  )
+
+pub fits_on : (set : Schemas) (n : ℕ) (a b : Arena) (p : Place) → IsBuilt a p → IsBuilt b p → Fits set n (built a p) → Fits set n (built b p)
+fits_on set n a b p h k = fits_kept a b p h k set n

@@ -1,5 +1,0 @@
-use Rattle.capnp_wire.specs.KeptDefaults.{filled_struct_kept}
-use Rattle.capnp_wire.proofs.laws.kept_defaults.filled_structs_are_well_formed.Goals as goal
-
-pub returns : goal.returns
-returns c = filled_struct_kept
