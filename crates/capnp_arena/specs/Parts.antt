@@ -1,5 +1,5 @@
 -- How a part of a message's bytes is lent: the message ends with these as they were left.
-use Rattle.std.proofs.Common.{ℕ, List, ◌*◌, ◌/◌, ◌<◌, ◌^◌, ◌≡◌, ◌∙◌, length, subst, sym}
+use Rattle.std.proofs.Common.{ℕ, List, ◌*◌, ◌/◌, ◌<◌, ◌≤◌, ◌^◌, ◌≡◌, ◌∙◌, length, subst, sym}
 use Rattle.std.specs.Borrow.{Array, Fml, Lends, MutBor, u8}
 use Rattle.std.specs.Vec.{with_items_from}
 use Rattle.capnp_arena.specs.declared.arena.Arena.{Arena}
@@ -12,8 +12,12 @@ as_long a start left = sym a.bytes.ok.0 ∙ (with_items_from a.bytes (8 * start)
 abbrev pub with_part : Arena → ℕ → List ℕ → Arena
 with_part a start left = record {
   bytes = with_items_from a.bytes (8 * start) left;
+  limit = a.limit;
   whole = subst (λ n. n ≡ 8 * (n / 8)) (as_long a start left) a.whole;
   few = subst (λ n. n / 8 < 2 ^ 29) (as_long a start left) a.few;
+  within = subst (λ n. n / 8 ≤ a.limit) (as_long a start left) a.within;
+  low = a.low;
+  some = a.some;
 }
 
 abbrev pub LendsPart : MutBor Arena → ℕ → MutBor (List ℕ) → Fml

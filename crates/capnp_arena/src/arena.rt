@@ -3,7 +3,7 @@
 //! A pointer is named by the word where it stands, and a struct by the word where it starts and its size. What is new
 //! is made at the end, so that each target lies after its pointer. What no pointer leads to any more stays where it
 //! was.
-ghost use Rattle.std.specs.Prelude.{◌*◌, ◌/◌, ◌^◌, ◌<◌, ◌≡◌, length};
+ghost use Rattle.std.specs.Prelude.{◌*◌, ◌/◌, ◌^◌, ◌<◌, ◌≡◌, ◌≤◌, length};
 ghost use Rattle.capnp_arena.specs.Made.{size_number, struct_pointer, struct_start};
 ghost use Rattle.capnp_wire.specs.Locate.{list_words};
 
@@ -20,12 +20,20 @@ use std::alloc::Global;
 #[derive(Drop)]
 pub struct Arena {
     pub(crate) bytes: Vec<u8>,
+    /// So many words at most.
+    pub(crate) limit: usize,
     ghost whole: { length bytes.items ≡ 8 * (length bytes.items / 8) },
     ghost few: { length bytes.items / 8 < 2 ^ 29 },
+    ghost within: { length bytes.items / 8 ≤ limit },
+    ghost low: { limit < 2 ^ 29 },
+    ghost some: { 0 < limit },
 }
 
 /// The bytes that a new message has room for.
 const FIRST_ROOM: usize = 1024;
+
+/// The words of the largest segment.
+const MOST_WORDS: usize = (1 << 29) - 1;
 
 /// Where a struct starts, and its size.
 #[derive(Clone, Copy)]
@@ -118,22 +126,50 @@ impl Arena {
         ensures alone { IfOk result (λ arena. length (segment arena) ≡ 8) }
         ensures kind { IfErr result (λ e. e.kind ≡ OutOfMemory) }
     {
+        Arena::with_limit(alloc, MOST_WORDS)
+    }
+
+    /// A message whose root is null, and whose segment never has more words than so many: the root pointer, what it
+    /// leads to, and what was replaced or cleared since the message was compacted. A call that would add more is
+    /// refused with `OutOfMemory`. No segment has more than 2^29 - 1 words, and each has the root pointer.
+    ///
+    /// Refused with `OutOfMemory`.
+    pub fn with_limit(alloc: Global, words: usize) -> Result<Arena>
+        ensures inside { IfOk result (λ arena. 0 < word_count (segment arena)) }
+        ensures forest { IfOk result (λ arena. Forest (segment arena) 0) }
+        ensures null { IfOk result (λ arena. tree (segment arena) 0 ≡ Null) }
+        ensures alone { IfOk result (λ arena. length (segment arena) ≡ 8) }
+        ensures limit { IfOk result (λ arena. (1 ≤ words → words < 2 ^ 29 → arena.limit ≡ words)) }
+        ensures kind { IfErr result (λ e. e.kind ≡ OutOfMemory) }
+    {
         let mut bytes = Vec::with_capacity(alloc, FIRST_ROOM)?;
         append_zeros(&mut bytes, 1)?;
-        Ok(Arena { bytes })
+        let limit = words.max(1).min(MOST_WORDS);
+        Ok(Arena { bytes, limit })
+    }
+
+    /// The words that the segment never has more of.
+    #[inline(always)]
+    pub fn get_limit(&self) -> usize
+        ensures limit { result ≡ self.now.limit }
+        ensures within { word_count (segment self.now) ≤ result }
+        ensures few { result < 2 ^ 29 }
+    {
+        self.limit
     }
 
     /// So many words of zeros at the end.
     ///
-    /// Refused with `OutOfMemory`, also where there would be 2^29 words; then nothing has changed.
+    /// Refused with `OutOfMemory`, also where there would be more words than the limit; then nothing has changed.
     pub(crate) fn grow(&mut self, words: usize) -> Result<()>
         requires { words < 2 ^ 32 }
         ensures longer { IfOk result (λ _. segment self.new ≡ segment self.old ++ replicate (8 * words) 0) }
         ensures few { IfOk result (λ _. word_count (segment self.old) + words < 2 ^ 29) }
+        ensures limit { self.new.limit ≡ self.old.limit }
         ensures kind { IfErr result (λ e. e.kind ≡ OutOfMemory) }
         ensures refused { OnErr result (segment self.new ≡ segment self.old) }
     {
-        if self.bytes.len() / 8 + words >= 1 << 29 {
+        if self.bytes.len() / 8 + words > self.limit {
             return Err(Error::from(ErrorKind::OutOfMemory));
         }
         append_zeros(&mut self.bytes, words)?;

@@ -1,5 +1,5 @@
 //! The message of a segment without what no pointer leads to any more.
-ghost use Rattle.std.specs.Prelude.{IfErr, IfOk, suc, ◌++◌, ◌+◌, ◌*◌, ◌/◌, ◌<◌, ◌^◌, ◌≡◌, length};
+ghost use Rattle.std.specs.Prelude.{IfErr, IfOk, suc, ◌++◌, ◌+◌, ◌*◌, ◌/◌, ◌<◌, ◌^◌, ◌≡◌, ◌≤◌, length};
 ghost use Rattle.capnp_device.specs.declared.error.ErrorKind.TheVariants.{OutOfMemory};
 ghost use Rattle.capnp_wire.specs.Encoding.{encoding_of};
 ghost use Rattle.capnp_wire.specs.WellFormed.{IsWellFormed};
@@ -45,19 +45,20 @@ pub fn append_anew(out: &mut Vec<u8>, bytes: &[u8]) -> Appended
 
 /// The segment of what the root leads to and nothing else. It takes its memory once.
 ///
-/// Refused with `OutOfMemory`.
-fn encode(alloc: Global, bytes: &[u8]) -> Result<Vec<u8>>
+/// Refused with `OutOfMemory`, also where it would have more words than the limit.
+fn encode(alloc: Global, bytes: &[u8], limit: usize) -> Result<Vec<u8>>
     requires forest { Forest bytes.now 0 }
+    requires low { limit < 2 ^ 29 }
     requires few { word_count bytes.now < 2 ^ 29 }
     requires whole { length bytes.now ≡ 8 * word_count bytes.now }
     ensures bytes { IfOk result (λ v. v.items ≡ encoding_of (tree bytes.now 0)) }
-    ensures held { IfOk result (λ _. IsWellFormed (tree bytes.now 0) × (suc (words_of (tree bytes.now 0)) < 2 ^ 29)) }
+    ensures held { IfOk result (λ _. IsWellFormed (tree bytes.now 0) × (suc (words_of (tree bytes.now 0)) ≤ limit)) }
     ensures kind { IfErr result (λ e. e.kind ≡ OutOfMemory) }
 {
     let Some(words) = count_words(bytes, 0) else {
         return Err(Error::from(ErrorKind::OutOfMemory));
     };
-    if words + 1 >= 1 << 29 {
+    if words + 1 > limit as u64 {
         return Err(Error::from(ErrorKind::OutOfMemory));
     }
     let mut out = Vec::with_capacity(alloc, 8 * words as usize + 8)?;
@@ -70,7 +71,7 @@ impl Arena {
     ghost use Rattle.capnp_arena.specs.Segment.{segment};
 
     /// Leaves the root pointer and what it leads to, in the order of the encoding: what was replaced or cleared is
-    /// given up, and there is room for as much again. Places move, so none below the root is one any more.
+    /// given up. Places move, so none below the root is one any more.
     ///
     /// Refused with `OutOfMemory`; then nothing has changed.
     pub fn compact(&mut self) -> Result<()>
@@ -78,10 +79,11 @@ impl Arena {
         ensures bytes { OnOk result (segment self.new ≡ encoding_of (tree (segment self.old) 0)) }
         ensures forest { OnOk result (Forest (segment self.new) 0) }
         ensures tree { OnOk result (tree (segment self.new) 0 ≡ tree (segment self.old) 0) }
+        ensures limit { self.new.limit ≡ self.old.limit }
         ensures kind { IfErr result (λ e. e.kind ≡ OutOfMemory) }
         ensures refused { OnErr result (segment self.new ≡ segment self.old) }
     {
-        let encoded = encode(*self.bytes.allocator(), self.bytes.as_slice())?;
+        let encoded = encode(*self.bytes.allocator(), self.bytes.as_slice(), self.limit)?;
         self.bytes = encoded;
         Ok(())
     }

@@ -141,7 +141,7 @@ impl Arena {
         ensures refused { OnErr result (segment self.new ≡ segment self.old) }
     {
         pointer_is_well_formed(&source);
-        let mut anew = Arena::new(*self.bytes.allocator())?;
+        let mut anew = Arena::with_limit(*self.bytes.allocator(), self.limit)?;
         anew.copy_found(0, look(source.pointer()))?;
         *self = anew;
         Ok(())

@@ -48,14 +48,15 @@ impl Arena {
 
     /// Bytes, and zeros up to a whole word.
     ///
-    /// Refused with `OutOfMemory`, also where there would be 2^29 words.
+    /// Refused with `OutOfMemory`, also where there would be more words than the limit.
     #[inline(always)]
     pub(crate) fn append_bytes(&mut self, bytes: &[u8]) -> Result<()>
         ensures longer { OnOk result (segment self.new ≡ segment self.old ++ padded bytes.now) }
+        ensures limit { self.new.limit ≡ self.old.limit }
         ensures kind { IfErr result (λ e. e.kind ≡ OutOfMemory) }
         ensures refused { OnErr result (segment self.new ≡ segment self.old) }
     {
-        if self.count_words() + bytes.len().div_ceil(8) >= 1 << 29 {
+        if self.count_words() + bytes.len().div_ceil(8) > self.limit {
             return Err(Error::from(ErrorKind::OutOfMemory));
         }
         append_whole(&mut self.bytes, bytes)?;
@@ -64,7 +65,7 @@ impl Arena {
 
     /// A word.
     ///
-    /// Refused with `OutOfMemory`, also where there would be 2^29 words.
+    /// Refused with `OutOfMemory`, also where there would be more words than the limit.
     pub(crate) fn append_word(&mut self, word: u64) -> Result<()>
         ensures longer { OnOk result (segment self.new ≡ segment self.old ++ spelled 8 word) }
         ensures kind { IfErr result (λ e. e.kind ≡ OutOfMemory) }
@@ -76,7 +77,7 @@ impl Arena {
 
     /// Bits, eight in each byte, up to a whole word. They are packed beside the segment first.
     ///
-    /// Refused with `OutOfMemory`, also where there would be 2^29 words.
+    /// Refused with `OutOfMemory`, also where there would be more words than the limit.
     #[inline(never)]
     pub(crate) fn append_bits(&mut self, bits: &[u8], count: u32) -> Result<()>
         ensures longer { OnOk result (segment self.new

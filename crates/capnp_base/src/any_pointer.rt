@@ -58,8 +58,10 @@ impl<'a> Reader<'a> {
 
     /// The size of all that the pointer leads to, as `PointerReader::total_size`, and refused as that is.
     pub fn target_size(&self) -> Result<MessageSize>
-        ensures size { IfOk result (λ size. IsSize size (first_fault (tree_of (pointer_of self.now))) (words_of (tree_of (pointer_of self.now)))) }
-        ensures refused { IfErr result (λ e. IsSizeRefusal e (first_fault (tree_of (pointer_of self.now))) (words_of (tree_of (pointer_of self.now)))) }
+        ensures size { IfOk result (λ size. IsSize size (first_fault (tree_of (pointer_of self.now)))
+            (words_of (tree_of (pointer_of self.now)))) }
+        ensures refused { IfErr result (λ e. IsSizeRefusal e (first_fault (tree_of (pointer_of self.now)))
+            (words_of (tree_of (pointer_of self.now)))) }
     {
         self.reader.total_size()
     }

@@ -57,14 +57,15 @@ pub trait FromPointerReader<'a>: Sized {
     // Whether a default can be read in place of a null.
     ghost has_defaults: { Type 0 } = { Unit {0} };
 
-    /// Reads what the pointer leads to, or the default where the pointer is null and a default is given. A default may be
-    /// given only where the type has some.
+    /// Reads what the pointer leads to, or the default where the pointer is null and a default is given. A default may
+    /// be given only where the type has some.
     fn get_from_pointer(
         reader: &PointerReader<'a>,
         default: Option<PointerReader<'a>>,
     ) -> Result<Self>
         requires { IsSome default → has_defaults }
-        ensures { reads (tree_or (tree_of reader.now) default.entry) (levels_or (tree_of reader.now) (levels_of reader.now) default.entry) result };
+        ensures { reads (tree_or (tree_of reader.now) default.entry)
+            (levels_or (tree_of reader.now) (levels_of reader.now) default.entry) result };
 }
 
 /// A struct type, by its reader.

@@ -7,12 +7,12 @@ use Rattle.capnp_wire.specs.Reading.{cut_pointer, is_null_tree, list_length, rea
 use Rattle.capnp_wire.specs.Slot.{number_at}
 use Rattle.capnp_wire.specs.Tree as tree
 use Rattle.capnp_wire.specs.Tree.{StructTree, Structs, Tree, Trees, nth_struct, nth_tree, struct_count, tree_count}
-use Rattle.capnp_arena.specs.Same.{IsCutOf, IsStructCutOf, SameElements, SameParts, SameRow, SameTo}
+use Rattle.capnp_arena.specs.Same.{IsCutOf, IsStructCutOf, SameParts, SameRow, SameTo}
 use Rattle.capnp_base.specs.declared.introspect.TypeVariant.{TypeVariant}
 use Rattle.capnp_schema.specs.Accepted.{IsAccepted}
 use Rattle.capnp_schema.specs.Plan.{plan_of}
 use Rattle.capnp_schema.specs.Schema.{Schemas, Value as SchemaValue, VoidValue, FieldKind, Slot, Group, TypedField, default_of, field_at, fields_of}
-use Rattle.capnp_schema.specs.Types.{SchemaType, VoidType, BoolType, IntType, UIntType, EnumType, TextType, DataType, StructType, ListType, AnyPointerType, element_size, seen_variant}
+use Rattle.capnp_schema.specs.Types.{SchemaType, IntType, UIntType, EnumType, TextType, DataType, StructType, ListType, AnyPointerType, element_size, seen_variant}
 use Rattle.capnp_schema.specs.declared.plan.Place.{Place}
 use Rattle.capnp_schema.specs.declared.plan.Place.TheVariants as place
 use Rattle.capnp_schema.specs.declared.plan.SlotPlan.{SlotPlan}

@@ -18,7 +18,7 @@ use Rattle.capnp_schema.specs.declared.schema.structs.StructSchema.{StructSchema
 use Rattle.capnp_records.specs.Facts.Extension.{fits-extended}
 use Rattle.capnp_records.specs.Writes.Fill.{entered_list}
 use Rattle.capnp_records.specs.Writes.Slots.{Fits}
-use Rattle.capnp_slots.specs.Fields.{field_set, pointer_index}
+use Rattle.capnp_slots.specs.Fields.{field_set}
 use Rattle.capnp_slots.specs.Fills.{fill_due, filled_in, filled_tree, pointer_in}
 use Rattle.capnp_call.proofs.ListBehind.{list_stands}
 use Rattle.capnp_call.specs.Lists.{IsListStand}

@@ -7,7 +7,6 @@ use Rattle.capnp_device.specs.declared.error.ErrorKind.{ErrorKind}
 use Rattle.capnp_wire.specs.Edits.{struct_in, with_pointer_tree, with_tree}
 use Rattle.capnp_wire.specs.Place.{struct_tree}
 use Rattle.capnp_wire.specs.Tree.{MoreTrees, NoTrees, StructTree, Tree, Trees, nth_tree}
-use Rattle.capnp_wire.specs.WellFormed.{IsWellFormed}
 use Rattle.capnp_schema.specs.Accepted.{IsGroupOf}
 use Rattle.capnp_schema.specs.FieldLists.{index_of, typed_of}
 use Rattle.capnp_schema.specs.Schema.{FieldKind, Group, Schemas, Slot, kind_default}
@@ -27,7 +26,7 @@ use Rattle.capnp_records.specs.Writes.TreeEnds.{offset_of}
 use Rattle.capnp_records.specs.Writes.TreeRun.{TreeEnd, TreePasses, TreeWalks}
 use Rattle.capnp_slots.specs.Fields.{field_brand, field_set, pointer_index}
 use Rattle.capnp_slots.specs.Fills.{filled_in, filled_tree}
-use Rattle.capnp_slots.specs.Groups.{IsGroupAt, KeepsSize}
+use Rattle.capnp_slots.specs.Groups.{IsGroupAt}
 use Rattle.capnp_call.proofs.Entered.{stops}
 use Rattle.capnp_call.specs.Ends.{AsGroup, AsStruct, StructEnds, Whole, stand_of, whole_of}
 use Rattle.capnp_call.specs.Lists.{ListWalks}

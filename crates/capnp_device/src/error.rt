@@ -111,7 +111,8 @@ pub enum ErrorKind {
     /// A rule of schemas is broken at this place. Where several are, any of them may be named.
     #[error("schema rule {rule} is broken in {table} {entry}, field {field}")]
     Schema {
-        // The small ones first, so that they stand beside the number of the variant: a refusal is copied at each return.
+        // The small ones first, so that they stand beside the number of the variant: a refusal is copied at each
+        // return.
         /// The list of records.
         table: SchemaTable,
         /// The field, counted from 0 in its record; 65,535 where the whole record is meant.

@@ -8,7 +8,7 @@ use Rattle.capnp_wire.specs.Elements.{or_empty}
 use Rattle.capnp_wire.specs.Place.{list_tree, struct_tree, tree_with_level}
 use Rattle.capnp_wire.specs.Reading.{empty_list, is_null_tree}
 use Rattle.capnp_wire.specs.Tree as tree
-use Rattle.capnp_wire.specs.Tree.{StructTree, Tree}
+use Rattle.capnp_wire.specs.Tree.{Tree}
 use Rattle.capnp_wire.specs.declared.size.ElementSize.{ElementSize}
 use Rattle.capnp_wire.specs.declared.size.ElementSize.TheVariants as size
 use Rattle.capnp_arena.specs.Facts.Forests.{tree_step}

@@ -109,7 +109,8 @@ impl<'a> IndexMove<u32, Result<dynamic_value::Reader<'a>>> for Reader<'a> {
 
     ghost count = { λ l. list_length (list_of (list_reader_of l)) };
 
-    ghost answers = { λ l i x. (answered x ≡ element_seen l i) × (NamesEntries (list_set l) (element_of l) → IfOk x (IsOf (list_set l) (element_of l))) };
+    ghost answers = { λ l i x. (answered x ≡ element_seen l i)
+        × (NamesEntries (list_set l) (element_of l) → IfOk x (IsOf (list_set l) (element_of l))) };
 
     fn index_move(&self, index: u32) -> Result<dynamic_value::Reader<'a>> {
         self.get(index)

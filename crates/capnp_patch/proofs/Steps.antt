@@ -21,7 +21,7 @@ use Rattle.capnp_records.specs.Facts.ListValues.{below_of, count-values_from, nt
 use Rattle.capnp_records.specs.Part.{is_inactive, part_at, value_count}
 use Rattle.capnp_records.specs.Reading.{element_value, struct_record}
 use Rattle.capnp_records.specs.Record as value
-use Rattle.capnp_records.specs.Record.{Left, Levels, Record, Value, Values, values_from}
+use Rattle.capnp_records.specs.Record.{Left, Levels, Record, Value, values_from}
 use Rattle.capnp_records.specs.Step.{Found, Target, element_target, field_target, in_list, in_record, is_group_field}
 use Rattle.capnp_dynamic_readers.specs.Handles.{element_of, list_reader_of, list_set, reader_of, schema_of}
 use Rattle.capnp_dynamic_readers.specs.Reads.{element_seen, field_read, field_seen, handed_out}

@@ -1,9 +1,9 @@
 -- Numbers, untyped pointers and groups can always be read.
-use Rattle.std.proofs.Common.{ℕ, ◌<◌, ◌≡◌, ◌∙◌, ap, refl, subst, sym, zero, suc, Bool, true, false, List, length}
+use Rattle.std.proofs.Common.{ℕ, ◌<◌, ◌≡◌, ◌∙◌, ap, refl, subst, sym, zero, suc, Bool, true, List, length}
 use Rattle.capnp_device.specs.declared.error.ErrorKind.{ErrorKind}
 use Rattle.capnp_wire.specs.Standing.{struct_levels, struct_of}
 use Rattle.capnp_wire.specs.Tree as tree
-use Rattle.capnp_wire.specs.Tree.{StructTree, Tree, Trees}
+use Rattle.capnp_wire.specs.Tree.{Tree, Trees}
 use Rattle.capnp_schema.specs.RequestSet.{request_set}
 use Rattle.capnp_schema.specs.Schema.{DataValue, FieldKind, Group, ListValue, Schemas, Slot, StructValue, TextValue, default_of, field_at, fields_of}
 use Rattle.capnp_schema.specs.Schema.{Value as SchemaValue}
@@ -14,7 +14,7 @@ use Rattle.capnp_records.specs.Reading.{kind_value, nth_reading, record_within, 
 use Rattle.capnp_records.specs.Record as value
 use Rattle.capnp_records.specs.Record.{Left, Levels, Record, Value}
 use Rattle.capnp_dynamic_readers.specs.Handles.{reader_of, schema_of}
-use Rattle.capnp_dynamic_readers.specs.Reads.{field_seen, handed_out}
+use Rattle.capnp_dynamic_readers.specs.Reads.{handed_out}
 use Rattle.capnp_dynamic_readers.specs.Seen.{record_seen}
 use Rattle.capnp_dynamic_readers.specs.declared.dynamic_struct.Reader.{Reader as StructHandle}
 use Rattle.capnp_request.specs.Handles.{IsActive, IsAlwaysRead, IsRecord, is_always_read, is_whole}

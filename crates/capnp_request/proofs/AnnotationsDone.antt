@@ -1,5 +1,5 @@
 -- The work on an annotation, step by step.
-use Rattle.std.proofs.Common.{ℕ, ◌≡◌, ◌∙◌, ap, pos, refl, sym, Bool, List, Option, Some, None, Result, Ok, Err}
+use Rattle.std.proofs.Common.{ℕ, ◌≡◌, ◌∙◌, ap, pos, sym, Bool, List, Option, Some, None, Ok, Err}
 use Rattle.capnp_device.specs.declared.error.ErrorKind.{ErrorKind}
 use Rattle.capnp_device.specs.declared.error.ErrorKind.TheVariants.{NodeNotFound}
 use Rattle.capnp_schema.specs.Schema.{Annotation, Value}

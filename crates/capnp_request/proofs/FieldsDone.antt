@@ -1,7 +1,6 @@
 -- The work on a field, step by step.
-use Rattle.std.proofs.Common.{ℕ, ◌+◌, ◌<◌, ◌≤◌, ◌≡◌, ◌∙◌, ap, arith, pos, refl, sym, zero, suc, Bool, true, false, ◌&&◌, List, [], ◌∷◌, ◌++◌, length, map, Option, Some, None, Result, Ok, Err, slice_get}
+use Rattle.std.proofs.Common.{ℕ, ◌+◌, ◌≡◌, ◌∙◌, ap, arith, pos, refl, sym, zero, suc, Bool, true, false, ◌&&◌, List, [], ◌∷◌, ◌++◌, length, map, Option, Some, None, Result, Ok, Err, slice_get}
 use Rattle.std.proofs.lemmas.List.{length-append}
-use Rattle.std.proofs.lemmas.Option.{slice_get_past}
 use Rattle.std.specs.Option.{unwrap_or}
 use Rattle.capnp_device.specs.declared.error.ErrorKind.{ErrorKind}
 use Rattle.capnp_device.specs.declared.error.ErrorKind.TheVariants.{NodeNotFound, UnknownKind}
@@ -18,8 +17,8 @@ use Rattle.capnp_request.specs.ConvertedSeen.{typed_annotations}
 use Rattle.capnp_request.specs.Parts.{read_at}
 use Rattle.capnp_request.specs.Reading.{annotations_in, by_member, field_kinds, field_said, group_said, in_struct, number_in, slot_said, text_in, type_levels, type_said, value_in, value_said, whole_type}
 use Rattle.capnp_request.specs.Scopes.{node_named}
-use Rattle.capnp_request.specs.Terms.{AnnotationTerm, FieldKindTerm, FieldTerm, GroupTerm, Said, SchemaNode, SlotTerm, TypeTerm, UnreadField, UnreadType, UnreadValue, ValueTerm}
-use Rattle.capnp_request.specs.Types.{add_entry, is_of_kind, is_struct, type_of, where_node}
+use Rattle.capnp_request.specs.Terms.{AnnotationTerm, FieldKindTerm, GroupTerm, Said, SchemaNode, SlotTerm, TypeTerm, UnreadField, UnreadType, UnreadValue, ValueTerm}
+use Rattle.capnp_request.specs.Types.{add_entry, is_of_kind, is_struct, type_of}
 use Rattle.capnp_request.specs.Values.{value_of}
 use Rattle.capnp_request.specs.Work.{◌>>=◌, Bound, Entry, GroupOf, Named, Numbered, Seen, Work, continued, given, named, nothing_seen, said, seen_in, where_so}
 use Rattle.capnp_request.proofs.AnnotationsDone.{seen_done, seen_refused}

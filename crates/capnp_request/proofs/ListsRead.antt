@@ -15,7 +15,6 @@ use Rattle.capnp_dynamic_readers.specs.declared.dynamic_list.Reader.{Reader as L
 use Rattle.capnp_request.specs.Handles.{IsListOf, element_in, values_left}
 use Rattle.capnp_request.specs.Parts.{element_read, one}
 use Rattle.capnp_request.specs.Reading.{all_said, each_said, in_struct, list_said, value_count, whole_list}
-use Rattle.capnp_request.specs.Terms.{Said}
 
 -- how many elements there are
 abbrev pub count_of : ListHandle → ℕ

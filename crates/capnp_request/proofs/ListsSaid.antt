@@ -1,5 +1,5 @@
 -- What the structs of a list say, one after another.
-use Rattle.std.proofs.Common.{ℕ, ◌+◌, ◌-◌, ◌<◌, ◌≤◌, ◌≡◌, ◌∙◌, suc, arith, ap, refl, sym, List, [], ◌∷◌, Ok, Err}
+use Rattle.std.proofs.Common.{ℕ, ◌+◌, ◌-◌, ◌<◌, ◌≤◌, ◌≡◌, ◌∙◌, suc, arith, ap, sym, List, [], ◌∷◌, Ok, Err}
 use Rattle.capnp_device.specs.declared.error.ErrorKind.{ErrorKind}
 use Rattle.capnp_wire.specs.Reading.{list_length}
 use Rattle.capnp_wire.specs.Standing.{list_of}
@@ -8,8 +8,8 @@ use Rattle.capnp_schema.specs.Schema.{Schemas, VoidValue}
 use Rattle.capnp_schema.specs.Types.{SchemaType}
 use Rattle.capnp_records.specs.Default.{read_of}
 use Rattle.capnp_records.specs.Record as value
-use Rattle.capnp_records.specs.Record.{Record, Value, Values, values_from}
-use Rattle.capnp_dynamic_readers.specs.Handles.{element_of, list_reader_of, list_set}
+use Rattle.capnp_records.specs.Record.{Record, Value, values_from}
+use Rattle.capnp_dynamic_readers.specs.Handles.{element_of, list_reader_of}
 use Rattle.capnp_dynamic_readers.specs.Reads.{element_seen}
 use Rattle.capnp_dynamic_readers.specs.Seen.{list_seen}
 use Rattle.capnp_dynamic_readers.specs.declared.dynamic_list.Reader.{Reader as ListHandle}

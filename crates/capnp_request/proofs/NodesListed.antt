@@ -1,25 +1,24 @@
 -- The nodes of a request, one more at a time, and the map that says which has an id.
-use Rattle.std.proofs.Common.{ℕ, ◌+◌, ◌<◌, ◌≤◌, ◌≡◌, ◌∙◌, ap, arith, refl, subst, sym, nat_eq, ◌==◌, cond, Bool, true, false, List, [], ◌∷◌, ◌++◌, length, length-append, append_assoc, Option, Some, None, Ok, Err}
-use Rattle.std.proofs.lemmas.Bool.Decides.{nat_tests}
+use Rattle.std.proofs.Common.{ℕ, ◌+◌, ◌<◌, ◌≤◌, ◌≡◌, ◌∙◌, ap, refl, sym, nat_eq, ◌==◌, Bool, true, false, List, [], ◌∷◌, ◌++◌, length, length-append, append_assoc, Option, Some, None, Ok, Err}
 use Rattle.std.proofs.lemmas.List.{append-nil}
-use Rattle.std.specs.HashMap.{HashMap, get, Updates}
+use Rattle.std.specs.HashMap.{HashMap, get}
 use Rattle.std.specs.Option.{option_map}
 use Rattle.capnp_device.specs.declared.error.ErrorKind.{ErrorKind}
 use Rattle.capnp_wire.specs.Standing.{struct_levels, struct_of}
 use Rattle.capnp_wire.specs.declared.struct_reader.StructReader.{StructReader}
 use Rattle.capnp_schema.specs.RequestSet.{request_set}
 use Rattle.capnp_schema.specs.Schema.{Schemas}
-use Rattle.capnp_schema.specs.StructHandles.{number_of, set_of}
+use Rattle.capnp_schema.specs.StructHandles.{set_of}
 use Rattle.capnp_records.specs.Reading.{struct_record}
 use Rattle.capnp_records.specs.Record as value
-use Rattle.capnp_records.specs.Record.{Left, Record, Value}
+use Rattle.capnp_records.specs.Record.{Left, Record}
 use Rattle.capnp_dynamic_readers.specs.Handles.{reader_of, schema_of}
 use Rattle.capnp_dynamic_readers.specs.Reads.{element_seen}
 use Rattle.capnp_dynamic_readers.specs.Seen.{list_seen, record_seen}
 use Rattle.capnp_dynamic_readers.specs.declared.dynamic_list.Reader.{Reader as ListHandle}
 use Rattle.capnp_dynamic_readers.specs.declared.dynamic_struct.Reader.{Reader as StructHandle}
 use Rattle.capnp_request.specs.Handles.{IsListOf, IsRecord, values_left}
-use Rattle.capnp_request.specs.Nodes.{first_kept, node_record, nodes_of, or_none}
+use Rattle.capnp_request.specs.Nodes.{first_kept, node_record, or_none}
 use Rattle.capnp_request.specs.Parts.{one, read_at}
 use Rattle.capnp_request.specs.Reading.{all_said, both_said, each_said, node_said, nodes_in, whole_list}
 use Rattle.capnp_request.specs.Scopes.{node_named, some_where}

@@ -1,5 +1,5 @@
 -- What a node of a request says, part by part.
-use Rattle.std.proofs.Common.{ℕ, ◌≡◌, ◌∙◌, ap, pos, refl, sym, zero, suc, arith, ◌==◌, Bool, true, false, not, List, Option, Some, None, Ok, Err, slice_get}
+use Rattle.std.proofs.Common.{ℕ, ◌≡◌, ◌∙◌, ap, pos, refl, sym, zero, suc, arith, ◌==◌, Bool, false, not, List, Option, Some, None, Ok, Err, slice_get}
 use Rattle.std.proofs.lemmas.Bool.Decides.{nat_tests}
 use Rattle.std.specs.Option.{unwrap_or}
 use Rattle.capnp_device.specs.declared.error.ErrorKind.{ErrorKind}
@@ -12,7 +12,7 @@ use Rattle.capnp_request.proofs.ListsRead.{all_left, count_left, count_of}
 use Rattle.capnp_request.specs.Conversion.{declared_term, kind_declared}
 use Rattle.capnp_request.specs.Parts.{read_at}
 use Rattle.capnp_request.specs.Reading.{annotations_in, by_member, declaration_said, enumerant_said, enumerants_said, id_said, in_list, list_said, node_kinds, node_said, number_in, struct_said, text_in, truth_in, value_count, whole_list}
-use Rattle.capnp_request.specs.Terms.{AnnotationNode, AnnotationTerm, EnumNode, NodeKind, OtherNode, Said, SchemaNode, StructNode}
+use Rattle.capnp_request.specs.Terms.{AnnotationNode, EnumNode, NodeKind, OtherNode, SchemaNode, StructNode}
 use Rattle.capnp_request.specs.Types.{is_annotation, is_enum, is_of_kind, is_root, is_struct}
 
 pub node_id : (r : Record) → (node_said r).id ≡ number_in (read_at 2 0 r)

@@ -1,16 +1,16 @@
 -- What the code makes, step by step, is what the definition makes.
-use Rattle.std.proofs.Common.{ℕ, zero, suc, ◌+◌, ◌<◌, ◌≤◌, ◌≡◌, ◌∙◌, arith, ap, drop, length, map, nat_lt, refl, slice_get, sym, Bool, true, false, List, [], ◌∷◌, ◌++◌, Option, Some, None, Result, Ok, Err}
+use Rattle.std.proofs.Common.{ℕ, zero, suc, ◌+◌, ◌<◌, ◌≤◌, ◌≡◌, ◌∙◌, arith, ap, drop, length, map, refl, slice_get, sym, Bool, List, [], ◌∷◌, ◌++◌, Option, Some, None, Result, Ok, Err}
 use Rattle.std.proofs.lemmas.Bool.{le-ltb, lt-ltb}
 use Rattle.capnp_device.specs.declared.error.ErrorKind.{ErrorKind}
 use Rattle.capnp_device.specs.declared.error.ErrorKind.TheVariants.{NodeNotFound, TooManyTypes}
 use Rattle.capnp_schema.specs.Schema.{Brand, Enum, Node}
 use Rattle.capnp_request.specs.Conversion.{Note}
 use Rattle.capnp_request.specs.Names.{Holder, dotted_of, enum_name, group_name, struct_name}
-use Rattle.capnp_request.specs.Order.{Begun, Made, add_struct, and_said, begin_enum, begin_struct, conversion_of, enum_made, enum_names, make_all, make_enum, make_next, make_struct, name_entry, name_files, node_there, nothing_made, nothing_named, result_of, said_where, struct_made, with_struct}
+use Rattle.capnp_request.specs.Order.{Begun, Made, add_struct, and_said, begin_enum, begin_struct, conversion_of, enum_made, enum_names, make_all, make_enum, make_next, make_struct, name_entry, name_files, node_there, nothing_made, nothing_named, result_of, said_where}
 use Rattle.capnp_request.specs.Reading.{request_with}
 use Rattle.capnp_request.specs.Scopes.{node_named}
-use Rattle.capnp_request.specs.Terms.{RequestTerm, Said, SchemaNode}
-use Rattle.capnp_request.specs.Work.{◌>>=◌, Bound, Entry, GroupOf, Named, Place, Whole, Work, continued, given, said}
+use Rattle.capnp_request.specs.Terms.{Said, SchemaNode}
+use Rattle.capnp_request.specs.Work.{◌>>=◌, Entry, GroupOf, Named, Whole, Work, continued, given, said}
 use Rattle.capnp_request.proofs.Works.{then_err, then_ok}
 
 -- ---- the names of enums ----

@@ -1,5 +1,5 @@
 -- A refusal that is passed on.
-use Rattle.std.proofs.Common.{◌≡◌, ◌≢◌, subst, sym, Result, Ok, Err, IfErr}
+use Rattle.std.proofs.Common.{◌≡◌, ◌≢◌, subst, sym, Result, Err, IfErr}
 use Rattle.std.proofs.lemmas.Result.{err_from_is_err_and}
 use Rattle.std.specs.Result.{IsErrAnd}
 use Rattle.capnp_device.specs.declared.error.Error.{Error}

@@ -1,5 +1,5 @@
 -- What brands bind to scopes: the scopes of a brand and bindings in a row, one more at a time.
-use Rattle.std.proofs.Common.{ℕ, ◌+◌, ◌-◌, ◌<◌, ◌≤◌, ◌≡◌, ◌≢◌, ◌⊎◌, inl, inr, min, ◌∙◌, ap, arith, pos, refl, sym, zero, suc, ◌==◌, Bool, true, false, List, [], ◌∷◌, ◌++◌, length, map, take, drop, cond, get_or, slice_get, Option, Some, None, Result, Ok, Err}
+use Rattle.std.proofs.Common.{ℕ, ◌+◌, ◌-◌, ◌<◌, ◌≤◌, ◌≡◌, ◌≢◌, ◌⊎◌, inl, inr, min, ◌∙◌, ap, arith, pos, refl, sym, zero, suc, ◌==◌, Bool, true, false, List, [], ◌∷◌, ◌++◌, length, map, take, drop, cond, get_or, slice_get, Some, None, Result, Ok, Err}
 use Rattle.std.proofs.lemmas.Bool.Decides.{nat_tests}
 use Rattle.std.proofs.lemmas.List.{append-nil, map-append}
 use Rattle.capnp_device.specs.declared.error.ErrorKind.{ErrorKind}
@@ -16,11 +16,11 @@ use Rattle.capnp_request.specs.Meant.{says_or, scope_in}
 use Rattle.capnp_request.specs.Parts.{one, read_at}
 use Rattle.capnp_request.specs.Reading.{binding_said, bindings_said, brand_in, in_list, in_struct, number_in, scope_said, scopes_said, with_scope}
 use Rattle.capnp_request.specs.Scopes.{scopes_of}
-use Rattle.capnp_request.specs.Terms.{BindingTerms, BrandTerm, MoreBindings, MoreScopes, NoBindings, Said, SchemaNode, ScopeTerm, TypeTerm, UnreadBrand, UnreadType}
+use Rattle.capnp_request.specs.Terms.{BindingTerms, BrandTerm, MoreBindings, NoBindings, Said, SchemaNode, TypeTerm, UnreadBrand, UnreadType}
 use Rattle.capnp_request.specs.Types.{bind_scope, binding_types, brand_types, named_scopes, type_of, with_type, without_untyped}
-use Rattle.capnp_request.specs.Work.{◌>>=◌, Bound, Named, Work, continued, each, given, said}
+use Rattle.capnp_request.specs.Work.{◌>>=◌, Bound, Named, continued, each, given, said}
 use Rattle.capnp_request.specs.declared.schema_nodes.GenericScope.{GenericScope}
-use Rattle.capnp_request.proofs.ListsRead.{all_left, count_of, element_is, none_left, one_left}
+use Rattle.capnp_request.proofs.ListsRead.{count_of, element_is, none_left, one_left}
 use Rattle.capnp_request.proofs.Walks.{all_done, more_done, prefixed, step_err, step_ok}
 
 -- ---- a brand's list ----

@@ -1,5 +1,5 @@
 -- The type that a record says is that of its active member, and the work on it.
-use Rattle.std.proofs.Common.{ℕ, ◌+◌, ◌-◌, ◌^◌, ◌<◌, ◌≤◌, ◌≡◌, ◌≢◌, ◌∙◌, ap, arith, pos, refl, subst, sym, zero, suc, nat_lt, ◌==◌, Bool, true, false, List, [], ◌∷◌, length, map, Option, Some, None, Result, Ok, Err, IfErr, IfOk, slice_get}
+use Rattle.std.proofs.Common.{ℕ, ◌-◌, ◌^◌, ◌<◌, ◌≤◌, ◌≡◌, ◌≢◌, ◌∙◌, ap, arith, pos, refl, sym, zero, suc, nat_lt, ◌==◌, Bool, true, false, List, [], Option, Some, None, Result, Ok, Err, IfErr, IfOk, slice_get}
 use Rattle.std.proofs.lemmas.Bool.Decides.{nat_tests}
 use Rattle.std.proofs.lemmas.Option.{slice_get_past}
 use Rattle.std.specs.Option.{unwrap_or}
@@ -15,10 +15,10 @@ use Rattle.capnp_request.specs.Done.{IsDone, IsSaid}
 use Rattle.capnp_request.specs.Meant.{IsPlainMember, IsPlainOr, says_or, scope_in, type_kind}
 use Rattle.capnp_request.specs.Parts.{read_at}
 use Rattle.capnp_request.specs.Reading.{binding_kinds, binding_said, bindings_said, brand_in, by_member, enum_term, in_list, in_struct, list_term, number_in, parameter_said, scope_kinds, scope_said, struct_term, type_in, type_kinds, type_said, untyped_kinds, untyped_term}
-use Rattle.capnp_request.specs.Scopes.{bound_types, node_named, scopes_of}
-use Rattle.capnp_request.specs.Terms.{BindingTerms, BrandTerm, Binds, EnumTerm, Float32, Float64, Inherits, Interface, ListTerm, MoreBindings, MoreScopes, NoBindings, NoScopes, Parameter, Plain, Said, SchemaNode, ScopeTerm, StructTerm, TypeTerm, UnreadBrand, UnreadScope, UnreadType}
-use Rattle.capnp_request.specs.Types.{bind_scope, binding_types, bound_to, brand_types, float32, float64, interface, is_of_kind, is_struct, lists_in, list_type, named_scopes, number_enum, number_struct, scope_types, type_of, without_untyped}
-use Rattle.capnp_request.specs.Work.{◌>>=◌, Bound, Named, Work, continued, each, given, where_else, where_so}
+use Rattle.capnp_request.specs.Scopes.{bound_types, node_named}
+use Rattle.capnp_request.specs.Terms.{BrandTerm, Binds, EnumTerm, ListTerm, MoreScopes, NoScopes, Plain, Said, SchemaNode, ScopeTerm, StructTerm, TypeTerm, UnreadBrand, UnreadScope, UnreadType}
+use Rattle.capnp_request.specs.Types.{binding_types, bound_to, brand_types, is_of_kind, is_struct, lists_in, list_type, named_scopes, number_enum, number_struct, scope_types, type_of, without_untyped}
+use Rattle.capnp_request.specs.Work.{◌>>=◌, Bound, Named, Work, continued, given, where_else, where_so}
 
 -- the same work
 pub done_as : {A B : Type 0} (seen : B → A) (w v : Work A) (s t : Named) (r : Result B Error) → v s ≡ w s → IsDone seen w s t r → IsDone seen v s t r

@@ -1,5 +1,5 @@
 -- What the record of a value says, by its active member.
-use Rattle.std.proofs.Common.{ℕ, subst, zero, not, Bool, ◌^◌, ◌<◌, ◌≤◌, ◌≡◌, suc, arith, nat_lt, true, false, ◌∙◌, ap, refl, sym, List, [], ◌∷◌, length, min, ◌⊎◌, inl, inr, Ok, Err, Option, Some, None, slice_get, drop}
+use Rattle.std.proofs.Common.{ℕ, subst, zero, not, ◌^◌, ◌<◌, ◌≤◌, ◌≡◌, suc, arith, nat_lt, true, false, ◌∙◌, ap, refl, sym, List, [], ◌∷◌, length, min, ◌⊎◌, inl, inr, Ok, Err, Option, Some, None, slice_get, drop}
 use Rattle.std.proofs.lemmas.Bool.Decides.{nat_tests}
 use Rattle.std.proofs.lemmas.Option.{slice_get_past}
 use Rattle.std.specs.Option.{option_map, unwrap_or}

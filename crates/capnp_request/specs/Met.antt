@@ -1,5 +1,4 @@
 -- The ids that were met, as the code keeps them.
-use Rattle.std.specs.Global.{Global}
 use Rattle.std.specs.HashSet.{HashSet, contains}
 use Rattle.std.specs.Prelude.{ℕ, ◌≡◌, List, nat_eq}
 use Rattle.capnp_request.specs.Scopes.{is_met}

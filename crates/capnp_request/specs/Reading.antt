@@ -1,5 +1,5 @@
 -- What the record of a request says: its parts as terms, each missing part as it is read.
-use Rattle.std.specs.Prelude.{ℕ, zero, suc, ℤ, pos, List, [], ◌∷◌, Bool, true, false, slice_get, Option, Some, None, Ok, Err}
+use Rattle.std.specs.Prelude.{ℕ, zero, suc, ℤ, pos, List, [], ◌∷◌, Bool, false, slice_get, Option, Some, None, Ok, Err}
 use Rattle.std.specs.Option.{unwrap_or}
 use Rattle.capnp_device.specs.declared.error.ErrorKind.{ErrorKind}
 use Rattle.capnp_device.specs.declared.error.ErrorKind.TheVariants.{TooDeep, TypeMismatch, UnknownKind}

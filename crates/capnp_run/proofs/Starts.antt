@@ -36,7 +36,7 @@ use Rattle.capnp_records.specs.Writes.Slots.{Fits}
 use Rattle.capnp_schema.specs.Plan.{brand_size}
 use Rattle.capnp_run.specs.Messages.{HasRoot, IsWhole, IsWholeRefusal, LeavesRun, RunsOn, fault_or, new_record, new_root, record_left, root_refusal, root_value, text_in}
 use Rattle.capnp_run.specs.Messages.{copied_root as copied_root_of}
-use Rattle.capnp_run.specs.Runs.{IsRunFrom, Makes, record_in}
+use Rattle.capnp_run.specs.Runs.{IsMade, IsRunFrom, Makes, record_in}
 use Rattle.capnp_call.specs.declared.calls.Call.{Call}
 use Rattle.capnp_call.specs.declared.calls.Reply.{Reply}
 
@@ -80,21 +80,29 @@ refused_whole t t' o whole same h = ap (λ (f : Option Fault). fault_or f (struc
 pub stopped_whole : (e : Error) (t t' : Tree) → first_fault t ≡ None → t' ≡ t → IsStructRefusal e t' → e.kind ≢ OutOfMemory → root_refusal t ≡ Some e.kind
 stopped_whole e t t' whole same h other = refused_whole t t' (Some e.kind) whole same (h.0 other)
 
--- what a run leaves of a struct that stands at a pointer
-pub runs_here : (schema : StructSchema) (old t : Tree) (s s' : StructTree) (calls : List Call) (replies : List Reply) → s ≡ struct_in old → t ≡ struct_tree s' → IsWellFormed (struct_tree s') →
-    IsRunFrom schema (record_in schema s) calls replies (record_in schema s') → RunsOn schema old calls replies t
-runs_here schema old t s s' calls replies e is formed runs = record {
-  root = is ∙ ap struct_tree (sym (ap struct_in is));
-  formed = subst IsWellFormed (sym is) formed;
-  runs = subst (λ (x : StructTree). IsRunFrom schema (record_in schema x) calls replies (record_in schema (struct_in t))) e
-      (subst (λ (y : StructTree). IsRunFrom schema (record_in schema s) calls replies (record_in schema y)) (sym (ap struct_in is)) runs);
-}
+-- a call that was made on a struct that stands at a pointer
+pub is_made_here : (set : Schemas) (b : ℕ) (old t : Tree) (s s' : StructTree) (call : Call) (reply : Reply) → s ≡ struct_in old → t ≡ struct_tree s' → IsMade set b s call reply s' → IsMade set b (struct_in old) call reply (struct_in t)
+is_made_here set b old t s s' call reply e is made =
+    subst (λ (x : StructTree). IsMade set b x call reply (struct_in t)) e (subst (λ (y : StructTree). IsMade set b s call reply y) (sym (ap struct_in is)) made)
 
--- the calls that were made there, one by one
-pub makes_here : (set : Schemas) (b : ℕ) (old t : Tree) (s s' : StructTree) (calls : List Call) (replies : List Reply) → s ≡ struct_in old → t ≡ struct_tree s' → Makes set b s calls replies s' →
-    Makes set b (struct_in old) calls replies (struct_in t)
-makes_here set b old t s s' calls replies e is made =
-    subst (λ (x : StructTree). Makes set b x calls replies (struct_in t)) e (subst (λ (y : StructTree). Makes set b s calls replies y) (sym (ap struct_in is)) made)
+-- a root that is a struct
+pub is_struct_root : (t : Tree) (s : StructTree) → t ≡ struct_tree s → IsTrue (is_struct t)
+is_struct_root t s is = subst (λ (x : Tree). IsTrue (is_struct x)) (sym is) refl
+
+pub stands_here : (t : Tree) → IsTrue (is_struct t) → t ≡ struct_tree (struct_in t)
+stands_here (tree.Struct bytes ps) here = refl
+stands_here tree.Null here = absurd (true≢false (sym here))
+stands_here (tree.Voids k) here = absurd (true≢false (sym here))
+stands_here (tree.Bits bs) here = absurd (true≢false (sym here))
+stands_here (tree.Numbers w bytes) here = absurd (true≢false (sym here))
+stands_here (tree.Pointers ps) here = absurd (true≢false (sym here))
+stands_here (tree.Composite d p es) here = absurd (true≢false (sym here))
+stands_here (tree.FaultLeaf k) here = absurd (true≢false (sym here))
+
+-- what a run leaves at the root
+pub leaves_root : (schema : StructSchema) (old t : Tree) (calls : List Call) (replies : List Reply) → IsTrue (is_struct t) → IsWellFormed t →
+    IsRunFrom schema (record_in schema (struct_in old)) calls replies (record_in schema (struct_in t)) → RunsOn schema old calls replies t
+leaves_root schema old t calls replies here formed runs = record { root = stands_here t here; formed = formed; runs = runs }
 
 pub makes_from : (set : Schemas) (b : ℕ) (s old new : StructTree) (calls : List Call) (replies : List Reply) → old ≡ s → Makes set b old calls replies new → Makes set b s calls replies new
 makes_from set b s old new calls replies e made = subst (λ (x : StructTree). Makes set b x calls replies new) e made

@@ -5,22 +5,23 @@ ghost use Rattle.capnp_wire.specs.Edits.{is_struct, struct_in};
 ghost use Rattle.capnp_wire.specs.Standing.{tree_of};
 ghost use Rattle.capnp_arena.specs.Message.{IsMessage, message_tree};
 ghost use Rattle.capnp_arena.specs.Segment.{segment};
-ghost use Rattle.capnp_arena.specs.Shape.{shape_at, word_count};
+ghost use Rattle.capnp_arena.specs.Shape.{word_count};
 ghost use Rattle.capnp_schema.specs.StructHandles.{IsStruct, number_of, set_of};
+ghost use Rattle.capnp_records.specs.Writes.Slots.{Fits};
 ghost use Rattle.capnp_dynamic_readers.specs.Pieces.{IsAppended};
-ghost use Rattle.capnp_arena.specs.Built.{part};
 ghost use Rattle.capnp_run.specs.Messages.{HasRoot, IsCopiedRefusal, IsRoot, IsWhole, IsWholeRefusal, LeavesRun};
 ghost use Rattle.capnp_run.specs.Messages.{RunsOn, copied_record, copied_root, new_record, new_root, read_text, root_refusal, root_text};
-ghost use Rattle.capnp_run.specs.Runs.{Makes, RestsWhole};
+ghost use Rattle.capnp_run.specs.Runs.{IsMade, Makes, RestsWhole};
 
-use crate::run::run_on;
-use capnp_arena::arena::Place;
+use crate::run::call_at;
 use capnp_arena::message::Builder;
+use capnp_arena::segment::bytes_of;
 use capnp_call::calls::{Call, Reply};
 use capnp_dynamic_readers::dynamic_struct;
 use capnp_dynamic_readers::dynamic_value::Reader as Value;
 use capnp_dynamic_readers::printer::print;
-use capnp_records::laws::print_law;
+use capnp_records::laws::{overlay_law, print_law};
+use capnp_schema::laws::numbers_fit;
 use capnp_schema::schema::StructSchema;
 use capnp_slots::size_of;
 use capnp_wire::PointerReader;
@@ -28,29 +29,26 @@ use capnp_wire::error::Result;
 use capnp_wire::laws::pointer_is_well_formed;
 use std::alloc::Global;
 
-/// Makes the root a struct of a schema, all zero and null, and answers where it stands. Refused with `OutOfMemory`.
-fn empty_root(message: &mut Builder, schema: StructSchema<'_>) -> Result<Place>
+/// Makes the root a struct of a schema, all zero and null. Refused with `OutOfMemory`.
+fn empty_root(message: &mut Builder, schema: StructSchema<'_>) -> Result<()>
     requires { 0 < word_count (segment message.old) }
     ensures message { OnOk result (IsMessage message.new) }
-    ensures place { IfOk result (λ p. shape_at (segment message.new) 0 ≡ part p) }
     ensures root { OnOk result (HasRoot schema.entry (new_record schema.entry) (message_tree message.new)) }
     ensures anew { OnOk result (struct_in (message_tree message.new) ≡ new_root schema.entry) }
     ensures cause { IfErr result (λ e. e.kind ≡ OutOfMemory) }
 {
     let size = size_of(schema);
-    let place = message.init_struct(0, size)?;
-    Ok(place)
+    message.init_struct(0, size)?;
+    Ok(())
 }
 
-/// Makes the root a copy of a struct, with at least its schema's sections, and answers where it stands. Refused as
-/// `set_root` and `get_struct`.
+/// Makes the root a copy of a struct, with at least its schema's sections. Refused as `set_root` and `get_struct`.
 fn copied_root(
     message: &mut Builder,
     source: PointerReader<'_>,
     schema: StructSchema<'_>,
-) -> Result<Place>
+) -> Result<()>
     ensures message { OnOk result (IsMessage message.new) }
-    ensures place { IfOk result (λ p. shape_at (segment message.new) 0 ≡ part p) }
     ensures root { OnOk result (HasRoot schema.entry (copied_record schema.entry source.entry)
         (message_tree message.new)) }
     ensures copied { OnOk result (struct_in (message_tree message.new) ≡ copied_root schema.entry source.entry) }
@@ -60,21 +58,102 @@ fn copied_root(
     pointer_is_well_formed(&source);
     let size = size_of(schema);
     message.set_root(source)?;
-    let place = message.get_struct(0, size)?;
-    Ok(place)
+    message.get_struct(0, size)?;
+    Ok(())
+}
+
+/// Compacts a message where less room is left than was added to the words that it held when it was compacted last, and
+/// answers the words that it holds now; else those. Where there is no memory to compact, it stays as it is.
+///
+/// So calls that replace what others wrote go on where their message may not grow any more, and no message is compacted
+/// more often than its room can be halved.
+#[inline(always)]
+fn keep_room(message: &mut Builder, held: usize) -> usize
+    requires message { IsMessage message.old }
+    ensures message { IsMessage message.new }
+    ensures tree { message_tree message.new ≡ message_tree message.old }
+{
+    let words = bytes_of(message).len() / 8;
+    if message.get_limit() - words >= words.saturating_sub(held) {
+        return held;
+    }
+    compact_held(message, held)
+}
+
+/// Compacts a message, and answers the words that it holds then; where there is no memory to, those that it held.
+#[inline(never)]
+fn compact_held(message: &mut Builder, held: usize) -> usize
+    requires message { IsMessage message.old }
+    ensures message { IsMessage message.new }
+    ensures tree { message_tree message.new ≡ message_tree message.old }
+{
+    match message.compact() {
+        Ok(()) => bytes_of(message).len() / 8,
+        Err(_) => held,
+    }
+}
+
+/// Makes one call on a root.
+#[inline(always)]
+fn call_on_root(
+    alloc: Global,
+    message: &mut Builder,
+    schema: StructSchema<'_>,
+    call: &Call<'_>,
+) -> Reply
+    requires stands { IsStruct schema }
+    requires message { IsMessage message.old }
+    requires here { IsTrue (is_struct (message_tree message.old)) }
+    requires fits { Fits (set_of schema) (number_of schema) (struct_in (message_tree message.old)) }
+    ensures message { IsMessage message.new }
+    ensures here { IsTrue (is_struct (message_tree message.new)) }
+    ensures fits { Fits (set_of schema.entry) (number_of schema.entry) (struct_in (message_tree message.new)) }
+    ensures made { IsMade (set_of schema.entry) (number_of schema.entry) (struct_in (message_tree message.old)) call.now
+        result (struct_in (message_tree message.new)) }
+{
+    let place = message.struct_here(0);
+    call_at(alloc, message, place, schema, call)
+}
+
+/// Makes calls on a root one after another, and keeps room for them.
+fn make_calls_on_root(
+    alloc: Global,
+    message: &mut Builder,
+    schema: StructSchema<'_>,
+    calls: &[Call<'_>],
+) -> Result<Vec<Reply>>
+    requires stands { IsStruct schema }
+    requires message { IsMessage message.old }
+    requires here { IsTrue (is_struct (message_tree message.old)) }
+    requires fits { Fits (set_of schema) (number_of schema) (struct_in (message_tree message.old)) }
+    ensures message { IsMessage message.new }
+    ensures here { IsTrue (is_struct (message_tree message.new)) }
+    ensures made { IfOk result (λ replies. Makes (set_of schema.entry) (number_of schema.entry)
+        (struct_in (message_tree message.old)) calls.now replies.items
+        (struct_in (message_tree message.new))) }
+    ensures cause { IfErr result (λ e. e.kind ≡ OutOfMemory) }
+{
+    let mut replies = Vec::with_capacity(alloc, calls.len())?;
+    let mut held = bytes_of(message).len() / 8;
+    for call in calls {
+        held = keep_room(message, held);
+        let reply = call_on_root(alloc, message, schema, call);
+        if replies.push(reply).is_err() {
+            unreachable!();
+        }
+    }
+    Ok(replies)
 }
 
 /// Makes calls on a root. Refused with `OutOfMemory`.
 fn run_root(
     alloc: Global,
     message: &mut Builder,
-    place: Place,
     schema: StructSchema<'_>,
     calls: &[Call<'_>],
 ) -> Result<Vec<Reply>>
     requires stands { IsStruct schema }
     requires message { IsMessage message.old }
-    requires place { shape_at (segment message.old) 0 ≡ part place }
     requires root { IsRoot schema (message_tree message.old) }
     ensures message { IsMessage message.new }
     ensures run { IfOk result (λ replies. RunsOn schema.entry (message_tree message.old) calls.now replies.items
@@ -84,7 +163,9 @@ fn run_root(
         (struct_in (message_tree message.new))) }
     ensures cause { IfErr result (λ e. e.kind ≡ OutOfMemory) }
 {
-    let replies = run_on(alloc, message, place, schema, calls);
+    overlay_law();
+    numbers_fit(schema.get_set());
+    let replies = make_calls_on_root(alloc, message, schema, calls);
     message.tree_is_sound(0);
     replies
 }
@@ -113,9 +194,9 @@ pub fn run_new(
     ensures refused { OnErr result (message.new ≡ message.old) }
     ensures cause { IfErr result (λ e. e.kind ≡ OutOfMemory) }
 {
-    let mut made = Builder::new(alloc)?;
-    let place = empty_root(&mut made, schema)?;
-    let replies = run_root(alloc, &mut made, place, schema, calls)?;
+    let mut made = Builder::with_limit(alloc, message.get_limit())?;
+    empty_root(&mut made, schema)?;
+    let replies = run_root(alloc, &mut made, schema, calls)?;
     *message = made;
     Ok(replies)
 }
@@ -149,9 +230,9 @@ pub fn run_copied(
     ensures refused { OnErr result (message.new ≡ message.old) }
     ensures cause { IfErr result (λ e. e.kind ≢ OutOfMemory → root_refusal (tree_of source.entry) ≡ Some e.kind) }
 {
-    let mut made = Builder::new(alloc)?;
-    let place = copied_root(&mut made, source, schema)?;
-    let replies = run_root(alloc, &mut made, place, schema, calls)?;
+    let mut made = Builder::with_limit(alloc, message.get_limit())?;
+    copied_root(&mut made, source, schema)?;
+    let replies = run_root(alloc, &mut made, schema, calls)?;
     *message = made;
     Ok(replies)
 }

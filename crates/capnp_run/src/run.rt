@@ -21,7 +21,7 @@ use std::alloc::Global;
 
 /// Makes one call.
 #[inline(always)]
-fn call_at(
+pub(crate) fn call_at(
     alloc: Global,
     arena: &mut Arena,
     place: Place,

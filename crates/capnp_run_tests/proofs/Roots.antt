@@ -1,7 +1,7 @@
 -- A root that was got has its schema's sections, and calls in it leave a message.
 use Rattle.std.specs.Prelude.{ℕ, ◌≡◌, ◌<◌, List}
 use Rattle.std.proofs.Common.{ap, subst, sym, ◌∙◌}
-use Rattle.capnp_wire.specs.Edits.{extended, struct_in}
+use Rattle.capnp_wire.specs.Edits.{extended}
 use Rattle.capnp_wire.specs.Place.{struct_tree}
 use Rattle.capnp_wire.specs.Tree.{StructTree}
 use Rattle.capnp_wire.specs.declared.size.StructSize.{StructSize}

@@ -72,10 +72,10 @@ fn enums(alloc: Global) -> Result<Vec<EnumRecord>, AllocError>
 
 /// The nodes, brands and enums of the built-in set, of which a `SchemaSet` is made.
 ///
-/// Brand k has node k, whose id is 100 + k; the structs' numbers are public: 0 `Flat`, a struct of one number; 1 `Mixed`, with a union of nothing and a
-/// number; 2 `Many`, numbers with defaults; 3 `Shapes`, whose union's members are the groups 4 `Shapes.circle` and 5
-/// `Shapes.tag`, which has a union of its own, and a text; 6 `Loop`, a union that may hold a `Loop`; 7 `Lists`; 8 `Node`,
-/// with annotations. Enum 0 is `ElementSize`, of id 200.
+/// Brand k has node k, whose id is 100 + k; the structs' numbers are public: 0 `Flat`, a struct of one number; 1
+/// `Mixed`, with a union of nothing and a number; 2 `Many`, numbers with defaults; 3 `Shapes`, whose union's members
+/// are the groups 4 `Shapes.circle` and 5 `Shapes.tag`, which has a union of its own, and a text; 6 `Loop`, a union
+/// that may hold a `Loop`; 7 `Lists`; 8 `Node`, with annotations. Enum 0 is `ElementSize`, of id 200.
 ///
 /// The lists meet the twelve rules, so that a set of them is refused for memory alone.
 ///

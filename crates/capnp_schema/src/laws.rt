@@ -45,8 +45,9 @@ pub fn heights_fall()
     ensures { HeightsFall }
 {}
 
-/// The numbers of a set fit the integer types of its records: discriminants, offsets and section sizes, the bytes of texts
-/// and words, and each default, which has no more bits than its type. The numbers of types take 1, 2, 4 or 8 bytes.
+/// The numbers of a set fit the integer types of its records: discriminants, offsets and section sizes, the bytes of
+/// texts and words, and each default, which has no more bits than its type. The numbers of types take 1, 2, 4 or 8
+/// bytes.
 pub fn numbers_fit(set: &SchemaSet)
     ensures { HasRanges (lists_seen set.now) }
 {
@@ -59,15 +60,15 @@ pub fn groups_lead_down()
     ensures { GroupsLeadDown }
 {}
 
-/// Each field's default is of its type or an untyped null, has whole words and decodes; and what stands behind its pointer
-/// has no fault leaf, and is what the field's type reads or null.
+/// Each field's default is of its type or an untyped null, has whole words and decodes; and what stands behind its
+/// pointer has no fault leaf, and is what the field's type reads or null.
 #[tactic(auto, using(crate::proofs::Defaults::default_fits))]
 pub fn defaults_fit()
     ensures { DefaultsFit }
 {}
 
-/// What `which` answers of a type stands for the same as the type. So a type that names entries of a set names them by its
-/// layer: a struct its brand and node, an enum its entry, a list what its elements name.
+/// What `which` answers of a type stands for the same as the type. So a type that names entries of a set names them by
+/// its layer: a struct its brand and node, an enum its entry, a list what its elements name.
 #[tactic(auto, using(crate::specs::Facts::Layers::seen_which))]
 pub fn types_go_by_layers()
     ensures { TypesGoByLayers }

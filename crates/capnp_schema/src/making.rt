@@ -77,7 +77,8 @@ impl NodeRecord {
         pointer_count: u16,
         fields: Vec<FieldRecord>,
     ) -> Result<NodeRecord>
-        ensures made { IfOk result (λ n. seen_node n ≡ plain_node id display_name.now data_word_count pointer_count (map seen_field fields.items)) }
+        ensures made { IfOk result (λ n. seen_node n
+            ≡ plain_node id display_name.now data_word_count pointer_count (map seen_field fields.items)) }
         ensures refused { IfErr result (λ e. e.kind ≡ OutOfMemory) }
     {
         let display_name = String::from_str(alloc, display_name)?;
@@ -104,8 +105,8 @@ impl NodeRecord {
         self
     }
 
-    /// The same node with an unnamed union of so many members, whose discriminant stands at the offset, which counts 16 bits
-    /// each.
+    /// The same node with an unnamed union of so many members, whose discriminant stands at the offset, which counts 16
+    /// bits each.
     pub fn with_union(mut self, discriminant_count: u16, discriminant_offset: u32) -> NodeRecord
         ensures { seen_node result ≡ with_union (seen_node self) discriminant_count discriminant_offset }
     {

@@ -15,13 +15,13 @@ use crate::table_rows::all_made;
 use capnp_wire::error::Error;
 use std::alloc::Global;
 
-/// The nodes, brands and enums of the meta set, of which a `SchemaSet` is made. A message whose root is a `SetRecord` stands
-/// for such lists.
+/// The nodes, brands and enums of the meta set, of which a `SchemaSet` is made. A message whose root is a `SetRecord`
+/// stands for such lists.
 ///
 /// Brand k has node k, whose id is 0: 0 `SetRecord`, 1 `NodeRecord`, 2 `FieldRecord`, a union of the group 3
-/// `FieldRecord.slot` and the number of a group's node, 4 `AnnotationRecord`, 5 `ValueRecord`, a union with a member for each
-/// kind of value, 6 `BrandRecord`, 7 `TypeRecord`, 8 `EnumRecord`, 9 `EnumerantRecord`. There are no enums and no
-/// annotations.
+/// `FieldRecord.slot` and the number of a group's node, 4 `AnnotationRecord`, 5 `ValueRecord`, a union with a member
+/// for each kind of value, 6 `BrandRecord`, 7 `TypeRecord`, 8 `EnumRecord`, 9 `EnumerantRecord`. There are no enums and
+/// no annotations.
 ///
 /// The lists meet the twelve rules, so that a set of them is refused for memory alone.
 ///

@@ -77,7 +77,8 @@ pub(crate) fn name_order(alloc: Global, fields: &[FieldRecord]) -> Result<Vec<u1
 /// A field whose name another field has too.
 pub(crate) fn repeated_name(fields: &[FieldRecord], order: &[u16]) -> Option<u16>
     requires { IsNameOrder (map seen_field fields.now) order.now }
-    ensures { MatchOption result (IsNameTable (map seen_field fields.now) order.now) (IsRepeated (map seen_field fields.now)) }
+    ensures { MatchOption result (IsNameTable (map seen_field fields.now) order.now)
+        (IsRepeated (map seen_field fields.now)) }
 {
     for k in 1..order.len() {
         if name_of(fields, order[k - 1]) == name_of(fields, order[k]) {

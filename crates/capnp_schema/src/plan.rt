@@ -43,8 +43,10 @@ pub(crate) const NO_PLAN: SlotPlan = SlotPlan {
 
 /// The plan of a field, by its node's record, its own, and its type in a brand.
 pub(crate) fn plan_field(node: &NodeRecord, field: &FieldRecord, field_type: &Type) -> SlotPlan
-    requires { LiesInNode (seen_node node.now) (record { field = seen_field field.now; type = seen_type field_type.now }) }
-    ensures { result ≡ plan_in (seen_node node.now) (record { field = seen_field field.now; type = seen_type field_type.now }) }
+    requires { LiesInNode (seen_node node.now)
+        (record { field = seen_field field.now; type = seen_type field_type.now }) }
+    ensures { result ≡ plan_in (seen_node node.now)
+        (record { field = seen_field field.now; type = seen_type field_type.now }) }
 {
     SlotPlan {
         place: place_of(&field.kind, field_type, node),
@@ -112,7 +114,8 @@ fn default_bits(default: &ValueRecord) -> u64
 
 /// A member's discriminant.
 fn member_of(node: &NodeRecord, field: &FieldRecord) -> Option<(u32, u16)>
-    requires { is_member (seen_field field.now) ≡ true → 16 * (node.now.body.discriminant_offset + 1) ≤ 64 * node.now.body.data_word_count }
+    requires { is_member (seen_field field.now) ≡ true
+        → 16 * (node.now.body.discriminant_offset + 1) ≤ 64 * node.now.body.data_word_count }
     ensures { result ≡ member_plan (is_member (seen_field field.now)) (seen_node node.now) (seen_field field.now) }
 {
     if !field.is_member() {
@@ -123,9 +126,10 @@ fn member_of(node: &NodeRecord, field: &FieldRecord) -> Option<(u32, u16)>
     Some((node.body.discriminant_offset * 16, field.discriminant_value))
 }
 
-/// The plan of each field of an accepted set occupies what the field's footprint occupies and holds the number of the field's
-/// slot; of a member it occupies the discriminant. It lies inside each struct that has the sections of the field's brand, and
-/// a data slot has 1, 8, 16, 32 or 64 bits, starts at a multiple of these, and has a mask of no more. Its numbers fit.
+/// The plan of each field of an accepted set occupies what the field's footprint occupies and holds the number of the
+/// field's slot; of a member it occupies the discriminant. It lies inside each struct that has the sections of the
+/// field's brand, and a data slot has 1, 8, 16, 32 or 64 bits, starts at a multiple of these, and has a mask of no
+/// more. Its numbers fit.
 #[tactic(auto, using(crate::proofs::Plans::plans_stand))]
 pub fn plans_stand()
     ensures { PlansStand }

@@ -19,9 +19,10 @@ use std::alloc::Global;
 
 /// The nodes, brands and enums of the request set, of which a `SchemaSet` is made.
 ///
-/// Brand k has node k, with the names, places and types of the public `schema.capnp`: 0 `CodeGeneratorRequest`, 2 `Node`,
-/// 8 `Field`, 11 `Enumerant`, 12 `Annotation`, 13 `Type`, 19 `Brand`, 22 `Value`, and their groups and parts. All ids are
-/// 0, and there are no annotations and no enums. Members that a conversion does not look at stand as `Void`.
+/// Brand k has node k, with the names, places and types of the public `schema.capnp`: 0 `CodeGeneratorRequest`, 2
+/// `Node`, 8 `Field`, 11 `Enumerant`, 12 `Annotation`, 13 `Type`, 19 `Brand`, 22 `Value`, and their groups and parts.
+/// All ids are 0, and there are no annotations and no enums. Members that a conversion does not look at stand as
+/// `Void`.
 ///
 /// The lists meet the twelve rules, so that a set of them is refused for memory alone.
 ///

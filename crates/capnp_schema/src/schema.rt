@@ -1,9 +1,10 @@
 //! Schemas of structs and enums: queries of a set by handles that are copied.
 //!
-//! A handle borrows the set. Its numbers mean something in that set alone, so handles that are compared come from one set.
+//! A handle borrows the set. Its numbers mean something in that set alone, so handles that are compared come from one
+//! set.
 //!
-//! No call takes memory. The conditions are that a raw schema which is given to `new` is one of the set, and that an index
-//! is below the length.
+//! No call takes memory. The conditions are that a raw schema which is given to `new` is one of the set, and that an
+//! index is below the length.
 mod annotations;
 mod by_name;
 mod by_number;

@@ -67,11 +67,12 @@ impl Model for SchemaSet {
 
     ghost view = { λ s. s.lists };
 
-    ghost invariant = { λ s. IsAccepted (lists_seen s.lists) × AreTables (lists_seen s.lists) s.tables × HasRanges (lists_seen s.lists) };
+    ghost invariant = { λ s. IsAccepted (lists_seen s.lists) × AreTables (lists_seen s.lists) s.tables
+        × HasRanges (lists_seen s.lists) };
 }
 
-/// The tables of fields by name, of lists that meet the twelve rules. A refusal names a rule that is broken and where, or
-/// is for memory.
+/// The tables of fields by name, of lists that meet the twelve rules. A refusal names a rule that is broken and where,
+/// or is for memory.
 fn check(alloc: Global, lists: &Lists) -> Result<Vec<Vec<u16>>>
     ensures { MatchResult result
         (λ tables. IsAccepted (lists_seen lists.now) × AreNameTables (lists_seen lists.now) tables.items)
@@ -105,7 +106,8 @@ impl SchemaSet {
         ensures set { IfOk result (λ set. lists_seen set ≡ seen_schemas nodes.items brands.items enums.items) }
         ensures accepted { OnOk result (IsAccepted (seen_schemas nodes.items brands.items enums.items)) }
         ensures refused { IfErr result (IsRefusalOf (seen_schemas nodes.items brands.items enums.items)) }
-        ensures memory { IsAccepted (seen_schemas nodes.items brands.items enums.items) → IfErr result (λ e. e.kind ≡ OutOfMemory) }
+        ensures memory { IsAccepted (seen_schemas nodes.items brands.items enums.items)
+            → IfErr result (λ e. e.kind ≡ OutOfMemory) }
     {
         let lists = Lists {
             nodes,

@@ -18,8 +18,8 @@ use crate::tables::empty::EmptyRecords;
 use capnp_wire::error::Result;
 use std::alloc::Global;
 
-/// For each node tables of its fields, by their indices, and for each brand the plans of its fields; and what stands past
-/// the ends of the lists.
+/// For each node tables of its fields, by their indices, and for each brand the plans of its fields; and what stands
+/// past the ends of the lists.
 #[derive(Drop)]
 pub(crate) struct FieldTables {
     /// The fields in the order of their names.

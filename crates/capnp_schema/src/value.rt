@@ -6,8 +6,9 @@ use crate::record::ValueRecord;
 use capnp_base::text;
 use capnp_wire::PointerReader;
 
-/// A value of a record, of the same variant: a number, the bytes of a text or of data, or a reader of the root pointer of
-/// a struct, a list or an untyped pointer, with 64 levels. It takes no memory, and lives as long as the set of its record.
+/// A value of a record, of the same variant: a number, the bytes of a text or of data, or a reader of the root pointer
+/// of a struct, a list or an untyped pointer, with 64 levels. It takes no memory, and lives as long as the set of its
+/// record.
 #[derive(Clone, Copy)]
 pub enum Value<'s> {
     Void,
@@ -28,8 +29,8 @@ pub enum Value<'s> {
     AnyPointer(PointerReader<'s>),
 }
 
-/// The view of a record's value, as of a default or an annotation. The words of a struct, a list or an untyped pointer are
-/// read where they lie, with 64 levels.
+/// The view of a record's value, as of a default or an annotation. The words of a struct, a list or an untyped pointer
+/// are read where they lie, with 64 levels.
 #[inline(always)]
 pub fn view(stored: &ValueRecord) -> Value<'_>
     ensures { IsViewOf (seen_value stored.now) result }

@@ -3,7 +3,7 @@ use Rattle.std.proofs.Common.{◌≡◌, ℕ, zero, suc, refl, ap, ◌∙◌, Li
 use Rattle.std.specs.Prelude.{All, map, ⊤}
 use Rattle.capnp_device.specs.declared.error.ErrorKind.TheVariants.{TooDeep}
 use Rattle.capnp_wire.specs.Tree as tree
-use Rattle.capnp_wire.specs.Tree.{StructTree, Tree, Trees, struct_count, tree_count}
+use Rattle.capnp_wire.specs.Tree.{StructTree, Tree, struct_count, tree_count}
 use Rattle.capnp_wire.specs.Place.{struct_tree}
 use Rattle.capnp_schema.specs.Meta.{meta, many, one}
 use Rattle.capnp_schema.specs.Schema.{VoidValue}

@@ -1,5 +1,5 @@
 -- What the program's words say.
-use Rattle.std.specs.Prelude.{ℕ, suc, ⊤, List, [], ◌∷◌, Bool, true, false, not, ◌&&◌, Option, Some, None, Result, Ok, Err, String, string_bytes, ◌++◌, ◌<◌, ◌⊎◌, length, take, drop, codes, decimal, bytes_eq, if◌then◌else◌}
+use Rattle.std.specs.Prelude.{ℕ, ⊤, List, [], ◌∷◌, Bool, false, Option, Some, None, Result, Ok, Err, String, string_bytes, ◌++◌, ◌<◌, ◌⊎◌, length, take, drop, codes, decimal, bytes_eq}
 use Rattle.std.specs.Io.KnownBytes.{Appends}
 use Rattle.std.specs.Option.{option_map}
 use Rattle.std.specs.Vec.Iter.{into_iter_items}
@@ -9,7 +9,6 @@ use Rattle.capnp_device.specs.ErrorNumber.{error_number}
 use Rattle.capnp_device.specs.declared.error.ErrorKind.{ErrorKind}
 use Rattle.capnp_schema.specs.Builtin.{builtin}
 use Rattle.capnp_schema.specs.ByName.{brand_named}
-use Rattle.capnp_schema.specs.Schema.{Schemas, Brand, node_of}
 use Rattle.capnp_show_engine.specs.declared.request.Asked.{Asked}
 use Rattle.capnp_show_engine.specs.declared.request.Asked.TheVariants.{BuiltIn, InFile}
 use Rattle.capnp_show_engine.specs.declared.request.FileRequest.{FileRequest}

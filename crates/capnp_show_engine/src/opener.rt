@@ -11,7 +11,8 @@ pub trait Opener {
     /// An open file, whose bytes are read from its beginning on.
     type File: Source + Drop;
 
-    // What a call of `open` may answer for a path: by the opener before it, the path, the answer, and the opener after it.
+    // What a call of `open` may answer for a path: by the opener before it, the path, the answer, and the opener after
+    // it.
     ghost opens: { Self → List ℕ → Result Self.File Fault → Self → Type 0 };
 
     /// Opens the file at a path for reading. Refused where it can't be opened.

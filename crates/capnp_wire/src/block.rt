@@ -53,8 +53,8 @@ pub fn count_elements(size: StructSize, elements: Elements<'_>) -> usize
     elements.count as usize
 }
 
-/// How many structs of size zero the elements of a composite list are, if they are such structs. Two words of a message can
-/// say 2^29 - 1 of them.
+/// How many structs of size zero the elements of a composite list are, if they are such structs. Two words of a message
+/// can say 2^29 - 1 of them.
 #[inline(always)]
 pub fn count_empty_structs(size: StructSize, elements: Elements<'_>) -> Option<u32>
     ensures counted { result ≡ counted_structs size elements.entry }
@@ -71,7 +71,8 @@ pub fn count_empty_structs(size: StructSize, elements: Elements<'_>) -> Option<u
 #[inline(always)]
 pub fn have_no_pointers(size: StructSize, elements: Elements<'_>) -> bool
     ensures known { result ≡ (size.pointers == 0) }
-    ensures faults { IsTrue result → None ≡ first_fault_of_elements (element_structs size.data_words size.pointers elements.entry) }
+    ensures faults { IsTrue result → None ≡ first_fault_of_elements
+        (element_structs size.data_words size.pointers elements.entry) }
     ensures words { IsTrue result → 0 ≡ words_below_all (element_structs size.data_words size.pointers elements.entry) }
 {
     size.pointers == 0

@@ -160,7 +160,8 @@ fn are_pointers_same(one: Pointers<'_>, other: Pointers<'_>) -> bool
 /// Whether the elements of two composite lists, whose sizes are equal, hold the same.
 #[cycle(equal)]
 fn are_elements_same(size: StructSize, one: Elements<'_>, other: Elements<'_>) -> bool
-    ensures { IsTrue result ↔ (element_structs size.data_words size.pointers one.entry ≡ element_structs size.data_words size.pointers other.entry) }
+    ensures { IsTrue result ↔ (element_structs size.data_words size.pointers one.entry
+        ≡ element_structs size.data_words size.pointers other.entry) }
 {
     if let Some(empty) = count_empty_structs(size, one) {
         if let Some(others) = count_empty_structs(size, other) {
@@ -180,9 +181,9 @@ fn are_elements_same(size: StructSize, one: Elements<'_>, other: Elements<'_>) -
 }
 
 impl<'a> PointerReader<'a> {
-    /// Whether the same tree stands at both: the same kinds with equal numbers, bits and sizes, and the same behind each
-    /// pointer, down to the levels that are left to either. How far two messages are apart in their bytes doesn't count:
-    /// where objects lie, what fills the last byte of bits, and what no pointer leads to. Takes no memory.
+    /// Whether the same tree stands at both: the same kinds with equal numbers, bits and sizes, and the same behind
+    /// each pointer, down to the levels that are left to either. How far two messages are apart in their bytes doesn't
+    /// count: where objects lie, what fills the last byte of bits, and what no pointer leads to. Takes no memory.
     pub fn has_same_tree(&self, other: &PointerReader<'_>) -> bool
         ensures { IsTrue result ↔ (tree_of self.now ≡ tree_of other.now) }
     {

@@ -70,8 +70,8 @@ fn fault_of_elements(size: StructSize, elements: Elements<'_>) -> Option<Fault>
 }
 
 impl<'a> PointerReader<'a> {
-    /// The first pointer in preorder, from this one on, that can't be followed, by why it can't; nothing where each can.
-    /// Takes no memory.
+    /// The first pointer in preorder, from this one on, that can't be followed, by why it can't; nothing where each
+    /// can. Takes no memory.
     pub fn first_fault(&self) -> Option<Fault>
         ensures { result ≡ first_fault (tree_of self.now) }
     {

@@ -53,8 +53,9 @@ pub fn messages_are_read_back()
     ensures { IsReadBack }
 {}
 
-/// In a list that is read as numbers or pointers, an element is the first bits, or the first pointer, of that element read
-/// as a struct. So a list of numbers, texts, data or lists may become a list of structs of which they are the first field.
+/// In a list that is read as numbers or pointers, an element is the first bits, or the first pointer, of that element
+/// read as a struct. So a list of numbers, texts, data or lists may become a list of structs of which they are the
+/// first field.
 pub fn elements_stand_first()
     ensures numbers { NumbersStandFirst }
     ensures pointers { PointersStandFirst }

@@ -1,7 +1,7 @@
 //! Cap'n Proto messages as they are read: streams, pointers, structs, lists, text and data.
 //!
-//! A reader stands on a tree: what the encoding says of the bytes at its place. Each call's contract says what it answers in
-//! terms of that tree and of the levels that the reader has left.
+//! A reader stands on a tree: what the encoding says of the bytes at its place. Each call's contract says what it
+//! answers in terms of that tree and of the levels that the reader has left.
 #![tactic(auto)]
 
 pub mod block;

@@ -17,8 +17,8 @@ use crate::struct_reader::StructReader;
 use capnp_device::error::{Error, ErrorKind, Result};
 use std::mem::size_of;
 
-/// A list, as it is read: its elements, and the levels that are left below it. Past its end elements read as zero, false,
-/// null and a struct of size zero, so each call answers for any index.
+/// A list, as it is read: its elements, and the levels that are left below it. Past its end elements read as zero,
+/// false, null and a struct of size zero, so each call answers for any index.
 ///
 /// # Example
 ///
@@ -133,14 +133,15 @@ impl<'a> ListReader<'a> {
         number_at(self.found, index)
     }
 
-    /// The struct at `index`. Needs a level and leaves one fewer. A number is a struct with its bytes as data, a pointer
-    /// one with that pointer, and what takes no room a struct of size zero.
+    /// The struct at `index`. Needs a level and leaves one fewer. A number is a struct with its bytes as data, a
+    /// pointer one with that pointer, and what takes no room a struct of size zero.
     ///
     /// Refused with `TooDeep` where no level is left.
     #[tactic(auto, unfolding(crate::specs::Standing::list_of, crate::specs::Standing::list_levels))]
     #[inline(always)]
     pub fn get_struct_element(&self, index: u32) -> Result<StructReader<'a>>
-        ensures read { struct_read result ≡ with_level (list_levels self.now) (Ok (element_struct (list_of self.now) index)) }
+        ensures read { struct_read result ≡ with_level (list_levels self.now)
+            (Ok (element_struct (list_of self.now) index)) }
         ensures levels { IfOk result (λ s. struct_levels s + 1 ≡ list_levels self.now) }
     {
         if self.levels == 0 {
@@ -151,8 +152,8 @@ impl<'a> ListReader<'a> {
     }
 
     /// The pointer at `index`: of a struct, its first, which is entered through the struct and leaves one level fewer.
-    /// Where no level is left for that, one that is not null can't be followed (`TooDeep`). Null where the elements have
-    /// no pointers.
+    /// Where no level is left for that, one that is not null can't be followed (`TooDeep`). Null where the elements
+    /// have no pointers.
     #[tactic(auto, unfolding(crate::specs::Standing::list_of, crate::specs::Standing::list_levels))]
     #[inline(always)]
     pub fn get_pointer_element(&self, index: u32) -> PointerReader<'a>

@@ -1,5 +1,6 @@
-//! Finds where a pointer word leads: far pointers are followed and bounds tested, no level is counted. Only the pointer,
-//! its landing pad and a composite list's tag are looked at (encoding, "Structs", "Lists", "Inter-Segment Pointers").
+//! Finds where a pointer word leads: far pointers are followed and bounds tested, no level is counted. Only the
+//! pointer, its landing pad and a composite list's tag are looked at (encoding, "Structs", "Lists", "Inter-Segment
+//! Pointers").
 ghost use Rattle.std.specs.Prelude.{◌≡◌, ◌+◌, ◌<◌, ◌^◌, slice_get};
 ghost use Rattle.capnp_wire.specs.Backing.{StartFits, segment_list, target_of};
 ghost use Rattle.capnp_wire.specs.Locate.{count, data_words, double_target, element_size, is_double, kind, lies, list_target, list_words, near_target, near_target_from, offset, pad_segment, pad_target, pad_word, pointer_count, start_of, struct_target, tagged_target, target_at};
@@ -272,7 +273,8 @@ fn locate_double(segments: Segments<'_>, first: u64, tag: u64) -> Target<'_>
 /// The target of a far pointer, by its landing pad.
 #[inline(never)]
 fn locate_far(segments: Segments<'_>, word: u64) -> Target<'_>
-    ensures value { target_of result ≡ pad_target (segment_list segments.entry) (slice_get (segment_list segments.entry) (pad_segment word)) word }
+    ensures value { target_of result ≡ pad_target (segment_list segments.entry)
+        (slice_get (segment_list segments.entry) (pad_segment word)) word }
     ensures start { StartFits result }
 {
     let w = get_pad_word(word);

@@ -65,7 +65,8 @@ fn look_at_elements<'a>(
 ) -> Found<'a>
     requires start { start ≤ 2 ^ 60 }
     requires level { 0 < depth }
-    ensures { found_tree result ≡ list_at_depth (tree_below (depth - 1) (segment_list segments.entry) segment.now) segment.now start element_size count }
+    ensures { found_tree result ≡ list_at_depth
+        (tree_below (depth - 1) (segment_list segments.entry) segment.now) segment.now start element_size count }
 {
     if element_size == 0 {
         Found::Voids(count)
@@ -132,7 +133,8 @@ fn look_at_composite<'a>(
     requires { start ≤ 2 ^ 60 }
     ensures { found_tree result ≡
         tree_at_depth depth (tree_below (depth - 1) (segment_list segments.entry))
-        (tree_below (depth - 2) (segment_list segments.entry)) (CompositeAt segment.now start count data_words pointers) }
+        (tree_below (depth - 2) (segment_list segments.entry))
+        (CompositeAt segment.now start count data_words pointers) }
 {
     if depth < 2 {
         return Found::Bad(Fault::TooDeep);

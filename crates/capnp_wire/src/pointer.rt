@@ -9,8 +9,8 @@ use crate::found::Found;
 use crate::look::look_at_word;
 use crate::segments::{Segments, get_first_segment};
 
-// A reader is copied by each step of a read. So the parts of `Segments` stand one by one below, and the small ones first,
-// where they take no room beside the number of the variant.
+// A reader is copied by each step of a read. So the parts of `Segments` stand one by one below, and the small ones
+// first, where they take no room beside the number of the variant.
 
 /// Where a pointer stands.
 #[derive(Clone, Copy)]

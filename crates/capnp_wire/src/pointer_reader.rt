@@ -145,12 +145,12 @@ impl<'a> PointerReader<'a> {
         }
     }
 
-    /// The list that the pointer leads to, where it is read as elements of `size`; an empty one of that size for a null.
-    /// Needs a level and leaves one fewer.
+    /// The list that the pointer leads to, where it is read as elements of `size`; an empty one of that size for a
+    /// null. Needs a level and leaves one fewer.
     ///
     /// Every list is read as `Void`. A list of bits is read as `Bit`, one of numbers as their own size, one of pointers
-    /// as `Pointer`; a list of structs is read as numbers where each has a data word, by the number at its start, and as
-    /// pointers where each has a pointer, by its first. Every list but one of bits is read as `InlineComposite`.
+    /// as `Pointer`; a list of structs is read as numbers where each has a data word, by the number at its start, and
+    /// as pointers where each has a pointer, by its first. Every list but one of bits is read as `InlineComposite`.
     ///
     /// Refused with `BadPointer` or `CapabilityPointer` where the pointer can't be followed, with `TooDeep` where no
     /// level is left for it, then with `WrongPointerKind` for a struct, and with `WrongElementSize` for a list that is
@@ -201,13 +201,15 @@ impl<'a> PointerReader<'a> {
     /// pointers share counts once for each of them, and the tag of a composite list counts with it. There are no
     /// capabilities. Takes no memory.
     ///
-    /// Refused with `BadPointer`, `TooDeep` or `CapabilityPointer` where a pointer in it can't be followed, by the first
-    /// of these in preorder, and with `TooLarge` past 2^64 - 1 words; with either where both hold (encoding, "Structs",
-    /// "Lists").
+    /// Refused with `BadPointer`, `TooDeep` or `CapabilityPointer` where a pointer in it can't be followed, by the
+    /// first of these in preorder, and with `TooLarge` past 2^64 - 1 words; with either where both hold (encoding,
+    /// "Structs", "Lists").
     #[tactic(auto, unfolding(crate::specs::Standing::tree_of))]
     pub fn total_size(&self) -> Result<MessageSize>
-        ensures size { IfOk result (λ size. IsSize size (first_fault (tree_of self.now)) (words_of (tree_of self.now))) }
-        ensures refused { IfErr result (λ error. IsSizeRefusal error (first_fault (tree_of self.now)) (words_of (tree_of self.now))) }
+        ensures size { IfOk result (λ size. IsSize size (first_fault (tree_of self.now))
+            (words_of (tree_of self.now))) }
+        ensures refused { IfErr result (λ error. IsSizeRefusal error (first_fault (tree_of self.now))
+            (words_of (tree_of self.now))) }
     {
         size_of_pointer(self.pointer)
     }

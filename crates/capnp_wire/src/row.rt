@@ -3,8 +3,8 @@
 //! A reader is copied by each step of a read. So the small parts stand first, and the segments' parts one by one.
 ghost use Rattle.std.specs.Prelude.{◌+◌, ◌≤◌, ◌^◌};
 
-/// The pointers of a struct or of a list: so many words of a segment, from the word `first` on, whose trees have one level
-/// less than `depth`.
+/// The pointers of a struct or of a list: so many words of a segment, from the word `first` on, whose trees have one
+/// level less than `depth`.
 #[derive(Clone, Copy)]
 pub struct Pointers<'a> {
     pub is_stream: bool,
@@ -16,8 +16,8 @@ pub struct Pointers<'a> {
     ghost first_fits: { first ≤ 2 ^ 60 + 2 ^ 50 },
 }
 
-/// The elements of a composite list: so many structs of one size in a segment, from the word `first` on, whose pointers'
-/// trees have one level less than `depth`.
+/// The elements of a composite list: so many structs of one size in a segment, from the word `first` on, whose
+/// pointers' trees have one level less than `depth`.
 #[derive(Clone, Copy)]
 pub struct Elements<'a> {
     pub is_stream: bool,

@@ -14,8 +14,8 @@ use crate::total::size_of_parts;
 use capnp_device::error::Result;
 use std::mem::size_of;
 
-/// A struct, as it is read: its data section and its pointers, and the levels that are left below it. What lies past the
-/// end of a section reads as zero bits or as null, so each call answers for any offset.
+/// A struct, as it is read: its data section and its pointers, and the levels that are left below it. What lies past
+/// the end of a section reads as zero bits or as null, so each call answers for any offset.
 #[derive(Clone, Copy)]
 pub struct StructReader<'a> {
     parts: StructParts<'a>,
@@ -55,8 +55,8 @@ impl<'a> StructReader<'a> {
         StructReader::new(empty_parts(), levels)
     }
 
-    /// A reader of the struct that starts at the word `start` of one segment that stands alone. Its pointers' trees have one
-    /// level less than `depth`.
+    /// A reader of the struct that starts at the word `start` of one segment that stands alone. Its pointers' trees
+    /// have one level less than `depth`.
     pub fn of_words(
         words: &'a [u8],
         start: usize,
@@ -65,7 +65,8 @@ impl<'a> StructReader<'a> {
         levels: u8,
     ) -> StructReader<'a>
         requires { start ≤ 2 ^ 60 }
-        ensures parts { struct_of result ≡ struct_at (tree_below depth (words.now ∷ []) words.now) words.now size.data_words size.pointers start }
+        ensures parts { struct_of result ≡ struct_at
+            (tree_below depth (words.now ∷ []) words.now) words.now size.data_words size.pointers start }
         ensures levels { struct_levels result ≡ levels }
     {
         let parts = StructParts {
@@ -90,8 +91,8 @@ impl<'a> StructReader<'a> {
         self.parts
     }
 
-    /// The bytes of the data section: whole words, but in an element of a list of numbers, which has that number's bytes
-    /// alone (encoding, "Structs", "Lists").
+    /// The bytes of the data section: whole words, but in an element of a list of numbers, which has that number's
+    /// bytes alone (encoding, "Structs", "Lists").
     #[tactic(auto, unfolding(crate::specs::Standing::struct_of))]
     pub fn get_data_section(&self) -> &'a [u8]
         ensures { result.now ≡ (struct_of self.now).bytes }
@@ -107,8 +108,8 @@ impl<'a> StructReader<'a> {
         count_pointers(self.parts.pointers) as u16
     }
 
-    /// How many words its data section has and how many pointers there are (encoding, "Structs"). An element of a list of
-    /// numbers below 8 bytes has no whole word.
+    /// How many words its data section has and how many pointers there are (encoding, "Structs"). An element of a list
+    /// of numbers below 8 bytes has no whole word.
     #[tactic(auto, unfolding(crate::specs::Standing::struct_of))]
     pub fn get_size(&self) -> StructSize
         ensures data { result.data_words ≡ length (struct_of self.now).bytes / 8 }
@@ -133,7 +134,8 @@ impl<'a> StructReader<'a> {
     /// "Default Values").
     #[tactic(auto, unfolding(crate::specs::Standing::struct_of))]
     pub fn get_data_field_mask<T: PrimitiveElement>(&self, offset: u32, mask: T) -> T
-        ensures { result ≡ T.of_number (bit_xor (number_at T.width offset (struct_of self.now).bytes) (T.to_number mask)) }
+        ensures { result ≡ T.of_number (bit_xor (number_at T.width offset (struct_of self.now).bytes)
+            (T.to_number mask)) }
     {
         T::read_masked(self.parts.data, offset, mask)
     }
@@ -169,18 +171,20 @@ impl<'a> StructReader<'a> {
         )
     }
 
-    /// The size of the struct with all that its pointers lead to: its data section in whole words, its pointers, and the
-    /// targets. A target that several pointers share counts once for each of them, and the tag of a composite list
+    /// The size of the struct with all that its pointers lead to: its data section in whole words, its pointers, and
+    /// the targets. A target that several pointers share counts once for each of them, and the tag of a composite list
     /// counts with it. There are no capabilities. Takes no memory.
     ///
-    /// Refused with `BadPointer`, `TooDeep` or `CapabilityPointer` where a pointer in it can't be followed, by the first
-    /// of these in preorder, and with `TooLarge` past 2^64 - 1 words; with either where both hold (encoding, "Structs",
-    /// "Lists").
+    /// Refused with `BadPointer`, `TooDeep` or `CapabilityPointer` where a pointer in it can't be followed, by the
+    /// first of these in preorder, and with `TooLarge` past 2^64 - 1 words; with either where both hold (encoding,
+    /// "Structs", "Lists").
     #[tactic(auto, unfolding(crate::specs::Standing::struct_of))]
     pub fn total_size(&self) -> Result<MessageSize>
-        ensures size { IfOk result (λ size. IsSize size (first_fault_of_all (struct_of self.now).pointers) (words_of_struct (struct_of self.now))) }
+        ensures size { IfOk result (λ size. IsSize size (first_fault_of_all (struct_of self.now).pointers)
+            (words_of_struct (struct_of self.now))) }
         ensures refused { IfErr result
-            (λ error. IsSizeRefusal error (first_fault_of_all (struct_of self.now).pointers) (words_of_struct (struct_of self.now))) }
+            (λ error. IsSizeRefusal error (first_fault_of_all (struct_of self.now).pointers)
+            (words_of_struct (struct_of self.now))) }
     {
         size_of_parts(self.parts)
     }

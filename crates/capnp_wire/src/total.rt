@@ -63,8 +63,8 @@ fn total_pointer(pointer: Pointer<'_>) -> Total
     }
 }
 
-/// The words of what stands at a word of a message. Most pointers of many messages are null, so these are told apart before
-/// they are looked at.
+/// The words of what stands at a word of a message. Most pointers of many messages are null, so these are told apart
+/// before they are looked at.
 #[cycle(total)]
 #[inline(always)]
 fn total_word(segments: Segments<'_>, segment: &[u8], index: usize, depth: u16) -> Total
@@ -99,7 +99,8 @@ fn total_found(found: Found<'_>) -> Total
 #[cycle(total)]
 #[inline(always)]
 fn total_parts(parts: StructParts<'_>) -> Total
-    ensures { Totals result (first_fault_of_all (parts_tree parts.entry).pointers) (words_of_struct (parts_tree parts.entry)) }
+    ensures { Totals result (first_fault_of_all (parts_tree parts.entry).pointers)
+        (words_of_struct (parts_tree parts.entry)) }
 {
     let own = parts.data.len().div_ceil(8) as u64;
     add(own, total_row(parts.pointers)?)
@@ -119,7 +120,8 @@ fn total_row(pointers: Pointers<'_>) -> Total
 /// The words of what pointers in a row lead to.
 #[cycle(total)]
 fn total_pointers(pointers: Pointers<'_>) -> Total
-    ensures { Totals result (first_fault_of_all (pointer_trees pointers.entry)) (words_of_all (pointer_trees pointers.entry)) }
+    ensures { Totals result (first_fault_of_all (pointer_trees pointers.entry))
+        (words_of_all (pointer_trees pointers.entry)) }
 {
     let count = count_pointers(pointers);
     let mut sum: u64 = 0;
@@ -146,7 +148,8 @@ fn total_own_words(size: StructSize, count: usize) -> Total
 #[inline(always)]
 fn total_composite(size: StructSize, elements: Elements<'_>) -> Total
     ensures { Totals result (first_fault_of_elements (element_structs size.data_words size.pointers elements.entry))
-        (words_of (Composite size.data_words size.pointers (element_structs size.data_words size.pointers elements.entry))) }
+        (words_of (Composite size.data_words size.pointers
+        (element_structs size.data_words size.pointers elements.entry))) }
 {
     let own = total_own_words(size, count_elements(size, elements))?;
     add(own, total_elements(size, elements)?)
@@ -189,8 +192,10 @@ fn make_size(total: Total) -> Result<MessageSize>
 ///
 /// Refused as `total_size`.
 pub fn size_of_pointer(pointer: Pointer<'_>) -> Result<MessageSize>
-    ensures size { IfOk result (λ size. IsSize size (first_fault (pointer_tree pointer.entry)) (words_of (pointer_tree pointer.entry))) }
-    ensures refused { IfErr result (λ error. IsSizeRefusal error (first_fault (pointer_tree pointer.entry)) (words_of (pointer_tree pointer.entry))) }
+    ensures size { IfOk result (λ size. IsSize size (first_fault (pointer_tree pointer.entry))
+        (words_of (pointer_tree pointer.entry))) }
+    ensures refused { IfErr result (λ error. IsSizeRefusal error (first_fault (pointer_tree pointer.entry))
+        (words_of (pointer_tree pointer.entry))) }
 {
     make_size(total_pointer(pointer))
 }
@@ -199,9 +204,11 @@ pub fn size_of_pointer(pointer: Pointer<'_>) -> Result<MessageSize>
 ///
 /// Refused as `total_size`.
 pub fn size_of_parts(parts: StructParts<'_>) -> Result<MessageSize>
-    ensures size { IfOk result (λ size. IsSize size (first_fault_of_all (parts_tree parts.entry).pointers) (words_of_struct (parts_tree parts.entry))) }
+    ensures size { IfOk result (λ size. IsSize size (first_fault_of_all (parts_tree parts.entry).pointers)
+        (words_of_struct (parts_tree parts.entry))) }
     ensures refused { IfErr result
-        (λ error. IsSizeRefusal error (first_fault_of_all (parts_tree parts.entry).pointers) (words_of_struct (parts_tree parts.entry))) }
+        (λ error. IsSizeRefusal error (first_fault_of_all (parts_tree parts.entry).pointers)
+        (words_of_struct (parts_tree parts.entry))) }
 {
     make_size(total_parts(parts))
 }

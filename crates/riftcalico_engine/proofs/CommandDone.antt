@@ -1,5 +1,5 @@
 -- What the words ask for and what was done.
-use Rattle.std.proofs.Common.{◌≡◌, ◌≤◌, ◌∙◌, Option, Some, None, Result, Ok, Err, Bool, true, false, cond, lit≤, sym}
+use Rattle.std.proofs.Common.{◌≡◌, ◌≤◌, ◌∙◌, Option, Some, None, Result, Ok, Err, Bool, true, false, cond, lit≤}
 use Rattle.capnp_device.specs.declared.error.Error.{Error}
 use Rattle.capnp_patch.specs.Patches.{any_refused}
 use Rattle.riftcalico_engine.specs.Ended.{status_of}

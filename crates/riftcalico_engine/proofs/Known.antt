@@ -1,10 +1,10 @@
 -- Names that the built-in set has.
-use Rattle.std.specs.Prelude.{ℕ, List, [], ◌∷◌, Bool, false, Option, Some, None, String, get_or, is_some, length, map, string_bytes}
+use Rattle.std.specs.Prelude.{ℕ, List, [], ◌∷◌, false, Option, Some, None, String, get_or, is_some, length, map, string_bytes}
 use Rattle.std.specs.Option.{option_map}
 use Rattle.std.proofs.Common.{◌≡◌, arith, refl}
 use Rattle.capnp_schema.specs.Builtin.{builtin}
 use Rattle.capnp_schema.specs.ByName.{brand_named}
-use Rattle.capnp_show_engine.specs.Command.{Task, asked, built_in_asked, task_of}
+use Rattle.capnp_show_engine.specs.Command.{asked, built_in_asked, task_of}
 use Rattle.capnp_show_engine.specs.declared.request.Asked.{Asked}
 
 none_is_some : {A : Type 0} (x : A) → None ≡ Some x → ⊥

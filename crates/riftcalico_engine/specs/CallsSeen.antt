@@ -1,5 +1,5 @@
 -- What the code reads words as.
-use Rattle.std.specs.Prelude.{ℕ, List, map, pos, Result, Ok, Err}
+use Rattle.std.specs.Prelude.{List, map, Result, Ok, Err}
 use Rattle.std.specs.declared.vec.Vec.{Vec}
 use Rattle.capnp_call.specs.Seen as call
 use Rattle.capnp_dynamic_readers.specs.Handles.{number_in}

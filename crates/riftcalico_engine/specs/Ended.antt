@@ -1,8 +1,7 @@
 -- What the program did for a task, by what it ended with. The opener of files, old and new, is that before and after all.
-use Rattle.std.specs.Prelude.{ℕ, ◌≡◌, ◌≢◌, ◌⊎◌, ⊤, List, [], ◌∷◌, Bool, false, cond, Option, Result, Ok, Err, string_bytes}
+use Rattle.std.specs.Prelude.{ℕ, ◌≡◌, ◌≢◌, ◌⊎◌, ⊤, List, [], Bool, false, cond, Option, Result, Ok, Err, string_bytes}
 use Rattle.capnp_device.specs.Device.{HasFailed}
 use Rattle.capnp_device.specs.declared.error.Error.{Error}
-use Rattle.capnp_device.specs.declared.error.ErrorKind.{ErrorKind}
 use Rattle.capnp_device.specs.declared.error.ErrorKind.TheVariants.{ReadFailed, WriteFailed}
 use Rattle.capnp_schema.specs.Schema.{Schemas}
 use Rattle.capnp_schema.specs.declared.schema.structs.StructSchema.{StructSchema}
@@ -12,7 +11,6 @@ use Rattle.capnp_call.specs.declared.calls.Reply.{Reply}
 use Rattle.capnp_patch.specs.Gets.{IsGetCutShort, IsGot, IsNotGot}
 use Rattle.capnp_patch.specs.Lines.{AreTold}
 use Rattle.capnp_patch.specs.Patches.{IsCutShort, IsLeftOfNew, IsMade, IsNotPatched, IsPatchCutShort, IsPatched, IsTooLarge, any_refused, is_kept}
-use Rattle.capnp_patch.specs.declared.engine.Report.{Report}
 use Rattle.capnp_show_engine.specs.Command.{IsTold, refusal_line}
 use Rattle.capnp_show_engine.specs.Show.{IsOfMessage}
 use Rattle.capnp_words.specs.Calls.{CallText}

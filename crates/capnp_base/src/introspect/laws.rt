@@ -14,7 +14,8 @@ pub fn layer_is_the_type(of: Type)
 /// A list is looked at as the list of its elements: `Type::list_of(t).which()` is `List(t)`. Where the number of lists
 /// around `t` has its last value, a list of `t` is `t`.
 pub fn list_is_of_its_elements(element_type: Type)
-    ensures list { list_depth element_type < 2 ^ 64 - 1 → variant_of (list_type element_type) ≡ variant.List element_type }
+    ensures list { list_depth element_type < 2 ^ 64 - 1
+        → variant_of (list_type element_type) ≡ variant.List element_type }
     ensures last { list_depth element_type ≡ 2 ^ 64 - 1 → list_type element_type ≡ element_type }
 {}
 
@@ -36,14 +37,17 @@ pub fn equal_types_hash_equally(one: &Type, another: &Type)
 
 /// So do struct schemas, which are equal exactly where their numbers are.
 pub fn equal_structs_hash_equally(one: &RawBrandedStructSchema, another: &RawBrandedStructSchema)
-    ensures number { IsTrue (⟦<RawBrandedStructSchema as PartialEq>⟧.eq one.now another.now) ↔ (one.now.number ≡ another.now.number) }
+    ensures number { IsTrue (⟦<RawBrandedStructSchema as PartialEq>⟧.eq one.now another.now) ↔
+        (one.now.number ≡ another.now.number) }
     ensures hash { one.now.number ≡ another.now.number
-        → ⟦<RawBrandedStructSchema as Hash>⟧.hash_input one.now ≡ ⟦<RawBrandedStructSchema as Hash>⟧.hash_input another.now }
+        → ⟦<RawBrandedStructSchema as Hash>⟧.hash_input one.now
+        ≡ ⟦<RawBrandedStructSchema as Hash>⟧.hash_input another.now }
 {}
 
 /// So do enum schemas.
 pub fn equal_enums_hash_equally(one: &RawEnumSchema, another: &RawEnumSchema)
-    ensures number { IsTrue (⟦<RawEnumSchema as PartialEq>⟧.eq one.now another.now) ↔ (one.now.number ≡ another.now.number) }
+    ensures number { IsTrue (⟦<RawEnumSchema as PartialEq>⟧.eq one.now another.now) ↔
+        (one.now.number ≡ another.now.number) }
     ensures hash { one.now.number ≡ another.now.number
         → ⟦<RawEnumSchema as Hash>⟧.hash_input one.now ≡ ⟦<RawEnumSchema as Hash>⟧.hash_input another.now }
 {}

@@ -1,4 +1,5 @@
-//! For rules 11 and 12: marks of the spots that a tour of a struct's fields has named, and the times that are closed to what comes.
+//! For rules 11 and 12: marks of the spots that a tour of a struct's fields has named, and the times that are closed to
+//! what comes.
 ghost use Rattle.std.specs.Prelude.{true, false, ◌≡◌, ◌++◌, ◌∷◌, [], ℕ, ◌≤◌, ◌+◌, ◌^◌, length, get_or, IfOk, OnOk, IfErr};
 ghost use Rattle.capnp_device.specs.declared.error.ErrorKind.TheVariants.{OutOfMemory};
 ghost use Rattle.capnp_schema.specs.Checking.Levels.{AreOpen, AreInOrder, AreClaimed, IsClaimed};
@@ -113,8 +114,8 @@ fn claim_marks(
     true
 }
 
-/// The same where the marks may have to be lengthened first. No marks lengthen nothing, wherever they would stand: a node
-/// without a union can give any offset of a discriminant.
+/// The same where the marks may have to be lengthened first. No marks lengthen nothing, wherever they would stand: a
+/// node without a union can give any offset of a discriminant.
 fn claim_range(
     marks: &mut Vec<u32>,
     first: usize,
@@ -125,7 +126,8 @@ fn claim_range(
 ) -> Result<bool>
     requires order { AreInOrder (below.now ++ top ∷ []) }
     requires small { first + count ≤ 2 ^ 62 }
-    ensures claimed { IfOk result (λ yes. yes ≡ true → AreClaimed (below.now ++ top ∷ []) now first count marks.old.items marks.new.items) }
+    ensures claimed { IfOk result (λ yes. yes ≡ true
+        → AreClaimed (below.now ++ top ∷ []) now first count marks.old.items marks.new.items) }
     ensures refused { IfErr result (λ e. e.kind ≡ OutOfMemory) }
 {
     if count == 0 {
@@ -170,7 +172,8 @@ impl Claims {
         top: Level,
     ) -> Result<bool>
         requires { AreInOrder (below.now ++ top ∷ []) }
-        ensures claimed { IfOk result (λ yes. yes ≡ true → IsClaimed (below.now ++ top ∷ []) now span self.old self.new) }
+        ensures claimed { IfOk result (λ yes. yes ≡ true
+            → IsClaimed (below.now ++ top ∷ []) now span self.old self.new) }
         ensures refused { IfErr result (λ e. e.kind ≡ OutOfMemory) }
     {
         match span {

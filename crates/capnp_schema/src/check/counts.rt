@@ -38,7 +38,8 @@ impl<E: Annotated> Asked<FewAnnotations> for E {
 }
 
 fn check_node_counts(lists: &Lists, entry: usize) -> Result<()>
-    ensures { MatchResult result (λ _. IsSoAt (lists_seen lists.now).nodes HasFewFields entry) (IsRefusalOf (lists_seen lists.now)) }
+    ensures { MatchResult result (λ _. IsSoAt (lists_seen lists.now).nodes HasFewFields entry)
+        (IsRefusalOf (lists_seen lists.now)) }
 {
     let Some(node) = lists.node_at(entry) else {
         return Ok(());
@@ -56,7 +57,8 @@ fn check_node_counts(lists: &Lists, entry: usize) -> Result<()>
 }
 
 fn check_enum_counts(lists: &Lists, entry: usize) -> Result<()>
-    ensures { MatchResult result (λ _. IsSoAt (lists_seen lists.now).enums HasFewEnumerants entry) (IsRefusalOf (lists_seen lists.now)) }
+    ensures { MatchResult result (λ _. IsSoAt (lists_seen lists.now).enums HasFewEnumerants entry)
+        (IsRefusalOf (lists_seen lists.now)) }
 {
     let Some(schema) = lists.enum_at(entry) else {
         return Ok(());
@@ -73,8 +75,8 @@ fn check_enum_counts(lists: &Lists, entry: usize) -> Result<()>
     }
 }
 
-/// Refuses a node of more than 65,535 fields, an enum of more than 65,535 enumerants, and 2^29 annotations or more at one
-/// place, with rule 3.
+/// Refuses a node of more than 65,535 fields, an enum of more than 65,535 enumerants, and 2^29 annotations or more at
+/// one place, with rule 3.
 pub(crate) fn check_counts(lists: &Lists) -> Result<()>
     ensures { MatchResult result (λ _. HasSmallCounts (lists_seen lists.now)) (IsRefusalOf (lists_seen lists.now)) }
 {

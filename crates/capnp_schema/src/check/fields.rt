@@ -1,5 +1,5 @@
-//! Rules 1, 4, 5 and 7 of fields: a field's type names an existing entry, its slot lies inside its section, its default is
-//! of its type's kind, and groups are named by group fields alone.
+//! Rules 1, 4, 5 and 7 of fields: a field's type names an existing entry, its slot lies inside its section, its default
+//! is of its type's kind, and groups are named by group fields alone.
 ghost use Rattle.std.specs.Prelude.{◌<◌, length, MatchResult};
 ghost use Rattle.std.specs.Bool.{Decides};
 ghost use Rattle.capnp_schema.specs.Types.{StructType, seen_type, seen_variant};
@@ -50,7 +50,8 @@ fn is_inside(node: &NodeRecord, kind: &FieldKind, of: &Type) -> bool
 }
 
 fn slot_is_inside(node: &NodeRecord, offset: u32, variant: TypeVariant) -> bool
-    ensures { (default : Value) → Decides result (LiesInside (seen_node node.now) (Slot offset default) (seen_variant variant)) }
+    ensures { (default : Value) → Decides result
+        (LiesInside (seen_node node.now) (Slot offset default) (seen_variant variant)) }
 {
     let end = (offset as u64 + 1) * width(variant) as u64;
     end <= 64 * node.body.data_word_count as u64
@@ -130,7 +131,8 @@ fn check_field(lists: &Lists, brand: usize, i: usize) -> Result<()>
     requires rule3 { Rule3 (lists_seen lists.now) }
     requires brand_in { brand < length (lists_seen lists.now).brands }
     requires field_in { i < length (fields_of (lists_seen lists.now) brand) }
-    ensures { MatchResult result (λ _. FieldStandsAt (lists_seen lists.now) brand i) (IsRefusalOf (lists_seen lists.now)) }
+    ensures { MatchResult result (λ _. FieldStandsAt (lists_seen lists.now) brand i)
+        (IsRefusalOf (lists_seen lists.now)) }
 {
     let Some(node) = lists.node_of(brand) else {
         return Ok(());
@@ -158,7 +160,8 @@ fn check_field(lists: &Lists, brand: usize, i: usize) -> Result<()>
 fn check_fields_of(lists: &Lists, brand: usize) -> Result<()>
     requires rule3 { Rule3 (lists_seen lists.now) }
     requires brand_in { brand < length (lists_seen lists.now).brands }
-    ensures { MatchResult result (λ _. FieldsStandIn (lists_seen lists.now) brand) (IsRefusalOf (lists_seen lists.now)) }
+    ensures { MatchResult result (λ _. FieldsStandIn (lists_seen lists.now) brand)
+        (IsRefusalOf (lists_seen lists.now)) }
 {
     for i in 0..lists.field_count(brand) {
         check_field(lists, brand, i)?;

@@ -1,4 +1,5 @@
-//! Rules 11 and 12: a plain field's footprint meets that of no other field of its struct, and the discriminant meets none.
+//! Rules 11 and 12: a plain field's footprint meets that of no other field of its struct, and the discriminant meets
+//! none.
 ghost use Rattle.std.specs.Prelude.{true, false, ◌<◌, ◌↔◌, IsTrue, IsFalse, length, MatchResult, IfSome, IfErr};
 ghost use Rattle.capnp_schema.specs.Schema.{fields_of, field_at, is_member};
 ghost use Rattle.capnp_schema.specs.Entries.{lists_seen};
@@ -112,7 +113,8 @@ fn refuse_meeting(alloc: Global, lists: &Lists, brand: usize, spot: Spot) -> Res
 /// Decides the same by the spans of each field of each brand: a refusal names a field that meets another.
 fn find_meeting(alloc: Global, lists: &Lists) -> Result<()>
     requires { Rule3 (lists_seen lists.now) }
-    ensures { MatchResult result (λ _. Rule11 (lists_seen lists.now) × Rule12 (lists_seen lists.now)) (IsRefusalOf (lists_seen lists.now)) }
+    ensures { MatchResult result (λ _. Rule11 (lists_seen lists.now) × Rule12 (lists_seen lists.now))
+        (IsRefusalOf (lists_seen lists.now)) }
 {
     for brand in 0..brand_count(lists) {
         let spans = brand_spans(alloc, lists, brand)?;
@@ -127,12 +129,13 @@ fn find_meeting(alloc: Global, lists: &Lists) -> Result<()>
 }
 
 /// Decides rules 11 and 12: a plain field's footprint meets that of no other field of its struct, and no field's meets
-/// the discriminant of its struct. One tour through each struct and its groups accepts, or finds where fields meet. It says
-/// neither where there are more fields than 32 bits count; then all are compared. It is refused where memory is short, or at
-/// a field for which one of the rules is broken.
+/// the discriminant of its struct. One tour through each struct and its groups accepts, or finds where fields meet. It
+/// says neither where there are more fields than 32 bits count; then all are compared. It is refused where memory is
+/// short, or at a field for which one of the rules is broken.
 pub(crate) fn check_footprints(alloc: Global, lists: &Lists) -> Result<()>
     requires { Rule3 (lists_seen lists.now) }
-    ensures { MatchResult result (λ _. Rule11 (lists_seen lists.now) × Rule12 (lists_seen lists.now)) (IsRefusalOf (lists_seen lists.now)) }
+    ensures { MatchResult result (λ _. Rule11 (lists_seen lists.now) × Rule12 (lists_seen lists.now))
+        (IsRefusalOf (lists_seen lists.now)) }
 {
     match tour_all(alloc, lists)? {
         Step::Ended => return Ok(()),

@@ -97,7 +97,8 @@ fn no_parents(alloc: Global, count: usize) -> Result<Vec<Option<(usize, usize)>>
 /// At each brand the brand and the index of the group field that names it. A group that two fields name is refused.
 fn parent_table(alloc: Global, lists: &Lists) -> Result<Vec<Option<(usize, usize)>>>
     requires { TargetsAreGroups (lists_seen lists.now) }
-    ensures { MatchResult result (λ table. IsParentTable (lists_seen lists.now) table.items) (IsRefusalOf (lists_seen lists.now)) }
+    ensures { MatchResult result (λ table. IsParentTable (lists_seen lists.now) table.items)
+        (IsRefusalOf (lists_seen lists.now)) }
 {
     let mut table = no_parents(alloc, brand_count(lists))?;
     for brand in 0..brand_count(lists) {
@@ -130,8 +131,8 @@ fn is_known(known: &[bool], brand: usize) -> bool
     brand < known.len() && known[brand]
 }
 
-/// Whether the parents of a group lead to a struct. They are followed to the first that is known to stand in one, and no
-/// more of them than there are brands.
+/// Whether the parents of a group lead to a struct. They are followed to the first that is known to stand in one, and
+/// no more of them than there are brands.
 fn stands_in_struct(
     lists: &Lists,
     parents: &[Option<(usize, usize)>],

@@ -100,7 +100,8 @@ fn check_brands(lists: &Lists) -> Result<()>
 }
 
 fn check_enums(lists: &Lists) -> Result<()>
-    ensures { MatchResult result (λ _. All EnumHasTypes (lists_seen lists.now).enums) (IsRefusalOf (lists_seen lists.now)) }
+    ensures { MatchResult result (λ _. All EnumHasTypes (lists_seen lists.now).enums)
+        (IsRefusalOf (lists_seen lists.now)) }
 {
     for e in 0..lists.enums.len() {
         let Some(record) = lists.enum_at(e) else {

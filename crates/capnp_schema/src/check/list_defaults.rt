@@ -57,7 +57,8 @@ fn kind_reads(kind: &FieldKind, field_type: &Type) -> bool
 
 fn check_list_default(lists: &Lists, brand: usize, field: usize) -> Result<()>
     requires { Rule3 (lists_seen lists.now) }
-    ensures { MatchResult result (λ _. IsSoAt (fields_of (lists_seen lists.now) brand) ReadsDefault field) (IsRefusalOf (lists_seen lists.now)) }
+    ensures { MatchResult result (λ _. IsSoAt (fields_of (lists_seen lists.now) brand) ReadsDefault field)
+        (IsRefusalOf (lists_seen lists.now)) }
 {
     let Some(typed) = lists.field_at(brand, field) else {
         return Ok(());
@@ -70,7 +71,8 @@ fn check_list_default(lists: &Lists, brand: usize, field: usize) -> Result<()>
 
 fn check_brand_defaults(lists: &Lists, brand: usize) -> Result<()>
     requires { Rule3 (lists_seen lists.now) }
-    ensures { MatchResult result (λ _. All ReadsDefault (fields_of (lists_seen lists.now) brand)) (IsRefusalOf (lists_seen lists.now)) }
+    ensures { MatchResult result (λ _. All ReadsDefault (fields_of (lists_seen lists.now) brand))
+        (IsRefusalOf (lists_seen lists.now)) }
 {
     for i in 0..lists.field_count(brand) {
         check_list_default(lists, brand, i)?;

@@ -28,7 +28,8 @@ pub(crate) fn fields_at(lists: &Lists, node: usize) -> &[FieldRecord]
 /// The table of a node, refused with rule 3 where two of its fields have one name.
 fn name_table(alloc: Global, lists: &Lists, node: usize) -> Result<Vec<u16>>
     requires { HasSmallCounts (lists_seen lists.now) }
-    ensures { MatchResult result (λ table. IsNameTable (node_at (lists_seen lists.now) node).fields table.items) (IsRefusalOf (lists_seen lists.now)) }
+    ensures { MatchResult result (λ table. IsNameTable (node_at (lists_seen lists.now) node).fields table.items)
+        (IsRefusalOf (lists_seen lists.now)) }
 {
     let fields = fields_at(lists, node);
     let order = name_order(alloc, fields)?;
@@ -41,7 +42,8 @@ fn name_table(alloc: Global, lists: &Lists, node: usize) -> Result<Vec<u16>>
 /// The table of each node.
 fn name_tables(alloc: Global, lists: &Lists) -> Result<Vec<Vec<u16>>>
     requires { HasSmallCounts (lists_seen lists.now) }
-    ensures { MatchResult result (λ tables. AreNameTables (lists_seen lists.now) tables.items) (IsRefusalOf (lists_seen lists.now)) }
+    ensures { MatchResult result (λ tables. AreNameTables (lists_seen lists.now) tables.items)
+        (IsRefusalOf (lists_seen lists.now)) }
 {
     let mut tables = Vec::new(alloc);
     for n in 0..lists.nodes.len() {
@@ -52,8 +54,8 @@ fn name_tables(alloc: Global, lists: &Lists) -> Result<Vec<Vec<u16>>>
 }
 
 /// The indices of each node's fields by name. Refuses the lists where rule 3 is broken: where two fields of a node have
-/// one name, where a node has more than 65,535 fields or an enum more than 65,535 enumerants, and where 2^29 annotations
-/// or more stand at one place.
+/// one name, where a node has more than 65,535 fields or an enum more than 65,535 enumerants, and where 2^29
+/// annotations or more stand at one place.
 pub(crate) fn check_names(alloc: Global, lists: &Lists) -> Result<Vec<Vec<u16>>>
     ensures { MatchResult result
         (λ tables. Rule3 (lists_seen lists.now) × AreNameTables (lists_seen lists.now) tables.items)

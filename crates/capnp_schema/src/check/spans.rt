@@ -128,7 +128,8 @@ pub(crate) fn spans_meet(a: &[Span], b: &[Span]) -> bool
 
 /// Adds what a brand's discriminant and slots name, and to `below` the brands that its group fields name.
 fn add_brand(lists: &Lists, brand: usize, below: &mut Vec<usize>, out: &mut Vec<Span>) -> Result<()>
-    ensures added { OnOk result (AddsBrand (lists_seen lists.now) brand (out.old.items, below.old.items) (out.new.items, below.new.items)) }
+    ensures added { OnOk result (AddsBrand (lists_seen lists.now) brand (out.old.items, below.old.items)
+        (out.new.items, below.new.items)) }
     ensures refused { IfErr result (λ e. e.kind ≡ OutOfMemory) }
 {
     add_fields(lists, brand, below, out)?;
@@ -145,7 +146,8 @@ fn add_fields(
     below: &mut Vec<usize>,
     out: &mut Vec<Span>,
 ) -> Result<()>
-    ensures added { OnOk result (AddsFields (lists_seen lists.now) brand (out.old.items, below.old.items) (out.new.items, below.new.items)) }
+    ensures added { OnOk result (AddsFields (lists_seen lists.now) brand (out.old.items, below.old.items)
+        (out.new.items, below.new.items)) }
     ensures refused { IfErr result (λ e. e.kind ≡ OutOfMemory) }
 {
     for i in 0..lists.field_count(brand) {
@@ -164,7 +166,8 @@ fn add_field(
     below: &mut Vec<usize>,
     out: &mut Vec<Span>,
 ) -> Result<()>
-    ensures added { OnOk result (AddsField (lists_seen lists.now) brand field (out.old.items, below.old.items) (out.new.items, below.new.items)) }
+    ensures added { OnOk result (AddsField (lists_seen lists.now) brand field (out.old.items, below.old.items)
+        (out.new.items, below.new.items)) }
     ensures refused { IfErr result (λ e. e.kind ≡ OutOfMemory) }
 {
     let Some(typed) = lists.field_at(brand, field) else {
@@ -192,7 +195,8 @@ fn add_brands(
     brands: &[usize],
     out: &mut Vec<Span>,
 ) -> Result<Vec<usize>>
-    ensures added { IfOk result (λ below. AddsBrands (lists_seen lists.now) brands.now out.old.items (out.new.items, below.items)) }
+    ensures added { IfOk result (λ below. AddsBrands (lists_seen lists.now) brands.now out.old.items
+        (out.new.items, below.items)) }
     ensures refused { IfErr result (λ e. e.kind ≡ OutOfMemory) }
 {
     let mut below = Vec::new(alloc);

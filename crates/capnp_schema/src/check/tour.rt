@@ -56,7 +56,12 @@ fn is_member_at(lists: &Lists, brand: usize, field: usize) -> bool
 /// The level after one more step; all that a plain field names is claimed before `now`.
 fn advanced(level: Level, is_member: bool, now: u32) -> Level
     requires { level.steps < 2 ^ 62 }
-    ensures { result ≡ record { brand = level.brand; steps = level.steps + 1; start = level.start; plain_end = cond is_member level.plain_end now } }
+    ensures { result ≡ record {
+      brand = level.brand;
+      steps = level.steps + 1;
+      start = level.start;
+      plain_end = cond is_member level.plain_end now;
+    } }
 {
     Level {
         brand: level.brand,
@@ -147,7 +152,8 @@ fn take_field(lists: &Lists, tour: &mut Tour, top: Level, field: usize) -> Resul
 /// The tour leaves a level that is past all its fields.
 fn leave(lists: &Lists, tour: &mut Tour, top: Level) -> Step
     requires stands { TourStands (lists_seen lists.now) tour.old top }
-    requires past { length (fields_of (lists_seen lists.now) top.brand) + length (fields_of (lists_seen lists.now) top.brand) ≤ top.steps }
+    requires past { length (fields_of (lists_seen lists.now) top.brand) + length
+        (fields_of (lists_seen lists.now) top.brand) ≤ top.steps }
     ensures { StepStands (lists_seen lists.now) tour.new result }
 {
     if top.brand < tour.done.len() {
@@ -254,8 +260,9 @@ fn no_tour(alloc: Global, lists: &Lists) -> Result<Tour>
     })
 }
 
-/// Goes once through each struct and its groups. Where it ends, no plain field meets another field of its struct, and no
-/// discriminant a field; otherwise it may say where two meet, and says nothing of sets where a group stands in no struct.
+/// Goes once through each struct and its groups. Where it ends, no plain field meets another field of its struct, and
+/// no discriminant a field; otherwise it may say where two meet, and says nothing of sets where a group stands in no
+/// struct.
 pub(crate) fn tour_all(alloc: Global, lists: &Lists) -> Result<Step>
     ensures apart { IfOk result (λ step. step ≡ Ended → Rule11 (lists_seen lists.now) × Rule12 (lists_seen lists.now)) }
     ensures refused { IfErr result (λ e. e.kind ≡ OutOfMemory) }

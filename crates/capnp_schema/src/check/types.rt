@@ -50,7 +50,8 @@ fn unnamed_child(lists: &Lists, children: &[Vec<Type>]) -> Option<u16>
 /// Where an annotation's type names no entry: a field or enumerant, or the whole entry.
 fn unnamed(lists: &Lists, types: &AnnotationTypes) -> Option<u16>
     requires { length types.now.children.items ≤ 65535 }
-    ensures { MatchOption result (TypesName (lists_seen lists.now) (seen_types types.now)) (IsUnnamed (lists_seen lists.now) (seen_types types.now)) }
+    ensures { MatchOption result (TypesName (lists_seen lists.now) (seen_types types.now))
+        (IsUnnamed (lists_seen lists.now) (seen_types types.now)) }
 {
     if !all_named(lists, &types.own) {
         return Some(WHOLE);

@@ -1,5 +1,5 @@
-//! Rules 9 and 10, of a struct's unnamed union: its members' discriminant values are all below the count, each once, and
-//! its discriminant lies inside the data section.
+//! Rules 9 and 10, of a struct's unnamed union: its members' discriminant values are all below the count, each once,
+//! and its discriminant lies inside the data section.
 ghost use Rattle.std.specs.Prelude.{ℕ, true, false, ◌≡◌, ◌≤◌, ◌<◌, length, map, get_or, replicate, slice_set, IfOk, MatchResult};
 ghost use Rattle.std.specs.Bool.{Decides};
 ghost use Rattle.capnp_schema.specs.Schema.{Node, seen_node, seen_field};
@@ -76,8 +76,10 @@ pub(crate) fn all_set(marks: &[bool]) -> bool
 /// one.
 fn mark_members(marks: &mut [bool], fields: &[FieldRecord]) -> bool
     requires { marks.old ≡ replicate (length marks.old) false }
-    ensures yes { result ≡ true → (length marks.new ≡ length marks.old) × Marked (map seen_field fields.now) (length fields.now) marks.new }
-    ensures not_so { result ≡ false → (n : Node) → n.fields ≡ map seen_field fields.now → n.discriminant_count ≡ length marks.old
+    ensures yes { result ≡ true → (length marks.new ≡ length marks.old)
+        × Marked (map seen_field fields.now) (length fields.now) marks.new }
+    ensures not_so { result ≡ false → (n : Node) → n.fields ≡ map seen_field fields.now
+        → n.discriminant_count ≡ length marks.old
         → HasEachMember n → ⊥ }
 {
     for field in fields {

@@ -141,7 +141,8 @@ impl<E: Annotated> Asked<WholeWords> for E {
 
 fn check_node_words(lists: &Lists, entry: usize) -> Result<()>
     requires { Rule3 (lists_seen lists.now) }
-    ensures { MatchResult result (λ _. IsSoAt (lists_seen lists.now).nodes NodeHasWords entry) (IsRefusalOf (lists_seen lists.now)) }
+    ensures { MatchResult result (λ _. IsSoAt (lists_seen lists.now).nodes NodeHasWords entry)
+        (IsRefusalOf (lists_seen lists.now)) }
 {
     let Some(node) = lists.node_at(entry) else {
         return Ok(());
@@ -160,7 +161,8 @@ fn check_node_words(lists: &Lists, entry: usize) -> Result<()>
 
 fn check_enum_words(lists: &Lists, entry: usize) -> Result<()>
     requires { Rule3 (lists_seen lists.now) }
-    ensures { MatchResult result (λ _. IsSoAt (lists_seen lists.now).enums (EachOfEnum HaveWords) entry) (IsRefusalOf (lists_seen lists.now)) }
+    ensures { MatchResult result (λ _. IsSoAt (lists_seen lists.now).enums (EachOfEnum HaveWords) entry)
+        (IsRefusalOf (lists_seen lists.now)) }
 {
     let Some(schema) = lists.enum_at(entry) else {
         return Ok(());
@@ -189,9 +191,9 @@ fn check_words(lists: &Lists) -> Result<()>
     Ok(())
 }
 
-/// Refuses the lists where rule 6 is broken: where the words of a value are not one or more whole words, where a default
-/// does not decode as its own kind, where a text default has more than 2^29 - 2 bytes or a data default more than
-/// 2^29 - 1, and where a list default is not read as its type's elements. Rule 3 has been checked before.
+/// Refuses the lists where rule 6 is broken: where the words of a value are not one or more whole words, where a
+/// default does not decode as its own kind, where a text default has more than 2^29 - 2 bytes or a data default more
+/// than 2^29 - 1, and where a list default is not read as its type's elements. Rule 3 has been checked before.
 pub(crate) fn check_values(lists: &Lists) -> Result<()>
     requires { Rule3 (lists_seen lists.now) }
     ensures { MatchResult result (λ _. Rule6 (lists_seen lists.now)) (IsRefusalOf (lists_seen lists.now)) }

@@ -10,8 +10,8 @@ pub fn bits_are_numbers()
     ensures bounded { BitsAreBounded }
 {}
 
-/// A mask that is applied twice changes nothing, and one of so many bits leaves a number of so many. A bit with a mask is
-/// the wire's bit with its default.
+/// A mask that is applied twice changes nothing, and one of so many bits leaves a number of so many. A bit with a mask
+/// is the wire's bit with its default.
 pub fn masks_undo()
     ensures undo { MasksUndo }
     ensures bounded { MasksKeepBounds }
@@ -24,8 +24,8 @@ pub fn written_bits_are_read()
     ensures bits { BitsAreWritten }
 {}
 
-/// The number of a data slot is the number or bit that the wire reads there, with the mask of the slot's plan. One that is
-/// stored with the mask is the slot's then, and every other bit is as it was.
+/// The number of a data slot is the number or bit that the wire reads there, with the mask of the slot's plan. One that
+/// is stored with the mask is the slot's then, and every other bit is as it was.
 pub fn slots_are_numbers()
     ensures read { SlotsAreRead }
     ensures written { SlotsAreWritten }

@@ -32,7 +32,8 @@ fn plan_at(lists: &Lists, brand: usize, field: usize) -> SlotPlan
 fn brand_plans(alloc: Global, lists: &Lists, brand: usize) -> Result<Vec<SlotPlan>>
     requires accepted { IsAccepted (lists_seen lists.now) }
     requires brand_in { brand < length (lists_seen lists.now).brands }
-    ensures plans { IfOk result (λ v. v.items ≡ map (plan_of (lists_seen lists.now) brand) (fields_of (lists_seen lists.now) brand)) }
+    ensures plans { IfOk result (λ v. v.items
+        ≡ map (plan_of (lists_seen lists.now) brand) (fields_of (lists_seen lists.now) brand)) }
     ensures refused { IfErr result (λ e. e.kind ≡ OutOfMemory) }
 {
     let mut plans = Vec::new(alloc);

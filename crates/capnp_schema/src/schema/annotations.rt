@@ -98,8 +98,8 @@ impl<'s> AnnotationList<'s> {
         AnnotationList::new(set, &[], &[])
     }
 
-    /// The annotations of a struct, by the number of its brand: those of its node, with the brand's types. None past the
-    /// end of the brands.
+    /// The annotations of a struct, by the number of its brand: those of its node, with the brand's types. None past
+    /// the end of the brands.
     pub(crate) fn of_struct(set: &'s SchemaSet, brand: u32) -> AnnotationList<'s>
         ensures typed { annotations_in result ≡ struct_annotations (lists_seen set.now) brand }
         ensures whole { annotations_of (annotations_in result) ≡ (node_of (lists_seen set.now) brand).annotations }
@@ -115,11 +115,12 @@ impl<'s> AnnotationList<'s> {
         AnnotationList::new(set, &node.annotations, &record.annotation_types.own)
     }
 
-    /// The annotations of a field, by the number of its struct's brand and its index, with the brand's types. None past the
-    /// end of the brands or of the fields.
+    /// The annotations of a field, by the number of its struct's brand and its index, with the brand's types. None past
+    /// the end of the brands or of the fields.
     pub(crate) fn of_field(set: &'s SchemaSet, brand: u32, field: u16) -> AnnotationList<'s>
         ensures typed { annotations_in result ≡ field_annotations (lists_seen set.now) brand field }
-        ensures whole { annotations_of (annotations_in result) ≡ (field_at (lists_seen set.now) brand field).field.annotations }
+        ensures whole { annotations_of (annotations_in result)
+            ≡ (field_at (lists_seen set.now) brand field).field.annotations }
         ensures set { annotations_set result ≡ lists_seen set.now }
     {
         let lists = set.accepted_lists();
@@ -154,7 +155,8 @@ impl<'s> AnnotationList<'s> {
         enumerant: u16,
     ) -> AnnotationList<'s>
         ensures typed { annotations_in result ≡ enumerant_annotations (lists_seen set.now) number enumerant }
-        ensures whole { annotations_of (annotations_in result) ≡ (enumerant_at (lists_seen set.now) number enumerant).annotations }
+        ensures whole { annotations_of (annotations_in result)
+            ≡ (enumerant_at (lists_seen set.now) number enumerant).annotations }
         ensures set { annotations_set result ≡ lists_seen set.now }
     {
         let Some(record) = set.accepted_lists().enum_at(number as usize) else {
@@ -232,7 +234,8 @@ impl<'s> IndexMove<u32, Annotation<'s>> for AnnotationList<'s> {
 
     ghost count = { λ s. length (annotations_in s) };
 
-    ghost answers = { λ s i x. (slice_get (annotations_in s) i ≡ Some (annotation_in x)) × (annotation_set x ≡ annotations_set s) };
+    ghost answers = { λ s i x. (slice_get (annotations_in s) i ≡ Some (annotation_in x))
+        × (annotation_set x ≡ annotations_set s) };
 
     fn index_move(&self, index: u32) -> Annotation<'s> {
         self.get(index)

@@ -10,7 +10,8 @@ use crate::set::SchemaSet;
 
 /// Whether a brand of a set is no group, and its node has the display name.
 fn is_named(set: &SchemaSet, brand: u32, name: &str) -> bool
-    ensures { result ≡ (not (node_of (lists_seen set.now) brand).is_group && bytes_eq name.now (node_of (lists_seen set.now) brand).display_name) }
+    ensures { result ≡ (not (node_of (lists_seen set.now) brand).is_group && bytes_eq name.now
+        (node_of (lists_seen set.now) brand).display_name) }
 {
     let node = set.struct_schema(brand).get_proto();
     !node.body.is_group && name == node.display_name.as_str()
@@ -37,7 +38,8 @@ impl SchemaSet {
     /// there is no such brand. It looks at each brand up to that one.
     pub fn find_struct(&self, name: &str) -> Option<StructSchema<'_>>
         ensures { MatchOption result (brand_asked (lists_seen self.now) name.now ≡ None)
-            (λ s. IsStruct s × (set_of s ≡ lists_seen self.now) × (brand_asked (lists_seen self.now) name.now ≡ Some (number_of s))) }
+            (λ s. IsStruct s × (set_of s ≡ lists_seen self.now)
+            × (brand_asked (lists_seen self.now) name.now ≡ Some (number_of s))) }
     {
         let brand = find_brand(self, name)?;
         Some(self.struct_schema(brand))

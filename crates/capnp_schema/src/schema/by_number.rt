@@ -10,8 +10,8 @@ use crate::schema::structs::StructSchema;
 use crate::set::SchemaSet;
 
 impl SchemaSet {
-    /// The schema of the struct or group of a brand number. It answers for every number: past the last brand the schema has
-    /// no fields, and a record with nothing in it.
+    /// The schema of the struct or group of a brand number. It answers for every number: past the last brand the schema
+    /// has no fields, and a record with nothing in it.
     pub fn struct_schema(&self, number: u32) -> StructSchema<'_>
         ensures set { set_of result ≡ lists_seen self.now }
         ensures number { number_of result ≡ number }
@@ -23,8 +23,8 @@ impl SchemaSet {
         StructSchema { set: self, number }
     }
 
-    /// The schema of the struct or group of a brand number, as a struct type and the place of a group have it. None past
-    /// the last brand.
+    /// The schema of the struct or group of a brand number, as a struct type and the place of a group have it. None
+    /// past the last brand.
     pub fn get_struct(&self, number: u32) -> Option<StructSchema<'_>>
         ensures { MatchOption result (length (lists_seen self.now).brands ≤ number)
             (λ s. IsStruct s × (set_of s ≡ lists_seen self.now) × (number_of s ≡ number)) }
@@ -35,8 +35,8 @@ impl SchemaSet {
         None
     }
 
-    /// The schema of the enum of a number. It answers for every number: past the last enum the schema has no enumerants,
-    /// and a record with nothing in it.
+    /// The schema of the enum of a number. It answers for every number: past the last enum the schema has no
+    /// enumerants, and a record with nothing in it.
     pub fn enum_schema(&self, number: u32) -> EnumSchema<'_>
         ensures set { enum_set result ≡ lists_seen self.now }
         ensures number { enum_number result ≡ number }

@@ -12,8 +12,8 @@ use capnp_base::introspect::RawEnumSchema;
 use capnp_base::traits::{IndexMove, ShortListIter};
 use capnp_wire::error::Result;
 
-/// An enum of a set, by its number. Equality, hash and debug output look at the number alone, so two of them are compared
-/// within one set.
+/// An enum of a set, by its number. Equality, hash and debug output look at the number alone, so two of them are
+/// compared within one set.
 #[derive(Clone, Copy)]
 #[derive_where(PartialEq, Eq, Hash, Debug)]
 pub struct EnumSchema<'s> {
@@ -63,8 +63,10 @@ impl<'s> EnumSchema<'s> {
 
     /// Its annotations, each with its type. The answer is always Ok.
     pub fn get_annotations(self) -> Result<AnnotationList<'s>>
-        ensures typed { IsOkAnd result (λ list. annotations_in list ≡ enum_annotations (enum_set self.entry) (enum_number self.entry)) }
-        ensures whole { IsOkAnd result (λ list. annotations_of (annotations_in list) ≡ (enum_in self.entry).annotations) }
+        ensures typed { IsOkAnd result (λ list. annotations_in list
+            ≡ enum_annotations (enum_set self.entry) (enum_number self.entry)) }
+        ensures whole { IsOkAnd result (λ list. annotations_of (annotations_in list)
+            ≡ (enum_in self.entry).annotations) }
         ensures set { IsOkAnd result (λ list. annotations_set list ≡ enum_set self.entry) }
     {
         Ok(AnnotationList::of_enum(self.set, self.number))
@@ -126,7 +128,8 @@ impl<'s> Enumerant<'s> {
     /// Its annotations, each with its type. The answer is always Ok.
     pub fn get_annotations(self) -> Result<AnnotationList<'s>>
         ensures typed { IsOkAnd result (λ list. annotations_in list ≡ enumerant_annotated self.entry) }
-        ensures whole { IsOkAnd result (λ list. annotations_of (annotations_in list) ≡ (enumerant_in self.entry).annotations) }
+        ensures whole { IsOkAnd result (λ list. annotations_of (annotations_in list)
+            ≡ (enumerant_in self.entry).annotations) }
         ensures set { IsOkAnd result (λ list. annotations_set list ≡ enum_set (containing_enum self.entry)) }
     {
         Ok(AnnotationList::of_enumerant(self.schema.set, self.schema.number, self.ordinal))

@@ -16,7 +16,8 @@ use capnp_base::introspect::Type;
 use capnp_wire::PointerReader;
 use capnp_wire::error::Result;
 
-/// A field of a struct or group, with its type in the brand. Two of one set are equal where their schemas and indices are.
+/// A field of a struct or group, with its type in the brand. Two of one set are equal where their schemas and indices
+/// are.
 #[derive(Clone, Copy)]
 #[derive_where(PartialEq, Eq, Hash, Debug)]
 pub struct Field<'s> {
@@ -71,8 +72,8 @@ impl<'s> Field<'s> {
         self.proto
     }
 
-    /// The struct or group that the field is of. A field's schema always is that of a brand of the set, and the field is
-    /// one of it.
+    /// The struct or group that the field is of. A field's schema always is that of a brand of the set, and the field
+    /// is one of it.
     pub fn get_containing_struct(&self) -> StructSchema<'s>
         ensures is { result ≡ schema_of self.now }
         ensures stands { IsStruct result }
@@ -98,8 +99,8 @@ impl<'s> Field<'s> {
         self.index
     }
 
-    /// The default of the field's slot, whose words are read where they lie, with 64 levels; void for a group. It is of the
-    /// field's type, or an untyped null. What stands behind a pointer decodes, and is null or what the type reads.
+    /// The default of the field's slot, whose words are read where they lie, with 64 levels; void for a group. It is of
+    /// the field's type, or an untyped null. What stands behind a pointer decodes, and is null or what the type reads.
     #[inline(always)]
     pub fn get_default(&self) -> Value<'s>
         ensures view { IsViewOf (default_of (typed_of self.now).field) result }
@@ -129,10 +130,11 @@ impl<'s> Field<'s> {
         }
     }
 
-    /// The group, where the field is one; none for a slot. A group has the sections of the struct that it is in, and lesser
-    /// height.
+    /// The group, where the field is one; none for a slot. A group has the sections of the struct that it is in, and
+    /// lesser height.
     pub fn get_group(&self) -> Option<StructSchema<'s>>
-        ensures number { option_map number_of result ≡ kind_target (typed_of self.now).field.kind (typed_of self.now).type }
+        ensures number { option_map number_of result
+            ≡ kind_target (typed_of self.now).field.kind (typed_of self.now).type }
         ensures down { IfSome result (IsGroupIn (schema_of self.now)) }
     {
         match &self.proto.kind {
@@ -150,7 +152,8 @@ impl<'s> Field<'s> {
     /// Its annotations, each with its type in the brand. The answer is always Ok.
     pub fn get_annotations(self) -> Result<AnnotationList<'s>>
         ensures typed { IsOkAnd result (λ list. annotations_in list ≡ field_annotated self.entry) }
-        ensures whole { IsOkAnd result (λ list. annotations_of (annotations_in list) ≡ (typed_of self.entry).field.annotations) }
+        ensures whole { IsOkAnd result (λ list. annotations_of (annotations_in list)
+            ≡ (typed_of self.entry).field.annotations) }
         ensures set { IsOkAnd result (λ list. annotations_set list ≡ set_of (schema_of self.entry)) }
     {
         Ok(AnnotationList::of_field(self.schema.set, self.schema.number, self.index))
@@ -162,8 +165,10 @@ impl<'s> Field<'s> {
     pub fn plan(&self) -> SlotPlan
         ensures is { result ≡ plan_of (set_of (schema_of self.now)) (number_of (schema_of self.now))
             (struct_field (schema_of self.now) (index_of self.now)) }
-        ensures stands { IsPlan (set_of (schema_of self.now)) (number_of (schema_of self.now)) (struct_field (schema_of self.now) (index_of self.now)) result }
-        ensures group { IfGroup result.place (LeadsToGroup (set_of (schema_of self.now)) (number_of (schema_of self.now))) }
+        ensures stands { IsPlan (set_of (schema_of self.now)) (number_of (schema_of self.now))
+            (struct_field (schema_of self.now) (index_of self.now)) result }
+        ensures group { IfGroup result.place (LeadsToGroup (set_of (schema_of self.now))
+            (number_of (schema_of self.now))) }
     {
         *self.schema.set.plan(self.schema.number, self.index)
     }

@@ -58,16 +58,16 @@ impl<'s> StructSchema<'s> {
         self.set
     }
 
-    /// The node: the struct without the types of its fields. One with nothing in it where the schema's number is past the
-    /// set's last brand.
+    /// The node: the struct without the types of its fields. One with nothing in it where the schema's number is past
+    /// the set's last brand.
     pub fn get_proto(&self) -> &'s NodeRecord
         ensures { seen_node result.now ≡ struct_node self.now }
     {
         self.set.node_record(self.number)
     }
 
-    /// The first of the 16 bits in the data section that say which member of the union is active; none where there is no
-    /// union.
+    /// The first of the 16 bits in the data section that say which member of the union is active; none where there is
+    /// no union.
     #[tactic(auto, using(crate::proofs::DiscriminantPlaces::discriminant_aligned, crate::proofs::DiscriminantPlaces::discriminant_inside))]
     #[inline(always)]
     pub fn get_discriminant(&self) -> Option<u32>
@@ -106,8 +106,8 @@ impl<'s> StructSchema<'s> {
         Ok(found)
     }
 
-    /// The field of that name, where there is one, and how many names were compared: none where there are no fields, and
-    /// otherwise at least one and at most as many as their count has binary digits.
+    /// The field of that name, where there is one, and how many names were compared: none where there are no fields,
+    /// and otherwise at least one and at most as many as their count has binary digits.
     #[tactic(auto, using(crate::proofs::StructLookUps::named_is_typed))]
     pub fn find_field_by_name_counted(&self, name: &str) -> (Option<Field<'s>>, u32)
         ensures found { IsFound self.now (field_named (struct_records self.now) name.now) result.0 }
@@ -124,8 +124,10 @@ impl<'s> StructSchema<'s> {
 
     /// The field of that name. Where there is none it is refused as `FieldNotFound`.
     pub fn get_field_by_name(&self, name: &str) -> Result<Field<'s>>
-        ensures field { IfOk result (λ field. IsFound self.now (field_named (struct_records self.now) name.now) (Some field)) }
-        ensures refused { IfErr result (λ e. (e.kind ≡ FieldNotFound) × (field_named (struct_records self.now) name.now ≡ None)) }
+        ensures field { IfOk result (λ field. IsFound self.now (field_named (struct_records self.now) name.now)
+            (Some field)) }
+        ensures refused { IfErr result (λ e. (e.kind ≡ FieldNotFound)
+            × (field_named (struct_records self.now) name.now ≡ None)) }
     {
         match self.find_field_by_name(name)? {
             Some(field) => Ok(field),
@@ -138,7 +140,8 @@ impl<'s> StructSchema<'s> {
     /// The members of the union, by discriminant value. The answer is always Ok.
     #[tactic(auto, using(crate::proofs::StructLookUps::members_are_typed))]
     pub fn get_union_fields(self) -> Result<FieldSubset<'s>>
-        ensures { IsOkAnd result (λ fields. (subset_schema fields ≡ self.entry) × AreMembers (struct_records self.entry) (subset_indices fields)) }
+        ensures { IsOkAnd result (λ fields. (subset_schema fields ≡ self.entry)
+            × AreMembers (struct_records self.entry) (subset_indices fields)) }
     {
         Ok(FieldSubset::new(self, self.set.members(self.number)))
     }
@@ -146,15 +149,18 @@ impl<'s> StructSchema<'s> {
     /// The fields that are no members of the union, by index. The answer is always Ok.
     #[tactic(auto, using(crate::proofs::StructLookUps::plain_are_typed))]
     pub fn get_non_union_fields(self) -> Result<FieldSubset<'s>>
-        ensures { IsOkAnd result (λ fields. (subset_schema fields ≡ self.entry) × (subset_indices fields ≡ plain_fields (struct_records self.entry))) }
+        ensures { IsOkAnd result (λ fields. (subset_schema fields ≡ self.entry)
+            × (subset_indices fields ≡ plain_fields (struct_records self.entry))) }
     {
         Ok(FieldSubset::new(self, self.set.plain(self.number)))
     }
 
     /// The annotations of its node, each with its type in the brand. The answer is always Ok.
     pub fn get_annotations(self) -> Result<AnnotationList<'s>>
-        ensures typed { IsOkAnd result (λ list. annotations_in list ≡ struct_annotations (set_of self.entry) (number_of self.entry)) }
-        ensures whole { IsOkAnd result (λ list. annotations_of (annotations_in list) ≡ (struct_node self.entry).annotations) }
+        ensures typed { IsOkAnd result (λ list. annotations_in list
+            ≡ struct_annotations (set_of self.entry) (number_of self.entry)) }
+        ensures whole { IsOkAnd result (λ list. annotations_of (annotations_in list)
+            ≡ (struct_node self.entry).annotations) }
         ensures set { IsOkAnd result (λ list. annotations_set list ≡ set_of self.entry) }
     {
         Ok(AnnotationList::of_struct(self.set, self.number))

@@ -63,7 +63,8 @@ impl SchemaSet {
     /// How many fields a brand has: those of its node, where there is the brand.
     pub(crate) fn field_count(&self, brand: u32) -> u16
         ensures is { result ≡ length (fields_of (lists_seen self.now) brand) }
-        ensures whole { brand < length (lists_seen self.now).brands → result ≡ length (node_of (lists_seen self.now) brand).fields }
+        ensures whole { brand < length (lists_seen self.now).brands
+            → result ≡ length (node_of (lists_seen self.now) brand).fields }
         ensures few { length (node_of (lists_seen self.now) brand).fields ≤ 65535 }
     {
         self.lists.field_count(brand as usize) as u16
@@ -107,13 +108,14 @@ impl SchemaSet {
         table_at(&self.tables.plain, node)
     }
 
-    /// The index of the field of a name, and how many names were compared: none where there are no fields, and otherwise
-    /// at least one and at most as many as their count has binary digits.
+    /// The index of the field of a name, and how many names were compared: none where there are no fields, and
+    /// otherwise at least one and at most as many as their count has binary digits.
     pub(crate) fn find_field(&self, brand: u32, name: &str) -> (Option<u16>, u32)
         ensures found { result.0 ≡ field_named (records_of (lists_seen self.now) brand) name.now }
         ensures none { length (records_of (lists_seen self.now) brand) ≡ 0 → result.1 ≡ 0 }
         ensures some { 0 < length (records_of (lists_seen self.now) brand) → 0 < result.1 }
-        ensures digits { 0 < length (records_of (lists_seen self.now) brand) → 2 ^ result.1 ≤ 2 * length (records_of (lists_seen self.now) brand) }
+        ensures digits { 0 < length (records_of (lists_seen self.now) brand)
+            → 2 ^ result.1 ≤ 2 * length (records_of (lists_seen self.now) brand) }
     {
         match self.node_number(brand) {
             Some(node) => find_counted(self.node_fields(node), self.node_names(node), name),
@@ -156,7 +158,8 @@ impl SchemaSet {
         ensures is { result.now ≡ plan_of (lists_seen self.now) brand (field_at (lists_seen self.now) brand field) }
         ensures stands { field < length (fields_of (lists_seen self.now) brand)
             → IsPlan (lists_seen self.now) brand (field_at (lists_seen self.now) brand field) result.now }
-        ensures group { field < length (fields_of (lists_seen self.now) brand) → IfGroup result.now.place (LeadsToGroup (lists_seen self.now) brand) }
+        ensures group { field < length (fields_of (lists_seen self.now) brand)
+            → IfGroup result.now.place (LeadsToGroup (lists_seen self.now) brand) }
     {
         plan_at(table_at(&self.tables.plans, brand as usize), field as usize)
     }

@@ -9,4 +9,4 @@ pub returns-clause-bytes : goal.returns-clause-bytes
 returns-clause-bytes c = c.in_ok-append_encoding.ensures ∙ ap (λ z. z ++ encoding_of (tree c.args.bytes.now 0)) c.in_ok-out.ensures.items
 
 pub returns-clause-held : goal.returns-clause-held
-returns-clause-held c = (tree_held c.args.bytes.now 0 (AreBytes-fits c.args.bytes.now c.type_inv.bytes), omega (arith, c.in-Some.ensures.0, c.if-words.false))
+returns-clause-held c = (tree_held c.args.bytes.now 0 (AreBytes-fits c.args.bytes.now c.type_inv.bytes), omega (arith, c.in-Some.ensures.0, c.if-words-limit.false))

@@ -1,4 +1,4 @@
-use Rattle.std.proofs.Common.{arith, ◌≡◌, ◌+◌, ◌-◌, ◌*◌, ◌/◌, ◌%◌, replicate, refl, sym, ap, subst, ◌∙◌, take, drop, length}
+use Rattle.std.proofs.Common.{arith, ◌≡◌, ◌+◌, ◌-◌, ◌*◌, ◌/◌, ◌%◌, replicate, refl, sym, ap, ◌∙◌, take, drop}
 use Rattle.capnp_wire.specs.Place.{bytes_at}
 use Rattle.capnp_arena.proofs.LaidOut.{padded_there}
 use Rattle.capnp_arena.proofs.in_order.end_of_bytes.Goals as goal

@@ -1,6 +1,5 @@
 -- A text stands there.
-use Rattle.std.proofs.Common.{◌≡◌}
-use Rattle.capnp_builders.specs.Blobs.{IsText, text_behind, text_word}
+use Rattle.capnp_builders.specs.Blobs.{IsText}
 use Rattle.capnp_builders_tests.proofs.text_tests.first_wrong.Given as goal
 
 abbrev pub invariant-loop-pushed : goal.invariant-loop-pushed

@@ -1,5 +1,5 @@
 -- Each step goes on in the part that it enters, and the owner has what is left of that.
-use Rattle.std.proofs.Common.{◌≡◌, List, ℕ, refl, ap, sym, subst, arith, None, ◌∙◌}
+use Rattle.std.proofs.Common.{◌≡◌, List, ℕ, ap, sym, subst, arith, None, ◌∙◌}
 use Rattle.std.proofs.lemmas.Bool.{true≢false}
 use Rattle.std.proofs.lemmas.List.{nil_from_length}
 use Rattle.std.specs.Borrow.{Bor}

@@ -1,7 +1,6 @@
-use Rattle.std.proofs.Common.{◌+◌, ◌<◌, ◌≤◌, ◌≡◌, ◌∙◌, arith, ap, refl, sym, map, Err, Ok, Some, List, [], ◌∷◌, ◌++◌}
-use Rattle.capnp_schema.specs.Schema.{Annotation, seen_annotation, seen_value}
-use Rattle.capnp_schema.specs.Types.{SchemaType, seen_type}
-use Rattle.capnp_dynamic_readers.specs.Seen.{list_seen, record_seen}
+use Rattle.std.proofs.Common.{◌∙◌, ap, refl, sym, Err, List}
+use Rattle.capnp_schema.specs.Types.{seen_type}
+use Rattle.capnp_dynamic_readers.specs.Seen.{record_seen}
 use Rattle.capnp_request.specs.Bindings.{bounds, flags}
 use Rattle.capnp_request.specs.Done.{between}
 use Rattle.capnp_request.specs.Nodes.{nodes_of}
@@ -12,7 +11,6 @@ use Rattle.capnp_request.proofs.Refused.{err_done}
 use Rattle.capnp_request.specs.Conversion.{declared_type}
 use Rattle.capnp_request.specs.Done.{so_far}
 use Rattle.capnp_request.specs.Reading.{brand_in, declaration_said, type_said, whole_type}
-use Rattle.capnp_request.specs.Terms.{UnreadType}
 use Rattle.capnp_request.specs.Types.{named_scopes, type_of}
 use Rattle.capnp_request.specs.Work.{named, unnoted}
 use Rattle.capnp_request.specs.declared.entries.BoundScope.{BoundScope}

@@ -1,5 +1,5 @@
 -- What is left of the definition's steps.
-use Rattle.std.proofs.Common.{ℕ, List, ◌≡◌, ◌+◌, suc, length}
+use Rattle.std.proofs.Common.{List, ◌≡◌, ◌+◌, suc, length}
 use Rattle.capnp_request.specs.Done.{between}
 use Rattle.capnp_request.specs.Names.{Holder}
 use Rattle.capnp_request.specs.NamesMade.{AreHolders}

@@ -1,4 +1,4 @@
-use Rattle.std.proofs.Common.{ℕ, [], ◌+◌, ◌<◌, ◌≤◌, ◌≡◌, ◌∙◌, ap, arith, refl, rules, sym}
+use Rattle.std.proofs.Common.{[], ◌+◌, ◌<◌, ◌≤◌, ◌≡◌, ◌∙◌, ap, arith, refl, rules}
 use Rattle.std.proofs.lemmas.Result.{err_from_is_err_and}
 use Rattle.capnp_dynamic_readers.specs.Seen.{record_seen}
 use Rattle.capnp_request.specs.Done.{between}

@@ -1,11 +1,10 @@
-use Rattle.std.proofs.Common.{◌+◌, ◌<◌, ◌≤◌, ◌≡◌, ◌∙◌, arith, ap, refl, sym, map, Err, Ok, Some, List, [], ◌∷◌, ◌++◌}
-use Rattle.capnp_schema.specs.Schema.{Annotation, Group, seen_annotation, seen_value}
-use Rattle.capnp_schema.specs.Types.{SchemaType, seen_type}
-use Rattle.capnp_dynamic_readers.specs.Seen.{list_seen, record_seen}
-use Rattle.capnp_request.specs.Bindings.{bounds, flags}
+use Rattle.std.proofs.Common.{◌∙◌, ap, sym, Err, Ok, List}
+use Rattle.capnp_schema.specs.Schema.{Group}
+use Rattle.capnp_schema.specs.Types.{seen_type}
+use Rattle.capnp_dynamic_readers.specs.Seen.{record_seen}
+use Rattle.capnp_request.specs.Bindings.{bounds}
 use Rattle.capnp_request.specs.Done.{between}
 use Rattle.capnp_request.specs.Nodes.{nodes_of}
-use Rattle.capnp_request.specs.Numbers.{numbered}
 use Rattle.capnp_request.specs.Parts.{read_at}
 use Rattle.capnp_request.specs.Work.{nothing_seen}
 use Rattle.capnp_request.proofs.Refused.{err_done}

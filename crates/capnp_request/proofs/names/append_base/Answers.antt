@@ -1,4 +1,4 @@
-use Rattle.std.proofs.Common.{ℕ, List, [], ◌≡◌, ◌∙◌, refl, slice_get, sym, Some, None}
+use Rattle.std.proofs.Common.{[], ◌≡◌, ◌∙◌, refl, slice_get, sym, Some, None}
 use Rattle.std.proofs.lemmas.Option.{slice_get_past, slice_get_read}
 use Rattle.std.proofs.lemmas.List.{append-nil}
 use Rattle.capnp_base.specs.Types.{base_of}

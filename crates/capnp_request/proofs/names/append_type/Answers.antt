@@ -1,4 +1,3 @@
-use Rattle.std.proofs.Common.{rules}
 use Rattle.std.proofs.lemmas.Result.{err_from_is_err_and}
 use Rattle.capnp_base.specs.Types.{base_of, list_depth}
 use Rattle.capnp_schema.specs.Types.{seen_base}

@@ -1,5 +1,5 @@
-use Rattle.std.proofs.Common.{◌≡◌, ◌≤◌, length, arith, subst}
-use Rattle.capnp_request.proofs.NamesSplit.{Begins, dotted_behind, file_before}
+use Rattle.std.proofs.Common.{◌≤◌, length, arith}
+use Rattle.capnp_request.proofs.NamesSplit.{dotted_behind, file_before}
 use Rattle.capnp_request.proofs.names.behind_colon.Goals as goal
 
 pub returns-clause-file : goal.returns-clause-file

@@ -1,5 +1,5 @@
 -- There is no colon from the part's begin on, and one right before it.
-use Rattle.std.proofs.Common.{ℕ, ◌+◌, ◌≡◌, ◌≢◌, ◌<◌, ◌≤◌, get_or, suc}
+use Rattle.std.proofs.Common.{ℕ, ◌≡◌, ◌≢◌, ◌<◌, ◌≤◌, get_or, suc}
 use Rattle.capnp_request.proofs.names.behind_colon.Given as goal
 
 abbrev pub invariant-loop-index : goal.invariant-loop-index

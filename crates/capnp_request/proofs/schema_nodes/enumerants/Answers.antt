@@ -1,4 +1,3 @@
-use Rattle.std.proofs.Common.{ap, sym, ◌∙◌}
 use Rattle.capnp_dynamic_readers.specs.Seen.{record_seen}
 use Rattle.capnp_request.proofs.NodesRead.{enum_kind, enumerants_read, enumerants_unread}
 use Rattle.capnp_request.proofs.Refused.{err_if}

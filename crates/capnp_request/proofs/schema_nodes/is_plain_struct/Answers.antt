@@ -1,5 +1,3 @@
-use Rattle.std.proofs.Common.{ap, sym, ◌∙◌}
-use Rattle.capnp_dynamic_readers.specs.Seen.{record_seen}
 use Rattle.capnp_request.proofs.NodesRead.{no_root, root_read}
 use Rattle.capnp_request.proofs.schema_nodes.is_plain_struct.Goals as goal
 

@@ -1,4 +1,3 @@
-use Rattle.std.proofs.Common.{ap, sym, ◌∙◌}
 use Rattle.capnp_dynamic_readers.specs.Seen.{record_seen}
 use Rattle.capnp_request.proofs.NodesRead.{struct_kind}
 use Rattle.capnp_request.proofs.schema_nodes.struct_part.Goals as goal

@@ -1,4 +1,4 @@
-use Rattle.std.proofs.Common.{ℕ, [], ◌+◌, ◌<◌, ◌≤◌, ◌≡◌, ◌∙◌, ap, arith, length, length-append, rules, sym}
+use Rattle.std.proofs.Common.{[], ◌<◌, ◌≤◌, ◌≡◌, ◌∙◌, ap, arith, length, length-append, rules, sym}
 use Rattle.std.proofs.lemmas.Result.{err_from_is_err_and}
 use Rattle.capnp_dynamic_readers.specs.Seen.{record_seen}
 use Rattle.capnp_request.specs.Bindings.{bounds}
@@ -11,7 +11,7 @@ use Rattle.capnp_request.specs.Reading.{each_said, field_said}
 use Rattle.capnp_request.specs.StructsSeen.{seen_fields, seen_notes}
 use Rattle.capnp_request.proofs.ListsSaid.{length_of}
 use Rattle.capnp_request.proofs.ListsWalked.{all_made, field_made, field_unmade, field_unread}
-use Rattle.capnp_request.proofs.StructsMade.{fields_in, fields_more, fields_opened, fields_unread, listed_fields, notes_of_fields}
+use Rattle.capnp_request.proofs.StructsMade.{fields_in, fields_opened, fields_unread, listed_fields, notes_of_fields}
 use Rattle.capnp_request.proofs.Works.{ahead, ahead_none}
 use Rattle.capnp_request.proofs.structs.fields_of.Goals as goal
 

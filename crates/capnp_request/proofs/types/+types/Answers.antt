@@ -1,8 +1,7 @@
-use Rattle.std.proofs.Common.{true, false, length, drop, None, ◌+◌, ◌-◌, ◌<◌, ◌≤◌, ◌≡◌, ◌≢◌, ◌∙◌, arith, ap, refl, suc, sym, map, option_map, Err, Ok, Some, rules, List, [], ◌∷◌, ◌++◌}
-use Rattle.capnp_schema.specs.Types.{SchemaType, seen_type}
+use Rattle.std.proofs.Common.{true, false, drop, None, ◌-◌, ◌≤◌, ◌≡◌, ◌∙◌, arith, ap, refl, suc, sym, map, option_map, Err, Ok, Some, rules, List, []}
+use Rattle.capnp_schema.specs.Types.{seen_type}
 use Rattle.capnp_records.specs.Part.{which_of}
-use Rattle.capnp_records.specs.Record.{Record}
-use Rattle.capnp_dynamic_readers.specs.Seen.{list_seen, record_seen}
+use Rattle.capnp_dynamic_readers.specs.Seen.{record_seen}
 use Rattle.capnp_request.specs.Bindings.{bounds, flags, seen_bound, with_nothing}
 use Rattle.capnp_request.specs.Done.{so_far}
 use Rattle.capnp_request.specs.Handles.{values_left}
@@ -11,9 +10,9 @@ use Rattle.capnp_request.specs.Nodes.{nodes_of}
 use Rattle.capnp_request.specs.Numbers.{numbered}
 use Rattle.capnp_request.specs.Parts.{read_at}
 use Rattle.capnp_request.specs.Reading.{binding_said, bindings_said, brand_in, enum_term, list_term, scope_said, scopes_said, struct_term, type_said, untyped_term}
-use Rattle.capnp_request.specs.Terms.{Float32, Float64, Interface, StructTerm, TypeTerm}
+use Rattle.capnp_request.specs.Terms.{Float32, Float64, Interface}
 use Rattle.capnp_request.specs.Types.{bind_scope, binding_types, brand_types, interface, named_scopes, scope_types, type_of}
-use Rattle.capnp_request.specs.Work.{Bound, each}
+use Rattle.capnp_request.specs.Work.{each}
 use Rattle.capnp_request.specs.declared.schema_nodes.GenericScope.{GenericScope}
 use Rattle.capnp_request.proofs.ListsRead.{all_left}
 use Rattle.capnp_request.proofs.Numbering.{map_more}

@@ -1,4 +1,4 @@
-use Rattle.std.proofs.Common.{ℕ, ◌+◌, ◌*◌, ◌-◌, ◌≤◌, ◌≡◌, drop, map}
+use Rattle.std.proofs.Common.{◌+◌, ◌*◌, ◌-◌, ◌≤◌, ◌≡◌, drop, map}
 use Rattle.capnp_schema.specs.Types.{seen_type}
 use Rattle.capnp_request.specs.Bindings.{bounds, with_nothing}
 use Rattle.capnp_request.specs.Done.{so_far}

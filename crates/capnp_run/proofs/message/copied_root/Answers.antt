@@ -14,21 +14,21 @@ returns-in_err-set_root-clause-cause c =
     let p = err_from_is_err_and c.from_residual.result c.from_residual.ensures.1 in
     rw (p.1, p.2) (copy_stops _ (tree_of c.args.source) c.in_err-set_root.ensures.cause)
 
-pub returns-in_err-place-clause-cause : goal.returns-in_err-place-clause-cause
-returns-in_err-place-clause-cause c =
-    let p = err_from_is_err_and c.from_residual-in_err-place.result c.from_residual-in_err-place.ensures.1 in
-    rw (p.1, p.2) (stopped_whole _ (tree_of c.args.source) _ c.in_ok-set_root.ensures.sound c.in_ok-set_root.ensures.tree c.in_err-place.ensures.cause)
+pub returns-in_err-get_struct-clause-cause : goal.returns-in_err-get_struct-clause-cause
+returns-in_err-get_struct-clause-cause c =
+    let p = err_from_is_err_and c.from_residual-in_err-get_struct.result c.from_residual-in_err-get_struct.ensures.1 in
+    rw (p.1, p.2) (stopped_whole _ (tree_of c.args.source) _ c.in_ok-set_root.ensures.sound c.in_ok-set_root.ensures.tree c.in_err-get_struct.ensures.cause)
 
 pub returns-clause-root : goal.returns-clause-root
 returns-clause-root c =
     copied_root c.args.schema c.size_of-size.result (extended c.size_of-size.result (struct_in (tree_of c.args.source))) (tree_of c.args.source) (message_tree c.get_struct.new.self) c.size_of-size.ensures
-    refl (c.in_ok-place.ensures.tree ∙ ap (λ (t : Tree). struct_tree (extended c.size_of-size.result (struct_in t))) c.in_ok-set_root.ensures.tree) (omega arith) (omega arith)
+    refl (c.in_ok-get_struct.ensures.tree ∙ ap (λ (t : Tree). struct_tree (extended c.size_of-size.result (struct_in t))) c.in_ok-set_root.ensures.tree) (omega arith) (omega arith)
     c.pointer_is_well_formed.ensures
 
 pub returns-clause-copied : goal.returns-clause-copied
 returns-clause-copied c =
     root_copied c.args.schema c.size_of-size.result (extended c.size_of-size.result (struct_in (tree_of c.args.source))) c.args.source (message_tree c.get_struct.new.self) c.size_of-size.ensures
-    refl (c.in_ok-place.ensures.tree ∙ ap (λ (t : Tree). struct_tree (extended c.size_of-size.result (struct_in t))) c.in_ok-set_root.ensures.tree)
+    refl (c.in_ok-get_struct.ensures.tree ∙ ap (λ (t : Tree). struct_tree (extended c.size_of-size.result (struct_in t))) c.in_ok-set_root.ensures.tree)
 
 pub returns-clause-sound : goal.returns-clause-sound
-returns-clause-sound c = refused_whole (tree_of c.args.source) _ _ c.in_ok-set_root.ensures.sound c.in_ok-set_root.ensures.tree c.in_ok-place.ensures.within
+returns-clause-sound c = refused_whole (tree_of c.args.source) _ _ c.in_ok-set_root.ensures.sound c.in_ok-set_root.ensures.tree c.in_ok-get_struct.ensures.within

@@ -8,9 +8,9 @@ use Rattle.capnp_run.proofs.message.empty_root.Goals as goal
 pub returns-clause-root : goal.returns-clause-root
 returns-clause-root c =
     empty_root c.args.schema c.size_of-size.result (zero_struct c.size_of-size.result) (message_tree c.init_struct.new.self) c.size_of-size.ensures
-    refl c.in_ok-place.ensures.tree (omega arith) (omega arith)
+    refl c.in_ok-init_struct.ensures.tree (omega arith) (omega arith)
 
 pub returns-clause-anew : goal.returns-clause-anew
 returns-clause-anew c =
     root_made c.args.schema c.size_of-size.result (zero_struct c.size_of-size.result) (message_tree c.init_struct.new.self) c.size_of-size.ensures
-    refl c.in_ok-place.ensures.tree
+    refl c.in_ok-init_struct.ensures.tree

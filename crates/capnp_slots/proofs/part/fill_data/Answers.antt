@@ -1,6 +1,5 @@
 -- A default of another kind fills nothing.
 use Rattle.std.proofs.Common.{refl}
-use Rattle.capnp_wire.specs.WellFormed.{IsWellFormed}
 use Rattle.capnp_arena.specs.Built.{built}
 use Rattle.capnp_slots.proofs.Filled.{no-data, same-there}
 use Rattle.capnp_slots.proofs.part.fill_data.Goals as goal

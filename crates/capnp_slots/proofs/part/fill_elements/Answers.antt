@@ -1,6 +1,5 @@
 -- Lists of structs by the structs' sections, and other lists by the size of their elements.
 use Rattle.std.proofs.Common.{◌≡◌, ap, subst, sym, ◌∙◌, None, IfErr, OnOk}
-use Rattle.capnp_wire.specs.WellFormed.{IsWellFormed}
 use Rattle.capnp_wire.specs.Defaults.{default_tree as reader_tree, filled_structs, filled_structs_refusal, or_default}
 use Rattle.capnp_wire.specs.Edits.{IsDueRefusal}
 use Rattle.capnp_arena.specs.Built.{built}
@@ -15,7 +14,7 @@ use Rattle.capnp_schema.specs.Types.{SchemaType, StructType, seen_type, seen_var
 use Rattle.capnp_schema.specs.Plan.{brand_size}
 use Rattle.capnp_slots.specs.Fills.{HoldsThere, IsListFilled}
 use Rattle.capnp_slots.proofs.Filled.{is_plain}
-use Rattle.capnp_slots.proofs.FilledSlots.{always, made-filled}
+use Rattle.capnp_slots.proofs.FilledSlots.{made-filled}
 use Rattle.capnp_slots.proofs.Places.{same_struct}
 use Rattle.capnp_slots.proofs.part.fill_elements.Goals as goal
 

@@ -1,8 +1,7 @@
 -- What is filled where something stands, by the field's type.
-use Rattle.std.proofs.Common.{ap, refl, subst, sym, ◌∙◌}
+use Rattle.std.proofs.Common.{ap, refl, sym, ◌∙◌}
 use Rattle.capnp_arena.specs.Built.{built}
 use Rattle.capnp_wire.specs.Tree.{StructTree}
-use Rattle.capnp_wire.specs.WellFormed.{IsWellFormed}
 use Rattle.capnp_schema.specs.Entries.{lists_seen}
 use Rattle.capnp_schema.specs.Facts.Layers.{seen_which}
 use Rattle.capnp_schema.specs.StructHandles.{number_of, set_of}
@@ -10,7 +9,7 @@ use Rattle.capnp_schema.specs.Types.{seen_variant}
 use Rattle.capnp_schema.specs.Plan.{brand_size}
 use Rattle.capnp_slots.specs.Fields.{field_set}
 use Rattle.capnp_slots.proofs.Filled.{same-there}
-use Rattle.capnp_slots.proofs.FilledSlots.{always, part-filled, part-made, part-stayed, untyped-part}
+use Rattle.capnp_slots.proofs.FilledSlots.{part-filled, part-made, part-stayed, untyped-part}
 use Rattle.capnp_slots.proofs.StandingSlots.{data-in, list-in, struct-in, text-in}
 use Rattle.capnp_slots.proofs.Places.{same_struct}
 use Rattle.capnp_slots.proofs.part.fill_standing.Goals as goal

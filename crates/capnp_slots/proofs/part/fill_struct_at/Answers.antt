@@ -1,11 +1,11 @@
 -- A struct that stands is extended to the sections of its schema.
-use Rattle.std.proofs.Common.{ap, refl, sym, ◌∙◌}
+use Rattle.std.proofs.Common.{ap, sym, ◌∙◌}
 use Rattle.capnp_arena.specs.Built.{built}
 use Rattle.capnp_wire.specs.Reading.{is_null_tree}
 use Rattle.capnp_wire.specs.Tree.{StructTree}
 use Rattle.capnp_schema.specs.StructHandles.{number_of}
 use Rattle.capnp_schema.specs.Plan.{brand_size}
-use Rattle.capnp_slots.proofs.FilledSlots.{always, part-made}
+use Rattle.capnp_slots.proofs.FilledSlots.{part-made}
 use Rattle.capnp_slots.proofs.StandingSlots.{struct-at}
 use Rattle.capnp_slots.proofs.Places.{same_struct}
 use Rattle.capnp_slots.proofs.part.fill_struct_at.Goals as goal

@@ -1,4 +1,4 @@
-use Rattle.std.proofs.Common.{ℕ, ◌≡◌, ◌∙◌, ap, length, map, refl, rules, string_bytes, sym, Ok}
+use Rattle.std.proofs.Common.{◌≡◌, ◌∙◌, ap, length, map, refl, string_bytes, sym, Ok}
 use Rattle.std.proofs.lemmas.Result.{err_from_is_err_and}
 use Rattle.capnp_dynamic_readers.specs.Seen.{record_seen}
 use Rattle.capnp_schema.specs.Schema.{seen_brand, seen_enum, seen_node}

@@ -1,6 +1,5 @@
-use Rattle.std.proofs.Common.{ℕ, ◌≡◌, ◌≤◌, ◌+◌, ◌∙◌, ◌∷◌, ◌++◌, [], ap, arith, drop, length, length-append, rules, slice_get, string_bytes, sym, None, Some}
+use Rattle.std.proofs.Common.{◌≡◌, ◌+◌, ◌∙◌, ap, arith, drop, length, length-append, rules, slice_get, string_bytes, sym, None, Some}
 use Rattle.std.proofs.lemmas.Result.{err_from_is_err_and}
-use Rattle.std.proofs.lemmas.Option.{slice_get_past}
 use Rattle.capnp_request.specs.NamesMade.{texts}
 use Rattle.capnp_request.specs.Nodes.{nodes_of}
 use Rattle.capnp_request.specs.Numbers.{numbered}

@@ -1,8 +1,7 @@
-use Rattle.std.proofs.Common.{ℕ, List, ◌≡◌, rules}
+use Rattle.std.proofs.Common.{◌≡◌, rules}
 use Rattle.std.specs.HashMap.{get}
 use Rattle.capnp_request.specs.NamesMade.{one_more}
-use Rattle.capnp_request.specs.declared.names.Names.{Names}
-use Rattle.capnp_request.proofs.HoldersHeld.{eq, held_now, taken_now}
+use Rattle.capnp_request.proofs.HoldersHeld.{eq, taken_now}
 use Rattle.capnp_request.proofs.names.Names.is_taken.Goals as goal
 
 pub returns-clause-taken : goal.returns-clause-taken

@@ -1,4 +1,4 @@
-use Rattle.std.proofs.Common.{ap, sym, ◌∙◌}
+use Rattle.std.proofs.Common.{◌∙◌}
 use Rattle.capnp_dynamic_readers.specs.Seen.{record_seen}
 use Rattle.capnp_request.proofs.NodesRead.{annotation_kind, declared_by, undeclared}
 use Rattle.capnp_request.proofs.schema_nodes.SchemaNodes.declaration.Goals as goal

@@ -1,4 +1,4 @@
-use Rattle.std.proofs.Common.{ℕ, arith, ap, sym, ◌-◌, ◌+◌, ◌∙◌, ◌≡◌, suc, Ok}
+use Rattle.std.proofs.Common.{ℕ, arith, ap, sym, ◌-◌, ◌+◌, ◌∙◌, Ok}
 use Rattle.capnp_dynamic_readers.specs.Seen.{record_seen}
 use Rattle.capnp_request.specs.Nodes.{nodes_of}
 use Rattle.capnp_request.specs.Reading.{node_said}

@@ -1,5 +1,4 @@
-use Rattle.std.proofs.Common.{ap, sym, ◌∙◌}
-use Rattle.capnp_dynamic_readers.specs.Seen.{record_seen}
+use Rattle.std.proofs.Common.{ap, ◌∙◌}
 use Rattle.std.specs.Option.{option_map}
 use Rattle.std.specs.Prelude.{Some}
 use Rattle.capnp_request.specs.Reading.{node_said}

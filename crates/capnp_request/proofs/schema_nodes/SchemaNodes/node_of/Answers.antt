@@ -1,5 +1,4 @@
-use Rattle.std.proofs.Common.{ap, sym, ◌∙◌}
-use Rattle.capnp_dynamic_readers.specs.Seen.{record_seen}
+use Rattle.std.proofs.Common.{sym}
 use Rattle.std.proofs.Common.{rules}
 use Rattle.capnp_request.specs.Handles.{IsRecord}
 use Rattle.capnp_request.proofs.NodesListed.{section_record}

@@ -1,13 +1,10 @@
-use Rattle.std.proofs.Common.{arith, rules, ap, sym, ◌∙◌, ◌≡◌, ◌<◌, ◌≤◌, List, length, Ok}
-use Rattle.capnp_schema.specs.Entries.{lists_seen}
-use Rattle.capnp_schema.specs.RequestSet.{request_set}
+use Rattle.std.proofs.Common.{arith, ap, sym, ◌∙◌, ◌≡◌, List, length, Ok}
 use Rattle.capnp_schema.specs.StructHandles.{set_of}
-use Rattle.capnp_dynamic_readers.specs.Seen.{list_seen, record_seen}
-use Rattle.capnp_request.specs.Nodes.{node_record, nodes_of}
+use Rattle.capnp_dynamic_readers.specs.Seen.{record_seen}
+use Rattle.capnp_request.specs.Nodes.{nodes_of}
 use Rattle.capnp_request.specs.Reading.{nodes_in}
 use Rattle.capnp_request.specs.Scopes.{node_named}
 use Rattle.capnp_request.specs.Terms.{SchemaNode}
-use Rattle.capnp_request.proofs.ListsRead.{count_of}
 use Rattle.capnp_request.proofs.NodesListed.{all_read, node_unread, nodes_made, nodes_read, nodes_unread, one_read, section_record}
 use Rattle.capnp_request.proofs.NodesRead.{id_read}
 use Rattle.capnp_request.proofs.Refused.{err_if}

@@ -1,6 +1,4 @@
 -- So many nodes were read, and the map says which has an id.
-use Rattle.std.proofs.Common.{◌≡◌}
-use Rattle.capnp_dynamic_readers.specs.Seen.{list_seen, record_seen}
 use Rattle.capnp_request.proofs.NodesListed.{ReadSoFar}
 use Rattle.capnp_request.proofs.schema_nodes.SchemaNodes.of_request.Given as goal
 

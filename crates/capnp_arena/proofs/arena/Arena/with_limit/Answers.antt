@@ -2,7 +2,7 @@ use Rattle.std.proofs.Common.{rules, arith, ◌≡◌, replicate, refl, sym, sub
 use Rattle.capnp_wire.specs.Tree.{Null}
 use Rattle.capnp_arena.specs.Forest.{Forest, tree}
 use Rattle.capnp_arena.specs.Facts.Calls.{null_forest, null_tree}
-use Rattle.capnp_arena.proofs.arena.Arena.new.Goals as goal
+use Rattle.capnp_arena.proofs.arena.Arena.with_limit.Goals as goal
 
 pub returns-clause-forest : goal.returns-clause-forest
 returns-clause-forest c =
