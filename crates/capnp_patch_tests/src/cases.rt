@@ -2,8 +2,9 @@
 ghost use Rattle.std.specs.Prelude.{◌≡◌, ◌<◌};
 ghost use Rattle.capnp_schema.specs.StructHandles.{IsStruct};
 
-use crate::rows::{Row, calls_of, rows_in, steps_of, words_in};
 use capnp_call::calls::Call;
+use capnp_call_rows::{Row, calls_of, rows_in, steps_of};
+use capnp_dynamic_readers::dynamic_value::Reader as Value;
 use capnp_patch::engine::{Report, new_message, patch};
 use capnp_patch::get::get;
 use capnp_schema::schema::StructSchema;
@@ -91,6 +92,15 @@ fn show(
     Ok(no_report(alloc))
 }
 
+/// The words of rows: their lines.
+fn words_in(alloc: Global, text: &str) -> Result<Vec<String>> {
+    let mut words = Vec::new(alloc);
+    for line in text.lines() {
+        words.push(String::from_str(alloc, line)?)?;
+    }
+    Ok(words)
+}
+
 /// Makes calls on a message or on an empty root.
 fn report_of(
     alloc: Global,
@@ -136,7 +146,7 @@ fn make_all(
     requires { IsStruct schema }
 {
     let words = words_in(alloc, case.text)?;
-    let rows = rows_in(alloc, case.text)?;
+    let rows = rows_in(alloc, case.text, Value::Void)?;
     make(alloc, schema, case, &rows, &words, source, sink)
 }
 

@@ -4,8 +4,9 @@
 //! and by `run::run` on a builder or `message::run_copied`. Both times the replies and the message have to be the same.
 ghost use Rattle.capnp_schema.specs.StructHandles.{IsStruct};
 
-use crate::rows::{Asked, asked_in, calls_of, first_wrong};
+use crate::answers::first_wrong;
 use capnp_arena::message::Builder;
+use capnp_call_rows::{Row, calls_of, rows_in};
 use capnp_callers::streams::run_on_stream;
 use capnp_dynamic::dynamic_struct;
 use capnp_dynamic_readers::dynamic_value::Reader as Value;
@@ -28,7 +29,7 @@ pub struct Case<'c> {
     pub brand: u32,
     /// The message on a copy of which the calls are made; none for an empty root.
     pub start: &'c [u8],
-    /// The calls with their answers, a line each (`rows`).
+    /// The calls with their answers, a line each.
     pub rows: &'c str,
     /// The text of the root then.
     pub text: &'c str,
@@ -140,24 +141,24 @@ fn left_under(
     })
 }
 
-/// What the calls that are asked leave.
+/// What the calls of rows leave.
 fn left_of(
     alloc: Global,
     schema: StructSchema<'_>,
     case: &Case<'_>,
-    asked: &[Asked<'_>],
+    rows: &[Row<'_>],
 ) -> Result<Left>
     requires { IsStruct schema }
 {
-    let calls = calls_of(alloc, asked)?;
+    let calls = calls_of(alloc, rows)?;
     left_under(alloc, schema, case, calls.as_slice())
 }
 
 /// What the calls of a case leave. `Given` is what is given.
 pub fn left_by(alloc: Global, set: &SchemaSet, given: Value<'_>, case: &Case<'_>) -> Result<Left> {
     let schema = schema_of(set, case.brand)?;
-    let asked = asked_in(alloc, case.rows, given)?;
-    left_of(alloc, schema, case, asked.as_slice())
+    let rows = rows_in(alloc, case.rows, given)?;
+    left_of(alloc, schema, case, rows.as_slice())
 }
 
 fn is_left(rt: &impl Abort, case: &Case<'_>, left: &Left) {

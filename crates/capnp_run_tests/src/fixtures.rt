@@ -18,24 +18,24 @@ pub const NONE: &[u8] = &[];
 
 /// A group is entered where it is active, and its union asked for.
 pub const ENTERED: &str = "\
-tag.n set UInt16 3 -> Refused(30)
-tag init -> Done
-tag.n set UInt16 3 -> Done
-tag.n which -> Member(Some(1))
-n which -> Member(Some(2))
-tag.u1 get -> Refused(30)
-word has -> Flag(false)";
+set tag.n UInt16 3 -> Refused(30)
+init tag -> Done
+set tag.n UInt16 3 -> Done
+which tag -> Member(Some(1))
+which . -> Member(Some(2))
+get tag.u1 -> Refused(30)
+has word -> Flag(false)";
 
 /// A list is started, and its elements are written and read; what stands past it or is no list is refused.
 pub const LISTED: &str = "\
-items initn 2 -> Done
-items.1.a set UInt16 7 -> Done
-items.1 get -> Struct
-items get -> List(2)
-items.2.a set UInt16 1 -> Refused(32)
-items.t which -> Refused(33)
-raw.0 get -> Refused(33)
-bytes.0 get -> Refused(32)
-t get -> Text()
-t has -> Flag(false)
-zz clear -> Refused(20)";
+initn items 2 -> Done
+set items.1.a UInt16 7 -> Done
+get items.1 -> Struct
+get items -> List(2)
+set items.2.a UInt16 1 -> Refused(32)
+which items -> Refused(33)
+get raw.0 -> Refused(33)
+get bytes.0 -> Refused(32)
+get t -> Text()
+has t -> Flag(false)
+clear zz -> Refused(20)";

@@ -19,38 +19,38 @@ const SET_TEXT: &str =
     "(void = (), truth = true, lie = false, int8 = -128, int16 = -32768, int32 = -2147483648, int64 = -9223372036854775808, uint8 = 255, uint16 = 65535, uint32 = 4294967295, uint64 = 18446744073709551615, color = blue, text = \"word\", bytes = 0x\"010203\", point = (x = -5, y = 6), plain = (x = 7, y = -1), numbers = [65535, 8, 9], flags = [true, true, true], voids = [(), ()], wide = [-1, 1], colors = [blue, blue], texts = [\"hi\", \"\\0\"], blobs = [0x\"\", 0x\"0000\"], points = [(x = 1, y = 2), (x = 3, y = -1)], rows = [[1, -1], [0, 0, 0, -5], [2]], named = (name = \"me\", times = 4))";
 
 const READ: &str = "\
-void get -> Void
-truth get -> Bool(true)
-int8 get -> Int8(-128)
-int16 get -> Int16(-32768)
-int32 get -> Int32(-2147483648)
-int64 get -> Int64(-9223372036854775808)
-uint8 get -> UInt8(255)
-uint16 get -> UInt16(65535)
-uint32 get -> UInt32(4294967295)
-uint64 get -> UInt64(18446744073709551615)
-color get -> Enum(2)
-text get -> Text(word)
-bytes get -> Data([1, 2, 3])
-point get -> Struct
-rows get -> List(3)
-any get -> AnyPointer(true)
-named get -> Struct
-count get -> Refused(30)
-numbers.0 get -> UInt16(65535)
-flags.1 get -> Bool(false)
-voids.1 get -> Void
-wide.0 get -> Int64(-1)
-colors.1 get -> Enum(2)
-texts.1 get -> Text(ab)
-blobs.1 get -> Data([7])
-points.0 get -> Struct
-points.1.y get -> Int16(-1)
-rows.0 get -> List(2)
-rows.0.1 get -> Int8(-1)
-rows.1.0 get -> Refused(32)
-named.times get -> UInt8(4)
-named.once get -> Refused(30)";
+get void -> Void
+get truth -> Bool(true)
+get int8 -> Int8(-128)
+get int16 -> Int16(-32768)
+get int32 -> Int32(-2147483648)
+get int64 -> Int64(-9223372036854775808)
+get uint8 -> UInt8(255)
+get uint16 -> UInt16(65535)
+get uint32 -> UInt32(4294967295)
+get uint64 -> UInt64(18446744073709551615)
+get color -> Enum(2)
+get text -> Text(word)
+get bytes -> Data([1, 2, 3])
+get point -> Struct
+get rows -> List(3)
+get any -> AnyPointer(true)
+get named -> Struct
+get count -> Refused(30)
+get numbers.0 -> UInt16(65535)
+get flags.1 -> Bool(false)
+get voids.1 -> Void
+get wide.0 -> Int64(-1)
+get colors.1 -> Enum(2)
+get texts.1 -> Text(ab)
+get blobs.1 -> Data([7])
+get points.0 -> Struct
+get points.1.y -> Int16(-1)
+get rows.0 -> List(2)
+get rows.0.1 -> Int8(-1)
+get rows.1.0 -> Refused(32)
+get named.times -> UInt8(4)
+get named.once -> Refused(30)";
 
 #[test]
 fn each_kind_of_field_and_element_is_answered(rt: HostRuntime) -> std::result::Result<(), Fail> {
@@ -68,37 +68,37 @@ fn each_kind_of_field_and_element_is_answered(rt: HostRuntime) -> std::result::R
 
 /// Sets of elements, what is refused there, and what is read then.
 const ELEMENTS: &str = "\
-numbers.1 set UInt16 8 -> Done
-flags.1 set Bool true -> Done
-voids.1 set Text hi -> Done
-wide.1 set Text hi -> Refused(21)
-colors.0 set Given -> Done
-texts.0 set Text hi -> Done
-texts.1 initn 1 -> Done
-blobs.1 initn 2 -> Done
-blobs.2 initn 2 -> Refused(32)
-numbers.0 initn 2 -> Refused(23)
-points.0 initn 2 -> Refused(23)
-points.0 set Text hi -> Refused(21)
-rows.1 initn 4 -> Done
-rows.1.3 set Int8 -5 -> Done
-rows.0 init -> Refused(33)
-rows.0 clear -> Refused(33)
-rows.0 has -> Refused(33)
-rows.0 which -> Refused(33)
-numbers.1 get -> UInt16(8)
-numbers.0 get -> UInt16(65535)
-flags.1 get -> Bool(true)
-voids.1 get -> Void
-wide.1 get -> Int64(1)
-colors.0 get -> Enum(2)
-texts.0 get -> Text(hi)
-texts.1 get -> Text(\0)
-blobs.1 get -> Data([0, 0])
-rows.0 get -> List(2)
-rows.1 get -> List(4)
-rows.1.3 get -> Int8(-5)
-rows.1.0 get -> Int8(0)";
+set numbers.1 UInt16 8 -> Done
+set flags.1 Bool true -> Done
+set voids.1 Text hi -> Done
+set wide.1 Text hi -> Refused(21)
+set colors.0 Given -> Done
+set texts.0 Text hi -> Done
+initn texts.1 1 -> Done
+initn blobs.1 2 -> Done
+initn blobs.2 2 -> Refused(32)
+initn numbers.0 2 -> Refused(23)
+initn points.0 2 -> Refused(23)
+set points.0 Text hi -> Refused(21)
+initn rows.1 4 -> Done
+set rows.1.3 Int8 -5 -> Done
+init rows.0 -> Refused(33)
+clear rows.0 -> Refused(33)
+has rows.0 -> Refused(33)
+which rows -> Refused(33)
+get numbers.1 -> UInt16(8)
+get numbers.0 -> UInt16(65535)
+get flags.1 -> Bool(true)
+get voids.1 -> Void
+get wide.1 -> Int64(1)
+get colors.0 -> Enum(2)
+get texts.0 -> Text(hi)
+get texts.1 -> Text(\0)
+get blobs.1 -> Data([0, 0])
+get rows.0 -> List(2)
+get rows.1 -> List(4)
+get rows.1.3 -> Int8(-5)
+get rows.1.0 -> Int8(0)";
 
 #[test]
 fn each_kind_of_element_is_set(rt: HostRuntime) -> std::result::Result<(), Fail> {
@@ -116,31 +116,31 @@ fn each_kind_of_element_is_set(rt: HostRuntime) -> std::result::Result<(), Fail>
 }
 
 const NUMBERS: &str = "\
-n get -> UInt16(7)
-n set UInt16 5 -> Done
-n get -> UInt16(5)
-n clear -> Done
-n get -> UInt16(7)
-flag get -> Bool(true)
-s get -> Int8(-1)
-s has -> Flag(true)
-n set UInt8 5 -> Refused(21)
-n init -> Refused(25)
-n initn 1 -> Refused(26)
-n which -> Member(None)
-flag set Bool false -> Done
-s set Int8 2 -> Done
-n set UInt16 300 -> Done
-w set Int32 -2 -> Done
-q set UInt64 18446744073709551615 -> Done
-z set UInt64 1 -> Done";
+get n -> UInt16(7)
+set n UInt16 5 -> Done
+get n -> UInt16(5)
+clear n -> Done
+get n -> UInt16(7)
+get flag -> Bool(true)
+get s -> Int8(-1)
+has s -> Flag(true)
+set n UInt8 5 -> Refused(21)
+init n -> Refused(25)
+initn n 1 -> Refused(26)
+which . -> Member(None)
+set flag Bool false -> Done
+set s Int8 2 -> Done
+set n UInt16 300 -> Done
+set w Int32 -2 -> Done
+set q UInt64 18446744073709551615 -> Done
+set z UInt64 1 -> Done";
 
 /// An enum takes an enum's value alone.
 const SIZE: &str = "\
-size set UInt16 2 -> Refused(21)
-size get -> Enum(0)
-size set Given -> Done
-size get -> Enum(2)";
+set size UInt16 2 -> Refused(21)
+get size -> Enum(0)
+set size Given -> Done
+get size -> Enum(2)";
 
 static BESIDE_DEFAULTS: [Case<'static>; 2] = [
     Case {

@@ -1,13 +1,15 @@
 //! The tests of calls along paths and of runs by the public calls of `capnp_run`.
 //!
 //! They make lists of calls on empty roots, by `message::whole_new` and by `run::run` on a builder, and on copies of
-//! messages, by `message::whole_copied` and `run_copied`. A call and its answer are a row of text, which `rows` reads,
-//! as `items.1.a set UInt16 7 -> Done`; a case (`cases`) is such rows on one root, with the text and mostly the bytes
-//! that they leave: worked lists of calls on the built-in structs, each kind of field and element of a message that the
-//! public tool made, the tests of a step in their order, steps into defaults and past what can't be read.
-//! `./fail_each_allocation` refuses each request for memory in turn to those of `memory_tests`.
+//! messages, by `message::whole_copied` and `run_copied`. A call and its answer are a row of text, as
+//! `set items.1.a UInt16 7 -> Done` (`capnp_call_rows`, `answers`); a case (`cases`) is such rows on one root, with the
+//! text and mostly the bytes that they leave: worked lists of calls on the built-in structs, each kind of field and
+//! element of a message that the public tool made, the tests of a step in their order, steps into defaults and past what
+//! can't be read. `./fail_each_allocation` refuses each request for memory in turn to those of `memory_tests`.
 #![tactic(auto)]
 
+#[cfg(test)]
+mod answers;
 #[cfg(test)]
 mod cases;
 #[cfg(test)]
@@ -15,10 +17,10 @@ mod fixtures;
 #[cfg(test)]
 mod kind_tests;
 #[cfg(test)]
+mod limit_tests;
+#[cfg(test)]
 mod memory_tests;
 #[cfg(test)]
 mod row_tests;
-#[cfg(test)]
-mod rows;
 #[cfg(test)]
 mod walk_tests;

@@ -5,10 +5,11 @@ ghost use Rattle.std.specs.Prelude.{IfOk};
 ghost use Rattle.capnp_arena.specs.Message.{IsMessage};
 ghost use Rattle.capnp_schema.specs.StructHandles.{IsStruct};
 
+use crate::answers::first_wrong;
 use crate::cases::root;
 use crate::fixtures::{ENTERED, LISTED, LISTS, LOOP, SHAPES};
-use crate::rows::{Asked, asked_in, calls_of, first_wrong};
 use capnp_arena::message::Builder;
+use capnp_call_rows::{Row, calls_of, rows_in};
 use capnp_dynamic::dynamic_struct;
 use capnp_dynamic_readers::dynamic_value::Reader as Value;
 use capnp_dynamic_readers::printer::print;
@@ -135,19 +136,19 @@ fn meet(alloc: Global, schema: StructSchema<'_>, start: &[u8], calls: &[Call<'_>
     })
 }
 
-/// The calls that are asked, on a copy of a meeting's message.
-fn met_of(alloc: Global, schema: StructSchema<'_>, start: &[u8], asked: &[Asked<'_>]) -> Result<Met>
+/// The calls of rows, on a copy of a meeting's message.
+fn met_of(alloc: Global, schema: StructSchema<'_>, start: &[u8], rows: &[Row<'_>]) -> Result<Met>
     requires { IsStruct schema }
 {
-    let calls = calls_of(alloc, asked)?;
+    let calls = calls_of(alloc, rows)?;
     meet(alloc, schema, start, calls.as_slice())
 }
 
 /// The calls of a meeting on a copy of its message. `Given` is what is given.
 fn met_by(alloc: Global, set: &SchemaSet, given: Value<'_>, meeting: &Meeting<'_>) -> Result<Met> {
     let schema = schema_of(set, meeting.brand)?;
-    let asked = asked_in(alloc, meeting.rows, given)?;
-    met_of(alloc, schema, meeting.start, asked.as_slice())
+    let rows = rows_in(alloc, meeting.rows, given)?;
+    met_of(alloc, schema, meeting.start, rows.as_slice())
 }
 
 /// Whether replies are as rows say; where memory is refused to their texts, these are made again.
@@ -191,20 +192,20 @@ fn meetings_hold(
 }
 
 const MADE: &str = "\
-circle.r set UInt32 4294967295 -> Done
-tag init -> Done
-tag.n get -> UInt16(0)
-tag.n which -> Member(Some(1))
-circle init -> Done
-circle.r get -> UInt32(0)
-@9 get -> Refused(20)
-any set UInt16 1 -> Refused(20)
-tag init -> Done
-tag.any.@0 get -> Refused(31)
-tag.any init -> Done
-tag.q clear -> Done
-tag.n set UInt16 3 -> Done
-tag clear -> Done";
+set circle.r UInt32 4294967295 -> Done
+init tag -> Done
+get tag.n -> UInt16(0)
+which tag -> Member(Some(1))
+init circle -> Done
+get circle.r -> UInt32(0)
+get #9 -> Refused(20)
+set any UInt16 1 -> Refused(20)
+init tag -> Done
+get tag.any.#0 -> Refused(31)
+init tag.any -> Done
+clear tag.q -> Done
+set tag.n UInt16 3 -> Done
+clear tag -> Done";
 
 /// No call takes memory, and so none is refused.
 static TAKING_NONE: [Meeting<'static>; 2] = [
@@ -234,49 +235,49 @@ fn calls_that_take_no_memory(rt: HostRuntime) {
 }
 
 const NOT_LISTED: &str = "\
-items initn 2 -> Refused(1)
-items.1.a set UInt16 7 -> Refused(32)
-items.1 get -> Refused(32)
-items get -> List(0)
-items.2.a set UInt16 1 -> Refused(32)
-items.t which -> Refused(33)
-raw.0 get -> Refused(33)
-bytes.0 get -> Refused(32)
-t get -> Text()
-t has -> Flag(false)
-zz clear -> Refused(20)";
+initn items 2 -> Refused(1)
+set items.1.a UInt16 7 -> Refused(32)
+get items.1 -> Refused(32)
+get items -> List(0)
+set items.2.a UInt16 1 -> Refused(32)
+which items -> Refused(33)
+get raw.0 -> Refused(33)
+get bytes.0 -> Refused(32)
+get t -> Text()
+has t -> Flag(false)
+clear zz -> Refused(20)";
 
 const EXTENDED: &str = "\
-items.1.a set UInt16 7 -> Done";
+set items.1.a UInt16 7 -> Done";
 
 const NOT_EXTENDED: &str = "\
-items.1.a set UInt16 7 -> Refused(1)";
+set items.1.a UInt16 7 -> Refused(1)";
 
 const WRITTEN: &str = "\
-t set Text hi -> Done
-t has -> Flag(true)";
+set t Text hi -> Done
+has t -> Flag(true)";
 
 const NOT_WRITTEN: &str = "\
-t set Text hi -> Refused(1)
-t has -> Flag(false)";
+set t Text hi -> Refused(1)
+has t -> Flag(false)";
 
 const READ: &str = "\
-t get -> Text(hi)";
+get t -> Text(hi)";
 
 const NOT_READ: &str = "\
-t get -> Refused(1)";
+get t -> Refused(1)";
 
 const FILLED: &str = "\
-again clear -> Done
-again.end set Void -> Done
-again has -> Flag(true)
-end set Void -> Done";
+clear again -> Done
+set again.end Void -> Done
+has again -> Flag(true)
+set end Void -> Done";
 
 const NOT_FILLED: &str = "\
-again clear -> Done
-again.end set Void -> Refused(1)
-again has -> Flag(false)
-end set Void -> Done";
+clear again -> Done
+set again.end Void -> Refused(1)
+has again -> Flag(false)
+set end Void -> Done";
 
 static TAKING_SOME: [Meeting<'static>; 5] = [
     Meeting {
@@ -329,10 +330,10 @@ fn what_a_refused_call_leaves(rt: HostRuntime) {
 }
 
 const TAG: &str = "\
-tag init -> Done
-tag.u1 set UInt8 9 -> Done
-tag.n set UInt16 3 -> Done
-tag.q set Text z -> Done";
+init tag -> Done
+set tag.u1 UInt8 9 -> Done
+set tag.n UInt16 3 -> Done
+set tag.q Text z -> Done";
 
 static SOURCE: Meeting<'static> = Meeting {
     brand: SHAPES,
@@ -344,12 +345,12 @@ static SOURCE: Meeting<'static> = Meeting {
 };
 
 const COPIED: &str = "\
-tag set Given -> Done
-tag.q has -> Flag(true)";
+set tag Given -> Done
+has tag.q -> Flag(true)";
 
 const CUT: &str = "\
-tag set Given -> Refused(1)
-tag.q has -> Flag(false)";
+set tag Given -> Refused(1)
+has tag.q -> Flag(false)";
 
 static TAG_COPIED: [Meeting<'static>; 1] = [Meeting {
     brand: SHAPES,

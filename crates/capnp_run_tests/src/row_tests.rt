@@ -12,36 +12,36 @@ use capnp_schema_fixtures::set_text::read_set;
 use std::test::Fail;
 
 const LARGEST: &str = "\
-circle.r set UInt32 4294967295 -> Done";
+set circle.r UInt32 4294967295 -> Done";
 
 const MADE: &str = "\
-circle.r set UInt32 4294967295 -> Done
-tag init -> Done
-tag.n get -> UInt16(0)
-tag.n which -> Member(Some(1))
-circle init -> Done
-circle.r get -> UInt32(0)
-@9 get -> Refused(20)
-any.n set UInt16 1 -> Refused(20)
-any set UInt16 1 -> Refused(20)
-tag init -> Done
-tag.any.@0 get -> Refused(31)";
+set circle.r UInt32 4294967295 -> Done
+init tag -> Done
+get tag.n -> UInt16(0)
+which tag -> Member(Some(1))
+init circle -> Done
+get circle.r -> UInt32(0)
+get #9 -> Refused(20)
+set any.n UInt16 1 -> Refused(20)
+set any UInt16 1 -> Refused(20)
+init tag -> Done
+get tag.any.#0 -> Refused(31)";
 
 const NOT_SWITCHED: &str = "\
-b get -> Text()
-b has -> Flag(false)
-y set Text hi -> Refused(21)
-y which -> Member(Some(1))";
+get b -> Text()
+has b -> Flag(false)
+set y Text hi -> Refused(21)
+which . -> Member(Some(1))";
 
 const TOO_LONG: &str = "\
-word initn 536870911 -> Refused(10)
-word which -> Member(Some(1))";
+initn word 536870911 -> Refused(10)
+which . -> Member(Some(1))";
 
 const LISTS_TOO_LONG: &str = "\
-t initn 536870911 -> Refused(10)
-bytes initn 536870912 -> Refused(10)
-bytes initn 4294967295 -> Refused(10)
-items initn 536870912 -> Refused(10)";
+initn t 536870911 -> Refused(10)
+initn bytes 536870912 -> Refused(10)
+initn bytes 4294967295 -> Refused(10)
+initn items 536870912 -> Refused(10)";
 
 static WORKED: [Case<'static>; 7] = [
     Case {
@@ -103,18 +103,18 @@ fn worked_lists_of_calls(rt: HostRuntime) -> std::result::Result<(), Fail> {
 }
 
 const MIXED_SET: &str = "\
-a set UInt16 5 -> Done
-y set UInt8 9 -> Done
-b set Text hi -> Done";
+set a UInt16 5 -> Done
+set y UInt8 9 -> Done
+set b Text hi -> Done";
 
 const PAIR_SET: &str = "\
-items initn 2 -> Done
-items.0.a set UInt16 1 -> Done
-items.1.a set UInt16 2 -> Done";
+initn items 2 -> Done
+set items.0.a UInt16 1 -> Done
+set items.1.a UInt16 2 -> Done";
 
 const PAIR_READ: &str = "\
-items.0.a get -> UInt16(1)
-items.1.a get -> UInt16(2)";
+get items.0.a -> UInt16(1)
+get items.1.a -> UInt16(2)";
 
 static WRITTEN: [Case<'static>; 3] = [
     Case {
@@ -150,15 +150,15 @@ fn what_is_written_is_the_messages_bytes(rt: HostRuntime) -> std::result::Result
 
 /// A tag whose copy is cut by the last row.
 const CUT_TAG: &str = "\
-tag init -> Done
-tag.u1 set UInt8 9 -> Done
-tag.n set UInt16 3 -> Done
-tag.q set Text z -> Done
-tag.any set Text k -> Done";
+init tag -> Done
+set tag.u1 UInt8 9 -> Done
+set tag.n UInt16 3 -> Done
+set tag.q Text z -> Done
+set tag.any Text k -> Done";
 
 const CUT: &str = "\
-circle set Given -> Refused(21)
-tag set Given -> Refused(27)";
+set circle Given -> Refused(21)
+set tag Given -> Refused(27)";
 
 static SOURCE: Case<'static> = Case {
     brand: SHAPES,
@@ -188,10 +188,10 @@ fn a_group_that_is_cut_by_an_untyped_field(rt: HostRuntime) -> std::result::Resu
 }
 
 const CUT_AT_TEXT: &str = "\
-tag set Given -> Refused(7)
-tag.q has -> Flag(false)
-tag.n get -> UInt16(3)
-tag.u1 get -> UInt8(9)";
+set tag Given -> Refused(7)
+has tag.q -> Flag(false)
+get tag.n -> UInt16(3)
+get tag.u1 -> UInt8(9)";
 
 static CUT_AT_A_TEXT: [Case<'static>; 1] = [Case {
     brand: SHAPES,
@@ -215,9 +215,9 @@ const GROUPED: &str = "struct 1 1, g group(1); \
     group 1 1 union 2 1, k UInt16 @0, e Void @0 #0, m Text @0 #1";
 
 const CUT_AT_MEMBER: &str = "\
-g set Given -> Refused(7)
-g.k get -> UInt16(0)
-g.k which -> Member(Some(1))";
+set g Given -> Refused(7)
+get g.k -> UInt16(0)
+which g -> Member(Some(1))";
 
 static CUT_AT_A_MEMBER: [Case<'static>; 1] = [Case {
     brand: 0,

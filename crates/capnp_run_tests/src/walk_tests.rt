@@ -9,39 +9,39 @@ use capnp_schema_fixtures::set_text::read_set;
 use std::test::Fail;
 
 const ORDER: &str = "\
-0 get -> Refused(33)
-0.n get -> Refused(33)
-nothing.n get -> Refused(20)
-word.n get -> Refused(30)
-tag.any.n get -> Refused(30)
-id.n get -> Refused(33)
-tag.n has -> Refused(30)
-circle.n set UInt8 1 -> Refused(20)
-circle.0 set UInt8 1 -> Refused(33)
-circle.r set UInt8 1 -> Refused(21)
-circle.0 which -> Member(None)
-circle has -> Flag(true)
-circle get -> Struct
-circle set UInt8 1 -> Refused(22)
-circle initn 1 -> Refused(26)
-tag has -> Flag(false)
-tag get -> Refused(30)
-word get -> Refused(30)
-word init -> Refused(25)
-nothing which -> Member(Some(1))";
+get 0 -> Refused(33)
+get 0.n -> Refused(33)
+get nothing.n -> Refused(20)
+get word.n -> Refused(30)
+get tag.any.n -> Refused(30)
+get id.n -> Refused(33)
+has tag.n -> Refused(30)
+set circle.n UInt8 1 -> Refused(20)
+set circle.0 UInt8 1 -> Refused(33)
+set circle.r UInt8 1 -> Refused(21)
+which circle -> Member(None)
+has circle -> Flag(true)
+get circle -> Struct
+set circle UInt8 1 -> Refused(22)
+initn circle 1 -> Refused(26)
+has tag -> Flag(false)
+get tag -> Refused(30)
+get word -> Refused(30)
+init word -> Refused(25)
+which . -> Member(Some(1))";
 
 const UNTYPED: &str = "\
-tag init -> Done
-tag.any get -> AnyPointer(true)
-tag.any set Text k -> Done
-tag.any get -> AnyPointer(false)
-tag.any set Void -> Refused(27)
-tag.any.n get -> Refused(31)
-tag.any has -> Flag(true)
-tag.any init -> Done
-tag.any has -> Flag(false)
-tag.q initn 2 -> Done
-tag.q get -> Text(\0\0)";
+init tag -> Done
+get tag.any -> AnyPointer(true)
+set tag.any Text k -> Done
+get tag.any -> AnyPointer(false)
+set tag.any Void -> Refused(27)
+get tag.any.n -> Refused(31)
+has tag.any -> Flag(true)
+init tag.any -> Done
+has tag.any -> Flag(false)
+initn tag.q 2 -> Done
+get tag.q -> Text(\0\0)";
 
 /// Three `Loop` structs, one in the other; the last has `end` active.
 const THREE: &[u8] = &[
@@ -52,19 +52,19 @@ const THREE: &[u8] = &[
 /// Nulls on the way are filled, and stay so where the call is refused; a `Get` at the end fills none. The default has
 /// the second member active.
 const FILLED: &str = "\
-again.end get -> Refused(30)
-again has -> Flag(false)
-again clear -> Done
-end which -> Member(Some(1))
-again get -> Struct
-again has -> Flag(false)
-again.end which -> Member(Some(1))
-again has -> Flag(true)
-again.again has -> Flag(false)
-again.again.nothing get -> Refused(20)
-again.again has -> Flag(true)
-again.again.end get -> Refused(30)
-again.again.end set Void -> Done";
+get again.end -> Refused(30)
+has again -> Flag(false)
+clear again -> Done
+which . -> Member(Some(1))
+get again -> Struct
+has again -> Flag(false)
+which again -> Member(Some(1))
+has again -> Flag(true)
+has again.again -> Flag(false)
+get again.again.nothing -> Refused(20)
+has again.again -> Flag(true)
+get again.again.end -> Refused(30)
+set again.again.end Void -> Done";
 
 static STEPS: [Case<'static>; 3] = [
     Case {
@@ -98,7 +98,7 @@ fn steps_are_tested_and_fill_nulls(rt: HostRuntime) -> std::result::Result<(), F
 }
 
 const CLEARED: &str = "\
-again clear -> Done";
+clear again -> Done";
 
 static SELF_FED: Case<'static> = Case {
     brand: LOOP,
@@ -124,19 +124,19 @@ const DEFAULT_SET: &str = "struct 0 4, text Text @0 =Text(hi), \
     points List(Struct(1)) @3 =List(pairs_1_2_5_6); struct 1 0, x UInt16 @0, y UInt16 @1";
 
 const DEFAULTS: &str = "\
-text get -> Text(hi)
-text.x get -> Refused(33)
-text has -> Flag(false)
-numbers get -> List(3)
-points get -> List(2)
-inner get -> Struct
-numbers has -> Flag(false)
-numbers.1 get -> UInt16(2)
-numbers has -> Flag(true)
-inner.x get -> UInt16(3)
-inner.y set UInt16 9 -> Done
-points.1.x get -> UInt16(5)
-points.1.y clear -> Done";
+get text -> Text(hi)
+get text.x -> Refused(33)
+has text -> Flag(false)
+get numbers -> List(3)
+get points -> List(2)
+get inner -> Struct
+has numbers -> Flag(false)
+get numbers.1 -> UInt16(2)
+has numbers -> Flag(true)
+get inner.x -> UInt16(3)
+set inner.y UInt16 9 -> Done
+get points.1.x -> UInt16(5)
+clear points.1.y -> Done";
 
 static INTO_DEFAULTS: [Case<'static>; 1] = [Case {
     brand: 0,
@@ -163,21 +163,21 @@ const UNREADABLE: &[u8] = &[
 
 /// After the last row all can be printed.
 const FAULTS: &str = "\
-bytes get -> Refused(5)
-raw get -> Refused(6)
-t get -> Refused(7)
-items get -> Refused(6)
-t has -> Flag(true)
-bytes.9 set UInt8 7 -> Refused(5)
-t.a get -> Refused(33)
-items.0 which -> Refused(6)
-items.0.a has -> Refused(6)
-raw clear -> Done
-raw get -> Data([])
-t set Text ok -> Done
-bytes initn 2 -> Done
-bytes.1 set UInt8 7 -> Done
-items initn 1 -> Done";
+get bytes -> Refused(5)
+get raw -> Refused(6)
+get t -> Refused(7)
+get items -> Refused(6)
+has t -> Flag(true)
+set bytes.9 UInt8 7 -> Refused(5)
+get t.a -> Refused(33)
+which items -> Refused(6)
+has items.0.a -> Refused(6)
+clear raw -> Done
+get raw -> Data([])
+set t Text ok -> Done
+initn bytes 2 -> Done
+set bytes.1 UInt8 7 -> Done
+initn items 1 -> Done";
 
 static PAST_FAULTS: [Case<'static>; 1] = [Case {
     brand: LISTS,

@@ -31,12 +31,12 @@ pub enum Write<'a> {
     Clear,
 }
 
-/// Where a path leads: names and indices, with slashes between them.
+/// Where a path leads: names and indices, with dots between them.
 pub fn place_of<'a>(path: &'a str) -> At<'a> {
-    let Some((first, rest)) = path.split_once('/') else {
+    let Some((first, rest)) = path.split_once('.') else {
         return At::Field(path);
     };
-    let (second, third) = rest.split_once('/').unwrap_or((rest, ""));
+    let (second, third) = rest.split_once('.').unwrap_or((rest, ""));
     match (second.parse::<u32>().ok(), third.parse::<u32>().ok()) {
         (None, _) => At::Inner(first, second),
         (Some(row), Some(index)) => At::Cell(first, row, index),

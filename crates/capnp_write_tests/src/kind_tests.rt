@@ -3,115 +3,115 @@
 use crate::script::rows_hold;
 
 /// The set of each field to the value that is given, each in a new message.
-const SET_FIELDS: &str = "set void given | set truth given | set lie given | set int8 given | \
-    set int16 given | set int32 given | set int64 given | set uint8 given | \
-    set uint16 given | set uint32 given | set uint64 given | set color given | \
-    set text given | set bytes given | set point given | set plain given | \
-    set numbers given | set flags given | set voids given | set wide given | \
-    set colors given | set texts given | set blobs given | set points given | \
-    set rows given | set any given | set none given | set count given | set named given";
+const SET_FIELDS: &str = "set void Given | set truth Given | set lie Given | set int8 Given | \
+    set int16 Given | set int32 Given | set int64 Given | set uint8 Given | \
+    set uint16 Given | set uint32 Given | set uint64 Given | set color Given | \
+    set text Given | set bytes Given | set point Given | set plain Given | \
+    set numbers Given | set flags Given | set voids Given | set wide Given | \
+    set colors Given | set texts Given | set blobs Given | set points Given | \
+    set rows Given | set any Given | set none Given | set count Given | set named Given";
 
 /// The same of an element of each list.
 const SET_ELEMENTS: &str =
-    "set numbers/1 given | set flags/1 given | set voids/1 given | set wide/1 given | \
-    set colors/1 given | set texts/1 given | set blobs/1 given | set points/1 given | \
-    set rows/1 given";
+    "set numbers.1 Given | set flags.1 Given | set voids.1 Given | set wide.1 Given | \
+    set colors.1 Given | set texts.1 Given | set blobs.1 Given | set points.1 Given | \
+    set rows.1 Given";
 
 /// A value of each kind for each field. A field of a kind takes its own kind, a `Void` takes all, and an untyped
 /// pointer what stands behind a pointer. Where a set is refused, nothing changes.
 static FIELD_ROWS: [(&str, &str, &str); 16] = [
     (
-        "kinds from empty given read kinds full void",
+        "kinds from empty given Read kinds full void",
         SET_FIELDS,
         "ok; 21; 21; 21; 21; 21; 21; 21; 21; 21; 21; 21; 21; 21; 21; 21; 21; 21; 21; 21; 21; \
          21; 21; 21; 21; 27; ok; 21; 22",
     ),
     (
-        "kinds from empty given read kinds full truth",
+        "kinds from empty given Read kinds full truth",
         SET_FIELDS,
         "ok; ok; ok; 21; 21; 21; 21; 21; 21; 21; 21; 21; 21; 21; 21; 21; 21; 21; 21; 21; 21; \
          21; 21; 21; 21; 27; ok; 21; 22",
     ),
     (
-        "kinds from empty given read kinds full int8",
+        "kinds from empty given Read kinds full int8",
         SET_FIELDS,
         "ok; 21; 21; ok; 21; 21; 21; 21; 21; 21; 21; 21; 21; 21; 21; 21; 21; 21; 21; 21; 21; \
          21; 21; 21; 21; 27; ok; 21; 22",
     ),
     (
-        "kinds from empty given read kinds full int16",
+        "kinds from empty given Read kinds full int16",
         SET_FIELDS,
         "ok; 21; 21; 21; ok; 21; 21; 21; 21; 21; 21; 21; 21; 21; 21; 21; 21; 21; 21; 21; 21; \
          21; 21; 21; 21; 27; ok; 21; 22",
     ),
     (
-        "kinds from empty given read kinds full int32",
+        "kinds from empty given Read kinds full int32",
         SET_FIELDS,
         "ok; 21; 21; 21; 21; ok; 21; 21; 21; 21; 21; 21; 21; 21; 21; 21; 21; 21; 21; 21; 21; \
          21; 21; 21; 21; 27; ok; 21; 22",
     ),
     (
-        "kinds from empty given read kinds full int64",
+        "kinds from empty given Read kinds full int64",
         SET_FIELDS,
         "ok; 21; 21; 21; 21; 21; ok; 21; 21; 21; 21; 21; 21; 21; 21; 21; 21; 21; 21; 21; 21; \
          21; 21; 21; 21; 27; ok; 21; 22",
     ),
     (
-        "kinds from empty given read kinds full uint8",
+        "kinds from empty given Read kinds full uint8",
         SET_FIELDS,
         "ok; 21; 21; 21; 21; 21; 21; ok; 21; 21; 21; 21; 21; 21; 21; 21; 21; 21; 21; 21; 21; \
          21; 21; 21; 21; 27; ok; 21; 22",
     ),
     (
-        "kinds from empty given read kinds full uint16",
+        "kinds from empty given Read kinds full uint16",
         SET_FIELDS,
         "ok; 21; 21; 21; 21; 21; 21; 21; ok; 21; 21; 21; 21; 21; 21; 21; 21; 21; 21; 21; 21; \
          21; 21; 21; 21; 27; ok; 21; 22",
     ),
     (
-        "kinds from empty given read kinds full uint32",
+        "kinds from empty given Read kinds full uint32",
         SET_FIELDS,
         "ok; 21; 21; 21; 21; 21; 21; 21; 21; ok; 21; 21; 21; 21; 21; 21; 21; 21; 21; 21; 21; \
          21; 21; 21; 21; 27; ok; ok; 22",
     ),
     (
-        "kinds from empty given read kinds full uint64",
+        "kinds from empty given Read kinds full uint64",
         SET_FIELDS,
         "ok; 21; 21; 21; 21; 21; 21; 21; 21; 21; ok; 21; 21; 21; 21; 21; 21; 21; 21; 21; 21; \
          21; 21; 21; 21; 27; ok; 21; 22",
     ),
     (
-        "kinds from empty given read kinds full color",
+        "kinds from empty given Read kinds full color",
         SET_FIELDS,
         "ok; 21; 21; 21; 21; 21; 21; 21; 21; 21; 21; ok; 21; 21; 21; 21; 21; 21; 21; 21; 21; \
          21; 21; 21; 21; 27; ok; 21; 22",
     ),
     (
-        "kinds from empty given read kinds full text",
+        "kinds from empty given Read kinds full text",
         SET_FIELDS,
         "ok; 21; 21; 21; 21; 21; 21; 21; 21; 21; 21; 21; ok; 21; 21; 21; 21; 21; 21; 21; 21; \
          21; 21; 21; 21; ok; ok; 21; 22",
     ),
     (
-        "kinds from empty given read kinds full bytes",
+        "kinds from empty given Read kinds full bytes",
         SET_FIELDS,
         "ok; 21; 21; 21; 21; 21; 21; 21; 21; 21; 21; 21; 21; ok; 21; 21; 21; 21; 21; 21; 21; \
          21; 21; 21; 21; ok; ok; 21; 22",
     ),
     (
-        "kinds from empty given read kinds full point",
+        "kinds from empty given Read kinds full point",
         SET_FIELDS,
         "ok; 21; 21; 21; 21; 21; 21; 21; 21; 21; 21; 21; 21; 21; ok; ok; 21; 21; 21; 21; 21; \
          21; 21; 21; 21; ok; ok; 21; 21",
     ),
     (
-        "kinds from empty given read kinds full numbers",
+        "kinds from empty given Read kinds full numbers",
         SET_FIELDS,
         "ok; 21; 21; 21; 21; 21; 21; 21; 21; 21; 21; 21; 21; 21; 21; 21; ok; ok; ok; ok; ok; \
          ok; ok; ok; ok; ok; ok; 21; 22",
     ),
     (
-        "kinds from empty given read kinds full any",
+        "kinds from empty given Read kinds full any",
         SET_FIELDS,
         "ok; 21; 21; 21; 21; 21; 21; 21; 21; 21; 21; 21; 21; 21; 21; 21; 21; 21; 21; 21; 21; \
          21; 21; 21; 21; 27; ok; 21; 22",
@@ -121,82 +121,82 @@ static FIELD_ROWS: [(&str, &str, &str); 16] = [
 /// The same for each element, in a message with a value in each field.
 static ELEMENT_ROWS: [(&str, &str, &str); 16] = [
     (
-        "kinds from full given read kinds full void",
+        "kinds from full given Read kinds full void",
         SET_ELEMENTS,
         "21; 21; ok; 21; 21; 21; 21; 21; 21",
     ),
     (
-        "kinds from full given read kinds full truth",
+        "kinds from full given Read kinds full truth",
         SET_ELEMENTS,
         "21; ok; ok; 21; 21; 21; 21; 21; 21",
     ),
     (
-        "kinds from full given read kinds full int8",
+        "kinds from full given Read kinds full int8",
         SET_ELEMENTS,
         "21; 21; ok; 21; 21; 21; 21; 21; 21",
     ),
     (
-        "kinds from full given read kinds full int16",
+        "kinds from full given Read kinds full int16",
         SET_ELEMENTS,
         "21; 21; ok; 21; 21; 21; 21; 21; 21",
     ),
     (
-        "kinds from full given read kinds full int32",
+        "kinds from full given Read kinds full int32",
         SET_ELEMENTS,
         "21; 21; ok; 21; 21; 21; 21; 21; 21",
     ),
     (
-        "kinds from full given read kinds full int64",
+        "kinds from full given Read kinds full int64",
         SET_ELEMENTS,
         "21; 21; ok; ok; 21; 21; 21; 21; 21",
     ),
     (
-        "kinds from full given read kinds full uint8",
+        "kinds from full given Read kinds full uint8",
         SET_ELEMENTS,
         "21; 21; ok; 21; 21; 21; 21; 21; 21",
     ),
     (
-        "kinds from full given read kinds full uint16",
+        "kinds from full given Read kinds full uint16",
         SET_ELEMENTS,
         "ok; 21; ok; 21; 21; 21; 21; 21; 21",
     ),
     (
-        "kinds from full given read kinds full uint32",
+        "kinds from full given Read kinds full uint32",
         SET_ELEMENTS,
         "21; 21; ok; 21; 21; 21; 21; 21; 21",
     ),
     (
-        "kinds from full given read kinds full uint64",
+        "kinds from full given Read kinds full uint64",
         SET_ELEMENTS,
         "21; 21; ok; 21; 21; 21; 21; 21; 21",
     ),
     (
-        "kinds from full given read kinds full color",
+        "kinds from full given Read kinds full color",
         SET_ELEMENTS,
         "21; 21; ok; 21; ok; 21; 21; 21; 21",
     ),
     (
-        "kinds from full given read kinds full text",
+        "kinds from full given Read kinds full text",
         SET_ELEMENTS,
         "21; 21; ok; 21; 21; ok; 21; 21; 21",
     ),
     (
-        "kinds from full given read kinds full bytes",
+        "kinds from full given Read kinds full bytes",
         SET_ELEMENTS,
         "21; 21; ok; 21; 21; 21; ok; 21; 21",
     ),
     (
-        "kinds from full given read kinds full point",
+        "kinds from full given Read kinds full point",
         SET_ELEMENTS,
         "21; 21; ok; 21; 21; 21; 21; ok; 21",
     ),
     (
-        "kinds from full given read kinds full numbers",
+        "kinds from full given Read kinds full numbers",
         SET_ELEMENTS,
         "21; 21; ok; 21; 21; 21; 21; 21; ok",
     ),
     (
-        "kinds from full given read kinds full any",
+        "kinds from full given Read kinds full any",
         SET_ELEMENTS,
         "21; 21; ok; 21; 21; 21; 21; 21; 21",
     ),
@@ -205,78 +205,78 @@ static ELEMENT_ROWS: [(&str, &str, &str); 16] = [
 /// What a field has that was set to the value of this field in another message.
 static SET_ROWS: [(&str, &str, &str); 15] = [
     (
-        "kinds from empty given read kinds full void",
-        "set void given; value void",
+        "kinds from empty given Read kinds full void",
+        "set void Given; value void",
         "ok; ()",
     ),
     (
-        "kinds from empty given read kinds full truth",
-        "set truth given; value truth",
+        "kinds from empty given Read kinds full truth",
+        "set truth Given; value truth",
         "ok; true",
     ),
     (
-        "kinds from empty given read kinds full int8",
-        "set int8 given; value int8",
+        "kinds from empty given Read kinds full int8",
+        "set int8 Given; value int8",
         "ok; -128",
     ),
     (
-        "kinds from empty given read kinds full int16",
-        "set int16 given; value int16",
+        "kinds from empty given Read kinds full int16",
+        "set int16 Given; value int16",
         "ok; -32768",
     ),
     (
-        "kinds from empty given read kinds full int32",
-        "set int32 given; value int32",
+        "kinds from empty given Read kinds full int32",
+        "set int32 Given; value int32",
         "ok; -2147483648",
     ),
     (
-        "kinds from empty given read kinds full int64",
-        "set int64 given; value int64",
+        "kinds from empty given Read kinds full int64",
+        "set int64 Given; value int64",
         "ok; -9223372036854775808",
     ),
     (
-        "kinds from empty given read kinds full uint8",
-        "set uint8 given; value uint8",
+        "kinds from empty given Read kinds full uint8",
+        "set uint8 Given; value uint8",
         "ok; 255",
     ),
     (
-        "kinds from empty given read kinds full uint16",
-        "set uint16 given; value uint16",
+        "kinds from empty given Read kinds full uint16",
+        "set uint16 Given; value uint16",
         "ok; 65535",
     ),
     (
-        "kinds from empty given read kinds full uint32",
-        "set uint32 given; value uint32",
+        "kinds from empty given Read kinds full uint32",
+        "set uint32 Given; value uint32",
         "ok; 4294967295",
     ),
     (
-        "kinds from empty given read kinds full uint64",
-        "set uint64 given; value uint64",
+        "kinds from empty given Read kinds full uint64",
+        "set uint64 Given; value uint64",
         "ok; 18446744073709551615",
     ),
     (
-        "kinds from empty given read kinds full color",
-        "set color given; value color",
+        "kinds from empty given Read kinds full color",
+        "set color Given; value color",
         "ok; blue",
     ),
     (
-        "kinds from empty given read kinds full text",
-        "set text given; value text",
+        "kinds from empty given Read kinds full text",
+        "set text Given; value text",
         "ok; \"word\"",
     ),
     (
-        "kinds from empty given read kinds full bytes",
-        "set bytes given; value bytes",
+        "kinds from empty given Read kinds full bytes",
+        "set bytes Given; value bytes",
         "ok; 0x\"010203\"",
     ),
     (
-        "kinds from empty given read kinds full point",
-        "set point given; value point",
+        "kinds from empty given Read kinds full point",
+        "set point Given; value point",
         "ok; (x = -5, y = 6)",
     ),
     (
-        "kinds from empty given read kinds full numbers",
-        "set numbers given; value numbers",
+        "kinds from empty given Read kinds full numbers",
+        "set numbers Given; value numbers",
         "ok; [65535, 0, 9]",
     ),
 ];
@@ -343,9 +343,9 @@ static START_ROWS: [(&str, &str, &str); 8] = [
     // an element that is a list, text or data is started with a length
     (
         "kinds from full",
-        "initn numbers/1 3 | initn flags/1 3 | initn voids/1 3 | initn wide/1 3 | \
-         initn colors/1 3 | initn texts/1 3 | initn blobs/1 3 | initn points/1 3 | \
-         initn rows/1 3",
+        "initn numbers.1 3 | initn flags.1 3 | initn voids.1 3 | initn wide.1 3 | \
+         initn colors.1 3 | initn texts.1 3 | initn blobs.1 3 | initn points.1 3 | \
+         initn rows.1 3",
         "23; 23; 23; 23; 23; ok; ok; 23; ok",
     ),
     // a length past the format is refused: 2^29 elements or bytes, and a text of 2^29 bytes with its zero
@@ -361,15 +361,15 @@ static START_ROWS: [(&str, &str, &str); 8] = [
     // and so it is of an element
     (
         "kinds from full",
-        "initn texts/1 536870911 | initn texts/1 4294967295 | initn blobs/1 536870912 | \
-         initn blobs/1 4294967295 | initn rows/1 536870912 | initn rows/1 4294967295",
+        "initn texts.1 536870911 | initn texts.1 4294967295 | initn blobs.1 536870912 | \
+         initn blobs.1 4294967295 | initn rows.1 536870912 | initn rows.1 4294967295",
         "10; 10; 10; 10; 10; 10",
     ),
     // every element is handed out
     (
         "kinds from full",
-        "get numbers/1 | get flags/1 | get voids/1 | get wide/1 | get colors/1 | \
-         get texts/1 | get blobs/1 | get points/1 | get rows/1",
+        "get numbers.1 | get flags.1 | get voids.1 | get wide.1 | get colors.1 | \
+         get texts.1 | get blobs.1 | get points.1 | get rows.1",
         "ok; ok; ok; ok; ok; ok; ok; ok; ok",
     ),
 ];

@@ -10,16 +10,16 @@
 //!
 //! | call | what it does |
 //! |---|---|
-//! | `set items/1/a u16 7` | a `set` to a value |
-//! | `init`, `initn`, `clear`, `get`, as `initn rows/0 2` | the call of that name; `initn` of an element is a list's `init` |
+//! | `set items.1.a UInt16 7` | a `set` to a value |
+//! | `init`, `initn`, `clear`, `get`, as `initn rows.0 2` | the call of that name; `initn` of an element is a list's `init` |
 //! | `which` | answers the index of the active member, or `none` |
 //! | `has b` | answers whether the root's field is there |
 //! | `value b` | answers the text of what a `get` of the root's field hands out |
 //! | `print` | answers the text of the message's root |
 //! | `is full` | answers whether the message has the bytes of another |
 //!
-//! A value is `void`, `null` (an untyped pointer), `given`, a kind of value and what it is, as `u16 7`, `bool true`,
-//! `enum 2`, `text hi` or `data hi`, and `read shapes tagged tag`: what a field of a message's root reads as, or the
+//! A value is `Void`, `Null` (an untyped pointer), `Given`, a kind of value and what it is, as `UInt16 7`, `Bool true`,
+//! `Enum 2`, `Text hi` or `Data hi`, and `Read shapes tagged tag`: what a field of a message's root reads as, or the
 //! root itself where no field is named.
 //!
 //! The answers stand in the same order. A call that is carried out is `ok`, one that is refused is the number of its
@@ -94,20 +94,20 @@ enum Kind {
 }
 
 static KINDS: [(&str, Kind); 14] = [
-    ("null", Kind::Null),
-    ("bool", Kind::Bool),
-    ("i8", Kind::Int8),
-    ("i16", Kind::Int16),
-    ("i32", Kind::Int32),
-    ("i64", Kind::Int64),
-    ("u8", Kind::UInt8),
-    ("u16", Kind::UInt16),
-    ("u32", Kind::UInt32),
-    ("u64", Kind::UInt64),
-    ("enum", Kind::Enum),
-    ("text", Kind::Text),
-    ("data", Kind::Data),
-    ("read", Kind::Read),
+    ("Null", Kind::Null),
+    ("Bool", Kind::Bool),
+    ("Int8", Kind::Int8),
+    ("Int16", Kind::Int16),
+    ("Int32", Kind::Int32),
+    ("Int64", Kind::Int64),
+    ("UInt8", Kind::UInt8),
+    ("UInt16", Kind::UInt16),
+    ("UInt32", Kind::UInt32),
+    ("UInt64", Kind::UInt64),
+    ("Enum", Kind::Enum),
+    ("Text", Kind::Text),
+    ("Data", Kind::Data),
+    ("Read", Kind::Read),
 ];
 
 /// A call with what stands after its word; the value is that of a `set`.
@@ -261,7 +261,7 @@ fn value_of<'a>(alloc: Global, set: &'a SchemaSet, text: &'a str) -> Result<Valu
 fn call_of<'a>(alloc: Global, start: Start<'a>, text: &'a str) -> Result<Call<'a>> {
     let (word, rest) = words_of(text);
     let (path, rest) = words_of(rest);
-    let value = if rest == "given" { start.given } else { rest };
+    let value = if rest == "Given" { start.given } else { rest };
     Ok(Call {
         word: word_of(word),
         path,
