@@ -6,5 +6,4 @@ pub mod Paths
 pub mod Reached
 pub mod RowsGets
 pub mod Steps
-pub mod TextSound
 pub mod Told

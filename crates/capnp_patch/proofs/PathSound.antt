@@ -21,7 +21,7 @@ use Rattle.capnp_records.specs.Text.{Out}
 use Rattle.capnp_show_engine.specs.Refusals.{IsOfRead}
 use Rattle.capnp_show_engine.specs.Show.{as_printed}
 use Rattle.capnp_patch.specs.Gets.{Reached, handed, got_text, is_empty, is_group_type, path_read, reached, reached_text, target_read, tested, tested_found, tested_type, text_at}
-use Rattle.capnp_patch.proofs.TextSound.{OutSound, whole-sound}
+use Rattle.capnp_show_engine.specs.Facts.TextSound.{OutSound, whole-sound}
 
 -- a number of reads is no device's
 of_read : (kind : ErrorKind) → IsReadKind kind → IsOfRead kind

@@ -1,175 +1,21 @@
 -- What a text is refused with is a number of reads.
-use Rattle.std.specs.Prelude.{ℕ, zero, suc, ⊤, List, [], ◌∷◌, ◌++◌, Bool, true, false, not, cond, ◌||◌, ◌==◌, Option, Some, None, Ok, Err, codes}
-use Rattle.std.proofs.Common.{◌≡◌, ◌≢◌, ◌∙◌, ap, refl, subst, sym}
+use Rattle.std.specs.Prelude.{Bool, true, false, Ok, Err, ℕ, List}
+use Rattle.std.proofs.Common.{◌≡◌, ◌≢◌, ◌∙◌, ap, subst, sym}
 use Rattle.std.proofs.lemmas.Bool.{true≢false}
 use Rattle.capnp_device.specs.declared.error.ErrorKind.{ErrorKind}
-use Rattle.capnp_device.specs.declared.error.ErrorKind.TheVariants.{OutOfMemory, ReadFailed, WriteFailed, WrongElementSize, WrongPointerKind}
-use Rattle.capnp_schema.specs.Schema.{Schemas, TypedField, VoidValue, default_of, field_at, fields_of, is_member, node_of}
-use Rattle.capnp_schema.specs.Schema.{Value as SchemaValue}
-use Rattle.capnp_schema.specs.Types.{SchemaType, struct_number}
+use Rattle.capnp_device.specs.declared.error.ErrorKind.TheVariants.{OutOfMemory, ReadFailed, WriteFailed}
+use Rattle.capnp_schema.specs.Schema.{Schemas, VoidValue, node_of}
 use Rattle.capnp_wire.specs.Stream.{message_tree_of}
 use Rattle.capnp_wire.specs.Tree.{Tree}
-use Rattle.capnp_records.specs.Default.{read_of}
-use Rattle.capnp_records.specs.Reading.{element_type, value_of}
+use Rattle.capnp_records.specs.Reading.{value_of}
 use Rattle.capnp_records.specs.Record as value
-use Rattle.capnp_records.specs.Record.{Active, Left, MoreValues, NoUnion, NoValues, Parts, Record, Union, Unknown, Value, Values, is_there}
-use Rattle.capnp_records.specs.Text.{Inner, Layout, Member, Out, after, before, bracketed, decimals, deeper, element_texts, entering_fault, fault_kind, is_entered, item, item_if, later, line, list_text, member, more_text, part_text, record_text, rest_of, said, separator, shown, stands_before, struct_text, text_within, value_text, quoted}
+use Rattle.capnp_records.specs.Record.{Left, Value}
+use Rattle.capnp_records.specs.Text.{Out}
+use Rattle.capnp_show_engine.specs.Facts.TextSound.{OutSound, whole-sound}
 use Rattle.capnp_show_engine.specs.Refusals.{IsOfRead}
 use Rattle.capnp_show_engine.specs.Show.{as_printed, root_text, root_value, shown_text}
 use Rattle.capnp_records.specs.Run.{root_type}
-use Rattle.capnp_records.specs.Facts.ReadFaults.{AllSound, IsReadKind, RecordSound, Sound, UnionSound, is_read_kind, read_of-sound, value_of-sound}
-use Rattle.std.specs.Str.{is_utf8}
-use Rattle.std.specs.Fmt.{debug_str}
-
-abbrev pub OutSound : Out → Type 0
-OutSound (Ok text) = ⊤
-OutSound (Err kind) = IsReadKind kind
-
-abbrev AllOut : List Out → Type 0
-AllOut [] = ⊤
-AllOut (x ∷ xs) = OutSound x × AllOut xs
-
-after-sound : (a b : Out) → OutSound a → OutSound b → OutSound (after a b)
-after-sound (Err k) b h i = h
-after-sound (Ok xs) (Err k) h i = i
-after-sound (Ok xs) (Ok ys) h i = tt
-
-append-sound : (xs ys : List Out) → AllOut xs → AllOut ys → AllOut (xs ++ ys)
-append-sound [] ys h k = k
-append-sound (x ∷ xs) ys h k = (h.0, append-sound xs ys h.1 k)
-
-more-sound : (at : Layout) (first : Bool) (xs : List Out) → AllOut xs → OutSound (more_text at first xs)
-more-sound at first [] h = tt
-more-sound at first (x ∷ xs) h = after-sound (said (separator at first)) _ tt (after-sound x (more_text at false xs) h.0 (more-sound at false xs h.1))
-
-bracketed-sound : (opening closing : List ℕ) (at : Layout) (xs : List Out) → AllOut xs → OutSound (bracketed opening closing at xs)
-bracketed-sound opening closing at xs h =
-    after-sound (said opening) _ tt (after-sound (more_text (deeper at) true xs) (said (line at ++ closing)) (more-sound (deeper at) true xs h) tt)
-
-list-sound : (at : Layout) (xs : List Out) → AllOut xs → OutSound (list_text at xs)
-list-sound at [] h = tt
-list-sound at (x ∷ xs) h = bracketed-sound (codes "[") (codes "]") at (x ∷ xs) h
-
-struct-sound : (at : Layout) (fs : List TypedField) (xs : List Out) → AllOut xs → OutSound (struct_text at fs xs)
-struct-sound at [] xs h = tt
-struct-sound at (f ∷ fs) xs h = bracketed-sound (codes "(") (codes ")") at xs h
-
-abbrev MemberSound : Member → Type 0
-MemberSound None = ⊤
-MemberSound (Some m) = AllOut m.1
-
-rest-sound : (m : Member) → MemberSound m → AllOut (rest_of m)
-rest-sound None h = tt
-rest-sound (Some m) h = h
-
-one-sound : (q : Bool) (o : Out) → OutSound o → AllOut (item_if q o)
-one-sound true o h = (h, tt)
-one-sound false o h = tt
-
-before-sound : (m : Member) (i : ℕ) → MemberSound m → AllOut (before m i)
-before-sound m i h = go (stands_before m i)
-  where
-    go : (q : Bool) → AllOut (cond q (rest_of m) [])
-    go true = rest-sound m h
-    go false = tt
-
-later-sound : (m : Member) (i : ℕ) → MemberSound m → MemberSound (later m i)
-later-sound m i h = go (stands_before m i)
-  where
-    go : (q : Bool) → MemberSound (cond q None m)
-    go true = tt
-    go false = h
-
-abbrev InnerSound : Inner → Type 0
-InnerSound inner = (at : Layout) (t : SchemaType) (v : Value) → Sound v → OutSound (inner at t v)
-
-module _ (set : Schemas) (inner : Inner) (sound : InnerSound inner) where
-  item-sound : (f : TypedField) (o : Out) → OutSound o → OutSound (item f o)
-  item-sound f o h = after-sound (said (f.field.name ++ codes " = ")) o tt h
-
-  mutual
-    part-sound : (at : Layout) (d : SchemaValue) (t : SchemaType) (v : Value) → Sound v → OutSound (part_text set inner at d t v)
-    part-sound at d t (value.Group r) h = record-sound at (struct_number t) r h
-    part-sound at d t v h = sound at t (read_of set d t v) (read_of-sound set d t v h)
-
-    record-sound : (at : Layout) (b : ℕ) (r : Record) → RecordSound r → OutSound (record_text set inner at b r)
-    record-sound at b (Parts vs u) h =
-        struct-sound at (fields_of set b) _ (shown-sound (deeper at) (fields_of set b) 0 vs (member set inner (deeper at) b u) h.0 (member-sound (deeper at) b u h.1))
-
-    shown-sound : (at : Layout) (fs : List TypedField) (i : ℕ) (vs : Values) (m : Member) → AllSound vs → MemberSound m → AllOut (shown set inner at fs i vs m)
-    shown-sound at fs i NoValues m h k = rest-sound m k
-    shown-sound at [] i (MoreValues v vs) m h k = rest-sound m k
-    shown-sound at (f ∷ fs) i (MoreValues v vs) m h k =
-        go (λ m k. shown-sound at fs (suc i) vs m h.1 k) (item-sound f _ (part-sound at (default_of f.field) f.type v h.0)) (is_member f.field)
-      where
-        text : Out
-        text = item f (part_text set inner at (default_of f.field) f.type v)
-
-        go : ((m : Member) → MemberSound m → AllOut (shown set inner at fs (suc i) vs m)) → OutSound text → (q : Bool) →
-            AllOut (elim q as (λ _. List Out) [
-              | true ↦ shown set inner at fs (suc i) vs m
-              | false ↦ before m i ++ item_if (is_there v) text ++ shown set inner at fs (suc i) vs (later m i)
-            ])
-        go ih part true = ih m k
-        go ih part false = append-sound _ _ (append-sound _ _ (before-sound m i k) (one-sound (is_there v) text part)) (ih (later m i) (later-sound m i k))
-
-    member-sound : (at : Layout) (b : ℕ) (u : Union) → UnionSound u → MemberSound (member set inner at b u)
-    member-sound at b NoUnion h = tt
-    member-sound at b (Unknown n) h = tt
-    member-sound at b (Active i v) h =
-        one-sound (is_there v || not ((field_at set b i).field.discriminant_value == 0)) _
-        (item-sound (field_at set b i) _ (part-sound at (default_of (field_at set b i).field) (field_at set b i).type v h))
-
-  elements-sound : (at : Layout) (t : SchemaType) (vs : Values) → AllSound vs → AllOut (element_texts set inner at t vs)
-  elements-sound at t NoValues h = tt
-  elements-sound at t (MoreValues v vs) h = (sound at t _ (read_of-sound set VoidValue t v h.0), elements-sound at t vs h.1)
-
--- ---- a value, by the text of what stands further in ----
-
-entering-sound : (kind : ErrorKind) → IsReadKind kind → IsReadKind (entering_fault kind)
-entering-sound WrongPointerKind h = refl
-entering-sound WrongElementSize h = refl
-entering-sound kind h = h
-
-fault-sound : (inner : Option Inner) (t : SchemaType) (kind : ErrorKind) → IsReadKind kind → IsReadKind (fault_kind inner t kind)
-fault-sound None t kind h = go (is_entered t)
-  where
-    go : (q : Bool) → IsReadKind (cond q (entering_fault kind) kind)
-    go true = entering-sound kind h
-    go false = h
-fault-sound (Some inner) t kind h = h
-
-quoted-sound : (bs : List ℕ) → OutSound (quoted bs)
-quoted-sound bs = go (is_utf8 bs)
-  where
-    go : (q : Bool) → OutSound (elim q as (λ _. Out) [ true ↦ Ok (debug_str bs) | false ↦ said (codes "<invalid utf-8: [" ++ decimals bs ++ codes "]>") ])
-    go true = tt
-    go false = tt
-
-abbrev StandsIn : Option Inner → Type 0
-StandsIn None = ⊤
-StandsIn (Some inner) = InnerSound inner
-
-value-sound : (set : Schemas) (inner : Option Inner) → StandsIn inner → InnerSound (value_text set inner)
-value-sound set inner h at t value.Void s = tt
-value-sound set inner h at t (value.Truth b) s = tt
-value-sound set inner h at t (value.Number n) s = tt
-value-sound set inner h at t (value.Enum n) s = tt
-value-sound set inner h at t (value.Text bs) s = quoted-sound bs
-value-sound set inner h at t (value.Data bs) s = tt
-value-sound set None h at t (value.Struct r) s = refl
-value-sound set (Some inner) h at t (value.Struct r) s = record-sound set inner h at (struct_number t) r s
-value-sound set inner h at t (value.Group r) s = tt
-value-sound set None h at t (value.Elements vs) s = refl
-value-sound set (Some inner) h at t (value.Elements vs) s = list-sound at _ (elements-sound set inner h (deeper at) (element_type t) vs s)
-value-sound set inner h at t (value.Untyped x) s = tt
-value-sound set inner h at t (value.Fault kind) s = fault-sound inner t kind s
-value-sound set inner h at t (value.Missing l) s = tt
-value-sound set inner h at t value.Elsewhere s = tt
-
-text-sound : (set : Schemas) (n : ℕ) → InnerSound (text_within set n)
-text-sound set zero = value-sound set None tt
-text-sound set (suc n) = value-sound set (Some (text_within set n)) (text-sound set n)
+use Rattle.capnp_records.specs.Facts.ReadFaults.{Sound, is_read_kind, read_of-sound, value_of-sound}
 
 -- the text of a message's root
 printed-sound : (q : Bool) (v : Value) → Sound v → Sound (as_printed q v)
@@ -179,7 +25,7 @@ printed-sound q v h = h
 
 root-sound : (set : Schemas) (b : ℕ) (indented : Bool) (root : Tree) → OutSound (root_text set b indented (Ok root))
 root-sound set b indented root =
-    part-sound set (text_within set 64) (text-sound set 64) (cond indented (Some 0) None) VoidValue (root_type set b) (as_printed (node_of set b).is_group (root_value set b root))
+    whole-sound set indented (root_type set b) (as_printed (node_of set b).is_group (root_value set b root))
     (printed-sound (node_of set b).is_group (root_value set b root)
     (read_of-sound set VoidValue (root_type set b) (value_of set root (Left 64) (root_type set b)) (value_of-sound set root (Left 64) (root_type set b))))
 

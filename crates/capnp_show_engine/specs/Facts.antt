@@ -1,0 +1,2 @@
+-- Facts of texts, with their proofs: what lemmas of crates above cite.
+pub mod TextSound
