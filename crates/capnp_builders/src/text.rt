@@ -356,10 +356,7 @@ fn put_default(arena: &mut Arena, at: usize, default: PointerReader<'_>) -> Resu
 }
 
 /// Copies a default that reads as a text into a null; else nothing changes.
-#[tactic(auto, using(
-    crate::proofs::Taken::own_tree, crate::proofs::Taken::own_refusal, crate::proofs::Taken::other_tree,
-    crate::proofs::Taken::other_refusal, crate::proofs::Taken::refused_default, crate::proofs::Taken::no_change
-))]
+#[tactic(auto, using(crate::proofs::Taken::own_tree, crate::proofs::Taken::own_refusal, crate::proofs::Taken::other_tree, crate::proofs::Taken::other_refusal, crate::proofs::Taken::refused_default, crate::proofs::Taken::no_change))]
 fn fill(arena: &mut Arena, at: usize, default: Option<PointerReader<'_>>) -> Result<()>
     requires { Forest (segment arena.old) at }
     ensures forest { OnOk result (Forest (segment arena.new) at) }
@@ -400,10 +397,7 @@ pub fn copy_default(builder: PointerBuilder<'_>, default: Option<PointerReader<'
 }
 
 /// Enters the text at a pointer, and answers how many bytes it has. A null becomes a copy of the default first.
-#[tactic(auto, using(
-    crate::proofs::Taken::own_tree, crate::proofs::Taken::other_tree, crate::proofs::Taken::refused_as_read,
-    crate::proofs::Taken::refused_as_default, crate::proofs::Taken::no_change
-))]
+#[tactic(auto, using(crate::proofs::Taken::own_tree, crate::proofs::Taken::other_tree, crate::proofs::Taken::refused_as_read, crate::proofs::Taken::refused_as_default, crate::proofs::Taken::no_change))]
 fn enter(arena: &mut Arena, at: usize, default: Option<PointerReader<'_>>) -> Result<usize>
     requires { Forest (segment arena.old) at }
     ensures forest { OnOk result (Forest (segment arena.new) at) }
