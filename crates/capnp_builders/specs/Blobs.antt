@@ -1,5 +1,5 @@
 -- What stands at the builders of texts and data.
-use Rattle.std.specs.Prelude.{ℕ, suc, List, [], ◌∷◌, slice_set, Result, Ok, Err, IsOk}
+use Rattle.std.specs.Prelude.{ℕ, suc, Bool, true, false, List, [], ◌∷◌, slice_set, Result, Ok, Err, IsOk}
 use Rattle.std.specs.Borrow.{Fml, Lends, MutBor}
 use mir.Syntax.{named}
 use Rattle.capnp_device.specs.declared.error.ErrorKind.{ErrorKind}
@@ -19,6 +19,11 @@ use Rattle.capnp_builders.specs.contracts.data.Builder.{the_row as data_row}
 abbrev pub bytes_in : Result (List ℕ) ErrorKind → List ℕ
 bytes_in (Ok bytes) = bytes
 bytes_in (Err kind) = []
+
+-- what is read as a text, or else as data
+abbrev pub as_blob : Bool → Tree → Result (List ℕ) ErrorKind
+as_blob true = as_text
+as_blob false = as_data
 
 -- bytes with others written from an index on
 abbrev pub written : List ℕ → ℕ → List ℕ → List ℕ

@@ -2,19 +2,18 @@
 //!
 //! A builder is the message beside the word of the data's pointer. Each call asks that data stand there, or a null, as
 //! a builder that was handed out has it (`IsData`).
-ghost use Rattle.std.specs.Prelude.{[], None, IfErr, IsOk, IsTrue, OnErr, OnOk, length, replicate, slice_set, ◌^◌, ◌≤◌, ◌<◌, ◌≡◌, ◌↔◌};
+ghost use Rattle.std.specs.Prelude.{[], None, IfErr, IsTrue, OnErr, OnOk, length, replicate, slice_set, ◌^◌, ◌≤◌, ◌<◌, ◌≡◌, ◌↔◌};
 ghost use Rattle.std.specs.Borrow.{sem};
-ghost use Rattle.capnp_wire.specs.Edits.{IsDueRefusal, IsRoomRefusal};
+ghost use Rattle.capnp_wire.specs.Edits.{IsRoomRefusal};
 ghost use Rattle.capnp_wire.specs.Reading.{as_data};
-ghost use Rattle.capnp_wire.specs.Standing.{tree_of};
 ghost use Rattle.capnp_wire.specs.Tree.{Numbers};
 ghost use Rattle.capnp_base.specs.ReadBack.{data_read_back};
-ghost use Rattle.capnp_base.specs.Traits.{IsDefaultRefusal, IsReadRefusal, default_refusal, refusal_in, tree_or};
+ghost use Rattle.capnp_base.specs.Traits.{IsDefaultRefusal, IsReadRefusal, default_refusal, tree_or};
 ghost use Rattle.capnp_arena.specs.Forest.{Changes, Forest, tree};
 ghost use Rattle.capnp_arena.specs.Segment.{segment};
 ghost use Rattle.capnp_builders.specs.Blobs.{IsData, LendsData, data_behind, data_bytes, data_there, data_word};
 
-use crate::defaults::take_default;
+use crate::defaults::{enter, fill};
 use crate::traits::{self, FromPointerBuilder};
 use capnp_arena::arena::Arena;
 use capnp_arena::handles::PointerBuilder;
@@ -130,43 +129,7 @@ impl<'a> Builder<'a> {
     }
 }
 
-/// Makes a pointer one to a copy of a default that reads as data.
-///
-/// Refused as its read, and else with `OutOfMemory`; then nothing has changed.
-fn put_default(arena: &mut Arena, at: usize, default: PointerReader<'_>) -> Result<()>
-    requires { Forest (segment arena.old) at }
-    ensures forest { OnOk result (Forest (segment arena.new) at) }
-    ensures tree { OnOk result (tree (segment arena.new) at ≡ tree_of default.entry) }
-    ensures changes { OnOk result (Changes at (segment arena.old) (segment arena.new)) }
-    ensures reads { OnOk result (refusal_in (as_data (tree_of default.entry)) ≡ None) }
-    ensures data { OnOk result (IsOk (as_data (tree_of default.entry))) }
-    ensures refused { OnErr result (segment arena.new ≡ segment arena.old) }
-    ensures cause { IfErr result (λ error. IsDueRefusal error (refusal_in (as_data (tree_of default.entry)))) }
-{
-    default.get_data()?;
-    arena.copy_from(at, default)?;
-    Ok(())
-}
-
 /// Copies a default that reads as data into a null; else nothing changes.
-#[tactic(auto, using(crate::proofs::Taken::own_tree, crate::proofs::Taken::own_refusal, crate::proofs::Taken::other_tree, crate::proofs::Taken::other_refusal, crate::proofs::Taken::refused_default, crate::proofs::Taken::no_change))]
-fn fill(arena: &mut Arena, at: usize, default: Option<PointerReader<'_>>) -> Result<()>
-    requires { Forest (segment arena.old) at }
-    ensures forest { OnOk result (Forest (segment arena.new) at) }
-    ensures tree { OnOk result (tree (segment arena.new) at ≡ tree_or (tree (segment arena.old) at) default.entry) }
-    ensures changes { OnOk result (Changes at (segment arena.old) (segment arena.new)) }
-    ensures reads { OnOk result (default_refusal as_data (tree (segment arena.old) at) default.entry ≡ None) }
-    ensures refused { OnErr result (segment arena.new ≡ segment arena.old) }
-    ensures cause { IfErr result (IsDefaultRefusal as_data (tree (segment arena.old) at) default.entry) }
-{
-    let Some(other) = take_default(arena, at, default) else {
-        return Ok(());
-    };
-    put_default(arena, at, other)?;
-    Ok(())
-}
-
-/// The same of the pointer of a builder.
 ///
 /// Refused only where a default would be copied: as `PointerReader::get_data` where it does not read as data, and else
 /// with `OutOfMemory`; then nothing has changed.
@@ -184,30 +147,7 @@ pub fn copy_default(builder: PointerBuilder<'_>, default: Option<PointerReader<'
         (tree (segment builder.entry.arena.now) builder.entry.at) default.entry) }
 {
     let PointerBuilder { arena, at } = builder;
-    fill(arena, at, default)
-}
-
-/// Enters the data at a pointer. A null becomes a copy of the default first.
-#[tactic(auto, using(crate::proofs::Taken::own_tree, crate::proofs::Taken::other_tree, crate::proofs::Taken::refused_as_read, crate::proofs::Taken::refused_as_default, crate::proofs::Taken::no_change))]
-fn enter(arena: &mut Arena, at: usize, default: Option<PointerReader<'_>>) -> Result<()>
-    requires { Forest (segment arena.old) at }
-    ensures forest { OnOk result (Forest (segment arena.new) at) }
-    ensures tree { OnOk result (tree (segment arena.new) at ≡ tree_or (tree (segment arena.old) at) default.entry) }
-    ensures changes { OnOk result (Changes at (segment arena.old) (segment arena.new)) }
-    ensures data { OnOk result (IsOk (as_data (tree_or (tree (segment arena.old) at) default.entry))) }
-    ensures refused { OnErr result (segment arena.new ≡ segment arena.old) }
-    ensures cause { IfErr result (IsReadRefusal as_data (tree (segment arena.old) at) default.entry) }
-{
-    match take_default(arena, at, default) {
-        Some(other) => {
-            put_default(arena, at, other)?;
-            Ok(())
-        }
-        None => {
-            arena.get_data(at)?;
-            Ok(())
-        }
-    }
+    fill(arena, at, default, false)
 }
 
 impl<'a> FromPointerBuilder<'a> for Builder<'a> {
@@ -236,7 +176,7 @@ impl<'a> FromPointerBuilder<'a> for Builder<'a> {
         default: Option<PointerReader<'a>>,
     ) -> Result<Builder<'a>> {
         let PointerBuilder { arena, at } = builder;
-        enter(arena, at, default)?;
+        enter(arena, at, default, false)?;
         Ok(Builder { arena, at })
     }
 }

@@ -2,26 +2,25 @@
 //!
 //! A builder is the message beside the word of the text's pointer. Each call asks that a text stands there, or a null,
 //! as a builder that was handed out has it (`IsText`).
-ghost use Rattle.std.specs.Prelude.{[], None, Ok, IfErr, IfOk, IsOk, IsTrue, IsUtf8, OnErr, OnOk, length, nat_eq, replicate, slice_set, take, drop, ◌++◌, ◌+◌, ◌^◌, ◌-◌, ◌<◌, ◌≡◌, ◌≤◌, ◌↔◌};
+ghost use Rattle.std.specs.Prelude.{[], None, Ok, IfErr, IfOk, IsTrue, IsUtf8, OnErr, OnOk, length, nat_eq, replicate, slice_set, take, drop, ◌++◌, ◌+◌, ◌^◌, ◌-◌, ◌<◌, ◌≡◌, ◌≤◌, ◌↔◌};
 ghost use Rattle.std.specs.Borrow.{sem};
 ghost use Rattle.std.proofs.Common.{rules};
 ghost use Rattle.std.specs.Cmp.Lexicographic.{pointwise};
 ghost use Rattle.std.specs.Cmp.Rules.{comparing};
 ghost use Rattle.std.specs.Ordering.{on};
 ghost use Rattle.capnp_device.specs.declared.error.ErrorKind.TheVariants.{OutOfMemory};
-ghost use Rattle.capnp_wire.specs.Edits.{IsDueRefusal, IsRoomRefusal};
+ghost use Rattle.capnp_wire.specs.Edits.{IsRoomRefusal};
 ghost use Rattle.capnp_wire.specs.Reading.{as_text};
-ghost use Rattle.capnp_wire.specs.Standing.{tree_of};
 ghost use Rattle.capnp_wire.specs.Tree.{Numbers};
 ghost use Rattle.capnp_base.specs.Text.{IsStringOf, IsStrOf};
 ghost use Rattle.capnp_base.specs.ReadBack.{text_read_back};
-ghost use Rattle.capnp_base.specs.Traits.{IsDefaultRefusal, IsReadRefusal, default_refusal, refusal_in, tree_or};
+ghost use Rattle.capnp_base.specs.Traits.{IsDefaultRefusal, IsReadRefusal, default_refusal, tree_or};
 ghost use Rattle.capnp_arena.specs.Forest.{Changes, Forest, tree};
 ghost use Rattle.capnp_arena.specs.Segment.{segment};
 ghost use Rattle.capnp_arena.specs.Shape.{word_count};
-ghost use Rattle.capnp_builders.specs.Blobs.{IsText, LendsText, bytes_in, position, text_behind, text_bytes, text_seen, text_there, text_word, written};
+ghost use Rattle.capnp_builders.specs.Blobs.{IsText, LendsText, position, text_behind, text_bytes, text_seen, text_there, text_word, written};
 
-use crate::defaults::take_default;
+use crate::defaults::{enter, fill};
 use crate::traits::{self, FromPointerBuilder};
 use capnp_arena::arena::Arena;
 use capnp_arena::handles::PointerBuilder;
@@ -336,46 +335,7 @@ fn start(arena: &mut Arena, at: usize, length: u32) -> Result<()>
     Ok(())
 }
 
-/// Makes a pointer one to a copy of a default that reads as a text, and answers how many bytes it has.
-///
-/// Refused as its read, and else with `OutOfMemory`; then nothing has changed.
-fn put_default(arena: &mut Arena, at: usize, default: PointerReader<'_>) -> Result<usize>
-    requires { Forest (segment arena.old) at }
-    ensures forest { OnOk result (Forest (segment arena.new) at) }
-    ensures tree { OnOk result (tree (segment arena.new) at ≡ tree_of default.entry) }
-    ensures changes { OnOk result (Changes at (segment arena.old) (segment arena.new)) }
-    ensures reads { OnOk result (refusal_in (as_text (tree_of default.entry)) ≡ None) }
-    ensures text { OnOk result (IsOk (as_text (tree_of default.entry))) }
-    ensures count { IfOk result (λ n. n ≡ length (bytes_in (as_text (tree_of default.entry)))) }
-    ensures refused { OnErr result (segment arena.new ≡ segment arena.old) }
-    ensures cause { IfErr result (λ error. IsDueRefusal error (refusal_in (as_text (tree_of default.entry)))) }
-{
-    let count = default.get_text()?.len();
-    arena.copy_from(at, default)?;
-    Ok(count)
-}
-
 /// Copies a default that reads as a text into a null; else nothing changes.
-#[tactic(auto, using(crate::proofs::Taken::own_tree, crate::proofs::Taken::own_refusal, crate::proofs::Taken::other_tree, crate::proofs::Taken::other_refusal, crate::proofs::Taken::refused_default, crate::proofs::Taken::no_change))]
-fn fill(arena: &mut Arena, at: usize, default: Option<PointerReader<'_>>) -> Result<()>
-    requires { Forest (segment arena.old) at }
-    ensures forest { OnOk result (Forest (segment arena.new) at) }
-    ensures tree { OnOk result (tree (segment arena.new) at ≡ tree_or (tree (segment arena.old) at) default.entry) }
-    ensures changes { OnOk result (Changes at (segment arena.old) (segment arena.new)) }
-    ensures reads { OnOk result (default_refusal as_text (tree (segment arena.old) at) default.entry ≡ None) }
-    ensures refused { OnErr result (segment arena.new ≡ segment arena.old) }
-    ensures cause { IfErr result (IsDefaultRefusal as_text (tree (segment arena.old) at) default.entry) }
-{
-    let Some(other) = take_default(arena, at, default) else {
-        return Ok(());
-    };
-    match put_default(arena, at, other) {
-        Ok(_count) => Ok(()),
-        Err(error) => Err(error),
-    }
-}
-
-/// The same of the pointer of a builder.
 ///
 /// Refused only where a default would be copied: as `PointerReader::get_text` where it does not read as a text, and
 /// else with `OutOfMemory`; then nothing has changed.
@@ -393,32 +353,7 @@ pub fn copy_default(builder: PointerBuilder<'_>, default: Option<PointerReader<'
         (tree (segment builder.entry.arena.now) builder.entry.at) default.entry) }
 {
     let PointerBuilder { arena, at } = builder;
-    fill(arena, at, default)
-}
-
-/// Enters the text at a pointer, and answers how many bytes it has. A null becomes a copy of the default first.
-#[tactic(auto, using(crate::proofs::Taken::own_tree, crate::proofs::Taken::other_tree, crate::proofs::Taken::refused_as_read, crate::proofs::Taken::refused_as_default, crate::proofs::Taken::no_change))]
-fn enter(arena: &mut Arena, at: usize, default: Option<PointerReader<'_>>) -> Result<usize>
-    requires { Forest (segment arena.old) at }
-    ensures forest { OnOk result (Forest (segment arena.new) at) }
-    ensures tree { OnOk result (tree (segment arena.new) at ≡ tree_or (tree (segment arena.old) at) default.entry) }
-    ensures changes { OnOk result (Changes at (segment arena.old) (segment arena.new)) }
-    ensures text { OnOk result (IsOk (as_text (tree_or (tree (segment arena.old) at) default.entry))) }
-    ensures count { IfOk result (λ n. n ≡ length
-        (bytes_in (as_text (tree_or (tree (segment arena.old) at) default.entry)))) }
-    ensures refused { OnErr result (segment arena.new ≡ segment arena.old) }
-    ensures cause { IfErr result (IsReadRefusal as_text (tree (segment arena.old) at) default.entry) }
-{
-    match take_default(arena, at, default) {
-        Some(other) => {
-            let count = put_default(arena, at, other)?;
-            Ok(count)
-        }
-        None => {
-            let count = arena.get_text(at)?.len();
-            Ok(count)
-        }
-    }
+    fill(arena, at, default, true)
 }
 
 impl<'a> FromPointerBuilder<'a> for Builder<'a> {
@@ -447,7 +382,7 @@ impl<'a> FromPointerBuilder<'a> for Builder<'a> {
         default: Option<PointerReader<'a>>,
     ) -> Result<Builder<'a>> {
         let PointerBuilder { arena, at } = builder;
-        let pos = enter(arena, at, default)?;
+        let pos = enter(arena, at, default, true)?;
         Ok(Builder { arena, at, pos })
     }
 }

@@ -1,10 +1,17 @@
 -- What follows for a builder's get of an element from what is due alone.
-use Rattle.std.specs.Prelude.{◌≡◌, refl, Option, Some, None, Result, Ok, Err, IsOk, OnOk, IfErr}
+use Rattle.std.specs.Prelude.{◌≡◌, refl, false, Option, Some, None, Result, Ok, Err, IsOk, OnOk, IfErr}
 use Rattle.std.proofs.Common.{sym}
 use Rattle.capnp_device.specs.declared.error.Error.{Error}
 use Rattle.capnp_device.specs.declared.error.ErrorKind.{ErrorKind}
+use Rattle.capnp_wire.specs.Defaults.{takes_default}
 use Rattle.capnp_wire.specs.Edits.{IsDueRefusal}
+use Rattle.capnp_wire.specs.Tree as tree
+use Rattle.capnp_wire.specs.Tree.{Tree}
+use Rattle.capnp_schema.specs.Schema.{Schemas, VoidValue}
+use Rattle.capnp_schema.specs.Types.{ListType, SchemaType, StructType}
+use Rattle.capnp_records.specs.Writes.Fill.{IsAtRest}
 use Rattle.capnp_slots.specs.Copied.{refusal_of}
+use Rattle.capnp_slots.specs.Fills.{ElementRests}
 
 -- ---- a call that is refused by what is due alone ----
 
@@ -27,3 +34,13 @@ module _ {A : Type 0} where
 pub always : {A E : Type 0} {P : Type 0} (r : Result A E) → P → OnOk r P
 always (Ok a) p = p
 always (Err e) p = tt
+
+-- ---- a list without a default ----
+
+no-default : (x : Tree) → takes_default tree.Null x ≡ false
+no-default tree.Null = refl
+no-default x = refl
+
+pub still_rests : (set : Schemas) (e : SchemaType) (x : Tree) → ElementRests set (ListType e) x → IsAtRest set VoidValue (ListType e) x
+still_rests set (StructType b g) x h = (no-default x, h)
+still_rests set e x h = (no-default x, h)

@@ -40,7 +40,7 @@ use Rattle.capnp_records.specs.Step.{is_group_field}
 use Rattle.capnp_records.specs.Writes.Fill.{IsAtRest, default_struct, entered_list, filled_struct, or_default}
 use Rattle.capnp_schema.specs.Plan.{brand_size}
 use Rattle.capnp_slots.specs.Fields.{IsSlot}
-use Rattle.capnp_slots.specs.Fills.{ElementRests, IsDefaultPointer, ListRests, data_filled, fill_due, list_due, text_filled}
+use Rattle.capnp_slots.specs.Fills.{IsDefaultPointer, ListRests, blob_filled, fill_due, list_due}
 
 -- ---- the pointer of a default ----
 
@@ -76,30 +76,15 @@ module _ (d : Value) (decodes : Decodes d) where
 
   -- ---- lists ----
 
-  list-default : (e : SchemaType) (x : Tree) → IsDefaultOf d (ListType e) → wire.or_default (default_tree d) x ≡ or_default d x
-  list-default e x of = go d of decodes x
+  pub list-filled : (e : SchemaType) (x : Tree) → IsDefaultOf d (ListType e) → wire.or_default (default_tree d) x ≡ or_default d x
+  list-filled e x of = go d of decodes x
     where
       go : (d : Value) → IsDefaultOf d (ListType e) → Decodes d → (x : Tree) → wire.or_default (default_tree d) x ≡ or_default d x
       go (ListValue words) of h tree.Null = refl
-      go (ListValue words) of h (tree.Struct bytes ps) = refl
-      go (ListValue words) of h (tree.Voids n) = refl
-      go (ListValue words) of h (tree.Bits bs) = refl
-      go (ListValue words) of h (tree.Numbers w bytes) = refl
-      go (ListValue words) of h (tree.Pointers ps) = refl
-      go (ListValue words) of h (tree.Composite w p es) = refl
-      go (ListValue words) of h (tree.FaultLeaf k) = refl
+      go (ListValue words) of h x = refl
       go (AnyPointerValue words) of h tree.Null = h
-      go (AnyPointerValue words) of h (tree.Struct bytes ps) = refl
-      go (AnyPointerValue words) of h (tree.Voids n) = refl
-      go (AnyPointerValue words) of h (tree.Bits bs) = refl
-      go (AnyPointerValue words) of h (tree.Numbers w bytes) = refl
-      go (AnyPointerValue words) of h (tree.Pointers ps) = refl
-      go (AnyPointerValue words) of h (tree.Composite w p es) = refl
-      go (AnyPointerValue words) of h (tree.FaultLeaf k) = refl
+      go (AnyPointerValue words) of h x = refl
       go d of h x = absurd of
-
-  pub list-filled : (e : SchemaType) (x : Tree) → IsDefaultOf d (ListType e) → wire.or_default (default_tree d) x ≡ or_default d x
-  list-filled e x of = list-default e x of
 
 -- ---- refusals ----
 
@@ -169,15 +154,12 @@ not-null x y e = sym (second-of (is_null_tree x) y x e)
 pub same-there : (s s' : StructTree) (i : ℕ) (x : Tree) → s' ≡ s → nth_tree s.pointers i ≡ x → s' ≡ with_pointer_tree s i x
 same-there s s' i x e h = e ∙ (pointer-same s i ∙ ap (with_pointer_tree s i) h)
 
-pub no-text : (d : Value) (v : View) (x : Tree) → IsViewOf d v → ((y : TextReader) → v ≡ view.Text y → ⊥) → x ≡ text_filled d x
-no-text (TextValue bytes) (view.Text y) x h none = absurd (none y refl)
-no-text (TextValue bytes) v x h none = absurd h
-no-text d v x h none = refl
-
-pub no-data : (d : Value) (v : View) (x : Tree) → IsViewOf d v → ((y : Bor (List ℕ)) → v ≡ view.«Data» y → ⊥) → x ≡ data_filled d x
-no-data (DataValue bytes) (view.«Data» y) x h none = absurd (none y refl)
-no-data (DataValue bytes) v x h none = absurd h
-no-data d v x h none = refl
+pub no-blob : (d : Value) (v : View) (x : Tree) → IsViewOf d v → ((y : TextReader) → v ≡ view.Text y → ⊥) → ((y : Bor (List ℕ)) → v ≡ view.«Data» y → ⊥) → x ≡ blob_filled d x
+no-blob (TextValue bytes) (view.Text y) x h no-text no-data = absurd (no-text y refl)
+no-blob (TextValue bytes) v x h no-text no-data = absurd h
+no-blob (DataValue bytes) (view.«Data» y) x h no-text no-data = absurd (no-data y refl)
+no-blob (DataValue bytes) v x h no-text no-data = absurd h
+no-blob d v x h no-text no-data = refl
 
 -- ---- lists of elements that are no structs ----
 
@@ -188,27 +170,12 @@ pub record IsPlain (set : Schemas) (e : SchemaType) (size : ElementSize) : Type 
   pub rests : (D x : Tree) → ListRests set e D x → (wire.takes_default D x ≡ false) × (wire.filled_list_refusal D size x ≡ None)
   pub fills : (x : Tree) → fill_due set VoidValue (ListType e) x ≡ wire.list_refusal size x
   pub still : (x : Tree) → IsAtRest set VoidValue (ListType e) x → wire.list_refusal size x ≡ None
-  pub elements : (x : Tree) → ElementRests set (ListType e) x → wire.list_refusal size x ≡ None
   pub simple : size ≢ InlineComposite
 
 module _ (set : Schemas) where
   by_variant : (v : TypeVariant) → ((x : RawBrandedStructSchema) → v ≡ variant.Struct x → ⊥) → IsPlain set (seen_variant v) (size_of_variant v)
   by_variant (variant.Struct x) other = absurd (other x refl)
-  by_variant variant.Void other = record { enters = λ x. refl; due = λ D x. refl; rests = λ D x h. h; fills = λ x. refl; still = λ x h. h.1; elements = λ x h. h; simple = λ e. cc }
-  by_variant variant.Bool other = record { enters = λ x. refl; due = λ D x. refl; rests = λ D x h. h; fills = λ x. refl; still = λ x h. h.1; elements = λ x h. h; simple = λ e. cc }
-  by_variant variant.Int8 other = record { enters = λ x. refl; due = λ D x. refl; rests = λ D x h. h; fills = λ x. refl; still = λ x h. h.1; elements = λ x h. h; simple = λ e. cc }
-  by_variant variant.Int16 other = record { enters = λ x. refl; due = λ D x. refl; rests = λ D x h. h; fills = λ x. refl; still = λ x h. h.1; elements = λ x h. h; simple = λ e. cc }
-  by_variant variant.Int32 other = record { enters = λ x. refl; due = λ D x. refl; rests = λ D x h. h; fills = λ x. refl; still = λ x h. h.1; elements = λ x h. h; simple = λ e. cc }
-  by_variant variant.Int64 other = record { enters = λ x. refl; due = λ D x. refl; rests = λ D x h. h; fills = λ x. refl; still = λ x h. h.1; elements = λ x h. h; simple = λ e. cc }
-  by_variant variant.UInt8 other = record { enters = λ x. refl; due = λ D x. refl; rests = λ D x h. h; fills = λ x. refl; still = λ x h. h.1; elements = λ x h. h; simple = λ e. cc }
-  by_variant variant.UInt16 other = record { enters = λ x. refl; due = λ D x. refl; rests = λ D x h. h; fills = λ x. refl; still = λ x h. h.1; elements = λ x h. h; simple = λ e. cc }
-  by_variant variant.UInt32 other = record { enters = λ x. refl; due = λ D x. refl; rests = λ D x h. h; fills = λ x. refl; still = λ x h. h.1; elements = λ x h. h; simple = λ e. cc }
-  by_variant variant.UInt64 other = record { enters = λ x. refl; due = λ D x. refl; rests = λ D x h. h; fills = λ x. refl; still = λ x h. h.1; elements = λ x h. h; simple = λ e. cc }
-  by_variant variant.Text other = record { enters = λ x. refl; due = λ D x. refl; rests = λ D x h. h; fills = λ x. refl; still = λ x h. h.1; elements = λ x h. h; simple = λ e. cc }
-  by_variant variant.«Data» other = record { enters = λ x. refl; due = λ D x. refl; rests = λ D x h. h; fills = λ x. refl; still = λ x h. h.1; elements = λ x h. h; simple = λ e. cc }
-  by_variant variant.AnyPointer other = record { enters = λ x. refl; due = λ D x. refl; rests = λ D x h. h; fills = λ x. refl; still = λ x h. h.1; elements = λ x h. h; simple = λ e. cc }
-  by_variant (variant.Enum e) other = record { enters = λ x. refl; due = λ D x. refl; rests = λ D x h. h; fills = λ x. refl; still = λ x h. h.1; elements = λ x h. h; simple = λ e. cc }
-  by_variant (variant.List t) other = record { enters = λ x. refl; due = λ D x. refl; rests = λ D x h. h; fills = λ x. refl; still = λ x h. h.1; elements = λ x h. h; simple = λ e. cc }
+  by_variant v other = record { enters = λ x. refl; due = λ D x. refl; rests = λ D x h. h; fills = λ x. refl; still = λ x h. h.1; simple = λ e. cc }
 
   pub is_plain : (t : TypeHandle) (v : TypeVariant) (size : ElementSize) → v ≡ variant_of t → size ≡ size_of_variant (variant_of t) → ((x : RawBrandedStructSchema) → v ≡ variant.Struct x → ⊥) →
       IsPlain set (seen_type t) size

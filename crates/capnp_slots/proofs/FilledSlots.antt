@@ -1,5 +1,5 @@
 -- What is filled into a slot, by the slot's type.
-use Rattle.std.specs.Prelude.{ℕ, ◌≡◌, refl, false, ⊤, Option, Some, None, Result, Ok, Err, IfErr, IsOk, OnErr, OnOk}
+use Rattle.std.specs.Prelude.{ℕ, ◌≡◌, refl, false, ⊤, Option, None, Result, Ok, Err, IfErr, IsOk, OnErr, OnOk}
 use Rattle.std.proofs.Common.{ap, sym, subst, ◌∙◌}
 use Rattle.capnp_device.specs.declared.error.Error.{Error}
 use Rattle.capnp_device.specs.declared.error.ErrorKind.{ErrorKind}
@@ -22,25 +22,19 @@ use Rattle.capnp_schema.specs.declared.schema.fields.Field.{Field}
 use Rattle.capnp_schema.specs.Accepted.{Decodes, IsDefaultOf}
 use Rattle.capnp_schema.specs.Defaults.{IsReadAs, default_tree}
 use Rattle.capnp_schema.specs.Schema.{Schemas, Value, TextValue, DataValue, default_of}
-use Rattle.capnp_schema.specs.Types.{SchemaType, VoidType, BoolType, IntType, UIntType, EnumType, TextType, DataType, StructType, ListType, AnyPointerType, element_size, seen_type, seen_variant}
+use Rattle.capnp_schema.specs.Types.{SchemaType, TextType, DataType, StructType, ListType, AnyPointerType, element_size, seen_type, seen_variant}
 use Rattle.capnp_records.specs.Writes.Fill.{IsAtRest, entered_list}
 use Rattle.capnp_schema.specs.Plan.{brand_size}
-use Rattle.capnp_slots.specs.Fills.{HoldsThere, IsDefaultPointer, IsFilled, IsSlotFilled, ListRests, RestsIn, data_filled, due_in, fill_due, filled_in, filled_tree, list_due, pointer_in, text_filled}
+use Rattle.capnp_slots.specs.Copied.{refusal_of}
+use Rattle.capnp_slots.specs.Fills.{HoldsThere, IsDefaultPointer, IsFilled, IsSlotFilled, ListRests, RestsIn, blob_filled, due_in, fill_due, filled_in, filled_tree, list_due, pointer_in}
 use Rattle.capnp_slots.specs.Fields.{IsSlot, field_set, pointer_index}
+use Rattle.capnp_slots.proofs.ElementFills.{always, due_cause, due_within}
 use Rattle.capnp_slots.proofs.Filled.{default-is, list-due, list-filled, same-there, struct-due, struct-filled, structs-due}
 
--- a clause of what was accepted
-pub always : {A E : Type 0} {P : Type 0} (r : Result A E) → P → OnOk r P
-always (Ok a) p = p
-always (Err e) p = tt
-
+-- a clause of what was refused
 always-err : {A E : Type 0} {P : Type 0} (r : Result A E) → P → OnErr r P
 always-err (Ok a) p = tt
 always-err (Err e) p = p
-
-due-cause : (d : Option ErrorKind) (r : Result ⊤ Error) → IfErr r (λ n. d ≡ Some n.kind) → IfErr r (λ n. IsDueRefusal n d)
-due-cause d (Ok a) h = tt
-due-cause d (Err e) h = (λ no. h, λ kind q. cc)
 
 -- a default of a type, and the tree of its pointer
 pub record IsOwnDefault (d : Value) (t : SchemaType) (D : Tree) : Type 0 where
@@ -91,15 +85,7 @@ module _ (set : Schemas) (d : Value) (D x : Tree) where
         ∙ (structs-due (default_tree d) own.sound (brand_size set b) x ∙ ap (struct_list_refusal (brand_size set b)) (list-filled d own.decodes (StructType b g) x own.kind));
     rests = λ h. (ap (λ y. wire.takes_default y x) own.is ∙ h.0, h.1);
   }
-  fills VoidType own = record { filled = list-entered VoidType own; due = plain-due VoidType own; rests = plain-rests VoidType own }
-  fills BoolType own = record { filled = list-entered BoolType own; due = plain-due BoolType own; rests = plain-rests BoolType own }
-  fills (IntType k) own = record { filled = list-entered (IntType k) own; due = plain-due (IntType k) own; rests = plain-rests (IntType k) own }
-  fills (UIntType k) own = record { filled = list-entered (UIntType k) own; due = plain-due (UIntType k) own; rests = plain-rests (UIntType k) own }
-  fills (EnumType m) own = record { filled = list-entered (EnumType m) own; due = plain-due (EnumType m) own; rests = plain-rests (EnumType m) own }
-  fills TextType own = record { filled = list-entered TextType own; due = plain-due TextType own; rests = plain-rests TextType own }
-  fills DataType own = record { filled = list-entered DataType own; due = plain-due DataType own; rests = plain-rests DataType own }
-  fills (ListType s) own = record { filled = list-entered (ListType s) own; due = plain-due (ListType s) own; rests = plain-rests (ListType s) own }
-  fills AnyPointerType own = record { filled = list-entered AnyPointerType own; due = plain-due AnyPointerType own; rests = plain-rests AnyPointerType own }
+  fills e own = record { filled = list-entered e own; due = plain-due e own; rests = plain-rests e own }
 
   pub list_fills : (e t : SchemaType) → ListType e ≡ t → IsOwnDefault d t D → ListFills e t
   list_fills e t h own = subst (λ u. IsOwnDefault d u D → ListFills e u) h (fills e) own
@@ -112,49 +98,40 @@ pub record IsPart (f : Field) (s : StructTree) (x : Tree) (d : Option ErrorKind)
   pub due : d ≡ due_in f s
   pub rests : RestsIn f s → P
 
--- a text is its default where it is null, and so is data; they never rest
-text-fills : (set : Schemas) (d : Value) (x : Tree) → text_filled d x ≡ filled_tree set d TextType x
-text-fills set (TextValue bytes) x = refl
-text-fills set d x = refl
+pub part-left : (f : Field) (s : StructTree) (x y : Tree) (d : Option ErrorKind) (P : Type 0) → x ≡ y → IsPart f s y d P → IsPart f s x d P
+part-left f s x y d P e part = record { filled = e ∙ part.filled; due = part.due; rests = part.rests }
 
-data-fills : (set : Schemas) (d : Value) (x : Tree) → data_filled d x ≡ filled_tree set d DataType x
-data-fills set (DataValue bytes) x = refl
-data-fills set d x = refl
+-- by the slot's type
+abbrev PartAs : Field → StructTree → SchemaType → ℕ → Type 0
+PartAs f s t i = IsPart f s (filled_tree (field_set f) (default_of (typed_of f).field) t (nth_tree s.pointers i)) (fill_due (field_set f) (default_of (typed_of f).field) t (nth_tree s.pointers i))
+    (IsAtRest (field_set f) (default_of (typed_of f).field) t (nth_tree s.pointers i))
+
+pub part-as : (f : Field) (s : StructTree) (i : ℕ) (t : SchemaType) → i ≡ pointer_index f → t ≡ (typed_of f).type → PartAs f s t i
+part-as f s i t at h = subst (PartAs f s t) (sym at) (subst (λ u. PartAs f s u (pointer_index f)) (sym h) (record { filled = refl; due = refl; rests = λ r. r }))
+
+-- a text is its default where it is null, and so is data; they never rest
+text-fills : (set : Schemas) (d : Value) (x : Tree) → IsDefaultOf d TextType → blob_filled d x ≡ filled_tree set d TextType x
+text-fills set (DataValue bytes) x of = absurd of
+text-fills set d x of = refl
+
+data-fills : (set : Schemas) (d : Value) (x : Tree) → IsDefaultOf d DataType → blob_filled d x ≡ filled_tree set d DataType x
+data-fills set (TextValue bytes) x of = absurd of
+data-fills set d x of = refl
 
 module _ (f : Field) (v : TypeVariant) (i : ℕ) (s : StructTree) (at : i ≡ pointer_index f) (h : seen_variant v ≡ (typed_of f).type) where
-  pub text-part : v ≡ variant.Text → IsPart f s (text_filled (default_of (typed_of f).field) (nth_tree s.pointers i)) (error_of (as_text (nth_tree s.pointers i))) ⊥
-  text-part e =
-      let d : Value = default_of (typed_of f).field in
-      subst (λ j. IsPart f s (text_filled d (nth_tree s.pointers j)) (error_of (as_text (nth_tree s.pointers j))) ⊥) (sym at)
-      (let t : TextType ≡ (typed_of f).type = ap seen_variant (sym e) ∙ h in
-      record {
-        filled = subst (λ u. text_filled d (pointer_in f s) ≡ filled_tree (field_set f) d u (pointer_in f s)) t (text-fills (field_set f) d (pointer_in f s));
-        due = subst (λ u. error_of (as_text (pointer_in f s)) ≡ fill_due (field_set f) d u (pointer_in f s)) t refl;
-        rests = λ r. subst (λ u. IsAtRest (field_set f) d u (pointer_in f s)) (sym t) r;
-      })
+  pub text-part : IsDefaultOf (default_of (typed_of f).field) (typed_of f).type → v ≡ variant.Text → IsPart f s (blob_filled (default_of (typed_of f).field) (nth_tree s.pointers i)) (error_of (as_text (nth_tree s.pointers i))) ⊥
+  text-part of e =
+      let t : TextType ≡ (typed_of f).type = ap seen_variant (sym e) ∙ h in
+      part-left f s _ _ _ _ (text-fills (field_set f) _ (nth_tree s.pointers i) (subst (IsDefaultOf (default_of (typed_of f).field)) (sym t) of)) (part-as f s i TextType at t)
 
-  pub data-part : v ≡ variant.«Data» → IsPart f s (data_filled (default_of (typed_of f).field) (nth_tree s.pointers i)) (error_of (as_data (nth_tree s.pointers i))) ⊥
-  data-part e =
-      let d : Value = default_of (typed_of f).field in
-      subst (λ j. IsPart f s (data_filled d (nth_tree s.pointers j)) (error_of (as_data (nth_tree s.pointers j))) ⊥) (sym at)
-      (let t : DataType ≡ (typed_of f).type = ap seen_variant (sym e) ∙ h in
-      record {
-        filled = subst (λ u. data_filled d (pointer_in f s) ≡ filled_tree (field_set f) d u (pointer_in f s)) t (data-fills (field_set f) d (pointer_in f s));
-        due = subst (λ u. error_of (as_data (pointer_in f s)) ≡ fill_due (field_set f) d u (pointer_in f s)) t refl;
-        rests = λ r. subst (λ u. IsAtRest (field_set f) d u (pointer_in f s)) (sym t) r;
-      })
+  pub data-part : IsDefaultOf (default_of (typed_of f).field) (typed_of f).type → v ≡ variant.«Data» → IsPart f s (blob_filled (default_of (typed_of f).field) (nth_tree s.pointers i)) (error_of (as_data (nth_tree s.pointers i))) ⊥
+  data-part of e =
+      let t : DataType ≡ (typed_of f).type = ap seen_variant (sym e) ∙ h in
+      part-left f s _ _ _ _ (data-fills (field_set f) _ (nth_tree s.pointers i) (subst (IsDefaultOf (default_of (typed_of f).field)) (sym t) of)) (part-as f s i DataType at t)
 
   -- an untyped pointer is left as it is
   pub untyped-part : v ≡ variant.AnyPointer → IsPart f s (nth_tree s.pointers i) None ⊥
-  untyped-part e =
-      let d : Value = default_of (typed_of f).field in
-      subst (λ j. IsPart f s (nth_tree s.pointers j) None ⊥) (sym at)
-      (let t : AnyPointerType ≡ (typed_of f).type = ap seen_variant (sym e) ∙ h in
-      record {
-        filled = subst (λ u. pointer_in f s ≡ filled_tree (field_set f) d u (pointer_in f s)) t refl;
-        due = subst (λ u. None ≡ fill_due (field_set f) d u (pointer_in f s)) t refl;
-        rests = λ r. subst (λ u. IsAtRest (field_set f) d u (pointer_in f s)) (sym t) r;
-      })
+  untyped-part e = part-as f s i AnyPointerType at (ap seen_variant (sym e) ∙ h)
 
 module _ (f : Field) (r : Option PointerReader) (slot : IsSlot f) (is : IsDefaultPointer f r) where
   own-default : IsOwnDefault (default_of (typed_of f).field) (typed_of f).type (wire.default_tree r)
@@ -199,13 +176,7 @@ module _ (s s' : StructTree) (i : ℕ) (r : Result ⊤ Error) where
   }
 
   pub filled-as : (x y : Tree) (d e : Option ErrorKind) (P Q : Type 0) → x ≡ y → d ≡ e → (Q → P) → IsFilled x d P s i r s' → IsFilled y e Q s i r s'
-  filled-as x y d e P Q left due rests h = record {
-    filled = subst (λ t. OnOk r (HoldsThere s i s' t)) left h.filled;
-    within = subst (λ o. OnOk r (o ≡ None)) due h.within;
-    refused = h.refused;
-    cause = subst (λ o. IfErr r (λ n. IsDueRefusal n o)) due h.cause;
-    rests = λ q. h.rests (rests q);
-  }
+  filled-as x y d e P Q left due rests h = made-filled x y d e P Q left due rests h.filled h.within h.refused h.cause h.rests
 
   -- a part that was filled so is a slot that was filled
   pub part-filled : (f : Field) (x : Tree) (d : Option ErrorKind) (P : Type 0) → IsPart f s x d P → IsFilled x d P s i r s' → IsSlotFilled f s i r s'
@@ -216,6 +187,6 @@ module _ (s s' : StructTree) (i : ℕ) (r : Result ⊤ Error) where
   part-made f x d P part = made-filled x (filled_in f s) d (due_in f s) P (RestsIn f s) part.filled part.due part.rests
 
   -- what is read as the slot's type stays there
-  pub part-stayed : (f : Field) (d : Option ErrorKind) → IsPart f s (nth_tree s.pointers i) d ⊥ → s' ≡ s → OnOk r (d ≡ None) → IfErr r (λ n. d ≡ Some n.kind) → IsSlotFilled f s i r s'
-  part-stayed f d part stays within cause =
-      part-made f (nth_tree s.pointers i) d ⊥ part (always r (same-there s s' i _ stays refl)) within (always-err r stays) (due-cause d r cause) (λ h. absurd h)
+  pub part-stayed : (f : Field) (d : Option ErrorKind) → IsPart f s (nth_tree s.pointers i) d ⊥ → s' ≡ s → refusal_of r ≡ d → IsSlotFilled f s i r s'
+  part-stayed f d part stays due =
+      part-made f (nth_tree s.pointers i) d ⊥ part (always r (same-there s s' i _ stays refl)) (due_within r d due) (always-err r stays) (due_cause r d due) (λ h. absurd h)

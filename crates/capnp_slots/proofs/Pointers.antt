@@ -15,10 +15,6 @@ use Rattle.capnp_records.specs.Writes.Slots.{At}
 use Rattle.capnp_slots.specs.Fields.{IsPointer, IsPointerSlot, IsRoomFor, IsSlotPlan, Keeps, names_of, pointer_index, slot_with}
 use Rattle.capnp_slots.specs.Planned.{member_switched, place_written}
 
-pub on_ok : {A E : Type 0} {P Q : Type 0} (r : Result A E) → (P → Q) → OnOk r P → OnOk r Q
-on_ok (Ok a) f p = f p
-on_ok (Err e) f p = p
-
 -- ---- a pointer's slot ----
 
 -- the union may be switched before or after
@@ -55,6 +51,10 @@ module _ (f : Field) (i : ℕ) (member : Option (ℕ × ℕ)) (is : IsPointerSlo
 
 pub pointer_read : (i : ℕ) (s x : StructTree) (t : Tree) → x ≡ with_pointer_tree s i t → i < tree_count s.pointers → nth_tree x.pointers i ≡ t
 pointer_read i s x t h inside = ap (λ (y : StructTree). nth_tree y.pointers i) h ∙ nth_tree-put_same s.pointers i t inside
+
+pub slot_read : {A E : Type 0} (f : Field) (i : ℕ) (r : Result A E) (s x : StructTree) (t : Tree) → i ≡ pointer_index f → i < tree_count s.pointers → OnOk r (x ≡ with_pointer_tree s i t) → OnOk r (nth_tree x.pointers (pointer_index f) ≡ t)
+slot_read f i (Ok a) s x t at inside h = ap (nth_tree x.pointers) (sym at) ∙ pointer_read i s x t h inside
+slot_read f i (Err e) s x t at inside h = h
 
 pub pointer_there : (i : ℕ) (s x : StructTree) (t : Tree) → x ≡ with_pointer_tree s i t → i < tree_count s.pointers → i < tree_count x.pointers
 pointer_there i s x t h inside = omega (arith, inside, ap (λ (y : StructTree). tree_count y.pointers) h, tree_count-with_tree s.pointers i t)

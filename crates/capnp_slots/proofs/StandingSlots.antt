@@ -18,7 +18,7 @@ use Rattle.capnp_base.specs.declared.introspect.TypeVariant.TheVariants as varia
 use Rattle.capnp_schema.specs.FieldLists.{typed_of}
 use Rattle.capnp_schema.specs.declared.schema.fields.Field.{Field}
 use Rattle.capnp_schema.specs.Schema.{Schemas, Value, ListValue, TextValue, DataValue, default_of}
-use Rattle.capnp_schema.specs.Types.{SchemaType, VoidType, BoolType, IntType, UIntType, EnumType, TextType, DataType, StructType, ListType, AnyPointerType, element_size, seen_type, seen_variant}
+use Rattle.capnp_schema.specs.Types.{SchemaType, TextType, DataType, StructType, ListType, element_size, seen_type, seen_variant}
 use Rattle.capnp_records.specs.Facts.Frame.{second-of}
 use Rattle.capnp_records.specs.Given.{data_tree}
 use Rattle.capnp_base.specs.Text.{text_tree}
@@ -26,7 +26,7 @@ use Rattle.capnp_records.specs.Writes.Fill.{IsAtRest, default_struct, entered_li
 use Rattle.capnp_schema.specs.Plan.{brand_size}
 use Rattle.capnp_slots.specs.Fills.{ListRests, fill_due, filled_tree, list_due, pointer_in}
 use Rattle.capnp_slots.specs.Fields.{field_set, pointer_index}
-use Rattle.capnp_slots.proofs.FilledSlots.{IsPart}
+use Rattle.capnp_slots.proofs.FilledSlots.{IsPart, part-as, part-left}
 
 second : {A : Type 0} (q : Bool) (a b : A) → q ≡ false → cond q a b ≡ b
 second true a b e = absurd (true≢false e)
@@ -74,15 +74,7 @@ module _ (set : Schemas) (d : Value) (x : Tree) (there : is_null_tree x ≡ fals
     due = second (is_null_tree x) _ (struct_list_refusal (brand_size set b) x) there ∙ ap (struct_list_refusal (brand_size set b)) (sym (or-stays d x there));
     rests = λ h. (takes-none, h.1);
   }
-  stands VoidType = record { filled = list-entered VoidType; due = plain-due VoidType; rests = plain-rests VoidType }
-  stands BoolType = record { filled = list-entered BoolType; due = plain-due BoolType; rests = plain-rests BoolType }
-  stands (IntType k) = record { filled = list-entered (IntType k); due = plain-due (IntType k); rests = plain-rests (IntType k) }
-  stands (UIntType k) = record { filled = list-entered (UIntType k); due = plain-due (UIntType k); rests = plain-rests (UIntType k) }
-  stands (EnumType m) = record { filled = list-entered (EnumType m); due = plain-due (EnumType m); rests = plain-rests (EnumType m) }
-  stands TextType = record { filled = list-entered TextType; due = plain-due TextType; rests = plain-rests TextType }
-  stands DataType = record { filled = list-entered DataType; due = plain-due DataType; rests = plain-rests DataType }
-  stands (ListType s) = record { filled = list-entered (ListType s); due = plain-due (ListType s); rests = plain-rests (ListType s) }
-  stands AnyPointerType = record { filled = list-entered AnyPointerType; due = plain-due AnyPointerType; rests = plain-rests AnyPointerType }
+  stands e = record { filled = list-entered e; due = plain-due e; rests = plain-rests e }
 
   pub list-stands : (e t : SchemaType) → ListType e ≡ t → ListStands e t
   list-stands e t h = subst (ListStands e) h (stands e)
@@ -114,28 +106,10 @@ module _ (f : Field) (v : TypeVariant) (i : ℕ) (s : StructTree) (at : i ≡ po
   struct-in raw size same e = struct-at f i s at there raw.number raw.generic size same (ap seen_variant (sym e) ∙ h)
 
   pub text-in : v ≡ variant.Text → IsPart f s (nth_tree s.pointers i) (error_of (as_text (nth_tree s.pointers i))) ⊥
-  text-in e =
-      let d : Value = default_of (typed_of f).field in
-      let x : Tree = pointer_in f s in
-      let t : TextType ≡ (typed_of f).type = ap seen_variant (sym e) ∙ h in
-      subst (λ j. IsPart f s (nth_tree s.pointers j) (error_of (as_text (nth_tree s.pointers j))) ⊥) (sym at)
-      (record {
-        filled = subst (λ u. x ≡ filled_tree (field_set f) d u x) t (text-stays (field_set f) d x stands-there);
-        due = subst (λ u. error_of (as_text x) ≡ fill_due (field_set f) d u x) t refl;
-        rests = λ r. subst (λ u. IsAtRest (field_set f) d u x) (sym t) r;
-      })
+  text-in e = part-left f s _ _ _ _ (text-stays (field_set f) (default_of (typed_of f).field) (nth_tree s.pointers i) there) (part-as f s i TextType at (ap seen_variant (sym e) ∙ h))
 
   pub data-in : v ≡ variant.«Data» → IsPart f s (nth_tree s.pointers i) (error_of (as_data (nth_tree s.pointers i))) ⊥
-  data-in e =
-      let d : Value = default_of (typed_of f).field in
-      let x : Tree = pointer_in f s in
-      let t : DataType ≡ (typed_of f).type = ap seen_variant (sym e) ∙ h in
-      subst (λ j. IsPart f s (nth_tree s.pointers j) (error_of (as_data (nth_tree s.pointers j))) ⊥) (sym at)
-      (record {
-        filled = subst (λ u. x ≡ filled_tree (field_set f) d u x) t (data-stays (field_set f) d x stands-there);
-        due = subst (λ u. error_of (as_data x) ≡ fill_due (field_set f) d u x) t refl;
-        rests = λ r. subst (λ u. IsAtRest (field_set f) d u x) (sym t) r;
-      })
+  data-in e = part-left f s _ _ _ _ (data-stays (field_set f) (default_of (typed_of f).field) (nth_tree s.pointers i) there) (part-as f s i DataType at (ap seen_variant (sym e) ∙ h))
 
   -- what stands at a list's slot, by the set that the code has
   pub list-in : (set : Schemas) (element : TypeHandle) → set ≡ field_set f → v ≡ variant.List element →

@@ -1,5 +1,5 @@
 -- What a builder's get of a slot leaves at its pointer, and why it is refused.
-use Rattle.std.specs.Prelude.{ℕ, ◌<◌, ◌≡◌, ⊤, Bool, true, false, Option, None, Result, IfErr, IsOk, OnErr, OnOk}
+use Rattle.std.specs.Prelude.{ℕ, ◌<◌, ◌≡◌, ⊤, Bool, true, false, List, Option, None, Result, IfErr, IsOk, OnErr, OnOk}
 use Rattle.capnp_device.specs.declared.error.Error.{Error}
 use Rattle.capnp_device.specs.declared.error.ErrorKind.{ErrorKind}
 use Rattle.capnp_wire.specs.Tree.{StructTree, Tree, nth_tree, tree_count}
@@ -75,13 +75,15 @@ ListRests set e D x = (takes_default D x ≡ false) × (filled_list_refusal D (e
 
 -- ---- texts and data ----
 
-abbrev pub text_filled : Value → Tree → Tree
-text_filled (TextValue bytes) x = or_else x (text_tree bytes)
-text_filled d x = x
+-- what is read as a text, or else as data, and what is left there of a default of bytes
+abbrev pub as_blob : Bool → Tree → Result (List ℕ) ErrorKind
+as_blob true x = as_text x
+as_blob false x = as_data x
 
-abbrev pub data_filled : Value → Tree → Tree
-data_filled (DataValue bytes) x = or_else x (data_tree bytes)
-data_filled d x = x
+abbrev pub blob_filled : Value → Tree → Tree
+blob_filled (TextValue bytes) x = or_else x (text_tree bytes)
+blob_filled (DataValue bytes) x = or_else x (data_tree bytes)
+blob_filled d x = x
 
 -- ---- by a struct ----
 

@@ -27,7 +27,7 @@ ghost use Rattle.capnp_records.specs.Writes.Slots.{At};
 ghost use Rattle.capnp_slots.specs.Inits.{IsInitnRefusal, is_sized};
 
 use crate::copies::copies_source;
-use crate::fill_element::{check_list, extend_structs, fill_behind};
+use crate::fill_element::{check_blob, check_list, extend_structs};
 use crate::make::{make_sized, size_of};
 use crate::primitive::{Primitive, number_fits, number_given};
 use crate::setter::SetterInput;
@@ -423,6 +423,34 @@ fn fill_at(
     let pointer = arena.get_pointer_element(at, index);
     fill_behind(arena, pointer, set, variant)?;
     Ok(())
+}
+
+/// Fills what stands behind the pointer of an element of a type: a list of structs gets structs of at least their
+/// schema's sections, and everything else stays.
+///
+/// Refused where it is not read as the type, and as `extend_structs`; then nothing has changed.
+fn fill_behind(arena: &mut Arena, at: usize, set: &SchemaSet, variant: TypeVariant) -> Result<()>
+    requires forest { Forest (segment arena.old) at }
+    requires behind { is_behind (seen_variant variant) ≡ true }
+    ensures forest { OnOk result (Forest (segment arena.new) at) }
+    ensures changes { OnOk result (Changes at (segment arena.old) (segment arena.new)) }
+    ensures filled { OnOk result (tree (segment arena.new) at
+        ≡ element_filled (lists_seen set.now) (seen_variant variant) (tree (segment arena.old) at)) }
+    ensures within { OnOk result (element_due (lists_seen set.now) (seen_variant variant) (tree (segment arena.old) at)
+        ≡ None) }
+    ensures refused { OnErr result (segment arena.new ≡ segment arena.old) }
+    ensures cause { IfErr result (λ e. IsDueRefusal e
+        (element_due (lists_seen set.now) (seen_variant variant) (tree (segment arena.old) at))) }
+    ensures rests { ElementRests (lists_seen set.now) (seen_variant variant) (tree (segment arena.old) at)
+        → IsOk result }
+{
+    match variant {
+        TypeVariant::Text => check_blob(arena, at, true),
+        TypeVariant::Data => check_blob(arena, at, false),
+        TypeVariant::List(element) => fill_list(arena, at, set, element),
+        TypeVariant::AnyPointer => Ok(()),
+        _ => unreachable!(),
+    }
 }
 
 /// Fills the list behind a pointer that is an element, of elements of a type, as a builder's `get` does: structs get at

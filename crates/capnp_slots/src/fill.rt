@@ -1,11 +1,10 @@
 //! What stands at a struct's pointers, filled from defaults and extended.
-ghost use Rattle.std.specs.Prelude.{None, Some, false, ◌≡◌, ◌≢◌, ◌<◌, IfErr, IsOk, OnErr, OnOk};
-ghost use Rattle.capnp_wire.specs.Defaults.{default_tree, error_of, filled_list_refusal, filled_struct, filled_struct_refusal, filled_structs, filled_structs_refusal, or_default, takes_default};
+ghost use Rattle.std.specs.Prelude.{None, false, ◌≡◌, ◌≢◌, ◌<◌, IfErr, IsOk, OnErr, OnOk};
+ghost use Rattle.capnp_wire.specs.Defaults.{default_tree, filled_list_refusal, filled_struct, filled_struct_refusal, filled_structs, filled_structs_refusal, or_default, takes_default};
 ghost use Rattle.capnp_wire.specs.Edits.{HoldsStruct, IsDueRefusal, extended, struct_in, struct_refusal};
 ghost use Rattle.capnp_arena.specs.Segment.{segment};
 ghost use Rattle.capnp_arena.specs.Built.{ChangesIn, IsBuilt, built};
 ghost use Rattle.capnp_wire.specs.Place.{struct_tree};
-ghost use Rattle.capnp_wire.specs.Reading.{as_data, as_text};
 ghost use Rattle.capnp_wire.specs.StructLists.{HoldsStructs};
 ghost use Rattle.capnp_slots.specs.Fills.{HoldsThere, IsThere, tree_there};
 
@@ -120,27 +119,5 @@ pub(crate) fn fill_structs(
 {
     let at = pointer_at(arena, place, index);
     arena.get_struct_list_or_default(at, size, default)?;
-    Ok(())
-}
-
-/// Refuses what is not read as a text.
-pub(crate) fn check_text(arena: &Arena, place: StructPlace, index: u16) -> Result<()>
-    requires planted { IsBuilt arena.now place }
-    requires inside { IsThere (built arena.now place) index }
-    ensures within { OnOk result (error_of (as_text (tree_there (built arena.now place) index)) ≡ None) }
-    ensures cause { IfErr result (λ e. error_of (as_text (tree_there (built arena.now place) index)) ≡ Some e.kind) }
-{
-    arena.get_text(pointer_at(arena, place, index))?;
-    Ok(())
-}
-
-/// Refuses what is not read as data.
-pub(crate) fn check_data(arena: &Arena, place: StructPlace, index: u16) -> Result<()>
-    requires planted { IsBuilt arena.now place }
-    requires inside { IsThere (built arena.now place) index }
-    ensures within { OnOk result (error_of (as_data (tree_there (built arena.now place) index)) ≡ None) }
-    ensures cause { IfErr result (λ e. error_of (as_data (tree_there (built arena.now place) index)) ≡ Some e.kind) }
-{
-    arena.get_data(pointer_at(arena, place, index))?;
     Ok(())
 }

@@ -4,7 +4,7 @@ ghost use Rattle.capnp_arena.specs.Forest.{Changes, Forest, tree};
 ghost use Rattle.capnp_arena.specs.Segment.{segment};
 ghost use Rattle.capnp_arena.specs.Built.{ChangesIn, IsBuilt, LeavesIn, built};
 ghost use Rattle.capnp_wire.specs.Defaults.{default_tree as reader_tree, error_of};
-ghost use Rattle.capnp_wire.specs.Reading.{as_data, as_text, is_null_tree};
+ghost use Rattle.capnp_wire.specs.Reading.{is_null_tree};
 ghost use Rattle.capnp_records.specs.Writes.TreeCopy.{or_else};
 ghost use Rattle.capnp_wire.specs.Edits.{IsDueRefusal, with_pointer_tree};
 ghost use Rattle.capnp_schema.specs.Entries.{lists_seen};
@@ -13,9 +13,10 @@ ghost use Rattle.capnp_schema.specs.Schema.{default_of};
 ghost use Rattle.capnp_schema.specs.StructHandles.{generic_of, number_of, set_of};
 ghost use Rattle.capnp_schema.specs.Types.{ListType, StructType, seen_type};
 ghost use Rattle.capnp_slots.specs.Fields.{IsPointer, IsRoomFor, IsSlot, field_set, pointer_index};
-ghost use Rattle.capnp_slots.specs.Fills.{HoldsThere, IsDefaultPointer, IsListFilled, IsSlotFilled, IsThere, RestsIn, data_filled, due_in, filled_in, pointer_in, text_filled, tree_there};
+ghost use Rattle.capnp_slots.specs.Fills.{HoldsThere, IsDefaultPointer, IsListFilled, IsSlotFilled, IsThere, RestsIn, as_blob, blob_filled, due_in, filled_in, pointer_in, tree_there};
 
-use crate::fill::{check_data, check_text, extend_struct, fill_list, fill_struct, fill_structs};
+use crate::fill::{extend_struct, fill_list, fill_struct, fill_structs};
+use crate::fill_element::check_blob;
 use crate::make::size_of;
 use crate::pointer::{pointer_slot, set_at};
 use crate::setter::SetterInput;
@@ -90,8 +91,8 @@ fn fill_null(arena: &mut Arena, place: StructPlace, field: Field<'_>, index: u16
             fill_struct(arena, place, index, size, default)
         }
         TypeVariant::List(element) => fill_elements(arena, place, index, set, element, default),
-        TypeVariant::Text => fill_text(arena, place, index, field),
-        TypeVariant::Data => fill_data(arena, place, index, field),
+        TypeVariant::Text => fill_blob(arena, place, index, field, true),
+        TypeVariant::Data => fill_blob(arena, place, index, field, false),
         TypeVariant::AnyPointer => Ok(()),
         _ => unreachable!(),
     }
@@ -118,8 +119,8 @@ fn fill_standing(arena: &mut Arena, place: StructPlace, field: Field<'_>, index:
             extend_struct(arena, place, index, size)
         }
         TypeVariant::List(element) => fill_elements(arena, place, index, set, element, None),
-        TypeVariant::Text => check_text(arena, place, index),
-        TypeVariant::Data => check_data(arena, place, index),
+        TypeVariant::Text => check_blob(arena, pointer_at(arena, place, index), true),
+        TypeVariant::Data => check_blob(arena, pointer_at(arena, place, index), false),
         TypeVariant::AnyPointer => Ok(()),
         _ => unreachable!(),
     }
@@ -144,21 +145,29 @@ fn fill_slot(arena: &mut Arena, place: StructPlace, field: Field<'_>, index: u16
     fill_standing(arena, place, field, index)
 }
 
-/// Fills the text at a pointer: a null becomes the default of a text's slot, an empty one too.
-fn fill_text(arena: &mut Arena, place: StructPlace, index: u16, field: Field<'_>) -> Result<()>
+/// Fills the text, or else the data, at a pointer: a null becomes a default of bytes, empty ones too.
+fn fill_blob(
+    arena: &mut Arena,
+    place: StructPlace,
+    index: u16,
+    field: Field<'_>,
+    is_text: bool,
+) -> Result<()>
     requires planted { IsBuilt arena.old place }
     requires inside { IsThere (built arena.old place) index }
     ensures planted { OnOk result (IsBuilt arena.new place) }
     ensures changes { OnOk result (ChangesIn place arena.old arena.new) }
     ensures ok { OnOk result (HoldsThere (built arena.old place) index (built arena.new place)
-        (text_filled (default_of (typed_of field.entry).field) (tree_there (built arena.old place) index))) }
-    ensures within { OnOk result (error_of (as_text (tree_there (built arena.old place) index)) ≡ None) }
+        (blob_filled (default_of (typed_of field.entry).field) (tree_there (built arena.old place) index))) }
+    ensures within { OnOk result (error_of (as_blob is_text (tree_there (built arena.old place) index)) ≡ None) }
     ensures refused { OnErr result (segment arena.new ≡ segment arena.old) }
-    ensures cause { IfErr result (λ e. IsDueRefusal e (error_of (as_text (tree_there (built arena.old place) index)))) }
+    ensures cause { IfErr result (λ e. IsDueRefusal e
+        (error_of (as_blob is_text (tree_there (built arena.old place) index)))) }
 {
-    check_text(arena, place, index)?;
+    check_blob(arena, pointer_at(arena, place, index), is_text)?;
     match field.get_default() {
         Value::Text(text) => put::<text::Owned, text::Reader<'_>>(arena, place, index, text),
+        Value::Data(bytes) => put::<data::Owned, data::Reader<'_>>(arena, place, index, bytes),
         _ => Ok(()),
     }
 }
@@ -184,25 +193,6 @@ fn put<R, S: SetterInput<R> + Copy>(
         return Ok(());
     }
     set_at(arena, place, index, input)
-}
-
-/// Fills the data at a pointer, likewise.
-fn fill_data(arena: &mut Arena, place: StructPlace, index: u16, field: Field<'_>) -> Result<()>
-    requires planted { IsBuilt arena.old place }
-    requires inside { IsThere (built arena.old place) index }
-    ensures planted { OnOk result (IsBuilt arena.new place) }
-    ensures changes { OnOk result (ChangesIn place arena.old arena.new) }
-    ensures ok { OnOk result (HoldsThere (built arena.old place) index (built arena.new place)
-        (data_filled (default_of (typed_of field.entry).field) (tree_there (built arena.old place) index))) }
-    ensures within { OnOk result (error_of (as_data (tree_there (built arena.old place) index)) ≡ None) }
-    ensures refused { OnErr result (segment arena.new ≡ segment arena.old) }
-    ensures cause { IfErr result (λ e. IsDueRefusal e (error_of (as_data (tree_there (built arena.old place) index)))) }
-{
-    check_data(arena, place, index)?;
-    match field.get_default() {
-        Value::Data(bytes) => put::<data::Owned, data::Reader<'_>>(arena, place, index, bytes),
-        _ => Ok(()),
-    }
 }
 
 /// Fills what stands behind the pointer of a slot, as a builder's `get` does: a null text or data becomes a default of

@@ -1,5 +1,5 @@
 -- What is filled, by the field's type.
-use Rattle.std.proofs.Common.{ap, refl, sym, ◌∙◌}
+use Rattle.std.proofs.Common.{None, Ok, ap, refl, ◌∙◌}
 use Rattle.capnp_arena.specs.Built.{built}
 use Rattle.capnp_wire.specs.Tree.{StructTree}
 use Rattle.capnp_schema.specs.Entries.{lists_seen}
@@ -8,8 +8,8 @@ use Rattle.capnp_schema.specs.StructHandles.{number_of, set_of}
 use Rattle.capnp_schema.specs.Types.{seen_variant}
 use Rattle.capnp_schema.specs.Plan.{brand_size}
 use Rattle.capnp_slots.specs.Fields.{field_set}
-use Rattle.capnp_slots.proofs.Filled.{same-there}
-use Rattle.capnp_slots.proofs.FilledSlots.{data-part, list-part, part-filled, part-made, struct-part, text-part, untyped-part}
+use Rattle.capnp_slots.proofs.Filled.{default-is}
+use Rattle.capnp_slots.proofs.FilledSlots.{data-part, list-part, part-filled, part-made, part-stayed, struct-part, text-part, untyped-part}
 use Rattle.capnp_slots.proofs.Places.{same_struct}
 use Rattle.capnp_slots.proofs.part.fill_null.Goals as goal
 
@@ -34,25 +34,20 @@ returns-in-List-clause-written c =
 pub returns-in-Text-clause-written : goal.returns-in-Text-clause-written
 returns-in-Text-clause-written c =
     let s : StructTree = built c.args.arena.now c.args.place in
-    part-made (built c.args.arena.now c.args.place) (built c.fill_text.new.arena c.args.place) c.args.index c.fill_text.result c.args.field _ _ _
-    (text-part c.args.field c.which.result c.args.index s c.requires.is (ap seen_variant c.which.ensures ∙ (seen_which c.get_type.result ∙ c.get_type.ensures.is)) c.in-Text.is)
-    c.fill_text.ensures.ok c.fill_text.ensures.within (same_struct c.args.place c.args.arena.now c.fill_text.new.arena c.fill_text.result c.fill_text.ensures.refused) c.fill_text.ensures.cause (λ h. absurd h)
+    part-made (built c.args.arena.now c.args.place) (built c.fill_blob.new.arena c.args.place) c.args.index c.fill_blob.result c.args.field _ _ _
+    (text-part c.args.field c.which.result c.args.index s c.requires.is (ap seen_variant c.which.ensures ∙ (seen_which c.get_type.result ∙ c.get_type.ensures.is)) (default-is c.args.field _ c.requires.slot c.default_pointer-default.ensures) c.in-Text.is)
+    c.fill_blob.ensures.ok c.fill_blob.ensures.within (same_struct c.args.place c.args.arena.now c.fill_blob.new.arena c.fill_blob.result c.fill_blob.ensures.refused) c.fill_blob.ensures.cause (λ h. absurd h)
 
 pub returns-in-Data-clause-written : goal.returns-in-Data-clause-written
 returns-in-Data-clause-written c =
     let s : StructTree = built c.args.arena.now c.args.place in
-    part-made (built c.args.arena.now c.args.place) (built c.fill_data.new.arena c.args.place) c.args.index c.fill_data.result c.args.field _ _ _
-    (data-part c.args.field c.which.result c.args.index s c.requires.is (ap seen_variant c.which.ensures ∙ (seen_which c.get_type.result ∙ c.get_type.ensures.is)) c.in-Data.is)
-    c.fill_data.ensures.ok c.fill_data.ensures.within (same_struct c.args.place c.args.arena.now c.fill_data.new.arena c.fill_data.result c.fill_data.ensures.refused) c.fill_data.ensures.cause (λ h. absurd h)
+    part-made (built c.args.arena.now c.args.place) (built c.fill_blob-in-Data.new.arena c.args.place) c.args.index c.fill_blob-in-Data.result c.args.field _ _ _
+    (data-part c.args.field c.which.result c.args.index s c.requires.is (ap seen_variant c.which.ensures ∙ (seen_which c.get_type.result ∙ c.get_type.ensures.is)) (default-is c.args.field _ c.requires.slot c.default_pointer-default.ensures) c.in-Data.is)
+    c.fill_blob-in-Data.ensures.ok c.fill_blob-in-Data.ensures.within (same_struct c.args.place c.args.arena.now c.fill_blob-in-Data.new.arena c.fill_blob-in-Data.result c.fill_blob-in-Data.ensures.refused) c.fill_blob-in-Data.ensures.cause (λ h. absurd h)
 
 pub returns-in-AnyPointer-clause-written : goal.returns-in-AnyPointer-clause-written
 returns-in-AnyPointer-clause-written c =
     let s : StructTree = built c.args.arena.now c.args.place in
-    let part = untyped-part c.args.field c.which.result c.args.index s c.requires.is (ap seen_variant c.which.ensures ∙ (seen_which c.get_type.result ∙ c.get_type.ensures.is)) c.in-AnyPointer.is in
-    record {
-      filled = same-there s s c.args.index _ refl part.filled;
-      within = sym part.due;
-      refused = tt;
-      cause = tt;
-      rests = λ h. refl;
-    }
+    part-stayed s s c.args.index (Ok tt) c.args.field None
+    (untyped-part c.args.field c.which.result c.args.index s c.requires.is (ap seen_variant c.which.ensures ∙ (seen_which c.get_type.result ∙ c.get_type.ensures.is)) c.in-AnyPointer.is)
+    refl refl

@@ -1,6 +1,8 @@
 -- What is filled where something stands, by the field's type.
-use Rattle.std.proofs.Common.{ap, refl, sym, ◌∙◌}
+use Rattle.std.proofs.Common.{None, Ok, ap, refl, ◌∙◌}
 use Rattle.capnp_arena.specs.Built.{built}
+use Rattle.capnp_wire.specs.Defaults.{error_of}
+use Rattle.capnp_wire.specs.Reading.{as_data, as_text}
 use Rattle.capnp_wire.specs.Tree.{StructTree}
 use Rattle.capnp_schema.specs.Entries.{lists_seen}
 use Rattle.capnp_schema.specs.Facts.Layers.{seen_which}
@@ -8,7 +10,6 @@ use Rattle.capnp_schema.specs.StructHandles.{number_of, set_of}
 use Rattle.capnp_schema.specs.Types.{seen_variant}
 use Rattle.capnp_schema.specs.Plan.{brand_size}
 use Rattle.capnp_slots.specs.Fields.{field_set}
-use Rattle.capnp_slots.proofs.Filled.{same-there}
 use Rattle.capnp_slots.proofs.FilledSlots.{part-filled, part-made, part-stayed, untyped-part}
 use Rattle.capnp_slots.proofs.StandingSlots.{data-in, list-in, struct-in, text-in}
 use Rattle.capnp_slots.proofs.Places.{same_struct}
@@ -35,25 +36,20 @@ returns-in-List-clause-written c =
 pub returns-in-Text-clause-written : goal.returns-in-Text-clause-written
 returns-in-Text-clause-written c =
     let s : StructTree = built c.args.arena.now c.args.place in
-    part-stayed (built c.args.arena.now c.args.place) (built c.args.arena.now c.args.place) c.args.index c.check_text.result c.args.field _
+    part-stayed (built c.args.arena.now c.args.place) (built c.args.arena.now c.args.place) c.args.index c.check_blob.result c.args.field _
     (text-in c.args.field c.which.result c.args.index s c.requires.is (ap seen_variant c.which.ensures ∙ (seen_which c.get_type.result ∙ c.get_type.ensures.is)) c.requires.standing c.in-Text.is)
-    refl c.check_text.ensures.within c.check_text.ensures.cause
+    refl (c.check_blob.ensures ∙ ap (λ x. error_of (as_text x)) c.pointer_at.ensures.tree)
 
 pub returns-in-Data-clause-written : goal.returns-in-Data-clause-written
 returns-in-Data-clause-written c =
     let s : StructTree = built c.args.arena.now c.args.place in
-    part-stayed (built c.args.arena.now c.args.place) (built c.args.arena.now c.args.place) c.args.index c.check_data.result c.args.field _
+    part-stayed (built c.args.arena.now c.args.place) (built c.args.arena.now c.args.place) c.args.index c.check_blob-in-Data.result c.args.field _
     (data-in c.args.field c.which.result c.args.index s c.requires.is (ap seen_variant c.which.ensures ∙ (seen_which c.get_type.result ∙ c.get_type.ensures.is)) c.requires.standing c.in-Data.is)
-    refl c.check_data.ensures.within c.check_data.ensures.cause
+    refl (c.check_blob-in-Data.ensures ∙ ap (λ x. error_of (as_data x)) c.pointer_at-in-Data.ensures.tree)
 
 pub returns-in-AnyPointer-clause-written : goal.returns-in-AnyPointer-clause-written
 returns-in-AnyPointer-clause-written c =
     let s : StructTree = built c.args.arena.now c.args.place in
-    let part = untyped-part c.args.field c.which.result c.args.index s c.requires.is (ap seen_variant c.which.ensures ∙ (seen_which c.get_type.result ∙ c.get_type.ensures.is)) c.in-AnyPointer.is in
-    record {
-      filled = same-there s s c.args.index _ refl part.filled;
-      within = sym part.due;
-      refused = tt;
-      cause = tt;
-      rests = λ h. refl;
-    }
+    part-stayed s s c.args.index (Ok tt) c.args.field None
+    (untyped-part c.args.field c.which.result c.args.index s c.requires.is (ap seen_variant c.which.ensures ∙ (seen_which c.get_type.result ∙ c.get_type.ensures.is)) c.in-AnyPointer.is)
+    refl refl

@@ -1,8 +1,0 @@
--- A default of another kind fills nothing.
-use Rattle.std.proofs.Common.{refl}
-use Rattle.capnp_arena.specs.Built.{built}
-use Rattle.capnp_slots.proofs.Filled.{no-text, same-there}
-use Rattle.capnp_slots.proofs.part.fill_text.Goals as goal
-
-pub returns-in_default-clause-ok : goal.returns-in_default-clause-ok
-returns-in_default-clause-ok c = same-there (built c.args.arena.now c.args.place) (built c.args.arena.now c.args.place) c.args.index _ refl (no-text _ c.get_default.result _ c.get_default.ensures.view c.in_default.not-Text)
