@@ -7,21 +7,22 @@ use Rattle.capnp_device.specs.declared.error.ErrorKind.TheVariants.{ExpectedALis
 use Rattle.capnp_wire.specs.Tree.{StructTree}
 use Rattle.capnp_schema.specs.FieldLists.{index_of, typed_of}
 use Rattle.capnp_schema.specs.Accepted.{IsGroupOf}
-use Rattle.capnp_schema.specs.Schema.{FieldKind, Group, Schemas, Slot, field_at}
+use Rattle.capnp_schema.specs.Schema.{FieldKind, Group, Schemas, Slot, TypedField, field_at}
 use Rattle.capnp_schema.specs.StructHandles.{number_of, set_of}
 use Rattle.capnp_schema.specs.declared.schema.structs.StructSchema.{StructSchema}
 use Rattle.capnp_schema.specs.Types.{SchemaType, StructType, TextType, DataType, ListType, AnyPointerType}
 use Rattle.capnp_schema.specs.declared.schema.fields.Field.{Field}
-use Rattle.capnp_records.specs.Call.{PathStep, Op, Reply, Refused}
+use Rattle.capnp_records.specs.Call.{PathStep, Op, Reply, Done, Refused}
 use Rattle.capnp_records.specs.Default.{default_record}
 use Rattle.capnp_records.specs.Operation.{Does, Initns, Inits, IsDone, Makes}
 use Rattle.capnp_records.specs.Reading.{reads}
 use Rattle.capnp_records.specs.Record as value
 use Rattle.capnp_records.specs.Record.{Endless, Record, Value}
 use Rattle.capnp_records.specs.Step.{Found, IsRefused, Target, in_record, target_at}
-use Rattle.capnp_records.specs.Writes.Stand.{seen, step_field, step_index}
-use Rattle.capnp_records.specs.Writes.TreeEnds.{TreeDoes, TreeDoesAt}
-use Rattle.capnp_slots.specs.Fields.{field_brand, field_set}
+use Rattle.capnp_records.specs.Writes.Slots.{Content}
+use Rattle.capnp_records.specs.Writes.Stand.{OnGroup, OnStruct, seen, step_field, step_index}
+use Rattle.capnp_records.specs.Writes.TreeEnds.{OpContent, TreeDoes, TreeDoesAt, slot_written, written}
+use Rattle.capnp_slots.specs.Fields.{IsSlot, field_brand, field_set, slot_with}
 use Rattle.capnp_slots.specs.Inits.{IsInitRefusal, IsInitnRefusal, IsRoomless}
 use Rattle.capnp_call.specs.Ends.{AsGroup, AsStruct, FieldDoes, NamedDoes, Whole, stand_of, whole_of}
 use Rattle.capnp_call.specs.Seen.{step_seen}
@@ -35,6 +36,14 @@ module _ (f : Field) (s s' : StructTree) where
   -- nothing was written
   pub stays : (op : Op) (reply : Reply) → s' ≡ s → ((whole : Record → Value) (old : Value) → Does (field_set f) op (target_in whole f s) old reply old) → FieldDoes f op s reply s'
   stays op reply same h w g step e = inl (h (whole_of w) (seen (field_set f) (StructType (field_brand f) g) (stand_of w s)), ap (stand_of w) same)
+
+  -- a slot was written
+  pub slot_does : (op : Op) (c : Content) → IsSlot f → ((whole : Record → Value) → OpContent (field_set f) op (target_in whole f s) c) → s' ≡ slot_with f c s → FieldDoes f op s Done s'
+  slot_does op c slot content is w g step e = inr (inr (inl (c, slot, refl, content (whole_of w), refl, go w)))
+    where
+      go : (w : Whole) → stand_of w s' ≡ written (field_set f) (StructType (field_brand f) g) (stand_of w s) step c
+      go AsStruct = ap OnStruct (is ∙ ap (λ (y : TypedField). slot_written (field_set f) (field_brand f) y c s) (sym (named step e)))
+      go AsGroup = ap OnGroup (is ∙ ap (λ (y : TypedField). slot_written (field_set f) (field_brand f) y c s) (sym (named step e)))
 
 -- ---- refusals ----
 

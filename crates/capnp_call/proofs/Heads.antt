@@ -30,7 +30,7 @@ use Rattle.capnp_records.specs.Writes.Stand.{seen_element}
 use Rattle.capnp_dynamic_readers.specs.Facts.HasWhich.{active_by_plan, has_by_plan}
 use Rattle.capnp_dynamic_readers.specs.Planned.{member_there, place_there, planned_has}
 use Rattle.capnp_dynamic_readers.specs.Reads.{field_read}
-use Rattle.capnp_call.proofs.Levels.{SameAnswer, alike, field_same, same, same_from, same_then}
+use Rattle.capnp_call.proofs.Levels.{SameAnswer, alike, field_same, same_from, same_then}
 
 -- ---- one level ----
 

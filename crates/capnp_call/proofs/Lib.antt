@@ -6,6 +6,7 @@ pub mod Entered
 pub mod FieldReads
 pub mod Found
 pub mod Levels
+pub mod Outcomes
 pub mod Heads
 pub mod ListBehind
 pub mod ListReads

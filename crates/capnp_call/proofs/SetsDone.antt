@@ -19,9 +19,9 @@ use Rattle.capnp_records.specs.Step.{Target}
 use Rattle.capnp_records.specs.Writes.Contents.{SourceFits}
 use Rattle.capnp_records.specs.Writes.ElementEnds.{ElementSetContent, HasRoom}
 use Rattle.capnp_records.specs.Writes.Overlay.{switched}
-use Rattle.capnp_records.specs.Writes.Stand.{OnGroup, OnList, OnStruct, seen, stand_struct, step_field}
+use Rattle.capnp_records.specs.Writes.Stand.{OnList, seen, stand_struct, step_field}
 use Rattle.capnp_records.specs.Writes.TreeCopy.{TreeCopiesWithin}
-use Rattle.capnp_records.specs.Writes.TreeEnds.{CopiedReply, CopiesGiven, SetContent, TreeDoes, slot_written, with_stand_struct, written}
+use Rattle.capnp_records.specs.Writes.TreeEnds.{CopiedReply, CopiesGiven, SetContent, TreeDoes, with_stand_struct}
 use Rattle.capnp_slots.specs.ElementSets.{IsElementSet, element_content, element_given}
 use Rattle.capnp_slots.specs.Fields.{IsSlot, field_brand, field_set}
 use Rattle.capnp_slots.specs.GroupSets.{IsGroupSet, given_to_group}
@@ -29,15 +29,11 @@ use Rattle.capnp_slots.specs.Groups.{IsGroup}
 use Rattle.capnp_slots.specs.Primitives.{given_content, given_to, set_content}
 use Rattle.capnp_slots.specs.Sources.{IsSet, IsSetRefusal, IsTaken, copy_due}
 use Rattle.capnp_call.proofs.Behind.{is_memory, memory_is}
-use Rattle.capnp_call.proofs.EndsDone.{stays}
+use Rattle.capnp_call.proofs.EndsDone.{slot_does, stays}
 use Rattle.capnp_call.specs.Ends.{AsGroup, AsStruct, FieldDoes, Whole, stand_of, whole_of}
 use Rattle.capnp_call.specs.Lists.{element_at}
+use Rattle.capnp_call.specs.Seen.{reply_by}
 use Rattle.capnp_call.specs.Ways.{target_in}
-
--- the reply to a copy: why it ended, if it did
-abbrev pub reply_by : Option ErrorKind → record_call.Reply
-reply_by None = record_call.Done
-reply_by (Some kind) = Refused kind
 
 -- ---- why a set is refused ----
 
@@ -76,26 +72,14 @@ module _ (f : Field) (s s' : StructTree) (source : Source) where
   given_is w slot = ap (λ q. elim q as (λ _. Given) [ true ↦ given_group (typed_of f).type source | false ↦ given_slot (field_set f) (typed_of f).type source ]) slot
 
   pub slot_set : IsSlot f → SourceFits source → IsSet f source s s' → FieldDoes f (Set source) s record_call.Done s'
-  slot_set slot fits is w g step e =
-      inr (inr (inl (
-        set_content f source,
-        slot,
-        refl,
-        (
-          fits,
-          subst (λ (z : Given). SetContent (target_in (whole_of w) f s) source z (set_content f source)) (sym (given_is (whole_of w) slot))
-              (content_of (target_in (whole_of w) f s) (default_of (typed_of f).field) (typed_of f).type source (given_to f source) refl refl is.taken),
-        ),
-        refl,
-        go w,
-      )))
-    where
-      named : typed_of f ≡ step_field (field_set f) (field_brand f) step
-      named = ap (field_at (field_set f) (field_brand f)) (sym e)
-
-      go : (w : Whole) → stand_of w s' ≡ written (field_set f) (StructType (field_brand f) g) (stand_of w s) step (set_content f source)
-      go AsStruct = ap OnStruct (is.written ∙ ap (λ (y : TypedField). slot_written (field_set f) (field_brand f) y (set_content f source) s) named)
-      go AsGroup = ap OnGroup (is.written ∙ ap (λ (y : TypedField). slot_written (field_set f) (field_brand f) y (set_content f source) s) named)
+  slot_set slot fits is =
+      slot_does f s s' (Set source) (set_content f source) slot
+      (λ whole. (
+        fits,
+        subst (λ (z : Given). SetContent (target_in whole f s) source z (set_content f source)) (sym (given_is whole slot))
+            (content_of (target_in whole f s) (default_of (typed_of f).field) (typed_of f).type source (given_to f source) refl refl is.taken),
+      ))
+      is.written
 
   pub slot_unset : (kind : ErrorKind) → IsSlot f → s' ≡ s → IsSetRefusal (given_to f source) kind → FieldDoes f (Set source) s (Refused kind) s'
   slot_unset kind slot same h =

@@ -1,6 +1,10 @@
 //! Calls along paths, and their replies.
+ghost use Rattle.std.specs.Prelude.{◌≡◌};
+ghost use Rattle.capnp_slots.specs.Copied.{refusal_of};
+ghost use Rattle.capnp_call.specs.Seen.{reply_by, reply_seen};
+
 use capnp_dynamic_readers::dynamic_value::Reader as Value;
-use capnp_wire::error::ErrorKind;
+use capnp_wire::error::{ErrorKind, Result};
 use std::alloc::Global;
 
 /// A step of a path.
@@ -88,4 +92,15 @@ pub enum Reply {
     Member(Option<u16>),
     /// The call was refused.
     Refused(ErrorKind),
+}
+
+/// The reply to a write that may have been refused.
+#[inline(always)]
+pub(crate) fn reply_of(outcome: Result<()>) -> Reply
+    ensures { reply_seen result ≡ reply_by (refusal_of outcome) }
+{
+    match outcome {
+        Ok(()) => Reply::Done,
+        Err(error) => Reply::Refused(error.kind),
+    }
 }

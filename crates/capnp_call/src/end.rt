@@ -6,15 +6,14 @@ ghost use Rattle.capnp_wire.specs.Place.{struct_tree};
 ghost use Rattle.capnp_schema.specs.StructHandles.{IsStruct, number_of, set_of};
 ghost use Rattle.capnp_records.specs.Call.{Clear, Init, Initn, Set};
 ghost use Rattle.capnp_records.specs.Writes.Slots.{Fits};
-ghost use Rattle.capnp_slots.specs.Fields.{IsRoomFor, IsSlot};
-ghost use Rattle.capnp_slots.specs.Groups.{IsGroup, KeepsSize};
+ghost use Rattle.capnp_slots.specs.Fields.{IsRoomFor};
 ghost use Rattle.capnp_slots.specs.Sources.{source_seen};
 ghost use Rattle.capnp_slots.specs.SetValues.{source_of};
 ghost use Rattle.capnp_call.specs.Ends.{FieldDoes, NamedDoes, StructEnds};
 ghost use Rattle.capnp_call.specs.Seen.{op_seen, reply_seen, step_seen};
 
 use crate::answer::{get_field, has_field, which_member};
-use crate::calls::{Ending, Op, Reply};
+use crate::calls::{Ending, Op, Reply, reply_of};
 use crate::way::find_field;
 use capnp_arena::arena::{Arena, Place};
 use capnp_dynamic_readers::dynamic_value::Reader as Value;
@@ -24,42 +23,9 @@ use capnp_slots::source::{Source, source_fits};
 use capnp_slots::{group, slot};
 use capnp_wire::error::ErrorKind;
 
-/// Sets a slot to a source, as `slot::set`.
-#[inline(always)]
-fn set_slot(arena: &mut Arena, place: Place, field: Field<'_>, source: Source<'_>) -> Reply
-    requires planted { IsBuilt arena.old place }
-    requires slot { IsSlot field }
-    requires room { IsRoomFor field (built arena.old place) }
-    ensures does { FieldDoes field.entry (Set (source_seen source.entry)) (built arena.old place) (reply_seen result)
-        (built arena.new place) }
-    ensures planted { IsBuilt arena.new place }
-    ensures changes { ChangesIn place arena.old arena.new }
-{
-    source_fits(source);
-    match slot::set(arena, place, field, source) {
-        Ok(()) => Reply::Done,
-        Err(error) => Reply::Refused(error.kind),
-    }
-}
-
-/// Sets a group to a source, as `group::set`: what was copied before a refusal stays.
-#[inline(never)]
-fn set_group(arena: &mut Arena, place: Place, field: Field<'_>, source: Source<'_>) -> Reply
-    requires planted { IsBuilt arena.old place }
-    requires group { IsGroup field }
-    requires room { IsRoomFor field (built arena.old place) }
-    ensures does { FieldDoes field.entry (Set (source_seen source.entry)) (built arena.old place) (reply_seen result)
-        (built arena.new place) }
-    ensures planted { IsBuilt arena.new place }
-    ensures changes { ChangesIn place arena.old arena.new }
-{
-    match group::set(arena, place, field, source) {
-        Ok(()) => Reply::Done,
-        Err(error) => Reply::Refused(error.kind),
-    }
-}
-
-/// Sets a field to a source.
+/// Sets a field to a source, as `slot::set` or, of a group, as `group::set`: then what was copied before a refusal
+/// stays.
+#[tactic(auto, using(crate::proofs::Outcomes::planted_after, crate::proofs::Outcomes::changes_after))]
 #[inline(always)]
 fn set_to(arena: &mut Arena, place: Place, field: Field<'_>, source: Source<'_>) -> Reply
     requires planted { IsBuilt arena.old place }
@@ -70,9 +36,10 @@ fn set_to(arena: &mut Arena, place: Place, field: Field<'_>, source: Source<'_>)
     ensures changes { ChangesIn place arena.old arena.new }
 {
     if slot::is_slot(field) {
-        set_slot(arena, place, field, source)
+        source_fits(source);
+        reply_of(slot::set(arena, place, field, source))
     } else {
-        set_group(arena, place, field, source)
+        reply_of(group::set(arena, place, field, source))
     }
 }
 
@@ -109,6 +76,7 @@ fn set_field(arena: &mut Arena, place: Place, field: Field<'_>, value: &Value<'_
 /// member becomes active.
 ///
 /// Refused as `slot::init`, and then nothing has changed.
+#[tactic(auto, using(crate::proofs::Outcomes::planted_after, crate::proofs::Outcomes::changes_after))]
 fn init_field(arena: &mut Arena, place: Place, field: Field<'_>) -> Reply
     requires planted { IsBuilt arena.old place }
     requires room { IsRoomFor field (built arena.old place) }
@@ -116,17 +84,16 @@ fn init_field(arena: &mut Arena, place: Place, field: Field<'_>) -> Reply
     ensures planted { IsBuilt arena.new place }
     ensures changes { ChangesIn place arena.old arena.new }
 {
-    if !slot::is_slot(field) {
+    if slot::is_slot(field) {
+        reply_of(slot::init(arena, place, field))
+    } else {
         group::init(arena, place, field);
-        return Reply::Done;
-    }
-    match slot::init(arena, place, field) {
-        Ok(()) => Reply::Done,
-        Err(error) => Reply::Refused(error.kind),
+        Reply::Done
     }
 }
 
 /// Initializes a field with a size, as `slot::initn`; a group is refused as a slot that has no size.
+#[tactic(auto, using(crate::proofs::Outcomes::planted_after, crate::proofs::Outcomes::changes_after))]
 fn initn_field(arena: &mut Arena, place: Place, field: Field<'_>, count: u32) -> Reply
     requires planted { IsBuilt arena.old place }
     requires room { IsRoomFor field (built arena.old place) }
@@ -137,23 +104,7 @@ fn initn_field(arena: &mut Arena, place: Place, field: Field<'_>, count: u32) ->
 {
     match group::group_of(field) {
         Some(_) => Reply::Refused(ErrorKind::InitnIsOnlyValidForListTextOrDataFields),
-        None => initn_slot(arena, place, field, count),
-    }
-}
-
-/// Initializes a slot with a size, as `slot::initn`.
-fn initn_slot(arena: &mut Arena, place: Place, field: Field<'_>, count: u32) -> Reply
-    requires planted { IsBuilt arena.old place }
-    requires slot { IsSlot field }
-    requires room { IsRoomFor field (built arena.old place) }
-    ensures does { FieldDoes field.entry (Initn count) (built arena.old place) (reply_seen result)
-        (built arena.new place) }
-    ensures planted { IsBuilt arena.new place }
-    ensures changes { ChangesIn place arena.old arena.new }
-{
-    match slot::initn(arena, place, field, count) {
-        Ok(()) => Reply::Done,
-        Err(error) => Reply::Refused(error.kind),
+        None => reply_of(slot::initn(arena, place, field, count)),
     }
 }
 
@@ -167,10 +118,11 @@ fn clear_field(arena: &mut Arena, place: Place, field: Field<'_>) -> Reply
 {
     if slot::is_slot(field) {
         slot::clear(arena, place, field);
+        Reply::Done
     } else {
         group::clear(arena, place, field);
+        Reply::Done
     }
-    Reply::Done
 }
 
 /// Does an operation to a field of a struct.

@@ -13,7 +13,7 @@ ghost use Rattle.capnp_call.specs.Lists.{ElementDoes, IsListStand, ListEnds, ele
 ghost use Rattle.capnp_call.specs.Seen.{reply_seen};
 
 use crate::answer::answer;
-use crate::calls::{Ending, Op, Reply, Step};
+use crate::calls::{Ending, Op, Reply, Step, reply_of};
 use capnp_arena::arena::{Arena, Place};
 use capnp_base::introspect::Type;
 use capnp_dynamic_readers::dynamic_list;
@@ -49,6 +49,7 @@ fn get_element(
 }
 
 /// Starts an element anew with a size, as `element::init`.
+#[tactic(auto, using(crate::proofs::Outcomes::forest_after, crate::proofs::Outcomes::list_changes_after))]
 fn initn_element(
     arena: &mut Arena,
     at: usize,
@@ -65,13 +66,11 @@ fn initn_element(
     ensures forest { Forest (segment arena.new) at }
     ensures changes { Changes at (segment arena.old) (segment arena.new) }
 {
-    match element::init(arena, at, set, element, index, count) {
-        Ok(()) => Reply::Done,
-        Err(error) => Reply::Refused(error.kind),
-    }
+    reply_of(element::init(arena, at, set, element, index, count))
 }
 
 /// Sets an element to a value, as `element::set`.
+#[tactic(auto, using(crate::proofs::Outcomes::forest_after, crate::proofs::Outcomes::list_changes_after))]
 fn set_element(
     arena: &mut Arena,
     at: usize,
@@ -91,10 +90,7 @@ fn set_element(
 {
     let source = Source::from(value);
     source_fits(source);
-    match element::set(arena, at, set, element, index, source) {
-        Ok(()) => Reply::Done,
-        Err(error) => Reply::Refused(error.kind),
-    }
+    reply_of(element::set(arena, at, set, element, index, source))
 }
 
 /// Does an operation to an element that is there.

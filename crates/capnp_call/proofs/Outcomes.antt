@@ -1,0 +1,48 @@
+-- What a write comes to that may have been refused: it was done, or nothing has changed.
+use Rattle.std.specs.Prelude.{ℕ, ◌≡◌, List, Result, Ok, Err, OnOk, OnErr, IfErr}
+use Rattle.std.proofs.Common.{arith, ap, inl, refl, subst, sym}
+use Rattle.capnp_device.specs.declared.error.Error.{Error}
+use Rattle.capnp_arena.specs.Built.{built}
+use Rattle.capnp_arena.specs.Facts.Places.{unchanged}
+use Rattle.capnp_arena.specs.Forest.{Changes, Forest, PartChanges, Planted, struct_from}
+use Rattle.capnp_arena.specs.Segment.{segment}
+use Rattle.capnp_arena.specs.Shape.{Shape}
+use Rattle.capnp_arena.specs.declared.arena.Arena.{Arena}
+use Rattle.capnp_arena.specs.declared.arena.Place.{Place}
+use Rattle.capnp_records.specs.Call.{Done, Refused, Reply}
+use Rattle.capnp_slots.specs.Copied.{refusal_of}
+use Rattle.capnp_call.specs.Seen.{reply_by}
+
+-- two facts of a write that was done
+pub both : {A : Type 0} (V W : Type 0) (r : Result A Error) → OnOk r V → OnOk r W → OnOk r (V × W)
+both V W (Ok a) v w = (v, w)
+both V W (Err e) v w = tt
+
+-- what holds of the reply: of its being done, and of each refusal
+pub by_outcome : {A W S : Type 0} {C : Error → Type 0} (Q : Reply → Type 0) (r : Result A Error) (reply : Reply) → reply ≡ reply_by (refusal_of r) →
+    OnOk r W → (W → Q Done) → OnErr r S → IfErr r C → ((e : Error) → S → C e → Q (Refused e.kind)) → Q reply
+by_outcome Q (Ok a) reply is written done same cause refused = subst Q (sym is) (done written)
+by_outcome Q (Err e) reply is written done same cause refused = subst Q (sym is) (refused e same cause)
+
+-- ---- where it stands ----
+
+pub same_struct : (old new : Arena) (p : Place) → segment new ≡ segment old → built new p ≡ built old p
+same_struct old new p e = ap (λ (b : List ℕ). struct_from b p.start p.data_words p.pointers) e
+
+-- a struct stands where it stood, and nothing else has changed
+pub planted_after : {A : Type 0} (s : Shape) (old new : List ℕ) (r : Result A Error) → Planted old s → OnOk r (Planted new s) → OnErr r (new ≡ old) → Planted new s
+planted_after s old new (Ok a) before written same = written
+planted_after s old new (Err e) before written same = subst (λ (b : List ℕ). Planted b s) (sym same) before
+
+pub changes_after : {A : Type 0} (s : Shape) (old new : List ℕ) (r : Result A Error) → OnOk r (PartChanges s old new) → OnErr r (new ≡ old) → PartChanges s old new
+changes_after s old new (Ok a) written same = written
+changes_after s old new (Err e) written same = unchanged old new s same
+
+-- the same of a list
+pub forest_after : {A : Type 0} (w : ℕ) (old new : List ℕ) (r : Result A Error) → Forest old w → OnOk r (Forest new w) → OnErr r (new ≡ old) → Forest new w
+forest_after w old new (Ok a) before written same = written
+forest_after w old new (Err e) before written same = subst (λ (b : List ℕ). Forest b w) (sym same) before
+
+pub list_changes_after : {A : Type 0} (w : ℕ) (old new : List ℕ) (r : Result A Error) → OnOk r (Changes w old new) → OnErr r (new ≡ old) → Changes w old new
+list_changes_after w old new (Ok a) written same = written
+list_changes_after w old new (Err e) written same = subst (Changes w old) (sym same) (record { longer = omega arith; stays = λ k l o p. refl; grows = λ k o. inl o })
