@@ -6,18 +6,14 @@ ghost use Rattle.capnp_arena.specs.Listed.{list_shape};
 ghost use Rattle.capnp_arena.specs.Segment.{segment};
 ghost use Rattle.capnp_arena.specs.Shape.{shape_at};
 
-use crate::fixtures::answer;
+use crate::calls::set_text;
+use crate::fixtures::{ONE_EACH, answer};
 use capnp_arena::handle_callers::set_text_field;
 use capnp_arena::handles::{ListBuilder, PointerBuilder, StructBuilder};
 use capnp_arena::message::Builder;
 use capnp_device::error::Result;
-use capnp_wire::size::{ElementSize, StructSize};
+use capnp_wire::size::ElementSize;
 use std::alloc::Global;
-
-const ONE_EACH: StructSize = StructSize {
-    data_words: 1,
-    pointers: 1,
-};
 
 /// A number, the same with a default, a bit, the same with a default, the pointers, and the number by a reader.
 type Fields = (u64, u64, bool, bool, u16, u64);
@@ -99,21 +95,30 @@ fn read_null(alloc: Global) -> Result<(bool, bool, bool, usize)> {
     read_pointer(&root)
 }
 
-/// The last byte of a text that is lent, and what of new data and a new text is lent.
-fn lend_bytes(alloc: Global) -> Result<(Option<u8>, usize, usize)> {
+/// The last byte of a text that is lent.
+fn lend_last(alloc: Global) -> Result<Option<u8>> {
     let mut message = Builder::new(alloc)?;
-    let mut root = message.root();
-    root.set_text(b"hi")?;
-    let last = root.get_text_mut()?.into_bytes().last().copied();
-    let data = Builder::new(alloc)?.root().init_data(3)?.len();
-    let text = Builder::new(alloc)?.root().init_text(3)?.len();
-    Ok((last, data, text))
+    set_text(&mut message, "hi")?;
+    Ok(message.root().get_text_mut()?.into_bytes().last().copied())
+}
+
+/// How many of new data are lent, and of a new text.
+fn count_data(alloc: Global) -> Result<usize> {
+    let mut message = Builder::new(alloc)?;
+    let data = message.root().init_data(3)?;
+    Ok(data.len())
+}
+
+fn count_text(alloc: Global) -> Result<usize> {
+    let mut message = Builder::new(alloc)?;
+    let text = message.root().init_text(3)?;
+    Ok(text.len())
 }
 
 /// The words of a message as it is written: its root pointer and a text.
 fn count_words(alloc: Global) -> Result<u64> {
     let mut message = Builder::new(alloc)?;
-    message.root().set_text(b"hi")?;
+    set_text(&mut message, "hi")?;
     message.size_in_words()
 }
 
@@ -131,6 +136,8 @@ fn builders_read_what_was_built(rt: HostRuntime) {
     assert_eq!(rt; answer(read_nothing(alloc)), Ok((0, true, 0, false, 0)));
     assert_eq!(rt; answer(read_text(alloc)), Ok((false, false, true, 2)));
     assert_eq!(rt; answer(read_null(alloc)), Ok((true, false, false, 0)));
-    assert_eq!(rt; answer(lend_bytes(alloc)), Ok((Some(b'i'), 3, 3)));
+    assert_eq!(rt; answer(lend_last(alloc)), Ok(Some(b'i')));
+    assert_eq!(rt; answer(count_data(alloc)), Ok(3));
+    assert_eq!(rt; answer(count_text(alloc)), Ok(3));
     assert_eq!(rt; answer(count_words(alloc)), Ok(2));
 }

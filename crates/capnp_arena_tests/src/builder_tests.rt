@@ -2,42 +2,31 @@
 ghost use Rattle.std.specs.Prelude.{OnOk};
 ghost use Rattle.capnp_arena.specs.Message.{IsMessage};
 
-use crate::fixtures::{answer, bytes_of, is_spelled};
-use capnp_arena::handle_callers::{
-    build_data, build_list, build_struct, fill_struct, set_text_element,
-};
+use crate::calls::FIVE_AND_TEXT;
+use crate::fixtures::{ONE_EACH, answer, is_written_as};
+use capnp_arena::handle_callers::{build_data, build_list, build_struct, set_text_element};
 use capnp_arena::message::Builder;
 use capnp_device::error::Result;
-use capnp_wire::PointerReader;
-use capnp_wire::message::Reader;
-use capnp_wire::size::{ElementSize, StructSize};
+use capnp_wire::size::ElementSize;
 use std::alloc::Global;
+use std::process::Abort;
 
 /// What is built at the root.
-#[derive(Clone, Copy, Debug)]
+#[derive(Clone, Copy)]
 enum Built {
     /// The example of the message's builder.
     Example,
     Fields,
     Numbers,
     Bits,
-    Element,
     Texts,
-    Cleared,
     Named,
     Listed,
     Byte,
-    /// By builders that are lent.
-    Lent,
-    Copied,
-    Defaults,
 }
 
-const HI: &str =
-    "00 00 00 00 04 00 00 00 | 00 00 00 00 01 00 01 00 | 05 00 00 00 00 00 00 00 | 01 00 00 00 1a 00 00 00 | 68 69 00 00 00 00 00 00";
-
-static BUILT: [(Built, &str); 13] = [
-    (Built::Example, HI),
+static BUILT: [(Built, &str); 8] = [
+    (Built::Example, FIVE_AND_TEXT),
     (
         Built::Fields,
         "00 00 00 00 03 00 00 00 | 00 00 00 00 01 00 01 00 | 08 00 04 00 00 00 00 00 | 0",
@@ -51,14 +40,9 @@ static BUILT: [(Built, &str); 13] = [
         "00 00 00 00 02 00 00 00 | 01 00 00 00 19 00 00 00 | 04 00 00 00 00 00 00 00",
     ),
     (
-        Built::Element,
-        "00 00 00 00 06 00 00 00 | 01 00 00 00 27 00 00 00 | 08 00 00 00 01 00 01 00 | 0 | 0 | 07 00 00 00 00 00 00 00 | 0",
-    ),
-    (
         Built::Texts,
         "00 00 00 00 04 00 00 00 | 01 00 00 00 16 00 00 00 | 0 | 01 00 00 00 1a 00 00 00 | 68 69 00 00 00 00 00 00",
     ),
-    (Built::Cleared, "00 00 00 00 01 00 00 00 | 0"),
     (
         Built::Named,
         "00 00 00 00 04 00 00 00 | 00 00 00 00 01 00 01 00 | 0 | 01 00 00 00 1a 00 00 00 | 68 69 00 00 00 00 00 00",
@@ -71,15 +55,7 @@ static BUILT: [(Built, &str); 13] = [
         Built::Byte,
         "00 00 00 00 02 00 00 00 | 01 00 00 00 1a 00 00 00 | 09 00 00 00 00 00 00 00",
     ),
-    (Built::Lent, HI),
-    (Built::Copied, HI),
-    (Built::Defaults, HI),
 ];
-
-const ONE_EACH: StructSize = StructSize {
-    data_words: 1,
-    pointers: 1,
-};
 
 fn build_example(message: &mut Builder) -> Result<()>
     requires { IsMessage message.old }
@@ -121,15 +97,6 @@ fn build_bits(message: &mut Builder) -> Result<()>
     Ok(())
 }
 
-fn build_element(message: &mut Builder) -> Result<()>
-    requires { IsMessage message.old }
-    ensures { OnOk result (IsMessage message.new) }
-{
-    let list = message.root().init_struct_list(2, ONE_EACH)?;
-    list.get_struct_element(1).set_data_field::<u64>(0, 7);
-    Ok(())
-}
-
 fn build_texts(message: &mut Builder) -> Result<()>
     requires { IsMessage message.old }
     ensures { OnOk result (IsMessage message.new) }
@@ -139,57 +106,7 @@ fn build_texts(message: &mut Builder) -> Result<()>
     Ok(())
 }
 
-fn build_cleared(message: &mut Builder) -> Result<()>
-    requires { IsMessage message.old }
-    ensures { OnOk result (IsMessage message.new) }
-{
-    message.root().init_struct(ONE_EACH)?;
-    message.root().clear();
-    Ok(())
-}
-
-fn build_lent(message: &mut Builder) -> Result<()>
-    requires { IsMessage message.old }
-    ensures { OnOk result (IsMessage message.new) }
-{
-    let mut made = message.root().init_struct(ONE_EACH)?;
-    fill_struct(&mut made, 0, b"hi", 5)?;
-    Ok(())
-}
-
-fn build_copied(message: &mut Builder, source: PointerReader<'_>) -> Result<()>
-    requires { IsMessage message.old }
-    ensures { OnOk result (IsMessage message.new) }
-{
-    message.root().copy_from(source)?;
-    Ok(())
-}
-
-fn build_default(message: &mut Builder, source: PointerReader<'_>) -> Result<()>
-    requires { IsMessage message.old }
-    ensures { OnOk result (IsMessage message.new) }
-{
-    message
-        .root()
-        .get_struct_or_default(ONE_EACH, Some(source))?;
-    Ok(())
-}
-
-/// A copy of a stream's root, or the root got with it as the default.
-fn build_read(message: &mut Builder, alloc: Global, stream: &str, is_default: bool) -> Result<()>
-    requires { IsMessage message.old }
-    ensures { OnOk result (IsMessage message.new) }
-{
-    let bytes = bytes_of(alloc, stream)?;
-    let source = Reader::new(alloc, &bytes)?.get_root();
-    if is_default {
-        build_default(message, source)
-    } else {
-        build_copied(message, source)
-    }
-}
-
-fn build(message: &mut Builder, alloc: Global, built: Built) -> Result<()>
+fn build(message: &mut Builder, built: Built) -> Result<()>
     requires { IsMessage message.old }
     ensures { OnOk result (IsMessage message.new) }
 {
@@ -198,31 +115,30 @@ fn build(message: &mut Builder, alloc: Global, built: Built) -> Result<()>
         Built::Fields => build_fields(message),
         Built::Numbers => build_numbers(message),
         Built::Bits => build_bits(message),
-        Built::Element => build_element(message),
         Built::Texts => build_texts(message),
-        Built::Cleared => build_cleared(message),
         Built::Named => build_struct(message, ONE_EACH, 0, b"hi"),
         Built::Listed => build_list(message, 2, ONE_EACH, 1, 0, b"hi"),
         Built::Byte => build_data(message, 3, 9),
-        Built::Lent => build_lent(message),
-        Built::Copied => build_read(message, alloc, HI, false),
-        Built::Defaults => build_read(message, alloc, HI, true),
     }
 }
 
 fn is_built(alloc: Global, built: Built, text: &str) -> Result<bool> {
     let mut message = Builder::new(alloc)?;
-    build(&mut message, alloc, built)?;
-    is_spelled(alloc, &message.write_message()?, text)
+    build(&mut message, built)?;
+    is_written_as(alloc, &message, text)
+}
+
+fn check(rt: &impl Abort, alloc: Global, built: Built, text: &str) {
+    assert_eq!(rt; answer(is_built(alloc, built, text)), Ok(true), "{text}");
+}
+
+fn check_rows(rt: &impl Abort, alloc: Global, rows: &[(Built, &str)]) {
+    for (built, text) in rows {
+        check(rt, alloc, *built, text);
+    }
 }
 
 #[test]
 fn what_builders_leave_is_written(rt: HostRuntime) {
-    for (built, text) in &BUILT {
-        assert_eq!(rt;
-            answer(is_built(rt.alloc(), *built, text)),
-            Ok(true),
-            "{built:?}"
-        );
-    }
+    check_rows(&rt, rt.alloc(), &BUILT);
 }

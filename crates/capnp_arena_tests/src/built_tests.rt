@@ -3,15 +3,17 @@
 //! What a row builds is a function of its own, of the row's name: it builds at the root of a new message, and answers
 //! three numbers that are read from what it built. Those of structs fill one that is new.
 ghost use Rattle.std.specs.Prelude.{OnOk, ◌<◌, ◌≡◌};
-ghost use Rattle.capnp_arena.specs.Forest.{PartChanges};
+ghost use Rattle.capnp_arena.specs.Forest.{Forest, PartChanges};
 ghost use Rattle.capnp_arena.specs.Handles.{IsStruct, part};
 ghost use Rattle.capnp_arena.specs.Message.{IsMessage};
+ghost use Rattle.capnp_arena.specs.Listed.{list_shape};
 ghost use Rattle.capnp_arena.specs.Segment.{segment};
+ghost use Rattle.capnp_arena.specs.Shape.{shape_at};
 
 use crate::built_structs::{self, POINT, reading};
 use crate::calls::NO_SIZE;
 use crate::fixtures::{ONE_EACH, answer, is_written_as};
-use capnp_arena::handles::StructBuilder;
+use capnp_arena::handles::{ListBuilder, StructBuilder};
 use capnp_arena::message::Builder;
 use capnp_device::error::Result;
 use capnp_wire::size::{ElementSize, StructSize};
@@ -27,13 +29,18 @@ const READING: StructSize = StructSize {
 /// The words of a list of the numbers 1 and 2, of two bytes each.
 const NUMBERS: [u8; 16] = [1, 0, 0, 0, 0x13, 0, 0, 0, 1, 0, 2, 0, 0, 0, 0, 0];
 
+/// The words of a struct of two data words and four pointers, all zero and null.
+const LARGER: [u8; 56] = [
+    0, 0, 0, 0, 2, 0, 4, 0, 0, 0, 0, 0, 0, 0, 0, 0, 0, 0, 0, 0, 0, 0, 0, 0, 0, 0, 0, 0, 0, 0, 0, 0,
+    0, 0, 0, 0, 0, 0, 0, 0, 0, 0, 0, 0, 0, 0, 0, 0, 0, 0, 0, 0, 0, 0, 0, 0,
+];
+
 /// What is built.
 #[derive(Clone, Copy)]
 enum Built {
     NullAsList,
     Numbers,
     Bits,
-    Texts,
     TextList,
     StructList,
     StructAsNumber,
@@ -61,17 +68,37 @@ fn null_as_list(message: &mut Builder) -> Result<[u64; 3]>
     Ok([list.get_data_element::<u16>(0) as u64, 0, 0])
 }
 
+/// The elements 1, 2 and 3.
+fn read_numbers(list: &ListBuilder<'_>) -> [u64; 3]
+    requires forest { Forest (segment list.now.arena.now) list.now.at }
+    requires there { shape_at (segment list.now.arena.now) list.now.at ≡ list_shape list.now.list }
+{
+    [
+        list.get_data_element::<u16>(1) as u64,
+        list.get_data_element::<u16>(2) as u64,
+        list.get_data_element::<u16>(3) as u64,
+    ]
+}
+
 fn numbers(message: &mut Builder) -> Result<[u64; 3]>
     requires { IsMessage message.old }
     ensures { OnOk result (IsMessage message.new) }
 {
     let mut list = message.root().init_list(ElementSize::TwoBytes, 3)?;
     list.set_data_element::<u16>(1, 0x0201);
-    Ok([
-        list.get_data_element::<u16>(1) as u64,
-        list.get_data_element::<u16>(2) as u64,
-        list.get_data_element::<u16>(3) as u64,
-    ])
+    Ok(read_numbers(&list))
+}
+
+/// The elements 9, 0 and 10.
+fn read_bits(list: &ListBuilder<'_>) -> [u64; 3]
+    requires forest { Forest (segment list.now.arena.now) list.now.at }
+    requires there { shape_at (segment list.now.arena.now) list.now.at ≡ list_shape list.now.list }
+{
+    [
+        list.get_bool_element(9) as u64,
+        list.get_bool_element(0) as u64,
+        list.get_bool_element(10) as u64,
+    ]
 }
 
 fn bits(message: &mut Builder) -> Result<[u64; 3]>
@@ -82,21 +109,19 @@ fn bits(message: &mut Builder) -> Result<[u64; 3]>
     list.set_bool_element(9, true);
     list.set_bool_element(0, true);
     list.set_bool_element(0, false);
-    Ok([
-        list.get_bool_element(9) as u64,
-        list.get_bool_element(0) as u64,
-        list.get_bool_element(10) as u64,
-    ])
+    Ok(read_bits(&list))
 }
 
-fn texts(message: &mut Builder) -> Result<[u64; 3]>
-    requires { IsMessage message.old }
-    ensures { OnOk result (IsMessage message.new) }
+/// The elements 0, 1 and 2.
+fn read_bytes(list: &ListBuilder<'_>) -> [u64; 3]
+    requires forest { Forest (segment list.now.arena.now) list.now.at }
+    requires there { shape_at (segment list.now.arena.now) list.now.at ≡ list_shape list.now.list }
 {
-    let list = message.root().init_list(ElementSize::Pointer, 2)?;
-    let mut second = list.get_pointer_element(1);
-    second.set_text(b"hi")?;
-    Ok([0; 3])
+    [
+        list.get_data_element::<u8>(0) as u64,
+        list.get_data_element::<u8>(1) as u64,
+        list.get_data_element::<u8>(2) as u64,
+    ]
 }
 
 /// The list of a text of two bytes, which are written one by one.
@@ -107,11 +132,7 @@ fn text_list(message: &mut Builder) -> Result<[u64; 3]>
     let mut list = message.root().init_list(ElementSize::Byte, 3)?;
     list.set_data_element::<u8>(0, b'h');
     list.set_data_element::<u8>(1, b'i');
-    Ok([
-        list.get_data_element::<u8>(0) as u64,
-        list.get_data_element::<u8>(1) as u64,
-        list.get_data_element::<u8>(2) as u64,
-    ])
+    Ok(read_bytes(&list))
 }
 
 fn fill_second(message: &mut Builder) -> Result<()>
@@ -123,13 +144,21 @@ fn fill_second(message: &mut Builder) -> Result<()>
     Ok(())
 }
 
+/// The number at the start of the second of a list of structs.
+fn second_of_structs(message: &mut Builder, size: StructSize) -> Result<[u64; 3]>
+    requires { IsMessage message.old }
+    ensures { OnOk result (IsMessage message.new) }
+{
+    let list = message.root().get_struct_list(size)?;
+    Ok([list.get_data_element::<u16>(1) as u64, 0, 0])
+}
+
 fn struct_list(message: &mut Builder) -> Result<[u64; 3]>
     requires { IsMessage message.old }
     ensures { OnOk result (IsMessage message.new) }
 {
     fill_second(message)?;
-    let list = message.root().get_struct_list(POINT)?;
-    Ok([list.get_data_element::<u16>(1) as u64, 0, 0])
+    second_of_structs(message, POINT)
 }
 
 /// A number at the start of a struct, and data at its pointer.
@@ -152,8 +181,20 @@ fn numbers_as_structs(message: &mut Builder) -> Result<[u64; 3]>
     message
         .root()
         .copy_from(PointerReader::from_words(&NUMBERS))?;
-    let list = message.root().get_struct_list(ONE_EACH)?;
-    Ok([list.get_data_element::<u16>(1) as u64, 0, 0])
+    second_of_structs(message, ONE_EACH)
+}
+
+/// The second of the bytes, and whether there are none.
+fn bytes_here(message: &mut Builder, is_list: bool) -> Result<[u64; 3]>
+    requires { IsMessage message.old }
+    ensures { OnOk result (IsMessage message.new) }
+{
+    let list = message.root().get_list(ElementSize::Byte)?;
+    Ok([
+        list.get_data_element::<u8>(1) as u64,
+        list.is_empty() as u64,
+        is_list as u64,
+    ])
 }
 
 /// Data that are got after a test.
@@ -162,15 +203,8 @@ fn list_here(message: &mut Builder) -> Result<[u64; 3]>
     ensures { OnOk result (IsMessage message.new) }
 {
     message.root().set_data(&[5, 6])?;
-    if !message.root().is_list() {
-        return Ok([0; 3]);
-    }
-    let list = message.root().get_list(ElementSize::Byte)?;
-    Ok([
-        list.get_data_element::<u8>(1) as u64,
-        list.is_empty() as u64,
-        0,
-    ])
+    let is_list = message.root().is_list();
+    bytes_here(message, is_list)
 }
 
 fn null_as_struct(message: &mut Builder) -> Result<[u64; 3]>
@@ -198,24 +232,22 @@ fn struct_here(message: &mut Builder, read: [u64; 3]) -> Result<[u64; 3]>
 }
 
 /// A struct is put in the place of one of size zero in a list.
-fn put_larger(message: &mut Builder, larger: &StructReader<'_>) -> Result<()>
+fn put_larger(message: &mut Builder, larger: &StructReader<'_>) -> Result<[u64; 3]>
     requires { IsMessage message.old }
     ensures { OnOk result (IsMessage message.new) }
 {
     let list = message.root().init_struct_list(3, NO_SIZE)?;
     let mut second = list.get_struct_element(1);
     second.copy_content_from(larger)?;
-    Ok(())
+    Ok([0; 3])
 }
 
-fn lost(alloc: Global, message: &mut Builder) -> Result<[u64; 3]>
+fn lost(message: &mut Builder) -> Result<[u64; 3]>
     requires { IsMessage message.old }
     ensures { OnOk result (IsMessage message.new) }
 {
-    let mut other = Builder::new(alloc)?;
-    let larger = other.root().init_struct(READING)?;
-    put_larger(message, &larger.as_reader())?;
-    Ok([0; 3])
+    let larger = PointerReader::from_words(&LARGER).get_struct()?;
+    put_larger(message, &larger)
 }
 
 /// Fills a struct of a data word and a pointer. Others are not filled so.
@@ -267,7 +299,6 @@ fn build(alloc: Global, message: &mut Builder, built: Built) -> Result<[u64; 3]>
         Built::NullAsList => null_as_list(message),
         Built::Numbers => numbers(message),
         Built::Bits => bits(message),
-        Built::Texts => texts(message),
         Built::TextList => text_list(message),
         Built::StructList => struct_list(message),
         Built::StructAsNumber => struct_as_number(message),
@@ -279,7 +310,7 @@ fn build(alloc: Global, message: &mut Builder, built: Built) -> Result<[u64; 3]>
             struct_here(message, read)
         }
         Built::Reading => new_reading(message),
-        Built::Lost => lost(alloc, message),
+        Built::Lost => lost(message),
         other => new_struct(alloc, message, other),
     }
 }
@@ -298,7 +329,7 @@ const BUILT: &str = "00 00 00 00 0a 00 00 00 | 00 00 00 00 02 00 04 00 | 07 00 0
      01 00 00 00 00 00 00 00 | fd ff ff ff 00 00 00 00";
 
 /// What is built, what is read there, and the message then.
-static LISTS: [(Built, [u64; 3], &str); 9] = [
+static LISTS: [(Built, [u64; 3], &str); 8] = [
     (Built::NullAsList, [0, 0, 0], "00 00 00 00 01 00 00 00 | 0"),
     // the elements 1, 2 and 3 of three
     (
@@ -311,12 +342,6 @@ static LISTS: [(Built, [u64; 3], &str); 9] = [
         Built::Bits,
         [1, 0, 0],
         "00 00 00 00 02 00 00 00 | 01 00 00 00 51 00 00 00 | 00 02 00 00 00 00 00 00",
-    ),
-    (
-        Built::Texts,
-        [0, 0, 0],
-        "00 00 00 00 04 00 00 00 | 01 00 00 00 16 00 00 00 | 0 | 01 00 00 00 1a 00 00 00 | \
-     68 69 00 00 00 00 00 00",
     ),
     // its bytes, the last of which is the zero that ends it
     (
@@ -343,10 +368,10 @@ static LISTS: [(Built, [u64; 3], &str); 9] = [
         "00 00 00 00 06 00 00 00 | 01 00 00 00 27 00 00 00 | 08 00 00 00 01 00 01 00 | \
      01 00 00 00 00 00 00 00 | 0 | 02 00 00 00 00 00 00 00 | 0",
     ),
-    // an element, and whether the list is empty
+    // an element, whether the list is empty, and whether there is one
     (
         Built::ListHere,
-        [6, 0, 0],
+        [6, 0, 1],
         "00 00 00 00 02 00 00 00 | 01 00 00 00 12 00 00 00 | 05 06 00 00 00 00 00 00",
     ),
 ];
@@ -420,13 +445,17 @@ static STRUCTS: [(Built, [u64; 3], &str); 12] = [
     ),
 ];
 
+fn is_built(rt: &impl Abort, alloc: Global, built: Built, numbers: [u64; 3], text: &str) {
+    assert_eq!(rt;
+        answer(built_as(alloc, built, text)),
+        Ok((numbers, true)),
+        "{text}"
+    );
+}
+
 fn are_built(rt: &impl Abort, alloc: Global, rows: &[(Built, [u64; 3], &str)]) {
     for (built, numbers, text) in rows {
-        assert_eq!(rt;
-            answer(built_as(alloc, *built, text)),
-            Ok((*numbers, true)),
-            "{text}"
-        );
+        is_built(rt, alloc, *built, *numbers, text);
     }
 }
 

@@ -13,9 +13,13 @@ use crate::calls::Lent::{
     GetData, GetText, InitData, InitText, NewData, NewText, ReverseData, ReverseText,
 };
 use crate::calls::{
-    EMPTY_STRUCT, FIVE_AND_TEXT, NEW_STRUCT, NO_SIZE, Row, TWO_EACH, follow, make, parts_of,
+    EMPTY_STRUCT, FIVE_AND_TEXT, NEW_STRUCT, NO_SIZE, NULL, Row, TWO_EACH, follow, follow_changes,
+    make, parts_of,
 };
-use crate::copied_rows::{BECOME_STRUCTS, COPIED, MOST_BECOME_STRUCTS, TAKEN_OVER};
+use crate::copied_rows::{
+    BECOME_STRUCTS, CONTENTS, COPIED_LISTS, COPIED_NULLS, COPIED_ZEROS, ELEMENTS, MORE_CONTENTS,
+    MOST_BECOME_STRUCTS,
+};
 use crate::fixtures::{ONE_EACH, answer};
 use capnp_arena::message::Builder;
 use capnp_device::error::ErrorKind::{
@@ -47,8 +51,6 @@ const NINE_WORDS: &str =
     "00 00 00 00 09 00 00 00 | 00 00 00 00 02 00 04 00 | 05 00 00 00 00 00 00 00 | 0 | \
      0d 00 00 00 62 00 00 00 | 0 | 0 | 0 | 68 65 6c 6c 6f 20 74 68 | 65 72 65 00 00 00 00 00";
 
-const NULL: &str = "00 00 00 00 01 00 00 00 | 0";
-
 const EXTENDED: &str =
     "00 00 00 00 06 00 00 00 | 00 00 00 00 02 00 02 00 | 05 00 00 00 00 00 00 00 | 0 | \
      05 00 00 00 1a 00 00 00 | 0 | 68 69 00 00 00 00 00 00";
@@ -67,8 +69,8 @@ const TWO_NUMBERS: &str = "00 00 00 00 02 00 00 00 | 01 00 00 00 13 00 00 00 | 0
 
 const ONE_WORD_OF_ZEROS: &str = "00 00 00 00 02 00 00 00 | 00 00 00 00 01 00 00 00 | 0";
 
-/// Texts, data, structs and lists are made, each in the place of the one before.
-static MADE: [Row; 31] = [
+/// A null, what it does not become, and what it does.
+static NULLS: [Row; 9] = [
     ("a null has no data", Lend(GetData), Ok(""), NULL),
     ("a null has no text", Lend(GetText), Ok(""), NULL),
     ("a null is an empty list", GetList(TwoBytes), Ok(""), NULL),
@@ -108,6 +110,10 @@ static MADE: [Row; 31] = [
         Ok(""),
         NEW_STRUCT,
     ),
+];
+
+/// Structs, texts and data are made, each in the place of the one before.
+static MADE: [Row; 11] = [
     (
         "a struct of size zero",
         InitStruct(NO_SIZE),
@@ -141,6 +147,24 @@ static MADE: [Row; 31] = [
         Ok(""),
         EXTENDED,
     ),
+    (
+        "bytes",
+        SetData("\x01\x02\x03"),
+        Ok(""),
+        "00 00 00 00 02 00 00 00 | 01 00 00 00 1a 00 00 00 | 01 02 03 00 00 00 00 00",
+    ),
+    (
+        "a short text",
+        SetText("hi"),
+        Ok(""),
+        "00 00 00 00 02 00 00 00 | 01 00 00 00 1a 00 00 00 | 68 69 00 00 00 00 00 00",
+    ),
+    ("a new struct", InitStruct(ONE_EACH), Ok(""), NEW_STRUCT),
+    ("a struct that is cleared", Clear, Ok(""), NULL),
+];
+
+/// So are lists.
+static LISTS: [Row; 8] = [
     (
         "a list of nothing",
         InitList(Void, 3),
@@ -189,6 +213,10 @@ static MADE: [Row; 31] = [
         Ok(""),
         "00 00 00 00 04 00 00 00 | 01 00 00 00 1e 00 00 00 | 0 | 0 | 0",
     ),
+];
+
+/// So are lists of structs, and shorter ones.
+static MORE_LISTS: [Row; 7] = [
     (
         "a list of structs",
         InitStructs(3, ONE_EACH),
@@ -223,8 +251,8 @@ static MADE: [Row; 31] = [
     ),
 ];
 
-/// Bytes are lent, and refused where there are none.
-static LENT: [Row; 30] = [
+/// Bytes are lent.
+static LENT: [Row; 7] = [
     (
         "new data",
         Lend(NewData(3, "\x01\x02\x03")),
@@ -267,6 +295,10 @@ static LENT: [Row; 30] = [
         Ok(""),
         "00 00 00 00 02 00 00 00 | 01 00 00 00 1a 00 00 00 | 69 68 00 00 00 00 00 00",
     ),
+];
+
+/// Bytes that would be too many are refused.
+static TOO_MANY: [Row; 7] = [
     ("a byte", SetData("\x07"), Ok(""), SEVEN),
     (
         "data are too long for the format",
@@ -299,6 +331,10 @@ static LENT: [Row; 30] = [
         Ok("\x07"),
         SEVEN,
     ),
+];
+
+/// Bytes are refused where there are none.
+static NO_LENT: [Row; 8] = [
     (
         "a struct of one word",
         InitStruct(ONE_WORD),
@@ -347,6 +383,10 @@ static LENT: [Row; 30] = [
         Err(WrongPointerKind),
         TWO_NUMBERS,
     ),
+];
+
+/// So is a text without its zero.
+static UNENDED: [Row; 8] = [
     (
         "data without a zero",
         SetData("\x01\x02"),
@@ -412,8 +452,19 @@ static FULL: [Row; 5] = [
 ];
 
 #[test]
-fn texts_structs_and_lists_are_made(rt: HostRuntime) {
+fn a_null_becomes_what_fits(rt: HostRuntime) {
+    follow(&rt, rt.alloc(), &NULLS);
+}
+
+#[test]
+fn texts_and_structs_are_made(rt: HostRuntime) {
     follow(&rt, rt.alloc(), &MADE);
+}
+
+#[test]
+fn lists_are_made(rt: HostRuntime) {
+    follow(&rt, rt.alloc(), &LISTS);
+    follow(&rt, rt.alloc(), &MORE_LISTS);
 }
 
 #[test]
@@ -422,13 +473,25 @@ fn a_segment_that_would_be_too_long_is_refused(rt: HostRuntime) {
 }
 
 #[test]
-fn what_is_copied_is_written_as_it_was(rt: HostRuntime) {
-    follow(&rt, rt.alloc(), &COPIED);
+fn lists_are_written_as_they_were(rt: HostRuntime) {
+    follow(&rt, rt.alloc(), &COPIED_LISTS);
+    follow(&rt, rt.alloc(), &COPIED_ZEROS);
 }
 
 #[test]
-fn elements_and_contents_are_taken_over(rt: HostRuntime) {
-    follow(&rt, rt.alloc(), &TAKEN_OVER);
+fn nulls_are_copied_as_lists(rt: HostRuntime) {
+    follow(&rt, rt.alloc(), &COPIED_NULLS);
+}
+
+#[test]
+fn elements_are_copied_as_structs(rt: HostRuntime) {
+    follow(&rt, rt.alloc(), &ELEMENTS);
+}
+
+#[test]
+fn contents_are_taken_over(rt: HostRuntime) {
+    follow(&rt, rt.alloc(), &CONTENTS);
+    follow(&rt, rt.alloc(), &MORE_CONTENTS);
 }
 
 #[test]
@@ -437,8 +500,15 @@ fn bytes_are_lent_and_written_through(rt: HostRuntime) {
 }
 
 #[test]
+fn bytes_that_are_not_there_are_refused(rt: HostRuntime) {
+    follow(&rt, rt.alloc(), &TOO_MANY);
+    follow(&rt, rt.alloc(), &NO_LENT);
+    follow(&rt, rt.alloc(), &UNENDED);
+}
+
+#[test]
 fn lists_of_each_kind_become_lists_of_structs(rt: HostRuntime) {
-    follow(&rt, rt.alloc(), &BECOME_STRUCTS);
+    follow_changes(&rt, rt.alloc(), &BECOME_STRUCTS);
 }
 
 #[test]
@@ -452,8 +522,10 @@ const IS_STRUCT: [bool; 3] = [false, true, false];
 
 const IS_LIST: [bool; 3] = [false, false, true];
 
-/// A struct of one data word, as words.
-const FIVE: &str = "00 00 00 00 01 00 00 00 | 05 00 00 00 00 00 00 00";
+/// A struct of one data word, as a message and as words.
+const FIVE: &str = "00 00 00 00 02 00 00 00 | 00 00 00 00 01 00 00 00 | 05 00 00 00 00 00 00 00";
+
+const FIVE_WORDS: &str = "00 00 00 00 01 00 00 00 | 05 00 00 00 00 00 00 00";
 
 /// A byte, as words.
 const NINE: &str = "01 00 00 00 0a 00 00 00 | 09 00 00 00 00 00 00 00";
@@ -464,7 +536,7 @@ type Parts = (u64, [bool; 3]);
 /// A call with what it leaves, then one that takes memory with what that leaves.
 type Taking = (Call, Parts, Call, Parts);
 
-const TAKING_MEMORY: [Taking; 12] = [
+static TAKING_MEMORY: [Taking; 12] = [
     (Clear, (1, IS_NULL), InitStruct(ONE_EACH), (3, IS_STRUCT)),
     (
         InitStruct(ONE_EACH),
@@ -494,15 +566,20 @@ const TAKING_MEMORY: [Taking; 12] = [
     ),
     (Clear, (1, IS_NULL), InitStructs(2, ONE_WORD), (4, IS_LIST)),
     (Clear, (1, IS_NULL), Copy(List(NINE, Byte)), (2, IS_LIST)),
-    (Clear, (1, IS_NULL), Fill(Struct, FIVE), (3, IS_STRUCT)),
     (
-        Fill(Struct, FIVE),
-        (3, IS_STRUCT),
-        Copy(Content(FIVE)),
+        Clear,
+        (1, IS_NULL),
+        Fill(Struct(ONE_EACH), FIVE),
         (3, IS_STRUCT),
     ),
     (
-        Fill(Struct, FIVE),
+        Fill(Struct(ONE_EACH), FIVE),
+        (3, IS_STRUCT),
+        Copy(Content(ONE_EACH, FIVE_WORDS)),
+        (3, IS_STRUCT),
+    ),
+    (
+        Fill(Struct(ONE_EACH), FIVE),
         (3, IS_STRUCT),
         Copy(FirstStruct(NINE, Byte)),
         (2, IS_STRUCT),
@@ -558,9 +635,13 @@ fn refused_call_changes_nothing(rt: &impl Abort, alloc: Global, row: Taking) {
     }
 }
 
+fn refused_calls_change_nothing(rt: &impl Abort, alloc: Global, rows: &[Taking]) {
+    for row in rows {
+        refused_call_changes_nothing(rt, alloc, *row);
+    }
+}
+
 #[test]
 fn a_refused_call_changes_nothing(rt: HostRuntime) {
-    for row in TAKING_MEMORY {
-        refused_call_changes_nothing(&rt, rt.alloc(), row);
-    }
+    refused_calls_change_nothing(&rt, rt.alloc(), &TAKING_MEMORY);
 }

@@ -12,6 +12,7 @@ use crate::lent::{lend, read_data, read_text};
 use capnp_arena::handles::StructBuilder;
 use capnp_arena::message::Builder;
 use capnp_device::error::{ErrorKind, Result};
+use capnp_wire::laws::pointer_is_well_formed;
 use capnp_wire::size::{ElementSize, StructSize};
 use capnp_wire::{PointerReader, StructReader};
 use std::alloc::Global;
@@ -46,19 +47,21 @@ pub enum Call {
     NewFilled(u16),
     Copy(Copied),
     Lend(Lent),
-    /// What is asked is got, and a null is filled from the default at the root of these words, if there are any.
+    /// What is asked is got, and a null is filled from the root of a message, if there is any.
     Fill(Asked, &'static str),
+    Compact,
 }
 
 /// What a pointer is asked for, with a default.
 #[derive(Clone, Copy)]
 pub enum Asked {
-    /// A struct of at least a data word and a pointer.
-    Struct,
+    /// A struct of at least a size.
+    Struct(StructSize),
+    Bytes,
     /// A list of numbers of two bytes.
     Numbers,
-    /// A list of structs of at least a data word and a pointer.
-    Structs,
+    /// A list of structs of at least a size.
+    Structs(StructSize),
 }
 
 /// What is copied.
@@ -66,13 +69,18 @@ pub enum Asked {
 pub enum Copied {
     /// The root of a message.
     Message(&'static str),
+    /// The same at the root pointer, where the segment stays.
+    Root(&'static str),
+    /// The same, of a reader that has no level left.
+    WithoutLevels(&'static str),
+    /// The same, of a copy as it is read.
+    Twice(&'static str),
     /// The list at the root of these words, read as one of elements of a size.
     List(&'static str, ElementSize),
     /// The first struct of that list.
     FirstStruct(&'static str, ElementSize),
-    /// What fits of the struct at the root of these words, into the one of a data word and a pointer, or more, that
-    /// stands there.
-    Content(&'static str),
+    /// What fits of the struct at the root of these words, into the one of at least a size that stands there.
+    Content(StructSize, &'static str),
     /// What fits of the second struct of the list of bytes at the root of these words.
     ContentOfByte(&'static str),
 }
@@ -96,6 +104,8 @@ pub const NO_SIZE: StructSize = StructSize {
     pointers: 0,
 };
 
+pub const NULL: &str = "00 00 00 00 01 00 00 00 | 0";
+
 pub const EMPTY_STRUCT: &str = "00 00 00 00 01 00 00 00 | fc ff ff ff 00 00 00 00";
 
 pub const NEW_STRUCT: &str = "00 00 00 00 03 00 00 00 | 00 00 00 00 01 00 01 00 | 0 | 0";
@@ -110,6 +120,15 @@ pub type Row = (
     &'static str,
     Call,
     std::result::Result<&'static str, ErrorKind>,
+    &'static str,
+);
+
+/// What a row shows, a message, a call on it, why that is refused, and the message then.
+pub type Change = (
+    &'static str,
+    &'static str,
+    Call,
+    Option<ErrorKind>,
     &'static str,
 );
 
@@ -160,9 +179,12 @@ fn new_filled(message: &mut Builder, count: u16) -> Result<()>
 fn source_of(copied: Copied) -> &'static str {
     match copied {
         Copied::Message(text) => text,
+        Copied::Root(text) => text,
+        Copied::WithoutLevels(text) => text,
+        Copied::Twice(text) => text,
         Copied::List(text, _) => text,
         Copied::FirstStruct(text, _) => text,
-        Copied::Content(text) => text,
+        Copied::Content(_, text) => text,
         Copied::ContentOfByte(text) => text,
     }
 }
@@ -176,6 +198,40 @@ fn copy_message(alloc: Global, message: &mut Builder, bytes: &[u8]) -> Result<()
     Ok(())
 }
 
+fn copy_from(message: &mut Builder, source: PointerReader<'_>) -> Result<()>
+    requires { IsMessage message.old }
+    ensures { IsMessage message.new }
+{
+    message.root().copy_from(source)?;
+    Ok(())
+}
+
+fn copy_root(alloc: Global, message: &mut Builder, bytes: &[u8]) -> Result<()>
+    requires { IsMessage message.old }
+    ensures { IsMessage message.new }
+{
+    let source = root_of(alloc, bytes)?;
+    copy_from(message, source)
+}
+
+fn copy_without_levels(alloc: Global, message: &mut Builder, bytes: &[u8]) -> Result<()>
+    requires { IsMessage message.old }
+    ensures { IsMessage message.new }
+{
+    let source = root_of(alloc, bytes)?;
+    pointer_is_well_formed(&source);
+    copy_from(message, PointerReader::new(source.pointer(), 0))
+}
+
+fn copy_twice(alloc: Global, message: &mut Builder, bytes: &[u8]) -> Result<()>
+    requires { IsMessage message.old }
+    ensures { IsMessage message.new }
+{
+    let mut first = Builder::new(alloc)?;
+    copy_root(alloc, &mut first, bytes)?;
+    copy_from(message, first.as_reader())
+}
+
 fn copy_list(message: &mut Builder, words: &[u8], size: ElementSize) -> Result<()>
     requires { IsMessage message.old }
     ensures { IsMessage message.new }
@@ -185,40 +241,44 @@ fn copy_list(message: &mut Builder, words: &[u8], size: ElementSize) -> Result<(
     Ok(())
 }
 
+/// The struct at an index of the list at the root of these words.
+fn element_of(words: &[u8], size: ElementSize, index: u32) -> Result<StructReader<'_>> {
+    let list = PointerReader::from_words(words).get_list(size)?;
+    list.get_struct_element(index)
+}
+
 fn copy_first_struct(message: &mut Builder, words: &[u8], size: ElementSize) -> Result<()>
     requires { IsMessage message.old }
     ensures { IsMessage message.new }
 {
-    let list = PointerReader::from_words(words).get_list(size)?;
-    let first = list.get_struct_element(0)?;
+    let first = element_of(words, size, 0)?;
     message.root().set_struct(&first)?;
     Ok(())
 }
 
-fn copy_content(message: &mut Builder, source: &StructReader<'_>) -> Result<()>
+fn copy_content(message: &mut Builder, size: StructSize, source: &StructReader<'_>) -> Result<()>
     requires { IsMessage message.old }
     ensures { IsMessage message.new }
 {
-    let mut fields = message.root().get_struct(ONE_EACH)?;
+    let mut fields = message.root().get_struct(size)?;
     fields.copy_content_from(source)?;
     Ok(())
 }
 
-fn copy_content_of(message: &mut Builder, words: &[u8]) -> Result<()>
+fn copy_content_of(message: &mut Builder, size: StructSize, words: &[u8]) -> Result<()>
     requires { IsMessage message.old }
     ensures { IsMessage message.new }
 {
     let source = PointerReader::from_words(words).get_struct()?;
-    copy_content(message, &source)
+    copy_content(message, size, &source)
 }
 
 fn copy_content_of_byte(message: &mut Builder, words: &[u8]) -> Result<()>
     requires { IsMessage message.old }
     ensures { IsMessage message.new }
 {
-    let list = PointerReader::from_words(words).get_list(ElementSize::Byte)?;
-    let second = list.get_struct_element(1)?;
-    copy_content(message, &second)
+    let second = element_of(words, ElementSize::Byte, 1)?;
+    copy_content(message, ONE_EACH, &second)
 }
 
 fn copy(alloc: Global, message: &mut Builder, copied: Copied) -> Result<()>
@@ -228,41 +288,59 @@ fn copy(alloc: Global, message: &mut Builder, copied: Copied) -> Result<()>
     let bytes = bytes_of(alloc, source_of(copied))?;
     match copied {
         Copied::Message(_) => copy_message(alloc, message, &bytes),
+        Copied::Root(_) => copy_root(alloc, message, &bytes),
+        Copied::WithoutLevels(_) => copy_without_levels(alloc, message, &bytes),
+        Copied::Twice(_) => copy_twice(alloc, message, &bytes),
         Copied::List(_, size) => copy_list(message, &bytes, size),
         Copied::FirstStruct(_, size) => copy_first_struct(message, &bytes, size),
-        Copied::Content(_) => copy_content_of(message, &bytes),
+        Copied::Content(size, _) => copy_content_of(message, size, &bytes),
         Copied::ContentOfByte(_) => copy_content_of_byte(message, &bytes),
     }
 }
 
-/// A default of these words; none where there are none.
-fn default_of(words: &[u8]) -> Option<PointerReader<'_>> {
-    if words.is_empty() {
+/// The root of a message, as a default; none where there are no bytes.
+fn default_of(bytes: &[u8]) -> Option<PointerReader<'_>> {
+    if bytes.len() < 8 {
         None
     } else {
-        Some(PointerReader::from_words(words))
+        Some(PointerReader::from_words(&bytes[8..]))
     }
 }
 
-fn ask(message: &mut Builder, asked: Asked, default: Option<PointerReader<'_>>) -> Result<()>
+fn fill_struct(
+    message: &mut Builder,
+    size: StructSize,
+    default: Option<PointerReader<'_>>,
+) -> Result<()>
     requires { IsMessage message.old }
     ensures { IsMessage message.new }
 {
-    match asked {
-        Asked::Struct => {
-            message.root().get_struct_or_default(ONE_EACH, default)?;
-        }
-        Asked::Numbers => {
-            message
-                .root()
-                .get_list_or_default(ElementSize::TwoBytes, default)?;
-        }
-        Asked::Structs => {
-            message
-                .root()
-                .get_struct_list_or_default(ONE_EACH, default)?;
-        }
-    }
+    message.root().get_struct_or_default(size, default)?;
+    Ok(())
+}
+
+fn fill_list(
+    message: &mut Builder,
+    size: ElementSize,
+    default: Option<PointerReader<'_>>,
+) -> Result<()>
+    requires message { IsMessage message.old }
+    requires simple { size ≢ ElementSize.InlineComposite }
+    ensures { IsMessage message.new }
+{
+    message.root().get_list_or_default(size, default)?;
+    Ok(())
+}
+
+fn fill_structs(
+    message: &mut Builder,
+    size: StructSize,
+    default: Option<PointerReader<'_>>,
+) -> Result<()>
+    requires { IsMessage message.old }
+    ensures { IsMessage message.new }
+{
+    message.root().get_struct_list_or_default(size, default)?;
     Ok(())
 }
 
@@ -270,11 +348,25 @@ fn fill(alloc: Global, message: &mut Builder, asked: Asked, default: &str) -> Re
     requires { IsMessage message.old }
     ensures { IsMessage message.new }
 {
-    let words = bytes_of(alloc, default)?;
-    ask(message, asked, default_of(&words))
+    let bytes = bytes_of(alloc, default)?;
+    let default = default_of(&bytes);
+    match asked {
+        Asked::Struct(size) => fill_struct(message, size, default),
+        Asked::Bytes => fill_list(message, ElementSize::Byte, default),
+        Asked::Numbers => fill_list(message, ElementSize::TwoBytes, default),
+        Asked::Structs(size) => fill_structs(message, size, default),
+    }
 }
 
-fn clear(message: &mut Builder) -> Result<()>
+fn compact(message: &mut Builder) -> Result<()>
+    requires { IsMessage message.old }
+    ensures { IsMessage message.new }
+{
+    message.compact()?;
+    Ok(())
+}
+
+pub fn clear(message: &mut Builder) -> Result<()>
     requires { IsMessage message.old }
     ensures { IsMessage message.new }
 {
@@ -282,7 +374,7 @@ fn clear(message: &mut Builder) -> Result<()>
     Ok(())
 }
 
-fn set_text(message: &mut Builder, text: &str) -> Result<()>
+pub fn set_text(message: &mut Builder, text: &str) -> Result<()>
     requires { IsMessage message.old }
     ensures { IsMessage message.new }
 {
@@ -306,7 +398,7 @@ fn init_struct(message: &mut Builder, size: StructSize) -> Result<()>
     Ok(())
 }
 
-fn init_list(message: &mut Builder, size: ElementSize, count: u32) -> Result<()>
+pub fn init_list(message: &mut Builder, size: ElementSize, count: u32) -> Result<()>
     requires message { IsMessage message.old }
     requires simple { size ≢ ElementSize.InlineComposite }
     ensures { IsMessage message.new }
@@ -331,7 +423,7 @@ fn get_struct(message: &mut Builder, size: StructSize) -> Result<()>
     Ok(())
 }
 
-fn get_list(message: &mut Builder, size: ElementSize) -> Result<()>
+pub fn get_list(message: &mut Builder, size: ElementSize) -> Result<()>
     requires message { IsMessage message.old }
     requires simple { size ≢ ElementSize.InlineComposite }
     ensures { IsMessage message.new }
@@ -377,6 +469,7 @@ fn set(alloc: Global, message: &mut Builder, call: Call) -> Result<()>
         Call::NewFilled(count) => new_filled(message, count),
         Call::Copy(copied) => copy(alloc, message, copied),
         Call::Fill(asked, default) => fill(alloc, message, asked, default),
+        Call::Compact => compact(message),
         other => init(message, other),
     }
 }
@@ -480,5 +573,26 @@ pub fn follow(rt: &impl Abort, alloc: Global, rows: &[Row]) {
     assert!(rt; message.is_ok());
     if let Ok(mut message) = message {
         follow_rows(rt, alloc, &mut message, rows);
+    }
+}
+
+/// Makes the call of a row on a copy of its message.
+fn follow_change(rt: &impl Abort, alloc: Global, row: &Change) {
+    let (name, stream, call, refused, then) = *row;
+    let answer = match refused {
+        None => Ok(""),
+        Some(kind) => Err(kind),
+    };
+    let rows = [
+        (name, Call::Copy(Copied::Message(stream)), Ok(""), stream),
+        (name, call, answer, then),
+    ];
+    follow(rt, alloc, &rows);
+}
+
+/// Makes the calls of these rows, each on a message of its own.
+pub fn follow_changes(rt: &impl Abort, alloc: Global, rows: &[Change]) {
+    for row in rows {
+        follow_change(rt, alloc, row);
     }
 }

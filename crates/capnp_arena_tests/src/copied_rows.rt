@@ -2,9 +2,8 @@
 
 use crate::calls::Call::{Copy, GetStructs, InitStruct, NewFilled, NewStruct};
 use crate::calls::Copied::{Content, ContentOfByte, FirstStruct, List, Message};
-use crate::calls::{EMPTY_STRUCT, FIVE_AND_TEXT, NEW_STRUCT, NO_SIZE, Row};
+use crate::calls::{Change, EMPTY_STRUCT, FIVE_AND_TEXT, NEW_STRUCT, NO_SIZE, Row};
 use crate::fixtures::ONE_EACH;
-use crate::rows::{COPIED_BY_TOOL, ELEMENTS, NESTED, SEVEN_SEGMENTS, WHOLE, WITH_TEXT};
 use capnp_device::error::ErrorKind::{BadPointer, SizePastFormat};
 use capnp_wire::size::ElementSize::{
     Bit, Byte, EightBytes, FourBytes, InlineComposite, Pointer, TwoBytes, Void,
@@ -30,47 +29,16 @@ const STRUCTS: &str =
 const SOURCE: &str =
     "00 00 00 00 02 00 02 00 | 01 02 03 04 05 06 07 08 | 09 0a 0b 0c 0d 0e 0f 10 | 05 00 00 00 1a 00 00 00 | 0 | 68 69 00 00 00 00 00 00";
 
-/// Messages and lists are copied.
-pub static COPIED: [Row; 21] = [
-    ("a struct", Copy(Message(WHOLE)), Ok(""), WHOLE),
-    (
-        "a pointer leaves its segment",
-        Copy(Message("00 00 00 00 01 00 00 00 | fc ff ff 7f 01 00 00 00")),
-        Err(BadPointer),
-        WHOLE,
-    ),
-    (
-        "a struct with a text",
-        Copy(Message(WITH_TEXT)),
-        Ok(""),
-        WITH_TEXT,
-    ),
-    (
-        "two segments and a far pointer become one segment",
-        Copy(Message(
-            "01 00 00 00 01 00 00 00 | 02 00 00 00 00 00 00 00 | 02 00 00 00 01 00 00 00 | 00 00 00 00 01 00 00 00 | 05 00 00 00 00 00 00 00",
-        )),
-        Ok(""),
-        "00 00 00 00 02 00 00 00 | 00 00 00 00 01 00 00 00 | 05 00 00 00 00 00 00 00",
-    ),
-    (
-        "targets come in the order of their pointers",
-        Copy(Message(NESTED)),
-        Ok(""),
-        NESTED,
-    ),
-    (
-        "those of the first element come first",
-        Copy(Message(ELEMENTS)),
-        Ok(""),
-        ELEMENTS,
-    ),
-    (
-        "seven segments become one, as the tool writes it",
-        Copy(Message(SEVEN_SEGMENTS)),
-        Ok(""),
-        COPIED_BY_TOOL,
-    ),
+/// A struct of a word and a pointer with 5 and "a".
+const FIVE_AND_A: &str =
+    "00 00 00 00 04 00 00 00 | 00 00 00 00 01 00 01 00 | 05 00 00 00 00 00 00 00 | 01 00 00 00 12 00 00 00 | 61 00 00 00 00 00 00 00";
+
+/// A text, and a pointer that leaves its segment.
+const HALF_GOOD: &str =
+    "00 00 00 00 00 00 02 00 | 05 00 00 00 1a 00 00 00 | fc ff ff 7f 01 00 00 00 | 68 69 00 00 00 00 00 00";
+
+/// Lists are copied.
+pub static COPIED_LISTS: [Row; 8] = [
     (
         "a list of nothing",
         Copy(List(VOIDS, Void)),
@@ -119,6 +87,10 @@ pub static COPIED: [Row; 21] = [
         Ok(""),
         "00 00 00 00 07 00 00 00 | 01 00 00 00 27 00 00 00 | 08 00 00 00 01 00 01 00 | 05 00 00 00 00 00 00 00 | 0 | 06 00 00 00 00 00 00 00 | 01 00 00 00 1a 00 00 00 | 68 69 00 00 00 00 00 00",
     ),
+];
+
+/// Lists of structs of size zero are copied.
+pub static COPIED_ZEROS: [Row; 6] = [
     (
         "three structs of size zero",
         Copy(List(
@@ -172,8 +144,8 @@ pub static COPIED: [Row; 21] = [
     ),
 ];
 
-/// Lists that a null was read as are copied, elements as structs, and what fits of a struct is taken over.
-pub static TAKEN_OVER: [Row; 24] = [
+/// Lists that a null was read as are copied.
+pub static COPIED_NULLS: [Row; 8] = [
     (
         "a null that was read as a list of the size 0",
         Copy(List("0", Void)),
@@ -222,6 +194,10 @@ pub static TAKEN_OVER: [Row; 24] = [
         Ok(""),
         "00 00 00 00 02 00 00 00 | 01 00 00 00 07 00 00 00 | 0",
     ),
+];
+
+/// Elements are copied as structs.
+pub static ELEMENTS: [Row; 9] = [
     (
         "an element of one byte is a struct of one word",
         Copy(FirstStruct("01 00 00 00 0a 00 00 00 | 09 00 00 00 00 00 00 00", Byte)),
@@ -267,10 +243,32 @@ pub static TAKEN_OVER: [Row; 24] = [
         Ok(""),
         EMPTY_STRUCT,
     ),
+    (
+        "one byte that was read as nothing",
+        Copy(FirstStruct("01 00 00 00 0a 00 00 00 | 09 00 00 00 00 00 00 00", Void)),
+        Ok(""),
+        "00 00 00 00 02 00 00 00 | 00 00 00 00 01 00 00 00 | 09 00 00 00 00 00 00 00",
+    ),
+    (
+        "four bytes that were read as nothing",
+        Copy(FirstStruct("01 00 00 00 0c 00 00 00 | 09 08 07 06 00 00 00 00", Void)),
+        Ok(""),
+        "00 00 00 00 02 00 00 00 | 00 00 00 00 01 00 00 00 | 09 08 07 06 00 00 00 00",
+    ),
+    (
+        "a pointer that was read as nothing",
+        Copy(FirstStruct(POINTERS, Void)),
+        Ok(""),
+        "00 00 00 00 03 00 00 00 | 00 00 00 00 00 00 01 00 | 01 00 00 00 1a 00 00 00 | 68 69 00 00 00 00 00 00",
+    ),
+];
+
+/// What fits of a struct is taken over.
+pub static CONTENTS: [Row; 6] = [
     ("a new struct", InitStruct(ONE_EACH), Ok(""), NEW_STRUCT),
     (
         "a smaller struct takes what fits",
-        Copy(Content(SOURCE)),
+        Copy(Content(ONE_EACH, SOURCE)),
         Ok(""),
         "00 00 00 00 04 00 00 00 | 00 00 00 00 01 00 01 00 | 01 02 03 04 05 06 07 08 | 01 00 00 00 1a 00 00 00 | 68 69 00 00 00 00 00 00",
     ),
@@ -282,7 +280,7 @@ pub static TAKEN_OVER: [Row; 24] = [
     ),
     (
         "a larger struct is filled up",
-        Copy(Content(SOURCE)),
+        Copy(Content(ONE_EACH, SOURCE)),
         Ok(""),
         "00 00 00 00 08 00 00 00 | 00 00 00 00 03 00 03 00 | 01 02 03 04 05 06 07 08 | 09 0a 0b 0c 0d 0e 0f 10 | 0 | 09 00 00 00 1a 00 00 00 | 0 | 0 | 68 69 00 00 00 00 00 00",
     ),
@@ -294,12 +292,28 @@ pub static TAKEN_OVER: [Row; 24] = [
     ),
     (
         "a struct of the size takes all",
-        Copy(Content(SOURCE)),
+        Copy(Content(ONE_EACH, SOURCE)),
         Ok(""),
         "00 00 00 00 06 00 00 00 | 00 00 00 00 02 00 02 00 | 01 02 03 04 05 06 07 08 | 09 0a 0b 0c 0d 0e 0f 10 | 05 00 00 00 1a 00 00 00 | 0 | 68 69 00 00 00 00 00 00",
     ),
+];
+
+/// The same, also where it is refused.
+pub static MORE_CONTENTS: [Row; 10] = [
     (
         "a word and a pointer, both filled",
+        NewFilled(1),
+        Ok(""),
+        "00 00 00 00 04 00 00 00 | 00 00 00 00 01 00 01 00 | ff ff ff ff ff ff ff ff | 01 00 00 00 3a 00 00 00 | 62 65 66 6f 72 65 00 00",
+    ),
+    (
+        "a smaller struct that is filled takes what fits",
+        Copy(Content(ONE_EACH, SOURCE)),
+        Ok(""),
+        "00 00 00 00 04 00 00 00 | 00 00 00 00 01 00 01 00 | 01 02 03 04 05 06 07 08 | 01 00 00 00 1a 00 00 00 | 68 69 00 00 00 00 00 00",
+    ),
+    (
+        "the same again",
         NewFilled(1),
         Ok(""),
         "00 00 00 00 04 00 00 00 | 00 00 00 00 01 00 01 00 | ff ff ff ff ff ff ff ff | 01 00 00 00 3a 00 00 00 | 62 65 66 6f 72 65 00 00",
@@ -318,181 +332,132 @@ pub static TAKEN_OVER: [Row; 24] = [
     ),
     (
         "a pointer that leaves its segment is refused, also where it does not fit",
-        Copy(Content("00 00 00 00 00 00 02 00 | 0 | fc ff ff 7f 01 00 00 00")),
+        Copy(Content(
+            ONE_EACH,
+            "00 00 00 00 00 00 02 00 | 0 | fc ff ff 7f 01 00 00 00",
+        )),
         Err(BadPointer),
         FIVE_AND_TEXT,
+    ),
+    (
+        "a struct with a number and another text",
+        NewStruct(5, "a"),
+        Ok(""),
+        FIVE_AND_A,
+    ),
+    (
+        "it stays where a text comes before the pointer that is refused",
+        Copy(Content(ONE_EACH, HALF_GOOD)),
+        Err(BadPointer),
+        FIVE_AND_A,
+    ),
+    (
+        "a struct of size zero",
+        InitStruct(NO_SIZE),
+        Ok(""),
+        EMPTY_STRUCT,
+    ),
+    (
+        "nothing fits into it",
+        Copy(Content(NO_SIZE, SOURCE)),
+        Ok(""),
+        EMPTY_STRUCT,
     ),
 ];
 
 /// Lists become lists of structs.
-pub static BECOME_STRUCTS: [Row; 24] = [
-    (
-        "two elements of nothing",
-        Copy(Message("00 00 00 00 01 00 00 00 | 01 00 00 00 10 00 00 00")),
-        Ok(""),
-        "00 00 00 00 01 00 00 00 | 01 00 00 00 10 00 00 00",
-    ),
+pub static BECOME_STRUCTS: [Change; 12] = [
     (
         "two elements of nothing become structs",
+        "00 00 00 00 01 00 00 00 | 01 00 00 00 10 00 00 00",
         GetStructs(ONE_EACH),
-        Ok(""),
+        None,
         "00 00 00 00 06 00 00 00 | 01 00 00 00 27 00 00 00 | 08 00 00 00 01 00 01 00 | 0 | 0 | 0 | 0",
     ),
     (
-        "numbers of one byte",
-        Copy(Message(
-            "00 00 00 00 02 00 00 00 | 01 00 00 00 12 00 00 00 | 01 02 00 00 00 00 00 00",
-        )),
-        Ok(""),
-        "00 00 00 00 02 00 00 00 | 01 00 00 00 12 00 00 00 | 01 02 00 00 00 00 00 00",
-    ),
-    (
         "numbers of one byte become structs",
+        "00 00 00 00 02 00 00 00 | 01 00 00 00 12 00 00 00 | 01 02 00 00 00 00 00 00",
         GetStructs(ONE_EACH),
-        Ok(""),
+        None,
         "00 00 00 00 06 00 00 00 | 01 00 00 00 27 00 00 00 | 08 00 00 00 01 00 01 00 | \
          01 00 00 00 00 00 00 00 | 0 | 02 00 00 00 00 00 00 00 | 0",
-    ),
-    (
-        "numbers of two bytes",
-        Copy(Message(
-            "00 00 00 00 02 00 00 00 | 01 00 00 00 13 00 00 00 | 01 00 02 00 00 00 00 00",
-        )),
-        Ok(""),
-        "00 00 00 00 02 00 00 00 | 01 00 00 00 13 00 00 00 | 01 00 02 00 00 00 00 00",
     ),
     (
         "numbers of two bytes become structs",
+        "00 00 00 00 02 00 00 00 | 01 00 00 00 13 00 00 00 | 01 00 02 00 00 00 00 00",
         GetStructs(ONE_EACH),
-        Ok(""),
+        None,
         "00 00 00 00 06 00 00 00 | 01 00 00 00 27 00 00 00 | 08 00 00 00 01 00 01 00 | \
          01 00 00 00 00 00 00 00 | 0 | 02 00 00 00 00 00 00 00 | 0",
-    ),
-    (
-        "numbers of four bytes",
-        Copy(Message(
-            "00 00 00 00 02 00 00 00 | 01 00 00 00 14 00 00 00 | 01 00 00 00 02 00 00 00",
-        )),
-        Ok(""),
-        "00 00 00 00 02 00 00 00 | 01 00 00 00 14 00 00 00 | 01 00 00 00 02 00 00 00",
     ),
     (
         "numbers of four bytes become structs",
+        "00 00 00 00 02 00 00 00 | 01 00 00 00 14 00 00 00 | 01 00 00 00 02 00 00 00",
         GetStructs(ONE_EACH),
-        Ok(""),
+        None,
         "00 00 00 00 06 00 00 00 | 01 00 00 00 27 00 00 00 | 08 00 00 00 01 00 01 00 | \
          01 00 00 00 00 00 00 00 | 0 | 02 00 00 00 00 00 00 00 | 0",
-    ),
-    (
-        "numbers of eight bytes",
-        Copy(Message(
-            "00 00 00 00 03 00 00 00 | 01 00 00 00 15 00 00 00 | 01 00 00 00 00 00 00 00 | 02 00 00 00 00 00 00 00",
-        )),
-        Ok(""),
-        "00 00 00 00 03 00 00 00 | 01 00 00 00 15 00 00 00 | 01 00 00 00 00 00 00 00 | 02 00 00 00 00 00 00 00",
     ),
     (
         "numbers of eight bytes become structs",
+        "00 00 00 00 03 00 00 00 | 01 00 00 00 15 00 00 00 | 01 00 00 00 00 00 00 00 | 02 00 00 00 00 00 00 00",
         GetStructs(ONE_EACH),
-        Ok(""),
+        None,
         "00 00 00 00 06 00 00 00 | 01 00 00 00 27 00 00 00 | 08 00 00 00 01 00 01 00 | \
          01 00 00 00 00 00 00 00 | 0 | 02 00 00 00 00 00 00 00 | 0",
     ),
     (
-        "a null and a pointer to a byte",
-        Copy(Message(
-            "00 00 00 00 04 00 00 00 | 01 00 00 00 16 00 00 00 | 0 | 01 00 00 00 0a 00 00 00 | 07 00 00 00 00 00 00 00",
-        )),
-        Ok(""),
-        "00 00 00 00 04 00 00 00 | 01 00 00 00 16 00 00 00 | 0 | 01 00 00 00 0a 00 00 00 | 07 00 00 00 00 00 00 00",
-    ),
-    (
         "a null and a pointer to a byte become structs",
+        "00 00 00 00 04 00 00 00 | 01 00 00 00 16 00 00 00 | 0 | 01 00 00 00 0a 00 00 00 | 07 00 00 00 00 00 00 00",
         GetStructs(ONE_EACH),
-        Ok(""),
+        None,
         "00 00 00 00 07 00 00 00 | 01 00 00 00 27 00 00 00 | 08 00 00 00 01 00 01 00 | \
          0 | 0 | 0 | 01 00 00 00 0a 00 00 00 | 07 00 00 00 00 00 00 00",
     ),
     (
-        "structs of one data word",
-        Copy(Message(
-            "00 00 00 00 04 00 00 00 | 01 00 00 00 17 00 00 00 | 08 00 00 00 01 00 00 00 | \
-         05 00 00 00 00 00 00 00 | 06 00 00 00 00 00 00 00",
-        )),
-        Ok(""),
+        "structs of one data word become structs",
         "00 00 00 00 04 00 00 00 | 01 00 00 00 17 00 00 00 | 08 00 00 00 01 00 00 00 | \
          05 00 00 00 00 00 00 00 | 06 00 00 00 00 00 00 00",
-    ),
-    (
-        "structs of one data word become structs",
         GetStructs(ONE_EACH),
-        Ok(""),
+        None,
         "00 00 00 00 06 00 00 00 | 01 00 00 00 27 00 00 00 | 08 00 00 00 01 00 01 00 | \
          05 00 00 00 00 00 00 00 | 0 | 06 00 00 00 00 00 00 00 | 0",
     ),
     (
-        "a struct of two data words and a pointer",
-        Copy(Message(
-            "00 00 00 00 05 00 00 00 | 01 00 00 00 1f 00 00 00 | 04 00 00 00 02 00 01 00 | \
-         05 00 00 00 00 00 00 00 | 06 00 00 00 00 00 00 00 | 0",
-        )),
-        Ok(""),
-        "00 00 00 00 05 00 00 00 | 01 00 00 00 1f 00 00 00 | 04 00 00 00 02 00 01 00 | \
-         05 00 00 00 00 00 00 00 | 06 00 00 00 00 00 00 00 | 0",
-    ),
-    (
         "a larger struct stays",
-        GetStructs(ONE_EACH),
-        Ok(""),
         "00 00 00 00 05 00 00 00 | 01 00 00 00 1f 00 00 00 | 04 00 00 00 02 00 01 00 | \
          05 00 00 00 00 00 00 00 | 06 00 00 00 00 00 00 00 | 0",
-    ),
-    (
-        "a null",
-        Copy(Message("00 00 00 00 01 00 00 00 | 0")),
-        Ok(""),
-        "00 00 00 00 01 00 00 00 | 0",
+        GetStructs(ONE_EACH),
+        None,
+        "00 00 00 00 05 00 00 00 | 01 00 00 00 1f 00 00 00 | 04 00 00 00 02 00 01 00 | \
+         05 00 00 00 00 00 00 00 | 06 00 00 00 00 00 00 00 | 0",
     ),
     (
         "a null stays",
+        "00 00 00 00 01 00 00 00 | 0",
         GetStructs(ONE_EACH),
-        Ok(""),
+        None,
         "00 00 00 00 01 00 00 00 | 0",
     ),
     (
-        "three elements of nothing",
-        Copy(Message("00 00 00 00 01 00 00 00 | 01 00 00 00 18 00 00 00")),
-        Ok(""),
-        "00 00 00 00 01 00 00 00 | 01 00 00 00 18 00 00 00",
-    ),
-    (
         "three elements of nothing become structs of size zero",
+        "00 00 00 00 01 00 00 00 | 01 00 00 00 18 00 00 00",
         GetStructs(NO_SIZE),
-        Ok(""),
+        None,
         "00 00 00 00 02 00 00 00 | 01 00 00 00 07 00 00 00 | 0c 00 00 00 00 00 00 00",
     ),
     (
-        "2^20 + 1 elements of nothing",
-        Copy(Message("00 00 00 00 01 00 00 00 | 01 00 00 00 08 00 80 00")),
-        Ok(""),
-        "00 00 00 00 01 00 00 00 | 01 00 00 00 08 00 80 00",
-    ),
-    (
         "2^20 + 1 elements of nothing become structs of size zero",
+        "00 00 00 00 01 00 00 00 | 01 00 00 00 08 00 80 00",
         GetStructs(NO_SIZE),
-        Ok(""),
+        None,
         "00 00 00 00 02 00 00 00 | 01 00 00 00 07 00 00 00 | 04 00 40 00 00 00 00 00",
     ),
     (
-        "2^28 elements of nothing",
-        Copy(Message("00 00 00 00 01 00 00 00 | 01 00 00 00 00 00 00 80")),
-        Ok(""),
-        "00 00 00 00 01 00 00 00 | 01 00 00 00 00 00 00 80",
-    ),
-    (
         "structs are past the format",
+        "00 00 00 00 01 00 00 00 | 01 00 00 00 00 00 00 80",
         GetStructs(ONE_EACH),
-        Err(SizePastFormat),
+        Some(SizePastFormat),
         "00 00 00 00 01 00 00 00 | 01 00 00 00 00 00 00 80",
     ),
 ];

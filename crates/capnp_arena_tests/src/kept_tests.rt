@@ -2,6 +2,7 @@
 ghost use Rattle.std.specs.Prelude.{OnOk};
 ghost use Rattle.capnp_arena.specs.Message.{IsMessage};
 
+use crate::calls::init_list;
 use crate::fixtures::{ONE_EACH, answer, is_written_as};
 use capnp_arena::message::Builder;
 use capnp_device::error::Result;
@@ -9,23 +10,49 @@ use capnp_wire::size::ElementSize;
 use capnp_wire_callers::built::{count_new, count_structs, put_number, put_text};
 use std::alloc::Global;
 
+/// How many numbers a new list has.
+fn count_numbers(message: &mut Builder) -> Result<u32>
+    requires { IsMessage message.old }
+    ensures { OnOk result (IsMessage message.new) }
+{
+    let list = message.root().init_list(ElementSize::TwoBytes, 3)?;
+    Ok(list.len())
+}
+
+/// How many structs there are once the list is one of structs.
+fn count_as_structs(message: &mut Builder) -> Result<u32>
+    requires { IsMessage message.old }
+    ensures { OnOk result (IsMessage message.new) }
+{
+    let list = message.root().get_struct_list(ONE_EACH)?;
+    Ok(list.len())
+}
+
 /// How many numbers a new list has, and how many structs these then are.
 fn counted(message: &mut Builder) -> Result<(u32, u32)>
     requires { IsMessage message.old }
     ensures { OnOk result (IsMessage message.new) }
 {
-    let numbers = message.root().init_list(ElementSize::TwoBytes, 3)?.len();
-    let structs = message.root().get_struct_list(ONE_EACH)?.len();
+    let numbers = count_numbers(message)?;
+    let structs = count_as_structs(message)?;
     Ok((numbers, structs))
+}
+
+fn count_by_caller(alloc: Global) -> Result<u32> {
+    let mut message = Builder::new(alloc)?;
+    count_new(message.root(), 3)
+}
+
+fn count_structs_by_caller(alloc: Global) -> Result<u32> {
+    let mut message = Builder::new(alloc)?;
+    init_list(&mut message, ElementSize::TwoBytes, 3)?;
+    count_structs(message.root(), ONE_EACH)
 }
 
 /// The same by callers, each with a message of its own.
 fn counted_by_callers(alloc: Global) -> Result<(u32, u32)> {
-    let mut message = Builder::new(alloc)?;
-    let numbers = count_new(message.root(), 3)?;
-    let mut other = Builder::new(alloc)?;
-    other.root().init_list(ElementSize::TwoBytes, 3)?;
-    let structs = count_structs(other.root(), ONE_EACH)?;
+    let numbers = count_by_caller(alloc)?;
+    let structs = count_structs_by_caller(alloc)?;
     Ok((numbers, structs))
 }
 

@@ -27,8 +27,6 @@ mod default_tests;
 #[cfg(test)]
 mod fixtures;
 #[cfg(test)]
-mod got_tests;
-#[cfg(test)]
 mod hop_tests;
 #[cfg(test)]
 mod kept_tests;

@@ -1,11 +1,13 @@
 //! Messages that are written to a sink.
 
+use crate::calls::{clear, set_text};
 use crate::fixtures::{answer, bytes_of, refusal};
 use capnp_arena::message::Builder;
 use capnp_device::error::ErrorKind::{self, WriteFailed};
 use capnp_device::error::Result;
 use capnp_device::memory::MemorySink;
 use std::alloc::Global;
+use std::process::Abort;
 
 /// Two messages: a text, and a null after it.
 const TEXT_AND_NULL: &str =
@@ -15,9 +17,9 @@ const TEXT_AND_NULL: &str =
 /// Writes the text and the null to a sink.
 fn send_both(alloc: Global, sink: &mut MemorySink) -> Result<()> {
     let mut message = Builder::new(alloc)?;
-    message.root().set_text(b"Hello, World!")?;
+    set_text(&mut message, "Hello, World!")?;
     message.write_message_to(sink)?;
-    message.root().clear();
+    clear(&mut message)?;
     message.write_message_to(sink)
 }
 
@@ -38,7 +40,7 @@ fn a_sink_gets_the_bytes_of_the_message(rt: HostRuntime) {
 /// they are a beginning of the message.
 fn sent(alloc: Global, calls: u64) -> Result<(Option<ErrorKind>, usize, bool)> {
     let mut message = Builder::new(alloc)?;
-    message.root().set_text(b"Hello, World!")?;
+    set_text(&mut message, "Hello, World!")?;
     let bytes = message.write_message()?;
     let mut sink = MemorySink::new(alloc, 5, Some(calls));
     let refused = refusal(message.write_message_to(&mut sink));
@@ -58,10 +60,18 @@ static SENT: [(u64, Option<ErrorKind>, usize); 8] = [
     (7, None, 32),
 ];
 
+fn check(rt: &impl Abort, alloc: Global, calls: u64, refused: Option<ErrorKind>, length: usize) {
+    let sent = answer(sent(alloc, calls));
+    assert_eq!(rt; sent, Ok((refused, length, true)), "at call {calls}");
+}
+
+fn check_rows(rt: &impl Abort, alloc: Global, rows: &[(u64, Option<ErrorKind>, usize)]) {
+    for (calls, refused, length) in rows {
+        check(rt, alloc, *calls, *refused, *length);
+    }
+}
+
 #[test]
 fn a_failed_sink_keeps_a_beginning(rt: HostRuntime) {
-    for (calls, refused, length) in &SENT {
-        let sent = answer(sent(rt.alloc(), *calls));
-        assert_eq!(rt; sent, Ok((*refused, *length, true)), "at call {calls}");
-    }
+    check_rows(&rt, rt.alloc(), &SENT);
 }

@@ -1,12 +1,14 @@
 //! Copies that are read in the message that they were made in.
 ghost use Rattle.capnp_arena.specs.Message.{IsMessage};
 
+use crate::calls::get_list;
 use crate::fixtures::{answer, bytes_of, is_written_as};
 use capnp_arena::message::Builder;
 use capnp_device::error::Result;
 use capnp_wire::PointerReader;
 use capnp_wire::size::ElementSize;
 use std::alloc::Global;
+use std::process::Abort;
 
 /// Whether a copy of what the root of these words leads to holds the same tree.
 fn is_copied_alike(alloc: Global, text: &str) -> Result<bool> {
@@ -18,22 +20,22 @@ fn is_copied_alike(alloc: Global, text: &str) -> Result<bool> {
     Ok(root.as_reader().has_same_tree(&source))
 }
 
-/// Three structs, 2^20 + 1, and 2^29 - 1, the most that a list has.
-static NO_SIZES: [&str; 3] = [
-    "01 00 00 00 07 00 00 00 | 0c 00 00 00 00 00 00 00",
-    "01 00 00 00 07 00 00 00 | 04 00 40 00 00 00 00 00",
-    "01 00 00 00 07 00 00 00 | fc ff ff 7f 00 00 00 00",
-];
+/// Three structs of size zero, 2^20 + 1, and 2^29 - 1, the most that a list has.
+const THREE: &str = "01 00 00 00 07 00 00 00 | 0c 00 00 00 00 00 00 00";
+
+const MANY: &str = "01 00 00 00 07 00 00 00 | 04 00 40 00 00 00 00 00";
+
+const MOST: &str = "01 00 00 00 07 00 00 00 | fc ff ff 7f 00 00 00 00";
+
+fn check(rt: &impl Abort, alloc: Global, text: &str) {
+    assert_eq!(rt; answer(is_copied_alike(alloc, text)), Ok(true), "{text}");
+}
 
 #[test]
 fn structs_of_size_zero_are_the_same_in_a_copy(rt: HostRuntime) {
-    for text in &NO_SIZES {
-        assert_eq!(rt;
-            answer(is_copied_alike(rt.alloc(), text)),
-            Ok(true),
-            "{text}"
-        );
-    }
+    check(&rt, rt.alloc(), THREE);
+    check(&rt, rt.alloc(), MANY);
+    check(&rt, rt.alloc(), MOST);
 }
 
 /// A struct of a word and two pointers: the text "hi", and two structs of a word each.
@@ -78,7 +80,7 @@ fn copy_bytes_of(source: &mut Builder, target: &mut Builder) -> Result<()>
     requires target { IsMessage target.old }
     ensures { IsMessage target.new }
 {
-    source.root().get_list(ElementSize::Pointer)?;
+    get_list(source, ElementSize::Pointer)?;
     let list = source.root().get_list(ElementSize::Byte)?;
     target.root().set_list(&list.as_reader())?;
     Ok(())
@@ -96,23 +98,23 @@ fn is_copied_empty(alloc: Global) -> Result<bool> {
     )
 }
 
-/// How many bytes a null is lent as, as data or as a text, where it was got as a list of pointers before.
-fn count_lent(alloc: Global, is_text: bool) -> Result<usize> {
+/// How many bytes a null is lent as, as data, where it was got as a list of pointers before.
+fn count_lent_data(alloc: Global) -> Result<usize> {
     let mut message = Builder::new(alloc)?;
-    message.root().get_list(ElementSize::Pointer)?;
-    let root = message.root();
-    let blob = if is_text {
-        root.get_text_mut()?
-    } else {
-        root.get_data_mut()?
-    };
-    Ok(blob.into_bytes().len())
+    get_list(&mut message, ElementSize::Pointer)?;
+    Ok(message.root().get_data_mut()?.into_bytes().len())
+}
+
+/// The same as a text.
+fn count_lent_text(alloc: Global) -> Result<usize> {
+    let mut message = Builder::new(alloc)?;
+    get_list(&mut message, ElementSize::Pointer)?;
+    Ok(message.root().get_text_mut()?.into_bytes().len())
 }
 
 #[test]
 fn a_null_is_lent_as_bytes_whatever_it_was_got_as(rt: HostRuntime) {
-    for is_text in [false, true] {
-        assert_eq!(rt; answer(count_lent(rt.alloc(), is_text)), Ok(0), "{is_text}");
-    }
+    assert_eq!(rt; answer(count_lent_data(rt.alloc())), Ok(0));
+    assert_eq!(rt; answer(count_lent_text(rt.alloc())), Ok(0));
     assert_eq!(rt; answer(is_copied_empty(rt.alloc())), Ok(true));
 }

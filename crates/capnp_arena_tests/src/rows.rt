@@ -4,19 +4,19 @@
 pub type Row = (&'static str, &'static str, &'static str);
 
 /// A data word and a null.
-pub const WHOLE: &str =
+const WHOLE: &str =
     "00 00 00 00 03 00 00 00 | 00 00 00 00 01 00 01 00 | 05 00 01 00 09 00 00 00 | 0";
 
 /// A struct with a text.
-pub const WITH_TEXT: &str =
+const WITH_TEXT: &str =
     "00 00 00 00 04 00 00 00 | 00 00 00 00 01 00 01 00 | 05 00 01 00 09 00 00 00 | 01 00 00 00 1a 00 00 00 | 68 69 00 00 00 00 00 00";
 
 /// Two pointers: to a struct with the text "a", and to the text "b".
-pub const NESTED: &str =
+const NESTED: &str =
     "00 00 00 00 06 00 00 00 | 00 00 00 00 00 00 02 00 | 04 00 00 00 00 00 01 00 | 09 00 00 00 12 00 00 00 | 01 00 00 00 12 00 00 00 | 61 00 00 00 00 00 00 00 | 62 00 00 00 00 00 00 00";
 
 /// Two structs, with 5 and the text "hi", and with 6 and the text "abc".
-pub const ELEMENTS: &str =
+const ELEMENTS: &str =
     "00 00 00 00 08 00 00 00 | 01 00 00 00 27 00 00 00 | 08 00 00 00 01 00 01 00 | 05 00 00 00 00 00 00 00 | 09 00 00 00 1a 00 00 00 | 06 00 00 00 00 00 00 00 | 05 00 00 00 22 00 00 00 | 68 69 00 00 00 00 00 00 | 61 62 63 00 00 00 00 00";
 
 /// Two structs of a word each.
@@ -25,7 +25,7 @@ const PLAIN_ELEMENTS: &str =
 
 // echo '(id = 7, name = "far away", scores = [4, 5], points = [(x = 6, y = 7)], next = (id = 8, name = "end"))' |
 //   capnp encode --segment-size=2 examples/reading.capnp Reading | xxd -c 8 -g 1
-pub const SEVEN_SEGMENTS: &str =
+const SEVEN_SEGMENTS: &str =
     "06 00 00 00 01 00 00 00 | 07 00 00 00 03 00 00 00 | 02 00 00 00 03 00 00 00 | \
      07 00 00 00 02 00 00 00 | 02 00 00 00 01 00 00 00 | 00 00 00 00 02 00 04 00 | \
      07 00 00 00 00 00 00 00 | 00 00 00 00 00 00 00 00 | 02 00 00 00 02 00 00 00 | \
@@ -38,7 +38,7 @@ pub const SEVEN_SEGMENTS: &str =
      01 00 00 00 22 00 00 00 | 65 6e 64 00 00 00 00 00";
 
 // the same, without the size of segments
-pub const COPIED_BY_TOOL: &str =
+const COPIED_BY_TOOL: &str =
     "00 00 00 00 13 00 00 00 | 00 00 00 00 02 00 04 00 | 07 00 00 00 00 00 00 00 | \
      00 00 00 00 00 00 00 00 | 0d 00 00 00 4a 00 00 00 | 11 00 00 00 13 00 00 00 | \
      11 00 00 00 0f 00 00 00 | 14 00 00 00 02 00 04 00 | 66 61 72 20 61 77 61 79 | \
@@ -48,7 +48,7 @@ pub const COPIED_BY_TOOL: &str =
      00 00 00 00 00 00 00 00 | 65 6e 64 00 00 00 00 00";
 
 /// Whole messages.
-pub static MESSAGES: [Row; 15] = [
+pub static MESSAGES: [Row; 8] = [
     (
         "a null",
         "00 00 00 00 01 00 00 00 | 0",
@@ -77,6 +77,10 @@ pub static MESSAGES: [Row; 15] = [
         NESTED,
     ),
     ("those of the first element come first", ELEMENTS, ELEMENTS),
+];
+
+/// More of them.
+pub static MORE_MESSAGES: [Row; 7] = [
     ("structs without pointers", PLAIN_ELEMENTS, PLAIN_ELEMENTS),
     (
         "a target that is shared is copied twice",
