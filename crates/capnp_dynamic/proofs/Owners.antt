@@ -1,8 +1,9 @@
 -- What a part says of the struct that it was handed out of, by the kind of the field, and by its name.
-use Rattle.std.specs.Prelude.{ℕ, ◌≡◌, refl, Bool, true, false, Option, Some}
+use Rattle.std.specs.Prelude.{ℕ, ◌≡◌, refl, Bool, true, false, Option, Some, Result, Ok, Err, IfOk}
 use Rattle.std.proofs.Common.{ap, sym, subst}
 use Rattle.std.proofs.lemmas.Bool.{true≢false}
 use Rattle.std.specs.Borrow.{MutBor}
+use Rattle.capnp_device.specs.declared.error.Error.{Error}
 use Rattle.capnp_wire.specs.Edits.{with_pointer_tree}
 use Rattle.capnp_wire.specs.Elements.{with_pointer_element}
 use Rattle.capnp_wire.specs.Reading.{element_pointer}
@@ -62,6 +63,11 @@ module _ (owner : MutBor Arena) (p : Place) (f : Field) where
 
   pub started_pointer : (v : BuiltValue) → IsSlot f → IsPointer f → IsPartOf owner p (pointer_index f) (slot_with f (init_content f) (built owner.now p)) v → IsStartedOf owner p f v
   started_pointer v slot pointer h = of_pointer (is_group_field (typed_of f).field.kind) (is_pointer (typed_of f).type) _ _ slot pointer h
+
+  pub started_slot : (r : Result BuiltValue Error) → IsSlot f → IfOk r (λ _. IsPointer f) → IfOk r (IsPartOf owner p (pointer_index f) (slot_with f (init_content f) (built owner.now p))) →
+      IfOk r (IsStartedOf owner p f)
+  started_slot (Ok v) slot pointer h = started_pointer v slot pointer h
+  started_slot (Err e) slot pointer h = tt
 
 -- ---- fields of one name ----
 

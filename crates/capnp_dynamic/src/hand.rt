@@ -126,7 +126,6 @@ impl<'a> Builder<'a> {
     ///
     /// The field has to belong to the schema; the struct has to have its schema's sections and stand at its place
     /// (`IsReady`).
-    #[tactic(auto, using(crate::proofs::Builders::room_for, crate::proofs::HandedOut::hands_group, crate::proofs::HandedOut::hands_pointed, crate::proofs::HandedOut::hands_number, crate::proofs::HandedOut::group_within, crate::proofs::HandedOut::pointed_within, crate::proofs::Owners::got_group, crate::proofs::Owners::got_pointed))]
     pub fn get(self, field: Field<'a>) -> Result<dynamic_value::Builder<'a>>
         requires belongs { BelongsTo field (built_schema self) }
         requires ready { IsReady self }
@@ -157,7 +156,6 @@ impl<'a> Builder<'a> {
 
     /// What the field of a name has, as `get`. Refused with `FieldNotFound` where there is none of that name.
     /// The struct has to have its schema's sections and stand at its place (`IsReady`).
-    #[tactic(auto, using(capnp_dynamic_readers::specs::Facts::Found::found_belongs))]
     pub fn get_named(self, field_name: &str) -> Result<dynamic_value::Builder<'a>>
         requires { IsReady self }
         ensures stands { (f : Field) → IsNamed (built_schema self.entry) field_name.now f

@@ -32,7 +32,6 @@ use capnp_slots::element;
 use capnp_wire::error::Result;
 
 /// The struct at an index.
-#[tactic(auto, using(crate::proofs::ElementsHanded::struct_there, crate::proofs::ElementsHanded::struct_ready))]
 fn struct_at<'a>(
     arena: &'a mut Arena,
     at: usize,

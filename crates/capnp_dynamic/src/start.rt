@@ -49,7 +49,6 @@ fn hand_new<'a>(arena: &'a mut Arena, place: Place, field: Field<'a>) -> dynamic
 }
 
 /// What an init of a slot hands out.
-#[tactic(auto, using(crate::proofs::Started::init_pointer, crate::proofs::Started::init_hands, crate::proofs::Started::init_stands, crate::proofs::Started::room_kept))]
 fn start_slot<'a>(
     arena: &'a mut Arena,
     place: Place,
@@ -71,7 +70,6 @@ fn start_slot<'a>(
 }
 
 /// What an init of a slot with a size hands out.
-#[tactic(auto, using(crate::proofs::Started::initn_pointer, crate::proofs::Started::initn_hands, crate::proofs::Started::initn_stands, crate::proofs::Started::room_kept))]
 fn start_sized<'a>(
     arena: &'a mut Arena,
     place: Place,
@@ -100,7 +98,6 @@ impl<'a> Builder<'a> {
     ///
     /// The field has to belong to the schema; the struct has to have its schema's sections and stand at its place
     /// (`IsReady`).
-    #[tactic(auto, using(crate::proofs::Builders::room_for, crate::proofs::Started::init_group, crate::proofs::Started::init_slot, crate::proofs::Owners::started_group))]
     pub fn init(self, field: Field<'a>) -> Result<dynamic_value::Builder<'a>>
         requires belongs { BelongsTo field (built_schema self) }
         requires ready { IsReady self }
@@ -127,7 +124,6 @@ impl<'a> Builder<'a> {
 
     /// Starts the field of a name anew, as `init`. Refused first with `FieldNotFound` where there is none of that name.
     /// The struct has to have its schema's sections and stand at its place (`IsReady`).
-    #[tactic(auto, using(capnp_dynamic_readers::specs::Facts::Found::found_belongs))]
     pub fn init_named(self, field_name: &str) -> Result<dynamic_value::Builder<'a>>
         requires { IsReady self }
         ensures stands { (f : Field) → IsNamed (built_schema self.entry) field_name.now f
@@ -154,7 +150,6 @@ impl<'a> Builder<'a> {
     ///
     /// The field has to belong to the schema; the struct has to have its schema's sections and stand at its place
     /// (`IsReady`).
-    #[tactic(auto, using(crate::proofs::Builders::room_for, crate::proofs::Started::no_sized_group))]
     pub fn initn(self, field: Field<'a>, size: u32) -> Result<dynamic_value::Builder<'a>>
         requires belongs { BelongsTo field (built_schema self) }
         requires ready { IsReady self }
@@ -177,7 +172,6 @@ impl<'a> Builder<'a> {
     /// Starts the field of a name anew with a size, as `initn`. Refused first with `FieldNotFound` where there is none
     /// of that name.
     /// The struct has to have its schema's sections and stand at its place (`IsReady`).
-    #[tactic(auto, using(capnp_dynamic_readers::specs::Facts::Found::found_belongs, crate::proofs::Started::same_initn, crate::proofs::Started::same_sized_refusal, crate::proofs::Owners::same_sized))]
     pub fn initn_named(self, field_name: &str, size: u32) -> Result<dynamic_value::Builder<'a>>
         requires { IsReady self }
         ensures stands { (f : Field) → IsNamed (built_schema self.entry) field_name.now f

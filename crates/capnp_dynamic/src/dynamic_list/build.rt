@@ -181,7 +181,6 @@ impl<'a> Builder<'a> {
     /// changed, as `element::init` says.
     ///
     /// The list has to be ready (`IsListReady`).
-    #[tactic(auto, using(crate::proofs::ListElements::room_in))]
     pub fn init(self, index: u32, size: u32) -> Result<dynamic_value::Builder<'a>>
         requires ready { IsListReady self }
         requires inside { IsIn index self }

@@ -28,3 +28,6 @@ returns-clause-stands c =
     (ap seen_variant c.which-variant.ensures ∙ (seen_which c.get_type.result ∙ c.get_type.ensures.is))
     c.pointer-at.ensures.tree
     c.hand_out.ensures.stands
+
+pub returns-clause-there : goal.returns-clause-there
+returns-clause-there c = record { at = c.pointer-at.result; stands = c.hand_out.ensures.behind; leaves = c.pointer-at.ensures.leaves }

@@ -3,6 +3,7 @@ use Rattle.std.proofs.Common.{ap, subst, sym}
 use Rattle.capnp_wire.specs.Edits.{struct_in}
 use Rattle.capnp_arena.specs.Facts.Laws.{IsInStruct, in_struct, struct_planted}
 use Rattle.capnp_arena.specs.Facts.Structs.{tree_struct}
+use Rattle.capnp_arena.specs.Message.{message_tree}
 use Rattle.capnp_arena.specs.Segment.{segment}
 use Rattle.capnp_schema.specs.StructHandles.{number_of, set_of}
 use Rattle.capnp_records.specs.Writes.Slots.{Fits}
@@ -49,5 +50,5 @@ returns-clause-made c =
     let p = c.struct_here-place.result in
     let s : IsInStruct (segment c.args.message.now) (segment c.call_at.new.arena) 0 p.start p.data_words p.pointers =
     in_struct _ _ 0 p.start p.data_words p.pointers c.requires.message c.struct_here-place.ensures.place c.call_at.ensures.planted c.call_at.ensures.changes in
-    is_made_here (set_of c.args.schema) (number_of c.args.schema) _ _ (built c.args.message.now p) (built c.call_at.new.arena p) c.args.call.now c.call_at.result
+    is_made_here (set_of c.args.schema) (number_of c.args.schema) (message_tree c.args.message.now) (message_tree c.call_at.new.arena) (built c.args.message.now p) (built c.call_at.new.arena p) c.args.call.now c.call_at.result
     (sym (ap struct_in (tree_struct (segment c.args.message.now) 0 p.start p.data_words p.pointers c.requires.message c.struct_here-place.ensures.place))) s.tree c.call_at.ensures.made

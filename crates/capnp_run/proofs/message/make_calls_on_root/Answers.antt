@@ -25,10 +25,10 @@ loop-call-init c =
     }
 
 pub call_on_root-reply-requires-clause-here : goal.call_on_root-reply-requires-clause-here
-call_on_root-reply-requires-clause-here c = subst (λ (t : Tree). IsTrue (is_struct t)) (sym c.keep_room.ensures.tree) c.loop-call.invariant.here
+call_on_root-reply-requires-clause-here c = subst (λ (t : Tree). IsTrue (is_struct t)) (sym c.keep_room-held.ensures.tree) c.loop-call.invariant.here
 
 pub call_on_root-reply-requires-clause-fits : goal.call_on_root-reply-requires-clause-fits
-call_on_root-reply-requires-clause-fits c = subst (λ (t : Tree). Fits (set_of c.args.schema) (number_of c.args.schema) (struct_in t)) (sym c.keep_room.ensures.tree) c.loop-call.invariant.fits
+call_on_root-reply-requires-clause-fits c = subst (λ (t : Tree). Fits (set_of c.args.schema) (number_of c.args.schema) (struct_in t)) (sym c.keep_room-held.ensures.tree) c.loop-call.invariant.fits
 
 pub loop-call-preserved : goal.loop-call-preserved
 loop-call-preserved c =
@@ -43,7 +43,7 @@ loop-call-preserved c =
     let len = rw c.if-is_err.ensures.negation at c.push.ensures.len in
     let call : Call = c.call-item.result in
     let item : get_or calls i call ≡ call = sym c.call-item.is in
-    let made = subst (λ (s : StructTree). IsMade set b s call c.call_on_root-reply.result now) (ap struct_in c.keep_room.ensures.tree) c.call_on_root-reply.ensures.made in
+    let made = subst (λ (s : StructTree). IsMade set b s call c.call_on_root-reply.result now) (ap struct_in c.keep_room-held.ensures.tree) c.call_on_root-reply.ensures.made in
     let next = makes_more set b old _ now (take i calls) c.loop-call.replies.items call c.call_on_root-reply.result c.loop-call.invariant.made made in
     record {
       made = subst (λ (rs : List Reply). Makes set b old (take (i + 1) calls) rs now) (sym items)

@@ -11,6 +11,9 @@ use Rattle.capnp_dynamic.proofs.HandedOut.{can-hand, handed-out}
 use Rattle.capnp_dynamic.proofs.Started.{handed-initn}
 use Rattle.capnp_dynamic.proofs.dynamic_list.build.Builder.init.Goals as goal
 
+pub init-requires-clause-room : goal.init-requires-clause-room
+init-requires-clause-room c = room_in (built_set c.args.self) c.args.self.element_type (built_elements c.args.self) c.args.index c.requires.ready.holds c.tree_is_sound.ensures.formed c.requires.inside
+
 pub get_pointer_element-at-requires-clause-pointer : goal.get_pointer_element-at-requires-clause-pointer
 get_pointer_element-at-requires-clause-pointer c =
     (element_started (built_set c.args.self) (built_element c.args.self) c.args.size c.args.index (built_elements c.args.self) _ (room_in (built_set c.args.self) c.args.self.element_type (built_elements c.args.self) c.args.index c.requires.ready.holds c.tree_is_sound.ensures.formed c.requires.inside) c.in_ok-init.ensures.has c.in_ok-init.ensures.written).there

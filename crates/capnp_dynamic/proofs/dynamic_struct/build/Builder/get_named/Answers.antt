@@ -5,6 +5,7 @@ use Rattle.capnp_schema.specs.StructHandles.{struct_records}
 use Rattle.capnp_dynamic.specs.Built.{built_schema, built_struct, place_of, struct_behind}
 use Rattle.capnp_dynamic.specs.Handed.{HandsField, IsPartRefusal, IsPartWithin}
 use Rattle.capnp_dynamic.proofs.HandedOut.{same_due, same_handed, same_rests, same_within}
+use Rattle.capnp_dynamic_readers.specs.Facts.Found.{found_belongs}
 use Rattle.capnp_dynamic.specs.Owners.{IsGotOf}
 use Rattle.capnp_dynamic.proofs.Owners.{same_got}
 use Rattle.capnp_dynamic.proofs.dynamic_struct.build.Builder.get_named.Goals as goal
@@ -42,3 +43,7 @@ returns-clause-owner c = λ f named.
     let p = place_of c.args.self in
     let g = c.in_ok-field.field in
     IfOk-weaker c.get.result (IsGotOf a p g) (IsGotOf a p f) (λ v h. same_got s (field_named (struct_records s) c.args.field_name.now) g f c.in_ok-field.ensures.field named a p v h) c.get.ensures.owner
+
+pub get-requires-clause-belongs : goal.get-requires-clause-belongs
+get-requires-clause-belongs c =
+    found_belongs (built_schema c.args.self) (field_named (struct_records (built_schema c.args.self)) c.args.field_name.now) c.in_ok-field.field c.in_ok-field.ensures.field

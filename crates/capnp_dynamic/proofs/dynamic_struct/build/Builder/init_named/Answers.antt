@@ -5,6 +5,7 @@ use Rattle.capnp_schema.specs.StructHandles.{struct_records}
 use Rattle.capnp_dynamic.specs.Built.{built_schema, built_struct, place_of, struct_behind}
 use Rattle.capnp_dynamic.specs.Handed.{HandsInit, IsStartRefusal}
 use Rattle.capnp_dynamic.proofs.Started.{same_init, same_start_refusal}
+use Rattle.capnp_dynamic_readers.specs.Facts.Found.{found_belongs}
 use Rattle.capnp_dynamic.specs.Owners.{IsStartedOf}
 use Rattle.capnp_dynamic.proofs.Owners.{same_started}
 use Rattle.capnp_dynamic.proofs.dynamic_struct.build.Builder.init_named.Goals as goal
@@ -29,3 +30,7 @@ returns-clause-owner c = λ f named.
     let p = place_of c.args.self in
     let g = c.in_ok-field.field in
     IfOk-weaker c.init.result (IsStartedOf a p g) (IsStartedOf a p f) (λ v h. same_started s (field_named (struct_records s) c.args.field_name.now) g f c.in_ok-field.ensures.field named a p v h) c.init.ensures.owner
+
+pub init-requires-clause-belongs : goal.init-requires-clause-belongs
+init-requires-clause-belongs c =
+    found_belongs (built_schema c.args.self) (field_named (struct_records (built_schema c.args.self)) c.args.field_name.now) c.in_ok-field.field c.in_ok-field.ensures.field
