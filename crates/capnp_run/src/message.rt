@@ -65,8 +65,8 @@ fn copied_root(
 /// Compacts a message where less room is left than was added to the words that it held when it was compacted last, and
 /// answers the words that it holds now; else those. Where there is no memory to compact, it stays as it is.
 ///
-/// So calls that replace what others wrote go on where their message may not grow any more, and no message is compacted
-/// more often than its room can be halved.
+/// So calls that replace what others wrote go on where their message may not grow any more. It is compacted again only
+/// when half of the room that it had then is used.
 #[inline(always)]
 fn keep_room(message: &mut Builder, held: usize) -> usize
     requires message { IsMessage message.old }
@@ -172,7 +172,8 @@ fn run_root(
 
 /// Makes calls on an empty root of a message: the root becomes a struct of the schema, all zero and null, and what it
 /// reads as after the calls is what the machine of records makes of the schema's default record. What stood in the
-/// message before is given up. The schema is one of an accepted set.
+/// message before is given up, but for its limit of words. The schema is one of an accepted set. The message is
+/// compacted before a call where its room gets short.
 ///
 /// Refused with `OutOfMemory` alone, where there is no room for the root or the replies; then no call was made, and the
 /// message is as it was. A call that is refused has its reply, and doesn't refuse the run. One that takes no memory on
