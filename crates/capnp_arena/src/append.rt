@@ -6,15 +6,15 @@ ghost use Rattle.capnp_wire.specs.Place.{bits_from, bytes_at};
 
 use std::alloc::AllocError;
 
-pub type Appended = std::result::Result<(), AllocError>;
+pub(crate) type Appended = std::result::Result<(), AllocError>;
 
-pub fn append_word(out: &mut Vec<u8>, word: u64) -> Appended
+pub(crate) fn append_word(out: &mut Vec<u8>, word: u64) -> Appended
     ensures { IfOk result (λ _. out.new.items ≡ out.old.items ++ spelled 8 word) }
 {
     out.extend_from_slice(&word.to_le_bytes())
 }
 
-pub fn append_half(out: &mut Vec<u8>, half: u32) -> Appended
+pub(crate) fn append_half(out: &mut Vec<u8>, half: u32) -> Appended
     ensures { IfOk result (λ _. out.new.items ≡ out.old.items ++ spelled 4 half) }
 {
     out.extend_from_slice(&half.to_le_bytes())
@@ -24,7 +24,7 @@ pub fn append_half(out: &mut Vec<u8>, half: u32) -> Appended
 ///
 /// Refused where memory is; then nothing has changed.
 #[inline(always)]
-pub fn append_few_zeros(out: &mut Vec<u8>, count: usize) -> Appended
+pub(crate) fn append_few_zeros(out: &mut Vec<u8>, count: usize) -> Appended
     requires few { count < 8 }
     ensures longer { IfOk result (λ _. out.new.items ≡ out.old.items ++ replicate count 0) }
     ensures refused { OnErr result (out.new.items ≡ out.old.items) }
@@ -35,7 +35,7 @@ pub fn append_few_zeros(out: &mut Vec<u8>, count: usize) -> Appended
 
 /// Bytes, and zeros up to a whole word.
 #[inline(always)]
-pub fn append_padded(out: &mut Vec<u8>, bytes: &[u8]) -> Appended
+pub(crate) fn append_padded(out: &mut Vec<u8>, bytes: &[u8]) -> Appended
     ensures { IfOk result (λ _. out.new.items ≡ out.old.items ++ padded bytes.now) }
 {
     out.extend_from_slice(bytes)?;
@@ -47,7 +47,7 @@ pub fn append_padded(out: &mut Vec<u8>, bytes: &[u8]) -> Appended
 }
 
 /// Byte `k` of `count` bits, without what lies past them.
-pub fn get_bits(bits: &[u8], count: u32, k: usize) -> u8
+pub(crate) fn get_bits(bits: &[u8], count: u32, k: usize) -> u8
     ensures { result ≡ bits_number (take 8 (drop (8 * k) (bits_from bits.now 0 count))) }
 {
     let byte = if k < bits.len() { bits[k] } else { 0 };
@@ -63,7 +63,7 @@ pub fn get_bits(bits: &[u8], count: u32, k: usize) -> u8
 
 /// Bits, eight in each byte, up to a whole word.
 #[inline(never)]
-pub fn append_bits(out: &mut Vec<u8>, bits: &[u8], count: u32) -> Appended
+pub(crate) fn append_bits(out: &mut Vec<u8>, bits: &[u8], count: u32) -> Appended
     ensures { IfOk result (λ _. out.new.items
         ≡ out.old.items ++ packed (8 * list_words 1 count) (bits_from bits.now 0 count)) }
 {
@@ -75,7 +75,7 @@ pub fn append_bits(out: &mut Vec<u8>, bits: &[u8], count: u32) -> Appended
 }
 
 /// Room for so many words.
-pub fn append_room(out: &mut Vec<u8>, words: usize) -> Appended
+pub(crate) fn append_room(out: &mut Vec<u8>, words: usize) -> Appended
     requires { words < 2 ^ 32 }
     ensures { IfOk result (λ _. out.new.items ≡ out.old.items ++ replicate (8 * words) 0) }
 {
@@ -84,7 +84,7 @@ pub fn append_room(out: &mut Vec<u8>, words: usize) -> Appended
 
 /// So many bytes from a word on.
 #[inline(always)]
-pub fn get_part(bytes: &[u8], word: usize, count: usize) -> &[u8]
+pub(crate) fn get_part(bytes: &[u8], word: usize, count: usize) -> &[u8]
     requires { 8 * word + count ≤ length bytes.now }
     ensures part { result.now ≡ bytes_at bytes.now word count }
     ensures long { length result.now ≡ count }

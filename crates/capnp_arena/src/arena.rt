@@ -105,7 +105,7 @@ fn get_list_words(size: ElementSize, count: u32) -> usize
 }
 
 impl Arena {
-    ghost use Rattle.std.specs.Prelude.{IfErr, IfOk, OnErr, OnOk, bit_xor, ◌⊎◌, ◌≢◌, ◌∷◌, [], ◌+◌, ◌++◌, ◌≤◌, replicate};
+    ghost use Rattle.std.specs.Prelude.{IfErr, IfOk, OnErr, OnOk, bit_xor, ◌⊎◌, ◌≢◌, ◌∷◌, [], ◌+◌, ◌++◌, ◌-◌, ◌≤◌, replicate};
     ghost use Rattle.capnp_wire.specs.Edits.{IsRoomRefusal, with_bytes, with_number, zero_list, zero_struct, zero_structs};
     ghost use Rattle.capnp_wire.specs.Encoding.{spelled};
     ghost use Rattle.capnp_wire.specs.Place.{struct_tree};
@@ -124,6 +124,7 @@ impl Arena {
         ensures forest { IfOk result (λ arena. Forest (segment arena) 0) }
         ensures null { IfOk result (λ arena. tree (segment arena) 0 ≡ Null) }
         ensures alone { IfOk result (λ arena. length (segment arena) ≡ 8) }
+        ensures limit { IfOk result (λ arena. arena.limit ≡ 2 ^ 29 - 1) }
         ensures kind { IfErr result (λ e. e.kind ≡ OutOfMemory) }
     {
         Arena::with_limit(alloc, MOST_WORDS)
@@ -140,6 +141,8 @@ impl Arena {
         ensures null { IfOk result (λ arena. tree (segment arena) 0 ≡ Null) }
         ensures alone { IfOk result (λ arena. length (segment arena) ≡ 8) }
         ensures limit { IfOk result (λ arena. (1 ≤ words → words < 2 ^ 29 → arena.limit ≡ words)) }
+        ensures least { IfOk result (λ arena. (words ≡ 0 → arena.limit ≡ 1)) }
+        ensures most { IfOk result (λ arena. (2 ^ 29 ≤ words → arena.limit ≡ 2 ^ 29 - 1)) }
         ensures kind { IfErr result (λ e. e.kind ≡ OutOfMemory) }
     {
         let mut bytes = Vec::with_capacity(alloc, FIRST_ROOM)?;

@@ -17,7 +17,7 @@ use capnp_device::error::{Error, ErrorKind, Result};
 use std::alloc::Global;
 
 /// The root pointer, and what it leads to: the segment as it is, where it is that already.
-pub fn append_encoding(out: &mut Vec<u8>, bytes: &[u8]) -> Appended
+pub(crate) fn append_encoding(out: &mut Vec<u8>, bytes: &[u8]) -> Appended
     requires forest { Forest bytes.now 0 }
     requires few { word_count bytes.now < 2 ^ 29 }
     requires whole { length bytes.now ≡ 8 * word_count bytes.now }
@@ -32,7 +32,7 @@ pub fn append_encoding(out: &mut Vec<u8>, bytes: &[u8]) -> Appended
 }
 
 /// The same, made from the tree.
-pub fn append_anew(out: &mut Vec<u8>, bytes: &[u8]) -> Appended
+pub(crate) fn append_anew(out: &mut Vec<u8>, bytes: &[u8]) -> Appended
     requires forest { Forest bytes.now 0 }
     requires few { word_count bytes.now < 2 ^ 29 }
     requires small { words_of (tree bytes.now 0) < 2 ^ 29 }

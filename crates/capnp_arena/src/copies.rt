@@ -7,8 +7,21 @@ use crate::spell::put_word;
 use capnp_device::error::Result;
 use capnp_wire::found::{Found, StructParts};
 use capnp_wire::laws::{list_is_well_formed, pointer_is_well_formed, struct_is_well_formed};
-use capnp_wire::pointer::look;
+use capnp_wire::pointer::{Pointer, look};
 use capnp_wire::{ListReader, PointerReader, StructReader};
+
+/// The bytes that a copy of a message begins with room for: those of the segment that its root stands in, and an eighth
+/// more for what will be written then. Of another pointer it isn't known how much it leads to.
+fn room_of_copy(pointer: Pointer<'_>) -> usize {
+    match pointer {
+        Pointer::Word {
+            segment,
+            index: 0,
+            ..
+        } => segment.len().saturating_add(segment.len() / 8),
+        _ => 0,
+    }
+}
 
 impl Arena {
     ghost use Rattle.std.specs.Prelude.{IfErr, None, OnErr, OnOk, suc, ◌+◌, ◌-◌, ◌*◌, ◌/◌, ◌<◌, ◌≡◌, length};
@@ -142,7 +155,9 @@ impl Arena {
     {
         pointer_is_well_formed(&source);
         let mut anew = Arena::with_limit(*self.bytes.allocator(), self.limit)?;
-        anew.copy_found(0, look(source.pointer()))?;
+        let pointer = source.pointer();
+        anew.reserve(room_of_copy(pointer));
+        anew.copy_found(0, look(pointer))?;
         *self = anew;
         Ok(())
     }

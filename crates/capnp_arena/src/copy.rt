@@ -45,7 +45,7 @@ fn get_number_size(width: u8) -> u64
 
 /// The pointer to a struct that starts `gap` words after it, with its data rounded up to whole words.
 #[inline(always)]
-pub fn point_to_struct(gap: u64, parts: StructParts<'_>) -> u64
+pub(crate) fn point_to_struct(gap: u64, parts: StructParts<'_>) -> u64
     requires held { IsWellFormedStruct (parts_tree parts) }
     requires near { gap < 2 ^ 29 }
     ensures { result ≡ pointer_word gap (struct_tree (rounded (parts_tree parts.entry))) }
@@ -87,7 +87,7 @@ fn point_to_structs(gap: u64, size: StructSize, count: usize) -> u64
 
 /// The pointer to what was found, which will start `gap` words after it.
 #[inline(always)]
-pub fn point_to(gap: u64, found: Found<'_>) -> u64
+pub(crate) fn point_to(gap: u64, found: Found<'_>) -> u64
     requires held { IsWellFormed (found_tree found) }
     requires near { gap < 2 ^ 29 }
     ensures { result ≡ pointer_word gap (found_tree found.entry) }
@@ -114,7 +114,7 @@ pub fn point_to(gap: u64, found: Found<'_>) -> u64
 /// `TooDeep` or `CapabilityPointer` where a pointer in it can't be followed, by the first of these in preorder.
 #[cycle(copy)]
 #[inline(always)]
-pub fn append_found(arena: &mut Arena, found: Found<'_>) -> Result<()>
+pub(crate) fn append_found(arena: &mut Arena, found: Found<'_>) -> Result<()>
     requires held { IsWellFormed (found_tree found) }
     ensures copy { OnOk result (segment arena.new ≡ segment arena.old ++ bytes_of (found_tree found.entry)) }
     ensures sound { OnOk result (first_fault (found_tree found.entry) ≡ None) }
@@ -136,7 +136,7 @@ pub fn append_found(arena: &mut Arena, found: Found<'_>) -> Result<()>
 /// A struct, with its data rounded up to whole words, and then what its pointers lead to.
 #[cycle(copy)]
 #[inline(always)]
-pub fn append_struct(arena: &mut Arena, parts: StructParts<'_>) -> Result<()>
+pub(crate) fn append_struct(arena: &mut Arena, parts: StructParts<'_>) -> Result<()>
     requires held { IsWellFormedStruct (parts_tree parts) }
     ensures copy { OnOk result (segment arena.new
         ≡ segment arena.old ++ bytes_of (struct_tree (rounded (parts_tree parts.entry)))) }
@@ -218,7 +218,7 @@ fn append_composite(arena: &mut Arena, size: StructSize, elements: Elements<'_>)
 /// Puts a pointer into a word, and appends what it leads to.
 #[cycle(copy)]
 #[inline(always)]
-pub fn fill_pointer(arena: &mut Arena, at: usize, pointer: Pointer<'_>) -> Result<()>
+pub(crate) fn fill_pointer(arena: &mut Arena, at: usize, pointer: Pointer<'_>) -> Result<()>
     requires held { IsWellFormed (pointer_tree pointer) }
     requires inside { at < word_count (segment arena.old) }
     ensures copy { OnOk result (segment arena.new ≡
@@ -237,7 +237,7 @@ pub fn fill_pointer(arena: &mut Arena, at: usize, pointer: Pointer<'_>) -> Resul
 
 /// Puts pointers in a row into the words from one on, and appends what they lead to.
 #[cycle(copy)]
-pub fn fill_row(arena: &mut Arena, at: usize, pointers: Pointers<'_>) -> Result<()>
+pub(crate) fn fill_row(arena: &mut Arena, at: usize, pointers: Pointers<'_>) -> Result<()>
     requires held { AreWellFormed (pointer_trees pointers) }
     requires inside { at + tree_count (pointer_trees pointers) ≤ word_count (segment arena.old) }
     ensures copy { OnOk result (segment arena.new

@@ -61,7 +61,7 @@ fn get_list_words(element_size: u8, count: u32) -> u64
 
 /// The words of all that the pointer at a word leads to, none where they are 2^29 or more.
 #[cycle(count)]
-pub fn count_words(bytes: &[u8], w: usize) -> Option<u64>
+pub(crate) fn count_words(bytes: &[u8], w: usize) -> Option<u64>
     requires forest { Forest bytes.now w }
     requires few { word_count bytes.now < 2 ^ 29 }
     ensures { IsCount result (words_of (tree bytes.now w)) }
@@ -118,7 +118,7 @@ pub fn count_words(bytes: &[u8], w: usize) -> Option<u64>
 
 /// The words of all that so many pointers in a row lead to.
 #[cycle(count)]
-pub fn count_row(bytes: &[u8], first: usize, count: usize) -> Option<u64>
+pub(crate) fn count_row(bytes: &[u8], first: usize, count: usize) -> Option<u64>
     requires forests { AreForests bytes.now first count }
     requires inside { first + count ≤ word_count bytes.now }
     requires few { word_count bytes.now < 2 ^ 29 }

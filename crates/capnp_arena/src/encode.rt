@@ -20,7 +20,7 @@ use crate::target::look;
 
 /// The pointer to a target that starts `gap` words after it.
 #[inline(always)]
-pub fn make_pointer(gap: u64, target: Target) -> u64
+pub(crate) fn make_pointer(gap: u64, target: Target) -> u64
     requires near { gap < 2 ^ 29 }
     requires sized { HasSize (shape_found target) }
     ensures { result ≡ pointer_to gap (shape_found target) }
@@ -89,7 +89,7 @@ fn append_plain(
 /// What the pointer at a word leads to, and then what that leads to.
 #[cycle(append)]
 #[inline(always)]
-pub fn append_tree(out: &mut Vec<u8>, bytes: &[u8], w: usize) -> Appended
+pub(crate) fn append_tree(out: &mut Vec<u8>, bytes: &[u8], w: usize) -> Appended
     requires forest { Forest bytes.now w }
     requires few { word_count bytes.now < 2 ^ 29 }
     requires small { words_of (tree bytes.now w) < 2 ^ 29 }
@@ -217,7 +217,13 @@ fn append_composite(
 
 /// Puts pointers in a row into the room that is left for them, from an index on, and appends what they lead to.
 #[cycle(append)]
-pub fn fill_row(out: &mut Vec<u8>, at: usize, bytes: &[u8], first: usize, count: usize) -> Appended
+pub(crate) fn fill_row(
+    out: &mut Vec<u8>,
+    at: usize,
+    bytes: &[u8],
+    first: usize,
+    count: usize,
+) -> Appended
     requires forests { AreForests bytes.now first count }
     requires inside { first + count ≤ word_count bytes.now }
     requires few { word_count bytes.now < 2 ^ 29 }

@@ -46,6 +46,15 @@ impl Arena {
         self.bytes.len() / 8
     }
 
+    /// Takes memory for so many bytes more at once, where there is as much: until they are there the segment isn't moved.
+    pub(crate) fn reserve(&mut self, more: usize)
+        ensures same { segment self.new ≡ segment self.old }
+        ensures limit { self.new.limit ≡ self.old.limit }
+    {
+        // what can't be had now is asked for again when it is needed
+        let _ = self.bytes.reserve(more);
+    }
+
     /// Bytes, and zeros up to a whole word.
     ///
     /// Refused with `OutOfMemory`, also where there would be more words than the limit.

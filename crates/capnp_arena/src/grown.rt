@@ -19,7 +19,7 @@ use std::alloc::{AllocError, Global};
 /// Where the parts of structs stand, one struct after another: each one's data from a byte on, and its pointers from a
 /// word on, with so much between two structs.
 #[derive(Clone, Copy)]
-pub struct PartRow {
+pub(crate) struct PartRow {
     pub first_byte: usize,
     pub data_count: usize,
     pub data_step: usize,
@@ -103,7 +103,7 @@ fn fill_all_grown(
 /// The first of them with at least a size, and what its pointers lead to.
 ///
 /// Refused where memory is.
-pub fn encode_grown(
+pub(crate) fn encode_grown(
     alloc: Global,
     bytes: &[u8],
     row: PartRow,
@@ -124,7 +124,7 @@ pub fn encode_grown(
 /// A list of so many of them with at least a size: its tag, the structs, and what their pointers lead to.
 ///
 /// Refused where memory is.
-pub fn encode_all_grown(
+pub(crate) fn encode_all_grown(
     alloc: Global,
     bytes: &[u8],
     row: PartRow,

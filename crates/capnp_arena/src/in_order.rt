@@ -226,7 +226,7 @@ fn follow_elements(
 }
 
 /// Whether a segment is the encoding of what its root leads to, so that it is written as it is.
-pub fn is_in_order(bytes: &[u8]) -> bool
+pub(crate) fn is_in_order(bytes: &[u8]) -> bool
     requires forest { Forest bytes.now 0 }
     requires few { word_count bytes.now < 2 ^ 29 }
     requires whole { length bytes.now ≡ 8 * word_count bytes.now }

@@ -7,7 +7,7 @@ use capnp_wire::primitive::PrimitiveElement;
 
 /// What a pointer leads to, from the word `start` on.
 #[derive(Clone, Copy)]
-pub enum Target {
+pub(crate) enum Target {
     Null,
     Struct {
         start: usize,
@@ -29,31 +29,31 @@ pub enum Target {
     },
 }
 
-pub fn get_offset(word: u64) -> usize
+pub(crate) fn get_offset(word: u64) -> usize
     ensures { result ≡ offset word }
 {
     (word / 4 % (1 << 30)) as usize
 }
 
-pub fn get_data_words(word: u64) -> u16
+pub(crate) fn get_data_words(word: u64) -> u16
     ensures { result ≡ data_words word }
 {
     ((word >> 32) % (1 << 16)) as u16
 }
 
-pub fn get_pointer_count(word: u64) -> u16
+pub(crate) fn get_pointer_count(word: u64) -> u16
     ensures { result ≡ pointer_count word }
 {
     (word >> 48) as u16
 }
 
-pub fn get_element_size(word: u64) -> u8
+pub(crate) fn get_element_size(word: u64) -> u8
     ensures { result ≡ element_size word }
 {
     ((word >> 32) % 8) as u8
 }
 
-pub fn get_count(word: u64) -> u32
+pub(crate) fn get_count(word: u64) -> u32
     ensures { result ≡ count word }
 {
     (word >> 35) as u32
@@ -61,7 +61,7 @@ pub fn get_count(word: u64) -> u32
 
 /// A word of the segment.
 #[inline(always)]
-pub fn get_word(bytes: &[u8], w: usize) -> u64
+pub(crate) fn get_word(bytes: &[u8], w: usize) -> u64
     requires { w < 2 ^ 32 }
     ensures { result ≡ number_at 8 w bytes.now }
 {

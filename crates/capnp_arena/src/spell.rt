@@ -8,7 +8,7 @@ use capnp_wire::primitive::PrimitiveElement;
 use std::alloc::AllocError;
 
 /// A struct pointer, or the tag of a composite list, which has its count in place of the offset.
-pub fn make_struct_word(offset: u64, data_words: u64, pointers: u64) -> u64
+pub(crate) fn make_struct_word(offset: u64, data_words: u64, pointers: u64) -> u64
     requires { (offset < 2 ^ 30) × (data_words < 2 ^ 16) × (pointers < 2 ^ 16) }
     ensures { result ≡ struct_word offset data_words pointers }
 {
@@ -16,7 +16,7 @@ pub fn make_struct_word(offset: u64, data_words: u64, pointers: u64) -> u64
 }
 
 /// A list pointer.
-pub fn make_list_word(offset: u64, element_size: u64, count: u64) -> u64
+pub(crate) fn make_list_word(offset: u64, element_size: u64, count: u64) -> u64
     requires { (offset < 2 ^ 30) × (element_size < 8) × (count < 2 ^ 29) }
     ensures { result ≡ list_word offset element_size count }
 {
@@ -25,7 +25,7 @@ pub fn make_list_word(offset: u64, element_size: u64, count: u64) -> u64
 
 /// Bytes in the place of as many from an index on.
 #[inline(always)]
-pub fn put_bytes(out: &mut Vec<u8>, at: usize, bytes: &[u8])
+pub(crate) fn put_bytes(out: &mut Vec<u8>, at: usize, bytes: &[u8])
     requires { at + length bytes.now ≤ length out.old.items }
     ensures put { out.new.items ≡ put at bytes.now out.old.items }
     ensures long { length out.new.items ≡ length out.old.items }
@@ -35,7 +35,7 @@ pub fn put_bytes(out: &mut Vec<u8>, at: usize, bytes: &[u8])
 
 /// A word in the place of another from an index on.
 #[inline(always)]
-pub fn put_word(out: &mut Vec<u8>, at: usize, word: u64)
+pub(crate) fn put_word(out: &mut Vec<u8>, at: usize, word: u64)
     requires { at + 8 ≤ length out.old.items }
     ensures put { out.new.items ≡ put at (spelled 8 word) out.old.items }
     ensures long { length out.new.items ≡ length out.old.items }
@@ -44,7 +44,7 @@ pub fn put_word(out: &mut Vec<u8>, at: usize, word: u64)
 }
 
 /// Half a word in the place of another from an index on.
-pub fn put_half(out: &mut Vec<u8>, at: usize, half: u32)
+pub(crate) fn put_half(out: &mut Vec<u8>, at: usize, half: u32)
     requires { at + 4 ≤ length out.old.items }
     ensures put { out.new.items ≡ put at (spelled 4 half) out.old.items }
 {
@@ -54,7 +54,7 @@ pub fn put_half(out: &mut Vec<u8>, at: usize, half: u32)
 /// So many words of zeros at the end.
 ///
 /// Refused where memory is; then nothing has changed.
-pub fn append_zeros(out: &mut Vec<u8>, words: usize) -> Result<(), AllocError>
+pub(crate) fn append_zeros(out: &mut Vec<u8>, words: usize) -> Result<(), AllocError>
     requires { words < 2 ^ 32 }
     ensures longer { IfOk result (λ _. out.new.items ≡ out.old.items ++ replicate (8 * words) 0) }
     ensures refused { OnErr result (out.new.items ≡ out.old.items) }
@@ -64,7 +64,7 @@ pub fn append_zeros(out: &mut Vec<u8>, words: usize) -> Result<(), AllocError>
 
 /// A number in a part of bytes, at an offset in units of its width.
 #[inline(always)]
-pub fn write_number<T: PrimitiveElement>(
+pub(crate) fn write_number<T: PrimitiveElement>(
     out: &mut Vec<u8>,
     at: usize,
     count: usize,
@@ -82,7 +82,7 @@ pub fn write_number<T: PrimitiveElement>(
 
 /// The same of a number that is stored XORed with its default `mask`.
 #[inline(always)]
-pub fn write_number_mask<T: PrimitiveElement>(
+pub(crate) fn write_number_mask<T: PrimitiveElement>(
     out: &mut Vec<u8>,
     at: usize,
     count: usize,
@@ -101,7 +101,7 @@ pub fn write_number_mask<T: PrimitiveElement>(
 
 /// A bit in a part of bytes, counted from the lowest of its first byte.
 #[inline(always)]
-pub fn write_bit(out: &mut Vec<u8>, at: usize, count: usize, index: usize, bit: bool)
+pub(crate) fn write_bit(out: &mut Vec<u8>, at: usize, count: usize, index: usize, bit: bool)
     requires part { at + count ≤ length out.old.items }
     requires inside { index < 8 * count }
     ensures long { length out.new.items ≡ length out.old.items }

@@ -64,7 +64,8 @@ impl<'a> StructBuilder<'a> {
         requires planted { IsStruct self }
         ensures read { struct_of result ≡ struct_at
             (tree_below 65535 (segment self.entry.arena.now ∷ []) (segment self.entry.arena.now))
-            (segment self.entry.arena.now) self.entry.place.data_words self.entry.place.pointers self.entry.place.start }
+            (segment self.entry.arena.now) self.entry.place.data_words self.entry.place.pointers
+            self.entry.place.start }
         ensures parts { AreBelow 65535 (built_struct self.entry).pointers → struct_of result ≡ built_struct self.entry }
         ensures levels { struct_levels result ≡ 64 }
     {
@@ -152,8 +153,8 @@ impl<'a> StructBuilder<'a> {
             (struct_from
             (segment self.old.arena.now) self.old.place.start self.old.place.data_words self.old.place.pointers)
             (with_number T.width offset (T.to_number value)
-            (struct_from
-            (segment self.old.arena.now) self.old.place.start self.old.place.data_words self.old.place.pointers).bytes) }
+            (struct_from (segment self.old.arena.now) self.old.place.start self.old.place.data_words
+            self.old.place.pointers).bytes) }
     {
         let place = self.place;
         self.arena.set_number(place, offset, value);
@@ -268,8 +269,8 @@ impl<'a> StructBuilder<'a> {
         ensures forest { IsPointer result }
         ensures tree { pointer_tree result ≡ nth_tree (built_struct self.entry).pointers index }
         ensures leaves { (new : List ℕ) → Forest new result.at → Changes result.at (segment self.entry.arena.now) new
-            → IsInPointer
-            (segment self.entry.arena.now) new self.entry.place.start self.entry.place.data_words self.entry.place.pointers index }
+            → IsInPointer (segment self.entry.arena.now) new
+            self.entry.place.start self.entry.place.data_words self.entry.place.pointers index }
     {
         let StructBuilder { arena, place } = self;
         let at = arena.get_pointer_field(place, index);
@@ -289,8 +290,8 @@ impl<'a> StructBuilder<'a> {
         ensures forest { IsPointer result }
         ensures tree { pointer_tree result ≡ nth_tree (built_struct self.old).pointers index }
         ensures leaves { (new : List ℕ) → Forest new result.at → Changes result.at (segment self.old.arena.now) new
-            → IsInPointer
-            (segment self.old.arena.now) new self.old.place.start self.old.place.data_words self.old.place.pointers index }
+            → IsInPointer (segment self.old.arena.now) new
+            self.old.place.start self.old.place.data_words self.old.place.pointers index }
     {
         let at = self.arena.get_pointer_field(self.place, index);
         let arena = &mut *self.arena;

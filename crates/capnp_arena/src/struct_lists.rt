@@ -136,7 +136,7 @@ fn grow_structs(size: StructSize, list: StructsPlace) -> StructSize
 
 /// The number of an element size.
 #[inline(always)]
-pub fn get_number(size: ElementSize) -> u8
+pub(crate) fn get_number(size: ElementSize) -> u8
     ensures { result ≡ size_number size }
 {
     match size {

@@ -77,7 +77,7 @@ fn look_at_word(bytes: &[u8], w: usize) -> Target
 
 /// Where the pointer at a word leads.
 #[inline(always)]
-pub fn look(bytes: &[u8], w: usize) -> Target
+pub(crate) fn look(bytes: &[u8], w: usize) -> Target
     requires forest { Forest bytes.now w }
     requires few { w < 2 ^ 30 }
     ensures shape { shape_found result ≡ shape_at bytes.now w }

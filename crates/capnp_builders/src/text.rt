@@ -363,11 +363,13 @@ impl<'a> FromPointerBuilder<'a> for Builder<'a> {
 
     ghost started = { λ length. Numbers 1 (replicate (length + 1) 0) };
 
-    ghost starts = { λ length builder. IsText builder × (text_bytes builder ≡ replicate length 0) × (position builder ≡ 0) };
+    ghost starts = { λ length builder. IsText builder × (text_bytes builder ≡ replicate length 0)
+        × (position builder ≡ 0) };
 
     ghost new_refusal = { λ length error. IsRoomRefusal error (2 ^ 29 ≤ length + 1) };
 
-    ghost stands = { λ tree builder. IsText builder × (text_there builder ≡ tree) × (position builder ≡ length (text_bytes builder)) };
+    ghost stands = { λ tree builder. IsText builder × (text_there builder ≡ tree)
+        × (position builder ≡ length (text_bytes builder)) };
 
     ghost refuses = { IsReadRefusal as_text };
 

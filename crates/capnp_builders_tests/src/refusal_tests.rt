@@ -278,8 +278,8 @@ fn first_that_changes(alloc: Global) -> Result<Option<usize>> {
     Ok(None)
 }
 
-// Of each call that memory is refused to, what stood there still stands: `./fail_each_allocation` refuses each request in
-// turn. What is compared takes no memory.
+// Of each call that memory is refused to, what stood there still stands: `./fail_each_allocation` refuses each request
+// in turn. What is compared takes no memory.
 #[test]
 fn without_memory_what_stood_there_stands(rt: HostRuntime) {
     let changed = first_that_changes(rt.alloc());

@@ -5,11 +5,11 @@
 //! read here: `get t -> Text(hi)`.
 //!
 //! Operations and paths are those of the command line. The operations are `get`, `has`, `which`, `set`, `init`, `initn`
-//! and `clear`. A path has dots between its steps, of which there are at most three: a name is the field of that name, a
-//! number an element, and `#` with a number the field of that index. The last step is what the operation is done to; but
-//! `which` asks the struct that all steps lead to, and `.` is no step. A value is a type and a number or text, so that
-//! it may also be of a wrong type: `Int8 -1`, `Bool true`, `Void`, `Text hi`; or `Given`, which is given beside the
-//! rows.
+//! and `clear`. A path has dots between its steps, of which there are at most three: a name is the field of that name,
+//! a number an element, and `#` with a number the field of that index. The last step is what the operation is done to;
+//! but `which` asks the struct that all steps lead to, and `.` is no step. A value is a type and a number or text, so
+//! that it may also be of a wrong type: `Int8 -1`, `Bool true`, `Void`, `Text hi`; or `Given`, which is given beside
+//! the rows.
 #![tactic(auto)]
 
 use capnp_base::text;

@@ -10,14 +10,14 @@ use std::marker::Model;
 
 /// Two brands of one set: of an older struct and of a newer.
 #[derive(Clone, Copy)]
-pub struct Pair {
+pub(crate) struct Pair {
     pub older: u32,
     pub newer: u32,
 }
 
 /// Pairs as a list. Whether it has a pair is asked of a set beside it, so that a long list isn't gone through.
 #[derive(Drop)]
-pub struct Pairs {
+pub(crate) struct Pairs {
     list: Vec<Pair>,
     keys: HashSet<(u32, u32)>,
 }

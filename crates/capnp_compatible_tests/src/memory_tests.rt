@@ -29,8 +29,8 @@ fn number(reader: dynamic_struct::Reader<'_>, name: &str) -> Result<Option<u16>>
     }
 }
 
-// `./fail_each_allocation` refuses each request for memory in turn: what comes before the pair is refused for memory alone,
-// and once there is a pair both reads succeed.
+// `./fail_each_allocation` refuses each request for memory in turn: what comes before the pair is refused for memory
+// alone, and once there is a pair both reads succeed.
 #[test]
 fn narrow_and_widen_take_no_memory(rt: HostRuntime) -> std::result::Result<(), Fail> {
     let made = read_set(rt.alloc(), GROWN);

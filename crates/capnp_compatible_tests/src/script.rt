@@ -7,7 +7,7 @@
 //! |---|---|
 //! | `follows 0 1` | whether the newer brand is a compatible successor |
 //! | `upgrades 0 1` | whether a list in it became a list of structs; `none` where it is no successor |
-//! | `narrow 0 1 numbers` | the text of the struct as the older brand reads it; `none` where the newer is no successor |
+//! | `narrow 0 1 numbers` | the text of the struct as the older brand reads it; `none` if the newer is no successor |
 //! | `widen 0 1 numbers` | the same as the newer brand reads it |
 //! | `known 0 1 nine` | whether a member that the older brand has is active in the struct |
 //!

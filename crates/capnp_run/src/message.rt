@@ -25,7 +25,7 @@ use capnp_schema::laws::numbers_fit;
 use capnp_schema::schema::StructSchema;
 use capnp_slots::size_of;
 use capnp_wire::PointerReader;
-use capnp_wire::error::Result;
+use capnp_wire::error::{ErrorKind, Result};
 use capnp_wire::laws::pointer_is_well_formed;
 use std::alloc::Global;
 
@@ -62,19 +62,30 @@ fn copied_root(
     Ok(())
 }
 
-/// Compacts a message where less room is left than was added to the words that it held when it was compacted last, and
-/// answers the words that it holds now; else those. Where there is no memory to compact, it stays as it is.
+/// Whether a call was refused for room.
+#[inline(always)]
+fn is_for_room(reply: &Reply) -> bool {
+    match reply {
+        Reply::Refused(ErrorKind::OutOfMemory) => true,
+        _ => false,
+    }
+}
+
+/// Compacts a message where less room is left than was added to the words that it held when it was compacted last, or
+/// where anything was added and the call before was refused for room. Answers the words that it holds now; else those.
+/// Where there is no memory to compact, it stays as it is.
 ///
 /// So calls that replace what others wrote go on where their message may not grow any more. It is compacted again only
-/// when half of the room that it had then is used.
+/// when half of the room that it had then is used, or for each call that is refused.
 #[inline(always)]
-fn keep_room(message: &mut Builder, held: usize) -> usize
+fn keep_room(message: &mut Builder, held: usize, is_full: bool) -> usize
     requires message { IsMessage message.old }
     ensures message { IsMessage message.new }
     ensures tree { message_tree message.new ≡ message_tree message.old }
 {
     let words = bytes_of(message).len() / 8;
-    if message.get_limit() - words >= words.saturating_sub(held) {
+    let added = words.saturating_sub(held);
+    if message.get_limit() - words >= added && !(is_full && added > 0) {
         return held;
     }
     compact_held(message, held)
@@ -135,9 +146,11 @@ fn make_calls_on_root(
 {
     let mut replies = Vec::with_capacity(alloc, calls.len())?;
     let mut held = bytes_of(message).len() / 8;
+    let mut is_full = false;
     for call in calls {
-        held = keep_room(message, held);
+        held = keep_room(message, held, is_full);
         let reply = call_on_root(alloc, message, schema, call);
+        is_full = is_for_room(&reply);
         if replies.push(reply).is_err() {
             unreachable!();
         }
@@ -173,7 +186,7 @@ fn run_root(
 /// Makes calls on an empty root of a message: the root becomes a struct of the schema, all zero and null, and what it
 /// reads as after the calls is what the machine of records makes of the schema's default record. What stood in the
 /// message before is given up, but for its limit of words. The schema is one of an accepted set. The message is
-/// compacted before a call where its room gets short.
+/// compacted before a call where its room gets short, and behind one that was refused for room.
 ///
 /// Refused with `OutOfMemory` alone, where there is no room for the root or the replies; then no call was made, and the
 /// message is as it was. A call that is refused has its reply, and doesn't refuse the run. One that takes no memory on

@@ -37,6 +37,14 @@ initn bytes 64 -> Refused(1)
 get t -> Text(ghijklmnopqrstuv)
 set t Text hijklmnopqrstuvw -> Done";
 
+/// The bytes have no room behind the text that was replaced, and have it once the message is compacted.
+const REFUSED_ONCE: &str = "\
+set t Text abcdefgh -> Done
+set t Text a -> Done
+initn bytes 40 -> Refused(1)
+initn bytes 40 -> Done
+get t -> Text(a)";
+
 /// The same on a builder: the third text has no room, and a shorter one has.
 const NOT_COMPACTED: &str = "\
 set t Text abcdefghijklmnop -> Done
@@ -106,12 +114,25 @@ fn call_and_compact(
     Ok((full, compacted))
 }
 
+/// The same of rows of text on an empty root.
+fn run_rows(alloc: Global, text: &str) -> Result<(String, bool)> {
+    let set = new_set(alloc)?;
+    let schema = schema_of(&set, LISTS)?;
+    let rows = rows_in(alloc, text, Value::Void)?;
+    run_within(alloc, schema, text, rows.as_slice())
+}
+
 #[test]
 fn runs_compact_where_room_gets_short(rt: HostRuntime) -> std::result::Result<(), Fail> {
-    let set = new_set(rt.alloc())?;
-    let schema = schema_of(&set, LISTS)?;
-    let rows = rows_in(rt.alloc(), REPLACED, Value::Void)?;
-    let (wrong, is_within) = run_within(rt.alloc(), schema, REPLACED, rows.as_slice())?;
+    let (wrong, is_within) = run_rows(rt.alloc(), REPLACED)?;
+    assert_eq!(rt; wrong.as_str(), "");
+    assert!(rt; is_within);
+    Ok(())
+}
+
+#[test]
+fn runs_compact_behind_a_call_without_room(rt: HostRuntime) -> std::result::Result<(), Fail> {
+    let (wrong, is_within) = run_rows(rt.alloc(), REFUSED_ONCE)?;
     assert_eq!(rt; wrong.as_str(), "");
     assert!(rt; is_within);
     Ok(())

@@ -32,7 +32,7 @@ fn read_spot(text: &str) -> Result<Spot> {
 }
 
 /// Adds an annotation.
-pub fn read_note(alloc: Global, records: &mut Records, note: &'static str) -> Result<()> {
+pub(crate) fn read_note(alloc: Global, records: &mut Records, note: &'static str) -> Result<()> {
     let (place, words) = first_word(note);
     let (id, words) = first_word(words);
     let (value, annotation_type) = first_word(words);
@@ -102,7 +102,7 @@ fn add_enumerants(alloc: Global, enums: &mut Vec<EnumRecord>, count: u32) -> Res
 }
 
 /// Makes a change that is no note.
-pub fn change(alloc: Global, records: &mut Records, kind: &str, count: &str) -> Result<()> {
+pub(crate) fn change(alloc: Global, records: &mut Records, kind: &str, count: &str) -> Result<()> {
     match kind {
         "no-brands" => Ok(records.brands.clear()),
         "fields" => add_fields(alloc, &mut records.nodes, number(count)?),

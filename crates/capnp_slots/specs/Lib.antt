@@ -1,5 +1,6 @@
 pub mod Planned
 pub mod Fields
+pub mod Standing
 pub mod Primitives
 pub mod Sources
 pub mod SetValues

@@ -179,7 +179,8 @@ impl<'a> SetterInput<any_pointer::Owned> for any_pointer::Reader<'a> {
 impl<'a> SetterInput<any_pointer::Owned> for dynamic_struct::Reader<'a> {
     ghost set_tree = { λ input. struct_tree (rounded (struct_of (reader_of input))) };
 
-    ghost set_refusal = { λ input error. IsCopyRefusal error (first_fault_of_all (struct_of (reader_of input)).pointers) };
+    ghost set_refusal = { λ input error. IsCopyRefusal error
+        (first_fault_of_all (struct_of (reader_of input)).pointers) };
 
     fn set_pointer_builder(
         builder: PointerBuilder<'_>,

@@ -22,7 +22,7 @@ use capnp_device::error::{Error, ErrorKind, Result};
 
 /// Why there is no total.
 #[derive(Clone, Copy)]
-pub enum Stop {
+pub(crate) enum Stop {
     Fault(Fault),
     TooLarge,
 }
@@ -191,7 +191,7 @@ fn make_size(total: Total) -> Result<MessageSize>
 /// The size of what stands at a place.
 ///
 /// Refused as `total_size`.
-pub fn size_of_pointer(pointer: Pointer<'_>) -> Result<MessageSize>
+pub(crate) fn size_of_pointer(pointer: Pointer<'_>) -> Result<MessageSize>
     ensures size { IfOk result (λ size. IsSize size (first_fault (pointer_tree pointer.entry))
         (words_of (pointer_tree pointer.entry))) }
     ensures refused { IfErr result (λ error. IsSizeRefusal error (first_fault (pointer_tree pointer.entry))
@@ -203,7 +203,7 @@ pub fn size_of_pointer(pointer: Pointer<'_>) -> Result<MessageSize>
 /// The size of a struct, whose data is rounded up to whole words.
 ///
 /// Refused as `total_size`.
-pub fn size_of_parts(parts: StructParts<'_>) -> Result<MessageSize>
+pub(crate) fn size_of_parts(parts: StructParts<'_>) -> Result<MessageSize>
     ensures size { IfOk result (λ size. IsSize size (first_fault_of_all (parts_tree parts.entry).pointers)
         (words_of_struct (parts_tree parts.entry))) }
     ensures refused { IfErr result

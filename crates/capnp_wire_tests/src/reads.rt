@@ -11,8 +11,9 @@
 //!
 //! | at | words |
 //! |---|---|
-//! | bytes | `message` (the root of a message in a stream), `words` (the pointer before these words), numbers, `length` |
-//! | a pointer | `struct`, `text`, `data`, `null`, `total`, `sum` (of this crate), and a list of `voids`, `bits`, `bytes`, `twos`, `fours`, `eights`, `pointers`, `structs` |
+//! | bytes | `message` (a message's root in a stream), `words` (the pointer before these words), numbers, `length` |
+//! | a pointer | `struct`, `text`, `data`, `null`, `total`, `sum` (of this crate) |
+//! | a pointer, as a list | `voids`, `bits`, `bytes`, `twos`, `fours`, `eights`, `pointers`, `structs` |
 //! | a struct | numbers, `bool`, `field`, `section` (the bytes of its data), `count` (of its pointers), `total` |
 //! | a list | numbers, `bool`, `element`, `pointer`, `length`, `empty`, `size` |
 //!

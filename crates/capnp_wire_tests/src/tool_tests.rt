@@ -3,8 +3,8 @@
 use crate::fixtures::SEVEN_SEGMENTS;
 use crate::reads::scripts_are_answered;
 
-// echo '(id = 5, level = -2, on = true, name = "hello", scores = [1, 2, 300], points = [(x = 1, y = 2), (x = -3, y = 4)])' |
-//   capnp encode examples/reading.capnp Reading | xxd -c 8 -g 1
+// echo '(id = 5, level = -2, on = true, name = "hello", scores = [1, 2, 300],
+//   points = [(x = 1, y = 2), (x = -3, y = 4)])' | capnp encode examples/reading.capnp Reading | xxd -c 8 -g 1
 const ONE_SEGMENT: &str =
     "00 00 00 00 0c 00 00 00 | 00 00 00 00 02 00 04 00 | 05 00 00 00 00 00 00 00 | \
      01 01 00 00 00 00 00 00 | 0d 00 00 00 32 00 00 00 | 0d 00 00 00 1b 00 00 00 | \

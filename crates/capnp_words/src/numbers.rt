@@ -16,7 +16,7 @@ fn append_digit(number: u64, byte: u8, limit: u64) -> Option<u64>
 
 /// The number in decimal digits, which has no zero in front and is at most `limit`. `place` is where the first byte
 /// stands; else the place of the first that can't stand.
-pub fn read_decimal(bytes: &[u8], place: usize, limit: u64) -> Result<u64, usize>
+pub(crate) fn read_decimal(bytes: &[u8], place: usize, limit: u64) -> Result<u64, usize>
     requires { place + length bytes.now < 2 ^ 64 }
     ensures read { result ≡ decimal_at limit place bytes.now }
     ensures inside { IfOk result (λ n. n ≤ limit) }
@@ -70,7 +70,7 @@ fn read_negative(bytes: &[u8], place: usize, limit: u64) -> Result<i64, usize>
 /// The number in decimal digits, behind a minus or not, which has no zero in front and is not `-0`. It is at most
 /// `limit`, and at least one less than minus that. `place` is where the first byte stands; else the place of the first
 /// that can't stand.
-pub fn read_signed(bytes: &[u8], place: usize, limit: u64) -> Result<i64, usize>
+pub(crate) fn read_signed(bytes: &[u8], place: usize, limit: u64) -> Result<i64, usize>
     requires room { place + length bytes.now < 2 ^ 64 }
     requires limit { limit < 2 ^ 63 }
     ensures read { result ≡ signed_at limit place bytes.now }

@@ -10,7 +10,7 @@ use std::alloc::Global;
 
 /// What may stand next.
 #[derive(Clone, Copy)]
-pub enum Expected {
+pub(crate) enum Expected {
     /// A character of a text, or its closing quote.
     Character,
     /// What follows a backslash.
@@ -33,7 +33,7 @@ pub enum Expected {
 
 /// What a byte of the word stands for.
 #[derive(Clone, Copy)]
-pub enum Piece {
+pub(crate) enum Piece {
     Nothing,
     Byte(u8),
     Character(char),
@@ -172,7 +172,7 @@ fn append_piece(bytes: &mut Vec<u8>, piece: Piece) -> Result<()>
 }
 
 /// The bytes that stand in quotes, from what may stand first. `place` is where the first byte stands.
-pub fn read_quoted(
+pub(crate) fn read_quoted(
     alloc: Global,
     word: &[u8],
     place: usize,

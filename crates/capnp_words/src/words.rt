@@ -15,7 +15,7 @@ fn count_shared(word: &[u8], bytes: &[u8]) -> usize
 }
 
 /// Whether the bytes begin with a word. `longest` is the most bytes that they share with this word or one before.
-pub fn is_front(word: &[u8], bytes: &[u8], longest: &mut usize) -> bool
+pub(crate) fn is_front(word: &[u8], bytes: &[u8], longest: &mut usize) -> bool
     ensures is { result ≡ is_front word.now bytes.now }
     ensures longest { longest.new ≡ max longest.old (shared word.now bytes.now) }
 {
@@ -25,7 +25,7 @@ pub fn is_front(word: &[u8], bytes: &[u8], longest: &mut usize) -> bool
 }
 
 /// Whether the bytes are a word. `longest` is the most bytes that they share with this word or one before.
-pub fn is_word(word: &[u8], bytes: &[u8], longest: &mut usize) -> bool
+pub(crate) fn is_word(word: &[u8], bytes: &[u8], longest: &mut usize) -> bool
     ensures is { result ≡ is_word word.now bytes.now }
     ensures longest { longest.new ≡ max longest.old (shared word.now bytes.now) }
 {

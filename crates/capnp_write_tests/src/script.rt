@@ -11,7 +11,7 @@
 //! | call | what it does |
 //! |---|---|
 //! | `set items.1.a UInt16 7` | a `set` to a value |
-//! | `init`, `initn`, `clear`, `get`, as `initn rows.0 2` | the call of that name; `initn` of an element is a list's `init` |
+//! | `init`, `initn`, `clear`, `get`, as `initn rows.0 2` | that call; `initn` of an element is a list's `init` |
 //! | `which` | answers the index of the active member, or `none` |
 //! | `has b` | answers whether the root's field is there |
 //! | `value b` | answers the text of what a `get` of the root's field hands out |
