@@ -16,3 +16,4 @@ pub mod ElementFills
 pub mod GroupCopies
 pub mod ReadBack
 pub mod Kept
+pub mod FieldWrites

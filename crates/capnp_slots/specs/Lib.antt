@@ -10,4 +10,5 @@ pub mod Groups
 pub mod Fills
 pub mod ElementSets
 pub mod GroupSets
+pub mod FieldWrites
 pub mod ReadBack

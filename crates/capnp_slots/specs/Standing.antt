@@ -3,7 +3,7 @@ use Rattle.capnp_wire.specs.Tree.{StructTree}
 use Rattle.capnp_arena.specs.Built.{IsBuilt, built}
 use Rattle.capnp_arena.specs.declared.arena.Arena.{Arena}
 use Rattle.capnp_arena.specs.declared.arena.Place.{Place}
-use Rattle.capnp_schema.specs.StructHandles.{number_of, set_of}
+use Rattle.capnp_schema.specs.StructHandles.{IsStruct, number_of, set_of}
 use Rattle.capnp_schema.specs.declared.schema.structs.StructSchema.{StructSchema}
 use Rattle.capnp_records.specs.Writes.Slots.{Fits}
 
@@ -15,3 +15,8 @@ IsUnder schema s = Fits (set_of schema) (number_of schema) s
 pub record IsStanding (schema : StructSchema) (arena : Arena) (place : Place) : Type 0 where
   pub planted : IsBuilt arena place
   pub room : IsUnder schema (built arena place)
+
+-- and its schema is one of an accepted set
+pub record TakesCalls (schema : StructSchema) (arena : Arena) (place : Place) : Type 0 where
+  pub stands : IsStruct schema
+  pub standing : IsStanding schema arena place

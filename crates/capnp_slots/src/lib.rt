@@ -7,6 +7,7 @@
 pub mod copied;
 mod copies;
 pub mod element;
+pub mod field;
 mod fill;
 mod fill_element;
 pub mod group;

@@ -1,0 +1,64 @@
+//! Fields of a struct that is built, slots and groups alike.
+ghost use Rattle.std.specs.Prelude.{OnErr, ◌≡◌};
+ghost use Rattle.capnp_arena.specs.Segment.{segment};
+ghost use Rattle.capnp_arena.specs.Built.{ChangesIn, IsBuilt, built};
+ghost use Rattle.capnp_slots.specs.Copied.{refusal_of};
+ghost use Rattle.capnp_slots.specs.Fields.{IsRoomFor, IsSlot, Keeps, names_of};
+ghost use Rattle.capnp_slots.specs.FieldWrites.{IsFieldSet, field_cleared};
+ghost use Rattle.capnp_slots.specs.Sources.{source_seen};
+
+use crate::source::Source;
+use crate::{group, slot};
+use capnp_arena::arena::{Arena, Place as StructPlace};
+use capnp_schema::schema::Field;
+use capnp_wire::error::Result;
+
+/// Sets a field: a slot as `slot::set`, and a group as `group::set`.
+///
+/// Refused as these. A slot that was refused has changed nothing; a group stays as it is by then, cleared and with what
+/// was copied before, where a copy was refused.
+///
+/// The struct has to have the sections of the field's schema.
+#[tactic(auto, using(crate::proofs::FieldWrites::slot_was_set, crate::proofs::FieldWrites::group_was_set, crate::proofs::FieldWrites::planted_after, crate::proofs::FieldWrites::changes_after))]
+#[inline(always)]
+pub fn set(
+    arena: &mut Arena,
+    place: StructPlace,
+    field: Field<'_>,
+    source: Source<'_>,
+) -> Result<()>
+    requires planted { IsBuilt arena.old place }
+    requires room { IsRoomFor field (built arena.old place) }
+    ensures planted { IsBuilt arena.new place }
+    ensures changes { ChangesIn place arena.old arena.new }
+    ensures set { IsFieldSet field.entry (source_seen source.entry) (built arena.old place) (refusal_of result)
+        (built arena.new place) }
+    ensures kept { Keeps (names_of field.entry) (built arena.old place) (built arena.new place) }
+    ensures refused { IsSlot field.entry → OnErr result (segment arena.new ≡ segment arena.old) }
+{
+    if slot::is_slot(field) {
+        slot::set(arena, place, field, source)
+    } else {
+        group::set(arena, place, field, source)
+    }
+}
+
+/// Clears a field: a slot as `slot::clear`, and a group as `group::clear`. No memory is taken.
+///
+/// The struct has to have the sections of the field's schema.
+#[tactic(auto, using(crate::proofs::FieldWrites::cleared_slot, crate::proofs::FieldWrites::cleared_group))]
+#[inline(always)]
+pub fn clear(arena: &mut Arena, place: StructPlace, field: Field<'_>)
+    requires planted { IsBuilt arena.old place }
+    requires room { IsRoomFor field (built arena.old place) }
+    ensures planted { IsBuilt arena.new place }
+    ensures changes { ChangesIn place arena.old arena.new }
+    ensures cleared { built arena.new place ≡ field_cleared field.entry (built arena.old place) }
+    ensures kept { Keeps (names_of field.entry) (built arena.old place) (built arena.new place) }
+{
+    if slot::is_slot(field) {
+        slot::clear(arena, place, field);
+    } else {
+        group::clear(arena, place, field);
+    }
+}
