@@ -4,7 +4,6 @@ use Rattle.std.proofs.Common.{ap, subst, sym, ◌∙◌}
 use Rattle.capnp_wire.specs.Edits.{HasAtLeast, zero_struct}
 use Rattle.capnp_wire.specs.Facts.Lengths.{HasAtLeast-zero_struct}
 use Rattle.capnp_wire.specs.Place.{struct_tree}
-use Rattle.capnp_wire.specs.Tree.{StructTree}
 use Rattle.capnp_wire.specs.declared.size.StructSize.{StructSize}
 use Rattle.capnp_arena.specs.Facts.Laws.{struct_is, struct_planted}
 use Rattle.capnp_arena.specs.Forest.{Forest, tree}
@@ -14,12 +13,21 @@ use Rattle.capnp_arena.specs.declared.arena.Arena.{Arena}
 use Rattle.capnp_arena.specs.declared.arena.Place.{Place}
 use Rattle.capnp_schema.specs.Plan.{brand_size}
 use Rattle.capnp_schema.specs.Schema.{Schemas}
+use Rattle.capnp_schema.specs.StructHandles.{number_of, set_of}
+use Rattle.capnp_schema.specs.declared.schema.structs.StructSchema.{StructSchema}
 use Rattle.capnp_records.specs.Writes.Slots.{Fits}
 use Rattle.capnp_arena.specs.Built.{IsBuilt, built, part}
 use Rattle.capnp_slots.specs.Groups.{KeepsSize}
+use Rattle.capnp_slots.specs.Standing.{IsStanding}
 
-pub fits_on : (set : Schemas) (b : ℕ) (s s' : StructTree) → Fits set b s → KeepsSize s s' → Fits set b s'
-fits_on set b s s' h k = (subst (λ n. 8 * (brand_size set b).data_words ≤ n) (sym k.writes.data_size) h.0, subst (λ n. (brand_size set b).pointers ≤ n) (sym k.writes.pointer_count) h.1)
+pub standing_on : (schema : StructSchema) (p : Place) (a b : Arena) → IsStanding schema a p → IsBuilt b p → KeepsSize (built a p) (built b p) → IsStanding schema b p
+standing_on schema p a b h planted k = record {
+  planted = planted;
+  room = (
+    subst (λ n. 8 * (brand_size (set_of schema) (number_of schema)).data_words ≤ n) (sym k.writes.data_size) h.room.0,
+    subst (λ n. (brand_size (set_of schema) (number_of schema)).pointers ≤ n) (sym k.writes.pointer_count) h.room.1,
+  );
+}
 
 module _ (a : Arena) (p : Place) (forest : Forest (segment a) 0) (there : shape_at (segment a) 0 ≡ part p) where
   pub is_started : IsBuilt a p

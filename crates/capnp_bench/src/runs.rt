@@ -1,8 +1,6 @@
 //! Runs: a list of calls along paths of one message, which is made again and again.
 ghost use Rattle.std.specs.Prelude.{◌<◌};
-ghost use Rattle.capnp_schema.specs.StructHandles.{IsStruct, number_of, set_of};
-ghost use Rattle.capnp_records.specs.Writes.Slots.{Fits};
-ghost use Rattle.capnp_arena.specs.Built.{IsBuilt, built};
+ghost use Rattle.capnp_slots.specs.Standing.{IsStanding, TakesCalls};
 
 use capnp_arena::arena::{Arena, Place};
 use capnp_arena::message::Builder;
@@ -47,6 +45,7 @@ fn sum_of(replies: &[Reply]) -> u64 {
 }
 
 /// Makes a list of calls so many times on a struct, and adds the replies.
+#[tactic(auto, using(crate::proofs::Started::standing_on))]
 fn make(
     alloc: Global,
     arena: &mut Arena,
@@ -55,11 +54,8 @@ fn make(
     calls: &[Call<'_>],
     rounds: u64,
 ) -> Result<u64>
-    requires planted { IsBuilt arena.old place }
-    requires stands { IsStruct schema }
-    requires fits { Fits (set_of schema) (number_of schema) (built arena.old place) }
-    ensures planted { IsBuilt arena.new place }
-    ensures fits { Fits (set_of schema.entry) (number_of schema.entry) (built arena.new place) }
+    requires ready { TakesCalls schema arena.old place }
+    ensures standing { IsStanding schema.entry arena.new place }
 {
     let mut sum: u64 = 0;
     for _ in 0..rounds {

@@ -20,6 +20,7 @@ use Rattle.capnp_records.specs.Writes.Fill.{entered_list}
 use Rattle.capnp_records.specs.Writes.Slots.{Fits}
 use Rattle.capnp_slots.specs.Fields.{field_set}
 use Rattle.capnp_slots.specs.Fills.{fill_due, filled_in, filled_tree, pointer_in}
+use Rattle.capnp_slots.specs.Standing.{IsUnder}
 use Rattle.capnp_call.proofs.ListBehind.{list_stands}
 use Rattle.capnp_call.specs.Lists.{IsListStand}
 use Rattle.capnp_call.specs.Ways.{IsStructSlot}
@@ -28,14 +29,14 @@ use Rattle.capnp_call.specs.Ways.{IsStructSlot}
 
 pub record IsStructHere (schema : StructSchema) (t : Tree) : Type 0 where
   pub here : IsTrue (is_struct t)
-  pub fits : Fits (set_of schema) (number_of schema) (struct_in t)
+  pub room : IsUnder schema (struct_in t)
 
 pub struct_here : (f : Field) (s : StructTree) (schema : StructSchema) (t : Tree) → IsStructSlot f schema → t ≡ filled_in f s → IsStructHere schema t
 struct_here f s schema t leads e =
     subst (IsStructHere schema) (sym e)
     (subst (λ (u : SchemaType). IsStructHere schema (filled_tree (field_set f) (default_of (typed_of f).field) u (pointer_in f s))) leads.type_is
     (subst (λ (z : Schemas). IsStructHere schema (filled_tree z (default_of (typed_of f).field) (StructType (number_of schema) (generic_of schema)) (pointer_in f s))) leads.set
-    (record { here = refl; fits = fits-extended (set_of schema) (number_of schema) _ })))
+    (record { here = refl; room = fits-extended (set_of schema) (number_of schema) _ })))
 
 -- the struct that a pointer leads to, by its place
 pub here_is : (bytes : List ℕ) (at a d p : ℕ) → Forest bytes at → shape_at bytes at ≡ StructIn a d p → struct_in (tree bytes at) ≡ struct_from bytes a d p

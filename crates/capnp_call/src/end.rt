@@ -3,12 +3,12 @@ ghost use Rattle.capnp_arena.specs.Segment.{segment};
 ghost use Rattle.capnp_arena.specs.Built.{ChangesIn, IsBuilt, built};
 ghost use Rattle.std.specs.Prelude.{◌≢◌};
 ghost use Rattle.capnp_wire.specs.Place.{struct_tree};
-ghost use Rattle.capnp_schema.specs.StructHandles.{IsStruct, number_of, set_of};
+ghost use Rattle.capnp_schema.specs.StructHandles.{number_of, set_of};
 ghost use Rattle.capnp_records.specs.Call.{Clear, Init, Initn, Set};
-ghost use Rattle.capnp_records.specs.Writes.Slots.{Fits};
 ghost use Rattle.capnp_slots.specs.Fields.{IsRoomFor};
 ghost use Rattle.capnp_slots.specs.Sources.{source_seen};
 ghost use Rattle.capnp_slots.specs.SetValues.{source_of};
+ghost use Rattle.capnp_slots.specs.Standing.{IsStanding, TakesCalls};
 ghost use Rattle.capnp_call.specs.Ends.{FieldDoes, NamedDoes, StructEnds};
 ghost use Rattle.capnp_call.specs.Seen.{op_seen, reply_seen, step_seen};
 
@@ -150,8 +150,7 @@ fn do_field(arena: &mut Arena, place: Place, field: Field<'_>, end: Ending<'_>) 
 /// Does an operation to the field that a step names.
 #[inline(always)]
 fn do_named(arena: &mut Arena, place: Place, schema: StructSchema<'_>, end: Ending<'_>) -> Reply
-    requires planted { IsBuilt arena.old place }
-    requires fits { Fits (set_of schema) (number_of schema) (built arena.old place) }
+    requires standing { IsStanding schema arena.old place }
     requires names { end.call.now.op ≢ Op.Which }
     ensures does { NamedDoes (set_of schema.entry) (number_of schema.entry) (step_seen end.entry.call.now.last)
         (op_seen end.entry.call.now.op)
@@ -179,9 +178,7 @@ pub fn end_at_struct(
     schema: StructSchema<'_>,
     end: Ending<'_>,
 ) -> Reply
-    requires planted { IsBuilt arena.old place }
-    requires stands { IsStruct schema }
-    requires fits { Fits (set_of schema) (number_of schema) (built arena.old place) }
+    requires ready { TakesCalls schema arena.old place }
     ensures ends { StructEnds (set_of schema.entry) (number_of schema.entry) (step_seen end.entry.call.now.last)
         (op_seen end.entry.call.now.op)
         (built arena.old place) (reply_seen result) (built arena.new place) }

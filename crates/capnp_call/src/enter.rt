@@ -101,7 +101,7 @@ pub fn enter_list(arena: &mut Arena, place: Place, field: Field<'_>, element: Ty
         (filled_in field.entry (built arena.old place))) }
     ensures here { OnOk result (pointer_in field.entry (built arena.new place)
         ≡ filled_in field.entry (built arena.old place)) }
-    ensures stands { OnOk result (IsListStand (field_set field.entry) (seen_type element)
+    ensures list { OnOk result (IsListStand (field_set field.entry) (seen_type element)
         (filled_in field.entry (built arena.old place))) }
     ensures goes { OnOk result (StepGoes field.entry (built arena.old place)) }
     ensures planted { OnOk result (IsBuilt arena.new place) }

@@ -38,7 +38,7 @@ fn get_element(
 ) -> Reply
     requires forest { Forest (segment arena.now) at }
     requires entries { NamesEntries (lists_seen set.now) (seen_type element) }
-    requires stands { IsListStand (lists_seen set.now) (seen_type element) (tree (segment arena.now) at) }
+    requires list { IsListStand (lists_seen set.now) (seen_type element) (tree (segment arena.now) at) }
     requires inside { index < list_length (tree (segment arena.now) at) }
     ensures { (old : RecordValue) → Does (lists_seen set.now) Get
         (element_at (lists_seen set.now) (seen_type element) (tree (segment arena.now) at) index) old
@@ -59,7 +59,7 @@ fn initn_element(
     count: u32,
 ) -> Reply
     requires forest { Forest (segment arena.old) at }
-    requires stands { IsListStand (lists_seen set.now) (seen_type element) (tree (segment arena.old) at) }
+    requires list { IsListStand (lists_seen set.now) (seen_type element) (tree (segment arena.old) at) }
     requires inside { index < list_length (tree (segment arena.old) at) }
     ensures does { ElementDoes (lists_seen set.now) (seen_type element) index (Op.Initn count)
         (tree (segment arena.old) at) result (tree (segment arena.new) at) }
@@ -80,7 +80,7 @@ fn set_element(
     value: Value<'_>,
 ) -> Reply
     requires forest { Forest (segment arena.old) at }
-    requires stands { IsListStand (lists_seen set.now) (seen_type element) (tree (segment arena.old) at) }
+    requires list { IsListStand (lists_seen set.now) (seen_type element) (tree (segment arena.old) at) }
     requires inside { index < list_length (tree (segment arena.old) at) }
     ensures does { ElementDoes (lists_seen set.now) (seen_type element) index (Op.Set value.entry)
         (tree (segment arena.old) at) result
@@ -104,7 +104,7 @@ fn do_element(
 ) -> Reply
     requires forest { Forest (segment arena.old) at }
     requires entries { NamesEntries (lists_seen set.now) (seen_type element) }
-    requires stands { IsListStand (lists_seen set.now) (seen_type element) (tree (segment arena.old) at) }
+    requires list { IsListStand (lists_seen set.now) (seen_type element) (tree (segment arena.old) at) }
     requires inside { index < list_length (tree (segment arena.old) at) }
     requires names { end.call.now.op ≢ Op.Which }
     ensures does { ElementDoes (lists_seen set.now) (seen_type element) index end.entry.call.now.op
@@ -128,7 +128,7 @@ fn do_element(
 fn do_last(arena: &mut Arena, at: usize, set: &SchemaSet, element: Type, end: Ending<'_>) -> Reply
     requires forest { Forest (segment arena.old) at }
     requires entries { NamesEntries (lists_seen set.now) (seen_type element) }
-    requires stands { IsListStand (lists_seen set.now) (seen_type element) (tree (segment arena.old) at) }
+    requires list { IsListStand (lists_seen set.now) (seen_type element) (tree (segment arena.old) at) }
     requires there { is_null_tree (tree (segment arena.old) at) ≡ false }
     requires names { end.call.now.op ≢ Op.Which }
     ensures ends { ListEnds (lists_seen set.now) (seen_type element) end.entry (tree (segment arena.old) at) result
@@ -159,7 +159,7 @@ pub fn end_at_list(
 ) -> Reply
     requires forest { Forest (segment arena.old) at }
     requires entries { NamesEntries (lists_seen set.now) (seen_type element) }
-    requires stands { IsListStand (lists_seen set.now) (seen_type element) (tree (segment arena.old) at) }
+    requires list { IsListStand (lists_seen set.now) (seen_type element) (tree (segment arena.old) at) }
     requires there { is_null_tree (tree (segment arena.old) at) ≡ false }
     ensures ends { ListEnds (lists_seen set.now) (seen_type element) end.entry (tree (segment arena.old) at) result
         (tree (segment arena.new) at) }

@@ -12,9 +12,9 @@ ghost use Rattle.capnp_schema.specs.Entries.{lists_seen};
 ghost use Rattle.capnp_schema.specs.Schema.{Schemas};
 ghost use Rattle.capnp_schema.specs.StructHandles.{IsStruct, generic_of, number_of, set_of};
 ghost use Rattle.capnp_schema.specs.Types.{ListType, SchemaType, StructType, seen_type};
-ghost use Rattle.capnp_records.specs.Writes.Slots.{Fits};
 ghost use Rattle.capnp_slots.specs.Fields.{IsRoomFor};
 ghost use Rattle.capnp_slots.specs.Groups.{IsGroupAt, KeepsSize};
+ghost use Rattle.capnp_slots.specs.Standing.{IsUnder, TakesCalls};
 ghost use Rattle.capnp_call.specs.Lists.{ElementWalks, IsListStand, ListWalks, refusal_at_nothing};
 ghost use Rattle.capnp_call.specs.Memory.{IsNotForRoom, PathRests};
 ghost use Rattle.capnp_call.specs.Seen.{reply_seen, step_seen};
@@ -52,9 +52,7 @@ pub fn walk(
     path: &[Step<'_>],
     end: Ending<'_>,
 ) -> Reply
-    requires planted { IsBuilt arena.old place }
-    requires stands { IsStruct schema }
-    requires fits { Fits (set_of schema) (number_of schema) (built arena.old place) }
+    requires ready { TakesCalls schema arena.old place }
     ensures walks { StructWalks (set_of schema.entry) (number_of schema.entry) path.now end.entry
         (built arena.old place) result
         (built arena.new place) }
@@ -78,9 +76,7 @@ fn walk_from(
     end: Ending<'_>,
     reply: &mut Reply,
 )
-    requires planted { IsBuilt arena.old place }
-    requires stands { IsStruct schema }
-    requires fits { Fits (set_of schema) (number_of schema) (built arena.old place) }
+    requires ready { TakesCalls schema arena.old place }
     ensures walks { StructWalks (set_of schema.entry) (number_of schema.entry) path.now end.entry
         (built arena.old place) reply.new
         (built arena.new place) }
@@ -108,9 +104,7 @@ fn walk_step(
     end: Ending<'_>,
     reply: &mut Reply,
 )
-    requires planted { IsBuilt arena.old place }
-    requires stands { IsStruct schema }
-    requires fits { Fits (set_of schema) (number_of schema) (built arena.old place) }
+    requires ready { TakesCalls schema arena.old place }
     ensures walks { StructWalks (set_of schema.entry) (number_of schema.entry) (step.entry ∷ rest.now) end.entry
         (built arena.old place) reply.new
         (built arena.new place) }
@@ -243,7 +237,7 @@ fn walk_struct_here(
     requires forest { Forest (segment arena.old) at }
     requires stands { IsStruct schema }
     requires here { IsTrue (is_struct (tree (segment arena.old) at)) }
-    requires fits { Fits (set_of schema) (number_of schema) (struct_in (tree (segment arena.old) at)) }
+    requires room { IsUnder schema (struct_in (tree (segment arena.old) at)) }
     ensures walks { StructWalks (set_of schema.entry) (number_of schema.entry) rest.now end.entry
         (struct_in (tree (segment arena.old) at)) reply.new
         (struct_in (tree (segment arena.new) at)) }
@@ -299,7 +293,7 @@ fn walk_list_here(
 )
     requires forest { Forest (segment arena.old) at }
     requires entries { NamesEntries (lists_seen set.now) (seen_type element) }
-    requires stands { IsListStand (lists_seen set.now) (seen_type element) (tree (segment arena.old) at) }
+    requires list { IsListStand (lists_seen set.now) (seen_type element) (tree (segment arena.old) at) }
     ensures walks { ListWalks (lists_seen set.now) (seen_type element) path.now end.entry
         (tree (segment arena.old) at) reply.new (tree (segment arena.new) at) }
     ensures forest { Forest (segment arena.new) at }
@@ -350,7 +344,7 @@ fn walk_list(
 )
     requires forest { Forest (segment arena.old) at }
     requires entries { NamesEntries (lists_seen set.now) (seen_type element) }
-    requires stands { IsListStand (lists_seen set.now) (seen_type element) (tree (segment arena.old) at) }
+    requires list { IsListStand (lists_seen set.now) (seen_type element) (tree (segment arena.old) at) }
     requires there { is_null_tree (tree (segment arena.old) at) ≡ false }
     ensures walks { ListWalks (lists_seen set.now) (seen_type element) path.now end.entry
         (tree (segment arena.old) at) reply.new (tree (segment arena.new) at) }
@@ -383,7 +377,7 @@ fn walk_element(
 )
     requires forest { Forest (segment arena.old) at }
     requires entries { NamesEntries (lists_seen set.now) (seen_type element) }
-    requires stands { IsListStand (lists_seen set.now) (seen_type element) (tree (segment arena.old) at) }
+    requires list { IsListStand (lists_seen set.now) (seen_type element) (tree (segment arena.old) at) }
     requires there { is_null_tree (tree (segment arena.old) at) ≡ false }
     ensures walks { ListWalks (lists_seen set.now) (seen_type element) (Step.Element index ∷ rest.now) end.entry
         (tree (segment arena.old) at) reply.new
@@ -413,7 +407,7 @@ fn walk_part(
 )
     requires forest { Forest (segment arena.old) at }
     requires entries { NamesEntries (lists_seen set.now) (seen_type element) }
-    requires stands { IsListStand (lists_seen set.now) (seen_type element) (tree (segment arena.old) at) }
+    requires list { IsListStand (lists_seen set.now) (seen_type element) (tree (segment arena.old) at) }
     requires inside { index < list_length (tree (segment arena.old) at) }
     ensures walks { ElementWalks (lists_seen set.now) (seen_type element) index rest.now end.entry
         (tree (segment arena.old) at) reply.new
@@ -445,8 +439,8 @@ fn walk_struct_in(
     reply: &mut Reply,
 )
     requires forest { Forest (segment arena.old) at }
-    requires struct_stands { IsStruct schema }
-    requires stands { IsListStand (set_of schema) (StructType (number_of schema) (generic_of schema))
+    requires stands { IsStruct schema }
+    requires list { IsListStand (set_of schema) (StructType (number_of schema) (generic_of schema))
         (tree (segment arena.old) at) }
     requires inside { index < list_length (tree (segment arena.old) at) }
     ensures walks { ElementWalks (set_of schema.entry)
@@ -473,7 +467,7 @@ fn walk_list_in(
 )
     requires forest { Forest (segment arena.old) at }
     requires entries { NamesEntries (lists_seen set.now) (seen_type inner) }
-    requires stands { IsListStand (lists_seen set.now) (ListType (seen_type inner)) (tree (segment arena.old) at) }
+    requires list { IsListStand (lists_seen set.now) (ListType (seen_type inner)) (tree (segment arena.old) at) }
     requires inside { index < list_length (tree (segment arena.old) at) }
     ensures walks { ElementWalks (lists_seen set.now) (ListType (seen_type inner)) index rest.now end.entry
         (tree (segment arena.old) at) reply.new

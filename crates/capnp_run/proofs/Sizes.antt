@@ -11,9 +11,12 @@ use Rattle.capnp_arena.specs.declared.arena.Arena.{Arena}
 use Rattle.capnp_arena.specs.declared.arena.Place.{Place}
 use Rattle.capnp_schema.specs.Plan.{brand_size}
 use Rattle.capnp_schema.specs.Schema.{Schemas}
+use Rattle.capnp_schema.specs.StructHandles.{number_of, set_of}
+use Rattle.capnp_schema.specs.declared.schema.structs.StructSchema.{StructSchema}
 use Rattle.capnp_records.specs.Writes.Slots.{Fits}
 use Rattle.capnp_arena.specs.Built.{ChangesIn, IsBuilt, built, part}
 use Rattle.capnp_slots.specs.Groups.{KeepsSize}
+use Rattle.capnp_slots.specs.Standing.{IsStanding}
 
 pub changes_none : (p : Place) (a b : Arena) → segment b ≡ segment a → ChangesIn p a b
 changes_none p a b = unchanged (segment a) (segment b) (part p)
@@ -32,11 +35,11 @@ module _ (a b : Arena) (p : Place) (h : IsBuilt a p) (k : IsBuilt b p) where
     formed = λ _. formed;
   }
 
-  pub fits_kept : (set : Schemas) (n : ℕ) → Fits set n (built a p) → Fits set n (built b p)
+  fits_kept : (set : Schemas) (n : ℕ) → Fits set n (built a p) → Fits set n (built b p)
   fits_kept set n (x, y) = (
     subst (λ i. 8 * (brand_size set n).data_words ≤ i) (data_of (segment a) p.start p.data_words p.pointers h ∙ sym (data_of (segment b) p.start p.data_words p.pointers k)) x,
     subst (λ i. (brand_size set n).pointers ≤ i) (pointers_of (segment a) p.start p.data_words p.pointers ∙ sym (pointers_of (segment b) p.start p.data_words p.pointers)) y,
   )
 
-pub fits_on : (set : Schemas) (n : ℕ) (a b : Arena) (p : Place) → IsBuilt a p → IsBuilt b p → Fits set n (built a p) → Fits set n (built b p)
-fits_on set n a b p h k = fits_kept a b p h k set n
+pub standing_on : (schema : StructSchema) (a b : Arena) (p : Place) → IsStanding schema a p → IsBuilt b p → IsStanding schema b p
+standing_on schema a b p h k = record { planted = k; room = fits_kept a b p h.planted k (set_of schema) (number_of schema) h.room }

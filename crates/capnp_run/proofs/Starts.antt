@@ -43,7 +43,7 @@ use Rattle.capnp_call.specs.declared.calls.Reply.{Reply}
 -- a struct as a root
 root_of_struct : (schema : StructSchema) (s : StructTree) (r : Record) (t : Tree) → t ≡ struct_tree s → Fits (set_of schema) (number_of schema) s → IsWellFormed (struct_tree s) → record_in schema s ≡ r → HasRoot schema r t
 root_of_struct schema s r t e fits formed reads =
-    subst (HasRoot schema r) (sym e) (record { root = record { here = refl; fits = fits; formed = formed }; reads_as = reads })
+    subst (HasRoot schema r) (sym e) (record { root = record { here = refl; room = fits; formed = formed }; reads_as = reads })
 
 -- an empty one
 pub empty_root : (schema : StructSchema) (size : StructSize) (s : StructTree) (t : Tree) → size ≡ brand_size (set_of schema) (number_of schema) → s ≡ zero_struct size → t ≡ struct_tree s → size.data_words < 2 ^ 16 → size.pointers < 2 ^ 16 →

@@ -22,7 +22,7 @@ use Rattle.capnp_records.specs.Reading.{struct_record}
 use Rattle.capnp_records.specs.Record as value
 use Rattle.capnp_records.specs.Record.{Endless, Left, Record, Value}
 use Rattle.capnp_records.specs.Text.{Out, text_of}
-use Rattle.capnp_records.specs.Writes.Slots.{Fits}
+use Rattle.capnp_slots.specs.Standing.{IsUnder}
 use Rattle.capnp_dynamic_readers.specs.Pieces.{IsAppended}
 use Rattle.capnp_dynamic_readers.specs.Typed.{struct_type}
 use Rattle.capnp_run.specs.Runs.{IsRunFrom, record_in}
@@ -46,7 +46,7 @@ copied_record schema source = record_in schema (struct_in (tree_of source))
 -- a root: a struct that has its schema's sections and is well-formed
 pub record IsRoot (schema : StructSchema) (t : Tree) : Type 0 where
   pub here : IsTrue (is_struct t)
-  pub fits : Fits (set_of schema) (number_of schema) (struct_in t)
+  pub room : IsUnder schema (struct_in t)
   pub formed : IsWellFormed t
 
 -- one that reads as a record

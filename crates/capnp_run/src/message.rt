@@ -7,7 +7,7 @@ ghost use Rattle.capnp_arena.specs.Message.{IsMessage, message_tree};
 ghost use Rattle.capnp_arena.specs.Segment.{segment};
 ghost use Rattle.capnp_arena.specs.Shape.{word_count};
 ghost use Rattle.capnp_schema.specs.StructHandles.{IsStruct, number_of, set_of};
-ghost use Rattle.capnp_records.specs.Writes.Slots.{Fits};
+ghost use Rattle.capnp_slots.specs.Standing.{IsUnder};
 ghost use Rattle.capnp_dynamic_readers.specs.Pieces.{IsAppended};
 ghost use Rattle.capnp_run.specs.Messages.{HasRoot, IsCopiedRefusal, IsRoot, IsWhole, IsWholeRefusal, LeavesRun};
 ghost use Rattle.capnp_run.specs.Messages.{RunsOn, copied_record, copied_root, new_record, new_root, read_text, root_refusal, root_text};
@@ -115,10 +115,10 @@ fn call_on_root(
     requires stands { IsStruct schema }
     requires message { IsMessage message.old }
     requires here { IsTrue (is_struct (message_tree message.old)) }
-    requires fits { Fits (set_of schema) (number_of schema) (struct_in (message_tree message.old)) }
+    requires room { IsUnder schema (struct_in (message_tree message.old)) }
     ensures message { IsMessage message.new }
     ensures here { IsTrue (is_struct (message_tree message.new)) }
-    ensures fits { Fits (set_of schema.entry) (number_of schema.entry) (struct_in (message_tree message.new)) }
+    ensures room { IsUnder schema.entry (struct_in (message_tree message.new)) }
     ensures made { IsMade (set_of schema.entry) (number_of schema.entry) (struct_in (message_tree message.old)) call.now
         result (struct_in (message_tree message.new)) }
 {
@@ -136,7 +136,7 @@ fn make_calls_on_root(
     requires stands { IsStruct schema }
     requires message { IsMessage message.old }
     requires here { IsTrue (is_struct (message_tree message.old)) }
-    requires fits { Fits (set_of schema) (number_of schema) (struct_in (message_tree message.old)) }
+    requires room { IsUnder schema (struct_in (message_tree message.old)) }
     ensures message { IsMessage message.new }
     ensures here { IsTrue (is_struct (message_tree message.new)) }
     ensures made { IfOk result (λ replies. Makes (set_of schema.entry) (number_of schema.entry)

@@ -3,9 +3,9 @@ ghost use Rattle.std.specs.Prelude.{◌≡◌, IfErr, IfOk, OnErr};
 ghost use Rattle.capnp_device.specs.declared.error.ErrorKind.TheVariants.{OutOfMemory};
 ghost use Rattle.capnp_arena.specs.Segment.{segment};
 ghost use Rattle.capnp_schema.specs.StructHandles.{IsStruct, number_of, set_of};
-ghost use Rattle.capnp_records.specs.Writes.Slots.{Fits};
 ghost use Rattle.capnp_arena.specs.Built.{ChangesIn, IsBuilt, built};
 ghost use Rattle.capnp_slots.specs.Groups.{KeepsSize};
+ghost use Rattle.capnp_slots.specs.Standing.{TakesCalls};
 ghost use Rattle.capnp_dynamic.specs.Built.{IsReady, built_schema, built_struct, place_of, struct_behind};
 ghost use Rattle.capnp_run.specs.Runs.{IsMade, Makes, RestsWhole, RunsTo};
 
@@ -28,9 +28,7 @@ pub(crate) fn call_at(
     schema: StructSchema<'_>,
     call: &Call<'_>,
 ) -> Reply
-    requires planted { IsBuilt arena.old place }
-    requires stands { IsStruct schema }
-    requires fits { Fits (set_of schema) (number_of schema) (built arena.old place) }
+    requires ready { TakesCalls schema arena.old place }
     ensures made { IsMade (set_of schema.entry) (number_of schema.entry) (built arena.old place) call.now result
         (built arena.new place) }
     ensures planted { IsBuilt arena.new place }
@@ -47,9 +45,7 @@ fn make_calls(
     schema: StructSchema<'_>,
     calls: &[Call<'_>],
 ) -> Result<Vec<Reply>>
-    requires planted { IsBuilt arena.old place }
-    requires stands { IsStruct schema }
-    requires fits { Fits (set_of schema) (number_of schema) (built arena.old place) }
+    requires ready { TakesCalls schema arena.old place }
     ensures made { IfOk result (λ replies. Makes (set_of schema.entry) (number_of schema.entry)
         (built arena.old place) calls.now replies.items
         (built arena.new place)) }
@@ -82,9 +78,7 @@ pub fn run_on(
     schema: StructSchema<'_>,
     calls: &[Call<'_>],
 ) -> Result<Vec<Reply>>
-    requires planted { IsBuilt arena.old place }
-    requires stands { IsStruct schema }
-    requires fits { Fits (set_of schema) (number_of schema) (built arena.old place) }
+    requires ready { TakesCalls schema arena.old place }
     ensures runs { IfOk result (λ replies. RunsTo schema.entry (built arena.old place) calls.now replies.items
         (built arena.new place)) }
     ensures made { IfOk result (λ replies. Makes (set_of schema.entry) (number_of schema.entry)

@@ -27,8 +27,8 @@ returns-in-Ok-clause-goes c =
     list_entered f (built c.args.arena.now c.args.place) (seen_type c.args.element) leads.slot pointer leads.type_is c.requires.walked
     c.struct_is_sound.ensures.whole c.default_is_sound.ensures.fits c.default_is_sound.ensures.formed (Ok c.in-Ok.field-0) c.in-Ok.ensures.within
 
-pub returns-in-Ok-clause-stands : goal.returns-in-Ok-clause-stands
-returns-in-Ok-clause-stands c =
+pub returns-in-Ok-clause-list : goal.returns-in-Ok-clause-list
+returns-in-Ok-clause-list c =
     let f = c.args.field in
     let s = built c.args.arena.now c.args.place in
     let leads = c.requires.leads in

@@ -16,7 +16,7 @@ use Rattle.capnp_call.specs.Seen.{reply_seen}
 use Rattle.capnp_call.proofs.list_end.initn_element.Goals as goal
 
 pub init-requires-clause-room : goal.init-requires-clause-room
-init-requires-clause-room c = room_at (lists_seen c.args.set.now) c.args.element (tree (segment c.args.arena.now) c.args.at) c.args.index c.requires.stands c.requires.inside
+init-requires-clause-room c = room_at (lists_seen c.args.set.now) c.args.element (tree (segment c.args.arena.now) c.args.at) c.args.index c.requires.list c.requires.inside
 
 pub returns-clause-does : goal.returns-clause-does
 returns-clause-does c =
@@ -26,7 +26,7 @@ returns-clause-does c =
     let n = c.args.count in
     let x = tree (segment c.args.arena.now) c.args.at in
     let x' = tree (segment c.init.new.arena) c.args.at in
-    let there = room_at set c.args.element x i c.requires.stands c.requires.inside in
+    let there = room_at set c.args.element x i c.requires.list c.requires.inside in
     by_outcome (λ (r : Reply). TreeDoes set (Initn n) (element_at set e x i) (ListType e) (OnList x) (ElementAt i) r (OnList x')) c.init.result (reply_seen c.reply_of.result) c.reply_of.ensures
     (both _ _ c.init.result c.init.ensures.has c.init.ensures.written) (λ h. inr (inl (At (initn_tree set e n), h.0, there, refl, ap OnList h.1)))
     c.init.ensures.refused c.init.ensures.cause

@@ -16,7 +16,7 @@ use Rattle.capnp_call.specs.Seen.{reply_seen}
 use Rattle.capnp_call.proofs.list_end.set_element.Goals as goal
 
 pub set-requires-clause-room : goal.set-requires-clause-room
-set-requires-clause-room c = room_at (lists_seen c.args.set.now) c.args.element (tree (segment c.args.arena.now) c.args.at) c.args.index c.requires.stands c.requires.inside
+set-requires-clause-room c = room_at (lists_seen c.args.set.now) c.args.element (tree (segment c.args.arena.now) c.args.at) c.args.index c.requires.list c.requires.inside
 
 pub returns-clause-does : goal.returns-clause-does
 returns-clause-does c =
@@ -28,5 +28,5 @@ returns-clause-does c =
     let x' = tree (segment c.set.new.arena) c.args.at in
     subst (λ (s : Source). TreeDoes set (Set s) (element_at set e x i) (ListType e) (OnList x) (ElementAt i) (reply_seen c.reply_of.result) (OnList x')) c.from-source.ensures
     (by_outcome (λ (r : Reply). TreeDoes set (Set s) (element_at set e x i) (ListType e) (OnList x) (ElementAt i) r (OnList x')) c.set.result (reply_seen c.reply_of.result) c.reply_of.ensures
-    c.set.ensures.set (element_set set e i s x x' c.source_fits.ensures (room_at set c.args.element x i c.requires.stands c.requires.inside))
+    c.set.ensures.set (element_set set e i s x x' c.source_fits.ensures (room_at set c.args.element x i c.requires.list c.requires.inside))
     c.set.ensures.refused c.set.ensures.cause (λ y same. element_unset set e i s x x' y.kind (ap (λ (b : List ℕ). tree b c.args.at) same)))

@@ -20,10 +20,10 @@ use Rattle.capnp_schema.specs.Schema.{Schemas, VoidValue, brand_at}
 use Rattle.capnp_schema.specs.StructHandles.{generic_of, number_of, set_of}
 use Rattle.capnp_schema.specs.Types.{ListType, SchemaType, StructType, seen_type, seen_variant}
 use Rattle.capnp_records.specs.Writes.Fill.{IsAtRest, entered_list}
-use Rattle.capnp_records.specs.Writes.Slots.{Fits}
 use Rattle.capnp_arena.specs.Built.{built}
 use Rattle.capnp_slots.specs.Fields.{field_brand, field_set, pointer_index}
 use Rattle.capnp_slots.specs.Fills.{fill_due, filled_in}
+use Rattle.capnp_slots.specs.Standing.{IsUnder}
 use Rattle.capnp_call.proofs.ListWalks.{element_in_list, element_in_struct, element_list_stops, element_past, element_there, fits_at, has_pointer, has_struct, list_end, names_none, other_stops, untyped_stops}
 use Rattle.capnp_call.specs.Facts.NoMemory.{path_rests}
 use Rattle.capnp_call.proofs.Parts.{fits_filled, here_is, inner_stands, struct_here}
@@ -72,6 +72,13 @@ walk_step-returns-in-Ok-clause-walks t c =
 pub walk_field-returns-in-Err-clause-walks : goal.walk_field-returns-in-Err-clause-walks
 walk_field-returns-in-Err-clause-walks t c = field_stops c.args.field c.args.rest.now c.args.end (built c.args.arena.now c.args.place) c.in-Err.error c.in-Err.ensures.walked
 
+pub walk_group-walk_from-requires : goal.walk_group-walk_from-requires
+walk_group-walk_from-requires t c =
+    let here = built c.args.arena.now c.args.place in (
+      omega (arith, c.decreases),
+      record { stands = c.requires.leads.stands; standing = record { planted = c.requires.planted; room = c.requires.leads.room here c.requires.room } },
+    )
+
 pub walk_group-returns-clause-walks : goal.walk_group-returns-clause-walks
 walk_group-returns-clause-walks t c =
     field_group c.args.field c.args.rest.now c.args.end (built c.args.arena.now c.args.place) c.args.group c.walk_from.new.reply (built c.walk_from.new.arena c.args.place) c.requires.leads c.enter_group.ensures c.walk_from.ensures.walks
@@ -87,7 +94,7 @@ walk_struct-pointer-at-requires-clause-room t c = fits_filled (field_set c.args.
 pub walk_struct-walk_struct_here-requires : goal.walk_struct-walk_struct_here-requires
 walk_struct-walk_struct_here-requires t c =
     let part = struct_here c.args.field (built c.args.arena.now c.args.place) c.args.schema _ c.requires.leads (c.pointer-at.ensures.tree ∙ c.in_default.ensures.here) in
-    (omega (arith, c.decreases), (c.pointer-at.ensures.forest, (c.requires.leads.stands, (part.here, part.fits))))
+    (omega (arith, c.decreases), (c.pointer-at.ensures.forest, (c.requires.leads.stands, (part.here, part.room))))
 
 pub walk_struct-returns-clause-planted : goal.walk_struct-returns-clause-planted
 walk_struct-returns-clause-planted t c = (c.pointer-at.ensures.leaves _ c.walk_struct_here.ensures.forest c.walk_struct_here.ensures.changes).planted
@@ -113,10 +120,13 @@ pub walk_struct_here-walk_from-requires : goal.walk_struct_here-walk_from-requir
 walk_struct_here-walk_from-requires t c =
     let p = c.struct_here-inner.result in (
       omega (arith, c.decreases),
-      (
-        struct_planted (segment c.args.arena.now) c.args.at p.start p.data_words p.pointers c.requires.forest c.struct_here-inner.ensures.place,
-        (c.requires.stands, subst (Fits (set_of c.args.schema) (number_of c.args.schema)) (here_is (segment c.args.arena.now) c.args.at _ _ _ c.requires.forest c.struct_here-inner.ensures.place) c.requires.fits),
-      ),
+      record {
+        stands = c.requires.stands;
+        standing = record {
+          planted = struct_planted (segment c.args.arena.now) c.args.at p.start p.data_words p.pointers c.requires.forest c.struct_here-inner.ensures.place;
+          room = subst (IsUnder c.args.schema) (here_is (segment c.args.arena.now) c.args.at _ _ _ c.requires.forest c.struct_here-inner.ensures.place) c.requires.room;
+        };
+      },
     )
 
 pub walk_struct_here-returns-clause-forest : goal.walk_struct_here-returns-clause-forest
@@ -171,27 +181,27 @@ walk_list_slot-returns-clause-walks t c =
 
 pub walk_list-returns-in_default-clause-walks : goal.walk_list-returns-in_default-clause-walks
 walk_list-returns-in_default-clause-walks t c =
-    list_end (lists_seen c.args.set.now) (seen_type c.args.element) (tree (segment c.args.arena.now) c.args.at) c.requires.stands c.requires.there c.args.path.now c.args.end c.end_at_list.result (tree (segment c.end_at_list.new.arena) c.args.at)
+    list_end (lists_seen c.args.set.now) (seen_type c.args.element) (tree (segment c.args.arena.now) c.args.at) c.requires.list c.requires.there c.args.path.now c.args.end c.end_at_list.result (tree (segment c.end_at_list.new.arena) c.args.at)
     (nil_from_length c.args.path.now c.in_default.ensures.cases) c.end_at_list.ensures.ends
 
 pub walk_list-returns-in-Field-clause-walks : goal.walk_list-returns-in-Field-clause-walks
 walk_list-returns-in-Field-clause-walks t c =
-    names_none (lists_seen c.args.set.now) (seen_type c.args.element) (tree (segment c.args.arena.now) c.args.at) c.requires.stands c.requires.there c.args.path.now c.in-Some.step.now c.in-Some.rest.now c.args.end
+    names_none (lists_seen c.args.set.now) (seen_type c.args.element) (tree (segment c.args.arena.now) c.args.at) c.requires.list c.requires.there c.args.path.now c.in-Some.step.now c.in-Some.rest.now c.args.end
     c.in-Some.ensures.cases.0 (λ i e. field_element (sym c.in-Field.is ∙ e))
 
 pub walk_list-returns-in-Named-clause-walks : goal.walk_list-returns-in-Named-clause-walks
 walk_list-returns-in-Named-clause-walks t c =
-    names_none (lists_seen c.args.set.now) (seen_type c.args.element) (tree (segment c.args.arena.now) c.args.at) c.requires.stands c.requires.there c.args.path.now c.in-Some.step.now c.in-Some.rest.now c.args.end
+    names_none (lists_seen c.args.set.now) (seen_type c.args.element) (tree (segment c.args.arena.now) c.args.at) c.requires.list c.requires.there c.args.path.now c.in-Some.step.now c.in-Some.rest.now c.args.end
     c.in-Some.ensures.cases.0 (λ i e. name_element (sym c.in-Named.is ∙ e))
 
 pub walk_element-returns-then-index-get_length-clause-walks : goal.walk_element-returns-then-index-get_length-clause-walks
 walk_element-returns-then-index-get_length-clause-walks t c =
-    element_past (lists_seen c.args.set.now) (seen_type c.args.element) (tree (segment c.args.arena.now) c.args.at) c.requires.stands c.requires.there c.args.index c.args.rest.now c.args.end
+    element_past (lists_seen c.args.set.now) (seen_type c.args.element) (tree (segment c.args.arena.now) c.args.at) c.requires.list c.requires.there c.args.index c.args.rest.now c.args.end
     (omega (arith, c.if-index-get_length.true, c.get_length.ensures))
 
 pub walk_element-returns-clause-walks : goal.walk_element-returns-clause-walks
 walk_element-returns-clause-walks t c =
-    element_there (lists_seen c.args.set.now) (seen_type c.args.element) (tree (segment c.args.arena.now) c.args.at) c.requires.stands c.requires.there c.args.index c.args.rest.now c.args.end c.walk_part.new.reply (tree (segment c.walk_part.new.arena) c.args.at)
+    element_there (lists_seen c.args.set.now) (seen_type c.args.element) (tree (segment c.args.arena.now) c.args.at) c.requires.list c.requires.there c.args.index c.args.rest.now c.args.end c.walk_part.new.reply (tree (segment c.walk_part.new.arena) c.args.at)
     (omega (arith, c.if-index-get_length.false, c.get_length.ensures)) c.walk_part.ensures.walks
 
 pub walk_part-returns-in-AnyPointer-clause-walks : goal.walk_part-returns-in-AnyPointer-clause-walks
@@ -209,20 +219,20 @@ walk_part-returns-in_default-clause-walks t c =
 
 pub walk_struct_in-get_struct_at-inner-requires-clause-there : goal.walk_struct_in-get_struct_at-inner-requires-clause-there
 walk_struct_in-get_struct_at-inner-requires-clause-there t c =
-    has_struct (set_of c.args.schema) (number_of c.args.schema) (generic_of c.args.schema) (tree (segment c.args.arena.now) c.args.at) c.args.index c.requires.stands c.requires.inside
+    has_struct (set_of c.args.schema) (number_of c.args.schema) (generic_of c.args.schema) (tree (segment c.args.arena.now) c.args.at) c.args.index c.requires.list c.requires.inside
 
 pub walk_struct_in-walk_from-requires : goal.walk_struct_in-walk_from-requires
 walk_struct_in-walk_from-requires t c =
     let x = tree (segment c.args.arena.now) c.args.at in
-    let there : HasStruct x c.args.index = has_struct (set_of c.args.schema) (number_of c.args.schema) (generic_of c.args.schema) x c.args.index c.requires.stands c.requires.inside in (
+    let there : HasStruct x c.args.index = has_struct (set_of c.args.schema) (number_of c.args.schema) (generic_of c.args.schema) x c.args.index c.requires.list c.requires.inside in (
       omega (arith, c.decreases),
-      (
-        c.get_struct_at-inner.ensures.planted,
-        (
-          c.requires.struct_stands,
-          subst (Fits (set_of c.args.schema) (number_of c.args.schema)) (sym c.get_struct_at-inner.ensures.tree) (fits_at (set_of c.args.schema) (number_of c.args.schema) (generic_of c.args.schema) x c.args.index there c.requires.stands.sound),
-        ),
-      ),
+      record {
+        stands = c.requires.stands;
+        standing = record {
+          planted = c.get_struct_at-inner.ensures.planted;
+          room = subst (IsUnder c.args.schema) (sym c.get_struct_at-inner.ensures.tree) (fits_at (set_of c.args.schema) (number_of c.args.schema) (generic_of c.args.schema) x c.args.index there c.requires.list.sound);
+        };
+      },
     )
 
 pub walk_struct_in-returns-clause-forest : goal.walk_struct_in-returns-clause-forest
@@ -246,7 +256,7 @@ walk_struct_in-returns-clause-walks t c =
 
 pub walk_list_in-get_pointer_element-pointer-requires-clause-pointer : goal.walk_list_in-get_pointer_element-pointer-requires-clause-pointer
 walk_list_in-get_pointer_element-pointer-requires-clause-pointer t c =
-    has_pointer (lists_seen c.args.set.now) (seen_type c.args.inner) (tree (segment c.args.arena.now) c.args.at) c.args.index c.requires.stands c.requires.inside
+    has_pointer (lists_seen c.args.set.now) (seen_type c.args.inner) (tree (segment c.args.arena.now) c.args.at) c.args.index c.requires.list c.requires.inside
 
 pub walk_list_in-returns-in-Err-clause-walks : goal.walk_list_in-returns-in-Err-clause-walks
 walk_list_in-returns-in-Err-clause-walks t c =
@@ -258,7 +268,7 @@ walk_list_in-returns-in-Err-clause-walks t c =
     element_list_stops set x i c.args.rest.now c.args.end c.requires.inside e c.in-Err.error (tree (segment c.fill_list.new.arena) c.args.at)
     (ap (λ (b : List ℕ). tree b c.args.at) c.in-Err.ensures.refused)
     (λ b. ((c.numbers_fit.ensures.nodes (brand_at set b).node).data_words, (c.numbers_fit.ensures.nodes (brand_at set b).node).pointers))
-    (IsWellFormed-element_pointer x i 1 c.requires.stands.formed)
+    (IsWellFormed-element_pointer x i 1 c.requires.list.formed)
     (subst (λ (y : Tree). first_fault y ≡ None) now c.tree_is_sound.ensures.whole)
     (subst (λ (y : Tree). IsDueRefusal c.in-Err.error (fill_due set VoidValue (ListType e) y)) now c.in-Err.ensures.cause)
     (λ at. true≢false (sym (c.in-Err.ensures.rests (subst (IsAtRest set VoidValue (ListType e)) (sym now) at))))
@@ -295,7 +305,7 @@ walk_list_in-returns-clause-walks t c =
     let left = c.get_pointer_element-pointer.ensures.leaves _ c.walk_list_here.ensures.forest (at_then c.in_default.ensures.changes c.walk_list_here.ensures.changes) in
     subst (λ (z : Tree). ElementWalks set (ListType e) i c.args.rest.now c.args.end x c.walk_list_here.new.reply z) (sym left.tree)
     (element_in_list set x i c.args.rest.now c.args.end c.requires.inside e c.walk_list_here.new.reply y
-    (has_pointer set e x i c.requires.stands c.requires.inside)
+    (has_pointer set e x i c.requires.list c.requires.inside)
     (subst (λ (z : Tree). fill_due set VoidValue (ListType e) z ≡ None) now c.in_default.ensures.within)
     (subst (λ (z : Tree). first_fault z ≡ None) now c.tree_is_sound.ensures.whole)
     (subst (λ (z : Tree). ListWalks set e c.args.rest.now c.args.end z c.walk_list_here.new.reply y) (c.in_default.ensures.filled ∙ ap (entered_list set e) now) c.walk_list_here.ensures.walks))

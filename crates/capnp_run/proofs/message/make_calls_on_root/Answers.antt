@@ -5,7 +5,7 @@ use Rattle.capnp_wire.specs.Edits.{is_struct, struct_in}
 use Rattle.capnp_wire.specs.Tree.{StructTree, Tree}
 use Rattle.capnp_arena.specs.Message.{message_tree}
 use Rattle.capnp_schema.specs.StructHandles.{number_of, set_of}
-use Rattle.capnp_records.specs.Writes.Slots.{Fits}
+use Rattle.capnp_slots.specs.Standing.{IsUnder}
 use Rattle.capnp_run.specs.Runs.{IsMade, Makes}
 use Rattle.capnp_call.specs.declared.calls.Call.{Call}
 use Rattle.capnp_call.specs.declared.calls.Reply.{Reply}
@@ -19,16 +19,16 @@ loop-call-init c =
       made = subst (λ (rs : List Reply). Makes (set_of c.args.schema) (number_of c.args.schema) s [] rs s) (sym c.in_ok-replies.ensures.items) (makes_none (set_of c.args.schema) (number_of c.args.schema) s);
       message = c.requires.message;
       here = c.requires.here;
-      fits = c.requires.fits;
-      room = c.in_ok-replies.ensures.capacity;
+      room = c.requires.room;
+      capacity = c.in_ok-replies.ensures.capacity;
       count = c.in_ok-replies.ensures.len;
     }
 
 pub call_on_root-reply-requires-clause-here : goal.call_on_root-reply-requires-clause-here
 call_on_root-reply-requires-clause-here c = subst (λ (t : Tree). IsTrue (is_struct t)) (sym c.keep_room-held.ensures.tree) c.loop-call.invariant.here
 
-pub call_on_root-reply-requires-clause-fits : goal.call_on_root-reply-requires-clause-fits
-call_on_root-reply-requires-clause-fits c = subst (λ (t : Tree). Fits (set_of c.args.schema) (number_of c.args.schema) (struct_in t)) (sym c.keep_room-held.ensures.tree) c.loop-call.invariant.fits
+pub call_on_root-reply-requires-clause-room : goal.call_on_root-reply-requires-clause-room
+call_on_root-reply-requires-clause-room c = subst (λ (t : Tree). IsUnder c.args.schema (struct_in t)) (sym c.keep_room-held.ensures.tree) c.loop-call.invariant.room
 
 pub loop-call-preserved : goal.loop-call-preserved
 loop-call-preserved c =
@@ -50,7 +50,7 @@ loop-call-preserved c =
           (subst (λ (cs : List Call). Makes set b old cs (c.loop-call.replies.items ++ c.call_on_root-reply.result ∷ []) now) (sym (take_more calls i call inside ∙ ap (λ (k : Call). take i calls ++ k ∷ []) item)) next);
       message = c.call_on_root-reply.ensures.message;
       here = c.call_on_root-reply.ensures.here;
-      fits = c.call_on_root-reply.ensures.fits;
-      room = omega (arith, c.push.ensures.capacity, c.loop-call.invariant.room);
+      room = c.call_on_root-reply.ensures.room;
+      capacity = omega (arith, c.push.ensures.capacity, c.loop-call.invariant.capacity);
       count = omega (arith, len, c.loop-call.invariant.count);
     }

@@ -13,5 +13,5 @@ returns-clause-run c =
     if_ok c.make_calls_on_root-replies.result
     (λ replies made. leaves_root c.args.schema (message_tree c.args.message.now) (message_tree c.make_calls_on_root-replies.new.message) c.args.calls.now replies.items c.make_calls_on_root-replies.ensures.here c.tree_is_sound.ensures.formed
     (machine_runs c.args.schema (struct_in (message_tree c.args.message.now)) (struct_in (message_tree c.make_calls_on_root-replies.new.message)) c.args.calls.now replies.items c.requires.stands
-    (subst HasRanges c.get_set.ensures c.numbers_fit.ensures) c.overlay_law.ensures c.requires.root.fits made))
+    (subst HasRanges c.get_set.ensures c.numbers_fit.ensures) c.overlay_law.ensures c.requires.root.room made))
     c.make_calls_on_root-replies.ensures.made

@@ -7,7 +7,7 @@ use Rattle.capnp_run.specs.Runs.{Makes}
 use Rattle.capnp_call.specs.declared.calls.Call.{Call}
 use Rattle.capnp_call.specs.declared.calls.Reply.{Reply}
 use Rattle.capnp_run.proofs.Making.{makes_more, makes_none}
-use Rattle.capnp_run.proofs.Sizes.{changes_none, changes_then, fits_on}
+use Rattle.capnp_run.proofs.Sizes.{changes_none, changes_then, standing_on}
 use Rattle.capnp_run.proofs.run.make_calls.Goals as goal
 
 pub loop-call-init : goal.loop-call-init
@@ -15,10 +15,9 @@ loop-call-init c =
     let s = built c.args.arena.now c.args.place in
     record {
       made = subst (λ (rs : List Reply). Makes (set_of c.args.schema) (number_of c.args.schema) s [] rs s) (sym c.in_ok-replies.ensures.items) (makes_none (set_of c.args.schema) (number_of c.args.schema) s);
-      planted = c.requires.planted;
+      standing = c.requires.ready.standing;
       changes = changes_none c.args.place c.args.arena.now c.args.arena.now refl;
-      fits = c.requires.fits;
-      room = c.in_ok-replies.ensures.capacity;
+      capacity = c.in_ok-replies.ensures.capacity;
       count = c.in_ok-replies.ensures.len;
     }
 
@@ -39,9 +38,8 @@ loop-call-preserved c =
     record {
       made = subst (λ (rs : List Reply). Makes set b old (take (i + 1) calls) rs now) (sym items)
           (subst (λ (cs : List Call). Makes set b old cs (c.loop-call.replies.items ++ c.call_at-reply.result ∷ []) now) (sym (take_more calls i call inside ∙ ap (λ (k : Call). take i calls ++ k ∷ []) item)) next);
-      planted = c.call_at-reply.ensures.planted;
+      standing = standing_on c.args.schema c.loop-call.arena c.call_at-reply.new.arena c.args.place c.loop-call.invariant.standing c.call_at-reply.ensures.planted;
       changes = changes_then c.args.place c.args.arena.now c.loop-call.arena c.call_at-reply.new.arena c.loop-call.invariant.changes c.call_at-reply.ensures.changes;
-      fits = fits_on set b c.loop-call.arena c.call_at-reply.new.arena c.args.place c.loop-call.invariant.planted c.call_at-reply.ensures.planted c.loop-call.invariant.fits;
-      room = omega (arith, c.push.ensures.capacity, c.loop-call.invariant.room);
+      capacity = omega (arith, c.push.ensures.capacity, c.loop-call.invariant.capacity);
       count = omega (arith, len, c.loop-call.invariant.count);
     }

@@ -2,17 +2,16 @@
 use Rattle.std.proofs.Common.{◌≡◌, ◌≤◌, length, take, vec_len}
 use Rattle.std.specs.Vec.{vec_capacity}
 use Rattle.capnp_schema.specs.StructHandles.{number_of, set_of}
-use Rattle.capnp_records.specs.Writes.Slots.{Fits}
-use Rattle.capnp_arena.specs.Built.{ChangesIn, IsBuilt, built}
+use Rattle.capnp_arena.specs.Built.{ChangesIn, built}
+use Rattle.capnp_slots.specs.Standing.{IsStanding}
 use Rattle.capnp_run.specs.Runs.{Makes}
 use Rattle.capnp_run.proofs.run.make_calls.Given as goal
 
 abbrev pub invariant-loop-call : goal.invariant-loop-call
 invariant-loop-call l = record {
   made : Makes (set_of l.schema) (number_of l.schema) (built l.fn.arena l.place) (take l.call-index l.calls) l.replies.items (built l.arena l.place);
-  planted : IsBuilt l.arena l.place;
+  standing : IsStanding l.schema l.arena l.place;
   changes : ChangesIn l.place l.fn.arena l.arena;
-  fits : Fits (set_of l.schema) (number_of l.schema) (built l.arena l.place);
-  room : length l.calls ≤ vec_capacity l.replies;
+  capacity : length l.calls ≤ vec_capacity l.replies;
   count : vec_len l.replies ≡ l.call-index;
 }

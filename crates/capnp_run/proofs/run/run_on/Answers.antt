@@ -11,8 +11,8 @@ use Rattle.capnp_run.proofs.run.run_on.Goals as goal
 pub returns-clause-runs : goal.returns-clause-runs
 returns-clause-runs c =
     if_ok c.make_calls-replies.result
-    (λ replies. machine_runs c.args.schema (built c.args.arena.now c.args.place) (built c.make_calls-replies.new.arena c.args.place) c.args.calls.now replies.items c.requires.stands
-    (subst HasRanges c.get_set.ensures c.numbers_fit.ensures) c.overlay_law.ensures c.requires.fits)
+    (λ replies. machine_runs c.args.schema (built c.args.arena.now c.args.place) (built c.make_calls-replies.new.arena c.args.place) c.args.calls.now replies.items c.requires.ready.stands
+    (subst HasRanges c.get_set.ensures c.numbers_fit.ensures) c.overlay_law.ensures c.requires.ready.standing.room)
     c.make_calls-replies.ensures.made
 
 pub returns-clause-rests : goal.returns-clause-rests
@@ -21,4 +21,4 @@ returns-clause-rests c =
     c.make_calls-replies.ensures.made
 
 pub returns-clause-kept : goal.returns-clause-kept
-returns-clause-kept c = keeps_size c.args.arena.now c.make_calls-replies.new.arena c.args.place c.requires.planted c.make_calls-replies.ensures.planted c.struct_is_sound.ensures.formed
+returns-clause-kept c = keeps_size c.args.arena.now c.make_calls-replies.new.arena c.args.place c.requires.ready.standing.planted c.make_calls-replies.ensures.planted c.struct_is_sound.ensures.formed
