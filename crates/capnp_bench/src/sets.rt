@@ -6,7 +6,7 @@ ghost use Rattle.capnp_arena.specs.Segment.{segment};
 ghost use Rattle.capnp_arena.specs.Shape.{shape_at, word_count};
 ghost use Rattle.capnp_schema.specs.FieldLists.{schema_of};
 ghost use Rattle.capnp_slots.specs.Groups.{IsGroup, IsGroupAt};
-ghost use Rattle.capnp_dynamic.specs.Built.{IsStanding};
+ghost use Rattle.capnp_slots.specs.Standing.{IsStanding};
 ghost use Rattle.capnp_bench.specs.Room.{AreShapes, LiesIn};
 
 use crate::reads::number_of;

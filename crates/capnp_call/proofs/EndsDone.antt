@@ -12,17 +12,20 @@ use Rattle.capnp_schema.specs.StructHandles.{number_of, set_of}
 use Rattle.capnp_schema.specs.declared.schema.structs.StructSchema.{StructSchema}
 use Rattle.capnp_schema.specs.Types.{SchemaType, StructType, TextType, DataType, ListType, AnyPointerType}
 use Rattle.capnp_schema.specs.declared.schema.fields.Field.{Field}
-use Rattle.capnp_records.specs.Call.{PathStep, Op, Reply, Done, Refused}
+use Rattle.capnp_records.specs.Call.{PathStep, Op, Reply, Clear, Done, Refused}
 use Rattle.capnp_records.specs.Default.{default_record}
 use Rattle.capnp_records.specs.Operation.{Does, Initns, Inits, IsDone, Makes}
 use Rattle.capnp_records.specs.Reading.{reads}
 use Rattle.capnp_records.specs.Record as value
 use Rattle.capnp_records.specs.Record.{Endless, Record, Value}
-use Rattle.capnp_records.specs.Step.{Found, IsRefused, Target, in_record, target_at}
+use Rattle.capnp_records.specs.Step.{Found, IsRefused, Target, in_record, is_group_field, target_at}
+use Rattle.capnp_records.specs.Writes.Overlay.{cleared_content}
 use Rattle.capnp_records.specs.Writes.Slots.{Content}
 use Rattle.capnp_records.specs.Writes.Stand.{OnGroup, OnStruct, seen, step_field, step_index}
-use Rattle.capnp_records.specs.Writes.TreeEnds.{OpContent, TreeDoes, TreeDoesAt, slot_written, written}
+use Rattle.capnp_records.specs.Writes.TreeEnds.{ClearsGroup, OpContent, TreeDoes, TreeDoesAt, cleared_at, group_cleared, slot_written, written}
 use Rattle.capnp_slots.specs.Fields.{IsSlot, field_brand, field_set, slot_with}
+use Rattle.capnp_slots.specs.FieldWrites.{cleared_kind, field_cleared}
+use Rattle.capnp_slots.specs.Groups.{IsGroup, group_without}
 use Rattle.capnp_slots.specs.Inits.{IsInitRefusal, IsInitnRefusal, IsRoomless}
 use Rattle.capnp_call.specs.Ends.{AsGroup, AsStruct, FieldDoes, NamedDoes, Whole, stand_of, whole_of}
 use Rattle.capnp_call.specs.Seen.{step_seen}
@@ -44,6 +47,22 @@ module _ (f : Field) (s s' : StructTree) where
       go : (w : Whole) → stand_of w s' ≡ written (field_set f) (StructType (field_brand f) g) (stand_of w s) step c
       go AsStruct = ap OnStruct (is ∙ ap (λ (y : TypedField). slot_written (field_set f) (field_brand f) y c s) (sym (named step e)))
       go AsGroup = ap OnGroup (is ∙ ap (λ (y : TypedField). slot_written (field_set f) (field_brand f) y c s) (sym (named step e)))
+
+  -- a group was cleared
+  group_does : (op : Op) → IsGroup f → ClearsGroup op → s' ≡ group_without f s → FieldDoes f op s Done s'
+  group_does op group clears is w g step e = inr (inr (inr (inl (group, clears, refl, go w))))
+    where
+      go : (w : Whole) → stand_of w s' ≡ cleared_at (field_set f) (StructType (field_brand f) g) (stand_of w s) step
+      go AsStruct = ap OnStruct (is ∙ ap (λ (y : TypedField). group_cleared (field_set f) (field_brand f) y s) (sym (named step e)))
+      go AsGroup = ap OnGroup (is ∙ ap (λ (y : TypedField). group_cleared (field_set f) (field_brand f) y s) (sym (named step e)))
+
+  -- a field was cleared: what stands in a slot is its type's zero
+  pub clear_does : s' ≡ field_cleared f s → FieldDoes f Clear s Done s'
+  clear_does = go (is_group_field (typed_of f).field.kind) refl
+    where
+      go : (q : Bool) → is_group_field (typed_of f).field.kind ≡ q → s' ≡ cleared_kind q f s → FieldDoes f Clear s Done s'
+      go true group is = group_does Clear group tt is
+      go false slot is = slot_does Clear (cleared_content (typed_of f).type) slot (λ whole. (refl, refl)) is
 
 -- ---- refusals ----
 

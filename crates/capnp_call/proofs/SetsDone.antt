@@ -15,7 +15,7 @@ use Rattle.capnp_records.specs.Call as record_call
 use Rattle.capnp_records.specs.Given.{Copies, CopiesGroup, Fails, Given, Gives, copy_refusal, given, given_element, given_group, given_slot}
 use Rattle.capnp_records.specs.Operation.{CopiesWhole, Sets}
 use Rattle.capnp_records.specs.Record.{Record, Value}
-use Rattle.capnp_records.specs.Step.{Target}
+use Rattle.capnp_records.specs.Step.{Target, is_group_field}
 use Rattle.capnp_records.specs.Writes.Contents.{SourceFits}
 use Rattle.capnp_records.specs.Writes.ElementEnds.{ElementSetContent, HasRoom}
 use Rattle.capnp_records.specs.Writes.Overlay.{switched}
@@ -24,6 +24,7 @@ use Rattle.capnp_records.specs.Writes.TreeCopy.{TreeCopiesWithin}
 use Rattle.capnp_records.specs.Writes.TreeEnds.{CopiedReply, CopiesGiven, SetContent, TreeDoes, with_stand_struct}
 use Rattle.capnp_slots.specs.ElementSets.{IsElementSet, element_content, element_given}
 use Rattle.capnp_slots.specs.Fields.{IsSlot, field_brand, field_set}
+use Rattle.capnp_slots.specs.FieldWrites.{IsFieldSet, KindIsSet}
 use Rattle.capnp_slots.specs.GroupSets.{IsGroupSet, given_to_group}
 use Rattle.capnp_slots.specs.Groups.{IsGroup}
 use Rattle.capnp_slots.specs.Primitives.{given_content, given_to, set_content}
@@ -71,7 +72,7 @@ module _ (f : Field) (s s' : StructTree) (source : Source) where
   given_is : (w : Record → Value) → IsSlot f → given (field_set f) (target_in w f s) source ≡ given_to f source
   given_is w slot = ap (λ q. elim q as (λ _. Given) [ true ↦ given_group (typed_of f).type source | false ↦ given_slot (field_set f) (typed_of f).type source ]) slot
 
-  pub slot_set : IsSlot f → SourceFits source → IsSet f source s s' → FieldDoes f (Set source) s record_call.Done s'
+  slot_set : IsSlot f → SourceFits source → IsSet f source s s' → FieldDoes f (Set source) s record_call.Done s'
   slot_set slot fits is =
       slot_does f s s' (Set source) (set_content f source) slot
       (λ whole. (
@@ -81,7 +82,7 @@ module _ (f : Field) (s s' : StructTree) (source : Source) where
       ))
       is.written
 
-  pub slot_unset : (kind : ErrorKind) → IsSlot f → s' ≡ s → IsSetRefusal (given_to f source) kind → FieldDoes f (Set source) s (Refused kind) s'
+  slot_unset : (kind : ErrorKind) → IsSlot f → s' ≡ s → IsSetRefusal (given_to f source) kind → FieldDoes f (Set source) s (Refused kind) s'
   slot_unset kind slot same h =
       stays f s s' (Set source) (Refused kind) same
       (λ whole old. subst (λ (z : Given). Sets (field_set f) (target_in whole f s) z old (Refused kind) old) (sym (given_is whole slot)) (set_refused (field_set f) (target_in whole f s) (given_to f source) old kind h))
@@ -95,7 +96,7 @@ module _ (f : Field) (s s' : StructTree) (source : Source) where
   copied_reply None r e = e
   copied_reply (Some kind) r e = e
 
-  pub group_set : (o : Option ErrorKind) (r : record_call.Reply) → IsGroup f → r ≡ reply_by o → IsGroupSet f (given_to_group f source) s o s' → FieldDoes f (Set source) s r s'
+  group_set : (o : Option ErrorKind) (r : record_call.Reply) → IsGroup f → r ≡ reply_by o → IsGroupSet f (given_to_group f source) s o s' → FieldDoes f (Set source) s r s'
   group_set o r is reply h w g step e = go (given_to_group f source) (group_given (whole_of w) is) h
     where
       x : Target
@@ -133,6 +134,16 @@ module _ (f : Field) (s s' : StructTree) (source : Source) where
                 (reply ∙ ap reply_by done.0, refl),
             ap (stand_of w) done.1,
           )
+
+  -- ---- either ----
+
+  pub field_set_done : (o : Option ErrorKind) (r : record_call.Reply) → SourceFits source → r ≡ reply_by o → IsFieldSet f source s o s' → FieldDoes f (Set source) s r s'
+  field_set_done o r fits = go (is_group_field (typed_of f).field.kind) refl o
+    where
+      go : (q : Bool) → is_group_field (typed_of f).field.kind ≡ q → (o : Option ErrorKind) → r ≡ reply_by o → KindIsSet q f source s o s' → FieldDoes f (Set source) s r s'
+      go true group o reply h = group_set o r group reply h
+      go false slot None reply h = subst (λ (y : record_call.Reply). FieldDoes f (Set source) s y s') (sym reply) (slot_set slot fits h)
+      go false slot (Some kind) reply h = subst (λ (y : record_call.Reply). FieldDoes f (Set source) s y s') (sym reply) (slot_unset kind slot h.1 h.0)
 
 -- ---- an element ----
 

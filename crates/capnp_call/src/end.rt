@@ -20,12 +20,10 @@ use capnp_dynamic_readers::dynamic_value::Reader as Value;
 use capnp_schema::schema::{Field, StructSchema};
 use capnp_slots::primitive::Primitive;
 use capnp_slots::source::{Source, source_fits};
-use capnp_slots::{group, slot};
+use capnp_slots::{field, group, slot};
 use capnp_wire::error::ErrorKind;
 
-/// Sets a field to a source, as `slot::set` or, of a group, as `group::set`: then what was copied before a refusal
-/// stays.
-#[tactic(auto, using(crate::proofs::Outcomes::planted_after, crate::proofs::Outcomes::changes_after))]
+/// Sets a field to a source. Where the set of a group is refused, what was copied before stays.
 #[inline(always)]
 fn set_to(arena: &mut Arena, place: Place, field: Field<'_>, source: Source<'_>) -> Reply
     requires planted { IsBuilt arena.old place }
@@ -35,12 +33,8 @@ fn set_to(arena: &mut Arena, place: Place, field: Field<'_>, source: Source<'_>)
     ensures planted { IsBuilt arena.new place }
     ensures changes { ChangesIn place arena.old arena.new }
 {
-    if slot::is_slot(field) {
-        source_fits(source);
-        reply_of(slot::set(arena, place, field, source))
-    } else {
-        reply_of(group::set(arena, place, field, source))
-    }
+    source_fits(source);
+    reply_of(field::set(arena, place, field, source))
 }
 
 /// Sets a field to a value of any kind, which is copied to be a source.
@@ -116,13 +110,8 @@ fn clear_field(arena: &mut Arena, place: Place, field: Field<'_>) -> Reply
     ensures planted { IsBuilt arena.new place }
     ensures changes { ChangesIn place arena.old arena.new }
 {
-    if slot::is_slot(field) {
-        slot::clear(arena, place, field);
-        Reply::Done
-    } else {
-        group::clear(arena, place, field);
-        Reply::Done
-    }
+    field::clear(arena, place, field);
+    Reply::Done
 }
 
 /// Does an operation to a field of a struct.

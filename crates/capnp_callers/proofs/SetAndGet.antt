@@ -12,8 +12,8 @@ use Rattle.capnp_schema.specs.declared.schema.structs.StructSchema.{StructSchema
 use Rattle.capnp_records.specs.Record.{Left}
 use Rattle.capnp_slots.specs.Fields.{IsSlot}
 use Rattle.capnp_slots.specs.ReadBack.{HasKind, IsWhole}
-use Rattle.capnp_dynamic.specs.Built.{IsUnder}
-use Rattle.capnp_dynamic.specs.FieldWrites.{IsFieldSet}
+use Rattle.capnp_slots.specs.Standing.{IsUnder}
+use Rattle.capnp_slots.specs.FieldWrites.{IsFieldSet}
 use Rattle.capnp_dynamic_readers.specs.Handles.{reader_of, schema_of}
 use Rattle.capnp_dynamic.specs.ReadBack.{SetIsGot}
 use Rattle.capnp_dynamic_readers.specs.Reads.{BelongsTo, field_read, field_seen}

@@ -1,8 +1,6 @@
--- What a write keeps of a struct that is built, what is set and cleared by a field's kind, and fields of one name.
-use Rattle.std.specs.Prelude.{ℕ, suc, ◌*◌, ◌≤◌, ◌≡◌, refl, Bool, true, false, not, length, Option, Some, None, Result, Ok, Err, OnOk, OnErr, IfErr}
-use Rattle.capnp_device.specs.declared.error.Error.{Error}
+-- What a write keeps of a struct that is built, and fields of one name.
+use Rattle.std.specs.Prelude.{ℕ, suc, ◌*◌, ◌≤◌, ◌≡◌, refl, Bool, true, false, length, Option, Some, None}
 use Rattle.std.proofs.Common.{ap, sym, subst, ◌∙◌}
-use Rattle.std.proofs.lemmas.Bool.{true≢false}
 use Rattle.capnp_wire.specs.Tree.{StructTree}
 use Rattle.capnp_schema.specs.FieldLists.{IsFound, index_of, schema_of as field_schema, typed_of}
 use Rattle.capnp_schema.specs.Footprint.{Spot}
@@ -15,19 +13,18 @@ use Rattle.capnp_records.specs.Writes.Overlay.{cleared_content}
 use Rattle.capnp_records.specs.Writes.Slots.{Fits}
 use Rattle.capnp_schema.specs.Plan.{brand_size}
 use Rattle.capnp_records.specs.Writes.TreeEnds.{group_cleared, slot_written}
-use Rattle.capnp_slots.specs.Copied.{refusal_of}
 use Rattle.capnp_slots.specs.Fields.{IsRoomFor, Keeps, field_brand}
+use Rattle.capnp_slots.specs.FieldWrites.{IsFieldSet, KindIsSet, SlotIsSet, cleared_kind, field_cleared}
 use Rattle.capnp_slots.specs.GroupSets.{IsGroupSet, given_to_group}
 use Rattle.capnp_slots.specs.Primitives.{given_content, given_to}
 use Rattle.capnp_slots.specs.Sources.{IsSet, IsSetRefusal, IsTaken}
+use Rattle.capnp_slots.specs.Standing.{IsUnder}
 use Rattle.capnp_device.specs.declared.error.ErrorKind.{ErrorKind}
 use Rattle.capnp_records.specs.Call.{Source}
 use Rattle.capnp_records.specs.Given.{Given, Gives, Copies, CopiesGroup, Fails, given_group, given_slot}
 use Rattle.capnp_records.specs.Writes.TreeCopy.{TreeCopiesWithin}
 use Rattle.capnp_records.specs.Writes.Overlay.{field_names, switched}
 use Rattle.capnp_schema.specs.Schema.{default_of}
-use Rattle.capnp_dynamic.specs.Built.{IsUnder}
-use Rattle.capnp_dynamic.specs.FieldWrites.{IsFieldSet, KindIsSet, SlotIsSet, cleared_kind, field_cleared}
 use Rattle.capnp_dynamic_readers.specs.Reads.{BelongsTo}
 
 -- a struct of a schema is room for the schema's fields
@@ -42,9 +39,6 @@ under_kept schema inside s s' under kept = (
   subst (λ n. (brand_size (set_of schema) (number_of schema)).pointers ≤ n) (sym kept.writes.pointer_count) under.1,
 )
 
-pub under_same : (schema : StructSchema) (s s' : StructTree) → IsUnder schema s → s' ≡ s → IsUnder schema s'
-under_same schema s s' under e = subst (IsUnder schema) (sym e) under
-
 -- ---- fields of one name ----
 
 -- what is said of a field by its schema and its index alone is said of each of that name
@@ -58,6 +52,11 @@ pub moved : (what : StructSchema → ℕ → Type 0) (s : StructSchema) (o : Opt
     what (field_schema f) (index_of f) → what (field_schema g) (index_of g)
 moved what s None f g a b h = absurd a
 moved what s (Some i) f g a b h = subst (λ (z : StructSchema). what z (index_of g)) (a.schema ∙ sym b.schema) (subst (what (field_schema f)) (a.index ∙ sym b.index) h)
+
+-- no field is of a name that none has
+pub not_named : (s : StructSchema) (o : Option ℕ) (f : Field) → o ≡ None → IsFound s o (Some f) → ⊥
+not_named s None f e a = a
+not_named s (Some i) f e a = cc
 
 abbrev cleared-at : Bool → StructSchema → ℕ → StructTree → StructTree
 cleared-at true s i x = group_cleared (set_of s) (number_of s) (struct_field s i) x
@@ -87,45 +86,6 @@ same_given s o f g a b x = same_field (λ (z : StructSchema) i. given_slot (set_
 
 pub same_refusal : (s : StructSchema) (o : Option ℕ) (f g : Field) → IsFound s o (Some f) → IsFound s o (Some g) → (x : Source) (k : ErrorKind) → IsSetRefusal (given_to f x) k → IsSetRefusal (given_to g x) k
 same_refusal s o f g a b x k h = subst (λ (q : Given). IsSetRefusal q k) (same_given s o f g a b x) h
-
--- ---- what is cleared, by its kind ----
-
-pub cleared_slot : (f : Field) (x : StructTree) → true ≡ not (is_group_field (typed_of f).field.kind) → cleared_kind false f x ≡ field_cleared f x
-cleared_slot f x e = go (is_group_field (typed_of f).field.kind) e
-  where
-    go : (q : Bool) → true ≡ not q → cleared_kind false f x ≡ cleared_kind q f x
-    go true e = absurd (true≢false e)
-    go false e = refl
-
-pub cleared_group : (f : Field) (x : StructTree) → false ≡ not (is_group_field (typed_of f).field.kind) → cleared_kind true f x ≡ field_cleared f x
-cleared_group f x e = go (is_group_field (typed_of f).field.kind) e
-  where
-    go : (q : Bool) → false ≡ not q → cleared_kind true f x ≡ cleared_kind q f x
-    go true e = refl
-    go false e = absurd (true≢false (sym e))
-
--- ---- what is set, by its kind ----
-
-slot-kind : (q : Bool) → true ≡ not q → q ≡ false
-slot-kind true e = absurd (true≢false e)
-slot-kind false e = refl
-
-group-kind : (q : Bool) → false ≡ not q → q ≡ true
-group-kind true e = refl
-group-kind false e = absurd (true≢false (sym e))
-
-module _ {A : Type 0} (f : Field) (x : Source) (old new : StructTree) where
-  slot-set : (r : Result A Error) → OnOk r (IsSet f x old new) → OnErr r (new ≡ old) → IfErr r (λ e. IsSetRefusal (given_to f x) e.kind) → SlotIsSet f x old (refusal_of r) new
-  slot-set (Ok a) ok same cause = ok
-  slot-set (Err e) ok same cause = (cause, same)
-
-  pub slot_was_set : (r : Result A Error) → true ≡ not (is_group_field (typed_of f).field.kind) → OnOk r (IsSet f x old new) → OnErr r (new ≡ old) → IfErr r (λ e. IsSetRefusal (given_to f x) e.kind) →
-      IsFieldSet f x old (refusal_of r) new
-  slot_was_set r e ok same cause =
-      subst (λ (q : Bool). KindIsSet q f x old (refusal_of r) new) (sym (slot-kind (is_group_field (typed_of f).field.kind) e)) (slot-set r ok same cause)
-
-  pub group_was_set : (r : Result A Error) → false ≡ not (is_group_field (typed_of f).field.kind) → IsGroupSet f (given_to_group f x) old (refusal_of r) new → IsFieldSet f x old (refusal_of r) new
-  group_was_set r e h = subst (λ (q : Bool). KindIsSet q f x old (refusal_of r) new) (sym (group-kind (is_group_field (typed_of f).field.kind) e)) h
 
 -- a set of one of several fields of one name is a set of each
 module _ (s : StructSchema) (o : Option ℕ) (f g : Field) (a : IsFound s o (Some f)) (b : IsFound s o (Some g)) where

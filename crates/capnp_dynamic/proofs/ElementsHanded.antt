@@ -5,7 +5,7 @@ use Rattle.std.proofs.lemmas.Bool.{true≢false}
 use Rattle.capnp_device.specs.declared.error.Error.{Error}
 use Rattle.capnp_wire.specs.Elements.{HasPointer, HasStruct}
 use Rattle.capnp_wire.specs.Facts.Lengths.{HasStruct-there}
-use Rattle.capnp_wire.specs.Reading.{element_struct, list_length}
+use Rattle.capnp_wire.specs.Reading.{element_pointer, element_struct, list_length}
 use Rattle.capnp_wire.specs.Tree as tree
 use Rattle.capnp_wire.specs.Tree.{StructTree, Tree}
 use Rattle.capnp_wire.specs.WellFormed.{IsWellFormed}
@@ -23,9 +23,10 @@ use Rattle.capnp_records.specs.Facts.Readers.{element_read}
 use Rattle.capnp_records.specs.Writes.ElementEnds.{HasRoom}
 use Rattle.capnp_records.specs.Writes.Slots.{Fits}
 use Rattle.capnp_schema.specs.Plan.{brand_size}
-use Rattle.capnp_slots.specs.Fills.{is_behind}
-use Rattle.capnp_dynamic.specs.Built.{HoldsElements, IsUnder as IsStructUnder}
-use Rattle.capnp_dynamic.specs.Handed.{HandsElementNumber, element_handed}
+use Rattle.capnp_slots.specs.Fills.{element_filled, is_behind}
+use Rattle.capnp_slots.specs.Standing.{IsUnder as IsStructUnder}
+use Rattle.capnp_dynamic.specs.Built.{HoldsElements}
+use Rattle.capnp_dynamic.specs.Handed.{HandsElementNumber, HandsOut, element_handed}
 use Rattle.capnp_dynamic.specs.declared.dynamic_value.build.Builder.{Builder as BuiltValue}
 use Rattle.capnp_dynamic_readers.specs.Leaf.{IsNumber}
 use Rattle.capnp_dynamic_readers.specs.Seen.{answered}
@@ -86,7 +87,32 @@ behind_pointer (IntType k) h = absurd (true≢false (sym h))
 behind_pointer (UIntType k) h = absurd (true≢false (sym h))
 behind_pointer (EnumType k) h = absurd (true≢false (sym h))
 
+-- what was filled behind an element's pointer is what is handed out of it
+module _ (set : Schemas) (x y : Tree) (j : ℕ) (v : BuiltValue) where
+  pub pointed_handed : (t : SchemaType) → is_behind t ≡ true → HandsOut false set t (element_filled set t (element_pointer x j 1)) v → element_handed set t x y j v
+  pointed_handed TextType e h = h
+  pointed_handed DataType e h = h
+  pointed_handed (ListType t) e h = h
+  pointed_handed AnyPointerType e h = h
+  pointed_handed VoidType e h = absurd (true≢false (sym e))
+  pointed_handed BoolType e h = absurd (true≢false (sym e))
+  pointed_handed (IntType k) e h = absurd (true≢false (sym e))
+  pointed_handed (UIntType k) e h = absurd (true≢false (sym e))
+  pointed_handed (EnumType k) e h = absurd (true≢false (sym e))
+  pointed_handed (StructType b g) e h = absurd (true≢false (sym e))
+
 -- ---- numbers ----
+
+no-pointer : (w : TypeVariant) → ((s : RawBrandedStructSchema) → w ≡ variant.Struct s → ⊥) → is_behind (seen_variant w) ≡ false → is_pointer (seen_variant w) ≡ false
+no-pointer variant.Text n e = absurd (true≢false e)
+no-pointer variant.«Data» n e = absurd (true≢false e)
+no-pointer (variant.Struct s) n e = absurd (n s refl)
+no-pointer variant.AnyPointer n e = absurd (true≢false e)
+no-pointer (variant.List t) n e = absurd (true≢false e)
+no-pointer w n e = refl
+
+pub number_type : (t : SchemaType) (w : TypeVariant) → seen_variant w ≡ t → ((s : RawBrandedStructSchema) → w ≡ variant.Struct s → ⊥) → is_behind (seen_variant w) ≡ false → is_pointer t ≡ false
+number_type t w same n e = ap is_pointer (sym same) ∙ no-pointer w n e
 
 -- an element that no pointer stands for is read
 pub is_read : (set : Schemas) (t : SchemaType) (x : Tree) (n j : ℕ) (e : Error) → is_pointer t ≡ false → answered (Err e) ≡ read_of set VoidValue t (element_read set x n t j) → ⊥

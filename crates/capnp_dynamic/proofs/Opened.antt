@@ -9,7 +9,7 @@ use Rattle.capnp_arena.specs.declared.arena.Arena.{Arena}
 use Rattle.capnp_arena.specs.declared.arena.Place.{Place}
 use Rattle.capnp_arena.specs.Built.{built}
 use Rattle.capnp_wire.specs.Place.{struct_tree}
-use Rattle.capnp_dynamic.specs.Built.{IsStanding}
+use Rattle.capnp_slots.specs.Standing.{IsStanding}
 use Rattle.capnp_wire.specs.Edits.{extended}
 use Rattle.capnp_wire.specs.Facts.Lengths.{HasAtLeast-extended}
 use Rattle.capnp_wire.specs.Tree.{StructTree}

@@ -18,13 +18,13 @@ use Rattle.capnp_records.specs.Reading.{struct_record}
 use Rattle.capnp_records.specs.Record.{Left, Levels, Value}
 use Rattle.capnp_records.specs.Step.{is_group_field}
 use Rattle.capnp_slots.specs.Fields.{IsRoomFor, IsSlot, field_brand, field_set}
+use Rattle.capnp_slots.specs.FieldWrites.{IsFieldSet, KindIsSet, cleared_kind, field_cleared}
 use Rattle.capnp_slots.specs.Groups.{group_without}
 use Rattle.capnp_slots.specs.GroupSets.{IsGroupSet, given_to_group}
 use Rattle.capnp_slots.specs.ReadBack as slots
 use Rattle.capnp_slots.specs.ReadBack.{IsWhole, whole_value}
 use Rattle.capnp_slots.specs.Sources.{IsSet}
 use Rattle.capnp_dynamic.specs.Built.{built_schema}
-use Rattle.capnp_dynamic.specs.FieldWrites.{IsFieldSet, KindIsSet, cleared_kind, field_cleared}
 use Rattle.capnp_dynamic.specs.Handed.{HandsGroup, start_handed}
 use Rattle.capnp_dynamic.specs.ReadBack.{AreApart, ClearIsActive, ClearIsGot, GroupStarts, IsActiveUnder, OtherIsGot, OtherIsThere, SetIsActive, SetIsGot}
 use Rattle.capnp_dynamic_readers.specs.Reads.{BelongsTo, field_read, handed_out}

@@ -22,9 +22,9 @@ use Rattle.capnp_schema.specs.Types.{SchemaType, StructType, element_size, seen_
 use Rattle.capnp_schema.specs.declared.schema.structs.StructSchema.{StructSchema}
 use Rattle.capnp_records.specs.Reading.{struct_record}
 use Rattle.capnp_records.specs.Record.{Left, Record}
-use Rattle.capnp_records.specs.Writes.Slots.{Fits}
 use Rattle.capnp_schema.specs.Plan.{brand_size}
-use Rattle.capnp_arena.specs.Built.{IsBuilt, built}
+use Rattle.capnp_arena.specs.Built.{built}
+use Rattle.capnp_slots.specs.Standing.{IsStanding}
 use Rattle.capnp_dynamic.specs.contracts.dynamic_list.build.Builder.{the_row as list_handle_row}
 use Rattle.capnp_dynamic.specs.contracts.dynamic_struct.build.Builder.{the_row as struct_handle_row}
 use Rattle.capnp_dynamic.specs.declared.dynamic_list.build.Builder.{Builder as ListHandle}
@@ -47,15 +47,7 @@ built_struct b = built b.arena.now b.place
 abbrev pub handle_of : StructHandle → StructBuilder
 handle_of b = record { arena = b.arena; place = b.place }
 
--- a struct has at least its schema's sections
-abbrev pub IsUnder : StructSchema → StructTree → Type 0
-IsUnder schema s = Fits (set_of schema) (number_of schema) s
-
--- and stands at a place
-pub record IsStanding (schema : StructSchema) (arena : Arena) (place : Place) : Type 0 where
-  pub planted : IsBuilt arena place
-  pub room : IsUnder schema (built arena place)
-
+-- it has at least its schema's sections, and stands at its place
 abbrev pub IsReady : StructHandle → Type 0
 IsReady b = IsStanding (built_schema b) b.arena.now b.place
 

@@ -11,10 +11,11 @@ use Rattle.capnp_records.specs.ReadBack.{default_got}
 use Rattle.capnp_records.specs.Reading.{struct_record}
 use Rattle.capnp_records.specs.Record.{Levels, Record, Value}
 use Rattle.capnp_slots.specs.Fields.{IsSlot, Keeps, names_of}
+use Rattle.capnp_slots.specs.FieldWrites.{IsFieldSet, field_cleared}
 use Rattle.capnp_slots.specs.Groups.{IsGroup}
 use Rattle.capnp_slots.specs.ReadBack.{HasKind, IsWhole}
-use Rattle.capnp_dynamic.specs.Built.{IsUnder, built_record, built_schema}
-use Rattle.capnp_dynamic.specs.FieldWrites.{IsFieldSet, field_cleared}
+use Rattle.capnp_slots.specs.Standing.{IsUnder}
+use Rattle.capnp_dynamic.specs.Built.{built_record, built_schema}
 use Rattle.capnp_dynamic.specs.Handed.{HandsInit}
 use Rattle.capnp_dynamic_readers.specs.Reads.{BelongsTo, field_read}
 use Rattle.capnp_dynamic_readers.specs.Seen.{value_seen}

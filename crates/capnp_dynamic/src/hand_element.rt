@@ -136,7 +136,6 @@ impl<'a> Builder<'a> {
     /// and where nothing has to be extended nothing is refused for memory.
     ///
     /// The list has to be ready (`IsListReady`).
-    #[tactic(auto, using(crate::proofs::Owners::struct_got))]
     pub fn get(self, index: u32) -> Result<dynamic_value::Builder<'a>>
         requires ready { IsListReady self }
         requires inside { IsIn index self }

@@ -24,12 +24,13 @@ ghost use Rattle.capnp_records.specs.Writes.Slots.{Fits};
 ghost use Rattle.capnp_arena.specs.Built.{ChangesIn, IsBuilt, built};
 ghost use Rattle.capnp_slots.specs.Copied.{refusal_of};
 ghost use Rattle.capnp_slots.specs.Fields.{IsSlot, Keeps, names_of};
+ghost use Rattle.capnp_slots.specs.FieldWrites.{IsFieldSet, field_cleared};
 ghost use Rattle.capnp_slots.specs.SetValues.{source_of};
 ghost use Rattle.capnp_dynamic_readers.specs.Handles.{reader_of, schema_of};
 ghost use Rattle.capnp_dynamic_readers.specs.Reads.{BelongsTo};
 ghost use Rattle.capnp_dynamic_readers.specs.Typed.{struct_type};
 ghost use Rattle.capnp_dynamic.specs.Built.{IsReady, LendsStruct, built_record, built_schema, built_struct, handle_of, place_of, struct_behind};
-ghost use Rattle.capnp_dynamic.specs.FieldWrites.{IsFieldSet, IsNamed, field_cleared};
+ghost use Rattle.capnp_dynamic.specs.Names.{IsNamed};
 ghost use Rattle.capnp_dynamic.specs.Opened.{StructRests};
 
 use crate::dynamic_struct::Reader;
@@ -40,7 +41,7 @@ use capnp_builders::traits::OwnedStruct;
 use capnp_dynamic_readers::presence::active_member;
 use capnp_schema::schema::{Field, StructSchema};
 use capnp_slots::source::Source;
-use capnp_slots::{group, size_of, slot};
+use capnp_slots::{field, size_of};
 use capnp_wire::error::Result;
 
 /// A struct that is built: the message and its place there, and its schema.
@@ -222,7 +223,7 @@ impl<'a> Builder<'a> {
     ///
     /// The field has to belong to the schema; the struct has to have its schema's sections and stand at its place
     /// (`IsReady`).
-    #[tactic(auto, using(crate::proofs::Builders::room_for, crate::proofs::Builders::under_kept, crate::proofs::Builders::under_same, crate::proofs::Builders::slot_was_set, crate::proofs::Builders::group_was_set))]
+    #[tactic(auto, using(crate::proofs::Builders::room_for, crate::proofs::Builders::under_kept))]
     #[inline(always)]
     pub fn set(&mut self, field: Field<'a>, value: dynamic_value::Reader<'_>) -> Result<()>
         requires belongs { BelongsTo field (built_schema self.old) }
@@ -238,11 +239,7 @@ impl<'a> Builder<'a> {
             (segment (struct_behind self.new).now ≡ segment (struct_behind self.old).now) }
         ensures ready { IsReady self.new }
     {
-        if slot::is_slot(field) {
-            slot::set(self.arena, self.place, field, Source::from(value))
-        } else {
-            group::set(self.arena, self.place, field, Source::from(value))
-        }
+        field::set(self.arena, self.place, field, Source::from(value))
     }
 
     /// Sets the field of a name, as `set`. Refused first with `FieldNotFound` where there is none of that name, and
@@ -275,7 +272,7 @@ impl<'a> Builder<'a> {
     /// No memory is taken, and the answer is always Ok.
     /// The field has to belong to the schema; the struct has to have its schema's sections and stand at its place
     /// (`IsReady`).
-    #[tactic(auto, using(crate::proofs::Builders::room_for, crate::proofs::Builders::under_kept, crate::proofs::Builders::cleared_slot, crate::proofs::Builders::cleared_group))]
+    #[tactic(auto, using(crate::proofs::Builders::room_for, crate::proofs::Builders::under_kept))]
     pub fn clear(&mut self, field: Field<'a>) -> Result<()>
         requires belongs { BelongsTo field (built_schema self.old) }
         requires ready { IsReady self.old }
@@ -288,11 +285,7 @@ impl<'a> Builder<'a> {
         ensures kept { Keeps (names_of field.entry) (built_struct self.old) (built_struct self.new) }
         ensures ready { IsReady self.new }
     {
-        if slot::is_slot(field) {
-            slot::clear(self.arena, self.place, field);
-        } else {
-            group::clear(self.arena, self.place, field);
-        }
+        field::clear(self.arena, self.place, field);
         Ok(())
     }
 

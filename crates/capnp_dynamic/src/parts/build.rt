@@ -12,7 +12,7 @@ ghost use Rattle.capnp_schema.specs.declared.schema.fields.Field.{Field};
 ghost use Rattle.capnp_slots.specs.Fills.{RestsIn};
 ghost use Rattle.capnp_dynamic.specs.Built.{IsIn, IsListReady, IsReady, built_element, built_elements, built_schema, built_struct, place_of, struct_behind};
 ghost use Rattle.capnp_dynamic.specs.BuiltValues.{CanBeRead};
-ghost use Rattle.capnp_dynamic.specs.FieldWrites.{IsNamed};
+ghost use Rattle.capnp_dynamic.specs.Names.{IsNamed};
 ghost use Rattle.capnp_dynamic.specs.Handed.{HandsElement, HandsField, RestsAt};
 ghost use Rattle.capnp_dynamic.specs.Owners.{IsElementGot, IsGotOf};
 ghost use Rattle.capnp_dynamic.specs.Taken.{IsListElementRefusal, IsListPartRefusal, IsNoList, IsNoStruct, IsStructElementRefusal, IsStructPartRefusal, hands_list, hands_struct, is_list_type};

@@ -2,7 +2,7 @@
 use Rattle.std.proofs.Common.{subst, sym}
 use Rattle.capnp_arena.specs.Built.{built}
 use Rattle.capnp_schema.specs.declared.schema.structs.StructSchema.{StructSchema}
-use Rattle.capnp_dynamic.specs.Built.{IsStanding}
+use Rattle.capnp_slots.specs.Standing.{IsStanding}
 use Rattle.capnp_bench.proofs.sets.set.Goals as goal
 
 pub set-requires-clause-ready : goal.set-requires-clause-ready

@@ -1,4 +1,4 @@
-use Rattle.capnp_dynamic.specs.Built.{IsStanding}
+use Rattle.capnp_slots.specs.Standing.{IsStanding}
 use Rattle.capnp_bench.proofs.sets.set_all.Given as goal
 
 abbrev pub invariant-loop-number : goal.invariant-loop-number

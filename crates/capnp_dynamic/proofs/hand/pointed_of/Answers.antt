@@ -8,7 +8,7 @@ use Rattle.capnp_schema.specs.FieldLists.{typed_of}
 use Rattle.capnp_schema.specs.Schema.{default_of}
 use Rattle.capnp_schema.specs.StructHandles.{set_of}
 use Rattle.capnp_schema.specs.Facts.Layers.{seen_which}
-use Rattle.capnp_schema.specs.Types.{seen_variant}
+use Rattle.capnp_schema.specs.Types.{is_pointer, seen_variant}
 use Rattle.capnp_arena.specs.Built.{built}
 use Rattle.capnp_slots.specs.Fields.{field_set}
 use Rattle.capnp_slots.specs.Fills.{filled_in, pointer_in}
@@ -45,3 +45,56 @@ returns-clause-owner c = record {
   changes = c.in_ok-at.ensures.changes;
   becomes = c.in_ok-at.ensures.filled;
 }
+
+pub get-requires-clause-planted : goal.get-requires-clause-planted
+get-requires-clause-planted c = c.requires.planted
+
+pub get-requires-clause-slot : goal.get-requires-clause-slot
+get-requires-clause-slot c = c.requires.slot
+
+pub get-requires-clause-pointer : goal.get-requires-clause-pointer
+get-requires-clause-pointer c = c.requires.pointer
+
+pub get-requires-clause-room : goal.get-requires-clause-room
+get-requires-clause-room c = c.requires.room
+
+pub tree_is_sound-requires : goal.tree_is_sound-requires
+tree_is_sound-requires c = c.in_ok-at.ensures.forest
+
+pub hand_out-requires-clause-pointer : goal.hand_out-requires-clause-pointer
+hand_out-requires-clause-pointer c = ap is_pointer (ap seen_variant c.which-variant.ensures ∙ (seen_which c.get_type.result ∙ c.get_type.ensures.is)) ∙ c.requires.pointer
+
+pub hand_out-requires-clause-forest : goal.hand_out-requires-clause-forest
+hand_out-requires-clause-forest c = c.in_ok-at.ensures.forest
+
+pub returns-clause-ready : goal.returns-clause-ready
+returns-clause-ready c = c.hand_out.ensures.ready
+
+pub returns-clause-within : goal.returns-clause-within
+returns-clause-within c = c.in_ok-at.ensures.within
+
+pub returns-clause-cause : goal.returns-clause-cause
+returns-clause-cause c = tt
+
+pub returns-clause-rests : goal.returns-clause-rests
+returns-clause-rests c = λ rests. refl
+
+-- ---- refused ----
+
+pub returns-in_err-at-clause-stands : goal.returns-in_err-at-clause-stands
+returns-in_err-at-clause-stands c = tt
+
+pub returns-in_err-at-clause-ready : goal.returns-in_err-at-clause-ready
+returns-in_err-at-clause-ready c = tt
+
+pub returns-in_err-at-clause-owner : goal.returns-in_err-at-clause-owner
+returns-in_err-at-clause-owner c = tt
+
+pub returns-in_err-at-clause-within : goal.returns-in_err-at-clause-within
+returns-in_err-at-clause-within c = tt
+
+pub returns-in_err-at-clause-cause : goal.returns-in_err-at-clause-cause
+returns-in_err-at-clause-cause c = c.in_err-at.ensures.cause
+
+pub returns-in_err-at-clause-rests : goal.returns-in_err-at-clause-rests
+returns-in_err-at-clause-rests c = c.in_err-at.ensures.rests

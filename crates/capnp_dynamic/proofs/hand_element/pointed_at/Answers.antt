@@ -10,9 +10,9 @@ use Rattle.capnp_arena.specs.Segment.{segment}
 use Rattle.capnp_schema.specs.Entries.{lists_seen}
 use Rattle.capnp_schema.specs.Facts.Layers.{seen_which}
 use Rattle.capnp_schema.specs.Schema.{VoidValue}
-use Rattle.capnp_schema.specs.Types.{seen_type, seen_variant}
+use Rattle.capnp_schema.specs.Types.{is_pointer, seen_type, seen_variant}
 use Rattle.capnp_slots.specs.Fills.{element_filled}
-use Rattle.capnp_dynamic.proofs.ElementsHanded.{no_default, pointer_there}
+use Rattle.capnp_dynamic.proofs.ElementsHanded.{behind_pointer, no_default, pointer_there}
 use Rattle.capnp_dynamic.proofs.ElementsStarted.{pointer-here, pointer-there}
 use Rattle.capnp_dynamic.proofs.HandedOut.{can-fill, can-hand, handed-out}
 use Rattle.capnp_dynamic.proofs.hand_element.pointed_at.Goals as goal
@@ -61,3 +61,56 @@ returns-clause-owner c = record {
   changes = c.in_ok-fill.ensures.changes;
   becomes = c.in_ok-fill.ensures.filled;
 }
+
+pub tree_is_sound-requires : goal.tree_is_sound-requires
+tree_is_sound-requires c = c.requires.under.forest
+
+pub fill-requires-clause-forest : goal.fill-requires-clause-forest
+fill-requires-clause-forest c = c.requires.under.forest
+
+pub fill-requires-clause-behind : goal.fill-requires-clause-behind
+fill-requires-clause-behind c = c.requires.behind
+
+pub get_pointer_element-at-requires-clause-forest : goal.get_pointer_element-at-requires-clause-forest
+get_pointer_element-at-requires-clause-forest c = c.in_ok-fill.ensures.forest
+
+pub tree_is_sound-2-requires : goal.tree_is_sound-2-requires
+tree_is_sound-2-requires c = c.get_pointer_element-at.ensures.forest
+
+pub hand_out-requires-clause-pointer : goal.hand_out-requires-clause-pointer
+hand_out-requires-clause-pointer c = ap is_pointer (ap seen_variant c.which-variant.ensures ∙ seen_which c.args.element_type) ∙ behind_pointer (seen_type c.args.element_type) c.requires.behind
+
+pub hand_out-requires-clause-forest : goal.hand_out-requires-clause-forest
+hand_out-requires-clause-forest c = c.get_pointer_element-at.ensures.forest
+
+pub returns-clause-ready : goal.returns-clause-ready
+returns-clause-ready c = c.hand_out.ensures.ready
+
+pub returns-clause-within : goal.returns-clause-within
+returns-clause-within c = c.in_ok-fill.ensures.within
+
+pub returns-clause-cause : goal.returns-clause-cause
+returns-clause-cause c = tt
+
+pub returns-clause-rests : goal.returns-clause-rests
+returns-clause-rests c = λ rests. refl
+
+-- ---- refused ----
+
+pub returns-in_err-fill-clause-stands : goal.returns-in_err-fill-clause-stands
+returns-in_err-fill-clause-stands c = tt
+
+pub returns-in_err-fill-clause-ready : goal.returns-in_err-fill-clause-ready
+returns-in_err-fill-clause-ready c = tt
+
+pub returns-in_err-fill-clause-owner : goal.returns-in_err-fill-clause-owner
+returns-in_err-fill-clause-owner c = tt
+
+pub returns-in_err-fill-clause-within : goal.returns-in_err-fill-clause-within
+returns-in_err-fill-clause-within c = tt
+
+pub returns-in_err-fill-clause-cause : goal.returns-in_err-fill-clause-cause
+returns-in_err-fill-clause-cause c = c.in_err-fill.ensures.cause
+
+pub returns-in_err-fill-clause-rests : goal.returns-in_err-fill-clause-rests
+returns-in_err-fill-clause-rests c = c.in_err-fill.ensures.rests

@@ -52,3 +52,35 @@ returns-clause-owner c = record {
   changes = c.in_ok-init.ensures.changes;
   becomes = c.in_ok-init.ensures.written;
 }
+
+pub tree_is_sound-requires : goal.tree_is_sound-requires
+tree_is_sound-requires c = c.requires.ready.forest
+
+pub init-requires-clause-forest : goal.init-requires-clause-forest
+init-requires-clause-forest c = c.requires.ready.forest
+
+pub get_pointer_element-at-requires-clause-forest : goal.get_pointer_element-at-requires-clause-forest
+get_pointer_element-at-requires-clause-forest c = c.in_ok-init.ensures.forest
+
+pub hand_out-requires-clause-forest : goal.hand_out-requires-clause-forest
+hand_out-requires-clause-forest c = c.get_pointer_element-at.ensures.forest
+
+pub returns-clause-ready : goal.returns-clause-ready
+returns-clause-ready c = c.hand_out.ensures.ready
+
+pub returns-clause-cause : goal.returns-clause-cause
+returns-clause-cause c = tt
+
+-- ---- refused ----
+
+pub returns-in_err-init-clause-stands : goal.returns-in_err-init-clause-stands
+returns-in_err-init-clause-stands c = tt
+
+pub returns-in_err-init-clause-ready : goal.returns-in_err-init-clause-ready
+returns-in_err-init-clause-ready c = tt
+
+pub returns-in_err-init-clause-owner : goal.returns-in_err-init-clause-owner
+returns-in_err-init-clause-owner c = tt
+
+pub returns-in_err-init-clause-cause : goal.returns-in_err-init-clause-cause
+returns-in_err-init-clause-cause c = c.in_err-init.ensures.cause

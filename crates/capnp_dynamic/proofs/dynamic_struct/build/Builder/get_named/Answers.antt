@@ -8,6 +8,7 @@ use Rattle.capnp_dynamic.proofs.HandedOut.{same_due, same_handed, same_rests, sa
 use Rattle.capnp_dynamic_readers.specs.Facts.Found.{found_belongs}
 use Rattle.capnp_dynamic.specs.Owners.{IsGotOf}
 use Rattle.capnp_dynamic.proofs.Owners.{same_got}
+use Rattle.capnp_dynamic.proofs.Builders.{not_named}
 use Rattle.capnp_dynamic.proofs.dynamic_struct.build.Builder.get_named.Goals as goal
 
 pub returns-clause-stands : goal.returns-clause-stands
@@ -47,3 +48,38 @@ returns-clause-owner c = λ f named.
 pub get-requires-clause-belongs : goal.get-requires-clause-belongs
 get-requires-clause-belongs c =
     found_belongs (built_schema c.args.self) (field_named (struct_records (built_schema c.args.self)) c.args.field_name.now) c.in_ok-field.field c.in_ok-field.ensures.field
+
+pub get-requires-clause-ready : goal.get-requires-clause-ready
+get-requires-clause-ready c = c.requires
+
+pub returns-clause-ready : goal.returns-clause-ready
+returns-clause-ready c = c.get.ensures.ready
+
+pub returns-clause-none : goal.returns-clause-none
+returns-clause-none c = λ none.
+    absurd (not_named (built_schema c.args.self) (field_named (struct_records (built_schema c.args.self)) c.args.field_name.now) c.in_ok-field.field none c.in_ok-field.ensures.field)
+
+-- ---- no field of the name ----
+
+pub returns-in_err-field-clause-stands : goal.returns-in_err-field-clause-stands
+returns-in_err-field-clause-stands c = λ f named. tt
+
+pub returns-in_err-field-clause-ready : goal.returns-in_err-field-clause-ready
+returns-in_err-field-clause-ready c = tt
+
+pub returns-in_err-field-clause-owner : goal.returns-in_err-field-clause-owner
+returns-in_err-field-clause-owner c = λ f named. tt
+
+pub returns-in_err-field-clause-within : goal.returns-in_err-field-clause-within
+returns-in_err-field-clause-within c = λ f named. tt
+
+pub returns-in_err-field-clause-cause : goal.returns-in_err-field-clause-cause
+returns-in_err-field-clause-cause c = λ f named.
+    absurd (not_named (built_schema c.args.self) (field_named (struct_records (built_schema c.args.self)) c.args.field_name.now) f c.in_err-field.ensures.refused.1 named)
+
+pub returns-in_err-field-clause-rests : goal.returns-in_err-field-clause-rests
+returns-in_err-field-clause-rests c = λ f named rests.
+    absurd (not_named (built_schema c.args.self) (field_named (struct_records (built_schema c.args.self)) c.args.field_name.now) f c.in_err-field.ensures.refused.1 named)
+
+pub returns-in_err-field-clause-none : goal.returns-in_err-field-clause-none
+returns-in_err-field-clause-none c = λ none. c.in_err-field.ensures.refused.0

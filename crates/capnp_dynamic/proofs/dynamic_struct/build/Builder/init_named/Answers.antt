@@ -8,6 +8,7 @@ use Rattle.capnp_dynamic.proofs.Started.{same_init, same_start_refusal}
 use Rattle.capnp_dynamic_readers.specs.Facts.Found.{found_belongs}
 use Rattle.capnp_dynamic.specs.Owners.{IsStartedOf}
 use Rattle.capnp_dynamic.proofs.Owners.{same_started}
+use Rattle.capnp_dynamic.proofs.Builders.{not_named}
 use Rattle.capnp_dynamic.proofs.dynamic_struct.build.Builder.init_named.Goals as goal
 
 pub returns-clause-stands : goal.returns-clause-stands
@@ -34,3 +35,31 @@ returns-clause-owner c = λ f named.
 pub init-requires-clause-belongs : goal.init-requires-clause-belongs
 init-requires-clause-belongs c =
     found_belongs (built_schema c.args.self) (field_named (struct_records (built_schema c.args.self)) c.args.field_name.now) c.in_ok-field.field c.in_ok-field.ensures.field
+
+pub init-requires-clause-ready : goal.init-requires-clause-ready
+init-requires-clause-ready c = c.requires
+
+pub returns-clause-ready : goal.returns-clause-ready
+returns-clause-ready c = c.init.ensures.ready
+
+pub returns-clause-none : goal.returns-clause-none
+returns-clause-none c = λ none.
+    absurd (not_named (built_schema c.args.self) (field_named (struct_records (built_schema c.args.self)) c.args.field_name.now) c.in_ok-field.field none c.in_ok-field.ensures.field)
+
+-- ---- no field of the name ----
+
+pub returns-in_err-field-clause-stands : goal.returns-in_err-field-clause-stands
+returns-in_err-field-clause-stands c = λ f named. tt
+
+pub returns-in_err-field-clause-ready : goal.returns-in_err-field-clause-ready
+returns-in_err-field-clause-ready c = tt
+
+pub returns-in_err-field-clause-owner : goal.returns-in_err-field-clause-owner
+returns-in_err-field-clause-owner c = λ f named. tt
+
+pub returns-in_err-field-clause-cause : goal.returns-in_err-field-clause-cause
+returns-in_err-field-clause-cause c = λ f named.
+    absurd (not_named (built_schema c.args.self) (field_named (struct_records (built_schema c.args.self)) c.args.field_name.now) f c.in_err-field.ensures.refused.1 named)
+
+pub returns-in_err-field-clause-none : goal.returns-in_err-field-clause-none
+returns-in_err-field-clause-none c = λ none. c.in_err-field.ensures.refused.0

@@ -8,6 +8,7 @@ use Rattle.capnp_dynamic.specs.Owners.{IsSizedOf}
 use Rattle.capnp_dynamic_readers.specs.Facts.Found.{found_belongs}
 use Rattle.capnp_dynamic.proofs.Owners.{same_sized}
 use Rattle.capnp_dynamic.proofs.Started.{same_initn, same_sized_refusal}
+use Rattle.capnp_dynamic.proofs.Builders.{not_named}
 use Rattle.capnp_dynamic.proofs.dynamic_struct.build.Builder.initn_named.Goals as goal
 
 pub initn-requires-clause-belongs : goal.initn-requires-clause-belongs
@@ -37,3 +38,31 @@ returns-clause-owner c = λ f named.
     let n = c.args.size in
     let g = c.in_ok-field.field in
     IfOk-weaker c.initn.result (IsSizedOf a p g n) (IsSizedOf a p f n) (λ v h. same_sized s (field_named (struct_records s) c.args.field_name.now) g f c.in_ok-field.ensures.field named a p v n h) c.initn.ensures.owner
+
+pub initn-requires-clause-ready : goal.initn-requires-clause-ready
+initn-requires-clause-ready c = c.requires
+
+pub returns-clause-ready : goal.returns-clause-ready
+returns-clause-ready c = c.initn.ensures.ready
+
+pub returns-clause-none : goal.returns-clause-none
+returns-clause-none c = λ none.
+    absurd (not_named (built_schema c.args.self) (field_named (struct_records (built_schema c.args.self)) c.args.field_name.now) c.in_ok-field.field none c.in_ok-field.ensures.field)
+
+-- ---- no field of the name ----
+
+pub returns-in_err-field-clause-stands : goal.returns-in_err-field-clause-stands
+returns-in_err-field-clause-stands c = λ f named. tt
+
+pub returns-in_err-field-clause-ready : goal.returns-in_err-field-clause-ready
+returns-in_err-field-clause-ready c = tt
+
+pub returns-in_err-field-clause-owner : goal.returns-in_err-field-clause-owner
+returns-in_err-field-clause-owner c = λ f named. tt
+
+pub returns-in_err-field-clause-cause : goal.returns-in_err-field-clause-cause
+returns-in_err-field-clause-cause c = λ f named.
+    absurd (not_named (built_schema c.args.self) (field_named (struct_records (built_schema c.args.self)) c.args.field_name.now) f c.in_err-field.ensures.refused.1 named)
+
+pub returns-in_err-field-clause-none : goal.returns-in_err-field-clause-none
+returns-in_err-field-clause-none c = λ none. c.in_err-field.ensures.refused.0
