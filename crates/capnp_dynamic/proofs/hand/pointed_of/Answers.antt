@@ -78,23 +78,3 @@ returns-clause-cause c = tt
 
 pub returns-clause-rests : goal.returns-clause-rests
 returns-clause-rests c = λ rests. refl
-
--- ---- refused ----
-
-pub returns-in_err-at-clause-stands : goal.returns-in_err-at-clause-stands
-returns-in_err-at-clause-stands c = tt
-
-pub returns-in_err-at-clause-ready : goal.returns-in_err-at-clause-ready
-returns-in_err-at-clause-ready c = tt
-
-pub returns-in_err-at-clause-owner : goal.returns-in_err-at-clause-owner
-returns-in_err-at-clause-owner c = tt
-
-pub returns-in_err-at-clause-within : goal.returns-in_err-at-clause-within
-returns-in_err-at-clause-within c = tt
-
-pub returns-in_err-at-clause-cause : goal.returns-in_err-at-clause-cause
-returns-in_err-at-clause-cause c = c.in_err-at.ensures.cause
-
-pub returns-in_err-at-clause-rests : goal.returns-in_err-at-clause-rests
-returns-in_err-at-clause-rests c = c.in_err-at.ensures.rests

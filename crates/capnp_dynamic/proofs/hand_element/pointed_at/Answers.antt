@@ -74,8 +74,8 @@ fill-requires-clause-behind c = c.requires.behind
 pub get_pointer_element-at-requires-clause-forest : goal.get_pointer_element-at-requires-clause-forest
 get_pointer_element-at-requires-clause-forest c = c.in_ok-fill.ensures.forest
 
-pub tree_is_sound-2-requires : goal.tree_is_sound-2-requires
-tree_is_sound-2-requires c = c.get_pointer_element-at.ensures.forest
+pub tree_is_sound-requires-2 : goal.tree_is_sound-requires-2
+tree_is_sound-requires-2 c = c.get_pointer_element-at.ensures.forest
 
 pub hand_out-requires-clause-pointer : goal.hand_out-requires-clause-pointer
 hand_out-requires-clause-pointer c = ap is_pointer (ap seen_variant c.which-variant.ensures ∙ seen_which c.args.element_type) ∙ behind_pointer (seen_type c.args.element_type) c.requires.behind
@@ -94,23 +94,3 @@ returns-clause-cause c = tt
 
 pub returns-clause-rests : goal.returns-clause-rests
 returns-clause-rests c = λ rests. refl
-
--- ---- refused ----
-
-pub returns-in_err-fill-clause-stands : goal.returns-in_err-fill-clause-stands
-returns-in_err-fill-clause-stands c = tt
-
-pub returns-in_err-fill-clause-ready : goal.returns-in_err-fill-clause-ready
-returns-in_err-fill-clause-ready c = tt
-
-pub returns-in_err-fill-clause-owner : goal.returns-in_err-fill-clause-owner
-returns-in_err-fill-clause-owner c = tt
-
-pub returns-in_err-fill-clause-within : goal.returns-in_err-fill-clause-within
-returns-in_err-fill-clause-within c = tt
-
-pub returns-in_err-fill-clause-cause : goal.returns-in_err-fill-clause-cause
-returns-in_err-fill-clause-cause c = c.in_err-fill.ensures.cause
-
-pub returns-in_err-fill-clause-rests : goal.returns-in_err-fill-clause-rests
-returns-in_err-fill-clause-rests c = c.in_err-fill.ensures.rests

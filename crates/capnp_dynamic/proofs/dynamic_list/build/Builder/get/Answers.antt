@@ -6,7 +6,7 @@ use Rattle.std.proofs.lemmas.Result.{IfErr-weaker, IfOk-weaker}
 use Rattle.capnp_wire.specs.Edits.{IsDueRefusal}
 use Rattle.capnp_wire.specs.Reading.{element_pointer}
 use Rattle.capnp_schema.specs.Facts.Layers.{seen_which}
-use Rattle.capnp_schema.specs.Types.{SchemaType, StructType, seen_variant}
+use Rattle.capnp_schema.specs.Types.{SchemaType, seen_variant}
 use Rattle.capnp_slots.specs.Fills.{element_due, element_filled, is_behind}
 use Rattle.capnp_dynamic.specs.Built.{IsListStanding, built_element, built_elements, built_reading, built_set, list_behind, word_of}
 use Rattle.capnp_dynamic.specs.Handed.{HandsElement, HandsOut, IsElementPartRefusal, IsElementWithin, element_handed}

@@ -70,17 +70,3 @@ returns-clause-ready c = c.hand_out.ensures.ready
 
 pub returns-clause-cause : goal.returns-clause-cause
 returns-clause-cause c = tt
-
--- ---- refused ----
-
-pub returns-in_err-init-clause-stands : goal.returns-in_err-init-clause-stands
-returns-in_err-init-clause-stands c = tt
-
-pub returns-in_err-init-clause-ready : goal.returns-in_err-init-clause-ready
-returns-in_err-init-clause-ready c = tt
-
-pub returns-in_err-init-clause-owner : goal.returns-in_err-init-clause-owner
-returns-in_err-init-clause-owner c = tt
-
-pub returns-in_err-init-clause-cause : goal.returns-in_err-init-clause-cause
-returns-in_err-init-clause-cause c = c.in_err-init.ensures.cause

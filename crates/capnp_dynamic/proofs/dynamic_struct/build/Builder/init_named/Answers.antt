@@ -45,21 +45,3 @@ returns-clause-ready c = c.init.ensures.ready
 pub returns-clause-none : goal.returns-clause-none
 returns-clause-none c = λ none.
     absurd (not_named (built_schema c.args.self) (field_named (struct_records (built_schema c.args.self)) c.args.field_name.now) c.in_ok-field.field none c.in_ok-field.ensures.field)
-
--- ---- no field of the name ----
-
-pub returns-in_err-field-clause-stands : goal.returns-in_err-field-clause-stands
-returns-in_err-field-clause-stands c = λ f named. tt
-
-pub returns-in_err-field-clause-ready : goal.returns-in_err-field-clause-ready
-returns-in_err-field-clause-ready c = tt
-
-pub returns-in_err-field-clause-owner : goal.returns-in_err-field-clause-owner
-returns-in_err-field-clause-owner c = λ f named. tt
-
-pub returns-in_err-field-clause-cause : goal.returns-in_err-field-clause-cause
-returns-in_err-field-clause-cause c = λ f named.
-    absurd (not_named (built_schema c.args.self) (field_named (struct_records (built_schema c.args.self)) c.args.field_name.now) f c.in_err-field.ensures.refused.1 named)
-
-pub returns-in_err-field-clause-none : goal.returns-in_err-field-clause-none
-returns-in_err-field-clause-none c = λ none. c.in_err-field.ensures.refused.0
