@@ -6,112 +6,31 @@ use crate::script::{pairs_hold, rows_hold};
 const OTHERS: &str = "struct 1 0, n UInt16 @0; enum red blue";
 
 /// A field with a default, and with the default that it has now.
-static TYPE_ROWS: [(&str, &str, bool); 20] = [
-    (
-        "struct 1 2, f Bool @0 =Bool(true)",
-        "struct 1 2, f Bool @0 =Bool(true)",
-        true,
-    ),
-    (
-        "struct 1 2, f Bool @0 =Bool(true)",
-        "struct 1 2, f Bool @0 =Bool(false)",
-        false,
-    ),
-    (
-        "struct 1 2, f Int8 @0 =Int8(-1)",
-        "struct 1 2, f Int8 @0 =Int8(-1)",
-        true,
-    ),
-    (
-        "struct 1 2, f Int8 @0 =Int8(-1)",
-        "struct 1 2, f Int8 @0 =Int8(1)",
-        false,
-    ),
-    (
-        "struct 1 2, f UInt64 @0 =UInt64(7)",
-        "struct 1 2, f UInt64 @0 =UInt64(8)",
-        false,
-    ),
-    (
-        "struct 1 2, f Enum(0) @0 =Enum(1)",
-        "struct 1 2, f Enum(0) @0 =Enum(1)",
-        true,
-    ),
-    (
-        "struct 1 2, f Enum(0) @0 =Enum(1)",
-        "struct 1 2, f Enum(0) @0 =Enum(0)",
-        false,
-    ),
-    (
-        "struct 1 2, f Text @0 =Text(ab)",
-        "struct 1 2, f Text @0 =Text(ab)",
-        true,
-    ),
-    (
-        "struct 1 2, f Text @0 =Text(ab)",
-        "struct 1 2, f Text @0 =Text(ac)",
-        false,
-    ),
-    (
-        "struct 1 2, f Text @0",
-        "struct 1 2, f Text @0 =AnyPointer(null)",
-        false,
-    ),
-    (
-        "struct 1 2, f Data @0 =Data(ab)",
-        "struct 1 2, f Data @0 =Data(a)",
-        false,
-    ),
-    (
-        "struct 1 2, f Struct(2) @0 =Struct(struct_3)",
-        "struct 1 2, f Struct(2) @0 =Struct(struct_3_apart)",
-        true,
-    ),
-    (
-        "struct 1 2, f Struct(2) @0 =Struct(struct_3)",
-        "struct 1 2, f Struct(2) @0 =Struct(struct_4)",
-        false,
-    ),
-    (
-        "struct 1 2, f Struct(2) @0 =Struct(struct_3)",
-        "struct 1 2, f Struct(2) @0",
-        false,
-    ),
-    (
-        "struct 1 2, f Struct(2) @0",
-        "struct 1 2, f Struct(2) @0 =Struct(null_and_one)",
-        true,
-    ),
-    (
-        "struct 1 2, f Struct(2) @0",
-        "struct 1 2, f Struct(2) @0 =AnyPointer(null)",
-        false,
-    ),
-    (
-        "struct 1 2, f List(UInt8) @0 =List(bytes_5_6)",
-        "struct 1 2, f List(UInt8) @0 =List(bytes_5_6_apart)",
-        true,
-    ),
-    (
-        "struct 1 2, f List(UInt8) @0 =List(bytes_5_6)",
-        "struct 1 2, f List(UInt8) @0 =List(byte_5)",
-        false,
-    ),
-    (
-        "struct 1 2, f List(UInt8) @0 =AnyPointer(null)",
-        "struct 1 2, f List(UInt8) @0 =AnyPointer(null_and_one)",
-        true,
-    ),
-    (
-        "struct 1 2, f List(UInt8) @0 =AnyPointer(null)",
-        "struct 1 2, f List(UInt8) @0",
-        false,
-    ),
-];
+const TYPE_ROWS: &str = "\
+struct 1 2, f Bool @0 =Bool(true) | struct 1 2, f Bool @0 =Bool(true) -> yes
+struct 1 2, f Bool @0 =Bool(true) | struct 1 2, f Bool @0 =Bool(false) -> no
+struct 1 2, f Int8 @0 =Int8(-1) | struct 1 2, f Int8 @0 =Int8(-1) -> yes
+struct 1 2, f Int8 @0 =Int8(-1) | struct 1 2, f Int8 @0 =Int8(1) -> no
+struct 1 2, f UInt64 @0 =UInt64(7) | struct 1 2, f UInt64 @0 =UInt64(8) -> no
+struct 1 2, f Enum(0) @0 =Enum(1) | struct 1 2, f Enum(0) @0 =Enum(1) -> yes
+struct 1 2, f Enum(0) @0 =Enum(1) | struct 1 2, f Enum(0) @0 =Enum(0) -> no
+struct 1 2, f Text @0 =Text(ab) | struct 1 2, f Text @0 =Text(ab) -> yes
+struct 1 2, f Text @0 =Text(ab) | struct 1 2, f Text @0 =Text(ac) -> no
+struct 1 2, f Text @0 | struct 1 2, f Text @0 =AnyPointer(null) -> no
+struct 1 2, f Data @0 =Data(ab) | struct 1 2, f Data @0 =Data(a) -> no
+struct 1 2, f Struct(2) @0 =Struct(struct_3) | struct 1 2, f Struct(2) @0 =Struct(struct_3_apart) -> yes
+struct 1 2, f Struct(2) @0 =Struct(struct_3) | struct 1 2, f Struct(2) @0 =Struct(struct_4) -> no
+struct 1 2, f Struct(2) @0 =Struct(struct_3) | struct 1 2, f Struct(2) @0 -> no
+struct 1 2, f Struct(2) @0 | struct 1 2, f Struct(2) @0 =Struct(null_and_one) -> yes
+struct 1 2, f Struct(2) @0 | struct 1 2, f Struct(2) @0 =AnyPointer(null) -> no
+struct 1 2, f List(UInt8) @0 =List(bytes_5_6) | struct 1 2, f List(UInt8) @0 =List(bytes_5_6_apart) -> yes
+struct 1 2, f List(UInt8) @0 =List(bytes_5_6) | struct 1 2, f List(UInt8) @0 =List(byte_5) -> no
+struct 1 2, f List(UInt8) @0 =AnyPointer(null) | struct 1 2, f List(UInt8) @0 =AnyPointer(null_and_one) -> yes
+struct 1 2, f List(UInt8) @0 =AnyPointer(null) | struct 1 2, f List(UInt8) @0 -> no";
 
 #[test]
 fn defaults_of_one_type(rt: HostRuntime) {
-    pairs_hold(&rt, rt.alloc(), OTHERS, &TYPE_ROWS);
+    pairs_hold(&rt, rt.alloc(), OTHERS, TYPE_ROWS);
 }
 
 /// Of structs of which the first two have one default, and the last two another.
@@ -182,60 +101,19 @@ fn defaults_that_are_integers(rt: HostRuntime) {
 }
 
 /// Defaults that have pointers of their own.
-static PART_ROWS: [(&str, &str, bool); 10] = [
-    (
-        "struct 1 2, f Struct(2) @0 =Struct(nested_3)",
-        "struct 1 2, f Struct(2) @0 =Struct(nested_3)",
-        true,
-    ),
-    (
-        "struct 1 2, f Struct(2) @0 =Struct(nested_3)",
-        "struct 1 2, f Struct(2) @0 =Struct(nested_4)",
-        false,
-    ),
-    (
-        "struct 1 2, f Struct(2) @0 =Struct(nested_3)",
-        "struct 1 2, f Struct(2) @0 =Struct(nested_null)",
-        false,
-    ),
-    (
-        "struct 1 2, f Struct(2) @0 =Struct(nested_null)",
-        "struct 1 2, f Struct(2) @0 =Struct(nested_null)",
-        true,
-    ),
-    (
-        "struct 1 2, f Struct(2) @0 =Struct(shared_3)",
-        "struct 1 2, f Struct(2) @0 =Struct(shared_3)",
-        true,
-    ),
-    (
-        "struct 1 2, f Struct(2) @0 =Struct(shared_3)",
-        "struct 1 2, f Struct(2) @0 =Struct(copies_3)",
-        true,
-    ),
-    (
-        "struct 1 2, f Struct(2) @0 =Struct(copies_3)",
-        "struct 1 2, f Struct(2) @0 =Struct(shared_3)",
-        true,
-    ),
-    (
-        "struct 1 2, f Struct(2) @0 =Struct(shared_3)",
-        "struct 1 2, f Struct(2) @0 =Struct(copies_3_4)",
-        false,
-    ),
-    (
-        "struct 1 2, f Struct(2) @0 =Struct(copies_3)",
-        "struct 1 2, f Struct(2) @0 =Struct(copies_3_4)",
-        false,
-    ),
-    (
-        "struct 1 2, f Struct(2) @0 =Struct(shared_3)",
-        "struct 1 2, f Struct(2) @0 =Struct(nested_3)",
-        false,
-    ),
-];
+const PART_ROWS: &str = "\
+struct 1 2, f Struct(2) @0 =Struct(nested_3) | struct 1 2, f Struct(2) @0 =Struct(nested_3) -> yes
+struct 1 2, f Struct(2) @0 =Struct(nested_3) | struct 1 2, f Struct(2) @0 =Struct(nested_4) -> no
+struct 1 2, f Struct(2) @0 =Struct(nested_3) | struct 1 2, f Struct(2) @0 =Struct(nested_null) -> no
+struct 1 2, f Struct(2) @0 =Struct(nested_null) | struct 1 2, f Struct(2) @0 =Struct(nested_null) -> yes
+struct 1 2, f Struct(2) @0 =Struct(shared_3) | struct 1 2, f Struct(2) @0 =Struct(shared_3) -> yes
+struct 1 2, f Struct(2) @0 =Struct(shared_3) | struct 1 2, f Struct(2) @0 =Struct(copies_3) -> yes
+struct 1 2, f Struct(2) @0 =Struct(copies_3) | struct 1 2, f Struct(2) @0 =Struct(shared_3) -> yes
+struct 1 2, f Struct(2) @0 =Struct(shared_3) | struct 1 2, f Struct(2) @0 =Struct(copies_3_4) -> no
+struct 1 2, f Struct(2) @0 =Struct(copies_3) | struct 1 2, f Struct(2) @0 =Struct(copies_3_4) -> no
+struct 1 2, f Struct(2) @0 =Struct(shared_3) | struct 1 2, f Struct(2) @0 =Struct(nested_3) -> no";
 
 #[test]
 fn defaults_with_parts(rt: HostRuntime) {
-    pairs_hold(&rt, rt.alloc(), OTHERS, &PART_ROWS);
+    pairs_hold(&rt, rt.alloc(), OTHERS, PART_ROWS);
 }

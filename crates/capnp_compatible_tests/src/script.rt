@@ -145,16 +145,33 @@ pub fn rows_hold(rt: &impl Abort, alloc: Global, rows: &[(&'static str, &'static
     }
 }
 
-/// Asserts for each of these whether the second struct is a compatible successor of the first: two structs, and the
-/// answer. The other parts of their set are the same for all.
-pub fn pairs_hold(
-    rt: &impl Abort,
-    alloc: Global,
-    others: &'static str,
-    rows: &[(&'static str, &'static str, bool)],
-) {
-    for (older, newer, follows) in rows {
-        let answer = if *follows { "true" } else { "false" };
-        are_answers(rt, alloc, &[*older, *newer, others], "follows 0 1", answer);
+/// Two parts of a set, and what is answered whether one struct follows another: `older | newer -> yes`, or `-> no`.
+fn parts_of(row: &'static str) -> (&'static str, &'static str, &'static str) {
+    let (parts, answer) = row.split_once(" -> ").unwrap_or((row, ""));
+    let (older, newer) = parts.split_once(" | ").unwrap_or((parts, ""));
+    let follows = match answer {
+        "yes" => "true",
+        "no" => "false",
+        _ => "no answer",
+    };
+    (older, newer, follows)
+}
+
+/// Asserts for each line whether the second struct is a compatible successor of the first. The other parts of their set
+/// are the same for all.
+pub fn pairs_hold(rt: &impl Abort, alloc: Global, others: &'static str, rows: &'static str) {
+    for row in rows.lines() {
+        let (older, newer, follows) = parts_of(row);
+        are_answers(rt, alloc, &[older, newer, others], "follows 0 1", follows);
+    }
+}
+
+/// The same of structs 9 and 10, where a list in the first became one of structs: a line has the first, and the struct
+/// that stands where an element stood.
+pub fn lists_hold(rt: &impl Abort, alloc: Global, rows: &'static str) {
+    for row in rows.lines() {
+        let (numbers, pair, follows) = parts_of(row);
+        let texts = ["built-in", numbers, "struct 0 1, xs List(Struct(11)) @0", pair];
+        are_answers(rt, alloc, &texts, "follows 9 10", follows);
     }
 }

@@ -3,101 +3,41 @@
 use crate::script::{pairs_hold, rows_hold};
 
 /// Fields of a struct, and those of a larger one.
-static FIELD_ROWS: [(&str, &str, bool); 8] = [
-    (
-        "struct 1 2, p UInt16 @0, q UInt16 @1",
-        "struct 2 2, p UInt16 @0, q UInt16 @1",
-        true,
-    ),
-    (
-        "struct 1 2, p UInt16 @0, q UInt16 @1",
-        "struct 2 2, p UInt16 @0, q UInt16 @1, r Text @0",
-        true,
-    ),
-    ("struct 1 2", "struct 2 2, p UInt16 @0, q UInt16 @1", true),
-    (
-        "struct 1 2, p UInt16 @0, q UInt16 @1",
-        "struct 2 2, q UInt16 @0, p UInt16 @1",
-        true,
-    ),
-    (
-        "struct 1 2, p UInt16 @0, q UInt16 @1, r Text @0",
-        "struct 2 2, p UInt16 @0, q UInt16 @1",
-        false,
-    ),
-    (
-        "struct 1 2, p UInt16 @0, q UInt16 @1",
-        "struct 2 2, q UInt16 @1, p UInt16 @0",
-        false,
-    ),
-    (
-        "struct 1 2, p UInt16 @0, q UInt16 @1",
-        "struct 2 2, p UInt16 @0, q UInt16 @2",
-        false,
-    ),
-    (
-        "struct 1 2, p UInt16 @0, q UInt16 @1, r Text @0",
-        "struct 2 2, p UInt16 @0, q UInt16 @1, r Text @1",
-        false,
-    ),
-];
+const FIELD_ROWS: &str = "\
+struct 1 2, p UInt16 @0, q UInt16 @1 | struct 2 2, p UInt16 @0, q UInt16 @1 -> yes
+struct 1 2, p UInt16 @0, q UInt16 @1 | struct 2 2, p UInt16 @0, q UInt16 @1, r Text @0 -> yes
+struct 1 2 | struct 2 2, p UInt16 @0, q UInt16 @1 -> yes
+struct 1 2, p UInt16 @0, q UInt16 @1 | struct 2 2, q UInt16 @0, p UInt16 @1 -> yes
+struct 1 2, p UInt16 @0, q UInt16 @1, r Text @0 | struct 2 2, p UInt16 @0, q UInt16 @1 -> no
+struct 1 2, p UInt16 @0, q UInt16 @1 | struct 2 2, q UInt16 @1, p UInt16 @0 -> no
+struct 1 2, p UInt16 @0, q UInt16 @1 | struct 2 2, p UInt16 @0, q UInt16 @2 -> no
+struct 1 2, p UInt16 @0, q UInt16 @1, r Text @0 | struct 2 2, p UInt16 @0, q UInt16 @1, r Text @1 -> no";
 
 #[test]
 fn fields_at_their_places(rt: HostRuntime) {
-    pairs_hold(&rt, rt.alloc(), "", &FIELD_ROWS);
+    pairs_hold(&rt, rt.alloc(), "", FIELD_ROWS);
 }
 
-static UNION_ROWS: [(&str, &str, bool); 9] = [
-    (
-        "struct 1 2 union 2 1, none Void @0 #0, some UInt16 @0 #1",
-        "struct 1 2 union 2 1, none Void @0 #0, some UInt16 @0 #1",
-        true,
-    ),
-    (
-        "struct 1 2 union 2 1, none Void @0 #0, some UInt16 @0 #1",
-        "struct 1 2 union 3 1, none Void @0 #0, some UInt16 @0 #1, text Text @0 #2",
-        true,
-    ),
-    (
-        "struct 1 2 union 0 0, none Void @0, some UInt16 @0",
-        "struct 1 2 union 0 2, none Void @0, some UInt16 @0",
-        true,
-    ),
-    (
-        "struct 1 2 union 0 0, none Void @0, some UInt16 @0",
-        "struct 1 2 union 2 1, none Void @0, some UInt16 @0, text Text @0 #0, other Text @0 #1",
-        true,
-    ),
-    (
-        "struct 1 2 union 3 1, none Void @0 #0, some UInt16 @0 #1, text Text @0 #2",
-        "struct 1 2 union 2 1, none Void @0 #0, some UInt16 @0 #1",
-        false,
-    ),
-    (
-        "struct 1 2 union 2 1, none Void @0 #0, some UInt16 @0 #1",
-        "struct 1 2 union 2 2, none Void @0 #0, some UInt16 @0 #1",
-        false,
-    ),
-    (
-        "struct 1 2 union 2 1, none Void @0 #0, some UInt16 @0 #1",
-        "struct 1 2 union 2 1, none Void @0 #1, some UInt16 @0 #0",
-        false,
-    ),
-    (
-        "struct 1 2 union 2 1, none Void @0 #0, some UInt16 @0 #1",
-        "struct 1 2 union 0 0, none Void @0, some UInt16 @0",
-        false,
-    ),
-    (
-        "struct 1 2 union 0 0, none Void @0, some UInt16 @0",
-        "struct 1 2 union 2 1, none Void @0 #0, some UInt16 @0 #1",
-        false,
-    ),
-];
+const UNION_ROWS: &str = "\
+struct 1 2 union 2 1, none Void @0 #0, some UInt16 @0 #1 | \
+    struct 1 2 union 2 1, none Void @0 #0, some UInt16 @0 #1 -> yes
+struct 1 2 union 2 1, none Void @0 #0, some UInt16 @0 #1 | \
+    struct 1 2 union 3 1, none Void @0 #0, some UInt16 @0 #1, text Text @0 #2 -> yes
+struct 1 2 union 0 0, none Void @0, some UInt16 @0 | struct 1 2 union 0 2, none Void @0, some UInt16 @0 -> yes
+struct 1 2 union 0 0, none Void @0, some UInt16 @0 | \
+    struct 1 2 union 2 1, none Void @0, some UInt16 @0, text Text @0 #0, other Text @0 #1 -> yes
+struct 1 2 union 3 1, none Void @0 #0, some UInt16 @0 #1, text Text @0 #2 | \
+    struct 1 2 union 2 1, none Void @0 #0, some UInt16 @0 #1 -> no
+struct 1 2 union 2 1, none Void @0 #0, some UInt16 @0 #1 | \
+    struct 1 2 union 2 2, none Void @0 #0, some UInt16 @0 #1 -> no
+struct 1 2 union 2 1, none Void @0 #0, some UInt16 @0 #1 | \
+    struct 1 2 union 2 1, none Void @0 #1, some UInt16 @0 #0 -> no
+struct 1 2 union 2 1, none Void @0 #0, some UInt16 @0 #1 | struct 1 2 union 0 0, none Void @0, some UInt16 @0 -> no
+struct 1 2 union 0 0, none Void @0, some UInt16 @0 | struct 1 2 union 2 1, none Void @0 #0, some UInt16 @0 #1 -> no";
 
 #[test]
 fn unions_at_their_places(rt: HostRuntime) {
-    pairs_hold(&rt, rt.alloc(), "", &UNION_ROWS);
+    pairs_hold(&rt, rt.alloc(), "", UNION_ROWS);
 }
 
 /// The group 2 became the group or struct 3.

@@ -1,7 +1,7 @@
 //! Lists of numbers, texts and lists that became lists of structs: `Tally` is struct 9 of each set, `Tally2` struct 10,
 //! and `Pair`, which stands where a number stood, struct 11.
 
-use crate::script::rows_hold;
+use crate::script::{lists_hold, rows_hold};
 
 /// A list of numbers became one of pairs of numbers.
 const NUMBERS: &str = "built-in; struct 0 1, xs List(UInt16) @0; \
@@ -60,145 +60,43 @@ fn texts_are_read_under_both(rt: HostRuntime) {
     rows_hold(&rt, rt.alloc(), &TEXT_ROWS);
 }
 
-static FIRST_ROWS: [(&str, &str, &str); 7] = [
-    (
-        "built-in; struct 0 1, xs List(UInt16) @0; struct 0 1, xs List(Struct(11)) @0; \
-        struct 1 1, v UInt16 @0, w UInt16 @1",
-        "follows 9 10",
-        "true",
-    ),
-    (
-        "built-in; struct 0 1, xs List(UInt16) @0; struct 0 1, xs List(Struct(11)) @0; \
-        struct 1 1, z UInt16 @0",
-        "follows 9 10",
-        "true",
-    ),
-    (
-        "built-in; struct 0 1, xs List(UInt16) @0; struct 0 1, xs List(Struct(11)) @0; \
-        struct 1 1, v UInt16 @0 =UInt16(1), w UInt16 @1",
-        "follows 9 10",
-        "false",
-    ),
-    (
-        "built-in; struct 0 1, xs List(UInt16) @0; struct 0 1, xs List(Struct(11)) @0; \
-        struct 1 1, v UInt16 @1, w UInt16 @0",
-        "follows 9 10",
-        "false",
-    ),
-    (
-        "built-in; struct 0 1, xs List(UInt16) @0; struct 0 1, xs List(Struct(11)) @0; struct 1 1",
-        "follows 9 10",
-        "false",
-    ),
-    (
-        "built-in; struct 0 1, xs List(UInt16) @0; struct 0 1, xs List(Struct(11)) @0; \
-        struct 1 1, v Int16 @0",
-        "follows 9 10",
-        "false",
-    ),
-    (
-        "built-in; struct 0 1, xs List(UInt16) @0; struct 0 1, xs List(Struct(11)) @0; \
-        struct 1 1 union 2 2, v UInt16 @0 #0, w UInt16 @1 #1",
-        "follows 9 10",
-        "false",
-    ),
-];
+const FIRST_ROWS: &str = "\
+struct 0 1, xs List(UInt16) @0 | struct 1 1, v UInt16 @0, w UInt16 @1 -> yes
+struct 0 1, xs List(UInt16) @0 | struct 1 1, z UInt16 @0 -> yes
+struct 0 1, xs List(UInt16) @0 | struct 1 1, v UInt16 @0 =UInt16(1), w UInt16 @1 -> no
+struct 0 1, xs List(UInt16) @0 | struct 1 1, v UInt16 @1, w UInt16 @0 -> no
+struct 0 1, xs List(UInt16) @0 | struct 1 1 -> no
+struct 0 1, xs List(UInt16) @0 | struct 1 1, v Int16 @0 -> no
+struct 0 1, xs List(UInt16) @0 | struct 1 1 union 2 2, v UInt16 @0 #0, w UInt16 @1 #1 -> no";
 
 #[test]
 fn which_field_stands_first(rt: HostRuntime) {
-    rows_hold(&rt, rt.alloc(), &FIRST_ROWS);
+    lists_hold(&rt, rt.alloc(), FIRST_ROWS);
 }
 
-static ELEMENT_ROWS: [(&str, &str, &str); 9] = [
-    (
-        "built-in; struct 0 1, xs List(Int8) @0; struct 0 1, xs List(Struct(11)) @0; \
-        struct 1 1, v Int8 @0",
-        "follows 9 10",
-        "true",
-    ),
-    (
-        "built-in; struct 0 1, xs List(UInt64) @0; struct 0 1, xs List(Struct(11)) @0; \
-        struct 1 1, v UInt64 @0",
-        "follows 9 10",
-        "true",
-    ),
-    (
-        "built-in; struct 0 1, xs List(Text) @0; struct 0 1, xs List(Struct(11)) @0; \
-        struct 1 1, v Text @0",
-        "follows 9 10",
-        "true",
-    ),
-    (
-        "built-in; struct 0 1, xs List(Data) @0; struct 0 1, xs List(Struct(11)) @0; \
-        struct 1 1, v Data @0",
-        "follows 9 10",
-        "true",
-    ),
-    (
-        "built-in; struct 0 1, xs List(List(UInt16)) @0; struct 0 1, xs List(Struct(11)) @0; \
-        struct 1 1, v List(UInt16) @0",
-        "follows 9 10",
-        "true",
-    ),
-    (
-        "built-in; struct 0 1, xs List(List(List(UInt16))) @0; \
-        struct 0 1, xs List(Struct(11)) @0; struct 1 1, v List(List(UInt16)) @0",
-        "follows 9 10",
-        "true",
-    ),
-    (
-        "built-in; struct 0 1, xs List(Void) @0; struct 0 1, xs List(Struct(11)) @0; \
-        struct 1 1, v Void @0",
-        "follows 9 10",
-        "false",
-    ),
-    (
-        "built-in; struct 0 1, xs List(Bool) @0; struct 0 1, xs List(Struct(11)) @0; \
-        struct 1 1, v Bool @0",
-        "follows 9 10",
-        "false",
-    ),
-    (
-        "built-in; struct 0 1, xs List(AnyPointer) @0; struct 0 1, xs List(Struct(11)) @0; \
-        struct 1 1, v AnyPointer @0",
-        "follows 9 10",
-        "false",
-    ),
-];
+const ELEMENT_ROWS: &str = "\
+struct 0 1, xs List(Int8) @0 | struct 1 1, v Int8 @0 -> yes
+struct 0 1, xs List(UInt64) @0 | struct 1 1, v UInt64 @0 -> yes
+struct 0 1, xs List(Text) @0 | struct 1 1, v Text @0 -> yes
+struct 0 1, xs List(Data) @0 | struct 1 1, v Data @0 -> yes
+struct 0 1, xs List(List(UInt16)) @0 | struct 1 1, v List(UInt16) @0 -> yes
+struct 0 1, xs List(List(List(UInt16))) @0 | struct 1 1, v List(List(UInt16)) @0 -> yes
+struct 0 1, xs List(Void) @0 | struct 1 1, v Void @0 -> no
+struct 0 1, xs List(Bool) @0 | struct 1 1, v Bool @0 -> no
+struct 0 1, xs List(AnyPointer) @0 | struct 1 1, v AnyPointer @0 -> no";
 
 #[test]
 fn which_elements_become_structs(rt: HostRuntime) {
-    rows_hold(&rt, rt.alloc(), &ELEMENT_ROWS);
+    lists_hold(&rt, rt.alloc(), ELEMENT_ROWS);
 }
 
-static DEFAULT_ROWS: [(&str, &str, &str); 4] = [
-    (
-        "built-in; struct 0 1, xs List(Text) @0; struct 0 1, xs List(Struct(11)) @0; \
-        struct 1 1, v Text @0",
-        "follows 9 10",
-        "true",
-    ),
-    (
-        "built-in; struct 0 1, xs List(Text) @0; struct 0 1, xs List(Struct(11)) @0; \
-        struct 1 1, v Text @0 =Text(a)",
-        "follows 9 10",
-        "false",
-    ),
-    (
-        "built-in; struct 0 1, xs List(Data) @0; struct 0 1, xs List(Struct(11)) @0; \
-        struct 1 1, v Data @0",
-        "follows 9 10",
-        "true",
-    ),
-    (
-        "built-in; struct 0 1, xs List(Data) @0; struct 0 1, xs List(Struct(11)) @0; \
-        struct 1 1, v Data @0 =Data(a)",
-        "follows 9 10",
-        "false",
-    ),
-];
+const DEFAULT_ROWS: &str = "\
+struct 0 1, xs List(Text) @0 | struct 1 1, v Text @0 -> yes
+struct 0 1, xs List(Text) @0 | struct 1 1, v Text @0 =Text(a) -> no
+struct 0 1, xs List(Data) @0 | struct 1 1, v Data @0 -> yes
+struct 0 1, xs List(Data) @0 | struct 1 1, v Data @0 =Data(a) -> no";
 
 #[test]
 fn a_default_that_changes_something(rt: HostRuntime) {
-    rows_hold(&rt, rt.alloc(), &DEFAULT_ROWS);
+    lists_hold(&rt, rt.alloc(), DEFAULT_ROWS);
 }
