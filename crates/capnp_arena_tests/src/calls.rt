@@ -547,7 +547,7 @@ fn reads_as(
 }
 
 /// Makes the call of a row on a message, and compares what it answers and the message then.
-fn follow_row(rt: &impl Abort, alloc: Global, message: &mut Builder, row: &Row)
+pub fn follow_row(rt: &impl Abort, alloc: Global, message: &mut Builder, row: &Row)
     requires { IsMessage message.old }
     ensures { IsMessage message.new }
 {
@@ -576,18 +576,26 @@ pub fn follow(rt: &impl Abort, alloc: Global, rows: &[Row]) {
     }
 }
 
-/// Makes the call of a row on a copy of its message.
-fn follow_change(rt: &impl Abort, alloc: Global, row: &Change) {
+/// Copies the message of a row, and makes the call.
+fn follow_call(rt: &impl Abort, alloc: Global, message: &mut Builder, row: &Change)
+    requires { IsMessage message.old }
+{
     let (name, stream, call, refused, then) = *row;
     let answer = match refused {
         None => Ok(""),
         Some(kind) => Err(kind),
     };
-    let rows = [
-        (name, Call::Copy(Copied::Message(stream)), Ok(""), stream),
-        (name, call, answer, then),
-    ];
-    follow(rt, alloc, &rows);
+    let copied = (name, Call::Copy(Copied::Message(stream)), Ok(""), stream);
+    follow_row(rt, alloc, message, &copied);
+    follow_row(rt, alloc, message, &(name, call, answer, then));
+}
+
+fn follow_change(rt: &impl Abort, alloc: Global, row: &Change) {
+    let message = Builder::new(alloc);
+    assert!(rt; message.is_ok());
+    if let Ok(mut message) = message {
+        follow_call(rt, alloc, &mut message, row);
+    }
 }
 
 /// Makes the calls of these rows, each on a message of its own.

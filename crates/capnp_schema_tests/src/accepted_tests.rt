@@ -1,42 +1,42 @@
 //! Sets that are accepted, and want of memory.
 
 use capnp_schema::builtin::new_set;
+use capnp_schema::set::SchemaSet;
 use capnp_schema::{meta, request};
 use capnp_schema_fixtures::set_text::read_set;
-use capnp_wire::error::ErrorKind;
+use capnp_wire::error::{ErrorKind, Result};
 use std::test::Fail;
+
+/// Whether a set has so many nodes, brands and enums.
+fn has_counts(set: &SchemaSet, nodes: usize, brands: usize, enums: usize) -> bool {
+    set.nodes().len() == nodes && set.brands().len() == brands && set.enums().len() == enums
+}
 
 #[test]
 fn the_built_in_set_is_accepted(rt: HostRuntime) -> std::result::Result<(), Fail> {
     let set = new_set(rt.alloc())?;
-    assert_eq!(rt; set.nodes().len(), 9);
-    assert_eq!(rt; set.brands().len(), 9);
-    assert_eq!(rt; set.enums().len(), 1);
+    assert!(rt; has_counts(&set, 9, 9, 1));
     Ok(())
 }
 
 #[test]
 fn the_meta_set_is_accepted(rt: HostRuntime) -> std::result::Result<(), Fail> {
     let set = meta::new_set(rt.alloc())?;
-    assert_eq!(rt; set.nodes().len(), 10);
-    assert_eq!(rt; set.brands().len(), 10);
-    assert!(rt; set.enums().is_empty());
+    assert!(rt; has_counts(&set, 10, 10, 0));
     Ok(())
 }
 
 #[test]
 fn the_request_set_is_accepted(rt: HostRuntime) -> std::result::Result<(), Fail> {
     let set = request::new_set(rt.alloc())?;
-    assert_eq!(rt; set.nodes().len(), 23);
-    assert_eq!(rt; set.brands().len(), 23);
-    assert!(rt; set.enums().is_empty());
+    assert!(rt; has_counts(&set, 23, 23, 0));
     Ok(())
 }
 
 #[test]
 fn empty_lists_are_accepted(rt: HostRuntime) -> std::result::Result<(), Fail> {
     let set = read_set(rt.alloc(), "")?;
-    assert!(rt; set.nodes().is_empty() && set.brands().is_empty() && set.enums().is_empty());
+    assert!(rt; has_counts(&set, 0, 0, 0));
     Ok(())
 }
 
@@ -49,14 +49,32 @@ fn a_good_set_is_refused_for_memory_alone(rt: HostRuntime) -> std::result::Resul
     Ok(())
 }
 
+/// Whether a struct that is not there has a field or a name.
+fn has_struct(set: &SchemaSet) -> Result<(bool, bool)> {
+    let none = set.struct_schema(0);
+    let fields = none.get_fields()?;
+    Ok((
+        !fields.is_empty(),
+        !none.get_proto().display_name.is_empty(),
+    ))
+}
+
+/// Whether an enum that is not there has an enumerant or a name.
+fn has_enum(set: &SchemaSet) -> Result<(bool, bool)> {
+    let none = set.enum_schema(0);
+    let enumerants = none.get_enumerants()?;
+    Ok((
+        !enumerants.is_empty(),
+        !none.get_proto().display_name.is_empty(),
+    ))
+}
+
 #[test]
 fn nothing_stands_past_the_end(rt: HostRuntime) -> std::result::Result<(), Fail> {
     let set = read_set(rt.alloc(), "")?;
-    let none = set.struct_schema(0);
-    assert!(rt; none.get_fields()?.is_empty());
-    assert!(rt; none.get_proto().display_name.is_empty());
-    let none = set.enum_schema(0);
-    assert!(rt; none.get_enumerants()?.is_empty());
-    assert!(rt; none.get_proto().display_name.is_empty());
+    assert_eq!(rt;
+        (has_struct(&set), has_enum(&set)),
+        (Ok((false, false)), Ok((false, false)))
+    );
     Ok(())
 }

@@ -5,7 +5,7 @@
 
 use capnp_schema_fixtures::fixtures::WHOLE;
 use capnp_schema_fixtures::set_text::read_set;
-use capnp_wire::error::{Error, ErrorKind, Result};
+use capnp_wire::error::{Error, ErrorKind, Result, SchemaTable};
 use std::alloc::Global;
 use std::process::Abort;
 use std::test::Fail;
@@ -13,21 +13,40 @@ use std::test::Fail;
 /// A set and the answer.
 pub type Row = (&'static str, &'static str);
 
+/// A broken rule and the entry.
+fn name_entry(alloc: Global, rule: u32, table: SchemaTable, entry: usize) -> Result<String> {
+    let words = format!(in alloc; "rule {rule} {table} {entry}")?;
+    Ok(words)
+}
+
+/// The same, and a field of the entry.
+fn name_field(
+    alloc: Global,
+    rule: u32,
+    table: SchemaTable,
+    entry: usize,
+    field: u16,
+) -> Result<String> {
+    let words = format!(in alloc; "rule {rule} {table} {entry} field {field}")?;
+    Ok(words)
+}
+
 /// A broken rule and where. What is no answer of the check, as want of memory, is passed on.
 fn in_words(alloc: Global, kind: ErrorKind) -> Result<String> {
-    let ErrorKind::Schema {
-        rule,
-        table,
-        entry,
-        field,
-    } = kind
-    else {
-        return Err(Error { kind });
-    };
-    if field == WHOLE {
-        Ok(format!(in alloc; "rule {rule} {table} {entry}")?)
-    } else {
-        Ok(format!(in alloc; "rule {rule} {table} {entry} field {field}")?)
+    match kind {
+        ErrorKind::Schema {
+            rule,
+            table,
+            entry,
+            field: WHOLE,
+        } => name_entry(alloc, rule, table, entry),
+        ErrorKind::Schema {
+            rule,
+            table,
+            entry,
+            field,
+        } => name_field(alloc, rule, table, entry, field),
+        kind => Err(Error { kind }),
     }
 }
 
