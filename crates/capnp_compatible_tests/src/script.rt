@@ -171,7 +171,12 @@ pub fn pairs_hold(rt: &impl Abort, alloc: Global, others: &'static str, rows: &'
 pub fn lists_hold(rt: &impl Abort, alloc: Global, rows: &'static str) {
     for row in rows.lines() {
         let (numbers, pair, follows) = parts_of(row);
-        let texts = ["built-in", numbers, "struct 0 1, xs List(Struct(11)) @0", pair];
+        let texts = [
+            "built-in",
+            numbers,
+            "struct 0 1, xs List(Struct(11)) @0",
+            pair,
+        ];
         are_answers(rt, alloc, &texts, "follows 9 10", follows);
     }
 }
