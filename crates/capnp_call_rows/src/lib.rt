@@ -1,14 +1,14 @@
 //! Calls along paths as rows of text, which the tests of runs and of patches read.
 //!
 //! A row is a call: its operation, its path and, of `initn`, a size, or, of `set`, a value, as
-//! `set items.1.a UInt16 7`. Rows stand in one text, a line each. Behind an arrow a row may have more, which is not
+//! `set items.1.a UInt16(7)`. Rows stand in one text, a line each. Behind an arrow a row may have more, which is not
 //! read here: `get t -> Text(hi)`.
 //!
 //! Operations and paths are those of the command line. The operations are `get`, `has`, `which`, `set`, `init`, `initn`
 //! and `clear`. A path has dots between its steps, of which there are at most three: a name is the field of that name,
 //! a number an element, and `#` with a number the field of that index. The last step is what the operation is done to;
 //! but `which` asks the struct that all steps lead to, and `.` is no step. A value is a type and a number or text, so
-//! that it may also be of a wrong type: `Int8 -1`, `Bool true`, `Void`, `Text hi`; or `Given`, which is given beside
+//! that it may also be of a wrong type: `Int8(-1)`, `Bool(true)`, `Void`, `Text(hi)`; or `Given`, which is given beside
 //! the rows.
 #![tactic(auto)]
 
@@ -65,7 +65,8 @@ fn number_of<'c>(kind: &str, digits: &str) -> Option<Value<'c>> {
 }
 
 fn value_of<'c>(words: &'c str, given: Value<'c>) -> Option<Value<'c>> {
-    let (kind, rest) = words.split_once(' ').unwrap_or((words, ""));
+    let (kind, rest) = words.split_once('(').unwrap_or((words, ""));
+    let rest = rest.strip_suffix(')').unwrap_or(rest);
     match kind {
         "Void" => Some(Value::Void),
         "Bool" => Some(Value::Bool(rest == "true")),

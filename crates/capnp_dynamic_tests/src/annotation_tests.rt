@@ -8,13 +8,13 @@ use std::alloc::Global;
 use std::test::Fail;
 
 static NOTE_ROWS: [(&str, &str, &str); 3] = [
-    ("node", "note 7", "text 'note'"),
+    ("node", "note 7", "Text(note)"),
     ("node", "print_note id 9", ":byte"),
     // a number is answered whatever the type, an enum under its type alone
     (
         "node",
         "note id 8; note id 9; note id 10; note id 11",
-        "u16 5; enum 2; refused 21; none",
+        "UInt16(5); Enum(2); Refused(21); none",
     ),
 ];
 
@@ -26,7 +26,7 @@ fn annotations_are_read_under_their_types(rt: HostRuntime) {
 static ENUM_ROWS: [(&str, &str, &str); 1] = [(
     "node",
     "enumerant 2; enumerant 9; enum 9",
-    "byte; none; enum 9",
+    "byte; none; Enum(9)",
 )];
 
 #[test]
@@ -39,25 +39,25 @@ const SET: &str = "struct 1 0, v Void; enum red blue";
 
 /// Annotations of the struct, each a value and a type, and what is read under it.
 static VALUE_ROWS: [(&str, &str); 19] = [
-    ("note struct 3 Bool(true) Bool", "true"),
-    ("note struct 3 Bool(true) Text", "true"),
-    ("note struct 3 Int8(-7) Int8", "i8 -7"),
-    ("note struct 3 Int8(-7) Text", "i8 -7"),
-    ("note struct 3 Int64(-9) Int64", "i64 -9"),
-    ("note struct 3 Int64(-9) Text", "i64 -9"),
-    ("note struct 3 UInt32(6) UInt32", "u32 6"),
-    ("note struct 3 UInt32(6) Text", "u32 6"),
-    ("note struct 3 Text(ab) Text", "text 'ab'"),
-    ("note struct 3 Data(a) Data", "data [97]"),
-    ("note struct 3 Data(a) Text", "data [97]"),
-    ("note struct 3 Enum(1) Enum(0)", "enum 1"),
-    ("note struct 3 Enum(1) Text", "refused 21"),
-    ("note struct 3 Struct(null) Struct(0)", "struct"),
-    ("note struct 3 Struct(null) Text", "refused 21"),
-    ("note struct 3 List(bytes_5_6) List(UInt8)", "list 2"),
-    ("note struct 3 List(bytes_5_6) Text", "refused 21"),
-    ("note struct 3 AnyPointer(null) AnyPointer", "null"),
-    ("note struct 3 AnyPointer(null) Text", "refused 21"),
+    ("note struct 3 Bool(true) Bool", "Bool(true)"),
+    ("note struct 3 Bool(true) Text", "Bool(true)"),
+    ("note struct 3 Int8(-7) Int8", "Int8(-7)"),
+    ("note struct 3 Int8(-7) Text", "Int8(-7)"),
+    ("note struct 3 Int64(-9) Int64", "Int64(-9)"),
+    ("note struct 3 Int64(-9) Text", "Int64(-9)"),
+    ("note struct 3 UInt32(6) UInt32", "UInt32(6)"),
+    ("note struct 3 UInt32(6) Text", "UInt32(6)"),
+    ("note struct 3 Text(ab) Text", "Text(ab)"),
+    ("note struct 3 Data(a) Data", "Data([97])"),
+    ("note struct 3 Data(a) Text", "Data([97])"),
+    ("note struct 3 Enum(1) Enum(0)", "Enum(1)"),
+    ("note struct 3 Enum(1) Text", "Refused(21)"),
+    ("note struct 3 Struct(null) Struct(0)", "Struct"),
+    ("note struct 3 Struct(null) Text", "Refused(21)"),
+    ("note struct 3 List(bytes_5_6) List(UInt8)", "List(2)"),
+    ("note struct 3 List(bytes_5_6) Text", "Refused(21)"),
+    ("note struct 3 AnyPointer(null) AnyPointer", "Null"),
+    ("note struct 3 AnyPointer(null) Text", "Refused(21)"),
 ];
 
 /// What the annotation of the struct is read as.

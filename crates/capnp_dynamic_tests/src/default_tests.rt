@@ -4,7 +4,7 @@ use crate::script::rows_hold;
 
 const EACH_FIELD: &str = "get text; get bytes; get inner; get numbers; get inners; get any";
 
-const EMPTY: &str = "text ''; data []; struct; list 0; list 0; null";
+const EMPTY: &str = "Text(); Data([]); Struct; List(0); List(0); Null";
 
 static ROWS: [(&str, &str, &str); 3] = [
     ("untyped null_root", EACH_FIELD, EMPTY),

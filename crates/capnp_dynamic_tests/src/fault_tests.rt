@@ -14,27 +14,27 @@ static FAULT_ROWS: [(&str, &str, &str); 5] = [
     (
         "shared far",
         EACH_READ,
-        "refused 4; refused 4; refused 4; refused 4; pointer; u16 5",
+        "Refused(4); Refused(4); Refused(4); Refused(4); Pointer; UInt16(5)",
     ),
     (
         "shared capability",
         EACH_READ,
-        "refused 9; refused 9; refused 9; refused 9; pointer; u16 5",
+        "Refused(9); Refused(9); Refused(9); Refused(9); Pointer; UInt16(5)",
     ),
     (
         "shared sizeless",
         EACH_READ,
-        "struct; refused 5; refused 5; refused 5; pointer; u16 5",
+        "Struct; Refused(5); Refused(5); Refused(5); Pointer; UInt16(5)",
     ),
     (
         "shared pairs",
         EACH_READ,
-        "refused 5; refused 6; refused 6; refused 6; pointer; u16 5",
+        "Refused(5); Refused(6); Refused(6); Refused(6); Pointer; UInt16(5)",
     ),
     (
         "shared letters",
         EACH_READ,
-        "refused 5; list 2; refused 7; data [97, 98]; pointer; u16 5",
+        "Refused(5); List(2); Refused(7); Data([97, 98]); Pointer; UInt16(5)",
     ),
 ];
 
@@ -51,42 +51,42 @@ static LIST_ROWS: [(&str, &str, &str); 8] = [
     (
         "each_list void_list",
         EACH_LIST,
-        "list 2; refused 6; refused 6; refused 6; refused 6; refused 6; refused 6; list 2",
+        "List(2); Refused(6); Refused(6); Refused(6); Refused(6); Refused(6); Refused(6); List(2)",
     ),
     (
         "each_list bit_list",
         EACH_LIST,
-        "list 2; list 2; refused 6; refused 6; refused 6; refused 6; refused 6; refused 6",
+        "List(2); List(2); Refused(6); Refused(6); Refused(6); Refused(6); Refused(6); Refused(6)",
     ),
     (
         "each_list one_list",
         EACH_LIST,
-        "list 2; refused 6; list 2; refused 6; refused 6; refused 6; refused 6; list 2",
+        "List(2); Refused(6); List(2); Refused(6); Refused(6); Refused(6); Refused(6); List(2)",
     ),
     (
         "each_list two_list",
         EACH_LIST,
-        "list 2; refused 6; refused 6; list 2; refused 6; refused 6; refused 6; list 2",
+        "List(2); Refused(6); Refused(6); List(2); Refused(6); Refused(6); Refused(6); List(2)",
     ),
     (
         "each_list four_list",
         EACH_LIST,
-        "list 2; refused 6; refused 6; refused 6; list 2; refused 6; refused 6; list 2",
+        "List(2); Refused(6); Refused(6); Refused(6); List(2); Refused(6); Refused(6); List(2)",
     ),
     (
         "each_list eight_list",
         EACH_LIST,
-        "list 2; refused 6; refused 6; refused 6; refused 6; list 2; refused 6; list 2",
+        "List(2); Refused(6); Refused(6); Refused(6); Refused(6); List(2); Refused(6); List(2)",
     ),
     (
         "each_list pointer_list",
         EACH_LIST,
-        "list 2; refused 6; refused 6; refused 6; refused 6; refused 6; list 2; list 2",
+        "List(2); Refused(6); Refused(6); Refused(6); Refused(6); Refused(6); List(2); List(2)",
     ),
     (
         "each_list struct_list",
         EACH_LIST,
-        "list 2; refused 6; list 2; list 2; list 2; list 2; list 2; list 2",
+        "List(2); Refused(6); List(2); List(2); List(2); List(2); List(2); List(2)",
     ),
 ];
 
@@ -101,17 +101,17 @@ static LISTS_ROWS: [(&str, &str, &str); 3] = [
     (
         "lists capability_before_text",
         "has raw; get bytes; get raw; get t; print",
-        "true; list 0; refused 9; refused 7; refused 9 :",
+        "true; List(0); Refused(9); Refused(7); Refused(9) :",
     ),
     (
         "lists null_before_text",
         "has raw; get bytes; get raw; get t; print",
-        "false; list 0; data []; refused 7; refused 7 :",
+        "false; List(0); Data([]); Refused(7); Refused(7) :",
     ),
     (
         "lists most_items",
-        "length items; get items; get items/536870910/a",
-        "536870911; list 536870911; u16 0",
+        "length items; get items; get items.536870910.a",
+        "536870911; List(536870911); UInt16(0)",
     ),
 ];
 
@@ -143,8 +143,8 @@ fn a_group_takes_no_level(rt: HostRuntime) -> std::result::Result<(), Fail> {
         rt.alloc(),
         "linked",
         &chain(rt.alloc())?,
-        "get next*63; get next*63/next; get next*63/group/x",
-        "struct; refused 8; u16 2",
+        "get next*63; get next*63.next; get next*63.group.x",
+        "Struct; Refused(8); UInt16(2)",
     );
     Ok(())
 }
@@ -160,11 +160,11 @@ fn a_capability_has_no_size(rt: HostRuntime) -> std::result::Result<(), Fail> {
         &set_of(rt.alloc(), "mixed")?,
         SHAPES,
         CAPABILITY_IN_TAG,
-        "get tag/any; size tag/any; print",
+        "get tag.any; size tag.any; print",
     )?;
     assert_eq!(rt;
         answers.as_str(),
-        "pointer; refused 9; :(id = 0, tag = (n = 0, u0 = (), any = <opaque pointer>))"
+        "Pointer; Refused(9); :(id = 0, tag = (n = 0, u0 = (), any = <opaque pointer>))"
     );
     Ok(())
 }

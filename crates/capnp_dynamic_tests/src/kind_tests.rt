@@ -10,10 +10,10 @@ const EACH_FIELD: &str =
 
 /// What each field has where a value stands.
 const VALUES: &str =
-    "void; true; false; i8 -128; i16 -32768; i32 -2147483648; i64 -9223372036854775808; \
-    u8 255; u16 65535; u32 4294967295; u64 18446744073709551615; enum 2; text 'word'; \
-    data [1, 2, 3]; struct; struct; list 3; list 3; list 2; list 2; list 2; list 2; \
-    list 2; list 2; list 3; null; struct";
+    "Void; Bool(true); Bool(false); Int8(-128); Int16(-32768); Int32(-2147483648); \
+    Int64(-9223372036854775808); UInt8(255); UInt16(65535); UInt32(4294967295); \
+    UInt64(18446744073709551615); Enum(2); Text(word); Data([1, 2, 3]); Struct; Struct; \
+    List(3); List(3); List(2); List(2); List(2); List(2); List(2); List(2); List(3); Null; Struct";
 
 static FIELD_ROWS: [(&str, &str, &str); 4] = [
     ("kinds full", EACH_FIELD, VALUES),
@@ -22,9 +22,9 @@ static FIELD_ROWS: [(&str, &str, &str); 4] = [
     (
         "kinds empty",
         EACH_FIELD,
-        "void; false; true; i8 -8; i16 -16; i32 -32; i64 -64; u8 8; u16 16; u32 32; u64 64; \
-         enum 1; text 'none'; data [0, 255]; struct; struct; list 3; list 0; list 0; list 0; \
-         list 0; list 0; list 0; list 0; list 0; null; struct",
+        "Void; Bool(false); Bool(true); Int8(-8); Int16(-16); Int32(-32); Int64(-64); UInt8(8); \
+         UInt16(16); UInt32(32); UInt64(64); Enum(1); Text(none); Data([0, 255]); Struct; Struct; List(3); List(0); List(0); List(0); \
+         List(0); List(0); List(0); List(0); List(0); Null; Struct",
     ),
     // the group is the active member
     (
@@ -42,19 +42,19 @@ fn every_kind_of_field(rt: HostRuntime) {
 static ELEMENT_ROWS: [(&str, &str, &str); 3] = [
     (
         "kinds full",
-        "get numbers/0; get numbers/2; get flags/0; get flags/1; get voids/1; get wide/0; \
-         get colors/1; get texts/0; get texts/1; get blobs/1; get points/1; get rows/0; \
-         get rows/1",
-        "u16 65535; u16 9; true; false; void; i64 -1; enum 2; text ''; text 'ab'; data [7]; \
-         struct; list 2; list 0",
+        "get numbers.0; get numbers.2; get flags.0; get flags.1; get voids.1; get wide.0; \
+         get colors.1; get texts.0; get texts.1; get blobs.1; get points.1; get rows.0; \
+         get rows.1",
+        "UInt16(65535); UInt16(9); Bool(true); Bool(false); Void; Int64(-1); Enum(2); Text(); \
+         Text(ab); Data([7]); Struct; List(2); List(0)",
     ),
     // a null list is the default
     (
         "kinds empty",
-        "get numbers/0; get numbers/1; get numbers/2",
-        "u16 1; u16 2; u16 3",
+        "get numbers.0; get numbers.1; get numbers.2",
+        "UInt16(1); UInt16(2); UInt16(3)",
     ),
-    ("kinds full", "get rows/0/1", "i8 -1"),
+    ("kinds full", "get rows.0.1", "Int8(-1)"),
 ];
 
 #[test]
@@ -65,18 +65,18 @@ fn every_kind_of_element(rt: HostRuntime) {
 static STRUCT_ROWS: [(&str, &str, &str); 3] = [
     (
         "kinds full",
-        "get point/x; get point/y; get plain/x; get plain/y; get points/1/x; get points/1/y",
-        "i16 -5; i16 6; i16 7; i16 -1; i16 3; i16 -1",
+        "get point.x; get point.y; get plain.x; get plain.y; get points.1.x; get points.1.y",
+        "Int16(-5); Int16(6); Int16(7); Int16(-1); Int16(3); Int16(-1)",
     ),
     (
         "kinds empty",
-        "get point/x; get point/y; get plain/x; get plain/y",
-        "i16 3; i16 4; i16 0; i16 -1",
+        "get point.x; get point.y; get plain.x; get plain.y",
+        "Int16(3); Int16(4); Int16(0); Int16(-1)",
     ),
     (
         "kinds full",
-        "get named/name; get named/times; has named/once",
-        "text 'me'; u8 4; false",
+        "get named.name; get named.times; has named.once",
+        "Text(me); UInt8(4); false",
     ),
 ];
 

@@ -2,19 +2,23 @@
 
 use crate::script::rows_hold;
 
-const ITEMS: &str = "length items; get items/0/a; get items/1/a; last items";
+const ITEMS: &str = "length items; get items.0.a; get items.1.a; last items";
 
 static ITEM_ROWS: [(&str, &str, &str); 3] = [
     (
         "lists items_as_bytes",
         ITEMS,
-        "2; u16 5; u16 255; 2 struct 1",
+        "2; UInt16(5); UInt16(255); 2 Struct 1",
     ),
-    ("lists structs", ITEMS, "2; u16 1; u16 2; 2 struct 1"),
+    (
+        "lists structs",
+        ITEMS,
+        "2; UInt16(1); UInt16(2); 2 Struct 1",
+    ),
     (
         "lists items_as_numbers",
         ITEMS,
-        "2; u16 1; u16 2; 2 struct 1",
+        "2; UInt16(1); UInt16(2); 2 Struct 1",
     ),
 ];
 
@@ -26,7 +30,7 @@ fn elements_are_read_as_structs(rt: HostRuntime) {
 static FAULT_ROWS: [(&str, &str, &str); 1] = [(
     "lists bits",
     "get items; has items; get bytes; get raw; get t; has t",
-    "refused 6; true; list 0; data []; text ''; false",
+    "Refused(6); true; List(0); Data([]); Text(); false",
 )];
 
 #[test]

@@ -43,7 +43,11 @@ fn values_are_printed_as_they_are(rt: HostRuntime) {
 static APPENDED_ROWS: [(&str, &str, &str); 2] = [
     ("kinds full", "print point", ":(x = -5, y = 6)"),
     // a text has no zero byte at its end, and what stood before is left as it is
-    ("kinds unended", "print; lines", "refused 7 :; refused 7 :"),
+    (
+        "kinds unended",
+        "print; lines",
+        "Refused(7) :; Refused(7) :",
+    ),
 ];
 
 #[test]

@@ -1,14 +1,14 @@
 //! Questions about the root of a message, as text: one interpreter, in which each call stands once.
 //!
-//! A question is a word and, mostly, a path of names and indices with slashes between them; `next*63` is 63 times
-//! `next`, and a question without a path is about the root itself.
+//! A question is a word and, mostly, a path of names and indices with dots between them; `next*63` is 63 times `next`,
+//! and a question without a path is about the root itself.
 //!
 //! | question | what is answered |
 //! |---|---|
-//! | `get points/1/x` | what is read, as a kind and a value |
-//! | `has named/once` | whether the field is there |
+//! | `get points.1.x` | what is read, as a kind and a value |
+//! | `has named.once` | whether the field is there |
 //! | `which` | the index of the active member, or `none` |
-//! | `size tag/any` | the words and the capabilities of a struct, or of what an untyped pointer leads to |
+//! | `size tag.any` | the words and the capabilities of a struct, or of what an untyped pointer leads to |
 //! | `length items` | the elements of a list |
 //! | `last items` | how many elements an iterator has to come, its last one, and how many are to come then |
 //! | `print`, `lines` | what a print leaves, on one line or on lines, of a text that is `:` before |
@@ -18,8 +18,9 @@
 //! | `print_note id 9` | what a print leaves of its value |
 //! | `enum 2`, `enumerant 2` | an enumerant of the set's first enum as a value, and its name |
 //!
-//! Questions have semicolons between them, and so have the answers, in the same order. A refusal is `refused` and its
-//! number (`ErrorKind::number`).
+//! Questions have semicolons between them, and so have the answers, in the same order. A value is its kind with a
+//! number or text, `UInt16(5)`, `Text(hi)`; of a struct it is the kind alone, of a list the count of its elements, and
+//! of an untyped pointer `Null` or `Pointer`. A refusal has its number (`ErrorKind::number`), `Refused(20)`.
 
 use crate::messages::{brand_of, message_of, set_of};
 use capnp_dynamic::dynamic_struct;
@@ -33,29 +34,29 @@ use std::alloc::Global;
 use std::fmt;
 use std::process::Abort;
 
-/// A value as it is shown: its kind, and what it is; of a struct the kind alone, of a list the count of its elements.
+/// A value as answers have it.
 #[derive(Clone, Copy)]
 struct Shown<'a>(Value<'a>);
 
 impl fmt::Display for Shown<'_> {
     fn fmt<W: fmt::Write>(&self, f: &mut fmt::Formatter<W>) -> fmt::Result {
         match self.0 {
-            Value::Void => f.write_str("void"),
-            Value::Bool(x) => write!(f, "{x}"),
-            Value::Int8(x) => write!(f, "i8 {x}"),
-            Value::Int16(x) => write!(f, "i16 {x}"),
-            Value::Int32(x) => write!(f, "i32 {x}"),
-            Value::Int64(x) => write!(f, "i64 {x}"),
-            Value::UInt8(x) => write!(f, "u8 {x}"),
-            Value::UInt16(x) => write!(f, "u16 {x}"),
-            Value::UInt32(x) => write!(f, "u32 {x}"),
-            Value::UInt64(x) => write!(f, "u64 {x}"),
-            Value::Enum(x) => write!(f, "enum {}", x.get_value()),
-            Value::Text(x) => write!(f, "text '{}'", str::from_utf8(x.as_bytes()).unwrap_or("?")),
-            Value::Data(x) => write!(f, "data {x:?}"),
-            Value::Struct(_) => f.write_str("struct"),
-            Value::List(x) => write!(f, "list {}", x.len()),
-            Value::AnyPointer(x) => f.write_str(if x.is_null() { "null" } else { "pointer" }),
+            Value::Void => f.write_str("Void"),
+            Value::Bool(x) => write!(f, "Bool({x})"),
+            Value::Int8(x) => write!(f, "Int8({x})"),
+            Value::Int16(x) => write!(f, "Int16({x})"),
+            Value::Int32(x) => write!(f, "Int32({x})"),
+            Value::Int64(x) => write!(f, "Int64({x})"),
+            Value::UInt8(x) => write!(f, "UInt8({x})"),
+            Value::UInt16(x) => write!(f, "UInt16({x})"),
+            Value::UInt32(x) => write!(f, "UInt32({x})"),
+            Value::UInt64(x) => write!(f, "UInt64({x})"),
+            Value::Enum(x) => write!(f, "Enum({})", x.get_value()),
+            Value::Text(x) => write!(f, "Text({})", str::from_utf8(x.as_bytes()).unwrap_or("?")),
+            Value::Data(x) => write!(f, "Data({x:?})"),
+            Value::Struct(_) => f.write_str("Struct"),
+            Value::List(x) => write!(f, "List({})", x.len()),
+            Value::AnyPointer(x) => f.write_str(if x.is_null() { "Null" } else { "Pointer" }),
         }
     }
 }
@@ -84,7 +85,7 @@ impl fmt::Display for Answer<'_> {
             Answer::Size(words, capabilities) => write!(f, "{words} {capabilities}"),
             Answer::Last(before, last, after) => write!(f, "{before} {} {after}", Shown(*last)),
             Answer::Text(text) => f.write_str(text.as_str()),
-            Answer::RefusedPrint(number, text) => write!(f, "refused {number} {}", text.as_str()),
+            Answer::RefusedPrint(number, text) => write!(f, "Refused({number}) {}", text.as_str()),
             Answer::NoQuestion => f.write_str("no question"),
         }
     }
@@ -120,7 +121,7 @@ fn follow<'a>(root: Value<'a>, path: &str) -> Result<Value<'a>> {
     if path.is_empty() {
         return Ok(value);
     }
-    for step in path.split('/') {
+    for step in path.split('.') {
         let (name, count) = step.split_once('*').unwrap_or((step, "1"));
         for _ in 0..number(count) {
             value = part_of(value, name)?;
@@ -130,7 +131,7 @@ fn follow<'a>(root: Value<'a>, path: &str) -> Result<Value<'a>> {
 }
 
 fn has<'a>(root: Value<'a>, path: &str) -> Result<Answer<'a>> {
-    let (before, name) = path.rsplit_once('/').unwrap_or(("", path));
+    let (before, name) = path.rsplit_once('.').unwrap_or(("", path));
     match follow(root, before)? {
         Value::Struct(reader) => Ok(Answer::Truth(reader.has_named(name)?)),
         _ => Ok(Answer::NoQuestion),
@@ -280,7 +281,7 @@ pub fn answers_about(
         let between = if out.is_empty() { "" } else { "; " };
         match answer_of(alloc, set, root, question.trim()) {
             Ok(answer) => write!(out, "{between}{answer}")?,
-            Err(error) => write!(out, "{between}refused {}", error.kind.number())?,
+            Err(error) => write!(out, "{between}Refused({})", error.kind.number())?,
         }
     }
     Ok(out)

@@ -5,7 +5,7 @@ use crate::script::rows_hold;
 static UNION_ROWS: [(&str, &str, &str); 1] = [(
     "mixed nine",
     "which; has a; get a; has x; get x; has y; get y; has b; get b; size",
-    "2; true; u16 5; false; void; true; u8 9; false; text ''; 2 0",
+    "2; true; UInt16(5); false; Void; true; UInt8(9); false; Text(); 2 0",
 )];
 
 #[test]
@@ -18,7 +18,7 @@ static MEMBER_ROWS: [(&str, &str, &str); 2] = [
     (
         "mixed unknown",
         "which; has x; has y; get a",
-        "none; false; false; u16 5",
+        "none; false; false; UInt16(5)",
     ),
 ];
 
@@ -32,7 +32,7 @@ static NUMBER_ROWS: [(&str, &str, &str); 3] = [
     (
         "many short",
         "get flag; get s; get n; get w; get q; get z; which",
-        "true; i8 -1; u16 7; i32 0; u64 0; void; none",
+        "Bool(true); Int8(-1); UInt16(7); Int32(0); UInt64(0); Void; none",
     ),
     (
         "many short",
@@ -43,7 +43,7 @@ static NUMBER_ROWS: [(&str, &str, &str); 3] = [
     (
         "many many",
         "get flag; get s; get n; get w; get q; get z",
-        "false; i8 2; u16 300; i32 -2; u64 18446744073709551615; void",
+        "Bool(false); Int8(2); UInt16(300); Int32(-2); UInt64(18446744073709551615); Void",
     ),
 ];
 
@@ -55,7 +55,7 @@ fn numbers_and_their_defaults(rt: HostRuntime) {
 static NAME_ROWS: [(&str, &str, &str); 1] = [(
     "many many",
     "get nothing; has nothing",
-    "refused 20; refused 20",
+    "Refused(20); Refused(20)",
 )];
 
 #[test]

@@ -29,7 +29,7 @@ static ROWS: [Row; 4] = [
     (
         Verb::New,
         NONE,
-        "set a UInt16 5\nset y UInt8 9\nset b Text hi",
+        "set a UInt16(5)\nset y UInt8(9)\nset b Text(hi)",
         "",
         MIXED_HI,
     ),

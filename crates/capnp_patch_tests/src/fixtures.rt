@@ -29,16 +29,16 @@ pub const MIXED_HO: &[u8] = &[
 
 /// A group is entered where it is active, and its union asked for: three of these calls are refused.
 pub const ENTERED: &str = "\
-set tag.n UInt16 3
+set tag.n UInt16(3)
 init tag
-set tag.n UInt16 3
+set tag.n UInt16(3)
 which tag
 which .
 get tag.u1
 has word";
 
 pub const ENTERED_LINES: &str = "\
-1: set tag.n UInt16 3: refused: 30 InactiveMember
+1: set tag.n UInt16(3): refused: 30 InactiveMember
 4: which tag = #1
 5: which . = #2
 6: get tag.u1: refused: 30 InactiveMember

@@ -2,7 +2,7 @@
 //!
 //! A case (`cases`) is a text of calls, or a path, on a message or an empty root, with the lines and bytes that are to
 //! come of it, over devices in memory that move one byte a call or many. A call is a row of text (`capnp_call_rows`),
-//! as `set items.1.a UInt16 7`. Bytes and texts are those of worked lists of calls, of the encoding, and of the public
+//! as `set items.1.a UInt16(7)`. Bytes and texts are those of worked lists of calls, of the encoding, and of the public
 //! tool.
 #![tactic(auto)]
 

@@ -32,7 +32,7 @@ struct Meeting {
 /// More items than a new message has room for; in the end there are none.
 const ITEMS: &str = "\
 initn items 300
-set items.299.a UInt16 7
+set items.299.a UInt16(7)
 get items.299.a
 clear items";
 
@@ -42,7 +42,7 @@ const ITEMS_LINES: &str = "\
 
 const NO_ITEMS_LINES: &str = "\
 1: initn items 300: refused: 1 OutOfMemory
-2: set items.299.a UInt16 7: refused: 32 NoSuchElement
+2: set items.299.a UInt16(7): refused: 32 NoSuchElement
 3: get items.299.a: refused: 32 NoSuchElement
 ";
 
@@ -81,7 +81,7 @@ static MEETINGS: [Meeting; 4] = [
         verb: Verb::Patch,
         message: MIXED_HI,
         flag: true,
-        text: "set b Text ho\nget b",
+        text: "set b Text(ho)\nget b",
         lines: "2: get b = \"ho\"\n",
         written: MIXED_HO,
         refused: "2: get b: refused: 1 OutOfMemory\n",

@@ -48,7 +48,7 @@ fn rows_hold(
 
 const MANY_SET: &str = "\
 get n
-set n UInt16 5
+set n UInt16(5)
 get n
 has n";
 
@@ -65,8 +65,8 @@ const MANY_FIVE: &[u8] = &[
 
 const PAIR_SET: &str = "\
 initn items 2
-set items.0.a UInt16 1
-set items.1.a UInt16 2
+set items.0.a UInt16(1)
+set items.1.a UInt16(2)
 get items
 get items.1
 get items.1.a";
@@ -78,11 +78,11 @@ const PAIR_LINES: &str = "\
 ";
 
 static MADE: [Row; 4] = [
-    (MIXED, NONE, "set a UInt16 5\nset y UInt8 9", "", NINE),
+    (MIXED, NONE, "set a UInt16(5)\nset y UInt8(9)", "", NINE),
     (
         MIXED,
         NONE,
-        "set a UInt16 5\nset y UInt8 9\nset b Text hi\nget b",
+        "set a UInt16(5)\nset y UInt8(9)\nset b Text(hi)\nget b",
         "4: get b = \"hi\"\n",
         MIXED_HI,
     ),
@@ -96,7 +96,7 @@ fn messages_are_made_of_calls(rt: HostRuntime) -> Result<(), Fail> {
 }
 
 const SWITCHED: &str = "\
-set circle.r UInt32 4294967295
+set circle.r UInt32(4294967295)
 get circle.r
 init tag
 get tag.n
@@ -104,8 +104,8 @@ which tag
 init circle
 get circle.r
 get #9
-set any.n UInt16 1
-set any UInt16 1
+set any.n UInt16(1)
+set any UInt16(1)
 init tag
 get tag.any.#0";
 
@@ -115,8 +115,8 @@ const SWITCHED_LINES: &str = "\
 5: which tag = #1
 7: get circle.r = 0
 8: get #9: refused: 20 FieldNotFound
-9: set any.n UInt16 1: refused: 20 FieldNotFound
-10: set any UInt16 1: refused: 20 FieldNotFound
+9: set any.n UInt16(1): refused: 20 FieldNotFound
+10: set any UInt16(1): refused: 20 FieldNotFound
 12: get tag.any.#0: refused: 31 UntypedStep
 ";
 
@@ -129,15 +129,15 @@ const TAG: &[u8] = &[
 const NOT_SWITCHED: &str = "\
 get b
 has b
-set y Text hi
+set y Text(hi)
 which .
-set a UInt16 5
-set y UInt8 9";
+set a UInt16(5)
+set y UInt8(9)";
 
 const NOT_SWITCHED_LINES: &str = "\
 1: get b = \"\"
 2: has b = false
-3: set y Text hi: refused: 21 TypeMismatch
+3: set y Text(hi): refused: 21 TypeMismatch
 4: which . = #1
 ";
 
@@ -191,17 +191,17 @@ const MIXED_HI_AND_MORE: &[u8] = &[
 
 static PATCHED: [Row; 7] = [
     (MIXED, MIXED_HI, "", "", MIXED_HI),
-    (MIXED, MIXED_HI, "set a UInt16 6", "", MIXED_SIX),
+    (MIXED, MIXED_HI, "set a UInt16(6)", "", MIXED_SIX),
     (
         MIXED,
         MIXED_HI,
-        "set b Text ho\nget b",
+        "set b Text(ho)\nget b",
         "2: get b = \"ho\"\n",
         MIXED_HO,
     ),
     // what follows the message is neither read as one nor written
     (MIXED, MIXED_HI_AND_MORE, "", "", MIXED_HI),
-    (MIXED, MIXED_HI_AND_MORE, "set a UInt16 6", "", MIXED_SIX),
+    (MIXED, MIXED_HI_AND_MORE, "set a UInt16(6)", "", MIXED_SIX),
     (MIXED, MIXED_HI, "clear b", "", NINE),
     // a list of numbers that a call walks becomes one of structs
     (
@@ -220,14 +220,14 @@ fn messages_are_patched(rt: HostRuntime) -> Result<(), Fail> {
 
 /// The third of four calls is refused.
 const MIDDLE: &str = "\
-set a UInt16 6
+set a UInt16(6)
 get a
-set a Text no
+set a Text(no)
 get b";
 
 const MIDDLE_LINES: &str = "\
 2: get a = 6
-3: set a Text no: refused: 21 TypeMismatch
+3: set a Text(no): refused: 21 TypeMismatch
 4: get b = \"hi\"
 ";
 

@@ -6,14 +6,14 @@ use capnp_schema_fixtures::set_text::read_set;
 use std::test::Fail;
 
 const CALLS: &str = "\
-set truth Bool false
-set int32 Int32 7
+set truth Bool(false)
+set int32 Int32(7)
 clear color
-set text Text cord
-set numbers.1 UInt16 300
-set points.1.x Int16 8
-set rows.0.1 Int8 5
-set named.times UInt8 9
+set text Text(cord)
+set numbers.1 UInt16(300)
+set points.1.x Int16(8)
+set rows.0.1 Int8(5)
+set named.times UInt8(9)
 get int32
 get points.1.y
 get named.name

@@ -18,9 +18,9 @@ pub const NONE: &[u8] = &[];
 
 /// A group is entered where it is active, and its union asked for.
 pub const ENTERED: &str = "\
-set tag.n UInt16 3 -> Refused(30)
+set tag.n UInt16(3) -> Refused(30)
 init tag -> Done
-set tag.n UInt16 3 -> Done
+set tag.n UInt16(3) -> Done
 which tag -> Member(Some(1))
 which . -> Member(Some(2))
 get tag.u1 -> Refused(30)
@@ -29,10 +29,10 @@ has word -> Flag(false)";
 /// A list is started, and its elements are written and read; what stands past it or is no list is refused.
 pub const LISTED: &str = "\
 initn items 2 -> Done
-set items.1.a UInt16 7 -> Done
+set items.1.a UInt16(7) -> Done
 get items.1 -> Struct
 get items -> List(2)
-set items.2.a UInt16 1 -> Refused(32)
+set items.2.a UInt16(1) -> Refused(32)
 which items -> Refused(33)
 get raw.0 -> Refused(33)
 get bytes.0 -> Refused(32)

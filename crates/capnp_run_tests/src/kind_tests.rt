@@ -68,20 +68,20 @@ fn each_kind_of_field_and_element_is_answered(rt: HostRuntime) -> std::result::R
 
 /// Sets of elements, what is refused there, and what is read then.
 const ELEMENTS: &str = "\
-set numbers.1 UInt16 8 -> Done
-set flags.1 Bool true -> Done
-set voids.1 Text hi -> Done
-set wide.1 Text hi -> Refused(21)
+set numbers.1 UInt16(8) -> Done
+set flags.1 Bool(true) -> Done
+set voids.1 Text(hi) -> Done
+set wide.1 Text(hi) -> Refused(21)
 set colors.0 Given -> Done
-set texts.0 Text hi -> Done
+set texts.0 Text(hi) -> Done
 initn texts.1 1 -> Done
 initn blobs.1 2 -> Done
 initn blobs.2 2 -> Refused(32)
 initn numbers.0 2 -> Refused(23)
 initn points.0 2 -> Refused(23)
-set points.0 Text hi -> Refused(21)
+set points.0 Text(hi) -> Refused(21)
 initn rows.1 4 -> Done
-set rows.1.3 Int8 -5 -> Done
+set rows.1.3 Int8(-5) -> Done
 init rows.0 -> Refused(33)
 clear rows.0 -> Refused(33)
 has rows.0 -> Refused(33)
@@ -117,27 +117,27 @@ fn each_kind_of_element_is_set(rt: HostRuntime) -> std::result::Result<(), Fail>
 
 const NUMBERS: &str = "\
 get n -> UInt16(7)
-set n UInt16 5 -> Done
+set n UInt16(5) -> Done
 get n -> UInt16(5)
 clear n -> Done
 get n -> UInt16(7)
 get flag -> Bool(true)
 get s -> Int8(-1)
 has s -> Flag(true)
-set n UInt8 5 -> Refused(21)
+set n UInt8(5) -> Refused(21)
 init n -> Refused(25)
 initn n 1 -> Refused(26)
 which . -> Member(None)
-set flag Bool false -> Done
-set s Int8 2 -> Done
-set n UInt16 300 -> Done
-set w Int32 -2 -> Done
-set q UInt64 18446744073709551615 -> Done
-set z UInt64 1 -> Done";
+set flag Bool(false) -> Done
+set s Int8(2) -> Done
+set n UInt16(300) -> Done
+set w Int32(-2) -> Done
+set q UInt64(18446744073709551615) -> Done
+set z UInt64(1) -> Done";
 
 /// An enum takes an enum's value alone.
 const SIZE: &str = "\
-set size UInt16 2 -> Refused(21)
+set size UInt16(2) -> Refused(21)
 get size -> Enum(0)
 set size Given -> Done
 get size -> Enum(2)";

@@ -26,37 +26,37 @@ const LIMIT: usize = 12;
 
 /// Each text takes the place of the one before it. The last one but one is too long.
 const REPLACED: &str = "\
-set t Text abcdefghijklmnop -> Done
-set t Text bcdefghijklmnopq -> Done
-set t Text cdefghijklmnopqr -> Done
-set t Text defghijklmnopqrs -> Done
-set t Text efghijklmnopqrst -> Done
-set t Text fghijklmnopqrstu -> Done
-set t Text ghijklmnopqrstuv -> Done
+set t Text(abcdefghijklmnop) -> Done
+set t Text(bcdefghijklmnopq) -> Done
+set t Text(cdefghijklmnopqr) -> Done
+set t Text(defghijklmnopqrs) -> Done
+set t Text(efghijklmnopqrst) -> Done
+set t Text(fghijklmnopqrstu) -> Done
+set t Text(ghijklmnopqrstuv) -> Done
 initn bytes 64 -> Refused(1)
 get t -> Text(ghijklmnopqrstuv)
-set t Text hijklmnopqrstuvw -> Done";
+set t Text(hijklmnopqrstuvw) -> Done";
 
 /// The bytes have no room behind the text that was replaced, and have it once the message is compacted.
 const REFUSED_ONCE: &str = "\
-set t Text abcdefgh -> Done
-set t Text a -> Done
+set t Text(abcdefgh) -> Done
+set t Text(a) -> Done
 initn bytes 40 -> Refused(1)
 initn bytes 40 -> Done
 get t -> Text(a)";
 
 /// The same on a builder: the third text has no room, and a shorter one has.
 const NOT_COMPACTED: &str = "\
-set t Text abcdefghijklmnop -> Done
-set t Text bcdefghijklmnopq -> Done
-set t Text cdefghijklmnopqr -> Refused(1)
+set t Text(abcdefghijklmnop) -> Done
+set t Text(bcdefghijklmnopq) -> Done
+set t Text(cdefghijklmnopqr) -> Refused(1)
 get t -> Text(bcdefghijklmnopq)
-set t Text cdefghi -> Done";
+set t Text(cdefghi) -> Done";
 
 /// Once it is compacted.
 const COMPACTED: &str = "\
 get t -> Text(cdefghi)
-set t Text abcdefghijklmnop -> Done";
+set t Text(abcdefghijklmnop) -> Done";
 
 /// The first row of a run on an empty root that was answered otherwise, and whether the message has no more words then
 /// than it may.

@@ -192,19 +192,19 @@ fn meetings_hold(
 }
 
 const MADE: &str = "\
-set circle.r UInt32 4294967295 -> Done
+set circle.r UInt32(4294967295) -> Done
 init tag -> Done
 get tag.n -> UInt16(0)
 which tag -> Member(Some(1))
 init circle -> Done
 get circle.r -> UInt32(0)
 get #9 -> Refused(20)
-set any UInt16 1 -> Refused(20)
+set any UInt16(1) -> Refused(20)
 init tag -> Done
 get tag.any.#0 -> Refused(31)
 init tag.any -> Done
 clear tag.q -> Done
-set tag.n UInt16 3 -> Done
+set tag.n UInt16(3) -> Done
 clear tag -> Done";
 
 /// No call takes memory, and so none is refused.
@@ -236,10 +236,10 @@ fn calls_that_take_no_memory(rt: HostRuntime) {
 
 const NOT_LISTED: &str = "\
 initn items 2 -> Refused(1)
-set items.1.a UInt16 7 -> Refused(32)
+set items.1.a UInt16(7) -> Refused(32)
 get items.1 -> Refused(32)
 get items -> List(0)
-set items.2.a UInt16 1 -> Refused(32)
+set items.2.a UInt16(1) -> Refused(32)
 which items -> Refused(33)
 get raw.0 -> Refused(33)
 get bytes.0 -> Refused(32)
@@ -248,17 +248,17 @@ has t -> Flag(false)
 clear zz -> Refused(20)";
 
 const EXTENDED: &str = "\
-set items.1.a UInt16 7 -> Done";
+set items.1.a UInt16(7) -> Done";
 
 const NOT_EXTENDED: &str = "\
-set items.1.a UInt16 7 -> Refused(1)";
+set items.1.a UInt16(7) -> Refused(1)";
 
 const WRITTEN: &str = "\
-set t Text hi -> Done
+set t Text(hi) -> Done
 has t -> Flag(true)";
 
 const NOT_WRITTEN: &str = "\
-set t Text hi -> Refused(1)
+set t Text(hi) -> Refused(1)
 has t -> Flag(false)";
 
 const READ: &str = "\
@@ -331,9 +331,9 @@ fn what_a_refused_call_leaves(rt: HostRuntime) {
 
 const TAG: &str = "\
 init tag -> Done
-set tag.u1 UInt8 9 -> Done
-set tag.n UInt16 3 -> Done
-set tag.q Text z -> Done";
+set tag.u1 UInt8(9) -> Done
+set tag.n UInt16(3) -> Done
+set tag.q Text(z) -> Done";
 
 static SOURCE: Meeting<'static> = Meeting {
     brand: SHAPES,

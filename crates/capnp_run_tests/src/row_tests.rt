@@ -12,25 +12,25 @@ use capnp_schema_fixtures::set_text::read_set;
 use std::test::Fail;
 
 const LARGEST: &str = "\
-set circle.r UInt32 4294967295 -> Done";
+set circle.r UInt32(4294967295) -> Done";
 
 const MADE: &str = "\
-set circle.r UInt32 4294967295 -> Done
+set circle.r UInt32(4294967295) -> Done
 init tag -> Done
 get tag.n -> UInt16(0)
 which tag -> Member(Some(1))
 init circle -> Done
 get circle.r -> UInt32(0)
 get #9 -> Refused(20)
-set any.n UInt16 1 -> Refused(20)
-set any UInt16 1 -> Refused(20)
+set any.n UInt16(1) -> Refused(20)
+set any UInt16(1) -> Refused(20)
 init tag -> Done
 get tag.any.#0 -> Refused(31)";
 
 const NOT_SWITCHED: &str = "\
 get b -> Text()
 has b -> Flag(false)
-set y Text hi -> Refused(21)
+set y Text(hi) -> Refused(21)
 which . -> Member(Some(1))";
 
 const TOO_LONG: &str = "\
@@ -103,14 +103,14 @@ fn worked_lists_of_calls(rt: HostRuntime) -> std::result::Result<(), Fail> {
 }
 
 const MIXED_SET: &str = "\
-set a UInt16 5 -> Done
-set y UInt8 9 -> Done
-set b Text hi -> Done";
+set a UInt16(5) -> Done
+set y UInt8(9) -> Done
+set b Text(hi) -> Done";
 
 const PAIR_SET: &str = "\
 initn items 2 -> Done
-set items.0.a UInt16 1 -> Done
-set items.1.a UInt16 2 -> Done";
+set items.0.a UInt16(1) -> Done
+set items.1.a UInt16(2) -> Done";
 
 const PAIR_READ: &str = "\
 get items.0.a -> UInt16(1)
@@ -151,10 +151,10 @@ fn what_is_written_is_the_messages_bytes(rt: HostRuntime) -> std::result::Result
 /// A tag whose copy is cut by the last row.
 const CUT_TAG: &str = "\
 init tag -> Done
-set tag.u1 UInt8 9 -> Done
-set tag.n UInt16 3 -> Done
-set tag.q Text z -> Done
-set tag.any Text k -> Done";
+set tag.u1 UInt8(9) -> Done
+set tag.n UInt16(3) -> Done
+set tag.q Text(z) -> Done
+set tag.any Text(k) -> Done";
 
 const CUT: &str = "\
 set circle Given -> Refused(21)

@@ -16,13 +16,13 @@ get word.n -> Refused(30)
 get tag.any.n -> Refused(30)
 get id.n -> Refused(33)
 has tag.n -> Refused(30)
-set circle.n UInt8 1 -> Refused(20)
-set circle.0 UInt8 1 -> Refused(33)
-set circle.r UInt8 1 -> Refused(21)
+set circle.n UInt8(1) -> Refused(20)
+set circle.0 UInt8(1) -> Refused(33)
+set circle.r UInt8(1) -> Refused(21)
 which circle -> Member(None)
 has circle -> Flag(true)
 get circle -> Struct
-set circle UInt8 1 -> Refused(22)
+set circle UInt8(1) -> Refused(22)
 initn circle 1 -> Refused(26)
 has tag -> Flag(false)
 get tag -> Refused(30)
@@ -33,7 +33,7 @@ which . -> Member(Some(1))";
 const UNTYPED: &str = "\
 init tag -> Done
 get tag.any -> AnyPointer(true)
-set tag.any Text k -> Done
+set tag.any Text(k) -> Done
 get tag.any -> AnyPointer(false)
 set tag.any Void -> Refused(27)
 get tag.any.n -> Refused(31)
@@ -134,7 +134,7 @@ has numbers -> Flag(false)
 get numbers.1 -> UInt16(2)
 has numbers -> Flag(true)
 get inner.x -> UInt16(3)
-set inner.y UInt16 9 -> Done
+set inner.y UInt16(9) -> Done
 get points.1.x -> UInt16(5)
 clear points.1.y -> Done";
 
@@ -168,15 +168,15 @@ get raw -> Refused(6)
 get t -> Refused(7)
 get items -> Refused(6)
 has t -> Flag(true)
-set bytes.9 UInt8 7 -> Refused(5)
+set bytes.9 UInt8(7) -> Refused(5)
 get t.a -> Refused(33)
 which items -> Refused(6)
 has items.0.a -> Refused(6)
 clear raw -> Done
 get raw -> Data([])
-set t Text ok -> Done
+set t Text(ok) -> Done
 initn bytes 2 -> Done
-set bytes.1 UInt8 7 -> Done
+set bytes.1 UInt8(7) -> Done
 initn items 1 -> Done";
 
 static PAST_FAULTS: [Case<'static>; 1] = [Case {

@@ -11,7 +11,7 @@ static FIELD_ROWS: [(&str, &str, &str); 1] = [(
      init plain; set plain Read kinds full plain; is full | \
      init any; is full | \
      init named; set named Read kinds full named; is full | \
-     initn text 9; set text Text word; is full | \
+     initn text 9; set text Text(word); is full | \
      initn bytes 9; set bytes Read kinds full bytes; is full | \
      initn numbers 9; set numbers Read kinds full numbers; is full | \
      initn flags 9; set flags Read kinds full flags; is full | \
@@ -30,9 +30,9 @@ static FIELD_ROWS: [(&str, &str, &str); 1] = [(
 /// Elements of its lists.
 static ELEMENT_ROWS: [(&str, &str, &str); 1] = [(
     "kinds from full",
-    "initn texts.1 9; set texts.1 Text ab; is full | \
-     initn blobs.1 9; set blobs.1 Data \u{7}; is full | \
-     initn rows.0 2; set rows.0.0 Int8 1; set rows.0.1 Int8 -1; is full",
+    "initn texts.1 9; set texts.1 Text(ab); is full | \
+     initn blobs.1 9; set blobs.1 Data(\u{7}); is full | \
+     initn rows.0 2; set rows.0.0 Int8(1); set rows.0.1 Int8(-1); is full",
     "ok; ok; true; ok; ok; true; ok; ok; ok; true",
 )];
 
@@ -57,7 +57,7 @@ static READ_ROWS: [(&str, &str, &str); 1] = [(
 /// A root that is a list is not entered, and stays.
 static OPEN_ROWS: [(&str, &str, &str); 1] = [(
     "flat from root_list",
-    "get a; is root_list; set a UInt16 5; is root_list; init a; is root_list",
+    "get a; is root_list; set a UInt16(5); is root_list; init a; is root_list",
     "5; true; 5; true; 5; true",
 )];
 

@@ -6,8 +6,8 @@ static GROUP_ROWS: [(&str, &str, &str); 4] = [
     // the sources are what their builders build
     (
         "shapes",
-        "init tag; set tag.u1 UInt8 9; set tag.n UInt16 3; set tag.q Text z; is tagged; \
-         set tag.any Text k; is tagged_any",
+        "init tag; set tag.u1 UInt8(9); set tag.n UInt16(3); set tag.q Text(z); is tagged; \
+         set tag.any Text(k); is tagged_any",
         "ok; ok; ok; ok; true; ok; true",
     ),
     (
@@ -47,7 +47,7 @@ fn a_member_comes_before_plain_fields(rt: HostRuntime) {
 
 static UNTYPED_ROWS: [(&str, &str, &str); 1] = [(
     "untyped",
-    "initn pointers 2; set pointers.0 Text hi; initn pointers.0 1; get pointers.0; \
+    "initn pointers 2; set pointers.0 Text(hi); initn pointers.0 1; get pointers.0; \
      get pointers.2; print",
     "ok; 24; 24; ok; 32; (pointers = [<opaque pointer>, <opaque pointer>])",
 )];

@@ -18,13 +18,13 @@ fn rows_hold_or_want_memory(rt: &impl Abort, alloc: Global, rows: &[(&str, &str,
 static CALL_ROWS: [(&str, &str, &str, &str); 18] = [
     (
         "kinds from full",
-        "set text Text longer than a word",
+        "set text Text(longer than a word)",
         "ok",
         "1",
     ),
     (
         "kinds from full",
-        "set bytes Data twenty bytes of data",
+        "set bytes Data(twenty bytes of data)",
         "ok",
         "1",
     ),
@@ -38,17 +38,17 @@ static CALL_ROWS: [(&str, &str, &str, &str); 18] = [
     ("kinds from full", "init point", "ok", "1"),
     ("kinds from full", "initn texts 5", "ok", "1"),
     ("kinds from full", "initn points 5", "ok", "1"),
-    ("kinds from full", "set texts.0 Text more", "ok", "1"),
+    ("kinds from full", "set texts.0 Text(more)", "ok", "1"),
     ("kinds from full", "initn rows.1 40", "ok", "1"),
     ("kinds from empty", "get text", "ok", "1"),
     ("kinds from empty", "get point", "ok", "1"),
     ("kinds from empty", "get numbers", "ok", "1"),
     // these take no memory
-    ("kinds from full", "set count UInt32 5", "ok", "ok"),
+    ("kinds from full", "set count UInt32(5)", "ok", "ok"),
     ("kinds from full", "init named", "ok", "ok"),
     ("kinds from full", "clear point", "ok", "ok"),
     ("kinds from full", "init any", "ok", "ok"),
-    ("kinds from full", "set wide.0 Int64 5", "ok", "ok"),
+    ("kinds from full", "set wide.0 Int64(5)", "ok", "ok"),
     ("kinds from full", "get points.0", "ok", "ok"),
 ];
 

@@ -5,7 +5,7 @@ use crate::script::rows_hold;
 static EXTENDED_ROWS: [(&str, &str, &str); 7] = [
     (
         "many from short",
-        "set s Int8 2; print",
+        "set s Int8(2); print",
         "ok; (flag = true, s = 2, n = 7, w = 0, q = 0, z = ())",
     ),
     (
@@ -15,23 +15,23 @@ static EXTENDED_ROWS: [(&str, &str, &str); 7] = [
     ),
     (
         "lists from items_as_numbers",
-        "set items.1.a UInt16 7; print",
+        "set items.1.a UInt16(7); print",
         "ok; (items = [(a = 1), (a = 7)])",
     ),
     (
         "lists from short_items",
-        "set items.1.a UInt16 7; print",
+        "set items.1.a UInt16(7); print",
         "ok; (items = [(a = 0), (a = 7)])",
     ),
     (
         "lists from long_items",
-        "set items.0.a UInt16 7; print",
+        "set items.0.a UInt16(7); print",
         "ok; (items = [(a = 7)])",
     ),
     // past the end; the numbers before it have become structs
     (
         "lists from items_as_numbers",
-        "set items.2.a UInt16 7; print",
+        "set items.2.a UInt16(7); print",
         "32 changed; (items = [(a = 1), (a = 2)])",
     ),
     // bits are no structs
@@ -51,7 +51,7 @@ static LONG_ROWS: [(&str, &str, &str); 2] = [
     // a field's set keeps the word that the schema does not know
     (
         "lists from long_items",
-        "set items.0.a UInt16 5; is long_items_five",
+        "set items.0.a UInt16(5); is long_items_five",
         "ok; true",
     ),
     // an element's set makes it zero

@@ -17,7 +17,7 @@ use std::test::Fail;
 static PRINTED_ROWS: [(&str, &str, &str); 7] = [
     (
         "many",
-        "set n UInt16 5; print; clear n; print; clear nothing; print; set flag Text hi; print",
+        "set n UInt16(5); print; clear n; print; clear nothing; print; set flag Text(hi); print",
         "ok; (flag = true, s = -1, n = 5, w = 0, q = 0, z = ()); \
          ok; (flag = true, s = -1, n = 7, w = 0, q = 0, z = ()); \
          20; (flag = true, s = -1, n = 7, w = 0, q = 0, z = ()); \
@@ -25,17 +25,17 @@ static PRINTED_ROWS: [(&str, &str, &str); 7] = [
     ),
     (
         "mixed",
-        "set y Text hi; print; get b; print",
+        "set y Text(hi); print; get b; print",
         "21; (a = 0, x = ()); ok; (a = 0, x = (), b = \"\")",
     ),
     (
         "mixed",
-        "set y UInt8 9; print; set x Text hi; print",
+        "set y UInt8(9); print; set x Text(hi); print",
         "ok; (a = 0, y = 9); ok; (a = 0, x = ())",
     ),
     (
         "shapes",
-        "initn word 536870911; print; set circle Text hi; print; \
+        "initn word 536870911; print; set circle Text(hi); print; \
          set circle Read mixed mixed_hi; print; init word; print; initn circle 1; print",
         "10; (id = 0, circle = (r = 0)); 22; (id = 0, circle = (r = 0)); \
          21; (id = 0, circle = (r = 0)); 25; (id = 0, circle = (r = 0)); \
@@ -43,19 +43,19 @@ static PRINTED_ROWS: [(&str, &str, &str); 7] = [
     ),
     (
         "shapes",
-        "init tag; print; set tag.any UInt16 1; print; set tag.any Null; print",
+        "init tag; print; set tag.any UInt16(1); print; set tag.any Null; print",
         "ok; (id = 0, tag = (n = 0, u0 = ())); 27; (id = 0, tag = (n = 0, u0 = ())); \
          27; (id = 0, tag = (n = 0, u0 = ()))",
     ),
     (
         "lists",
         "initn items 1; print; set items.0 Read mixed mixed_hi; print; \
-         set items.0.a UInt16 2; print",
+         set items.0.a UInt16(2); print",
         "ok; (items = [(a = 0)]); 21; (items = [(a = 0)]); ok; (items = [(a = 2)])",
     ),
     (
         "lists",
-        "initn bytes 2; print; initn bytes.0 3; print; set bytes.1 UInt8 9; print",
+        "initn bytes 2; print; initn bytes.0 3; print; set bytes.1 UInt8(9); print",
         "ok; (bytes = [0, 0]); 23; (bytes = [0, 0]); ok; (bytes = [0, 9])",
     ),
 ];
@@ -69,7 +69,7 @@ fn writes_are_printed(rt: HostRuntime) {
 static READ_ROWS: [(&str, &str, &str); 10] = [
     (
         "many",
-        "set n UInt16 5; which; has n; value n",
+        "set n UInt16(5); which; has n; value n",
         "ok; none; true; 5",
     ),
     (
@@ -85,17 +85,17 @@ static READ_ROWS: [(&str, &str, &str); 10] = [
     ),
     (
         "mixed",
-        "set y Text hi; which; has y; value y",
+        "set y Text(hi); which; has y; value y",
         "21; 1; false; 0",
     ),
     (
         "mixed",
-        "set y UInt8 9; which; has y; value y",
+        "set y UInt8(9); which; has y; value y",
         "ok; 2; true; 9",
     ),
     (
         "mixed",
-        "set y UInt8 9; which; has x; value x",
+        "set y UInt8(9); which; has x; value x",
         "ok; 2; false; ()",
     ),
     (
@@ -123,17 +123,17 @@ fn writes_are_read(rt: HostRuntime) {
 static BYTE_ROWS: [(&str, &str, &str); 5] = [
     (
         "mixed",
-        "set a UInt16 5; set y UInt8 9; is nine",
+        "set a UInt16(5); set y UInt8(9); is nine",
         "ok; ok; true",
     ),
     (
         "mixed",
-        "set a UInt16 5; set y UInt8 9; set b Text hi; is mixed_hi",
+        "set a UInt16(5); set y UInt8(9); set b Text(hi); is mixed_hi",
         "ok; ok; ok; true",
     ),
     (
         "lists",
-        "initn bytes 2; set bytes.0 UInt8 5; set bytes.1 UInt8 255; is bytes",
+        "initn bytes 2; set bytes.0 UInt8(5); set bytes.1 UInt8(255); is bytes",
         "ok; ok; ok; true",
     ),
     // a list of bytes for one of structs is copied as it is, and becomes structs where it is handed out
@@ -143,7 +143,7 @@ static BYTE_ROWS: [(&str, &str, &str); 5] = [
         "ok; true; ok; true",
     ),
     // 5 is stored with the default 7
-    ("many", "set n UInt16 5; is many_five", "ok; true"),
+    ("many", "set n UInt16(5); is many_five", "ok; true"),
 ];
 
 #[test]

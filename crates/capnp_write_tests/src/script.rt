@@ -10,7 +10,7 @@
 //!
 //! | call | what it does |
 //! |---|---|
-//! | `set items.1.a UInt16 7` | a `set` to a value |
+//! | `set items.1.a UInt16(7)` | a `set` to a value |
 //! | `init`, `initn`, `clear`, `get`, as `initn rows.0 2` | that call; `initn` of an element is a list's `init` |
 //! | `which` | answers the index of the active member, or `none` |
 //! | `has b` | answers whether the root's field is there |
@@ -18,9 +18,9 @@
 //! | `print` | answers the text of the message's root |
 //! | `is full` | answers whether the message has the bytes of another |
 //!
-//! A value is `Void`, `Null` (an untyped pointer), `Given`, a kind of value and what it is, as `UInt16 7`, `Bool true`,
-//! `Enum 2`, `Text hi` or `Data hi`, and `Read shapes tagged tag`: what a field of a message's root reads as, or the
-//! root itself where no field is named.
+//! A value is `Void`, `Null` (an untyped pointer), `Given`, a kind of value and what it is, as `UInt16(7)`,
+//! `Bool(true)`, `Enum(2)`, `Text(hi)` or `Data(hi)`, and `Read shapes tagged tag`: what a field of a message's root
+//! reads as, or the root itself where no field is named.
 //!
 //! The answers stand in the same order. A call that is carried out is `ok`, one that is refused is the number of its
 //! refusal (`ErrorKind::number`), with `changed` where the message is not what it was before.
@@ -242,7 +242,8 @@ fn untyped_null<'a>() -> Value<'a> {
 
 /// The value that a text says.
 fn value_of<'a>(alloc: Global, set: &'a SchemaSet, text: &'a str) -> Result<Value<'a>> {
-    let (name, rest) = words_of(text);
+    let (name, rest) = text.split_once(['(', ' ']).unwrap_or((text, ""));
+    let rest = rest.strip_suffix(')').unwrap_or(rest);
     let kind = kind_of(name);
     match kind {
         Kind::Void => Ok(Value::Void),
