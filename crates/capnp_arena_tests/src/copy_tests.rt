@@ -109,12 +109,14 @@ static REFUSED: [(&str, ErrorKind); 5] = [
     ),
     // a text, and then a pointer that leaves its segment
     (
-        "00 00 00 00 04 00 00 00 | 00 00 00 00 00 00 02 00 | 05 00 00 00 1a 00 00 00 | fc ff ff 7f 01 00 00 00 | 68 69 00 00 00 00 00 00",
+        "00 00 00 00 04 00 00 00 | 00 00 00 00 00 00 02 00 | 05 00 00 00 1a 00 00 00 | fc ff ff 7f \
+         01 00 00 00 | 68 69 00 00 00 00 00 00",
         BadPointer,
     ),
     // the first of two in preorder
     (
-        "00 00 00 00 04 00 00 00 | 00 00 00 00 00 00 02 00 | 04 00 00 00 00 00 01 00 | fc ff ff 7f 01 00 00 00 | 03 00 00 00 00 00 00 00",
+        "00 00 00 00 04 00 00 00 | 00 00 00 00 00 00 02 00 | 04 00 00 00 00 00 01 00 | fc ff ff 7f \
+         01 00 00 00 | 03 00 00 00 00 00 00 00",
         CapabilityPointer,
     ),
     // it leads to itself

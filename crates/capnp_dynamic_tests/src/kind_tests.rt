@@ -23,7 +23,8 @@ static FIELD_ROWS: [(&str, &str, &str); 4] = [
         "kinds empty",
         EACH_FIELD,
         "Void; Bool(false); Bool(true); Int8(-8); Int16(-16); Int32(-32); Int64(-64); UInt8(8); \
-         UInt16(16); UInt32(32); UInt64(64); Enum(1); Text(none); Data([0, 255]); Struct; Struct; List(3); List(0); List(0); List(0); \
+         UInt16(16); UInt32(32); UInt64(64); Enum(1); Text(none); Data([0, 255]); Struct; Struct; List(3); \
+         List(0); List(0); List(0); \
          List(0); List(0); List(0); List(0); List(0); Null; Struct",
     ),
     // the group is the active member

@@ -5,7 +5,13 @@ use crate::script::rows_hold;
 
 /// What is printed of `full` and of `segments`, after the text that stood before.
 const FULL_TEXT: &str =
-    ":(void = (), truth = true, lie = false, int8 = -128, int16 = -32768, int32 = -2147483648, int64 = -9223372036854775808, uint8 = 255, uint16 = 65535, uint32 = 4294967295, uint64 = 18446744073709551615, color = blue, text = \"word\", bytes = 0x\"010203\", point = (x = -5, y = 6), plain = (x = 7, y = -1), numbers = [65535, 0, 9], flags = [true, false, true], voids = [(), ()], wide = [-1, 1], colors = [red, blue], texts = [\"\", \"ab\"], blobs = [0x\"\", 0x\"07\"], points = [(x = 1, y = 2), (x = 3, y = -1)], rows = [[1, -1], [], [2]], named = (name = \"me\", times = 4))";
+    ":(void = (), truth = true, lie = false, int8 = -128, int16 = -32768, int32 = -2147483648, \
+     int64 = -9223372036854775808, uint8 = 255, uint16 = 65535, uint32 = 4294967295, uint64 = \
+     18446744073709551615, color = blue, text = \"word\", bytes = 0x\"010203\", point = (x = -5, y \
+     = 6), plain = (x = 7, y = -1), numbers = [65535, 0, 9], flags = [true, false, true], voids = \
+     [(), ()], wide = [-1, 1], colors = [red, blue], texts = [\"\", \"ab\"], blobs = [0x\"\", \
+     0x\"07\"], points = [(x = 1, y = 2), (x = 3, y = -1)], rows = [[1, -1], [], [2]], named = \
+     (name = \"me\", times = 4))";
 
 static PRINTED_ROWS: [(&str, &str, &str); 3] = [
     ("kinds full", "print", FULL_TEXT),
@@ -14,7 +20,8 @@ static PRINTED_ROWS: [(&str, &str, &str); 3] = [
     (
         "kinds empty",
         "print",
-        ":(void = (), truth = false, lie = true, int8 = -8, int16 = -16, int32 = -32, int64 = -64, uint8 = 8, uint16 = 16, uint32 = 32, uint64 = 64, color = green, none = ())",
+        ":(void = (), truth = false, lie = true, int8 = -8, int16 = -16, int32 = -32, int64 = -64, \
+         uint8 = 8, uint16 = 16, uint32 = 32, uint64 = 64, color = green, none = ())",
     ),
 ];
 
@@ -63,7 +70,13 @@ static DEBUG_ROWS: [(&str, &str, &str); 6] = [
     (
         "kinds full",
         "debug",
-        "(void = (), truth = true, lie = false, int8 = -128, int16 = -32768, int32 = -2147483648, int64 = -9223372036854775808, uint8 = 255, uint16 = 65535, uint32 = 4294967295, uint64 = 18446744073709551615, color = blue, text = \"word\", bytes = 0x\"010203\", point = (x = -5, y = 6), plain = (x = 7, y = -1), numbers = [65535, 0, 9], flags = [true, false, true], voids = [(), ()], wide = [-1, 1], colors = [red, blue], texts = [\"\", \"ab\"], blobs = [0x\"\", 0x\"07\"], points = [(x = 1, y = 2), (x = 3, y = -1)], rows = [[1, -1], [], [2]], named = (name = \"me\", times = 4))",
+        "(void = (), truth = true, lie = false, int8 = -128, int16 = -32768, int32 = -2147483648, \
+         int64 = -9223372036854775808, uint8 = 255, uint16 = 65535, uint32 = 4294967295, uint64 = \
+         18446744073709551615, color = blue, text = \"word\", bytes = 0x\"010203\", point = (x = \
+         -5, y = 6), plain = (x = 7, y = -1), numbers = [65535, 0, 9], flags = [true, false, \
+         true], voids = [(), ()], wide = [-1, 1], colors = [red, blue], texts = [\"\", \"ab\"], \
+         blobs = [0x\"\", 0x\"07\"], points = [(x = 1, y = 2), (x = 3, y = -1)], rows = [[1, -1], \
+         [], [2]], named = (name = \"me\", times = 4))",
     ),
     ("kinds full", "debug point", "(x = -5, y = 6)"),
     (

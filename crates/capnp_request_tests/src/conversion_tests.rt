@@ -71,7 +71,13 @@ fn entries_are_named_in_order(rt: HostRuntime) -> std::result::Result<(), Fail> 
         ),
         (
             GENERIC.as_slice(),
-            "Map;Use;Map.Entry;Map.extra;Map(Text, Data);Map(Text, Use);Map(Text, Data).Entry;Map(List(UInt8), Map(Text, Use));Map(Text, Data).extra;Map(Text, Use).Entry;Map(Text, Use).extra;Map(List(UInt8), Map(Text, Use)).Entry;Map(List(UInt8), Map(Text, Use)).extra;Map(Data, Text);Map(Use, Text);Map(Map(Text, Use), List(UInt8));Map(Data, Text).Entry;Map(Data, Text).extra;Map(Use, Text).Entry;Map(Use, Text).extra;Map(Map(Text, Use), List(UInt8)).Entry;Map(Map(Text, Use), List(UInt8)).extra;",
+            "Map;Use;Map.Entry;Map.extra;Map(Text, Data);Map(Text, Use);Map(Text, \
+             Data).Entry;Map(List(UInt8), Map(Text, Use));Map(Text, Data).extra;Map(Text, \
+             Use).Entry;Map(Text, Use).extra;Map(List(UInt8), Map(Text, \
+             Use)).Entry;Map(List(UInt8), Map(Text, Use)).extra;Map(Data, Text);Map(Use, \
+             Text);Map(Map(Text, Use), List(UInt8));Map(Data, Text).Entry;Map(Data, \
+             Text).extra;Map(Use, Text).Entry;Map(Use, Text).extra;Map(Map(Text, Use), \
+             List(UInt8)).Entry;Map(Map(Text, Use), List(UInt8)).extra;",
         ),
         (NOTES.as_slice(), "Shape;Floats;Floats.g;"),
         (

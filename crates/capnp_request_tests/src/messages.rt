@@ -494,7 +494,9 @@ pub(crate) const PEOPLE: [u8; 224] = [
 
 /// Its text.
 pub(crate) const PEOPLE_TEXT: &str =
-    "(people = [(id = 123, name = \"Alice\", email = \"a@x\", phones = [(number = \"555-1212\", type = mobile)], employment = (school = \"MIT\")), (id = 456, name = \"Bob\", phones = [(number = \"1\", type = home)], employment = (employer = \"X\"))])";
+    "(people = [(id = 123, name = \"Alice\", email = \"a@x\", phones = [(number = \"555-1212\", \
+     type = mobile)], employment = (school = \"MIT\")), (id = 456, name = \"Bob\", phones = \
+     [(number = \"1\", type = home)], employment = (employer = \"X\"))])";
 
 /// A message of `Map(Text, Data).Entry`.
 pub(crate) const PAIR: [u8; 56] = [
@@ -522,4 +524,5 @@ pub(crate) const USE: [u8; 320] = [
 
 /// Its text.
 pub(crate) const USE_TEXT: &str =
-    "(b = (entries = [(key = \"q\", value = (a = (entries = [], extra = ())))], extra = ()), d = (entries = [(key = [1, 2], value = (entries = [(key = \"t\")], extra = ()))], extra = ()))";
+    "(b = (entries = [(key = \"q\", value = (a = (entries = [], extra = ())))], extra = ()), d = \
+     (entries = [(key = [1, 2], value = (entries = [(key = \"t\")], extra = ()))], extra = ()))";

@@ -12,11 +12,23 @@ use std::test::Fail;
 
 /// The text of `FULL`.
 const FULL_TEXT: &str =
-    "(void = (), truth = true, lie = false, int8 = -128, int16 = -32768, int32 = -2147483648, int64 = -9223372036854775808, uint8 = 255, uint16 = 65535, uint32 = 4294967295, uint64 = 18446744073709551615, color = blue, text = \"word\", bytes = 0x\"010203\", point = (x = -5, y = 6), plain = (x = 7, y = -1), numbers = [65535, 0, 9], flags = [true, false, true], voids = [(), ()], wide = [-1, 1], colors = [red, blue], texts = [\"\", \"ab\"], blobs = [0x\"\", 0x\"07\"], points = [(x = 1, y = 2), (x = 3, y = -1)], rows = [[1, -1], [], [2]], named = (name = \"me\", times = 4))";
+    "(void = (), truth = true, lie = false, int8 = -128, int16 = -32768, int32 = -2147483648, \
+     int64 = -9223372036854775808, uint8 = 255, uint16 = 65535, uint32 = 4294967295, uint64 = \
+     18446744073709551615, color = blue, text = \"word\", bytes = 0x\"010203\", point = (x = -5, y \
+     = 6), plain = (x = 7, y = -1), numbers = [65535, 0, 9], flags = [true, false, true], voids = \
+     [(), ()], wide = [-1, 1], colors = [red, blue], texts = [\"\", \"ab\"], blobs = [0x\"\", \
+     0x\"07\"], points = [(x = 1, y = 2), (x = 3, y = -1)], rows = [[1, -1], [], [2]], named = \
+     (name = \"me\", times = 4))";
 
 /// The same with the elements that `ELEMENTS` sets.
 const SET_TEXT: &str =
-    "(void = (), truth = true, lie = false, int8 = -128, int16 = -32768, int32 = -2147483648, int64 = -9223372036854775808, uint8 = 255, uint16 = 65535, uint32 = 4294967295, uint64 = 18446744073709551615, color = blue, text = \"word\", bytes = 0x\"010203\", point = (x = -5, y = 6), plain = (x = 7, y = -1), numbers = [65535, 8, 9], flags = [true, true, true], voids = [(), ()], wide = [-1, 1], colors = [blue, blue], texts = [\"hi\", \"\\0\"], blobs = [0x\"\", 0x\"0000\"], points = [(x = 1, y = 2), (x = 3, y = -1)], rows = [[1, -1], [0, 0, 0, -5], [2]], named = (name = \"me\", times = 4))";
+    "(void = (), truth = true, lie = false, int8 = -128, int16 = -32768, int32 = -2147483648, \
+     int64 = -9223372036854775808, uint8 = 255, uint16 = 65535, uint32 = 4294967295, uint64 = \
+     18446744073709551615, color = blue, text = \"word\", bytes = 0x\"010203\", point = (x = -5, y \
+     = 6), plain = (x = 7, y = -1), numbers = [65535, 8, 9], flags = [true, true, true], voids = \
+     [(), ()], wide = [-1, 1], colors = [blue, blue], texts = [\"hi\", \"\\0\"], blobs = [0x\"\", \
+     0x\"0000\"], points = [(x = 1, y = 2), (x = 3, y = -1)], rows = [[1, -1], [0, 0, 0, -5], \
+     [2]], named = (name = \"me\", times = 4))";
 
 const READ: &str = "\
 get void -> Void

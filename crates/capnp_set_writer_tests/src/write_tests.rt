@@ -21,13 +21,18 @@ const REST: [u8; 3] = [255, 0, 1];
 const SETS: [&str; 9] = [
     "",
     "built-in",
-    "struct 4 0, a Void @0, b Bool @0 =Bool(true), c Int8 @1 =Int8(-1), d Int16 @1 =Int16(-300), e Int32 @1 =Int32(-70000), f Int64 @1 =Int64(-5)",
-    "struct 4 0, g UInt8 @0 =UInt8(255), h UInt16 @1 =UInt16(65535), i UInt32 @1 =UInt32(4294967295), j UInt64 @1 =UInt64(18446744073709551615)",
+    "struct 4 0, a Void @0, b Bool @0 =Bool(true), c Int8 @1 =Int8(-1), d Int16 @1 =Int16(-300), e \
+     Int32 @1 =Int32(-70000), f Int64 @1 =Int64(-5)",
+    "struct 4 0, g UInt8 @0 =UInt8(255), h UInt16 @1 =UInt16(65535), i UInt32 @1 \
+     =UInt32(4294967295), j UInt64 @1 =UInt64(18446744073709551615)",
     "struct 1 2, g group(1); group 1 2, m Text @0",
-    "struct 1 5, n Enum(0) @0 =Enum(1), t Text @0 =Text(hi), d Data @1 =Data(zero_and_ff), s Struct(0) @2 =Struct(struct_258), l List(Enum(0)) @3, p AnyPointer @4; enum red blue",
+    "struct 1 5, n Enum(0) @0 =Enum(1), t Text @0 =Text(hi), d Data @1 =Data(zero_and_ff), s \
+     Struct(0) @2 =Struct(struct_258), l List(Enum(0)) @3, p AnyPointer @4; enum red blue",
     "struct 1 1 union 2 0, x Void @0 #0, y List(List(Struct(0))) @0 #1; struct 0 0",
-    "struct 0 1, a Text @0; note struct 7 Struct(point_3_4) Struct(0); note field:0 8 List(null) List(Void); note field:0 9 AnyPointer(null) AnyPointer; note struct 10 Data(zero_and_ff) Data",
-    "enum red blue; note enum 1 Bool(true) Bool; note enumerant:1 2 Int64(-9223372036854775808) Int64; note enumerant:1 3 Void Void; note enumerant:0 4 Enum(1) Enum(0)",
+    "struct 0 1, a Text @0; note struct 7 Struct(point_3_4) Struct(0); note field:0 8 List(null) \
+     List(Void); note field:0 9 AnyPointer(null) AnyPointer; note struct 10 Data(zero_and_ff) Data",
+    "enum red blue; note enum 1 Bool(true) Bool; note enumerant:1 2 Int64(-9223372036854775808) \
+     Int64; note enumerant:1 3 Void Void; note enumerant:0 4 Enum(1) Enum(0)",
 ];
 
 /// Asserts that a set is written, and read back as the lists of another one that is equal, with bytes after the
