@@ -1,165 +1,93 @@
 //! Rules 11 and 12: plain fields share no place, and no field stands on the discriminant.
 
-use crate::verdicts::{Row, verdicts_hold};
+use crate::verdicts::verdicts_hold;
 use std::test::Fail;
 
-static MEMBERS: [Row; 3] = [
-    (
-        "struct 1 1, a Text @0, b Text @0",
-        "rule 11 brand 0 field 0 or rule 11 brand 0 field 1",
-    ),
-    (
-        "struct 1 1 union 1 0, a Text @0 #0, b Text @0",
-        "rule 11 brand 0 field 1",
-    ),
-    (
-        "struct 1 1 union 2 0, a Text @0 #0, b Text @0 #1",
-        "accepted",
-    ),
-];
+const MEMBERS: &str = "\
+struct 1 1, a Text @0, b Text @0 -> rule 11 brand 0 field 0 or rule 11 brand 0 field 1
+struct 1 1 union 1 0, a Text @0 #0, b Text @0 -> rule 11 brand 0 field 1
+struct 1 1 union 2 0, a Text @0 #0, b Text @0 #1 -> accepted";
 
 #[test]
 fn only_members_share_a_place(rt: HostRuntime) -> Result<(), Fail> {
-    verdicts_hold(&rt, rt.alloc(), &MEMBERS)
+    verdicts_hold(&rt, rt.alloc(), MEMBERS)
 }
 
 /// A bit and a number of 16 bits, the bit first and then last.
-static BITS: [Row; 10] = [
-    (
-        "struct 1 0, b Bool @16, n UInt16 @1",
-        "rule 11 brand 0 field 0 or rule 11 brand 0 field 1",
-    ),
-    (
-        "struct 1 0, n UInt16 @1, b Bool @16",
-        "rule 11 brand 0 field 0 or rule 11 brand 0 field 1",
-    ),
-    (
-        "struct 1 0, b Bool @20, n UInt16 @1",
-        "rule 11 brand 0 field 0 or rule 11 brand 0 field 1",
-    ),
-    (
-        "struct 1 0, n UInt16 @1, b Bool @20",
-        "rule 11 brand 0 field 0 or rule 11 brand 0 field 1",
-    ),
-    (
-        "struct 1 0, b Bool @31, n UInt16 @1",
-        "rule 11 brand 0 field 0 or rule 11 brand 0 field 1",
-    ),
-    (
-        "struct 1 0, n UInt16 @1, b Bool @31",
-        "rule 11 brand 0 field 0 or rule 11 brand 0 field 1",
-    ),
-    ("struct 1 0, b Bool @15, n UInt16 @1", "accepted"),
-    ("struct 1 0, n UInt16 @1, b Bool @15", "accepted"),
-    ("struct 1 0, b Bool @32, n UInt16 @1", "accepted"),
-    ("struct 1 0, n UInt16 @1, b Bool @32", "accepted"),
-];
+const BITS: &str = "\
+struct 1 0, b Bool @16, n UInt16 @1 -> rule 11 brand 0 field 0 or rule 11 brand 0 field 1
+struct 1 0, n UInt16 @1, b Bool @16 -> rule 11 brand 0 field 0 or rule 11 brand 0 field 1
+struct 1 0, b Bool @20, n UInt16 @1 -> rule 11 brand 0 field 0 or rule 11 brand 0 field 1
+struct 1 0, n UInt16 @1, b Bool @20 -> rule 11 brand 0 field 0 or rule 11 brand 0 field 1
+struct 1 0, b Bool @31, n UInt16 @1 -> rule 11 brand 0 field 0 or rule 11 brand 0 field 1
+struct 1 0, n UInt16 @1, b Bool @31 -> rule 11 brand 0 field 0 or rule 11 brand 0 field 1
+struct 1 0, b Bool @15, n UInt16 @1 -> accepted
+struct 1 0, n UInt16 @1, b Bool @15 -> accepted
+struct 1 0, b Bool @32, n UInt16 @1 -> accepted
+struct 1 0, n UInt16 @1, b Bool @32 -> accepted";
 
 #[test]
 fn data_bits_have_one_plain_field(rt: HostRuntime) -> Result<(), Fail> {
-    verdicts_hold(&rt, rt.alloc(), &BITS)
+    verdicts_hold(&rt, rt.alloc(), BITS)
 }
 
 /// A number of 16 bits at the start, beside a plain group with one of 32 bits.
-static GROUPS: [Row; 2] = [
-    (
-        "struct 1 0, p UInt16 @0, g group(1); group 1 0, x UInt32 @0",
-        "rule 11 brand 0 field 0 or rule 11 brand 0 field 1",
-    ),
-    (
-        "struct 1 0, p UInt16 @0, g group(1); group 1 0, x UInt32 @1",
-        "accepted",
-    ),
-];
+const GROUPS: &str = "\
+struct 1 0, p UInt16 @0, g group(1); group 1 0, x UInt32 @0 -> rule 11 brand 0 field 0 or rule 11 brand 0 field 1
+struct 1 0, p UInt16 @0, g group(1); group 1 0, x UInt32 @1 -> accepted";
 
 #[test]
 fn groups_share_no_place_with_plain_fields(rt: HostRuntime) -> Result<(), Fail> {
-    verdicts_hold(&rt, rt.alloc(), &GROUPS)
+    verdicts_hold(&rt, rt.alloc(), GROUPS)
 }
 
-static DISCRIMINANTS_OF_GROUPS: [Row; 2] = [
-    (
-        "struct 1 0, p UInt16 @1, g group(1); group 1 0 union 1 1, v Void #0",
-        "rule 11 brand 0 field 0 or rule 11 brand 0 field 1",
-    ),
-    (
-        "struct 1 0, p UInt16 @1, g group(1); group 1 0 union 1 2, v Void #0",
-        "accepted",
-    ),
-];
+const DISCRIMINANTS_OF_GROUPS: &str = "\
+struct 1 0, p UInt16 @1, g group(1); group 1 0 union 1 1, v Void #0 -> rule 11 brand 0 field 0 or rule 11 brand 0 \
+    field 1
+struct 1 0, p UInt16 @1, g group(1); group 1 0 union 1 2, v Void #0 -> accepted";
 
 #[test]
 fn a_groups_discriminant_is_its_own(rt: HostRuntime) -> Result<(), Fail> {
-    verdicts_hold(&rt, rt.alloc(), &DISCRIMINANTS_OF_GROUPS)
+    verdicts_hold(&rt, rt.alloc(), DISCRIMINANTS_OF_GROUPS)
 }
 
-static NUMBERS: [Row; 2] = [
-    (
-        "struct 1 0 union 2 0, v Void #0, m UInt16 @0 #1",
-        "rule 12 brand 0 field 1",
-    ),
-    (
-        "struct 1 0 union 2 0, v Void #0, m UInt16 @1 #1",
-        "accepted",
-    ),
-];
+const NUMBERS: &str = "\
+struct 1 0 union 2 0, v Void #0, m UInt16 @0 #1 -> rule 12 brand 0 field 1
+struct 1 0 union 2 0, v Void #0, m UInt16 @1 #1 -> accepted";
 
 #[test]
 fn no_number_stands_on_the_discriminant(rt: HostRuntime) -> Result<(), Fail> {
-    verdicts_hold(&rt, rt.alloc(), &NUMBERS)
+    verdicts_hold(&rt, rt.alloc(), NUMBERS)
 }
 
-static FLAGS: [Row; 4] = [
-    ("struct 1 0 union 1 1, v Void #0, b Bool @15", "accepted"),
-    (
-        "struct 1 0 union 1 1, v Void #0, b Bool @16",
-        "rule 12 brand 0 field 1",
-    ),
-    (
-        "struct 1 0 union 1 1, v Void #0, b Bool @31",
-        "rule 12 brand 0 field 1",
-    ),
-    ("struct 1 0 union 1 1, v Void #0, b Bool @32", "accepted"),
-];
+const FLAGS: &str = "\
+struct 1 0 union 1 1, v Void #0, b Bool @15 -> accepted
+struct 1 0 union 1 1, v Void #0, b Bool @16 -> rule 12 brand 0 field 1
+struct 1 0 union 1 1, v Void #0, b Bool @31 -> rule 12 brand 0 field 1
+struct 1 0 union 1 1, v Void #0, b Bool @32 -> accepted";
 
 #[test]
 fn no_bit_stands_on_the_discriminant(rt: HostRuntime) -> Result<(), Fail> {
-    verdicts_hold(&rt, rt.alloc(), &FLAGS)
+    verdicts_hold(&rt, rt.alloc(), FLAGS)
 }
 
 /// A number of a group in a member group.
-static INNER_GROUPS: [Row; 3] = [
-    (
-        "struct 1 0 union 2 1, v Void #0, g group(1) #1; group 1 0, h group(2); group 1 0, x UInt16 @0",
-        "accepted",
-    ),
-    (
-        "struct 1 0 union 2 1, v Void #0, g group(1) #1; group 1 0, h group(2); group 1 0, x UInt16 @1",
-        "rule 12 brand 0 field 1",
-    ),
-    (
-        "struct 1 0 union 2 1, v Void #0, g group(1) #1; group 1 0, h group(2); group 1 0, x UInt16 @2",
-        "accepted",
-    ),
-];
+const INNER_GROUPS: &str = "\
+struct 1 0 union 2 1, v Void #0, g group(1) #1; group 1 0, h group(2); group 1 0, x UInt16 @0 -> accepted
+struct 1 0 union 2 1, v Void #0, g group(1) #1; group 1 0, h group(2); group 1 0, x UInt16 @1 -> rule 12 brand 0 \
+    field 1
+struct 1 0 union 2 1, v Void #0, g group(1) #1; group 1 0, h group(2); group 1 0, x UInt16 @2 -> accepted";
 
 #[test]
 fn no_group_stands_on_the_discriminant(rt: HostRuntime) -> Result<(), Fail> {
-    verdicts_hold(&rt, rt.alloc(), &INNER_GROUPS)
+    verdicts_hold(&rt, rt.alloc(), INNER_GROUPS)
 }
 
-static TWO_DISCRIMINANTS: [Row; 2] = [
-    (
-        "struct 1 0 union 1 1, g group(1) #0; group 1 0 union 1 1, v Void #0",
-        "rule 12 brand 0 field 0",
-    ),
-    (
-        "struct 1 0 union 1 1, g group(1) #0; group 1 0 union 1 2, v Void #0",
-        "accepted",
-    ),
-];
+const TWO_DISCRIMINANTS: &str = "\
+struct 1 0 union 1 1, g group(1) #0; group 1 0 union 1 1, v Void #0 -> rule 12 brand 0 field 0
+struct 1 0 union 1 1, g group(1) #0; group 1 0 union 1 2, v Void #0 -> accepted";
 
 #[test]
 fn no_discriminant_stands_on_another(rt: HostRuntime) -> Result<(), Fail> {
-    verdicts_hold(&rt, rt.alloc(), &TWO_DISCRIMINANTS)
+    verdicts_hold(&rt, rt.alloc(), TWO_DISCRIMINANTS)
 }
