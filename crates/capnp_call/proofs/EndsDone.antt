@@ -1,5 +1,5 @@
 -- What is done to a field is what the words of writes on trees say of its whole, however the field was named.
-use Rattle.std.specs.Prelude.{ℕ, ◌≡◌, ◌⊎◌, refl, Bool, true, false, cond, Some, None, Ok}
+use Rattle.std.specs.Prelude.{ℕ, ◌≡◌, ◌⊎◌, refl, Bool, true, false, cond, Option, Some, None, Ok}
 use Rattle.std.proofs.Common.{ap, inl, inr, sym, subst, ◌∙◌}
 use Rattle.std.proofs.lemmas.Bool.{true≢false}
 use Rattle.capnp_device.specs.declared.error.ErrorKind.{ErrorKind}
@@ -12,7 +12,7 @@ use Rattle.capnp_schema.specs.StructHandles.{number_of, set_of}
 use Rattle.capnp_schema.specs.declared.schema.structs.StructSchema.{StructSchema}
 use Rattle.capnp_schema.specs.Types.{SchemaType, StructType, TextType, DataType, ListType, AnyPointerType}
 use Rattle.capnp_schema.specs.declared.schema.fields.Field.{Field}
-use Rattle.capnp_records.specs.Call.{PathStep, Op, Reply, Clear, Done, Refused}
+use Rattle.capnp_records.specs.Call.{PathStep, Op, Reply, Clear, Done, Init, Refused}
 use Rattle.capnp_records.specs.Default.{default_record}
 use Rattle.capnp_records.specs.Operation.{Does, Initns, Inits, IsDone, Makes}
 use Rattle.capnp_records.specs.Reading.{reads}
@@ -24,11 +24,11 @@ use Rattle.capnp_records.specs.Writes.Slots.{Content}
 use Rattle.capnp_records.specs.Writes.Stand.{OnGroup, OnStruct, seen, step_field, step_index}
 use Rattle.capnp_records.specs.Writes.TreeEnds.{ClearsGroup, OpContent, TreeDoes, TreeDoesAt, cleared_at, group_cleared, slot_written, written}
 use Rattle.capnp_slots.specs.Fields.{IsSlot, field_brand, field_set, slot_with}
-use Rattle.capnp_slots.specs.FieldWrites.{cleared_kind, field_cleared}
+use Rattle.capnp_slots.specs.FieldWrites.{IsFieldInit, KindIsInit, cleared_kind, field_cleared}
 use Rattle.capnp_slots.specs.Groups.{IsGroup, group_without}
-use Rattle.capnp_slots.specs.Inits.{IsInitRefusal, IsInitnRefusal, IsRoomless}
+use Rattle.capnp_slots.specs.Inits.{IsInitRefusal, IsInitnRefusal, IsRoomless, init_content}
 use Rattle.capnp_call.specs.Ends.{AsGroup, AsStruct, FieldDoes, NamedDoes, Whole, stand_of, whole_of}
-use Rattle.capnp_call.specs.Seen.{step_seen}
+use Rattle.capnp_call.specs.Seen.{reply_by, step_seen}
 use Rattle.capnp_call.specs.Ways.{IsNamedBy, found_target, target_in}
 use Rattle.capnp_call.specs.declared.calls.Step.{Step}
 
@@ -77,7 +77,7 @@ initn_refused set x n (ListType e) old kind slot h = roomless x _ _ old kind h
 initn_refused set x n AnyPointerType old kind slot h = (ap Refused (h ∙ sym (ap (λ q. cond q ListAnyPointerNotSupported InitnIsOnlyValidForListTextOrDataFields) slot)), refl)
 initn_refused set x n t old kind slot h = (ap Refused (h ∙ sym (ap (λ q. cond q ExpectedAListOrBlob InitnIsOnlyValidForListTextOrDataFields) slot)), refl)
 
-pub init_refused : (set : Schemas) (x : Target) (t : SchemaType) (old : Value) (kind : ErrorKind) → x.is_group ≡ false → IsInitRefusal t kind → Inits set x t old (Refused kind) old
+init_refused : (set : Schemas) (x : Target) (t : SchemaType) (old : Value) (kind : ErrorKind) → x.is_group ≡ false → IsInitRefusal t kind → Inits set x t old (Refused kind) old
 init_refused set x (StructType b g) old kind slot h = go x.is_group slot
   where
     go : (q : Bool) → q ≡ false →
@@ -99,6 +99,19 @@ pub group_unsized : (kind : FieldKind) (t : SchemaType) (g : ℕ) → IsGroupOf 
 group_unsized (Slot offset d) t g h set x n old e = absurd h
 group_unsized (Group node) (StructType b y) g h set x n old e = (ap Refused (sym (ap (λ q. cond q ExpectedAListOrBlob InitnIsOnlyValidForListTextOrDataFields) e)), refl)
 group_unsized (Group node) t g h set x n old e = absurd (none_some h)
+
+-- ---- an init ----
+
+pub init_done : (f : Field) (s s' : StructTree) (o : Option ErrorKind) (r : Reply) → r ≡ reply_by o → IsFieldInit f s o s' → FieldDoes f Init s r s'
+init_done f s s' o r = go (is_group_field (typed_of f).field.kind) refl o
+  where
+    go : (q : Bool) → is_group_field (typed_of f).field.kind ≡ q → (o : Option ErrorKind) → r ≡ reply_by o → KindIsInit q f s o s' → FieldDoes f Init s r s'
+    go true group None reply h = subst (λ (y : Reply). FieldDoes f Init s y s') (sym reply) (group_does f s s' Init group tt h)
+    go true group (Some kind) reply h = absurd h
+    go false slot None reply h = subst (λ (y : Reply). FieldDoes f Init s y s') (sym reply) (slot_does f s s' Init (init_content f) slot (λ whole. (refl, h.0)) h.1)
+    go false slot (Some kind) reply h =
+        subst (λ (y : Reply). FieldDoes f Init s y s') (sym reply)
+        (stays f s s' Init (Refused kind) h.1 (λ whole old. init_refused (field_set f) (target_in whole f s) (typed_of f).type old kind slot h.0))
 
 -- ---- a step ----
 

@@ -3,10 +3,8 @@ use Rattle.std.specs.Prelude.{ℕ, ◌≡◌, List, Result, Ok, Err, OnOk, OnErr
 use Rattle.std.proofs.Common.{arith, ap, inl, refl, subst, sym}
 use Rattle.capnp_device.specs.declared.error.Error.{Error}
 use Rattle.capnp_arena.specs.Built.{built}
-use Rattle.capnp_arena.specs.Facts.Places.{unchanged}
-use Rattle.capnp_arena.specs.Forest.{Changes, Forest, PartChanges, Planted, struct_from}
+use Rattle.capnp_arena.specs.Forest.{Changes, Forest, struct_from}
 use Rattle.capnp_arena.specs.Segment.{segment}
-use Rattle.capnp_arena.specs.Shape.{Shape}
 use Rattle.capnp_arena.specs.declared.arena.Arena.{Arena}
 use Rattle.capnp_arena.specs.declared.arena.Place.{Place}
 use Rattle.capnp_records.specs.Call.{Done, Refused, Reply}
@@ -29,16 +27,7 @@ by_outcome Q (Err e) reply is written done same cause refused = subst Q (sym is)
 pub same_struct : (old new : Arena) (p : Place) → segment new ≡ segment old → built new p ≡ built old p
 same_struct old new p e = ap (λ (b : List ℕ). struct_from b p.start p.data_words p.pointers) e
 
--- a struct stands where it stood, and nothing else has changed
-pub planted_after : {A : Type 0} (s : Shape) (old new : List ℕ) (r : Result A Error) → Planted old s → OnOk r (Planted new s) → OnErr r (new ≡ old) → Planted new s
-planted_after s old new (Ok a) before written same = written
-planted_after s old new (Err e) before written same = subst (λ (b : List ℕ). Planted b s) (sym same) before
-
-pub changes_after : {A : Type 0} (s : Shape) (old new : List ℕ) (r : Result A Error) → OnOk r (PartChanges s old new) → OnErr r (new ≡ old) → PartChanges s old new
-changes_after s old new (Ok a) written same = written
-changes_after s old new (Err e) written same = unchanged old new s same
-
--- the same of a list
+-- a list stands where it stood, and nothing else has changed
 pub forest_after : {A : Type 0} (w : ℕ) (old new : List ℕ) (r : Result A Error) → Forest old w → OnOk r (Forest new w) → OnErr r (new ≡ old) → Forest new w
 forest_after w old new (Ok a) before written same = written
 forest_after w old new (Err e) before written same = subst (λ (b : List ℕ). Forest b w) (sym same) before

@@ -70,7 +70,6 @@ fn set_field(arena: &mut Arena, place: Place, field: Field<'_>, value: &Value<'_
 /// member becomes active.
 ///
 /// Refused as `slot::init`, and then nothing has changed.
-#[tactic(auto, using(crate::proofs::Outcomes::planted_after, crate::proofs::Outcomes::changes_after))]
 fn init_field(arena: &mut Arena, place: Place, field: Field<'_>) -> Reply
     requires planted { IsBuilt arena.old place }
     requires room { IsRoomFor field (built arena.old place) }
@@ -78,16 +77,11 @@ fn init_field(arena: &mut Arena, place: Place, field: Field<'_>) -> Reply
     ensures planted { IsBuilt arena.new place }
     ensures changes { ChangesIn place arena.old arena.new }
 {
-    if slot::is_slot(field) {
-        reply_of(slot::init(arena, place, field))
-    } else {
-        group::init(arena, place, field);
-        Reply::Done
-    }
+    reply_of(field::init(arena, place, field))
 }
 
 /// Initializes a field with a size, as `slot::initn`; a group is refused as a slot that has no size.
-#[tactic(auto, using(crate::proofs::Outcomes::planted_after, crate::proofs::Outcomes::changes_after))]
+#[tactic(auto, using(capnp_slots::specs::Facts::Outcomes::planted_after, capnp_slots::specs::Facts::Outcomes::changes_after))]
 fn initn_field(arena: &mut Arena, place: Place, field: Field<'_>, count: u32) -> Reply
     requires planted { IsBuilt arena.old place }
     requires room { IsRoomFor field (built arena.old place) }

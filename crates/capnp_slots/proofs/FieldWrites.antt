@@ -1,19 +1,19 @@
--- What is set and cleared by a field's kind.
-use Rattle.std.specs.Prelude.{List, ℕ, ◌≡◌, refl, Bool, true, false, not, Result, Ok, Err, OnOk, OnErr, IfErr}
+-- What is set, initialized and cleared by a field's kind.
+use Rattle.std.specs.Prelude.{◌≡◌, refl, Bool, true, false, not, None, Result, Ok, Err, OnOk, OnErr, IfErr}
 use Rattle.std.proofs.Common.{subst, sym}
 use Rattle.std.proofs.lemmas.Bool.{true≢false}
 use Rattle.capnp_device.specs.declared.error.Error.{Error}
 use Rattle.capnp_wire.specs.Tree.{StructTree}
-use Rattle.capnp_arena.specs.Facts.Places.{unchanged}
-use Rattle.capnp_arena.specs.Forest.{PartChanges, Planted}
-use Rattle.capnp_arena.specs.Shape.{Shape}
 use Rattle.capnp_schema.specs.FieldLists.{typed_of}
 use Rattle.capnp_schema.specs.declared.schema.fields.Field.{Field}
 use Rattle.capnp_records.specs.Call.{Source}
 use Rattle.capnp_records.specs.Step.{is_group_field}
 use Rattle.capnp_slots.specs.Copied.{refusal_of}
-use Rattle.capnp_slots.specs.FieldWrites.{IsFieldSet, KindIsSet, SlotIsSet, cleared_kind, field_cleared}
+use Rattle.capnp_slots.specs.Fields.{slot_with}
+use Rattle.capnp_slots.specs.FieldWrites.{IsFieldInit, IsFieldSet, KindIsInit, KindIsSet, SlotIsInit, SlotIsSet, cleared_kind, field_cleared}
+use Rattle.capnp_slots.specs.Groups.{group_without}
 use Rattle.capnp_slots.specs.GroupSets.{IsGroupSet, given_to_group}
+use Rattle.capnp_slots.specs.Inits.{HasInit, IsInitRefusal, init_content}
 use Rattle.capnp_slots.specs.Primitives.{given_to}
 use Rattle.capnp_slots.specs.Sources.{IsSet, IsSetRefusal}
 
@@ -56,13 +56,17 @@ module _ {A : Type 0} (f : Field) (x : Source) (old new : StructTree) where
   pub group_was_set : (r : Result A Error) → false ≡ not (is_group_field (typed_of f).field.kind) → IsGroupSet f (given_to_group f x) old (refusal_of r) new → IsFieldSet f x old (refusal_of r) new
   group_was_set r e h = subst (λ (q : Bool). KindIsSet q f x old (refusal_of r) new) (sym (group-kind (is_group_field (typed_of f).field.kind) e)) h
 
--- ---- where it stands ----
+-- ---- what is initialized ----
 
--- a slot that was refused stands where it stood, and nothing has changed
-pub planted_after : {A : Type 0} (s : Shape) (old new : List ℕ) (r : Result A Error) → Planted old s → OnOk r (Planted new s) → OnErr r (new ≡ old) → Planted new s
-planted_after s old new (Ok a) before written same = written
-planted_after s old new (Err e) before written same = subst (λ (b : List ℕ). Planted b s) (sym same) before
+module _ {A : Type 0} (f : Field) (old new : StructTree) where
+  slot-init : (r : Result A Error) → OnOk r (HasInit f) → OnOk r (new ≡ slot_with f (init_content f) old) → OnErr r (new ≡ old) → IfErr r (λ e. IsInitRefusal (typed_of f).type e.kind) → SlotIsInit f old (refusal_of r) new
+  slot-init (Ok a) has written same cause = (has, written)
+  slot-init (Err e) has written same cause = (cause, same)
 
-pub changes_after : {A : Type 0} (s : Shape) (old new : List ℕ) (r : Result A Error) → OnOk r (PartChanges s old new) → OnErr r (new ≡ old) → PartChanges s old new
-changes_after s old new (Ok a) written same = written
-changes_after s old new (Err e) written same = unchanged old new s same
+  pub slot_was_init : (r : Result A Error) → true ≡ not (is_group_field (typed_of f).field.kind) → OnOk r (HasInit f) → OnOk r (new ≡ slot_with f (init_content f) old) → OnErr r (new ≡ old) →
+      IfErr r (λ e. IsInitRefusal (typed_of f).type e.kind) → IsFieldInit f old (refusal_of r) new
+  slot_was_init r e has written same cause =
+      subst (λ (q : Bool). KindIsInit q f old (refusal_of r) new) (sym (slot-kind (is_group_field (typed_of f).field.kind) e)) (slot-init r has written same cause)
+
+pub group_was_init : (f : Field) (old new : StructTree) → false ≡ not (is_group_field (typed_of f).field.kind) → new ≡ group_without f old → IsFieldInit f old None new
+group_was_init f old new e h = subst (λ (q : Bool). KindIsInit q f old None new) (sym (group-kind (is_group_field (typed_of f).field.kind) e)) h

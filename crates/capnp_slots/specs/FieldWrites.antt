@@ -10,6 +10,7 @@ use Rattle.capnp_records.specs.Writes.Overlay.{cleared_content}
 use Rattle.capnp_slots.specs.Fields.{slot_with}
 use Rattle.capnp_slots.specs.Groups.{group_without}
 use Rattle.capnp_slots.specs.GroupSets.{IsGroupSet, given_to_group}
+use Rattle.capnp_slots.specs.Inits.{HasInit, IsInitRefusal, init_content}
 use Rattle.capnp_slots.specs.Primitives.{given_to}
 use Rattle.capnp_slots.specs.Sources.{IsSet, IsSetRefusal}
 
@@ -33,3 +34,17 @@ KindIsSet false f s old refused new = SlotIsSet f s old refused new
 
 abbrev pub IsFieldSet : Field → Source → StructTree → Option ErrorKind → StructTree → Type 0
 IsFieldSet f s old refused new = KindIsSet (is_group_field (typed_of f).field.kind) f s old refused new
+
+-- an init of a slot, and the kind of its refusal: it is new, or was refused and the struct is as it was
+abbrev pub SlotIsInit : Field → StructTree → Option ErrorKind → StructTree → Type 0
+SlotIsInit f old None new = HasInit f × (new ≡ slot_with f (init_content f) old)
+SlotIsInit f old (Some kind) new = IsInitRefusal (typed_of f).type kind × (new ≡ old)
+
+-- an init of a field: a slot's, or a group's, which clears it and is never refused
+abbrev pub KindIsInit : (group : Bool) → Field → StructTree → Option ErrorKind → StructTree → Type 0
+KindIsInit true f old None new = new ≡ group_without f old
+KindIsInit true f old (Some kind) new = ⊥
+KindIsInit false f old refused new = SlotIsInit f old refused new
+
+abbrev pub IsFieldInit : Field → StructTree → Option ErrorKind → StructTree → Type 0
+IsFieldInit f old refused new = KindIsInit (is_group_field (typed_of f).field.kind) f old refused new

@@ -12,3 +12,4 @@ pub mod ElementSets
 pub mod GroupSets
 pub mod FieldWrites
 pub mod ReadBack
+pub mod Facts

@@ -1,10 +1,10 @@
 //! Fields of a struct that is built, slots and groups alike.
-ghost use Rattle.std.specs.Prelude.{OnErr, ◌≡◌};
+ghost use Rattle.std.specs.Prelude.{OnErr, OnOk, ◌≡◌};
 ghost use Rattle.capnp_arena.specs.Segment.{segment};
 ghost use Rattle.capnp_arena.specs.Built.{ChangesIn, IsBuilt, built};
 ghost use Rattle.capnp_slots.specs.Copied.{refusal_of};
 ghost use Rattle.capnp_slots.specs.Fields.{IsRoomFor, IsSlot, Keeps, names_of};
-ghost use Rattle.capnp_slots.specs.FieldWrites.{IsFieldSet, field_cleared};
+ghost use Rattle.capnp_slots.specs.FieldWrites.{IsFieldInit, IsFieldSet, field_cleared};
 ghost use Rattle.capnp_slots.specs.Sources.{source_seen};
 
 use crate::source::Source;
@@ -19,7 +19,7 @@ use capnp_wire::error::Result;
 /// was copied before, where a copy was refused.
 ///
 /// The struct has to have the sections of the field's schema.
-#[tactic(auto, using(crate::proofs::FieldWrites::slot_was_set, crate::proofs::FieldWrites::group_was_set, crate::proofs::FieldWrites::planted_after, crate::proofs::FieldWrites::changes_after))]
+#[tactic(auto, using(crate::proofs::FieldWrites::slot_was_set, crate::proofs::FieldWrites::group_was_set, crate::specs::Facts::Outcomes::planted_after, crate::specs::Facts::Outcomes::changes_after))]
 #[inline(always)]
 pub fn set(
     arena: &mut Arena,
@@ -40,6 +40,30 @@ pub fn set(
         slot::set(arena, place, field, source)
     } else {
         group::set(arena, place, field, source)
+    }
+}
+
+/// Initializes a field: a slot as `slot::init`, and a group as `group::init`, which is never refused.
+///
+/// Refused as `slot::init`; then nothing has changed.
+///
+/// The struct has to have the sections of the field's schema.
+#[tactic(auto, using(crate::proofs::FieldWrites::slot_was_init, crate::proofs::FieldWrites::group_was_init, crate::specs::Facts::Outcomes::planted_after, crate::specs::Facts::Outcomes::changes_after))]
+#[inline(always)]
+pub fn init(arena: &mut Arena, place: StructPlace, field: Field<'_>) -> Result<()>
+    requires planted { IsBuilt arena.old place }
+    requires room { IsRoomFor field (built arena.old place) }
+    ensures planted { IsBuilt arena.new place }
+    ensures changes { ChangesIn place arena.old arena.new }
+    ensures init { IsFieldInit field.entry (built arena.old place) (refusal_of result) (built arena.new place) }
+    ensures kept { OnOk result (Keeps (names_of field.entry) (built arena.old place) (built arena.new place)) }
+    ensures refused { OnErr result (segment arena.new ≡ segment arena.old) }
+{
+    if slot::is_slot(field) {
+        slot::init(arena, place, field)
+    } else {
+        group::init(arena, place, field);
+        Ok(())
     }
 }
 
