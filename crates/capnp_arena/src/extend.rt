@@ -46,7 +46,7 @@ impl Arena {
         self.bytes.len() / 8
     }
 
-    /// Takes memory for so many bytes more at once, where there is as much: until they are there the segment isn't moved.
+    /// Takes memory for so many bytes more at once, where there is as much. Until they are there the segment stays.
     pub(crate) fn reserve(&mut self, more: usize)
         ensures same { segment self.new ≡ segment self.old }
         ensures limit { self.new.limit ≡ self.old.limit }
