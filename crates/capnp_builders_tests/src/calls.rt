@@ -22,11 +22,11 @@ use std::alloc::Global;
 use std::process::Abort;
 
 /// A null, as the words of a segment.
-pub const NULL: &[u8] = &[0; 8];
+pub(crate) const NULL: &[u8] = &[0; 8];
 
 /// A call on the root of a message. A default is given by its words.
 #[derive(Clone, Copy)]
-pub enum Call {
+pub(crate) enum Call {
     Clear,
     /// A list of so many numbers of two bytes: zeros, and this count as the last one.
     InitNumbers(u16),
@@ -46,7 +46,7 @@ pub enum Call {
 
 /// A call on the untyped pointer that stands on the root.
 #[derive(Clone, Copy)]
-pub enum UntypedCall {
+pub(crate) enum UntypedCall {
     InitText(u32),
     InitData(u32),
     /// Without a length.
@@ -64,7 +64,7 @@ pub enum UntypedCall {
 
 /// What a pointer is set to: a text as a string or as bytes, data, or what the root of these words leads to.
 #[derive(Clone, Copy)]
-pub enum Input {
+pub(crate) enum Input {
     String(&'static str),
     Text(&'static [u8]),
     Data(&'static [u8]),
@@ -73,7 +73,7 @@ pub enum Input {
 
 /// What a call answers: the bytes of a text or of data, none where it answers nothing, or why it is refused. An untyped
 /// pointer is `null`, or else `not null` where it is built, and the data that it leads to where it is read.
-pub type Want = std::result::Result<&'static [u8], ErrorKind>;
+pub(crate) type Want = std::result::Result<&'static [u8], ErrorKind>;
 
 /// The answer of an untyped pointer that is null.
 const NULL_POINTER: &[u8] = b"null";
@@ -82,7 +82,7 @@ const NULL_POINTER: &[u8] = b"null";
 const NOT_NULL: &[u8] = b"not null";
 
 /// What the row shows, what is called, what that answers, and the words of the message then.
-pub type Row = (&'static str, Call, Want, &'static [u8]);
+pub(crate) type Row = (&'static str, Call, Want, &'static [u8]);
 
 fn default_of(words: Option<&[u8]>) -> Option<PointerReader<'_>> {
     match words {
@@ -446,7 +446,7 @@ fn make_untyped(message: &mut Builder, call: UntypedCall, want: &[u8]) -> Result
 }
 
 /// Makes a call: whether it answers these bytes, or why it is refused. What is compared takes no memory.
-pub fn make(message: &mut Builder, call: Call, want: &[u8]) -> Result<bool>
+pub(crate) fn make(message: &mut Builder, call: Call, want: &[u8]) -> Result<bool>
     requires { IsMessage message.old }
 {
     match call {
@@ -485,7 +485,7 @@ fn is_wanted(made: Result<bool>, want: Want) -> bool {
 }
 
 /// A message of its own of what stands at the root of another one.
-pub fn settled(alloc: Global, message: &Builder) -> Result<Builder>
+pub(crate) fn settled(alloc: Global, message: &Builder) -> Result<Builder>
     ensures { IfOk result IsMessage }
 {
     let mut copy = Builder::new(alloc)?;
@@ -541,7 +541,7 @@ fn first_wrong(alloc: Global, rows: &[Row]) -> Result<Option<&'static str>> {
 }
 
 /// Makes the calls of these rows on one message, which is a null at first.
-pub fn follow(rt: &impl Abort, alloc: Global, rows: &[Row]) {
+pub(crate) fn follow(rt: &impl Abort, alloc: Global, rows: &[Row]) {
     let wrong = first_wrong(alloc, rows);
     assert!(rt; matches!(wrong, Ok(None)), "{wrong:?}");
 }

@@ -13,13 +13,13 @@ use crate::struct_tests::THREE_BYTES;
 use capnp_wire::error::ErrorKind::CapabilityPointer;
 
 /// The text `hi`.
-pub const HI: &[u8] = &[
+pub(crate) const HI: &[u8] = &[
     1, 0, 0, 0, 0x1a, 0, 0, 0, //
     0x68, 0x69, 0, 0, 0, 0, 0, 0,
 ];
 
 /// A capability.
-pub const CAPABILITY: &[u8] = &[3, 0, 0, 0, 0, 0, 0, 0];
+pub(crate) const CAPABILITY: &[u8] = &[3, 0, 0, 0, 0, 0, 0, 0];
 
 /// The text `Hello, World!`.
 const HELLO: &[u8] = &[

@@ -125,10 +125,10 @@ fn size_of_builder<T: HasStructSize>(_builder: &T) -> StructSize {
 }
 
 /// A struct of one word, with 5.
-pub const FIVE: &[u8] = &[0, 0, 0, 0, 1, 0, 0, 0, 5, 0, 0, 0, 0, 0, 0, 0];
+pub(crate) const FIVE: &[u8] = &[0, 0, 0, 0, 1, 0, 0, 0, 5, 0, 0, 0, 0, 0, 0, 0];
 
 /// A list of the bytes 1, 2 and 3.
-pub const THREE_BYTES: &[u8] = &[1, 0, 0, 0, 0x1a, 0, 0, 0, 1, 2, 3, 0, 0, 0, 0, 0];
+pub(crate) const THREE_BYTES: &[u8] = &[1, 0, 0, 0, 0x1a, 0, 0, 0, 1, 2, 3, 0, 0, 0, 0, 0];
 
 /// The number of a struct of one word that the root of a message is set to.
 fn number_set(message: &mut Builder, words: &[u8]) -> Option<u16>

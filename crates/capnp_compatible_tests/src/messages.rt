@@ -98,7 +98,7 @@ static MESSAGES: [(&str, &[u8]); 8] = [
 ];
 
 /// The root of a message, without a schema.
-pub fn root_of(alloc: Global, name: &str) -> Result<StructReader<'static>> {
+pub(crate) fn root_of(alloc: Global, name: &str) -> Result<StructReader<'static>> {
     message::Reader::new(alloc, message_named(&MESSAGES, name))?
         .get_root()
         .get_struct()

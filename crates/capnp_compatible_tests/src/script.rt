@@ -139,7 +139,11 @@ fn are_answers(
 }
 
 /// Asserts that each of these holds: a set, questions, and their answers.
-pub fn rows_hold(rt: &impl Abort, alloc: Global, rows: &[(&'static str, &'static str, &str)]) {
+pub(crate) fn rows_hold(
+    rt: &impl Abort,
+    alloc: Global,
+    rows: &[(&'static str, &'static str, &str)],
+) {
     for (set, questions, answers) in rows {
         are_answers(rt, alloc, &[*set], questions, answers);
     }
@@ -159,7 +163,7 @@ fn parts_of(row: &'static str) -> (&'static str, &'static str, &'static str) {
 
 /// Asserts for each line whether the second struct is a compatible successor of the first. The other parts of their set
 /// are the same for all.
-pub fn pairs_hold(rt: &impl Abort, alloc: Global, others: &'static str, rows: &'static str) {
+pub(crate) fn pairs_hold(rt: &impl Abort, alloc: Global, others: &'static str, rows: &'static str) {
     for row in rows.lines() {
         let (older, newer, follows) = parts_of(row);
         are_answers(rt, alloc, &[older, newer, others], "follows 0 1", follows);
@@ -168,7 +172,7 @@ pub fn pairs_hold(rt: &impl Abort, alloc: Global, others: &'static str, rows: &'
 
 /// The same of structs 9 and 10, where a list in the first became one of structs: a line has the first, and the struct
 /// that stands where an element stood.
-pub fn lists_hold(rt: &impl Abort, alloc: Global, rows: &'static str) {
+pub(crate) fn lists_hold(rt: &impl Abort, alloc: Global, rows: &'static str) {
     for row in rows.lines() {
         let (numbers, pair, follows) = parts_of(row);
         let texts = [

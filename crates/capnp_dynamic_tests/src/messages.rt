@@ -239,16 +239,16 @@ fn entry_of(name: &str) -> (&'static str, u32) {
 }
 
 /// The number of a struct in its set.
-pub fn brand_of(name: &str) -> u32 {
+pub(crate) fn brand_of(name: &str) -> u32 {
     entry_of(name).1
 }
 
 /// The set that has a struct.
-pub fn set_of(alloc: Global, name: &str) -> Result<SchemaSet> {
+pub(crate) fn set_of(alloc: Global, name: &str) -> Result<SchemaSet> {
     read_set(alloc, entry_of(name).0)
 }
 
 /// The message of a name.
-pub fn message_of(name: &str) -> &'static [u8] {
+pub(crate) fn message_of(name: &str) -> &'static [u8] {
     message_named(&MESSAGES, name)
 }

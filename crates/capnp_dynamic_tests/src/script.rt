@@ -268,7 +268,7 @@ fn answer_of<'a>(
 }
 
 /// The answers to questions about the root of a message under the struct of a brand.
-pub fn answers_about(
+pub(crate) fn answers_about(
     alloc: Global,
     set: &SchemaSet,
     brand: u32,
@@ -294,7 +294,7 @@ fn answers_of(alloc: Global, name: &str, bytes: &[u8], questions: &str) -> Resul
 }
 
 /// Asserts that questions about a message are answered so.
-pub fn are_answers(
+pub(crate) fn are_answers(
     rt: &impl Abort,
     alloc: Global,
     name: &str,
@@ -310,7 +310,7 @@ pub fn are_answers(
 
 /// Asserts that each of these holds: a struct and a message of `messages`, as `mixed nine`, questions, and their
 /// answers.
-pub fn rows_hold(rt: &impl Abort, alloc: Global, rows: &[(&str, &str, &str)]) {
+pub(crate) fn rows_hold(rt: &impl Abort, alloc: Global, rows: &[(&str, &str, &str)]) {
     for (read, questions, answers) in rows {
         let (name, message) = read.split_once(' ').unwrap_or((read, ""));
         are_answers(rt, alloc, name, message_of(message), questions, answers);

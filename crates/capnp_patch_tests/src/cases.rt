@@ -17,7 +17,7 @@ use std::process::Abort;
 
 /// What is done.
 #[derive(Clone, Copy, Debug, PartialEq, Eq)]
-pub enum Verb {
+pub(crate) enum Verb {
     /// The text at a path is written, on several lines where the flag is set.
     Get,
     /// Calls are made on a copy of the message, which is written; where one is refused only if the flag is set.
@@ -28,7 +28,7 @@ pub enum Verb {
 
 /// What is asked of a message.
 #[derive(Clone, Copy)]
-pub struct Case<'c> {
+pub(crate) struct Case<'c> {
     pub set: &'c SchemaSet,
     /// The struct of the root, by number.
     pub brand: u32,
@@ -41,7 +41,7 @@ pub struct Case<'c> {
 
 /// What comes of it: the refusal's number, 0 where it isn't refused; the lines that are told; and what is written.
 #[derive(Clone, Copy)]
-pub struct Expected<'c> {
+pub(crate) struct Expected<'c> {
     pub refusal: u32,
     pub lines: &'c str,
     pub written: &'c [u8],
@@ -49,7 +49,7 @@ pub struct Expected<'c> {
 
 /// How the devices go: whether a call moves one byte, and else up to 4096; and which calls fail.
 #[derive(Clone, Copy)]
-pub struct Devices {
+pub(crate) struct Devices {
     pub slow: bool,
     pub failing_read: Option<u64>,
     pub failing_write: Option<u64>,
@@ -57,7 +57,7 @@ pub struct Devices {
 
 /// What came of it: the number of its refusal, what is told, and the sink.
 #[derive(Drop)]
-pub struct Outcome {
+pub(crate) struct Outcome {
     pub refusal: u32,
     pub report: Report,
     pub sink: MemorySink,
@@ -165,7 +165,7 @@ fn run(
 }
 
 /// What comes of a case over devices.
-pub fn outcome_of(alloc: Global, case: &Case<'_>, devices: Devices) -> Outcome {
+pub(crate) fn outcome_of(alloc: Global, case: &Case<'_>, devices: Devices) -> Outcome {
     let step = chunk(devices.slow);
     let mut source = MemorySource::new(case.message, step, devices.failing_read);
     let mut sink = MemorySink::new(alloc, step, devices.failing_write);
@@ -184,7 +184,7 @@ pub fn outcome_of(alloc: Global, case: &Case<'_>, devices: Devices) -> Outcome {
 }
 
 /// Asserts what comes of a case over devices.
-pub fn comes_over(
+pub(crate) fn comes_over(
     rt: &impl Abort,
     alloc: Global,
     case: &Case<'_>,
@@ -199,7 +199,7 @@ pub fn comes_over(
 }
 
 /// Asserts what comes of a case, whatever a call of a device moves.
-pub fn comes_to(rt: &impl Abort, alloc: Global, case: &Case<'_>, expected: &Expected<'_>) {
+pub(crate) fn comes_to(rt: &impl Abort, alloc: Global, case: &Case<'_>, expected: &Expected<'_>) {
     for slow in [true, false] {
         let devices = Devices {
             slow,

@@ -48,7 +48,7 @@ fn wrong_answer(alloc: Global, row: &str, replies: &[Reply], index: usize) -> Re
 }
 
 /// The first of rows that was answered otherwise, with its answer; empty where each is answered as it says.
-pub fn first_wrong(alloc: Global, rows: &str, replies: &[Reply]) -> Result<String> {
+pub(crate) fn first_wrong(alloc: Global, rows: &str, replies: &[Reply]) -> Result<String> {
     for (index, row) in rows.lines().enumerate() {
         let wrong = wrong_answer(alloc, row, replies, index)?;
         if !wrong.is_empty() {

@@ -24,7 +24,7 @@ use std::process::Abort;
 
 /// Calls on the root of a message.
 #[derive(Clone, Copy)]
-pub struct Case<'c> {
+pub(crate) struct Case<'c> {
     /// The struct, by number.
     pub brand: u32,
     /// The message on a copy of which the calls are made; none for an empty root.
@@ -40,7 +40,7 @@ pub struct Case<'c> {
 /// What the calls of a case left: the first row that was answered otherwise, empty where there is none; the text of the
 /// root; the message; and whether the calls were answered so too and left the same message when they were made again.
 #[derive(Drop)]
-pub struct Left {
+pub(crate) struct Left {
     pub wrong: String,
     pub text: String,
     pub bytes: Vec<u8>,
@@ -48,7 +48,7 @@ pub struct Left {
 }
 
 /// The root of a message under a schema.
-pub fn root<'a>(
+pub(crate) fn root<'a>(
     alloc: Global,
     schema: StructSchema<'a>,
     bytes: &'a [u8],
@@ -155,7 +155,12 @@ fn left_of(
 }
 
 /// What the calls of a case leave. `Given` is what is given.
-pub fn left_by(alloc: Global, set: &SchemaSet, given: Value<'_>, case: &Case<'_>) -> Result<Left> {
+pub(crate) fn left_by(
+    alloc: Global,
+    set: &SchemaSet,
+    given: Value<'_>,
+    case: &Case<'_>,
+) -> Result<Left> {
     let schema = schema_of(set, case.brand)?;
     let rows = rows_in(alloc, case.rows, given)?;
     left_of(alloc, schema, case, rows.as_slice())
@@ -179,7 +184,7 @@ fn holds(rt: &impl Abort, case: &Case<'_>, left: Result<Left>) {
 }
 
 /// Asserts that the calls of cases are answered as their rows say, and leave their texts and messages.
-pub fn cases_hold(
+pub(crate) fn cases_hold(
     rt: &impl Abort,
     alloc: Global,
     set: &SchemaSet,

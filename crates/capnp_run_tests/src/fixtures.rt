@@ -1,23 +1,23 @@
 //! What several files of tests have: structs of the built-in set, a message, and rows of calls.
 
 /// The structs of the built-in set, by number.
-pub const MIXED: u32 = 1;
+pub(crate) const MIXED: u32 = 1;
 
-pub const MANY: u32 = 2;
+pub(crate) const MANY: u32 = 2;
 
-pub const SHAPES: u32 = 3;
+pub(crate) const SHAPES: u32 = 3;
 
-pub const LOOP: u32 = 6;
+pub(crate) const LOOP: u32 = 6;
 
-pub const LISTS: u32 = 7;
+pub(crate) const LISTS: u32 = 7;
 
-pub const NODE: u32 = 8;
+pub(crate) const NODE: u32 = 8;
 
 /// No message: the calls are made on an empty root, or what is written is not compared.
-pub const NONE: &[u8] = &[];
+pub(crate) const NONE: &[u8] = &[];
 
 /// A group is entered where it is active, and its union asked for.
-pub const ENTERED: &str = "\
+pub(crate) const ENTERED: &str = "\
 set tag.n UInt16(3) -> Refused(30)
 init tag -> Done
 set tag.n UInt16(3) -> Done
@@ -27,7 +27,7 @@ get tag.u1 -> Refused(30)
 has word -> Flag(false)";
 
 /// A list is started, and its elements are written and read; what stands past it or is no list is refused.
-pub const LISTED: &str = "\
+pub(crate) const LISTED: &str = "\
 initn items 2 -> Done
 set items.1.a UInt16(7) -> Done
 get items.1 -> Struct

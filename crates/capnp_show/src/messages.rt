@@ -6,14 +6,14 @@
 
 /// A row: what the program is run on, and the line that it writes.
 #[derive(Clone, Copy)]
-pub struct Row<'a> {
+pub(crate) struct Row<'a> {
     pub words: &'a str,
     pub message: &'a str,
     pub line: &'a str,
 }
 
 /// The row of a text.
-pub fn row_of(text: &str) -> Row<'_> {
+pub(crate) fn row_of(text: &str) -> Row<'_> {
     let text = text.strip_suffix('\n').unwrap_or(text);
     let (first, rest) = text.split_once('\n').unwrap_or((text, ""));
     let text = if first.starts_with('#') { rest } else { text };
@@ -27,7 +27,7 @@ pub fn row_of(text: &str) -> Row<'_> {
 }
 
 /// Messages that have a text.
-pub const SHOWN: &str = "\
+pub(crate) const SHOWN: &str = "\
 # the active member before the plain field after it
 Mixed: 0000000003000000 0000000001000100 0500010009000000 0000000000000000
 (a = 5, y = 9)
@@ -243,7 +243,7 @@ Lists: 0000000007000000 0000000000000400 0000000000000000 0000000000000000 00000
 ";
 
 /// Messages that have none.
-pub const REFUSED: &str = "\
+pub(crate) const REFUSED: &str = "\
 # a segment of no words
 Many: 0000000000000000
 refused: 4
@@ -325,7 +325,7 @@ refused: 7
 ";
 
 /// Messages of which each proper beginning is refused as cut short.
-pub const BEGINNINGS: &str = "\
+pub(crate) const BEGINNINGS: &str = "\
 Mixed: 0000000003000000 0000000001000100 0500010009000000 0000000000000000
 (a = 5, y = 9)
 
@@ -351,7 +351,7 @@ Lists: 0000000008000000 0000000000000400 0000000000000000 0000000000000000 00000
 ";
 
 /// The messages of `examples/`, which the public tool made, and what it decodes them to.
-pub const EXAMPLES: &str = "\
+pub(crate) const EXAMPLES: &str = "\
 # flat.bin
 Flat: 0000000002000000 0000000001000000 0500000000000000
 (a = 5)

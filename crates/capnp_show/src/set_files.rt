@@ -1,7 +1,7 @@
 //! Sets as messages, as hexadecimal words: `capnp encode` of the public tool made them, of texts that say the sets.
 
 /// The set of one struct, `Flat`, of one number of 16 bits, `a`.
-pub const FLAT: &str = "\
+pub(crate) const FLAT: &str = "\
 000000001e000000 0000000000000300 0900000037000000 4900000027000000 0000000000000000 0400000003000300 \
 6400000000000000 0100000000000000 0000000000000000 090000002a000000 0000000000000000 0500000027000000 \
 466c617400000000 0400000001000300 0000000000000000 0900000012000000 0000000000000000 0400000002000100 \
@@ -10,7 +10,7 @@ pub const FLAT: &str = "\
 0000000001000000";
 
 /// Two structs of the name `Twice`, of a number `a` and of a number `b`, and before them a group of that name.
-pub const TWICE: &str = "\
+pub(crate) const TWICE: &str = "\
 0000000063000000 0000000000000300 09000000c7000000 fd00000087000000 0000000000000000 1000000003000300 \
 6400000000000000 0100000000000100 0000000000000000 5100000032000000 0000000000000000 4d00000027000000 \
 6500000000000000 0100000000000000 0000000000000000 6100000032000000 0000000000000000 5d00000027000000 \
@@ -30,7 +30,7 @@ pub const TWICE: &str = "\
 0400000001000000 0700000000000000 0100000007000000 0000000001000000";
 
 /// The meta set.
-pub const META: &str = "\
+pub(crate) const META: &str = "\
 00000000f7020000 0000000000000300 09000000e7010000 7508000047010000 c90b000007000000 2800000003000300 \
 0000000000000000 0000030000000000 0000000000000000 e100000052000000 0000000000000000 e100000067000000 \
 0000000000000000 0300030000000000 0000000000000000 410100005a000000 0000000000000000 4101000027010000 \
@@ -160,7 +160,7 @@ d900000007000000 d90000004e000000 0200000000000000 190100002f000000 2d0100000700
 0500000007000000 0000000001000000 0000000001000000 0000000001000500";
 
 /// The text of that message of the meta set under the meta set, from the table that defines the set.
-pub const META_LINE: &str = "\
+pub(crate) const META_LINE: &str = "\
 (nodes = [(id = 0, dataWords = 0, pointers = 3, discriminantCount = 0, isGroup = false, discriminantOffset = 0, \
 displayName = \"SetRecord\", fields = [(discriminantValue = 65535, name = \"nodes\", slot = (offset = 0, default = \
 (list = 0x\"0000000000000000\"))), (discriminantValue = 65535, name = \"brands\", slot = (offset = 1, default = \
@@ -247,13 +247,13 @@ ownTypes = [], childTypes = [[], [], [], [], [], [], [], [], [], [], [], [], [],
 1, number = 4)], ownTypes = [], childTypes = [[], []])], enums = [])\n";
 
 /// The text of the message of the set of `Flat` under it.
-pub const FLAT_LINE: &str = "\
+pub(crate) const FLAT_LINE: &str = "\
 (nodes = [(id = 100, dataWords = 1, pointers = 0, discriminantCount = 0, isGroup = false, discriminantOffset = 0, \
 displayName = \"Flat\", fields = [(discriminantValue = 65535, name = \"a\", slot = (offset = 0, default = (uint16 = \
 0)))])], brands = [(node = 0, fieldTypes = [(base = 7, listCount = 0, number = 0)], childTypes = [[]])])\n";
 
 /// Sets that are refused, or have no struct `Flat`, each after the number of its refusal.
-pub const REFUSED_SETS: &str = "\
+pub(crate) const REFUSED_SETS: &str = "\
 # a floating point type
 60: 000000001e000000 0000000000000300 0900000037000000 4900000027000000 0000000000000000 0400000003000300 \
     6400000000000000 0100000000000000 0000000000000000 090000002a000000 0000000000000000 0500000027000000 \

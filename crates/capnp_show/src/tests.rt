@@ -15,7 +15,7 @@ use std::alloc::Global;
 use std::process::Abort;
 use std::test::Fail;
 
-pub const USAGE: &str = "usage: capnp_show [--set FILE] NAME [--indent]\n";
+pub(crate) const USAGE: &str = "usage: capnp_show [--set FILE] NAME [--indent]\n";
 
 /// The only path that has a file.
 const PATH: &str = "set";
@@ -29,7 +29,7 @@ const LAST_LINE: &str = "(\n  a = 5,\n  y = 9\n)\n";
 
 /// What the program is run on.
 #[derive(Clone, Copy)]
-pub struct Setting<'a> {
+pub(crate) struct Setting<'a> {
     /// The words, each with a comma after it; the last may lack it.
     pub words: &'a str,
     pub bytes: &'a [u8],
@@ -46,7 +46,7 @@ pub struct Setting<'a> {
 
 /// What comes of it: the status, and what was written to the sink and to the sink of errors.
 #[derive(Clone, Copy)]
-pub struct Expected<'a> {
+pub(crate) struct Expected<'a> {
     pub status: u8,
     pub shown: &'a [u8],
     pub told: &'a [u8],
@@ -85,7 +85,7 @@ impl<'a> Opener for OneFile<'a> {
 }
 
 /// A setting of which no call fails, with a file that is empty.
-pub fn run_on<'a>(words: &'a str, bytes: &'a [u8], slow: bool) -> Setting<'a> {
+pub(crate) fn run_on<'a>(words: &'a str, bytes: &'a [u8], slow: bool) -> Setting<'a> {
     Setting {
         words,
         bytes,
@@ -99,7 +99,7 @@ pub fn run_on<'a>(words: &'a str, bytes: &'a [u8], slow: bool) -> Setting<'a> {
 }
 
 /// A line that is written: a text where the status is 0, and else what is told.
-pub fn written(status: u8, line: &str) -> Expected<'_> {
+pub(crate) fn written(status: u8, line: &str) -> Expected<'_> {
     let (shown, told) = if status == 0 { (line, "") } else { ("", line) };
     Expected {
         status,
@@ -117,7 +117,7 @@ fn digit(letter: u8) -> Option<u8> {
 }
 
 /// The bytes of hexadecimal digits, two a byte; what is no digit is left out.
-pub fn bytes_of(alloc: Global, text: &str) -> Result<Vec<u8>, Fail> {
+pub(crate) fn bytes_of(alloc: Global, text: &str) -> Result<Vec<u8>, Fail> {
     let mut bytes = Vec::new(alloc);
     let mut high = None;
     for letter in text.as_bytes() {
@@ -135,7 +135,7 @@ pub fn bytes_of(alloc: Global, text: &str) -> Result<Vec<u8>, Fail> {
     Ok(bytes)
 }
 
-pub fn words_of(alloc: Global, words: &str) -> Result<Vec<String>, Fail> {
+pub(crate) fn words_of(alloc: Global, words: &str) -> Result<Vec<String>, Fail> {
     let mut list = Vec::new(alloc);
     for word in words.split_terminator(',') {
         list.push(String::from_str(alloc, word)?)?;
@@ -149,7 +149,7 @@ fn chunk(slow: bool) -> usize
     if slow { 1 } else { 4096 }
 }
 
-pub fn source_of<'a>(on: &Setting<'a>) -> MemorySource<'a> {
+pub(crate) fn source_of<'a>(on: &Setting<'a>) -> MemorySource<'a> {
     MemorySource::new(on.bytes, chunk(on.slow), on.failing_read)
 }
 
@@ -191,7 +191,7 @@ fn is_so(rt: &impl Abort, outcome: &Outcome, expected: &Expected<'_>, words: &st
 }
 
 /// Asserts that a setting comes to this over a source.
-pub fn comes_over(
+pub(crate) fn comes_over(
     rt: &impl Abort,
     alloc: Global,
     source: &mut MemorySource<'_>,
@@ -204,7 +204,7 @@ pub fn comes_over(
 }
 
 /// Asserts that a setting comes to this.
-pub fn comes_to(
+pub(crate) fn comes_to(
     rt: &impl Abort,
     alloc: Global,
     on: &Setting<'_>,
@@ -480,7 +480,7 @@ Flat,--indent,--set,set,
 --indent,--set,set,Flat,";
 
 /// Asserts that a source still has all its bytes.
-pub fn is_unread(
+pub(crate) fn is_unread(
     rt: &impl Abort,
     alloc: Global,
     source: &mut MemorySource<'_>,

@@ -8,7 +8,7 @@ use std::alloc::Global;
 // A message that the public `capnp` tool, version 0.9.2, wrote:
 // echo '(id = 7, name = "far away", scores = [4, 5], points = [(x = 6, y = 7)], next = (id = 8, name = "end"))' |
 //   capnp encode --segment-size=2 examples/reading.capnp Reading | xxd -c 8 -g 1
-pub const SEVEN_SEGMENTS: &str =
+pub(crate) const SEVEN_SEGMENTS: &str =
     "06 00 00 00 01 00 00 00 | 07 00 00 00 03 00 00 00 | 02 00 00 00 03 00 00 00 | \
      07 00 00 00 02 00 00 00 | 02 00 00 00 01 00 00 00 | 00 00 00 00 02 00 04 00 | \
      07 00 00 00 00 00 00 00 | 00 00 00 00 00 00 00 00 | 02 00 00 00 02 00 00 00 | \
@@ -30,7 +30,7 @@ fn digit_of(c: u8) -> Option<u8> {
 
 /// The bytes that a text spells: two hexadecimal digits are a byte, and a `0` alone is a word of zeros. Bars may stand
 /// between words.
-pub fn bytes_of(alloc: Global, text: &str) -> Result<Vec<u8>> {
+pub(crate) fn bytes_of(alloc: Global, text: &str) -> Result<Vec<u8>> {
     let mut bytes = Vec::new(alloc);
     let mut first = None;
     for c in text.as_bytes() {
@@ -53,12 +53,12 @@ pub fn bytes_of(alloc: Global, text: &str) -> Result<Vec<u8>> {
 }
 
 /// The root of a message.
-pub fn root_of(alloc: Global, bytes: &[u8]) -> Result<PointerReader<'_>> {
+pub(crate) fn root_of(alloc: Global, bytes: &[u8]) -> Result<PointerReader<'_>> {
     Ok(Reader::new(alloc, bytes)?.get_root())
 }
 
 /// What a read answered, or the kind of its refusal.
-pub fn answer<T: Copy>(read: Result<T>) -> std::result::Result<T, ErrorKind> {
+pub(crate) fn answer<T: Copy>(read: Result<T>) -> std::result::Result<T, ErrorKind> {
     match read {
         Ok(value) => Ok(value),
         Err(error) => Err(error.kind),

@@ -344,7 +344,7 @@ fn start<'a, 'b>(alloc: Global, from: Cursor<'a>, script: &'b str) -> (Reply<'a>
 
 /// Whether that is so which the last word of these paths asks, each with a colon behind it; none where it is refused.
 /// This takes no memory.
-pub fn is_so(alloc: Global, bytes: &[u8], paths: &str) -> Option<bool> {
+pub(crate) fn is_so(alloc: Global, bytes: &[u8], paths: &str) -> Option<bool> {
     match start(alloc, Cursor::Bytes(bytes), paths) {
         (Reply::Bool(value), _) => Some(value),
         _ => None,
@@ -442,7 +442,13 @@ fn questions_are_answered(
 }
 
 /// Asserts that the questions of a script on these bytes are answered so.
-pub fn are_answers(rt: &impl Abort, alloc: Global, bytes: &[u8], script: &str, answers: &str) {
+pub(crate) fn are_answers(
+    rt: &impl Abort,
+    alloc: Global,
+    bytes: &[u8],
+    script: &str,
+    answers: &str,
+) {
     questions_are_answered(
         rt,
         alloc,
@@ -454,21 +460,26 @@ pub fn are_answers(rt: &impl Abort, alloc: Global, bytes: &[u8], script: &str, a
 }
 
 /// Asserts that one script is answered so by each of these: a text that spells bytes, and the answers.
-pub fn messages_answer(rt: &impl Abort, alloc: Global, script: &str, rows: &[(&str, &str)]) {
+pub(crate) fn messages_answer(rt: &impl Abort, alloc: Global, script: &str, rows: &[(&str, &str)]) {
     for (message, answers) in rows {
         is_answered(rt, alloc, message, script, answers);
     }
 }
 
 /// Asserts that one message answers each of these: a script, and the answers.
-pub fn scripts_are_answered(rt: &impl Abort, alloc: Global, message: &str, rows: &[(&str, &str)]) {
+pub(crate) fn scripts_are_answered(
+    rt: &impl Abort,
+    alloc: Global,
+    message: &str,
+    rows: &[(&str, &str)],
+) {
     for (script, answers) in rows {
         is_answered(rt, alloc, message, script, answers);
     }
 }
 
 /// Asserts that each of these holds: a text that spells bytes, a script, and the answers.
-pub fn rows_hold(rt: &impl Abort, alloc: Global, rows: &[(&str, &str, &str)]) {
+pub(crate) fn rows_hold(rt: &impl Abort, alloc: Global, rows: &[(&str, &str, &str)]) {
     for (message, script, answers) in rows {
         is_answered(rt, alloc, message, script, answers);
     }

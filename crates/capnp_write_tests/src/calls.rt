@@ -8,7 +8,7 @@ use capnp_wire::error::{Error, ErrorKind, Result};
 
 /// Where a call is made.
 #[derive(Clone, Copy)]
-pub enum At<'a> {
+pub(crate) enum At<'a> {
     /// A field of the root.
     Field(&'a str),
     /// A field of the struct or group that a field of the root has.
@@ -23,7 +23,7 @@ pub enum At<'a> {
 
 /// A call of a builder.
 #[derive(Clone, Copy)]
-pub enum Write<'a> {
+pub(crate) enum Write<'a> {
     Get,
     Set(Value<'a>),
     Init,
@@ -32,7 +32,7 @@ pub enum Write<'a> {
 }
 
 /// Where a path leads: names and indices, with dots between them.
-pub fn place_of<'a>(path: &'a str) -> At<'a> {
+pub(crate) fn place_of<'a>(path: &'a str) -> At<'a> {
     let Some((first, rest)) = path.split_once('.') else {
         return At::Field(path);
     };
@@ -162,7 +162,11 @@ fn write_listed(
 }
 
 /// Makes a call. Refused as the `get` calls that lead there and as the call itself.
-pub fn write_at(root: &mut dynamic_struct::Builder<'_>, at: At<'_>, write: Write<'_>) -> Result<()>
+pub(crate) fn write_at(
+    root: &mut dynamic_struct::Builder<'_>,
+    at: At<'_>,
+    write: Write<'_>,
+) -> Result<()>
     requires { IsReady root.old }
 {
     match at {

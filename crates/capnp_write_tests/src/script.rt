@@ -203,7 +203,11 @@ fn part_of<'a>(root: dynamic_struct::Reader<'a>, field: &str) -> Result<Value<'a
 }
 
 /// What a message's root, or a field of it, reads as: a struct, a message, and the field's name.
-pub fn read_value<'a>(alloc: Global, set: &'a SchemaSet, text: &'a str) -> Result<Value<'a>> {
+pub(crate) fn read_value<'a>(
+    alloc: Global,
+    set: &'a SchemaSet,
+    text: &'a str,
+) -> Result<Value<'a>> {
     let (name, rest) = words_of(text);
     let (message, field) = words_of(rest);
     let root = root_of(alloc, set, brand_of(name), bytes_named(message))?;
@@ -457,7 +461,7 @@ fn answer_calls(alloc: Global, start: Start<'_>, calls: &str, out: &mut String) 
 }
 
 /// What the calls of a script answer.
-pub fn answers_of(alloc: Global, built: &str, calls: &str) -> Result<String> {
+pub(crate) fn answers_of(alloc: Global, built: &str, calls: &str) -> Result<String> {
     let (built, given) = built.split_once(" given ").unwrap_or((built, ""));
     let (name, message) = built.split_once(" from ").unwrap_or((built, ""));
     let set = set_of(alloc, name)?;
@@ -475,7 +479,7 @@ pub fn answers_of(alloc: Global, built: &str, calls: &str) -> Result<String> {
 }
 
 /// Asserts that each script is answered so.
-pub fn rows_hold(rt: &impl Abort, alloc: Global, rows: &[(&str, &str, &str)]) {
+pub(crate) fn rows_hold(rt: &impl Abort, alloc: Global, rows: &[(&str, &str, &str)]) {
     for (built, calls, answers) in rows {
         match answers_of(alloc, built, calls) {
             Ok(answered) => assert_eq!(rt; answered.as_str(), *answers, "{built}: {calls}"),

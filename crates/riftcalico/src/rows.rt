@@ -5,7 +5,7 @@
 //! written, `"` a line that is written, and `!` a line that is told.
 
 /// Values at paths.
-pub const GOT: &str = "\
+pub(crate) const GOT: &str = "\
 # the root, as capnp_show prints it
 :get
 :Mixed
@@ -205,7 +205,7 @@ pub const GOT: &str = "\
 ";
 
 /// Calls on messages and on empty roots.
-pub const PATCHED: &str = "\
+pub(crate) const PATCHED: &str = "\
 # a number and a text
 :patch
 :Mixed
@@ -392,7 +392,7 @@ pub const PATCHED: &str = "\
 ";
 
 /// The structs of a set, and the fields of one.
-pub const LISTED: &str = "\
+pub(crate) const LISTED: &str = "\
 # all
 :structs
 <

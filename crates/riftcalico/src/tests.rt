@@ -11,7 +11,7 @@ use std::alloc::Global;
 use std::process::Abort;
 use std::test::Fail;
 
-pub const USAGE: &str = "\
+pub(crate) const USAGE: &str = "\
 usage: riftcalico get [--set FILE] NAME PATH [--indent]
        riftcalico patch [--set FILE] [--calls FILE] [--keep-going] NAME CALL..
        riftcalico new [--set FILE] [--calls FILE] [--keep-going] NAME CALL..
@@ -25,7 +25,7 @@ const CALLS: &str = "calls";
 
 /// What the program is run on.
 #[derive(Clone, Copy)]
-pub struct Setting<'a> {
+pub(crate) struct Setting<'a> {
     /// The words, with `|` between them.
     pub words: &'a str,
     pub bytes: &'a [u8],
@@ -43,7 +43,7 @@ pub struct Setting<'a> {
 
 /// What comes of it: the status, and what was written to the sink and to the sink of errors.
 #[derive(Clone, Copy)]
-pub struct Expected<'a> {
+pub(crate) struct Expected<'a> {
     pub status: u8,
     pub written: &'a [u8],
     pub told: &'a [u8],
@@ -82,7 +82,7 @@ impl<'a> Opener for TwoFiles<'a> {
 }
 
 /// A setting of which no call fails, with files that are empty.
-pub fn run_on<'a>(words: &'a str, bytes: &'a [u8], slow: bool) -> Setting<'a> {
+pub(crate) fn run_on<'a>(words: &'a str, bytes: &'a [u8], slow: bool) -> Setting<'a> {
     Setting {
         words,
         bytes,
@@ -97,7 +97,7 @@ pub fn run_on<'a>(words: &'a str, bytes: &'a [u8], slow: bool) -> Setting<'a> {
 }
 
 /// A line that is told, where nothing is written.
-pub fn told(status: u8, line: &str) -> Expected<'_> {
+pub(crate) fn told(status: u8, line: &str) -> Expected<'_> {
     Expected {
         status,
         written: &[],
@@ -131,7 +131,7 @@ fn put_bytes(bytes: &mut Vec<u8>, text: &str) -> Result<(), Fail> {
     Ok(())
 }
 
-pub fn bytes_of(alloc: Global, text: &str) -> Result<Vec<u8>, Fail> {
+pub(crate) fn bytes_of(alloc: Global, text: &str) -> Result<Vec<u8>, Fail> {
     let mut bytes = Vec::new(alloc);
     put_bytes(&mut bytes, text)?;
     Ok(bytes)
@@ -151,7 +151,7 @@ fn chunk(slow: bool) -> usize
     if slow { 1 } else { 4096 }
 }
 
-pub fn source_of<'a>(on: &Setting<'a>) -> MemorySource<'a> {
+pub(crate) fn source_of<'a>(on: &Setting<'a>) -> MemorySource<'a> {
     MemorySource::new(on.bytes, chunk(on.slow), on.failing_read)
 }
 
@@ -179,7 +179,7 @@ fn outcome_over(
 }
 
 /// Asserts that a setting comes to this over a source.
-pub fn comes_over(
+pub(crate) fn comes_over(
     rt: &impl Abort,
     alloc: Global,
     source: &mut MemorySource<'_>,
@@ -195,7 +195,7 @@ pub fn comes_over(
 }
 
 /// Asserts that a setting comes to this.
-pub fn comes_to(
+pub(crate) fn comes_to(
     rt: &impl Abort,
     alloc: Global,
     on: &Setting<'_>,
@@ -206,7 +206,7 @@ pub fn comes_to(
 }
 
 /// Asserts what a setting answers and tells.
-pub fn tells(
+pub(crate) fn tells(
     rt: &impl Abort,
     alloc: Global,
     on: &Setting<'_>,
@@ -222,7 +222,7 @@ pub fn tells(
 }
 
 /// Asserts that a source still has all its bytes.
-pub fn is_unread(
+pub(crate) fn is_unread(
     rt: &impl Abort,
     alloc: Global,
     source: &mut MemorySource<'_>,
