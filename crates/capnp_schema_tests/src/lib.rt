@@ -15,9 +15,17 @@ mod group_tests;
 #[cfg(test)]
 mod handle_tests;
 #[cfg(test)]
+mod handles;
+#[cfg(test)]
+mod lists;
+#[cfg(test)]
+mod look_ups;
+#[cfg(test)]
 mod making_tests;
 #[cfg(test)]
 mod name_tests;
+#[cfg(test)]
+mod notes;
 #[cfg(test)]
 mod plan_tests;
 #[cfg(test)]

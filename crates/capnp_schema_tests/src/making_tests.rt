@@ -42,18 +42,27 @@ fn structs_are_found_by_their_names(rt: HostRuntime) -> std::result::Result<(), 
     Ok(())
 }
 
-/// A person: a name, and a group of which one member is an age and the other nothing.
-fn nodes(alloc: Global) -> Result<Vec<NodeRecord>> {
+/// A person: a name and an age.
+fn person(alloc: Global) -> Result<NodeRecord> {
     let name = FieldRecord::slot(alloc, "name", 0, ValueRecord::Text(Vec::new(alloc)))?;
-    let known = FieldRecord::group(alloc, "age", 1)?;
-    let person = NodeRecord::structure(alloc, 7, "Person", 1, 1, vec![in alloc; name, known]?)?;
-    let years = FieldRecord::slot(alloc, "years", 0, ValueRecord::UInt16(0))?.as_member(1);
+    let age = FieldRecord::group(alloc, "age", 1)?;
+    NodeRecord::structure(alloc, 7, "Person", 1, 1, vec![in alloc; name, age]?)
+}
+
+/// The members of an age: none that is known, or a count of years.
+fn members(alloc: Global) -> Result<Vec<FieldRecord>> {
     let unknown = FieldRecord::slot(alloc, "unknown", 0, ValueRecord::Void)?.as_member(0);
-    let fields = vec![in alloc; unknown, years]?;
-    let age = NodeRecord::structure(alloc, 8, "Person.age", 1, 1, fields)?
-        .as_group()
-        .with_union(2, 1);
-    let nodes = vec![in alloc; person, age]?;
+    let years = FieldRecord::slot(alloc, "years", 0, ValueRecord::UInt16(0))?.as_member(1);
+    Ok(vec![in alloc; unknown, years]?)
+}
+
+fn age(alloc: Global) -> Result<NodeRecord> {
+    let group = NodeRecord::structure(alloc, 8, "Person.age", 1, 1, members(alloc)?)?;
+    Ok(group.as_group().with_union(2, 1))
+}
+
+fn nodes(alloc: Global) -> Result<Vec<NodeRecord>> {
+    let nodes = vec![in alloc; person(alloc)?, age(alloc)?]?;
     Ok(nodes)
 }
 

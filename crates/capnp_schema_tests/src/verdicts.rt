@@ -1,6 +1,6 @@
-//! What the check says of sets: rows of text, a line each. A row is a set, which `set_text.rt` reads, and behind an arrow
-//! the answer: `struct 1 1, a UInt32 @2 -> rule 4 brand 0 field 0`. A line that begins with `#` says what the next ones
-//! show.
+//! What the check says of sets: rows of text, a line each. A row is a set, which `set_text.rt` reads, and behind an
+//! arrow the answer: `struct 1 1, a UInt32 @2 -> rule 4 brand 0 field 0`. A line that begins with `#` says what the
+//! next ones show.
 //!
 //! The answer is `accepted`, or a rule that is broken and where: `rule 4 brand 0 field 1`, or `rule 8 brand 1` where
 //! the whole entry is meant. Where a row has several answers, with ` or ` between them, the check may give any of them.
