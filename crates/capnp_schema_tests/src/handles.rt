@@ -90,7 +90,7 @@ fn enumerants(alloc: Global, set: &SchemaSet, one: &str, another: &str) -> Resul
 }
 
 /// Whether two handles are the same, or told apart.
-pub fn compared(alloc: Global, set: &SchemaSet, words: &str) -> Result<&'static str> {
+pub(crate) fn compared(alloc: Global, set: &SchemaSet, words: &str) -> Result<&'static str> {
     let (kind, both) = first_word(words);
     let (one, another) = both.split_once(", ").unwrap_or((both, ""));
     match kind {
@@ -104,7 +104,7 @@ pub fn compared(alloc: Global, set: &SchemaSet, words: &str) -> Result<&'static 
 }
 
 /// Whether a struct's handle is given again by a look-up in the set that it has, and by its number alone.
-pub fn again(set: &SchemaSet, word: &str) -> Result<&'static str> {
+pub(crate) fn again(set: &SchemaSet, word: &str) -> Result<&'static str> {
     let number = number(word)?;
     let schema = schema_of(set, number)?;
     let looked_up = schema_of(schema.get_set(), number)?;
@@ -124,7 +124,7 @@ fn has_entry(set: &SchemaSet, kind: &str, number: u32) -> Result<bool> {
 }
 
 /// Whether the set has a struct or an enum of a number.
-pub fn is_there(set: &SchemaSet, words: &str) -> Result<&'static str> {
+pub(crate) fn is_there(set: &SchemaSet, words: &str) -> Result<&'static str> {
     let (kind, word) = first_word(words);
     if has_entry(set, kind, number(word)?)? {
         Ok("there")

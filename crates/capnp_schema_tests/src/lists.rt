@@ -8,7 +8,7 @@ use capnp_wire::error::Result;
 use std::alloc::Global;
 
 /// Adds a name, with a space after it.
-pub fn add_name(names: &mut String, name: &str) -> Result<()> {
+pub(crate) fn add_name(names: &mut String, name: &str) -> Result<()> {
     names.push_str(name)?;
     names.push_str(" ")?;
     Ok(())
@@ -41,7 +41,7 @@ fn indices(alloc: Global, fields: FieldList<'_>) -> Result<String> {
 }
 
 /// What a struct's fields say, in the order of a list.
-pub fn in_order(alloc: Global, kind: &str, schema: StructSchema<'_>) -> Result<String> {
+pub(crate) fn in_order(alloc: Global, kind: &str, schema: StructSchema<'_>) -> Result<String> {
     match kind {
         "fields" => list_names(alloc, schema.get_fields()?),
         "members" => subset_names(alloc, schema.get_union_fields()?),
@@ -73,7 +73,12 @@ fn member_at(schema: StructSchema<'_>, place: &str) -> Result<Option<u16>> {
 }
 
 /// The index of a field that a list has.
-pub fn listed(alloc: Global, kind: &str, schema: StructSchema<'_>, place: &str) -> Result<String> {
+pub(crate) fn listed(
+    alloc: Global,
+    kind: &str,
+    schema: StructSchema<'_>,
+    place: &str,
+) -> Result<String> {
     match kind {
         "last" => index_in_words(alloc, last(schema.get_fields()?)),
         "last_member" => index_in_words(alloc, last_of(schema.get_union_fields()?)),
@@ -83,7 +88,7 @@ pub fn listed(alloc: Global, kind: &str, schema: StructSchema<'_>, place: &str) 
 }
 
 /// How many fields and how many members a struct has.
-pub fn sizes(alloc: Global, schema: StructSchema<'_>) -> Result<String> {
+pub(crate) fn sizes(alloc: Global, schema: StructSchema<'_>) -> Result<String> {
     let fields = schema.get_fields()?.len();
     let members = schema.get_union_fields()?.len();
     Ok(format!(in alloc; "{fields} {members}")?)

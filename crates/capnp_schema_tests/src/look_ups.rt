@@ -21,13 +21,13 @@ fn struct_and_words<'s, 'w>(
 }
 
 /// The field of a struct and a name.
-pub fn field_of<'s>(set: &'s SchemaSet, words: &str) -> Result<Field<'s>> {
+pub(crate) fn field_of<'s>(set: &'s SchemaSet, words: &str) -> Result<Field<'s>> {
     let (schema, name) = struct_and_words(set, words)?;
     schema.get_field_by_name(name)
 }
 
 /// The enum of a number.
-pub fn enum_of<'s>(set: &'s SchemaSet, word: &str) -> Result<EnumSchema<'s>> {
+pub(crate) fn enum_of<'s>(set: &'s SchemaSet, word: &str) -> Result<EnumSchema<'s>> {
     set.get_enum(number(word)?).ok_or(UNREADABLE)
 }
 
@@ -42,13 +42,13 @@ fn enumerant_in(schema: EnumSchema<'_>, ordinal: u16) -> Result<Option<Enumerant
 }
 
 /// The enumerant of an enum and an ordinal.
-pub fn enumerant_of<'s>(set: &'s SchemaSet, words: &str) -> Result<Enumerant<'s>> {
+pub(crate) fn enumerant_of<'s>(set: &'s SchemaSet, words: &str) -> Result<Enumerant<'s>> {
     let (enum_number, ordinal) = first_word(words);
     enumerant_in(enum_of(set, enum_number)?, number(ordinal)?)?.ok_or(UNREADABLE)
 }
 
 /// The index of a field that may be there.
-pub fn index_of(found: Option<Field<'_>>) -> Option<u16> {
+pub(crate) fn index_of(found: Option<Field<'_>>) -> Option<u16> {
     match found {
         Some(field) => Some(field.get_index()),
         None => None,
@@ -70,7 +70,7 @@ fn enumerant_names(alloc: Global, schema: EnumSchema<'_>) -> Result<String> {
 }
 
 /// A number, or `none`.
-pub fn index_in_words(alloc: Global, found: Option<u16>) -> Result<String> {
+pub(crate) fn index_in_words(alloc: Global, found: Option<u16>) -> Result<String> {
     match found {
         Some(index) => Ok(format!(in alloc; "{index}")?),
         None => Ok(String::from_str(alloc, "none")?),
@@ -186,7 +186,7 @@ fn looked_up(alloc: Global, kind: &str, schema: StructSchema<'_>, words: &str) -
 }
 
 /// What a struct answers.
-pub fn of_struct(alloc: Global, set: &SchemaSet, kind: &str, words: &str) -> Result<String> {
+pub(crate) fn of_struct(alloc: Global, set: &SchemaSet, kind: &str, words: &str) -> Result<String> {
     let (schema, rest) = struct_and_words(set, words)?;
     match kind {
         "fields" | "members" | "plain" | "indices" => in_order(alloc, kind, schema),
@@ -229,7 +229,7 @@ fn ordinal_at(schema: EnumSchema<'_>, index: u16) -> Result<Option<u16>> {
 }
 
 /// What an enum answers.
-pub fn of_enum(alloc: Global, set: &SchemaSet, kind: &str, words: &str) -> Result<String> {
+pub(crate) fn of_enum(alloc: Global, set: &SchemaSet, kind: &str, words: &str) -> Result<String> {
     let (enum_number, ordinal) = first_word(words);
     let schema = enum_of(set, enum_number)?;
     match kind {

@@ -80,7 +80,7 @@ fn note_is(note: Annotation<'_>, expected: &str) -> Result<bool> {
 }
 
 /// Whether the annotations at a place are these, with `;` after each.
-pub fn notes_are(set: &SchemaSet, place: &str, expected: &str) -> Result<bool> {
+pub(crate) fn notes_are(set: &SchemaSet, place: &str, expected: &str) -> Result<bool> {
     let notes = notes_at(set, place)?;
     let mut rest = expected.split_terminator(';');
     let mut alike = notes.is_empty() == expected.is_empty();
@@ -93,7 +93,7 @@ pub fn notes_are(set: &SchemaSet, place: &str, expected: &str) -> Result<bool> {
 }
 
 /// Whether the first annotation of an id at a place is this one, or there is `none`.
-pub fn found_is(set: &SchemaSet, query: &str, expected: &str) -> Result<bool> {
+pub(crate) fn found_is(set: &SchemaSet, query: &str, expected: &str) -> Result<bool> {
     let (id, place) = first_word(query);
     match notes_at(set, place)?.find(number(id)?) {
         Some(note) => note_is(note, expected),

@@ -100,7 +100,7 @@ fn group_holds(
 }
 
 /// That each row's set gives the answer to its query.
-pub fn answers_hold(
+pub(crate) fn answers_hold(
     rt: &impl Abort,
     alloc: Global,
     rows: &'static str,

@@ -68,7 +68,7 @@ fn is_among(answer: &str, answers: &str) -> bool {
 }
 
 /// That each set has one of the answers of its row.
-pub fn verdicts_hold(
+pub(crate) fn verdicts_hold(
     rt: &impl Abort,
     alloc: Global,
     rows: &'static str,
