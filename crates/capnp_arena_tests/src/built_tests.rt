@@ -1,6 +1,7 @@
 //! What is written into the parts of a message that is built, what is read there, and the bytes that are written then.
 //!
-//! What a row builds stands in `built`, under the row's name: it answers three numbers that are read from what it built.
+//! What a row builds stands in `built`, under the row's name. It answers three numbers that are read from what it
+//! built.
 
 use crate::built::{Built, build};
 use crate::calls::FIVE_AND_TEXT;

@@ -13,8 +13,8 @@ use crate::calls::Lent::{
     GetData, GetText, InitData, InitText, NewData, NewText, ReverseData, ReverseText,
 };
 use crate::calls::{
-    EMPTY_STRUCT, FIVE_AND_TEXT, NEW_STRUCT, NO_SIZE, NULL, Row, TWO_EACH, follow, follow_changes,
-    make, parts_of,
+    EMPTY_STRUCT, FIVE_AND_TEXT, NEW_STRUCT, NO_SIZE, NULL, Row, TWO_EACH, answers, follow,
+    follow_changes, make, parts_of,
 };
 use crate::copied_rows::{
     BECOME_STRUCTS, CONTENTS, COPIED_LISTS, COPIED_NULLS, COPIED_ZEROS, ELEMENTS, MORE_CONTENTS,
@@ -23,7 +23,7 @@ use crate::copied_rows::{
 use crate::fixtures::{ONE_EACH, answer};
 use capnp_arena::message::Builder;
 use capnp_device::error::ErrorKind::{
-    self, OutOfMemory, SizePastFormat, TextNotTerminated, WrongElementSize, WrongPointerKind,
+    OutOfMemory, SizePastFormat, TextNotTerminated, WrongElementSize, WrongPointerKind,
 };
 use capnp_device::error::Result;
 use capnp_wire::size::ElementSize::{Bit, Byte, EightBytes, FourBytes, Pointer, TwoBytes, Void};
@@ -707,14 +707,6 @@ static TAKING_MEMORY: [Taking; 12] = [
     ),
 ];
 
-/// Why a call was refused.
-fn why(made: Result<Vec<u8>>) -> Option<ErrorKind> {
-    match made {
-        Ok(_) => None,
-        Err(error) => Some(error.kind),
-    }
-}
-
 /// The words that a new message has room for.
 const ROOM: u64 = 128;
 
@@ -741,9 +733,9 @@ fn changes_or_stays(
 )
     requires { IsMessage message.old }
 {
-    let refused = why(make(alloc, message, call));
-    assert!(rt; refused == None || refused == Some(OutOfMemory));
-    let parts = if refused == None { then } else { before };
+    let made = make(alloc, message, call);
+    let parts = if made.is_ok() { then } else { before };
+    assert!(rt; made.is_ok() || answers(made, Err(OutOfMemory)));
     let _is_written = message.write_message().is_ok();
     assert_eq!(rt; answer(parts_of(message)), Ok(parts));
 }

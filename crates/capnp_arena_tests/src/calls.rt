@@ -37,6 +37,8 @@ pub enum Call {
     SetText(&'static str),
     SetData(&'static str),
     InitStruct(StructSize),
+    /// A call that makes or gets a list answers three numbers: its elements, 1 where it has none, and the elements by a
+    /// reader.
     InitList(ElementSize, u32),
     InitStructs(u32, StructSize),
     GetStruct(StructSize),
@@ -47,7 +49,7 @@ pub enum Call {
     /// A new struct of so many words and pointers, up to three: its last word is all ones, and its last pointer the
     /// text "before".
     NewFilled(u16),
-    /// The message or words that are copied from.
+    /// What is copied, of the message or the words that a text spells.
     Copy(Copied, &'static str),
     Lend(Lent),
     /// What is asked is got, and a null is filled from the root of a message, if there is any.
@@ -532,7 +534,7 @@ fn stands_as(alloc: Global, message: &mut Builder, text: &str) -> Result<(bool, 
 }
 
 /// Whether a call answers these bytes, or is refused so.
-fn answers(made: Result<Vec<u8>>, expected: std::result::Result<&str, ErrorKind>) -> bool {
+pub fn answers(made: Result<Vec<u8>>, expected: std::result::Result<&str, ErrorKind>) -> bool {
     match (made, expected) {
         (Ok(bytes), Ok(text)) => bytes.as_slice() == text.as_bytes(),
         (Err(error), Err(kind)) => error.kind == kind,

@@ -33,10 +33,11 @@ fn in_way(row: &rows::Row, way: &(Call, &'static str)) -> Row {
     let (name, stream, text) = *row;
     let (call, then) = *way;
     let then = if then.is_empty() { text } else { then };
-    match call {
-        Copy(copied, _) => (name, Copy(copied, stream), Ok(""), then),
-        other => (name, other, Ok(""), then),
-    }
+    let call = match call {
+        Copy(copied, _) => Copy(copied, stream),
+        other => other,
+    };
+    (name, call, Ok(""), then)
 }
 
 fn follow_each_way(rt: &impl Abort, alloc: Global, message: &mut Builder, row: &rows::Row)

@@ -15,9 +15,10 @@ pub const ONE_EACH: StructSize = StructSize {
 };
 
 fn digit_of(c: u8) -> Option<u8> {
-    match char::from(c).to_digit(16) {
-        Some(digit) => Some(digit as u8),
-        None => None,
+    match c {
+        b'0'..=b'9' => Some(c - b'0'),
+        b'a'..=b'f' => Some(c - b'a' + 10),
+        _ => None,
     }
 }
 
