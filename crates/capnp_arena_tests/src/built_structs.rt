@@ -5,11 +5,13 @@ ghost use Rattle.capnp_arena.specs.Forest.{PartChanges};
 ghost use Rattle.capnp_arena.specs.Handles.{IsStruct, part};
 ghost use Rattle.capnp_arena.specs.Segment.{segment};
 
+use crate::calls::put;
 use crate::fixtures::{bytes_of, root_of};
 use capnp_arena::handles::StructBuilder;
 use capnp_device::error::Result;
 use capnp_wire::PointerReader;
 use capnp_wire::size::{ElementSize, StructSize};
+use capnp_wire_callers::built::{put_number, put_text};
 use std::alloc::Global;
 
 pub const POINT: StructSize = StructSize {
@@ -119,7 +121,8 @@ pub fn cleared(fields: &mut StructBuilder<'_>) -> Result<[u64; 3]>
     Ok([first as u64, second as u64, name.is_null() as u64])
 }
 
-fn put_text(fields: &mut StructBuilder<'_>) -> Result<()>
+/// A text by a caller, and a number.
+pub fn called_text(fields: &mut StructBuilder<'_>) -> Result<[u64; 3]>
     requires planted { IsStruct fields.old }
     requires inside { 0 < fields.old.place.pointers }
     ensures same { fields.new.arena.ghost_name ≡ fields.old.arena.ghost_name }
@@ -128,16 +131,27 @@ fn put_text(fields: &mut StructBuilder<'_>) -> Result<()>
     ensures changes { OnOk result (PartChanges (part fields.old.place) (segment fields.old.arena.now)
         (segment fields.new.arena.now)) }
 {
-    let place = fields.place;
-    let mut pointer = fields.arena.pointer_field(place, 0);
-    pointer.set_text(b"hi")?;
-    Ok(())
+    put_text(fields, b"hi")?;
+    Ok([0; 3])
+}
+
+pub fn called_number(fields: &mut StructBuilder<'_>) -> Result<[u64; 3]>
+    requires planted { IsStruct fields.old }
+    requires inside { 0 < fields.old.place.data_words }
+    ensures same { fields.new.arena.ghost_name ≡ fields.old.arena.ghost_name }
+    ensures place { fields.new.place ≡ fields.old.place }
+    ensures planted { OnOk result (IsStruct fields.new) }
+    ensures changes { OnOk result (PartChanges (part fields.old.place) (segment fields.old.arena.now)
+        (segment fields.new.arena.now)) }
+{
+    put_number(fields, 0, 9);
+    Ok([0; 3])
 }
 
 /// What is below a struct is measured with it.
 pub fn measured(fields: &mut StructBuilder<'_>) -> Result<[u64; 3]>
     requires planted { IsStruct fields.old }
-    requires inside { 0 < fields.old.place.pointers }
+    requires inside { (0 < fields.old.place.data_words) × (0 < fields.old.place.pointers) }
     ensures same { fields.new.arena.ghost_name ≡ fields.old.arena.ghost_name }
     ensures place { fields.new.place ≡ fields.old.place }
     ensures planted { OnOk result (IsStruct fields.new) }
@@ -145,7 +159,7 @@ pub fn measured(fields: &mut StructBuilder<'_>) -> Result<[u64; 3]>
         (segment fields.new.arena.now)) }
 {
     let first = fields.total_size()?;
-    put_text(fields)?;
+    put(fields, 0, 0, "hi")?;
     let second = fields.total_size()?;
     Ok([first.word_count, second.word_count, second.cap_count as u64])
 }

@@ -13,8 +13,8 @@ use crate::calls::Lent::{
     GetData, GetText, InitData, InitText, NewData, NewText, ReverseData, ReverseText,
 };
 use crate::calls::{
-    EMPTY_STRUCT, FIVE_AND_TEXT, NEW_STRUCT, NO_SIZE, NULL, Row, TWO_EACH, follow, follow_changes,
-    make, parts_of,
+    EMPTY_STRUCT, FIVE_AND_TEXT, NEW_STRUCT, NO_SIZE, NULL, Row, TWO_EACH, answers, follow,
+    follow_changes, make, parts_of,
 };
 use crate::copied_rows::{
     BECOME_STRUCTS, CONTENTS, COPIED_LISTS, COPIED_NULLS, COPIED_ZEROS, ELEMENTS, MORE_CONTENTS,
@@ -23,7 +23,7 @@ use crate::copied_rows::{
 use crate::fixtures::{ONE_EACH, answer};
 use capnp_arena::message::Builder;
 use capnp_device::error::ErrorKind::{
-    self, OutOfMemory, SizePastFormat, TextNotTerminated, WrongElementSize, WrongPointerKind,
+    OutOfMemory, SizePastFormat, TextNotTerminated, WrongElementSize, WrongPointerKind,
 };
 use capnp_device::error::Result;
 use capnp_wire::size::ElementSize::{Bit, Byte, EightBytes, FourBytes, Pointer, TwoBytes, Void};
@@ -69,11 +69,20 @@ const TWO_NUMBERS: &str = "00 00 00 00 02 00 00 00 | 01 00 00 00 13 00 00 00 | 0
 
 const ONE_WORD_OF_ZEROS: &str = "00 00 00 00 02 00 00 00 | 00 00 00 00 01 00 00 00 | 0";
 
+const TWO_NOTHINGS: &str = "00 00 00 00 01 00 00 00 | 01 00 00 00 10 00 00 00";
+
+const HI: &str = "00 00 00 00 02 00 00 00 | 01 00 00 00 1a 00 00 00 | 68 69 00 00 00 00 00 00";
+
 /// A null, what it does not become, and what it does.
 static NULLS: [Row; 9] = [
     ("a null has no data", Lend(GetData), Ok(""), NULL),
     ("a null has no text", Lend(GetText), Ok(""), NULL),
-    ("a null is an empty list", GetList(TwoBytes), Ok(""), NULL),
+    (
+        "a null is an empty list",
+        GetList(TwoBytes),
+        Ok("0 1 0"),
+        NULL,
+    ),
     (
         "a list is too long for the format",
         InitList(Byte, 1 << 29),
@@ -153,12 +162,7 @@ static MADE: [Row; 11] = [
         Ok(""),
         "00 00 00 00 02 00 00 00 | 01 00 00 00 1a 00 00 00 | 01 02 03 00 00 00 00 00",
     ),
-    (
-        "a short text",
-        SetText("hi"),
-        Ok(""),
-        "00 00 00 00 02 00 00 00 | 01 00 00 00 1a 00 00 00 | 68 69 00 00 00 00 00 00",
-    ),
+    ("a short text", SetText("hi"), Ok(""), HI),
     ("a new struct", InitStruct(ONE_EACH), Ok(""), NEW_STRUCT),
     ("a struct that is cleared", Clear, Ok(""), NULL),
 ];
@@ -168,49 +172,49 @@ static LISTS: [Row; 8] = [
     (
         "a list of nothing",
         InitList(Void, 3),
-        Ok(""),
+        Ok("3 0 3"),
         "00 00 00 00 01 00 00 00 | 01 00 00 00 18 00 00 00",
     ),
     (
         "a list of bits",
         InitList(Bit, 3),
-        Ok(""),
+        Ok("3 0 3"),
         "00 00 00 00 02 00 00 00 | 01 00 00 00 19 00 00 00 | 0",
     ),
     (
         "a list of nine bits",
         InitList(Bit, 9),
-        Ok(""),
+        Ok("9 0 9"),
         "00 00 00 00 02 00 00 00 | 01 00 00 00 49 00 00 00 | 0",
     ),
     (
         "a list of bytes",
         InitList(Byte, 3),
-        Ok(""),
+        Ok("3 0 3"),
         "00 00 00 00 02 00 00 00 | 01 00 00 00 1a 00 00 00 | 0",
     ),
     (
         "a list of numbers of two bytes",
         InitList(TwoBytes, 3),
-        Ok(""),
+        Ok("3 0 3"),
         "00 00 00 00 02 00 00 00 | 01 00 00 00 1b 00 00 00 | 0",
     ),
     (
         "a list of numbers of four bytes",
         InitList(FourBytes, 3),
-        Ok(""),
+        Ok("3 0 3"),
         "00 00 00 00 03 00 00 00 | 01 00 00 00 1c 00 00 00 | 0 | 0",
     ),
     (
         "a list of numbers of eight bytes",
         InitList(EightBytes, 3),
-        Ok(""),
+        Ok("3 0 3"),
         "00 00 00 00 04 00 00 00 | 01 00 00 00 1d 00 00 00 | 0 | 0 | 0",
     ),
     (
         "a list of pointers",
         InitList(Pointer, 3),
-        Ok(""),
+        Ok("3 0 3"),
         "00 00 00 00 04 00 00 00 | 01 00 00 00 1e 00 00 00 | 0 | 0 | 0",
     ),
 ];
@@ -220,34 +224,150 @@ static MORE_LISTS: [Row; 7] = [
     (
         "a list of structs",
         InitStructs(3, ONE_EACH),
-        Ok(""),
+        Ok("3 0 3"),
         "00 00 00 00 08 00 00 00 | 01 00 00 00 37 00 00 00 | 0c 00 00 00 01 00 01 00 | 0 | 0 | 0 | 0 | 0 | 0",
     ),
     ("data", SetData("\x01\x02"), Ok(""), ONE_AND_TWO),
     (
         "a list of four words",
         InitList(TwoBytes, 10),
-        Ok(""),
+        Ok("10 0 10"),
         "00 00 00 00 04 00 00 00 | 01 00 00 00 53 00 00 00 | 0 | 0 | 0",
     ),
     ("a cleared list leaves nothing", Clear, Ok(""), NULL),
     (
         "structs of size zero",
         InitStructs(3, NO_SIZE),
-        Ok(""),
+        Ok("3 0 3"),
         "00 00 00 00 02 00 00 00 | 01 00 00 00 07 00 00 00 | 0c 00 00 00 00 00 00 00",
     ),
     (
         "2^20 + 1 structs of size zero",
         InitStructs((1 << 20) + 1, NO_SIZE),
-        Ok(""),
+        Ok("1048577 0 1048577"),
         "00 00 00 00 02 00 00 00 | 01 00 00 00 07 00 00 00 | 04 00 40 00 00 00 00 00",
     ),
     (
         "as many structs of size zero as a list has",
         InitStructs((1 << 29) - 1, NO_SIZE),
-        Ok(""),
+        Ok("536870911 0 536870911"),
         "00 00 00 00 02 00 00 00 | 01 00 00 00 07 00 00 00 | fc ff ff 7f 00 00 00 00",
+    ),
+];
+
+/// Lists of elements, also of none, in the place of a list of two nothings. A list is empty where it has no element.
+static EMPTY: [Row; 14] = [
+    ("a null has no bits", GetList(Bit), Ok("0 1 0"), NULL),
+    ("two nothings", InitList(Void, 2), Ok("2 0 2"), TWO_NOTHINGS),
+    (
+        "no nothing",
+        InitList(Void, 0),
+        Ok("0 1 0"),
+        "00 00 00 00 01 00 00 00 | 01 00 00 00 00 00 00 00",
+    ),
+    ("two again", InitList(Void, 2), Ok("2 0 2"), TWO_NOTHINGS),
+    ("and again", InitList(Void, 2), Ok("2 0 2"), TWO_NOTHINGS),
+    (
+        "a bit",
+        InitList(Bit, 1),
+        Ok("1 0 1"),
+        "00 00 00 00 02 00 00 00 | 01 00 00 00 09 00 00 00 | 0",
+    ),
+    (
+        "two after a bit",
+        InitList(Void, 2),
+        Ok("2 0 2"),
+        TWO_NOTHINGS,
+    ),
+    (
+        "no number of eight bytes",
+        InitList(EightBytes, 0),
+        Ok("0 1 0"),
+        "00 00 00 00 01 00 00 00 | 01 00 00 00 05 00 00 00",
+    ),
+    (
+        "two after none",
+        InitList(Void, 2),
+        Ok("2 0 2"),
+        TWO_NOTHINGS,
+    ),
+    (
+        "no pointer",
+        InitList(Pointer, 0),
+        Ok("0 1 0"),
+        "00 00 00 00 01 00 00 00 | 01 00 00 00 06 00 00 00",
+    ),
+    (
+        "two after no pointer",
+        InitList(Void, 2),
+        Ok("2 0 2"),
+        TWO_NOTHINGS,
+    ),
+    (
+        "a struct",
+        InitStructs(1, ONE_EACH),
+        Ok("1 0 1"),
+        "00 00 00 00 04 00 00 00 | 01 00 00 00 17 00 00 00 | 04 00 00 00 01 00 01 00 | 0 | 0",
+    ),
+    (
+        "three numbers",
+        InitList(TwoBytes, 3),
+        Ok("3 0 3"),
+        "00 00 00 00 02 00 00 00 | 01 00 00 00 1b 00 00 00 | 0",
+    ),
+    (
+        "as many structs",
+        GetStructs(ONE_EACH),
+        Ok("3 0 3"),
+        "00 00 00 00 08 00 00 00 | 01 00 00 00 37 00 00 00 | 0c 00 00 00 01 00 01 00 | 0 | 0 | 0 | 0 | 0 | 0",
+    ),
+];
+
+/// A null that was got as a list of pointers is lent as no bytes.
+static NULL_LENT: [Row; 4] = [
+    (
+        "a null has no pointers",
+        GetList(Pointer),
+        Ok("0 1 0"),
+        NULL,
+    ),
+    ("it is lent as no data", Lend(GetData), Ok(""), NULL),
+    (
+        "it has no pointers again",
+        GetList(Pointer),
+        Ok("0 1 0"),
+        NULL,
+    ),
+    ("it is lent as no text", Lend(GetText), Ok(""), NULL),
+];
+
+/// A text that is set, and new bytes.
+static BYTES: [Row; 6] = [
+    ("a text", SetText("hi"), Ok(""), HI),
+    ("it is read and lent", Lend(GetText), Ok("hi"), HI),
+    (
+        "two bytes",
+        SetData("\x05\x06"),
+        Ok(""),
+        "00 00 00 00 02 00 00 00 | 01 00 00 00 12 00 00 00 | 05 06 00 00 00 00 00 00",
+    ),
+    (
+        "they are a list of two",
+        GetList(Byte),
+        Ok("2 0 2"),
+        "00 00 00 00 02 00 00 00 | 01 00 00 00 12 00 00 00 | 05 06 00 00 00 00 00 00",
+    ),
+    (
+        "three new bytes",
+        Lend(InitData(3)),
+        Ok("\0\0\0"),
+        "00 00 00 00 02 00 00 00 | 01 00 00 00 1a 00 00 00 | 0",
+    ),
+    (
+        "three bytes of a new text",
+        Lend(InitText(3)),
+        Ok("\0\0\0"),
+        "00 00 00 00 02 00 00 00 | 01 00 00 00 22 00 00 00 | 0",
     ),
 ];
 
@@ -275,20 +395,10 @@ static LENT: [Row; 7] = [
         "a new text keeps its zero",
         Lend(NewText(2, "hi")),
         Ok("\0\0"),
-        "00 00 00 00 02 00 00 00 | 01 00 00 00 1a 00 00 00 | 68 69 00 00 00 00 00 00",
+        HI,
     ),
-    (
-        "a text as it was written",
-        Lend(GetText),
-        Ok("hi"),
-        "00 00 00 00 02 00 00 00 | 01 00 00 00 1a 00 00 00 | 68 69 00 00 00 00 00 00",
-    ),
-    (
-        "a text as data",
-        Lend(GetData),
-        Ok("hi\0"),
-        "00 00 00 00 02 00 00 00 | 01 00 00 00 1a 00 00 00 | 68 69 00 00 00 00 00 00",
-    ),
+    ("a text as it was written", Lend(GetText), Ok("hi"), HI),
+    ("a text as data", Lend(GetData), Ok("hi\0"), HI),
     (
         "a text is written through",
         Lend(ReverseText),
@@ -356,7 +466,7 @@ static NO_LENT: [Row; 8] = [
     (
         "two numbers of two bytes",
         InitList(TwoBytes, 2),
-        Ok(""),
+        Ok("2 0 2"),
         TWO_NUMBERS,
     ),
     (
@@ -468,6 +578,16 @@ fn lists_are_made(rt: HostRuntime) {
 }
 
 #[test]
+fn a_list_without_elements_is_empty(rt: HostRuntime) {
+    follow(&rt, rt.alloc(), &EMPTY);
+}
+
+#[test]
+fn a_null_is_lent_as_bytes_whatever_it_was_got_as(rt: HostRuntime) {
+    follow(&rt, rt.alloc(), &NULL_LENT);
+}
+
+#[test]
 fn a_segment_that_would_be_too_long_is_refused(rt: HostRuntime) {
     follow(&rt, rt.alloc(), &FULL);
 }
@@ -497,6 +617,7 @@ fn contents_are_taken_over(rt: HostRuntime) {
 #[test]
 fn bytes_are_lent_and_written_through(rt: HostRuntime) {
     follow(&rt, rt.alloc(), &LENT);
+    follow(&rt, rt.alloc(), &BYTES);
 }
 
 #[test]
@@ -553,7 +674,7 @@ static TAKING_MEMORY: [Taking; 12] = [
     (
         Clear,
         (1, IS_NULL),
-        Copy(Message(NINE_WORDS)),
+        Copy(Message, NINE_WORDS),
         (9, IS_STRUCT),
     ),
     (Clear, (1, IS_NULL), SetText("short"), (2, IS_LIST)),
@@ -565,7 +686,7 @@ static TAKING_MEMORY: [Taking; 12] = [
         (8, IS_LIST),
     ),
     (Clear, (1, IS_NULL), InitStructs(2, ONE_WORD), (4, IS_LIST)),
-    (Clear, (1, IS_NULL), Copy(List(NINE, Byte)), (2, IS_LIST)),
+    (Clear, (1, IS_NULL), Copy(List(Byte), NINE), (2, IS_LIST)),
     (
         Clear,
         (1, IS_NULL),
@@ -575,24 +696,16 @@ static TAKING_MEMORY: [Taking; 12] = [
     (
         Fill(Struct(ONE_EACH), FIVE),
         (3, IS_STRUCT),
-        Copy(Content(ONE_EACH, FIVE_WORDS)),
+        Copy(Content(ONE_EACH), FIVE_WORDS),
         (3, IS_STRUCT),
     ),
     (
         Fill(Struct(ONE_EACH), FIVE),
         (3, IS_STRUCT),
-        Copy(FirstStruct(NINE, Byte)),
+        Copy(FirstStruct(Byte), NINE),
         (2, IS_STRUCT),
     ),
 ];
-
-/// Why a call was refused.
-fn why(made: Result<Vec<u8>>) -> Option<ErrorKind> {
-    match made {
-        Ok(_) => None,
-        Err(error) => Some(error.kind),
-    }
-}
 
 /// The words that a new message has room for.
 const ROOM: u64 = 128;
@@ -620,9 +733,9 @@ fn changes_or_stays(
 )
     requires { IsMessage message.old }
 {
-    let refused = why(make(alloc, message, call));
-    assert!(rt; refused == None || refused == Some(OutOfMemory));
-    let parts = if refused == None { then } else { before };
+    let made = make(alloc, message, call);
+    let parts = if made.is_ok() { then } else { before };
+    assert!(rt; made.is_ok() || answers(made, Err(OutOfMemory)));
     let _is_written = message.write_message().is_ok();
     assert_eq!(rt; answer(parts_of(message)), Ok(parts));
 }

@@ -2,14 +2,16 @@
 //! message is then. Each call of the builders stands in a function of its own, and `follow` makes those of the rows on
 //! one message. A message stays one, also where a call is refused.
 ghost use Rattle.std.specs.Prelude.{◌<◌, ◌≡◌, ◌≢◌};
-ghost use Rattle.capnp_arena.specs.Forest.{PartChanges};
+ghost use Rattle.capnp_arena.specs.Forest.{Forest, PartChanges};
 ghost use Rattle.capnp_arena.specs.Handles.{IsStruct, part};
+ghost use Rattle.capnp_arena.specs.Listed.{list_shape};
 ghost use Rattle.capnp_arena.specs.Message.{IsMessage};
 ghost use Rattle.capnp_arena.specs.Segment.{segment};
+ghost use Rattle.capnp_arena.specs.Shape.{shape_at};
 
 use crate::fixtures::{ONE_EACH, answer, bytes_of, is_written_as, root_of};
 use crate::lent::{lend, read_data, read_text};
-use capnp_arena::handles::StructBuilder;
+use capnp_arena::handles::{ListBuilder, StructBuilder};
 use capnp_arena::message::Builder;
 use capnp_device::error::{ErrorKind, Result};
 use capnp_wire::laws::pointer_is_well_formed;
@@ -35,6 +37,8 @@ pub enum Call {
     SetText(&'static str),
     SetData(&'static str),
     InitStruct(StructSize),
+    /// A call that makes or gets a list answers three numbers: its elements, 1 where it has none, and the elements by a
+    /// reader.
     InitList(ElementSize, u32),
     InitStructs(u32, StructSize),
     GetStruct(StructSize),
@@ -45,7 +49,8 @@ pub enum Call {
     /// A new struct of so many words and pointers, up to three: its last word is all ones, and its last pointer the
     /// text "before".
     NewFilled(u16),
-    Copy(Copied),
+    /// What is copied, of the message or the words that a text spells.
+    Copy(Copied, &'static str),
     Lend(Lent),
     /// What is asked is got, and a null is filled from the root of a message, if there is any.
     Fill(Asked, &'static str),
@@ -68,21 +73,21 @@ pub enum Asked {
 #[derive(Clone, Copy)]
 pub enum Copied {
     /// The root of a message.
-    Message(&'static str),
+    Message,
     /// The same at the root pointer, where the segment stays.
-    Root(&'static str),
+    Root,
     /// The same, of a reader that has no level left.
-    WithoutLevels(&'static str),
+    WithoutLevels,
     /// The same, of a copy as it is read.
-    Twice(&'static str),
-    /// The list at the root of these words, read as one of elements of a size.
-    List(&'static str, ElementSize),
+    Twice,
+    /// The list at the root of words, read as one of elements of a size.
+    List(ElementSize),
     /// The first struct of that list.
-    FirstStruct(&'static str, ElementSize),
-    /// What fits of the struct at the root of these words, into the one of at least a size that stands there.
-    Content(StructSize, &'static str),
-    /// What fits of the second struct of the list of bytes at the root of these words.
-    ContentOfByte(&'static str),
+    FirstStruct(ElementSize),
+    /// What fits of the struct at the root of words, into the one of at least a size that stands there.
+    Content(StructSize),
+    /// What fits of the second struct of the list of bytes at the root of words.
+    ContentOfByte,
 }
 
 /// What bytes are lent.
@@ -123,12 +128,12 @@ pub type Row = (
     &'static str,
 );
 
-/// What a row shows, a message, a call on it, why that is refused, and the message then.
+/// What a row shows, a message, a call on it, what that answers, and the message then.
 pub type Change = (
     &'static str,
     &'static str,
     Call,
-    Option<ErrorKind>,
+    std::result::Result<&'static str, ErrorKind>,
     &'static str,
 );
 
@@ -172,20 +177,6 @@ fn new_filled(message: &mut Builder, count: u16) -> Result<()>
         1 => new_struct(message, ONE_EACH, 0, u64::MAX, "before"),
         2 => new_struct(message, TWO_EACH, 1, u64::MAX, "before"),
         _ => new_struct(message, THREE_EACH, 2, u64::MAX, "before"),
-    }
-}
-
-/// The text that spells what is copied.
-fn source_of(copied: Copied) -> &'static str {
-    match copied {
-        Copied::Message(text) => text,
-        Copied::Root(text) => text,
-        Copied::WithoutLevels(text) => text,
-        Copied::Twice(text) => text,
-        Copied::List(text, _) => text,
-        Copied::FirstStruct(text, _) => text,
-        Copied::Content(_, text) => text,
-        Copied::ContentOfByte(text) => text,
     }
 }
 
@@ -281,20 +272,20 @@ fn copy_content_of_byte(message: &mut Builder, words: &[u8]) -> Result<()>
     copy_content(message, ONE_EACH, &second)
 }
 
-fn copy(alloc: Global, message: &mut Builder, copied: Copied) -> Result<()>
+fn copy(alloc: Global, message: &mut Builder, copied: Copied, text: &str) -> Result<()>
     requires { IsMessage message.old }
     ensures { IsMessage message.new }
 {
-    let bytes = bytes_of(alloc, source_of(copied))?;
+    let bytes = bytes_of(alloc, text)?;
     match copied {
-        Copied::Message(_) => copy_message(alloc, message, &bytes),
-        Copied::Root(_) => copy_root(alloc, message, &bytes),
-        Copied::WithoutLevels(_) => copy_without_levels(alloc, message, &bytes),
-        Copied::Twice(_) => copy_twice(alloc, message, &bytes),
-        Copied::List(_, size) => copy_list(message, &bytes, size),
-        Copied::FirstStruct(_, size) => copy_first_struct(message, &bytes, size),
-        Copied::Content(size, _) => copy_content_of(message, size, &bytes),
-        Copied::ContentOfByte(_) => copy_content_of_byte(message, &bytes),
+        Copied::Message => copy_message(alloc, message, &bytes),
+        Copied::Root => copy_root(alloc, message, &bytes),
+        Copied::WithoutLevels => copy_without_levels(alloc, message, &bytes),
+        Copied::Twice => copy_twice(alloc, message, &bytes),
+        Copied::List(size) => copy_list(message, &bytes, size),
+        Copied::FirstStruct(size) => copy_first_struct(message, &bytes, size),
+        Copied::Content(size) => copy_content_of(message, size, &bytes),
+        Copied::ContentOfByte => copy_content_of_byte(message, &bytes),
     }
 }
 
@@ -398,23 +389,6 @@ fn init_struct(message: &mut Builder, size: StructSize) -> Result<()>
     Ok(())
 }
 
-pub fn init_list(message: &mut Builder, size: ElementSize, count: u32) -> Result<()>
-    requires message { IsMessage message.old }
-    requires simple { size ≢ ElementSize.InlineComposite }
-    ensures { IsMessage message.new }
-{
-    message.root().init_list(size, count)?;
-    Ok(())
-}
-
-fn init_structs(message: &mut Builder, count: u32, size: StructSize) -> Result<()>
-    requires { IsMessage message.old }
-    ensures { IsMessage message.new }
-{
-    message.root().init_struct_list(count, size)?;
-    Ok(())
-}
-
 fn get_struct(message: &mut Builder, size: StructSize) -> Result<()>
     requires { IsMessage message.old }
     ensures { IsMessage message.new }
@@ -423,37 +397,65 @@ fn get_struct(message: &mut Builder, size: StructSize) -> Result<()>
     Ok(())
 }
 
-pub fn get_list(message: &mut Builder, size: ElementSize) -> Result<()>
+/// How many elements a list has, whether it has none, and how many a reader of it has.
+fn counts_of(list: &ListBuilder<'_>) -> [u64; 3]
+    requires forest { Forest (segment list.now.arena.now) list.now.at }
+    requires there { shape_at (segment list.now.arena.now) list.now.at ≡ list_shape list.now.list }
+{
+    [
+        list.len() as u64,
+        list.is_empty() as u64,
+        list.as_reader().len() as u64,
+    ]
+}
+
+pub fn init_list(message: &mut Builder, size: ElementSize, count: u32) -> Result<[u64; 3]>
     requires message { IsMessage message.old }
     requires simple { size ≢ ElementSize.InlineComposite }
     ensures { IsMessage message.new }
 {
-    message.root().get_list(size)?;
-    Ok(())
+    let list = message.root().init_list(size, count)?;
+    Ok(counts_of(&list))
 }
 
-fn get_structs(message: &mut Builder, size: StructSize) -> Result<()>
+fn init_structs(message: &mut Builder, count: u32, size: StructSize) -> Result<[u64; 3]>
     requires { IsMessage message.old }
     ensures { IsMessage message.new }
 {
-    message.root().get_struct_list(size)?;
-    Ok(())
+    let list = message.root().init_struct_list(count, size)?;
+    Ok(counts_of(&list))
 }
 
-fn init(message: &mut Builder, call: Call) -> Result<()>
+pub fn get_list(message: &mut Builder, size: ElementSize) -> Result<[u64; 3]>
+    requires message { IsMessage message.old }
+    requires simple { size ≢ ElementSize.InlineComposite }
+    ensures { IsMessage message.new }
+{
+    let list = message.root().get_list(size)?;
+    Ok(counts_of(&list))
+}
+
+fn get_structs(message: &mut Builder, size: StructSize) -> Result<[u64; 3]>
+    requires { IsMessage message.old }
+    ensures { IsMessage message.new }
+{
+    let list = message.root().get_struct_list(size)?;
+    Ok(counts_of(&list))
+}
+
+/// Makes or gets a list, and answers its counts.
+fn count(message: &mut Builder, call: Call) -> Result<[u64; 3]>
     requires { IsMessage message.old }
     ensures { IsMessage message.new }
 {
     match call {
-        Call::InitStruct(size) => init_struct(message, size),
-        Call::InitList(ElementSize::InlineComposite, _) => Ok(()),
+        Call::InitList(ElementSize::InlineComposite, _) => Ok([0; 3]),
         Call::InitList(size, count) => init_list(message, size, count),
         Call::InitStructs(count, size) => init_structs(message, count, size),
-        Call::GetStruct(size) => get_struct(message, size),
-        Call::GetList(ElementSize::InlineComposite) => Ok(()),
+        Call::GetList(ElementSize::InlineComposite) => Ok([0; 3]),
         Call::GetList(size) => get_list(message, size),
         Call::GetStructs(size) => get_structs(message, size),
-        _ => Ok(()),
+        _ => Ok([0; 3]),
     }
 }
 
@@ -465,26 +467,37 @@ fn set(alloc: Global, message: &mut Builder, call: Call) -> Result<()>
         Call::Clear => clear(message),
         Call::SetText(text) => set_text(message, text),
         Call::SetData(bytes) => set_data(message, bytes),
+        Call::InitStruct(size) => init_struct(message, size),
+        Call::GetStruct(size) => get_struct(message, size),
         Call::NewStruct(number, text) => new_struct(message, ONE_EACH, 0, number, text),
         Call::NewFilled(count) => new_filled(message, count),
-        Call::Copy(copied) => copy(alloc, message, copied),
+        Call::Copy(copied, text) => copy(alloc, message, copied, text),
         Call::Fill(asked, default) => fill(alloc, message, asked, default),
-        Call::Compact => compact(message),
-        other => init(message, other),
+        _ => compact(message),
     }
 }
 
-/// Makes a call, and answers a copy of the bytes that it lends, if it lends any.
+/// Three numbers with spaces between them.
+fn in_words(alloc: Global, numbers: [u64; 3]) -> Result<Vec<u8>> {
+    let [first, second, third] = numbers;
+    let words = format!(in alloc; "{first} {second} {third}")?;
+    Ok(words.into_bytes())
+}
+
+/// Makes a call, and answers a copy of the bytes that it lends, or the counts of the list that it makes or gets.
 pub fn make(alloc: Global, message: &mut Builder, call: Call) -> Result<Vec<u8>>
     requires { IsMessage message.old }
     ensures { IsMessage message.new }
 {
     match call {
         Call::Lend(lent) => lend(alloc, message, lent),
-        other => match set(alloc, message, other) {
-            Ok(()) => Ok(Vec::new(alloc)),
-            Err(error) => Err(error),
-        },
+        Call::InitList(_, _) | Call::InitStructs(_, _) | Call::GetList(_) | Call::GetStructs(_) => {
+            in_words(alloc, count(message, call)?)
+        }
+        other => {
+            set(alloc, message, other)?;
+            Ok(Vec::new(alloc))
+        }
     }
 }
 
@@ -521,7 +534,7 @@ fn stands_as(alloc: Global, message: &mut Builder, text: &str) -> Result<(bool, 
 }
 
 /// Whether a call answers these bytes, or is refused so.
-fn answers(made: Result<Vec<u8>>, expected: std::result::Result<&str, ErrorKind>) -> bool {
+pub fn answers(made: Result<Vec<u8>>, expected: std::result::Result<&str, ErrorKind>) -> bool {
     match (made, expected) {
         (Ok(bytes), Ok(text)) => bytes.as_slice() == text.as_bytes(),
         (Err(error), Err(kind)) => error.kind == kind,
@@ -577,25 +590,10 @@ pub fn follow(rt: &impl Abort, alloc: Global, rows: &[Row]) {
 }
 
 /// Copies the message of a row, and makes the call.
-fn follow_call(rt: &impl Abort, alloc: Global, message: &mut Builder, row: &Change)
-    requires { IsMessage message.old }
-{
-    let (name, stream, call, refused, then) = *row;
-    let answer = match refused {
-        None => Ok(""),
-        Some(kind) => Err(kind),
-    };
-    let copied = (name, Call::Copy(Copied::Message(stream)), Ok(""), stream);
-    follow_row(rt, alloc, message, &copied);
-    follow_row(rt, alloc, message, &(name, call, answer, then));
-}
-
 fn follow_change(rt: &impl Abort, alloc: Global, row: &Change) {
-    let message = Builder::new(alloc);
-    assert!(rt; message.is_ok());
-    if let Ok(mut message) = message {
-        follow_call(rt, alloc, &mut message, row);
-    }
+    let (name, stream, call, answer, then) = *row;
+    let copied = (name, Call::Copy(Copied::Message, stream), Ok(""), stream);
+    follow(rt, alloc, &[copied, (name, call, answer, then)]);
 }
 
 /// Makes the calls of these rows, each on a message of its own.

@@ -44,37 +44,37 @@ const HALF_GOOD: &str =
 pub static COPIED_LISTS: [Row; 8] = [
     (
         "a list of nothing",
-        Copy(List(VOIDS, Void)),
+        Copy(List(Void), VOIDS),
         Ok(""),
         "00 00 00 00 01 00 00 00 | 01 00 00 00 18 00 00 00",
     ),
     (
         "a list of bits",
-        Copy(List(BITS, Bit)),
+        Copy(List(Bit), BITS),
         Ok(""),
         "00 00 00 00 02 00 00 00 | 01 00 00 00 49 00 00 00 | 81 01 00 00 00 00 00 00",
     ),
     (
         "a list of bytes",
-        Copy(List(BYTES, Byte)),
+        Copy(List(Byte), BYTES),
         Ok(""),
         "00 00 00 00 02 00 00 00 | 01 00 00 00 1a 00 00 00 | 01 02 03 00 00 00 00 00",
     ),
     (
         "a list of numbers",
-        Copy(List(WORDS, EightBytes)),
+        Copy(List(EightBytes), WORDS),
         Ok(""),
         "00 00 00 00 03 00 00 00 | 01 00 00 00 15 00 00 00 | 09 00 00 00 00 00 00 80 | 07 00 00 00 00 00 00 00",
     ),
     (
         "a list of pointers",
-        Copy(List(POINTERS, Pointer)),
+        Copy(List(Pointer), POINTERS),
         Ok(""),
         "00 00 00 00 04 00 00 00 | 01 00 00 00 16 00 00 00 | 05 00 00 00 1a 00 00 00 | 0 | 68 69 00 00 00 00 00 00",
     ),
     (
         "a list of structs",
-        Copy(List(STRUCTS, InlineComposite)),
+        Copy(List(InlineComposite), STRUCTS),
         Ok(""),
         "00 00 00 00 07 00 00 00 | 01 00 00 00 27 00 00 00 | 08 00 00 00 01 00 01 00 | 05 00 00 00 \
          00 00 00 00 | 0 | 06 00 00 00 00 00 00 00 | 01 00 00 00 1a 00 00 00 | 68 69 00 00 00 00 \
@@ -82,7 +82,7 @@ pub static COPIED_LISTS: [Row; 8] = [
     ),
     (
         "structs that were read as numbers",
-        Copy(List(STRUCTS, EightBytes)),
+        Copy(List(EightBytes), STRUCTS),
         Ok(""),
         "00 00 00 00 07 00 00 00 | 01 00 00 00 27 00 00 00 | 08 00 00 00 01 00 01 00 | 05 00 00 00 \
          00 00 00 00 | 0 | 06 00 00 00 00 00 00 00 | 01 00 00 00 1a 00 00 00 | 68 69 00 00 00 00 \
@@ -90,7 +90,7 @@ pub static COPIED_LISTS: [Row; 8] = [
     ),
     (
         "structs that were read as pointers",
-        Copy(List(STRUCTS, Pointer)),
+        Copy(List(Pointer), STRUCTS),
         Ok(""),
         "00 00 00 00 07 00 00 00 | 01 00 00 00 27 00 00 00 | 08 00 00 00 01 00 01 00 | 05 00 00 00 \
          00 00 00 00 | 0 | 06 00 00 00 00 00 00 00 | 01 00 00 00 1a 00 00 00 | 68 69 00 00 00 00 \
@@ -102,52 +102,55 @@ pub static COPIED_LISTS: [Row; 8] = [
 pub static COPIED_ZEROS: [Row; 6] = [
     (
         "three structs of size zero",
-        Copy(List(
+        Copy(
+            List(InlineComposite),
             "01 00 00 00 07 00 00 00 | 0c 00 00 00 00 00 00 00",
-            InlineComposite,
-        )),
+        ),
         Ok(""),
         "00 00 00 00 02 00 00 00 | 01 00 00 00 07 00 00 00 | 0c 00 00 00 00 00 00 00",
     ),
     (
         "three structs of size zero, as the root of a message",
-        Copy(Message(
+        Copy(
+            Message,
             "00 00 00 00 02 00 00 00 | 01 00 00 00 07 00 00 00 | 0c 00 00 00 00 00 00 00",
-        )),
+        ),
         Ok(""),
         "00 00 00 00 02 00 00 00 | 01 00 00 00 07 00 00 00 | 0c 00 00 00 00 00 00 00",
     ),
     (
         "2^20 + 1 structs of size zero",
-        Copy(List(
+        Copy(
+            List(InlineComposite),
             "01 00 00 00 07 00 00 00 | 04 00 40 00 00 00 00 00",
-            InlineComposite,
-        )),
+        ),
         Ok(""),
         "00 00 00 00 02 00 00 00 | 01 00 00 00 07 00 00 00 | 04 00 40 00 00 00 00 00",
     ),
     (
         "2^20 + 1 structs of size zero, as the root of a message",
-        Copy(Message(
+        Copy(
+            Message,
             "00 00 00 00 02 00 00 00 | 01 00 00 00 07 00 00 00 | 04 00 40 00 00 00 00 00",
-        )),
+        ),
         Ok(""),
         "00 00 00 00 02 00 00 00 | 01 00 00 00 07 00 00 00 | 04 00 40 00 00 00 00 00",
     ),
     (
         "as many structs of size zero as a list has",
-        Copy(List(
+        Copy(
+            List(InlineComposite),
             "01 00 00 00 07 00 00 00 | fc ff ff 7f 00 00 00 00",
-            InlineComposite,
-        )),
+        ),
         Ok(""),
         "00 00 00 00 02 00 00 00 | 01 00 00 00 07 00 00 00 | fc ff ff 7f 00 00 00 00",
     ),
     (
         "as many structs of size zero as a list has, as the root of a message",
-        Copy(Message(
+        Copy(
+            Message,
             "00 00 00 00 02 00 00 00 | 01 00 00 00 07 00 00 00 | fc ff ff 7f 00 00 00 00",
-        )),
+        ),
         Ok(""),
         "00 00 00 00 02 00 00 00 | 01 00 00 00 07 00 00 00 | fc ff ff 7f 00 00 00 00",
     ),
@@ -157,49 +160,49 @@ pub static COPIED_ZEROS: [Row; 6] = [
 pub static COPIED_NULLS: [Row; 8] = [
     (
         "a null that was read as a list of the size 0",
-        Copy(List("0", Void)),
+        Copy(List(Void), "0"),
         Ok(""),
         "00 00 00 00 01 00 00 00 | 01 00 00 00 00 00 00 00",
     ),
     (
         "a null that was read as a list of the size 1",
-        Copy(List("0", Bit)),
+        Copy(List(Bit), "0"),
         Ok(""),
         "00 00 00 00 01 00 00 00 | 01 00 00 00 01 00 00 00",
     ),
     (
         "a null that was read as a list of the size 2",
-        Copy(List("0", Byte)),
+        Copy(List(Byte), "0"),
         Ok(""),
         "00 00 00 00 01 00 00 00 | 01 00 00 00 02 00 00 00",
     ),
     (
         "a null that was read as a list of the size 3",
-        Copy(List("0", TwoBytes)),
+        Copy(List(TwoBytes), "0"),
         Ok(""),
         "00 00 00 00 01 00 00 00 | 01 00 00 00 03 00 00 00",
     ),
     (
         "a null that was read as a list of the size 4",
-        Copy(List("0", FourBytes)),
+        Copy(List(FourBytes), "0"),
         Ok(""),
         "00 00 00 00 01 00 00 00 | 01 00 00 00 04 00 00 00",
     ),
     (
         "a null that was read as a list of the size 5",
-        Copy(List("0", EightBytes)),
+        Copy(List(EightBytes), "0"),
         Ok(""),
         "00 00 00 00 01 00 00 00 | 01 00 00 00 05 00 00 00",
     ),
     (
         "a null that was read as a list of the size 6",
-        Copy(List("0", Pointer)),
+        Copy(List(Pointer), "0"),
         Ok(""),
         "00 00 00 00 01 00 00 00 | 01 00 00 00 06 00 00 00",
     ),
     (
         "a null that was read as a list of structs",
-        Copy(List("0", InlineComposite)),
+        Copy(List(InlineComposite), "0"),
         Ok(""),
         "00 00 00 00 02 00 00 00 | 01 00 00 00 07 00 00 00 | 0",
     ),
@@ -209,64 +212,76 @@ pub static COPIED_NULLS: [Row; 8] = [
 pub static ELEMENTS: [Row; 9] = [
     (
         "an element of one byte is a struct of one word",
-        Copy(FirstStruct("01 00 00 00 0a 00 00 00 | 09 00 00 00 00 00 00 00", Byte)),
+        Copy(
+            FirstStruct(Byte),
+            "01 00 00 00 0a 00 00 00 | 09 00 00 00 00 00 00 00",
+        ),
         Ok(""),
         "00 00 00 00 02 00 00 00 | 00 00 00 00 01 00 00 00 | 09 00 00 00 00 00 00 00",
     ),
     (
         "another one byte",
-        Copy(FirstStruct("01 00 00 00 0a 00 00 00 | 07 00 00 00 00 00 00 00", Byte)),
+        Copy(
+            FirstStruct(Byte),
+            "01 00 00 00 0a 00 00 00 | 07 00 00 00 00 00 00 00",
+        ),
         Ok(""),
         "00 00 00 00 02 00 00 00 | 00 00 00 00 01 00 00 00 | 07 00 00 00 00 00 00 00",
     ),
     (
         "an element of two bytes",
-        Copy(FirstStruct(
+        Copy(
+            FirstStruct(TwoBytes),
             "01 00 00 00 0b 00 00 00 | 09 08 00 00 00 00 00 00",
-            TwoBytes,
-        )),
+        ),
         Ok(""),
         "00 00 00 00 02 00 00 00 | 00 00 00 00 01 00 00 00 | 09 08 00 00 00 00 00 00",
     ),
     (
         "an element of four bytes",
-        Copy(FirstStruct(
+        Copy(
+            FirstStruct(FourBytes),
             "01 00 00 00 0c 00 00 00 | 09 08 07 06 00 00 00 00",
-            FourBytes,
-        )),
+        ),
         Ok(""),
         "00 00 00 00 02 00 00 00 | 00 00 00 00 01 00 00 00 | 09 08 07 06 00 00 00 00",
     ),
     (
         "an element of eight bytes",
-        Copy(FirstStruct(
+        Copy(
+            FirstStruct(EightBytes),
             "01 00 00 00 0d 00 00 00 | 09 08 07 06 05 04 03 02",
-            EightBytes,
-        )),
+        ),
         Ok(""),
         "00 00 00 00 02 00 00 00 | 00 00 00 00 01 00 00 00 | 09 08 07 06 05 04 03 02",
     ),
     (
         "an element of nothing is a struct of size zero",
-        Copy(FirstStruct(VOIDS, Void)),
+        Copy(FirstStruct(Void), VOIDS),
         Ok(""),
         EMPTY_STRUCT,
     ),
     (
         "one byte that was read as nothing",
-        Copy(FirstStruct("01 00 00 00 0a 00 00 00 | 09 00 00 00 00 00 00 00", Void)),
+        Copy(
+            FirstStruct(Void),
+            "01 00 00 00 0a 00 00 00 | 09 00 00 00 00 00 00 00",
+        ),
         Ok(""),
         "00 00 00 00 02 00 00 00 | 00 00 00 00 01 00 00 00 | 09 00 00 00 00 00 00 00",
     ),
     (
         "four bytes that were read as nothing",
-        Copy(FirstStruct("01 00 00 00 0c 00 00 00 | 09 08 07 06 00 00 00 00", Void)),
+        Copy(
+            FirstStruct(Void),
+            "01 00 00 00 0c 00 00 00 | 09 08 07 06 00 00 00 00",
+        ),
         Ok(""),
         "00 00 00 00 02 00 00 00 | 00 00 00 00 01 00 00 00 | 09 08 07 06 00 00 00 00",
     ),
     (
         "a pointer that was read as nothing",
-        Copy(FirstStruct(POINTERS, Void)),
+        Copy(FirstStruct(Void), POINTERS),
         Ok(""),
         "00 00 00 00 03 00 00 00 | 00 00 00 00 00 00 01 00 | 01 00 00 00 1a 00 00 00 | 68 69 00 00 00 00 00 00",
     ),
@@ -277,7 +292,7 @@ pub static CONTENTS: [Row; 6] = [
     ("a new struct", InitStruct(ONE_EACH), Ok(""), NEW_STRUCT),
     (
         "a smaller struct takes what fits",
-        Copy(Content(ONE_EACH, SOURCE)),
+        Copy(Content(ONE_EACH), SOURCE),
         Ok(""),
         "00 00 00 00 04 00 00 00 | 00 00 00 00 01 00 01 00 | 01 02 03 04 05 06 07 08 | 01 00 00 00 \
          1a 00 00 00 | 68 69 00 00 00 00 00 00",
@@ -291,7 +306,7 @@ pub static CONTENTS: [Row; 6] = [
     ),
     (
         "a larger struct is filled up",
-        Copy(Content(ONE_EACH, SOURCE)),
+        Copy(Content(ONE_EACH), SOURCE),
         Ok(""),
         "00 00 00 00 08 00 00 00 | 00 00 00 00 03 00 03 00 | 01 02 03 04 05 06 07 08 | 09 0a 0b 0c \
          0d 0e 0f 10 | 0 | 09 00 00 00 1a 00 00 00 | 0 | 0 | 68 69 00 00 00 00 00 00",
@@ -305,7 +320,7 @@ pub static CONTENTS: [Row; 6] = [
     ),
     (
         "a struct of the size takes all",
-        Copy(Content(ONE_EACH, SOURCE)),
+        Copy(Content(ONE_EACH), SOURCE),
         Ok(""),
         "00 00 00 00 06 00 00 00 | 00 00 00 00 02 00 02 00 | 01 02 03 04 05 06 07 08 | 09 0a 0b 0c \
          0d 0e 0f 10 | 05 00 00 00 1a 00 00 00 | 0 | 68 69 00 00 00 00 00 00",
@@ -323,7 +338,7 @@ pub static MORE_CONTENTS: [Row; 10] = [
     ),
     (
         "a smaller struct that is filled takes what fits",
-        Copy(Content(ONE_EACH, SOURCE)),
+        Copy(Content(ONE_EACH), SOURCE),
         Ok(""),
         "00 00 00 00 04 00 00 00 | 00 00 00 00 01 00 01 00 | 01 02 03 04 05 06 07 08 | 01 00 00 00 \
          1a 00 00 00 | 68 69 00 00 00 00 00 00",
@@ -337,7 +352,7 @@ pub static MORE_CONTENTS: [Row; 10] = [
     ),
     (
         "data within a word is filled up",
-        Copy(ContentOfByte(BYTES)),
+        Copy(ContentOfByte, BYTES),
         Ok(""),
         "00 00 00 00 03 00 00 00 | 00 00 00 00 01 00 01 00 | 02 00 00 00 00 00 00 00 | 0",
     ),
@@ -349,10 +364,10 @@ pub static MORE_CONTENTS: [Row; 10] = [
     ),
     (
         "a pointer that leaves its segment is refused, also where it does not fit",
-        Copy(Content(
-            ONE_EACH,
+        Copy(
+            Content(ONE_EACH),
             "00 00 00 00 00 00 02 00 | 0 | fc ff ff 7f 01 00 00 00",
-        )),
+        ),
         Err(BadPointer),
         FIVE_AND_TEXT,
     ),
@@ -364,7 +379,7 @@ pub static MORE_CONTENTS: [Row; 10] = [
     ),
     (
         "it stays where a text comes before the pointer that is refused",
-        Copy(Content(ONE_EACH, HALF_GOOD)),
+        Copy(Content(ONE_EACH), HALF_GOOD),
         Err(BadPointer),
         FIVE_AND_A,
     ),
@@ -376,7 +391,7 @@ pub static MORE_CONTENTS: [Row; 10] = [
     ),
     (
         "nothing fits into it",
-        Copy(Content(NO_SIZE, SOURCE)),
+        Copy(Content(NO_SIZE), SOURCE),
         Ok(""),
         EMPTY_STRUCT,
     ),
@@ -388,14 +403,14 @@ pub static BECOME_STRUCTS: [Change; 12] = [
         "two elements of nothing become structs",
         "00 00 00 00 01 00 00 00 | 01 00 00 00 10 00 00 00",
         GetStructs(ONE_EACH),
-        None,
+        Ok("2 0 2"),
         "00 00 00 00 06 00 00 00 | 01 00 00 00 27 00 00 00 | 08 00 00 00 01 00 01 00 | 0 | 0 | 0 | 0",
     ),
     (
         "numbers of one byte become structs",
         "00 00 00 00 02 00 00 00 | 01 00 00 00 12 00 00 00 | 01 02 00 00 00 00 00 00",
         GetStructs(ONE_EACH),
-        None,
+        Ok("2 0 2"),
         "00 00 00 00 06 00 00 00 | 01 00 00 00 27 00 00 00 | 08 00 00 00 01 00 01 00 | \
          01 00 00 00 00 00 00 00 | 0 | 02 00 00 00 00 00 00 00 | 0",
     ),
@@ -403,7 +418,7 @@ pub static BECOME_STRUCTS: [Change; 12] = [
         "numbers of two bytes become structs",
         "00 00 00 00 02 00 00 00 | 01 00 00 00 13 00 00 00 | 01 00 02 00 00 00 00 00",
         GetStructs(ONE_EACH),
-        None,
+        Ok("2 0 2"),
         "00 00 00 00 06 00 00 00 | 01 00 00 00 27 00 00 00 | 08 00 00 00 01 00 01 00 | \
          01 00 00 00 00 00 00 00 | 0 | 02 00 00 00 00 00 00 00 | 0",
     ),
@@ -411,7 +426,7 @@ pub static BECOME_STRUCTS: [Change; 12] = [
         "numbers of four bytes become structs",
         "00 00 00 00 02 00 00 00 | 01 00 00 00 14 00 00 00 | 01 00 00 00 02 00 00 00",
         GetStructs(ONE_EACH),
-        None,
+        Ok("2 0 2"),
         "00 00 00 00 06 00 00 00 | 01 00 00 00 27 00 00 00 | 08 00 00 00 01 00 01 00 | \
          01 00 00 00 00 00 00 00 | 0 | 02 00 00 00 00 00 00 00 | 0",
     ),
@@ -419,7 +434,7 @@ pub static BECOME_STRUCTS: [Change; 12] = [
         "numbers of eight bytes become structs",
         "00 00 00 00 03 00 00 00 | 01 00 00 00 15 00 00 00 | 01 00 00 00 00 00 00 00 | 02 00 00 00 00 00 00 00",
         GetStructs(ONE_EACH),
-        None,
+        Ok("2 0 2"),
         "00 00 00 00 06 00 00 00 | 01 00 00 00 27 00 00 00 | 08 00 00 00 01 00 01 00 | \
          01 00 00 00 00 00 00 00 | 0 | 02 00 00 00 00 00 00 00 | 0",
     ),
@@ -427,7 +442,7 @@ pub static BECOME_STRUCTS: [Change; 12] = [
         "a null and a pointer to a byte become structs",
         "00 00 00 00 04 00 00 00 | 01 00 00 00 16 00 00 00 | 0 | 01 00 00 00 0a 00 00 00 | 07 00 00 00 00 00 00 00",
         GetStructs(ONE_EACH),
-        None,
+        Ok("2 0 2"),
         "00 00 00 00 07 00 00 00 | 01 00 00 00 27 00 00 00 | 08 00 00 00 01 00 01 00 | \
          0 | 0 | 0 | 01 00 00 00 0a 00 00 00 | 07 00 00 00 00 00 00 00",
     ),
@@ -436,7 +451,7 @@ pub static BECOME_STRUCTS: [Change; 12] = [
         "00 00 00 00 04 00 00 00 | 01 00 00 00 17 00 00 00 | 08 00 00 00 01 00 00 00 | \
          05 00 00 00 00 00 00 00 | 06 00 00 00 00 00 00 00",
         GetStructs(ONE_EACH),
-        None,
+        Ok("2 0 2"),
         "00 00 00 00 06 00 00 00 | 01 00 00 00 27 00 00 00 | 08 00 00 00 01 00 01 00 | \
          05 00 00 00 00 00 00 00 | 0 | 06 00 00 00 00 00 00 00 | 0",
     ),
@@ -445,7 +460,7 @@ pub static BECOME_STRUCTS: [Change; 12] = [
         "00 00 00 00 05 00 00 00 | 01 00 00 00 1f 00 00 00 | 04 00 00 00 02 00 01 00 | \
          05 00 00 00 00 00 00 00 | 06 00 00 00 00 00 00 00 | 0",
         GetStructs(ONE_EACH),
-        None,
+        Ok("1 0 1"),
         "00 00 00 00 05 00 00 00 | 01 00 00 00 1f 00 00 00 | 04 00 00 00 02 00 01 00 | \
          05 00 00 00 00 00 00 00 | 06 00 00 00 00 00 00 00 | 0",
     ),
@@ -453,28 +468,28 @@ pub static BECOME_STRUCTS: [Change; 12] = [
         "a null stays",
         "00 00 00 00 01 00 00 00 | 0",
         GetStructs(ONE_EACH),
-        None,
+        Ok("0 1 0"),
         "00 00 00 00 01 00 00 00 | 0",
     ),
     (
         "three elements of nothing become structs of size zero",
         "00 00 00 00 01 00 00 00 | 01 00 00 00 18 00 00 00",
         GetStructs(NO_SIZE),
-        None,
+        Ok("3 0 3"),
         "00 00 00 00 02 00 00 00 | 01 00 00 00 07 00 00 00 | 0c 00 00 00 00 00 00 00",
     ),
     (
         "2^20 + 1 elements of nothing become structs of size zero",
         "00 00 00 00 01 00 00 00 | 01 00 00 00 08 00 80 00",
         GetStructs(NO_SIZE),
-        None,
+        Ok("1048577 0 1048577"),
         "00 00 00 00 02 00 00 00 | 01 00 00 00 07 00 00 00 | 04 00 40 00 00 00 00 00",
     ),
     (
         "structs are past the format",
         "00 00 00 00 01 00 00 00 | 01 00 00 00 00 00 00 80",
         GetStructs(ONE_EACH),
-        Some(SizePastFormat),
+        Err(SizePastFormat),
         "00 00 00 00 01 00 00 00 | 01 00 00 00 00 00 00 80",
     ),
 ];
@@ -483,14 +498,14 @@ pub static BECOME_STRUCTS: [Change; 12] = [
 pub static MOST_BECOME_STRUCTS: [Row; 2] = [
     (
         "2^29 - 1 elements of nothing",
-        Copy(Message("00 00 00 00 01 00 00 00 | 01 00 00 00 f8 ff ff ff")),
+        Copy(Message, "00 00 00 00 01 00 00 00 | 01 00 00 00 f8 ff ff ff"),
         Ok(""),
         "00 00 00 00 01 00 00 00 | 01 00 00 00 f8 ff ff ff",
     ),
     (
         "2^29 - 1 elements of nothing become structs of size zero",
         GetStructs(NO_SIZE),
-        Ok(""),
+        Ok("536870911 0 536870911"),
         "00 00 00 00 02 00 00 00 | 01 00 00 00 07 00 00 00 | fc ff ff 7f 00 00 00 00",
     ),
 ];

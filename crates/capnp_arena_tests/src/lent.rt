@@ -31,10 +31,11 @@ fn write_into(bytes: &mut [u8], lent: Lent)
     }
 }
 
-/// What stood there, or nothing where the bytes are reversed.
-fn copy_of(alloc: Global, bytes: &[u8], lent: Lent) -> Result<Vec<u8>> {
+/// What stood there, or nothing where the bytes are reversed, or are not as many as the builder says.
+fn copy_of(alloc: Global, length: usize, bytes: &[u8], lent: Lent) -> Result<Vec<u8>> {
     match lent {
         Lent::ReverseData | Lent::ReverseText => Ok(Vec::new(alloc)),
+        _ if length != bytes.len() => Ok(Vec::new(alloc)),
         _ => Ok(Vec::from_slice(alloc, bytes)?),
     }
 }
@@ -43,8 +44,10 @@ fn get_data(alloc: Global, message: &mut Builder, lent: Lent) -> Result<Vec<u8>>
     requires { IsMessage message.old }
     ensures { IsMessage message.new }
 {
-    let bytes = message.root().get_data_mut()?.into_bytes();
-    let was = copy_of(alloc, bytes, lent);
+    let built = message.root().get_data_mut()?;
+    let length = built.len();
+    let bytes = built.into_bytes();
+    let was = copy_of(alloc, length, bytes, lent);
     write_into(bytes, lent);
     was
 }
@@ -53,8 +56,10 @@ fn get_text(alloc: Global, message: &mut Builder, lent: Lent) -> Result<Vec<u8>>
     requires { IsMessage message.old }
     ensures { IsMessage message.new }
 {
-    let bytes = message.root().get_text_mut()?.into_bytes();
-    let was = copy_of(alloc, bytes, lent);
+    let built = message.root().get_text_mut()?;
+    let length = built.len();
+    let bytes = built.into_bytes();
+    let was = copy_of(alloc, length, bytes, lent);
     write_into(bytes, lent);
     was
 }
@@ -63,8 +68,10 @@ fn init_data(alloc: Global, message: &mut Builder, count: u32, lent: Lent) -> Re
     requires { IsMessage message.old }
     ensures { IsMessage message.new }
 {
-    let bytes = message.root().init_data(count)?.into_bytes();
-    let was = copy_of(alloc, bytes, lent);
+    let built = message.root().init_data(count)?;
+    let length = built.len();
+    let bytes = built.into_bytes();
+    let was = copy_of(alloc, length, bytes, lent);
     write_into(bytes, lent);
     was
 }
@@ -73,8 +80,10 @@ fn init_text(alloc: Global, message: &mut Builder, count: u32, lent: Lent) -> Re
     requires { IsMessage message.old }
     ensures { IsMessage message.new }
 {
-    let bytes = message.root().init_text(count)?.into_bytes();
-    let was = copy_of(alloc, bytes, lent);
+    let built = message.root().init_text(count)?;
+    let length = built.len();
+    let bytes = built.into_bytes();
+    let was = copy_of(alloc, length, bytes, lent);
     write_into(bytes, lent);
     was
 }

@@ -7,15 +7,15 @@
 #[cfg(test)]
 mod build_tests;
 #[cfg(test)]
-mod builder_read_tests;
-#[cfg(test)]
-mod builder_tests;
+mod built;
 #[cfg(test)]
 mod built_structs;
 #[cfg(test)]
 mod built_tests;
 #[cfg(test)]
 mod call_tests;
+#[cfg(test)]
+mod caller_tests;
 #[cfg(test)]
 mod calls;
 #[cfg(test)]
@@ -26,10 +26,6 @@ mod copy_tests;
 mod default_tests;
 #[cfg(test)]
 mod fixtures;
-#[cfg(test)]
-mod hop_tests;
-#[cfg(test)]
-mod kept_tests;
 #[cfg(test)]
 mod lent;
 #[cfg(test)]

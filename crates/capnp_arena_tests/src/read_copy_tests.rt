@@ -98,23 +98,7 @@ fn is_copied_empty(alloc: Global) -> Result<bool> {
     )
 }
 
-/// How many bytes a null is lent as, as data, where it was got as a list of pointers before.
-fn count_lent_data(alloc: Global) -> Result<usize> {
-    let mut message = Builder::new(alloc)?;
-    get_list(&mut message, ElementSize::Pointer)?;
-    Ok(message.root().get_data_mut()?.into_bytes().len())
-}
-
-/// The same as a text.
-fn count_lent_text(alloc: Global) -> Result<usize> {
-    let mut message = Builder::new(alloc)?;
-    get_list(&mut message, ElementSize::Pointer)?;
-    Ok(message.root().get_text_mut()?.into_bytes().len())
-}
-
 #[test]
-fn a_null_is_lent_as_bytes_whatever_it_was_got_as(rt: HostRuntime) {
-    assert_eq!(rt; answer(count_lent_data(rt.alloc())), Ok(0));
-    assert_eq!(rt; answer(count_lent_text(rt.alloc())), Ok(0));
+fn a_null_is_copied_as_bytes_whatever_it_was_got_as(rt: HostRuntime) {
     assert_eq!(rt; answer(is_copied_empty(rt.alloc())), Ok(true));
 }

@@ -4,7 +4,7 @@ use Rattle.capnp_arena.specs.Facts.Laws.{in_struct}
 use Rattle.capnp_arena.specs.Forest.{Forest, PartChanges, Planted}
 use Rattle.capnp_arena.specs.Handles.{part}
 use Rattle.capnp_arena.specs.Segment.{segment}
-use Rattle.capnp_arena_tests.proofs.builder_tests.build_example.Goals as goal
+use Rattle.capnp_arena_tests.proofs.built.example.Goals as goal
 
 pub returns : goal.returns
 returns c =

@@ -2,7 +2,7 @@ use Rattle.std.proofs.Common.{rules, subst}
 use Rattle.capnp_arena.specs.Facts.Laws.{in_struct}
 use Rattle.capnp_arena.specs.Forest.{Forest}
 use Rattle.capnp_arena.specs.Segment.{segment}
-use Rattle.capnp_arena_tests.proofs.built_tests.null_as_struct.Goals as goal
+use Rattle.capnp_arena_tests.proofs.built.null_as_struct.Goals as goal
 
 pub returns-then-fields-eq1 : goal.returns-then-fields-eq1
 returns-then-fields-eq1 c =

@@ -1,7 +1,7 @@
 use Rattle.std.proofs.Common.{rules, subst}
 use Rattle.capnp_arena.specs.Forest.{Forest}
 use Rattle.capnp_arena.specs.Segment.{segment}
-use Rattle.capnp_arena_tests.proofs.built_tests.put_larger.Goals as goal
+use Rattle.capnp_arena_tests.proofs.built.put_larger.Goals as goal
 
 pub returns : goal.returns
 returns c =

@@ -3,7 +3,7 @@ use Rattle.capnp_arena.specs.Facts.Calls.{parts_one_by_one}
 use Rattle.capnp_arena.specs.Facts.Laws.{in_struct}
 use Rattle.capnp_arena.specs.Forest.{Forest}
 use Rattle.capnp_arena.specs.Segment.{segment}
-use Rattle.capnp_arena_tests.proofs.builder_tests.build_fields.Goals as goal
+use Rattle.capnp_arena_tests.proofs.built.fields.Goals as goal
 
 pub returns : goal.returns
 returns c =
