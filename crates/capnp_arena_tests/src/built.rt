@@ -35,7 +35,7 @@ const LARGER: [u8; 56] = [
 
 /// What is built.
 #[derive(Clone, Copy)]
-pub enum Built {
+pub(crate) enum Built {
     /// A null that is got as numbers, of which elements are read, or bits.
     NullAsNumbers,
     NullAsBits,
@@ -373,7 +373,7 @@ fn list(message: &mut Builder, built: Built) -> Result<[u64; 3]>
 }
 
 /// Builds at the root of a message, and answers what is read of it.
-pub fn build(alloc: Global, message: &mut Builder, built: Built) -> Result<[u64; 3]>
+pub(crate) fn build(alloc: Global, message: &mut Builder, built: Built) -> Result<[u64; 3]>
     requires { IsMessage message.old }
     ensures { OnOk result (IsMessage message.new) }
 {

@@ -14,13 +14,13 @@ use capnp_wire::size::{ElementSize, StructSize};
 use capnp_wire_callers::built::{put_number, put_text};
 use std::alloc::Global;
 
-pub const POINT: StructSize = StructSize {
+pub(crate) const POINT: StructSize = StructSize {
     data_words: 1,
     pointers: 0,
 };
 
 /// A number with a default.
-pub fn masked(fields: &mut StructBuilder<'_>) -> Result<[u64; 3]>
+pub(crate) fn masked(fields: &mut StructBuilder<'_>) -> Result<[u64; 3]>
     requires planted { IsStruct fields.old }
     requires inside { 0 < fields.old.place.data_words }
     ensures same { fields.new.arena.ghost_name ≡ fields.old.arena.ghost_name }
@@ -38,7 +38,7 @@ pub fn masked(fields: &mut StructBuilder<'_>) -> Result<[u64; 3]>
 }
 
 /// A bit, and a number of eight bytes beside it.
-pub fn bit(fields: &mut StructBuilder<'_>) -> Result<[u64; 3]>
+pub(crate) fn bit(fields: &mut StructBuilder<'_>) -> Result<[u64; 3]>
     requires planted { IsStruct fields.old }
     requires inside { 0 < fields.old.place.data_words }
     ensures same { fields.new.arena.ghost_name ≡ fields.old.arena.ghost_name }
@@ -56,7 +56,7 @@ pub fn bit(fields: &mut StructBuilder<'_>) -> Result<[u64; 3]>
 }
 
 /// Two bits whose default is true: one that differs from it, and one that doesn't.
-pub fn masked_bits(fields: &mut StructBuilder<'_>) -> Result<[u64; 3]>
+pub(crate) fn masked_bits(fields: &mut StructBuilder<'_>) -> Result<[u64; 3]>
     requires planted { IsStruct fields.old }
     requires inside { 0 < fields.old.place.data_words }
     ensures same { fields.new.arena.ghost_name ≡ fields.old.arena.ghost_name }
@@ -74,7 +74,7 @@ pub fn masked_bits(fields: &mut StructBuilder<'_>) -> Result<[u64; 3]>
     ])
 }
 
-pub fn word(fields: &mut StructBuilder<'_>) -> Result<[u64; 3]>
+pub(crate) fn word(fields: &mut StructBuilder<'_>) -> Result<[u64; 3]>
     requires planted { IsStruct fields.old }
     requires inside { 0 < fields.old.place.data_words }
     ensures same { fields.new.arena.ghost_name ≡ fields.old.arena.ghost_name }
@@ -88,7 +88,7 @@ pub fn word(fields: &mut StructBuilder<'_>) -> Result<[u64; 3]>
 }
 
 /// A number, and whether the pointer is null.
-pub fn struct_here(fields: &mut StructBuilder<'_>) -> Result<[u64; 3]>
+pub(crate) fn struct_here(fields: &mut StructBuilder<'_>) -> Result<[u64; 3]>
     requires planted { IsStruct fields.old }
     requires inside { (0 < fields.old.place.data_words) × (0 < fields.old.place.pointers) }
     ensures same { fields.new.arena.ghost_name ≡ fields.old.arena.ghost_name }
@@ -103,7 +103,7 @@ pub fn struct_here(fields: &mut StructBuilder<'_>) -> Result<[u64; 3]>
 }
 
 /// A pointer that takes a text and is cleared.
-pub fn cleared(fields: &mut StructBuilder<'_>) -> Result<[u64; 3]>
+pub(crate) fn cleared(fields: &mut StructBuilder<'_>) -> Result<[u64; 3]>
     requires planted { IsStruct fields.old }
     requires inside { 0 < fields.old.place.pointers }
     ensures same { fields.new.arena.ghost_name ≡ fields.old.arena.ghost_name }
@@ -122,7 +122,7 @@ pub fn cleared(fields: &mut StructBuilder<'_>) -> Result<[u64; 3]>
 }
 
 /// A text by a caller, and a number.
-pub fn called_text(fields: &mut StructBuilder<'_>) -> Result<[u64; 3]>
+pub(crate) fn called_text(fields: &mut StructBuilder<'_>) -> Result<[u64; 3]>
     requires planted { IsStruct fields.old }
     requires inside { 0 < fields.old.place.pointers }
     ensures same { fields.new.arena.ghost_name ≡ fields.old.arena.ghost_name }
@@ -135,7 +135,7 @@ pub fn called_text(fields: &mut StructBuilder<'_>) -> Result<[u64; 3]>
     Ok([0; 3])
 }
 
-pub fn called_number(fields: &mut StructBuilder<'_>) -> Result<[u64; 3]>
+pub(crate) fn called_number(fields: &mut StructBuilder<'_>) -> Result<[u64; 3]>
     requires planted { IsStruct fields.old }
     requires inside { 0 < fields.old.place.data_words }
     ensures same { fields.new.arena.ghost_name ≡ fields.old.arena.ghost_name }
@@ -149,7 +149,7 @@ pub fn called_number(fields: &mut StructBuilder<'_>) -> Result<[u64; 3]>
 }
 
 /// What is below a struct is measured with it.
-pub fn measured(fields: &mut StructBuilder<'_>) -> Result<[u64; 3]>
+pub(crate) fn measured(fields: &mut StructBuilder<'_>) -> Result<[u64; 3]>
     requires planted { IsStruct fields.old }
     requires inside { (0 < fields.old.place.data_words) × (0 < fields.old.place.pointers) }
     ensures same { fields.new.arena.ghost_name ≡ fields.old.arena.ghost_name }
@@ -180,7 +180,7 @@ fn copy_to_pointer(fields: &mut StructBuilder<'_>, source: PointerReader<'_>) ->
 }
 
 /// A text that is copied to a pointer.
-pub fn copied_text(alloc: Global, fields: &mut StructBuilder<'_>) -> Result<[u64; 3]>
+pub(crate) fn copied_text(alloc: Global, fields: &mut StructBuilder<'_>) -> Result<[u64; 3]>
     requires planted { IsStruct fields.old }
     requires inside { 0 < fields.old.place.pointers }
     ensures same { fields.new.arena.ghost_name ≡ fields.old.arena.ghost_name }
@@ -198,7 +198,7 @@ pub fn copied_text(alloc: Global, fields: &mut StructBuilder<'_>) -> Result<[u64
 }
 
 /// The size of a struct, and that of the elements of a list at its pointer.
-pub fn sizes(fields: &mut StructBuilder<'_>) -> Result<[u64; 3]>
+pub(crate) fn sizes(fields: &mut StructBuilder<'_>) -> Result<[u64; 3]>
     requires planted { IsStruct fields.old }
     requires inside { 0 < fields.old.place.pointers }
     ensures same { fields.new.arena.ghost_name ≡ fields.old.arena.ghost_name }
@@ -246,7 +246,7 @@ fn set_points(fields: &mut StructBuilder<'_>) -> Result<()>
 }
 
 /// A reading of examples/reading.capnp.
-pub fn reading(fields: &mut StructBuilder<'_>) -> Result<[u64; 3]>
+pub(crate) fn reading(fields: &mut StructBuilder<'_>) -> Result<[u64; 3]>
     requires planted { IsStruct fields.old }
     requires inside { (1 < fields.old.place.data_words) × (2 < fields.old.place.pointers) }
     ensures same { fields.new.arena.ghost_name ≡ fields.old.arena.ghost_name }

@@ -20,7 +20,7 @@ use capnp_wire::{PointerReader, StructReader};
 use std::alloc::Global;
 use std::process::Abort;
 
-pub const TWO_EACH: StructSize = StructSize {
+pub(crate) const TWO_EACH: StructSize = StructSize {
     data_words: 2,
     pointers: 2,
 };
@@ -32,7 +32,7 @@ const THREE_EACH: StructSize = StructSize {
 
 /// A call on the root of a message.
 #[derive(Clone, Copy)]
-pub enum Call {
+pub(crate) enum Call {
     Clear,
     SetText(&'static str),
     SetData(&'static str),
@@ -59,7 +59,7 @@ pub enum Call {
 
 /// What a pointer is asked for, with a default.
 #[derive(Clone, Copy)]
-pub enum Asked {
+pub(crate) enum Asked {
     /// A struct of at least a size.
     Struct(StructSize),
     Bytes,
@@ -71,7 +71,7 @@ pub enum Asked {
 
 /// What is copied.
 #[derive(Clone, Copy)]
-pub enum Copied {
+pub(crate) enum Copied {
     /// The root of a message.
     Message,
     /// The same at the root pointer, where the segment stays.
@@ -92,7 +92,7 @@ pub enum Copied {
 
 /// What bytes are lent.
 #[derive(Clone, Copy)]
-pub enum Lent {
+pub(crate) enum Lent {
     GetData,
     GetText,
     InitData(u32),
@@ -104,24 +104,24 @@ pub enum Lent {
     ReverseText,
 }
 
-pub const NO_SIZE: StructSize = StructSize {
+pub(crate) const NO_SIZE: StructSize = StructSize {
     data_words: 0,
     pointers: 0,
 };
 
-pub const NULL: &str = "00 00 00 00 01 00 00 00 | 0";
+pub(crate) const NULL: &str = "00 00 00 00 01 00 00 00 | 0";
 
-pub const EMPTY_STRUCT: &str = "00 00 00 00 01 00 00 00 | fc ff ff ff 00 00 00 00";
+pub(crate) const EMPTY_STRUCT: &str = "00 00 00 00 01 00 00 00 | fc ff ff ff 00 00 00 00";
 
-pub const NEW_STRUCT: &str = "00 00 00 00 03 00 00 00 | 00 00 00 00 01 00 01 00 | 0 | 0";
+pub(crate) const NEW_STRUCT: &str = "00 00 00 00 03 00 00 00 | 00 00 00 00 01 00 01 00 | 0 | 0";
 
 /// A struct with 5 and the text "hi", and it in the place of two words and two pointers.
-pub const FIVE_AND_TEXT: &str =
+pub(crate) const FIVE_AND_TEXT: &str =
     "00 00 00 00 04 00 00 00 | 00 00 00 00 01 00 01 00 | 05 00 00 00 00 00 00 00 | \
      01 00 00 00 1a 00 00 00 | 68 69 00 00 00 00 00 00";
 
 /// What is called, what that answers, and the message then: the name of a row says what it shows.
-pub type Row = (
+pub(crate) type Row = (
     &'static str,
     Call,
     std::result::Result<&'static str, ErrorKind>,
@@ -129,7 +129,7 @@ pub type Row = (
 );
 
 /// What a row shows, a message, a call on it, what that answers, and the message then.
-pub type Change = (
+pub(crate) type Change = (
     &'static str,
     &'static str,
     Call,
@@ -138,7 +138,7 @@ pub type Change = (
 );
 
 /// Sets a text at a pointer of a struct, and stores a number in its word of the same index.
-pub fn put(fields: &mut StructBuilder<'_>, index: u16, number: u64, text: &str) -> Result<()>
+pub(crate) fn put(fields: &mut StructBuilder<'_>, index: u16, number: u64, text: &str) -> Result<()>
     requires planted { IsStruct fields.old }
     requires inside { (index < fields.old.place.data_words) × (index < fields.old.place.pointers) }
     ensures same { fields.new.arena.ghost_name ≡ fields.old.arena.ghost_name }
@@ -357,7 +357,7 @@ fn compact(message: &mut Builder) -> Result<()>
     Ok(())
 }
 
-pub fn clear(message: &mut Builder) -> Result<()>
+pub(crate) fn clear(message: &mut Builder) -> Result<()>
     requires { IsMessage message.old }
     ensures { IsMessage message.new }
 {
@@ -365,7 +365,7 @@ pub fn clear(message: &mut Builder) -> Result<()>
     Ok(())
 }
 
-pub fn set_text(message: &mut Builder, text: &str) -> Result<()>
+pub(crate) fn set_text(message: &mut Builder, text: &str) -> Result<()>
     requires { IsMessage message.old }
     ensures { IsMessage message.new }
 {
@@ -409,7 +409,7 @@ fn counts_of(list: &ListBuilder<'_>) -> [u64; 3]
     ]
 }
 
-pub fn init_list(message: &mut Builder, size: ElementSize, count: u32) -> Result<[u64; 3]>
+pub(crate) fn init_list(message: &mut Builder, size: ElementSize, count: u32) -> Result<[u64; 3]>
     requires message { IsMessage message.old }
     requires simple { size ≢ ElementSize.InlineComposite }
     ensures { IsMessage message.new }
@@ -426,7 +426,7 @@ fn init_structs(message: &mut Builder, count: u32, size: StructSize) -> Result<[
     Ok(counts_of(&list))
 }
 
-pub fn get_list(message: &mut Builder, size: ElementSize) -> Result<[u64; 3]>
+pub(crate) fn get_list(message: &mut Builder, size: ElementSize) -> Result<[u64; 3]>
     requires message { IsMessage message.old }
     requires simple { size ≢ ElementSize.InlineComposite }
     ensures { IsMessage message.new }
@@ -485,7 +485,7 @@ fn in_words(alloc: Global, numbers: [u64; 3]) -> Result<Vec<u8>> {
 }
 
 /// Makes a call, and answers a copy of the bytes that it lends, or the counts of the list that it makes or gets.
-pub fn make(alloc: Global, message: &mut Builder, call: Call) -> Result<Vec<u8>>
+pub(crate) fn make(alloc: Global, message: &mut Builder, call: Call) -> Result<Vec<u8>>
     requires { IsMessage message.old }
     ensures { IsMessage message.new }
 {
@@ -502,7 +502,7 @@ pub fn make(alloc: Global, message: &mut Builder, call: Call) -> Result<Vec<u8>>
 }
 
 /// The words of a message's segment, and whether the root is a null, a struct or a list.
-pub fn parts_of(message: &mut Builder) -> Result<(u64, [bool; 3])>
+pub(crate) fn parts_of(message: &mut Builder) -> Result<(u64, [bool; 3])>
     requires { IsMessage message.old }
     ensures { IsMessage message.new }
 {
@@ -534,7 +534,10 @@ fn stands_as(alloc: Global, message: &mut Builder, text: &str) -> Result<(bool, 
 }
 
 /// Whether a call answers these bytes, or is refused so.
-pub fn answers(made: Result<Vec<u8>>, expected: std::result::Result<&str, ErrorKind>) -> bool {
+pub(crate) fn answers(
+    made: Result<Vec<u8>>,
+    expected: std::result::Result<&str, ErrorKind>,
+) -> bool {
     match (made, expected) {
         (Ok(bytes), Ok(text)) => bytes.as_slice() == text.as_bytes(),
         (Err(error), Err(kind)) => error.kind == kind,
@@ -560,7 +563,7 @@ fn reads_as(
 }
 
 /// Makes the call of a row on a message, and compares what it answers and the message then.
-pub fn follow_row(rt: &impl Abort, alloc: Global, message: &mut Builder, row: &Row)
+pub(crate) fn follow_row(rt: &impl Abort, alloc: Global, message: &mut Builder, row: &Row)
     requires { IsMessage message.old }
     ensures { IsMessage message.new }
 {
@@ -581,7 +584,7 @@ fn follow_rows(rt: &impl Abort, alloc: Global, message: &mut Builder, rows: &[Ro
 }
 
 /// Makes the calls of these rows on one message.
-pub fn follow(rt: &impl Abort, alloc: Global, rows: &[Row]) {
+pub(crate) fn follow(rt: &impl Abort, alloc: Global, rows: &[Row]) {
     let message = Builder::new(alloc);
     assert!(rt; message.is_ok());
     if let Ok(mut message) = message {
@@ -597,7 +600,7 @@ fn follow_change(rt: &impl Abort, alloc: Global, row: &Change) {
 }
 
 /// Makes the calls of these rows, each on a message of its own.
-pub fn follow_changes(rt: &impl Abort, alloc: Global, rows: &[Change]) {
+pub(crate) fn follow_changes(rt: &impl Abort, alloc: Global, rows: &[Change]) {
     for row in rows {
         follow_change(rt, alloc, row);
     }

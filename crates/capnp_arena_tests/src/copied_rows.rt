@@ -41,7 +41,7 @@ const HALF_GOOD: &str =
     "00 00 00 00 00 00 02 00 | 05 00 00 00 1a 00 00 00 | fc ff ff 7f 01 00 00 00 | 68 69 00 00 00 00 00 00";
 
 /// Lists are copied.
-pub static COPIED_LISTS: [Row; 8] = [
+pub(crate) static COPIED_LISTS: [Row; 8] = [
     (
         "a list of nothing",
         Copy(List(Void), VOIDS),
@@ -99,7 +99,7 @@ pub static COPIED_LISTS: [Row; 8] = [
 ];
 
 /// Lists of structs of size zero are copied.
-pub static COPIED_ZEROS: [Row; 6] = [
+pub(crate) static COPIED_ZEROS: [Row; 6] = [
     (
         "three structs of size zero",
         Copy(
@@ -157,7 +157,7 @@ pub static COPIED_ZEROS: [Row; 6] = [
 ];
 
 /// Lists that a null was read as are copied.
-pub static COPIED_NULLS: [Row; 8] = [
+pub(crate) static COPIED_NULLS: [Row; 8] = [
     (
         "a null that was read as a list of the size 0",
         Copy(List(Void), "0"),
@@ -209,7 +209,7 @@ pub static COPIED_NULLS: [Row; 8] = [
 ];
 
 /// Elements are copied as structs.
-pub static ELEMENTS: [Row; 9] = [
+pub(crate) static ELEMENTS: [Row; 9] = [
     (
         "an element of one byte is a struct of one word",
         Copy(
@@ -288,7 +288,7 @@ pub static ELEMENTS: [Row; 9] = [
 ];
 
 /// What fits of a struct is taken over.
-pub static CONTENTS: [Row; 6] = [
+pub(crate) static CONTENTS: [Row; 6] = [
     ("a new struct", InitStruct(ONE_EACH), Ok(""), NEW_STRUCT),
     (
         "a smaller struct takes what fits",
@@ -328,7 +328,7 @@ pub static CONTENTS: [Row; 6] = [
 ];
 
 /// The same, also where it is refused.
-pub static MORE_CONTENTS: [Row; 10] = [
+pub(crate) static MORE_CONTENTS: [Row; 10] = [
     (
         "a word and a pointer, both filled",
         NewFilled(1),
@@ -398,7 +398,7 @@ pub static MORE_CONTENTS: [Row; 10] = [
 ];
 
 /// Lists become lists of structs.
-pub static BECOME_STRUCTS: [Change; 12] = [
+pub(crate) static BECOME_STRUCTS: [Change; 12] = [
     (
         "two elements of nothing become structs",
         "00 00 00 00 01 00 00 00 | 01 00 00 00 10 00 00 00",
@@ -495,7 +495,7 @@ pub static BECOME_STRUCTS: [Change; 12] = [
 ];
 
 /// The longest list becomes one of structs of size zero. The call goes through its elements.
-pub static MOST_BECOME_STRUCTS: [Row; 2] = [
+pub(crate) static MOST_BECOME_STRUCTS: [Row; 2] = [
     (
         "2^29 - 1 elements of nothing",
         Copy(Message, "00 00 00 00 01 00 00 00 | 01 00 00 00 f8 ff ff ff"),

@@ -9,7 +9,7 @@ use capnp_wire::size::StructSize;
 use std::alloc::Global;
 
 /// A data word and a pointer.
-pub const ONE_EACH: StructSize = StructSize {
+pub(crate) const ONE_EACH: StructSize = StructSize {
     data_words: 1,
     pointers: 1,
 };
@@ -24,7 +24,7 @@ fn digit_of(c: u8) -> Option<u8> {
 
 /// The bytes that a text spells: two hexadecimal digits are a byte, and a `0` alone is a word of zeros. Bars may stand
 /// between words.
-pub fn bytes_of(alloc: Global, text: &str) -> Result<Vec<u8>> {
+pub(crate) fn bytes_of(alloc: Global, text: &str) -> Result<Vec<u8>> {
     let mut bytes = Vec::new(alloc);
     let mut first = None;
     for c in text.as_bytes() {
@@ -47,7 +47,7 @@ pub fn bytes_of(alloc: Global, text: &str) -> Result<Vec<u8>> {
 }
 
 /// What a call answered, or the kind of its refusal.
-pub fn answer<T: Copy>(called: Result<T>) -> std::result::Result<T, ErrorKind> {
+pub(crate) fn answer<T: Copy>(called: Result<T>) -> std::result::Result<T, ErrorKind> {
     match called {
         Ok(value) => Ok(value),
         Err(error) => Err(error.kind),
@@ -55,25 +55,25 @@ pub fn answer<T: Copy>(called: Result<T>) -> std::result::Result<T, ErrorKind> {
 }
 
 /// Whether what was written is what a text spells.
-pub fn is_spelled(alloc: Global, written: &Vec<u8>, text: &str) -> Result<bool> {
+pub(crate) fn is_spelled(alloc: Global, written: &Vec<u8>, text: &str) -> Result<bool> {
     let want = bytes_of(alloc, text)?;
     Ok(written.as_slice() == want.as_slice())
 }
 
 /// The root of a message in a stream.
-pub fn root_of(alloc: Global, bytes: &[u8]) -> Result<PointerReader<'_>> {
+pub(crate) fn root_of(alloc: Global, bytes: &[u8]) -> Result<PointerReader<'_>> {
     Ok(Reader::new(alloc, bytes)?.get_root())
 }
 
 /// Whether a message is written as the bytes that a text spells.
-pub fn is_written_as(alloc: Global, message: &Builder, text: &str) -> Result<bool>
+pub(crate) fn is_written_as(alloc: Global, message: &Builder, text: &str) -> Result<bool>
     requires { IsMessage message.now }
 {
     is_spelled(alloc, &message.write_message()?, text)
 }
 
 /// Why a call was refused.
-pub fn refusal<T: Copy>(answer: Result<T>) -> Option<ErrorKind> {
+pub(crate) fn refusal<T: Copy>(answer: Result<T>) -> Option<ErrorKind> {
     match answer {
         Ok(_) => None,
         Err(error) => Some(error.kind),

@@ -89,7 +89,7 @@ fn init_text(alloc: Global, message: &mut Builder, count: u32, lent: Lent) -> Re
 }
 
 /// Writes into the bytes that are lent, and answers what stood there, or nothing where they are reversed.
-pub fn lend(alloc: Global, message: &mut Builder, lent: Lent) -> Result<Vec<u8>>
+pub(crate) fn lend(alloc: Global, message: &mut Builder, lent: Lent) -> Result<Vec<u8>>
     requires { IsMessage message.old }
     ensures { IsMessage message.new }
 {
@@ -102,7 +102,7 @@ pub fn lend(alloc: Global, message: &mut Builder, lent: Lent) -> Result<Vec<u8>>
 }
 
 /// A copy of the data at the root, as they are read without a change.
-pub fn read_data(alloc: Global, message: &mut Builder) -> Result<Vec<u8>>
+pub(crate) fn read_data(alloc: Global, message: &mut Builder) -> Result<Vec<u8>>
     requires { IsMessage message.old }
     ensures { IsMessage message.new }
 {
@@ -112,7 +112,7 @@ pub fn read_data(alloc: Global, message: &mut Builder) -> Result<Vec<u8>>
 }
 
 /// The same of the text.
-pub fn read_text(alloc: Global, message: &mut Builder) -> Result<Vec<u8>>
+pub(crate) fn read_text(alloc: Global, message: &mut Builder) -> Result<Vec<u8>>
     requires { IsMessage message.old }
     ensures { IsMessage message.new }
 {

@@ -1,7 +1,7 @@
 //! Messages, and their copies as they are written.
 
 /// The messages of a row: its name, the stream, and what is written of a copy of its root.
-pub type Row = (&'static str, &'static str, &'static str);
+pub(crate) type Row = (&'static str, &'static str, &'static str);
 
 /// A data word and a null.
 const WHOLE: &str =
@@ -53,7 +53,7 @@ const COPIED_BY_TOOL: &str =
      00 00 00 00 00 00 00 00 | 65 6e 64 00 00 00 00 00";
 
 /// Whole messages.
-pub static MESSAGES: [Row; 8] = [
+pub(crate) static MESSAGES: [Row; 8] = [
     (
         "a null",
         "00 00 00 00 01 00 00 00 | 0",
@@ -87,7 +87,7 @@ pub static MESSAGES: [Row; 8] = [
 ];
 
 /// More of them.
-pub static MORE_MESSAGES: [Row; 7] = [
+pub(crate) static MORE_MESSAGES: [Row; 7] = [
     ("structs without pointers", PLAIN_ELEMENTS, PLAIN_ELEMENTS),
     (
         "a target that is shared is copied twice",
