@@ -37,9 +37,9 @@ use std::process::Abort;
 /// The kind and the number of a value that is a number with a sign.
 fn signed_in(value: Value<'_>) -> Option<(&'static str, i64)> {
     match value {
-        Value::Int8(x) => Some(("Int8", i64::from(x))),
-        Value::Int16(x) => Some(("Int16", i64::from(x))),
-        Value::Int32(x) => Some(("Int32", i64::from(x))),
+        Value::Int8(x) => Some(("Int8", x as i64)),
+        Value::Int16(x) => Some(("Int16", x as i64)),
+        Value::Int32(x) => Some(("Int32", x as i64)),
         Value::Int64(x) => Some(("Int64", x)),
         _ => None,
     }
