@@ -12,7 +12,6 @@ use capnp_builders::text::{Builder, Reader};
 use capnp_builders::traits::FromPointerBuilder;
 use capnp_wire::error::Result;
 use std::alloc::Global;
-use std::str::Utf8Error;
 use std::test::Fail;
 
 /// What is written at a builder's position.
@@ -23,6 +22,34 @@ enum Push {
     Clear,
 }
 
+/// Whether the string is not empty and there is room for it; it is pushed then.
+fn push_string(builder: &mut Builder<'_>, string: &str) -> bool
+    requires there { IsText builder.old }
+    ensures same { (text_behind builder.new).ghost_name ≡ (text_behind builder.old).ghost_name }
+    ensures at { text_word builder.new ≡ text_word builder.old }
+    ensures there { IsText builder.new }
+{
+    if string.is_empty() || builder.room() < string.len() {
+        return false;
+    }
+    builder.push_str(string);
+    true
+}
+
+/// Whether the byte is in ASCII and there is room for it; it is pushed then.
+fn push_byte(builder: &mut Builder<'_>, byte: u8) -> bool
+    requires there { IsText builder.old }
+    ensures same { (text_behind builder.new).ghost_name ≡ (text_behind builder.old).ghost_name }
+    ensures at { text_word builder.new ≡ text_word builder.old }
+    ensures there { IsText builder.new }
+{
+    if builder.room() == 0 || byte >= 128 {
+        return false;
+    }
+    builder.push_ascii(byte);
+    true
+}
+
 /// Whether there is something to push, and room for it.
 fn write_at_position(builder: &mut Builder<'_>, push: Push) -> bool
     requires there { IsText builder.old }
@@ -31,21 +58,13 @@ fn write_at_position(builder: &mut Builder<'_>, push: Push) -> bool
     ensures there { IsText builder.new }
 {
     match push {
-        Push::String(string) => {
-            if string.is_empty() || builder.room() < string.len() {
-                return false;
-            }
-            builder.push_str(string);
+        Push::String(string) => push_string(builder, string),
+        Push::Ascii(byte) => push_byte(builder, byte),
+        Push::Clear => {
+            builder.clear();
+            true
         }
-        Push::Ascii(byte) => {
-            if builder.room() == 0 || byte >= 128 {
-                return false;
-            }
-            builder.push_ascii(byte);
-        }
-        Push::Clear => builder.clear(),
     }
-    true
 }
 
 /// What is pushed to a text of five bytes, whether to its reborrowed builder, the builder's room then, and the text. A
@@ -116,7 +135,8 @@ fn push_all(message: &mut Message) -> Result<(Option<&'static str>, bool)>
 #[test]
 fn pushes_write_at_the_position(rt: HostRuntime) -> std::result::Result<(), Fail> {
     let mut message = Message::new(rt.alloc())?;
-    assert_eq!(rt; push_all(&mut message)?, (None, true));
+    let pushed = push_all(&mut message)?;
+    assert!(rt; matches!(pushed, (None, true)), "{pushed:?}");
     Ok(())
 }
 
@@ -193,18 +213,11 @@ fn write_second(message: &mut Message, byte: u8) -> Result<()>
     Ok(())
 }
 
-fn str_or_valid(answer: std::result::Result<&str, Utf8Error>) -> std::result::Result<&str, usize> {
-    match answer {
-        Ok(string) => Ok(string),
-        Err(error) => Err(error.valid_up_to()),
-    }
-}
-
 fn has_str(message: &mut Message, want: &str) -> Result<bool>
     requires { IsMessage message.old }
 {
     let builder = Builder::get_from_pointer(message.root(), None)?;
-    Ok(str_or_valid(builder.to_str()) == Ok(want))
+    Ok(matches!(builder.to_str(), Ok(string) if *string == *want))
 }
 
 fn has_string(alloc: Global, message: &mut Message, want: &str) -> Result<bool>

@@ -4,7 +4,6 @@ use capnp_schema::set::SchemaSet;
 use capnp_schema_fixtures::kinds::{KINDS, KINDS_SET};
 use capnp_schema_fixtures::messages::message_named;
 use capnp_schema_fixtures::set_text::read_set;
-use capnp_schema_fixtures::words::named;
 use capnp_wire::error::Result;
 use std::alloc::Global;
 
@@ -29,226 +28,179 @@ const LINKED: &str = "struct 1 1, next Struct(0) @0, group group(1); group 1 1, 
 /// A set of a struct of an enum, whose default is past the enumerants.
 const PAST_ENUM: &str = "struct 1 0, color Enum(0) @0 =Enum(9); enum red blue";
 
-/// The structs, each with the text of its set and its number there.
-static STRUCTS: [(&str, (&str, u32)); 10] = [
-    ("mixed", ("built-in", 1)),
-    ("many", ("built-in", 2)),
-    ("lists", ("built-in", 7)),
-    ("node", ("built-in", 8)),
-    ("kinds", (KINDS_SET, KINDS)),
-    ("untyped", (UNTYPED, 0)),
-    ("shared", (SHARED, 0)),
-    ("each_list", (LISTS, 0)),
-    ("linked", (LINKED, 0)),
-    ("past_enum", (PAST_ENUM, 0)),
-];
+// The messages that no other crate reads; `messages::message_named` has the others.
 
-/// The messages that no other crate reads; `messages::message_named` has the others.
-static MESSAGES: [(&str, &[u8]); 22] = [
-    // a `Mixed` whose `a` is 5, with `x` active
-    (
-        "void",
-        &[
-            0, 0, 0, 0, 3, 0, 0, 0, 0, 0, 0, 0, 1, 0, 1, 0, 5, 0, 0, 0, 9, 0, 0, 0, 0, 0, 0, 0, 0,
-            0, 0, 0,
-        ],
-    ),
-    // the same with a discriminant that is no member's
-    (
-        "unknown",
-        &[
-            0, 0, 0, 0, 3, 0, 0, 0, 0, 0, 0, 0, 1, 0, 1, 0, 5, 0, 7, 0, 9, 0, 0, 0, 0, 0, 0, 0, 0,
-            0, 0, 0,
-        ],
-    ),
-    // a `Lists` whose `items` are two bits, which are not read as structs
-    (
-        "bits",
-        &[
-            0, 0, 0, 0, 6, 0, 0, 0, 0, 0, 0, 0, 0, 0, 4, 0, 0, 0, 0, 0, 0, 0, 0, 0, 0, 0, 0, 0, 0,
-            0, 0, 0, 0, 0, 0, 0, 0, 0, 0, 0, 1, 0, 0, 0, 0x11, 0, 0, 0, 1, 0, 2, 0, 0, 0, 0, 0,
-        ],
-    ),
-    // a `Lists` whose `bytes` are 1, 2 and 3
-    (
-        "numbers",
-        &[
-            0, 0, 0, 0, 6, 0, 0, 0, 0, 0, 0, 0, 0, 0, 4, 0, 13, 0, 0, 0, 26, 0, 0, 0, 0, 0, 0, 0,
-            0, 0, 0, 0, 0, 0, 0, 0, 0, 0, 0, 0, 0, 0, 0, 0, 0, 0, 0, 0, 1, 2, 3, 0, 0, 0, 0, 0,
-        ],
-    ),
-    // a `Lists` whose `raw` is a capability, and whose `t` has no zero at its end
-    (
-        "capability_before_text",
-        &[
-            0, 0, 0, 0, 6, 0, 0, 0, 0, 0, 0, 0, 0, 0, 4, 0, 0, 0, 0, 0, 0, 0, 0, 0, 3, 0, 0, 0, 0,
-            0, 0, 0, 5, 0, 0, 0, 18, 0, 0, 0, 0, 0, 0, 0, 0, 0, 0, 0, 97, 98, 0, 0, 0, 0, 0, 0,
-        ],
-    ),
-    // the same with a null in place of the capability
-    (
-        "null_before_text",
-        &[
-            0, 0, 0, 0, 6, 0, 0, 0, 0, 0, 0, 0, 0, 0, 4, 0, 0, 0, 0, 0, 0, 0, 0, 0, 0, 0, 0, 0, 0,
-            0, 0, 0, 5, 0, 0, 0, 18, 0, 0, 0, 0, 0, 0, 0, 0, 0, 0, 0, 97, 98, 0, 0, 0, 0, 0, 0,
-        ],
-    ),
-    // a `Lists` whose `items` are 2^29 - 1 structs of size zero
-    (
-        "most_items",
-        &[
-            0, 0, 0, 0, 7, 0, 0, 0, 0, 0, 0, 0, 0, 0, 4, 0, 0, 0, 0, 0, 0, 0, 0, 0, 0, 0, 0, 0, 0,
-            0, 0, 0, 0, 0, 0, 0, 0, 0, 0, 0, 1, 0, 0, 0, 15, 0, 0, 0, 0xfc, 0xff, 0xff, 0x7f, 0, 0,
-            0, 0, 5, 0, 0, 0, 0, 0, 0, 0,
-        ],
-    ),
-    // a struct of six null pointers
-    (
-        "nulls",
-        &[
-            0, 0, 0, 0, 7, 0, 0, 0, 0, 0, 0, 0, 0, 0, 6, 0, 0, 0, 0, 0, 0, 0, 0, 0, 0, 0, 0, 0, 0,
-            0, 0, 0, 0, 0, 0, 0, 0, 0, 0, 0, 0, 0, 0, 0, 0, 0, 0, 0, 0, 0, 0, 0, 0, 0, 0, 0, 0, 0,
-            0, 0, 0, 0, 0, 0,
-        ],
-    ),
-    // the struct of every kind with only its text, which has no zero byte at its end
-    (
-        "unended",
-        &[
-            0, 0, 0, 0, 3, 0, 0, 0, 0, 0, 0, 0, 0, 0, 1, 0, 1, 0, 0, 0, 10, 0, 0, 0, 97, 0, 0, 0,
-            0, 0, 0, 0,
-        ],
-    ),
-    // a struct whose number is 5 and whose pointer is this, with `ab` behind it: a far pointer that leads nowhere
-    (
-        "far",
-        &[
-            0, 0, 0, 0, 4, 0, 0, 0, 0, 0, 0, 0, 1, 0, 1, 0, 5, 0, 0, 0, 0, 0, 0, 0, 2, 0, 0, 0, 9,
-            0, 0, 0, 97, 98, 0, 0, 0, 0, 0, 0,
-        ],
-    ),
-    // the same with a capability
-    (
-        "capability",
-        &[
-            0, 0, 0, 0, 4, 0, 0, 0, 0, 0, 0, 0, 1, 0, 1, 0, 5, 0, 0, 0, 0, 0, 0, 0, 3, 0, 0, 0, 0,
-            0, 0, 0, 97, 98, 0, 0, 0, 0, 0, 0,
-        ],
-    ),
-    // the same with a struct of size zero
-    (
-        "sizeless",
-        &[
-            0, 0, 0, 0, 4, 0, 0, 0, 0, 0, 0, 0, 1, 0, 1, 0, 5, 0, 0, 0, 0, 0, 0, 0, 252, 255, 255,
-            255, 0, 0, 0, 0, 97, 98, 0, 0, 0, 0, 0, 0,
-        ],
-    ),
-    // the same with a list of two numbers of two bytes
-    (
-        "pairs",
-        &[
-            0, 0, 0, 0, 4, 0, 0, 0, 0, 0, 0, 0, 1, 0, 1, 0, 5, 0, 0, 0, 0, 0, 0, 0, 1, 0, 0, 0, 19,
-            0, 0, 0, 97, 98, 0, 0, 0, 0, 0, 0,
-        ],
-    ),
-    // the same with a list of two bytes
-    (
-        "letters",
-        &[
-            0, 0, 0, 0, 4, 0, 0, 0, 0, 0, 0, 0, 1, 0, 1, 0, 5, 0, 0, 0, 0, 0, 0, 0, 1, 0, 0, 0, 18,
-            0, 0, 0, 97, 98, 0, 0, 0, 0, 0, 0,
-        ],
-    ),
-    // such a struct whose pointer is a list of two voids
-    (
-        "void_list",
-        &[
-            0, 0, 0, 0, 8, 0, 0, 0, 0, 0, 0, 0, 1, 0, 1, 0, 5, 0, 0, 0, 0, 0, 0, 0, 1, 0, 0, 0, 16,
-            0, 0, 0, 8, 0, 0, 0, 1, 0, 1, 0, 0, 0, 0, 0, 0, 0, 0, 0, 0, 0, 0, 0, 0, 0, 0, 0, 0, 0,
-            0, 0, 0, 0, 0, 0, 0, 0, 0, 0, 0, 0, 0, 0,
-        ],
-    ),
-    // such a struct whose pointer is a list of two bits
-    (
-        "bit_list",
-        &[
-            0, 0, 0, 0, 8, 0, 0, 0, 0, 0, 0, 0, 1, 0, 1, 0, 5, 0, 0, 0, 0, 0, 0, 0, 1, 0, 0, 0, 17,
-            0, 0, 0, 8, 0, 0, 0, 1, 0, 1, 0, 0, 0, 0, 0, 0, 0, 0, 0, 0, 0, 0, 0, 0, 0, 0, 0, 0, 0,
-            0, 0, 0, 0, 0, 0, 0, 0, 0, 0, 0, 0, 0, 0,
-        ],
-    ),
-    // such a struct whose pointer is a list of two bytes
-    (
-        "one_list",
-        &[
-            0, 0, 0, 0, 8, 0, 0, 0, 0, 0, 0, 0, 1, 0, 1, 0, 5, 0, 0, 0, 0, 0, 0, 0, 1, 0, 0, 0, 18,
-            0, 0, 0, 8, 0, 0, 0, 1, 0, 1, 0, 0, 0, 0, 0, 0, 0, 0, 0, 0, 0, 0, 0, 0, 0, 0, 0, 0, 0,
-            0, 0, 0, 0, 0, 0, 0, 0, 0, 0, 0, 0, 0, 0,
-        ],
-    ),
-    // such a struct whose pointer is a list of two numbers of two bytes
-    (
-        "two_list",
-        &[
-            0, 0, 0, 0, 8, 0, 0, 0, 0, 0, 0, 0, 1, 0, 1, 0, 5, 0, 0, 0, 0, 0, 0, 0, 1, 0, 0, 0, 19,
-            0, 0, 0, 8, 0, 0, 0, 1, 0, 1, 0, 0, 0, 0, 0, 0, 0, 0, 0, 0, 0, 0, 0, 0, 0, 0, 0, 0, 0,
-            0, 0, 0, 0, 0, 0, 0, 0, 0, 0, 0, 0, 0, 0,
-        ],
-    ),
-    // such a struct whose pointer is a list of two numbers of four bytes
-    (
-        "four_list",
-        &[
-            0, 0, 0, 0, 8, 0, 0, 0, 0, 0, 0, 0, 1, 0, 1, 0, 5, 0, 0, 0, 0, 0, 0, 0, 1, 0, 0, 0, 20,
-            0, 0, 0, 8, 0, 0, 0, 1, 0, 1, 0, 0, 0, 0, 0, 0, 0, 0, 0, 0, 0, 0, 0, 0, 0, 0, 0, 0, 0,
-            0, 0, 0, 0, 0, 0, 0, 0, 0, 0, 0, 0, 0, 0,
-        ],
-    ),
-    // such a struct whose pointer is a list of two numbers of eight bytes
-    (
-        "eight_list",
-        &[
-            0, 0, 0, 0, 8, 0, 0, 0, 0, 0, 0, 0, 1, 0, 1, 0, 5, 0, 0, 0, 0, 0, 0, 0, 1, 0, 0, 0, 21,
-            0, 0, 0, 8, 0, 0, 0, 1, 0, 1, 0, 0, 0, 0, 0, 0, 0, 0, 0, 0, 0, 0, 0, 0, 0, 0, 0, 0, 0,
-            0, 0, 0, 0, 0, 0, 0, 0, 0, 0, 0, 0, 0, 0,
-        ],
-    ),
-    // such a struct whose pointer is a list of two pointers
-    (
-        "pointer_list",
-        &[
-            0, 0, 0, 0, 8, 0, 0, 0, 0, 0, 0, 0, 1, 0, 1, 0, 5, 0, 0, 0, 0, 0, 0, 0, 1, 0, 0, 0, 22,
-            0, 0, 0, 0, 0, 0, 0, 0, 0, 0, 0, 0, 0, 0, 0, 0, 0, 0, 0, 0, 0, 0, 0, 0, 0, 0, 0, 0, 0,
-            0, 0, 0, 0, 0, 0, 0, 0, 0, 0, 0, 0, 0, 0,
-        ],
-    ),
-    // such a struct whose pointer is a list of two structs of a word and a pointer
-    (
-        "struct_list",
-        &[
-            0, 0, 0, 0, 8, 0, 0, 0, 0, 0, 0, 0, 1, 0, 1, 0, 5, 0, 0, 0, 0, 0, 0, 0, 1, 0, 0, 0, 39,
-            0, 0, 0, 8, 0, 0, 0, 1, 0, 1, 0, 0, 0, 0, 0, 0, 0, 0, 0, 0, 0, 0, 0, 0, 0, 0, 0, 0, 0,
-            0, 0, 0, 0, 0, 0, 0, 0, 0, 0, 0, 0, 0, 0,
-        ],
-    ),
-];
+/// A `Mixed` whose `a` is 5, with `x` active.
+const VOID: &[u8] = b"\
+    \0\0\0\0\x03\0\0\0\0\0\0\0\x01\0\x01\0\x05\0\0\0\x09\0\0\0\0\0\0\0\0\0\0\0";
 
-/// The text of a struct's set, and its number there.
-fn entry_of(name: &str) -> (&'static str, u32) {
-    named(&STRUCTS, name).unwrap_or(("", 0))
+/// The same with a discriminant that is no member's.
+const UNKNOWN: &[u8] = b"\
+    \0\0\0\0\x03\0\0\0\0\0\0\0\x01\0\x01\0\x05\0\x07\0\x09\0\0\0\0\0\0\0\0\0\0\0";
+
+/// A `Lists` whose `items` are two bits, which are not read as structs.
+const BITS: &[u8] = b"\
+    \0\0\0\0\x06\0\0\0\0\0\0\0\0\0\x04\0\0\0\0\0\0\0\0\0\0\0\0\0\0\0\0\0\0\0\0\0\0\0\0\0\
+    \x01\0\0\0\x11\0\0\0\x01\0\x02\0\0\0\0\0";
+
+/// A `Lists` whose `bytes` are 1, 2 and 3.
+const NUMBERS: &[u8] = b"\
+    \0\0\0\0\x06\0\0\0\0\0\0\0\0\0\x04\0\x0d\0\0\0\x1a\0\0\0\0\0\0\0\0\0\0\0\
+    \0\0\0\0\0\0\0\0\0\0\0\0\0\0\0\0\x01\x02\x03\0\0\0\0\0";
+
+/// A `Lists` whose `raw` is a capability, and whose `t` has no zero at its end.
+const CAPABILITY_BEFORE_TEXT: &[u8] = b"\
+    \0\0\0\0\x06\0\0\0\0\0\0\0\0\0\x04\0\0\0\0\0\0\0\0\0\x03\0\0\0\0\0\0\0\
+    \x05\0\0\0\x12\0\0\0\0\0\0\0\0\0\0\0ab\0\0\0\0\0\0";
+
+/// The same with a null in place of the capability.
+const NULL_BEFORE_TEXT: &[u8] = b"\
+    \0\0\0\0\x06\0\0\0\0\0\0\0\0\0\x04\0\0\0\0\0\0\0\0\0\0\0\0\0\0\0\0\0\
+    \x05\0\0\0\x12\0\0\0\0\0\0\0\0\0\0\0ab\0\0\0\0\0\0";
+
+/// A `Lists` whose `items` are 2^29 - 1 structs of size zero.
+const MOST_ITEMS: &[u8] = b"\
+    \0\0\0\0\x07\0\0\0\0\0\0\0\0\0\x04\0\0\0\0\0\0\0\0\0\0\0\0\0\0\0\0\0\0\0\0\0\0\0\0\0\
+    \x01\0\0\0\x0f\0\0\0\xfc\xff\xff\x7f\0\0\0\0\x05\0\0\0\0\0\0\0";
+
+/// A struct of six null pointers.
+const NULLS: &[u8] = b"\
+    \0\0\0\0\x07\0\0\0\0\0\0\0\0\0\x06\0\0\0\0\0\0\0\0\0\0\0\0\0\0\0\0\0\0\0\0\0\0\0\0\0\
+    \0\0\0\0\0\0\0\0\0\0\0\0\0\0\0\0\0\0\0\0\0\0\0\0";
+
+/// The struct of every kind with only its text, which has no zero byte at its end.
+const UNENDED: &[u8] = b"\
+    \0\0\0\0\x03\0\0\0\0\0\0\0\0\0\x01\0\x01\0\0\0\x0a\0\0\0a\0\0\0\0\0\0\0";
+
+/// A struct whose number is 5 and whose pointer is this, with `ab` behind it: a far pointer that leads nowhere.
+const FAR: &[u8] = b"\
+    \0\0\0\0\x04\0\0\0\0\0\0\0\x01\0\x01\0\x05\0\0\0\0\0\0\0\x02\0\0\0\x09\0\0\0\
+    ab\0\0\0\0\0\0";
+
+/// The same with a capability.
+const CAPABILITY: &[u8] = b"\
+    \0\0\0\0\x04\0\0\0\0\0\0\0\x01\0\x01\0\x05\0\0\0\0\0\0\0\x03\0\0\0\0\0\0\0\
+    ab\0\0\0\0\0\0";
+
+/// The same with a struct of size zero.
+const SIZELESS: &[u8] = b"\
+    \0\0\0\0\x04\0\0\0\0\0\0\0\x01\0\x01\0\x05\0\0\0\0\0\0\0\xfc\xff\xff\xff\0\0\0\0\
+    ab\0\0\0\0\0\0";
+
+/// The same with a list of two numbers of two bytes.
+const PAIRS: &[u8] = b"\
+    \0\0\0\0\x04\0\0\0\0\0\0\0\x01\0\x01\0\x05\0\0\0\0\0\0\0\x01\0\0\0\x13\0\0\0\
+    ab\0\0\0\0\0\0";
+
+/// The same with a list of two bytes.
+const LETTERS: &[u8] = b"\
+    \0\0\0\0\x04\0\0\0\0\0\0\0\x01\0\x01\0\x05\0\0\0\0\0\0\0\x01\0\0\0\x12\0\0\0\
+    ab\0\0\0\0\0\0";
+
+/// Such a struct whose pointer is a list of two voids.
+const VOID_LIST: &[u8] = b"\
+    \0\0\0\0\x08\0\0\0\0\0\0\0\x01\0\x01\0\x05\0\0\0\0\0\0\0\x01\0\0\0\x10\0\0\0\
+    \x08\0\0\0\x01\0\x01\0\0\0\0\0\0\0\0\0\0\0\0\0\0\0\0\0\0\0\0\0\0\0\0\0\
+    \0\0\0\0\0\0\0\0";
+
+/// Such a struct whose pointer is a list of two bits.
+const BIT_LIST: &[u8] = b"\
+    \0\0\0\0\x08\0\0\0\0\0\0\0\x01\0\x01\0\x05\0\0\0\0\0\0\0\x01\0\0\0\x11\0\0\0\
+    \x08\0\0\0\x01\0\x01\0\0\0\0\0\0\0\0\0\0\0\0\0\0\0\0\0\0\0\0\0\0\0\0\0\
+    \0\0\0\0\0\0\0\0";
+
+/// Such a struct whose pointer is a list of two bytes.
+const ONE_LIST: &[u8] = b"\
+    \0\0\0\0\x08\0\0\0\0\0\0\0\x01\0\x01\0\x05\0\0\0\0\0\0\0\x01\0\0\0\x12\0\0\0\
+    \x08\0\0\0\x01\0\x01\0\0\0\0\0\0\0\0\0\0\0\0\0\0\0\0\0\0\0\0\0\0\0\0\0\
+    \0\0\0\0\0\0\0\0";
+
+/// Such a struct whose pointer is a list of two numbers of two bytes.
+const TWO_LIST: &[u8] = b"\
+    \0\0\0\0\x08\0\0\0\0\0\0\0\x01\0\x01\0\x05\0\0\0\0\0\0\0\x01\0\0\0\x13\0\0\0\
+    \x08\0\0\0\x01\0\x01\0\0\0\0\0\0\0\0\0\0\0\0\0\0\0\0\0\0\0\0\0\0\0\0\0\
+    \0\0\0\0\0\0\0\0";
+
+/// Such a struct whose pointer is a list of two numbers of four bytes.
+const FOUR_LIST: &[u8] = b"\
+    \0\0\0\0\x08\0\0\0\0\0\0\0\x01\0\x01\0\x05\0\0\0\0\0\0\0\x01\0\0\0\x14\0\0\0\
+    \x08\0\0\0\x01\0\x01\0\0\0\0\0\0\0\0\0\0\0\0\0\0\0\0\0\0\0\0\0\0\0\0\0\
+    \0\0\0\0\0\0\0\0";
+
+/// Such a struct whose pointer is a list of two numbers of eight bytes.
+const EIGHT_LIST: &[u8] = b"\
+    \0\0\0\0\x08\0\0\0\0\0\0\0\x01\0\x01\0\x05\0\0\0\0\0\0\0\x01\0\0\0\x15\0\0\0\
+    \x08\0\0\0\x01\0\x01\0\0\0\0\0\0\0\0\0\0\0\0\0\0\0\0\0\0\0\0\0\0\0\0\0\
+    \0\0\0\0\0\0\0\0";
+
+/// Such a struct whose pointer is a list of two pointers.
+const POINTER_LIST: &[u8] = b"\
+    \0\0\0\0\x08\0\0\0\0\0\0\0\x01\0\x01\0\x05\0\0\0\0\0\0\0\x01\0\0\0\x16\0\0\0\
+    \0\0\0\0\0\0\0\0\0\0\0\0\0\0\0\0\0\0\0\0\0\0\0\0\0\0\0\0\0\0\0\0\0\0\0\0\0\0\0\0";
+
+/// Such a struct whose pointer is a list of two structs of a word and a pointer.
+const STRUCT_LIST: &[u8] = b"\
+    \0\0\0\0\x08\0\0\0\0\0\0\0\x01\0\x01\0\x05\0\0\0\0\0\0\0\x01\0\0\0\x27\0\0\0\
+    \x08\0\0\0\x01\0\x01\0\0\0\0\0\0\0\0\0\0\0\0\0\0\0\0\0\0\0\0\0\0\0\0\0\
+    \0\0\0\0\0\0\0\0";
+
+/// The text of the set that has a struct.
+fn text_of(name: &str) -> &'static str {
+    match name {
+        "mixed" | "many" | "shapes" | "lists" | "node" => "built-in",
+        "kinds" => KINDS_SET,
+        "untyped" => UNTYPED,
+        "shared" => SHARED,
+        "each_list" => LISTS,
+        "linked" => LINKED,
+        "past_enum" => PAST_ENUM,
+        _ => "",
+    }
 }
 
 /// The number of a struct in its set.
 pub(crate) fn brand_of(name: &str) -> u32 {
-    entry_of(name).1
+    match name {
+        "mixed" => 1,
+        "many" => 2,
+        "shapes" => 3,
+        "lists" => 7,
+        "node" => 8,
+        "kinds" => KINDS,
+        _ => 0,
+    }
 }
 
 /// The set that has a struct.
 pub(crate) fn set_of(alloc: Global, name: &str) -> Result<SchemaSet> {
-    read_set(alloc, entry_of(name).0)
+    read_set(alloc, text_of(name))
 }
 
 /// The message of a name.
 pub(crate) fn message_of(name: &str) -> &'static [u8] {
-    message_named(&MESSAGES, name)
+    match name {
+        "void" => VOID,
+        "unknown" => UNKNOWN,
+        "bits" => BITS,
+        "numbers" => NUMBERS,
+        "capability_before_text" => CAPABILITY_BEFORE_TEXT,
+        "null_before_text" => NULL_BEFORE_TEXT,
+        "most_items" => MOST_ITEMS,
+        "nulls" => NULLS,
+        "unended" => UNENDED,
+        "far" => FAR,
+        "capability" => CAPABILITY,
+        "sizeless" => SIZELESS,
+        "pairs" => PAIRS,
+        "letters" => LETTERS,
+        "void_list" => VOID_LIST,
+        "bit_list" => BIT_LIST,
+        "one_list" => ONE_LIST,
+        "two_list" => TWO_LIST,
+        "four_list" => FOUR_LIST,
+        "eight_list" => EIGHT_LIST,
+        "pointer_list" => POINTER_LIST,
+        "struct_list" => STRUCT_LIST,
+        _ => message_named(&[], name),
+    }
 }

@@ -23,10 +23,10 @@
 //! of an untyped pointer `Null` or `Pointer`. A refusal has its number (`ErrorKind::number`), `Refused(20)`.
 
 use crate::messages::{brand_of, message_of, set_of};
-use capnp_dynamic::dynamic_struct;
 use capnp_dynamic::dynamic_value::{AnnotationValue, Enum, Reader as Value};
 use capnp_dynamic::printer::print;
-use capnp_schema::schema::StructSchema;
+use capnp_dynamic::{dynamic_list, dynamic_struct};
+use capnp_schema::schema::{AnnotationList, StructSchema};
 use capnp_schema::set::SchemaSet;
 use capnp_wire::error::{Error, ErrorKind, Result};
 use capnp_wire::message;
@@ -34,29 +34,55 @@ use std::alloc::Global;
 use std::fmt;
 use std::process::Abort;
 
+/// The kind and the number of a value that is a number with a sign.
+fn signed_in(value: Value<'_>) -> Option<(&'static str, i64)> {
+    match value {
+        Value::Int8(x) => Some(("Int8", x as i64)),
+        Value::Int16(x) => Some(("Int16", x as i64)),
+        Value::Int32(x) => Some(("Int32", x as i64)),
+        Value::Int64(x) => Some(("Int64", x)),
+        _ => None,
+    }
+}
+
+/// The kind and the number of a value that is a number without a sign, the count of a list among them.
+fn unsigned_in(value: Value<'_>) -> Option<(&'static str, u64)> {
+    match value {
+        Value::UInt8(x) => Some(("UInt8", u64::from(x))),
+        Value::UInt16(x) => Some(("UInt16", u64::from(x))),
+        Value::UInt32(x) => Some(("UInt32", u64::from(x))),
+        Value::UInt64(x) => Some(("UInt64", x)),
+        Value::Enum(x) => Some(("Enum", u64::from(x.get_value()))),
+        Value::List(x) => Some(("List", u64::from(x.len()))),
+        _ => None,
+    }
+}
+
+/// A value as answers have it, of one that is no number.
+fn write_other<W: fmt::Write>(value: Value<'_>, f: &mut fmt::Formatter<W>) -> fmt::Result {
+    match value {
+        Value::Void => f.write_str("Void"),
+        Value::Bool(x) => write!(f, "Bool({x})"),
+        Value::Text(x) => write!(f, "Text({})", str::from_utf8(x.as_bytes()).unwrap_or("?")),
+        Value::Data(x) => write!(f, "Data({x:?})"),
+        Value::Struct(_) => f.write_str("Struct"),
+        Value::AnyPointer(x) => f.write_str(if x.is_null() { "Null" } else { "Pointer" }),
+        _ => f.write_str("no kind"),
+    }
+}
+
 /// A value as answers have it.
 #[derive(Clone, Copy)]
 struct Shown<'a>(Value<'a>);
 
 impl fmt::Display for Shown<'_> {
     fn fmt<W: fmt::Write>(&self, f: &mut fmt::Formatter<W>) -> fmt::Result {
-        match self.0 {
-            Value::Void => f.write_str("Void"),
-            Value::Bool(x) => write!(f, "Bool({x})"),
-            Value::Int8(x) => write!(f, "Int8({x})"),
-            Value::Int16(x) => write!(f, "Int16({x})"),
-            Value::Int32(x) => write!(f, "Int32({x})"),
-            Value::Int64(x) => write!(f, "Int64({x})"),
-            Value::UInt8(x) => write!(f, "UInt8({x})"),
-            Value::UInt16(x) => write!(f, "UInt16({x})"),
-            Value::UInt32(x) => write!(f, "UInt32({x})"),
-            Value::UInt64(x) => write!(f, "UInt64({x})"),
-            Value::Enum(x) => write!(f, "Enum({})", x.get_value()),
-            Value::Text(x) => write!(f, "Text({})", str::from_utf8(x.as_bytes()).unwrap_or("?")),
-            Value::Data(x) => write!(f, "Data({x:?})"),
-            Value::Struct(_) => f.write_str("Struct"),
-            Value::List(x) => write!(f, "List({})", x.len()),
-            Value::AnyPointer(x) => f.write_str(if x.is_null() { "Null" } else { "Pointer" }),
+        if let Some((kind, number)) = signed_in(self.0) {
+            return write!(f, "{kind}({number})");
+        }
+        match unsigned_in(self.0) {
+            Some((kind, number)) => write!(f, "{kind}({number})"),
+            None => write_other(self.0, f),
         }
     }
 }
@@ -70,6 +96,7 @@ enum Answer<'a> {
     Nothing,
     Size(u64, u32),
     Last(usize, Value<'a>, usize),
+    Name(&'a str),
     Text(String),
     RefusedPrint(u32, String),
     NoQuestion,
@@ -84,6 +111,7 @@ impl fmt::Display for Answer<'_> {
             Answer::Nothing => f.write_str("none"),
             Answer::Size(words, capabilities) => write!(f, "{words} {capabilities}"),
             Answer::Last(before, last, after) => write!(f, "{before} {} {after}", Shown(*last)),
+            Answer::Name(name) => f.write_str(name),
             Answer::Text(text) => f.write_str(text.as_str()),
             Answer::RefusedPrint(number, text) => write!(f, "Refused({number}) {}", text.as_str()),
             Answer::NoQuestion => f.write_str("no question"),
@@ -155,10 +183,7 @@ fn size<'a>(value: Value<'a>) -> Result<Answer<'a>> {
 }
 
 /// The last item of an iterator, and how many are to come before and after it is taken.
-fn last<'a>(value: Value<'a>) -> Result<Answer<'a>> {
-    let Value::List(list) = value else {
-        return Ok(Answer::NoQuestion);
-    };
+fn last<'a>(list: dynamic_list::Reader<'a>) -> Result<Answer<'a>> {
     let mut items = list.iter();
     let before = items.len();
     match items.next_back() {
@@ -167,43 +192,63 @@ fn last<'a>(value: Value<'a>) -> Result<Answer<'a>> {
     }
 }
 
-fn printed<'a>(alloc: Global, value: Value<'_>, is_indented: bool) -> Result<Answer<'a>> {
-    let mut out = String::from_str(alloc, ":")?;
-    match print(value, &mut out, is_indented) {
-        Ok(()) => Ok(Answer::Text(out)),
-        Err(error) => Ok(Answer::RefusedPrint(error.kind.number(), out)),
+/// The number of the refusal of a print; none where the value is printed.
+fn print_refusal(value: Value<'_>, out: &mut String, is_indented: bool) -> Option<u32> {
+    match print(value, out, is_indented) {
+        Ok(()) => None,
+        Err(error) => Some(error.kind.number()),
     }
 }
 
-fn debug<'a>(alloc: Global, value: Value<'_>) -> Result<Answer<'a>> {
-    Ok(Answer::Text(match value {
-        Value::Struct(reader) => format!(in alloc; "{reader:?}")?,
-        Value::List(list) => format!(in alloc; "{list:?}")?,
-        other => format!(in alloc; "{other:?}")?,
-    }))
+fn printed<'a>(alloc: Global, value: Value<'_>, is_indented: bool) -> Result<Answer<'a>> {
+    let mut out = String::from_str(alloc, ":")?;
+    Ok(match print_refusal(value, &mut out, is_indented) {
+        None => Answer::Text(out),
+        Some(number) => Answer::RefusedPrint(number, out),
+    })
 }
 
-fn debug_lines<'a>(alloc: Global, value: Value<'_>) -> Result<Answer<'a>> {
-    Ok(Answer::Text(match value {
-        Value::Struct(reader) => format!(in alloc; "{reader:#?}")?,
-        Value::List(list) => format!(in alloc; "{list:#?}")?,
-        other => format!(in alloc; "{other:#?}")?,
-    }))
+fn debug_text(alloc: Global, shown: &impl fmt::Debug) -> Result<String> {
+    Ok(format!(in alloc; "{shown:?}")?)
 }
 
-fn value_lines<'a>(alloc: Global, value: Value<'_>) -> Result<Answer<'a>> {
-    Ok(Answer::Text(format!(in alloc; "{value:#?}")?))
+fn debug_lines_text(alloc: Global, shown: &impl fmt::Debug) -> Result<String> {
+    Ok(format!(in alloc; "{shown:#?}")?)
+}
+
+fn debug(alloc: Global, value: Value<'_>) -> Result<String> {
+    match value {
+        Value::Struct(reader) => debug_text(alloc, &reader),
+        Value::List(list) => debug_text(alloc, &list),
+        other => debug_text(alloc, &other),
+    }
+}
+
+fn debug_lines(alloc: Global, value: Value<'_>) -> Result<String> {
+    match value {
+        Value::Struct(reader) => debug_lines_text(alloc, &reader),
+        Value::List(list) => debug_lines_text(alloc, &list),
+        other => debug_lines_text(alloc, &other),
+    }
+}
+
+fn annotations_of_field<'a>(schema: StructSchema<'a>, name: &str) -> Result<AnnotationList<'a>> {
+    schema.get_field_by_name(name)?.get_annotations()
+}
+
+/// The value of the annotation of an id; none where there is none.
+fn value_of<'a>(annotations: AnnotationList<'a>, id: &str) -> Result<Option<Value<'a>>> {
+    match annotations.find(u64::from(number(id))) {
+        Some(annotation) => Ok(Some(annotation.get_value()?)),
+        None => Ok(None),
+    }
 }
 
 /// The value of an annotation of a struct, or of a field where it is named before the id; none where there is none.
 fn note<'a>(schema: StructSchema<'a>, rest: &str) -> Result<Option<Value<'a>>> {
-    let (annotations, id) = match rest.split_once(' ') {
-        Some((name, id)) => (schema.get_field_by_name(name)?.get_annotations()?, id),
-        None => (schema.get_annotations()?, rest),
-    };
-    match annotations.find(u64::from(number(id))) {
-        Some(annotation) => Ok(Some(annotation.get_value()?)),
-        None => Ok(None),
+    match rest.split_once(' ') {
+        Some((name, id)) => value_of(annotations_of_field(schema, name)?, id),
+        None => value_of(schema.get_annotations()?, rest),
     }
 }
 
@@ -221,14 +266,11 @@ fn printed_note<'a>(alloc: Global, schema: StructSchema<'a>, rest: &str) -> Resu
     }
 }
 
-fn enumerant<'a>(alloc: Global, of: Enum<'a>) -> Result<Answer<'a>> {
-    match of.get_enumerant()? {
-        Some(enumerant) => {
-            let name = enumerant.get_proto().name.as_str();
-            Ok(Answer::Text(String::from_str(alloc, name)?))
-        }
-        None => Ok(Answer::Nothing),
-    }
+fn enumerant<'a>(of: Enum<'a>) -> Result<Answer<'a>> {
+    Ok(match of.get_enumerant()? {
+        Some(enumerant) => Answer::Name(enumerant.get_proto().name.as_str()),
+        None => Answer::Nothing,
+    })
 }
 
 /// What is answered about a value.
@@ -238,12 +280,12 @@ fn about<'a>(alloc: Global, value: Value<'a>, word: &str) -> Result<Answer<'a>> 
         ("which", Value::Struct(reader)) => which(reader),
         ("size", value) => size(value),
         ("length", Value::List(list)) => Ok(Answer::Number(u64::from(list.len()))),
-        ("last", value) => last(value),
+        ("last", Value::List(list)) => last(list),
         ("print", value) => printed(alloc, value, false),
         ("lines", value) => printed(alloc, value, true),
-        ("debug", value) => debug(alloc, value),
-        ("debug_lines", value) => debug_lines(alloc, value),
-        ("value_lines", value) => value_lines(alloc, value),
+        ("debug", value) => Ok(Answer::Text(debug(alloc, value)?)),
+        ("debug_lines", value) => Ok(Answer::Text(debug_lines(alloc, value)?)),
+        ("value_lines", value) => Ok(Answer::Text(debug_lines_text(alloc, &value)?)),
         _ => Ok(Answer::NoQuestion),
     }
 }
@@ -262,7 +304,7 @@ fn answer_of<'a>(
         "note" => seen_note(root.get_schema(), rest),
         "print_note" => printed_note(alloc, root.get_schema(), rest),
         "enum" => Ok(Answer::Value(Value::from(of_number))),
-        "enumerant" => enumerant(alloc, of_number),
+        "enumerant" => enumerant(of_number),
         _ => about(alloc, follow(Value::Struct(root), rest)?, word),
     }
 }
