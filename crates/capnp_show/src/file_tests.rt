@@ -1,10 +1,9 @@
 //! What the program prints and answers where its set comes as a file, over a file in memory and over the system's
 //! files.
 
+use crate::messages::row_of;
 use crate::set_files::{FLAT, FLAT_LINE, META, META_LINE, NEST, REFUSED_SETS, TWICE};
-use crate::tests::{
-    EMPTY_ROOT, answered, bytes_of, each_call_fails, line_comes, rows_come, run_on, words_of,
-};
+use crate::tests::{Way, answered, bytes_of, line_comes, rows_hold, run_on, wanted_line, words_of};
 use capnp_show_engine::command::command;
 use capnp_wire::memory::{MemorySink, MemorySource};
 use std::alloc::Global;
@@ -12,14 +11,11 @@ use std::process::Abort;
 use std::rt::Files;
 use std::test::Fail;
 
-/// A message of `Flat`.
-const FLAT_ROW: &str = "\
+/// Messages of `Flat`.
+const FLATS: &str = "\
 --set,set,Flat: 0000000002000000 0000000001000000 0500000000000000
 (a = 5)
 
-";
-
-const INDENTED: &str = "\
 --set,set,Flat,--indent: 0000000002000000 0000000001000000 0500000000000000
 (
   a = 5
@@ -29,8 +25,7 @@ const INDENTED: &str = "\
 
 #[test]
 fn a_struct_of_the_files_set_is_shown(rt: HostRuntime) -> Result<(), Fail> {
-    rows_come(&rt, rt.alloc(), FLAT, false, FLAT_ROW)?;
-    rows_come(&rt, rt.alloc(), FLAT, false, INDENTED)
+    rows_hold(&rt, rt.alloc(), Way::Read, FLAT, FLATS)
 }
 
 const FIRST_OF_A_NAME: &str = "\
@@ -44,7 +39,7 @@ const FIRST_OF_A_NAME: &str = "\
 
 #[test]
 fn the_first_struct_of_a_name_is_shown(rt: HostRuntime) -> Result<(), Fail> {
-    rows_come(&rt, rt.alloc(), TWICE, false, FIRST_OF_A_NAME)
+    rows_hold(&rt, rt.alloc(), Way::Read, TWICE, FIRST_OF_A_NAME)
 }
 
 const NESTS: &str = "\
@@ -61,39 +56,37 @@ refused: 8
 
 #[test]
 fn a_default_that_feeds_itself_in_a_list(rt: HostRuntime) -> Result<(), Fail> {
-    rows_come(&rt, rt.alloc(), NEST, false, NESTS)
+    rows_hold(&rt, rt.alloc(), Way::Read, NEST, NESTS)
 }
 
 /// Asserts that a set is shown under the meta set.
-fn set_is_shown(rt: &impl Abort, alloc: Global, set: &str, line: &str) -> Result<(), Fail> {
-    let meta = bytes_of(alloc, META)?;
-    let message = bytes_of(alloc, set)?;
-    let on = run_on("--set,set,SetRecord", &message, &meta);
-    line_comes(rt, alloc, &on, false, line)
+fn set_is_shown(
+    rt: &impl Abort,
+    alloc: Global,
+    meta: &[u8],
+    set: &[u8],
+    line: &str,
+) -> Result<(), Fail> {
+    line_comes(
+        rt,
+        alloc,
+        &run_on("--set,set,SetRecord", set, meta),
+        false,
+        line,
+    )
 }
 
 #[test]
 fn sets_are_shown_under_the_meta_set(rt: HostRuntime) -> Result<(), Fail> {
-    set_is_shown(&rt, rt.alloc(), FLAT, FLAT_LINE)?;
-    set_is_shown(&rt, rt.alloc(), META, META_LINE)
-}
-
-/// Asserts that the set of a row is refused with the row's number.
-fn set_is_refused(rt: &impl Abort, alloc: Global, text: &str) -> Result<(), Fail> {
-    let (_, row) = text.split_once('\n').unwrap_or(("", text));
-    let (number, set) = row.split_once(':').unwrap_or((row, ""));
-    let set = bytes_of(alloc, set)?;
-    let line = format!(in alloc; "refused: {number}\n")?;
-    let on = run_on("--set,set,Flat", &EMPTY_ROOT, &set);
-    line_comes(rt, alloc, &on, true, &line)
+    let meta = bytes_of(rt.alloc(), META)?;
+    let flat = bytes_of(rt.alloc(), FLAT)?;
+    set_is_shown(&rt, rt.alloc(), &meta, &flat, FLAT_LINE)?;
+    set_is_shown(&rt, rt.alloc(), &meta, &meta, META_LINE)
 }
 
 #[test]
 fn refused_sets_leave_the_message_unread(rt: HostRuntime) -> Result<(), Fail> {
-    for text in REFUSED_SETS.split_inclusive("\n\n") {
-        set_is_refused(&rt, rt.alloc(), text)?;
-    }
-    Ok(())
+    rows_hold(&rt, rt.alloc(), Way::RefusedSet, "", REFUSED_SETS)
 }
 
 const UNKNOWN: &str = "\
@@ -116,67 +109,84 @@ refused: 12
 
 #[test]
 fn unknown_names_and_paths_leave_the_message_unread(rt: HostRuntime) -> Result<(), Fail> {
-    rows_come(&rt, rt.alloc(), FLAT, true, UNKNOWN)
+    rows_hold(&rt, rt.alloc(), Way::Unread, FLAT, UNKNOWN)
 }
 
 #[test]
 fn each_failed_read_of_a_set_leaves_the_message_unread(rt: HostRuntime) -> Result<(), Fail> {
-    each_call_fails(&rt, rt.alloc(), FLAT, "set", FLAT_ROW)
+    rows_hold(&rt, rt.alloc(), Way::Failing("set"), FLAT, FLATS)
 }
 
 #[test]
 fn failed_reads_and_writes_after_a_set_are_told(rt: HostRuntime) -> Result<(), Fail> {
-    each_call_fails(&rt, rt.alloc(), FLAT, "message", FLAT_ROW)?;
-    each_call_fails(&rt, rt.alloc(), FLAT, "shown", FLAT_ROW)
+    rows_hold(&rt, rt.alloc(), Way::Failing("message"), FLAT, FLATS)?;
+    rows_hold(&rt, rt.alloc(), Way::Failing("shown"), FLAT, FLATS)
 }
 
-/// The status of the program over the system's files, and what it wrote and told.
+/// What comes of words over the system's files, of which none is counted.
 fn over_files(rt: &impl Files, alloc: Global, words: &str, message: &[u8]) -> Result<String, Fail> {
     let words = words_of(alloc, words)?;
     let mut source = MemorySource::new(message, 4096, None);
     let mut shown = MemorySink::new(alloc, 4096, None);
     let mut told = MemorySink::new(alloc, 4096, None);
     let status = command(rt, alloc, &words, &mut source, &mut shown, &mut told);
-    answered(alloc, status, &shown, &told)
+    answered(alloc, 0, false, status, &shown, &told)
 }
 
-/// Words that are refused over the system's files, the status, and after a bar the line that is told.
+/// Words that are refused over the system's files.
 const OVER_FILES: &str = "\
 # no file is there
---set,/no/such/folder/file.set,Flat -> 1 |refused: 12
---set,,Flat -> 1 |refused: 12
+--set,/no/such/folder/file.set,Flat:
+refused: 12
+
+--set,,Flat:
+refused: 12
+
 # a folder
---set,/,Flat -> 1 |refused: 12
+--set,/,Flat:
+refused: 12
+
 # an empty file
---set,/dev/null,Flat -> 1 |refused: 2
---set,/dev/null,Flat,--indent -> 1 |refused: 2
---set,/dev/null -> 2 |usage: capnp_show [--set FILE] NAME [--indent]
-Nope -> 2 |usage: capnp_show [--set FILE] NAME [--indent]
+--set,/dev/null,Flat:
+refused: 2
+
+--set,/dev/null,Flat,--indent:
+refused: 2
+
+--set,/dev/null:
+usage: capnp_show [--set FILE] NAME [--indent]
+
+Nope:
+usage: capnp_show [--set FILE] NAME [--indent]
+
 ";
+
+fn row_comes_over_files<H: Abort + Files>(rt: &H, alloc: Global, text: &str) -> Result<(), Fail> {
+    let row = row_of(text);
+    let wanted = wanted_line(alloc, row.words, false, row.line)?;
+    let answer = over_files(rt, alloc, row.words, &[])?;
+    assert_eq!(rt; answer.as_str(), wanted.as_str(), "{text}");
+    Ok(())
+}
 
 #[test]
 fn files_of_the_system_are_opened(rt: HostRuntime) -> Result<(), Fail> {
-    for row in OVER_FILES.lines() {
-        if row.starts_with('#') {
-            continue;
-        }
-        let (words, wanted) = row.split_once(" -> ").unwrap_or((row, ""));
-        let answer = over_files(&rt, rt.alloc(), words, &[])?;
-        assert_eq!(&rt; answer.as_str().strip_suffix('\n'), Some(wanted), "{words}");
+    for text in OVER_FILES.split_inclusive("\n\n") {
+        row_comes_over_files(&rt, rt.alloc(), text)?;
     }
     Ok(())
 }
+
+/// A message of `Flat`.
+const MESSAGE: &str = "0000000002000000 0000000001000000 0500000000000000";
 
 #[test]
 fn a_file_of_the_system_is_shown(rt: HostRuntime) -> Result<(), Fail> {
     let set = bytes_of(rt.alloc(), FLAT)?;
     std::fs::write(&rt, "flat.set", set.as_slice())?;
-    let message = bytes_of(
-        rt.alloc(),
-        "0000000002000000 0000000001000000 0500000000000000",
-    )?;
+    let message = bytes_of(rt.alloc(), MESSAGE)?;
     let answer = over_files(&rt, rt.alloc(), "--set,flat.set,Flat", &message)?;
     std::fs::remove_file(&rt, "flat.set")?;
-    assert_eq!(&rt; answer.as_str(), "0 (a = 5)\n|");
+    assert_eq!(&rt; answer.as_str(), "0 false 0 (a = 5)\n|");
     Ok(())
 }

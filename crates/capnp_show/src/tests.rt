@@ -20,7 +20,7 @@ use std::test::Fail;
 const PATH: &str = "set";
 
 /// A message that is not read where the words ask for nothing, or the set is refused.
-pub(crate) const EMPTY_ROOT: [u8; 16] = [0, 0, 0, 0, 1, 0, 0, 0, 0, 0, 0, 0, 0, 0, 0, 0];
+const EMPTY_ROOT: [u8; 16] = [0, 0, 0, 0, 1, 0, 0, 0, 0, 0, 0, 0, 0, 0, 0, 0];
 
 /// What the program is run on.
 #[derive(Clone, Copy)]
@@ -129,16 +129,18 @@ fn is_unread(alloc: Global, source: &mut MemorySource<'_>, message: &[u8]) -> bo
     }
 }
 
-/// A status, what was written, and what was told.
+/// What came of a run, as a text.
 pub(crate) fn answered(
     alloc: Global,
+    opened: u32,
+    unread: bool,
     status: u8,
     shown: &MemorySink,
     told: &MemorySink,
 ) -> Result<String, Fail> {
     let shown = str::from_utf8(shown.as_slice()).unwrap_or("no UTF-8");
     let told = str::from_utf8(told.as_slice()).unwrap_or("no UTF-8");
-    Ok(format!(in alloc; "{status} {shown}|{told}")?)
+    Ok(format!(in alloc; "{opened} {unread} {status} {shown}|{told}")?)
 }
 
 /// What comes of a setting.
@@ -161,10 +163,8 @@ fn seen(alloc: Global, on: &Setting<'_>) -> Result<String, Fail> {
         &mut shown,
         &mut told,
     );
-    let opened = opener.opened;
     let unread = is_unread(alloc, &mut source, on.message);
-    let answer = answered(alloc, status, &shown, &told)?;
-    Ok(format!(in alloc; "{opened} {unread} {answer}")?)
+    answered(alloc, opener.opened, unread, status, &shown, &told)
 }
 
 /// What has to come of words: the file is opened once where they name it.
@@ -181,7 +181,12 @@ fn wanted(
 }
 
 /// The same, of a line: a refusal, the usage, or what is shown.
-fn wanted_line(alloc: Global, words: &str, unread: bool, line: &str) -> Result<String, Fail> {
+pub(crate) fn wanted_line(
+    alloc: Global,
+    words: &str,
+    unread: bool,
+    line: &str,
+) -> Result<String, Fail> {
     if line.starts_with("refused: ") {
         wanted(alloc, words, unread, 1, "", line)
     } else if line.starts_with("usage: ") {
@@ -230,32 +235,7 @@ fn row_comes(
     )
 }
 
-/// Asserts that each row has its line under a set, hexadecimal words, and whether its message is unread.
-pub(crate) fn rows_come(
-    rt: &impl Abort,
-    alloc: Global,
-    set: &str,
-    unread: bool,
-    rows: &str,
-) -> Result<(), Fail> {
-    let set = bytes_of(alloc, set)?;
-    for text in rows.split_inclusive("\n\n") {
-        row_comes(rt, alloc, &set, unread, text)?;
-    }
-    Ok(())
-}
-
-#[test]
-fn prints_each_message(rt: HostRuntime) -> Result<(), Fail> {
-    rows_come(&rt, rt.alloc(), "", false, SHOWN)?;
-    rows_come(&rt, rt.alloc(), "", false, EXAMPLES)
-}
-
-#[test]
-fn refuses_each_broken_message(rt: HostRuntime) -> Result<(), Fail> {
-    rows_come(&rt, rt.alloc(), "", false, REFUSED)
-}
-
+/// Asserts that each proper beginning of a row's message is refused as cut short.
 fn beginnings_are_refused(rt: &impl Abort, alloc: Global, text: &str) -> Result<(), Fail> {
     let row = row_of(text);
     let whole = bytes_of(alloc, row.message)?;
@@ -266,114 +246,178 @@ fn beginnings_are_refused(rt: &impl Abort, alloc: Global, text: &str) -> Result<
     Ok(())
 }
 
-#[test]
-fn refuses_each_proper_beginning(rt: HostRuntime) -> Result<(), Fail> {
-    for text in BEGINNINGS.split_inclusive("\n\n") {
-        beginnings_are_refused(&rt, rt.alloc(), text)?;
+/// Asserts that the set of a row, which stands in the place of its message, is refused.
+fn set_is_refused(rt: &impl Abort, alloc: Global, text: &str) -> Result<(), Fail> {
+    let row = row_of(text);
+    let set = bytes_of(alloc, row.message)?;
+    line_comes(
+        rt,
+        alloc,
+        &run_on(row.words, &EMPTY_ROOT, &set),
+        true,
+        row.line,
+    )
+}
+
+/// What has to come of a call that fails: what was written or told before it stays.
+fn wanted_failure(alloc: Global, on: &Setting<'_>, line: &str) -> Result<String, Fail> {
+    let before = line.get(..on.call).unwrap_or("no letters");
+    let status = if line.starts_with("usage: ") { 2 } else { 1 };
+    match on.device {
+        "set" => wanted(alloc, on.words, true, 1, "", "refused: 12\n"),
+        "message" => wanted(alloc, on.words, on.call == 0, 1, "", "refused: 12\n"),
+        "shown" => wanted(alloc, on.words, false, 1, before, "refused: 13\n"),
+        _ => wanted(alloc, on.words, false, status, "", before),
+    }
+}
+
+/// Asserts what comes of each call of a row's device that fails, so many of them, and that no more fails then.
+fn calls_fail(
+    rt: &impl Abort,
+    alloc: Global,
+    on: &Setting<'_>,
+    calls: usize,
+    line: &str,
+) -> Result<(), Fail> {
+    for call in 0..calls {
+        let failing = Setting { call, ..*on };
+        let wanted = wanted_failure(alloc, &failing, line)?;
+        comes_to(rt, alloc, &failing, &wanted)?;
+    }
+    let wanted = wanted_line(alloc, on.words, false, line)?;
+    comes_to(rt, alloc, &Setting { call: calls, ..*on }, &wanted)
+}
+
+/// Asserts this of a row: a device has one call a byte, and a source one more, which finds the end.
+fn calls_of_row_fail(
+    rt: &impl Abort,
+    alloc: Global,
+    set: &[u8],
+    device: &str,
+    text: &str,
+) -> Result<(), Fail> {
+    let row = row_of(text);
+    let message = bytes_of(alloc, row.message)?;
+    let on = Setting {
+        device,
+        ..run_on(row.words, &message, set)
+    };
+    let calls = match device {
+        "set" => set.len() + 1,
+        "message" => message.len() + 1,
+        _ => row.line.len(),
+    };
+    calls_fail(rt, alloc, &on, calls, row.line)
+}
+
+/// What is asserted of a row.
+#[derive(Clone, Copy)]
+pub(crate) enum Way {
+    /// That it has its line, and that its message is read.
+    Read,
+    /// The same, and that its message is not read.
+    Unread,
+    Beginnings,
+    RefusedSet,
+    /// What comes of each call of a device that fails.
+    Failing(&'static str),
+}
+
+fn row_holds(rt: &impl Abort, alloc: Global, way: Way, set: &[u8], text: &str) -> Result<(), Fail> {
+    match way {
+        Way::Read => row_comes(rt, alloc, set, false, text),
+        Way::Unread => row_comes(rt, alloc, set, true, text),
+        Way::Beginnings => beginnings_are_refused(rt, alloc, text),
+        Way::RefusedSet => set_is_refused(rt, alloc, text),
+        Way::Failing(device) => calls_of_row_fail(rt, alloc, set, device, text),
+    }
+}
+
+/// Asserts this of each row, under a set of hexadecimal words.
+pub(crate) fn rows_hold(
+    rt: &impl Abort,
+    alloc: Global,
+    way: Way,
+    set: &str,
+    rows: &str,
+) -> Result<(), Fail> {
+    let set = bytes_of(alloc, set)?;
+    for text in rows.split_inclusive("\n\n") {
+        row_holds(rt, alloc, way, &set, text)?;
     }
     Ok(())
 }
 
-/// Asserts what comes of a chain of structs, each the `again` of the one before, and the last of them with `end`; each
-/// is the next two words after the pointer to it.
-fn chain_comes(
-    rt: &impl Abort,
-    alloc: Global,
-    words: &str,
-    again: usize,
-    line: &str,
-) -> Result<(), Fail> {
+#[test]
+fn prints_each_message(rt: HostRuntime) -> Result<(), Fail> {
+    rows_hold(&rt, rt.alloc(), Way::Read, "", SHOWN)
+}
+
+#[test]
+fn prints_each_example(rt: HostRuntime) -> Result<(), Fail> {
+    rows_hold(&rt, rt.alloc(), Way::Read, "", EXAMPLES)
+}
+
+#[test]
+fn refuses_each_broken_message(rt: HostRuntime) -> Result<(), Fail> {
+    rows_hold(&rt, rt.alloc(), Way::Read, "", REFUSED)
+}
+
+#[test]
+fn refuses_each_proper_beginning(rt: HostRuntime) -> Result<(), Fail> {
+    rows_hold(&rt, rt.alloc(), Way::Beginnings, "", BEGINNINGS)
+}
+
+/// A chain of structs, each the `again` of the one before, and the last of them with `end`; each is the next two words
+/// after the pointer to it.
+fn chain(alloc: Global, words: &str, again: usize) -> Result<Vec<u8>, Fail> {
     let links = "0000000001000100 0100000000000000".repeat(alloc, again)?;
-    let row = format!(in alloc;
-        "Loop: 00000000{words}000000 {links} 0000000001000100 0000000000000000 0000000000000000\n{line}\n\n"
+    let text = format!(in alloc;
+        "00000000{words}000000 {links} 0000000001000100 0000000000000000 0000000000000000"
     )?;
-    row_comes(rt, alloc, &[], false, &row)
+    bytes_of(alloc, &text)
 }
 
 #[test]
 fn a_chain_is_printed_as_far_as_levels_reach(rt: HostRuntime) -> Result<(), Fail> {
     let before = "(again = ".repeat(rt.alloc(), 63)?;
     let after = ")".repeat(rt.alloc(), 63)?;
-    let line = format!(in rt.alloc(); "{before}(end = ()){after}")?;
-    chain_comes(&rt, rt.alloc(), "81", 63, &line)
+    let line = format!(in rt.alloc(); "{before}(end = ()){after}\n")?;
+    let message = chain(rt.alloc(), "81", 63)?;
+    line_comes(
+        &rt,
+        rt.alloc(),
+        &run_on("Loop", &message, &[]),
+        false,
+        &line,
+    )
 }
 
 #[test]
 fn a_chain_past_the_levels_is_refused(rt: HostRuntime) -> Result<(), Fail> {
-    chain_comes(&rt, rt.alloc(), "83", 64, "refused: 8")
-}
-
-/// How many calls of a device may fail: one a byte, and of a source one that finds the end.
-fn calls(on: &Setting<'_>, line: &str) -> usize {
-    match on.device {
-        "set" => on.set.len().saturating_add(1),
-        "message" => on.message.len().saturating_add(1),
-        _ => line.len(),
-    }
-}
-
-/// What has to come of a call that fails: what was written or told before it stays.
-fn wanted_failure(alloc: Global, on: &Setting<'_>, line: &str) -> Result<String, Fail> {
-    let before = line.get(..on.call).unwrap_or("no letters");
-    match on.device {
-        "set" => wanted(alloc, on.words, true, 1, "", "refused: 12\n"),
-        "message" => wanted(alloc, on.words, on.call == 0, 1, "", "refused: 12\n"),
-        "shown" => wanted(alloc, on.words, false, 1, before, "refused: 13\n"),
-        _ => wanted(
-            alloc,
-            on.words,
-            false,
-            if line.starts_with("usage: ") { 2 } else { 1 },
-            "",
-            before,
-        ),
-    }
-}
-
-/// Asserts what comes of each call of a device that fails, and that none fails after the last of them.
-pub(crate) fn each_call_fails(
-    rt: &impl Abort,
-    alloc: Global,
-    set: &str,
-    device: &str,
-    text: &str,
-) -> Result<(), Fail> {
-    let row = row_of(text);
-    let set = bytes_of(alloc, set)?;
-    let message = bytes_of(alloc, row.message)?;
-    let mut on = Setting {
-        device,
-        ..run_on(row.words, &message, &set)
-    };
-    for call in 0..calls(&on, row.line) {
-        on.call = call;
-        comes_to(rt, alloc, &on, &wanted_failure(alloc, &on, row.line)?)?;
-    }
-    on.call = on.call.saturating_add(1);
-    comes_to(
-        rt,
-        alloc,
-        &on,
-        &wanted_line(alloc, row.words, false, row.line)?,
+    let message = chain(rt.alloc(), "83", 64)?;
+    line_comes(
+        &rt,
+        rt.alloc(),
+        &run_on("Loop", &message, &[]),
+        false,
+        "refused: 8\n",
     )
 }
 
 #[test]
 fn tells_of_each_failed_read(rt: HostRuntime) -> Result<(), Fail> {
-    each_call_fails(&rt, rt.alloc(), "", "message", LAST)
+    rows_hold(&rt, rt.alloc(), Way::Failing("message"), "", LAST)
 }
 
 #[test]
 fn tells_of_each_failed_write(rt: HostRuntime) -> Result<(), Fail> {
-    each_call_fails(&rt, rt.alloc(), "", "shown", LAST)
+    rows_hold(&rt, rt.alloc(), Way::Failing("shown"), "", LAST)
 }
 
 #[test]
 fn failing_errors_change_no_status(rt: HostRuntime) -> Result<(), Fail> {
-    for text in UNTOLD.split_inclusive("\n\n") {
-        each_call_fails(&rt, rt.alloc(), "", "told", text)?;
-    }
-    Ok(())
+    rows_hold(&rt, rt.alloc(), Way::Failing("told"), "", UNTOLD)
 }
 
 /// Each refusal that a print can have, the others of one and of two digits, and one of the longest number.
