@@ -1,11 +1,9 @@
 //! What the program prints and answers where its set comes as a file, over a file in memory and over the system's
 //! files.
 
-use crate::set_files::{FLAT, FLAT_LINE, META, META_LINE, REFUSED_SETS, TWICE};
-use crate::tests::{
-    Expected, Setting, USAGE, bytes_of, comes_over, comes_to, is_unread, run_on, source_of,
-    words_of, written,
-};
+use crate::messages::row_of;
+use crate::set_files::{FLAT, FLAT_LINE, META, META_LINE, NEST, REFUSED_SETS, TWICE};
+use crate::tests::{Way, answered, bytes_of, line_comes, rows_hold, run_on, wanted_line, words_of};
 use capnp_show_engine::command::command;
 use capnp_wire::memory::{MemorySink, MemorySource};
 use std::alloc::Global;
@@ -13,216 +11,182 @@ use std::process::Abort;
 use std::rt::Files;
 use std::test::Fail;
 
-/// A message of `Flat`, its words and its line.
-const WORDS: &str = "--set,set,Flat";
+/// Messages of `Flat`.
+const FLATS: &str = "\
+--set,set,Flat: 0000000002000000 0000000001000000 0500000000000000
+(a = 5)
 
-const MESSAGE: &str = "0000000002000000 0000000001000000 0500000000000000";
+--set,set,Flat,--indent: 0000000002000000 0000000001000000 0500000000000000
+(
+  a = 5
+)
 
-const LINE: &str = "(a = 5)\n";
-
-/// Asserts that a setting with this set comes to this, whatever a call moves.
-fn set_comes_to(
-    rt: &impl Abort,
-    alloc: Global,
-    words: &str,
-    set: &[u8],
-    bytes: &[u8],
-    expected: &Expected<'_>,
-) -> Result<(), Fail> {
-    for slow in [true, false] {
-        let on = Setting {
-            set,
-            ..run_on(words, bytes, slow)
-        };
-        comes_to(rt, alloc, &on, expected)?;
-    }
-    Ok(())
-}
+";
 
 #[test]
 fn a_struct_of_the_files_set_is_shown(rt: HostRuntime) -> Result<(), Fail> {
-    let set = bytes_of(rt.alloc(), FLAT)?;
-    let bytes = bytes_of(rt.alloc(), MESSAGE)?;
-    set_comes_to(&rt, rt.alloc(), WORDS, &set, &bytes, &written(0, LINE))?;
-    let lines = written(0, "(\n  a = 5\n)\n");
-    set_comes_to(
-        &rt,
-        rt.alloc(),
-        "--set,set,Flat,--indent",
-        &set,
-        &bytes,
-        &lines,
-    )
+    rows_hold(&rt, rt.alloc(), Way::Read, FLAT, FLATS)
 }
+
+const FIRST_OF_A_NAME: &str = "\
+--set,set,Twice: 0000000002000000 0000000001000000 0500000000000000
+(a = 5)
+
+--set,set,Outer: 0000000002000000 0000000001000000 0500000000000000
+(inner = (g = 5))
+
+";
 
 #[test]
 fn the_first_struct_of_a_name_is_shown(rt: HostRuntime) -> Result<(), Fail> {
-    let set = bytes_of(rt.alloc(), TWICE)?;
-    let bytes = bytes_of(rt.alloc(), MESSAGE)?;
-    set_comes_to(
-        &rt,
-        rt.alloc(),
-        "--set,set,Twice",
-        &set,
-        &bytes,
-        &written(0, LINE),
-    )?;
-    let inner = written(0, "(inner = (g = 5))\n");
-    set_comes_to(&rt, rt.alloc(), "--set,set,Outer", &set, &bytes, &inner)
+    rows_hold(&rt, rt.alloc(), Way::Read, TWICE, FIRST_OF_A_NAME)
+}
+
+const NESTS: &str = "\
+--set,set,Nest: 0000000003000000 0000000001000100 0000000000000000 0000000000000000
+(end = ())
+
+--set,set,Nest: 0000000003000000 0000000001000100 0100000000000000 0000000000000000
+refused: 8
+
+--set,set,Nest,--indent: 0000000003000000 0000000001000100 0100000000000000 0000000000000000
+refused: 8
+
+";
+
+#[test]
+fn a_default_that_feeds_itself_in_a_list(rt: HostRuntime) -> Result<(), Fail> {
+    rows_hold(&rt, rt.alloc(), Way::Read, NEST, NESTS)
+}
+
+/// Asserts that a set is shown under the meta set.
+fn set_is_shown(
+    rt: &impl Abort,
+    alloc: Global,
+    meta: &[u8],
+    set: &[u8],
+    line: &str,
+) -> Result<(), Fail> {
+    line_comes(
+        rt,
+        alloc,
+        &run_on("--set,set,SetRecord", set, meta),
+        false,
+        line,
+    )
 }
 
 #[test]
 fn sets_are_shown_under_the_meta_set(rt: HostRuntime) -> Result<(), Fail> {
     let meta = bytes_of(rt.alloc(), META)?;
     let flat = bytes_of(rt.alloc(), FLAT)?;
-    let words = "--set,set,SetRecord";
-    set_comes_to(&rt, rt.alloc(), words, &meta, &flat, &written(0, FLAT_LINE))?;
-    set_comes_to(&rt, rt.alloc(), words, &meta, &meta, &written(0, META_LINE))
-}
-
-/// Asserts that a message is not read where its set is refused, or has no such name.
-fn set_is_refused(
-    rt: &impl Abort,
-    alloc: Global,
-    words: &str,
-    set: &[u8],
-    number: &str,
-) -> Result<(), Fail> {
-    let message = [0, 0, 0, 0, 1, 0, 0, 0, 0, 0, 0, 0, 0, 0, 0, 0];
-    let on = Setting {
-        set,
-        ..run_on(words, &message, false)
-    };
-    let line = format!(in alloc; "refused: {number}\n")?;
-    let mut source = source_of(&on);
-    comes_over(rt, alloc, &mut source, &on, &written(1, line.as_str()))?;
-    is_unread(rt, alloc, &mut source, on.bytes)
-}
-
-/// Asserts that the set of a row is refused with the row's number.
-fn row_is_refused(rt: &impl Abort, alloc: Global, text: &str) -> Result<(), Fail> {
-    let (_, row) = text.split_once('\n').unwrap_or(("", text));
-    let (number, set) = row.split_once(':').unwrap_or((row, ""));
-    let set = bytes_of(alloc, set)?;
-    set_is_refused(rt, alloc, WORDS, &set, number)
+    set_is_shown(&rt, rt.alloc(), &meta, &flat, FLAT_LINE)?;
+    set_is_shown(&rt, rt.alloc(), &meta, &meta, META_LINE)
 }
 
 #[test]
 fn refused_sets_leave_the_message_unread(rt: HostRuntime) -> Result<(), Fail> {
-    for row in REFUSED_SETS.split_inclusive("\n\n") {
-        row_is_refused(&rt, rt.alloc(), row)?;
-    }
-    Ok(())
+    rows_hold(&rt, rt.alloc(), Way::RefusedSet, "", REFUSED_SETS)
 }
+
+const UNKNOWN: &str = "\
+--set,set,Nope: 0000000001000000 0000000000000000
+refused: 64
+
+--set,set,,: 0000000001000000 0000000000000000
+refused: 64
+
+--set,set,--indent: 0000000001000000 0000000000000000
+refused: 64
+
+--set,other,Flat: 0000000001000000 0000000000000000
+refused: 12
+
+--set,,Flat: 0000000001000000 0000000000000000
+refused: 12
+
+";
 
 #[test]
 fn unknown_names_and_paths_leave_the_message_unread(rt: HostRuntime) -> Result<(), Fail> {
-    let set = bytes_of(rt.alloc(), FLAT)?;
-    for words in ["--set,set,Nope", "--set,set,,", "--set,set,--indent"] {
-        set_is_refused(&rt, rt.alloc(), words, &set, "64")?;
-    }
-    for words in ["--set,other,Flat", "--set,,Flat"] {
-        set_is_refused(&rt, rt.alloc(), words, &set, "12")?;
-    }
-    Ok(())
+    rows_hold(&rt, rt.alloc(), Way::Unread, FLAT, UNKNOWN)
 }
 
 #[test]
 fn each_failed_read_of_a_set_leaves_the_message_unread(rt: HostRuntime) -> Result<(), Fail> {
-    let set = bytes_of(rt.alloc(), FLAT)?;
-    let bytes = bytes_of(rt.alloc(), MESSAGE)?;
-    // one call a byte, and one that finds the end
-    for call in 0..=set.len() {
-        let on = Setting {
-            set: &set,
-            failing_set: Some(call as u64),
-            ..run_on(WORDS, &bytes, true)
-        };
-        let mut source = source_of(&on);
-        comes_over(
-            &rt,
-            rt.alloc(),
-            &mut source,
-            &on,
-            &written(1, "refused: 12\n"),
-        )?;
-        is_unread(&rt, rt.alloc(), &mut source, &bytes)?;
-    }
-    Ok(())
+    rows_hold(&rt, rt.alloc(), Way::Failing("set"), FLAT, FLATS)
 }
 
 #[test]
 fn failed_reads_and_writes_after_a_set_are_told(rt: HostRuntime) -> Result<(), Fail> {
-    let set = bytes_of(rt.alloc(), FLAT)?;
-    let bytes = bytes_of(rt.alloc(), MESSAGE)?;
-    let on = Setting {
-        set: &set,
-        failing_read: Some(3),
-        ..run_on(WORDS, &bytes, true)
-    };
-    comes_to(&rt, rt.alloc(), &on, &written(1, "refused: 12\n"))?;
-    let on = Setting {
-        set: &set,
-        failing_write: Some(3),
-        ..run_on(WORDS, &bytes, true)
-    };
-    let cut = Expected {
-        status: 1,
-        shown: b"(a ",
-        told: b"refused: 13\n",
-    };
-    comes_to(&rt, rt.alloc(), &on, &cut)
+    rows_hold(&rt, rt.alloc(), Way::Failing("message"), FLAT, FLATS)?;
+    rows_hold(&rt, rt.alloc(), Way::Failing("shown"), FLAT, FLATS)
 }
 
-/// The status of the program over the system's files, and what it wrote.
-fn run_over_files(
-    rt: &impl Files,
-    alloc: Global,
-    words: &str,
-    bytes: &[u8],
-) -> Result<(u8, MemorySink, MemorySink), Fail> {
+/// What comes of words over the system's files, of which none is counted.
+fn over_files(rt: &impl Files, alloc: Global, words: &str, message: &[u8]) -> Result<String, Fail> {
     let words = words_of(alloc, words)?;
-    let mut source = MemorySource::new(bytes, 4096, None);
-    let mut sink = MemorySink::new(alloc, 4096, None);
-    let mut errors = MemorySink::new(alloc, 4096, None);
-    let status = command(rt, alloc, &words, &mut source, &mut sink, &mut errors);
-    Ok((status, sink, errors))
+    let mut source = MemorySource::new(message, 4096, None);
+    let mut shown = MemorySink::new(alloc, 4096, None);
+    let mut told = MemorySink::new(alloc, 4096, None);
+    let status = command(rt, alloc, &words, &mut source, &mut shown, &mut told);
+    answered(alloc, 0, false, status, &shown, &told)
 }
 
-/// Words that are refused over the system's files, the status, and what is told.
-static OVER_FILES: [(&str, u8, &str); 7] = [
-    // no file is there
-    ("--set,/no/such/folder/file.set,Flat", 1, "refused: 12\n"),
-    ("--set,,Flat", 1, "refused: 12\n"),
-    // a folder
-    ("--set,/,Flat", 1, "refused: 12\n"),
-    // an empty file
-    ("--set,/dev/null,Flat", 1, "refused: 2\n"),
-    ("--set,/dev/null,Flat,--indent", 1, "refused: 2\n"),
-    ("--set,/dev/null", 2, USAGE),
-    ("Nope", 2, USAGE),
-];
+/// Words that are refused over the system's files.
+const OVER_FILES: &str = "\
+# no file is there
+--set,/no/such/folder/file.set,Flat:
+refused: 12
+
+--set,,Flat:
+refused: 12
+
+# a folder
+--set,/,Flat:
+refused: 12
+
+# an empty file
+--set,/dev/null,Flat:
+refused: 2
+
+--set,/dev/null,Flat,--indent:
+refused: 2
+
+--set,/dev/null:
+usage: capnp_show [--set FILE] NAME [--indent]
+
+Nope:
+usage: capnp_show [--set FILE] NAME [--indent]
+
+";
+
+fn row_comes_over_files<H: Abort + Files>(rt: &H, alloc: Global, text: &str) -> Result<(), Fail> {
+    let row = row_of(text);
+    let wanted = wanted_line(alloc, row.words, false, row.line)?;
+    let answer = over_files(rt, alloc, row.words, &[])?;
+    assert_eq!(rt; answer.as_str(), wanted.as_str(), "{text}");
+    Ok(())
+}
 
 #[test]
 fn files_of_the_system_are_opened(rt: HostRuntime) -> Result<(), Fail> {
-    for (words, status, told) in &OVER_FILES {
-        let outcome = run_over_files(&rt, rt.alloc(), words, &[])?;
-        assert_eq!(&rt; outcome.0, *status, "{words}");
-        assert!(&rt; outcome.1.as_slice().is_empty(), "{words}");
-        assert_eq!(&rt; outcome.2.as_slice(), told.as_bytes(), "{words}");
+    for text in OVER_FILES.split_inclusive("\n\n") {
+        row_comes_over_files(&rt, rt.alloc(), text)?;
     }
     Ok(())
 }
+
+/// A message of `Flat`.
+const MESSAGE: &str = "0000000002000000 0000000001000000 0500000000000000";
 
 #[test]
 fn a_file_of_the_system_is_shown(rt: HostRuntime) -> Result<(), Fail> {
     let set = bytes_of(rt.alloc(), FLAT)?;
     std::fs::write(&rt, "flat.set", set.as_slice())?;
-    let bytes = bytes_of(rt.alloc(), MESSAGE)?;
-    let outcome = run_over_files(&rt, rt.alloc(), "--set,flat.set,Flat", &bytes)?;
+    let message = bytes_of(rt.alloc(), MESSAGE)?;
+    let answer = over_files(&rt, rt.alloc(), "--set,flat.set,Flat", &message)?;
     std::fs::remove_file(&rt, "flat.set")?;
-    assert_eq!(&rt; outcome.0, 0);
-    assert_eq!(&rt; outcome.1.as_slice(), LINE.as_bytes());
-    assert!(&rt; outcome.2.as_slice().is_empty());
+    assert_eq!(&rt; answer.as_str(), "0 false 0 (a = 5)\n|");
     Ok(())
 }

@@ -8,8 +8,6 @@ mod messages;
 #[cfg(test)]
 mod set_files;
 #[cfg(test)]
-mod set_tests;
-#[cfg(test)]
 mod tests;
 
 use capnp_show_engine::command;

@@ -1,8 +1,8 @@
 //! Messages, as hexadecimal words, and what is written for them, as texts.
 //!
 //! A row ends with an empty line. Its first line has the program's words, with commas between them, a colon and the
-//! message; the lines after it are what is written: the text, or the refusal. A line that begins with `#` says what the
-//! row shows.
+//! message; the lines after it are what is written: the text, the refusal or the usage. A line that begins with `#` says
+//! what the row shows.
 
 /// A row: what the program is run on, and the line that it writes.
 #[derive(Clone, Copy)]
@@ -441,5 +441,25 @@ Lists: 0000000007000000 0000000000000400 0d00000002000000 0000000000000000 05000
 # node.bin
 Node: 0000000005000000 0000000002000100 ffffffffffffffff 0700000000000000 010000003a000000 61206e616d650000
 (id = 18446744073709551615, displayName = \"a name\", size = inlineComposite)
+
+";
+
+/// A message, of which each read and each write is made to fail.
+pub(crate) const LAST: &str = "\
+Mixed,--indent: 0000000003000000 0000000001000100 0500010009000000 0000000000000000
+(
+  a = 5,
+  y = 9
+)
+
+";
+
+/// Words without a message, of which each write of what is told is made to fail.
+pub(crate) const UNTOLD: &str = "\
+Flat:
+refused: 2
+
+Nope:
+usage: capnp_show [--set FILE] NAME [--indent]
 
 ";

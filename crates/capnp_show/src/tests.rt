@@ -1,10 +1,11 @@
 //! What the program prints and answers, by its public call, over sources and sinks in memory.
 //!
-//! A setting says what the program is run on, and `comes_to` runs it and compares what comes of it. Rows of messages
+//! A setting says what the program is run on, and what comes of it is one text: the status, how many times the file was
+//! opened, whether the message still has all its bytes, what was written, a bar, and what was told. Rows of messages
 //! are texts (`messages`).
 ghost use Rattle.std.specs.Prelude.{⊤, ◌<◌};
 
-use crate::messages::{BEGINNINGS, EXAMPLES, REFUSED, SHOWN, row_of};
+use crate::messages::{BEGINNINGS, EXAMPLES, LAST, REFUSED, SHOWN, UNTOLD, row_of};
 use capnp_show_engine::command::{command_over, report};
 use capnp_show_engine::opener::Opener;
 use capnp_wire::device::DeviceFault;
@@ -15,50 +16,25 @@ use std::alloc::Global;
 use std::process::Abort;
 use std::test::Fail;
 
-pub(crate) const USAGE: &str = "usage: capnp_show [--set FILE] NAME [--indent]\n";
-
 /// The only path that has a file.
 const PATH: &str = "set";
 
-/// Words, a message and its text, of which each call of a device is made to fail.
-const LAST_WORDS: &str = "Mixed,--indent";
-
-const LAST_MESSAGE: &str = "0000000003000000 0000000001000100 0500010009000000 0000000000000000";
-
-const LAST_LINE: &str = "(\n  a = 5,\n  y = 9\n)\n";
+/// A message that is not read where the words ask for nothing, or the set is refused.
+const EMPTY_ROOT: [u8; 16] = [0, 0, 0, 0, 1, 0, 0, 0, 0, 0, 0, 0, 0, 0, 0, 0];
 
 /// What the program is run on.
 #[derive(Clone, Copy)]
 pub(crate) struct Setting<'a> {
     /// The words, each with a comma after it; the last may lack it.
     pub words: &'a str,
-    pub bytes: &'a [u8],
+    pub message: &'a [u8],
     /// What the file holds.
     pub set: &'a [u8],
-    /// Whether a call of a source or sink moves a byte, and else up to 4096.
+    /// Whether a call of a source or sink moves a byte, and else up to 4096; the sink of errors takes a byte a call.
     pub slow: bool,
-    /// Which calls fail: of the file, of the source, of the sink, and of the sink of errors, which takes a byte a call.
-    pub failing_set: Option<u64>,
-    pub failing_read: Option<u64>,
-    pub failing_write: Option<u64>,
-    pub failing_error: Option<u64>,
-}
-
-/// What comes of it: the status, and what was written to the sink and to the sink of errors.
-#[derive(Clone, Copy)]
-pub(crate) struct Expected<'a> {
-    pub status: u8,
-    pub shown: &'a [u8],
-    pub told: &'a [u8],
-}
-
-/// The same as it came, and how many times the file was opened.
-#[derive(Drop)]
-struct Outcome {
-    status: u8,
-    sink: MemorySink,
-    errors: MemorySink,
-    opened: u32,
+    /// The device of which a call fails, by what it moves: `set`, `message`, `shown` or `told`. None has no name.
+    pub device: &'a str,
+    pub call: usize,
 }
 
 /// Opens one file in memory.
@@ -84,27 +60,15 @@ impl<'a> Opener for OneFile<'a> {
     }
 }
 
-/// A setting of which no call fails, with a file that is empty.
-pub(crate) fn run_on<'a>(words: &'a str, bytes: &'a [u8], slow: bool) -> Setting<'a> {
+/// A setting of which no call fails, where a call moves a byte.
+pub(crate) fn run_on<'a>(words: &'a str, message: &'a [u8], set: &'a [u8]) -> Setting<'a> {
     Setting {
         words,
-        bytes,
-        set: &[],
-        slow,
-        failing_set: None,
-        failing_read: None,
-        failing_write: None,
-        failing_error: None,
-    }
-}
-
-/// A line that is written: a text where the status is 0, and else what is told.
-pub(crate) fn written(status: u8, line: &str) -> Expected<'_> {
-    let (shown, told) = if status == 0 { (line, "") } else { ("", line) };
-    Expected {
-        status,
-        shown: shown.as_bytes(),
-        told: told.as_bytes(),
+        message,
+        set,
+        slow: true,
+        device: "",
+        call: 0,
     }
 }
 
@@ -149,307 +113,371 @@ fn chunk(slow: bool) -> usize
     if slow { 1 } else { 4096 }
 }
 
-pub(crate) fn source_of<'a>(on: &Setting<'a>) -> MemorySource<'a> {
-    MemorySource::new(on.bytes, chunk(on.slow), on.failing_read)
+fn failing(on: &Setting<'_>, device: &str) -> Option<u64> {
+    if on.device == device {
+        Some(on.call as u64)
+    } else {
+        None
+    }
 }
 
-/// The program over a source.
-fn outcome_over(
+/// Whether a source still has all bytes of a message.
+fn is_unread(alloc: Global, source: &mut MemorySource<'_>, message: &[u8]) -> bool {
+    match read_all(alloc, source) {
+        Ok(left) => !message.is_empty() && left.as_slice() == message,
+        Err(_) => false,
+    }
+}
+
+/// What came of a run, as a text.
+pub(crate) fn answered(
     alloc: Global,
-    source: &mut MemorySource<'_>,
-    on: &Setting<'_>,
-) -> Result<Outcome, Fail> {
+    opened: u32,
+    unread: bool,
+    status: u8,
+    shown: &MemorySink,
+    told: &MemorySink,
+) -> Result<String, Fail> {
+    let shown = str::from_utf8(shown.as_slice()).unwrap_or("no UTF-8");
+    let told = str::from_utf8(told.as_slice()).unwrap_or("no UTF-8");
+    Ok(format!(in alloc; "{opened} {unread} {status} {shown}|{told}")?)
+}
+
+/// What comes of a setting.
+fn seen(alloc: Global, on: &Setting<'_>) -> Result<String, Fail> {
     let words = words_of(alloc, on.words)?;
-    let mut sink = MemorySink::new(alloc, chunk(on.slow), on.failing_write);
-    let mut errors = MemorySink::new(alloc, 1, on.failing_error);
     let mut opener = OneFile {
         bytes: on.set,
         slow: on.slow,
-        failing: on.failing_set,
+        failing: failing(on, "set"),
         opened: 0,
     };
-    let status = command_over(&mut opener, alloc, &words, source, &mut sink, &mut errors);
-    Ok(Outcome {
-        status,
-        sink,
-        errors,
-        opened: opener.opened,
-    })
+    let mut source = MemorySource::new(on.message, chunk(on.slow), failing(on, "message"));
+    let mut shown = MemorySink::new(alloc, chunk(on.slow), failing(on, "shown"));
+    let mut told = MemorySink::new(alloc, 1, failing(on, "told"));
+    let status = command_over(
+        &mut opener,
+        alloc,
+        &words,
+        &mut source,
+        &mut shown,
+        &mut told,
+    );
+    let unread = is_unread(alloc, &mut source, on.message);
+    answered(alloc, opener.opened, unread, status, &shown, &told)
 }
 
-/// How many times the file has to be opened: once where the words name it.
-fn openings(status: u8, words: &str) -> u32 {
-    u32::from(status != 2 && words.starts_with("--set,set,"))
-}
-
-/// Asserts that this is what came of a setting's words.
-fn is_so(rt: &impl Abort, outcome: &Outcome, expected: &Expected<'_>, words: &str) {
-    assert_eq!(rt; outcome.opened, openings(expected.status, words), "{words}");
-    assert_eq!(rt; outcome.status, expected.status, "{words}");
-    assert_eq!(rt; outcome.sink.as_slice(), expected.shown, "{words}");
-    assert_eq!(rt; outcome.errors.as_slice(), expected.told, "{words}");
-}
-
-/// Asserts that a setting comes to this over a source.
-pub(crate) fn comes_over(
-    rt: &impl Abort,
+/// What has to come of words: the file is opened once where they name it.
+fn wanted(
     alloc: Global,
-    source: &mut MemorySource<'_>,
-    on: &Setting<'_>,
-    expected: &Expected<'_>,
-) -> Result<(), Fail> {
-    let outcome = outcome_over(alloc, source, on)?;
-    is_so(rt, &outcome, expected, on.words);
-    Ok(())
+    words: &str,
+    unread: bool,
+    status: u8,
+    shown: &str,
+    told: &str,
+) -> Result<String, Fail> {
+    let opened = u8::from(status != 2 && words.starts_with("--set,set,"));
+    Ok(format!(in alloc; "{opened} {unread} {status} {shown}|{told}")?)
+}
+
+/// The same, of a line: a refusal, the usage, or what is shown.
+pub(crate) fn wanted_line(
+    alloc: Global,
+    words: &str,
+    unread: bool,
+    line: &str,
+) -> Result<String, Fail> {
+    if line.starts_with("refused: ") {
+        wanted(alloc, words, unread, 1, "", line)
+    } else if line.starts_with("usage: ") {
+        wanted(alloc, words, unread, 2, "", line)
+    } else {
+        wanted(alloc, words, unread, 0, line, "")
+    }
 }
 
 /// Asserts that a setting comes to this.
-pub(crate) fn comes_to(
+fn comes_to(rt: &impl Abort, alloc: Global, on: &Setting<'_>, wanted: &str) -> Result<(), Fail> {
+    let seen = seen(alloc, on)?;
+    assert_eq!(rt; seen.as_str(), wanted, "{}", on.words);
+    Ok(())
+}
+
+/// Asserts that a setting comes to a line, whatever a call moves.
+pub(crate) fn line_comes(
     rt: &impl Abort,
     alloc: Global,
     on: &Setting<'_>,
-    expected: &Expected<'_>,
+    unread: bool,
+    line: &str,
 ) -> Result<(), Fail> {
-    let mut source = source_of(on);
-    comes_over(rt, alloc, &mut source, on, expected)
+    let wanted = wanted_line(alloc, on.words, unread, line)?;
+    comes_to(rt, alloc, on, &wanted)?;
+    comes_to(rt, alloc, &Setting { slow: false, ..*on }, &wanted)
 }
 
-/// Asserts that a row has its line, whatever a call moves.
-fn row_comes(rt: &impl Abort, alloc: Global, text: &str, status: u8) -> Result<(), Fail> {
+/// Asserts that a row has its line under a set.
+fn row_comes(
+    rt: &impl Abort,
+    alloc: Global,
+    set: &[u8],
+    unread: bool,
+    text: &str,
+) -> Result<(), Fail> {
     let row = row_of(text);
-    let bytes = bytes_of(alloc, row.message)?;
-    let expected = written(status, row.line);
-    comes_to(rt, alloc, &run_on(row.words, &bytes, true), &expected)?;
-    comes_to(rt, alloc, &run_on(row.words, &bytes, false), &expected)
+    let message = bytes_of(alloc, row.message)?;
+    line_comes(
+        rt,
+        alloc,
+        &run_on(row.words, &message, set),
+        unread,
+        row.line,
+    )
 }
 
-/// Asserts that each row has its line.
-fn rows_come(rt: &impl Abort, alloc: Global, rows: &str, status: u8) -> Result<(), Fail> {
+/// Asserts that each proper beginning of a row's message is refused as cut short.
+fn beginnings_are_refused(rt: &impl Abort, alloc: Global, text: &str) -> Result<(), Fail> {
+    let row = row_of(text);
+    let whole = bytes_of(alloc, row.message)?;
+    for len in 0..whole.len() {
+        let on = run_on(row.words, &whole[..len], &[]);
+        line_comes(rt, alloc, &on, false, "refused: 2\n")?;
+    }
+    Ok(())
+}
+
+/// Asserts that the set of a row, which stands in the place of its message, is refused.
+fn set_is_refused(rt: &impl Abort, alloc: Global, text: &str) -> Result<(), Fail> {
+    let row = row_of(text);
+    let set = bytes_of(alloc, row.message)?;
+    line_comes(
+        rt,
+        alloc,
+        &run_on(row.words, &EMPTY_ROOT, &set),
+        true,
+        row.line,
+    )
+}
+
+/// What has to come of a call that fails: what was written or told before it stays.
+fn wanted_failure(alloc: Global, on: &Setting<'_>, line: &str) -> Result<String, Fail> {
+    let before = line.get(..on.call).unwrap_or("no letters");
+    let status = if line.starts_with("usage: ") { 2 } else { 1 };
+    match on.device {
+        "set" => wanted(alloc, on.words, true, 1, "", "refused: 12\n"),
+        "message" => wanted(alloc, on.words, on.call == 0, 1, "", "refused: 12\n"),
+        "shown" => wanted(alloc, on.words, false, 1, before, "refused: 13\n"),
+        _ => wanted(alloc, on.words, false, status, "", before),
+    }
+}
+
+/// Asserts what comes of each call of a row's device that fails, so many of them, and that no more fails then.
+fn calls_fail(
+    rt: &impl Abort,
+    alloc: Global,
+    on: &Setting<'_>,
+    calls: usize,
+    line: &str,
+) -> Result<(), Fail> {
+    for call in 0..calls {
+        let failing = Setting { call, ..*on };
+        let wanted = wanted_failure(alloc, &failing, line)?;
+        comes_to(rt, alloc, &failing, &wanted)?;
+    }
+    let wanted = wanted_line(alloc, on.words, false, line)?;
+    comes_to(rt, alloc, &Setting { call: calls, ..*on }, &wanted)
+}
+
+/// Asserts this of a row: a device has one call a byte, and a source one more, which finds the end.
+fn calls_of_row_fail(
+    rt: &impl Abort,
+    alloc: Global,
+    set: &[u8],
+    device: &str,
+    text: &str,
+) -> Result<(), Fail> {
+    let row = row_of(text);
+    let message = bytes_of(alloc, row.message)?;
+    let on = Setting {
+        device,
+        ..run_on(row.words, &message, set)
+    };
+    let calls = match device {
+        "set" => set.len() + 1,
+        "message" => message.len() + 1,
+        _ => row.line.len(),
+    };
+    calls_fail(rt, alloc, &on, calls, row.line)
+}
+
+/// What is asserted of a row.
+#[derive(Clone, Copy)]
+pub(crate) enum Way {
+    /// That it has its line, and that its message is read.
+    Read,
+    /// The same, and that its message is not read.
+    Unread,
+    Beginnings,
+    RefusedSet,
+    /// What comes of each call of a device that fails.
+    Failing(&'static str),
+}
+
+fn row_holds(rt: &impl Abort, alloc: Global, way: Way, set: &[u8], text: &str) -> Result<(), Fail> {
+    match way {
+        Way::Read => row_comes(rt, alloc, set, false, text),
+        Way::Unread => row_comes(rt, alloc, set, true, text),
+        Way::Beginnings => beginnings_are_refused(rt, alloc, text),
+        Way::RefusedSet => set_is_refused(rt, alloc, text),
+        Way::Failing(device) => calls_of_row_fail(rt, alloc, set, device, text),
+    }
+}
+
+/// Asserts this of each row, under a set of hexadecimal words.
+pub(crate) fn rows_hold(
+    rt: &impl Abort,
+    alloc: Global,
+    way: Way,
+    set: &str,
+    rows: &str,
+) -> Result<(), Fail> {
+    let set = bytes_of(alloc, set)?;
     for text in rows.split_inclusive("\n\n") {
-        row_comes(rt, alloc, text, status)?;
+        row_holds(rt, alloc, way, &set, text)?;
     }
     Ok(())
 }
 
 #[test]
 fn prints_each_message(rt: HostRuntime) -> Result<(), Fail> {
-    rows_come(&rt, rt.alloc(), SHOWN, 0)?;
-    rows_come(&rt, rt.alloc(), EXAMPLES, 0)
+    rows_hold(&rt, rt.alloc(), Way::Read, "", SHOWN)
+}
+
+#[test]
+fn prints_each_example(rt: HostRuntime) -> Result<(), Fail> {
+    rows_hold(&rt, rt.alloc(), Way::Read, "", EXAMPLES)
 }
 
 #[test]
 fn refuses_each_broken_message(rt: HostRuntime) -> Result<(), Fail> {
-    rows_come(&rt, rt.alloc(), REFUSED, 1)
-}
-
-fn beginnings_are_refused(rt: &impl Abort, alloc: Global, text: &str) -> Result<(), Fail> {
-    let row = row_of(text);
-    let whole = bytes_of(alloc, row.message)?;
-    let refused = written(1, "refused: 2\n");
-    for len in 0..whole.len() {
-        comes_to(
-            rt,
-            alloc,
-            &run_on(row.words, &whole[..len], false),
-            &refused,
-        )?;
-    }
-    Ok(())
+    rows_hold(&rt, rt.alloc(), Way::Read, "", REFUSED)
 }
 
 #[test]
 fn refuses_each_proper_beginning(rt: HostRuntime) -> Result<(), Fail> {
-    for text in BEGINNINGS.split_inclusive("\n\n") {
-        beginnings_are_refused(&rt, rt.alloc(), text)?;
-    }
-    Ok(())
+    rows_hold(&rt, rt.alloc(), Way::Beginnings, "", BEGINNINGS)
 }
 
-/// A chain of so many structs, each the `again` of the one before, and the last of them with `end`; each is the next
-/// two words after the pointer to it.
-fn chain(alloc: Global, count: u32) -> Result<Vec<u8>, Fail> {
-    let words = count.saturating_mul(2).saturating_add(1);
-    let mut bytes = Vec::new(alloc);
-    bytes.extend_from_slice(&[0, 0, 0, 0])?;
-    bytes.extend_from_slice(&words.to_le_bytes())?;
-    for _ in 1..count {
-        bytes.extend_from_slice(&[0, 0, 0, 0, 1, 0, 1, 0, 1, 0, 0, 0, 0, 0, 0, 0])?;
-    }
-    bytes.extend_from_slice(&[
-        0, 0, 0, 0, 1, 0, 1, 0, 0, 0, 0, 0, 0, 0, 0, 0, 0, 0, 0, 0, 0, 0, 0, 0,
-    ])?;
-    Ok(bytes)
-}
-
-/// Its text and a line break.
-fn chain_line(alloc: Global, count: u32) -> Result<String, Fail> {
-    let mut line = String::new(alloc);
-    for _ in 1..count {
-        line.push_str("(again = ")?;
-    }
-    line.push_str("(end = ())")?;
-    for _ in 1..count {
-        line.push_str(")")?;
-    }
-    line.push_str("\n")?;
-    Ok(line)
+/// A chain of structs, each the `again` of the one before, and the last of them with `end`; each is the next two words
+/// after the pointer to it.
+fn chain(alloc: Global, words: &str, again: usize) -> Result<Vec<u8>, Fail> {
+    let links = "0000000001000100 0100000000000000".repeat(alloc, again)?;
+    let text = format!(in alloc;
+        "00000000{words}000000 {links} 0000000001000100 0000000000000000 0000000000000000"
+    )?;
+    bytes_of(alloc, &text)
 }
 
 #[test]
 fn a_chain_is_printed_as_far_as_levels_reach(rt: HostRuntime) -> Result<(), Fail> {
-    let bytes = chain(rt.alloc(), 64)?;
-    let line = chain_line(rt.alloc(), 64)?;
-    comes_to(
+    let before = "(again = ".repeat(rt.alloc(), 63)?;
+    let after = ")".repeat(rt.alloc(), 63)?;
+    let line = format!(in rt.alloc(); "{before}(end = ()){after}\n")?;
+    let message = chain(rt.alloc(), "81", 63)?;
+    line_comes(
         &rt,
         rt.alloc(),
-        &run_on("Loop", &bytes, false),
-        &written(0, &line),
+        &run_on("Loop", &message, &[]),
+        false,
+        &line,
     )
 }
 
 #[test]
 fn a_chain_past_the_levels_is_refused(rt: HostRuntime) -> Result<(), Fail> {
-    let bytes = chain(rt.alloc(), 65)?;
-    let refused = written(1, "refused: 8\n");
-    comes_to(&rt, rt.alloc(), &run_on("Loop", &bytes, false), &refused)
-}
-
-/// The last setting, of which a call of the source fails, comes to this.
-fn read_comes_to(
-    rt: &impl Abort,
-    alloc: Global,
-    bytes: &[u8],
-    call: u64,
-    expected: &Expected<'_>,
-) -> Result<(), Fail> {
-    let on = Setting {
-        failing_read: Some(call),
-        ..run_on(LAST_WORDS, bytes, true)
-    };
-    comes_to(rt, alloc, &on, expected)
+    let message = chain(rt.alloc(), "83", 64)?;
+    line_comes(
+        &rt,
+        rt.alloc(),
+        &run_on("Loop", &message, &[]),
+        false,
+        "refused: 8\n",
+    )
 }
 
 #[test]
 fn tells_of_each_failed_read(rt: HostRuntime) -> Result<(), Fail> {
-    let bytes = bytes_of(rt.alloc(), LAST_MESSAGE)?;
-    let refused = written(1, "refused: 12\n");
-    // one call a byte, and one that finds the end
-    for call in 0..33 {
-        read_comes_to(&rt, rt.alloc(), &bytes, call, &refused)?;
-    }
-    read_comes_to(&rt, rt.alloc(), &bytes, 33, &written(0, LAST_LINE))
-}
-
-/// The same, of which a call of the sink fails.
-fn write_comes_to(
-    rt: &impl Abort,
-    alloc: Global,
-    bytes: &[u8],
-    call: u64,
-    expected: &Expected<'_>,
-) -> Result<(), Fail> {
-    let on = Setting {
-        failing_write: Some(call),
-        ..run_on(LAST_WORDS, bytes, true)
-    };
-    comes_to(rt, alloc, &on, expected)
+    rows_hold(&rt, rt.alloc(), Way::Failing("message"), "", LAST)
 }
 
 #[test]
 fn tells_of_each_failed_write(rt: HostRuntime) -> Result<(), Fail> {
-    let bytes = bytes_of(rt.alloc(), LAST_MESSAGE)?;
-    let line = LAST_LINE.as_bytes();
-    // one call a byte
-    for call in 0..line.len() {
-        let expected = Expected {
-            status: 1,
-            shown: &line[..call],
-            told: b"refused: 13\n",
-        };
-        write_comes_to(&rt, rt.alloc(), &bytes, call as u64, &expected)?;
-    }
-    write_comes_to(
-        &rt,
-        rt.alloc(),
-        &bytes,
-        line.len() as u64,
-        &written(0, LAST_LINE),
-    )
-}
-
-/// Asserts that each call that writes a line of errors may fail, and the status stays.
-fn status_stays(
-    rt: &impl Abort,
-    alloc: Global,
-    name: &str,
-    status: u8,
-    line: &[u8],
-) -> Result<(), Fail> {
-    for call in 0..line.len() {
-        let on = Setting {
-            failing_error: Some(call as u64),
-            ..run_on(name, &[], true)
-        };
-        let expected = Expected {
-            status,
-            shown: &[],
-            told: &line[..call],
-        };
-        comes_to(rt, alloc, &on, &expected)?;
-    }
-    Ok(())
+    rows_hold(&rt, rt.alloc(), Way::Failing("shown"), "", LAST)
 }
 
 #[test]
 fn failing_errors_change_no_status(rt: HostRuntime) -> Result<(), Fail> {
-    status_stays(&rt, rt.alloc(), "Flat", 1, b"refused: 2\n")?;
-    status_stays(&rt, rt.alloc(), "Nope", 2, USAGE.as_bytes())
+    rows_hold(&rt, rt.alloc(), Way::Failing("told"), "", UNTOLD)
 }
 
 /// Each refusal that a print can have, the others of one and of two digits, and one of the longest number.
-static LINES: [(ErrorKind, &str); 16] = [
-    (ErrorKind::OutOfMemory, "refused: 1\n"),
-    (ErrorKind::Truncated, "refused: 2\n"),
-    (ErrorKind::TooManySegments, "refused: 3\n"),
-    (ErrorKind::BadPointer, "refused: 4\n"),
-    (ErrorKind::WrongPointerKind, "refused: 5\n"),
-    (ErrorKind::WrongElementSize, "refused: 6\n"),
-    (ErrorKind::TextNotTerminated, "refused: 7\n"),
-    (ErrorKind::TooDeep, "refused: 8\n"),
-    (ErrorKind::CapabilityPointer, "refused: 9\n"),
-    (ErrorKind::SizePastFormat, "refused: 10\n"),
-    (ErrorKind::TooLarge, "refused: 11\n"),
-    (ErrorKind::ReadFailed, "refused: 12\n"),
-    (ErrorKind::WriteFailed, "refused: 13\n"),
-    (ErrorKind::FieldNotFound, "refused: 20\n"),
-    (
-        ErrorKind::Schema {
-            rule: 12,
-            table: SchemaTable::Node,
-            entry: 0,
-            field: 65535,
-        },
-        "refused: 52\n",
-    ),
-    (
-        ErrorKind::Schema {
-            rule: 4294967255,
-            table: SchemaTable::Enum,
-            entry: 0,
-            field: 0,
-        },
-        "refused: 4294967295\n",
-    ),
+static KINDS: [ErrorKind; 16] = [
+    ErrorKind::OutOfMemory,
+    ErrorKind::Truncated,
+    ErrorKind::TooManySegments,
+    ErrorKind::BadPointer,
+    ErrorKind::WrongPointerKind,
+    ErrorKind::WrongElementSize,
+    ErrorKind::TextNotTerminated,
+    ErrorKind::TooDeep,
+    ErrorKind::CapabilityPointer,
+    ErrorKind::SizePastFormat,
+    ErrorKind::TooLarge,
+    ErrorKind::ReadFailed,
+    ErrorKind::WriteFailed,
+    ErrorKind::FieldNotFound,
+    ErrorKind::Schema {
+        rule: 12,
+        table: SchemaTable::Node,
+        entry: 0,
+        field: 65535,
+    },
+    ErrorKind::Schema {
+        rule: 4294967255,
+        table: SchemaTable::Enum,
+        entry: 0,
+        field: 0,
+    },
 ];
 
-/// The line takes no memory: each is told whatever there is.
+/// Their lines.
+const LINES: &str = "\
+refused: 1
+refused: 2
+refused: 3
+refused: 4
+refused: 5
+refused: 6
+refused: 7
+refused: 8
+refused: 9
+refused: 10
+refused: 11
+refused: 12
+refused: 13
+refused: 20
+refused: 52
+refused: 4294967295
+";
+
+/// The lines take no memory of the program: each is told whatever there is.
 #[test]
 fn each_refusal_is_told(rt: HostRuntime) {
-    for (kind, line) in &LINES {
-        let mut errors = MemorySink::new(rt.alloc(), 4096, None);
+    let mut errors = MemorySink::new(rt.alloc(), 4096, None);
+    for kind in &KINDS {
         report(*kind, &mut errors);
-        assert_eq!(rt; errors.as_slice(), line.as_bytes(), "{line}");
     }
+    assert_eq!(rt; errors.as_slice(), LINES.as_bytes());
 }
 
 /// Words that ask for nothing, on lines: none, an empty one, and others. Each word has a comma after it.
@@ -479,29 +507,19 @@ Flat,--set,set,
 Flat,--indent,--set,set,
 --indent,--set,set,Flat,";
 
-/// Asserts that a source still has all its bytes.
-pub(crate) fn is_unread(
-    rt: &impl Abort,
-    alloc: Global,
-    source: &mut MemorySource<'_>,
-    bytes: &[u8],
-) -> Result<(), Fail> {
-    let left = read_all(alloc, source)?;
-    assert_eq!(rt; left.as_slice(), bytes);
-    Ok(())
-}
-
-fn usage_is_told(rt: &impl Abort, alloc: Global, on: &Setting<'_>) -> Result<(), Fail> {
-    let mut source = source_of(on);
-    comes_over(rt, alloc, &mut source, on, &written(2, USAGE))?;
-    is_unread(rt, alloc, &mut source, on.bytes)
-}
+/// What is told for them.
+const USAGE: &str = "usage: capnp_show [--set FILE] NAME [--indent]\n";
 
 #[test]
 fn other_words_tell_the_usage_and_read_nothing(rt: HostRuntime) -> Result<(), Fail> {
-    let message = [0, 0, 0, 0, 1, 0, 0, 0, 0, 0, 0, 0, 0, 0, 0, 0];
     for words in OTHER_WORDS.split('\n') {
-        usage_is_told(&rt, rt.alloc(), &run_on(words, &message, true))?;
+        line_comes(
+            &rt,
+            rt.alloc(),
+            &run_on(words, &EMPTY_ROOT, &[]),
+            true,
+            USAGE,
+        )?;
     }
     Ok(())
 }

@@ -1,170 +1,169 @@
 //! Messages that are refused, devices that fail, and words that can't be read.
-use crate::tests::{
-    Expected, Setting, USAGE, bytes_of, comes_over, comes_to, is_unread, run_on, source_of, tells,
-    told,
-};
+//!
+//! A row is a message or the program's words, an arrow, and the line that is told; `usage` stands for the usage's lines. A
+//! line that begins with `#` says what the rows below it show.
+use crate::tests::{EMPTY_ROOT, Setting, USAGE, answered, bytes_of, comes_to, run_on, tells};
 use std::alloc::Global;
 use std::process::Abort;
 use std::test::Fail;
 
-/// Messages that a patch under `Lists` refuses, each with its number.
-static HOSTILE: [(&str, &str); 9] = [
-    ("", "2"),
-    ("00020000", "3"),
-    // a pointer past the end
-    ("0000000001000000 fcffff7f01000000", "4"),
-    // a list where the root struct should be
-    ("0000000001000000 0100000000000000", "5"),
-    // a capability as the root, and inside
-    ("0000000001000000 0300000000000000", "9"),
-    ("0000000002000000 0000000000000100 0300000000000000", "9"),
-    // a pointer inside past the end, in a field that no call names
-    ("0000000002000000 0000000000000100 fcffff7f01000000", "4"),
-    // a struct that points to itself
-    ("0000000002000000 0000000000000100 f8ffffff00000100", "8"),
-    // a byte short
-    ("0000000002000000 0000000001000000 05000000000000", "2"),
-];
+/// Messages that a patch under `Lists` refuses.
+const HOSTILE: &str = "\
+# no bytes
+ -> refused: 2
+00020000 -> refused: 3
+# a pointer past the end
+0000000001000000 fcffff7f01000000 -> refused: 4
+# a list where the root struct should be
+0000000001000000 0100000000000000 -> refused: 5
+# a capability as the root, and inside
+0000000001000000 0300000000000000 -> refused: 9
+0000000002000000 0000000000000100 0300000000000000 -> refused: 9
+# a pointer inside past the end, in a field that no call names
+0000000002000000 0000000000000100 fcffff7f01000000 -> refused: 4
+# a struct that points to itself
+0000000002000000 0000000000000100 f8ffffff00000100 -> refused: 8
+# a byte short
+0000000002000000 0000000001000000 05000000000000 -> refused: 2
+";
+
+/// Asserts that words tell a line before the message is read: a refusal, the usage, or that they can't be read.
+fn line_is_told(rt: &impl Abort, alloc: Global, words: &str, line: &str) -> Result<(), Fail> {
+    let status = if line.starts_with("refused: ") { 1 } else { 2 };
+    let told = if line == "usage" { USAGE } else { line };
+    let wanted = format!(in alloc; "true {status} {told}\n|")?;
+    comes_to(rt, alloc, &run_on(words, &EMPTY_ROOT, false), &wanted)?;
+    comes_to(rt, alloc, &run_on(words, &EMPTY_ROOT, true), &wanted)
+}
+
+fn patch_is_so(
+    rt: &impl Abort,
+    alloc: Global,
+    words: &str,
+    bytes: &[u8],
+    wanted: &str,
+) -> Result<(), Fail> {
+    comes_to(rt, alloc, &run_on(words, bytes, false), wanted)?;
+    comes_to(rt, alloc, &run_on(words, bytes, true), wanted)
+}
+
+/// Asserts that a message is refused with a line.
+fn message_is_refused(
+    rt: &impl Abort,
+    alloc: Global,
+    message: &str,
+    line: &str,
+) -> Result<(), Fail> {
+    let bytes = bytes_of(alloc, message)?;
+    let wanted = format!(in alloc; "false 1 {line}\n|")?;
+    patch_is_so(rt, alloc, "patch|Lists|set t \"x\"", &bytes, &wanted)?;
+    let words = "patch|--keep-going|Lists|set t \"x\"";
+    patch_is_so(rt, alloc, words, &bytes, &wanted)
+}
+
+/// Asserts that a row of a message or of words holds.
+fn row_holds(rt: &impl Abort, alloc: Global, messages: bool, row: &str) -> Result<(), Fail> {
+    if row.starts_with('#') {
+        return Ok(());
+    }
+    let (question, line) = row.split_once(" -> ").unwrap_or((row, ""));
+    if messages {
+        message_is_refused(rt, alloc, question, line)
+    } else {
+        line_is_told(rt, alloc, question, line)
+    }
+}
+
+fn rows_hold(rt: &impl Abort, alloc: Global, messages: bool, rows: &str) -> Result<(), Fail> {
+    for row in rows.lines() {
+        row_holds(rt, alloc, messages, row)?;
+    }
+    Ok(())
+}
 
 #[test]
 fn hostile_messages_are_refused_and_nothing_is_written(rt: HostRuntime) -> Result<(), Fail> {
-    for (message, number) in &HOSTILE {
-        let bytes = bytes_of(rt.alloc(), message)?;
-        let line = format!(in rt.alloc(); "refused: {number}\n")?;
-        let expected = told(1, line.as_str());
-        comes_to(
-            &rt,
-            rt.alloc(),
-            &run_on("patch|Lists|set t \"x\"", &bytes, false),
-            &expected,
-        )?;
-        comes_to(
-            &rt,
-            rt.alloc(),
-            &run_on("patch|--keep-going|Lists|set t \"x\"", &bytes, true),
-            &expected,
-        )?;
-    }
-    Ok(())
+    rows_hold(&rt, rt.alloc(), true, HOSTILE)
 }
 
 /// Words that ask for nothing.
-static OTHER_WORDS: [&str; 30] = [
-    "",
-    "show",
-    "Get|Flat|a",
-    "get",
-    "get|Flat",
-    "get|Flat|a|--indented",
-    "get|Flat|a|--indent|--indent",
-    "get|--indent|Flat|a|b",
-    "get|--set|set",
-    "get|--set|set|Flat",
-    "get|--calls|calls|Flat|a",
-    "get|--keep-going|Flat|a|b",
-    "patch",
-    "patch|--keep-going",
-    "patch|--set|set",
-    "patch|--calls|calls",
-    "patch|--calls|calls|Flat|get a",
-    "patch|--set|set|--calls|calls|--keep-going",
-    "new",
-    "new|--keep-going",
-    "new|--set|set|--keep-going",
-    "new|--calls|calls|Flat|",
-    // no struct of the built-in set
-    "get|Nope|a",
-    "patch|Nope|get a",
-    "new|Shapes.circle",
-    "structs|Nope",
-    "structs|Flat|a",
-    "structs|--set",
-    "structs|--set|set|Flat|a",
-    "structs|--indent",
-];
-
-/// A message of which nothing is read.
-const UNREAD: [u8; 16] = [0, 0, 0, 0, 1, 0, 0, 0, 0, 0, 0, 0, 0, 0, 0, 0];
-
-/// Asserts that a setting comes to this, and that its message isn't read.
-fn comes_unread(
-    rt: &impl Abort,
-    alloc: Global,
-    on: &Setting<'_>,
-    expected: &Expected<'_>,
-) -> Result<(), Fail> {
-    let mut source = source_of(on);
-    comes_over(rt, alloc, &mut source, on, expected)?;
-    is_unread(rt, alloc, &mut source, on.bytes)
-}
+const OTHER_WORDS: &str = "\
+# no words, and no verb
+ -> usage
+show -> usage
+Get|Flat|a -> usage
+get -> usage
+get|Flat -> usage
+get|Flat|a|--indented -> usage
+get|Flat|a|--indent|--indent -> usage
+get|--indent|Flat|a|b -> usage
+get|--set|set -> usage
+get|--set|set|Flat -> usage
+get|--calls|calls|Flat|a -> usage
+get|--keep-going|Flat|a|b -> usage
+patch -> usage
+patch|--keep-going -> usage
+patch|--set|set -> usage
+patch|--calls|calls -> usage
+patch|--calls|calls|Flat|get a -> usage
+patch|--set|set|--calls|calls|--keep-going -> usage
+new -> usage
+new|--keep-going -> usage
+new|--set|set|--keep-going -> usage
+new|--calls|calls|Flat| -> usage
+# no struct of the built-in set
+get|Nope|a -> usage
+patch|Nope|get a -> usage
+new|Shapes.circle -> usage
+structs|Nope -> usage
+structs|Flat|a -> usage
+structs|--set -> usage
+structs|--set|set|Flat|a -> usage
+structs|--indent -> usage
+";
 
 #[test]
 fn other_words_are_told_the_usage(rt: HostRuntime) -> Result<(), Fail> {
-    for words in &OTHER_WORDS {
-        let on = run_on(words, &UNREAD, false);
-        comes_unread(&rt, rt.alloc(), &on, &told(2, USAGE))?;
-    }
-    Ok(())
+    rows_hold(&rt, rt.alloc(), false, OTHER_WORDS)
 }
 
 /// Words of paths and calls that can't be read, whatever there is in the set, and what is told.
-static UNREADABLE: [(&str, &str); 15] = [
-    ("get|Flat|", "1: : can't be read at 0\n"),
-    ("get|Flat|a..b", "1: a..b: can't be read at 2\n"),
-    ("get|Flat|a.", "1: a.: can't be read at 2\n"),
-    ("get|Flat|#", "1: #: can't be read at 1\n"),
-    ("get|Flat|#65536", "1: #65536: can't be read at 5\n"),
-    ("get|Flat|4294967296", "1: 4294967296: can't be read at 9\n"),
-    ("get|Flat|a b", "1: a b: can't be read at 1\n"),
-    (
-        "patch|Flat|get a|sets a 1",
-        "2: sets a 1: can't be read at 3\n",
-    ),
-    (
-        "patch|Flat|get a|get .|get",
-        "2: get .: can't be read at 4\n",
-    ),
-    ("patch|Flat|", "1: : can't be read at 0\n"),
-    (
-        "patch|--keep-going|Flat|set a",
-        "1: set a: can't be read at 5\n",
-    ),
-    (
-        "new|Flat|initn a 4294967296",
-        "1: initn a 4294967296: can't be read at 17\n",
-    ),
-    ("new|Flat|initn a", "1: initn a: can't be read at 7\n"),
-    ("new|Flat|which", "1: which: can't be read at 5\n"),
-    ("new|Flat|clear a b", "1: clear a b: can't be read at 7\n"),
-];
+const UNREADABLE: &str = "\
+get|Flat| -> 1: : can't be read at 0
+get|Flat|a..b -> 1: a..b: can't be read at 2
+get|Flat|a. -> 1: a.: can't be read at 2
+get|Flat|# -> 1: #: can't be read at 1
+get|Flat|#65536 -> 1: #65536: can't be read at 5
+get|Flat|4294967296 -> 1: 4294967296: can't be read at 9
+get|Flat|a b -> 1: a b: can't be read at 1
+patch|Flat|get a|sets a 1 -> 2: sets a 1: can't be read at 3
+patch|Flat|get a|get .|get -> 2: get .: can't be read at 4
+patch|Flat| -> 1: : can't be read at 0
+patch|--keep-going|Flat|set a -> 1: set a: can't be read at 5
+new|Flat|initn a 4294967296 -> 1: initn a 4294967296: can't be read at 17
+new|Flat|initn a -> 1: initn a: can't be read at 7
+new|Flat|which -> 1: which: can't be read at 5
+new|Flat|clear a b -> 1: clear a b: can't be read at 7
+";
 
 #[test]
 fn words_that_cannot_be_read_are_told_with_their_place(rt: HostRuntime) -> Result<(), Fail> {
-    for (words, line) in &UNREADABLE {
-        let on = run_on(words, &UNREAD, true);
-        comes_unread(&rt, rt.alloc(), &on, &told(2, line))?;
-    }
-    Ok(())
+    rows_hold(&rt, rt.alloc(), false, UNREADABLE)
 }
 
 /// Words under sets and names that there are none of.
-static NO_ROOTS: [(&str, &str); 6] = [
-    ("get|--set|nowhere|Flat|a", "12"),
-    ("patch|--set|nowhere|Flat|get a", "12"),
-    ("new|--set|set|Flat", "2"),
-    ("patch|--calls|nowhere|Flat", "12"),
-    ("structs|--set|nowhere", "12"),
-    ("structs|--set|set|Flat", "2"),
-];
+const NO_ROOTS: &str = "\
+get|--set|nowhere|Flat|a -> refused: 12
+patch|--set|nowhere|Flat|get a -> refused: 12
+new|--set|set|Flat -> refused: 2
+patch|--calls|nowhere|Flat -> refused: 12
+structs|--set|nowhere -> refused: 12
+structs|--set|set|Flat -> refused: 2
+";
 
 #[test]
 fn sets_and_names_are_refused_before_the_message_is_read(rt: HostRuntime) -> Result<(), Fail> {
-    for (words, number) in &NO_ROOTS {
-        let line = format!(in rt.alloc(); "refused: {number}\n")?;
-        let on = run_on(words, &UNREAD, false);
-        comes_unread(&rt, rt.alloc(), &on, &told(1, line.as_str()))?;
-    }
-    Ok(())
+    rows_hold(&rt, rt.alloc(), false, NO_ROOTS)
 }
 
 /// A message of `Flat`, whose number is 5.
@@ -181,12 +180,8 @@ fn lines_are_calls(rt: &impl Abort, alloc: Global, calls: &str) -> Result<(), Fa
         ..run_on("patch|--calls|calls|Flat", &bytes, true)
     };
     let written = bytes_of(alloc, "0000000002000000 0000000001000000 0600000000000000")?;
-    let expected = Expected {
-        status: 0,
-        written: &written,
-        told: b"1: get a = 5\n3: get a = 6\n",
-    };
-    comes_to(rt, alloc, &on, &expected)
+    let wanted = answered(alloc, false, 0, &written, b"1: get a = 5\n3: get a = 6\n")?;
+    comes_to(rt, alloc, &on, &wanted)
 }
 
 #[test]
@@ -199,20 +194,13 @@ fn calls_are_the_lines_of_a_file(rt: HostRuntime) -> Result<(), Fail> {
 
 #[test]
 fn an_empty_file_has_no_calls(rt: HostRuntime) -> Result<(), Fail> {
-    let none = Setting {
-        calls: &[],
-        ..run_on("new|--calls|calls|--keep-going|Flat", &UNREAD, false)
-    };
     let empty = bytes_of(
         rt.alloc(),
         "0000000002000000 0000000001000000 0000000000000000",
     )?;
-    let expected = Expected {
-        status: 0,
-        written: &empty,
-        told: &[],
-    };
-    comes_unread(&rt, rt.alloc(), &none, &expected)
+    let wanted = answered(rt.alloc(), true, 0, &empty, &[])?;
+    let on = run_on("new|--calls|calls|--keep-going|Flat", &EMPTY_ROOT, false);
+    comes_to(&rt, rt.alloc(), &on, &wanted)
 }
 
 /// Files of calls, one of which can't be read, and what is told.
@@ -227,19 +215,19 @@ static CALL_FILES: [(&[u8], &str); 5] = [
     (b"set a \xC3", "calls: can't be read at 6\n"),
 ];
 
+/// Asserts what a file of calls tells.
+fn calls_are_unread(rt: &impl Abort, alloc: Global, calls: &[u8], line: &str) -> Result<(), Fail> {
+    let wanted = format!(in alloc; "true 2 {line}|")?;
+    let patch = run_on("patch|--calls|calls|Flat", &EMPTY_ROOT, false);
+    comes_to(rt, alloc, &Setting { calls, ..patch }, &wanted)?;
+    let new = run_on("new|--calls|calls|--keep-going|Flat", &EMPTY_ROOT, false);
+    comes_to(rt, alloc, &Setting { calls, ..new }, &wanted)
+}
+
 #[test]
 fn lines_that_cannot_be_read_are_told_with_their_place(rt: HostRuntime) -> Result<(), Fail> {
     for (calls, line) in &CALL_FILES {
-        for words in [
-            "patch|--calls|calls|Flat",
-            "new|--calls|calls|--keep-going|Flat",
-        ] {
-            let on = Setting {
-                calls,
-                ..run_on(words, &UNREAD, false)
-            };
-            comes_unread(&rt, rt.alloc(), &on, &told(2, line))?;
-        }
+        calls_are_unread(&rt, rt.alloc(), calls, line)?;
     }
     Ok(())
 }
@@ -269,37 +257,46 @@ fn each_write_fails(
     rt: &impl Abort,
     alloc: Global,
     on: &Setting<'_>,
+    unread: bool,
     written: &[u8],
 ) -> Result<(), Fail> {
     for call in 0..written.len() {
-        let failing = Setting {
-            failing_write: Some(call as u64),
-            slow: true,
-            ..*on
-        };
-        let expected = Expected {
-            status: 1,
-            written: &written[..call],
-            told: b"refused: 13\n",
-        };
-        comes_to(rt, alloc, &failing, &expected)?;
+        let wanted = answered(alloc, unread, 1, &written[..call], b"refused: 13\n")?;
+        comes_to(rt, alloc, &Setting { call, ..*on }, &wanted)?;
     }
     Ok(())
 }
 
+/// Asserts this of words, and what they come to where no write fails. A new message and a list of structs read none.
+fn words_write(
+    rt: &impl Abort,
+    alloc: Global,
+    words: &str,
+    written: &str,
+    told: &str,
+) -> Result<(), Fail> {
+    let bytes = bytes_of(alloc, FLAT)?;
+    let written = bytes_of(alloc, written)?;
+    let unread = words.starts_with("new") || words == "structs";
+    let on = run_on(words, &bytes, true);
+    let wanted = answered(alloc, unread, 0, &written, told.as_bytes())?;
+    comes_to(rt, alloc, &on, &wanted)?;
+    each_write_fails(
+        rt,
+        alloc,
+        &Setting {
+            device: "written",
+            ..on
+        },
+        unread,
+        &written,
+    )
+}
+
 #[test]
 fn each_write_fails_in_turn(rt: HostRuntime) -> Result<(), Fail> {
-    let bytes = bytes_of(rt.alloc(), FLAT)?;
     for (words, written, told) in &FAILING {
-        let written = bytes_of(rt.alloc(), written)?;
-        let on = run_on(words, &bytes, true);
-        let expected = Expected {
-            status: 0,
-            written: &written,
-            told: told.as_bytes(),
-        };
-        comes_to(&rt, rt.alloc(), &on, &expected)?;
-        each_write_fails(&rt, rt.alloc(), &on, &written)?;
+        words_write(&rt, rt.alloc(), words, written, told)?;
     }
     Ok(())
 }
@@ -307,17 +304,30 @@ fn each_write_fails_in_turn(rt: HostRuntime) -> Result<(), Fail> {
 /// Words of which each read of the message fails in turn.
 static READING: [&str; 2] = ["get|Flat|a", "patch|Flat|set a 7"];
 
+/// Asserts that each of so many calls of a device fails.
+fn each_call_fails(
+    rt: &impl Abort,
+    alloc: Global,
+    on: &Setting<'_>,
+    calls: usize,
+) -> Result<(), Fail> {
+    for call in 0..calls {
+        let unread = call == 0 || on.device == "file";
+        let wanted = answered(alloc, unread, 1, &[], b"refused: 12\n")?;
+        comes_to(rt, alloc, &Setting { call, ..*on }, &wanted)?;
+    }
+    Ok(())
+}
+
 #[test]
 fn each_read_fails_in_turn(rt: HostRuntime) -> Result<(), Fail> {
     let bytes = bytes_of(rt.alloc(), FLAT)?;
     for words in &READING {
-        for call in 0..bytes.len() + 1 {
-            let on = Setting {
-                failing_read: Some(call as u64),
-                ..run_on(words, &bytes, true)
-            };
-            comes_to(&rt, rt.alloc(), &on, &told(1, "refused: 12\n"))?;
-        }
+        let on = Setting {
+            device: "message",
+            ..run_on(words, &bytes, true)
+        };
+        each_call_fails(&rt, rt.alloc(), &on, bytes.len() + 1)?;
     }
     Ok(())
 }
@@ -325,14 +335,12 @@ fn each_read_fails_in_turn(rt: HostRuntime) -> Result<(), Fail> {
 #[test]
 fn each_read_of_a_file_fails_in_turn(rt: HostRuntime) -> Result<(), Fail> {
     for words in ["patch|--calls|calls|Flat", "new|--calls|calls|Flat"] {
-        for call in 0..7 {
-            let on = Setting {
-                calls: b"get a\n",
-                failing_file: Some(call),
-                ..run_on(words, &UNREAD, true)
-            };
-            comes_unread(&rt, rt.alloc(), &on, &told(1, "refused: 12\n"))?;
-        }
+        let on = Setting {
+            calls: b"get a\n",
+            device: "file",
+            ..run_on(words, &EMPTY_ROOT, true)
+        };
+        each_call_fails(&rt, rt.alloc(), &on, 7)?;
     }
     Ok(())
 }
@@ -340,18 +348,19 @@ fn each_read_of_a_file_fails_in_turn(rt: HostRuntime) -> Result<(), Fail> {
 #[test]
 fn what_cannot_be_told_changes_no_status(rt: HostRuntime) -> Result<(), Fail> {
     let bytes = bytes_of(rt.alloc(), FLAT)?;
-    for (words, status, before) in [
-        ("patch|Flat|get a", 0, "1: get"),
-        ("patch|Flat|get b", 1, "1: get"),
-        ("patch|Flat|get .", 2, "1: get"),
-        ("patch", 2, "usage:"),
-        ("structs|--set|nowhere", 1, "refuse"),
+    for (words, wanted) in [
+        ("patch|Flat|get a", "false 0 1: get|"),
+        ("patch|Flat|get b", "false 1 1: get|"),
+        ("patch|Flat|get .", "true 2 1: get|"),
+        ("patch", "true 2 usage:|"),
+        ("structs|--set|nowhere", "true 1 refuse|"),
     ] {
         let on = Setting {
-            failing_error: Some(6),
+            device: "told",
+            call: 6,
             ..run_on(words, &bytes, false)
         };
-        tells(&rt, rt.alloc(), &on, status, before)?;
+        tells(&rt, rt.alloc(), &on, wanted)?;
     }
     Ok(())
 }

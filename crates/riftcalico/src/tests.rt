@@ -1,4 +1,7 @@
 //! What the program writes and answers, by its public call, over sources and sinks in memory.
+//!
+//! A setting says what the program is run on, and what comes of it is one text: whether the message still has all its
+//! bytes, the status, what was told, a bar, and what was written. Rows are texts (`rows`).
 ghost use Rattle.std.specs.Prelude.{⊤, ◌<◌};
 
 use crate::rows::{GOT, LISTED, PATCHED};
@@ -15,13 +18,15 @@ pub(crate) const USAGE: &str = "\
 usage: riftcalico get [--set FILE] NAME PATH [--indent]
        riftcalico patch [--set FILE] [--calls FILE] [--keep-going] NAME CALL..
        riftcalico new [--set FILE] [--calls FILE] [--keep-going] NAME CALL..
-       riftcalico structs [--set FILE] [NAME]
-";
+       riftcalico structs [--set FILE] [NAME]";
 
 /// The only paths that have a file: of a set and of calls.
 const SET: &str = "set";
 
 const CALLS: &str = "calls";
+
+/// A message of which nothing is read.
+pub(crate) const EMPTY_ROOT: [u8; 16] = [0, 0, 0, 0, 1, 0, 0, 0, 0, 0, 0, 0, 0, 0, 0, 0];
 
 /// What the program is run on.
 #[derive(Clone, Copy)]
@@ -34,27 +39,10 @@ pub(crate) struct Setting<'a> {
     pub calls: &'a [u8],
     /// Whether a call of a source or sink moves a byte, and else up to 4096.
     pub slow: bool,
-    /// Which calls fail: of a file, of the source, of the sink, and of the sink of errors, which takes a byte a call.
-    pub failing_file: Option<u64>,
-    pub failing_read: Option<u64>,
-    pub failing_write: Option<u64>,
-    pub failing_error: Option<u64>,
-}
-
-/// What comes of it: the status, and what was written to the sink and to the sink of errors.
-#[derive(Clone, Copy)]
-pub(crate) struct Expected<'a> {
-    pub status: u8,
-    pub written: &'a [u8],
-    pub told: &'a [u8],
-}
-
-/// The same as it came.
-#[derive(Drop)]
-struct Outcome {
-    status: u8,
-    sink: MemorySink,
-    errors: MemorySink,
+    /// The device of which a call fails, by what it moves: `file`, `message`, `written` or `told`, which moves a byte a
+    /// call. None has no name.
+    pub device: &'a str,
+    pub call: usize,
 }
 
 /// Opens two files in memory.
@@ -89,19 +77,8 @@ pub(crate) fn run_on<'a>(words: &'a str, bytes: &'a [u8], slow: bool) -> Setting
         set: &[],
         slow,
         calls: &[],
-        failing_file: None,
-        failing_read: None,
-        failing_write: None,
-        failing_error: None,
-    }
-}
-
-/// A line that is told, where nothing is written.
-pub(crate) fn told(status: u8, line: &str) -> Expected<'_> {
-    Expected {
-        status,
-        written: &[],
-        told: line.as_bytes(),
+        device: "",
+        call: 0,
     }
 }
 
@@ -113,8 +90,9 @@ fn digit(letter: u8) -> Option<u8> {
     }
 }
 
-/// Appends the bytes of hexadecimal digits, two a byte; what is no digit is left out.
-fn put_bytes(bytes: &mut Vec<u8>, text: &str) -> Result<(), Fail> {
+/// The bytes of hexadecimal digits, two a byte; what is no digit is left out.
+pub(crate) fn bytes_of(alloc: Global, text: &str) -> Result<Vec<u8>, Fail> {
+    let mut bytes = Vec::new(alloc);
     let mut high = None;
     for letter in text.as_bytes() {
         let Some(low) = digit(*letter) else {
@@ -128,12 +106,6 @@ fn put_bytes(bytes: &mut Vec<u8>, text: &str) -> Result<(), Fail> {
             }
         };
     }
-    Ok(())
-}
-
-pub(crate) fn bytes_of(alloc: Global, text: &str) -> Result<Vec<u8>, Fail> {
-    let mut bytes = Vec::new(alloc);
-    put_bytes(&mut bytes, text)?;
     Ok(bytes)
 }
 
@@ -151,47 +123,59 @@ fn chunk(slow: bool) -> usize
     if slow { 1 } else { 4096 }
 }
 
-pub(crate) fn source_of<'a>(on: &Setting<'a>) -> MemorySource<'a> {
-    MemorySource::new(on.bytes, chunk(on.slow), on.failing_read)
+fn failing(on: &Setting<'_>, device: &str) -> Option<u64> {
+    if on.device == device {
+        Some(on.call as u64)
+    } else {
+        None
+    }
 }
 
-/// The program over a source.
-fn outcome_over(
+/// Whether a source still has all bytes of a message.
+fn is_unread(alloc: Global, source: &mut MemorySource<'_>, message: &[u8]) -> bool {
+    match read_all(alloc, source) {
+        Ok(left) => !message.is_empty() && left.as_slice() == message,
+        Err(_) => false,
+    }
+}
+
+/// What comes of a run, as a text: bytes that are no UTF-8 stand there as numbers.
+pub(crate) fn answered(
     alloc: Global,
-    source: &mut MemorySource<'_>,
-    on: &Setting<'_>,
-) -> Result<Outcome, Fail> {
+    unread: bool,
+    status: u8,
+    written: &[u8],
+    told: &[u8],
+) -> Result<String, Fail> {
+    let told = str::from_utf8(told).unwrap_or("no UTF-8");
+    match str::from_utf8(written) {
+        Ok(text) => Ok(format!(in alloc; "{unread} {status} {told}|{text}")?),
+        Err(_) => Ok(format!(in alloc; "{unread} {status} {told}|{written:?}")?),
+    }
+}
+
+/// What comes of a setting.
+fn seen(alloc: Global, on: &Setting<'_>) -> Result<String, Fail> {
     let words = words_of(alloc, on.words)?;
-    let mut sink = MemorySink::new(alloc, chunk(on.slow), on.failing_write);
-    let mut errors = MemorySink::new(alloc, 1, on.failing_error);
     let mut opener = TwoFiles {
         set: on.set,
         calls: on.calls,
         slow: on.slow,
-        failing: on.failing_file,
+        failing: failing(on, "file"),
     };
-    let status = command_over(&mut opener, alloc, &words, source, &mut sink, &mut errors);
-    Ok(Outcome {
-        status,
-        sink,
-        errors,
-    })
-}
-
-/// Asserts that a setting comes to this over a source.
-pub(crate) fn comes_over(
-    rt: &impl Abort,
-    alloc: Global,
-    source: &mut MemorySource<'_>,
-    on: &Setting<'_>,
-    expected: &Expected<'_>,
-) -> Result<(), Fail> {
-    let outcome = outcome_over(alloc, source, on)?;
-    let words = on.words;
-    assert_eq!(rt; outcome.status, expected.status, "{words}");
-    assert_eq!(rt; outcome.sink.as_slice(), expected.written, "{words}");
-    assert_eq!(rt; outcome.errors.as_slice(), expected.told, "{words}");
-    Ok(())
+    let mut source = MemorySource::new(on.bytes, chunk(on.slow), failing(on, "message"));
+    let mut sink = MemorySink::new(alloc, chunk(on.slow), failing(on, "written"));
+    let mut errors = MemorySink::new(alloc, 1, failing(on, "told"));
+    let status = command_over(
+        &mut opener,
+        alloc,
+        &words,
+        &mut source,
+        &mut sink,
+        &mut errors,
+    );
+    let unread = is_unread(alloc, &mut source, on.bytes);
+    answered(alloc, unread, status, sink.as_slice(), errors.as_slice())
 }
 
 /// Asserts that a setting comes to this.
@@ -199,111 +183,60 @@ pub(crate) fn comes_to(
     rt: &impl Abort,
     alloc: Global,
     on: &Setting<'_>,
-    expected: &Expected<'_>,
+    wanted: &str,
 ) -> Result<(), Fail> {
-    let mut source = source_of(on);
-    comes_over(rt, alloc, &mut source, on, expected)
+    let seen = seen(alloc, on)?;
+    assert_eq!(rt; seen.as_str(), wanted, "{}", on.words);
+    Ok(())
 }
 
-/// Asserts what a setting answers and tells.
+/// Asserts what a setting comes to, but for what is written.
 pub(crate) fn tells(
     rt: &impl Abort,
     alloc: Global,
     on: &Setting<'_>,
-    status: u8,
-    lines: &str,
+    wanted: &str,
 ) -> Result<(), Fail> {
-    let mut source = source_of(on);
-    let outcome = outcome_over(alloc, &mut source, on)?;
-    let words = on.words;
-    assert_eq!(rt; outcome.errors.as_slice(), lines.as_bytes(), "{words}");
-    assert_eq!(rt; outcome.status, status, "{words}");
+    let seen = seen(alloc, on)?;
+    assert!(rt; seen.as_str().starts_with(wanted), "{seen}");
     Ok(())
 }
 
-/// Asserts that a source still has all its bytes.
-pub(crate) fn is_unread(
-    rt: &impl Abort,
-    alloc: Global,
-    source: &mut MemorySource<'_>,
-    bytes: &[u8],
-) -> Result<(), Fail> {
-    let left = read_all(alloc, source)?;
-    assert_eq!(rt; left.as_slice(), bytes);
-    Ok(())
-}
-
-/// A row, taken apart.
-#[derive(Drop)]
-struct Row {
-    words: String,
-    message: Vec<u8>,
-    status: u8,
-    written: Vec<u8>,
-    told: Vec<u8>,
-}
-
-fn empty_row(alloc: Global) -> Row {
-    Row {
-        words: String::new(alloc),
-        message: Vec::new(alloc),
-        status: 0,
-        written: Vec::new(alloc),
-        told: Vec::new(alloc),
+/// What stands on a row's lines with a mark, and after each of them an end.
+fn joined(alloc: Global, text: &str, mark: char, end: &str) -> Result<String, Fail> {
+    let mut joined = String::new(alloc);
+    for line in text.split('\n') {
+        if let Some(rest) = line.strip_prefix(mark) {
+            joined.push_str(rest)?;
+            joined.push_str(end)?;
+        }
     }
+    Ok(joined)
 }
 
-/// Takes a line of a row.
-fn take_line(row: &mut Row, line: &str) -> Result<(), Fail> {
-    let Some(first) = line.as_bytes().first() else {
-        return Ok(());
-    };
-    let Some(rest) = line.get(1..) else {
-        return Ok(());
-    };
-    match *first {
-        b':' => {
-            if !row.words.is_empty() {
-                row.words.push_str("|")?;
-            }
-            row.words.push_str(rest)?;
-        }
-        b'<' => put_bytes(&mut row.message, rest)?,
-        b'=' => row.status = u8::from(rest == "1"),
-        b'>' => put_bytes(&mut row.written, rest)?,
-        b'"' => {
-            row.written.extend_from_slice(rest.as_bytes())?;
-            row.written.push(b'\n')?;
-        }
-        b'!' => {
-            row.told.extend_from_slice(rest.as_bytes())?;
-            row.told.push(b'\n')?;
-        }
-        _ => {}
-    }
-    Ok(())
+/// The bytes of a row's lines with a mark.
+fn joined_bytes(alloc: Global, text: &str, mark: char) -> Result<Vec<u8>, Fail> {
+    let digits = joined(alloc, text, mark, "")?;
+    bytes_of(alloc, &digits)
+}
+
+/// What has to come of a row.
+fn wanted_of(alloc: Global, text: &str) -> Result<String, Fail> {
+    let mut written = joined_bytes(alloc, text, '>')?;
+    written.extend_from_slice(joined(alloc, text, '"', "\n")?.as_bytes())?;
+    let told = joined(alloc, text, '!', "\n")?;
+    let status = u8::from(text.contains("\n=1\n"));
+    answered(alloc, false, status, &written, told.as_bytes())
 }
 
 /// Asserts that a row is so, whatever a call of a device moves.
 fn row_is_so(rt: &impl Abort, alloc: Global, text: &str) -> Result<(), Fail> {
-    let mut row = empty_row(alloc);
-    for line in text.split('\n') {
-        take_line(&mut row, line)?;
-    }
-    let expected = Expected {
-        status: row.status,
-        written: &row.written,
-        told: &row.told,
-    };
-    for slow in [true, false] {
-        comes_to(
-            rt,
-            alloc,
-            &run_on(row.words.as_str(), &row.message, slow),
-            &expected,
-        )?;
-    }
-    Ok(())
+    let words = joined(alloc, text, ':', "|")?;
+    let words = words.as_str().strip_suffix('|').unwrap_or("");
+    let message = joined_bytes(alloc, text, '<')?;
+    let wanted = wanted_of(alloc, text)?;
+    comes_to(rt, alloc, &run_on(words, &message, true), &wanted)?;
+    comes_to(rt, alloc, &run_on(words, &message, false), &wanted)
 }
 
 fn rows_are_so(rt: &impl Abort, alloc: Global, rows: &str) -> Result<(), Fail> {

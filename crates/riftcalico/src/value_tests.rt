@@ -1,8 +1,6 @@
 //! Every kind of value, typed as a word: those at the bounds of their types, which are set and read back, and those one
 //! past them, which are told with the place of the byte that can't stand.
-use crate::tests::{
-    Expected, Setting, bytes_of, comes_over, comes_to, is_unread, run_on, source_of, tells, told,
-};
+use crate::tests::{EMPTY_ROOT, Setting, answered, bytes_of, comes_to, run_on, tells};
 use std::alloc::Global;
 use std::process::Abort;
 use std::test::Fail;
@@ -162,12 +160,12 @@ fn value_is_read(
 ) -> Result<(), Fail> {
     let (path, word, printed) = *row;
     let words = format!(in alloc; "new|--set|set|Values|set {path} {word}|get {path}")?;
-    let lines = format!(in alloc; "2: get {path} = {printed}\n")?;
+    let wanted = format!(in alloc; "false 0 2: get {path} = {printed}\n|")?;
     let setting = Setting {
         set,
         ..run_on(words.as_str(), &[], false)
     };
-    tells(rt, alloc, &setting, 0, lines.as_str())
+    tells(rt, alloc, &setting, &wanted)
 }
 
 #[test]
@@ -190,15 +188,12 @@ fn value_is_unread(
     let words = format!(in alloc;
         "patch|--set|set|--keep-going|Values|get {path}|set {path} {word}"
     )?;
-    let line = format!(in alloc; "2: set {path} {word}: can't be read at {place}\n")?;
-    let message = [0, 0, 0, 0, 1, 0, 0, 0, 0, 0, 0, 0, 0, 0, 0, 0];
+    let wanted = format!(in alloc; "true 2 2: set {path} {word}: can't be read at {place}\n|")?;
     let setting = Setting {
         set,
-        ..run_on(words.as_str(), &message, false)
+        ..run_on(words.as_str(), &EMPTY_ROOT, false)
     };
-    let mut source = source_of(&setting);
-    comes_over(rt, alloc, &mut source, &setting, &told(2, line.as_str()))?;
-    is_unread(rt, alloc, &mut source, &message)
+    comes_to(rt, alloc, &setting, &wanted)
 }
 
 #[test]
@@ -219,10 +214,6 @@ fn a_message_of_all_values_is_the_public_tools(rt: HostRuntime) -> Result<(), Fa
         set: &set,
         ..run_on(ALL_WORDS, &[], true)
     };
-    let expected = Expected {
-        status: 0,
-        written: &written,
-        told: &[],
-    };
-    comes_to(&rt, rt.alloc(), &setting, &expected)
+    let wanted = answered(rt.alloc(), false, 0, &written, &[])?;
+    comes_to(&rt, rt.alloc(), &setting, &wanted)
 }
