@@ -1,8 +1,8 @@
 //! Messages, as hexadecimal words, and what is written for them, as texts.
 //!
 //! A row ends with an empty line. Its first line has the program's words, with commas between them, a colon and the
-//! message; the lines after it are what is written: the text, the refusal or the usage. A line that begins with `#` says
-//! what the row shows.
+//! message; the lines after it are what is written: the text, the refusal or the usage. A line that begins with `#`
+//! says what the row shows.
 
 /// A row: what the program is run on, and the line that it writes.
 #[derive(Clone, Copy)]
