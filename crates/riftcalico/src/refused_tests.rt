@@ -1,7 +1,7 @@
 //! Messages that are refused, devices that fail, and words that can't be read.
 //!
-//! A row is a message or the program's words, an arrow, and the line that is told; `usage` stands for the usage's lines.
-//! A line that begins with `#` says what the rows below it show.
+//! A row is a message or the program's words, an arrow, and the line that is told, of which `usage` stands for the
+//! lines of the usage. A line that begins with `#` says what the rows below it show.
 use crate::tests::{EMPTY_ROOT, Setting, USAGE, answered, bytes_of, comes_to, run_on, tells};
 use std::alloc::Global;
 use std::process::Abort;
