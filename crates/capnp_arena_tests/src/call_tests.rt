@@ -1,4 +1,4 @@
-//! Messages that are built, copied and entered, call by call: what each call answers, and what the message is then.
+//! Messages that are built, copied and entered, call by call: what each call and what the message is then.
 //! With memory at hand each call succeeds; one that memory is refused to changes nothing.
 ghost use Rattle.std.specs.Prelude.{IfOk};
 ghost use Rattle.capnp_arena.specs.Message.{IsMessage};
@@ -13,8 +13,8 @@ use crate::calls::Lent::{
     GetData, GetText, InitData, InitText, NewData, NewText, ReverseData, ReverseText,
 };
 use crate::calls::{
-    EMPTY_STRUCT, FIVE_AND_TEXT, NEW_STRUCT, NO_SIZE, NULL, Row, TWO_EACH, answers, follow,
-    follow_changes, make, parts_of,
+    EMPTY_STRUCT, FIVE_AND_TEXT, NEW_STRUCT, NO_SIZE, NULL, Row, TWO_EACH, follow, follow_changes,
+    make_alone, parts_of,
 };
 use crate::copied_rows::{
     BECOME_STRUCTS, CONTENTS, COPIED_LISTS, COPIED_NULLS, COPIED_ZEROS, ELEMENTS, MORE_CONTENTS,
@@ -717,7 +717,7 @@ fn full(alloc: Global, row: Taking) -> Result<Builder>
     let (first, parts, _, _) = row;
     let mut message = Builder::new(alloc)?;
     message.init_list(0, EightBytes, ROOM.saturating_sub(parts.0) as u32)?;
-    let _lent = make(alloc, &mut message, first)?;
+    make_alone(alloc, &mut message, first)?;
     Ok(message)
 }
 
@@ -733,9 +733,13 @@ fn changes_or_stays(
 )
     requires { IsMessage message.old }
 {
-    let made = make(alloc, message, call);
-    let parts = if made.is_ok() { then } else { before };
-    assert!(rt; made.is_ok() || answers(made, Err(OutOfMemory)));
+    let parts = match make_alone(alloc, message, call) {
+        Ok(()) => then,
+        Err(error) => {
+            assert!(rt; matches!(error.kind, OutOfMemory));
+            before
+        }
+    };
     let _is_written = message.write_message().is_ok();
     assert_eq!(rt; answer(parts_of(message)), Ok(parts));
 }

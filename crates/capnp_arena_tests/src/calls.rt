@@ -484,6 +484,20 @@ fn in_words(alloc: Global, numbers: [u64; 3]) -> Result<Vec<u8>> {
     Ok(words.into_bytes())
 }
 
+/// Makes a call that lends no bytes. No memory is taken but by the call itself.
+pub(crate) fn make_alone(alloc: Global, message: &mut Builder, call: Call) -> Result<()>
+    requires { IsMessage message.old }
+    ensures { IsMessage message.new }
+{
+    match call {
+        Call::InitList(_, _) | Call::InitStructs(_, _) | Call::GetList(_) | Call::GetStructs(_) => {
+            count(message, call)?;
+            Ok(())
+        }
+        other => set(alloc, message, other),
+    }
+}
+
 /// Makes a call, and answers a copy of the bytes that it lends, or the counts of the list that it makes or gets.
 pub(crate) fn make(alloc: Global, message: &mut Builder, call: Call) -> Result<Vec<u8>>
     requires { IsMessage message.old }
