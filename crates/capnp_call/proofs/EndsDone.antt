@@ -6,8 +6,7 @@ use Rattle.capnp_device.specs.declared.error.ErrorKind.{ErrorKind}
 use Rattle.capnp_device.specs.declared.error.ErrorKind.TheVariants.{ExpectedAListOrBlob, InitnIsOnlyValidForListTextOrDataFields, ListAnyPointerNotSupported, OutOfMemory}
 use Rattle.capnp_wire.specs.Tree.{StructTree}
 use Rattle.capnp_schema.specs.FieldLists.{index_of, typed_of}
-use Rattle.capnp_schema.specs.Accepted.{IsGroupOf}
-use Rattle.capnp_schema.specs.Schema.{FieldKind, Group, Schemas, Slot, TypedField, field_at}
+use Rattle.capnp_schema.specs.Schema.{Schemas, TypedField, field_at}
 use Rattle.capnp_schema.specs.StructHandles.{number_of, set_of}
 use Rattle.capnp_schema.specs.declared.schema.structs.StructSchema.{StructSchema}
 use Rattle.capnp_schema.specs.Types.{SchemaType, StructType, TextType, DataType, ListType, AnyPointerType}
@@ -89,16 +88,6 @@ init_refused set x (StructType b g) old kind slot h = go x.is_group slot
     go false e = inr (ap Refused h, refl)
 init_refused set x AnyPointerType old kind slot h = absurd h
 init_refused set x t old kind slot h = (ap Refused h, refl)
-
--- a group has no size
-none_some : {n : ℕ} → None ≡ Some n → ⊥
-none_some e = cc
-
-pub group_unsized : (kind : FieldKind) (t : SchemaType) (g : ℕ) → IsGroupOf kind t g → (set : Schemas) (x : Target) (n : ℕ) (old : Value) → x.is_element ≡ false →
-    Initns set x n t old (Refused InitnIsOnlyValidForListTextOrDataFields) old
-group_unsized (Slot offset d) t g h set x n old e = absurd h
-group_unsized (Group node) (StructType b y) g h set x n old e = (ap Refused (sym (ap (λ q. cond q ExpectedAListOrBlob InitnIsOnlyValidForListTextOrDataFields) e)), refl)
-group_unsized (Group node) t g h set x n old e = absurd (none_some h)
 
 -- ---- an init ----
 

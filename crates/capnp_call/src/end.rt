@@ -18,10 +18,9 @@ use crate::way::find_field;
 use capnp_arena::arena::{Arena, Place};
 use capnp_dynamic_readers::dynamic_value::Reader as Value;
 use capnp_schema::schema::{Field, StructSchema};
+use capnp_slots::field;
 use capnp_slots::primitive::Primitive;
 use capnp_slots::source::{Source, source_fits};
-use capnp_slots::{field, group, slot};
-use capnp_wire::error::ErrorKind;
 
 /// Sets a field to a source. Where the set of a group is refused, what was copied before stays.
 #[inline(always)]
@@ -69,7 +68,7 @@ fn set_field(arena: &mut Arena, place: Place, field: Field<'_>, value: &Value<'_
 /// Initializes a field: a group becomes its default record, a struct's slot a new struct, and an untyped one null. A
 /// member becomes active.
 ///
-/// Refused as `slot::init`, and then nothing has changed.
+/// Refused as `field::init`, and then nothing has changed.
 fn init_field(arena: &mut Arena, place: Place, field: Field<'_>) -> Reply
     requires planted { IsBuilt arena.old place }
     requires room { IsRoomFor field (built arena.old place) }
@@ -80,8 +79,10 @@ fn init_field(arena: &mut Arena, place: Place, field: Field<'_>) -> Reply
     reply_of(field::init(arena, place, field))
 }
 
-/// Initializes a field with a size, as `slot::initn`; a group is refused as a slot that has no size.
-#[tactic(auto, using(capnp_slots::specs::Facts::Outcomes::planted_after, capnp_slots::specs::Facts::Outcomes::changes_after))]
+/// Initializes a field with a size: a slot becomes a text or data of so many bytes, or a list of so many elements. A
+/// member becomes active.
+///
+/// Refused as `field::initn`, and then nothing has changed.
 fn initn_field(arena: &mut Arena, place: Place, field: Field<'_>, count: u32) -> Reply
     requires planted { IsBuilt arena.old place }
     requires room { IsRoomFor field (built arena.old place) }
@@ -90,10 +91,7 @@ fn initn_field(arena: &mut Arena, place: Place, field: Field<'_>, count: u32) ->
     ensures planted { IsBuilt arena.new place }
     ensures changes { ChangesIn place arena.old arena.new }
 {
-    match group::group_of(field) {
-        Some(_) => Reply::Refused(ErrorKind::InitnIsOnlyValidForListTextOrDataFields),
-        None => reply_of(slot::initn(arena, place, field, count)),
-    }
+    reply_of(field::initn(arena, place, field, count))
 }
 
 /// Puts a field back to its default, and makes a member active.

@@ -2,15 +2,13 @@
 use Rattle.std.specs.Prelude.{ℕ, ◌*◌, ◌<◌, ◌≤◌, ◌≡◌, refl, Bool, true, false, Option, Some, replicate}
 use Rattle.std.proofs.Common.{ap, sym, subst, ◌∙◌}
 use Rattle.capnp_device.specs.declared.error.Error.{Error}
-use Rattle.capnp_device.specs.declared.error.ErrorKind.TheVariants.{InitnIsOnlyValidForListTextOrDataFields}
 use Rattle.capnp_wire.specs.Facts.Lengths.{HasAtLeast-zero_struct}
 use Rattle.capnp_wire.specs.Tree.{StructTree, Tree, Trees, nth_tree, tree_count}
-use Rattle.capnp_schema.specs.Accepted.{IsGroupOf}
 use Rattle.capnp_schema.specs.FieldLists.{IsFound, typed_of}
 use Rattle.capnp_schema.specs.Footprint.{Spot}
-use Rattle.capnp_schema.specs.Schema.{Field as FieldEntry, FieldKind, Group, Node, Schemas, Slot, is_member, node_of}
+use Rattle.capnp_schema.specs.Schema.{Field as FieldEntry, Node, Schemas, is_member, node_of}
 use Rattle.capnp_schema.specs.StructHandles.{number_of, set_of, struct_field}
-use Rattle.capnp_schema.specs.Types.{is_pointer, struct_brand, SchemaType, VoidType, BoolType, IntType, UIntType, EnumType, TextType, DataType, StructType, ListType, AnyPointerType}
+use Rattle.capnp_schema.specs.Types.{is_pointer, SchemaType, VoidType, BoolType, IntType, UIntType, EnumType, TextType, DataType, StructType, ListType, AnyPointerType}
 use Rattle.capnp_schema.specs.declared.schema.fields.Field.{Field}
 use Rattle.capnp_schema.specs.declared.schema.structs.StructSchema.{StructSchema}
 use Rattle.capnp_records.specs.Facts.Pointers.{nth_tree-put_same}
@@ -151,15 +149,3 @@ same_initn s o f g a b n v h = moved (λ (z : StructSchema) (i : ℕ). HandsNewS
 
 pub same_sized_refusal : (s : StructSchema) (o : Option ℕ) (f g : Field) → IsFound s o (Some f) → IsFound s o (Some g) → (n : ℕ) (e : Error) → IsSizedRefusal f n e → IsSizedRefusal g n e
 same_sized_refusal s o f g a b n e h = moved (λ (z : StructSchema) (i : ℕ). IsInitnRefusal (set_of z) n (struct_field z i).type e.kind) s o f g a b h
-
--- a group is a struct, which takes no size
-brand-sized : (set : Schemas) (n number : ℕ) (t : SchemaType) → struct_brand t ≡ Some number → IsInitnRefusal set n t InitnIsOnlyValidForListTextOrDataFields
-brand-sized set n number (StructType b g) e = refl
-brand-sized set n number t e = absurd cc
-
-pub no_sized_group : (f : Field) (g : StructSchema) (n : ℕ) → IsGroupAt f g → IsInitnRefusal (field_set f) n (typed_of f).type InitnIsOnlyValidForListTextOrDataFields
-no_sized_group f g n at = go (typed_of f).field.kind at.names
-  where
-    go : (k : FieldKind) → IsGroupOf k (typed_of f).type (number_of g) → IsInitnRefusal (field_set f) n (typed_of f).type InitnIsOnlyValidForListTextOrDataFields
-    go (Slot offset d) h = absurd h
-    go (Group node) h = brand-sized (field_set f) n (number_of g) (typed_of f).type h

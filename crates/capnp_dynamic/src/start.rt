@@ -27,8 +27,8 @@ use crate::handed::hand_out;
 use capnp_arena::arena::{Arena, Place};
 use capnp_arena::handles::PointerBuilder;
 use capnp_schema::schema::Field;
-use capnp_slots::{group, part, slot};
-use capnp_wire::error::{Error, ErrorKind, Result};
+use capnp_slots::{field, group, part, slot};
+use capnp_wire::error::Result;
 
 /// What stands at the pointer of a slot that was started anew.
 fn hand_new<'a>(arena: &'a mut Arena, place: Place, field: Field<'a>) -> dynamic_value::Builder<'a>
@@ -69,7 +69,7 @@ fn start_slot<'a>(
     Ok(hand_new(arena, place, field))
 }
 
-/// What an init of a slot with a size hands out.
+/// What an init of a field with a size hands out.
 fn start_sized<'a>(
     arena: &'a mut Arena,
     place: Place,
@@ -77,14 +77,13 @@ fn start_sized<'a>(
     size: u32,
 ) -> Result<dynamic_value::Builder<'a>>
     requires planted { IsBuilt arena.old place }
-    requires slot { IsSlot field }
     requires room { IsRoomFor field (built arena.old place) }
     ensures stands { IfOk result (HandsNewSized (field_set field.entry) (typed_of field.entry) size) }
     ensures ready { IfOk result CanBeRead }
     ensures owner { IfOk result (IsSizedOf arena.entry place field.entry size) }
     ensures cause { IfErr result (λ e. IsInitnRefusal (field_set field.entry) size (typed_of field.entry).type e.kind) }
 {
-    slot::initn(arena, place, field, size)?;
+    field::initn(arena, place, field, size)?;
     pointer_is_inside(field);
     Ok(hand_new(arena, place, field))
 }
@@ -146,7 +145,7 @@ impl<'a> Builder<'a> {
     ///
     /// Refused with `InitnIsOnlyValidForListTextOrDataFields` for another slot and for a group; with `SizePastFormat`
     /// for a text of more than 2^29 - 2 bytes, data of more than 2^29 - 1, 2^29 elements or more, or structs that take
-    /// 2^29 words or more; and with `OutOfMemory`. Then nothing has changed, as `slot::initn` says.
+    /// 2^29 words or more; and with `OutOfMemory`. Then nothing has changed, as `field::initn` says.
     ///
     /// The field has to belong to the schema; the struct has to have its schema's sections and stand at its place
     /// (`IsReady`).
@@ -158,9 +157,6 @@ impl<'a> Builder<'a> {
         ensures owner { IfOk result (IsSizedOf (struct_behind self.entry) (place_of self.entry) field.entry size) }
         ensures cause { IfErr result (IsSizedRefusal field.entry size) }
     {
-        if let Some(_group) = group::group_of(field) {
-            return Err(Error::from(ErrorKind::InitnIsOnlyValidForListTextOrDataFields));
-        }
         let Builder {
             arena,
             place,

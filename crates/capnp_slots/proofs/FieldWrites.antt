@@ -1,19 +1,25 @@
 -- What is set, initialized and cleared by a field's kind.
-use Rattle.std.specs.Prelude.{◌≡◌, refl, Bool, true, false, not, None, Result, Ok, Err, OnOk, OnErr, IfErr}
+use Rattle.std.specs.Prelude.{ℕ, ◌≡◌, refl, Bool, true, false, not, None, Some, Result, Ok, Err, OnOk, OnErr, IfErr}
 use Rattle.std.proofs.Common.{subst, sym}
 use Rattle.std.proofs.lemmas.Bool.{true≢false}
 use Rattle.capnp_device.specs.declared.error.Error.{Error}
+use Rattle.capnp_device.specs.declared.error.ErrorKind.TheVariants.{InitnIsOnlyValidForListTextOrDataFields}
 use Rattle.capnp_wire.specs.Tree.{StructTree}
+use Rattle.capnp_schema.specs.Accepted.{IsGroupOf}
 use Rattle.capnp_schema.specs.FieldLists.{typed_of}
+use Rattle.capnp_schema.specs.Schema.{FieldKind, Group, Schemas, Slot}
+use Rattle.capnp_schema.specs.StructHandles.{number_of}
+use Rattle.capnp_schema.specs.Types.{SchemaType, StructType, struct_brand}
 use Rattle.capnp_schema.specs.declared.schema.fields.Field.{Field}
+use Rattle.capnp_schema.specs.declared.schema.structs.StructSchema.{StructSchema}
 use Rattle.capnp_records.specs.Call.{Source}
 use Rattle.capnp_records.specs.Step.{is_group_field}
 use Rattle.capnp_slots.specs.Copied.{refusal_of}
-use Rattle.capnp_slots.specs.Fields.{slot_with}
+use Rattle.capnp_slots.specs.Fields.{field_set, slot_with}
 use Rattle.capnp_slots.specs.FieldWrites.{IsFieldInit, IsFieldSet, KindIsInit, KindIsSet, SlotIsInit, SlotIsSet, cleared_kind, field_cleared}
-use Rattle.capnp_slots.specs.Groups.{group_without}
+use Rattle.capnp_slots.specs.Groups.{IsGroupAt, group_without}
 use Rattle.capnp_slots.specs.GroupSets.{IsGroupSet, given_to_group}
-use Rattle.capnp_slots.specs.Inits.{HasInit, IsInitRefusal, init_content}
+use Rattle.capnp_slots.specs.Inits.{HasInit, IsInitRefusal, IsInitnRefusal, init_content}
 use Rattle.capnp_slots.specs.Primitives.{given_to}
 use Rattle.capnp_slots.specs.Sources.{IsSet, IsSetRefusal}
 
@@ -70,3 +76,17 @@ module _ {A : Type 0} (f : Field) (old new : StructTree) where
 
 pub group_was_init : (f : Field) (old new : StructTree) → false ≡ not (is_group_field (typed_of f).field.kind) → new ≡ group_without f old → IsFieldInit f old None new
 group_was_init f old new e h = subst (λ (q : Bool). KindIsInit q f old None new) (sym (group-kind (is_group_field (typed_of f).field.kind) e)) h
+
+-- ---- what is initialized with a size ----
+
+-- a group is a struct, which takes no size
+brand-sized : (set : Schemas) (n number : ℕ) (t : SchemaType) → struct_brand t ≡ Some number → IsInitnRefusal set n t InitnIsOnlyValidForListTextOrDataFields
+brand-sized set n number (StructType b g) e = refl
+brand-sized set n number t e = absurd cc
+
+pub group_has_no_size : (f : Field) (g : StructSchema) (n : ℕ) → IsGroupAt f g → IsInitnRefusal (field_set f) n (typed_of f).type InitnIsOnlyValidForListTextOrDataFields
+group_has_no_size f g n at = go (typed_of f).field.kind at.names
+  where
+    go : (k : FieldKind) → IsGroupOf k (typed_of f).type (number_of g) → IsInitnRefusal (field_set f) n (typed_of f).type InitnIsOnlyValidForListTextOrDataFields
+    go (Slot offset d) h = absurd h
+    go (Group node) h = brand-sized (field_set f) n (number_of g) (typed_of f).type h

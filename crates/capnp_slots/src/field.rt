@@ -1,17 +1,19 @@
 //! Fields of a struct that is built, slots and groups alike.
-ghost use Rattle.std.specs.Prelude.{OnErr, OnOk, ◌≡◌};
+ghost use Rattle.std.specs.Prelude.{IfErr, OnErr, OnOk, ◌≡◌};
 ghost use Rattle.capnp_arena.specs.Segment.{segment};
 ghost use Rattle.capnp_arena.specs.Built.{ChangesIn, IsBuilt, built};
+ghost use Rattle.capnp_schema.specs.FieldLists.{typed_of};
 ghost use Rattle.capnp_slots.specs.Copied.{refusal_of};
-ghost use Rattle.capnp_slots.specs.Fields.{IsRoomFor, IsSlot, Keeps, names_of};
+ghost use Rattle.capnp_slots.specs.Fields.{IsRoomFor, IsSlot, Keeps, field_set, names_of, slot_with};
 ghost use Rattle.capnp_slots.specs.FieldWrites.{IsFieldInit, IsFieldSet, field_cleared};
+ghost use Rattle.capnp_slots.specs.Inits.{HasInitn, IsInitnRefusal, initn_content};
 ghost use Rattle.capnp_slots.specs.Sources.{source_seen};
 
 use crate::source::Source;
 use crate::{group, slot};
 use capnp_arena::arena::{Arena, Place as StructPlace};
 use capnp_schema::schema::Field;
-use capnp_wire::error::Result;
+use capnp_wire::error::{Error, ErrorKind, Result};
 
 /// Sets a field: a slot as `slot::set`, and a group as `group::set`.
 ///
@@ -65,6 +67,34 @@ pub fn init(arena: &mut Arena, place: StructPlace, field: Field<'_>) -> Result<(
         group::init(arena, place, field);
         Ok(())
     }
+}
+
+/// Initializes a field with a size, as `slot::initn`. A group has no size.
+///
+/// Refused with `InitnIsOnlyValidForListTextOrDataFields` for a group, and else as `slot::initn`; then nothing has
+/// changed.
+///
+/// The struct has to have the sections of the field's schema.
+#[tactic(auto, using(crate::specs::Facts::Outcomes::planted_after, crate::specs::Facts::Outcomes::changes_after))]
+#[inline(always)]
+pub fn initn(arena: &mut Arena, place: StructPlace, field: Field<'_>, count: u32) -> Result<()>
+    requires planted { IsBuilt arena.old place }
+    requires room { IsRoomFor field (built arena.old place) }
+    ensures planted { IsBuilt arena.new place }
+    ensures changes { ChangesIn place arena.old arena.new }
+    ensures slot { OnOk result (IsSlot field.entry) }
+    ensures written { OnOk result (built arena.new place
+        ≡ slot_with field.entry (initn_content field.entry count) (built arena.old place)) }
+    ensures has { OnOk result (HasInitn field.entry count) }
+    ensures kept { OnOk result (Keeps (names_of field.entry) (built arena.old place) (built arena.new place)) }
+    ensures refused { OnErr result (segment arena.new ≡ segment arena.old) }
+    ensures cause { IfErr result (λ e. IsInitnRefusal (field_set field.entry) count
+        (typed_of field.entry).type e.kind) }
+{
+    if let Some(_group) = group::group_of(field) {
+        return Err(Error::from(ErrorKind::InitnIsOnlyValidForListTextOrDataFields));
+    }
+    slot::initn(arena, place, field, count)
 }
 
 /// Clears a field: a slot as `slot::clear`, and a group as `group::clear`. No memory is taken.

@@ -1,7 +1,6 @@
--- A slot is new with its size, or the refusal is the machine's. A group has no size.
+-- A slot is new with its size, or the refusal is the machine's.
 use Rattle.std.proofs.Common.{refl}
 use Rattle.capnp_arena.specs.Built.{built}
-use Rattle.capnp_device.specs.declared.error.ErrorKind.TheVariants.{InitnIsOnlyValidForListTextOrDataFields}
 use Rattle.capnp_schema.specs.FieldLists.{typed_of}
 use Rattle.capnp_records.specs.Call.{Initn, Refused, Reply}
 use Rattle.capnp_slots.specs.Fields.{field_set}
@@ -9,25 +8,19 @@ use Rattle.capnp_slots.specs.Inits.{initn_content}
 use Rattle.capnp_call.specs.Ends.{FieldDoes}
 use Rattle.capnp_call.specs.Seen.{reply_seen}
 use Rattle.capnp_call.specs.Ways.{target_in}
-use Rattle.capnp_call.proofs.EndsDone.{group_unsized, initn_refused, slot_does, stays}
+use Rattle.capnp_call.proofs.EndsDone.{initn_refused, slot_does, stays}
 use Rattle.capnp_call.proofs.Outcomes.{both, by_outcome, same_struct}
 use Rattle.capnp_call.proofs.end.initn_field.Goals as goal
 
-pub returns-in-Some-clause-does : goal.returns-in-Some-clause-does
-returns-in-Some-clause-does c =
-    let f = c.args.field in
-    let s = built c.args.arena.now c.args.place in
-    stays f s s (Initn c.args.count) (Refused InitnIsOnlyValidForListTextOrDataFields) refl
-    (λ whole old. group_unsized (typed_of f).field.kind (typed_of f).type _ c.in-Some.ensures.names (field_set f) (target_in whole f s) c.args.count old refl)
-
-pub returns-in-None-clause-does : goal.returns-in-None-clause-does
-returns-in-None-clause-does c =
+pub returns-clause-does : goal.returns-clause-does
+returns-clause-does c =
     let f = c.args.field in
     let n = c.args.count in
     let s = built c.args.arena.now c.args.place in
     let s' = built c.initn.new.arena c.args.place in
     by_outcome (λ (r : Reply). FieldDoes f (Initn n) s r s') c.initn.result (reply_seen c.reply_of.result) c.reply_of.ensures
-    (both _ _ c.initn.result c.initn.ensures.has c.initn.ensures.written) (λ h. slot_does f s s' (Initn n) (initn_content f n) c.in-None.ensures (λ whole. h.0) h.1)
+    (both _ _ c.initn.result c.initn.ensures.slot (both _ _ c.initn.result c.initn.ensures.has c.initn.ensures.written))
+    (λ h. slot_does f s s' (Initn n) (initn_content f n) h.0 (λ whole. h.1.0) h.1.1)
     c.initn.ensures.refused c.initn.ensures.cause
     (λ e same cause. stays f s s' (Initn n) (Refused e.kind) (same_struct c.args.arena.now c.initn.new.arena c.args.place same)
     (λ whole old. initn_refused (field_set f) (target_in whole f s) n (typed_of f).type old e.kind refl cause))
