@@ -1,2 +1,4 @@
 pub mod CutReads
+pub mod ListNumbers
 pub mod SetAndGet
+pub mod TextParts

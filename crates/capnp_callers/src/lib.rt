@@ -6,3 +6,4 @@ pub mod lookup;
 pub mod read_back;
 pub mod round_trips;
 pub mod streams;
+pub mod values;

@@ -12,6 +12,17 @@ use capnp_wire::error::Result;
 use std::fmt;
 
 /// A list that is read: its elements, their type, and the set that the type is of.
+///
+/// # Example
+///
+/// ```rust
+/// for element in list {
+///     match element? {
+///         dynamic_value::Reader::UInt16(number) => numbers.push(number)?,
+///         _ => return Err(Error::type_mismatch()),
+///     }
+/// }
+/// ```
 #[derive(Clone, Copy)]
 pub struct Reader<'a> {
     pub(crate) reader: ListReader<'a>,

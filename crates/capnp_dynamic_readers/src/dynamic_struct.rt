@@ -16,10 +16,11 @@ use std::fmt;
 /// # Example
 ///
 /// ```rust
-/// match reader.get_named(name)? {
-///     dynamic_value::Reader::UInt16(number) => Ok(number),
-///     _ => Err(Error::type_mismatch()),
-/// }
+/// let root = message.get_root().get_struct()?;
+/// get_number(
+///     dynamic_struct::Reader::new(root, set.struct_schema(builtin::MANY)),
+///     "n",
+/// )
 /// ```
 #[derive(Clone, Copy)]
 pub struct Reader<'a> {

@@ -70,6 +70,15 @@ impl<'a> Enum<'a> {
 }
 
 /// A value that is read.
+///
+/// # Example
+///
+/// ```rust
+/// match reader.get_named(name)? {
+///     dynamic_value::Reader::UInt16(number) => Ok(number),
+///     _ => Err(Error::type_mismatch()),
+/// }
+/// ```
 #[derive(Clone, Copy)]
 pub enum Reader<'a> {
     Void,

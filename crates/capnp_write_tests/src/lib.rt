@@ -29,3 +29,5 @@ mod script;
 mod tool_tests;
 #[cfg(test)]
 mod typed_tests;
+#[cfg(test)]
+mod value_tests;

@@ -1,4 +1,4 @@
-//! What the scripts of `script` name: structs of three sets, and messages.
+//! What the scripts of `script` name: structs of four sets, and messages.
 
 use capnp_schema::set::SchemaSet;
 use capnp_schema_fixtures::kinds::{KINDS, KINDS_SET};
@@ -14,8 +14,11 @@ const GROUPED: &str = "struct 1 1, g group(1); \
     group 1 1 union 2 1, k UInt16 @0, e Void @0 #0, m Text @0 #1; \
     struct 1 1, pointers List(AnyPointer) @0";
 
+/// A set of a struct with a list of numbers, a list of truth values and a text.
+const NUMBERED: &str = "struct 0 3, numbers List(UInt16) @0, flags List(Bool) @1, name Text @2";
+
 /// The structs, each with the text of its set and its number there.
-static STRUCTS: [(&str, (&str, u32)); 9] = [
+static STRUCTS: [(&str, (&str, u32)); 10] = [
     ("flat", ("built-in", 0)),
     ("mixed", ("built-in", 1)),
     ("many", ("built-in", 2)),
@@ -25,6 +28,7 @@ static STRUCTS: [(&str, (&str, u32)); 9] = [
     ("kinds", (KINDS_SET, KINDS)),
     ("grouped", (GROUPED, 0)),
     ("untyped", (GROUPED, 2)),
+    ("numbered", (NUMBERED, 0)),
 ];
 
 /// The messages that no other crate reads; `messages::message_named` has the others.

@@ -179,7 +179,7 @@ fn kind_of(name: &str) -> Kind {
 }
 
 /// The root of a message under the struct of a brand.
-fn root_of<'a>(
+pub(crate) fn root_of<'a>(
     alloc: Global,
     set: &'a SchemaSet,
     brand: u32,
@@ -360,7 +360,7 @@ fn rewritten(alloc: Global, stream: &[u8]) -> Result<Vec<u8>> {
 
 /// What a message in memory holds, read from its words as any message is, and written anew. What a builder leaves that
 /// was given by value no clause says, so nothing is taken as known of the words.
-fn written(alloc: Global, message: &Builder) -> Result<Vec<u8>> {
+pub(crate) fn written(alloc: Global, message: &Builder) -> Result<Vec<u8>> {
     let stream = framed(alloc, bytes_of(message))?;
     rewritten(alloc, &stream)
 }

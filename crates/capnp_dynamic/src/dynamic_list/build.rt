@@ -32,6 +32,15 @@ use capnp_wire::error::Result;
 
 /// A list that is built: the message and the word of the list's pointer there, the type of its elements, and the set
 /// that the type is of.
+///
+/// # Example
+///
+/// ```rust
+/// if index >= list.len() {
+///     return Err(Error::from(ErrorKind::NoSuchElement));
+/// }
+/// list.set(index, dynamic_value::Reader::from(number))
+/// ```
 #[derive(Drop)]
 pub struct Builder<'a> {
     pub arena: &'a mut Arena,

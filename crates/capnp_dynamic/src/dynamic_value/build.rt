@@ -14,6 +14,15 @@ use capnp_builders::{any_pointer, data, text};
 use std::marker::PhantomData;
 
 /// A value that is built: a number is what stood there, and the others can be written through.
+///
+/// # Example
+///
+/// ```rust
+/// match part {
+///     dynamic_value::Builder::Text(text) => Ok(text),
+///     _ => Err(Error::type_mismatch()),
+/// }
+/// ```
 #[derive(Drop)]
 pub enum Builder<'a> {
     Void,

@@ -1,0 +1,112 @@
+-- The numbers of a list are read one after another.
+use Rattle.std.specs.Prelude.{ℕ, zero, suc, ◌+◌, ◌-◌, ◌<◌, ◌≤◌, ◌≡◌, List, [], ◌∷◌, ◌++◌, length, pos, IfOk, Result, Ok, Err}
+use Rattle.std.specs.List.{range_with_len}
+use Rattle.std.proofs.Common.{ap, arith, inl, inr, subst, sym, refl, ◌∙◌}
+use Rattle.std.proofs.lemmas.Bool.{cases_lt}
+use Rattle.std.proofs.lemmas.List.{get_or_append_left, get_or_at, length-append}
+use Rattle.capnp_device.specs.declared.error.Error.{Error}
+use Rattle.capnp_device.specs.declared.error.ErrorKind.{ErrorKind}
+use Rattle.capnp_device.specs.declared.error.ErrorKind.TheVariants.{TypeMismatch}
+use Rattle.capnp_base.specs.Taking.{indices}
+use Rattle.capnp_schema.specs.Accepted.{NamesEntries}
+use Rattle.capnp_schema.specs.Schema.{Schemas}
+use Rattle.capnp_schema.specs.Types.{SchemaType, UIntType}
+use Rattle.capnp_records.specs.Record as value
+use Rattle.capnp_dynamic_readers.specs.Handles.{element_of, list_set}
+use Rattle.capnp_dynamic_readers.specs.Reads.{element_seen}
+use Rattle.capnp_dynamic_readers.specs.Seen.{answered}
+use Rattle.capnp_dynamic_readers.specs.Typed.{IsOf}
+use Rattle.capnp_dynamic_readers.specs.declared.dynamic_list.Reader.{Reader as ListHandle}
+use Rattle.capnp_dynamic_readers.specs.declared.dynamic_value.Reader.{Reader as DynamicValue}
+use Rattle.capnp_dynamic_readers.specs.declared.dynamic_value.Reader.TheVariants as dynamic
+use Rattle.capnp_callers.specs.Values.{AreFirstOf, IsNoNumberOf, count_of}
+
+-- the first of the indices that are still to come, and the others
+pub first-index : (k n i : ℕ) (rest : List ℕ) → indices k n ≡ i ∷ rest → (i ≡ k) × (k < n) × (rest ≡ indices (k + 1) n)
+unfolding indices
+first-index k n i rest = go (n - k) refl
+  where
+    go : (m : ℕ) → n - k ≡ m → range_with_len k m ≡ i ∷ rest → (i ≡ k) × (k < n) × (rest ≡ range_with_len (k + 1) (n - (k + 1)))
+    go zero d e = absurd cc
+    go (suc m) d e =
+        let left : m ≡ n - (k + 1) = omega (arith, d) in
+        (cc, omega (arith, d), (let same : rest ≡ range_with_len (k + 1) m = cc in same) ∙ ap (range_with_len (k + 1)) left)
+
+-- none is still to come
+pub no-index : (k n : ℕ) → indices k n ≡ [] → n ≤ k
+unfolding indices
+no-index k n = go (n - k) refl
+  where
+    go : (m : ℕ) → n - k ≡ m → range_with_len k m ≡ [] → n ≤ k
+    go zero d e = omega (arith, d)
+    go (suc m) d e = absurd cc
+
+-- one more number
+pub one-more : (l : ListHandle) (numbers : List ℕ) (x : ℕ) → AreFirstOf l numbers → element_seen l (length numbers) ≡ value.Number (pos x) → AreFirstOf l (numbers ++ x ∷ [])
+one-more l numbers x first is i h = elim (cases_lt i (length numbers)) [
+  | inl inside ↦ first i inside ∙ ap (λ (n : ℕ). value.Number (pos n)) (sym (get_or_append_left numbers (x ∷ []) 0 i inside))
+  | inr past ↦
+      let longer = length-append numbers (x ∷ []) in
+      let at : length numbers ≡ i = omega (arith, past, h, longer) in
+      ap (element_seen l) (sym at) ∙ is ∙ ap (λ (n : ℕ). value.Number (pos n)) (sym (get_or_at numbers x [] 0 i at))
+]
+
+-- ---- an element ----
+
+-- what a list answers at an index
+abbrev pub IsAnswer : ListHandle → ℕ → Result DynamicValue Error → Type 0
+IsAnswer l i x = (answered x ≡ element_seen l i) × (NamesEntries (list_set l) (element_of l) → IfOk x (IsOf (list_set l) (element_of l)))
+
+module _ (l : ListHandle) (k : ℕ) where
+  -- the element that a loop is given once it had so many
+  pub record IsNext (x : Result DynamicValue Error) (b : List ℕ) : Type 0 where
+    pub inside : k < count_of l
+    pub rest : b ≡ indices (k + 1) (count_of l)
+    pub answer : IsAnswer l k x
+
+  pub next-element : (s : ListHandle) (a b : List ℕ) (i : ℕ) (x : Result DynamicValue Error) → s ≡ l → a ≡ indices k (count_of l) → a ≡ i ∷ b → IsAnswer s i x → IsNext x b
+  next-element s a b i x same left first is =
+      let h = first-index k (count_of l) i b (sym left ∙ first) in
+      record {
+        inside = h.1;
+        rest = h.2;
+        answer = subst (λ (n : ℕ). IsAnswer l n x) h.0 (subst (λ (z : ListHandle). IsAnswer z i x) same is);
+      }
+
+  -- a refusal is that of an element
+  pub element-refused : (x : Result DynamicValue Error) (b : List ℕ) (e : Error) → IsNext x b → x ≡ Err e → IsNoNumberOf l e.kind
+  element-refused x b e next is = (k, next.inside, inl (sym next.answer.0 ∙ ap answered is))
+
+  -- an element that is no UInt16 is of another type
+  only-uint16 : (set : Schemas) (v : DynamicValue) → ((n : ℕ) → v ≡ dynamic.UInt16 n → ⊥) → IsOf set (UIntType 2) v → ⊥
+  only-uint16 set (dynamic.UInt16 n) other h = other n refl
+  only-uint16 set (dynamic.UInt8 n) other h = cc
+  only-uint16 set (dynamic.UInt32 n) other h = cc
+  only-uint16 set (dynamic.UInt64 n) other h = cc
+  only-uint16 set (dynamic.Enum e) other h = let is = h.2 in cc
+  only-uint16 set (dynamic.Struct s) other h = let is = h.2 in cc
+  only-uint16 set (dynamic.List s) other h = let is = h.1 in cc
+  only-uint16 set v other h = cc
+
+  pub element-mismatched : (x : Result DynamicValue Error) (b : List ℕ) (v : DynamicValue) (kind : ErrorKind) → IsNext x b → x ≡ Ok v → ((n : ℕ) → v ≡ dynamic.UInt16 n → ⊥) → kind ≡ TypeMismatch → IsNoNumberOf l kind
+  element-mismatched x b v kind next is other e = (k, next.inside, inr (e, not-number))
+    where
+      not-number : UIntType 2 ≡ element_of l → ⊥
+      not-number same =
+          let of : IfOk x (IsOf (list_set l) (element_of l)) = next.answer.1 (subst (NamesEntries (list_set l)) same tt) in
+          only-uint16 (list_set l) v other (subst (λ (t : SchemaType). IsOf (list_set l) t v) (sym same) (subst (λ (y : Result DynamicValue Error). IfOk y (IsOf (list_set l) (element_of l))) is of))
+
+  -- and else it is the next number
+  number-is : (x : Result DynamicValue Error) (b : List ℕ) (n : ℕ) → IsNext x b → x ≡ Ok (dynamic.UInt16 n) → element_seen l k ≡ value.Number (pos n)
+  number-is x b n next is = sym next.answer.0 ∙ ap answered is
+
+-- one number more was read
+pub read-on : (l : ListHandle) (numbers new : List ℕ) (n : ℕ) (x : Result DynamicValue Error) (b : List ℕ) → IsNext l (length numbers) x b → x ≡ Ok (dynamic.UInt16 n) → new ≡ numbers ++ n ∷ [] → AreFirstOf l numbers →
+    (b ≡ indices (length new) (count_of l)) × (length new ≤ count_of l) × AreFirstOf l new
+read-on l numbers new n x b next is grown first =
+    let longer : length new ≡ length numbers + 1 = ap length grown ∙ length-append numbers (n ∷ []) in
+    let inside = next.inside in (
+      next.rest ∙ ap (λ (k : ℕ). indices k (count_of l)) (sym longer),
+      omega (arith, longer, inside),
+      subst (AreFirstOf l) (sym grown) (one-more l numbers n first (number-is l (length numbers) x b n next is)),
+    )

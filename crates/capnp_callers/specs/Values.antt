@@ -1,0 +1,52 @@
+-- Lists of UInt16s, and fields that hand out a text.
+use Rattle.std.specs.Prelude.{ℕ, ◌≡◌, ◌<◌, ◌⊎◌, ⊤, List, length, get_or, pos, Bool, true, false, not, ◌&&◌}
+use Rattle.capnp_device.specs.declared.error.ErrorKind.{ErrorKind}
+use Rattle.capnp_device.specs.declared.error.ErrorKind.TheVariants.{TypeMismatch}
+use Rattle.capnp_wire.specs.Reading.{list_length}
+use Rattle.capnp_wire.specs.Standing.{list_of}
+use Rattle.capnp_schema.specs.Schema.{TypedField}
+use Rattle.capnp_schema.specs.Types.{SchemaType, TextType, UIntType}
+use Rattle.capnp_records.specs.Call.{Source}
+use Rattle.capnp_records.specs.Record as value
+use Rattle.capnp_records.specs.Step.{is_group_field}
+use Rattle.capnp_slots.specs.SetValues.{source_of}
+use Rattle.capnp_dynamic.specs.declared.dynamic_value.build.Builder.{Builder as BuiltValue}
+use Rattle.capnp_dynamic.specs.declared.dynamic_value.build.Builder.TheVariants as built
+use Rattle.capnp_dynamic_readers.specs.Handles.{element_of, list_reader_of}
+use Rattle.capnp_dynamic_readers.specs.Reads.{element_seen}
+use Rattle.capnp_dynamic_readers.specs.declared.dynamic_list.Reader.{Reader as ListHandle}
+use Rattle.capnp_dynamic_readers.specs.declared.dynamic_value.Reader.TheVariants as dynamic
+
+-- how many elements a list has
+abbrev pub count_of : ListHandle → ℕ
+count_of l = list_length (list_of (list_reader_of l))
+
+-- the first elements of a list are these numbers
+abbrev pub AreFirstOf : ListHandle → List ℕ → Type 0
+AreFirstOf l numbers = (i : ℕ) → i < length numbers → element_seen l i ≡ value.Number (pos (get_or numbers i 0))
+
+-- numbers are those of a list, in its order
+abbrev pub AreNumbersOf : ListHandle → List ℕ → Type 0
+AreNumbersOf l numbers = (length numbers ≡ count_of l) × AreFirstOf l numbers
+
+-- why a list's numbers are not read: the read of an element is refused, or there is one and it is no UInt16
+abbrev pub IsNoNumberOf : ListHandle → ErrorKind → Type 0
+IsNoNumberOf l kind = (i : ℕ) × (i < count_of l)
+    × ((element_seen l i ≡ value.Fault kind) ⊎ ((kind ≡ TypeMismatch) × (UIntType 2 ≡ element_of l → ⊥)))
+
+-- a number that is given
+abbrev pub number_source : ℕ → Source
+number_source n = source_of (dynamic.UInt16 n)
+
+-- a value is no text
+abbrev pub IsNoText : BuiltValue → Type 0
+IsNoText (built.Text b) = ⊥
+IsNoText v = ⊤
+
+-- whether a builder's get of a field hands out a text
+abbrev pub is_text_type : SchemaType → Bool
+is_text_type TextType = true
+is_text_type t = false
+
+abbrev pub hands_text : TypedField → Bool
+hands_text f = not (is_group_field f.field.kind) && is_text_type f.type
