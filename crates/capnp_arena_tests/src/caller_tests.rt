@@ -3,11 +3,12 @@ ghost use Rattle.capnp_arena.specs.Handles.{IsStruct};
 
 use crate::calls::init_list;
 use crate::fixtures::{ONE_EACH, answer};
-use capnp_arena::handle_callers::set_text_field;
-use capnp_arena::handles::StructBuilder;
+use capnp_arena::callers::refill;
+use capnp_arena::handle_callers::{fill_struct, set_text_field};
+use capnp_arena::handles::{PointerBuilder, StructBuilder};
 use capnp_arena::message::Builder;
 use capnp_device::error::Result;
-use capnp_wire::size::ElementSize;
+use capnp_wire::size::{ElementSize, StructSize};
 use capnp_wire_callers::built::{count_new, count_structs};
 use std::alloc::Global;
 
@@ -60,4 +61,28 @@ fn a_struct_with_a_text_is_read(rt: HostRuntime) {
         answer(read_struct(rt.alloc())),
         Ok((3, [5, 4, 0, 1, 1, 5]))
     );
+}
+
+/// The words of a struct that holds what fits of a larger one, with all below it, and its number.
+fn read_refilled(alloc: Global) -> Result<(u64, u64)> {
+    let mut source = Builder::new(alloc)?;
+    let mut larger = source.root().init_struct(StructSize {
+        data_words: 2,
+        pointers: 2,
+    })?;
+    fill_struct(&mut larger, 0, b"hi", 5)?;
+    let mut message = Builder::new(alloc)?;
+    let PointerBuilder { arena, at } = message.root();
+    let place = arena.init_struct(at, ONE_EACH)?;
+    refill(arena, at, place, &larger.as_reader())?;
+    let reader = arena.get_struct_reader(place);
+    Ok((
+        reader.total_size()?.word_count,
+        reader.get_data_field::<u64>(0),
+    ))
+}
+
+#[test]
+fn a_struct_holds_what_fits_of_a_larger_one(rt: HostRuntime) {
+    assert_eq!(rt; answer(read_refilled(rt.alloc())), Ok((3, 5)));
 }

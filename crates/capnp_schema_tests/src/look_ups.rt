@@ -122,7 +122,7 @@ fn most_compared(alloc: Global, schema: StructSchema<'_>, names: &str) -> Result
     for name in names.split(' ') {
         most = most.max(compared(schema, name));
     }
-    beside(alloc, "at most", most)
+    Ok(format!(in alloc; "{most}")?)
 }
 
 fn bits_in_words(alloc: Global, start: u32, width: u8, mask: u64) -> Result<String> {

@@ -88,9 +88,9 @@ fn fields_are_found_by_name(rt: HostRuntime) -> Result<(), Fail> {
 /// time.
 const COMPARED: &str = "\
 in built-in
-most 0 _ A a b bytes d displayName e id items j raw s size t z zz -> at most 1
-most 8 _ A a b bytes d displayName e id items j raw s size t z zz -> at most 2
-most 7 _ A a b bytes d displayName e id items j raw s size t z zz -> at most 3
+most 0 _ A a b bytes d displayName e id items j raw s size t z zz -> 1
+most 8 _ A a b bytes d displayName e id items j raw s size t z zz -> 2
+most 7 _ A a b bytes d displayName e id items j raw s size t z zz -> 3
 counted 7 bytes -> 0 3
 counted 7 items -> 3 2
 counted 7 raw -> 1 1
