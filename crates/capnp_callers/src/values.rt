@@ -1,5 +1,5 @@
 //! Dynamic values where a program knows what they hold: the numbers of a list, a number that is set in one, and a text
-//! that is written on.
+//! that is written over.
 ghost use Rattle.std.specs.Prelude.{◌≡◌, ◌≢◌, IfErr, IfOk, IsErrAnd, None, OnErr, OnOk};
 ghost use Rattle.capnp_device.specs.declared.error.ErrorKind.TheVariants.{FieldNotFound, NoSuchElement, OutOfMemory, TypeMismatch};
 ghost use Rattle.capnp_arena.specs.Forest.{Changes};
