@@ -1,10 +1,7 @@
 -- Group fields lead to groups of lesser height, in the sections of the struct that they are in.
 use Rattle.std.proofs.Common.{ℕ, zero, suc, ◌≡◌, ◌<◌, Bool, true, false, length, Some, refl, sym, ap, ◌∙◌, subst}
-use Rattle.capnp_schema.specs.Types.{SchemaType, StructType, is_pointer, struct_number, width, seen_variant}
-use Rattle.capnp_base.specs.declared.introspect.TypeVariant.{TypeVariant}
-use Rattle.capnp_base.specs.Types.{variant_of}
-use Rattle.capnp_schema.specs.declared.record.FieldKind.TheVariants.{Group as KindOfGroup}
-use Rattle.capnp_schema.specs.Schema.{Schemas, Field, FieldKind, Slot, Group, Value, fields_of, field_at, seen_kind, kind_target}
+use Rattle.capnp_schema.specs.Types.{SchemaType, StructType, is_pointer, width}
+use Rattle.capnp_schema.specs.Schema.{Schemas, FieldKind, Slot, Group, Value, fields_of, field_at, kind_target}
 use Rattle.capnp_schema.specs.Accepted.{GroupFits, HasOneParent, HaveSameSizes, IsAccepted, IsGroupOf, IsParent}
 use Rattle.capnp_schema.specs.Laws.{LeadsDown}
 use Rattle.capnp_schema.specs.Plan.{place_of, plan_of, slot_place}
@@ -13,8 +10,9 @@ use Rattle.capnp_schema.specs.GroupsDown.{LeadsToGroup, IfGroup, IsGroupIn}
 use Rattle.capnp_schema.specs.StructHandles.{IsStruct, number_of, set_of}
 use Rattle.capnp_schema.specs.declared.schema.fields.Field.{Field as FieldHandle}
 use Rattle.capnp_schema.specs.declared.schema.structs.StructSchema.{StructSchema}
+use Rattle.capnp_schema.specs.declared.plan.Place.{Place}
+use Rattle.capnp_schema.specs.declared.plan.Place.TheVariants as place
 use Rattle.capnp_schema.specs.declared.plan.SlotPlan.{SlotPlan}
-use Rattle.capnp_schema.specs.Facts.Layers.{seen_which}
 use Rattle.capnp_schema.specs.Facts.Groups.{heights_fall}
 use Rattle.capnp_schema.proofs.NamedTypes.{brand_of_field}
 
@@ -58,41 +56,35 @@ place_leads set accepted b i i_in =
 pub plan_leads : (set : Schemas) → IsAccepted set → (b i : ℕ) (plan : SlotPlan) → plan ≡ plan_of set b (field_at set b i) → i < length (fields_of set b) → IfGroup plan.place (LeadsToGroup set b)
 plan_leads set accepted b i plan is i_in = subst (λ (p : SlotPlan). IfGroup p.place (LeadsToGroup set b)) (sym is) (place_leads set accepted b i i_in)
 
--- ---- the group of a group field ----
+-- ---- the group of a field, by the place of its plan ----
 
-named : (set : Schemas) (k : FieldKind) (t : SchemaType) (node n : ℕ) → k ≡ Group node → GroupFits set k t → n ≡ struct_number t → IsGroupOf k t n × (Some n ≡ kind_target k t)
-named set (Slot offset default) t node n k fits e = cc
-named set (Group other) (StructType number generic) node n k fits e = (subst (IsGroupOf (Group other) (StructType number generic)) (sym e) refl, ap (λ (x : ℕ). Some x) e)
-named set (Group other) t node n k fits e = absurd fits
+no_group_place : (pointer : Bool) (bits offset : ℕ) (default : Value) (g : ℕ) → slot_place pointer bits offset default ≡ place.Group g → ⊥
+no_group_place true bits offset default g e = cc
+no_group_place false zero offset default g e = cc
+no_group_place false (suc bits) offset default g e = cc
 
-module _ (set : Schemas) (accepted : IsAccepted set) (b i : ℕ) (i_in : i < length (fields_of set b)) (node n : ℕ) (kind : (field_at set b i).field.kind ≡ Group node) (number : n ≡ struct_number (field_at set b i).type) where
-  of_field : IsGroupOf (field_at set b i).field.kind (field_at set b i).type n × (Some n ≡ kind_target (field_at set b i).field.kind (field_at set b i).type)
-  of_field = named set (field_at set b i).field.kind (field_at set b i).type node n kind (accepted.rule7 b i (brand_of_field set b i i_in) i_in) number
-
-  pub group_is_target : Some n ≡ kind_target (field_at set b i).field.kind (field_at set b i).type
-  group_is_target = of_field.1
-
-  pub group_leads : LeadsToGroup set b n
-  group_leads = leads_to_group set accepted b i n (brand_of_field set b i i_in) i_in of_field.0
+group_target : (set : Schemas) (k : FieldKind) (t : SchemaType) (g : ℕ) → GroupFits set k t → place_of k t ≡ place.Group g → Some g ≡ kind_target k t
+group_target set (Slot offset default) t g fits e = absurd (no_group_place (is_pointer t) (width t) offset default g e)
+group_target set (Group node) (StructType number generic) g fits e = cc
+group_target set (Group node) t g fits e = absurd fits
 
 -- ---- the same of a field's handle ----
 
-module _ (f : FieldHandle) (accepted : IsAccepted (set_of (schema_of f))) (node n : ℕ) (v : TypeVariant) (kind : f.proto.now.kind ≡ KindOfGroup node) (which : v ≡ variant_of f.field_type) (number : n ≡ struct_number (seen_variant v)) where
-  kind_is : (typed_of f).field.kind ≡ Group node
-  kind_is = ap (λ (x : Field). x.kind) (sym f.record) ∙ ap seen_kind kind
+module _ (f : FieldHandle) (p : SlotPlan) (is : p ≡ plan_of (set_of (schema_of f)) (number_of (schema_of f)) (typed_of f)) where
+  placed : (q : Place) → p.place ≡ q → place_of (typed_of f).field.kind (typed_of f).type ≡ q
+  placed q h = sym (ap (λ (x : SlotPlan). x.place) is) ∙ h
 
-  number_is : n ≡ struct_number (typed_of f).type
-  number_is = number ∙ ap struct_number (ap seen_variant which ∙ seen_which f.field_type ∙ f.typed)
+  module _ (accepted : IsAccepted (set_of (schema_of f))) (n : ℕ) (at : p.place ≡ place.Group n) where
+    pub handle_target : Some n ≡ kind_target (typed_of f).field.kind (typed_of f).type
+    handle_target =
+        let b_in = brand_of_field (set_of (schema_of f)) (number_of (schema_of f)) (index_of f) f.inside in
+        group_target (set_of (schema_of f)) (typed_of f).field.kind (typed_of f).type n (accepted.rule7 (number_of (schema_of f)) (index_of f) b_in f.inside) (placed (place.Group n) at)
 
-  pub handle_target : Some n ≡ kind_target (typed_of f).field.kind (typed_of f).type
-  handle_target = group_is_target (set_of (schema_of f)) accepted (number_of (schema_of f)) (index_of f) f.inside node n kind_is number_is
-
-  pub handle_leads : LeadsToGroup (set_of (schema_of f)) (number_of (schema_of f)) n
-  handle_leads = group_leads (set_of (schema_of f)) accepted (number_of (schema_of f)) (index_of f) f.inside node n kind_is number_is
-
-  pub group_in : (g : StructSchema) → set_of g ≡ set_of (schema_of f) → number_of g ≡ n → (n < length (set_of (schema_of f)).brands → IsStruct g) → IsGroupIn (schema_of f) g
-  group_in g set is stands = record {
-    stands = stands handle_leads.down.brand;
-    set = set;
-    leads = subst (LeadsToGroup (set_of (schema_of f)) (number_of (schema_of f))) (sym is) handle_leads;
-  }
+    pub group_in : IfGroup p.place (LeadsToGroup (set_of (schema_of f)) (number_of (schema_of f))) → (g : StructSchema) → set_of g ≡ set_of (schema_of f) → number_of g ≡ n → (n < length (set_of (schema_of f)).brands → IsStruct g) → IsGroupIn (schema_of f) g
+    group_in leads g set number stands =
+        let down : LeadsToGroup (set_of (schema_of f)) (number_of (schema_of f)) n = subst (λ (q : Place). IfGroup q (LeadsToGroup (set_of (schema_of f)) (number_of (schema_of f)))) at leads in
+        record {
+          stands = stands down.down.brand;
+          set = set;
+          leads = subst (LeadsToGroup (set_of (schema_of f)) (number_of (schema_of f))) (sym number) down;
+        }

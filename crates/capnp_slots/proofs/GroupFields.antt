@@ -1,15 +1,15 @@
--- A field's group, by the place of its plan.
-use Rattle.std.specs.Prelude.{ℕ, zero, suc, ◌<◌, ◌≡◌, refl, Bool, true, false, not}
+-- Whether a field is a slot, by the place of its plan, and its group.
+use Rattle.std.specs.Prelude.{ℕ, zero, suc, ◌<◌, ◌≡◌, refl, Bool, true, false, not, unwrap_or, IfSome, MatchOption, None, Option, Some}
+use Rattle.std.specs.Option.{option_map}
 use Rattle.std.proofs.Common.{arith, ap, sym, subst, ◌∙◌}
 use Rattle.capnp_schema.specs.Accepted.{IsGroupOf, GroupFits}
 use Rattle.capnp_schema.specs.FieldLists.{index_of, schema_of, typed_of}
-use Rattle.capnp_schema.specs.GroupsDown.{IfGroup, LeadsToGroup}
+use Rattle.capnp_schema.specs.GroupsDown.{IsGroupIn}
 use Rattle.capnp_schema.specs.Laws.{group_height}
 use Rattle.capnp_schema.specs.Plan.{place_of, plan_of, slot_place}
-use Rattle.capnp_schema.specs.Schema.{FieldKind, Group, Schemas, Slot, Value}
-use Rattle.capnp_schema.specs.StructHandles.{IsStruct, number_of, set_of}
+use Rattle.capnp_schema.specs.Schema.{FieldKind, Group, Schemas, Slot, Value, kind_target}
+use Rattle.capnp_schema.specs.StructHandles.{IsStruct, number_of}
 use Rattle.capnp_schema.specs.Types.{SchemaType, StructType, is_pointer, struct_number, width}
-use Rattle.capnp_schema.specs.declared.plan.Place.{Place}
 use Rattle.capnp_schema.specs.declared.plan.Place.TheVariants as place
 use Rattle.capnp_schema.specs.declared.plan.SlotPlan.{SlotPlan}
 use Rattle.capnp_schema.specs.declared.schema.fields.Field.{Field}
@@ -24,25 +24,6 @@ no-group : (q : Bool) (bits offset : ℕ) (d : Value) (g : ℕ) → slot_place q
 no-group true bits offset d g e = cc
 no-group false zero offset d g e = cc
 no-group false (suc bits) offset d g e = cc
-
--- a field whose place is a group is one, and its type is the group's
-pub record IsPlaced (set : Schemas) (k : FieldKind) (t : SchemaType) (g : ℕ) : Type 0 where
-  pub is_group : is_group_field k ≡ true
-  pub number : g ≡ struct_number t
-  pub names : IsGroupOf k t g
-
-same-group : (m n : ℕ) → place.Group m ≡ place.Group n → m ≡ n
-same-group m n e = cc
-
-struct-named : (set : Schemas) (t : SchemaType) (n : ℕ) → GroupFits set (Group n) t → IsGroupOf (Group n) t (struct_number t)
-struct-named set (StructType b x) n fits = refl
-struct-named set t n fits = absurd fits
-
-placed : (set : Schemas) (k : FieldKind) (t : SchemaType) (g : ℕ) → GroupFits set k t → place_of k t ≡ place.Group g → IsPlaced set k t g
-placed set (Slot offset d) t g fits e = absurd (no-group (is_pointer t) (width t) offset d g e)
-placed set (Group n) t g fits e =
-    let same : g ≡ struct_number t = sym (same-group (struct_number t) g e) in
-    record { is_group = refl; number = same; names = subst (IsGroupOf (Group n) t) (sym same) (struct-named set t n fits) }
 
 is-slot : (k : FieldKind) (t : SchemaType) → ((g : ℕ) → place_of k t ≡ place.Group g → ⊥) → is_group_field k ≡ false
 is-slot (Slot offset d) t none = refl
@@ -62,19 +43,30 @@ group-placed f p g e h = sym (ap not (group-kind (typed_of f).field.kind (typed_
 pub slot-placed : (f : Field) (p : SlotPlan) → p ≡ plan_of (field_set f) (field_brand f) (typed_of f) → ((g : ℕ) → p.place ≡ place.Group g → ⊥) → true ≡ not (is_group_field (typed_of f).field.kind)
 slot-placed f p e none = sym (ap not (slot-is f p e none))
 
-pub group-is : (f : Field) (p : SlotPlan) (g : ℕ) (schema : StructSchema) → IsStruct (schema_of f) → p ≡ plan_of (field_set f) (field_brand f) (typed_of f) → p.place ≡ place.Group g →
-    LeadsToGroup (field_set f) (field_brand f) g → set_of schema ≡ field_set f → number_of schema ≡ g → IsStruct schema → IsGroupAt f schema
-group-is f p g schema is e h leads set number stands =
-    let at = placed (field_set f) (typed_of f).field.kind (typed_of f).type g (is.accepted.rule7 (field_brand f) (index_of f) is.number f.inside) (sym (ap (λ (q : SlotPlan). q.place) e) ∙ h) in
-    record {
-      is_group = at.is_group;
-      stands = stands;
-      set = set;
-      number = number ∙ at.number;
-      names = subst (IsGroupOf (typed_of f).field.kind (typed_of f).type) (sym number) at.names;
-      room = λ s room. subst (λ z. Fits z (number_of schema) s) (sym set) (subst (λ n. Fits (field_set f) n s) (sym number) (omega (arith, leads.sizes.0, room.0), omega (arith, leads.sizes.1, room.1)));
-      lower = subst (λ z. group_height z (number_of schema) < group_height (field_set f) (field_brand f)) (sym set) (subst (λ n. group_height (field_set f) n < group_height (field_set f) (field_brand f)) (sym number) leads.down.lower);
-    }
+-- ---- the group of a field, by the brand that its kind and type name ----
 
-pub leads-from : (f : Field) (p : Place) (g : ℕ) → p ≡ place.Group g → IfGroup p (LeadsToGroup (field_set f) (field_brand f)) → LeadsToGroup (field_set f) (field_brand f) g
-leads-from f p g e h = subst (λ (q : Place). IfGroup q (LeadsToGroup (field_set f) (field_brand f))) e h
+-- a brand is named by a group alone
+target-is : (k : FieldKind) (t : SchemaType) (g : ℕ) → Some g ≡ kind_target k t → (is_group_field k ≡ true) × IsGroupOf k t g × (g ≡ struct_number t)
+target-is (Slot offset d) t g e = cc
+target-is (Group n) t g e = (refl, sym e, ap (λ (b : Option ℕ). unwrap_or b 0) e)
+
+-- where rule 7 holds, by each of them
+no-target : (set : Schemas) (k : FieldKind) (t : SchemaType) → GroupFits set k t → None ≡ kind_target k t → is_group_field k ≡ false
+no-target set (Slot offset d) t fits e = refl
+no-target set (Group n) (StructType b x) fits e = cc
+no-target set (Group n) t fits e = absurd fits
+
+pub group-or-slot : (f : Field) (group : Option StructSchema) → IsStruct (schema_of f) → option_map number_of group ≡ kind_target (typed_of f).field.kind (typed_of f).type → IfSome group (IsGroupIn (schema_of f)) → MatchOption group (IsSlot f) (IsGroupAt f)
+group-or-slot f None is number down = no-target (field_set f) (typed_of f).field.kind (typed_of f).type (is.accepted.rule7 (field_brand f) (index_of f) is.number f.inside) number
+group-or-slot f (Some g) is number down =
+    let named = target-is (typed_of f).field.kind (typed_of f).type (number_of g) number in
+    let sizes = down.leads.sizes in
+    record {
+      is_group = named.0;
+      stands = down.stands;
+      set = down.set;
+      number = named.2;
+      names = named.1;
+      room = λ s room. subst (λ (z : Schemas). Fits z (number_of g) s) (sym down.set) (omega (arith, sizes.0, room.0), omega (arith, sizes.1, room.1));
+      lower = subst (λ (z : Schemas). group_height z (number_of g) < group_height (field_set f) (field_brand f)) (sym down.set) down.leads.down.lower;
+    }

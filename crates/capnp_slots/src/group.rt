@@ -19,21 +19,18 @@ use capnp_arena::arena::{Arena, Place as StructPlace};
 use capnp_base::introspect::RawBrandedStructSchema;
 use capnp_records::laws::{group_is_cleared, group_is_copied};
 use capnp_schema::laws::{heights_fall, numbers_fit};
-use capnp_schema::plan::Place;
 use capnp_schema::schema::{Field, StructSchema};
 use capnp_wire::StructReader;
 use capnp_wire::error::{Error, ErrorKind, Result};
 
-/// The schema of a field's group; none for a slot.
+/// The schema of a field's group, as `Field::get_group` has it; none for a slot.
 #[inline(always)]
 pub fn group_of<'s>(field: Field<'s>) -> Option<StructSchema<'s>>
     ensures { MatchOption result (IsSlot field.entry) (IsGroupAt field.entry) }
 {
-    let Place::Group(brand) = field.plan().place else {
-        return None;
-    };
-    let set = field.get_containing_struct().get_set();
-    Some(set.struct_schema(brand))
+    // The field's set is known to meet the rules here: a group's type is a struct.
+    let _schema = field.get_containing_struct();
+    field.get_group()
 }
 
 /// Clears a field, through at most so many groups.

@@ -6,8 +6,7 @@ ghost use Rattle.capnp_schema.specs.Schema.{seen_field};
 ghost use Rattle.capnp_schema.specs.StructHandles.{set_of, struct_field, struct_fields};
 ghost use Rattle.capnp_schema.specs.Types.{seen_type};
 
-use crate::layers::struct_number;
-use crate::plan::SlotPlan;
+use crate::plan::{Place, SlotPlan};
 use crate::record::{FieldKind, FieldRecord};
 use crate::schema::annotations::AnnotationList;
 use crate::schema::structs::StructSchema;
@@ -132,21 +131,16 @@ impl<'s> Field<'s> {
 
     /// The group, where the field is one; none for a slot. A group has the sections of the struct that it is in, and
     /// lesser height.
+    #[inline(always)]
     pub fn get_group(&self) -> Option<StructSchema<'s>>
         ensures number { option_map number_of result
             ≡ kind_target (typed_of self.now).field.kind (typed_of self.now).type }
         ensures down { IfSome result (IsGroupIn (schema_of self.now)) }
     {
-        match &self.proto.kind {
-            FieldKind::Slot {
-                offset: _,
-                default: _,
-            } => None,
-            FieldKind::Group { node: _ } => {
-                let number = struct_number(self.field_type.which());
-                Some(self.schema.set.struct_schema(number))
-            }
-        }
+        let Place::Group(brand) = self.plan().place else {
+            return None;
+        };
+        Some(self.schema.set.struct_schema(brand))
     }
 
     /// Its annotations, each with its type in the brand. The answer is always Ok.
