@@ -228,8 +228,8 @@ later_none i j xs h = ap (λ q. cond q None (Some (i, xs))) (lt-false i j h)
 
 -- ---- what a printer asks of a field ----
 
-pub plain_from : (r : StructHandle) (f : Field) (d : ℕ) → d ≡ (field_in r f).field.discriminant_value → d ≡ 65535 → is_member (field_in r f).field ≡ false
-plain_from r f d e h = ap (λ n. not (n == 65535)) (sym e) ∙ ap (λ n. not (n == 65535)) h
+pub plain_from : (r : StructHandle) (f : Field) → IsFieldOf (schema_of r) (index_of f) f → (p : FieldRecord) → p ≡ (typed_of f).field → false ≡ is_member p → is_member (field_in r f).field ≡ false
+plain_from r f field p e h = sym (h ∙ ap is_member (e ∙ ap (λ (s : StructSchema). (struct_field s (index_of f)).field) field.schema))
 
 -- the name of a field's record
 pub name_in : (r : StructHandle) (f : Field) → IsFieldOf (schema_of r) (index_of f) f → (p : FieldRecord) → p ≡ (typed_of f).field → p.name ≡ (field_in r f).field.name

@@ -14,7 +14,6 @@ use crate::printer::parts::{
 };
 use crate::printer::pieces::{one_deeper, print_leaf, put, put_line, put_separator};
 use crate::{dynamic_list, dynamic_struct};
-use capnp_schema::record::NO_DISCRIMINANT;
 use capnp_schema::schema::Field;
 use capnp_wire::error::{Error, ErrorKind};
 
@@ -176,7 +175,7 @@ fn print_field<'a, O: Out>(
         (field_items left at reader.entry (field_in reader.entry field.entry) (index_of field.entry)
         (pending_member left at reader.entry progress.entry.pending)) (O.text out.old)) }
 {
-    if field.get_proto().discriminant_value != NO_DISCRIMINANT {
+    if field.get_proto().is_member() {
         return Ok(progress);
     }
     let now = match print_before(reader, field, progress, left, at, out) {

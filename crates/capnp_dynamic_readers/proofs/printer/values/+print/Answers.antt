@@ -12,7 +12,7 @@ use Rattle.capnp_dynamic_readers.specs.Handles.{element_of, schema_of}
 use Rattle.capnp_dynamic_readers.specs.PartsRead.{fault_at, field_in}
 use Rattle.capnp_dynamic_readers.specs.Pieces.{IsStopped}
 use Rattle.capnp_dynamic_readers.specs.Shown.{IsPut, field_item, field_shown, value_shown}
-use Rattle.capnp_dynamic_readers.proofs.ItemsShown.{discriminant_in, items_start, name_in, own_index, pending_from, plain_from}
+use Rattle.capnp_dynamic_readers.proofs.ItemsShown.{items_start, name_in, own_index, pending_from, plain_from}
 use Rattle.capnp_dynamic_readers.proofs.PutSteps.{before_stopped, elements_after, elements_put, elements_refused, elements_stopped, field_put, field_stopped, field_stopped_before, items_after, items_member_stopped, items_put, items_stopped, later_pending, list_stopped, list_stopped_inside, record_stopped_inside, struct_put, struct_stopped}
 use Rattle.capnp_dynamic_readers.proofs.Steps.{full_stopped, leaf_from, err_map, item_put, item_stopped, leaf_put, list_put, ok_map, record_put}
 use Rattle.capnp_dynamic_readers.proofs.printer.values.+print.Goals as goal
@@ -47,20 +47,20 @@ print_elements-returns-clause-put g t c =
 pub print_field-returns-in-Err-clause-stopped : goal.print_field-returns-in-Err-clause-stopped
 print_field-returns-in-Err-clause-stopped g t c =
     let plain : is_member (field_in c.args.reader c.args.field).field ≡ false =
-    plain_from c.args.reader c.args.field c.get_proto.result.now.discriminant_value (discriminant_in c.args.reader c.args.field c.requires.field _ c.get_proto.ensures) (omega (arith, c.if-get_proto.false)) in
+    plain_from c.args.reader c.args.field c.requires.field _ c.get_proto.ensures c.if-is_member.ensures in
     field_stopped_before c.args.left c.args.at c.args.reader c.args.field c.args.progress.pending c.args.progress.first (g.O.Out.text c.args.out.now) plain c.in-Err.stop c.in-Err.ensures.stopped
 
 pub print_field-returns-in-Err-print_item-clause-stopped : goal.print_field-returns-in-Err-print_item-clause-stopped
 print_field-returns-in-Err-print_item-clause-stopped g t c =
     let plain : is_member (field_in c.args.reader c.args.field).field ≡ false =
-    plain_from c.args.reader c.args.field c.get_proto.result.now.discriminant_value (discriminant_in c.args.reader c.args.field c.requires.field _ c.get_proto.ensures) (omega (arith, c.if-get_proto.false)) in
+    plain_from c.args.reader c.args.field c.requires.field _ c.get_proto.ensures c.if-is_member.ensures in
     field_stopped c.args.left c.args.at c.args.reader c.args.field c.args.progress.pending c.args.progress.first (g.O.Out.text c.args.out.now) plain c.in-Ok.now.first (g.O.Out.text c.print_before.new.out) c.in-Err-print_item.stop
     c.in-Ok.ensures.put.0 c.if-not-is_field_there.ensures c.in-Err-print_item.ensures.stopped
 
 pub print_field-returns-clause-put : goal.print_field-returns-clause-put
 print_field-returns-clause-put g t c =
     let plain : is_member (field_in c.args.reader c.args.field).field ≡ false =
-    plain_from c.args.reader c.args.field c.get_proto.result.now.discriminant_value (discriminant_in c.args.reader c.args.field c.requires.field _ c.get_proto.ensures) (omega (arith, c.if-get_proto.false)) in (
+    plain_from c.args.reader c.args.field c.requires.field _ c.get_proto.ensures c.if-is_member.ensures in (
       field_put c.args.left c.args.at c.args.reader c.args.field c.args.progress.pending c.args.progress.first (g.O.Out.text c.args.out.now) plain c.in-Ok.now.first (g.O.Out.text c.print_before.new.out) (g.O.Out.text c.print_item.new.out)
           c.in-Ok.ensures.put.0 c.if-not-is_field_there.ensures c.in_default.ensures.put,
       c.in-Ok.ensures.put.1,
