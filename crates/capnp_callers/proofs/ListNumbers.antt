@@ -12,14 +12,15 @@ use Rattle.capnp_schema.specs.Accepted.{NamesEntries}
 use Rattle.capnp_schema.specs.Schema.{Schemas}
 use Rattle.capnp_schema.specs.Types.{SchemaType, UIntType}
 use Rattle.capnp_records.specs.Record as value
+use Rattle.capnp_records.specs.Record.{Value}
 use Rattle.capnp_dynamic_readers.specs.Handles.{element_of, list_set}
 use Rattle.capnp_dynamic_readers.specs.Reads.{element_seen}
-use Rattle.capnp_dynamic_readers.specs.Seen.{answered}
+use Rattle.capnp_dynamic_readers.specs.Seen.{answered, value_seen}
 use Rattle.capnp_dynamic_readers.specs.Typed.{IsOf}
 use Rattle.capnp_dynamic_readers.specs.declared.dynamic_list.Reader.{Reader as ListHandle}
 use Rattle.capnp_dynamic_readers.specs.declared.dynamic_value.Reader.{Reader as DynamicValue}
 use Rattle.capnp_dynamic_readers.specs.declared.dynamic_value.Reader.TheVariants as dynamic
-use Rattle.capnp_callers.specs.Values.{AreFirstOf, IsNoNumberOf, count_of}
+use Rattle.capnp_callers.specs.Values.{AreFirstOf, IsNoNumberOf, IsNoUInt16, count_of}
 
 -- the first of the indices that are still to come, and the others
 pub first-index : (k n i : ℕ) (rest : List ℕ) → indices k n ≡ i ∷ rest → (i ≡ k) × (k < n) × (rest ≡ indices (k + 1) n)
@@ -42,7 +43,7 @@ no-index k n = go (n - k) refl
     go (suc m) d e = absurd cc
 
 -- one more number
-pub one-more : (l : ListHandle) (numbers : List ℕ) (x : ℕ) → AreFirstOf l numbers → element_seen l (length numbers) ≡ value.Number (pos x) → AreFirstOf l (numbers ++ x ∷ [])
+one-more : (l : ListHandle) (numbers : List ℕ) (x : ℕ) → AreFirstOf l numbers → element_seen l (length numbers) ≡ value.Number (pos x) → AreFirstOf l (numbers ++ x ∷ [])
 one-more l numbers x first is i h = elim (cases_lt i (length numbers)) [
   | inl inside ↦ first i inside ∙ ap (λ (n : ℕ). value.Number (pos n)) (sym (get_or_append_left numbers (x ∷ []) 0 i inside))
   | inr past ↦
@@ -73,10 +74,6 @@ module _ (l : ListHandle) (k : ℕ) where
         answer = subst (λ (n : ℕ). IsAnswer l n x) h.0 (subst (λ (z : ListHandle). IsAnswer z i x) same is);
       }
 
-  -- a refusal is that of an element
-  pub element-refused : (x : Result DynamicValue Error) (b : List ℕ) (e : Error) → IsNext x b → x ≡ Err e → IsNoNumberOf l e.kind
-  element-refused x b e next is = (k, next.inside, inl (sym next.answer.0 ∙ ap answered is))
-
   -- an element that is no UInt16 is of another type
   only-uint16 : (set : Schemas) (v : DynamicValue) → ((n : ℕ) → v ≡ dynamic.UInt16 n → ⊥) → IsOf set (UIntType 2) v → ⊥
   only-uint16 set (dynamic.UInt16 n) other h = other n refl
@@ -88,13 +85,10 @@ module _ (l : ListHandle) (k : ℕ) where
   only-uint16 set (dynamic.List s) other h = let is = h.1 in cc
   only-uint16 set v other h = cc
 
-  pub element-mismatched : (x : Result DynamicValue Error) (b : List ℕ) (v : DynamicValue) (kind : ErrorKind) → IsNext x b → x ≡ Ok v → ((n : ℕ) → v ≡ dynamic.UInt16 n → ⊥) → kind ≡ TypeMismatch → IsNoNumberOf l kind
-  element-mismatched x b v kind next is other e = (k, next.inside, inr (e, not-number))
-    where
-      not-number : UIntType 2 ≡ element_of l → ⊥
-      not-number same =
-          let of : IfOk x (IsOf (list_set l) (element_of l)) = next.answer.1 (subst (NamesEntries (list_set l)) same tt) in
-          only-uint16 (list_set l) v other (subst (λ (t : SchemaType). IsOf (list_set l) t v) (sym same) (subst (λ (y : Result DynamicValue Error). IfOk y (IsOf (list_set l) (element_of l))) is of))
+  not-uint16 : (x : Result DynamicValue Error) (b : List ℕ) (v : DynamicValue) → IsNext x b → x ≡ Ok v → ((n : ℕ) → v ≡ dynamic.UInt16 n → ⊥) → UIntType 2 ≡ element_of l → ⊥
+  not-uint16 x b v next is other same =
+      let of : IfOk x (IsOf (list_set l) (element_of l)) = next.answer.1 (subst (NamesEntries (list_set l)) same tt) in
+      only-uint16 (list_set l) v other (subst (λ (t : SchemaType). IsOf (list_set l) t v) (sym same) (subst (λ (y : Result DynamicValue Error). IfOk y (IsOf (list_set l) (element_of l))) is of))
 
   -- and else it is the next number
   number-is : (x : Result DynamicValue Error) (b : List ℕ) (n : ℕ) → IsNext x b → x ≡ Ok (dynamic.UInt16 n) → element_seen l k ≡ value.Number (pos n)
@@ -110,3 +104,36 @@ read-on l numbers new n x b next is grown first =
       omega (arith, longer, inside),
       subst (AreFirstOf l) (sym grown) (one-more l numbers n first (number-is l (length numbers) x b n next is)),
     )
+
+-- ---- the first element that is none ----
+
+-- what is there of another type is no fault
+there-mismatched : (t : SchemaType) (v : DynamicValue) (kind : ErrorKind) → (kind ≡ TypeMismatch) × (UIntType 2 ≡ t → ⊥) → IsNoUInt16 t (value_seen v) kind
+there-mismatched t dynamic.Void kind h = h
+there-mismatched t (dynamic.Bool b) kind h = h
+there-mismatched t (dynamic.Int8 n) kind h = h
+there-mismatched t (dynamic.Int16 n) kind h = h
+there-mismatched t (dynamic.Int32 n) kind h = h
+there-mismatched t (dynamic.Int64 n) kind h = h
+there-mismatched t (dynamic.UInt8 n) kind h = h
+there-mismatched t (dynamic.UInt16 n) kind h = h
+there-mismatched t (dynamic.UInt32 n) kind h = h
+there-mismatched t (dynamic.UInt64 n) kind h = h
+there-mismatched t (dynamic.Enum e) kind h = h
+there-mismatched t (dynamic.Text b) kind h = h
+there-mismatched t (dynamic.«Data» b) kind h = h
+there-mismatched t (dynamic.Struct s) kind h = h
+there-mismatched t (dynamic.List s) kind h = h
+there-mismatched t (dynamic.AnyPointer p) kind h = h
+
+module _ (l : ListHandle) (numbers : List ℕ) (first : AreFirstOf l numbers) (x : Result DynamicValue Error) (b : List ℕ) (next : IsNext l (length numbers) x b) where
+  -- what the next element answers says why it is no number
+  none-of : (v : Value) (kind : ErrorKind) → answered x ≡ v → IsNoUInt16 (element_of l) v kind → IsNoNumberOf l kind
+  none-of v kind is none = (numbers, next.inside, first, subst (λ (w : Value). IsNoUInt16 (element_of l) w kind) (sym is ∙ next.answer.0) none)
+
+  pub element-refused : (e : Error) → x ≡ Err e → IsNoNumberOf l e.kind
+  element-refused e is = none-of (value.Fault e.kind) e.kind (ap answered is) refl
+
+  pub element-mismatched : (v : DynamicValue) (kind : ErrorKind) → x ≡ Ok v → ((n : ℕ) → v ≡ dynamic.UInt16 n → ⊥) → kind ≡ TypeMismatch → IsNoNumberOf l kind
+  element-mismatched v kind is other e =
+      none-of (value_seen v) kind (ap answered is) (there-mismatched (element_of l) v kind (e, not-uint16 l (length numbers) x b v next is other))

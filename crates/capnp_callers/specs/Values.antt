@@ -1,5 +1,5 @@
 -- Lists of UInt16s, and fields that hand out a text.
-use Rattle.std.specs.Prelude.{ℕ, ◌≡◌, ◌<◌, ◌⊎◌, ⊤, List, length, get_or, pos, Bool, true, false, not, ◌&&◌}
+use Rattle.std.specs.Prelude.{ℕ, ◌≡◌, ◌<◌, ⊤, List, length, get_or, pos, Bool, true, false, not, ◌&&◌}
 use Rattle.capnp_device.specs.declared.error.ErrorKind.{ErrorKind}
 use Rattle.capnp_device.specs.declared.error.ErrorKind.TheVariants.{TypeMismatch}
 use Rattle.capnp_wire.specs.Reading.{list_length}
@@ -8,6 +8,7 @@ use Rattle.capnp_schema.specs.Schema.{TypedField}
 use Rattle.capnp_schema.specs.Types.{SchemaType, TextType, UIntType}
 use Rattle.capnp_records.specs.Call.{Source}
 use Rattle.capnp_records.specs.Record as value
+use Rattle.capnp_records.specs.Record.{Value}
 use Rattle.capnp_records.specs.Step.{is_group_field}
 use Rattle.capnp_slots.specs.SetValues.{source_of}
 use Rattle.capnp_dynamic.specs.declared.dynamic_value.build.Builder.{Builder as BuiltValue}
@@ -29,10 +30,15 @@ AreFirstOf l numbers = (i : ℕ) → i < length numbers → element_seen l i ≡
 abbrev pub AreNumbersOf : ListHandle → List ℕ → Type 0
 AreNumbersOf l numbers = (length numbers ≡ count_of l) × AreFirstOf l numbers
 
--- why a list's numbers are not read: the read of an element is refused, or there is one and it is no UInt16
+-- why an element of a list of this type is no UInt16: its read is refused, or it is there and of another type
+abbrev pub IsNoUInt16 : SchemaType → Value → ErrorKind → Type 0
+IsNoUInt16 t (value.Fault refusal) kind = kind ≡ refusal
+IsNoUInt16 t v kind = (kind ≡ TypeMismatch) × (UIntType 2 ≡ t → ⊥)
+
+-- why a list's numbers are not read: the first elements are numbers, and the one after them is none
 abbrev pub IsNoNumberOf : ListHandle → ErrorKind → Type 0
-IsNoNumberOf l kind = (i : ℕ) × (i < count_of l)
-    × ((element_seen l i ≡ value.Fault kind) ⊎ ((kind ≡ TypeMismatch) × (UIntType 2 ≡ element_of l → ⊥)))
+IsNoNumberOf l kind = (numbers : List ℕ) × (length numbers < count_of l) × AreFirstOf l numbers
+    × IsNoUInt16 (element_of l) (element_seen l (length numbers)) kind
 
 -- a number that is given
 abbrev pub number_source : ℕ → Source

@@ -28,8 +28,8 @@ use std::alloc::Global;
 
 /// The numbers of a list of `UInt16`s, in their order.
 ///
-/// Refused as the read of an element, with `TypeMismatch` where there is an element and it is of another type, and with
-/// `OutOfMemory`.
+/// Refused with `OutOfMemory`, and by the first element that is no number: as its read, and with `TypeMismatch` where
+/// it is there and of another type.
 pub fn numbers_of(alloc: Global, list: dynamic_list::Reader<'_>) -> Result<Vec<u16>>
     ensures numbers { IfOk result (λ v. AreNumbersOf list.entry v.items) }
     ensures refused { IfErr result (λ e. e.kind ≢ OutOfMemory → IsNoNumberOf list.entry e.kind) }

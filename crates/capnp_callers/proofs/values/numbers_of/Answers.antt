@@ -14,7 +14,7 @@ returns-in_err-number-clause-refused c =
     let read = length before.numbers.items in
     let next = next-element c.args.list read (source before.element-iterator) (to_come before.element-iterator) (to_come c.next.new.self) step.0 c.in-Some.element before.invariant.0 before.invariant.1 step.1 step.2 in
     let p = err_from_is_err_and c.from_residual.result c.from_residual.ensures.1 in
-    rw (p.1, p.2) (λ other. element-refused c.args.list read c.in-Some.element (to_come c.next.new.self) c.in_err-number.field-0.0 next c.in_err-number.was)
+    rw (p.1, p.2) (λ other. element-refused c.args.list before.numbers.items before.invariant.3 c.in-Some.element (to_come c.next.new.self) next c.in_err-number.field-0.0 c.in_err-number.was)
 
 pub loop-element-preserved : goal.loop-element-preserved
 loop-element-preserved c =
@@ -33,7 +33,7 @@ returns-in_default c =
     let next = next-element c.args.list read (source before.element-iterator) (to_come before.element-iterator) (to_come c.next.new.self) step.0 c.in-Some.element before.invariant.0 before.invariant.1 step.1 step.2 in
     record {
       numbers = tt;
-      refused = λ other. element-mismatched c.args.list read c.in-Some.element (to_come c.next.new.self) c.in_ok-number.field-0 c.type_mismatch.result.kind next c.in_ok-number.was c.in_default.not-UInt16 c.type_mismatch.ensures;
+      refused = λ other. element-mismatched c.args.list before.numbers.items before.invariant.3 c.in-Some.element (to_come c.next.new.self) next c.in_ok-number.field-0 c.type_mismatch.result.kind c.in_ok-number.was c.in_default.not-UInt16 c.type_mismatch.ensures;
     }
 
 pub returns-clause-numbers : goal.returns-clause-numbers
