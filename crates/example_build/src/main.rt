@@ -6,7 +6,6 @@ use capnp_wire::device::{Sink, WriteSink};
 use capnp_wire::error::Result;
 use capnp_wire::size::StructSize;
 use std::alloc::Global;
-use std::process::ExitCode;
 
 /// The sections of the struct that is built: a word of numbers and one pointer.
 const SIZE: StructSize = StructSize {
@@ -23,12 +22,6 @@ fn write<W: Sink>(alloc: Global, id: u64, name: &str, sink: &mut W) -> Result<()
     message.write_message_to(sink)
 }
 
-fn main(rt: HostRuntime) -> ExitCode {
-    match write(rt.alloc(), 7, "seven", &mut WriteSink::new(rt.stdout())) {
-        Ok(()) => ExitCode::SUCCESS,
-        Err(error) => {
-            let _ = eprintln!(rt; "refused: {}", error.kind.number());
-            ExitCode::from(1)
-        }
-    }
+fn main(rt: HostRuntime) -> Result<()> {
+    write(rt.alloc(), 7, "seven", &mut WriteSink::new(rt.stdout()))
 }

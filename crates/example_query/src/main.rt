@@ -4,9 +4,10 @@
 use capnp_schema::builtin;
 use capnp_schema::plan::Place;
 use capnp_schema::schema::{Field, StructSchema};
+use capnp_wire::device::WriteSink;
 use capnp_wire::error::Result;
+use capnp_wire::transfer::write_all;
 use std::alloc::Global;
-use std::process::ExitCode;
 
 /// Appends a field's name, and the bits or the pointer that it occupies.
 fn describe(field: Field<'_>, out: &mut String) -> Result<()> {
@@ -36,15 +37,7 @@ fn mixed(alloc: Global) -> Result<String> {
     describe_all(alloc, set.struct_schema(builtin::MIXED))
 }
 
-fn main(rt: HostRuntime) -> ExitCode {
-    match mixed(rt.alloc()) {
-        Ok(lines) => {
-            let _ = print!(rt; "{lines}");
-            ExitCode::SUCCESS
-        }
-        Err(error) => {
-            let _ = eprintln!(rt; "refused: {}", error.kind.number());
-            ExitCode::from(1)
-        }
-    }
+fn main(rt: HostRuntime) -> Result<()> {
+    let lines = mixed(rt.alloc())?;
+    write_all(&mut WriteSink::new(rt.stdout()), lines.as_bytes())
 }

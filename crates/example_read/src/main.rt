@@ -11,12 +11,11 @@ ghost use Rattle.capnp_dynamic_readers.specs.Reads.{found_seen};
 
 use capnp_dynamic_readers::{dynamic_struct, dynamic_value};
 use capnp_schema::builtin;
-use capnp_wire::device::ReadSource;
+use capnp_wire::device::{ReadSource, WriteSink};
 use capnp_wire::error::{Error, Result};
 use capnp_wire::message::Reader;
-use capnp_wire::transfer::read_all;
+use capnp_wire::transfer::{read_all, write_all};
 use std::alloc::Global;
-use std::process::ExitCode;
 
 /// The UInt16 that the field of a name has. Refused as the read of the field, and as `TypeMismatch` where the field has
 /// another type. The contract says that it is the field's number in the record that the struct stands for.
@@ -41,21 +40,10 @@ fn read(alloc: Global, bytes: &[u8]) -> Result<u16> {
     )
 }
 
-/// The same of the message that a source gives.
-fn run(rt: &HostRuntime) -> Result<u16> {
+/// The same of the message on standard input, printed.
+fn main(rt: HostRuntime) -> Result<()> {
     let bytes = read_all(rt.alloc(), &mut ReadSource::new(rt.stdin()))?;
-    read(rt.alloc(), &bytes)
-}
-
-fn main(rt: HostRuntime) -> ExitCode {
-    match run(&rt) {
-        Ok(number) => {
-            let _ = println!(rt; "n = {number}");
-            ExitCode::SUCCESS
-        }
-        Err(error) => {
-            let _ = eprintln!(rt; "refused: {}", error.kind.number());
-            ExitCode::from(1)
-        }
-    }
+    let number = read(rt.alloc(), &bytes)?;
+    let line = format!(in rt.alloc(); "n = {number}\n")?;
+    write_all(&mut WriteSink::new(rt.stdout()), line.as_bytes())
 }

@@ -17,10 +17,11 @@ use capnp_run::message::{whole_copied, whole_new};
 use capnp_schema::record::{BrandRecord, FieldRecord, NodeRecord, ValueRecord};
 use capnp_schema::schema::StructSchema;
 use capnp_schema::set::SchemaSet;
+use capnp_wire::device::WriteSink;
 use capnp_wire::error::{Error, ErrorKind, Result};
 use capnp_wire::message::Reader;
+use capnp_wire::transfer::write_all;
 use std::alloc::Global;
-use std::process::ExitCode;
 
 /// Two versions of an account: the older one has a name, the newer one also a balance.
 fn schemas(alloc: Global) -> Result<SchemaSet> {
@@ -112,18 +113,11 @@ fn run(alloc: Global) -> Result<String> {
     let patched = patch(alloc, account, &built, &mut out)?;
     out.push('\n')?;
     read_as_older(alloc, &set, &patched, &mut out)?;
+    out.push('\n')?;
     Ok(out)
 }
 
-fn main(rt: HostRuntime) -> ExitCode {
-    match run(rt.alloc()) {
-        Ok(text) => {
-            let _ = println!(rt; "{text}");
-            ExitCode::SUCCESS
-        }
-        Err(error) => {
-            let _ = eprintln!(rt; "refused: {}", error.kind.number());
-            ExitCode::from(1)
-        }
-    }
+fn main(rt: HostRuntime) -> Result<()> {
+    let lines = run(rt.alloc())?;
+    write_all(&mut WriteSink::new(rt.stdout()), lines.as_bytes())
 }
