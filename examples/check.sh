@@ -1,6 +1,6 @@
 #!/bin/sh
 # Runs ./capnp_show and ./riftcalico on the messages of this folder and on what they refuse, and compares what they print and
-# answer.
+# answer. First ./check_docs holds the documents to the repository.
 # Where the tool `capnp` is installed, the messages are also made again, and each has to come out the same.
 
 cd -- "$(dirname -- "$0")/.." || exit 1
@@ -34,6 +34,10 @@ message() {
         cmp -- "$scratch/made" "examples/$1" || fail "$1: capnp makes other bytes"
     fi
 }
+
+# what the documents say of the repository
+./check_docs > "$scratch/out" 2> "$scratch/err"
+expect 'the documents' $? 0 'check_docs: 0 things do not hold' ''
 
 # builds the program where needed, so that the runs below write nothing else
 ./capnp_show Flat < examples/flat.bin > "$scratch/out" || exit 1
