@@ -172,6 +172,14 @@ fn numbers_of(alloc: Global, schema: StructSchema<'_>) -> Result<String> {
     Ok(format!(in alloc; "{brand} {node}")?)
 }
 
+/// The numbers of a field's group, or `none`.
+fn group_of(alloc: Global, schema: StructSchema<'_>, name: &str) -> Result<String> {
+    match schema.get_field_by_name(name)?.get_group() {
+        Some(group) => numbers_of(alloc, group),
+        None => index_in_words(alloc, None),
+    }
+}
+
 /// What a struct answers of a field that is looked up.
 fn looked_up(alloc: Global, kind: &str, schema: StructSchema<'_>, words: &str) -> Result<String> {
     match kind {
@@ -181,6 +189,7 @@ fn looked_up(alloc: Global, kind: &str, schema: StructSchema<'_>, words: &str) -
         "counted" => found_and_count(alloc, schema, words),
         "most" => most_compared(alloc, schema, words),
         "plan" => plan_of(alloc, schema, words),
+        "group" => group_of(alloc, schema, words),
         _ => Err(UNREADABLE),
     }
 }

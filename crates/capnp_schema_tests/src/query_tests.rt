@@ -1,5 +1,5 @@
 //! Queries of structs and enums: records, types, fields by name, by discriminant and by kind. The built-in structs are
-//! 0 `Flat`, 3 `Shapes`, 5 its group `tag`, 7 `Lists` and 8 `Node`.
+//! 0 `Flat`, 3 `Shapes`, 4 and 5 its groups `circle` and `tag`, 6 `Loop`, 7 `Lists` and 8 `Node`.
 
 use crate::queries::answers_hold;
 use std::test::Fail;
@@ -55,6 +55,21 @@ type 8 size -> Enum(0)";
 #[test]
 fn fields_have_types(rt: HostRuntime) -> Result<(), Fail> {
     answers_hold(&rt, rt.alloc(), TYPES)
+}
+
+/// `again` is a slot of a struct, and `items` one of a list of structs.
+const GROUPS: &str = "\
+in built-in
+group 3 circle -> 4 4
+group 3 tag -> 5 5
+group 3 word -> none
+group 3 id -> none
+group 6 again -> none
+group 7 items -> none";
+
+#[test]
+fn a_group_field_has_its_group(rt: HostRuntime) -> Result<(), Fail> {
+    answers_hold(&rt, rt.alloc(), GROUPS)
 }
 
 /// The last of each call's for `Shapes` has the empty name.
