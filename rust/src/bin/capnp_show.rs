@@ -1,0 +1,8 @@
+//! The program `capnp_show`: docs/PROGRAM.md is its page.
+#![forbid(unsafe_code)]
+
+use std::process::ExitCode;
+
+fn main() -> ExitCode {
+    riftcalico::programs::capnp_show()
+}

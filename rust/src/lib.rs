@@ -1,0 +1,200 @@
+//! The reflection layer of Cap'n Proto: messages under schemas that are known only at run time.
+//!
+//! The code is that of the proved crates of this repository, translated by the build script: contracts go, the rest
+//! stays as it is. Names are those of the crate `capnp` where it has them.
+//!
+//! ```
+//! use riftcalico::{message, printer, schema::SchemaSet};
+//!
+//! # fn main() -> riftcalico::Result<()> {
+//! # let request = include_bytes!("../../examples/addressbook.request");
+//! # let bytes = include_bytes!("../../examples/addressbook.bin");
+//! // `capnp compile -o- addressbook.capnp` makes the request
+//! let set = SchemaSet::from_request(request)?;
+//! let book = message::read_root(bytes, set.get_struct_named("AddressBook")?)?;
+//! assert!(printer::to_string(book.into(), false)?.starts_with("(people = [(id = 123, name = \"Alice\""));
+//! # Ok(())
+//! # }
+//! ```
+//!
+//! # What is proved, and what is not
+//!
+//! Each function of the source is proved to meet its contract (`docs/PROMISES.md` of the repository). This crate has the
+//! same lines, compiled by rustc in place of the prover's own compiler: beside the proofs one trusts rustc, the
+//! translator and what stands for the prover's standard library (`rust/README.md`).
+//!
+//! A call's conditions are told in a section `# Conditions`. The prover holds Rattle's callers to them; nobody holds a
+//! caller in Rust to them. A call outside its conditions may panic or answer something else, but is never undefined:
+//! there is no `unsafe` in the crate.
+//!
+//! # Memory
+//!
+//! Want of memory is an answer: calls that may take memory answer a `Result`, and most are given the allocator,
+//! [`memory::Global`].
+#![forbid(unsafe_code)]
+#![warn(missing_docs)]
+
+#[allow(dead_code, reason = "tests take more of it")]
+#[path = "../std/mod.rs"]
+mod rattle_std;
+
+mod conversions;
+mod one_call;
+
+include!(concat!(env!("OUT_DIR"), "/libraries.rs"));
+
+pub use capnp_device::error::{Error, ErrorKind, Result, SchemaTable};
+pub use capnp_wire::size::MessageSize;
+
+/// Any pointers, whose type no schema says.
+pub mod any_pointer {
+    pub use crate::capnp_builders::any_pointer::{Builder, Owned, Reader};
+}
+
+/// Compatible successors of a schema, and reads of one under the other.
+pub mod compatible {
+    pub use crate::capnp_compatible::Compatible;
+}
+
+/// Data: bytes as they stand.
+pub mod data {
+    pub use crate::capnp_builders::data::{Builder, Owned, Reader};
+}
+
+/// Where bytes come from, and where they go.
+pub mod device {
+    pub use crate::capnp_device::device::{DeviceFault, ReadSource, Sink, Source, WriteSink};
+    pub use crate::capnp_device::memory::{MemorySink, MemorySource};
+    pub use crate::capnp_device::transfer::{read_all, write_all};
+}
+
+/// Lists whose type is known at run time.
+pub mod dynamic_list {
+    pub use crate::capnp_dynamic::dynamic_list::{Builder, Reader};
+}
+
+/// Structs whose schema is known at run time.
+pub mod dynamic_struct {
+    pub use crate::capnp_dynamic::dynamic_struct::{Builder, Reader};
+}
+
+/// Values whose type is known at run time.
+pub mod dynamic_value {
+    pub use crate::capnp_dynamic::dynamic_value::{
+        AnnotationValue, Builder, DowncastBuilder, DowncastReader, Enum, Kept, Reader,
+    };
+}
+
+/// Types as values.
+pub mod introspect {
+    pub use crate::capnp_base::introspect::{
+        Introspect, RawBrandedStructSchema, RawEnumSchema, Type, TypeVariant,
+    };
+}
+
+/// The allocator, and vectors and strings whose growth can be refused.
+pub mod memory {
+    pub use crate::rattle_std::alloc::{AllocError, Global};
+    pub use crate::rattle_std::string::String;
+    pub use crate::rattle_std::vec::Vec;
+}
+
+/// Messages as they are received, and as they are built.
+pub mod message {
+    pub use crate::capnp_arena::list_builder::ListBuilder;
+    pub use crate::capnp_arena::message::Builder;
+    pub use crate::capnp_arena::pointer_builder::PointerBuilder;
+    pub use crate::capnp_arena::struct_builder::StructBuilder;
+    pub use crate::capnp_wire::message::Reader;
+    pub use crate::capnp_wire::size::{ElementSize, StructSize};
+    pub use crate::capnp_wire::{ListReader, PointerReader, PrimitiveElement, StructReader};
+    pub use crate::one_call::read_root;
+}
+
+/// Calls along paths on messages, as words say them; what stands at a path.
+pub mod patch {
+    pub use crate::capnp_patch::engine::{any_refused, is_refused, new_message, patch, Report};
+    pub use crate::capnp_patch::get::get;
+    pub use crate::capnp_patch::lines::get_lines;
+    pub use crate::capnp_patch::reach::read_path;
+    pub use crate::capnp_words::call::{parse_call, CallWord, WordOp};
+    pub use crate::capnp_words::path::{parse_path, Path, PathStep};
+    pub use crate::capnp_words::target::target_type;
+    pub use crate::capnp_words::value::{parse_value, PlainValue};
+    pub use crate::one_call::get_path;
+}
+
+/// Values as text.
+pub mod printer {
+    pub use crate::capnp_dynamic::printer::print;
+    pub use crate::one_call::to_string;
+}
+
+/// Sets from the requests of the public compiler.
+pub mod request {
+    pub use crate::capnp_request::{read_request, Converted, Note, StandIn};
+    pub use crate::capnp_schema::request::new_set;
+}
+
+/// Lists of calls along paths, and runs on whole messages.
+pub mod run {
+    pub use crate::capnp_call::calls::{Call, Op, Plain, Reply, Step};
+    pub use crate::capnp_run::message::{run_copied, run_new, whole_copied, whole_new};
+    pub use crate::capnp_run::run::{run, run_on};
+}
+
+/// Schemas, and checked sets of them.
+pub mod schema {
+    pub use crate::capnp_schema::record;
+    pub use crate::capnp_schema::schema::{
+        Annotation, AnnotationList, EnumSchema, Enumerant, EnumerantList, Field, FieldList,
+        FieldSubset, StructSchema,
+    };
+    pub use crate::capnp_schema::set::SchemaSet;
+    pub use crate::capnp_schema::{builtin, meta, plan, value};
+}
+
+/// Sets of schemas as messages.
+pub mod sets {
+    pub use crate::capnp_set_writer::set_writer::write_set;
+    pub use crate::capnp_sets::message::read_message;
+    pub use crate::capnp_sets::sets::{read_schema_set, read_set};
+}
+
+/// Texts, which need not be UTF-8.
+pub mod text {
+    pub use crate::capnp_builders::text::{Builder, Owned, Reader};
+}
+
+/// What handles have in common.
+pub mod traits {
+    pub use crate::capnp_base::traits::{
+        FromPointerReader, HasStructSize, HasTypeId, Index, IndexIter, IndexMove,
+        IntoInternalListReader, IntoInternalStructReader, ListIter, ShortListIter,
+    };
+    pub use crate::capnp_builders::traits::{
+        FromPointerBuilder, Owned, OwnedStruct, SetterInput,
+    };
+}
+
+/// The programs, from the words that they are started with to their exit status.
+#[doc(hidden)]
+pub mod programs {
+    use crate::rattle_std::rt::HostRuntime;
+    use std::process::ExitCode;
+
+    /// The program `capnp_show`.
+    pub fn capnp_show() -> ExitCode {
+        crate::capnp_show::main(HostRuntime)
+    }
+
+    /// The program `capnp_set`.
+    pub fn capnp_set() -> ExitCode {
+        crate::capnp_set::main(HostRuntime)
+    }
+
+    /// The program `riftcalico`.
+    pub fn riftcalico() -> ExitCode {
+        crate::riftcalico::main(HostRuntime)
+    }
+}

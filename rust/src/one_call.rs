@@ -1,0 +1,82 @@
+//! What takes several calls of the layer, in one call.
+
+use crate::capnp_call::calls::Step;
+use crate::capnp_device::error::{Error, ErrorKind, Result};
+use crate::capnp_dynamic::{dynamic_struct, dynamic_value, printer};
+use crate::capnp_patch::reach::read_path;
+use crate::capnp_schema::schema::StructSchema;
+use crate::capnp_schema::set::SchemaSet;
+use crate::capnp_wire::message::Reader;
+use crate::capnp_words::path::{parse_path, PathStep};
+use crate::rattle_std::alloc::{AllocError, Global};
+use crate::rattle_std::string::String;
+
+impl SchemaSet {
+    /// The set that a request of the public compiler stands for: what `capnp compile -o-` writes. Float types stand as
+    /// the integers of their bits, interfaces as untyped pointers; [`crate::request::read_request`] also tells where.
+    ///
+    /// Refused as [`crate::request::read_request`] and [`SchemaSet::new`], and as the request's message is.
+    pub fn from_request(bytes: &[u8]) -> Result<SchemaSet> {
+        let known = crate::capnp_schema::request::new_set(Global)?;
+        let root = Reader::new(Global, bytes)?.get_root().get_struct()?;
+        let request = dynamic_struct::Reader::new(root, known.struct_schema(0));
+        let made = crate::capnp_request::read_request(Global, request, false)?;
+        SchemaSet::new(Global, made.nodes, made.brands, made.enums)
+    }
+
+    /// The set that a message holds: what the program `capnp_set` and [`SchemaSet::to_message`] write.
+    ///
+    /// Refused as [`crate::sets::read_message`].
+    pub fn from_message(bytes: &[u8]) -> Result<SchemaSet> {
+        crate::capnp_sets::message::read_message(Global, bytes)
+    }
+
+    /// The set as a message.
+    ///
+    /// Refused as [`crate::sets::write_set`].
+    pub fn to_message(&self) -> Result<Vec<u8>> {
+        Ok(crate::capnp_set_writer::set_writer::write_set(Global, self)?.into())
+    }
+
+    /// The struct of a display name, as `AddressBook` or `Person.PhoneNumber`: of several the first that is no group.
+    ///
+    /// Refused with `NameNotFound` where no struct has the name.
+    pub fn get_struct_named(&self, name: &str) -> Result<StructSchema<'_>> {
+        self.find_struct(name).ok_or(Error::from(ErrorKind::NameNotFound))
+    }
+}
+
+/// The root of the first message in these bytes, as a struct of a schema. The bytes are not copied.
+///
+/// Refused as [`crate::message::Reader::new`], and as the root's `get_struct`.
+pub fn read_root<'a>(bytes: &'a [u8], schema: StructSchema<'a>) -> Result<dynamic_struct::Reader<'a>> {
+    let root = Reader::new(Global, bytes)?.get_root().get_struct()?;
+    Ok(dynamic_struct::Reader::new(root, schema))
+}
+
+/// The text of a value, on one line, or indented on several.
+///
+/// Refused as [`crate::printer::print`].
+pub fn to_string(value: dynamic_value::Reader<'_>, indented: bool) -> Result<std::string::String> {
+    let mut out = String::new(Global);
+    printer::print(value, &mut out, indented)?;
+    Ok(out.into())
+}
+
+/// What stands at a path of a value, as `people.1.phones.0.number`; `.` alone is the value itself.
+///
+/// Refused with `FieldNotFound` where the path can't be read, and else as [`crate::patch::read_path`].
+pub fn get_path<'a>(value: dynamic_value::Reader<'a>, path: &str) -> Result<dynamic_value::Reader<'a>> {
+    let path = match parse_path(Global, path)? {
+        Ok(path) => path,
+        Err(_) => return Err(Error::from(ErrorKind::FieldNotFound)),
+    };
+    let mut steps = Vec::new();
+    steps.try_reserve_exact(path.steps.len()).map_err(AllocError::from)?;
+    steps.extend(path.steps.iter().map(|step| match step {
+        PathStep::Named(name) => Step::Named(name),
+        PathStep::Field(number) => Step::Field(*number),
+        PathStep::Element(index) => Step::Element(*index),
+    }));
+    read_path(value, &steps)
+}

@@ -1,0 +1,26 @@
+//! What stands for Rattle's std where it differs from Rust's: memory may be refused, so what takes memory is given an
+//! allocator and answers a `Result`. What is alike is handed on.
+
+pub mod alloc;
+pub mod collections;
+pub mod env;
+pub mod fs;
+mod macros;
+pub mod process;
+pub mod rt;
+pub mod string;
+pub mod test;
+pub mod vec;
+
+pub use std::{cmp, fmt, hash, io, marker, mem, result, str};
+
+pub(crate) use macros::{rattle_format, rattle_vec};
+
+/// The names that each file has without an import.
+pub mod prelude {
+    #[allow(unused_imports, reason = "tests alone repeat texts")]
+    pub use super::string::RepeatIn;
+    pub use super::rt::HostRuntime;
+    pub use super::string::String;
+    pub use super::vec::{CollectIn, SliceIn, Vec};
+}

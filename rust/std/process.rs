@@ -1,0 +1,8 @@
+//! How a program ends.
+
+pub use std::process::ExitCode;
+
+/// Leave to end the program, which tests have.
+pub trait Abort {}
+
+impl Abort for super::rt::HostRuntime {}

@@ -1,0 +1,245 @@
+//! Vectors whose growth can be refused.
+
+use super::alloc::{AllocError, Global};
+use std::cmp::Ordering;
+use std::fmt;
+use std::io;
+use std::ops::{Deref, DerefMut};
+
+/// A vector as Rust's, but for calls that take memory: these answer a `Result`, and change nothing where memory is
+/// refused.
+#[derive(PartialEq, Eq, Hash, PartialOrd, Ord)]
+pub struct Vec<T>(std::vec::Vec<T>);
+
+impl<T> Vec<T> {
+    /// A vector without items. It takes no memory.
+    pub fn new(_alloc: Global) -> Self {
+        Vec(std::vec::Vec::new())
+    }
+
+    /// A vector without items that has room for so many.
+    pub fn with_capacity(_alloc: Global, room: usize) -> Result<Self, AllocError> {
+        let mut items = std::vec::Vec::new();
+        items.try_reserve_exact(room)?;
+        Ok(Vec(items))
+    }
+
+    /// A copy of a slice.
+    pub fn from_slice(alloc: Global, items: &[T]) -> Result<Self, AllocError>
+    where
+        T: Copy,
+    {
+        let mut copy = Vec::new(alloc);
+        copy.0.try_reserve_exact(items.len())?;
+        copy.0.extend_from_slice(items);
+        Ok(copy)
+    }
+
+    /// The items of an array.
+    pub fn from_array<const N: usize>(alloc: Global, items: [T; N]) -> Result<Self, AllocError> {
+        let mut list = Vec::with_capacity(alloc, N)?;
+        list.0.extend(items);
+        Ok(list)
+    }
+
+    /// So many times one item.
+    pub fn from_elem(alloc: Global, item: T, count: usize) -> Result<Self, AllocError>
+    where
+        T: Copy,
+    {
+        let mut list = Vec::with_capacity(alloc, count)?;
+        list.0.resize(count, item);
+        Ok(list)
+    }
+
+    /// Appends an item.
+    #[inline]
+    pub fn push(&mut self, item: T) -> Result<(), AllocError> {
+        if self.0.len() == self.0.capacity() {
+            self.0.try_reserve(1)?;
+        }
+        self.0.push(item);
+        Ok(())
+    }
+
+    /// Appends the items of a slice.
+    #[inline]
+    pub fn extend_from_slice(&mut self, items: &[T]) -> Result<(), AllocError>
+    where
+        T: Copy,
+    {
+        self.0.try_reserve(items.len())?;
+        self.0.extend_from_slice(items);
+        Ok(())
+    }
+
+    /// Makes room for so many more items.
+    pub fn reserve(&mut self, more: usize) -> Result<(), AllocError> {
+        Ok(self.0.try_reserve(more)?)
+    }
+
+    /// Cuts the vector to so many items, or fills it up to them.
+    pub fn resize(&mut self, count: usize, item: T) -> Result<(), AllocError>
+    where
+        T: Copy,
+    {
+        self.0.try_reserve(count.saturating_sub(self.0.len()))?;
+        self.0.resize(count, item);
+        Ok(())
+    }
+
+    /// Takes the last item.
+    pub fn pop(&mut self) -> Option<T> {
+        self.0.pop()
+    }
+
+    /// Lets go all but the first items.
+    pub fn truncate(&mut self, count: usize) {
+        self.0.truncate(count);
+    }
+
+    /// Lets go all items.
+    pub fn clear(&mut self) {
+        self.0.clear();
+    }
+
+    /// How many items there is room for.
+    pub fn capacity(&self) -> usize {
+        self.0.capacity()
+    }
+
+    /// The items.
+    pub fn as_slice(&self) -> &[T] {
+        &self.0
+    }
+
+    /// The items, to be changed.
+    pub fn as_mut_slice(&mut self) -> &mut [T] {
+        &mut self.0
+    }
+
+    /// The items of a range, to be changed.
+    pub fn slice_mut<R: std::slice::SliceIndex<[T], Output = [T]>>(&mut self, range: R) -> &mut [T] {
+        &mut self.0[range]
+    }
+
+    /// Puts the items in order; equal ones stay in theirs.
+    pub fn sort_by<F: FnMut(&T, &T) -> Ordering>(&mut self, mut compare: F) -> Result<(), AllocError> {
+        // std's stable sort would end the program for want of memory, so the places are sorted, which takes none
+        let mut places = std::vec::Vec::new();
+        places.try_reserve_exact(self.0.len())?;
+        places.extend(0..self.0.len());
+        places.sort_unstable_by(|a, b| compare(&self.0[*a], &self.0[*b]).then(a.cmp(b)));
+        for target in 0..places.len() {
+            let mut source = places[target];
+            while source < target {
+                source = places[source];
+            }
+            self.0.swap(target, source);
+        }
+        Ok(())
+    }
+
+    /// The allocator.
+    pub fn allocator(&self) -> &Global {
+        &Global
+    }
+}
+
+impl<T: fmt::Debug> fmt::Debug for Vec<T> {
+    fn fmt(&self, f: &mut fmt::Formatter<'_>) -> fmt::Result {
+        self.0.fmt(f)
+    }
+}
+
+impl<T> Deref for Vec<T> {
+    type Target = [T];
+
+    fn deref(&self) -> &[T] {
+        &self.0
+    }
+}
+
+impl<T> DerefMut for Vec<T> {
+    fn deref_mut(&mut self) -> &mut [T] {
+        &mut self.0
+    }
+}
+
+impl<T> From<std::vec::Vec<T>> for Vec<T> {
+    fn from(items: std::vec::Vec<T>) -> Self {
+        Vec(items)
+    }
+}
+
+impl<T> From<Vec<T>> for std::vec::Vec<T> {
+    fn from(items: Vec<T>) -> Self {
+        items.0
+    }
+}
+
+impl<T> IntoIterator for Vec<T> {
+    type Item = T;
+    type IntoIter = std::vec::IntoIter<T>;
+
+    fn into_iter(self) -> Self::IntoIter {
+        self.0.into_iter()
+    }
+}
+
+impl<'a, T> IntoIterator for &'a Vec<T> {
+    type Item = &'a T;
+    type IntoIter = std::slice::Iter<'a, T>;
+
+    fn into_iter(self) -> Self::IntoIter {
+        self.0.iter()
+    }
+}
+
+impl<'a, T> IntoIterator for &'a mut Vec<T> {
+    type Item = &'a mut T;
+    type IntoIter = std::slice::IterMut<'a, T>;
+
+    fn into_iter(self) -> Self::IntoIter {
+        self.0.iter_mut()
+    }
+}
+
+impl io::Write for Vec<u8> {
+    fn write(&mut self, bytes: &[u8]) -> io::Result<usize> {
+        match self.extend_from_slice(bytes) {
+            Ok(()) => Ok(bytes.len()),
+            Err(AllocError) => Err(io::Error::from(io::ErrorKind::OutOfMemory)),
+        }
+    }
+
+    fn flush(&mut self) -> io::Result<()> {
+        Ok(())
+    }
+}
+
+/// Collecting into a vector whose memory can be refused.
+pub trait CollectIn: Iterator + Sized {
+    /// The items, in a vector.
+    fn collect_in(self, alloc: Global) -> Result<Vec<Self::Item>, AllocError> {
+        let mut items = Vec::new(alloc);
+        for item in self {
+            items.push(item)?;
+        }
+        Ok(items)
+    }
+}
+
+impl<I: Iterator> CollectIn for I {}
+
+/// Copying a slice into a vector whose memory can be refused.
+pub trait SliceIn<T: Copy> {
+    /// The items, in a vector.
+    fn to_vec_in(&self, alloc: Global) -> Result<Vec<T>, AllocError>;
+}
+
+impl<T: Copy> SliceIn<T> for [T] {
+    fn to_vec_in(&self, alloc: Global) -> Result<Vec<T>, AllocError> {
+        Vec::from_slice(alloc, self)
+    }
+}

@@ -1,0 +1,200 @@
+//! The rules of the translation, each with its reason and an example.
+
+/// A rule: what it takes, and what it puts in its place.
+#[derive(Clone, Copy, Debug, PartialEq, Eq, PartialOrd, Ord)]
+pub enum Rule {
+    GhostUse,
+    GhostMember,
+    Clause,
+    Tactic,
+    Model,
+    ConstProof,
+    DropDerive,
+    DropBound,
+    SizedTrait,
+    Formatter,
+    ErrorDerive,
+    DerivedWhere,
+    CratePath,
+    LibraryPath,
+    StdPath,
+    AllocatedCall,
+    AbortGuard,
+    TestRuntime,
+    Main,
+    Prelude,
+    Conditions,
+    DocExample,
+}
+
+/// A rule as it is told: its name, why it is there, a line that it changes, and what becomes of it.
+pub struct Told {
+    pub rule: Rule,
+    pub name: &'static str,
+    pub reason: &'static str,
+    pub before: &'static str,
+    pub after: &'static str,
+}
+
+const fn told(rule: Rule, name: &'static str, reason: &'static str, before: &'static str, after: &'static str) -> Told {
+    Told { rule, name, reason, before, after }
+}
+
+/// Every rule. The examples are those of a library `capnp_wire`, and have to translate as they say.
+pub const RULES: [Told; 22] = [
+    told(
+        Rule::GhostUse,
+        "ghost use",
+        "names that only contracts take",
+        "ghost use Rattle.capnp_wire.specs.Tree.{Tree};",
+        "",
+    ),
+    told(
+        Rule::GhostMember,
+        "ghost member",
+        "fields and members that the prover alone sees, with their documentation",
+        "ghost tree: { Self → Tree };",
+        "",
+    ),
+    told(
+        Rule::Clause,
+        "clause",
+        "contracts",
+        "fn f(n: u8) -> u8\n    ensures same { result ≡ n }\n{ n }",
+        "fn f(n: u8) -> u8\n    \n{ n }",
+    ),
+    told(Rule::Tactic, "tactic", "how a proof is found", "#[tactic(auto)]\nfn f() {}", "\nfn f() {}"),
+    told(
+        Rule::Model,
+        "model",
+        "how contracts see a type",
+        "impl Model for Set {\n    ghost view = { λ s. s };\n}",
+        "\n\n",
+    ),
+    told(
+        Rule::ConstProof,
+        "constant proof",
+        "a proof about constants is an assertion that the compiler tries",
+        "const _: () = prove!(8 <= 9);",
+        "const _: () = assert!(8 <= 9);",
+    ),
+    told(
+        Rule::DropDerive,
+        "derived drop",
+        "in Rust each value may be let go",
+        "#[derive(Debug, Drop)]\nstruct S;",
+        "#[derive(Debug)]\nstruct S;",
+    ),
+    told(
+        Rule::DropBound,
+        "drop bound",
+        "the same, of a type parameter",
+        "fn f<T: Copy + Drop>(t: T) {}",
+        "fn f<T: Copy>(t: T) {}",
+    ),
+    told(
+        Rule::SizedTrait,
+        "sized trait",
+        "the types of a trait have a size, which Rust wants said",
+        "trait Source { fn f(&self); }",
+        "trait Source: Sized { fn f(&self); }",
+    ),
+    told(
+        Rule::Formatter,
+        "formatter",
+        "Rust's formatter hides what it writes to",
+        "fn fmt<W: fmt::Write>(&self, f: &mut fmt::Formatter<W>) {}",
+        "fn fmt(&self, f: &mut fmt::Formatter<'_>) {}",
+    ),
+    told(
+        Rule::ErrorDerive,
+        "error",
+        "what `thiserror::Error` derives is written out, so that no crate is needed",
+        "#[derive(Debug, thiserror::Error)]\nenum E {\n    #[error(\"no\")]\n    No,\n}",
+        "#[derive(Debug)]\nenum E {\n    \n    No,\n} impl std::fmt::Display for E { fn fmt(&self, f: &mut std::fmt::Formatter<'_>) -> std::fmt::Result { match self { E::No => write!(f, \"no\"), } } } impl std::error::Error for E {}",
+    ),
+    told(
+        Rule::DerivedWhere,
+        "derived where",
+        "what `derive_where` derives is written out: fields that are skipped are not compared",
+        "#[derive_where(PartialEq)]\nstruct S {\n    a: u8,\n    #[derive_where(skip)]\n    b: u8,\n}",
+        "\nstruct S {\n    a: u8,\n    \n    b: u8,\n} impl PartialEq for S { fn eq(&self, other: &Self) -> bool { self.a == other.a } }",
+    ),
+    told(
+        Rule::CratePath,
+        "crate path",
+        "each library is a module of one crate",
+        "use crate::bytes::part;",
+        "use crate::capnp_wire::bytes::part;",
+    ),
+    told(
+        Rule::LibraryPath,
+        "library path",
+        "the same, of other libraries",
+        "use capnp_device::error::Error;",
+        "use crate::capnp_device::error::Error;",
+    ),
+    told(
+        Rule::StdPath,
+        "std path",
+        "`rust/std` stands for Rattle's std, and hands on what Rust's has alike",
+        "use std::alloc::Global;",
+        "use crate::rattle_std::alloc::Global;",
+    ),
+    told(
+        Rule::AllocatedCall,
+        "allocated call",
+        "calls that are given an allocator, which Rust's of the same name are not",
+        "let a = b.to_vec(alloc)?;",
+        "let a = b.to_vec_in(alloc)?;",
+    ),
+    told(
+        Rule::AbortGuard,
+        "abort guard",
+        "in Rust an assertion needs no leave to end a test",
+        "assert!(rt; a == b);",
+        "assert!( a == b);",
+    ),
+    told(
+        Rule::TestRuntime,
+        "test runtime",
+        "a test of Rust is given nothing",
+        "#[test]\nfn t(rt: HostRuntime) { f(&rt); }",
+        "#[test]\nfn t() { let rt = HostRuntime; f(&rt); }",
+    ),
+    told(
+        Rule::Main,
+        "main",
+        "what starts a program stands in another file",
+        "fn main(rt: HostRuntime) {}",
+        "pub(crate) fn main(rt: HostRuntime) {}",
+    ),
+    told(
+        Rule::Prelude,
+        "prelude",
+        "`Vec`, `String`, `format!` and the like are those of `rust/std`",
+        "mod bytes;",
+        "#[allow(unused_imports)] use crate::rattle_std::prelude::*; #[allow(unused_imports)] use crate::rattle_std::{rattle_format as format, rattle_vec as vec}; mod bytes;",
+    ),
+    told(
+        Rule::Conditions,
+        "conditions",
+        "what a call requires is told where it is documented",
+        "pub fn f(n: u8)\n    requires small { n < 8 }\n{}",
+        "#[doc = \"\"] #[doc = \"# Conditions\"] #[doc = \"\"] #[doc = \"- small: `n < 8`\"] pub fn f(n: u8)\n    \n{}",
+    ),
+    told(
+        Rule::DocExample,
+        "documented example",
+        "an example in the source is one of Rattle, which rustdoc can't try",
+        "/// ```rust\nfn f() {}",
+        "/// ```rust,ignore\nfn f() {}",
+    ),
+];
+
+impl Rule {
+    /// The rule as it is told.
+    pub fn told(self) -> &'static Told {
+        &RULES[self as usize]
+    }
+}

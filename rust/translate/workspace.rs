@@ -1,0 +1,148 @@
+//! The repository's crates, and the files that are made of them.
+
+use super::{Place, Translation};
+use std::collections::BTreeSet;
+use std::fs;
+use std::io::{Error, Result};
+use std::path::{Path, PathBuf};
+
+/// A crate of the repository.
+#[derive(Clone, Debug, PartialEq, Eq)]
+pub struct Crate {
+    pub name: String,
+    /// The crates that it stands on.
+    pub below: Vec<String>,
+    /// Whether it is a static library for programs in C.
+    pub is_static: bool,
+    /// Whether it has a `main`.
+    pub is_program: bool,
+}
+
+/// The crates, as `crates.txt` lists them.
+pub struct Workspace {
+    pub root: PathBuf,
+    pub crates: Vec<Crate>,
+}
+
+/// The programs that the cargo crate has too.
+pub const PROGRAMS: [&str; 3] = ["capnp_show", "capnp_set", "riftcalico"];
+
+/// What the compiler says of the translated modules and is right so, each with its reason.
+const MODULE_ALLOWS: &str = "\
+#[allow(dead_code, reason = \"each crate has calls that the others, or the face, don't make\")]
+#[allow(unused_imports, reason = \"what only a contract named is still imported\")]
+#[allow(unused_variables, reason = \"laws have bodies without code\")]
+#[allow(unused_attributes, reason = \"sections are added to documentation wherever a call requires something\")]
+#[allow(unstable_name_collisions, reason = \"calls that are given an allocator have names of their own\")]
+#[allow(missing_docs, reason = \"what the face does not hand on is documented where its name does not say it\")]
+";
+
+impl Workspace {
+    /// Reads `crates.txt` at the root of the repository.
+    pub fn read(root: &Path) -> Result<Workspace> {
+        let lines = fs::read_to_string(root.join("crates.txt"))?;
+        let crates = lines.lines().filter(|line| !line.starts_with('#')).filter_map(|line| crate_of(root, line));
+        Ok(Workspace {
+            root: root.to_path_buf(),
+            crates: crates.collect(),
+        })
+    }
+
+    /// The names of all crates.
+    pub fn names(&self) -> Vec<String> {
+        self.crates.iter().map(|one| one.name.clone()).collect()
+    }
+
+    /// The programs and the crates that these stand on, in the order of the list.
+    pub fn production(&self) -> Vec<&Crate> {
+        let mut wanted: BTreeSet<&str> = BTreeSet::from(PROGRAMS);
+        for one in self.crates.iter().filter(|one| PROGRAMS.contains(&one.name.as_str())) {
+            wanted.extend(one.below.iter().map(String::as_str));
+        }
+        self.crates.iter().filter(|one| wanted.contains(one.name.as_str())).collect()
+    }
+
+    /// The crates that serve tests alone.
+    pub fn tests(&self) -> Vec<&Crate> {
+        let production = self.production();
+        let is_test = |one: &&Crate| !one.is_static && !one.is_program && !production.contains(one);
+        self.crates.iter().filter(is_test).collect()
+    }
+
+    /// The files of a crate, by their paths below its `src`.
+    pub fn files(&self, name: &str) -> Result<Vec<PathBuf>> {
+        let source = self.root.join("crates").join(name).join("src");
+        let mut files = Vec::new();
+        let mut folders = vec![source.clone()];
+        while let Some(folder) = folders.pop() {
+            for entry in fs::read_dir(&folder)? {
+                let path = entry?.path();
+                if path.is_dir() {
+                    folders.push(path);
+                } else if path.extension().is_some_and(|ending| ending == "rt") {
+                    files.push(path.strip_prefix(&source).map_err(Error::other)?.to_path_buf());
+                }
+            }
+        }
+        files.sort();
+        Ok(files)
+    }
+
+    /// Where a file of a crate stands.
+    pub fn path(&self, name: &str, file: &Path) -> PathBuf {
+        self.root.join("crates").join(name).join("src").join(file)
+    }
+
+    /// Translates the files of a crate into a folder. What no rule knows is told with its file, line and words.
+    pub fn write(&self, one: &Crate, folder: &Path) -> Result<()> {
+        let libraries = self.names();
+        let place = Place {
+            library: &one.name,
+            libraries: &libraries,
+        };
+        for file in self.files(&one.name)? {
+            let path = self.path(&one.name, &file);
+            let text = fs::read_to_string(&path)?;
+            let translation = Translation::new(&place, &text).map_err(|lines| told(&path, &lines))?;
+            let target = folder.join(&one.name).join(file.with_extension("rs"));
+            fs::create_dir_all(target.parent().unwrap_or(folder))?;
+            write_changed(&target, &translation.rust())?;
+        }
+        Ok(())
+    }
+
+    /// A line that makes a crate in a folder a module.
+    pub fn module(&self, one: &Crate, folder: &Path) -> String {
+        let main = if one.is_program { "main.rs" } else { "lib.rs" };
+        let path = folder.join(&one.name).join(main);
+        format!("{MODULE_ALLOWS}#[path = {path:?}]\nmod {};\n\n", one.name)
+    }
+}
+
+/// Writes a file, where it isn't there with this text already.
+pub fn write_changed(path: &Path, text: &str) -> Result<()> {
+    if fs::read_to_string(path).is_ok_and(|old| old == text) {
+        return Ok(());
+    }
+    fs::write(path, text)
+}
+
+/// The crate of a line of `crates.txt`.
+fn crate_of(root: &Path, line: &str) -> Option<Crate> {
+    let (head, below) = line.split_once(':')?;
+    let mut words = head.split_whitespace();
+    let name = words.next()?;
+    let is_there = |name: &&str| root.join("crates").join(name).is_dir();
+    Some(Crate {
+        name: name.to_string(),
+        below: below.split_whitespace().filter(is_there).map(str::to_string).collect(),
+        is_static: words.any(|word| word == "staticlib"),
+        is_program: root.join("crates").join(name).join("src/main.rt").is_file(),
+    })
+}
+
+/// The parts of a file that no rule knows, as one error.
+fn told(path: &Path, lines: &[String]) -> Error {
+    let lines: Vec<String> = lines.iter().map(|line| format!("{}:{line}", path.display())).collect();
+    Error::other(lines.join("\n"))
+}
