@@ -2,8 +2,10 @@
 # Runs ./capnp_show and ./riftcalico on the messages of this folder and on what they refuse, and compares what they print and
 # answer. First ./check_docs holds the documents to the repository.
 # Where the tool `capnp` is installed, the messages are also made again, and each has to come out the same.
+# With --cargo the programs that cargo builds are run, also where proved ones stand.
 
 cd -- "$(dirname -- "$0")/.." || exit 1
+[ "$1" = --cargo ] && export RIFTCALICO_PROGRAM=cargo
 scratch=$(mktemp -d) || exit 1
 trap 'rm -rf -- "$scratch"' EXIT
 checks=0

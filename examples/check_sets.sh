@@ -2,8 +2,10 @@
 # From schemas to printed lines: runs ./capnp_set on the compiler's requests for the schemas of examples/sets, and
 # ./capnp_show on messages under the sets, and compares each line with that of `capnp decode --short`. It needs the tool
 # `capnp` and its schemas (Debian: capnproto and libcapnp-dev); without them only what stands in this folder is run.
+# With --cargo the programs that cargo builds are run, also where proved ones stand.
 
 cd -- "$(dirname -- "$0")/.." || exit 1
+[ "$1" = --cargo ] && export RIFTCALICO_PROGRAM=cargo
 scratch=$(mktemp -d) || exit 1
 trap 'rm -rf -- "$scratch"' EXIT
 checks=0

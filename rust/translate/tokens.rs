@@ -118,7 +118,8 @@ impl<'a> Words<'a> {
             match self.at(index) {
                 "(" | "[" | "{" => depth += 1,
                 ")" | "]" | "}" => {
-                    depth -= 1;
+                    // none is open where no bracket stands at the first word
+                    depth = depth.checked_sub(1)?;
                     if depth == 0 {
                         return Some(index);
                     }

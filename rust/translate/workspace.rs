@@ -34,6 +34,7 @@ const MODULE_ALLOWS: &str = "\
 #[allow(unused_variables, reason = \"laws have bodies without code\")]
 #[allow(unused_attributes, reason = \"sections are added to documentation wherever a call requires something\")]
 #[allow(unstable_name_collisions, reason = \"calls that are given an allocator have names of their own\")]
+#[allow(clippy::all, reason = \"the text is that of the proved source, and another form may have no proof\")]
 #[allow(missing_docs, reason = \"what the face does not hand on is documented where its name does not say it\")]
 ";
 
