@@ -22,7 +22,7 @@ fn main() -> ExitCode {
 fn run() -> std::io::Result<()> {
     let root = PathBuf::from(env::var("CARGO_MANIFEST_DIR").map_err(std::io::Error::other)?);
     let out = PathBuf::from(env::var("OUT_DIR").map_err(std::io::Error::other)?);
-    for path in ["crates.txt", "crates", "rust/build.rs", "rust/translate"] {
+    for path in ["crates.txt", "rust/build.rs", "rust/translate"] {
         println!("cargo::rerun-if-changed={path}");
     }
     let workspace = Workspace::read(&root)?;
@@ -30,12 +30,14 @@ fn run() -> std::io::Result<()> {
     let tests = workspace.tests();
     let mut libraries = String::new();
     let mut test_modules = String::new();
-    for one in &production {
+    for one in production.iter().chain(&tests) {
+        println!("cargo::rerun-if-changed=crates/{}/src", one.name);
         workspace.write(one, &out)?;
+    }
+    for one in &production {
         libraries.push_str(&workspace.module(one, &out));
     }
     for one in &tests {
-        workspace.write(one, &out)?;
         test_modules.push_str(&workspace.module(one, &out));
     }
     write(&out, "libraries.rs", &libraries)?;

@@ -25,7 +25,7 @@ fn element(list: dynamic_list::Builder<'_>, index: u32) -> Result<dynamic_struct
 }
 
 /// The bytes of an address book with one person in it.
-pub fn build(request: &[u8]) -> Result<Vec<u8>, Box<dyn Error>> {
+fn build(request: &[u8]) -> Result<Vec<u8>, Box<dyn Error>> {
     let set = SchemaSet::from_request(request)?;
     let schema = set.get_struct_named("AddressBook")?;
     let mut message = message::Builder::new(Global)?;

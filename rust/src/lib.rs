@@ -101,8 +101,8 @@ pub mod memory {
 
 /// Messages as they are received, and as they are built.
 pub mod message {
+    pub use crate::capnp_arena::arena::Arena as Builder;
     pub use crate::capnp_arena::list_builder::ListBuilder;
-    pub use crate::capnp_arena::message::Builder;
     pub use crate::capnp_arena::pointer_builder::PointerBuilder;
     pub use crate::capnp_arena::struct_builder::StructBuilder;
     pub use crate::capnp_wire::message::Reader;
@@ -121,7 +121,7 @@ pub mod patch {
     pub use crate::capnp_words::path::{parse_path, Path, PathStep};
     pub use crate::capnp_words::target::target_type;
     pub use crate::capnp_words::value::{parse_value, PlainValue};
-    pub use crate::one_call::get_path;
+    pub use crate::one_call::{get_path, patch_bytes};
 }
 
 /// Values as text.

@@ -1,5 +1,5 @@
-//! Each example prints what it should: what the public tool prints of the same values, but for what docs/PROGRAM.md
-//! says is printed otherwise.
+//! Each example prints what the public tool prints of the same values and schemas, but for what docs/PROGRAM.md says is
+//! printed otherwise.
 
 #[allow(dead_code, reason = "its main is not called")]
 #[path = "../examples/address_book.rs"]
@@ -19,7 +19,6 @@ const BOOK: &[u8] = include_bytes!("../../examples/addressbook.bin");
 
 #[test]
 fn an_address_book_is_read_and_patched() {
-    let lines = address_book::lines(REQUEST, BOOK).expect("the book is read");
     let wanted = concat!(
         "\"555-4567\"\n",
         "(people = [(id = 123, name = \"Alice\", email = \"alice@example.com\", ",
@@ -28,22 +27,20 @@ fn an_address_book_is_read_and_patched() {
         "phones = [(number = \"555-4567\", type = home), (number = \"555-7654\", type = work)], ",
         "employment = (unemployed = ()))])\n",
     );
-    assert_eq!(lines, wanted);
+    assert_eq!(address_book::lines(REQUEST, BOOK).expect("it is answered"), wanted);
 }
 
 #[test]
 fn a_message_is_built() {
-    let lines = build_message::lines(REQUEST).expect("the book is built");
     let wanted = concat!(
         "(people = [(id = 123, name = \"Alice\", email = \"alice@example.com\", ",
         "phones = [(number = \"555-1212\", type = mobile)], employment = (unemployed = ()))])\n",
     );
-    assert_eq!(lines, wanted);
+    assert_eq!(build_message::lines(REQUEST).expect("it is answered"), wanted);
 }
 
 #[test]
 fn a_schema_is_queried() {
-    let lines = query_schema::lines(REQUEST).expect("the schema is read");
     // the places are those that `capnp compile -ocapnp` tells of the schema
     let wanted = concat!(
         "id: UInt32, 32 bits from bit 0\n",
@@ -52,11 +49,10 @@ fn a_schema_is_queried() {
         "phones: List(Person.PhoneNumber), pointer 2\n",
         "employment: Person.employment, a group\n",
     );
-    assert_eq!(lines, wanted);
+    assert_eq!(query_schema::lines(REQUEST).expect("it is answered"), wanted);
 }
 
 #[test]
 fn an_older_program_reads_what_it_knows() {
-    let lines = older_program::lines().expect("the account is built");
-    assert_eq!(lines, "(name = \"Alice\", balance = 12)\n(name = \"Alice\")\n");
+    assert_eq!(older_program::lines().expect("it is answered"), "(name = \"Alice\", balance = 12)\n(name = \"Alice\")\n");
 }
