@@ -1,7 +1,10 @@
 //! Conversions between what Rust has and what the layer takes.
 
+use crate::capnp_arena::pointer_builder::PointerBuilder;
 use crate::capnp_base::text;
+use crate::capnp_device::error::Result;
 use crate::capnp_dynamic::dynamic_value;
+use crate::capnp_slots::setter::SetterInput;
 
 impl<'a> From<&'a std::string::String> for text::Reader<'a> {
     fn from(text: &'a std::string::String) -> Self {
@@ -12,5 +15,11 @@ impl<'a> From<&'a std::string::String> for text::Reader<'a> {
 impl<'a> From<&'a std::string::String> for dynamic_value::Reader<'a> {
     fn from(text: &'a std::string::String) -> Self {
         dynamic_value::Reader::Text(text::Reader(text.as_bytes()))
+    }
+}
+
+impl<'a> SetterInput<text::Owned> for &'a std::string::String {
+    fn set_pointer_builder(builder: PointerBuilder<'_>, input: Self, canonicalize: bool) -> Result<()> {
+        <&str>::set_pointer_builder(builder, input.as_str(), canonicalize)
     }
 }
