@@ -66,6 +66,7 @@ fn apply_rules(words: &Words<'_>, place: &Place<'_>, edits: &mut Edits) {
     calls::free_assertions(words, edits);
     calls::know_attributes(words, edits);
     calls::start_functions(words, edits);
+    calls::know_modules(words, edits);
     calls::begin_file(words, edits);
     calls::mark_examples(words, edits);
     conditions::tell_conditions(words, edits);
