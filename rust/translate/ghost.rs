@@ -23,19 +23,23 @@ pub fn take_ghost_parts(words: &Words<'_>, edits: &mut Edits) {
 
 /// Whether a clause stands between the parameters of a function and its body.
 fn is_in_head(words: &Words<'_>, clause: usize) -> bool {
-    let before = words.before(clause).map(|before| words.at(before));
-    let heads = (0..clause).rev().take_while(|at| !matches!(words.at(*at), "{" | "}"));
-    let mut has_function = false;
+    let next = words.after(clause);
+    let is_followed = matches!(words.at(next), "{" | ";") || is_clause(words, next);
+    let is_behind = !matches!(words.text_before(clause), "(" | "," | "=" | ":" | "<" | "&" | ";");
+    let head = (0..clause).rev().take_while(|at| !matches!(words.at(*at), "{" | "}"));
     let mut has_parameters = false;
-    for index in heads {
-        let is_function = words.at(index) == "fn" && words.is(index, Kind::Name);
-        if is_function && words.is(words.after(index), Kind::Name) {
-            has_function = true;
-            break;
+    for index in head {
+        let is_function = words.at(index) == "fn" && words.is(words.after(index), Kind::Name);
+        if is_function && words.is(index, Kind::Name) {
+            return has_parameters && is_followed && is_behind;
         }
         has_parameters |= words.at(index) == ")";
     }
-    has_function && has_parameters && !matches!(before, Some("(" | "," | "=" | ":" | "<" | "&" | ";"))
+    false
+}
+
+fn is_clause(words: &Words<'_>, index: usize) -> bool {
+    words.is(index, Kind::Requires) || words.is(index, Kind::Ensures)
 }
 
 /// Takes a ghost member with its documentation and visibility.
@@ -73,6 +77,15 @@ pub fn take_models(words: &Words<'_>, edits: &mut Edits) {
         } else if words.at(index) == "impl" && words.is(index, Kind::Name) {
             take_model(words, edits, index);
         }
+    }
+    let is_taken = |start: usize| {
+        let models = edits.list.iter().filter(|edit| edit.rule == Rule::Model);
+        models.into_iter().any(|edit| edit.start <= start && start < edit.end)
+    };
+    let named = (0..words.list.len()).filter(|at| words.at(*at) == "Model");
+    let unknown: Vec<usize> = named.filter(|at| !is_taken(words.list[*at].start)).collect();
+    for index in unknown {
+        edits.refuse(words, index, "Model where no import or impl is".to_string());
     }
 }
 

@@ -15,8 +15,10 @@ pub use edits::{Edits, Piece};
 pub use names::Place;
 #[allow(unused_imports, reason = "the tests of the translation use them")]
 pub use rules::{RULES, Rule, Told};
+#[allow(unused_imports, reason = "the tests of the translation use them")]
+pub use tokens::{Kind, Word, Words};
 
-use tokens::{Unknown, Words};
+use tokens::Unknown;
 
 /// What becomes of a file.
 pub struct Translation<'a> {
