@@ -34,6 +34,9 @@
 #![forbid(unsafe_code)]
 #![warn(missing_docs)]
 
+#[cfg(not(target_pointer_width = "64"))]
+compile_error!("the source is proved for a `usize` of 64 bits");
+
 #[allow(dead_code, reason = "tests take more of it")]
 #[path = "../std/mod.rs"]
 mod rattle_std;

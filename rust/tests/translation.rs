@@ -403,3 +403,54 @@ fn the_readme_has_each_rule() {
     let table = rows.join("\n");
     assert!(readme.contains(&table), "the table of rules in rust/README.md should be:\n{table}");
 }
+
+/// Calls of Rust's std that take memory, and end the program where there is none.
+const TAKING: [&str; 22] = [
+    "clone",
+    "cloned",
+    "collect",
+    "concat",
+    "join",
+    "repeat",
+    "replace",
+    "sort",
+    "sort_by",
+    "sort_by_key",
+    "sort_by_cached_key",
+    "to_ascii_lowercase",
+    "to_ascii_uppercase",
+    "to_lowercase",
+    "to_owned",
+    "to_string",
+    "to_uppercase",
+    "to_vec",
+    "into_boxed_slice",
+    "into_string",
+    "replacen",
+    "into_vec",
+];
+
+/// What is translated calls nothing of Rust's std that takes memory: such a call is given the allocator, or answers a
+/// `Result`, as those of `rust/std` alone do. No type is named that would take memory as it is made.
+#[test]
+fn no_call_takes_memory_unasked() {
+    let libraries = libraries();
+    for source in sources() {
+        let rust = translated(&source, &libraries).rust();
+        let path = source.path.display();
+        let words = Words::new(&rust).unwrap_or_else(|unknown| panic!("{path}: {}", unknown.what));
+        for index in 0..words.list.len() {
+            let open = words.after(index);
+            let is_boxed = words.is(index, Kind::Name) && matches!(words.at(index), "Box" | "Rc" | "Arc" | "BTreeMap");
+            assert!(!is_boxed, "{path}: {}", words.at(index));
+            if !matches!(words.text_before(index), "." | ":") || !TAKING.contains(&words.at(index)) {
+                continue;
+            }
+            let is_generic = words.reads(open, &[":", ":", "<"]);
+            let close = words.closing(open);
+            let is_given = words.at(words.after(open)) == "alloc";
+            let is_result = close.is_some_and(|close| words.at(words.after(close)) == "?");
+            assert!(!is_generic && (is_given || is_result), "{path}: .{}(..)", words.at(index));
+        }
+    }
+}

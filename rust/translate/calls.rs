@@ -49,7 +49,7 @@ pub fn name_allocated_calls(words: &Words<'_>, edits: &mut Edits) {
         };
         let is_call = words.text_before(index) == "." && words.at(open) == "(";
         if is_call && count_arguments(words, open, close) > *count {
-            edits.insert_after(words, Rule::AllocatedCall, index, "_in".to_string());
+            edits.insert_after(words, Rule::AllocatedCall, index, "_given".to_string());
         }
     }
 }

@@ -146,7 +146,7 @@ pub const RULES: [Told; 22] = [
         "allocated call",
         "calls that are given an allocator, which Rust's of the same name are not",
         "let a = b.to_vec(alloc)?;",
-        "let a = b.to_vec_in(alloc)?;",
+        "let a = b.to_vec_given(alloc)?;",
     ),
     told(
         Rule::AbortGuard,

@@ -33,7 +33,7 @@ const MODULE_ALLOWS: &str = "\
 #[allow(unused_imports, reason = \"what only a contract named is still imported\")]
 #[allow(unused_variables, reason = \"laws have bodies without code\")]
 #[allow(unused_attributes, reason = \"sections are added to documentation wherever a call requires something\")]
-#[allow(unstable_name_collisions, reason = \"calls that are given an allocator have names of their own\")]
+#[allow(clippy::all, reason = \"the source is written for the prover, and its empty lines are what was taken\")]
 #[allow(missing_docs, reason = \"what the face does not hand on is documented where its name does not say it\")]
 ";
 
